@@ -74,7 +74,8 @@ kind_is None (Some y) h k = cc
 kind_is (Some x) None h k = cc
 kind_is (Some x) (Some y) h k = ap Some (same_kind_is x y h)
 
-has_is : (a b : Bool) (k j : Option Kind) (r q : Rights) → ((not a || b) && (kind_below k j && within (bits q) (bits r))) ≡ true → ((not b || a) && (kind_below j k && within (bits r) (bits q))) ≡ true
+has_is : (a b : Bool) (k j : Option Kind) (r q : Rights) → ((not a || b) && (kind_below k j && within (bits q) (bits r))) ≡ true
+    → ((not b || a) && (kind_below j k && within (bits r) (bits q))) ≡ true
     → Has a k r ≡ Has b j q
 has_is a b k j r q h g =
     let p = parts (not a || b) (kind_below k j) (within (bits q) (bits r)) h in

@@ -17,10 +17,12 @@ used_at i values r = record (uses_by r i []) { results = zip (those is_written r
 
 -- these values serve for those that the rule gives
 abbrev Serve : List ℕ → State → CallInstr → List AbsVal → Row → Type 0
-Serve bounds s i values r = zip (those is_written r.fields 0 i.registers) values ≡ zip (those is_written r.fields 0 i.registers) (Word 30 ∷ values_of bounds s i)
+Serve bounds s i values r =
+    zip (those is_written r.fields 0 i.registers) values ≡ zip (those is_written r.fields 0 i.registers) (Word 30 ∷ values_of bounds s i)
 
 module _ (bounds : List ℕ) (image : Image) (s : State) (i : CallInstr) (r : Row) (here : r ≡ call_row i.name) where
-  rule_by_row : call_rule bounds image i s ≡ and_then (state_after image s (uses_by r i (values_of bounds s i))) (λ t. Ok (if goes_on i.name then passes t else stops))
+  rule_by_row : call_rule bounds image i s
+      ≡ and_then (state_after image s (uses_by r i (values_of bounds s i))) (λ t. Ok (if goes_on i.name then passes t else stops))
   unfolding call_rule uses_of
   rule_by_row = ap (λ q. call_rule_by image s (goes_on i.name) (uses_by q i (values_of bounds s i))) (sym here)
 

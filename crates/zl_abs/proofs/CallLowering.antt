@@ -21,7 +21,9 @@ use Rattle.zl_abs.specs.declared.cause.Cause.TheVariants as cause
 use Rattle.zl_abs.specs.Values.{ANY, below, kind_below, is_has, bound_of}
 use Rattle.zl_abs.specs.States.{State, all_below, value_at, bound_at, with_value, with_all}
 use Rattle.zl_abs.specs.Rule.{passes}
-use Rattle.zl_abs.specs.CallRules.{takes_any, fault_of, taken_from, examined_by, examined, examined_all, are_words, sum_fits, range_fits, is_declared, is_result, are_distinct, has_one, uses, answers, finished, state_after, uses_of, narrowed_value, values_by, values_of, goes_on, stops, call_rule}
+use Rattle.zl_abs.specs.CallRules.{takes_any, fault_of, taken_from, examined_by, examined, examined_all, are_words, sum_fits, range_fits, is_declared}
+use Rattle.zl_abs.specs.CallRules.{is_result, are_distinct, has_one, uses, answers, finished, state_after, uses_of, narrowed_value, values_by, values_of}
+use Rattle.zl_abs.specs.CallRules.{goes_on, stops, call_rule}
 use Rattle.zl_abs.proofs.Order.{below_refl, same_kind_is, within_trans, within_refl}
 use Rattle.zl_abs.proofs.StateOrder.{both, and, all_below_refl}
 use Rattle.zl_abs.proofs.Lowering.{Lowers, IsBelow, WaysBelow, lowers_then, lowers_unless, not_kept, value_below, with_below, no_has, leb_le, le_leb}
@@ -37,7 +39,8 @@ any_kept (x ∷ kinds) (Some k) None h e = cc
 any_kept kinds None (Some j) h e = cc
 any_kept kinds (Some k) (Some j) h e = let p : k ≡ j = same_kind_is k j h in rw p e
 
-three_faults : (p q r : Bool) (c d f : Cause) → (if p then Some c else (if q then Some d else (if r then Some f else None))) ≡ None → (p ≡ false) × (q ≡ false) × (r ≡ false)
+three_faults : (p q r : Bool) (c d f : Cause) → (if p then Some c else (if q then Some d else (if r then Some f else None))) ≡ None
+    → (p ≡ false) × (q ≡ false) × (r ≡ false)
 three_faults true q r c d f e = cc
 three_faults false true r c d f e = cc
 three_faults false false true c d f e = cc
@@ -48,10 +51,12 @@ maybe_kept true true z h e = e
 maybe_kept true false z h e = cc
 maybe_kept false m2 z h e = refl
 
-has_passes : (o : Operand) (m m2 : Bool) (k k2 : Option Kind) (r r2 : Rights) → IsTrue (below (Has m k r) (Has m2 k2 r2)) → fault_of o (Has m2 k2 r2) ≡ None → fault_of o (Has m k r) ≡ None
+has_passes : (o : Operand) (m m2 : Bool) (k k2 : Option Kind) (r r2 : Rights) → IsTrue (below (Has m k r) (Has m2 k2 r2)) → fault_of o (Has m2 k2 r2) ≡ None
+    → fault_of o (Has m k r) ≡ None
 has_passes o m m2 k k2 r r2 h e =
     let p = has_parts m m2 k k2 r r2 h in
-    let f = three_faults (m2 && not o.may_be_zero) (not (takes_any o.kinds k2)) (not (within o.needed (bits r2))) cause.NotLive cause.WrongKind cause.LacksRight e in
+    let f =
+    three_faults (m2 && not o.may_be_zero) (not (takes_any o.kinds k2)) (not (within o.needed (bits r2))) cause.NotLive cause.WrongKind cause.LacksRight e in
     let a = maybe_kept m m2 o.may_be_zero p.0 f.0 in
     let b = any_kept o.kinds k k2 p.1 (true_of _ f.1) in
     let c = within_trans (bits r) (bits r2) o.needed p.2 (true_of _ f.2) in
@@ -74,7 +79,8 @@ fault_below o (Has _ _ _) (KindOf _) h e = cc
 fault_below o (Has _ _ _) (RightsOf _) h e = cc
 fault_below o (Word n) (Has m2 k2 r2) h e =
     let z = zero_of n m2 k2 r2 h in
-    let f = three_faults (m2 && not o.may_be_zero) (not (takes_any o.kinds k2)) (not (within o.needed (bits r2))) cause.NotLive cause.WrongKind cause.LacksRight e in
+    let f =
+    three_faults (m2 && not o.may_be_zero) (not (takes_any o.kinds k2)) (not (within o.needed (bits r2))) cause.NotLive cause.WrongKind cause.LacksRight e in
     rw (z.0, zero_passes o.may_be_zero m2 z.1 f.0) refl
 fault_below o (Word m) (Word n) h e =
     let p = both o.may_be_zero (eqb n 0) (word_passes (o.may_be_zero && eqb n 0) e) in
@@ -98,7 +104,8 @@ taken_below s t o h = by o.is_taken
     by true = with_below s t o.value _ _ h (below_refl (Word 0))
     by false = h
 
-examined_by_below : (s t : State) (o : Operand) (x y : Option Cause) → IsBelow s t → (y ≡ None → x ≡ None) → Lowers IsBelow (examined_by s o x) (examined_by t o y)
+examined_by_below : (s t : State) (o : Operand) (x y : Option Cause) → IsBelow s t → (y ≡ None → x ≡ None)
+    → Lowers IsBelow (examined_by s o x) (examined_by t o y)
 examined_by_below s t o x (Some c) h k = tt
 examined_by_below s t o None None h k = taken_below s t o h
 examined_by_below s t o (Some c) None h k = absurd (no_some c (k refl))
@@ -204,7 +211,8 @@ unfolding with_all
 with_all_below [] [] s t h k = h
 with_all_below [] (y ∷ ys) s t h k = absurd k
 with_all_below (x ∷ xs) [] s t h k = absurd k
-with_all_below (x ∷ xs) (y ∷ ys) s t h k = with_all_below xs ys (with_value s (x.0) (x.1)) (with_value t (y.0) (y.1)) (rw (k.0) (with_below s t (y.0) (x.1) (y.1) h (k.1))) (k.2)
+with_all_below (x ∷ xs) (y ∷ ys) s t h k =
+    with_all_below xs ys (with_value s (x.0) (x.1)) (with_value t (y.0) (y.1)) (rw (k.0) (with_below s t (y.0) (x.1) (y.1) h (k.1))) (k.2)
 
 answers_below : (s t : State) (xs ys : List (ℕ × AbsVal)) → IsBelow s t → ResultsBelow xs ys → Lowers IsBelow (answers s xs) (answers t ys)
 answers_below s t xs ys h k =
@@ -213,16 +221,20 @@ answers_below s t xs ys h k =
 
 -- ---- the rule
 
-finished_below : (i : Image) (s t u v : State) (operands : List Operand) (words : List ℕ) (range : Option (ℕ × ℕ)) (condition : Option Condition) (xs ys : List (ℕ × AbsVal))
-    → IsBelow s t → IsBelow u v → ResultsBelow xs ys → Lowers IsBelow (finished i s u (uses operands words range condition xs)) (finished i t v (uses operands words range condition ys))
+finished_below : (i : Image) (s t u v : State) (operands : List Operand) (words : List ℕ) (range : Option (ℕ × ℕ)) (condition : Option Condition)
+    (xs ys : List (ℕ × AbsVal))
+    → IsBelow s t → IsBelow u v → ResultsBelow xs ys
+    → Lowers IsBelow (finished i s u (uses operands words range condition xs)) (finished i t v (uses operands words range condition ys))
 finished_below i s t u v operands words range condition xs ys h k l =
     lowers_unless IsBelow (not (are_words s words)) (not (are_words t words)) _ _ _ _ (not_kept _ _ (words_kept s t words h))
     (lowers_unless IsBelow (not (range_fits i s range)) (not (range_fits i t range)) _ _ _ _ (not_kept _ _ (range_kept i s t range h))
     (lowers_unless IsBelow (not (is_declared i condition)) (not (is_declared i condition)) _ _ _ _ (λ e. e)
     (answers_below u v xs ys k l)))
 
-state_after_below : (i : Image) (s t : State) (operands : List Operand) (words : List ℕ) (range : Option (ℕ × ℕ)) (condition : Option Condition) (xs ys : List (ℕ × AbsVal))
-    → IsBelow s t → ResultsBelow xs ys → Lowers IsBelow (state_after i s (uses operands words range condition xs)) (state_after i t (uses operands words range condition ys))
+state_after_below : (i : Image) (s t : State) (operands : List Operand) (words : List ℕ) (range : Option (ℕ × ℕ)) (condition : Option Condition)
+    (xs ys : List (ℕ × AbsVal))
+    → IsBelow s t → ResultsBelow xs ys
+    → Lowers IsBelow (state_after i s (uses operands words range condition xs)) (state_after i t (uses operands words range condition ys))
 state_after_below i s t operands words range condition xs ys h l =
     lowers_then IsBelow IsBelow (examined_all s operands) (examined_all t operands) _ _ (examined_all_below operands s t h)
     (λ u v k. finished_below i s t u v operands words range condition xs ys h k l)
@@ -233,7 +245,8 @@ narrowed_below : (v w : AbsVal) (asked : ℕ) → IsTrue (below v w) → IsTrue 
 unfolding below
 narrowed_below (Has m k r) (Has m2 k2 r2) asked h = let p = has_parts m m2 k k2 r r2 h in has_from true true k k2 _ _ refl p.1 (by (eqb asked SAME_RIGHTS) p.2)
   where
-    by : (t : Bool) → within (bits r2) (bits r) ≡ true → within (bits (if t then r2 else rights_of (bit_and asked KNOWN_RIGHTS))) (bits (if t then r else rights_of (bit_and asked KNOWN_RIGHTS))) ≡ true
+    by : (t : Bool) → within (bits r2) (bits r) ≡ true
+        → within (bits (if t then r2 else rights_of (bit_and asked KNOWN_RIGHTS))) (bits (if t then r else rights_of (bit_and asked KNOWN_RIGHTS))) ≡ true
     by true e = e
     by false e = within_refl (bit_and asked KNOWN_RIGHTS)
 narrowed_below (Has _ _ _) (Word _) asked h = cc
@@ -256,7 +269,8 @@ one_below : (v w : AbsVal) → IsTrue (below v w) → IsTrue (all_below (v ∷ [
 unfolding all_below
 one_below v w h = and _ _ h refl
 
-by_name : (bounds : List ℕ) (n : CallName) (v w : AbsVal) (number : ℕ) → IsTrue (below v w) → IsTrue (all_below (values_by bounds n v number) (values_by bounds n w number))
+by_name : (bounds : List ℕ) (n : CallName) (v w : AbsVal) (number : ℕ) → IsTrue (below v w)
+    → IsTrue (all_below (values_by bounds n v number) (values_by bounds n w number))
 by_name bounds call.Dup v w number h = one_below _ _ (narrowed_below v w number h)
 by_name bounds call.Replace v w number h = one_below _ _ (narrowed_below v w number h)
 by_name bounds _ v w number h = all_below_refl _
@@ -288,5 +302,6 @@ pub call_below : (bounds : List ℕ) (i : Image) (c : CallInstr) (s t : State) �
 unfolding call_rule uses_of
 call_below bounds i c s t h =
     lowers_then IsBelow WaysBelow (state_after i s (uses_of bounds s c)) (state_after i t (uses_of bounds t c)) _ _
-    (state_after_below i s t _ _ _ _ _ _ h (zip_below (those is_written (call_row c.name).fields 0 c.registers) _ _ _ (status_first _ _ (values_below bounds s t c h))))
+    (state_after_below i s t _ _ _ _ _ _ h
+    (zip_below (those is_written (call_row c.name).fields 0 c.registers) _ _ _ (status_first _ _ (values_below bounds s t c h))))
     (λ u v l. way_on (goes_on c.name) u v l)

@@ -69,7 +69,8 @@ examined_from fs rs s i = examined_all s (operands_at (map field_of (drop i fs))
 module _ (fs : List FieldInCode) (rs : List ℕ) (i : ℕ) (all : Result State Cause) (s : State) (so_far : all ≡ examined_from fs rs s i) where
   module _ (r : ℕ) (d : FieldInCode) (t : State) (fault : Option Cause) (b : Bool) (h : i < length fs) (k : length fs ≤ length rs) (q : Stands rs i r)
       (left : left_by t fault ≡ examined_all s (operands_by (field_of (get_or fs i d) ∷ []) (r ∷ []))) (is : b ≡ is_some fault) where
-    here : operands_at (map field_of (drop i fs)) i rs ≡ operands_by (field_of (get_or fs i d) ∷ []) (r ∷ []) ++ operands_at (map field_of (drop (i + 1) fs)) (i + 1) rs
+    here : operands_at (map field_of (drop i fs)) i rs
+        ≡ operands_by (field_of (get_or fs i d) ∷ []) (r ∷ []) ++ operands_at (map field_of (drop (i + 1) fs)) (i + 1) rs
     here = rw (add-one, drop-cons fs i d h, register_at rs i r (omega (arith, h, k)) q) refl
 
     pub fields_stop : b ≡ true → left_by t fault ≡ all
@@ -92,7 +93,9 @@ module _ (s : State) (fs : List FieldInCode) (rs : List ℕ) (i : ℕ) (all : Bo
   module _ (r : ℕ) (d : FieldInCode) (t : Bool) (h : i < length fs) (k : length fs ≤ length rs) (q : Stands rs i r)
       (is : t ≡ (not (is_word (field_of (get_or fs i d))) || is_some (bound_at s r))) where
     step : all ≡ (t && are_words_from s fs rs (i + 1))
-    step = so_far ∙ rw (those_step is_word fs rs i d h, register_at rs i r (omega (arith, h, k)) q, is) (by (is_word (field_of (get_or fs i d))) (those_from is_word fs rs (i + 1)))
+    step =
+        so_far ∙ rw (those_step is_word fs rs i d h, register_at rs i r (omega (arith, h, k)) q, is)
+        (by (is_word (field_of (get_or fs i d))) (those_from is_word fs rs (i + 1)))
       where
         by : (b : Bool) (rest : List ℕ) → are_words s (cond b (r ∷ rest) rest) ≡ ((not b || is_some (bound_at s r)) && are_words s rest)
         by true rest = refl
@@ -118,10 +121,12 @@ pub distinct_end : (xs : List (ℕ × AbsVal)) (i : ℕ) → length xs ≤ i →
 unfolding are_distinct
 distinct_end xs i h = rw (drop_all i xs h) refl
 
-pub distinct_stop : (xs : List (ℕ × AbsVal)) (i : ℕ) (x : ℕ × AbsVal) → i < length xs → Stands xs i x → is_result (drop (i + 1) xs) (x.0) ≡ true → are_distinct (drop i xs) ≡ false
+pub distinct_stop : (xs : List (ℕ × AbsVal)) (i : ℕ) (x : ℕ × AbsVal) → i < length xs → Stands xs i x → is_result (drop (i + 1) xs) (x.0) ≡ true
+    → are_distinct (drop i xs) ≡ false
 distinct_stop xs i x h p e = distinct_step xs i x h p ∙ rw e refl
 
-pub distinct_more : (xs : List (ℕ × AbsVal)) (i : ℕ) (x : ℕ × AbsVal) → i < length xs → Stands xs i x → is_result (drop (i + 1) xs) (x.0) ≡ false → are_distinct (drop i xs) ≡ are_distinct (drop (i + 1) xs)
+pub distinct_more : (xs : List (ℕ × AbsVal)) (i : ℕ) (x : ℕ × AbsVal) → i < length xs → Stands xs i x → is_result (drop (i + 1) xs) (x.0) ≡ false
+    → are_distinct (drop i xs) ≡ are_distinct (drop (i + 1) xs)
 distinct_more xs i x h p e = distinct_step xs i x h p ∙ rw e refl
 
 -- what a slice from a place on holds

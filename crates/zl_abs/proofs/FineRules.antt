@@ -19,7 +19,8 @@ use Rattle.zl_code.specs.declared.history.CallName.TheVariants as call
 use Rattle.zl_code.specs.declared.layout.Ending.{Ending}
 use Rattle.zl_code.specs.declared.layout.Ending.TheVariants as ending
 use Rattle.zl_code.specs.Image.{Image, instr_at}
-use Rattle.zl_code.specs.Spells.{is_in_range, is_instr_in_range, is_slot_in_range, is_local_in_range, is_call_in_range, is_room, local_parts, number_at, names_registers, call_reading}
+use Rattle.zl_code.specs.Spells.{is_in_range, is_instr_in_range, is_slot_in_range, is_local_in_range, is_call_in_range, is_room, local_parts, number_at}
+use Rattle.zl_code.specs.Spells.{names_registers, call_reading}
 use Rattle.zl_code.specs.Operands.{Operand}
 use Rattle.zl_code.proofs.ImageRanges.{ranges}
 use Rattle.zl_code.proofs.ImageCalls.{whole}
@@ -129,7 +130,8 @@ take_in_range : (a b : ℕ) → is_local_in_range (local.Take a b) ≡ true → 
 unfolding local_parts
 take_in_range a b h = grind (arith, nat_tests)
 
-pub local_fine : (bounds : List ℕ) (i : Image) (x : LocalInstr) (s : State) → IsTrue (is_in_range i) → is_local_in_range x ≡ true → IsFine s → IfOk (local_rule bounds i x s) FineWays
+pub local_fine : (bounds : List ℕ) (i : Image) (x : LocalInstr) (s : State) → IsTrue (is_in_range i) → is_local_in_range x ≡ true → IsFine s
+    → IfOk (local_rule bounds i x s) FineWays
 unfolding local_rule
 local_fine bounds i (local.Const a imm) s g r h = writes_word s a (capped imm) h (omega arith)
 local_fine bounds i (local.Move a b) s g r h = one s b _ h (λ m. writes_fine s a (value_at s b) h (h.fits b, h.state.tags b))
@@ -286,20 +288,25 @@ both_fine (x ∷ xs) ys h k = (h.0, both_fine xs ys h.1 k)
 edges_fine : (size place target : ℕ) (w : Ways) → FineWays w → IfOk (edges size place target w) AllFine
 edges_fine size place target w h =
     then_fine AllFine AllFine (edge_to size cause.BadJump target w.jumped) _ (edge_fine size cause.BadJump target w.jumped h.0) (λ xs p.
-    then_fine AllFine AllFine (edge_to size cause.FallsOff (place + 1) w.passed) (λ ys. Ok (xs ++ ys)) (edge_fine size cause.FallsOff (place + 1) w.passed h.1) (λ ys q.
+    then_fine AllFine AllFine (edge_to size cause.FallsOff (place + 1) w.passed) (λ ys. Ok (xs ++ ys))
+    (edge_fine size cause.FallsOff (place + 1) w.passed h.1) (λ ys q.
     both_fine xs ys p q))
 
 -- ---- the rule
 
-in_range_at : (raw : Bool) (code : List Instr) (n : ℕ) → list_all (is_instr_in_range raw) code ≡ true → IfSome (slice_get code n) (λ x. is_instr_in_range raw x ≡ true)
+in_range_at : (raw : Bool) (code : List Instr) (n : ℕ) → list_all (is_instr_in_range raw) code ≡ true
+    → IfSome (slice_get code n) (λ x. is_instr_in_range raw x ≡ true)
 in_range_at raw [] n h = tt
 in_range_at raw (x ∷ code) zero h = (both (is_instr_in_range raw x) (list_all (is_instr_in_range raw) code) h).0
 in_range_at raw (x ∷ code) (suc n) h = in_range_at raw code n (both (is_instr_in_range raw x) (list_all (is_instr_in_range raw) code) h).1
 
-by_instr : (bounds : List ℕ) (i : Image) (n : ℕ) (s : State) (o : Option Instr) → IsTrue (is_in_range i) → IfSome o (λ x. is_instr_in_range i.raw x ≡ true) → IsFine s → IfOk (rule_by bounds i n s o) AllFine
+by_instr : (bounds : List ℕ) (i : Image) (n : ℕ) (s : State) (o : Option Instr) → IsTrue (is_in_range i) → IfSome o (λ x. is_instr_in_range i.raw x ≡ true)
+    → IsFine s → IfOk (rule_by bounds i n s o) AllFine
 by_instr bounds i n s None g r h = tt
-by_instr bounds i n s (Some (instr.Local x)) g r h = then_fine FineWays AllFine (local_rule bounds i x s) _ (local_fine bounds i x s g r h) (edges_fine (length i.code) n (target_of x))
-by_instr bounds i n s (Some (instr.Call x)) g r h = then_fine FineWays AllFine (call_rule bounds i x s) _ (call_fine bounds i x s r h) (edges_fine (length i.code) n 0)
+by_instr bounds i n s (Some (instr.Local x)) g r h =
+    then_fine FineWays AllFine (local_rule bounds i x s) _ (local_fine bounds i x s g r h) (edges_fine (length i.code) n (target_of x))
+by_instr bounds i n s (Some (instr.Call x)) g r h =
+    then_fine FineWays AllFine (call_rule bounds i x s) _ (call_fine bounds i x s r h) (edges_fine (length i.code) n 0)
 by_instr bounds i n s (Some (instr.Unknown bytes)) g r h = tt
 
 pub rule_fine : (bounds : List ℕ) (i : Image) (n : ℕ) (s : State) → IsTrue (is_in_range i) → IsFine s → IfOk (rule_with bounds i n s) AllFine

@@ -1,5 +1,6 @@
 -- Fine states: what may be written in one, the join of two, and the start.
-use Rattle.std.proofs.Common.{◌≡◌, ℕ, zero, suc, ◌+◌, ◌<◌, ◌≤◌, Bool, true, false, List, [], ◌∷◌, map, length, replicate, Option, Some, None, IfSome, refl, sym, ap, ◌∙◌, subst, IsTrue, arith, eqb}
+use Rattle.std.proofs.Common.{◌≡◌, ℕ, zero, suc, ◌+◌, ◌<◌, ◌≤◌, Bool, true, false, List, [], ◌∷◌, map, length, replicate, Option, Some, None, IfSome, refl, sym}
+use Rattle.std.proofs.Common.{ap, ◌∙◌, subst, IsTrue, arith, eqb}
 use Rattle.std.specs.Prelude.{slice_set, if◌then◌else◌, bit_and}
 use Rattle.std.specs.List.{list_all}
 use Rattle.std.proofs.lemmas.Bool.Decides.{nat_tests, Decides-eqb}
@@ -15,7 +16,8 @@ use Rattle.zl_code.proofs.ImageRanges.{ranges}
 use Rattle.zl_abs.specs.declared.value.AbsVal.{AbsVal}
 use Rattle.zl_abs.specs.declared.value.AbsVal.TheVariants.{Word, Has, KindOf, RightsOf}
 use Rattle.zl_abs.specs.Values.{ANY, joined, larger, untagged, retagged}
-use Rattle.zl_abs.specs.States.{State, all_joined, cons_if, value_at, with_value, with_all, refined, can_be_named, is_named_well, start_value, starts_from, start_results, start_state}
+use Rattle.zl_abs.specs.States.{State, all_joined, cons_if, value_at, with_value, with_all, refined, can_be_named, is_named_well, start_value, starts_from}
+use Rattle.zl_abs.specs.States.{start_results, start_state}
 use Rattle.zl_abs.specs.Fine.{Fits, IsFine}
 use Rattle.zl_abs.specs.LocalRules.{moved}
 use Rattle.zl_abs.proofs.StateOrder.{both}
@@ -123,7 +125,8 @@ pub fine_with : (s : State) (r : ℕ) (v : AbsVal) → IsFine s → Suits s v �
 fine_with s r v h k = record {
   state = record {
     long = with_long s r v ∙ h.state.long;
-    tags = λ q. with_at (λ w. IsTrue (is_named_well (with_value s r v) w)) s r q v (well_untagged s r v v k.1) (well_untagged s r v (value_at s q) (h.state.tags q));
+    tags = λ q.
+        with_at (λ w. IsTrue (is_named_well (with_value s r v) w)) s r q v (well_untagged s r v v k.1) (well_untagged s r v (value_at s q) (h.state.tags q));
   };
   fits = λ q. with_at Fits s r q v (fits_untagged r v k.0) (fits_untagged r (value_at s q) (h.fits q));
 }
@@ -161,7 +164,8 @@ pub fine_refined : (s : State) (r : ℕ) (v : AbsVal) → IsFine s → is_plain 
 fine_refined s r v h e f k = record {
   state = record {
     long = length-set s r v ∙ h.state.long;
-    tags = λ q. set_at (λ w. IsTrue (is_named_well (slice_set s r v) w)) s r q v ((plain_suits (slice_set s r v) v e f).1) (well_refined s r v (value_at s q) k (h.state.tags q));
+    tags = λ q. set_at (λ w. IsTrue (is_named_well (slice_set s r v) w)) s r q v ((plain_suits (slice_set s r v) v e f).1)
+        (well_refined s r v (value_at s q) k (h.state.tags q));
   };
   fits = λ q. set_at Fits s r q v f (h.fits q);
 }
@@ -327,8 +331,10 @@ is_join s t u e = subst (λ o. IfSome o (IsJoin s t)) e (all_joined_at s t)
 pub fine_joined : (s t u : State) → IsFine s → IsFine t → all_joined s t ≡ Some u → IsFine u
 fine_joined s t u h k e =
     let j = is_join s t u e in
-    let at : (P : AbsVal → Type 0) → (r : ℕ) → IfSome (joined (value_at s r) (value_at t r)) P → P (value_at u r) = λ P r p. subst (λ o. IfSome o P) (j.at r) p in
-    let kept : (x : ℕ) → Named (value_at s x) → Named (value_at t x) → Named (value_at u x) = λ x p q. at Named x (joined_named (value_at s x) (value_at t x) p q) in
+    let at : (P : AbsVal → Type 0) → (r : ℕ) → IfSome (joined (value_at s r) (value_at t r)) P → P (value_at u r) =
+    λ P r p. subst (λ o. IfSome o P) (j.at r) p in
+    let kept : (x : ℕ) → Named (value_at s x) → Named (value_at t x) → Named (value_at u x) =
+    λ x p q. at Named x (joined_named (value_at s x) (value_at t x) p q) in
     record {
       state = record {
         long = j.long ∙ h.state.long;

@@ -1,5 +1,6 @@
 -- What the tests of jumps teach of a fine state, which stays fine.
-use Rattle.std.proofs.Common.{◌≡◌, ℕ, ◌-◌, ◌<◌, ◌≤◌, Bool, true, false, ◌&&◌, not, Option, Some, None, Result, Ok, Err, IfSome, IfOk, refl, sym, ◌∙◌, subst, IsTrue, arith, eqb, ltb}
+use Rattle.std.proofs.Common.{◌≡◌, ℕ, ◌-◌, ◌<◌, ◌≤◌, Bool, true, false, ◌&&◌, not, Option, Some, None, Result, Ok, Err, IfSome, IfOk, refl, sym, ◌∙◌, subst}
+use Rattle.std.proofs.Common.{IsTrue, arith, eqb, ltb}
 use Rattle.std.specs.Prelude.{if◌then◌else◌, bit_and, bit_or}
 use Rattle.std.proofs.lemmas.Bool.Decides.{nat_tests, Decides-eqb}
 use Rattle.std.proofs.lemmas.Nat.{and_le_l, or_lt}
@@ -13,14 +14,16 @@ use Rattle.zl_abs.specs.Values.{ANY, capped, smaller, bound_of, kind_below}
 use Rattle.zl_abs.specs.States.{State, value_at, refined, is_named_well}
 use Rattle.zl_abs.specs.Fine.{Fits, IsFine}
 use Rattle.zl_abs.specs.Rule.{and_then, word_or, word_at}
-use Rattle.zl_abs.specs.LocalRules.{known_zero, known_there, known_kind, known_other, known_rights, becomes, kind_numbered, kind_ways, equal_ways, zero_ways, below_ways, has_ways}
+use Rattle.zl_abs.specs.LocalRules.{known_zero, known_there, known_kind, known_other, known_rights, becomes, kind_numbered, kind_ways, equal_ways, zero_ways}
+use Rattle.zl_abs.specs.LocalRules.{below_ways, has_ways}
 use Rattle.zl_abs.proofs.FineStates.{Named, is_plain, set_other, fine_refined}
 
 -- the states at the ends of the edges are fine
 abbrev pub FineWays : Ways → Type 0
 FineWays w = IfSome w.jumped IsFine × IfSome w.passed IsFine
 
-pub then_fine : {A B : Type 0} (P : A → Type 0) (Q : B → Type 0) (x : Result A Cause) (f : A → Result B Cause) → IfOk x P → ((a : A) → P a → IfOk (f a) Q) → IfOk (and_then x f) Q
+pub then_fine : {A B : Type 0} (P : A → Type 0) (Q : B → Type 0) (x : Result A Cause) (f : A → Result B Cause) → IfOk x P → ((a : A) → P a → IfOk (f a) Q)
+    → IfOk (and_then x f) Q
 then_fine P Q (Err c) f h k = tt
 then_fine P Q (Ok a) f h k = k a h
 
@@ -59,7 +62,8 @@ knows_itself_if s r false h = knows_itself s r h
 knows : (s : State) (r : ℕ) (v : AbsVal) → IsFine s → is_plain v ≡ true → Fits v → Named v → Knows s r (refined s r v)
 knows s r v h e f k = (fine_refined s r v h e f (λ _. k), λ q e. set_other s r q v e)
 
-knows_if : (s : State) (r : ℕ) (v : AbsVal) (t : Bool) → IsFine s → is_plain v ≡ true → (t ≡ true → Fits v) → Named v → IfSome (if t then Some (refined s r v) else None) (Knows s r)
+knows_if : (s : State) (r : ℕ) (v : AbsVal) (t : Bool) → IsFine s → is_plain v ≡ true → (t ≡ true → Fits v) → Named v
+    → IfSome (if t then Some (refined s r v) else None) (Knows s r)
 knows_if s r v true h e f k = knows s r v h e (f refl) k
 knows_if s r v false h e f k = tt
 
@@ -99,7 +103,8 @@ gained_fit q imm h e =
     omega arith
 
 rights_known : (s : State) (r imm : ℕ) (v : AbsVal) → IsFine s → Fits v → IfSome (known_rights s r imm v) (Knows s r)
-rights_known s r imm (Has a k q) h f = knows_if s r (Has false k (rights_of (bit_or (bits q) imm))) (within imm KNOWN_RIGHTS) h refl (gained_fit (bits q) imm f) refl
+rights_known s r imm (Has a k q) h f =
+    knows_if s r (Has false k (rights_of (bit_or (bits q) imm))) (within imm KNOWN_RIGHTS) h refl (gained_fit (bits q) imm f) refl
 rights_known s r imm (Word m) h f = tt
 rights_known s r imm (KindOf x) h f = tt
 rights_known s r imm (RightsOf x) h f = tt
@@ -170,7 +175,10 @@ pub equal_fine : (s : State) (a imm : ℕ) → IsFine s → IfOk (equal_ways s a
 equal_fine s a imm h = equal_by s a imm (value_at s a) h refl
 
 zero_by : (s : State) (a : ℕ) (v : AbsVal) → IsFine s → value_at s a ≡ v → IfOk (zero_ways s a v) FineWays
-zero_by s a (Has x k q) h e = (known_fine s a (known_zero s a (Has x k q)) (zero_known s a (Has x k q) h), known_fine s a (known_there s a (Has x k q)) (there_known s a (Has x k q) h (subst Fits e (h.fits a))))
+zero_by s a (Has x k q) h e = (
+  known_fine s a (known_zero s a (Has x k q)) (zero_known s a (Has x k q) h),
+  known_fine s a (known_there s a (Has x k q)) (there_known s a (Has x k q) h (subst Fits e (h.fits a))),
+)
 zero_by s a (Word m) h e = equal_by s a 0 (Word m) h e
 zero_by s a (KindOf r) h e = equal_by s a 0 (KindOf r) h e
 zero_by s a (RightsOf r) h e = equal_by s a 0 (RightsOf r) h e
@@ -185,7 +193,8 @@ smaller_zero : (m n : ℕ) → m ≡ 0 → eqb (smaller m n) 0 ≡ true
 smaller_zero m n h = grind (arith, nat_tests)
 
 pub below_fine : (s : State) (a imm : ℕ) → IsFine s → IfOk (below_ways s a imm) FineWays
-below_fine s a imm h = then_fine (IsBound (value_at s a)) FineWays (word_at s a) _ (word_fine s a h) (λ m p. (less m p (eqb imm 0), fine_unless s (ltb m imm) h))
+below_fine s a imm h =
+    then_fine (IsBound (value_at s a)) FineWays (word_at s a) _ (word_fine s a h) (λ m p. (less m p (eqb imm 0), fine_unless s (ltb m imm) h))
   where
     less : (m : ℕ) → IsBound (value_at s a) m → (t : Bool) → IfSome (if t then None else Some (refined s a (Word (smaller m (imm - 1))))) IsFine
     less m p true = tt

@@ -96,5 +96,6 @@ verdict i = told (bounds_of i.code) i (rounds 4 (bounds_of i.code) i (begun i))
 
 -- names what has to unfold
 unfoldable pub searching : Unit {0}
-unfolding below joined all_below all_joined with_value with_all start_state imm_of least_from local_rule call_rule uses_of examined_all are_distinct rule_with row_of local_parts
+unfolding below joined all_below all_joined with_value with_all start_state imm_of least_from local_rule call_rule uses_of examined_all are_distinct rule_with
+    row_of local_parts
 searching = tt

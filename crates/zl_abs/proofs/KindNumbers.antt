@@ -15,4 +15,10 @@ again kind.Job = refl
 pub kind_found : (n : ℕ) (o : Option Kind) → IfSome o (λ k. kind_number k ≡ n) → IfNone o ((k : Kind) → kind_number k ≢ n) → o ≡ kind_numbered n
 kind_found n (Some k) found missing = rw (sym found) (again k)
 kind_found n None found missing =
-    rw (ne_eqb 1 n (missing kind.Process), ne_eqb 4 n (missing kind.Channel), ne_eqb 5 n (missing kind.Event), ne_eqb 6 n (missing kind.Port), ne_eqb 17 n (missing kind.Job)) refl
+    rw (
+      ne_eqb 1 n (missing kind.Process),
+      ne_eqb 4 n (missing kind.Channel),
+      ne_eqb 5 n (missing kind.Event),
+      ne_eqb 6 n (missing kind.Port),
+      ne_eqb 17 n (missing kind.Job),
+    ) refl

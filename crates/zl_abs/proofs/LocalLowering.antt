@@ -1,5 +1,6 @@
 -- The rules of the local instructions at a state and at one below it.
-use Rattle.std.proofs.Common.{◌≡◌, ℕ, ◌+◌, ◌<◌, ◌≤◌, Bool, true, false, not, ◌&&◌, ◌||◌, List, Option, Some, None, Result, Ok, refl, IsTrue, arith, leb, ltb, eqb}
+use Rattle.std.proofs.Common.{◌≡◌, ℕ, ◌+◌, ◌<◌, ◌≤◌, Bool, true, false, not, ◌&&◌, ◌||◌, List, Option, Some, None, Result, Ok, refl, IsTrue, arith, leb, ltb}
+use Rattle.std.proofs.Common.{eqb}
 use Rattle.std.specs.Prelude.{slice_get, if◌then◌else◌, ◌/◌, ◌^◌}
 use Rattle.std.proofs.lemmas.Bool.Decides.{nat_tests, Decides-eqb}
 use Rattle.std.proofs.lemmas.Nat.{le-div, pow_pos}
@@ -22,7 +23,8 @@ use Rattle.zl_abs.specs.Rule.{and_then, word_at, passes}
 use Rattle.zl_abs.specs.LocalRules.{shifted, in_memory, loads, stores, may_move, moved, takes, slot_fault, slot_value, swaps_by, swaps_in, local_rule, unless}
 use Rattle.zl_abs.proofs.Order.{below_refl, kind_trans, within_trans, parts}
 use Rattle.zl_abs.proofs.StateOrder.{both}
-use Rattle.zl_abs.proofs.Lowering.{Lowers, IsBelow, WaysBelow, lowers_then, lowers_if, lowers_unless, not_kept, value_below, with_below, moved_below, no_has, leb_le, le_leb, word_at_below, writes_below, computes_below}
+use Rattle.zl_abs.proofs.Lowering.{Lowers, IsBelow, WaysBelow, lowers_then, lowers_if, lowers_unless, not_kept, value_below, with_below, moved_below, no_has}
+use Rattle.zl_abs.proofs.Lowering.{leb_le, le_leb, word_at_below, writes_below, computes_below}
 use Rattle.zl_abs.proofs.TestLowering.{zero_below, equal_below, below_below, has_below}
 
 abbrev Le : ℕ → ℕ → Type 0
@@ -54,11 +56,13 @@ fits_below i m m2 offset n h k = le_leb _ _ (let e = leb_le (m2 + (offset + n)) 
 
 loads_below : (i : Image) (s t : State) (n bound a b offset : ℕ) → IsBelow s t → Lowers WaysBelow (loads i s n bound a b offset) (loads i t n bound a b offset)
 loads_below i s t n bound a b offset h =
-    one s t b _ _ h (λ m m2 p. lowers_if WaysBelow (in_memory i m offset n) (in_memory i m2 offset n) _ _ _ _ (fits_below i m m2 offset n p) (writes_below s t a _ _ h (below_refl (Word bound))))
+    one s t b _ _ h (λ m m2 p. lowers_if WaysBelow (in_memory i m offset n) (in_memory i m2 offset n) _ _ _ _ (fits_below i m m2 offset n p)
+    (writes_below s t a _ _ h (below_refl (Word bound))))
 
 stores_below : (i : Image) (s t : State) (n a b offset : ℕ) → IsBelow s t → Lowers WaysBelow (stores i s n a b offset) (stores i t n a b offset)
 stores_below i s t n a b offset h =
-    two s t a b _ _ h (λ m x m2 x2 p q. lowers_if WaysBelow (in_memory i m offset n) (in_memory i m2 offset n) (Ok (passes s)) (Ok (passes t)) _ _ (fits_below i m m2 offset n p) (tt, h))
+    two s t a b _ _ h (λ m x m2 x2 p q. lowers_if WaysBelow (in_memory i m offset n) (in_memory i m2 offset n) (Ok (passes s)) (Ok (passes t)) _ _
+    (fits_below i m m2 offset n p) (tt, h))
 
 -- ---- moves
 
@@ -86,7 +90,8 @@ takes_below s t a b h =
     let v = value_below s t b h in
     lowers_unless WaysBelow (eqb a b) (eqb a b) _ _ _ _ (λ e. e)
     (lowers_unless WaysBelow (not (may_move (value_at s b))) (not (may_move (value_at t b))) _ _ _ _ (not_kept _ _ (move_below _ _ v))
-    (lowers_unless WaysBelow (is_has (value_at s a)) (is_has (value_at t a)) (Ok (passes (moved s a b (value_at s b)))) (Ok (passes (moved t a b (value_at t b)))) _ _
+    (lowers_unless WaysBelow (is_has (value_at s a)) (is_has (value_at t a)) (Ok (passes (moved s a b (value_at s b))))
+    (Ok (passes (moved t a b (value_at t b)))) _ _
     (no_has _ _ (value_below s t a h)) (tt, moved_below s t a b _ _ h v)))
 
 -- ---- slot arrays
@@ -135,7 +140,8 @@ enters_below x (RightsOf _) (Has _ _ _) h e = cc
 enters_below x (RightsOf _) (KindOf _) h e = cc
 enters_below x (RightsOf _) (RightsOf _) h e = cc
 
-swap_below : (s t : State) (a : ℕ) (x : SlotArray) (o p : Option Cause) → IsBelow s t → (p ≡ None → o ≡ None) → Lowers WaysBelow (swaps_by s a x o) (swaps_by t a x p)
+swap_below : (s t : State) (a : ℕ) (x : SlotArray) (o p : Option Cause) → IsBelow s t → (p ≡ None → o ≡ None)
+    → Lowers WaysBelow (swaps_by s a x o) (swaps_by t a x p)
 swap_below s t a x o (Some c) h k = tt
 swap_below s t a x None None h k = (tt, with_below s t a _ _ h (below_refl (slot_value x)))
 swap_below s t a x (Some c) None h k = absurd (no_some c (k refl))
@@ -166,7 +172,8 @@ shifted_below m m2 places h = by (ltb places 64)
 unless_below : (x y : Result Ways Cause) → Lowers WaysBelow x y → Lowers WaysBelow (unless x) (unless y)
 unless_below x y h = lowers_then WaysBelow WaysBelow x y _ _ h (λ v w k. (k.1, k.0))
 
-pub local_below : (bounds : List ℕ) (i : Image) (x : LocalInstr) (s t : State) → IsBelow s t → Lowers WaysBelow (local_rule bounds i x s) (local_rule bounds i x t)
+pub local_below : (bounds : List ℕ) (i : Image) (x : LocalInstr) (s t : State) → IsBelow s t
+    → Lowers WaysBelow (local_rule bounds i x s) (local_rule bounds i x t)
 unfolding local_rule
 local_below bounds i (local.Const a imm) s t h = writes_below s t a _ _ h (below_refl (Word (capped imm)))
 local_below bounds i (local.Move a b) s t h = one s t b _ _ h (λ m m2 p. writes_below s t a _ _ h (value_below s t b h))

@@ -1,5 +1,6 @@
 -- Where a state is below another, so is what a rule writes there.
-use Rattle.std.proofs.Common.{◌≡◌, ℕ, zero, suc, ◌≤◌, Bool, true, false, not, ◌&&◌, List, [], ◌∷◌, map, Option, Some, None, Result, Ok, Err, refl, IsTrue, arith, leb, ltb, eqb}
+use Rattle.std.proofs.Common.{◌≡◌, ℕ, zero, suc, ◌≤◌, Bool, true, false, not, ◌&&◌, List, [], ◌∷◌, map, Option, Some, None, Result, Ok, Err, refl, IsTrue}
+use Rattle.std.proofs.Common.{arith, leb, ltb, eqb}
 use Rattle.std.specs.Prelude.{slice_set, if◌then◌else◌}
 use Rattle.std.proofs.lemmas.Bool.Decides.{nat_tests, Decides-eqb}
 use Rattle.zl_abs.specs.declared.value.AbsVal.{AbsVal}
@@ -41,13 +42,15 @@ lowers_then R Q (Err c) (Ok b) f g h k = absurd h
 lowers_then R Q (Ok a) (Ok b) f g h k = k a b h
 
 -- a test that holds above holds below
-pub lowers_if : {B : Type 0} (Q : B → B → Type 0) (t u : Bool) (x y : Result B Cause) (c d : Cause) → (u ≡ true → t ≡ true) → Lowers Q x y → Lowers Q (if t then x else Err c) (if u then y else Err d)
+pub lowers_if : {B : Type 0} (Q : B → B → Type 0) (t u : Bool) (x y : Result B Cause) (c d : Cause) → (u ≡ true → t ≡ true) → Lowers Q x y
+    → Lowers Q (if t then x else Err c) (if u then y else Err d)
 lowers_if Q t false x y c d h k = tt
 lowers_if Q true true x y c d h k = k
 lowers_if Q false true x y c d h k = let e = h refl in cc
 
 -- a fault that isn't there above isn't there below
-pub lowers_unless : {B : Type 0} (Q : B → B → Type 0) (t u : Bool) (x y : Result B Cause) (c d : Cause) → (u ≡ false → t ≡ false) → Lowers Q x y → Lowers Q (if t then Err c else x) (if u then Err d else y)
+pub lowers_unless : {B : Type 0} (Q : B → B → Type 0) (t u : Bool) (x y : Result B Cause) (c d : Cause) → (u ≡ false → t ≡ false) → Lowers Q x y
+    → Lowers Q (if t then Err c else x) (if u then Err d else y)
 lowers_unless Q t true x y c d h k = tt
 lowers_unless Q false false x y c d h k = k
 lowers_unless Q true false x y c d h k = let e = h refl in cc
@@ -93,7 +96,8 @@ set_under (a ∷ s) [] r v h k = cc
 set_under (a ∷ s) (b ∷ t) zero v h k = and _ _ k ((both (below a b) (all_below s t) h).1)
 set_under (a ∷ s) (b ∷ t) (suc r) v h k = and _ _ ((both (below a b) (all_below s t) h).0) (set_under s t r v ((both (below a b) (all_below s t) h).1) k)
 
-pub map_below : (f : AbsVal → AbsVal) → ((v w : AbsVal) → IsTrue (below v w) → IsTrue (below (f v) (f w))) → (s t : State) → IsBelow s t → IsBelow (map f s) (map f t)
+pub map_below : (f : AbsVal → AbsVal) → ((v w : AbsVal) → IsTrue (below v w) → IsTrue (below (f v) (f w))) → (s t : State) → IsBelow s t
+    → IsBelow (map f s) (map f t)
 unfolding all_below
 map_below f kept [] [] h = h
 map_below f kept [] (b ∷ t) h = cc
@@ -148,7 +152,8 @@ unfolding with_value
 with_below s t r v w h k = map_below (untagged r) (untagged_below r) _ _ (set_below s t r v w h k)
 
 pub moved_below : (s t : State) (a b : ℕ) (v w : AbsVal) → IsBelow s t → IsTrue (below v w) → IsBelow (moved s a b v) (moved t a b w)
-moved_below s t a b v w h k = set_below _ _ b (Word 0) (Word 0) (map_below (retagged b a) (retagged_below b a) _ _ (with_below s t a v w h k)) (below_refl (Word 0))
+moved_below s t a b v w h k =
+    set_below _ _ b (Word 0) (Word 0) (map_below (retagged b a) (retagged_below b a) _ _ (with_below s t a v w h k)) (below_refl (Word 0))
 
 -- ---- values
 

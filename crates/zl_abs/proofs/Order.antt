@@ -91,7 +91,8 @@ below_refl (Has maybe kind rights) = three _ _ _ (or_refl maybe) (kind_refl kind
 below_refl (KindOf r) = grind (arith, nat_tests)
 below_refl (RightsOf r) = grind (arith, nat_tests)
 
-has_trans : (x x' x'' : Bool) (y y' y'' : Option Kind) (z z' z'' : ℕ) → ((not x || x') && (kind_below y y' && within z' z)) ≡ true → ((not x' || x'') && (kind_below y' y'' && within z'' z')) ≡ true → ((not x || x'') && (kind_below y y'' && within z'' z)) ≡ true
+has_trans : (x x' x'' : Bool) (y y' y'' : Option Kind) (z z' z'' : ℕ) → ((not x || x') && (kind_below y y' && within z' z)) ≡ true
+    → ((not x' || x'') && (kind_below y' y'' && within z'' z')) ≡ true → ((not x || x'') && (kind_below y y'' && within z'' z)) ≡ true
 has_trans x x' x'' y y' y'' z z' z'' h k =
     let p = parts (not x || x') (kind_below y y') (within z' z) h in
     let q = parts (not x' || x'') (kind_below y' y'') (within z'' z') k in
@@ -296,21 +297,24 @@ within_least a b d h k =
     let e : bit_and (bit_and a b) d ≡ bit_and a (bit_and b d) = and_assoc d a b in
     within_is d (bit_and a b) cc
 
-has_least : (a b c : Bool) (k j l : Option Kind) (r q s : ℕ) → ((not a || c) && (kind_below k l && within s r)) ≡ true → ((not b || c) && (kind_below j l && within s q)) ≡ true → ((not (a || b) || c) && (kind_below (kind_joined k j) l && within s (bit_and r q))) ≡ true
+has_least : (a b c : Bool) (k j l : Option Kind) (r q s : ℕ) → ((not a || c) && (kind_below k l && within s r)) ≡ true
+    → ((not b || c) && (kind_below j l && within s q)) ≡ true → ((not (a || b) || c) && (kind_below (kind_joined k j) l && within s (bit_and r q))) ≡ true
 has_least a b c k j l r q s h g =
     let p = parts (not a || c) (kind_below k l) (within s r) h in
     let t = parts (not b || c) (kind_below j l) (within s q) g in
     three _ _ _ (or_least a b c p.0 t.0) (kind_least k j l p.1 t.1) (within_least r q s p.2 t.2)
 
 -- a zero word and a handle, below a handle
-zero_least : (m : ℕ) (a b : Bool) (k l : Option Kind) (r s : Rights) → (eqb m 0 && b) ≡ true → ((not a || b) && (kind_below k l && within (bits s) (bits r))) ≡ true → IsAboveJoin (Has b l s) (if eqb m 0 then Some (Has true k r) else None)
+zero_least : (m : ℕ) (a b : Bool) (k l : Option Kind) (r s : Rights) → (eqb m 0 && b) ≡ true
+    → ((not a || b) && (kind_below k l && within (bits s) (bits r))) ≡ true → IsAboveJoin (Has b l s) (if eqb m 0 then Some (Has true k r) else None)
 unfolding below
 zero_least m a b k l r s h g =
     let e = both (eqb m 0) b h in
     let p = parts (not a || b) (kind_below k l) (within (bits s) (bits r)) g in
     rw (e.0) (three _ _ _ (e.1) (p.1) (p.2))
 
-tags_least : (r s : ℕ) (x y : AbsVal) (d : AbsVal) → (r ≡ s → IsTrue (below x d)) → (eqb r s ≡ false → IsTrue (below y d)) → IsTrue (below (if eqb r s then x else y) d)
+tags_least : (r s : ℕ) (x y : AbsVal) (d : AbsVal) → (r ≡ s → IsTrue (below x d)) → (eqb r s ≡ false → IsTrue (below y d))
+    → IsTrue (below (if eqb r s then x else y) d)
 tags_least r s x y d f g = by (eqb r s) refl
   where
     by : (t : Bool) → eqb r s ≡ t → IsTrue (below (if t then x else y) d)

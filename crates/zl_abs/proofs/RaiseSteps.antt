@@ -22,7 +22,8 @@ none_after false b = refl
 pub still_apart : (now : State) (i : ℕ) (x z y : AbsVal) → i < length now → Stands now i x → Stands now i z → below y x ≡ false → below y z ≡ false
 still_apart now i x z y h p q e = subst (λ v. below y v ≡ false) (p ∙ (get_or_default now i x z h ∙ sym q)) e
 
-module _ (old other now : State) (rose : Bool) (i : ℕ) (x y : AbsVal) (h : i < length now) (k : i < length other) (p : Stands now i x) (q : Stands other i y) (so_far : IsRaised old other now rose i) where
+module _ (old other now : State) (rose : Bool) (i : ℕ) (x y : AbsVal) (h : i < length now) (k : i < length other) (p : Stands now i x) (q : Stands other i y)
+    (so_far : IsRaised old other now rose i) where
   pub raised_more : (v : AbsVal) → Some v ≡ joined x y → below y x ≡ false → IsRaised old other (slice_set now i v) true (i + 1)
   raised_more v e apart = record {
     joined = so_far.joined ∙ joined_more now other i x y v h k p q e;
@@ -34,7 +35,8 @@ module _ (old other now : State) (rose : Bool) (i : ℕ) (x y : AbsVal) (h : i <
       let same : slice_set now i x ≡ now = subst (λ z. slice_set now i z ≡ now) (sym p) (set-get_or now i x) in
       let step = joined_more now other i x y x h k p q (sym (absorbs x y under)) in
       record {
-        joined = so_far.joined ∙ subst (λ z. option_map (λ (rest : State). take i now ++ rest) (all_joined (drop i now) (drop i other)) ≡ option_map (λ (rest : State). take (i + 1) z ++ rest) (all_joined (drop (i + 1) z) (drop (i + 1) other))) same step;
+        joined = so_far.joined ∙ subst (λ z. option_map (λ (rest : State). take i now ++ rest) (all_joined (drop i now) (drop i other))
+            ≡ option_map (λ (rest : State). take (i + 1) z ++ rest) (all_joined (drop (i + 1) z) (drop (i + 1) other))) same step;
         rises = so_far.rises ∙ (rw (below_step other now i y x k h q p, under) refl);
       }
 
@@ -45,8 +47,10 @@ not_all : (r : Bool) → (not r && true) ≡ not r
 not_all true = refl
 not_all false = refl
 
-pub raised_joined : (old other now : State) (rose : Bool) (i : ℕ) → length now ≤ i → length other ≤ i → IsRaised old other now rose i → all_joined old other ≡ Some now
+pub raised_joined : (old other now : State) (rose : Bool) (i : ℕ) → length now ≤ i → length other ≤ i → IsRaised old other now rose i
+    → all_joined old other ≡ Some now
 raised_joined old other now rose i h k so_far = so_far.joined ∙ joined_end now other i h k
 
-pub raised_rises : (old other now : State) (rose : Bool) (i : ℕ) → length now ≤ i → length other ≤ i → IsRaised old other now rose i → all_below other old ≡ not rose
+pub raised_rises : (old other now : State) (rose : Bool) (i : ℕ) → length now ≤ i → length other ≤ i → IsRaised old other now rose i
+    → all_below other old ≡ not rose
 raised_rises old other now rose i h k so_far = so_far.rises ∙ (rw (below_end other now i k h) (not_all rose))

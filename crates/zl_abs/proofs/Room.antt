@@ -1,5 +1,6 @@
 -- How far a state can still rise: a join that isn't the state itself takes some of it.
-use Rattle.std.proofs.Common.{◌≡◌, ◌≢◌, ℕ, suc, ◌+◌, ◌-◌, ◌*◌, ◌<◌, ◌≤◌, Bool, true, false, not, ◌&&◌, ◌||◌, [], ◌∷◌, Option, Some, None, refl, sym, ◌∙◌, subst, length, ◌⊎◌, inl, inr, arith, leb, eqb}
+use Rattle.std.proofs.Common.{◌≡◌, ◌≢◌, ℕ, suc, ◌+◌, ◌-◌, ◌*◌, ◌<◌, ◌≤◌, Bool, true, false, not, ◌&&◌, ◌||◌, [], ◌∷◌, Option, Some, None, refl, sym, ◌∙◌, subst}
+use Rattle.std.proofs.Common.{length, ◌⊎◌, inl, inr, arith, leb, eqb}
 use Rattle.std.specs.Prelude.{if◌then◌else◌, bit_and}
 use Rattle.std.proofs.lemmas.Nat.{and_le_l, and_comm}
 use Rattle.std.proofs.lemmas.Bool.Decides.{nat_tests, Decides-eqb}
@@ -143,10 +144,13 @@ same_register r s e = grind (arith, nat_tests)
 lessens : (a b : AbsVal) → Fits a → Fits b → Lessens a b (joined a b)
 unfolding joined below
 lessens (Word m) (Word n) f g = (word_room m n f g, word_less m n f g)
-lessens (Word m) (Has x k r) f g = zero_lessens (Word m) (Has x k r) (Has true k r) m (λ e. let b = zero_most m (kind_room k) (bits r) e (kind_most k) g in (omega arith, λ _. b))
+lessens (Word m) (Has x k r) f g =
+    zero_lessens (Word m) (Has x k r) (Has true k r) m (λ e. let b = zero_most m (kind_room k) (bits r) e (kind_most k) g in (omega arith, λ _. b))
 lessens (Word m) (KindOf r) f g = (word_room m ANY f (omega arith), (λ h. word_less m ANY f (omega arith) h))
 lessens (Word m) (RightsOf r) f g = (word_room m ANY f (omega arith), (λ h. word_less m ANY f (omega arith) h))
-lessens (Has true k r) (Word n) f g = zero_lessens (Has true k r) (Word n) (Has true k r) n (λ e. (omega arith, λ h. let q : (eqb n 0 && true) ≡ true = rw e refl in let z : true ≡ false = sym q ∙ h in absurd (cc)))
+lessens (Has true k r) (Word n) f g =
+    zero_lessens (Has true k r) (Word n) (Has true k r) n
+    (λ e. (omega arith, λ h. let q : (eqb n 0 && true) ≡ true = rw e refl in let z : true ≡ false = sym q ∙ h in absurd (cc)))
 lessens (Has false k r) (Word n) f g = zero_lessens (Has false k r) (Word n) (Has true k r) n (λ e. (omega arith, λ h. omega arith))
 lessens (Has a k r) (Has b j q) f g = (has_room a b k j (bits r) (bits q), has_less a b k j (bits r) (bits q))
 lessens (Has a k r) (KindOf _) f g = tt
@@ -181,7 +185,10 @@ all_lessens (a ∷ s) (b ∷ t) f g = by (joined a b) (all_joined s t) (lessens 
     by : (o : Option AbsVal) (p : Option State) → Lessens a b o → AllLessens s t p → AllLessens (a ∷ s) (b ∷ t) (cons_if o p)
     by None p h k = tt
     by (Some v) None h k = tt
-    by (Some v) (Some u) h k = (omega (arith, h.0, k.0), (λ e. elim (and_false (below b a) (all_below t s) e) [ inl x ↦ (let y = h.1 x in omega (arith, k.0)) | inr x ↦ (let y = k.1 x in omega (arith, h.0)) ]))
+    by (Some v) (Some u) h k = (
+      omega (arith, h.0, k.0),
+      (λ e. elim (and_false (below b a) (all_below t s) e) [ inl x ↦ (let y = h.1 x in omega (arith, k.0)) | inr x ↦ (let y = k.1 x in omega (arith, h.0)) ]),
+    )
 
 -- a join with what isn't below takes some of the room
 pub room_falls : (s t u : State) → IsFine s → IsFine t → all_joined s t ≡ Some u → all_below t s ≡ false → room u < room s

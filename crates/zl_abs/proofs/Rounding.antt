@@ -11,7 +11,8 @@ unfolding least_from
 least_append n [] ys best = refl
 least_append n (x ∷ xs) ys best = least_append n xs ys (if leb n x && ltb x best then x else best)
 
-pub least_step : (n best : ℕ) (bs : List ℕ) (i : ℕ) → i < length bs → least_from n best (drop i bs) ≡ least_from n (least_from n best (get_or bs i 0 ∷ [])) (drop (i + 1) bs)
+pub least_step : (n best : ℕ) (bs : List ℕ) (i : ℕ) → i < length bs
+    → least_from n best (drop i bs) ≡ least_from n (least_from n best (get_or bs i 0 ∷ [])) (drop (i + 1) bs)
 unfolding least_from
 least_step n best bs i h = rw (add-one, drop-cons bs i 0) refl
 

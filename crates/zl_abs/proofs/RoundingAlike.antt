@@ -39,7 +39,9 @@ module _ (bs cs : List ℕ) (alike : RoundAlike bs cs) (i : Image) (s : State) w
 
   same_call : (c : CallInstr) → call_rule bs i c s ≡ call_rule cs i c s
   unfolding call_rule uses_of
-  same_call c = ap (λ vs. call_rule_by i s (goes_on c.name) (uses_by (call_row c.name) c vs)) (same_values c.name (value_at s (slice_index c.registers 1)) (number_at c.last 0 4))
+  same_call c =
+      ap (λ vs. call_rule_by i s (goes_on c.name) (uses_by (call_row c.name) c vs))
+      (same_values c.name (value_at s (slice_index c.registers 1)) (number_at c.last 0 4))
 
   same_by : (n : ℕ) (o : Option Instr) → rule_by bs i n s o ≡ rule_by cs i n s o
   same_by n None = refl

@@ -51,7 +51,8 @@ edge_below size c n (Some s) (Some t) h = by (ltb n size)
 edges_below : (size place target : ℕ) (v w : Ways) → WaysBelow v w → Lowers EdgesBelow (edges size place target v) (edges size place target w)
 edges_below size place target v w h =
     lowers_then EdgesBelow EdgesBelow _ _ _ _ (edge_below size cause.BadJump target v.jumped w.jumped h.0)
-    (λ es fs p. lowers_then EdgesBelow EdgesBelow _ _ _ _ (edge_below size cause.FallsOff (place + 1) v.passed w.passed h.1) (λ ds gs q. both_among fs gs es ds p q))
+    (λ es fs p. lowers_then EdgesBelow EdgesBelow _ _ _ _ (edge_below size cause.FallsOff (place + 1) v.passed w.passed h.1)
+    (λ ds gs q. both_among fs gs es ds p q))
 
 -- what Lowers says is what the law says
 told : (x y : Result (List Edge) Cause) → Lowers EdgesBelow x y → RuleBelow x y
@@ -65,6 +66,10 @@ rule_below bounds i n s t h = told _ _ (by (instr_at i n))
   where
     by : (o : Option Instr) → Lowers EdgesBelow (rule_by bounds i n s o) (rule_by bounds i n t o)
     by None = tt
-    by (Some (instr.Local x)) = lowers_then WaysBelow EdgesBelow (local_rule bounds i x s) (local_rule bounds i x t) _ _ (local_below bounds i x s t h) (λ v w k. edges_below (length i.code) n (target_of x) v w k)
-    by (Some (instr.Call x)) = lowers_then WaysBelow EdgesBelow (call_rule bounds i x s) (call_rule bounds i x t) _ _ (call_below bounds i x s t h) (λ v w k. edges_below (length i.code) n 0 v w k)
+    by (Some (instr.Local x)) =
+        lowers_then WaysBelow EdgesBelow (local_rule bounds i x s) (local_rule bounds i x t) _ _ (local_below bounds i x s t h)
+        (λ v w k. edges_below (length i.code) n (target_of x) v w k)
+    by (Some (instr.Call x)) =
+        lowers_then WaysBelow EdgesBelow (call_rule bounds i x s) (call_rule bounds i x t) _ _ (call_below bounds i x s t h)
+        (λ v w k. edges_below (length i.code) n 0 v w k)
     by (Some (instr.Unknown bytes)) = tt

@@ -51,13 +51,15 @@ get_none [] n h = refl
 get_none (x ∷ xs) zero h = absurd (omega arith)
 get_none (x ∷ xs) (suc n) h = get_none xs n (omega arith)
 
-unknown_by : (bounds : List ℕ) (i : Image) (n : ℕ) (s : State) (o : Option Instr) → (None ≡ o → ⊥) → None ≡ local_in o → None ≡ call_in o → rule_by bounds i n s o ≡ Err cause.IllegalOp
+unknown_by : (bounds : List ℕ) (i : Image) (n : ℕ) (s : State) (o : Option Instr) → (None ≡ o → ⊥) → None ≡ local_in o → None ≡ call_in o
+    → rule_by bounds i n s o ≡ Err cause.IllegalOp
 unknown_by bounds i n s None h e k = absurd (h refl)
 unknown_by bounds i n s (Some (instr.Local y)) h e k = absurd (none-some y e)
 unknown_by bounds i n s (Some (instr.Call y)) h e k = absurd (none-some y k)
 unknown_by bounds i n s (Some (instr.Unknown y)) h e k = refl
 
-pub unknown_there : (bounds : List ℕ) (i : Image) (n : ℕ) (s : State) → n < length i.code → None ≡ local_in (instr_at i n) → None ≡ call_in (instr_at i n) → Err cause.IllegalOp ≡ rule_with bounds i n s
+pub unknown_there : (bounds : List ℕ) (i : Image) (n : ℕ) (s : State) → n < length i.code → None ≡ local_in (instr_at i n) → None ≡ call_in (instr_at i n)
+    → Err cause.IllegalOp ≡ rule_with bounds i n s
 unfolding rule_with
 unknown_there bounds i n s h e k = sym (unknown_by bounds i n s (instr_at i n) (get_some i.code n h) e k)
 
@@ -67,7 +69,8 @@ nothing_there bounds i n s h = rw (get_none i.code n h) refl
 
 -- ---- a call of an image is in range
 
-one_of : (raw : Bool) (code : List Instr) (n : ℕ) (x : CallInstr) → list_all (is_instr_in_range raw) code ≡ true → Some x ≡ call_in (slice_get code n) → IsTrue (is_call_in_range x)
+one_of : (raw : Bool) (code : List Instr) (n : ℕ) (x : CallInstr) → list_all (is_instr_in_range raw) code ≡ true → Some x ≡ call_in (slice_get code n)
+    → IsTrue (is_call_in_range x)
 one_of raw [] n x h e = absurd (none-some x (sym e))
 one_of raw (instr.Call y ∷ code) zero x h e =
     let p : x ≡ y = same_Some x y e in

@@ -1,5 +1,6 @@
 -- The next bound, found in any list with the same bounds, and in a sorted one by a binary search.
-use Rattle.std.proofs.Common.{◌≡◌, ℕ, zero, suc, ◌+◌, ◌<◌, ◌≤◌, Bool, true, false, ◌&&◌, List, [], ◌∷◌, ◌++◌, length, get_or, refl, sym, ap, ◌∙◌, subst, drop, arith, leb, ltb, eqb, leb-true, inl, inr, Less, Equal, Greater}
+use Rattle.std.proofs.Common.{◌≡◌, ℕ, zero, suc, ◌+◌, ◌<◌, ◌≤◌, Bool, true, false, ◌&&◌, List, [], ◌∷◌, ◌++◌, length, get_or, refl, sym, ap, ◌∙◌, subst, drop}
+use Rattle.std.proofs.Common.{arith, leb, ltb, eqb, leb-true, inl, inr, Less, Equal, Greater}
 use Rattle.std.specs.Prelude.{if◌then◌else◌}
 use Rattle.std.specs.List.{Contains, dedup}
 use Rattle.std.specs.List.Sorted.{IsPermutation, IsSorted, IsStrictlySortedBy, IsNonDecreasingBy, IsPartitionPoint}
@@ -55,12 +56,14 @@ least_at n (b ∷ bs) best zero x lt e h =
     omega (arith, least_below n bs (if leb n b && ltb b best then b else best), nearer_each n b best under, e)
 least_at n (b ∷ bs) best (suc k) x lt e h = least_at n bs (if leb n b && ltb b best then b else best) k x (omega arith) e h
 
-pub same_least : (n : ℕ) (xs ys : List ℕ) → ((x : ℕ) → Contains xs x → Contains ys x) → ((x : ℕ) → Contains ys x → Contains xs x) → least_from n ANY xs ≡ least_from n ANY ys
+pub same_least : (n : ℕ) (xs ys : List ℕ) → ((x : ℕ) → Contains xs x → Contains ys x) → ((x : ℕ) → Contains ys x → Contains xs x)
+    → least_from n ANY xs ≡ least_from n ANY ys
 same_least n xs ys to from =
     omega (arith, under xs ys from, under ys xs to)
   where
     under : (us vs : List ℕ) → ((x : ℕ) → Contains vs x → Contains us x) → least_from n ANY us ≤ least_from n ANY vs
-    under us vs into = least_all (λ y. least_from n ANY us ≤ y) n vs ANY (least_below n us ANY) (λ x c le. let at = into x c in least_at n us ANY at.0 x at.1 at.2 le)
+    under us vs into =
+        least_all (λ y. least_from n ANY us ≤ y) n vs ANY (least_below n us ANY) (λ x c le. let at = into x c in least_at n us ANY at.0 x at.1 at.2 le)
 
 -- ---- sorted, each once
 
@@ -85,14 +88,16 @@ made_sorted ys zs h kept = rw (dedup_is eqb ys zs kept) (sorted_once ys h)
 -- ---- the bounds of the code
 
 -- the least of all bounds is the least of the plain ones and of those of the code
-pub code_rounded : (n best r : ℕ) (code : List Instr) → best ≡ least_from n ANY plain_bounds → r ≡ least_from n best (imm_bounds code) → r ≡ rounded (bounds_of code) n
+pub code_rounded : (n best r : ℕ) (code : List Instr) → best ≡ least_from n ANY plain_bounds → r ≡ least_from n best (imm_bounds code)
+    → r ≡ rounded (bounds_of code) n
 code_rounded n best r code e h = h ∙ (ap (λ (b : ℕ). least_from n b (imm_bounds code)) e ∙ sym (least_append n plain_bounds (imm_bounds code) ANY))
 
 -- one instruction more was looked at
 pub gathered_step : (items after all : List ℕ) (code : List Instr) (i : ℕ) (x : Instr) → i < length code → Stands code i x
     → after ≡ items ++ bounds_by (imm_of x) → items ++ imm_bounds (drop i code) ≡ all → after ++ imm_bounds (drop (i + 1) code) ≡ all
 gathered_step items after all code i x h p e so_far =
-    let k : items ++ (bounds_by (imm_of x) ++ imm_bounds (drop (i + 1) code)) ≡ all = subst (λ r. items ++ imm_bounds r ≡ all) (drop_here code i x h p) so_far in
+    let k : items ++ (bounds_by (imm_of x) ++ imm_bounds (drop (i + 1) code)) ≡ all =
+    subst (λ r. items ++ imm_bounds r ≡ all) (drop_here code i x h p) so_far in
     rw e (append_assoc items (bounds_by (imm_of x)) (imm_bounds (drop (i + 1) code)) ∙ k)
 
 pub gathered_end : (items all : List ℕ) (code : List Instr) (i : ℕ) → length code ≤ i → items ++ imm_bounds (drop i code) ≡ all → items ≡ all
@@ -121,11 +126,13 @@ found_bound bs n i most lt equal =
     let here : get_or bs i n ≡ n = ranked (get_or bs i n) n Equal (sym (equal n)) in
     omega (arith, least_at n bs ANY i n lt here (omega arith), least_all (λ y. n ≤ y) n bs ANY most (λ x c le. le))
 
-module _ (bs : List ℕ) (n i : ℕ) (sorted : IsStrictlySortedBy nat_cmp bs) (parted : IsNonDecreasingBy (λ y. ordering_index (nat_cmp y n)) bs → IsPartitionPoint (λ y. nat_cmp y n ≡ Less) (λ y. nat_cmp y n ≡ Greater) bs i) where
+module _ (bs : List ℕ) (n i : ℕ) (sorted : IsStrictlySortedBy nat_cmp bs)
+    (parted : IsNonDecreasingBy (λ y. ordering_index (nat_cmp y n)) bs → IsPartitionPoint (λ y. nat_cmp y n ≡ Less) (λ y. nat_cmp y n ≡ Greater) bs i) where
   -- a bound that isn't below the number stands from that place on
   behind : (k x : ℕ) → k < length bs → get_or bs k x ≡ x → n ≤ x → i ≤ k
   behind k x lt e le = elim (cases_lt k i) as (λ _. i ≤ k) [
-    | inl before ↦ let p : get_or bs k x < n = ranked (get_or bs k x) n Less (sym ((parted (comparisons_rise bs n sorted)).0 k x (omega arith) before)) in absurd (omega (arith, p, e))
+    | inl before ↦ let p : get_or bs k x < n = ranked (get_or bs k x) n Less (sym ((parted (comparisons_rise bs n sorted)).0 k x (omega arith) before)) in
+        absurd (omega (arith, p, e))
     | inr after ↦ after
   ]
 

@@ -1,5 +1,6 @@
 -- One register more of the order, the join and the writes of states.
-use Rattle.std.proofs.Common.{◌≡◌, ℕ, suc, ◌+◌, ◌<◌, ◌≤◌, true, ◌&&◌, List, ◌∷◌, ◌++◌, Option, Some, None, refl, sym, ◌∙◌, ap, drop, take, get_or, length, drop-cons, add-one, arith, append-nil}
+use Rattle.std.proofs.Common.{◌≡◌, ℕ, suc, ◌+◌, ◌<◌, ◌≤◌, true, ◌&&◌, List, ◌∷◌, ◌++◌, Option, Some, None, refl, sym, ◌∙◌, ap, drop, take, get_or, length}
+use Rattle.std.proofs.Common.{drop-cons, add-one, arith, append-nil}
 use Rattle.std.specs.Prelude.{slice_set}
 use Rattle.std.specs.Option.{option_map}
 use Rattle.std.proofs.lemmas.Grind.{common_steps}
@@ -43,23 +44,28 @@ take_put out i v rest h = grind (arith, common_steps)
 
 -- the values so far are in place, and one more
 pub joined_more : (xs ys : List AbsVal) (i : ℕ) (x y v : AbsVal) → i < length xs → i < length ys → Stands xs i x → Stands ys i y → Some v ≡ joined x y
-    → option_map (λ (rest : List AbsVal). take i xs ++ rest) (all_joined (drop i xs) (drop i ys)) ≡ option_map (λ (rest : List AbsVal). take (i + 1) (slice_set xs i v) ++ rest) (all_joined (drop (i + 1) (slice_set xs i v)) (drop (i + 1) ys))
+    → option_map (λ (rest : List AbsVal). take i xs ++ rest) (all_joined (drop i xs) (drop i ys))
+    ≡ option_map (λ (rest : List AbsVal). take (i + 1) (slice_set xs i v) ++ rest) (all_joined (drop (i + 1) (slice_set xs i v)) (drop (i + 1) ys))
 joined_more xs ys i x y v h k p q e = rw (joined_step xs ys i x y h k p q, sym e, drop_put xs i v) (by (all_joined (drop (i + 1) xs) (drop (i + 1) ys)))
   where
-    by : (o : Option (List AbsVal)) → option_map (λ (rest : List AbsVal). take i xs ++ rest) (cons_if (Some v) o) ≡ option_map (λ (rest : List AbsVal). take (i + 1) (slice_set xs i v) ++ rest) o
+    by : (o : Option (List AbsVal)) → option_map (λ (rest : List AbsVal). take i xs ++ rest) (cons_if (Some v) o)
+        ≡ option_map (λ (rest : List AbsVal). take (i + 1) (slice_set xs i v) ++ rest) o
     by None = refl
     by (Some rest) = ap Some (take_put xs i v rest h)
 
-pub joined_stop : (xs ys : List AbsVal) (i : ℕ) (x y : AbsVal) → i < length xs → i < length ys → Stands xs i x → Stands ys i y → None ≡ joined x y → all_joined (drop i xs) (drop i ys) ≡ None
+pub joined_stop : (xs ys : List AbsVal) (i : ℕ) (x y : AbsVal) → i < length xs → i < length ys → Stands xs i x → Stands ys i y → None ≡ joined x y
+    → all_joined (drop i xs) (drop i ys) ≡ None
 joined_stop xs ys i x y h k p q e = rw (joined_step xs ys i x y h k p q, sym e) refl
 
-pub joined_end : (xs ys : List AbsVal) (i : ℕ) → length xs ≤ i → length ys ≤ i → option_map (λ (rest : List AbsVal). take i xs ++ rest) (all_joined (drop i xs) (drop i ys)) ≡ Some xs
+pub joined_end : (xs ys : List AbsVal) (i : ℕ) → length xs ≤ i → length ys ≤ i
+    → option_map (λ (rest : List AbsVal). take i xs ++ rest) (all_joined (drop i xs) (drop i ys)) ≡ Some xs
 unfolding all_joined
 joined_end xs ys i h k = rw (drop_all i xs h, drop_all i ys k, take_all i xs h) (ap Some (append-nil xs))
 
 -- ---- the writes
 
-pub with_all_more : (s : List AbsVal) (xs : List (ℕ × AbsVal)) (i : ℕ) (x : ℕ × AbsVal) → i < length xs → Stands xs i x → with_all s (drop i xs) ≡ with_all (with_value s (x.0) (x.1)) (drop (i + 1) xs)
+pub with_all_more : (s : List AbsVal) (xs : List (ℕ × AbsVal)) (i : ℕ) (x : ℕ × AbsVal) → i < length xs → Stands xs i x
+    → with_all s (drop i xs) ≡ with_all (with_value s (x.0) (x.1)) (drop (i + 1) xs)
 unfolding with_all
 with_all_more s xs i x h p = rw (drop_here xs i x h p) refl
 

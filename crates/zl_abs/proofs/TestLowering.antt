@@ -11,19 +11,23 @@ use Rattle.zl_abs.specs.Ways.{Ways}
 use Rattle.zl_abs.specs.Values.{ANY, below, capped, smaller, kind_below}
 use Rattle.zl_abs.specs.States.{State, value_at, refined}
 use Rattle.zl_abs.specs.Rule.{word_at}
-use Rattle.zl_abs.specs.LocalRules.{known_zero, known_there, known_kind, known_other, known_rights, becomes, kind_numbered, kind_ways, equal_ways, zero_ways, below_ways, has_ways}
+use Rattle.zl_abs.specs.LocalRules.{known_zero, known_there, known_kind, known_other, known_rights, becomes, kind_numbered, kind_ways, equal_ways, zero_ways}
+use Rattle.zl_abs.specs.LocalRules.{below_ways, has_ways}
 use Rattle.zl_abs.proofs.Order.{below_refl, kind_trans, kind_refl, within_refl, parts, three, same_kind_is}
 use Rattle.zl_abs.proofs.StateOrder.{both, all_below_refl, all_below_trans}
-use Rattle.zl_abs.proofs.Lowering.{Lowers, IsBelow, WayBelow, WaysBelow, lowers_then, value_below, set_below, set_above, set_under, leb_le, word_at_below, word_below}
+use Rattle.zl_abs.proofs.Lowering.{Lowers, IsBelow, WayBelow, WaysBelow, lowers_then, value_below, set_below, set_above, set_under, leb_le, word_at_below}
+use Rattle.zl_abs.proofs.Lowering.{word_below}
 use Rattle.zl_abs.proofs.RightsLowering.{within_gained, within_more}
 
 -- ---- values
 
-pub has_parts : (a b : Bool) (k j : Option Kind) (r q : Rights) → IsTrue (below (Has a k r) (Has b j q)) → ((not a || b) ≡ true) × (kind_below k j ≡ true) × (within (bits q) (bits r) ≡ true)
+pub has_parts : (a b : Bool) (k j : Option Kind) (r q : Rights) → IsTrue (below (Has a k r) (Has b j q))
+    → ((not a || b) ≡ true) × (kind_below k j ≡ true) × (within (bits q) (bits r) ≡ true)
 unfolding below
 has_parts a b k j r q h = parts (not a || b) (kind_below k j) (within (bits q) (bits r)) h
 
-pub has_from : (a b : Bool) (k j : Option Kind) (r q : Rights) → (not a || b) ≡ true → kind_below k j ≡ true → within (bits q) (bits r) ≡ true → IsTrue (below (Has a k r) (Has b j q))
+pub has_from : (a b : Bool) (k j : Option Kind) (r q : Rights) → (not a || b) ≡ true → kind_below k j ≡ true → within (bits q) (bits r) ≡ true
+    → IsTrue (below (Has a k r) (Has b j q))
 unfolding below
 has_from a b k j r q x y z = three _ _ _ x y z
 
@@ -48,7 +52,8 @@ way_refl s t h true y k = tt
 way_refl s t h false false k = h
 way_refl s t h false true k = let e = k refl in cc
 
-pub known_zero_below : (s t : State) (r : ℕ) (v w : AbsVal) → IsBelow s t → value_at s r ≡ v → IsTrue (below v w) → WayBelow (known_zero s r v) (known_zero t r w)
+pub known_zero_below : (s t : State) (r : ℕ) (v w : AbsVal) → IsBelow s t → value_at s r ≡ v → IsTrue (below v w)
+    → WayBelow (known_zero s r v) (known_zero t r w)
 unfolding below
 known_zero_below s t r (Has false k q) w h e b = tt
 known_zero_below s t r (Has true k q) (Has true j p) h e b = set_below s t r _ _ h zero_zero
@@ -106,7 +111,8 @@ way_if false y u v k h = tt
 way_if true true u v k h = h
 way_if true false u v k h = let e = k refl in cc
 
-pub known_kind_below : (s t : State) (r : ℕ) (o : Option Kind) (v w : AbsVal) → IsBelow s t → IsTrue (below v w) → WayBelow (known_kind s r o v) (known_kind t r o w)
+pub known_kind_below : (s t : State) (r : ℕ) (o : Option Kind) (v w : AbsVal) → IsBelow s t → IsTrue (below v w)
+    → WayBelow (known_kind s r o v) (known_kind t r o w)
 unfolding below
 known_kind_below s t r None v w h e = tt
 known_kind_below s t r (Some x) (Has a k q) (Has b j p) h e =
@@ -157,12 +163,14 @@ known_other_below s t (Some x) (RightsOf _) (KindOf _) h e = cc
 known_other_below s t (Some x) (RightsOf _) (RightsOf _) h e = h
 known_other_below s t (Some x) (RightsOf _) (Has _ _ _) h e = cc
 
-pub known_rights_below : (s t : State) (r imm : ℕ) (v w : AbsVal) → IsBelow s t → IsTrue (below v w) → WayBelow (known_rights s r imm v) (known_rights t r imm w)
+pub known_rights_below : (s t : State) (r imm : ℕ) (v w : AbsVal) → IsBelow s t → IsTrue (below v w)
+    → WayBelow (known_rights s r imm v) (known_rights t r imm w)
 unfolding below
 known_rights_below s t r imm (Has a k q) (Has b j p) h e =
     let c = has_parts a b k j q p e in
     way_if (within imm KNOWN_RIGHTS) (within imm KNOWN_RIGHTS) _ _ (λ y. y)
-    (set_below s t r _ _ h (has_from false false k j (rights_of (bit_or (bits q) imm)) (rights_of (bit_or (bits p) imm)) refl c.1 (within_gained (bits p) (bits q) imm c.2)))
+    (set_below s t r _ _ h
+    (has_from false false k j (rights_of (bit_or (bits q) imm)) (rights_of (bit_or (bits p) imm)) refl c.1 (within_gained (bits p) (bits q) imm c.2)))
 known_rights_below s t r imm (Has _ _ _) (Word _) h e = cc
 known_rights_below s t r imm (Has _ _ _) (KindOf _) h e = cc
 known_rights_below s t r imm (Has _ _ _) (RightsOf _) h e = cc
@@ -201,7 +209,9 @@ kind_under s t r (Some x) (Has a k q) h e = by (kind_below (Some x) k) refl
   where
     by : (c : Bool) → kind_below (Some x) k ≡ c → WayBelow (if c then Some (refined s r (Has false (Some x) q)) else None) (Some t)
     by false y = tt
-    by true y = all_below_trans _ s t (set_under s s r (Has false (Some x) q) (all_below_refl s) (rw e (has_from false a (Some x) k q q refl y (within_refl (bits q))))) h
+    by true y =
+        all_below_trans _ s t
+        (set_under s s r (Has false (Some x) q) (all_below_refl s) (rw e (has_from false a (Some x) k q q refl y (within_refl (bits q))))) h
 
 other_under : (s t : State) (o : Option Kind) (v : AbsVal) → IsBelow s t → WayBelow (known_other s o v) (Some t)
 other_under s t None v h = h
@@ -217,7 +227,9 @@ rights_under s t r imm (KindOf _) h e = tt
 rights_under s t r imm (RightsOf _) h e = tt
 rights_under s t r imm (Has a k q) h e =
     way_under s t (within imm KNOWN_RIGHTS) _
-    (all_below_trans _ s t (set_under s s r (Has false k (rights_of (bit_or (bits q) imm))) (all_below_refl s) (rw e (has_from false a k k (rights_of (bit_or (bits q) imm)) q refl (kind_refl k) (within_more (bits q) imm)))) h)
+    (all_below_trans _ s t
+    (set_under s s r (Has false k (rights_of (bit_or (bits q) imm))) (all_below_refl s)
+    (rw e (has_from false a k k (rights_of (bit_or (bits q) imm)) q refl (kind_refl k) (within_more (bits q) imm)))) h)
 
 -- ---- jumps
 
@@ -234,7 +246,8 @@ kind_ways_below s t a imm r h = by (eqb imm 0)
 
     by : (c : Bool) → WaysBelow (if c
         then record { jumped = becomes a 0 (known_zero s r (value_at s r)); passed = known_there s r (value_at s r) }
-        else record { jumped = becomes a imm (known_kind s r (kind_numbered imm) (value_at s r)); passed = known_other s (kind_numbered imm) (value_at s r) }) (if c
+        else record { jumped = becomes a imm (known_kind s r (kind_numbered imm) (value_at s r)); passed = known_other s (kind_numbered imm) (value_at s r) })
+        (if c
         then record { jumped = becomes a 0 (known_zero t r (value_at t r)); passed = known_there t r (value_at t r) }
         else record { jumped = becomes a imm (known_kind t r (kind_numbered imm) (value_at t r)); passed = known_other t (kind_numbered imm) (value_at t r) })
     by true = (becomes_below a 0 _ _ (known_zero_below s t r _ _ h refl v), known_there_below s t r _ _ h v)
@@ -249,7 +262,8 @@ kind_ways_any s t a imm r h = by (eqb imm 0) refl
   where
     by : (c : Bool) → eqb imm 0 ≡ c → WaysBelow (if c
         then record { jumped = becomes a 0 (known_zero s r (value_at s r)); passed = known_there s r (value_at s r) }
-        else record { jumped = becomes a imm (known_kind s r (kind_numbered imm) (value_at s r)); passed = known_other s (kind_numbered imm) (value_at s r) }) (any_ways t a imm)
+        else record { jumped = becomes a imm (known_kind s r (kind_numbered imm) (value_at s r)); passed = known_other s (kind_numbered imm) (value_at s r) })
+        (any_ways t a imm)
     by true z = let e : imm ≡ 0 = (Decides-eqb imm 0).0 z in rw e (becomes_below a 0 _ _ (zero_under s t r _ h refl), there_under s t r _ h refl)
     by false z = (becomes_below a imm _ _ (kind_under s t r (kind_numbered imm) _ h refl), other_under s t (kind_numbered imm) _ h)
 
@@ -271,14 +285,17 @@ capped_most n imm h = by (ltb n (capped imm)) refl
     by true e = absurd (let p = le n h in let q : n < capped imm = (lt_of n (capped imm) e) in omega arith)
 
 -- a tag and a word above it: both edges of the word are followed
-word_is_any : (t : State) (a imm n : ℕ) → leb ANY n ≡ true → any_ways t a imm ≡ record { jumped = if ltb n (capped imm) then None else becomes a imm (Some t); passed = if eqb n 0 && eqb imm 0 then None else Some t }
+word_is_any : (t : State) (a imm n : ℕ) → leb ANY n ≡ true
+    → any_ways t a imm ≡ record { jumped = if ltb n (capped imm) then None else becomes a imm (Some t); passed = if eqb n 0 && eqb imm 0 then None else Some t }
 word_is_any t a imm n h = rw (capped_most n imm h, large n h) refl
 
 equal_by : (s t : State) (a imm : ℕ) (v w : AbsVal) → IsBelow s t → IsTrue (below v w) → Lowers WaysBelow (equal_ways s a imm v) (equal_ways t a imm w)
 unfolding below
 equal_by s t a imm v (Has _ _ _) h e = tt
-equal_by s t a imm (Word m) (Word n) h e =
-    (way_becomes (ltb m (capped imm)) (ltb n (capped imm)) (less_kept m n (capped imm) e), way_refl s t h _ _ (both_kept (eqb m 0) (eqb n 0) (eqb imm 0) (zero_kept m n e)))
+equal_by s t a imm (Word m) (Word n) h e = (
+  way_becomes (ltb m (capped imm)) (ltb n (capped imm)) (less_kept m n (capped imm) e),
+  way_refl s t h _ _ (both_kept (eqb m 0) (eqb n 0) (eqb imm 0) (zero_kept m n e)),
+)
   where
     way_becomes : (x y : Bool) → (y ≡ true → x ≡ true) → WayBelow (if x then None else becomes a imm (Some s)) (if y then None else becomes a imm (Some t))
     way_becomes true y k = tt
@@ -286,7 +303,9 @@ equal_by s t a imm (Word m) (Word n) h e =
     way_becomes false true k = let z = k refl in cc
 equal_by s t a imm (Has _ _ _) (Word n) h e = cc
 equal_by s t a imm (KindOf r) (Word n) h e = subst (λ (w : Ways). WaysBelow (kind_ways s a imm r) w) (word_is_any t a imm n e) (kind_ways_any s t a imm r h)
-equal_by s t a imm (RightsOf r) (Word n) h e = subst (λ (w : Ways). WaysBelow (record { jumped = becomes a imm (Some s); passed = Some s }) w) (word_is_any t a imm n e) (becomes_below a imm (Some s) (Some t) h, h)
+equal_by s t a imm (RightsOf r) (Word n) h e =
+    subst (λ (w : Ways). WaysBelow (record { jumped = becomes a imm (Some s); passed = Some s }) w) (word_is_any t a imm n e)
+    (becomes_below a imm (Some s) (Some t) h, h)
 equal_by s t a imm (Word m) (KindOf _) h e = cc
 equal_by s t a imm (Has _ _ _) (KindOf _) h e = cc
 equal_by s t a imm (KindOf r) (KindOf q) h e = let p : r ≡ q = (Decides-eqb r q).0 e in rw p (kind_ways_below s t a imm q h)
@@ -335,7 +354,8 @@ below_below s t a imm h =
     lowers_then (λ m n. m ≤ n) WaysBelow (word_at s a) (word_at t a) _ _ (word_at_below s t a h)
     (λ m n p. (first m n p (eqb imm 0), way_refl s t h (ltb m imm) (ltb n imm) (less_again m n imm p)))
   where
-    first : (m n : ℕ) → m ≤ n → (c : Bool) → WayBelow (if c then None else Some (refined s a (Word (smaller m (imm - 1))))) (if c then None else Some (refined t a (Word (smaller n (imm - 1)))))
+    first : (m n : ℕ) → m ≤ n → (c : Bool)
+        → WayBelow (if c then None else Some (refined s a (Word (smaller m (imm - 1))))) (if c then None else Some (refined t a (Word (smaller n (imm - 1)))))
     first m n p true = tt
     first m n p false = set_below s t a _ _ h (word_below _ _ (smaller_kept m n (imm - 1) p))
 

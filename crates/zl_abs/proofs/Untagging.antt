@@ -17,7 +17,8 @@ bare : (r : ℕ) (xs : List AbsVal) → false ≡ list_any (λ v. is_tag v) xs �
 bare r [] h = refl
 bare r (v ∷ xs) h = by (λ k. bare r xs k) (is_tag v) refl h
   where
-    by : (false ≡ list_any (λ v. is_tag v) xs → xs ≡ map (untagged r) xs) → (b : Bool) → is_tag v ≡ b → false ≡ list_any (λ v. is_tag v) (v ∷ xs) → v ∷ xs ≡ map (untagged r) (v ∷ xs)
+    by : (false ≡ list_any (λ v. is_tag v) xs → xs ≡ map (untagged r) xs) → (b : Bool) → is_tag v ≡ b → false ≡ list_any (λ v. is_tag v) (v ∷ xs)
+        → v ∷ xs ≡ map (untagged r) (v ∷ xs)
     by rest true e k = absurd (let z : false ≡ true = rw e at k in cc)
     by rest false e k = rw (one_bare r v e) (ap (λ ys. v ∷ ys) (rest (rw e at k)))
 

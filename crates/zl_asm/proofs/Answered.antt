@@ -12,6 +12,7 @@ value_if_ok (Ok x) f whole e = e
 value_if_ok (Err c) f whole e = tt
 
 -- and nothing for a fault
-pub none_if_err : {S T E : Type 0} (r : Result S E) (f : S → T) (whole : Option T) (P : E → Type 0) → whole ≡ option_map f (result_ok r) → IfErr r (λ c. P c ⊎ (whole ≡ None))
+pub none_if_err : {S T E : Type 0} (r : Result S E) (f : S → T) (whole : Option T) (P : E → Type 0) → whole ≡ option_map f (result_ok r)
+    → IfErr r (λ c. P c ⊎ (whole ≡ None))
 none_if_err (Ok x) f whole P e = tt
 none_if_err (Err c) f whole P e = inr e

@@ -1,21 +1,35 @@
 -- The names that most proofs of this crate cite, passed on from one place. Declares nothing.
-pub use Rattle.zl_code.proofs.Common.{Bool, Err, IfErr, IfOk, Image, IsTrue, List, None, Ok, OnOk, Option, Reading, Result, Row, Some, [], and_from, and_parts, ap, append-nil, append_assoc, are_needs, are_registers, arith, at_drop_all, at_drop_more, bit_and, bits, bytes_of, cases_Bool, codes, cond, condition_name, condition_number, decimal, drop, drop_at, eqb, eqb-true, false, filter, find, flat_map, flat_map-append, fold, get_or, get_or-drop, get_or-map, if◌then◌else◌, inl, inr, instr_bytes, is_among, is_in_range, is_instr_in_range, is_slot_in_range, is_some, is_start_in_range, layout_of, le-leb, leb, leb-true, length, length-drop, length-map, length-take, length-take-le, list_all, list_all-append, list_any, lt-ltb, ltb, ltb-true, map, map-append, nat_le, nat_lt, nat_tests, ne_eqb, needs_byte, needs_named, not, number_at, or_left, or_right, reading_of, refl, replicate, rights_of, row_bytes, rules, set, seven, slice_index, spelling, starts_with, string_bytes, subst, suc, sym, take, take_all, take_at, take_more, true, true≢false, within, zero, ℕ, ◌%◌, ◌&&◌, ◌*◌, ◌++◌, ◌+◌, ◌-◌, ◌/◌, ◌<◌, ◌==◌, ◌^◌, ◌||◌, ◌∙◌, ◌∷◌, ◌≡◌, ◌≢◌, ◌≤◌, ◌⊎◌}
+pub use Rattle.zl_code.proofs.Common.{Bool, Err, IfErr, IfOk, Image, IsTrue, List, None, Ok, OnOk, Option, Reading, Result, Row, Some, [], and_from, and_parts}
+pub use Rattle.zl_code.proofs.Common.{ap, append-nil, append_assoc, are_needs, are_registers, arith, at_drop_all, at_drop_more, bit_and, bits, bytes_of}
+pub use Rattle.zl_code.proofs.Common.{cases_Bool, codes, cond, condition_name, condition_number, decimal, drop, drop_at, eqb, eqb-true, false, filter, find}
+pub use Rattle.zl_code.proofs.Common.{flat_map, flat_map-append, fold, get_or, get_or-drop, get_or-map, if◌then◌else◌, inl, inr, instr_bytes, is_among}
+pub use Rattle.zl_code.proofs.Common.{is_in_range, is_instr_in_range, is_slot_in_range, is_some, is_start_in_range, layout_of, le-leb, leb, leb-true, length}
+pub use Rattle.zl_code.proofs.Common.{length-drop, length-map, length-take, length-take-le, list_all, list_all-append, list_any, lt-ltb, ltb, ltb-true, map}
+pub use Rattle.zl_code.proofs.Common.{map-append, nat_le, nat_lt, nat_tests, ne_eqb, needs_byte, needs_named, not, number_at, or_left, or_right, reading_of}
+pub use Rattle.zl_code.proofs.Common.{refl, replicate, rights_of, row_bytes, rules, set, seven, slice_index, spelling, starts_with, string_bytes, subst, suc}
+pub use Rattle.zl_code.proofs.Common.{sym, take, take_all, take_at, take_more, true, true≢false, within, zero, ℕ, ◌%◌, ◌&&◌, ◌*◌, ◌++◌, ◌+◌, ◌-◌, ◌/◌, ◌<◌}
+pub use Rattle.zl_code.proofs.Common.{◌==◌, ◌^◌, ◌||◌, ◌∙◌, ◌∷◌, ◌≡◌, ◌≢◌, ◌≤◌, ◌⊎◌}
 unfoldable pub use Rattle.zl_code.proofs.Common.{instr_fault, local_parts, row_named, row_of}
 pub use Rattle.std.proofs.lemmas.Bool.{and_left, and_right, cases_eq, eq-eqb, le-ltb, lt-leb, ltb-false, not-true}
 pub use Rattle.std.proofs.lemmas.List.{drop-map, drop-replicate, drop_all, length-replicate, take-map}
 pub use Rattle.std.specs.Option.{is_none, option_copied, unwrap_or}
 pub use Rattle.std.specs.Prelude.{MatchResult, nat_eq}
-pub use Rattle.zl_asm.specs.Canonical.{EachTextDenotes, aims, aims_at, code_lines, directive_lines, hex_digit, hex_text, instr_text, is_target, kind_text, label_lines, label_text, operand_texts, register_text, row_text}
+pub use Rattle.zl_asm.specs.Canonical.{EachTextDenotes, aims, aims_at, code_lines, directive_lines, hex_digit, hex_text, instr_text, is_target, kind_text}
+pub use Rattle.zl_asm.specs.Canonical.{label_lines, label_text, operand_texts, register_text, row_text}
 unfoldable pub use Rattle.zl_asm.specs.Canonical.{code_lines_from, joined, tail_texts, text_of}
 pub use Rattle.zl_asm.specs.Denotes.{Denotes, EachTextGivesBytes, NoTextDenotesTwo, fields_of, listing_bytes}
-pub use Rattle.zl_asm.specs.Draft.{Gives, GivesNone, Held, Holds, IsGiven, IsHeldOf, Pushes, Reads, ReadsAll, Refuses, Stops, held_by, is_directive_in_range, labels_shown, line_said, sources_shown}
-pub use Rattle.zl_asm.specs.Lines.{Blank, Code, Declares, Label, Line, Source, Tail, alone, if_fits, instruction_of, need_of, number_within, onto_all, places_of, point_line, registers_of, slot_array_with, source_with, start_with, tail, tail_to, then_with}
+pub use Rattle.zl_asm.specs.Draft.{Gives, GivesNone, Held, Holds, IsGiven, IsHeldOf, Pushes, Reads, ReadsAll, Refuses, Stops, held_by, is_directive_in_range}
+pub use Rattle.zl_asm.specs.Draft.{labels_shown, line_said, sources_shown}
+pub use Rattle.zl_asm.specs.Lines.{Blank, Code, Declares, Label, Line, Source, Tail, alone, if_fits, instruction_of, need_of, number_within, onto_all}
+pub use Rattle.zl_asm.specs.Lines.{places_of, point_line, registers_of, slot_array_with, source_with, start_with, tail, tail_to, then_with}
 unfoldable pub use Rattle.zl_asm.specs.Lines.{all_of, directive_of, kind_of, label_of, line_of, operands_after, operands_of, source_of, tail_of, unknown_of}
-pub use Rattle.zl_asm.specs.Listing.{Listing, budget_in, declares, given, is_body, is_listing, lines_said, listing_with, mark_in, memory_in, need_in, position_of, resolved, slots_in, source_in, start_in, with_target}
+pub use Rattle.zl_asm.specs.Listing.{Listing, budget_in, declares, given, is_body, is_listing, lines_said, listing_with, mark_in, memory_in, need_in}
+pub use Rattle.zl_asm.specs.Listing.{position_of, resolved, slots_in, source_in, start_in, with_target}
 unfoldable pub use Rattle.zl_asm.specs.Listing.{directives_first, labels_from, listing_from, listing_of, names_once}
 pub use Rattle.zl_asm.specs.Pieces.{TargetsAre, behind, directives_text, ended, fields_text, line_text, need_text, needs_text, slot_array_text, start_text}
 pub use Rattle.zl_asm.specs.Values.{line_value, source_value, tail_value, texts}
-pub use Rattle.zl_asm.specs.Words.{byte_before, comma, digit_value, is_ascii, is_digit, is_name_byte, is_number, lines_of, number_in, value_of, word_before, words_of}
+pub use Rattle.zl_asm.specs.Words.{byte_before, comma, digit_value, is_ascii, is_digit, is_name_byte, is_number, lines_of, number_in, value_of, word_before}
+pub use Rattle.zl_asm.specs.Words.{words_of}
 unfoldable pub use Rattle.zl_asm.specs.Words.{digit_of, hex_bytes, is_name, is_word, register_of, words_from}
 pub use Rattle.zl_code.proofs.ImageRanges.{Ranges, ranges}
 pub use Rattle.zl_code.specs.Instructions.{layout, row_among, rows}

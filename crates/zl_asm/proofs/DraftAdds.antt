@@ -1,17 +1,20 @@
 -- One more label or instruction in the map and the vector of a draft.
-use Rattle.zl_asm.proofs.Common.{◌≡◌, ℕ, true, false, List, [], ◌∷◌, ◌++◌, length, Option, Some, None, is_some, refl, sym, ap, subst, ◌∙◌, true≢false, map-append, is_none, Label, Code, Source, position_of, source_value, Held, Holds, labels_shown, sources_shown, option_map}
+use Rattle.zl_asm.proofs.Common.{◌≡◌, ℕ, true, false, List, [], ◌∷◌, ◌++◌, length, Option, Some, None, is_some, refl, sym, ap, subst, ◌∙◌, true≢false}
+use Rattle.zl_asm.proofs.Common.{map-append, is_none, Label, Code, Source, position_of, source_value, Held, Holds, labels_shown, sources_shown, option_map}
 use denote.Ref.{Bor}
 use Rattle.zl_asm.specs.declared.draft.SourceLine.{SourceLine}
 use Rattle.zl_asm.proofs.DraftHolds.{label_held, code_held}
 
-pub label_added : (d : Held) (es new : List (Bor (List ℕ) × ℕ)) (name : Bor (List ℕ)) (n : ℕ) → new ≡ es ++ (name, n) ∷ [] → d.labels ≡ labels_shown es → n ≡ length d.sources → position_of d.labels name.now ≡ None
+pub label_added : (d : Held) (es new : List (Bor (List ℕ) × ℕ)) (name : Bor (List ℕ)) (n : ℕ) → new ≡ es ++ (name, n) ∷ [] → d.labels ≡ labels_shown es
+    → n ≡ length d.sources → position_of d.labels name.now ≡ None
     → Holds d (Label name.now) (record d { has_body = true; labels = labels_shown new })
 label_added d es new name n entries old count free =
     let shown : d.labels ++ (name.now, length d.sources) ∷ [] ≡ labels_shown new =
     (λ i. old i ++ (name.now, sym count i) ∷ []) ∙ sym (map-append (λ l. (l.0.now, l.1)) es ((name, n) ∷ [])) ∙ ap labels_shown (sym entries) in
     subst (λ (l : List (List ℕ × ℕ)). Holds d (Label name.now) (record d { has_body = true; labels = l })) shown (label_held d name.now free)
 
-pub source_added : (d : Held) (ss new : List SourceLine) (s : SourceLine) → new ≡ ss ++ s ∷ [] → d.sources ≡ sources_shown ss → Holds d (Code (source_value s.source)) (record d { has_body = true; sources = sources_shown new })
+pub source_added : (d : Held) (ss new : List SourceLine) (s : SourceLine) → new ≡ ss ++ s ∷ [] → d.sources ≡ sources_shown ss
+    → Holds d (Code (source_value s.source)) (record d { has_body = true; sources = sources_shown new })
 source_added d ss new s items old =
     let shown : d.sources ++ source_value s.source ∷ [] ≡ sources_shown new =
     ap (λ (l : List Source). l ++ source_value s.source ∷ []) old ∙ sym (map-append (λ s. source_value s.source) ss (s ∷ [])) ∙ ap sources_shown (sym items) in

@@ -1,5 +1,9 @@
 -- What a draft holds after one line more.
-use Rattle.zl_asm.proofs.Common.{append-nil, ◌≡◌, ℕ, ◌+◌, Bool, true, false, ◌&&◌, ◌||◌, not, cond, List, [], ◌∷◌, ◌++◌, length, filter, ◌==◌, Some, None, refl, sym, ap, subst, ◌∙◌, true≢false, arith, flat_map, list_any, list_all, flat_map-append, eqb-true, list_all-append, condition_number, Image, needs_named, is_among, Line, Blank, Declares, Label, Code, Source, mark_in, memory_in, budget_in, need_in, start_in, slots_in, source_in, given, declares, is_body, directives_first, labels_from, position_of, names_once, IsGiven, Held, IsHeldOf, Holds}
+use Rattle.zl_asm.proofs.Common.{append-nil, ◌≡◌, ℕ, ◌+◌, Bool, true, false, ◌&&◌, ◌||◌, not, cond, List, [], ◌∷◌, ◌++◌, length, filter, ◌==◌, Some, None, refl}
+use Rattle.zl_asm.proofs.Common.{sym, ap, subst, ◌∙◌, true≢false, arith, flat_map, list_any, list_all, flat_map-append, eqb-true, list_all-append}
+use Rattle.zl_asm.proofs.Common.{condition_number, Image, needs_named, is_among, Line, Blank, Declares, Label, Code, Source, mark_in, memory_in, budget_in}
+use Rattle.zl_asm.proofs.Common.{need_in, start_in, slots_in, source_in, given, declares, is_body, directives_first, labels_from, position_of, names_once}
+use Rattle.zl_asm.proofs.Common.{IsGiven, Held, IsHeldOf, Holds}
 use Rattle.std.proofs.lemmas.List.Folds.{list_any-append}
 use Rattle.zl_rights.specs.declared.policy.Condition.{Condition}
 use Rattle.zl_rights.specs.declared.policy.Condition.TheVariants as condition
@@ -46,7 +50,8 @@ unfolding directives_first
 order-declared [] d e = refl
 order-declared (x ∷ said) d e = by (is_body x) (order-declared said d) e
   where
-    by : (b : Bool) → (list_any is_body said ≡ false → directives_first (said ++ Declares d ∷ []) ≡ true) → (b || list_any is_body said) ≡ false → cond b (list_all (λ l. not (declares l)) (said ++ Declares d ∷ [])) (directives_first (said ++ Declares d ∷ [])) ≡ true
+    by : (b : Bool) → (list_any is_body said ≡ false → directives_first (said ++ Declares d ∷ []) ≡ true) → (b || list_any is_body said) ≡ false
+        → cond b (list_all (λ l. not (declares l)) (said ++ Declares d ∷ [])) (directives_first (said ++ Declares d ∷ [])) ≡ true
     by true more h = absurd (true≢false h)
     by false more h = more h
 
@@ -81,7 +86,8 @@ none_in_blank : (said : List Line) → labels_from 0 (said ++ Blank ∷ []) ≡ 
 unfolding labels_from
 none_in_blank said = no_label said Blank (λ n. refl)
 
-one_label : (said : List Line) (name : List ℕ) → labels_from 0 (said ++ Label name ∷ []) ≡ labels_from 0 said ++ (name, 0 + length (flat_map source_in said)) ∷ []
+one_label : (said : List Line) (name : List ℕ)
+    → labels_from 0 (said ++ Label name ∷ []) ≡ labels_from 0 said ++ (name, 0 + length (flat_map source_in said)) ∷ []
 unfolding labels_from
 one_label said name = labels_from-append 0 said (Label name ∷ [])
 
@@ -103,7 +109,8 @@ among-filter : (named xs : List Condition) (k : Condition) → is_among (filter 
 among-filter named [] k = sym (and_false (is_among named k))
 among-filter named (x ∷ xs) k = by (is_among named x) refl (condition_number x == condition_number k) refl (among-filter named xs k)
   where
-    by : (p : Bool) → is_among named x ≡ p → (q : Bool) → (condition_number x == condition_number k) ≡ q → is_among (filter (λ c. is_among named c) xs) k ≡ (is_among named k && is_among xs k)
+    by : (p : Bool) → is_among named x ≡ p → (q : Bool) → (condition_number x == condition_number k) ≡ q
+        → is_among (filter (λ c. is_among named c) xs) k ≡ (is_among named k && is_among xs k)
         → is_among (cond p (x ∷ filter (λ c. is_among named c) xs) (filter (λ c. is_among named c) xs)) k ≡ (is_among named k && (q || is_among xs k))
     by true e true f rest = rw (f, sym (same_number named x k f) ∙ e) refl
     by true e false f rest = rw (f, rest) refl
@@ -125,11 +132,13 @@ choose channel event port process _ = false
 
 -- one need more
 needs-more : (xs : List Condition) (c : Condition) → needs_named (c ∷ needs_named xs) ≡ needs_named (xs ++ c ∷ [])
-needs-more xs c = λ i. filter (choose (at condition.NewChannel refl i) (at condition.NewEvent refl i) (at condition.NewPort refl i) (at condition.NewProcess refl i)) can_be_needed
+needs-more xs c = λ i.
+    filter (choose (at condition.NewChannel refl i) (at condition.NewEvent refl i) (at condition.NewPort refl i) (at condition.NewProcess refl i)) can_be_needed
   where
     at : (k : Condition) → is_among can_be_needed k ≡ true → is_among (c ∷ needs_named xs) k ≡ is_among (xs ++ c ∷ []) k
     at k can =
-        ap (λ (b : Bool). (condition_number c == condition_number k) || b) (among-filter xs can_be_needed k ∙ ap (λ (b : Bool). is_among xs k && b) can ∙ and_true _)
+        ap (λ (b : Bool). (condition_number c == condition_number k) || b)
+        (among-filter xs can_be_needed k ∙ ap (λ (b : Bool). is_among xs k && b) can ∙ and_true _)
         ∙ swapped _ _
         ∙ sym (list_any-append (λ x. condition_number x == condition_number k) xs (c ∷ []))
 
@@ -148,12 +157,14 @@ given_is true value usual xs h = rw h refl
 given_is false value usual xs h = rw (h.0, h.1) refl
 
 -- the first value
-first_given : {X : Type 0} (f : Line → List X) (said : List Line) (line : Line) (x : X) → flat_map f said ≡ [] → f line ≡ x ∷ [] → flat_map f (said ++ line ∷ []) ≡ x ∷ []
+first_given : {X : Type 0} (f : Line → List X) (said : List Line) (line : Line) (x : X) → flat_map f said ≡ [] → f line ≡ x ∷ []
+    → flat_map f (said ++ line ∷ []) ≡ x ∷ []
 first_given f said line x none e = added f said line x e ∙ ap (λ (l : List _). l ++ x ∷ []) none
 
 -- ---- one directive more
 
-pub mark_held : (d : Held) (image : Image) → image ≡ record d.image { raw = true } → d.has_body ≡ false → d.image.raw ≡ false → Holds d (Declares directive.Raw) (record d { image = image })
+pub mark_held : (d : Held) (image : Image) → image ≡ record d.image { raw = true } → d.has_body ≡ false → d.image.raw ≡ false
+    → Holds d (Declares directive.Raw) (record d { image = image })
 mark_held d image e first none = subst (λ (im : Image). Holds d (Declares directive.Raw) (record d { image = im })) (sym e) (λ said h. record {
   order = order-declared said directive.Raw (sym h.body ∙ first);
   body = h.body ∙ sym (no_body-more said (Declares directive.Raw) refl);
@@ -168,44 +179,50 @@ mark_held d image e first none = subst (λ (im : Image). Holds d (Declares direc
   sources = h.sources ∙ sym (kept source_in said (Declares directive.Raw) refl);
 })
 
-pub memory_held : (d : Held) (image : Image) (n : ℕ) → image ≡ record d.image { memory = n } → d.has_body ≡ false → d.has_memory ≡ false → Holds d (Declares (directive.Memory n)) (record d { image = image; has_memory = true })
-memory_held d image n e first none = subst (λ (im : Image). Holds d (Declares (directive.Memory n)) (record d { image = im; has_memory = true })) (sym e) (λ said h. record {
-  order = order-declared said (directive.Memory n) (sym h.body ∙ first);
-  body = h.body ∙ sym (no_body-more said (Declares (directive.Memory n)) refl);
-  mark = same_given _ _ _ _ _ (kept mark_in said (Declares (directive.Memory n)) refl) h.mark;
-  memory = first_given memory_in said (Declares (directive.Memory n)) n (none_given d.has_memory d.image.memory 0 _ none h.memory) refl;
-  budget = same_given _ _ _ _ _ (kept budget_in said (Declares (directive.Memory n)) refl) h.budget;
-  needs = h.needs ∙ ap needs_named (sym (kept need_in said (Declares (directive.Memory n)) refl));
-  starts = h.starts ∙ sym (kept start_in said (Declares (directive.Memory n)) refl);
-  slots = h.slots ∙ sym (kept slots_in said (Declares (directive.Memory n)) refl);
-  labels = h.labels ∙ sym (none_declared said (directive.Memory n));
-  once = ap names_once (none_declared said (directive.Memory n)) ∙ h.once;
-  sources = h.sources ∙ sym (kept source_in said (Declares (directive.Memory n)) refl);
-})
+pub memory_held : (d : Held) (image : Image) (n : ℕ) → image ≡ record d.image { memory = n } → d.has_body ≡ false → d.has_memory ≡ false
+    → Holds d (Declares (directive.Memory n)) (record d { image = image; has_memory = true })
+memory_held d image n e first none =
+    subst (λ (im : Image). Holds d (Declares (directive.Memory n)) (record d { image = im; has_memory = true })) (sym e) (λ said h. record {
+      order = order-declared said (directive.Memory n) (sym h.body ∙ first);
+      body = h.body ∙ sym (no_body-more said (Declares (directive.Memory n)) refl);
+      mark = same_given _ _ _ _ _ (kept mark_in said (Declares (directive.Memory n)) refl) h.mark;
+      memory = first_given memory_in said (Declares (directive.Memory n)) n (none_given d.has_memory d.image.memory 0 _ none h.memory) refl;
+      budget = same_given _ _ _ _ _ (kept budget_in said (Declares (directive.Memory n)) refl) h.budget;
+      needs = h.needs ∙ ap needs_named (sym (kept need_in said (Declares (directive.Memory n)) refl));
+      starts = h.starts ∙ sym (kept start_in said (Declares (directive.Memory n)) refl);
+      slots = h.slots ∙ sym (kept slots_in said (Declares (directive.Memory n)) refl);
+      labels = h.labels ∙ sym (none_declared said (directive.Memory n));
+      once = ap names_once (none_declared said (directive.Memory n)) ∙ h.once;
+      sources = h.sources ∙ sym (kept source_in said (Declares (directive.Memory n)) refl);
+    })
 
-pub budget_held : (d : Held) (image : Image) (n : ℕ) → image ≡ record d.image { budget = n } → d.has_body ≡ false → d.has_budget ≡ false → Holds d (Declares (directive.Budget n)) (record d { image = image; has_budget = true })
-budget_held d image n e first none = subst (λ (im : Image). Holds d (Declares (directive.Budget n)) (record d { image = im; has_budget = true })) (sym e) (λ said h. record {
-  order = order-declared said (directive.Budget n) (sym h.body ∙ first);
-  body = h.body ∙ sym (no_body-more said (Declares (directive.Budget n)) refl);
-  mark = same_given _ _ _ _ _ (kept mark_in said (Declares (directive.Budget n)) refl) h.mark;
-  memory = same_given _ _ _ _ _ (kept memory_in said (Declares (directive.Budget n)) refl) h.memory;
-  budget = first_given budget_in said (Declares (directive.Budget n)) n (none_given d.has_budget d.image.budget 1 _ none h.budget) refl;
-  needs = h.needs ∙ ap needs_named (sym (kept need_in said (Declares (directive.Budget n)) refl));
-  starts = h.starts ∙ sym (kept start_in said (Declares (directive.Budget n)) refl);
-  slots = h.slots ∙ sym (kept slots_in said (Declares (directive.Budget n)) refl);
-  labels = h.labels ∙ sym (none_declared said (directive.Budget n));
-  once = ap names_once (none_declared said (directive.Budget n)) ∙ h.once;
-  sources = h.sources ∙ sym (kept source_in said (Declares (directive.Budget n)) refl);
-})
+pub budget_held : (d : Held) (image : Image) (n : ℕ) → image ≡ record d.image { budget = n } → d.has_body ≡ false → d.has_budget ≡ false
+    → Holds d (Declares (directive.Budget n)) (record d { image = image; has_budget = true })
+budget_held d image n e first none =
+    subst (λ (im : Image). Holds d (Declares (directive.Budget n)) (record d { image = im; has_budget = true })) (sym e) (λ said h. record {
+      order = order-declared said (directive.Budget n) (sym h.body ∙ first);
+      body = h.body ∙ sym (no_body-more said (Declares (directive.Budget n)) refl);
+      mark = same_given _ _ _ _ _ (kept mark_in said (Declares (directive.Budget n)) refl) h.mark;
+      memory = same_given _ _ _ _ _ (kept memory_in said (Declares (directive.Budget n)) refl) h.memory;
+      budget = first_given budget_in said (Declares (directive.Budget n)) n (none_given d.has_budget d.image.budget 1 _ none h.budget) refl;
+      needs = h.needs ∙ ap needs_named (sym (kept need_in said (Declares (directive.Budget n)) refl));
+      starts = h.starts ∙ sym (kept start_in said (Declares (directive.Budget n)) refl);
+      slots = h.slots ∙ sym (kept slots_in said (Declares (directive.Budget n)) refl);
+      labels = h.labels ∙ sym (none_declared said (directive.Budget n));
+      once = ap names_once (none_declared said (directive.Budget n)) ∙ h.once;
+      sources = h.sources ∙ sym (kept source_in said (Declares (directive.Budget n)) refl);
+    })
 
-pub need_held : (d : Held) (image : Image) (c : Condition) → image ≡ record d.image { needs = needs_named (c ∷ d.image.needs) } → d.has_body ≡ false → Holds d (Declares (directive.Need c)) (record d { image = image })
+pub need_held : (d : Held) (image : Image) (c : Condition) → image ≡ record d.image { needs = needs_named (c ∷ d.image.needs) } → d.has_body ≡ false
+    → Holds d (Declares (directive.Need c)) (record d { image = image })
 need_held d image c e first = subst (λ (im : Image). Holds d (Declares (directive.Need c)) (record d { image = im })) (sym e) (λ said h. record {
   order = order-declared said (directive.Need c) (sym h.body ∙ first);
   body = h.body ∙ sym (no_body-more said (Declares (directive.Need c)) refl);
   mark = same_given _ _ _ _ _ (kept mark_in said (Declares (directive.Need c)) refl) h.mark;
   memory = same_given _ _ _ _ _ (kept memory_in said (Declares (directive.Need c)) refl) h.memory;
   budget = same_given _ _ _ _ _ (kept budget_in said (Declares (directive.Need c)) refl) h.budget;
-  needs = ap (λ (l : List Condition). needs_named (c ∷ l)) h.needs ∙ needs-more (flat_map need_in said) c ∙ ap needs_named (sym (added need_in said (Declares (directive.Need c)) c refl));
+  needs = ap (λ (l : List Condition). needs_named (c ∷ l)) h.needs ∙ needs-more (flat_map need_in said) c
+      ∙ ap needs_named (sym (added need_in said (Declares (directive.Need c)) c refl));
   starts = h.starts ∙ sym (kept start_in said (Declares (directive.Need c)) refl);
   slots = h.slots ∙ sym (kept slots_in said (Declares (directive.Need c)) refl);
   labels = h.labels ∙ sym (none_declared said (directive.Need c));
@@ -213,7 +230,8 @@ need_held d image c e first = subst (λ (im : Image). Holds d (Declares (directi
   sources = h.sources ∙ sym (kept source_in said (Declares (directive.Need c)) refl);
 })
 
-pub starts_held : (d : Held) (image : Image) (s : Start) → image ≡ record d.image { starts = d.image.starts ++ (s ∷ []) } → d.has_body ≡ false → Holds d (Declares (directive.Start s)) (record d { image = image })
+pub starts_held : (d : Held) (image : Image) (s : Start) → image ≡ record d.image { starts = d.image.starts ++ (s ∷ []) } → d.has_body ≡ false
+    → Holds d (Declares (directive.Start s)) (record d { image = image })
 starts_held d image s e first = subst (λ (im : Image). Holds d (Declares (directive.Start s)) (record d { image = im })) (sym e) (λ said h. record {
   order = order-declared said (directive.Start s) (sym h.body ∙ first);
   body = h.body ∙ sym (no_body-more said (Declares (directive.Start s)) refl);
@@ -228,7 +246,8 @@ starts_held d image s e first = subst (λ (im : Image). Holds d (Declares (direc
   sources = h.sources ∙ sym (kept source_in said (Declares (directive.Start s)) refl);
 })
 
-pub slot_array_held : (d : Held) (image : Image) (s : SlotArray) → image ≡ record d.image { slots = d.image.slots ++ (s ∷ []) } → d.has_body ≡ false → Holds d (Declares (directive.Slots s)) (record d { image = image })
+pub slot_array_held : (d : Held) (image : Image) (s : SlotArray) → image ≡ record d.image { slots = d.image.slots ++ (s ∷ []) } → d.has_body ≡ false
+    → Holds d (Declares (directive.Slots s)) (record d { image = image })
 slot_array_held d image s e first = subst (λ (im : Image). Holds d (Declares (directive.Slots s)) (record d { image = im })) (sym e) (λ said h. record {
   order = order-declared said (directive.Slots s) (sym h.body ∙ first);
   body = h.body ∙ sym (no_body-more said (Declares (directive.Slots s)) refl);
@@ -263,7 +282,8 @@ blank_held d = λ said h. record {
 counted : {xs ys : List Source} → xs ≡ ys → length xs ≡ 0 + length ys
 counted e = omega (arith, ap length e)
 
-pub label_held : (d : Held) (name : List ℕ) → position_of d.labels name ≡ None → Holds d (Label name) (record d { has_body = true; labels = d.labels ++ (name, length d.sources) ∷ [] })
+pub label_held : (d : Held) (name : List ℕ) → position_of d.labels name ≡ None
+    → Holds d (Label name) (record d { has_body = true; labels = d.labels ++ (name, length d.sources) ∷ [] })
 label_held d name free = λ said h. record {
   order = order-more said (Label name) refl h.order;
   body = sym (body-more said (Label name) refl);
@@ -273,8 +293,10 @@ label_held d name free = λ said h. record {
   needs = h.needs ∙ ap needs_named (sym (kept need_in said (Label name) refl));
   starts = h.starts ∙ sym (kept start_in said (Label name) refl);
   slots = h.slots ∙ sym (kept slots_in said (Label name) refl);
-  labels = ap (λ (l : List (List ℕ × ℕ)). l ++ (name, length d.sources) ∷ []) h.labels ∙ ap (λ (k : ℕ). labels_from 0 said ++ (name, k) ∷ []) (counted h.sources) ∙ sym (one_label said name);
-  once = ap names_once (one_label said name) ∙ once-more (labels_from 0 said) (name, 0 + length (flat_map source_in said)) h.once (ap (λ (l : List (List ℕ × ℕ)). position_of l name) (sym h.labels) ∙ free);
+  labels = ap (λ (l : List (List ℕ × ℕ)). l ++ (name, length d.sources) ∷ []) h.labels
+      ∙ ap (λ (k : ℕ). labels_from 0 said ++ (name, k) ∷ []) (counted h.sources) ∙ sym (one_label said name);
+  once = ap names_once (one_label said name) ∙ once-more (labels_from 0 said) (name, 0 + length (flat_map source_in said)) h.once
+      (ap (λ (l : List (List ℕ × ℕ)). position_of l name) (sym h.labels) ∙ free);
   sources = h.sources ∙ sym (kept source_in said (Label name) refl);
 }
 
@@ -296,7 +318,14 @@ code_held d s = λ said h. record {
 -- ---- before the first line
 
 pub nothing_held : (labels : List (List ℕ × ℕ)) (sources : List Source) → labels ≡ [] → sources ≡ []
-    → IsHeldOf [] (record { image = record { raw = false; memory = 0; budget = 1; needs = []; starts = []; slots = []; code = [] }; has_memory = false; has_budget = false; has_body = false; labels = labels; sources = sources })
+    → IsHeldOf [] (record {
+      image = record { raw = false; memory = 0; budget = 1; needs = []; starts = []; slots = []; code = [] };
+      has_memory = false;
+      has_budget = false;
+      has_body = false;
+      labels = labels;
+      sources = sources;
+    })
 unfolding directives_first labels_from names_once
 nothing_held labels sources none empty = record {
   order = refl;

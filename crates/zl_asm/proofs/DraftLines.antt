@@ -1,5 +1,9 @@
 -- What a line says beside what a draft holds.
-use Rattle.zl_asm.proofs.Common.{◌≡◌, ℕ, Bool, true, false, ◌&&◌, cond, List, [], ◌∷◌, Option, Some, None, Result, Ok, Err, refl, sym, ap, subst, ◌∙◌, true≢false, codes, OnOk, starts_with, rights_of, is_start_in_range, is_slot_in_range, nat_eq, is_ascii, words_of, is_word, Line, Declares, Code, Source, if_fits, number_within, need_of, kind_of, start_with, slot_array_with, directive_of, instruction_of, unknown_of, label_of, alone, point_line, line_of, Held, Holds, Reads, line_said, is_directive_in_range, option_map}
+use Rattle.zl_asm.proofs.Common.{◌≡◌, ℕ, Bool, true, false, ◌&&◌, cond, List, [], ◌∷◌, Option, Some, None, Result, Ok, Err, refl, sym, ap, subst, ◌∙◌}
+use Rattle.zl_asm.proofs.Common.{true≢false, codes, OnOk, starts_with, rights_of, is_start_in_range, is_slot_in_range, nat_eq, is_ascii, words_of, is_word}
+use Rattle.zl_asm.proofs.Common.{Line, Declares, Code, Source, if_fits, number_within, need_of, kind_of, start_with, slot_array_with, directive_of}
+use Rattle.zl_asm.proofs.Common.{instruction_of, unknown_of, label_of, alone, point_line, line_of, Held, Holds, Reads, line_said, is_directive_in_range}
+use Rattle.zl_asm.proofs.Common.{option_map}
 use Rattle.zl_rights.specs.declared.kind.Kind.{Kind}
 use Rattle.zl_code.specs.declared.image.Start.{Start}
 use Rattle.zl_code.specs.declared.image.SlotArray.{SlotArray}
@@ -9,10 +13,12 @@ use Rattle.zl_asm.specs.Words.{number_of}
 
 -- ---- reading on
 
-pub said_by : (line : List ℕ) (words : List (List ℕ)) (said : Line) → is_ascii line ≡ true → words ≡ words_of line → line_of words ≡ Some said → line_said line ≡ Some said
+pub said_by : (line : List ℕ) (words : List (List ℕ)) (said : Line) → is_ascii line ≡ true → words ≡ words_of line → line_of words ≡ Some said
+    → line_said line ≡ Some said
 said_by line words said plain cut e = rw (plain, sym cut) e
 
-pub read_by : {A E : Type 0} (r : Result A E) (old new : Held) (line : List ℕ) (words : List (List ℕ)) (said : Line) → is_ascii line ≡ true → words ≡ words_of line → line_of words ≡ Some said → OnOk r (Holds old said new)
+pub read_by : {A E : Type 0} (r : Result A E) (old new : Held) (line : List ℕ) (words : List (List ℕ)) (said : Line) → is_ascii line ≡ true
+    → words ≡ words_of line → line_of words ≡ Some said → OnOk r (Holds old said new)
     → OnOk r (Reads old line new)
 read_by (Ok x) old new line words said plain cut e h = (said, said_by line words said plain cut e, h)
 read_by (Err fault) old new line words said plain cut e h = tt
@@ -32,7 +38,8 @@ second_of true b e = e
 second_of false b e = absurd (true≢false (sym e))
 
 -- a directive that is made of a value in its range
-made_of : {X : Type 0} (make : X → Directive) (o : Option X) (d : Directive) → ((x : X) → o ≡ Some x → is_directive_in_range (make x) ≡ true) → option_map make o ≡ Some d → is_directive_in_range d ≡ true
+made_of : {X : Type 0} (make : X → Directive) (o : Option X) (d : Directive) → ((x : X) → o ≡ Some x → is_directive_in_range (make x) ≡ true)
+    → option_map make o ≡ Some d → is_directive_in_range d ≡ true
 made_of make None d fine e = cc
 made_of make (Some x) d fine e = let same : make x ≡ d = cc in subst (λ (y : Directive). is_directive_in_range y ≡ true) same (fine x refl)
 
@@ -47,7 +54,8 @@ slots-fit (Some k) (Some l) None s e = cc
 slots-fit (Some k) None r s e = cc
 slots-fit None l r s e = cc
 
-either : (b : Bool) (x y : Option Directive) (d : Directive) → (x ≡ Some d → is_directive_in_range d ≡ true) → (y ≡ Some d → is_directive_in_range d ≡ true) → cond b x y ≡ Some d → is_directive_in_range d ≡ true
+either : (b : Bool) (x y : Option Directive) (d : Directive) → (x ≡ Some d → is_directive_in_range d ≡ true) → (y ≡ Some d → is_directive_in_range d ≡ true)
+    → cond b x y ≡ Some d → is_directive_in_range d ≡ true
 either true x y d f g e = f e
 either false x y d f g e = g e
 
@@ -65,14 +73,16 @@ directive-fits name (operand ∷ []) d e =
     (made_of directive.Memory (number_within 0 65536 operand) d (λ n f. second_of _ _ (passes _ (number_of operand) n f)))
     (either (is_word name (codes ".budget")) (option_map directive.Budget (number_within 1 1000000 operand)) _ d
     (made_of directive.Budget (number_within 1 1000000 operand) d (λ n f. passes _ (number_of operand) n f))
-    (either (is_word name (codes ".need")) (option_map directive.Need (need_of operand)) None d (made_of directive.Need (need_of operand) d (λ n f. refl)) (nothing d)))
+    (either (is_word name (codes ".need")) (option_map directive.Need (need_of operand)) None d
+    (made_of directive.Need (need_of operand) d (λ n f. refl)) (nothing d)))
     e
 directive-fits name (kind ∷ rights ∷ []) d e =
     either (is_word name (codes ".start")) (option_map directive.Start (start_with (kind_of kind) (number_of rights))) None d
     (made_of directive.Start (start_with (kind_of kind) (number_of rights)) d (λ s f. start-fits (kind_of kind) (number_of rights) s f)) (nothing d) e
 directive-fits name (kind ∷ len ∷ rights ∷ []) d e =
     either (is_word name (codes ".slots")) (option_map directive.Slots (slot_array_with (kind_of kind) (number_within 1 256 len) (number_of rights))) None d
-    (made_of directive.Slots (slot_array_with (kind_of kind) (number_within 1 256 len) (number_of rights)) d (λ s f. slots-fit (kind_of kind) (number_within 1 256 len) (number_of rights) s f)) (nothing d) e
+    (made_of directive.Slots (slot_array_with (kind_of kind) (number_within 1 256 len) (number_of rights)) d
+    (λ s f. slots-fit (kind_of kind) (number_within 1 256 len) (number_of rights) s f)) (nothing d) e
 directive-fits name (a ∷ b ∷ c ∷ e ∷ more) d f = cc
 
 -- ---- the directive of a line
@@ -88,7 +98,8 @@ declared (Some x) d e = cc
 point-fits : (name : List ℕ) (words : List (List ℕ)) (d : Directive) → point_line name words ≡ Some (Declares d) → is_directive_in_range d ≡ true
 point-fits name words d e = by (is_word name (codes ".bytes")) e
   where
-    by : (b : Bool) → cond b (option_map Code (unknown_of words)) (option_map Declares (directive_of name words)) ≡ Some (Declares d) → is_directive_in_range d ≡ true
+    by : (b : Bool) → cond b (option_map Code (unknown_of words)) (option_map Declares (directive_of name words)) ≡ Some (Declares d)
+        → is_directive_in_range d ≡ true
     by true e = absurd (not_code (unknown_of words) d e)
     by false e = directive-fits name words d (declared (directive_of name words) d e)
 
@@ -96,7 +107,8 @@ alone-not : (word : List ℕ) (o : Option (List ℕ)) (d : Directive) → alone 
 alone-not word (Some name) d e = cc
 alone-not word None d e = not_code (instruction_of word []) d e
 
-chosen : (b : Bool) (x y : Option Line) (d : Directive) → (x ≡ Some (Declares d) → is_directive_in_range d ≡ true) → (y ≡ Some (Declares d) → ⊥) → cond b x y ≡ Some (Declares d) → is_directive_in_range d ≡ true
+chosen : (b : Bool) (x y : Option Line) (d : Directive) → (x ≡ Some (Declares d) → is_directive_in_range d ≡ true) → (y ≡ Some (Declares d) → ⊥)
+    → cond b x y ≡ Some (Declares d) → is_directive_in_range d ≡ true
 chosen true x y d f g e = f e
 chosen false x y d f g e = absurd (g e)
 
@@ -104,6 +116,8 @@ chosen false x y d f g e = absurd (g e)
 pub said_in_range : (words : List (List ℕ)) (d : Directive) → line_of words ≡ Some (Declares d) → is_directive_in_range d ≡ true
 unfolding line_of
 said_in_range [] d e = cc
-said_in_range (word ∷ []) d e = chosen (starts_with nat_eq word (codes ".")) (point_line word []) (alone word (label_of word)) d (point-fits word [] d) (alone-not word (label_of word) d) e
+said_in_range (word ∷ []) d e =
+    chosen (starts_with nat_eq word (codes ".")) (point_line word []) (alone word (label_of word)) d (point-fits word [] d) (alone-not word (label_of word) d) e
 said_in_range (word ∷ next ∷ words) d e =
-    chosen (starts_with nat_eq word (codes ".")) (point_line word (next ∷ words)) (option_map Code (instruction_of word (next ∷ words))) d (point-fits word (next ∷ words) d) (not_code (instruction_of word (next ∷ words)) d) e
+    chosen (starts_with nat_eq word (codes ".")) (point_line word (next ∷ words)) (option_map Code (instruction_of word (next ∷ words))) d
+    (point-fits word (next ∷ words) d) (not_code (instruction_of word (next ∷ words)) d) e

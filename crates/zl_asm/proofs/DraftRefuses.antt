@@ -1,11 +1,13 @@
 -- Which lines a draft refuses.
-use Rattle.zl_asm.proofs.Common.{◌≡◌, ℕ, ◌≤◌, Bool, true, false, List, [], ◌∷◌, length, Option, Some, None, is_some, Result, Ok, Err, refl, sym, ap, subst, ◌∙◌, true≢false, instr_fault, is_none, Declares, Label, Code, Source, position_of, Held, Refuses, is_err, result_err}
+use Rattle.zl_asm.proofs.Common.{◌≡◌, ℕ, ◌≤◌, Bool, true, false, List, [], ◌∷◌, length, Option, Some, None, is_some, Result, Ok, Err, refl, sym, ap, subst, ◌∙◌}
+use Rattle.zl_asm.proofs.Common.{true≢false, instr_fault, is_none, Declares, Label, Code, Source, position_of, Held, Refuses, is_err, result_err}
 use Rattle.zl_code.specs.declared.image.Start.{Start}
 use Rattle.zl_code.specs.declared.image.SlotArray.{SlotArray}
 use Rattle.zl_asm.specs.declared.directive.Directive.{Directive}
 use Rattle.zl_asm.specs.declared.directive.Directive.TheVariants as directive
 use Rattle.zl_asm.proofs.DraftHolds.{one_given, given_is}
-use Rattle.zl_asm.proofs.ListingRefused.{refused_behind, refused_mark, refused_memory, refused_budget, refused_start, refused_slots, refused_label, refused_count, refused_fault}
+use Rattle.zl_asm.proofs.ListingRefused.{refused_behind, refused_mark, refused_memory, refused_budget, refused_start, refused_slots, refused_label}
+use Rattle.zl_asm.proofs.ListingRefused.{refused_count, refused_fault}
 
 -- a directive behind a label or an instruction
 pub behind_refused : (d : Held) (x : Directive) → d.has_body ≡ true → Refuses d (Declares x)
@@ -33,7 +35,8 @@ pub count_refused : (d : Held) (s : Source) → 4096 ≤ length d.sources → Re
 count_refused d s many = λ said h rest. refused_count said rest s (subst (λ (l : List Source). 4096 ≤ length l) h.sources many)
 
 pub fault_refused : (d : Held) (s : Source) → is_none s.label ≡ true → is_some (instr_fault d.image.raw s.bytes) ≡ true → Refuses d (Code s)
-fault_refused d s alone fault = λ said h rest. refused_fault said rest s d.image.raw (nothing s.label alone) (given_is d.image.raw d.image.raw false _ h.mark) fault
+fault_refused d s alone fault =
+    λ said h rest. refused_fault said rest s d.image.raw (nothing s.label alone) (given_is d.image.raw d.image.raw false _ h.mark) fault
   where
     nothing : (o : Option (List ℕ)) → is_none o ≡ true → o ≡ None
     nothing None e = refl

@@ -1,5 +1,7 @@
 -- The labels of a text: where they stand, and that no name stands twice.
-use Rattle.zl_asm.proofs.Common.{◌≡◌, ℕ, suc, ◌+◌, Bool, true, false, ◌&&◌, not, cond, List, [], ◌∷◌, ◌++◌, length, map, Option, Some, None, is_some, refl, sym, ap, ◌∙◌, true≢false, arith, flat_map, find, nat_eq, Line, Blank, Declares, Label, Code, source_in, labels_from, position_of, names_once, option_map}
+use Rattle.zl_asm.proofs.Common.{◌≡◌, ℕ, suc, ◌+◌, Bool, true, false, ◌&&◌, not, cond, List, [], ◌∷◌, ◌++◌, length, map, Option, Some, None, is_some, refl, sym}
+use Rattle.zl_asm.proofs.Common.{ap, ◌∙◌, true≢false, arith, flat_map, find, nat_eq, Line, Blank, Declares, Label, Code, source_in, labels_from, position_of}
+use Rattle.zl_asm.proofs.Common.{names_once, option_map}
 use denote.Ref.{Bor}
 use Rattle.std.specs.Map.{lookup}
 use Rattle.std.specs.Cmp.Lexicographic.{pointwise, nat_list_eq_equiv}
@@ -15,12 +17,14 @@ same-symm a b = nat_list_eq_equiv.symm a b
 
 -- ---- a map's look-up
 
-chosen : (b : Bool) (l : List ℕ × ℕ) (rest : Option (List ℕ × ℕ)) → cond b (Some l.1) (option_map (λ m. m.1) rest) ≡ option_map (λ m. m.1) (cond b (Some l) rest)
+chosen : (b : Bool) (l : List ℕ × ℕ) (rest : Option (List ℕ × ℕ))
+    → cond b (Some l.1) (option_map (λ m. m.1) rest) ≡ option_map (λ m. m.1) (cond b (Some l) rest)
 chosen true l rest = refl
 chosen false l rest = refl
 
 -- a map of labels finds what the labels give
-pub lookup_is : (es : List (Bor (List ℕ) × ℕ)) (name : List ℕ) → lookup (λ k. same name k.now) es ≡ position_of (map {B = List ℕ × ℕ} (λ l. (l.0.now, l.1)) es) name
+pub lookup_is : (es : List (Bor (List ℕ) × ℕ)) (name : List ℕ)
+    → lookup (λ k. same name k.now) es ≡ position_of (map {B = List ℕ × ℕ} (λ l. (l.0.now, l.1)) es) name
 lookup_is [] name = refl
 lookup_is (e ∷ es) name =
     ap (λ (b : Bool). cond b (Some e.1) (lookup (λ k. same name k.now) es)) (same-symm name e.0.now)
@@ -33,7 +37,9 @@ position-apart : (xs ys : Labels) (name : List ℕ) → position_of xs name ≡ 
 position-apart [] ys name e = refl
 position-apart (x ∷ xs) ys name e = by (same x.0 name) (position-apart xs ys name) e
   where
-    by : (b : Bool) → (position_of xs name ≡ None → position_of (xs ++ ys) name ≡ position_of ys name) → option_map (λ l. l.1) (cond b (Some x) (find (λ l. same l.0 name) xs)) ≡ None → option_map (λ l. l.1) (cond b (Some x) (find (λ l. same l.0 name) (xs ++ ys))) ≡ position_of ys name
+    by : (b : Bool) → (position_of xs name ≡ None → position_of (xs ++ ys) name ≡ position_of ys name)
+        → option_map (λ l. l.1) (cond b (Some x) (find (λ l. same l.0 name) xs)) ≡ None
+        → option_map (λ l. l.1) (cond b (Some x) (find (λ l. same l.0 name) (xs ++ ys))) ≡ position_of ys name
     by true rest e = cc
     by false rest e = rest e
 
@@ -41,7 +47,8 @@ position-there : (xs ys : Labels) (l : List ℕ × ℕ) (name : List ℕ) → sa
 position-there [] ys l name e = rw e refl
 position-there (x ∷ xs) ys l name e = by (same x.0 name) (position-there xs ys l name e)
   where
-    by : (b : Bool) → is_some (position_of (xs ++ l ∷ ys) name) ≡ true → is_some (option_map (λ m. m.1) (cond b (Some x) (find (λ m. same m.0 name) (xs ++ l ∷ ys)))) ≡ true
+    by : (b : Bool) → is_some (position_of (xs ++ l ∷ ys) name) ≡ true
+        → is_some (option_map (λ m. m.1) (cond b (Some x) (find (λ m. same m.0 name) (xs ++ l ∷ ys)))) ≡ true
     by true rest = refl
     by false rest = rest
 
@@ -69,12 +76,14 @@ unfolding names_once
 once-more [] l once apart = refl
 once-more (x ∷ xs) l once apart = by (same x.0 l.0) (once-more xs l (second_of_both _ _ once)) refl apart
   where
-    by : (b : Bool) → (position_of xs l.0 ≡ None → names_once (xs ++ l ∷ []) ≡ true) → same x.0 l.0 ≡ b → option_map (λ m. m.1) (cond b (Some x) (find (λ m. same m.0 l.0) xs)) ≡ None → names_once (x ∷ xs ++ l ∷ []) ≡ true
+    by : (b : Bool) → (position_of xs l.0 ≡ None → names_once (xs ++ l ∷ []) ≡ true) → same x.0 l.0 ≡ b
+        → option_map (λ m. m.1) (cond b (Some x) (find (λ m. same m.0 l.0) xs)) ≡ None → names_once (x ∷ xs ++ l ∷ []) ≡ true
     by true rest e none = cc
     by false rest e none =
         let free = alone_none (position_of xs x.0) (first_of_both _ _ once) in
         let other : same l.0 x.0 ≡ false = same-symm l.0 x.0 ∙ e in
-        let nowhere : position_of (xs ++ l ∷ []) x.0 ≡ None = position-apart xs (l ∷ []) x.0 free ∙ ap (λ (b : Bool). option_map (λ m. m.1) (cond b (Some l) None)) other in
+        let nowhere : position_of (xs ++ l ∷ []) x.0 ≡ None =
+        position-apart xs (l ∷ []) x.0 free ∙ ap (λ (b : Bool). option_map (λ m. m.1) (cond b (Some l) None)) other in
         rw nowhere (rest none)
 
 -- a name that is there already
@@ -83,7 +92,8 @@ unfolding names_once
 not-once [] ys l there = absurd (true≢false (sym there))
 not-once (x ∷ xs) ys l there = by (same x.0 l.0) (not-once xs ys l) refl there
   where
-    by : (b : Bool) → (is_some (position_of xs l.0) ≡ true → names_once (xs ++ l ∷ ys) ≡ false) → same x.0 l.0 ≡ b → is_some (option_map (λ m. m.1) (cond b (Some x) (find (λ m. same m.0 l.0) xs))) ≡ true → names_once (x ∷ xs ++ l ∷ ys) ≡ false
+    by : (b : Bool) → (is_some (position_of xs l.0) ≡ true → names_once (xs ++ l ∷ ys) ≡ false) → same x.0 l.0 ≡ b
+        → is_some (option_map (λ m. m.1) (cond b (Some x) (find (λ m. same m.0 l.0) xs))) ≡ true → names_once (x ∷ xs ++ l ∷ ys) ≡ false
     by true rest e there = rw (position-there xs ys l x.0 (same-symm l.0 x.0 ∙ e)) refl
     by false rest e there = not_both _ _ (rest there)
 

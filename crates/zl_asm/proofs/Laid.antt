@@ -1,5 +1,9 @@
 -- The text of an image, piece by piece.
-use Rattle.zl_asm.proofs.Common.{◌≡◌, ℕ, suc, ◌+◌, ◌<◌, Bool, true, false, ◌||◌, cond, List, [], ◌∷◌, ◌++◌, codes, length, map, take, drop, get_or, refl, sym, ap, ◌∙◌, arith, IsTrue, append_assoc, append-nil, flat_map, list_any, flat_map-append, take_more, at_drop_more, condition_name, bits, Image, is_among, needs_named, instr_bytes, is_in_range, ranges, kind_text, label_text, directive_lines, is_target, aims_at, label_lines, instr_text, code_lines_from, code_lines, text_of, ended, fields_text, need_text, needs_text, start_text, slot_array_text, directives_text, line_text, TargetsAre, needs_named-needs, decimal}
+use Rattle.zl_asm.proofs.Common.{◌≡◌, ℕ, suc, ◌+◌, ◌<◌, Bool, true, false, ◌||◌, cond, List, [], ◌∷◌, ◌++◌, codes, length, map, take, drop, get_or, refl, sym}
+use Rattle.zl_asm.proofs.Common.{ap, ◌∙◌, arith, IsTrue, append_assoc, append-nil, flat_map, list_any, flat_map-append, take_more, at_drop_more, condition_name}
+use Rattle.zl_asm.proofs.Common.{bits, Image, is_among, needs_named, instr_bytes, is_in_range, ranges, kind_text, label_text, directive_lines, is_target}
+use Rattle.zl_asm.proofs.Common.{aims_at, label_lines, instr_text, code_lines_from, code_lines, text_of, ended, fields_text, need_text, needs_text, start_text}
+use Rattle.zl_asm.proofs.Common.{slot_array_text, directives_text, line_text, TargetsAre, needs_named-needs, decimal}
 use Rattle.zl_rights.specs.declared.policy.Condition.{Condition}
 use Rattle.zl_rights.specs.declared.policy.Condition.TheVariants as condition
 use Rattle.zl_code.specs.declared.image.Start.{Start}
@@ -24,10 +28,12 @@ next_line code n bytes rest =
 
 module _ (code : List (List ℕ)) (i : ℕ) (d : List ℕ) (within : i < length code) where
   -- one more line was written
-  pub line_written : (start text new : List ℕ) → text ++ ended (code_lines_from code i (drop i code)) ≡ start → new ≡ text ++ line_text (length code) i (is_target code i) (get_or code i d)
+  pub line_written : (start text new : List ℕ) → text ++ ended (code_lines_from code i (drop i code)) ≡ start
+      → new ≡ text ++ line_text (length code) i (is_target code i) (get_or code i d)
       → new ++ ended (code_lines_from code (i + 1) (drop (i + 1) code)) ≡ start
   line_written start text new before written =
-      let here : code_lines_from code i (drop i code) ≡ code_lines_from code i (get_or code i d ∷ drop (i + 1) code) = at_drop_more (code_lines_from code i) code i d within in
+      let here : code_lines_from code i (drop i code) ≡ code_lines_from code i (get_or code i d ∷ drop (i + 1) code) =
+      at_drop_more (code_lines_from code i) code i d within in
       let step : i + 1 ≡ suc i = omega arith in
       ap (λ (x : List ℕ). x ++ ended (code_lines_from code (i + 1) (drop (i + 1) code))) written
       ∙ append_assoc text (line_text (length code) i (is_target code i) (get_or code i d)) (ended (code_lines_from code (i + 1) (drop (i + 1) code)))
@@ -50,7 +56,8 @@ any_more p (y ∷ xs) x = by (p y) (any_more p xs x)
     by false e = e
 
 -- one more instruction was looked at
-pub targets_more : (old new : List Bool) (code : List (List ℕ)) (count i : ℕ) (d : List ℕ) → i < length code → TargetsAre old (take i code) count → length new ≡ length old
+pub targets_more : (old new : List Bool) (code : List (List ℕ)) (count i : ℕ) (d : List ℕ) → i < length code → TargetsAre old (take i code) count
+    → length new ≡ length old
     → ((n : ℕ) → n < length old → get_or new n false ≡ (get_or old n false || aims_at n (get_or code i d))) → TargetsAre new (take (i + 1) code) count
 targets_more old new code count i d within before len each = record {
   len = len ∙ before.len;
@@ -74,7 +81,8 @@ start_ended s =
     ∙ ap (λ (x : List ℕ). codes ".start " ++ x) (append_assoc (kind_text s.kind) (codes " " ++ decimal (bits s.rights)) (codes "\n")
     ∙ ap (λ (x : List ℕ). kind_text s.kind ++ x) (append_assoc (codes " ") (decimal (bits s.rights)) (codes "\n")))
 
-slot_array_ended : (s : SlotArray) → (codes ".slots " ++ (kind_text s.kind ++ (codes " " ++ (decimal s.length ++ (codes " " ++ decimal (bits s.rights)))))) ++ codes "\n" ≡ slot_array_text s
+slot_array_ended : (s : SlotArray)
+    → (codes ".slots " ++ (kind_text s.kind ++ (codes " " ++ (decimal s.length ++ (codes " " ++ decimal (bits s.rights)))))) ++ codes "\n" ≡ slot_array_text s
 slot_array_ended s =
     let rights = decimal (bits s.rights) in
     append_assoc (codes ".slots ") (kind_text s.kind ++ (codes " " ++ (decimal s.length ++ (codes " " ++ rights)))) (codes "\n")
@@ -84,8 +92,14 @@ slot_array_ended s =
     ∙ ap (λ (x : List ℕ). decimal s.length ++ x) (append_assoc (codes " ") rights (codes "\n")))))
 
 -- the lines of the needs that are among some
-filtered_needs : (a b c d : Bool) → flat_map need_text (cond a (condition.NewChannel ∷ cond b (condition.NewEvent ∷ cond c (condition.NewPort ∷ cond d (condition.NewProcess ∷ []) []) (cond d (condition.NewProcess ∷ []) [])) (cond c (condition.NewPort ∷ cond d (condition.NewProcess ∷ []) []) (cond d (condition.NewProcess ∷ []) []))) (cond b (condition.NewEvent ∷ cond c (condition.NewPort ∷ cond d (condition.NewProcess ∷ []) []) (cond d (condition.NewProcess ∷ []) [])) (cond c (condition.NewPort ∷ cond d (condition.NewProcess ∷ []) []) (cond d (condition.NewProcess ∷ []) []))))
-    ≡ cond a (need_text condition.NewChannel) [] ++ (cond b (need_text condition.NewEvent) [] ++ (cond c (need_text condition.NewPort) [] ++ cond d (need_text condition.NewProcess) []))
+filtered_needs : (a b c d : Bool) → flat_map need_text
+    (cond a (condition.NewChannel
+    ∷ cond b (condition.NewEvent ∷ cond c (condition.NewPort ∷ cond d (condition.NewProcess ∷ []) []) (cond d (condition.NewProcess ∷ []) []))
+    (cond c (condition.NewPort ∷ cond d (condition.NewProcess ∷ []) []) (cond d (condition.NewProcess ∷ []) [])))
+    (cond b (condition.NewEvent ∷ cond c (condition.NewPort ∷ cond d (condition.NewProcess ∷ []) []) (cond d (condition.NewProcess ∷ []) []))
+    (cond c (condition.NewPort ∷ cond d (condition.NewProcess ∷ []) []) (cond d (condition.NewProcess ∷ []) []))))
+    ≡ cond a (need_text condition.NewChannel) []
+    ++ (cond b (need_text condition.NewEvent) [] ++ (cond c (need_text condition.NewPort) [] ++ cond d (need_text condition.NewProcess) []))
 filtered_needs true true true true = refl
 filtered_needs true true true false = refl
 filtered_needs true true false true = refl
@@ -107,7 +121,8 @@ needs_ended : (needs : List Condition) → needs_named needs ≡ needs → ended
 needs_ended needs same =
     mapped_ended (λ c. codes ".need " ++ condition_name c) need_text need_ended needs
     ∙ ap (flat_map need_text) (sym same)
-    ∙ filtered_needs (is_among needs condition.NewChannel) (is_among needs condition.NewEvent) (is_among needs condition.NewPort) (is_among needs condition.NewProcess)
+    ∙ filtered_needs (is_among needs condition.NewChannel) (is_among needs condition.NewEvent) (is_among needs condition.NewPort)
+    (is_among needs condition.NewProcess)
 
 both_ended : (front back : List (List ℕ)) → ended (front ++ back) ≡ ended front ++ ended back
 both_ended front back = flat_map-append (λ line. line ++ codes "\n") front back
@@ -122,7 +137,8 @@ numbers_ended memory budget rest =
     ∙ ap (λ (x : List ℕ). codes ".budget " ++ x) (sym (append_assoc budget (codes "\n") rest)))
     ∙ sym (ap (λ (x : List ℕ). codes ".memory " ++ x) (append_assoc memory (codes "\n.budget " ++ (budget ++ codes "\n")) rest))
 
-fields_ended : (raw : Bool) (memory budget rest : List ℕ) → ended (cond raw (codes ".raw" ∷ []) []) ++ (((codes ".memory " ++ memory) ++ codes "\n") ++ (((codes ".budget " ++ budget) ++ codes "\n") ++ rest))
+fields_ended : (raw : Bool) (memory budget rest : List ℕ)
+    → ended (cond raw (codes ".raw" ∷ []) []) ++ (((codes ".memory " ++ memory) ++ codes "\n") ++ (((codes ".budget " ++ budget) ++ codes "\n") ++ rest))
     ≡ (cond raw (codes ".raw\n") [] ++ (codes ".memory " ++ (memory ++ (codes "\n.budget " ++ (budget ++ codes "\n"))))) ++ rest
 fields_ended true memory budget rest = ap (λ (x : List ℕ). codes ".raw\n" ++ x) (numbers_ended memory budget rest)
 fields_ended false memory budget rest = numbers_ended memory budget rest
@@ -135,16 +151,22 @@ directives_ended i same =
     let lists : ended (needs ++ (starts ++ slots)) ≡ needs_text i.needs ++ (flat_map start_text i.starts ++ flat_map slot_array_text i.slots) =
     both_ended needs (starts ++ slots)
     ∙ (λ k. needs_ended i.needs same k ++ both_ended starts slots k)
-    ∙ (λ k. needs_text i.needs ++ (mapped_ended {X = Start} (λ s. codes ".start " ++ (kind_text s.kind ++ (codes " " ++ decimal (bits s.rights)))) start_text start_ended i.starts k ++ mapped_ended {X = SlotArray} (λ s. codes ".slots " ++ (kind_text s.kind ++ (codes " " ++ (decimal s.length ++ (codes " " ++ decimal (bits s.rights)))))) slot_array_text slot_array_ended i.slots k)) in
-    both_ended (cond i.raw (codes ".raw" ∷ []) []) ((codes ".memory " ++ decimal i.memory) ∷ (codes ".budget " ++ decimal i.budget) ∷ (needs ++ (starts ++ slots)))
+    ∙ (λ k. needs_text i.needs
+    ++ (mapped_ended {X = Start} (λ s. codes ".start " ++ (kind_text s.kind ++ (codes " " ++ decimal (bits s.rights)))) start_text start_ended i.starts k
+    ++ mapped_ended {X = SlotArray} (λ s. codes ".slots " ++ (kind_text s.kind ++ (codes " " ++ (decimal s.length ++ (codes " " ++ decimal (bits s.rights))))))
+    slot_array_text slot_array_ended i.slots k)) in
+    both_ended (cond i.raw (codes ".raw" ∷ []) [])
+    ((codes ".memory " ++ decimal i.memory) ∷ (codes ".budget " ++ decimal i.budget) ∷ (needs ++ (starts ++ slots)))
     ∙ fields_ended i.raw (decimal i.memory) (decimal i.budget) (ended (needs ++ (starts ++ slots)))
     ∙ ap (λ (x : List ℕ). fields_text i.raw i.memory i.budget ++ x) lists
 
 -- the whole text
-pub text_written : (i : Image) (first last : List ℕ) → needs_named i.needs ≡ i.needs → first ≡ [] ++ directives_text i → last ≡ first ++ ended (code_lines (map instr_bytes i.code)) → last ≡ text_of i
+pub text_written : (i : Image) (first last : List ℕ) → needs_named i.needs ≡ i.needs → first ≡ [] ++ directives_text i
+    → last ≡ first ++ ended (code_lines (map instr_bytes i.code)) → last ≡ text_of i
 unfolding text_of
 text_written i first last same a b =
-    b ∙ ap (λ (x : List ℕ). x ++ ended (code_lines (map instr_bytes i.code))) (a ∙ sym (directives_ended i same)) ∙ sym (both_ended (directive_lines i) (code_lines (map instr_bytes i.code)))
+    b ∙ ap (λ (x : List ℕ). x ++ ended (code_lines (map instr_bytes i.code))) (a ∙ sym (directives_ended i same))
+    ∙ sym (both_ended (directive_lines i) (code_lines (map instr_bytes i.code)))
 
 -- the needs of an image in range are in their order
 pub needs_in_range : (i : Image) → IsTrue (is_in_range i) → needs_named i.needs ≡ i.needs

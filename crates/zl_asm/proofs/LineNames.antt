@@ -1,5 +1,6 @@
 -- The name of a label, and the row of a mnemonic.
-use Rattle.zl_asm.proofs.Common.{◌≡◌, ◌≢◌, ℕ, ◌-◌, true, false, eqb, List, [], ◌∷◌, ◌++◌, length, take, drop, Some, None, refl, ap, ◌∙◌, arith, drop_at, take_at, nat_tests, is_word, is_name, if_fits, label_of}
+use Rattle.zl_asm.proofs.Common.{◌≡◌, ◌≢◌, ℕ, ◌-◌, true, false, eqb, List, [], ◌∷◌, ◌++◌, length, take, drop, Some, None, refl, ap, ◌∙◌, arith, drop_at}
+use Rattle.zl_asm.proofs.Common.{take_at, nat_tests, is_word, is_name, if_fits, label_of}
 use Rattle.zl_code.proofs.Common.{length-append}
 
 -- ---- labels
@@ -17,7 +18,8 @@ pub with_colon : (word name : List ℕ) (last : ℕ) → word ≡ name ++ last �
 unfolding label_of
 with_colon word name last whole e =
     let count : length name ≡ length word - 1 = omega (arith, ap (λ (x : List ℕ). length x) whole, length-append name (last ∷ [])) in
-    let back : drop (length word - 1) word ≡ last ∷ [] = ap (λ (x : List ℕ). drop (length word - 1) x) whole ∙ drop_at name (last ∷ []) (length word - 1) count in
+    let back : drop (length word - 1) word ≡ last ∷ [] =
+    ap (λ (x : List ℕ). drop (length word - 1) x) whole ∙ drop_at name (last ∷ []) (length word - 1) count in
     let front : take (length word - 1) word ≡ name = ap (λ (x : List ℕ). take (length word - 1) x) whole ∙ take_at name (last ∷ []) (length word - 1) count in
     rw (back, is_colon last e, front) refl
 
@@ -26,7 +28,8 @@ pub no_colon : (word name : List ℕ) (last : ℕ) → word ≡ name ++ last ∷
 unfolding label_of
 no_colon word name last whole e =
     let count : length name ≡ length word - 1 = omega (arith, ap (λ (x : List ℕ). length x) whole, length-append name (last ∷ [])) in
-    let back : drop (length word - 1) word ≡ last ∷ [] = ap (λ (x : List ℕ). drop (length word - 1) x) whole ∙ drop_at name (last ∷ []) (length word - 1) count in
+    let back : drop (length word - 1) word ≡ last ∷ [] =
+    ap (λ (x : List ℕ). drop (length word - 1) x) whole ∙ drop_at name (last ∷ []) (length word - 1) count in
     rw (back, is_no_colon last e) refl
 
 pub no_byte : (word : List ℕ) → length word ≡ 0 → None ≡ label_of word

@@ -1,5 +1,8 @@
 -- The operands between the commas, and their registers, one word after the other.
-use Rattle.zl_asm.proofs.Common.{◌≡◌, ℕ, suc, ◌+◌, ◌-◌, ◌<◌, ◌≤◌, true, false, leb, eqb, List, [], ◌∷◌, ◌++◌, length, take, drop, get_or, set, replicate, Option, Some, None, refl, sym, ap, ◌∙◌, arith, append_assoc, append-nil, at_drop_more, at_drop_all, take_all, length-take, length-drop, length-map, nat_tests, seven, drop-replicate, take-map, drop-map, is_word, comma, register_of, texts, onto_all, operands_of, operands_after, all_of, registers_of, Tail, tail_of, places_of, source_with, then_with, option_map, take-suc-set}
+use Rattle.zl_asm.proofs.Common.{◌≡◌, ℕ, suc, ◌+◌, ◌-◌, ◌<◌, ◌≤◌, true, false, leb, eqb, List, [], ◌∷◌, ◌++◌, length, take, drop, get_or, set, replicate}
+use Rattle.zl_asm.proofs.Common.{Option, Some, None, refl, sym, ap, ◌∙◌, arith, append_assoc, append-nil, at_drop_more, at_drop_all, take_all, length-take}
+use Rattle.zl_asm.proofs.Common.{length-drop, length-map, nat_tests, seven, drop-replicate, take-map, drop-map, is_word, comma, register_of, texts, onto_all}
+use Rattle.zl_asm.proofs.Common.{operands_of, operands_after, all_of, registers_of, Tail, tail_of, places_of, source_with, then_with, option_map, take-suc-set}
 use Rattle.zl_code.proofs.Common.{take-append-drop}
 use Rattle.std.proofs.Common.{Bor}
 use Rattle.zl_code.specs.declared.layout.Ending.{Ending}
@@ -61,14 +64,16 @@ none_at_comma [] d two p = absurd (omega arith)
 none_at_comma (w ∷ []) d two p = absurd (omega arith)
 none_at_comma (w ∷ n ∷ rest) d two p = rw p refl
 
-none_at_words : (rest : List Text) (d : Text) → 2 ≤ length rest → is_word (get_or rest 0 d).now comma ≡ false → is_word (get_or rest 1 d).now comma ≡ false → operands_after (texts rest) ≡ None
+none_at_words : (rest : List Text) (d : Text) → 2 ≤ length rest → is_word (get_or rest 0 d).now comma ≡ false → is_word (get_or rest 1 d).now comma ≡ false
+    → operands_after (texts rest) ≡ None
 unfolding operands_after
 none_at_words [] d two p q = absurd (omega arith)
 none_at_words (w ∷ []) d two p q = absurd (omega arith)
 none_at_words (w ∷ n ∷ rest) d two p q = rw (p, q) refl
 
 -- a comma stands in the place of a word
-pub at_comma : (whole : Option (List (List ℕ))) (said : List (List ℕ)) (rest : List Text) (d : Text) → 2 ≤ length rest → is_word (get_or rest 0 d).now comma ≡ true → SoFar whole said rest → whole ≡ None
+pub at_comma : (whole : Option (List (List ℕ))) (said : List (List ℕ)) (rest : List Text) (d : Text) → 2 ≤ length rest
+    → is_word (get_or rest 0 d).now comma ≡ true → SoFar whole said rest → whole ≡ None
 at_comma whole said rest d two p so_far = refused whole said rest so_far (none_at_comma rest d two p)
 
 -- no comma stands between two words
@@ -76,25 +81,29 @@ pub at_words : (whole : Option (List (List ℕ))) (said : List (List ℕ)) (rest
     → is_word (get_or rest 0 d).now comma ≡ false → is_word (get_or rest 1 d).now comma ≡ false → SoFar whole said rest → whole ≡ None
 at_words whole said rest d two p q so_far = refused whole said rest so_far (none_at_words rest d two p q)
 
-last_one : (rest : List Text) (d : Text) → 1 ≤ length rest → length rest < 2 → is_word (get_or rest 0 d).now comma ≡ false → operands_after (texts rest) ≡ Some ((get_or rest 0 d).now ∷ [])
+last_one : (rest : List Text) (d : Text) → 1 ≤ length rest → length rest < 2 → is_word (get_or rest 0 d).now comma ≡ false
+    → operands_after (texts rest) ≡ Some ((get_or rest 0 d).now ∷ [])
 unfolding operands_after
 last_one [] d some below p = absurd (omega arith)
 last_one (w ∷ []) d some below p = rw p refl
 last_one (w ∷ n ∷ rest) d some below p = absurd (omega arith)
 
 -- the last word
-pub at_last : (whole : Option (List (List ℕ))) (said : List (List ℕ)) (rest : List Text) (d : Text) → 1 ≤ length rest → length rest < 2 → is_word (get_or rest 0 d).now comma ≡ false
+pub at_last : (whole : Option (List (List ℕ))) (said : List (List ℕ)) (rest : List Text) (d : Text) → 1 ≤ length rest → length rest < 2
+    → is_word (get_or rest 0 d).now comma ≡ false
     → SoFar whole said rest → whole ≡ Some (said ++ (get_or rest 0 d).now ∷ [])
 at_last whole said rest d some below p so_far = so_far ∙ ap (λ (o : Option (List (List ℕ))). option_map (λ more. said ++ more) o) (last_one rest d some below p)
 
-none_after_comma : (rest : List Text) (d : Text) → 1 ≤ length rest → length rest < 2 → is_word (get_or rest 0 d).now comma ≡ true → operands_after (texts rest) ≡ None
+none_after_comma : (rest : List Text) (d : Text) → 1 ≤ length rest → length rest < 2 → is_word (get_or rest 0 d).now comma ≡ true
+    → operands_after (texts rest) ≡ None
 unfolding operands_after
 none_after_comma [] d some below p = absurd (omega arith)
 none_after_comma (w ∷ []) d some below p = rw p refl
 none_after_comma (w ∷ n ∷ rest) d some below p = absurd (omega arith)
 
 -- the last word is a comma
-pub at_last_comma : (whole : Option (List (List ℕ))) (said : List (List ℕ)) (rest : List Text) (d : Text) → 1 ≤ length rest → length rest < 2 → is_word (get_or rest 0 d).now comma ≡ true
+pub at_last_comma : (whole : Option (List (List ℕ))) (said : List (List ℕ)) (rest : List Text) (d : Text) → 1 ≤ length rest → length rest < 2
+    → is_word (get_or rest 0 d).now comma ≡ true
     → SoFar whole said rest → whole ≡ None
 at_last_comma whole said rest d some below p so_far = refused whole said rest so_far (none_after_comma rest d some below p)
 
@@ -116,7 +125,8 @@ all_registers words = all_of register_of (texts words)
 abbrev pub InPlaces : List Text → ℕ → List ℕ → Type 0
 InPlaces words i places = all_registers words ≡ option_map (λ more. take i places ++ more) (all_registers (drop i words))
 
-at_word : (words : List Text) (i : ℕ) (d : Text) → i < length words → all_registers (drop i words) ≡ onto_all (register_of (get_or words i d).now) (all_registers (drop (i + 1) words))
+at_word : (words : List Text) (i : ℕ) (d : Text) → i < length words
+    → all_registers (drop i words) ≡ onto_all (register_of (get_or words i d).now) (all_registers (drop (i + 1) words))
 unfolding all_of
 at_word words i d within = at_drop_more all_registers words i d within
 
@@ -124,39 +134,46 @@ onto_none : (o : Option (List ℕ)) → onto_all None o ≡ None
 onto_none None = refl
 onto_none (Some x) = refl
 
-onto_front : (front : List ℕ) (r : ℕ) (o : Option (List ℕ)) → option_map (λ more. front ++ more) (onto_all (Some r) o) ≡ option_map (λ more. (front ++ r ∷ []) ++ more) o
+onto_front : (front : List ℕ) (r : ℕ) (o : Option (List ℕ))
+    → option_map (λ more. front ++ more) (onto_all (Some r) o) ≡ option_map (λ more. (front ++ r ∷ []) ++ more) o
 onto_front front r None = refl
 onto_front front r (Some more) = ap Some (sym (append_assoc front (r ∷ []) more))
 
-pub next_register : (words : List Text) (i : ℕ) (d : Text) (places : List ℕ) (r : ℕ) → i < length words → i < length places → Some r ≡ register_of (get_or words i d).now
+pub next_register : (words : List Text) (i : ℕ) (d : Text) (places : List ℕ) (r : ℕ) → i < length words → i < length places
+    → Some r ≡ register_of (get_or words i d).now
     → InPlaces words i places → InPlaces words (i + 1) (set places i r)
 next_register words i d places r within inside e so_far =
     let next : suc i ≡ i + 1 = omega arith in
     let front : take i places ++ r ∷ [] ≡ take (i + 1) (set places i r) = sym (take-suc-set places i r inside) ∙ ap (λ (n : ℕ). take n (set places i r)) next in
     so_far
-    ∙ ap (λ (o : Option (List ℕ)). option_map (λ more. take i places ++ more) o) (at_word words i d within ∙ ap (λ (o : Option ℕ). onto_all o (all_registers (drop (i + 1) words))) (sym e))
+    ∙ ap (λ (o : Option (List ℕ)). option_map (λ more. take i places ++ more) o)
+    (at_word words i d within ∙ ap (λ (o : Option ℕ). onto_all o (all_registers (drop (i + 1) words))) (sym e))
     ∙ onto_front (take i places) r (all_registers (drop (i + 1) words))
     ∙ ap (λ (x : List ℕ). option_map (λ more. x ++ more) (all_registers (drop (i + 1) words))) front
 
-pub no_register : (words : List Text) (i : ℕ) (d : Text) (places : List ℕ) → i < length words → None ≡ register_of (get_or words i d).now → InPlaces words i places → all_registers words ≡ None
+pub no_register : (words : List Text) (i : ℕ) (d : Text) (places : List ℕ) → i < length words → None ≡ register_of (get_or words i d).now
+    → InPlaces words i places → all_registers words ≡ None
 no_register words i d places within e so_far =
     so_far
     ∙ ap (λ (o : Option (List ℕ)). option_map (λ more. take i places ++ more) o)
     (at_word words i d within ∙ ap (λ (o : Option ℕ). onto_all o (all_registers (drop (i + 1) words))) (sym e) ∙ onto_none (all_registers (drop (i + 1) words)))
 
-pub last_register : (words : List Text) (i : ℕ) (places start : List ℕ) → length words ≤ i → i ≤ length places → drop i places ≡ drop i start → InPlaces words i places
+pub last_register : (words : List Text) (i : ℕ) (places start : List ℕ) → length words ≤ i → i ≤ length places → drop i places ≡ drop i start
+    → InPlaces words i places
     → Some places ≡ option_map (λ registers. registers ++ drop (length registers) start) (all_registers words)
 unfolding all_of
 last_register words i places start all inside untouched so_far =
     let front : take i places ++ [] ≡ take i places = append-nil (take i places) in
     let count : length (take i places) ≡ i = omega (arith, length-take i places) in
-    let whole : all_registers words ≡ Some (take i places) = so_far ∙ ap (λ (o : Option (List ℕ)). option_map (λ more. take i places ++ more) o) (at_drop_all all_registers words i all) ∙ ap Some front in
+    let whole : all_registers words ≡ Some (take i places) =
+    so_far ∙ ap (λ (o : Option (List ℕ)). option_map (λ more. take i places ++ more) o) (at_drop_all all_registers words i all) ∙ ap Some front in
     ap Some (sym (take-append-drop i places) ∙ ap (λ (x : List ℕ). take i places ++ x) untouched ∙ ap (λ (n : ℕ). take i places ++ drop n start) (sym count))
     ∙ ap (λ (o : Option (List ℕ)). option_map (λ registers. registers ++ drop (length registers) start) o) (sym whole)
 
 -- ---- the bytes of a list of handles
 
-counted : (o : Option ℕ) (p : Option (List ℕ)) (registers : List ℕ) (n : ℕ) → onto_all o p ≡ Some registers → ((more : List ℕ) → p ≡ Some more → length more ≡ n) → length registers ≡ suc n
+counted : (o : Option ℕ) (p : Option (List ℕ)) (registers : List ℕ) (n : ℕ) → onto_all o p ≡ Some registers
+    → ((more : List ℕ) → p ≡ Some more → length more ≡ n) → length registers ≡ suc n
 counted None None registers n e h = absurd (cc)
 counted None (Some more) registers n e h = absurd (cc)
 counted (Some r) None registers n e h = absurd (cc)
@@ -195,20 +212,23 @@ unfolding tail_of
 no_handles words f e = none_before f (all_registers words) e
 
 placed : (o : Option (List ℕ)) (places : List ℕ) → ((registers : List ℕ) → o ≡ Some registers → length registers ≤ 8)
-    → Some places ≡ option_map (λ registers. registers ++ drop (length registers) (replicate 8 255)) o → Some (record { bytes = places; label = None }) ≡ handles_tail o
+    → Some places ≡ option_map (λ registers. registers ++ drop (length registers) (replicate 8 255)) o
+    → Some (record { bytes = places; label = None }) ≡ handles_tail o
 placed None places h e = absurd (cc)
 placed (Some registers) places h e =
     let few : length registers ≤ 8 = h registers refl in
     let test : leb (length registers) 8 ≡ true = grind (arith, nat_tests) in
     let same : places ≡ registers ++ drop (length registers) (replicate 8 255) = cc in
-    let whole : places ≡ registers ++ replicate (8 - length registers) 255 = same ∙ ap (λ (x : List ℕ). registers ++ x) (drop-replicate (length registers) 8 255) in
+    let whole : places ≡ registers ++ replicate (8 - length registers) 255 =
+    same ∙ ap (λ (x : List ℕ). registers ++ x) (drop-replicate (length registers) 8 255) in
     rw (test, whole) refl
 
 pub handles_placed : (words : List Text) (places : List ℕ) → length words ≤ 8
     → Some places ≡ option_map (λ registers. registers ++ drop (length registers) (replicate 8 255)) (all_registers words)
     → Some (record { bytes = places; label = None }) ≡ tail_of ending.Handles (texts words)
 unfolding tail_of
-handles_placed words places few e = placed (all_registers words) places (λ registers q. let n : length registers ≡ length words = count_of words registers q in omega arith) e
+handles_placed words places few e =
+    placed (all_registers words) places (λ registers q. let n : length registers ≡ length words = count_of words registers q in omega arith) e
 
 -- ---- the whole instruction
 
@@ -228,7 +248,8 @@ pub assembled : (opcode count : ℕ) (kind : Ending) (operands front back : List
     → front ≡ take count operands → back ≡ drop count operands → length front ≡ count → count ≤ 7
     → Some places ≡ option_map (λ registers. registers ++ drop (length registers) (replicate 7 0)) (all_registers front) → Some t ≡ tail_of kind (texts back)
     → bytes ≡ opcode ∷ (places ++ t.bytes)
-    → Some (record { bytes = bytes; label = t.label }) ≡ source_with opcode (registers_of count (take count (texts operands))) (tail_of kind (drop count (texts operands)))
+    → Some (record { bytes = bytes; label = t.label })
+    ≡ source_with opcode (registers_of count (take count (texts operands))) (tail_of kind (drop count (texts operands)))
 assembled opcode count kind operands front back places t bytes f b len few p q whole =
     let first : take count (texts operands) ≡ texts front = take-map _ count operands ∙ ap texts (sym f) in
     let rest : drop count (texts operands) ≡ texts back = drop-map _ count operands ∙ ap texts (sym b) in

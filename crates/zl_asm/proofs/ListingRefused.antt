@@ -1,5 +1,9 @@
 -- Lines that give no fields of an image, whatever lines follow.
-use Rattle.zl_asm.proofs.Common.{append-nil, ◌≡◌, ℕ, ◌+◌, ◌≤◌, ◌<◌, Bool, true, false, ◌&&◌, ◌||◌, not, cond, leb, List, [], ◌∷◌, ◌++◌, length, Option, Some, None, is_some, refl, sym, ap, ◌∙◌, true≢false, arith, flat_map, list_any, list_all, flat_map-append, list_all-append, needs_named, instr_fault, lt-leb, Line, Blank, Declares, Label, Code, Source, all_of, onto_all, if_fits, Listing, mark_in, memory_in, budget_in, need_in, start_in, slots_in, source_in, given, declares, is_body, directives_first, labels_from, position_of, names_once, resolved, is_listing, listing_with, listing_from}
+use Rattle.zl_asm.proofs.Common.{append-nil, ◌≡◌, ℕ, ◌+◌, ◌≤◌, ◌<◌, Bool, true, false, ◌&&◌, ◌||◌, not, cond, leb, List, [], ◌∷◌, ◌++◌, length, Option, Some}
+use Rattle.zl_asm.proofs.Common.{None, is_some, refl, sym, ap, ◌∙◌, true≢false, arith, flat_map, list_any, list_all, flat_map-append, list_all-append}
+use Rattle.zl_asm.proofs.Common.{needs_named, instr_fault, lt-leb, Line, Blank, Declares, Label, Code, Source, all_of, onto_all, if_fits, Listing, mark_in}
+use Rattle.zl_asm.proofs.Common.{memory_in, budget_in, need_in, start_in, slots_in, source_in, given, declares, is_body, directives_first, labels_from}
+use Rattle.zl_asm.proofs.Common.{position_of, names_once, resolved, is_listing, listing_with, listing_from}
 use Rattle.zl_code.proofs.Common.{length-append}
 use Rattle.zl_asm.specs.declared.directive.Directive.{Directive}
 use Rattle.zl_asm.specs.declared.directive.Directive.TheVariants as directive
@@ -17,7 +21,8 @@ all_of-none f (w ∷ xs) ys x e = rw (all_of-none f xs ys x e) (by (f w))
     by (Some z) = refl
 
 -- what onto_all made
-pub onto_all-some : {Y : Type 0} (o : Option Y) (os : Option (List Y)) (zs : List Y) → onto_all o os ≡ Some zs → (y : Y) × (ys : List Y) × (o ≡ Some y) × (os ≡ Some ys) × (zs ≡ y ∷ ys)
+pub onto_all-some : {Y : Type 0} (o : Option Y) (os : Option (List Y)) (zs : List Y) → onto_all o os ≡ Some zs
+    → (y : Y) × (ys : List Y) × (o ≡ Some y) × (os ≡ Some ys) × (zs ≡ y ∷ ys)
 onto_all-some (Some y) (Some ys) zs e = (y, ys, refl, refl, cc)
 onto_all-some (Some y) None zs e = cc
 onto_all-some None os zs e = cc
@@ -31,7 +36,8 @@ all_of-length f (x ∷ xs) zs e =
     let whole = ap length made.4 in
     omega arith
 
-pub all_of-more : {X Y : Type 0} (f : X → Option Y) (xs : List X) (zs : List Y) (x : X) (z : Y) → all_of f xs ≡ Some zs → f x ≡ Some z → all_of f (xs ++ x ∷ []) ≡ Some (zs ++ z ∷ [])
+pub all_of-more : {X Y : Type 0} (f : X → Option Y) (xs : List X) (zs : List Y) (x : X) (z : Y) → all_of f xs ≡ Some zs → f x ≡ Some z
+    → all_of f (xs ++ x ∷ []) ≡ Some (zs ++ z ∷ [])
 unfolding all_of
 all_of-more f [] zs x z e here = let none : zs ≡ [] = cc in rw (here, none) refl
 all_of-more f (w ∷ xs) zs x z e here =
@@ -41,7 +47,8 @@ all_of-more f (w ∷ xs) zs x z e here =
     ∙ ap (λ (l : List _). Some (l ++ z ∷ [])) (sym made.4)
 
 -- a value that doesn't pass is among the values
-pub all_of-fault : {X Y : Type 0} (f : X → Option Y) (test : Y → Bool) (xs ys : List X) (zs : List Y) (x : X) (z : Y) → all_of f (xs ++ x ∷ ys) ≡ Some zs → f x ≡ Some z → test z ≡ false → list_all test zs ≡ false
+pub all_of-fault : {X Y : Type 0} (f : X → Option Y) (test : Y → Bool) (xs ys : List X) (zs : List Y) (x : X) (z : Y) → all_of f (xs ++ x ∷ ys) ≡ Some zs
+    → f x ≡ Some z → test z ≡ false → list_all test zs ≡ false
 unfolding all_of
 all_of-fault f test [] ys zs x z e here fails =
     let made = onto_all-some (f x) (all_of f ys) zs e in
@@ -90,16 +97,19 @@ listing_of_fields lines raw memory budget code = record {
 
 -- where no fields that the lines give are in their ranges
 pub none_by_fields : (lines : List Line)
-    → ((raw : Bool) (memory budget : ℕ) (code : List (List ℕ)) → given (flat_map mark_in lines) false ≡ Some raw → given (flat_map memory_in lines) 0 ≡ Some memory → given (flat_map budget_in lines) 1 ≡ Some budget
+    → ((raw : Bool) (memory budget : ℕ) (code : List (List ℕ)) → given (flat_map mark_in lines) false ≡ Some raw
+    → given (flat_map memory_in lines) 0 ≡ Some memory → given (flat_map budget_in lines) 1 ≡ Some budget
     → all_of (resolved (labels_from 0 lines)) (flat_map source_in lines) ≡ Some code → is_listing (listing_of_fields lines raw memory budget code) ≡ false)
     → listing_from lines ≡ None
 unfolding listing_from
 none_by_fields lines fails =
     unless (directives_first lines && names_once (labels_from 0 lines)) _
-    (by (given (flat_map mark_in lines) false) (given (flat_map memory_in lines) 0) (given (flat_map budget_in lines) 1) (all_of (resolved (labels_from 0 lines)) (flat_map source_in lines)) fails)
+    (by (given (flat_map mark_in lines) false) (given (flat_map memory_in lines) 0) (given (flat_map budget_in lines) 1)
+    (all_of (resolved (labels_from 0 lines)) (flat_map source_in lines)) fails)
   where
     by : (m : Option Bool) (n b : Option ℕ) (c : Option (List (List ℕ)))
-        → ((raw : Bool) (memory budget : ℕ) (code : List (List ℕ)) → m ≡ Some raw → n ≡ Some memory → b ≡ Some budget → c ≡ Some code → is_listing (listing_of_fields lines raw memory budget code) ≡ false)
+        → ((raw : Bool) (memory budget : ℕ) (code : List (List ℕ)) → m ≡ Some raw → n ≡ Some memory → b ≡ Some budget → c ≡ Some code
+        → is_listing (listing_of_fields lines raw memory budget code) ≡ false)
         → if_fits is_listing (listing_with lines m n b c) ≡ None
     by (Some raw) (Some memory) (Some budget) (Some code) h = rw (h raw memory budget code refl refl refl refl) refl
     by (Some raw) (Some memory) (Some budget) None h = refl
@@ -110,7 +120,8 @@ none_by_fields lines fails =
 -- ---- directives behind others
 
 -- a second value of a field that is given once
-pub given-twice : {X : Type 0} (f : Line → List X) (said rest : List Line) (line : Line) (x y usual : X) → flat_map f said ≡ x ∷ [] → f line ≡ y ∷ [] → given (flat_map f (said ++ line ∷ rest)) usual ≡ None
+pub given-twice : {X : Type 0} (f : Line → List X) (said rest : List Line) (line : Line) (x y usual : X) → flat_map f said ≡ x ∷ [] → f line ≡ y ∷ []
+    → given (flat_map f (said ++ line ∷ rest)) usual ≡ None
 given-twice f said rest line x y usual one two = rw (flat_map-append f said (line ∷ rest), one, two) refl
 
 behind_body : (said rest : List Line) (d : Directive) → list_any is_body said ≡ true → directives_first (said ++ Declares d ∷ rest) ≡ false
@@ -118,7 +129,8 @@ unfolding directives_first
 behind_body [] rest d e = absurd (true≢false (sym e))
 behind_body (line ∷ said) rest d e = by (is_body line) (behind_body said rest d) e
   where
-    by : (b : Bool) → (list_any is_body said ≡ true → directives_first (said ++ Declares d ∷ rest) ≡ false) → (b || list_any is_body said) ≡ true → cond b (list_all (λ l. not (declares l)) (said ++ Declares d ∷ rest)) (directives_first (said ++ Declares d ∷ rest)) ≡ false
+    by : (b : Bool) → (list_any is_body said ≡ true → directives_first (said ++ Declares d ∷ rest) ≡ false) → (b || list_any is_body said) ≡ true
+        → cond b (list_all (λ l. not (declares l)) (said ++ Declares d ∷ rest)) (directives_first (said ++ Declares d ∷ rest)) ≡ false
     by true more h = list_all-append (λ l. not (declares l)) said (Declares d ∷ rest) ∙ and_false _
     by false more h = more h
 
@@ -126,27 +138,36 @@ pub refused_behind : (said rest : List Line) (d : Directive) → list_any is_bod
 refused_behind said rest d e = none_by_order _ (behind_body said rest d e)
 
 pub refused_mark : (said rest : List Line) → flat_map mark_in said ≡ true ∷ [] → listing_from (said ++ Declares directive.Raw ∷ rest) ≡ None
-refused_mark said rest e = none_by_fields _ (λ raw memory budget code m n b c. let none = given-twice mark_in said rest (Declares directive.Raw) true true false e refl in cc)
+refused_mark said rest e =
+    none_by_fields _ (λ raw memory budget code m n b c. let none = given-twice mark_in said rest (Declares directive.Raw) true true false e refl in cc)
 
-pub refused_memory : (said rest : List Line) (old new : ℕ) → flat_map memory_in said ≡ old ∷ [] → listing_from (said ++ Declares (directive.Memory new) ∷ rest) ≡ None
-refused_memory said rest old new e = none_by_fields _ (λ raw memory budget code m n b c. let none = given-twice memory_in said rest (Declares (directive.Memory new)) old new 0 e refl in cc)
+pub refused_memory : (said rest : List Line) (old new : ℕ) → flat_map memory_in said ≡ old ∷ []
+    → listing_from (said ++ Declares (directive.Memory new) ∷ rest) ≡ None
+refused_memory said rest old new e =
+    none_by_fields _ (λ raw memory budget code m n b c. let none = given-twice memory_in said rest (Declares (directive.Memory new)) old new 0 e refl in cc)
 
-pub refused_budget : (said rest : List Line) (old new : ℕ) → flat_map budget_in said ≡ old ∷ [] → listing_from (said ++ Declares (directive.Budget new) ∷ rest) ≡ None
-refused_budget said rest old new e = none_by_fields _ (λ raw memory budget code m n b c. let none = given-twice budget_in said rest (Declares (directive.Budget new)) old new 1 e refl in cc)
+pub refused_budget : (said rest : List Line) (old new : ℕ) → flat_map budget_in said ≡ old ∷ []
+    → listing_from (said ++ Declares (directive.Budget new) ∷ rest) ≡ None
+refused_budget said rest old new e =
+    none_by_fields _ (λ raw memory budget code m n b c. let none = given-twice budget_in said rest (Declares (directive.Budget new)) old new 1 e refl in cc)
 
 -- ---- a label twice
 
-labels_with : (said rest : List Line) (name : List ℕ) → labels_from 0 (said ++ Label name ∷ rest) ≡ labels_from 0 said ++ (name, 0 + length (flat_map source_in said)) ∷ labels_from (0 + length (flat_map source_in said)) rest
+labels_with : (said rest : List Line) (name : List ℕ) → labels_from 0 (said ++ Label name ∷ rest)
+    ≡ labels_from 0 said ++ (name, 0 + length (flat_map source_in said)) ∷ labels_from (0 + length (flat_map source_in said)) rest
 unfolding labels_from
 labels_with said rest name = labels_from-append 0 said (Label name ∷ rest)
 
-pub refused_label : (said rest : List Line) (name : List ℕ) → is_some (position_of (labels_from 0 said) name) ≡ true → listing_from (said ++ Label name ∷ rest) ≡ None
+pub refused_label : (said rest : List Line) (name : List ℕ) → is_some (position_of (labels_from 0 said) name) ≡ true
+    → listing_from (said ++ Label name ∷ rest) ≡ None
 refused_label said rest name e =
-    none_by_names _ (ap names_once (labels_with said rest name) ∙ not-once (labels_from 0 said) (labels_from (0 + length (flat_map source_in said)) rest) (name, 0 + length (flat_map source_in said)) e)
+    none_by_names _ (ap names_once (labels_with said rest name)
+    ∙ not-once (labels_from 0 said) (labels_from (0 + length (flat_map source_in said)) rest) (name, 0 + length (flat_map source_in said)) e)
 
 -- ---- more than an image holds
 
-length-more : {X : Type 0} (f : Line → List X) (said rest : List Line) (line : Line) (x : X) → f line ≡ x ∷ [] → length (flat_map f said) < length (flat_map f (said ++ line ∷ rest))
+length-more : {X : Type 0} (f : Line → List X) (said rest : List Line) (line : Line) (x : X) → f line ≡ x ∷ []
+    → length (flat_map f said) < length (flat_map f (said ++ line ∷ rest))
 length-more f said rest line x e =
     let both = ap length (flat_map-append f said (line ∷ rest) ∙ ap (λ (l : List _). flat_map f said ++ (l ++ flat_map f rest)) e) in
     let sum = length-append (flat_map f said) (x ∷ flat_map f rest) in
@@ -190,13 +211,17 @@ unfolding directives_first
 behind_code [] rest s e = e
 behind_code (line ∷ said) rest s e = by (is_body line) (behind_code said rest s) e
   where
-    by : (b : Bool) → (directives_first (said ++ Code s ∷ rest) ≡ true → list_all (λ l. not (declares l)) rest ≡ true) → cond b (list_all (λ l. not (declares l)) (said ++ Code s ∷ rest)) (directives_first (said ++ Code s ∷ rest)) ≡ true → list_all (λ l. not (declares l)) rest ≡ true
+    by : (b : Bool) → (directives_first (said ++ Code s ∷ rest) ≡ true → list_all (λ l. not (declares l)) rest ≡ true)
+        → cond b (list_all (λ l. not (declares l)) (said ++ Code s ∷ rest)) (directives_first (said ++ Code s ∷ rest)) ≡ true
+        → list_all (λ l. not (declares l)) rest ≡ true
     by true more h = (both_false _ _ (sym (list_all-append (λ l. not (declares l)) said (Code s ∷ rest)) ∙ h)).1
     by false more h = more h
 
 -- the marks stay
-same_marks : (said rest : List Line) (s : Source) → directives_first (said ++ Code s ∷ rest) ≡ true → flat_map mark_in (said ++ Code s ∷ rest) ≡ flat_map mark_in said
-same_marks said rest s e = flat_map-append mark_in said (Code s ∷ rest) ∙ ap (λ (l : List Bool). flat_map mark_in said ++ l) (no_marks rest (behind_code said rest s e)) ∙ append-nil _
+same_marks : (said rest : List Line) (s : Source) → directives_first (said ++ Code s ∷ rest) ≡ true
+    → flat_map mark_in (said ++ Code s ∷ rest) ≡ flat_map mark_in said
+same_marks said rest s e =
+    flat_map-append mark_in said (Code s ∷ rest) ∙ ap (λ (l : List Bool). flat_map mark_in said ++ l) (no_marks rest (behind_code said rest s e)) ∙ append-nil _
 
 pub and_false-3 : (a b c : Bool) → (a && (b && (c && false))) ≡ false
 and_false-3 true b c = and_false-2 b c
@@ -207,18 +232,22 @@ not_fine true e = refl
 not_fine false e = absurd (true≢false (sym e))
 
 -- an instruction without a label, with a fault
-pub refused_fault : (said rest : List Line) (s : Source) (raw : Bool) → s.label ≡ None → given (flat_map mark_in said) false ≡ Some raw → is_some (instr_fault raw s.bytes) ≡ true → listing_from (said ++ Code s ∷ rest) ≡ None
+pub refused_fault : (said rest : List Line) (s : Source) (raw : Bool) → s.label ≡ None → given (flat_map mark_in said) false ≡ Some raw
+    → is_some (instr_fault raw s.bytes) ≡ true → listing_from (said ++ Code s ∷ rest) ≡ None
 refused_fault said rest s raw label mark fault = by (directives_first (said ++ Code s ∷ rest)) refl
   where
     by : (b : Bool) → directives_first (said ++ Code s ∷ rest) ≡ b → listing_from (said ++ Code s ∷ rest) ≡ None
     by false e = none_by_order _ e
     by true e = none_by_fields _ (λ r memory budget code m n b c.
-        let marks : given (flat_map mark_in (said ++ Code s ∷ rest)) false ≡ given (flat_map mark_in said) false = ap (λ (l : List Bool). given l false) (same_marks said rest s e) in
+        let marks : given (flat_map mark_in (said ++ Code s ∷ rest)) false ≡ given (flat_map mark_in said) false =
+        ap (λ (l : List Bool). given l false) (same_marks said rest s e) in
         let same : r ≡ raw = cc in
         let here : resolved (labels_from 0 (said ++ Code s ∷ rest)) s ≡ Some s.bytes = rw label refl in
         let bad : not (is_some (instr_fault r s.bytes)) ≡ false = rw same (not_fine _ fault) in
         let split = flat_map-append source_in said (Code s ∷ rest) in
         let fails : list_all (λ bytes. not (is_some (instr_fault r bytes))) code ≡ false =
-        all_of-fault (resolved (labels_from 0 (said ++ Code s ∷ rest))) (λ bytes. not (is_some (instr_fault r bytes))) (flat_map source_in said) (flat_map source_in rest) code s s.bytes
+        all_of-fault (resolved (labels_from 0 (said ++ Code s ∷ rest))) (λ bytes. not (is_some (instr_fault r bytes))) (flat_map source_in said)
+        (flat_map source_in rest) code s s.bytes
         (ap (all_of (resolved (labels_from 0 (said ++ Code s ∷ rest)))) (sym split) ∙ c) here bad in
-        rw fails (and_false-3 (leb (length (flat_map start_in (said ++ Code s ∷ rest))) 7) (leb (length (flat_map slots_in (said ++ Code s ∷ rest))) 8) (leb (length code) 4096)))
+        rw fails (and_false-3 (leb (length (flat_map start_in (said ++ Code s ∷ rest))) 7) (leb (length (flat_map slots_in (said ++ Code s ∷ rest))) 8)
+        (leb (length code) 4096)))

@@ -1,5 +1,9 @@
 -- The lines of a whole text.
-use Rattle.zl_asm.proofs.Common.{◌≡◌, ℕ, ◌+◌, ◌<◌, Bool, true, false, ◌&&◌, cond, ltb, eqb, List, [], ◌∷◌, ◌++◌, length, take, drop, get_or, Option, Some, None, Result, Ok, Err, ◌⊎◌, refl, sym, ap, ◌∙◌, arith, inl, inr, IsTrue, IfOk, IfErr, list_all, eqb-true, at_drop_more, Image, is_in_range, MatchResult, lines_of, words_of, is_ascii, Line, line_of, all_of, onto_all, then_with, listing_from, lines_said, listing_of, Denotes, fields_of, Held, IsHeldOf, Reads, Stops, ReadsAll, Gives, GivesNone, line_said, enumerate_from, onto_first}
+use Rattle.zl_asm.proofs.Common.{◌≡◌, ℕ, ◌+◌, ◌<◌, Bool, true, false, ◌&&◌, cond, ltb, eqb, List, [], ◌∷◌, ◌++◌, length, take, drop, get_or, Option, Some, None}
+use Rattle.zl_asm.proofs.Common.{Result, Ok, Err, ◌⊎◌, refl, sym, ap, ◌∙◌, arith, inl, inr, IsTrue, IfOk, IfErr, list_all, eqb-true, at_drop_more, Image}
+use Rattle.zl_asm.proofs.Common.{is_in_range, MatchResult, lines_of, words_of, is_ascii, Line, line_of, all_of, onto_all, then_with, listing_from, lines_said}
+use Rattle.zl_asm.proofs.Common.{listing_of, Denotes, fields_of, Held, IsHeldOf, Reads, Stops, ReadsAll, Gives, GivesNone, line_said, enumerate_from}
+use Rattle.zl_asm.proofs.Common.{onto_first}
 use Rattle.zl_code.proofs.Common.{take-append-drop}
 use Rattle.std.proofs.lemmas.List.FromFn.{length-enumerate_from, get_or-enumerate_from}
 use Rattle.zl_asm.specs.declared.fault.AsmFault.{AsmFault}
@@ -26,7 +30,8 @@ lines_ascii : (text : List ℕ) → list_all is_ascii (lines_of text) ≡ is_asc
 lines_ascii [] = refl
 lines_ascii (x ∷ xs) = by (eqb x 10) refl (lines_ascii xs)
   where
-    by : (b : Bool) → eqb x 10 ≡ b → list_all is_ascii (lines_of xs) ≡ is_ascii xs → list_all is_ascii (cond b ([] ∷ lines_of xs) (onto_first x (lines_of xs))) ≡ (ltb x 128 && is_ascii xs)
+    by : (b : Bool) → eqb x 10 ≡ b → list_all is_ascii (lines_of xs) ≡ is_ascii xs
+        → list_all is_ascii (cond b ([] ∷ lines_of xs) (onto_first x (lines_of xs))) ≡ (ltb x 128 && is_ascii xs)
     by true e rest = rest ∙ sym (ap (λ (n : ℕ). ltb n 128 && is_ascii xs) (eqb-true x 10 e))
     by false e rest = first_ascii x (lines_of xs) ∙ ap (λ (b : Bool). ltb x 128 && b) rest
 
@@ -39,15 +44,18 @@ joined false b o os = refl
 each_said : (ls : List (List ℕ)) → all_of line_said ls ≡ cond (list_all is_ascii ls) (all_of (λ line. line_of (words_of line)) ls) None
 unfolding all_of
 each_said [] = refl
-each_said (l ∷ ls) = ap (onto_all (line_said l)) (each_said ls) ∙ joined (is_ascii l) (list_all is_ascii ls) (line_of (words_of l)) (all_of (λ line. line_of (words_of line)) ls)
+each_said (l ∷ ls) =
+    ap (onto_all (line_said l)) (each_said ls) ∙ joined (is_ascii l) (list_all is_ascii ls) (line_of (words_of l)) (all_of (λ line. line_of (words_of line)) ls)
 
 -- what each line of the text says
 pub text_said : (text : List ℕ) → lines_said text ≡ all_of line_said (lines_of text)
-text_said text = ap (λ (b : Bool). cond b (all_of (λ line. line_of (words_of line)) (lines_of text)) None) (sym (lines_ascii text)) ∙ sym (each_said (lines_of text))
+text_said text =
+    ap (λ (b : Bool). cond b (all_of (λ line. line_of (words_of line)) (lines_of text)) None) (sym (lines_ascii text)) ∙ sym (each_said (lines_of text))
 
 -- ---- the next line
 
-all_of-split : {X Y : Type 0} (f : X → Option Y) (xs ys : List X) (x : X) (before whole : List Y) (y : Y) → all_of f xs ≡ Some before → f x ≡ Some y → all_of f (xs ++ x ∷ ys) ≡ Some whole → (rest : List Y) × (whole ≡ before ++ y ∷ rest)
+all_of-split : {X Y : Type 0} (f : X → Option Y) (xs ys : List X) (x : X) (before whole : List Y) (y : Y) → all_of f xs ≡ Some before → f x ≡ Some y
+    → all_of f (xs ++ x ∷ ys) ≡ Some whole → (rest : List Y) × (whole ≡ before ++ y ∷ rest)
 unfolding all_of
 all_of-split f [] ys x before whole y front here e =
     let made = onto_all-some (f x) (all_of f ys) whole e in
@@ -76,9 +84,11 @@ pub so_far-all : (text : List ℕ) (h : Held) → SoFar (lines_of text) h → Re
 so_far-all text h s = (s.0, text_said text ∙ s.1, s.2)
 
 -- the text denotes no image, where the line behind these says nothing that can stand there
-pub stops_at : (text : List ℕ) (before rest : List (List ℕ)) (line : List ℕ) (h : Held) → lines_of text ≡ before ++ line ∷ rest → SoFar before h → Stops h line → listing_of text ≡ None
+pub stops_at : (text : List ℕ) (before rest : List (List ℕ)) (line : List ℕ) (h : Held) → lines_of text ≡ before ++ line ∷ rest → SoFar before h → Stops h line
+    → listing_of text ≡ None
 unfolding listing_of
-stops_at text before rest line h cut s (inl none) = ap (λ (o : Option (List Line)). then_with o listing_from) (text_said text ∙ ap (all_of line_said) cut ∙ all_of-none line_said before rest line none)
+stops_at text before rest line h cut s (inl none) =
+    ap (λ (o : Option (List Line)). then_with o listing_from) (text_said text ∙ ap (all_of line_said) cut ∙ all_of-none line_said before rest line none)
 stops_at text before rest line h cut s (inr r) = by (lines_said text) refl
   where
     by : (o : Option (List Line)) → lines_said text ≡ o → then_with o listing_from ≡ None
@@ -90,11 +100,13 @@ stops_at text before rest line h cut s (inr r) = by (lines_said text) refl
 -- ---- the lines that were numbered
 
 -- the lines before the one that is yielded next, and behind it
-pub cut_at : (lines : List (List ℕ)) (n index : ℕ) (line : List ℕ) → n < length (enumerate_from 0 lines) → ◌≡◌ {A = ℕ × List ℕ} (index, line) (get_or (enumerate_from 0 lines) n (index, line)) → lines ≡ take n lines ++ line ∷ drop (n + 1) lines
+pub cut_at : (lines : List (List ℕ)) (n index : ℕ) (line : List ℕ) → n < length (enumerate_from 0 lines)
+    → ◌≡◌ {A = ℕ × List ℕ} (index, line) (get_or (enumerate_from 0 lines) n (index, line)) → lines ≡ take n lines ++ line ∷ drop (n + 1) lines
 cut_at lines n index line below e =
     let within : n < length lines = omega (arith, length-enumerate_from 0 lines) in
     let same : line ≡ get_or lines n line = ap (λ (p : ℕ × List ℕ). p.1) (e ∙ get_or-enumerate_from 0 lines n (index, line) within) in
-    sym (take-append-drop n lines) ∙ at_drop_more (λ (l : List (List ℕ)). take n lines ++ l) lines n line within ∙ ap (λ (l : List ℕ). take n lines ++ l ∷ drop (n + 1) lines) (sym same)
+    sym (take-append-drop n lines) ∙ at_drop_more (λ (l : List (List ℕ)). take n lines ++ l) lines n line within
+    ∙ ap (λ (l : List ℕ). take n lines ++ l ∷ drop (n + 1) lines) (sym same)
 
 -- ---- the whole text
 
@@ -108,17 +120,20 @@ text_denotes_none text h s none = ap (λ (o : Option (List Line)). then_with o l
 
 -- ---- the answer
 
-pub found_by : {E : Type 0} (r : Result Image E) (text : List ℕ) (h : Held) → ReadsAll text h → IfOk r (λ i. Gives h i) → IfOk r (λ i. IsTrue (is_in_range i)) → IfOk r (λ i. Denotes text i)
+pub found_by : {E : Type 0} (r : Result Image E) (text : List ℕ) (h : Held) → ReadsAll text h → IfOk r (λ i. Gives h i) → IfOk r (λ i. IsTrue (is_in_range i))
+    → IfOk r (λ i. Denotes text i)
 found_by (Ok i) text h read gives in_range = text_denotes text h i read gives in_range
 found_by (Err e) text h read gives in_range = tt
 
-pub none_by : {A : Type 0} (r : Result A AsmFault) (text : List ℕ) (h : Held) → ReadsAll text h → IfErr r (λ fault. (fault.cause ≡ NoMemory) ⊎ GivesNone h) → IfErr r (λ fault. (fault.cause ≡ NoMemory) ⊎ (listing_of text ≡ None))
+pub none_by : {A : Type 0} (r : Result A AsmFault) (text : List ℕ) (h : Held) → ReadsAll text h → IfErr r (λ fault. (fault.cause ≡ NoMemory) ⊎ GivesNone h)
+    → IfErr r (λ fault. (fault.cause ≡ NoMemory) ⊎ (listing_of text ≡ None))
 none_by (Ok x) text h read none = tt
 none_by (Err fault) text h read (inl starved) = inl starved
 none_by (Err fault) text h read (inr none) = inr (text_denotes_none text h read none)
 
 -- an image that the text denotes is the one that was found
-pub only_by : (r : Result Image AsmFault) (text : List ℕ) → IfOk r (λ i. Denotes text i) → IfErr r (λ fault. (fault.cause ≡ NoMemory) ⊎ (listing_of text ≡ None)) → (i : Image) → Denotes text i
+pub only_by : (r : Result Image AsmFault) (text : List ℕ) → IfOk r (λ i. Denotes text i)
+    → IfErr r (λ fault. (fault.cause ≡ NoMemory) ⊎ (listing_of text ≡ None)) → (i : Image) → Denotes text i
     → MatchResult r (λ image. image ≡ i) (λ fault. fault.cause ≡ NoMemory)
 only_by (Ok image) text found none i d = one_image text image i found d
 only_by (Err fault) text found (inl starved) i d = starved

@@ -1,5 +1,6 @@
 -- The fields that a text gives are those of one image at most.
-use Rattle.zl_asm.proofs.Common.{◌≡◌, Bool, true, List, [], ◌∷◌, map, Option, Some, None, refl, sym, ap, ◌∙◌, list_all, and_parts, Image, instr_bytes, is_instr_in_range, ranges, Listing, fields_of, NoTextDenotesTwo}
+use Rattle.zl_asm.proofs.Common.{◌≡◌, Bool, true, List, [], ◌∷◌, map, Option, Some, None, refl, sym, ap, ◌∙◌, list_all, and_parts, Image, instr_bytes}
+use Rattle.zl_asm.proofs.Common.{is_instr_in_range, ranges, Listing, fields_of, NoTextDenotesTwo}
 use Rattle.zl_code.specs.declared.instr.Instr.{Instr}
 use Rattle.zl_code.proofs.ImageTable.{instr_fits, read_instr}
 

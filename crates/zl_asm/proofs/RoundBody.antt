@@ -1,5 +1,8 @@
 -- The lines of labels and instructions say those labels and instructions.
-use Rattle.zl_asm.proofs.Common.{◌≡◌, ℕ, suc, ◌+◌, ◌-◌, ◌^◌, ◌<◌, ◌≤◌, Bool, true, false, List, [], ◌∷◌, ◌++◌, length, codes, Option, Some, None, refl, ap, ◌∙◌, arith, if◌then◌else◌, slice_index, list_all, and_from, take_at, drop_at, list_all-append, Row, row_of, reading_of, is_word, words_of, is_name, Label, Code, label_of, line_of, label_text, is_target, hex_text, row_text, instr_text, operand_texts, code_lines_from, list_all-from_IsBytes}
+use Rattle.zl_asm.proofs.Common.{◌≡◌, ℕ, suc, ◌+◌, ◌-◌, ◌^◌, ◌<◌, ◌≤◌, Bool, true, false, List, [], ◌∷◌, ◌++◌, length, codes, Option, Some, None, refl, ap, ◌∙◌}
+use Rattle.zl_asm.proofs.Common.{arith, if◌then◌else◌, slice_index, list_all, and_from, take_at, drop_at, list_all-append, Row, row_of, reading_of, is_word}
+use Rattle.zl_asm.proofs.Common.{words_of, is_name, Label, Code, label_of, line_of, label_text, is_target, hex_text, row_text, instr_text, operand_texts}
+use Rattle.zl_asm.proofs.Common.{code_lines_from, list_all-from_IsBytes}
 use Rattle.std.proofs.lemmas.List.{length-append}
 use Rattle.zl_asm.proofs.RoundWords.{is_plain, is_plain_word, words_of-alone}
 use Rattle.zl_asm.proofs.RoundNumbers.{plain-label, is_name-label}
@@ -43,7 +46,8 @@ printed_instr count raw bytes h = by (row_of (slice_index bytes 0)) refl
         printed-append row.name _ (printed-plain row.name (row_fits (slice_index bytes 0) row here).plain)
         (printed-joined (operand_texts count row (reading_of bytes)) (plain_operands count row (reading_of bytes) (whole_of raw row bytes here h)))
 
-pub code_says : (raw : Bool) (code : List (List ℕ)) (n : ℕ) (rest : List (List ℕ)) → n + length rest ≤ 2 ^ 32 → AllInstr raw rest → Say (code_lines_from code n rest) (code_said_from code n rest)
+pub code_says : (raw : Bool) (code : List (List ℕ)) (n : ℕ) (rest : List (List ℕ)) → n + length rest ≤ 2 ^ 32 → AllInstr raw rest
+    → Say (code_lines_from code n rest) (code_said_from code n rest)
 unfolding code_lines_from code_said_from
 code_says raw code n [] le all = says_nothing
 code_says raw code n (bytes ∷ rest) le all =
@@ -51,9 +55,12 @@ code_says raw code n (bytes ∷ rest) le all =
     (says_line (instr_text (length code) bytes) (code_lines_from code (suc n) rest) (Code (source_said (length code) bytes)) (code_said_from code (suc n) rest)
     (printed_instr (length code) raw bytes all.0) (instr_said (length code) raw bytes all.0) (code_says raw code (suc n) rest (omega arith) all.1))
   where
-    by : (t : Bool) → Say (instr_text (length code) bytes ∷ code_lines_from code (suc n) rest) (Code (source_said (length code) bytes) ∷ code_said_from code (suc n) rest)
-        → Say ((if t then label_line n ∷ [] else []) ++ (instr_text (length code) bytes ∷ code_lines_from code (suc n) rest)) ((if t then Label (label_text n) ∷ [] else []) ++ (Code (source_said (length code) bytes) ∷ code_said_from code (suc n) rest))
+    by : (t : Bool)
+        → Say (instr_text (length code) bytes ∷ code_lines_from code (suc n) rest) (Code (source_said (length code) bytes) ∷ code_said_from code (suc n) rest)
+        → Say ((if t then label_line n ∷ [] else []) ++ (instr_text (length code) bytes ∷ code_lines_from code (suc n) rest))
+        ((if t then Label (label_text n) ∷ [] else []) ++ (Code (source_said (length code) bytes) ∷ code_said_from code (suc n) rest))
     by true h =
-        says_line (label_line n) (instr_text (length code) bytes ∷ code_lines_from code (suc n) rest) (Label (label_text n)) (Code (source_said (length code) bytes) ∷ code_said_from code (suc n) rest)
+        says_line (label_line n) (instr_text (length code) bytes ∷ code_lines_from code (suc n) rest) (Label (label_text n))
+        (Code (source_said (length code) bytes) ∷ code_said_from code (suc n) rest)
         (printed-plain (label_line n) (plain_label_line n (omega arith))) (label_said n (omega arith)) h
     by false h = h

@@ -1,5 +1,8 @@
 -- The lines of the directives of an image are read as its fields.
-use Rattle.zl_asm.proofs.Common.{◌≡◌, ℕ, ◌/◌, ◌%◌, ◌^◌, ◌<◌, ◌≤◌, Bool, true, false, ◌&&◌, ◌==◌, List, [], ◌∷◌, ◌++◌, map, codes, decimal, Option, Some, None, refl, ap, subst, ◌∙◌, nat_lt, nat_le, arith, bit_and, list_all, and_parts, leb-true, ltb-true, le-leb, eqb-true, condition_name, bits, within, is_start_in_range, is_slot_in_range, are_needs, needs_byte, rights_allowed, is_word, words_from, words_of, Declares, kind_of, directive_of, line_of, kind_text, needs_fit}
+use Rattle.zl_asm.proofs.Common.{◌≡◌, ℕ, ◌/◌, ◌%◌, ◌^◌, ◌<◌, ◌≤◌, Bool, true, false, ◌&&◌, ◌==◌, List, [], ◌∷◌, ◌++◌, map, codes, decimal, Option, Some, None}
+use Rattle.zl_asm.proofs.Common.{refl, ap, subst, ◌∙◌, nat_lt, nat_le, arith, bit_and, list_all, and_parts, leb-true, ltb-true, le-leb, eqb-true}
+use Rattle.zl_asm.proofs.Common.{condition_name, bits, within, is_start_in_range, is_slot_in_range, are_needs, needs_byte, rights_allowed, is_word, words_from}
+use Rattle.zl_asm.proofs.Common.{words_of, Declares, kind_of, directive_of, line_of, kind_text, needs_fit}
 use Rattle.std.proofs.lemmas.Nat.{and_le_l}
 use Rattle.zl_rights.specs.declared.kind.Kind.{Kind}
 use Rattle.zl_rights.specs.declared.kind.Kind.TheVariants as kind
@@ -18,7 +21,8 @@ use Rattle.zl_asm.proofs.RoundLines.{is_printed, printed-plain, printed-append, 
 two_words : (a b : List ℕ) → is_plain_word a ≡ true → is_plain_word b ≡ true → words_of (a ++ (codes " " ++ b)) ≡ a ∷ b ∷ []
 two_words a b p q = words_of-space a b p ∙ ap (λ (ws : List (List ℕ)). a ∷ ws) (words_of-alone b q)
 
-three_words : (a b c : List ℕ) → is_plain_word a ≡ true → is_plain_word b ≡ true → is_plain_word c ≡ true → words_of (a ++ (codes " " ++ (b ++ (codes " " ++ c)))) ≡ a ∷ b ∷ c ∷ []
+three_words : (a b c : List ℕ) → is_plain_word a ≡ true → is_plain_word b ≡ true → is_plain_word c ≡ true
+    → words_of (a ++ (codes " " ++ (b ++ (codes " " ++ c)))) ≡ a ∷ b ∷ c ∷ []
 three_words a b c p q r = words_of-space a (b ++ (codes " " ++ c)) p ∙ ap (λ (ws : List (List ℕ)). a ∷ ws) (two_words b c q r)
 
 four_words : (a b c d : List ℕ) → is_plain_word a ≡ true → is_plain_word b ≡ true → is_plain_word c ≡ true → is_plain_word d ≡ true
@@ -82,7 +86,8 @@ said_if : (t : Bool) (c : Condition) (cs : List Condition) → IsSaid c → AllS
 said_if true c cs h more = (h, more)
 said_if false c cs h more = more
 
-flags_said : (c e p q : Bool) → AllSaid (need_if c condition.NewChannel (need_if e condition.NewEvent (need_if p condition.NewPort (need_if q condition.NewProcess []))))
+flags_said : (c e p q : Bool)
+    → AllSaid (need_if c condition.NewChannel (need_if e condition.NewEvent (need_if p condition.NewPort (need_if q condition.NewProcess []))))
 flags_said c e p q = said_if c _ _ channel_said (said_if e _ _ event_said (said_if p _ _ port_said (said_if q _ _ process_said tt)))
 
 abbrev need_line : Condition → List ℕ
@@ -90,9 +95,11 @@ need_line c = codes ".need " ++ condition_name c
 
 needs_say : (needs : List Condition) → AllSaid needs → Say (map need_line needs) (map (λ c. Declares (directive.Need c)) needs)
 needs_say [] h = says_nothing
-needs_say (c ∷ cs) h = says_line (need_line c) (map need_line cs) (Declares (directive.Need c)) (map (λ c. Declares (directive.Need c)) cs) h.0.printed h.0.said (needs_say cs h.1)
+needs_say (c ∷ cs) h =
+    says_line (need_line c) (map need_line cs) (Declares (directive.Need c)) (map (λ c. Declares (directive.Need c)) cs) h.0.printed h.0.said (needs_say cs h.1)
 
-pub needs_said : (needs : List Condition) → are_needs needs ≡ true → Say (map (λ c. codes ".need " ++ condition_name c) needs) (map (λ c. Declares (directive.Need c)) needs)
+pub needs_said : (needs : List Condition) → are_needs needs ≡ true
+    → Say (map (λ c. codes ".need " ++ condition_name c) needs) (map (λ c. Declares (directive.Need c)) needs)
 needs_said needs h =
     needs_say needs
     (subst AllSaid (needs_fit needs h).again (let b = needs_byte needs in flags_said (b % 2 == 1) (b / 2 % 2 == 1) (b / 8 % 2 == 1) (b / 16 % 2 == 1)))
@@ -145,7 +152,8 @@ start_said s h =
 printed_rights : (k : Option Kind) (rest : List ℕ) → list_all is_printed rest ≡ true → list_all is_printed (kind_text k ++ (codes " " ++ rest)) ≡ true
 printed_rights k rest h = printed-append (kind_text k) (codes " " ++ rest) (printed-plain (kind_text k) (plain_kind k)) h
 
-pub starts_said : (starts : List Start) → list_all is_start_in_range starts ≡ true → Say (map (λ s. codes ".start " ++ (kind_text s.kind ++ (codes " " ++ decimal (bits s.rights)))) starts) (map (λ s. Declares (directive.Start s)) starts)
+pub starts_said : (starts : List Start) → list_all is_start_in_range starts ≡ true
+    → Say (map (λ s. codes ".start " ++ (kind_text s.kind ++ (codes " " ++ decimal (bits s.rights)))) starts) (map (λ s. Declares (directive.Start s)) starts)
 starts_said [] h = says_nothing
 starts_said (s ∷ starts) h =
     let p = and_parts (is_start_in_range s) (list_all is_start_in_range starts) h in
@@ -183,15 +191,19 @@ unfolding line_of directive_of is_word
 slot_array_line_said s h =
     let r = slot_ranges s h in
     ap line_of
-    (four_words (codes ".slots") (kind_text s.kind) (decimal s.length) (decimal (bits s.rights)) refl (plain_kind s.kind) (plain-decimal s.length r.length_small) (plain-decimal (bits s.rights) r.rights_small))
+    (four_words (codes ".slots") (kind_text s.kind) (decimal s.length) (decimal (bits s.rights)) refl (plain_kind s.kind)
+    (plain-decimal s.length r.length_small) (plain-decimal (bits s.rights) r.rights_small))
     ∙ rw (kind_again s.kind, number_of-decimal s.length r.length_small, r.least, r.most, number_of-decimal (bits s.rights) r.rights_small, h) refl
 
 pub slots_said : (slots : List SlotArray) → list_all is_slot_in_range slots ≡ true
-    → Say (map (λ s. codes ".slots " ++ (kind_text s.kind ++ (codes " " ++ (decimal s.length ++ (codes " " ++ decimal (bits s.rights)))))) slots) (map (λ s. Declares (directive.Slots s)) slots)
+    → Say (map (λ s. codes ".slots " ++ (kind_text s.kind ++ (codes " " ++ (decimal s.length ++ (codes " " ++ decimal (bits s.rights)))))) slots)
+    (map (λ s. Declares (directive.Slots s)) slots)
 slots_said [] h = says_nothing
 slots_said (s ∷ slots) h =
     let p = and_parts (is_slot_in_range s) (list_all is_slot_in_range slots) h in
     let r = slot_ranges s p.0 in
     says_line (slot_array_line s) (map slot_array_line slots) (Declares (directive.Slots s)) (map (λ s. Declares (directive.Slots s)) slots)
-    (printed_rights s.kind (decimal s.length ++ (codes " " ++ decimal (bits s.rights))) (printed-append (decimal s.length) (codes " " ++ decimal (bits s.rights)) (printed-decimal s.length r.length_small) (printed-decimal (bits s.rights) r.rights_small)))
+    (printed_rights s.kind (decimal s.length ++ (codes " " ++ decimal (bits s.rights)))
+    (printed-append (decimal s.length) (codes " " ++ decimal (bits s.rights)) (printed-decimal s.length r.length_small)
+    (printed-decimal (bits s.rights) r.rights_small)))
     (slot_array_line_said s p.0) (slots_said slots p.1)

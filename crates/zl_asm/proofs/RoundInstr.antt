@@ -1,5 +1,9 @@
 -- The line of an instruction is read as its bytes.
-use Rattle.zl_asm.proofs.Common.{◌≡◌, ℕ, zero, suc, ◌+◌, ◌^◌, ◌<◌, Bool, true, false, ◌==◌, List, [], ◌∷◌, ◌++◌, length, take, drop, codes, Option, Some, None, refl, ap, ◌∙◌, arith, slice_index, list_all, starts_with, and_parts, length-take, length-drop, get_or-drop, Row, layout_of, row_of, row_named, reading_of, row_bytes, instr_fault, eq-eqb, layout, is_ending_clear, is_word, words_of, Code, Source, line_of, source_of, unknown_of, resolved, joined, operand_texts, row_text, instr_text, hex_text, aims, IsBytes, list_all-from_IsBytes, option_map}
+use Rattle.zl_asm.proofs.Common.{◌≡◌, ℕ, zero, suc, ◌+◌, ◌^◌, ◌<◌, Bool, true, false, ◌==◌, List, [], ◌∷◌, ◌++◌, length, take, drop, codes, Option, Some, None}
+use Rattle.zl_asm.proofs.Common.{refl, ap, ◌∙◌, arith, slice_index, list_all, starts_with, and_parts, length-take, length-drop, get_or-drop, Row, layout_of}
+use Rattle.zl_asm.proofs.Common.{row_of, row_named, reading_of, row_bytes, instr_fault, eq-eqb, layout, is_ending_clear, is_word, words_of, Code, Source}
+use Rattle.zl_asm.proofs.Common.{line_of, source_of, unknown_of, resolved, joined, operand_texts, row_text, instr_text, hex_text, aims, IsBytes}
+use Rattle.zl_asm.proofs.Common.{list_all-from_IsBytes, option_map}
 use Rattle.zl_code.proofs.Common.{number_of}
 use Rattle.std.proofs.Math.Nat.{pow-suc}
 use Rattle.zl_code.proofs.InstrFacts.{no_fault-row, row_bytes-again}
@@ -31,7 +35,8 @@ numbers_small (suc n) (b ∷ bytes) h =
 fits_behind : (n : ℕ) (bytes : List ℕ) → IsBytes bytes → IsBytes (drop n bytes)
 fits_behind n bytes h i = rw get_or-drop (h (n + i))
 
-layout_at : (row : Row) (bytes : List ℕ) → row_of (slice_index bytes 0) ≡ Some row → layout_of (slice_index bytes 0) ≡ Some (layout (length row.fields) row.ending)
+layout_at : (row : Row) (bytes : List ℕ) → row_of (slice_index bytes 0) ≡ Some row
+    → layout_of (slice_index bytes 0) ≡ Some (layout (length row.fields) row.ending)
 layout_at row bytes here = ap (option_map (λ r. layout (length r.fields) r.ending)) here
 
 -- what was read of bytes of this row
@@ -52,8 +57,10 @@ whole_of raw row bytes here h =
 
 -- ---- a line of operands
 
-line_of-operands : (name : List ℕ) (row : Row) (operands : List (List ℕ)) (s : Source) → is_plain_word name ≡ true → starts_with ◌==◌ name (codes ".") ≡ false → row_named name ≡ Some row
-    → 0 < length operands → list_all is_plain_word operands ≡ true → source_of row operands ≡ Some s → line_of (words_of (name ++ (codes " " ++ joined (codes ", ") operands))) ≡ Some (Code s)
+line_of-operands : (name : List ℕ) (row : Row) (operands : List (List ℕ)) (s : Source) → is_plain_word name ≡ true → starts_with ◌==◌ name (codes ".") ≡ false
+    → row_named name ≡ Some row
+    → 0 < length operands → list_all is_plain_word operands ≡ true → source_of row operands ≡ Some s
+    → line_of (words_of (name ++ (codes " " ++ joined (codes ", ") operands))) ≡ Some (Code s)
 unfolding line_of with_commas
 line_of-operands name row [] s plain no_point named there all source = absurd (omega arith)
 line_of-operands name row (word ∷ []) s plain no_point named there all source =
@@ -62,21 +69,25 @@ line_of-operands name row (word ∷ next ∷ words) s plain no_point named there
     ap line_of (words_of-operands name (word ∷ next ∷ words) plain all) ∙ rw (no_point, named, operands_of-commas word (next ∷ words) all, source) refl
 
 -- an instruction of a known opcode
-row_said : (count : ℕ) (raw : Bool) (row : Row) (bytes : List ℕ) → row_of (slice_index bytes 0) ≡ Some row → IsInstr raw bytes → line_of (words_of (row_text count bytes (Some row))) ≡ Some (Code (source_read count row (reading_of bytes)))
+row_said : (count : ℕ) (raw : Bool) (row : Row) (bytes : List ℕ) → row_of (slice_index bytes 0) ≡ Some row → IsInstr raw bytes
+    → line_of (words_of (row_text count bytes (Some row))) ≡ Some (Code (source_read count row (reading_of bytes)))
 row_said count raw row bytes here h =
     let f = row_fits (slice_index bytes 0) row here in
     let w = whole_of raw row bytes here h in
     line_of-operands row.name row (operand_texts count row (reading_of bytes)) (source_read count row (reading_of bytes)) f.plain f.no_point f.named
-    (some_operand count row (reading_of bytes) w.seven_there f.few f.operand) (plain_operands count row (reading_of bytes) w) (source_of-texts count row (reading_of bytes) f.few w)
+    (some_operand count row (reading_of bytes) w.seven_there f.few f.operand) (plain_operands count row (reading_of bytes) w)
+    (source_of-texts count row (reading_of bytes) f.few w)
 
 -- bytes of an unknown one
-unknown_said : (bytes : List ℕ) → row_of (slice_index bytes 0) ≡ None → length bytes ≡ 16 → IsBytes bytes → line_of (words_of (codes ".bytes " ++ hex_text bytes)) ≡ Some (Code (record { bytes = bytes; label = None }))
+unknown_said : (bytes : List ℕ) → row_of (slice_index bytes 0) ≡ None → length bytes ≡ 16 → IsBytes bytes
+    → line_of (words_of (codes ".bytes " ++ hex_text bytes)) ≡ Some (Code (record { bytes = bytes; label = None }))
 unfolding line_of is_word unknown_of
 unknown_said bytes here len fits =
     let bounded = list_all-from_IsBytes bytes fits in
     let digits = plain_word-hex bytes (omega arith) bounded in
     let long : (length bytes == 16) ≡ true = eq-eqb (length bytes) 16 len in
-    ap line_of (words_of-space (codes ".bytes") (hex_text bytes) refl ∙ ap (λ (ws : List (List ℕ)). codes ".bytes" ∷ ws) (words_of-alone (hex_text bytes) digits))
+    ap line_of
+    (words_of-space (codes ".bytes") (hex_text bytes) refl ∙ ap (λ (ws : List (List ℕ)). codes ".bytes" ∷ ws) (words_of-alone (hex_text bytes) digits))
     ∙ rw (hex_again bytes bounded, long, here) refl
 
 -- what the line of an instruction says
@@ -87,7 +98,8 @@ source_by count bytes (Some row) = source_read count row (reading_of bytes)
 abbrev pub source_said : ℕ → List ℕ → Source
 source_said count bytes = source_by count bytes (row_of (slice_index bytes 0))
 
-pub instr_said : (count : ℕ) (raw : Bool) (bytes : List ℕ) → IsInstr raw bytes → line_of (words_of (instr_text count bytes)) ≡ Some (Code (source_said count bytes))
+pub instr_said : (count : ℕ) (raw : Bool) (bytes : List ℕ) → IsInstr raw bytes
+    → line_of (words_of (instr_text count bytes)) ≡ Some (Code (source_said count bytes))
 instr_said count raw bytes h = by (row_of (slice_index bytes 0)) refl
   where
     by : (o : Option Row) → row_of (slice_index bytes 0) ≡ o → line_of (words_of (row_text count bytes o)) ≡ Some (Code (source_by count bytes o))
@@ -96,11 +108,13 @@ instr_said count raw bytes h = by (row_of (slice_index bytes 0)) refl
 
 -- ---- its bytes again
 
-pub instr_resolved : (labels : List (List ℕ × ℕ)) (count : ℕ) (raw : Bool) (bytes : List ℕ) → IsInstr raw bytes → (aims (row_of (slice_index bytes 0)) ≡ true → IsPlaced labels count (reading_of bytes).target)
+pub instr_resolved : (labels : List (List ℕ × ℕ)) (count : ℕ) (raw : Bool) (bytes : List ℕ) → IsInstr raw bytes
+    → (aims (row_of (slice_index bytes 0)) ≡ true → IsPlaced labels count (reading_of bytes).target)
     → resolved labels (source_said count bytes) ≡ Some bytes
 instr_resolved labels count raw bytes h placed = by (row_of (slice_index bytes 0)) refl placed
   where
-    by : (o : Option Row) → row_of (slice_index bytes 0) ≡ o → (aims o ≡ true → IsPlaced labels count (reading_of bytes).target) → resolved labels (source_by count bytes o) ≡ Some bytes
+    by : (o : Option Row) → row_of (slice_index bytes 0) ≡ o → (aims o ≡ true → IsPlaced labels count (reading_of bytes).target)
+        → resolved labels (source_by count bytes o) ≡ Some bytes
     by None here stands = refl
     by (Some row) here stands =
         let f = row_fits (slice_index bytes 0) row here in

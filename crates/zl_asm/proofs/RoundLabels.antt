@@ -1,5 +1,8 @@
 -- Labels stand once for the number of their instruction.
-use Rattle.zl_asm.proofs.Common.{◌≡◌, ◌≢◌, ℕ, suc, ◌+◌, ◌^◌, ◌<◌, ◌≤◌, Bool, true, false, ◌==◌, List, [], ◌∷◌, ◌++◌, length, map, Some, None, refl, ap, ◌∙◌, arith, inl, inr, if◌then◌else◌, slice_index, list_any, and_from, cases_Bool, or_left, or_right, ltb-true, row_of, reading_of, cases_eq, eq-eqb, Line, Blank, Label, Code, all_of, onto_all, labels_from, position_of, names_once, resolved, label_text, is_target, aims, aims_at}
+use Rattle.zl_asm.proofs.Common.{◌≡◌, ◌≢◌, ℕ, suc, ◌+◌, ◌^◌, ◌<◌, ◌≤◌, Bool, true, false, ◌==◌, List, [], ◌∷◌, ◌++◌, length, map, Some, None, refl, ap, ◌∙◌}
+use Rattle.zl_asm.proofs.Common.{arith, inl, inr, if◌then◌else◌, slice_index, list_any, and_from, cases_Bool, or_left, or_right, ltb-true, row_of, reading_of}
+use Rattle.zl_asm.proofs.Common.{cases_eq, eq-eqb, Line, Blank, Label, Code, all_of, onto_all, labels_from, position_of, names_once, resolved, label_text}
+use Rattle.zl_asm.proofs.Common.{is_target, aims, aims_at}
 use Rattle.std.specs.Cmp.Lexicographic.{pointwise, bytes_decides}
 use Rattle.zl_asm.proofs.RoundNumbers.{label_text-injective}
 use Rattle.zl_asm.proofs.RoundSource.{IsPlaced}
@@ -22,13 +25,15 @@ unfoldable pub labels_of : List (List ℕ) → ℕ → List (List ℕ) → List 
 labels_of code n [] = []
 labels_of code n (bytes ∷ rest) = entry_if (is_target code n) n ++ labels_of code (suc n) rest
 
-pub labels_from-code : (code : List (List ℕ)) (n : ℕ) (rest : List (List ℕ)) → labels_from n (code_said_from code n rest ++ (Blank ∷ [])) ≡ labels_of code n rest
+pub labels_from-code : (code : List (List ℕ)) (n : ℕ) (rest : List (List ℕ))
+    → labels_from n (code_said_from code n rest ++ (Blank ∷ [])) ≡ labels_of code n rest
 unfolding labels_from code_said_from labels_of
 labels_from-code code n [] = refl
 labels_from-code code n (bytes ∷ rest) = by (is_target code n) (labels_from-code code (suc n) rest)
   where
     by : (t : Bool) → labels_from (suc n) (code_said_from code (suc n) rest ++ (Blank ∷ [])) ≡ labels_of code (suc n) rest
-        → labels_from n ((label_if t n ++ (Code (source_said (length code) bytes) ∷ code_said_from code (suc n) rest)) ++ (Blank ∷ [])) ≡ entry_if t n ++ labels_of code (suc n) rest
+        → labels_from n ((label_if t n ++ (Code (source_said (length code) bytes) ∷ code_said_from code (suc n) rest)) ++ (Blank ∷ []))
+        ≡ entry_if t n ++ labels_of code (suc n) rest
     by true e = ap (λ (ls : List (List ℕ × ℕ)). (label_text n, n) ∷ ls) e
     by false e = e
 
@@ -37,34 +42,41 @@ labels_from-code code n (bytes ∷ rest) = by (is_target code n) (labels_from-co
 position_here : (t : ℕ) (labels : List (List ℕ × ℕ)) → position_of ((label_text t, t) ∷ labels) (label_text t) ≡ Some t
 position_here t labels = let same = (bytes_decides (label_text t) (label_text t)).1 refl in rw same refl
 
-position_past : (n t : ℕ) (labels : List (List ℕ × ℕ)) → n < 2 ^ 32 → t < 2 ^ 32 → n ≢ t → position_of ((label_text n, n) ∷ labels) (label_text t) ≡ position_of labels (label_text t)
+position_past : (n t : ℕ) (labels : List (List ℕ × ℕ)) → n < 2 ^ 32 → t < 2 ^ 32 → n ≢ t
+    → position_of ((label_text n, n) ∷ labels) (label_text t) ≡ position_of labels (label_text t)
 position_past n t labels small low apart =
-    elim (cases_Bool (pointwise ◌==◌ (label_text n) (label_text t))) as (λ _. position_of ((label_text n, n) ∷ labels) (label_text t) ≡ position_of labels (label_text t)) [
+    elim (cases_Bool (pointwise ◌==◌ (label_text n) (label_text t)))
+    as (λ _. position_of ((label_text n, n) ∷ labels) (label_text t) ≡ position_of labels (label_text t)) [
       | inl same ↦ absurd (apart (label_text-injective n t small low ((bytes_decides (label_text n) (label_text t)).0 same)))
       | inr other ↦ rw other refl
     ]
 
 -- no label of a number below n
-absent : (code : List (List ℕ)) (n : ℕ) (rest : List (List ℕ)) (t : ℕ) → t < n → n + length rest ≤ 2 ^ 32 → position_of (labels_of code n rest) (label_text t) ≡ None
+absent : (code : List (List ℕ)) (n : ℕ) (rest : List (List ℕ)) (t : ℕ) → t < n → n + length rest ≤ 2 ^ 32
+    → position_of (labels_of code n rest) (label_text t) ≡ None
 unfolding labels_of
 absent code n [] t lt le = refl
 absent code n (bytes ∷ rest) t lt le = by (is_target code n) (absent code (suc n) rest t (omega arith) (omega arith))
   where
-    by : (b : Bool) → position_of (labels_of code (suc n) rest) (label_text t) ≡ None → position_of (entry_if b n ++ labels_of code (suc n) rest) (label_text t) ≡ None
+    by : (b : Bool) → position_of (labels_of code (suc n) rest) (label_text t) ≡ None
+        → position_of (entry_if b n ++ labels_of code (suc n) rest) (label_text t) ≡ None
     by true e = position_past n t (labels_of code (suc n) rest) (omega arith) (omega arith) (λ same. omega arith) ∙ e
     by false e = e
 
 -- a target has its label
-present : (code : List (List ℕ)) (n : ℕ) (rest : List (List ℕ)) (t : ℕ) → n ≤ t → t < n + length rest → n + length rest ≤ 2 ^ 32 → is_target code t ≡ true → position_of (labels_of code n rest) (label_text t) ≡ Some t
+present : (code : List (List ℕ)) (n : ℕ) (rest : List (List ℕ)) (t : ℕ) → n ≤ t → t < n + length rest → n + length rest ≤ 2 ^ 32 → is_target code t ≡ true
+    → position_of (labels_of code n rest) (label_text t) ≡ Some t
 unfolding labels_of
 present code n [] t ge lt le h = absurd (omega arith)
 present code n (bytes ∷ rest) t ge lt le h =
     elim (cases_eq n t) as (λ _. position_of (entry_if (is_target code n) n ++ labels_of code (suc n) rest) (label_text t) ≡ Some t) [
-      | inl here ↦ let named : is_target code n ≡ true = ap (is_target code) here ∙ h in rw named (ap (λ (m : ℕ). position_of ((label_text m, m) ∷ labels_of code (suc n) rest) (label_text t)) here ∙ position_here t (labels_of code (suc n) rest))
+      | inl here ↦ let named : is_target code n ≡ true = ap (is_target code) here ∙ h in rw named
+          (ap (λ (m : ℕ). position_of ((label_text m, m) ∷ labels_of code (suc n) rest) (label_text t)) here ∙ position_here t (labels_of code (suc n) rest))
       | inr apart ↦ by (is_target code n) apart (present code (suc n) rest t (grind arith) (omega arith) (omega arith) h)
     ]
   where
-    by : (b : Bool) → n ≢ t → position_of (labels_of code (suc n) rest) (label_text t) ≡ Some t → position_of (entry_if b n ++ labels_of code (suc n) rest) (label_text t) ≡ Some t
+    by : (b : Bool) → n ≢ t → position_of (labels_of code (suc n) rest) (label_text t) ≡ Some t
+        → position_of (entry_if b n ++ labels_of code (suc n) rest) (label_text t) ≡ Some t
     by true apart e = position_past n t (labels_of code (suc n) rest) (omega arith) (omega arith) apart ∙ e
     by false apart e = e
 
@@ -74,7 +86,8 @@ unfolding labels_of names_once
 once code n [] le = refl
 once code n (bytes ∷ rest) le = by (is_target code n) (absent code (suc n) rest n (omega arith) (omega arith)) (once code (suc n) rest (omega arith))
   where
-    by : (b : Bool) → position_of (labels_of code (suc n) rest) (label_text n) ≡ None → names_once (labels_of code (suc n) rest) ≡ true → names_once (entry_if b n ++ labels_of code (suc n) rest) ≡ true
+    by : (b : Bool) → position_of (labels_of code (suc n) rest) (label_text n) ≡ None → names_once (labels_of code (suc n) rest) ≡ true
+        → names_once (entry_if b n ++ labels_of code (suc n) rest) ≡ true
     by true none more = rw (none, more) refl
     by false none more = more
 
@@ -87,7 +100,8 @@ AllInstr raw (bytes ∷ rest) = IsInstr raw bytes × AllInstr raw rest
 
 module _ (raw : Bool) (code : List (List ℕ)) (few : length code ≤ 2 ^ 32) where
   -- each target below the count is a label
-  placed : (bytes : List ℕ) → ((test : List ℕ → Bool) → test bytes ≡ true → list_any test code ≡ true) → aims (row_of (slice_index bytes 0)) ≡ true → IsPlaced (labels_of code 0 code) (length code) (reading_of bytes).target
+  placed : (bytes : List ℕ) → ((test : List ℕ → Bool) → test bytes ≡ true → list_any test code ≡ true) → aims (row_of (slice_index bytes 0)) ≡ true
+      → IsPlaced (labels_of code 0 code) (length code) (reading_of bytes).target
   placed bytes there aimed below =
       let t = (reading_of bytes).target in
       let named : is_target code t ≡ true = there (aims_at t) (and_from _ _ aimed (eq-eqb t t refl)) in
@@ -99,7 +113,8 @@ module _ (raw : Bool) (code : List (List ℕ)) (few : length code ≤ 2 ^ 32) wh
   unfolding all_of
   rest_resolved [] there all = refl
   rest_resolved (bytes ∷ rest) there all =
-      let here = instr_resolved (labels_of code 0 code) (length code) raw bytes all.0 (placed bytes (λ test h. there test (or_left (test bytes) (list_any test rest) h))) in
+      let here = instr_resolved (labels_of code 0 code) (length code) raw bytes all.0
+      (placed bytes (λ test h. there test (or_left (test bytes) (list_any test rest) h))) in
       let more = rest_resolved rest (λ test h. there test (or_right (test bytes) (list_any test rest) h)) all.1 in
       λ i. onto_all (here i) (more i)
 

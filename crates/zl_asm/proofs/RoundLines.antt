@@ -1,5 +1,7 @@
 -- Lines of printed bytes, each ended by a line feed, are found again in the text.
-use Rattle.zl_asm.proofs.Common.{◌≡◌, ℕ, ◌<◌, Bool, true, false, ◌&&◌, ◌==◌, not, List, [], ◌∷◌, ◌++◌, codes, Option, Some, None, refl, ap, ◌∙◌, nat_lt, arith, append_assoc, list_all, flat_map, and_parts, and_from, ltb-true, lt-ltb, ne_eqb, list_all-append, lines_of, is_ascii, words_from, words_of, Line, Blank, line_of, all_of, onto_all, Listing, listing_from, listing_of, joined}
+use Rattle.zl_asm.proofs.Common.{◌≡◌, ℕ, ◌<◌, Bool, true, false, ◌&&◌, ◌==◌, not, List, [], ◌∷◌, ◌++◌, codes, Option, Some, None, refl, ap, ◌∙◌, nat_lt, arith}
+use Rattle.zl_asm.proofs.Common.{append_assoc, list_all, flat_map, and_parts, and_from, ltb-true, lt-ltb, ne_eqb, list_all-append, lines_of, is_ascii}
+use Rattle.zl_asm.proofs.Common.{words_from, words_of, Line, Blank, line_of, all_of, onto_all, Listing, listing_from, listing_of, joined}
 use Rattle.std.proofs.lemmas.List.Splits.{slice_split-cons_yes, slice_split-cons_no}
 use Rattle.zl_asm.proofs.RoundWords.{is_plain, is_plain_word, plain_all}
 use Rattle.zl_asm.proofs.RoundNumbers.{all_of_kind}
@@ -42,7 +44,8 @@ pub says_nothing : Say [] []
 unfolding all_of
 says_nothing = record { printed = refl; says = refl }
 
-pub says_line : (line : List ℕ) (lines : List (List ℕ)) (said : Line) (more : List Line) → list_all is_printed line ≡ true → line_of (words_of line) ≡ Some said → Say lines more → Say (line ∷ lines) (said ∷ more)
+pub says_line : (line : List ℕ) (lines : List (List ℕ)) (said : Line) (more : List Line) → list_all is_printed line ≡ true → line_of (words_of line) ≡ Some said
+    → Say lines more → Say (line ∷ lines) (said ∷ more)
 unfolding all_of
 says_line line lines said more printed says rest = record {
   printed = and_from _ _ printed rest.printed;
@@ -97,7 +100,8 @@ lines_found : (lines : List (List ℕ)) → list_all (λ line. list_all is_print
 lines_found [] h = refl
 lines_found (line ∷ lines) h =
     let p = and_parts (list_all is_printed line) (list_all (λ l. list_all is_printed l) lines) h in
-    ap lines_of (append_assoc line (codes "\n") (text_by lines)) ∙ line_found line (text_by lines) p.0 ∙ ap (λ (ls : List (List ℕ)). line ∷ ls) (lines_found lines p.1)
+    ap lines_of (append_assoc line (codes "\n") (text_by lines)) ∙ line_found line (text_by lines) p.0
+    ∙ ap (λ (ls : List (List ℕ)). line ∷ ls) (lines_found lines p.1)
 
 ascii_line : (line rest : List ℕ) → list_all is_printed line ≡ true → is_ascii rest ≡ true → is_ascii (line ++ rest) ≡ true
 ascii_line [] rest h k = k
@@ -113,7 +117,8 @@ ascii_lines (line ∷ lines) h =
     ap is_ascii (append_assoc line (codes "\n") (text_by lines)) ∙ ascii_line line (codes "\n" ++ text_by lines) p.0 (ascii_lines lines p.1)
 
 -- the text of lines gives what they say
-pub listing_of-lines : (lines : List (List ℕ)) (said : List Line) (l : Listing) → Say lines said → listing_from (said ++ (Blank ∷ [])) ≡ Some l → listing_of (text_by lines) ≡ Some l
+pub listing_of-lines : (lines : List (List ℕ)) (said : List Line) (l : Listing) → Say lines said → listing_from (said ++ (Blank ∷ [])) ≡ Some l
+    → listing_of (text_by lines) ≡ Some l
 unfolding listing_of all_of line_of words_from
 listing_of-lines lines said l h from =
     let found = lines_found lines h.printed in

@@ -1,5 +1,8 @@
 -- The fields that lines give, where directives stand before labels and instructions.
-use Rattle.zl_asm.proofs.Common.{◌≡◌, ℕ, suc, Bool, true, false, ◌&&◌, not, List, [], ◌∷◌, ◌++◌, length, map, Some, None, refl, ap, ◌∙◌, if◌then◌else◌, list_all, flat_map, needs_named, Line, Blank, Declares, Label, Code, Source, all_of, if_fits, Listing, mark_in, memory_in, budget_in, need_in, start_in, slots_in, source_in, given, declares, directives_first, labels_from, names_once, resolved, is_listing, listing_with, listing_from, is_target, label_text}
+use Rattle.zl_asm.proofs.Common.{◌≡◌, ℕ, suc, Bool, true, false, ◌&&◌, not, List, [], ◌∷◌, ◌++◌, length, map, Some, None, refl, ap, ◌∙◌, if◌then◌else◌}
+use Rattle.zl_asm.proofs.Common.{list_all, flat_map, needs_named, Line, Blank, Declares, Label, Code, Source, all_of, if_fits, Listing, mark_in, memory_in}
+use Rattle.zl_asm.proofs.Common.{budget_in, need_in, start_in, slots_in, source_in, given, declares, directives_first, labels_from, names_once, resolved}
+use Rattle.zl_asm.proofs.Common.{is_listing, listing_with, listing_from, is_target, label_text}
 use Rattle.zl_asm.specs.declared.directive.Directive.{Directive}
 use Rattle.zl_asm.proofs.RoundInstr.{source_said}
 use Rattle.zl_asm.proofs.RoundLabels.{code_said_from}
@@ -22,8 +25,10 @@ pub record Give (lines : List Line) (l : Listing) : Type 0 where
 pub listing_by : (lines : List Line) (l : Listing) → Give lines l → listing_from lines ≡ Some l
 unfolding listing_from
 listing_by lines l g =
-    let values : listing_with lines (given (flat_map mark_in lines) false) (given (flat_map memory_in lines) 0) (given (flat_map budget_in lines) 1) (all_of (resolved (labels_from 0 lines)) (flat_map source_in lines)) ≡ Some l =
-    (λ i. listing_with lines (g.raw i) (g.memory i) (g.budget i) (g.code i)) ∙ (λ i. Some (record l { needs = g.needs i; starts = g.starts i; slots = g.slots i })) in
+    let values : listing_with lines (given (flat_map mark_in lines) false) (given (flat_map memory_in lines) 0) (given (flat_map budget_in lines) 1)
+    (all_of (resolved (labels_from 0 lines)) (flat_map source_in lines)) ≡ Some l =
+    (λ i. listing_with lines (g.raw i) (g.memory i) (g.budget i) (g.code i))
+    ∙ (λ i. Some (record l { needs = g.needs i; starts = g.starts i; slots = g.slots i })) in
     (λ i. if g.order i && g.once i then if_fits is_listing (values i) else None) ∙ rw g.in_range refl
 
 -- ---- directives before others
@@ -52,17 +57,20 @@ none_declared (Blank ∷ lines) h = none_declared lines h
 none_declared (Label name ∷ lines) h = h
 none_declared (Code s ∷ lines) h = h
 
-body_declares_none : (code : List (List ℕ)) (n : ℕ) (rest : List (List ℕ)) → list_all (λ l. not (declares l)) (code_said_from code n rest ++ (Blank ∷ [])) ≡ true
+body_declares_none : (code : List (List ℕ)) (n : ℕ) (rest : List (List ℕ))
+    → list_all (λ l. not (declares l)) (code_said_from code n rest ++ (Blank ∷ [])) ≡ true
 unfolding code_said_from
 body_declares_none code n [] = refl
 body_declares_none code n (bytes ∷ rest) = by (is_target code n) (body_declares_none code (suc n) rest)
   where
     by : (t : Bool) → list_all (λ l. not (declares l)) (code_said_from code (suc n) rest ++ (Blank ∷ [])) ≡ true
-        → list_all (λ l. not (declares l)) (((if t then Label (label_text n) ∷ [] else []) ++ (Code (source_said (length code) bytes) ∷ code_said_from code (suc n) rest)) ++ (Blank ∷ [])) ≡ true
+        → list_all (λ l. not (declares l))
+        (((if t then Label (label_text n) ∷ [] else []) ++ (Code (source_said (length code) bytes) ∷ code_said_from code (suc n) rest)) ++ (Blank ∷ [])) ≡ true
     by true h = h
     by false h = h
 
-pub in_order : (directives : List Line) (code : List (List ℕ)) → list_all declares directives ≡ true → directives_first (directives ++ (code_said_from code 0 code ++ (Blank ∷ []))) ≡ true
+pub in_order : (directives : List Line) (code : List (List ℕ)) → list_all declares directives ≡ true
+    → directives_first (directives ++ (code_said_from code 0 code ++ (Blank ∷ []))) ≡ true
 in_order directives code h = declared_first directives _ h ∙ none_declared (code_said_from code 0 code ++ (Blank ∷ [])) (body_declares_none code 0 code)
 
 pub labels_behind : (directives rest : List Line) → list_all declares directives ≡ true → labels_from 0 (directives ++ rest) ≡ labels_from 0 rest
@@ -75,32 +83,38 @@ all_declared f (x ∷ xs) = all_declared f xs
 -- ---- what stands in which lines
 
 -- of directives of one kind, none
-pub skipped : {X A : Type 0} (f : Line → List A) (g : X → Directive) → ((x : X) → f (Declares (g x)) ≡ []) → (xs : List X) → flat_map f (map (λ x. Declares (g x)) xs) ≡ []
+pub skipped : {X A : Type 0} (f : Line → List A) (g : X → Directive) → ((x : X) → f (Declares (g x)) ≡ []) → (xs : List X)
+    → flat_map f (map (λ x. Declares (g x)) xs) ≡ []
 skipped f g none [] = refl
 skipped f g none (x ∷ xs) = λ i. none x i ++ skipped f g none xs i
 
 -- of directives of one kind, each
-pub kept : {X : Type 0} (f : Line → List X) (g : X → Directive) → ((x : X) → f (Declares (g x)) ≡ x ∷ []) → (xs : List X) → flat_map f (map (λ x. Declares (g x)) xs) ≡ xs
+pub kept : {X : Type 0} (f : Line → List X) (g : X → Directive) → ((x : X) → f (Declares (g x)) ≡ x ∷ []) → (xs : List X)
+    → flat_map f (map (λ x. Declares (g x)) xs) ≡ xs
 kept f g one [] = refl
 kept f g one (x ∷ xs) = λ i. one x i ++ kept f g one xs i
 
 -- of labels and instructions, none
-pub none_in_body : {A : Type 0} (f : Line → List A) → ((name : List ℕ) → f (Label name) ≡ []) → ((s : Source) → f (Code s) ≡ []) → (code : List (List ℕ)) (n : ℕ) (rest : List (List ℕ)) → flat_map f (code_said_from code n rest) ≡ []
+pub none_in_body : {A : Type 0} (f : Line → List A) → ((name : List ℕ) → f (Label name) ≡ []) → ((s : Source) → f (Code s) ≡ [])
+    → (code : List (List ℕ)) (n : ℕ) (rest : List (List ℕ)) → flat_map f (code_said_from code n rest) ≡ []
 unfolding code_said_from
 none_in_body f label source code n [] = refl
 none_in_body f label source code n (bytes ∷ rest) = by (is_target code n) (none_in_body f label source code (suc n) rest)
   where
-    by : (t : Bool) → flat_map f (code_said_from code (suc n) rest) ≡ [] → flat_map f ((if t then Label (label_text n) ∷ [] else []) ++ (Code (source_said (length code) bytes) ∷ code_said_from code (suc n) rest)) ≡ []
+    by : (t : Bool) → flat_map f (code_said_from code (suc n) rest) ≡ []
+        → flat_map f ((if t then Label (label_text n) ∷ [] else []) ++ (Code (source_said (length code) bytes) ∷ code_said_from code (suc n) rest)) ≡ []
     by true h = λ i. label (label_text n) i ++ (source (source_said (length code) bytes) i ++ h i)
     by false h = λ i. source (source_said (length code) bytes) i ++ h i
 
 -- the instructions
-pub sources_in_body : (code : List (List ℕ)) (n : ℕ) (rest : List (List ℕ)) → flat_map source_in (code_said_from code n rest) ≡ map (source_said (length code)) rest
+pub sources_in_body : (code : List (List ℕ)) (n : ℕ) (rest : List (List ℕ))
+    → flat_map source_in (code_said_from code n rest) ≡ map (source_said (length code)) rest
 unfolding code_said_from
 sources_in_body code n [] = refl
 sources_in_body code n (bytes ∷ rest) = by (is_target code n) (sources_in_body code (suc n) rest)
   where
     by : (t : Bool) → flat_map source_in (code_said_from code (suc n) rest) ≡ map (source_said (length code)) rest
-        → flat_map source_in ((if t then Label (label_text n) ∷ [] else []) ++ (Code (source_said (length code) bytes) ∷ code_said_from code (suc n) rest)) ≡ map (source_said (length code)) (bytes ∷ rest)
+        → flat_map source_in ((if t then Label (label_text n) ∷ [] else []) ++ (Code (source_said (length code) bytes) ∷ code_said_from code (suc n) rest))
+        ≡ map (source_said (length code)) (bytes ∷ rest)
     by true h = ap (λ (ss : List Source). source_said (length code) bytes ∷ ss) h
     by false h = ap (λ (ss : List Source). source_said (length code) bytes ∷ ss) h

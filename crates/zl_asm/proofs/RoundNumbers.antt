@@ -1,5 +1,8 @@
 -- Numbers, registers and labels as they are written are read again.
-use Rattle.zl_asm.proofs.Common.{◌≡◌, ℕ, ◌+◌, ◌-◌, ◌*◌, ◌/◌, ◌%◌, ◌^◌, ◌<◌, ◌≤◌, Bool, true, false, ◌&&◌, ◌||◌, ◌==◌, List, [], ◌∷◌, ◌++◌, length, codes, decimal, Option, Some, is_some, refl, sym, ap, ◌∙◌, nat_lt, nat_le, arith, list_all, starts_with, and_parts, and_from, le-leb, leb-true, lt-ltb, ne_eqb, or_left, or_right, list_all-append, unwrap_or, and_right, lt-leb, and_left, digit_of, digit_value, is_digit, value_of, is_name, is_name_byte, label_text}
+use Rattle.zl_asm.proofs.Common.{◌≡◌, ℕ, ◌+◌, ◌-◌, ◌*◌, ◌/◌, ◌%◌, ◌^◌, ◌<◌, ◌≤◌, Bool, true, false, ◌&&◌, ◌||◌, ◌==◌, List, [], ◌∷◌, ◌++◌, length, codes}
+use Rattle.zl_asm.proofs.Common.{decimal, Option, Some, is_some, refl, sym, ap, ◌∙◌, nat_lt, nat_le, arith, list_all, starts_with, and_parts, and_from, le-leb}
+use Rattle.zl_asm.proofs.Common.{leb-true, lt-ltb, ne_eqb, or_left, or_right, list_all-append, unwrap_or, and_right, lt-leb, and_left, digit_of, digit_value}
+use Rattle.zl_asm.proofs.Common.{is_digit, value_of, is_name, is_name_byte, label_text}
 use Rattle.std.proofs.lemmas.Fmt.{decimal_by_steps, decimal_injective, length-decimal-le}
 use Rattle.std.proofs.lemmas.List.Sums.{fold-append}
 use Rattle.zl_asm.specs.Words.{number_of}

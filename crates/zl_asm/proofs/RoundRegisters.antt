@@ -1,5 +1,7 @@
 -- Registers, and the handles behind them, are read as they are written.
-use Rattle.zl_asm.proofs.Common.{◌≡◌, ℕ, zero, suc, ◌-◌, ◌<◌, ◌≤◌, Bool, true, false, ◌||◌, ◌==◌, not, List, [], ◌∷◌, ◌++◌, length, map, take, replicate, filter, Option, Some, None, refl, sym, ap, ◌∙◌, nat_lt, nat_le, arith, if◌then◌else◌, list_all, and_parts, and_from, eqb-true, ltb-true, le-leb, are_registers, are_places, is_packed, register_of, all_of, places_of, register_text}
+use Rattle.zl_asm.proofs.Common.{◌≡◌, ℕ, zero, suc, ◌-◌, ◌<◌, ◌≤◌, Bool, true, false, ◌||◌, ◌==◌, not, List, [], ◌∷◌, ◌++◌, length, map, take, replicate}
+use Rattle.zl_asm.proofs.Common.{filter, Option, Some, None, refl, sym, ap, ◌∙◌, nat_lt, nat_le, arith, if◌then◌else◌, list_all, and_parts, and_from, eqb-true}
+use Rattle.zl_asm.proofs.Common.{ltb-true, le-leb, are_registers, are_places, is_packed, register_of, all_of, places_of, register_text}
 use Rattle.std.specs.Fmt.{digits}
 use Rattle.zl_code.proofs.Below.{all_below, below}
 use Rattle.zl_asm.proofs.RoundWords.{is_plain_word}
@@ -59,7 +61,8 @@ are_registers-taken (b ∷ bs) h =
     let p = and_parts (nat_lt b 32 || (b == 255)) (are_places bs) h in
     by (b == 255) p.0 (are_registers-taken bs p.1)
   where
-    by : (t : Bool) → nat_lt b 32 || t ≡ true → are_registers (filter is_taken bs) ≡ true → are_registers (if not t then b ∷ filter is_taken bs else filter is_taken bs) ≡ true
+    by : (t : Bool) → nat_lt b 32 || t ≡ true → are_registers (filter is_taken bs) ≡ true
+        → are_registers (if not t then b ∷ filter is_taken bs else filter is_taken bs) ≡ true
     by true here more = more
     by false here more = and_from _ _ (or_false (nat_lt b 32) here) more
       where
@@ -86,12 +89,15 @@ all_free (b ∷ bs) h =
     λ i. sym (eqb-true b 255 p.0) i ∷ all_free bs p.1 i
 
 -- registers and then free places are all that stands there
-taken_then_free : (places : List ℕ) → is_packed places ≡ true → filter is_taken places ++ replicate (length places - length (filter is_taken places)) 255 ≡ places
+taken_then_free : (places : List ℕ) → is_packed places ≡ true
+    → filter is_taken places ++ replicate (length places - length (filter is_taken places)) 255 ≡ places
 taken_then_free [] h = refl
 taken_then_free (b ∷ bs) h = by (λ packed. taken_then_free bs packed) (b == 255) refl h
   where
-    by : (is_packed bs ≡ true → filter is_taken bs ++ replicate (length bs - length (filter is_taken bs)) 255 ≡ bs) → (t : Bool) → (b == 255) ≡ t → (if t then list_all (λ x. x == 255) bs else is_packed bs) ≡ true
-        → (if not t then b ∷ filter is_taken bs else filter is_taken bs) ++ replicate (suc (length bs) - length (if not t then b ∷ filter is_taken bs else filter is_taken bs)) 255 ≡ b ∷ bs
+    by : (is_packed bs ≡ true → filter is_taken bs ++ replicate (length bs - length (filter is_taken bs)) 255 ≡ bs) → (t : Bool) → (b == 255) ≡ t
+        → (if t then list_all (λ x. x == 255) bs else is_packed bs) ≡ true
+        → (if not t then b ∷ filter is_taken bs
+        else filter is_taken bs) ++ replicate (suc (length bs) - length (if not t then b ∷ filter is_taken bs else filter is_taken bs)) 255 ≡ b ∷ bs
     by rest true e all =
         let whole : suc (length bs) - 0 ≡ suc (length bs) = omega arith in
         rw (none_taken bs all, whole) (λ i. sym (eqb-true b 255 e) i ∷ all_free bs all i)
@@ -102,4 +108,5 @@ taken_then_free (b ∷ bs) h = by (λ packed. taken_then_free bs packed) (b == 2
 pub places_of-taken : (places : List ℕ) → length places ≡ 8 → is_packed places ≡ true → places_of (filter is_taken places) ≡ Some places
 places_of-taken places len packed =
     let few : nat_le (length (filter is_taken places)) 8 ≡ true = le-leb _ 8 (omega (arith, length-taken places)) in
-    rw few (ap (λ (xs : List ℕ). Some xs) (ap (λ (n : ℕ). filter is_taken places ++ replicate (n - length (filter is_taken places)) 255) (sym len) ∙ taken_then_free places packed))
+    rw few (ap (λ (xs : List ℕ). Some xs)
+    (ap (λ (n : ℕ). filter is_taken places ++ replicate (n - length (filter is_taken places)) 255) (sym len) ∙ taken_then_free places packed))

@@ -1,5 +1,6 @@
 -- What holds of each row of the table of instructions.
-use Rattle.zl_asm.proofs.Common.{◌≡◌, ℕ, ◌≤◌, Bool, true, false, ◌&&◌, ◌||◌, ◌==◌, not, List, [], ◌∷◌, length, codes, Some, refl, subst, nat_lt, nat_le, if◌then◌else◌, list_all, starts_with, and_parts, eqb-true, leb-true, Row, row_of, row_named, not-true, rows, row_among}
+use Rattle.zl_asm.proofs.Common.{◌≡◌, ℕ, ◌≤◌, Bool, true, false, ◌&&◌, ◌||◌, ◌==◌, not, List, [], ◌∷◌, length, codes, Some, refl, subst, nat_lt, nat_le}
+use Rattle.zl_asm.proofs.Common.{if◌then◌else◌, list_all, starts_with, and_parts, eqb-true, leb-true, Row, row_of, row_named, not-true, rows, row_among}
 use Rattle.zl_code.specs.declared.layout.Ending.TheVariants as ending
 use Rattle.zl_code.proofs.InstrTable.{row_named-of}
 use Rattle.zl_asm.proofs.RoundWords.{is_plain_word}
@@ -27,7 +28,8 @@ found (r ∷ rs) opcode row all h =
     let p = and_parts (test r) (list_all test rs) all in
     by p.0 (λ here. found rs opcode row p.1 here) (r.opcode == opcode) refl h
   where
-    by : test r ≡ true → (row_among rs opcode ≡ Some row → (row.opcode ≡ opcode) × (test row ≡ true)) → (t : Bool) → (r.opcode == opcode) ≡ t → (if t then Some r else row_among rs opcode) ≡ Some row
+    by : test r ≡ true → (row_among rs opcode ≡ Some row → (row.opcode ≡ opcode) × (test row ≡ true)) → (t : Bool) → (r.opcode == opcode) ≡ t
+        → (if t then Some r else row_among rs opcode) ≡ Some row
         → (row.opcode ≡ opcode) × (test row ≡ true)
     by first rest true e here = let same : r ≡ row = cc in subst (λ (x : Row). (x.opcode ≡ opcode) × (test x ≡ true)) same (eqb-true r.opcode opcode e, first)
     by first rest false e here = rest here

@@ -1,5 +1,9 @@
 -- The operands of an instruction as they are written give its bytes again.
-use Rattle.zl_asm.proofs.Common.{◌≡◌, ℕ, zero, suc, ◌+◌, ◌^◌, ◌<◌, ◌≤◌, Bool, true, false, ◌||◌, ◌==◌, List, ◌∷◌, ◌++◌, length, map, take, drop, replicate, filter, decimal, Some, None, refl, sym, ap, ◌∙◌, nat_lt, arith, append_assoc, if◌then◌else◌, list_all, and_from, length-map, length-take, take_at, drop_at, length-take-le, list_all-append, Row, Reading, seven, bytes_of, row_bytes, are_registers, eq-eqb, length-replicate, layout, names_registers, is_ending_clear, Source, Tail, tail, tail_to, tail_of, registers_of, source_of, source_with, with_target, resolved, position_of, register_text, label_text, tail_texts, operand_texts}
+use Rattle.zl_asm.proofs.Common.{◌≡◌, ℕ, zero, suc, ◌+◌, ◌^◌, ◌<◌, ◌≤◌, Bool, true, false, ◌||◌, ◌==◌, List, ◌∷◌, ◌++◌, length, map, take, drop, replicate}
+use Rattle.zl_asm.proofs.Common.{filter, decimal, Some, None, refl, sym, ap, ◌∙◌, nat_lt, arith, append_assoc, if◌then◌else◌, list_all, and_from, length-map}
+use Rattle.zl_asm.proofs.Common.{length-take, take_at, drop_at, length-take-le, list_all-append, Row, Reading, seven, bytes_of, row_bytes, are_registers}
+use Rattle.zl_asm.proofs.Common.{eq-eqb, length-replicate, layout, names_registers, is_ending_clear, Source, Tail, tail, tail_to, tail_of, registers_of}
+use Rattle.zl_asm.proofs.Common.{source_of, source_with, with_target, resolved, position_of, register_text, label_text, tail_texts, operand_texts}
 use Rattle.std.proofs.lemmas.List.{length-append}
 use Rattle.zl_code.specs.declared.layout.Ending.{Ending}
 use Rattle.zl_code.specs.declared.layout.Ending.TheVariants as ending
@@ -60,9 +64,11 @@ module _ (count : ℕ) (row : Row) (r : Reading) (few : length row.fields ≤ 7)
 
   registers_read : registers_of (length row.fields) (take (length row.fields) (operand_texts count row r)) ≡ Some (take (length row.fields) r.registers)
   registers_read =
-      let front : take (length row.fields) (operand_texts count row r) ≡ map register_text (take (length row.fields) r.registers) = take_at (map register_text (take (length row.fields) r.registers)) (tail_texts count row.ending r) (length row.fields) registers_len in
+      let front : take (length row.fields) (operand_texts count row r) ≡ map register_text (take (length row.fields) r.registers) =
+      take_at (map register_text (take (length row.fields) r.registers)) (tail_texts count row.ending r) (length row.fields) registers_len in
       let enough : (length (map register_text (take (length row.fields) r.registers)) == length row.fields) ≡ true = eq-eqb _ _ registers_len in
-      ap (registers_of (length row.fields)) front ∙ rw enough (registers_again (take (length row.fields) r.registers) (are_registers-take (length row.fields) r.registers h.registers))
+      ap (registers_of (length row.fields)) front
+      ∙ rw enough (registers_again (take (length row.fields) r.registers) (are_registers-take (length row.fields) r.registers h.registers))
 
   behind_read : drop (length row.fields) (operand_texts count row r) ≡ tail_texts count row.ending r
   behind_read = drop_at (map register_text (take (length row.fields) r.registers)) (tail_texts count row.ending r) (length row.fields) registers_len
@@ -90,10 +96,12 @@ plain_tail count ending.Handles r h = plain-registers (filter is_taken r.places)
 pub plain_operands : (count : ℕ) (row : Row) (r : Reading) → IsWhole row.ending r → list_all is_plain_word (operand_texts count row r) ≡ true
 plain_operands count row r h =
     list_all-append is_plain_word (map register_text (take (length row.fields) r.registers)) (tail_texts count row.ending r)
-    ∙ and_from _ _ (plain-registers (take (length row.fields) r.registers) (are_registers-take (length row.fields) r.registers h.registers)) (plain_tail count row.ending r h)
+    ∙ and_from _ _ (plain-registers (take (length row.fields) r.registers) (are_registers-take (length row.fields) r.registers h.registers))
+    (plain_tail count row.ending r h)
 
 -- an operand is there
-pub some_operand : (count : ℕ) (row : Row) (r : Reading) → length r.registers ≡ 7 → length row.fields ≤ 7 → has_operand row ≡ true → 0 < length (operand_texts count row r)
+pub some_operand : (count : ℕ) (row : Row) (r : Reading) → length r.registers ≡ 7 → length row.fields ≤ 7 → has_operand row ≡ true
+    → 0 < length (operand_texts count row r)
 unfolding tail_texts
 some_operand count row r all few there =
     let len = length-append (map register_text (take (length row.fields) r.registers)) (tail_texts count row.ending r) in
@@ -115,7 +123,8 @@ some_operand count row r all few there =
 length-seven : (registers : List ℕ) → length (seven registers) ≡ 7
 length-seven registers = omega (arith, length-take 7 (registers ++ replicate 7 0), length-append registers (replicate 7 0), length-replicate {A = ℕ} 7 0)
 
-with_target-again : (opcode imm target : ℕ) (registers : List ℕ) → with_target (opcode ∷ (seven registers ++ (bytes_of 4 imm ++ bytes_of 4 0))) target ≡ opcode ∷ (seven registers ++ (bytes_of 4 imm ++ bytes_of 4 target))
+with_target-again : (opcode imm target : ℕ) (registers : List ℕ)
+    → with_target (opcode ∷ (seven registers ++ (bytes_of 4 imm ++ bytes_of 4 0))) target ≡ opcode ∷ (seven registers ++ (bytes_of 4 imm ++ bytes_of 4 target))
 with_target-again opcode imm target registers =
     let front = opcode ∷ (seven registers ++ bytes_of 4 imm) in
     let len : length front ≡ 12 = omega (arith, length-append (seven registers) (bytes_of 4 imm), length-seven registers) in
@@ -131,19 +140,25 @@ read_bytes opcode imm target n registers = opcode ∷ (seven (take n registers) 
 abbrev pub IsPlaced : List (List ℕ × ℕ) → ℕ → ℕ → Type 0
 IsPlaced labels count target = nat_lt target count ≡ true → position_of labels (label_text target) ≡ Some target
 
-target_resolved : (labels : List (List ℕ × ℕ)) (count opcode imm target n : ℕ) (registers : List ℕ) → (t : Bool) → (t ≡ true → position_of labels (label_text target) ≡ Some target)
-    → resolved labels (let s = if t then tail imm 0 (Some (label_text target)) else tail imm target None in record { bytes = opcode ∷ (seven (take n registers) ++ s.bytes); label = s.label }) ≡ Some (read_bytes opcode imm target n registers)
-target_resolved labels count opcode imm target n registers true placed = rw (placed refl) (ap (λ (xs : List ℕ). Some xs) (with_target-again opcode imm target (take n registers)))
+target_resolved : (labels : List (List ℕ × ℕ)) (count opcode imm target n : ℕ) (registers : List ℕ) → (t : Bool)
+    → (t ≡ true → position_of labels (label_text target) ≡ Some target)
+    → resolved labels (let s = if t then tail imm 0 (Some (label_text target)) else tail imm target None in
+    record { bytes = opcode ∷ (seven (take n registers) ++ s.bytes); label = s.label }) ≡ Some (read_bytes opcode imm target n registers)
+target_resolved labels count opcode imm target n registers true placed =
+    rw (placed refl) (ap (λ (xs : List ℕ). Some xs) (with_target-again opcode imm target (take n registers)))
 target_resolved labels count opcode imm target n registers false placed = refl
 
 abbrev pub is_aimed : Ending → Bool
 is_aimed e = elim e as (λ _. Bool) [ ending.Target ↦ true | ending.Both ↦ true | _ ↦ false ]
 
 pub source_resolved : (labels : List (List ℕ × ℕ)) (count opcode n : ℕ) (e : Ending) (r : Reading) → (is_aimed e ≡ true → IsPlaced labels count r.target)
-    → resolved labels (record { bytes = opcode ∷ (seven (take n r.registers) ++ (tail_read count e r).bytes); label = (tail_read count e r).label }) ≡ Some (row_bytes opcode (layout n e) r)
+    → resolved labels (record { bytes = opcode ∷ (seven (take n r.registers) ++ (tail_read count e r).bytes); label = (tail_read count e r).label })
+    ≡ Some (row_bytes opcode (layout n e) r)
 source_resolved labels count opcode n ending.Nothing r placed = refl
 source_resolved labels count opcode n ending.Number r placed = refl
 source_resolved labels count opcode n ending.Room r placed = refl
-source_resolved labels count opcode n ending.Target r placed = target_resolved labels count opcode 0 r.target n r.registers (nat_lt r.target count) (placed refl)
-source_resolved labels count opcode n ending.Both r placed = target_resolved labels count opcode r.imm r.target n r.registers (nat_lt r.target count) (placed refl)
+source_resolved labels count opcode n ending.Target r placed =
+    target_resolved labels count opcode 0 r.target n r.registers (nat_lt r.target count) (placed refl)
+source_resolved labels count opcode n ending.Both r placed =
+    target_resolved labels count opcode r.imm r.target n r.registers (nat_lt r.target count) (placed refl)
 source_resolved labels count opcode n ending.Handles r placed = refl

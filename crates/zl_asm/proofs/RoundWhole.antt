@@ -1,5 +1,9 @@
 -- The text of an image denotes it.
-use Rattle.zl_asm.proofs.Common.{◌≡◌, ℕ, ◌≤◌, Bool, true, false, not, List, [], ◌∷◌, ◌++◌, length, map, codes, decimal, Some, refl, ap, ◌∙◌, arith, append-nil, append_assoc, if◌then◌else◌, is_some, list_all, flat_map, and_parts, and_from, le-leb, length-map, list_all-append, flat_map-append, Image, needs_named, instr_bytes, instr_fault, is_instr_in_range, Ranges, ranges, Line, Blank, Declares, all_of, mark_in, memory_in, budget_in, need_in, start_in, slots_in, source_in, given, declares, labels_from, names_once, resolved, listing_from, listing_of, fields_of, directive_lines, code_lines, text_of, EachTextDenotes, needs_named-needs}
+use Rattle.zl_asm.proofs.Common.{◌≡◌, ℕ, ◌≤◌, Bool, true, false, not, List, [], ◌∷◌, ◌++◌, length, map, codes, decimal, Some, refl, ap, ◌∙◌, arith, append-nil}
+use Rattle.zl_asm.proofs.Common.{append_assoc, if◌then◌else◌, is_some, list_all, flat_map, and_parts, and_from, le-leb, length-map, list_all-append}
+use Rattle.zl_asm.proofs.Common.{flat_map-append, Image, needs_named, instr_bytes, instr_fault, is_instr_in_range, Ranges, ranges, Line, Blank, Declares}
+use Rattle.zl_asm.proofs.Common.{all_of, mark_in, memory_in, budget_in, need_in, start_in, slots_in, source_in, given, declares, labels_from, names_once}
+use Rattle.zl_asm.proofs.Common.{resolved, listing_from, listing_of, fields_of, directive_lines, code_lines, text_of, EachTextDenotes, needs_named-needs}
 use Rattle.zl_code.specs.declared.instr.Instr.{Instr}
 use Rattle.zl_code.proofs.InstrFacts.{instr_bytes-no_fault, length-instr_bytes, IsBytes-instr_bytes}
 use Rattle.zl_asm.specs.declared.directive.Directive.TheVariants as directive
@@ -19,7 +23,8 @@ directives_said i =
     marks i.raw
     ++ ((Declares (directive.Memory i.memory) ∷ [])
     ++ ((Declares (directive.Budget i.budget) ∷ [])
-    ++ (map (λ c. Declares (directive.Need c)) i.needs ++ (map (λ s. Declares (directive.Start s)) i.starts ++ map (λ s. Declares (directive.Slots s)) i.slots))))
+    ++ (map (λ c. Declares (directive.Need c)) i.needs
+    ++ (map (λ s. Declares (directive.Start s)) i.starts ++ map (λ s. Declares (directive.Slots s)) i.slots))))
 
 module _ (i : Image) (r : Ranges i) where
   directives_say : Say (directive_lines i) (directives_said i)
@@ -27,8 +32,10 @@ module _ (i : Image) (r : Ranges i) where
       let lt = r.least in
       let le = r.most in
       let few = r.memory in
-      let one_memory = says_line (codes ".memory " ++ decimal i.memory) [] (Declares (directive.Memory i.memory)) [] (printed-decimal i.memory (omega arith)) (memory_said i.memory r.memory) says_nothing in
-      let one_budget = says_line (codes ".budget " ++ decimal i.budget) [] (Declares (directive.Budget i.budget)) [] (printed-decimal i.budget (omega arith)) (budget_said i.budget r.least r.most) says_nothing in
+      let one_memory = says_line (codes ".memory " ++ decimal i.memory) [] (Declares (directive.Memory i.memory)) [] (printed-decimal i.memory (omega arith))
+      (memory_said i.memory r.memory) says_nothing in
+      let one_budget = says_line (codes ".budget " ++ decimal i.budget) [] (Declares (directive.Budget i.budget)) [] (printed-decimal i.budget (omega arith))
+      (budget_said i.budget r.least r.most) says_nothing in
       says_both _ _ _ _ (by i.raw)
       (says_both _ _ _ _ one_memory
       (says_both _ _ _ _ one_budget
@@ -48,7 +55,8 @@ directives_declared i =
     ∙ and_from _ _ (mark_declared i.raw)
     (list_all-append declares (map (λ c. Declares (directive.Need c)) i.needs) _
     ∙ and_from _ _ (all_declared (λ c. directive.Need c) i.needs)
-    (list_all-append declares (map (λ s. Declares (directive.Start s)) i.starts) _ ∙ and_from _ _ (all_declared (λ s. directive.Start s) i.starts) (all_declared (λ s. directive.Slots s) i.slots)))
+    (list_all-append declares (map (λ s. Declares (directive.Start s)) i.starts) _
+    ∙ and_from _ _ (all_declared (λ s. directive.Start s) i.starts) (all_declared (λ s. directive.Slots s) i.slots)))
 
 -- ---- what stands in the lines
 
@@ -57,9 +65,12 @@ abbrev lines_said_of : Image → List (List ℕ) → List Line
 lines_said_of i code = directives_said i ++ (code_said_from code 0 code ++ (Blank ∷ []))
 
 -- what stands in them, part by part
-gathered : {A : Type 0} (f : Line → List A) (i : Image) (code : List (List ℕ)) (a d e g h : List A) → flat_map f (marks i.raw) ≡ a → flat_map f (map (λ c. Declares (directive.Need c)) i.needs) ≡ d
-    → flat_map f (map (λ s. Declares (directive.Start s)) i.starts) ≡ e → flat_map f (map (λ s. Declares (directive.Slots s)) i.slots) ≡ g → flat_map f (code_said_from code 0 code) ≡ h → f Blank ≡ []
-    → flat_map f (lines_said_of i code) ≡ a ++ (f (Declares (directive.Memory i.memory)) ++ (f (Declares (directive.Budget i.budget)) ++ (d ++ (e ++ (g ++ h)))))
+gathered : {A : Type 0} (f : Line → List A) (i : Image) (code : List (List ℕ)) (a d e g h : List A) → flat_map f (marks i.raw) ≡ a
+    → flat_map f (map (λ c. Declares (directive.Need c)) i.needs) ≡ d
+    → flat_map f (map (λ s. Declares (directive.Start s)) i.starts) ≡ e → flat_map f (map (λ s. Declares (directive.Slots s)) i.slots) ≡ g
+    → flat_map f (code_said_from code 0 code) ≡ h → f Blank ≡ []
+    → flat_map f (lines_said_of i code)
+    ≡ a ++ (f (Declares (directive.Memory i.memory)) ++ (f (Declares (directive.Budget i.budget)) ++ (d ++ (e ++ (g ++ h)))))
 gathered f i code a d e g h mark needs starts slots body blank =
     let ns = map (λ c. Declares (directive.Need c)) i.needs in
     let ss = map (λ s. Declares (directive.Start s)) i.starts in
@@ -68,12 +79,14 @@ gathered f i code a d e g h mark needs starts slots body blank =
     let at_body : flat_map f behind ≡ h = flat_map-append f (code_said_from code 0 code) (Blank ∷ []) ∙ (λ k. body k ++ (blank k ++ [])) ∙ append-nil h in
     let at_slots : flat_map f (ls ++ behind) ≡ g ++ h = flat_map-append f ls behind ∙ (λ k. slots k ++ at_body k) in
     let at_starts : flat_map f (ss ++ (ls ++ behind)) ≡ e ++ (g ++ h) = flat_map-append f ss (ls ++ behind) ∙ (λ k. starts k ++ at_slots k) in
-    let at_needs : flat_map f (ns ++ (ss ++ (ls ++ behind))) ≡ d ++ (e ++ (g ++ h)) = flat_map-append f ns (ss ++ (ls ++ behind)) ∙ (λ k. needs k ++ at_starts k) in
+    let at_needs : flat_map f (ns ++ (ss ++ (ls ++ behind))) ≡ d ++ (e ++ (g ++ h)) =
+    flat_map-append f ns (ss ++ (ls ++ behind)) ∙ (λ k. needs k ++ at_starts k) in
     let m = Declares (directive.Memory i.memory) in
     let b = Declares (directive.Budget i.budget) in
     let regrouped : lines_said_of i code ≡ marks i.raw ++ (m ∷ b ∷ (ns ++ (ss ++ (ls ++ behind)))) =
     append_assoc (marks i.raw) (m ∷ b ∷ (ns ++ (ss ++ ls))) behind
-    ∙ ap (λ (xs : List Line). marks i.raw ++ (m ∷ b ∷ xs)) (append_assoc ns (ss ++ ls) behind ∙ ap (λ (xs : List Line). ns ++ xs) (append_assoc ss ls behind)) in
+    ∙ ap (λ (xs : List Line). marks i.raw ++ (m ∷ b ∷ xs))
+    (append_assoc ns (ss ++ ls) behind ∙ ap (λ (xs : List Line). ns ++ xs) (append_assoc ss ls behind)) in
     ap (flat_map f) regrouped ∙ flat_map-append f (marks i.raw) (m ∷ b ∷ (ns ++ (ss ++ (ls ++ behind)))) ∙ (λ k. mark k ++ (f m ++ (f b ++ at_needs k)))
 
 no_mark : {A : Type 0} (f : Line → List A) → f (Declares directive.Raw) ≡ [] → (raw : Bool) → flat_map f (marks raw) ≡ []
@@ -83,7 +96,9 @@ no_mark f none false = refl
 raw_given : (i : Image) (code : List (List ℕ)) → given (flat_map mark_in (lines_said_of i code)) false ≡ Some i.raw
 raw_given i code =
     ap (λ (xs : List Bool). given xs false)
-    (gathered mark_in i code (flat_map mark_in (marks i.raw)) [] [] [] [] refl (skipped mark_in (λ c. directive.Need c) (λ c. refl) i.needs) (skipped mark_in (λ s. directive.Start s) (λ s. refl) i.starts) (skipped mark_in (λ s. directive.Slots s) (λ s. refl) i.slots) (none_in_body mark_in (λ n. refl) (λ s. refl) code 0 code) refl)
+    (gathered mark_in i code (flat_map mark_in (marks i.raw)) [] [] [] [] refl (skipped mark_in (λ c. directive.Need c) (λ c. refl) i.needs)
+    (skipped mark_in (λ s. directive.Start s) (λ s. refl) i.starts) (skipped mark_in (λ s. directive.Slots s) (λ s. refl) i.slots)
+    (none_in_body mark_in (λ n. refl) (λ s. refl) code 0 code) refl)
     ∙ by i.raw
   where
     by : (raw : Bool) → given (flat_map mark_in (marks raw) ++ []) false ≡ Some raw
@@ -93,31 +108,43 @@ raw_given i code =
 memory_given : (i : Image) (code : List (List ℕ)) → given (flat_map memory_in (lines_said_of i code)) 0 ≡ Some i.memory
 memory_given i code =
     ap (λ (xs : List ℕ). given xs 0)
-    (gathered memory_in i code [] [] [] [] [] (no_mark memory_in refl i.raw) (skipped memory_in (λ c. directive.Need c) (λ c. refl) i.needs) (skipped memory_in (λ s. directive.Start s) (λ s. refl) i.starts) (skipped memory_in (λ s. directive.Slots s) (λ s. refl) i.slots) (none_in_body memory_in (λ n. refl) (λ s. refl) code 0 code) refl)
+    (gathered memory_in i code [] [] [] [] [] (no_mark memory_in refl i.raw) (skipped memory_in (λ c. directive.Need c) (λ c. refl) i.needs)
+    (skipped memory_in (λ s. directive.Start s) (λ s. refl) i.starts) (skipped memory_in (λ s. directive.Slots s) (λ s. refl) i.slots)
+    (none_in_body memory_in (λ n. refl) (λ s. refl) code 0 code) refl)
 
 budget_given : (i : Image) (code : List (List ℕ)) → given (flat_map budget_in (lines_said_of i code)) 1 ≡ Some i.budget
 budget_given i code =
     ap (λ (xs : List ℕ). given xs 1)
-    (gathered budget_in i code [] [] [] [] [] (no_mark budget_in refl i.raw) (skipped budget_in (λ c. directive.Need c) (λ c. refl) i.needs) (skipped budget_in (λ s. directive.Start s) (λ s. refl) i.starts) (skipped budget_in (λ s. directive.Slots s) (λ s. refl) i.slots) (none_in_body budget_in (λ n. refl) (λ s. refl) code 0 code) refl)
+    (gathered budget_in i code [] [] [] [] [] (no_mark budget_in refl i.raw) (skipped budget_in (λ c. directive.Need c) (λ c. refl) i.needs)
+    (skipped budget_in (λ s. directive.Start s) (λ s. refl) i.starts) (skipped budget_in (λ s. directive.Slots s) (λ s. refl) i.slots)
+    (none_in_body budget_in (λ n. refl) (λ s. refl) code 0 code) refl)
 
 needs_given : (i : Image) (code : List (List ℕ)) → flat_map need_in (lines_said_of i code) ≡ i.needs
 needs_given i code =
-    gathered need_in i code [] i.needs [] [] [] (no_mark need_in refl i.raw) (kept need_in (λ c. directive.Need c) (λ c. refl) i.needs) (skipped need_in (λ s. directive.Start s) (λ s. refl) i.starts) (skipped need_in (λ s. directive.Slots s) (λ s. refl) i.slots) (none_in_body need_in (λ n. refl) (λ s. refl) code 0 code) refl
+    gathered need_in i code [] i.needs [] [] [] (no_mark need_in refl i.raw) (kept need_in (λ c. directive.Need c) (λ c. refl) i.needs)
+    (skipped need_in (λ s. directive.Start s) (λ s. refl) i.starts) (skipped need_in (λ s. directive.Slots s) (λ s. refl) i.slots)
+    (none_in_body need_in (λ n. refl) (λ s. refl) code 0 code) refl
     ∙ append-nil i.needs
 
 starts_given : (i : Image) (code : List (List ℕ)) → flat_map start_in (lines_said_of i code) ≡ i.starts
 starts_given i code =
-    gathered start_in i code [] [] i.starts [] [] (no_mark start_in refl i.raw) (skipped start_in (λ c. directive.Need c) (λ c. refl) i.needs) (kept start_in (λ s. directive.Start s) (λ s. refl) i.starts) (skipped start_in (λ s. directive.Slots s) (λ s. refl) i.slots) (none_in_body start_in (λ n. refl) (λ s. refl) code 0 code) refl
+    gathered start_in i code [] [] i.starts [] [] (no_mark start_in refl i.raw) (skipped start_in (λ c. directive.Need c) (λ c. refl) i.needs)
+    (kept start_in (λ s. directive.Start s) (λ s. refl) i.starts) (skipped start_in (λ s. directive.Slots s) (λ s. refl) i.slots)
+    (none_in_body start_in (λ n. refl) (λ s. refl) code 0 code) refl
     ∙ append-nil i.starts
 
 slots_given : (i : Image) (code : List (List ℕ)) → flat_map slots_in (lines_said_of i code) ≡ i.slots
 slots_given i code =
-    gathered slots_in i code [] [] [] i.slots [] (no_mark slots_in refl i.raw) (skipped slots_in (λ c. directive.Need c) (λ c. refl) i.needs) (skipped slots_in (λ s. directive.Start s) (λ s. refl) i.starts) (kept slots_in (λ s. directive.Slots s) (λ s. refl) i.slots) (none_in_body slots_in (λ n. refl) (λ s. refl) code 0 code) refl
+    gathered slots_in i code [] [] [] i.slots [] (no_mark slots_in refl i.raw) (skipped slots_in (λ c. directive.Need c) (λ c. refl) i.needs)
+    (skipped slots_in (λ s. directive.Start s) (λ s. refl) i.starts) (kept slots_in (λ s. directive.Slots s) (λ s. refl) i.slots)
+    (none_in_body slots_in (λ n. refl) (λ s. refl) code 0 code) refl
     ∙ append-nil i.slots
 
 sources_given : (i : Image) (code : List (List ℕ)) → flat_map source_in (lines_said_of i code) ≡ map (source_said (length code)) code
 sources_given i code =
-    gathered source_in i code [] [] [] [] (map (source_said (length code)) code) (no_mark source_in refl i.raw) (skipped source_in (λ c. directive.Need c) (λ c. refl) i.needs) (skipped source_in (λ s. directive.Start s) (λ s. refl) i.starts) (skipped source_in (λ s. directive.Slots s) (λ s. refl) i.slots) (sources_in_body code 0 code) refl
+    gathered source_in i code [] [] [] [] (map (source_said (length code)) code) (no_mark source_in refl i.raw)
+    (skipped source_in (λ c. directive.Need c) (λ c. refl) i.needs) (skipped source_in (λ s. directive.Start s) (λ s. refl) i.starts)
+    (skipped source_in (λ s. directive.Slots s) (λ s. refl) i.slots) (sources_in_body code 0 code) refl
 
 -- ---- the whole
 
@@ -155,7 +182,8 @@ module _ (i : Image) (r : Ranges i) where
         starts = starts_given i c;
         slots = slots_given i c;
         code = (λ k. all_of (resolved (labels_are k)) (sources_given i c k)) ∙ code_resolved i.raw c (omega arith) (all);
-        in_range = and_from _ _ (le-leb _ 7 r.starts_count) (and_from _ _ (le-leb _ 8 r.slots_count) (and_from _ _ (le-leb _ 4096 (few)) (no_faults i.raw c (all))));
+        in_range =
+            and_from _ _ (le-leb _ 7 r.starts_count) (and_from _ _ (le-leb _ 8 r.slots_count) (and_from _ _ (le-leb _ 4096 (few)) (no_faults i.raw c (all))));
       }
 
   listing_again : listing_of (text_of i) ≡ Some (fields_of i)

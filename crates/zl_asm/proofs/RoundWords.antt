@@ -1,5 +1,7 @@
 -- The words of a line that was written with spaces and commas between plain words.
-use Rattle.zl_asm.proofs.Common.{◌≡◌, ℕ, Bool, true, false, ◌&&◌, ◌==◌, not, List, [], ◌∷◌, ◌++◌, codes, Some, refl, sym, ap, ◌∙◌, nat_lt, append_assoc, append-nil, list_all, and_parts, not-true, is_word, comma, word_before, words_from, words_of, operands_after, operands_of, joined}
+use Rattle.zl_asm.proofs.Common.{◌≡◌, ℕ, Bool, true, false, ◌&&◌, ◌==◌, not, List, [], ◌∷◌, ◌++◌, codes, Some, refl, sym, ap, ◌∙◌, nat_lt, append_assoc}
+use Rattle.zl_asm.proofs.Common.{append-nil, list_all, and_parts, not-true, is_word, comma, word_before, words_from, words_of, operands_after, operands_of}
+use Rattle.zl_asm.proofs.Common.{joined}
 
 -- a printed byte that is no space, comma or semicolon
 abbrev pub is_plain : ℕ → Bool
@@ -79,7 +81,8 @@ no_comma (b ∷ bs) h =
     let none = plain_parts b (and_parts (is_plain b) (list_all is_plain bs) h).0 in
     rw none.2 refl
 
-operands_after-commas : (word : List ℕ) (words : List (List ℕ)) → list_all is_plain_word (word ∷ words) ≡ true → operands_after (with_commas (word ∷ words)) ≡ Some (word ∷ words)
+operands_after-commas : (word : List ℕ) (words : List (List ℕ)) → list_all is_plain_word (word ∷ words) ≡ true
+    → operands_after (with_commas (word ∷ words)) ≡ Some (word ∷ words)
 unfolding operands_after with_commas is_word
 operands_after-commas word [] h = let no = no_comma word (and_parts (is_plain_word word) true h).0 in rw no refl
 operands_after-commas word (next ∷ words) h =
@@ -88,7 +91,8 @@ operands_after-commas word (next ∷ words) h =
     rw (no, operands_after-commas next words p.1) refl
 
 -- the operands are found between their commas
-pub operands_of-commas : (word : List ℕ) (words : List (List ℕ)) → list_all is_plain_word (word ∷ words) ≡ true → operands_of (with_commas (word ∷ words)) ≡ Some (word ∷ words)
+pub operands_of-commas : (word : List ℕ) (words : List (List ℕ)) → list_all is_plain_word (word ∷ words) ≡ true
+    → operands_of (with_commas (word ∷ words)) ≡ Some (word ∷ words)
 unfolding operands_of with_commas
 operands_of-commas word [] h = operands_after-commas word [] h
 operands_of-commas word (next ∷ words) h = operands_after-commas word (next ∷ words) h

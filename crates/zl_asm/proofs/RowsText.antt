@@ -1,5 +1,8 @@
 -- Worked examples of the assembler's text, by computation.
-use Rattle.zl_asm.proofs.Common.{◌≡◌, ℕ, List, [], ◌∷◌, refl, codes, true, false, Some, None, row_of, row_named, instr_fault, local_parts, rights_of, is_word, words_from, digit_of, register_of, is_name, hex_bytes, kind_of, directive_of, operands_after, operands_of, all_of, tail_of, source_of, unknown_of, label_of, line_of, directives_first, labels_from, names_once, listing_from, listing_of, Denotes, joined, tail_texts, code_lines_from, text_of}
+use Rattle.zl_asm.proofs.Common.{◌≡◌, ℕ, List, [], ◌∷◌, refl, codes, true, false, Some, None, row_of, row_named, instr_fault, local_parts, rights_of, is_word}
+use Rattle.zl_asm.proofs.Common.{words_from, digit_of, register_of, is_name, hex_bytes, kind_of, directive_of, operands_after, operands_of, all_of, tail_of}
+use Rattle.zl_asm.proofs.Common.{source_of, unknown_of, label_of, line_of, directives_first, labels_from, names_once, listing_from, listing_of, Denotes, joined}
+use Rattle.zl_asm.proofs.Common.{tail_texts, code_lines_from, text_of}
 use Rattle.std.specs.Fmt.{digits}
 use Rattle.zl_rights.specs.declared.kind.Kind.TheVariants as kind
 use Rattle.zl_rights.specs.declared.policy.Condition.TheVariants as condition
@@ -9,11 +12,14 @@ use Rattle.zl_asm.specs.Words.{number_of}
 
 -- all that the reading of a text unfolds
 unfoldable pub reading : Unit {0}
-unfolding is_word words_from digit_of number_of register_of is_name hex_bytes kind_of directive_of operands_after operands_of all_of tail_of source_of unknown_of label_of line_of directives_first labels_from names_once listing_from listing_of row_of row_named instr_fault kind_named condition_named local_parts
+unfolding is_word words_from digit_of number_of register_of is_name hex_bytes kind_of directive_of operands_after operands_of
+    all_of tail_of source_of unknown_of label_of line_of directives_first labels_from names_once listing_from listing_of row_of row_named instr_fault kind_named
+    condition_named local_parts
 reading = tt
 
 abbrev stored : List ℕ
-stored = codes ".raw\n.budget 100\nevent_create r2, r3\nconst r5, 8\nsignal r2, r3, r0, r5\ndup r2, r3, r4, 2147483648\nclose r2, r3\nclose r2, r4\nclose r2, r4\nprocess_exit r0\n"
+stored =
+    codes ".raw\n.budget 100\nevent_create r2, r3\nconst r5, 8\nsignal r2, r3, r0, r5\ndup r2, r3, r4, 2147483648\nclose r2, r3\nclose r2, r4\nclose r2, r4\nprocess_exit r0\n"
 
 -- The text of eight instructions denotes the image of the stored run.
 stored_text_denotes_image : Denotes stored image
@@ -21,13 +27,15 @@ unfolding reading
 stored_text_denotes_image = record { fields = refl; in_range = refl }
 
 -- The disassembler writes it with both numbers.
-stored_image_has_text : text_of image ≡ codes ".raw\n.memory 0\n.budget 100\nevent_create r2, r3\nconst r5, 8\nsignal r2, r3, r0, r5\ndup r2, r3, r4, 2147483648\nclose r2, r3\nclose r2, r4\nclose r2, r4\nprocess_exit r0\n"
+stored_image_has_text : text_of image
+    ≡ codes ".raw\n.memory 0\n.budget 100\nevent_create r2, r3\nconst r5, 8\nsignal r2, r3, r0, r5\ndup r2, r3, r4, 2147483648\nclose r2, r3\nclose r2, r4\nclose r2, r4\nprocess_exit r0\n"
 unfolding reading joined tail_texts code_lines_from text_of digits
 stored_image_has_text = refl
 
 -- Spaces, comments, capital digits and the order of directives don't count; labels are numbers of instructions.
 abbrev a_loop : List ℕ
-a_loop = codes "; a loop\n  .budget 0x1F ; twice .raw\n.slots any 2 0\n.need NEW_PORT\n.need NEW_EVENT\n.start channel 16388\n.raw\n\nconst r2 ,  3\nloop:\nagain_2:\n  addi r2,r2,0xffffffff\njnz r2, loop\njeq r31, 7, end\n.bytes c8000000000000000000000000000000\njmp 9\nend:"
+a_loop =
+    codes "; a loop\n  .budget 0x1F ; twice .raw\n.slots any 2 0\n.need NEW_PORT\n.need NEW_EVENT\n.start channel 16388\n.raw\n\nconst r2 ,  3\nloop:\nagain_2:\n  addi r2,r2,0xffffffff\njnz r2, loop\njeq r31, 7, end\n.bytes c8000000000000000000000000000000\njmp 9\nend:"
 
 a_loop_says : listing_of a_loop ≡ Some (record {
   raw = true;

@@ -1,12 +1,15 @@
 -- The bytes of hexadecimal digits, two digits after the other.
-use Rattle.zl_asm.proofs.Common.{◌≡◌, ◌≢◌, ℕ, suc, ◌+◌, ◌*◌, ◌<◌, ◌≤◌, true, false, eqb, List, [], ◌∷◌, ◌++◌, length, take, drop, get_or, set, Option, Some, None, refl, sym, ap, ◌∙◌, arith, append_assoc, append-nil, at_drop_more, at_drop_all, take_all, nat_tests, digit_of, byte_before, hex_bytes, if_fits, option_map, take-suc-set}
+use Rattle.zl_asm.proofs.Common.{◌≡◌, ◌≢◌, ℕ, suc, ◌+◌, ◌*◌, ◌<◌, ◌≤◌, true, false, eqb, List, [], ◌∷◌, ◌++◌, length, take, drop, get_or, set, Option, Some}
+use Rattle.zl_asm.proofs.Common.{None, refl, sym, ap, ◌∙◌, arith, append_assoc, append-nil, at_drop_more, at_drop_all, take_all, nat_tests, digit_of}
+use Rattle.zl_asm.proofs.Common.{byte_before, hex_bytes, if_fits, option_map, take-suc-set}
 
 abbrev pub sixteen : Option (List ℕ) → Option (List ℕ)
 sixteen o = if_fits (λ bytes. eqb (length bytes) 16) o
 
 -- ---- how many bytes
 
-counted : (high low : Option ℕ) (more : Option (List ℕ)) (bytes : List ℕ) (n : ℕ) → byte_before high low more ≡ Some bytes → ((ys : List ℕ) → more ≡ Some ys → n ≡ 2 * length ys) → suc (suc n) ≡ 2 * length bytes
+counted : (high low : Option ℕ) (more : Option (List ℕ)) (bytes : List ℕ) (n : ℕ) → byte_before high low more ≡ Some bytes
+    → ((ys : List ℕ) → more ≡ Some ys → n ≡ 2 * length ys) → suc (suc n) ≡ 2 * length bytes
 counted None None None bytes n e h = absurd (cc)
 counted None None (Some m) bytes n e h = absurd (cc)
 counted None (Some l) None bytes n e h = absurd (cc)
@@ -35,7 +38,8 @@ other_count (Some bytes) h =
 
 -- other than 32 digits
 pub not_sixteen : (digits : List ℕ) → length digits ≢ 32 → None ≡ sixteen (hex_bytes digits)
-not_sixteen digits apart = other_count (hex_bytes digits) (λ bytes e same. let n : length digits ≡ 2 * length bytes = count_of digits bytes e in apart (omega arith))
+not_sixteen digits apart =
+    other_count (hex_bytes digits) (λ bytes e same. let n : length digits ≡ 2 * length bytes = count_of digits bytes e in apart (omega arith))
 
 -- ---- two digits more
 
@@ -44,7 +48,8 @@ abbrev pub InBytes : List ℕ → ℕ → List ℕ → Type 0
 InBytes digits i bytes = hex_bytes digits ≡ option_map (λ rest. take i bytes ++ rest) (hex_bytes (drop (2 * i) digits))
 
 at_pair : (digits : List ℕ) (i : ℕ) → 2 * i + 1 < length digits
-    → hex_bytes (drop (2 * i) digits) ≡ byte_before (digit_of (get_or digits (2 * i) 0)) (digit_of (get_or digits (2 * i + 1) 0)) (hex_bytes (drop (2 * (i + 1)) digits))
+    → hex_bytes (drop (2 * i) digits)
+    ≡ byte_before (digit_of (get_or digits (2 * i) 0)) (digit_of (get_or digits (2 * i + 1) 0)) (hex_bytes (drop (2 * (i + 1)) digits))
 unfolding hex_bytes
 at_pair digits i within =
     let first : 2 * i < length digits = omega arith in
@@ -68,7 +73,8 @@ pub next_byte : (digits : List ℕ) (i : ℕ) (bytes : List ℕ) (byte : ℕ) �
     → InBytes digits i bytes → InBytes digits (i + 1) (set bytes i byte)
 next_byte digits i bytes byte within inside e so_far =
     let next : suc i ≡ i + 1 = omega arith in
-    let front : take i bytes ++ byte ∷ [] ≡ take (i + 1) (set bytes i byte) = sym (take-suc-set bytes i byte inside) ∙ ap (λ (n : ℕ). take n (set bytes i byte)) next in
+    let front : take i bytes ++ byte ∷ [] ≡ take (i + 1) (set bytes i byte) =
+    sym (take-suc-set bytes i byte inside) ∙ ap (λ (n : ℕ). take n (set bytes i byte)) next in
     so_far
     ∙ ap (λ (o : Option (List ℕ)). option_map (λ rest. take i bytes ++ rest) o) (at_pair digits i within)
     ∙ front_byte (take i bytes) (digit_of (get_or digits (2 * i) 0)) (digit_of (get_or digits (2 * i + 1) 0)) byte (hex_bytes (drop (2 * (i + 1)) digits)) e
@@ -88,9 +94,11 @@ no_byte digits i bytes within e so_far =
     (sym
     (so_far
     ∙ ap (λ (o : Option (List ℕ)). option_map (λ rest. take i bytes ++ rest) o)
-    (at_pair digits i within ∙ no_front (digit_of (get_or digits (2 * i) 0)) (digit_of (get_or digits (2 * i + 1) 0)) (hex_bytes (drop (2 * (i + 1)) digits)) e)))
+    (at_pair digits i within
+    ∙ no_front (digit_of (get_or digits (2 * i) 0)) (digit_of (get_or digits (2 * i + 1) 0)) (hex_bytes (drop (2 * (i + 1)) digits)) e)))
 
-pub last_byte : (digits : List ℕ) (i : ℕ) (bytes : List ℕ) → length digits ≡ 32 → 16 ≤ i → length bytes ≡ 16 → InBytes digits i bytes → Some bytes ≡ sixteen (hex_bytes digits)
+pub last_byte : (digits : List ℕ) (i : ℕ) (bytes : List ℕ) → length digits ≡ 32 → 16 ≤ i → length bytes ≡ 16 → InBytes digits i bytes
+    → Some bytes ≡ sixteen (hex_bytes digits)
 unfolding hex_bytes
 last_byte digits i bytes count all size so_far =
     let front : take i bytes ++ [] ≡ bytes = append-nil (take i bytes) ∙ take_all i bytes (omega arith) in

@@ -1,5 +1,7 @@
 -- When digits spell a number.
-use Rattle.zl_asm.proofs.Common.{◌≡◌, ℕ, ◌+◌, ◌*◌, ◌^◌, ◌<◌, ◌≤◌, Bool, true, false, ◌&&◌, not, eqb, ltb, cond, List, [], ◌∷◌, length, take, drop, get_or, fold, Option, Some, None, is_some, refl, sym, ap, ◌∙◌, subst, arith, nat_lt, list_all, and_from, lt-ltb, ltb-true, nat_tests, unwrap_or, and_left, and_right, le-ltb, ltb-false, digit_of, digit_value, is_digit, value_of, is_number, number_in}
+use Rattle.zl_asm.proofs.Common.{◌≡◌, ℕ, ◌+◌, ◌*◌, ◌^◌, ◌<◌, ◌≤◌, Bool, true, false, ◌&&◌, not, eqb, ltb, cond, List, [], ◌∷◌, length, take, drop, get_or, fold}
+use Rattle.zl_asm.proofs.Common.{Option, Some, None, is_some, refl, sym, ap, ◌∙◌, subst, arith, nat_lt, list_all, and_from, lt-ltb, ltb-true, nat_tests}
+use Rattle.zl_asm.proofs.Common.{unwrap_or, and_left, and_right, le-ltb, ltb-false, digit_of, digit_value, is_digit, value_of, is_number, number_in}
 use Rattle.zl_code.proofs.Common.{take-append-drop}
 use Rattle.std.proofs.Math.Nat.{le-mul_of_pos_right}
 use Rattle.std.proofs.lemmas.List.Folds.{list_all_at, list_all_more}
@@ -61,22 +63,26 @@ none_digit base digits i within e =
     none_by base digits (and_right (not (eqb (length digits) 0)) _ (and_left (list_all (is_digit base) digits) (ltb (value_of base digits) (2 ^ 32)) other))
 
 -- the digits so far and the next one are too large a number
-pub none_large : (base : ℕ) (digits : List ℕ) (i : ℕ) → 0 < base → i < length digits → 2 ^ 32 ≤ with base (value_of base (take i digits)) (get_or digits i 0) → None ≡ number_in base digits
+pub none_large : (base : ℕ) (digits : List ℕ) (i : ℕ) → 0 < base → i < length digits → 2 ^ 32 ≤ with base (value_of base (take i digits)) (get_or digits i 0)
+    → None ≡ number_in base digits
 none_large base digits i positive within large =
-    let more : value_of base (take (i + 1) digits) ≡ with base (value_of base (take i digits)) (get_or digits i 0) = fold_more (with base) 0 digits i 0 within in
+    let more : value_of base (take (i + 1) digits) ≡ with base (value_of base (take i digits)) (get_or digits i 0) =
+    fold_more (with base) 0 digits i 0 within in
     let front = value_of_front base digits (i + 1) positive in
     let above : ltb (value_of base digits) (2 ^ 32) ≡ false = le-ltb (value_of base digits) (2 ^ 32) (omega arith) in
     none_by base digits (and_right (not (eqb (length digits) 0)) _ (and_right (list_all (is_digit base) digits) (ltb (value_of base digits) (2 ^ 32)) above))
 
 -- every byte is a digit of the base, and the number has 32 bits
-pub some_number : (base : ℕ) (digits : List ℕ) → 0 < length digits → list_all (is_digit base) digits ≡ true → value_of base digits < 2 ^ 32 → Some (value_of base digits) ≡ number_in base digits
+pub some_number : (base : ℕ) (digits : List ℕ) → 0 < length digits → list_all (is_digit base) digits ≡ true → value_of base digits < 2 ^ 32
+    → Some (value_of base digits) ≡ number_in base digits
 some_number base digits nonempty all below =
     let filled : not (eqb (length digits) 0) ≡ true = grind (arith, nat_tests) in
     let small : ltb (value_of base digits) (2 ^ 32) ≡ true = lt-ltb (value_of base digits) (2 ^ 32) below in
     ap (λ (x : Bool). cond x (Some (value_of base digits)) None) (sym (and_from _ _ filled (and_from _ _ all small)))
 
 -- a digit more that isn't taken: it isn't below the base, or the number is too large
-pub none_longer : (base value digit i : ℕ) (digits : List ℕ) → i < length digits → value ≡ value_of base (take i digits) → Some digit ≡ digit_of (get_or digits i 0) → ((digit < base) × (value * base + digit < 2 ^ 32) → ⊥)
+pub none_longer : (base value digit i : ℕ) (digits : List ℕ) → i < length digits → value ≡ value_of base (take i digits)
+    → Some digit ≡ digit_of (get_or digits i 0) → ((digit < base) × (value * base + digit < 2 ^ 32) → ⊥)
     → None ≡ number_in base digits
 none_longer base value digit i digits within v d refused = by (nat_lt digit base) refl
   where
@@ -89,11 +95,14 @@ none_longer base value digit i digits within v d refused = by (nat_lt digit base
         none_large base digits i (omega arith) within (subst (λ (x : ℕ). 2 ^ 32 ≤ x) (λ k. v k * base + value_is (get_or digits i 0) digit d k) large)
 
 -- a digit more that is taken
-pub one_longer : (base digit i : ℕ) (digits : List ℕ) → i < length digits → Some digit ≡ digit_of (get_or digits i 0) → value_of base (take i digits) * base + digit ≡ value_of base (take (i + 1) digits)
+pub one_longer : (base digit i : ℕ) (digits : List ℕ) → i < length digits → Some digit ≡ digit_of (get_or digits i 0)
+    → value_of base (take i digits) * base + digit ≡ value_of base (take (i + 1) digits)
 one_longer base digit i digits within d =
     ap (λ (x : ℕ). value_of base (take i digits) * base + x) (value_is (get_or digits i 0) digit d) ∙ sym (fold_more (with base) 0 digits i 0 within)
 
-pub all_longer : (base digit i : ℕ) (digits : List ℕ) → i < length digits → Some digit ≡ digit_of (get_or digits i 0) → digit < base → list_all (is_digit base) (take i digits) ≡ true
+pub all_longer : (base digit i : ℕ) (digits : List ℕ) → i < length digits → Some digit ≡ digit_of (get_or digits i 0) → digit < base
+    → list_all (is_digit base) (take i digits) ≡ true
     → list_all (is_digit base) (take (i + 1) digits) ≡ true
 all_longer base digit i digits within d below all =
-    list_all_more (is_digit base) digits i 0 within ∙ and_from (list_all (is_digit base) (take i digits)) (is_digit base (get_or digits i 0)) all (digit_below base (get_or digits i 0) digit d below)
+    list_all_more (is_digit base) digits i 0 within
+    ∙ and_from (list_all (is_digit base) (take i digits)) (is_digit base (get_or digits i 0)) all (digit_below base (get_or digits i 0) digit d below)

@@ -1,5 +1,7 @@
 -- The words of a line, one byte after the other.
-use Rattle.zl_asm.proofs.Common.{◌≡◌, ℕ, suc, ◌+◌, ◌-◌, ◌<◌, ◌≤◌, ◌≢◌, false, eqb, List, [], ◌∷◌, ◌++◌, length, take, drop, get_or, refl, sym, ap, ◌∙◌, arith, append_assoc, at_drop_more, at_drop_all, get_or-drop, length-drop, take_all, nat_tests, comma, word_before, words_from, take-suc}
+use Rattle.zl_asm.proofs.Common.{◌≡◌, ℕ, suc, ◌+◌, ◌-◌, ◌<◌, ◌≤◌, ◌≢◌, false, eqb, List, [], ◌∷◌, ◌++◌, length, take, drop, get_or, refl, sym, ap, ◌∙◌, arith}
+use Rattle.zl_asm.proofs.Common.{append_assoc, at_drop_more, at_drop_all, get_or-drop, length-drop, take_all, nat_tests, comma, word_before, words_from}
+use Rattle.zl_asm.proofs.Common.{take-suc}
 
 -- the word of the bytes from start to i
 abbrev pub part : List ℕ → ℕ → ℕ → List ℕ
@@ -23,7 +25,8 @@ at_comma : (word : List ℕ) (byte : ℕ) (bytes : List ℕ) → byte ≡ 44 →
 unfolding words_from
 at_comma word byte bytes e = rw e (before word (comma ∷ words_from [] bytes))
 
-at_letter : (word : List ℕ) (byte : ℕ) (bytes : List ℕ) → byte ≢ 59 → byte ≢ 32 → byte ≢ 44 → words_from word (byte ∷ bytes) ≡ words_from (word ++ byte ∷ []) bytes
+at_letter : (word : List ℕ) (byte : ℕ) (bytes : List ℕ) → byte ≢ 59 → byte ≢ 32 → byte ≢ 44
+    → words_from word (byte ∷ bytes) ≡ words_from (word ++ byte ∷ []) bytes
 unfolding words_from
 at_letter word byte bytes p q r =
     let p2 : eqb byte 59 ≡ false = grind (arith, nat_tests) in
@@ -42,7 +45,8 @@ longer_part line start i starts within =
     let place : start + (i - start) ≡ i = omega arith in
     let here : get_or (drop start line) (i - start) 0 ≡ get_or line i 0 = get_or-drop start line (i - start) 0 ∙ ap (λ (n : ℕ). get_or line n 0) place in
     let next : suc (i - start) ≡ i + 1 - start = omega arith in
-    ap (λ (b : ℕ). part line start i ++ b ∷ []) (sym here) ∙ sym (take-suc (drop start line) (i - start) 0 inside) ∙ ap (λ (n : ℕ). take n (drop start line)) next
+    ap (λ (b : ℕ). part line start i ++ b ∷ []) (sym here) ∙ sym (take-suc (drop start line) (i - start) 0 inside)
+    ∙ ap (λ (n : ℕ). take n (drop start line)) next
 
 fresh_part : (line : List ℕ) (i : ℕ) → part line i i ≡ []
 fresh_part line i = let none : i - i ≡ 0 = omega arith in ap (λ (n : ℕ). take n (drop i line)) none
@@ -51,11 +55,13 @@ fresh_part line i = let none : i - i ≡ 0 = omega arith in ap (λ (n : ℕ). ta
 pub after_semicolon : (said whole : List (List ℕ)) (line : List ℕ) (start i : ℕ) → i < length line → get_or line i 0 ≡ 59
     → said ++ words_from (part line start i) (drop i line) ≡ whole → said ++ word_before (part line start i) [] ≡ whole
 after_semicolon said whole line start i within e so_far =
-    ap (λ (x : List (List ℕ)). said ++ x) (sym (at_byte (part line start i) line i within ∙ at_semicolon (part line start i) (get_or line i 0) (drop (i + 1) line) e)) ∙ so_far
+    ap (λ (x : List (List ℕ)). said ++ x)
+    (sym (at_byte (part line start i) line i within ∙ at_semicolon (part line start i) (get_or line i 0) (drop (i + 1) line) e)) ∙ so_far
 
 -- a space parts words
 pub after_space : (said whole : List (List ℕ)) (line : List ℕ) (start i : ℕ) → i < length line → get_or line i 0 ≡ 32
-    → said ++ words_from (part line start i) (drop i line) ≡ whole → (said ++ word_before (part line start i) []) ++ words_from (part line (i + 1) (i + 1)) (drop (i + 1) line) ≡ whole
+    → said ++ words_from (part line start i) (drop i line) ≡ whole
+    → (said ++ word_before (part line start i) []) ++ words_from (part line (i + 1) (i + 1)) (drop (i + 1) line) ≡ whole
 after_space said whole line start i within e so_far =
     let word = part line start i in
     append_assoc said (word_before word []) (words_from (part line (i + 1) (i + 1)) (drop (i + 1) line))
@@ -76,7 +82,8 @@ after_comma said whole line start i within e so_far =
     ∙ so_far
 
 -- another byte is one more of the word
-pub after_letter : (said whole : List (List ℕ)) (line : List ℕ) (start i : ℕ) → start ≤ i → i < length line → get_or line i 0 ≢ 59 → get_or line i 0 ≢ 32 → get_or line i 0 ≢ 44
+pub after_letter : (said whole : List (List ℕ)) (line : List ℕ) (start i : ℕ) → start ≤ i → i < length line → get_or line i 0 ≢ 59 → get_or line i 0 ≢ 32
+    → get_or line i 0 ≢ 44
     → said ++ words_from (part line start i) (drop i line) ≡ whole → said ++ words_from (part line start (i + 1)) (drop (i + 1) line) ≡ whole
 after_letter said whole line start i starts within p q r so_far =
     let word = part line start i in

@@ -17,7 +17,8 @@ shown w k (body.Port port) agrees = tt
 shown w k (body.ChannelEnd peer queue) agrees = tt
 
 -- objects that agree with their processes show what those are in
-pub shown_all : (w : World) (m : Map Object) → IsTrue (is_sorted nat_cmp m) → ((k : ℕ) → IsTrue (has_key m k) → 0 < k) → ((k : ℕ) (o : Object) → get m k ≡ Some o → Agrees w k o.body) → ShowStates w m
+pub shown_all : (w : World) (m : Map Object) → IsTrue (is_sorted nat_cmp m) → ((k : ℕ) → IsTrue (has_key m k) → 0 < k)
+    → ((k : ℕ) (o : Object) → get m k ≡ Some o → Agrees w k o.body) → ShowStates w m
 shown_all w m in_order no_zero agrees = record { in_order = in_order; no_zero = no_zero; shown = λ j o at. shown w j o.body (agrees j o at) }
 
 -- those of a lab do

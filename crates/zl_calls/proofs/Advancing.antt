@@ -1,5 +1,8 @@
 -- What a process did by itself comes back to the world: what stands there for it, and the steps that these instructions are.
-use Rattle.zl_calls.proofs.Common.{◌≡◌, ◌<◌, ◌≤◌, ℕ, IsTrue, false≢true, Result, Ok, Err, arith, is_some, is_process, is_ready_in, List, length, map, get_or, set, replicate, refl, sym, ap, ◌∙◌, subst, Option, Some, None, none-some, same_Some, option_map, position, ◌==◌, true, slice_get, slice_get-get_or, get, Cpu, Program, is_ready, Settles, wakes, on_process, Library, Objects, process_entry, process_value, state_value, world_blocked, AreBlocked, IsConsistent, IsPlaceOf, World}
+use Rattle.zl_calls.proofs.Common.{◌≡◌, ◌<◌, ◌≤◌, ℕ, IsTrue, false≢true, Result, Ok, Err, arith, is_some, is_process, is_ready_in, List, length, map, get_or}
+use Rattle.zl_calls.proofs.Common.{set, replicate, refl, sym, ap, ◌∙◌, subst, Option, Some, None, none-some, same_Some, option_map, position, ◌==◌, true}
+use Rattle.zl_calls.proofs.Common.{slice_get, slice_get-get_or, get, Cpu, Program, is_ready, Settles, wakes, on_process, Library, Objects, process_entry}
+use Rattle.zl_calls.proofs.Common.{process_value, state_value, world_blocked, AreBlocked, IsConsistent, IsPlaceOf, World}
 use Rattle.std.proofs.lemmas.Option.{slice_get_within}
 use Rattle.zl_code.proofs.Common.{IfOk, Runs, IsSound as IsSoundWorld}
 use Rattle.zl_code.proofs.ProgramsKept.{step_programs}
@@ -61,7 +64,8 @@ made_passes P x (Err e) is passes = tt
 -- ---- the steps
 
 -- the process p stands at the place, under the pid, is ready and runs this program
-module _ (lib : Library) (ps : List Process) (r : Objects) (lab : IsConsistent ps r) (blocked : List ℕ) (are : AreBlocked ps blocked) (sound : IsSoundWorld (world_blocked ps r blocked)) (pid place : ℕ) (p : Process)
+module _ (lib : Library) (ps : List Process) (r : Objects) (lab : IsConsistent ps r) (blocked : List ℕ) (are : AreBlocked ps blocked)
+    (sound : IsSoundWorld (world_blocked ps r blocked)) (pid place : ℕ) (p : Process)
     (found : Some place ≡ position (λ q. q.pid == pid) ps) (read : p ≡ get_or ps place p) (is_ready_there : is_ready (state_value p.state) ≡ true)
     (quiet : wakes (world_blocked ps r blocked) ≡ world_blocked ps r blocked) (g : Program) (runs : slice_get lib p.program ≡ Some g) where
   abbrev before : World

@@ -1,5 +1,7 @@
 -- A call that looks at registered waits: it is done beside them and any blocked processes, or refused with nothing changed.
-use Rattle.zl_calls.proofs.Common.{◌≡◌, ℕ, Bool, List, [], ◌∷◌, refl, sym, ap, ◌∙◌, subst, None, Option, Result, Ok, Err, Library, Site, first_some, by_look_up, grows, refusal, replied, taken, Handles, Objects, Does, Replies, operand_of, status_of, values_of, world_blocked, world_value, IsConsistent, World}
+use Rattle.zl_calls.proofs.Common.{◌≡◌, ℕ, Bool, List, [], ◌∷◌, refl, sym, ap, ◌∙◌, subst, None, Option, Result, Ok, Err, Library, Site, first_some, by_look_up}
+use Rattle.zl_calls.proofs.Common.{grows, refusal, replied, taken, Handles, Objects, Does, Replies, operand_of, status_of, values_of, world_blocked}
+use Rattle.zl_calls.proofs.Common.{world_value, IsConsistent, World}
 use Rattle.std.specs.Result.{result_err}
 use Rattle.zl_rights.specs.LookUp.{granted}
 use Rattle.zl_rights.specs.World.{Wait}
@@ -35,14 +37,17 @@ module _ (w : World) (p : ℕ) where
       → first_some (first_some (operand_of w p kinds needed one ∷ first_some (operand_of w p others more two ∷ None ∷ []) ∷ []) ∷ None ∷ rest)
       ≡ behind_both (granted one kinds needed) (granted two others more) (first_some rest)
   both_looked_up one two kinds others needed more rest =
-      (λ i. first_some (first_some (look_up_answers (granted one kinds needed) i ∷ first_some (look_up_answers (granted two others more) i ∷ None ∷ []) ∷ []) ∷ None ∷ rest))
+      (λ i. first_some (first_some (look_up_answers (granted one kinds needed) i ∷ first_some (look_up_answers (granted two others more) i ∷ None ∷ []) ∷ [])
+      ∷ None ∷ rest))
       ∙ by_both (granted one kinds needed) (granted two others more)
     where
       by_rest : (o : Option Outcome) → o ≡ first_some (o ∷ [])
       by_rest None = refl
       by_rest _ = refl
 
-      by_both : (x y : Result Entry Status) → first_some (first_some (answers (result_err x) ∷ first_some (answers (result_err y) ∷ None ∷ []) ∷ []) ∷ None ∷ rest) ≡ behind_both x y (first_some rest)
+      by_both : (x y : Result Entry Status)
+          → first_some (first_some (answers (result_err x) ∷ first_some (answers (result_err y) ∷ None ∷ []) ∷ []) ∷ None ∷ rest)
+          ≡ behind_both x y (first_some rest)
       by_both (Ok e) (Ok f) = by_rest (first_some rest)
       by_both (Ok e) (Err s) = refl
       by_both (Err s) y = refl
@@ -50,7 +55,8 @@ module _ (w : World) (p : ℕ) where
 -- ---- the call
 
 -- a process of a lab, before and after its call
-module _ (lib : Library) (before after : List Process) (r r2 : Objects) (p p2 : Process) (lab : IsConsistent before r) (write : IsWrite before after p p2) (s : Site) where
+module _ (lib : Library) (before after : List Process) (r r2 : Objects) (p p2 : Process) (lab : IsConsistent before r) (write : IsWrite before after p p2)
+    (s : Site) where
   -- the world afterwards, from the one without waits
   pub ends_among : (blocked : List ℕ) (middle : World) (waits : List Wait) (made : ℕ) (answer : Status) (values : List ℕ)
       → world_value after r2 ≡ replied middle p.pid s answer values → r2.waits ≡ waits → r2.waits_made ≡ made
@@ -62,18 +68,24 @@ module _ (lib : Library) (before after : List Process) (r r2 : Objects) (p p2 : 
       (refused : (blocked : List ℕ) → refusal lib (world_blocked before r blocked) p.pid s.request ≡ answers o) (may_want : wants ≡ grows s.request)
       (takes_none : (blocked : List ℕ) → taken (world_blocked before r blocked) p.pid s ≡ world_blocked before r blocked)
       (nothing : (blocked : List ℕ) → TellsNothing lib (world_blocked before r blocked) p.pid s)
-      (done : (x : A) → Done x p2.table r2 → Replies s status.Ok (values x) p p2 → IsCalledAmong lib before after r r2 p.pid s (outcome.Answered status.Ok)) where
+      (done : (x : A) → Done x p2.table r2 → Replies s status.Ok (values x) p p2
+      → IsCalledAmong lib before after r r2 p.pid s (outcome.Answered status.Ok)) where
     by_answer : (answer : Result A Status) → Does Done wants o p.table r answer p2.table r2 → Replies s (status_of answer) (values_of values answer) p p2
         → IsCalledAmong lib before after r r2 p.pid s (outcome.Answered (status_of answer))
     by_answer (Ok x) does replies = done x does.ok replies
     by_answer (Err answer) does replies = record {
-      calls = λ blocked. refused_calls lib (world_blocked before r blocked) p.pid s wants o answer (world_blocked after r2 blocked) (nothing blocked) (refused blocked) may_want does.err
-          (ends_among blocked (world_value before r) r.waits r.waits_made answer [] (same_world before after p p2 write r r2 s answer [] does.same_table does.same_objects replies)
+      calls =
+          λ blocked. refused_calls lib (world_blocked before r blocked) p.pid s wants o answer (world_blocked after r2 blocked) (nothing blocked)
+          (refused blocked) may_want does.err
+          (ends_among blocked (world_value before r) r.waits r.waits_made answer []
+          (same_world before after p p2 write r r2 s answer [] does.same_table does.same_objects replies)
           (ap (λ (x : Objects). x.waits) does.same_objects) (ap (λ (x : Objects). x.waits_made) does.same_objects)
           ∙ ap (λ (v : World). replied v p.pid s answer []) (sym (takes_none blocked)));
-      keeps = subst (IsConsistent after) (sym does.same_objects) (refusal_keeps before after p p2 write r lab does.same_table (ap (λ (q : Process). q.state) replies));
+      keeps = subst (IsConsistent after) (sym does.same_objects)
+          (refusal_keeps before after p p2 write r lab does.same_table (ap (λ (q : Process). q.state) replies));
     }
 
-    pub answered_among : (ends : Outcome) (answer : Result A Status) → Does Done wants o p.table r answer p2.table r2 → Replies s (status_of answer) (values_of values answer) p p2
+    pub answered_among : (ends : Outcome) (answer : Result A Status) → Does Done wants o p.table r answer p2.table r2
+        → Replies s (status_of answer) (values_of values answer) p p2
         → ends ≡ outcome.Answered (status_of answer) → IsCalledAmong lib before after r r2 p.pid s ends
     answered_among ends answer does replies is = subst (λ (x : Outcome). IsCalledAmong lib before after r r2 p.pid s x) (sym is) (by_answer answer does replies)

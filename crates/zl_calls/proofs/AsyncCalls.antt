@@ -1,5 +1,9 @@
 -- The call wait_async, from its table and objects to a step beside the registered waits.
-use Rattle.zl_calls.proofs.Common.{◌≡◌, ℕ, Bool, true, false, not, List, [], ◌∷◌, ◌++◌, ◌+◌, refl, sym, ap, ◌∙◌, subst, Option, Some, None, Result, Ok, Err, IsTrue, get, Ready, Library, Site, site, refusal, handle_operands, examined, operand, any, listed, answer_if, first_some, then_some, option_or, may_choose, new_handles, insert_all, remove_all, taken_handles, effect, gives_ok, gives_refused, AtCall, next_for, Values, replied, taken, Objects, IsAnswered, Replies, told_by, no_value, process_value, state_value, world_blocked, world_value, IsConsistent, World}
+use Rattle.zl_calls.proofs.Common.{◌≡◌, ℕ, Bool, true, false, not, List, [], ◌∷◌, ◌++◌, ◌+◌, refl, sym, ap, ◌∙◌, subst, Option, Some, None, Result, Ok, Err}
+use Rattle.zl_calls.proofs.Common.{IsTrue, get, Ready, Library, Site, site, refusal, handle_operands, examined, operand, any, listed, answer_if, first_some}
+use Rattle.zl_calls.proofs.Common.{then_some, option_or, may_choose, new_handles, insert_all, remove_all, taken_handles, effect, gives_ok, gives_refused}
+use Rattle.zl_calls.proofs.Common.{AtCall, next_for, Values, replied, taken, Objects, IsAnswered, Replies, told_by, no_value, process_value, state_value}
+use Rattle.zl_calls.proofs.Common.{world_blocked, world_value, IsConsistent, World}
 use Rattle.zl_rights.specs.Numbers.{WAIT, WRITE}
 use Rattle.zl_rights.specs.World.{Wait as WaitValue}
 use Rattle.zl_rights.specs.declared.entry.Entry.{Entry}
@@ -36,15 +40,18 @@ module _ (lib : Library) (before after : List Process) (r r2 : Objects) (p p2 : 
 
     -- ---- the answer
 
-    by_tests : (fits may : Bool) → first_some (answer_if (not fits) status.InvalidArgs ∷ answer_if (not may) status.NoResources ∷ []) ≡ answers (option_or (then_some (not fits) status.InvalidArgs) (then_some (not may) status.NoResources))
+    by_tests : (fits may : Bool) → first_some (answer_if (not fits) status.InvalidArgs ∷ answer_if (not may) status.NoResources ∷ [])
+        ≡ answers (option_or (then_some (not fits) status.InvalidArgs) (then_some (not may) status.NoResources))
     by_tests false may = refl
     by_tests true true = refl
     by_tests true false = refl
 
     by_both : (blocked : List ℕ) (x y : Result Entry Status)
-        → behind_both (among blocked) p.pid x y (first_some (answer_if (not (is_mask mask)) status.InvalidArgs ∷ answer_if (not (may_register r)) status.NoResources ∷ []))
+        → behind_both (among blocked) p.pid x y
+        (first_some (answer_if (not (is_mask mask)) status.InvalidArgs ∷ answer_if (not (may_register r)) status.NoResources ∷ []))
         ≡ answers (async_refusal_of r mask x y)
-    by_both blocked (Ok e) (Ok f) = ap (λ (o : Option Outcome). first_some (o ∷ [])) (by_tests (is_mask mask) (may_register r)) ∙ alone (async_refusal_of r mask (Ok e) (Ok f))
+    by_both blocked (Ok e) (Ok f) =
+        ap (λ (o : Option Outcome). first_some (o ∷ [])) (by_tests (is_mask mask) (may_register r)) ∙ alone (async_refusal_of r mask (Ok e) (Ok f))
       where
         alone : (o : Option Status) → first_some (answers o ∷ []) ≡ answers o
         alone None = refl
@@ -73,16 +80,22 @@ module _ (lib : Library) (before after : List Process) (r r2 : Objects) (p p2 : 
       same_wait : (blocked : List ℕ) → wait_of (among blocked) p.pid h port key mask ≡ wait_value wait
       same_wait blocked =
           let there : get p.table.entries h ≡ Some registers.watched = is_found (get p.table.entries h) [] WAIT registers.watched registers.is_watched in
-          let receives : get p.table.entries port ≡ Some registers.receiver = is_found (get p.table.entries port) (kind.Port ∷ []) WRITE registers.receiver registers.is_receiver in
+          let receives : get p.table.entries port ≡ Some registers.receiver =
+          is_found (get p.table.entries port) (kind.Port ∷ []) WRITE registers.receiver registers.is_receiver in
           rw (table_is before after p p2 write r, there, receives) refl
 
       answered_world : world_value after r2 ≡ replied (world_value before r) p.pid async_site status.Ok []
       answered_world =
           ap (world_value after) registers.objects
-          ∙ (beside_world after r (watching r wait) (watching_beside r wait) ∙ same_world before after p p2 write r r async_site status.Ok [] registers.table refl replies)
+          ∙ (beside_world after r (watching r wait) (watching_beside r wait)
+          ∙ same_world before after p p2 write r r async_site status.Ok [] registers.table refl replies)
 
-      async_ends : (blocked : List ℕ) → world_blocked after r2 blocked ≡ replied (record (among blocked) { waits = r.waits ++ (wait_of (among blocked) p.pid h port key mask ∷ []); waits_made = r.waits_made + 1 }) p.pid async_site status.Ok []
-      async_ends blocked = ends_among lib before after r r2 p p2 lab write async_site blocked (world_value before r) (r.waits ++ (wait_of (among blocked) p.pid h port key mask ∷ [])) (r.waits_made + 1) status.Ok []
+      async_ends : (blocked : List ℕ) → world_blocked after r2 blocked
+          ≡ replied (record (among blocked) { waits = r.waits ++ (wait_of (among blocked) p.pid h port key mask ∷ []); waits_made = r.waits_made + 1 }) p.pid
+          async_site status.Ok []
+      async_ends blocked =
+          ends_among lib before after r r2 p p2 lab write async_site blocked (world_value before r)
+          (r.waits ++ (wait_of (among blocked) p.pid h port key mask ∷ [])) (r.waits_made + 1) status.Ok []
           answered_world
           (ap (λ (x : Objects). x.waits) registers.objects ∙ ap (λ (x : WaitValue). r.waits ++ (x ∷ [])) (sym (same_wait blocked)))
           (ap (λ (x : Objects). x.waits_made) registers.objects)
@@ -100,5 +113,8 @@ module _ (lib : Library) (before after : List Process) (r r2 : Objects) (p p2 : 
     pub async_called : state_value p.state ≡ Ready → (call : CallName) → next_for lib (process_value p) ≡ AtCall call async_site → (o : Outcome)
         → IsAnswered (told_by no_value) (WaitAsyncDoes p.pid h port key mask) async_site p r o p2 r2 → IsCalledAmong lib before after r r2 p.pid async_site o
     unfolding taken_handles handle_operands remove_all gives_refused
-    async_called ready call next o acts = answered_among lib before after r r2 p p2 lab write async_site no_value (λ _. RegistersWait p.pid p.table r h port key mask) true (async_refusal p.table.entries r h port mask)
-        async_refused refl (λ blocked. refl) (λ blocked answer. refl) (λ done registers replies. async_done registers replies) o acts.answer acts.acts acts.replied acts.ends
+    async_called ready call next o acts =
+        answered_among lib before after r r2 p p2 lab write async_site no_value (λ _. RegistersWait p.pid p.table r h port key mask) true
+        (async_refusal p.table.entries r h port mask)
+        async_refused refl (λ blocked. refl) (λ blocked answer. refl) (λ done registers replies. async_done registers replies) o acts.answer acts.acts
+        acts.replied acts.ends

@@ -1,5 +1,7 @@
 -- Objects that are the same but for waits and the places for their packets: the world sees the same, and the invariant holds.
-use Rattle.zl_calls.proofs.Common.{◌≡◌, ℕ, Bool, ◌==◌, List, [], ◌∷◌, map, refl, sym, ap, ◌∙◌, subst, Option, Some, None, inl, inr, IsTrue, cases_Bool, eqb-true, false≢true, same_Some, is_some, Map, get, has_key, update, kind_of, handles_to, Objects, Agrees, object_entry, body_value, world_value, AreNamed, IsConsistent, IsNamed, World}
+use Rattle.zl_calls.proofs.Common.{◌≡◌, ℕ, Bool, ◌==◌, List, [], ◌∷◌, map, refl, sym, ap, ◌∙◌, subst, Option, Some, None, inl, inr, IsTrue, cases_Bool}
+use Rattle.zl_calls.proofs.Common.{eqb-true, false≢true, same_Some, is_some, Map, get, has_key, update, kind_of, handles_to, Objects, Agrees, object_entry}
+use Rattle.zl_calls.proofs.Common.{body_value, world_value, AreNamed, IsConsistent, IsNamed, World}
 use Rattle.zl_code.proofs.Common.{each}
 use Rattle.std.specs.List.{find}
 use Rattle.zl_rights.specs.declared.entry.Entry.{Entry}
@@ -63,13 +65,15 @@ module _ (ps : List Process) (r r2 : Objects) (beside : AreBeside r r2) where
       named = λ k p v e at there. named e (lab.named k p v e at there);
       queued = λ k o at.
           let old : IsAlike r.objects k o = was k o at in
-          subst (AreNamed r2.objects) (sym (of_body queue_of (λ packets reserved. refl) o.body old.before.body old.body)) (still_named r.objects r2.objects named (queue_of old.before.body) (lab.queued k old.before old.there));
+          subst (AreNamed r2.objects) (sym (of_body queue_of (λ packets reserved. refl) o.body old.before.body old.body))
+          (still_named r.objects r2.objects named (queue_of old.before.body) (lab.queued k old.before old.there));
       counted = λ k o at.
           let old : IsAlike r.objects k o = was k o at in
           old.handles ∙ (lab.counted k old.before old.there ∙ ap (λ (w : World). handles_to w k) (sym beside_world));
       agrees = λ k o at.
           let old : IsAlike r.objects k o = was k o at in
-          subst (λ (w : World). Agrees w k o.body) (sym beside_world) (agrees_same (world_value ps r) k o.body old.before.body old.body (lab.agrees k old.before old.there));
+          subst (λ (w : World). Agrees w k o.body) (sym beside_world)
+          (agrees_same (world_value ps r) k o.body old.before.body old.body (lab.agrees k old.before old.there));
       in_jobs = λ k o at.
           let old : IsAlike r.objects k o = was k o at in
           in_job_same r.objects r2.objects beside.objects o.body old.before.body old.body ∙ lab.in_jobs k old.before old.there;
@@ -80,7 +84,8 @@ pub beside_same : (r : Objects) → AreBeside r r
 beside_same r = record { objects = refl; koids = refl }
 
 pub beside_then : (r mid r2 : Objects) → AreBeside r mid → AreBeside mid r2 → AreBeside r r2
-beside_then r mid r2 first later = record { objects = same_then r.objects mid.objects r2.objects first.objects later.objects; koids = later.koids ∙ first.koids }
+beside_then r mid r2 first later =
+    record { objects = same_then r.objects mid.objects r2.objects first.objects later.objects; koids = later.koids ∙ first.koids }
 
 -- ---- which changes are such
 
@@ -104,7 +109,8 @@ place_bare f same o = λ i. record { body = by_body o.body i; signals = record {
     by_body (body.ChannelEnd peer queue) = refl
     by_body (body.Port p) = λ i. body.Port (record { packets = same p i; reserved = 0 })
 
-pub ported_beside : (r : Objects) (k : ℕ) (f : Port → Port) → ((p : Port) → (f p).packets ≡ p.packets) → AreBeside r (record r { objects = update r.objects k (at_port f) })
+pub ported_beside : (r : Objects) (k : ℕ) (f : Port → Port) → ((p : Port) → (f p).packets ≡ p.packets)
+    → AreBeside r (record r { objects = update r.objects k (at_port f) })
 ported_beside r k f same = record { objects = one_bare r.objects k (at_port f) (place_bare f same); koids = refl }
 
 -- a wait begins
@@ -125,6 +131,7 @@ unwatching_beside r k test = record {
   koids = refl;
 }
   where
-    by_wait : (x : Option Watch) → AreSameButWaits (update r.objects k (unwatched test)) (at_port_of x (λ x. without_place) (update r.objects k (unwatched test)))
+    by_wait : (x : Option Watch)
+        → AreSameButWaits (update r.objects k (unwatched test)) (at_port_of x (λ x. without_place) (update r.objects k (unwatched test)))
     by_wait None = refl
     by_wait (Some x) = one_bare (update r.objects k (unwatched test)) x.port (at_port without_place) (place_bare without_place (λ p. refl))

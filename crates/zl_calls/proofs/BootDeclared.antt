@@ -1,5 +1,7 @@
 -- Whether the handles of a statement are those that a checked program declares, and whether its job allows what the program needs.
-use Rattle.zl_calls.proofs.Common.{◌≡◌, ◌≢◌, ◌<◌, ◌≤◌, ◌+◌, ◌&&◌, ℕ, zero, suc, Bool, true, false, not, List, [], ◌∷◌, ◌++◌, length, get_or, refl, sym, ap, ◌∙◌, false≢true, Option, Some, None, IsTrue, arith, is_some, and_parts, list_all, list_any, Map, get, Program, body_in, has_default_rights, handle_given, handles_given, allowed, if_default, Objects, world_value}
+use Rattle.zl_calls.proofs.Common.{◌≡◌, ◌≢◌, ◌<◌, ◌≤◌, ◌+◌, ◌&&◌, ℕ, zero, suc, Bool, true, false, not, List, [], ◌∷◌, ◌++◌, length, get_or, refl, sym, ap, ◌∙◌}
+use Rattle.zl_calls.proofs.Common.{false≢true, Option, Some, None, IsTrue, arith, is_some, and_parts, list_all, list_any, Map, get, Program, body_in}
+use Rattle.zl_calls.proofs.Common.{has_default_rights, handle_given, handles_given, allowed, if_default, Objects, world_value}
 use Rattle.zl_code.proofs.Common.{Object as ObjectValue}
 use Rattle.std.specs.Prelude.{drop}
 use Rattle.std.specs.Option.{option_to_list}
@@ -39,15 +41,19 @@ module _ (objects : Map ObjectValue) where
   handle_first None rest s ss may = absurd (false≢true may)
   handle_first (Some e) rest s ss may = by_test (has_default_rights e) refl may
     where
-      by_test : (b : Bool) → has_default_rights e ≡ b → IsTrue (is_some (if_default (Some e))) → (is_declared s e && are_declared ss rest) ≡ (is_only_start (s ∷ []) (if_default (Some e)) && are_declared ss rest)
+      by_test : (b : Bool) → has_default_rights e ≡ b → IsTrue (is_some (if_default (Some e)))
+          → (is_declared s e && are_declared ss rest) ≡ (is_only_start (s ∷ []) (if_default (Some e)) && are_declared ss rest)
       by_test true is there = rw is refl
       by_test false is there = absurd (false≢true (rw is at there))
 
   all_given : (gs : List Grant) → IsTrue (may_all gs) → length (handles_given objects gs) ≡ length gs
   all_given [] may = refl
-  all_given (g ∷ gs) may = by_handle (handle_given g (body_in (get objects g.koid))) (and_parts (is_some (allowed objects g)) _ may).0 (all_given gs (and_parts (is_some (allowed objects g)) _ may).1)
+  all_given (g ∷ gs) may =
+      by_handle (handle_given g (body_in (get objects g.koid))) (and_parts (is_some (allowed objects g)) _ may).0
+      (all_given gs (and_parts (is_some (allowed objects g)) _ may).1)
     where
-      by_handle : (o : Option Entry) → IsTrue (is_some (if_default o)) → length (handles_given objects gs) ≡ length gs → length (option_to_list o ++ handles_given objects gs) ≡ length (g ∷ gs)
+      by_handle : (o : Option Entry) → IsTrue (is_some (if_default o)) → length (handles_given objects gs) ≡ length gs
+          → length (option_to_list o ++ handles_given objects gs) ≡ length (g ∷ gs)
       by_handle None there rest = absurd (false≢true there)
       by_handle (Some e) there rest = ap (λ (n : ℕ). suc n) rest
 
@@ -68,11 +74,14 @@ module _ (objects : Map ObjectValue) where
   one_fit ss gs i s g same lt may =
       at_drop_more (λ (xs : List Start). are_declared xs (handles_given objects (drop i gs))) ss i s (omega (arith, same, lt))
       ∙ (at_drop_more (λ (xs : List Grant). are_declared (get_or ss i s ∷ drop (i + 1) ss) (handles_given objects xs)) gs i g lt
-      ∙ handle_first (handle_given (get_or gs i g) (body_in (get objects (get_or gs i g).koid))) (handles_given objects (drop (i + 1) gs)) (get_or ss i s) (drop (i + 1) ss) (one_may gs i g lt may))
+      ∙ handle_first (handle_given (get_or gs i g) (body_in (get objects (get_or gs i g).koid))) (handles_given objects (drop (i + 1) gs)) (get_or ss i s)
+      (drop (i + 1) ss) (one_may gs i g lt may))
 
-  module _ (ss : List Start) (gs : List Grant) (i : ℕ) (same : length ss ≡ length gs) (may : IsTrue (may_all gs)) (so_far : fit_from ss gs i ≡ are_declared ss (handles_given objects gs)) where
+  module _ (ss : List Start) (gs : List Grant) (i : ℕ) (same : length ss ≡ length gs) (may : IsTrue (may_all gs))
+      (so_far : fit_from ss gs i ≡ are_declared ss (handles_given objects gs)) where
     module _ (s : Start) (g : Grant) (lt : i < length gs) where
-      pub one_more : is_only_start (get_or ss i s ∷ []) (allowed objects (get_or gs i g)) ≡ true → fit_from ss gs (i + 1) ≡ are_declared ss (handles_given objects gs)
+      pub one_more : is_only_start (get_or ss i s ∷ []) (allowed objects (get_or gs i g)) ≡ true
+          → fit_from ss gs (i + 1) ≡ are_declared ss (handles_given objects gs)
       one_more fit = sym (one_fit ss gs i s g same lt may ∙ ap (λ (b : Bool). b && fit_from ss gs (i + 1)) fit) ∙ so_far
 
       pub one_misfit : is_only_start (get_or ss i s ∷ []) (allowed objects (get_or gs i g)) ≡ false → are_declared ss (handles_given objects gs) ≡ false
@@ -88,5 +97,8 @@ any_same f g [] same = refl
 any_same f g (x ∷ xs) same = rw (same x, any_same f g xs same) refl
 
 -- what the job's own policy decides is what the definitions see
-pub needs_seen : (ps : List Process) (r : Objects) (job : ℕ) (g : Program) → lacks_need (world_value ps r) job (Some g) ≡ needs_more (action_of (job_at r.objects job)) (Some g)
-needs_seen ps r job g = ap (λ (b : Bool). g.checked && b) (any_same _ _ g.image.needs (λ c. rw (get_seen r.objects job) (ap (λ a. not (is_allowing a)) (seen_action (get r.objects job) c))))
+pub needs_seen : (ps : List Process) (r : Objects) (job : ℕ) (g : Program)
+    → lacks_need (world_value ps r) job (Some g) ≡ needs_more (action_of (job_at r.objects job)) (Some g)
+needs_seen ps r job g =
+    ap (λ (b : Bool). g.checked && b)
+    (any_same _ _ g.image.needs (λ c. rw (get_seen r.objects job) (ap (λ a. not (is_allowing a)) (seen_action (get r.objects job) c))))

@@ -1,5 +1,10 @@
 -- Which fault a statement of a boot has, from what the code tests.
-use Rattle.zl_calls.proofs.Common.{◌+◌, ◌≡◌, ◌<◌, ◌≤◌, ◌&&◌, ◌||◌, ◌⊎◌, ℕ, Bool, true, false, not, List, [], ◌∷◌, ◌++◌, length, map, refl, sym, ap, ◌∙◌, false≢true, Option, Some, None, inl, inr, IsTrue, arith, or_left, or_right, and_parts, is_some, slice_get, nat_lt, nat_le, option_map, nat_tests, then_some, first_some, Map, get, has_key, Library, Program, body_in, boot_fault, has_default_rights, within, default_rights_of, rights_of, kind_of, ◌^◌, bit_and, cases_Bool, eqb-true, list_all, Objects, body_value, object_entry, object_value, world_value, kind_in, kind_at, allowed, if_default, rights_if, World, and_le_l, rights_given, is_job, all_known, may_start_with, handle_given, handles_given, MOST_PROCESSES, MOST_KOIDS, MOST_GRANTS}
+use Rattle.zl_calls.proofs.Common.{◌+◌, ◌≡◌, ◌<◌, ◌≤◌, ◌&&◌, ◌||◌, ◌⊎◌, ℕ, Bool, true, false, not, List, [], ◌∷◌, ◌++◌, length, map, refl, sym, ap, ◌∙◌}
+use Rattle.zl_calls.proofs.Common.{false≢true, Option, Some, None, inl, inr, IsTrue, arith, or_left, or_right, and_parts, is_some, slice_get, nat_lt, nat_le}
+use Rattle.zl_calls.proofs.Common.{option_map, nat_tests, then_some, first_some, Map, get, has_key, Library, Program, body_in, boot_fault, has_default_rights}
+use Rattle.zl_calls.proofs.Common.{within, default_rights_of, rights_of, kind_of, ◌^◌, bit_and, cases_Bool, eqb-true, list_all, Objects, body_value}
+use Rattle.zl_calls.proofs.Common.{object_entry, object_value, world_value, kind_in, kind_at, allowed, if_default, rights_if, World, and_le_l, rights_given}
+use Rattle.zl_calls.proofs.Common.{is_job, all_known, may_start_with, handle_given, handles_given, MOST_PROCESSES, MOST_KOIDS, MOST_GRANTS}
 use Rattle.zl_code.proofs.Common.{Object as ObjectValue, is_job_body}
 use Rattle.zl_code.specs.Boot.{are_misfits}
 use Rattle.zl_code.specs.Jobs.{lacks_need}
@@ -52,12 +57,15 @@ module _ (objects : Map Object) where
   -- the handle that is given, from the kind of its object
   abbrev pub with_kind : Grant → Option Kind → Option Entry
   with_kind g None = None
-  with_kind g (Some kind) = option_map (λ rights. record { koid = g.koid; kind = kind; rights = rights }) (rights_if (within (rights_given g.rights kind) (default_rights_of kind)) (rights_given g.rights kind))
+  with_kind g (Some kind) =
+      option_map (λ rights. record { koid = g.koid; kind = kind; rights = rights })
+      (rights_if (within (rights_given g.rights kind) (default_rights_of kind)) (rights_given g.rights kind))
 
   pub handle_seen : (g : Grant) → allowed (map object_entry objects) g ≡ with_kind g (kind_at objects g.koid)
   handle_seen g = rw (get_seen objects g.koid) (by_object (get objects g.koid))
     where
-      by_test : (k : Kind) (b : Bool) → then_some {T = Entry} b (record { koid = g.koid; kind = k; rights = rights_of (rights_given g.rights k) }) ≡ option_map (λ rights. record { koid = g.koid; kind = k; rights = rights }) (then_some b (rights_of (rights_given g.rights k)))
+      by_test : (k : Kind) (b : Bool) → then_some {T = Entry} b (record { koid = g.koid; kind = k; rights = rights_of (rights_given g.rights k) })
+          ≡ option_map (λ rights. record { koid = g.koid; kind = k; rights = rights }) (then_some b (rights_of (rights_given g.rights k)))
       by_test k true = refl
       by_test k false = refl
 
@@ -71,7 +79,8 @@ module _ (objects : Map Object) where
       kind_is (body.Port port) = refl
       kind_is (body.ChannelEnd peer queue) = refl
 
-      by_object : (o : Option Object) → if_default (handle_given g (body_in (option_map object_value o))) ≡ with_kind g (option_map (λ (x : Object). kind_in x.body) o)
+      by_object : (o : Option Object)
+          → if_default (handle_given g (body_in (option_map object_value o))) ≡ with_kind g (option_map (λ (x : Object). kind_in x.body) o)
       by_object None = refl
       by_object (Some o) =
           ap (λ (k : Kind). given k) (kind_is o.body)
@@ -92,21 +101,27 @@ past_default rights k large = elim (cases_Bool (within rights (default_rights_of
     small kind.Job = omega arith
 
 -- where all objects are there, the handles that may be given are those with default rights
-pub rights_are : (objects : Map ObjectValue) (gs : List Grant) → IsTrue (all_known objects gs) → list_all has_default_rights (handles_given objects gs) ≡ list_all (λ g. is_some (allowed objects g)) gs
+pub rights_are : (objects : Map ObjectValue) (gs : List Grant) → IsTrue (all_known objects gs)
+    → list_all has_default_rights (handles_given objects gs) ≡ list_all (λ g. is_some (allowed objects g)) gs
 rights_are objects [] known = refl
-rights_are objects (g ∷ gs) known = by_object (get objects g.koid) (and_parts (has_key objects g.koid) _ known).0 (rights_are objects gs (and_parts (has_key objects g.koid) _ known).1)
+rights_are objects (g ∷ gs) known =
+    by_object (get objects g.koid) (and_parts (has_key objects g.koid) _ known).0 (rights_are objects gs (and_parts (has_key objects g.koid) _ known).1)
   where
     by_test : (b : Bool) (e : Entry) → b ≡ is_some (then_some b e)
     by_test true e = refl
     by_test false e = refl
 
-    by_handle : (x : Option Entry) → IsTrue (is_some x) → list_all has_default_rights (handles_given objects gs) ≡ list_all (λ y. is_some (allowed objects y)) gs
-        → list_all has_default_rights (option_to_list x ++ handles_given objects gs) ≡ (is_some (if_default x) && list_all (λ y. is_some (allowed objects y)) gs)
+    by_handle : (x : Option Entry) → IsTrue (is_some x)
+        → list_all has_default_rights (handles_given objects gs) ≡ list_all (λ y. is_some (allowed objects y)) gs
+        → list_all has_default_rights (option_to_list x ++ handles_given objects gs)
+        ≡ (is_some (if_default x) && list_all (λ y. is_some (allowed objects y)) gs)
     by_handle None there rest = absurd cc
     by_handle (Some e) there rest = λ i. by_test (has_default_rights e) e i && rest i
 
-    by_object : (o : Option ObjectValue) → IsTrue (is_some o) → list_all has_default_rights (handles_given objects gs) ≡ list_all (λ y. is_some (allowed objects y)) gs
-        → list_all has_default_rights (option_to_list (handle_given g (body_in o)) ++ handles_given objects gs) ≡ (is_some (if_default (handle_given g (body_in o))) && list_all (λ y. is_some (allowed objects y)) gs)
+    by_object : (o : Option ObjectValue) → IsTrue (is_some o)
+        → list_all has_default_rights (handles_given objects gs) ≡ list_all (λ y. is_some (allowed objects y)) gs
+        → list_all has_default_rights (option_to_list (handle_given g (body_in o)) ++ handles_given objects gs)
+        ≡ (is_some (if_default (handle_given g (body_in o))) && list_all (λ y. is_some (allowed objects y)) gs)
     by_object None there rest = absurd cc
     by_object (Some o) there rest = by_handle (handle_given g (Some o.body)) refl rest
 
@@ -127,9 +142,11 @@ module _ (lib : Library) (w : World) (job program word : ℕ) (gs : List Grant) 
   abbrev es : List Entry
   es = handles_given w.objects gs
 
-  by_tests : (known may misfit denied filled : Bool) → (is_job w job && (is_some (slice_get lib program) && all_known w.objects gs)) ≡ known → may_start_with gs es ≡ may
+  by_tests : (known may misfit denied filled : Bool) → (is_job w job && (is_some (slice_get lib program) && all_known w.objects gs)) ≡ known
+      → may_start_with gs es ≡ may
       → are_misfits (slice_get lib program) es ≡ misfit → lacks_need w job (slice_get lib program) ≡ denied → full ≡ filled
-      → fault ≡ first_some (then_some (not known) cause.Unknown ∷ then_some (not may) cause.BadHandleList ∷ then_some misfit cause.BadHandleList ∷ then_some denied cause.NeedDenied ∷ then_some filled cause.Limit ∷ [])
+      → fault ≡ first_some (then_some (not known) cause.Unknown ∷ then_some (not may) cause.BadHandleList ∷ then_some misfit cause.BadHandleList
+      ∷ then_some denied cause.NeedDenied ∷ then_some filled cause.Limit ∷ [])
   unfolding boot_fault
   by_tests known may misfit denied filled a b c d e = rw (a, b, c, d, e) refl
 

@@ -1,5 +1,9 @@
 -- The statements of a boot on jobs: a job is made in another, and a policy is set.
-use Rattle.zl_calls.proofs.Common.{◌≡◌, ◌+◌, ◌||◌, ℕ, Bool, true, false, List, [], ◌∷◌, refl, sym, ap, ◌∙◌, subst, if◌then◌else◌, Option, Some, None, Result, Ok, Err, ⊤, OnOk, IsTrue, arith, false≢true, then_some, first_some, Map, get, has_key-update, is_sorted-update, is_process, runs, Library, boot_effect, boot_fault, with_object, on_object, handles_to, body_of, Objects, with_new, is_job_at, is_job_in, is_job_body, object_value, body_value, world_value, is_in_job, Agrees, AreNamed, IsSound, IsMaking, IsCauseOf, Makes, seen, World}
+use Rattle.zl_calls.proofs.Common.{◌≡◌, ◌+◌, ◌||◌, ℕ, Bool, true, false, List, [], ◌∷◌, refl, sym, ap, ◌∙◌, subst, if◌then◌else◌, Option, Some, None, Result}
+use Rattle.zl_calls.proofs.Common.{Ok, Err, ⊤, OnOk, IsTrue, arith, false≢true, then_some, first_some, Map, get, has_key-update, is_sorted-update, is_process}
+use Rattle.zl_calls.proofs.Common.{runs, Library, boot_effect, boot_fault, with_object, on_object, handles_to, body_of, Objects, with_new, is_job_at, is_job_in}
+use Rattle.zl_calls.proofs.Common.{is_job_body, object_value, body_value, world_value, is_in_job, Agrees, AreNamed, IsSound, IsMaking, IsCauseOf, Makes, seen}
+use Rattle.zl_calls.proofs.Common.{World}
 use Rattle.zl_code.proofs.Common.{Object as ObjectValue}
 use Rattle.zl_code.specs.Boot.{is_job, lacks_koids, setting}
 use Rattle.zl_code.specs.Jobs.{has_child, job_within as body_within, policy_changed}
@@ -81,15 +85,19 @@ module _ (ps : List Process) (r : Objects) (making : IsMaking ps [] r) (k : ℕ)
     named = λ j p v e at there. named_rebodied (with_policy_body c a) (policy_keeps c a) r.objects k e (sound.named j p v e at there);
     queued = λ j q at. found_updated (with_policy_set c a) r.objects k (AreNamed changed.objects (queue_of q.body)) j q at
         (λ o old here is. subst (λ (x : Object). AreNamed changed.objects (queue_of x.body)) is (policy_named c a r k o.body (sound.queued j o old)))
-        (λ apart old. still_named r.objects changed.objects (named_rebodied (with_policy_body c a) (policy_keeps c a) r.objects k) (queue_of q.body) (sound.queued j q old));
+        (λ apart old. still_named r.objects changed.objects (named_rebodied (with_policy_body c a) (policy_keeps c a) r.objects k) (queue_of q.body)
+        (sound.queued j q old));
     counted = λ j q at. found_updated (with_policy_set c a) r.objects k (q.handles ≡ handles_to (world_value ps changed) j + 0) j q at
         (λ o old here is. let same : o.handles ≡ q.handles = ap (λ (x : Object). x.handles) is in omega (arith, same, sound.counted j o old, counts j))
         (λ apart old. omega (arith, sound.counted j q old, counts j));
     agrees = λ j q at. as_before j q.body (found_updated (with_policy_set c a) r.objects k (Agrees (world_value ps r) j q.body) j q at
-        (λ o old here is. subst (λ (x : Object). Agrees (world_value ps r) j x.body) is ((policy_keeps c a).agrees (world_value ps r) j o.body (sound.agrees j o old)))
+        (λ o old here is.
+        subst (λ (x : Object). Agrees (world_value ps r) j x.body) is ((policy_keeps c a).agrees (world_value ps r) j o.body (sound.agrees j o old)))
         (λ apart old. sound.agrees j q old));
     in_jobs = λ j q at. found_updated (with_policy_set c a) r.objects k (IsTrue (is_in_job changed.objects q.body)) j q at
-        (λ o old here is. subst (λ (x : Object). IsTrue (is_in_job changed.objects x.body)) is (rw ((policy_keeps c a).in_job changed.objects o.body, in_job_too (with_policy_body c a) (policy_keeps c a) r.objects k o.body) (sound.in_jobs j o old)))
+        (λ o old here is. subst (λ (x : Object). IsTrue (is_in_job changed.objects x.body)) is
+        (rw ((policy_keeps c a).in_job changed.objects o.body, in_job_too (with_policy_body c a) (policy_keeps c a) r.objects k o.body)
+        (sound.in_jobs j o old)))
         (λ apart old. rw (in_job_too (with_policy_body c a) (policy_keeps c a) r.objects k q.body) (sound.in_jobs j q old));
   }
 
@@ -160,7 +168,9 @@ module _ (lib : Library) (before : Made) (making : IsMaking before.processes.ite
           by_depth false is = absurd (none (job_within parent at.job) (new_is ∙ rw is refl))
 
       module _ (child : Job) (made : new_job ≡ Ok child) where
-        by_depth : (b : Bool) → is_deepest_job at.job ≡ b → ◌≡◌ {A = Result Job JobFault} (if b then Err fault.OutOfRange else Ok (job_within parent at.job)) (Ok child) → (is_deepest_job at.job ≡ false) × (child ≡ job_within parent at.job)
+        by_depth : (b : Bool)
+            → is_deepest_job at.job ≡ b → ◌≡◌ {A = Result Job JobFault} (if b then Err fault.OutOfRange else Ok (job_within parent at.job)) (Ok child)
+            → (is_deepest_job at.job ≡ false) × (child ≡ job_within parent at.job)
         by_depth true is h = absurd cc
         by_depth false is h = (is, cc)
 
@@ -210,7 +220,8 @@ module _ (lib : Library) (before : Made) (making : IsMaking before.processes.ite
       abbrev conflict : Bool
       conflict = conflicts job_is.job.policy c a
 
-      policy_fault : boot_fault lib w (statement.Policy k c a) ≡ first_some (None ∷ then_some (has_child_at r.objects k) cause.BadState ∷ then_some conflict cause.Conflict ∷ [])
+      policy_fault : boot_fault lib w (statement.Policy k c a)
+          ≡ first_some (None ∷ then_some (has_child_at r.objects k) cause.BadState ∷ then_some conflict cause.Conflict ∷ [])
       unfolding boot_fault
       policy_fault = rw (is_seen k there, child_is, body_seen ps r k job_is) refl
 
@@ -224,20 +235,24 @@ module _ (lib : Library) (before : Made) (making : IsMaking before.processes.ite
         pub conflicting : (s : Status) → answer ≡ Err s → IsCauseOf (boot_fault lib w (statement.Policy k c a)) cause.Conflict
         conflicting s refused = rw (policy_fault, childless) (by_test conflict (sym answer_is ∙ refused))
           where
-            by_test : (b : Bool) → ◌≡◌ {A = Result ⊤ Status} (if b then Err status.AlreadyExists else Ok tt) (Err s) → IsCauseOf (first_some (None ∷ None ∷ then_some b cause.Conflict ∷ [])) cause.Conflict
+            by_test : (b : Bool) → ◌≡◌ {A = Result ⊤ Status} (if b then Err status.AlreadyExists else Ok tt) (Err s)
+                → IsCauseOf (first_some (None ∷ None ∷ then_some b cause.Conflict ∷ [])) cause.Conflict
             by_test true h = refl
             by_test false h = absurd cc
 
-        pub policy_makes : answer ≡ Ok tt → (after : Objects) → after ≡ setting_policy r k c a → Makes lib (statement.Policy k c a) before (record before { objects = after })
+        pub policy_makes : answer ≡ Ok tt → (after : Objects) → after ≡ setting_policy r k c a
+            → Makes lib (statement.Policy k c a) before (record before { objects = after })
         unfolding boot_effect on_object
         policy_makes done after is = record {
           no_fault = policy_fault ∙ rw childless (by_test conflict (sym answer_is ∙ done));
           values = [];
           chosen = refl;
-          effect = rw is (ap (λ (os : Map ObjectValue). record w { objects = os }) (update_seen object_value r.objects k (with_policy_set c a) (policy_changed (setting c a)) (policy_seen c a (record { mode = mode.Absolute; condition = c; action = a }) refl refl)));
+          effect = rw is (ap (λ (os : Map ObjectValue). record w { objects = os }) (update_seen object_value r.objects k (with_policy_set c a)
+              (policy_changed (setting c a)) (policy_seen c a (record { mode = mode.Absolute; condition = c; action = a }) refl refl)));
           making = rw is (set_making ps r making k c a);
         }
           where
-            by_test : (b : Bool) → ◌≡◌ {A = Result ⊤ Status} (if b then Err status.AlreadyExists else Ok tt) (Ok tt) → first_some (None ∷ None ∷ then_some b cause.Conflict ∷ []) ≡ None
+            by_test : (b : Bool) → ◌≡◌ {A = Result ⊤ Status} (if b then Err status.AlreadyExists else Ok tt) (Ok tt)
+                → first_some (None ∷ None ∷ then_some b cause.Conflict ∷ []) ≡ None
             by_test true h = absurd cc
             by_test false h = refl

@@ -2,7 +2,9 @@
 use Rattle.std.specs.List.{filter}
 use Rattle.zl_objects.specs.Listed.{LeavesListed, is_there}
 use Rattle.zl_calls.specs.Making.{IsUnwatched}
-use Rattle.zl_calls.proofs.Common.{ap, ◌≡◌, ◌<◌, ◌+◌, ◌==◌, ◌++◌, ◌⊎◌, false, false≢true, ℕ, zero, suc, List, [], ◌∷◌, refl, ◌∙◌, subst, IsTrue, arith, list_any, or_left, or_right, inl, inr, cases_Bool, nat_tests, get, none-some, Objects, AreKeptBut, Cascades, Releases, none_left, IsMaking}
+use Rattle.zl_calls.proofs.Common.{ap, ◌≡◌, ◌<◌, ◌+◌, ◌==◌, ◌++◌, ◌⊎◌, false, false≢true, ℕ, zero, suc, List, [], ◌∷◌, refl, ◌∙◌, subst, IsTrue, arith}
+use Rattle.zl_calls.proofs.Common.{list_any, or_left, or_right, inl, inr, cases_Bool, nat_tests, get, none-some, Objects, AreKeptBut, Cascades, Releases}
+use Rattle.zl_calls.proofs.Common.{none_left, IsMaking}
 use Rattle.zl_objects.proofs.Released.{cascades_then}
 use Rattle.zl_calls.specs.declared.process.Process.{Process}
 use Rattle.zl_calls.proofs.Settled.{IsSettled, settled}
@@ -16,7 +18,8 @@ is_below : (k n : ℕ) → k < n → IsTrue (list_any (λ x. x == k) (below n))
 is_below k zero less = absurd (omega (arith, less))
 is_below k (suc n) less = by_last (below n) (by_order (λ h. is_below k n h) (cases_Bool (n == k)))
   where
-    by_order : (k < n → IsTrue (list_any (λ x. x == k) (below n))) → IsTrue (n == k) ⊎ ((n == k) ≡ false) → IsTrue (list_any (λ x. x == k) (below n)) ⊎ IsTrue (n == k)
+    by_order : (k < n → IsTrue (list_any (λ x. x == k) (below n))) → IsTrue (n == k) ⊎ ((n == k) ≡ false)
+        → IsTrue (list_any (λ x. x == k) (below n)) ⊎ IsTrue (n == k)
     by_order before (inl here) = inr here
     by_order before (inr apart) = let other : k < n = grind (arith, nat_tests, apart, less) in inl (before other)
 

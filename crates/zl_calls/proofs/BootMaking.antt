@@ -1,5 +1,11 @@
 -- One process more, with its handles: what was made goes on being what the definitions make.
-use Rattle.zl_calls.proofs.Common.{cond, cases_Bool, eqb-true, false≢true, or_right, ◌==◌, ◌≡◌, ◌<◌, ◌≤◌, ◌+◌, ℕ, zero, suc, Bool, true, false, List, [], ◌∷◌, ◌++◌, map, refl, sym, ap, ◌∙◌, subst, Option, Some, None, Result, Ok, Err, OnOk, ⊤, inl, inr, IsTrue, arith, length, is_some, slice_get, slice_set, list_any, count_by, none-some, same_Some, get, put, ProcessBody, is_process, runs, handles_to, Image, Library, Program, option_map, with_object, boot_fault, boot_effect, process_with, body_in, may_get_all, IsTable, Objects, new_object, with_new, is_job_at, process_entry, process_value, state_value, world_value, IsNamed, Agrees, AreNamed, All, All-nil, lives, is_in_job, IsSound, IsMaking, root_alone, Makes, seen, IsBare, process_given, Gives, World, length-append, started_process, process_with_all, handles_given, with_process, started_cpu}
+use Rattle.zl_calls.proofs.Common.{cond, cases_Bool, eqb-true, false≢true, or_right, ◌==◌, ◌≡◌, ◌<◌, ◌≤◌, ◌+◌, ℕ, zero, suc, Bool, true, false, List, [], ◌∷◌}
+use Rattle.zl_calls.proofs.Common.{◌++◌, map, refl, sym, ap, ◌∙◌, subst, Option, Some, None, Result, Ok, Err, OnOk, ⊤, inl, inr, IsTrue, arith, length, is_some}
+use Rattle.zl_calls.proofs.Common.{slice_get, slice_set, list_any, count_by, none-some, same_Some, get, put, ProcessBody, is_process, runs, handles_to, Image}
+use Rattle.zl_calls.proofs.Common.{Library, Program, option_map, with_object, boot_fault, boot_effect, process_with, body_in, may_get_all, IsTable, Objects}
+use Rattle.zl_calls.proofs.Common.{new_object, with_new, is_job_at, process_entry, process_value, state_value, world_value, IsNamed, Agrees, AreNamed, All}
+use Rattle.zl_calls.proofs.Common.{All-nil, lives, is_in_job, IsSound, IsMaking, root_alone, Makes, seen, IsBare, process_given, Gives, World, length-append}
+use Rattle.zl_calls.proofs.Common.{started_process, process_with_all, handles_given, with_process, started_cpu}
 use Rattle.zl_code.proofs.Common.{Process as ProcessValue, State as StateValue, is_job_body}
 use Rattle.std.specs.Result.{is_err}
 use Rattle.std.proofs.lemmas.List.Sums.{count_by-le-length}
@@ -28,8 +34,10 @@ use Rattle.zl_calls.proofs.OneProcess.{counts, new_is, process_sound, processes_
 
 -- ---- one process more
 
-module _ (ps : List Process) (p : Process) (r : Objects) (making : IsMaking ps p.table.entries r) (job : ℕ) (pid : p.pid ≡ r.next_koid) (ready : runs (state_value p.state) ≡ true) (table : IsTable p.table)
-    (names : (v : ℕ) (e : Entry) → get p.table.entries v ≡ Some e → IsNamed r.objects e) (in_job : IsTrue (is_job_at r.objects job)) (left : r.next_koid ≤ 1024) where
+module _ (ps : List Process) (p : Process) (r : Objects) (making : IsMaking ps p.table.entries r) (job : ℕ) (pid : p.pid ≡ r.next_koid)
+    (ready : runs (state_value p.state) ≡ true) (table : IsTable p.table)
+    (names : (v : ℕ) (e : Entry) → get p.table.entries v ≡ Some e → IsNamed r.objects e) (in_job : IsTrue (is_job_at r.objects job))
+    (left : r.next_koid ≤ 1024) where
   abbrev sound : IsSound ps p.table.entries r
   sound = making.sound
 
@@ -91,7 +99,8 @@ module _ (ps : List Process) (p : Process) (r : Objects) (making : IsMaking ps p
   still_making = record {
     sound = grown_sound;
     few = λ k.
-        let own : count_by (λ (h : ℕ × Entry). h.1.koid == k) p.table.entries ≤ length p.table.entries = count_by-le-length (λ h. h.1.koid == k) p.table.entries in
+        let own : count_by (λ (h : ℕ × Entry). h.1.koid == k) p.table.entries ≤ length p.table.entries =
+        count_by-le-length (λ h. h.1.koid == k) p.table.entries in
         let one_more : length after ≡ length ps + 1 = length-append ps (p ∷ []) in
         omega (arith, own, table.few, making.few k, counts ps p.table.entries r sound p pid job life.Running 0 k, one_more);
     unwatched = record { none = making.unwatched.none; none_made = making.unwatched.none_made };
@@ -125,7 +134,8 @@ set_apart (x ∷ xs) (suc i) (suc j) v w apart = ap (λ (rest : List ℕ). x ∷
 word_first : (n : ℕ) (vs registers : List ℕ) (word : ℕ) → 1 < n → set_from n vs (slice_set registers 1 word) ≡ slice_set (set_from n vs registers) 1 word
 word_first n [] registers word above = refl
 word_first n (v ∷ vs) registers word above =
-    ap (set_from (n + 1) vs) (set_apart registers n 1 v word (λ same. omega (arith, above, same))) ∙ word_first (n + 1) vs (slice_set registers n v) word (omega arith)
+    ap (set_from (n + 1) vs) (set_apart registers n 1 v word (λ same. omega (arith, above, same)))
+    ∙ word_first (n + 1) vs (slice_set registers n v) word (omega arith)
 
 word_before : (vs registers : List ℕ) (word : ℕ) → with_handles vs (slice_set registers 1 word) ≡ slice_set (with_handles vs registers) 1 word
 word_before [] registers word = refl
@@ -143,7 +153,8 @@ state_stays [] vs q = refl
 state_stays (e ∷ es) [] q = refl
 state_stays (e ∷ es) (v ∷ vs) q = state_stays es vs (process_with v e q)
 
-given_is_started : (es : List Entry) (vs : List ℕ) (word : ℕ) (q : ProcessValue) → process_given es vs (started_with [] word q) ≡ started_with vs word (process_with_all es vs q)
+given_is_started : (es : List Entry) (vs : List ℕ) (word : ℕ) (q : ProcessValue)
+    → process_given es vs (started_with [] word q) ≡ started_with vs word (process_with_all es vs q)
 given_is_started es vs word q =
     rw (started_with_all es vs [] word q, cpu_stays es vs q, word_before vs q.cpu.registers word) refl
 
@@ -162,11 +173,13 @@ pub record IsBegun (p : Process) (r : Objects) (program word : ℕ) (image : Ima
   pub bare : IsBare p
 
 -- the Cpu of a process goes by the image alone
-blank_by : (o : Option Program) (image : Image) → option_map (λ g. g.image) o ≡ Some image → blank_cpu o ≡ blank_cpu (Some (record { checked = false; image = image }))
+blank_by : (o : Option Program) (image : Image) → option_map (λ g. g.image) o ≡ Some image
+    → blank_cpu o ≡ blank_cpu (Some (record { checked = false; image = image }))
 blank_by None image there = absurd (none-some image there)
 blank_by (Some g) image there = ap (λ (i : Image). blank_cpu (Some (record { checked = false; image = i }))) (same_Some g.image image there)
 
-begun_value : (lib : Library) (p : Process) (r : Objects) (program word : ℕ) (image : Image) → IsBegun p r program word image → option_map (λ g. g.image) (slice_get lib program) ≡ Some image → process_value p ≡ started_with [] word (created_process lib program)
+begun_value : (lib : Library) (p : Process) (r : Objects) (program word : ℕ) (image : Image) → IsBegun p r program word image
+    → option_map (λ g. g.image) (slice_get lib program) ≡ Some image → process_value p ≡ started_with [] word (created_process lib program)
 begun_value lib p r program word image begun there = λ i. record {
   program = begun.program_is i;
   cpu = cpu_is i;
@@ -189,16 +202,19 @@ makes lib before mid after job program word gs image p p2 there fine begun gives
     let can : CanStart lib (seen before) job program gs = can_start lib (seen before) job program word gs fine in
     let es : List Entry = handles_given (seen before).objects gs in
     let first : process_value p ≡ started_with [] word (created_process lib program) = begun_value lib p before.objects program word image begun there in
-    let value : process_value p2 ≡ started_process lib program es gives.values word = gives.is ∙ (ap (process_given es gives.values) first ∙ given_is_started es gives.values word (created_process lib program)) in
+    let value : process_value p2 ≡ started_process lib program es gives.values word =
+    gives.is ∙ (ap (process_given es gives.values) first ∙ given_is_started es gives.values word (created_process lib program)) in
     let koid : mid.objects.next_koid ≡ before.objects.next_koid = ap (λ (w : World). w.next_koid) gives.same in
     let pid : p2.pid ≡ mid.objects.next_koid = gives.pid ∙ (begun.pid ∙ sym koid) in
     let ready : runs (state_value p2.state) ≡ true = ap (λ (q : ProcessValue). runs q.state) value ∙ refl in
-    let in_job : IsTrue (is_job_at mid.objects.objects job) = sym (job_seen ps mid.objects job) ∙ (ap (λ (w : World). is_job_body (body_in (get w.objects job))) gives.same ∙ can.in_job) in
+    let in_job : IsTrue (is_job_at mid.objects.objects job) =
+    sym (job_seen ps mid.objects job) ∙ (ap (λ (w : World). is_job_body (body_in (get w.objects job))) gives.same ∙ can.in_job) in
     let left : mid.objects.next_koid ≤ 1024 = omega (arith, koid, can.koid) in
     record {
       no_fault = fine;
       values = gives.values;
-      chosen = sym (started_may_get es gives.values [] word (created_process lib program)) ∙ subst (λ (q : ProcessValue). IsTrue (may_get_all q es gives.values)) first gives.chosen;
+      chosen = sym (started_may_get es gives.values [] word (created_process lib program))
+          ∙ subst (λ (q : ProcessValue). IsTrue (may_get_all q es gives.values)) first gives.chosen;
       effect = rw (processes, objects) (process_seen ps p2 mid.objects gives.making job pid ready gives.table gives.named in_job left (seen before)
           (started_process lib program es gives.values word) value gives.same);
       making = rw (processes, objects) (still_making ps p2 mid.objects gives.making job pid ready gives.table gives.named in_job left);
@@ -222,7 +238,8 @@ starts_making = record {
     no_zero = λ k there. root (λ j o. 0 < j) (omega arith) k (get root_alone.objects k) refl there;
     tables = λ k q at. absurd (none-some q at);
     named = λ k q v e at there. absurd (none-some q at);
-    queued = λ k o at. found (λ j x. AreNamed root_alone.objects (queue_of x.body)) (All-nil (λ (x : Message). All (IsNamed root_alone.objects) x.handles)) k o at;
+    queued =
+        λ k o at. found (λ j x. AreNamed root_alone.objects (queue_of x.body)) (All-nil (λ (x : Message). All (IsNamed root_alone.objects) x.handles)) k o at;
     counted = λ k o at. found (λ j x. x.handles ≡ handles_to (world_value [] root_alone) j + 0) refl k o at;
     agrees = λ k o at. found (λ j x. Agrees (world_value [] root_alone) j x.body) refl k o at;
     in_jobs = λ k o at. found (λ j x. IsTrue (is_in_job root_alone.objects x.body)) refl k o at;

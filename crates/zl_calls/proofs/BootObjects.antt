@@ -1,5 +1,8 @@
 -- Objects that a statement makes, and that no handle names yet: an event, a port, the two ends of a channel.
-use Rattle.zl_calls.proofs.Common.{◌≡◌, ◌<◌, ◌≤◌, ◌+◌, ◌^◌, ℕ, Bool, true, false, ◌==◌, List, [], refl, sym, ap, ◌∙◌, subst, None, Result, Ok, Err, ⊤, OnOk, none-some, cond, may_boot, seen, IsTrue, arith, nat_lt, nat_tests, then_some, Map, is_process, runs, with_object, boot_effect, boot_fault, Library, World, ChannelEnd, body_value, Objects, with_new, world_value, IsSound, IsMaking, Makes, IsCauseOf, Agrees, is_in_job, MOST_KOIDS}
+use Rattle.zl_calls.proofs.Common.{◌≡◌, ◌<◌, ◌≤◌, ◌+◌, ◌^◌, ℕ, Bool, true, false, ◌==◌, List, [], refl, sym, ap, ◌∙◌, subst, None, Result, Ok, Err, ⊤, OnOk}
+use Rattle.zl_calls.proofs.Common.{none-some, cond, may_boot, seen, IsTrue, arith, nat_lt, nat_tests, then_some, Map, is_process, runs, with_object}
+use Rattle.zl_calls.proofs.Common.{boot_effect, boot_fault, Library, World, ChannelEnd, body_value, Objects, with_new, world_value, IsSound, IsMaking, Makes}
+use Rattle.zl_calls.proofs.Common.{IsCauseOf, Agrees, is_in_job, MOST_KOIDS}
 use Rattle.zl_code.proofs.Common.{State as StateValue, Object as ObjectValue}
 use Rattle.zl_code.specs.declared.boot.BootCause.{BootCause}
 use Rattle.zl_code.specs.declared.boot.BootCause.TheVariants as cause
@@ -92,13 +95,15 @@ module _ (lib : Library) (before : Made) (making : IsMaking before.processes.ite
       by_test true is h = absurd (none-some _ (sym h))
       by_test false is h = omega (arith, enough_koids k 1 is)
 
-  pub channel_makes : (after : Objects) → nat_lt (MOST_KOIDS + 1) (k + 2) ≡ false → after ≡ with_channel before.objects 0 → Makes lib statement.Channel before (record before { objects = after })
+  pub channel_makes : (after : Objects) → nat_lt (MOST_KOIDS + 1) (k + 2) ≡ false → after ≡ with_channel before.objects 0
+      → Makes lib statement.Channel before (record before { objects = after })
   unfolding boot_fault boot_effect
   channel_makes after enough made = record {
     no_fault = rw enough refl;
     values = [];
     chosen = refl;
-    effect = rw made (grown_world ps2 with_first first second_end ∙ ap (λ (w : World). with_object w (ChannelEnd k [])) (grown_world ps2 before.objects making first_end));
+    effect = rw made
+        (grown_world ps2 with_first first second_end ∙ ap (λ (w : World). with_object w (ChannelEnd k [])) (grown_world ps2 before.objects making first_end));
     making = rw made (grown_making ps2 with_first first second_end refl (λ not. not runs) refl (omega (arith, few)) refl);
   }
     where

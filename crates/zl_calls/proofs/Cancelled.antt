@@ -1,5 +1,7 @@
 -- What wait_async and port_cancel find: the handles of the caller, whether a wait is listed, and that where no packet passes a test none leaves the port.
-use Rattle.zl_calls.proofs.Common.{◌≡◌, ◌+◌, ℕ, zero, suc, Bool, true, false, not, ◌||◌, ◌==◌, ◌⊎◌, List, [], ◌∷◌, length, list_any, refl, sym, ap, ◌∙◌, inl, inr, Option, Some, None, Ok, Err, cases_Bool, eqb-true, none-some, same_Some, slice_get, IsTrue, arith, option_map, bits, Map, get, update, Handles, Objects}
+use Rattle.zl_calls.proofs.Common.{◌≡◌, ◌+◌, ℕ, zero, suc, Bool, true, false, not, ◌||◌, ◌==◌, ◌⊎◌, List, [], ◌∷◌, length, list_any, refl, sym, ap, ◌∙◌, inl}
+use Rattle.zl_calls.proofs.Common.{inr, Option, Some, None, Ok, Err, cases_Bool, eqb-true, none-some, same_Some, slice_get, IsTrue, arith, option_map, bits}
+use Rattle.zl_calls.proofs.Common.{Map, get, update, Handles, Objects}
 use Rattle.std.proofs.Math.Nat.{suc-ne-zero}
 use Rattle.std.specs.Prelude.{drop}
 use Rattle.std.specs.List.{filter}
@@ -31,11 +33,13 @@ module _ {X : Type 0} (test : X → Bool) where
   any_from (y ∷ xs) (suc n) x is = any_from xs n x is
 
   -- so it is one of all, if it passes, where none before it does
-  pub any_there : (xs : List X) (n : ℕ) (x : X) → slice_get xs n ≡ Some x → list_any test xs ≡ list_any test (drop n xs) → test x ≡ true → list_any test xs ≡ true
+  pub any_there : (xs : List X) (n : ℕ) (x : X) → slice_get xs n ≡ Some x → list_any test xs ≡ list_any test (drop n xs) → test x ≡ true
+      → list_any test xs ≡ true
   any_there xs n x is before passes = before ∙ (any_from xs n x is ∙ rw passes refl)
 
   -- else the rest decides
-  pub any_behind : (xs : List X) (n : ℕ) (x : X) → slice_get xs n ≡ Some x → list_any test xs ≡ list_any test (drop n xs) → test x ≡ false → list_any test xs ≡ list_any test (drop (n + 1) xs)
+  pub any_behind : (xs : List X) (n : ℕ) (x : X) → slice_get xs n ≡ Some x → list_any test xs ≡ list_any test (drop n xs) → test x ≡ false
+      → list_any test xs ≡ list_any test (drop (n + 1) xs)
   any_behind xs n x is before fails =
       let next : suc n ≡ n + 1 = omega arith in
       before ∙ (any_from xs n x is ∙ (rw fails refl ∙ ap (λ (m : ℕ). list_any test (drop m xs)) next))
@@ -69,12 +73,14 @@ module _ {X : Type 0} (test : X → Bool) where
       by_test (inr fails) more = rw fails (more (λ none. some (rw fails none)))
 
 -- the value at which a handle was found
-pub found_value : (h value : ℕ) (e : Entry) (o : Option Entry) → ◌≡◌ {A = Option (ℕ × Entry)} (Some (value, e)) (option_map (λ (entry : Entry). (h, entry)) o) → value ≡ h
+pub found_value : (h value : ℕ) (e : Entry) (o : Option Entry)
+    → ◌≡◌ {A = Option (ℕ × Entry)} (Some (value, e)) (option_map (λ (entry : Entry). (h, entry)) o) → value ≡ h
 found_value h value e None is = absurd (none-some (value, e) (sym is))
 found_value h value e (Some y) is = ap (λ (z : ℕ × Entry). z.0) (same_Some (value, e) (h, y) is)
 
 -- the handle that was found there, if one was
-pub found_entry : (h value : ℕ) (e : Entry) (o : Option Entry) → ◌≡◌ {A = Option (ℕ × Entry)} (Some (value, e)) (option_map (λ (entry : Entry). (h, entry)) o) → granted o [] 0 ≡ Ok e
+pub found_entry : (h value : ℕ) (e : Entry) (o : Option Entry) → ◌≡◌ {A = Option (ℕ × Entry)} (Some (value, e)) (option_map (λ (entry : Entry). (h, entry)) o)
+    → granted o [] 0 ≡ Ok e
 found_entry h value e None is = absurd (none-some (value, e) (sym is))
 found_entry h value e (Some y) is =
     let same : e ≡ y = ap (λ (z : ℕ × Entry). z.1) (same_Some (value, e) (h, y) is) in
@@ -96,7 +102,8 @@ wait_registered t r r2 pid h port key mask watched receiver is_watched is_receiv
     receiver = receiver;
     is_receiver = is_receiver;
     table = refl;
-    objects = objects ∙ (λ i. watching r (record { pid = pid; value = same i; object = watched.koid; port = receiver.koid; key = key; mask = record { 0 = masked i } }));
+    objects = objects
+        ∙ (λ i. watching r (record { pid = pid; value = same i; object = watched.koid; port = receiver.koid; key = key; mask = record { 0 = masked i } }));
   };
   err = tt;
   same_table = tt;
@@ -106,7 +113,8 @@ wait_registered t r r2 pid h port key mask watched receiver is_watched is_receiv
 -- ---- port_cancel
 
 -- a port that no such packet is at is the same without them
-uncancelled : (m : Map Object) (k : ℕ) (test : Packet → Bool) → length (filter test (packets_in (get m k))) ≡ 0 → update m k (at_port (λ p. without_packets p test)) ≡ m
+uncancelled : (m : Map Object) (k : ℕ) (test : Packet → Bool) → length (filter test (packets_in (get m k))) ≡ 0
+    → update m k (at_port (λ p. without_packets p test)) ≡ m
 unfolding get update
 uncancelled [] k test none = refl
 uncancelled (e ∷ m) k test none = elim (cases_Bool (e.0 == k)) as (λ _. update (e ∷ m) k (at_port (λ p. without_packets p test)) ≡ e ∷ m) [
@@ -122,7 +130,8 @@ uncancelled (e ∷ m) k test none = elim (cases_Bool (e.0 == k)) as (λ _. updat
     by_body (body.Port p) gone = ap (λ (xs : List Packet). body.Port (record p { packets = xs })) (none_counted test p.packets gone).1
 
 -- the port and the handle source were found, and the packets counted
-module _ (t : Handles) (r : Objects) (pid port source key : ℕ) (receiver named : Entry) (is_receiver : port_at t.entries port WRITE ≡ Ok receiver) (is_named : looked_up t.entries source [] 0 ≡ Ok named) where
+module _ (t : Handles) (r : Objects) (pid port source key : ℕ) (receiver named : Entry) (is_receiver : port_at t.entries port WRITE ≡ Ok receiver)
+    (is_named : looked_up t.entries source [] 0 ≡ Ok named) where
   abbrev of_source : Packet → Bool
   of_source = is_from (source_of pid source named) key
 
@@ -133,7 +142,8 @@ module _ (t : Handles) (r : Objects) (pid port source key : ℕ) (receiver named
   packed = changing_port r receiver.koid (λ p. without_packets p of_source)
 
   -- neither wait nor packet was there
-  pub none_cancelled : (r2 : Objects) → list_any (is_keyed pid source receiver.koid key) r.waits ≡ false → length (filter of_source at_it) ≡ 0 → r2 ≡ packed → PortCancelDoes pid port source key t r (Err status.NotFound) t r2
+  pub none_cancelled : (r2 : Objects) → list_any (is_keyed pid source receiver.koid key) r.waits ≡ false → length (filter of_source at_it) ≡ 0 → r2 ≡ packed
+      → PortCancelDoes pid port source key t r (Err status.NotFound) t r2
   none_cancelled r2 none gone objects = record {
     ok = tt;
     err = rw (is_receiver, is_named, none, (none_counted of_source at_it gone).0) refl;

@@ -1,5 +1,11 @@
 -- The calls on channels: chan_create, from its table and objects to a step.
-use Rattle.zl_calls.proofs.Common.{◌≡◌, ◌≤◌, ◌+◌, ◌^◌, ℕ, Bool, true, false, not, ◌&&◌, ◌==◌, List, [], ◌∷◌, map, length, refl, sym, ap, ◌∙◌, subst, cond, None, IsTrue, arith, nat_le, nat_tests, ne_eqb, Some, none-some, and_parts, count_by, sum_by-cons, then_some, first_some, Map, get, put, Ready, ChannelEnd, Library, Site, site, examined, has_room, has_koids, handles_to, table_of, answer_if, refusal, handle_operands, listed, may_choose, new_handles, insert_all, remove_all, taken_handles, effect, with_effect, with_object, gives_ok, gives_refused, AtCall, next_for, Values, replied, taken, new_entry, IsTable, Inserts, Handles, Objects, new_object, with_new, IsAnswered, told_by, Replies, process_entry, process_value, state_value, world_value, object_value, IsConsistent, IsNamed, runs, World}
+use Rattle.zl_calls.proofs.Common.{◌≡◌, ◌≤◌, ◌+◌, ◌^◌, ℕ, Bool, true, false, not, ◌&&◌, ◌==◌, List, [], ◌∷◌, map, length, refl, sym, ap, ◌∙◌, subst, cond, None}
+use Rattle.zl_calls.proofs.Common.{IsTrue, arith, nat_le, nat_tests, ne_eqb, Some, none-some, and_parts, count_by, sum_by-cons, then_some, first_some, Map, get}
+use Rattle.zl_calls.proofs.Common.{put, Ready, ChannelEnd, Library, Site, site, examined, has_room, has_koids, handles_to, table_of, answer_if, refusal}
+use Rattle.zl_calls.proofs.Common.{handle_operands, listed, may_choose, new_handles, insert_all, remove_all, taken_handles, effect, with_effect, with_object}
+use Rattle.zl_calls.proofs.Common.{gives_ok, gives_refused, AtCall, next_for, Values, replied, taken, new_entry, IsTable, Inserts, Handles, Objects, new_object}
+use Rattle.zl_calls.proofs.Common.{with_new, IsAnswered, told_by, Replies, process_entry, process_value, state_value, world_value, object_value, IsConsistent}
+use Rattle.zl_calls.proofs.Common.{IsNamed, runs, World}
 use Rattle.zl_code.proofs.Common.{Object as ObjectValue, chan_create}
 use Rattle.zl_rights.specs.declared.kind.Kind.TheVariants as kind
 use Rattle.zl_rights.specs.declared.status.Status.TheVariants as status
@@ -36,14 +42,18 @@ koids_left : (entries : Map Entry) (n : ℕ) → channel_refusal entries n ≡ N
 koids_left entries n unrefused = by_test (nat_le (length entries + 2) 1024 && nat_le (n + 2) (2 ^ 62)) refl unrefused
   where
     by_test : (b : Bool) → (nat_le (length entries + 2) 1024 && nat_le (n + 2) (2 ^ 62)) ≡ b → then_some (not b) status.NoResources ≡ None → n + 2 ≤ 2 ^ 62
-    by_test true is none = let fits : IsTrue (nat_le (n + 2) (2 ^ 62)) = (and_parts (nat_le (length entries + 2) 1024) (nat_le (n + 2) (2 ^ 62)) is).1 in grind (arith, nat_tests, fits)
+    by_test true is none =
+        let fits : IsTrue (nat_le (n + 2) (2 ^ 62)) = (and_parts (nat_le (length entries + 2) 1024) (nat_le (n + 2) (2 ^ 62)) is).1 in
+        grind (arith, nat_tests, fits)
     by_test false is none = absurd (none-some status.NoResources (sym none))
 
-counted_inserted : (test : ℕ × Entry → Bool) (t : Handles) (e : Entry) (v : ℕ) (t2 : Handles) → Inserts t e v t2 → count_by test t2.entries ≡ count_by test t.entries + cond (test (v, e)) 1 0
+counted_inserted : (test : ℕ × Entry → Bool) (t : Handles) (e : Entry) (v : ℕ) (t2 : Handles) → Inserts t e v t2
+    → count_by test t2.entries ≡ count_by test t.entries + cond (test (v, e)) 1 0
 counted_inserted test t e v t2 inserts = ap (λ (m : Map Entry). count_by test m) inserts.entries ∙ count_put test t.entries v e inserts.unused
 
 -- a process of a lab, before and after its call
-module _ (lib : Library) (before after : List Process) (r r2 : Objects) (p p2 : Process) (lab : IsConsistent before r) (write : IsWrite before after p p2) (consumed destinations : List ℕ) where
+module _ (lib : Library) (before after : List Process) (r r2 : Objects) (p p2 : Process) (lab : IsConsistent before r) (write : IsWrite before after p p2)
+    (consumed destinations : List ℕ) where
   abbrev w : World
   w = world_value before r
 
@@ -83,7 +93,8 @@ module _ (lib : Library) (before after : List Process) (r r2 : Objects) (p p2 : 
     growing = grown_one before [] r (growing_none before r lab) first_end (λ not. not runs) refl refl (omega (arith, koids)) refl (made.0, first) refl
 
     growing_both : IsGrowing before ((made.1, second) ∷ (made.0, first) ∷ []) with_both
-    growing_both = grown_one before ((made.0, first) ∷ []) with_first growing second_end (λ not. not runs) refl refl (omega (arith, koids)) apart (made.1, second) refl
+    growing_both =
+        grown_one before ((made.0, first) ∷ []) with_first growing second_end (λ not. not runs) refl refl (omega (arith, koids)) apart (made.1, second) refl
       where
         other : (n == n + 1) ≡ false
         other = ne_eqb n (n + 1) (omega arith)
@@ -99,15 +110,19 @@ module _ (lib : Library) (before after : List Process) (r r2 : Objects) (p p2 : 
     rest : (record with_ends { processes = map process_entry after }) ≡ world_value after r2
     unfolding with_object
     rest = rw creates.objects (ap (λ (os : Map ObjectValue). record w { processes = map process_entry after; objects = os; next_koid = n + 1 + 1 })
-        (ap (λ (os : Map ObjectValue). put os (n + 1) (object_value (new_object second_end 1))) (grown_seen r first_end 1 lab.given_objects) ∙ grown_seen with_first second_end 1 growing.sound.given_objects))
+        (ap (λ (os : Map ObjectValue). put os (n + 1) (object_value (new_object second_end 1))) (grown_seen r first_end 1 lab.given_objects)
+        ∙ grown_seen with_first second_end 1 growing.sound.given_objects))
 
     chosen : IsTrue (may_choose w (taken w p.pid create_site) p.pid chan_create (two_values made))
     unfolding taken_handles handle_operands remove_all may_choose new_handles
     chosen = rw write.there (may_get_both p creates.between p2.table first second made.0 made.1 creates.first creates.second)
 
-    ends : world_value after r2 ≡ replied (with_effect lib w (taken w p.pid create_site) p.pid chan_create (two_values made)) p.pid create_site status.Ok (two_values made)
+    ends : world_value after r2
+        ≡ replied (with_effect lib w (taken w p.pid create_site) p.pid chan_create (two_values made)) p.pid create_site status.Ok (two_values made)
     unfolding taken_handles handle_operands remove_all new_handles effect insert_all with_object
-    ends = replied_inserted_two before after p p2 write r2 create_site made.0 made.1 first second creates.between with_ends refl rest creates.first creates.second replies
+    ends =
+        replied_inserted_two before after p p2 write r2 create_site made.0 made.1 first second creates.between with_ends refl rest creates.first
+        creates.second replies
 
     -- ---- the invariant
 
@@ -140,7 +155,8 @@ module _ (lib : Library) (before after : List Process) (r r2 : Objects) (p p2 : 
         (inserted_table p.table first made.0 creates.between (lab.tables p.pid (process_value p) write.there) (omega (arith, creates.room)) creates.first)
         (omega (arith, creates.room, one_longer p.table first made.0 creates.between creates.first)) creates.second
 
-    counts : (j : ℕ) → handles_to (world_value after with_both) j ≡ handles_to (world_value before with_both) j + count_by (λ (h : ℕ × Entry). h.1.koid == j) ((made.1, second) ∷ (made.0, first) ∷ [])
+    counts : (j : ℕ) → handles_to (world_value after with_both) j
+        ≡ handles_to (world_value before with_both) j + count_by (λ (h : ℕ × Entry). h.1.koid == j) ((made.1, second) ∷ (made.0, first) ∷ [])
     counts j = counts_written before after p p2 with_both with_both j _ write refl
         (omega (
           arith,
@@ -160,7 +176,10 @@ module _ (lib : Library) (before after : List Process) (r r2 : Objects) (p p2 : 
 
   -- ---- the step
 
-  pub chan_create_done : state_value p.state ≡ Ready → (call : CallName) → next_for lib (process_value p) ≡ AtCall call create_site → (o : Outcome) → IsAnswered (told_by two_values) ChanCreateDoes create_site p r o p2 r2 → IsDone lib before after r r2 p.pid call o
+  pub chan_create_done : state_value p.state ≡ Ready → (call : CallName) → next_for lib (process_value p) ≡ AtCall call create_site → (o : Outcome)
+      → IsAnswered (told_by two_values) ChanCreateDoes create_site p r o p2 r2 → IsDone lib before after r r2 p.pid call o
   unfolding taken_handles handle_operands remove_all gives_refused
-  chan_create_done ready call next o acts = answered_done lib before after r r2 p p2 lab write ready call create_site next two_values (CreatesChannel p.table r) true (channel_refusal p.table.entries r.next_koid)
+  chan_create_done ready call next o acts =
+      answered_done lib before after r r2 p p2 lab write ready call create_site next two_values (CreatesChannel p.table r) true
+      (channel_refusal p.table.entries r.next_koid)
       refused refl refl (λ answer. refl) chan_create_called o acts.answer acts.acts acts.replied acts.ends

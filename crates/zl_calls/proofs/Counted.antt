@@ -1,5 +1,7 @@
 -- A handle that counts is in a table or in a queue, and names an object that is there.
-use Rattle.zl_calls.proofs.Common.{◌≡◌, ◌<◌, ℕ, zero, suc, Bool, ◌==◌, List, [], ◌∷◌, map, refl, sym, ◌∙◌, subst, inl, inr, ◌⊎◌, All, IsTrue, arith, sum_by, count_by, list_any, eqb-true, false≢true, Map, has_key, handles_to, queued_to, IsTable, Objects, object_entry, body_value, process_entry, world_value, AreNamed, IsNamed, IsSound}
+use Rattle.zl_calls.proofs.Common.{◌≡◌, ◌<◌, ℕ, zero, suc, Bool, ◌==◌, List, [], ◌∷◌, map, refl, sym, ◌∙◌, subst, inl, inr, ◌⊎◌, All, IsTrue, arith, sum_by}
+use Rattle.zl_calls.proofs.Common.{count_by, list_any, eqb-true, false≢true, Map, has_key, handles_to, queued_to, IsTable, Objects, object_entry, body_value}
+use Rattle.zl_calls.proofs.Common.{process_entry, world_value, AreNamed, IsNamed, IsSound}
 use Rattle.zl_code.proofs.Common.{queue_of as queue_value, All-head, All-tail}
 use Rattle.std.proofs.lemmas.Bool.{or_cases}
 use Rattle.zl_rights.specs.declared.entry.Entry.{Entry}
@@ -14,7 +16,8 @@ use Rattle.zl_objects.proofs.Sums.{summed_any, count_none, positive_part}
 use Rattle.zl_calls.specs.declared.process.Process.{Process}
 
 -- what is true of each is true of the one that passes
-all_any : {X : Type 0} (P : X → Type 0) (test : X → Bool) (C : Type 0) → ((x : X) → P x → IsTrue (test x) → C) → (xs : List X) → All P xs → IsTrue (list_any test xs) → C
+all_any : {X : Type 0} (P : X → Type 0) (test : X → Bool) (C : Type 0) → ((x : X) → P x → IsTrue (test x) → C) → (xs : List X) → All P xs
+    → IsTrue (list_any test xs) → C
 all_any P test C found [] all some = absurd (false≢true some)
 all_any P test C found (x ∷ xs) all some = elim (or_cases (test x) (list_any test xs) some) as (λ _. C) [
   | inl first ↦ found x (All-head P x xs all) first
@@ -37,7 +40,8 @@ module _ (ps : List Process) (m : Map Entry) (r : Objects) (sound : IsSound ps m
 
   in_a_table : IsTrue (list_any (λ p. list_any (λ h. h.1.koid == k) p.1.handles) (map process_entry ps)) → IsThere
   in_a_table some =
-      let holder : Found (λ p. list_any (λ h. h.1.koid == k) p.1.handles) (map process_entry ps) = any_found (λ p. list_any (λ h. h.1.koid == k) p.1.handles) (map process_entry ps) sound.processes_in_order some in
+      let holder : Found (λ p. list_any (λ h. h.1.koid == k) p.1.handles) (map process_entry ps) =
+      any_found (λ p. list_any (λ h. h.1.koid == k) p.1.handles) (map process_entry ps) sound.processes_in_order some in
       let table : IsTable (record { entries = holder.value.handles; last = holder.value.last }) = sound.tables holder.key holder.value holder.at in
       let handle : Found (λ h. h.1.koid == k) holder.value.handles = any_found (λ h. h.1.koid == k) holder.value.handles table.sorted holder.passes in
       is_there handle.value (sound.named holder.key holder.value handle.key handle.value holder.at handle.at) handle.passes
@@ -48,16 +52,24 @@ module _ (ps : List Process) (m : Map Entry) (r : Objects) (sound : IsSound ps m
 
   in_a_queue : IsTrue (list_any (λ o. names k (queue_value o.1.body)) (map object_entry r.objects)) → IsThere
   in_a_queue some =
-      let end : Found (λ o. names k (queue_value (object_entry o).1.body)) r.objects = any_found (λ o. names k (queue_value (object_entry o).1.body)) r.objects sound.objects_in_order (sym (any_seen (λ o. names k (queue_value o.1.body)) r.objects) ∙ some) in
-      among (queue_of end.value.body) (sound.queued end.key end.value end.at) (subst (λ (queue : List Message). IsTrue (names k queue)) (queue_seen end.value.body) end.passes)
+      let end : Found (λ o. names k (queue_value (object_entry o).1.body)) r.objects =
+      any_found (λ o. names k (queue_value (object_entry o).1.body)) r.objects sound.objects_in_order
+      (sym (any_seen (λ o. names k (queue_value o.1.body)) r.objects) ∙ some) in
+      among (queue_of end.value.body) (sound.queued end.key end.value end.at)
+      (subst (λ (queue : List Message). IsTrue (names k queue)) (queue_seen end.value.body) end.passes)
 
   pub counted_there : 0 < handles_to (world_value ps r) k → IsThere
   unfolding handles_to
   counted_there more = by_part (positive_part _ _ more)
     where
-      by_part : (0 < sum_by (λ p. count_by (λ h. h.1.koid == k) p.1.handles) (map process_entry ps)) ⊎ (0 < sum_by (λ o. queued_to k o.1.body) (map object_entry r.objects)) → IsThere
-      by_part (inl tables) = in_a_table (summed_any (λ p. count_by (λ h. h.1.koid == k) p.1.handles) (λ p. list_any (λ h. h.1.koid == k) p.1.handles) (λ p none. count_none (λ h. h.1.koid == k) p.1.handles none) (map process_entry ps) tables)
-      by_part (inr queues) = in_a_queue (summed_any (λ o. queued_to k o.1.body) (λ o. names k (queue_value o.1.body)) (λ o none. named_queue k o.1.body none) (map object_entry r.objects) queues)
+      by_part : (0 < sum_by (λ p. count_by (λ h. h.1.koid == k) p.1.handles) (map process_entry ps))
+          ⊎ (0 < sum_by (λ o. queued_to k o.1.body) (map object_entry r.objects)) → IsThere
+      by_part (inl tables) =
+          in_a_table (summed_any (λ p. count_by (λ h. h.1.koid == k) p.1.handles) (λ p. list_any (λ h. h.1.koid == k) p.1.handles)
+          (λ p none. count_none (λ h. h.1.koid == k) p.1.handles none) (map process_entry ps) tables)
+      by_part (inr queues) =
+          in_a_queue (summed_any (λ o. queued_to k o.1.body) (λ o. names k (queue_value o.1.body)) (λ o none. named_queue k o.1.body none)
+          (map object_entry r.objects) queues)
 
   -- where nothing has the koid, no handle names it
   pub never_named : (IsThere → ⊥) → ◌≡◌ {A = ℕ} (handles_to (world_value ps r) k) 0

@@ -1,5 +1,12 @@
 -- The call process_create: how it is refused, and what a process that is made leaves of the world and of the invariant.
-use Rattle.zl_calls.proofs.Common.{IsSound, with_process, ◌≡◌, ◌<◌, ◌+◌, ◌^◌, ◌==◌, ◌&&◌, ℕ, Bool, true, false, not, List, [], ◌∷◌, ◌++◌, map, map-append, refl, sym, ap, ◌∙◌, subst, cond, if◌then◌else◌, Option, Some, None, Ok, Err, inl, inr, IsTrue, arith, nat_le, eqb-true, cases_Bool, false≢true, none-some, is_some, option_or, then_some, first_some, slice_get, sum_by-cons, count_by, Map, get, put, update, Created, lives, runs, state_passes, is_process, Library, Site, site, Inserts, IsTable, examined, has_room, has_koids, table_of, answer_if, refusal, handle_operands, listed, may_choose, new_handles, insert_all, remove_all, taken_handles, effect, with_effect, with_object, on_process, process_with, gives_ok, Calls, Values, replied, taken, ProcessBody, bits, within, operand_of, by_look_up, operand, new_entry, body_of, koid_in, Objects, with_new, Replies, has_room_in, process_entry, process_value, object_entry, state_value, world_value, Agrees, AreBlocked, IsConsistent, World}
+use Rattle.zl_calls.proofs.Common.{IsSound, with_process, ◌≡◌, ◌<◌, ◌+◌, ◌^◌, ◌==◌, ◌&&◌, ℕ, Bool, true, false, not, List, [], ◌∷◌, ◌++◌, map, map-append, refl}
+use Rattle.zl_calls.proofs.Common.{sym, ap, ◌∙◌, subst, cond, if◌then◌else◌, Option, Some, None, Ok, Err, inl, inr, IsTrue, arith, nat_le, eqb-true, cases_Bool}
+use Rattle.zl_calls.proofs.Common.{false≢true, none-some, is_some, option_or, then_some, first_some, slice_get, sum_by-cons, count_by, Map, get, put, update}
+use Rattle.zl_calls.proofs.Common.{Created, lives, runs, state_passes, is_process, Library, Site, site, Inserts, IsTable, examined, has_room, has_koids}
+use Rattle.zl_calls.proofs.Common.{table_of, answer_if, refusal, handle_operands, listed, may_choose, new_handles, insert_all, remove_all, taken_handles}
+use Rattle.zl_calls.proofs.Common.{effect, with_effect, with_object, on_process, process_with, gives_ok, Calls, Values, replied, taken, ProcessBody, bits}
+use Rattle.zl_calls.proofs.Common.{within, operand_of, by_look_up, operand, new_entry, body_of, koid_in, Objects, with_new, Replies, has_room_in, process_entry}
+use Rattle.zl_calls.proofs.Common.{process_value, object_entry, state_value, world_value, Agrees, AreBlocked, IsConsistent, World}
 use Rattle.zl_code.proofs.Common.{Process as ProcessValue, State as StateValue, is_blocked}
 use Rattle.zl_code.specs.CallTable.{process_create}
 use Rattle.zl_code.specs.Image.{Program}
@@ -59,22 +66,26 @@ module _ (lib : Library) (before : List Process) (r : Objects) (lab_is : IsConsi
       ∷ answer_if (lacks_need old_world k g) status.NotSupported
       ∷ answer_if (not (has_room_in handles && nat_le (r.next_koid + 1) (2 ^ 62))) status.NoResources ∷ [])
 
-  by_create_tests : (a b c d : Bool) → first_some (None ∷ None ∷ answer_if (not a) status.InvalidArgs ∷ answer_if b status.BadState ∷ answer_if c status.NotSupported ∷ answer_if (not d) status.NoResources ∷ [])
-      ≡ answers (option_or (then_some (not a) status.InvalidArgs) (option_or (then_some b status.BadState) (option_or (then_some c status.NotSupported) (then_some (not d) status.NoResources))))
+  by_create_tests : (a b c d : Bool) → first_some (None ∷ None ∷ answer_if (not a) status.InvalidArgs ∷ answer_if b status.BadState
+      ∷ answer_if c status.NotSupported ∷ answer_if (not d) status.NoResources ∷ [])
+      ≡ answers (option_or (then_some (not a) status.InvalidArgs)
+      (option_or (then_some b status.BadState) (option_or (then_some c status.NotSupported) (then_some (not d) status.NoResources))))
   by_create_tests false b c d = refl
   by_create_tests true true c d = refl
   by_create_tests true false true d = refl
   by_create_tests true false false true = refl
   by_create_tests true false false false = refl
 
-  pub create_refused : (job program : ℕ) → AllNamed before r lab_is p → refusal lib old_world p (process_create job program) ≡ answers (create_refusal lib handles r job program)
+  pub create_refused : (job program : ℕ) → AllNamed before r lab_is p
+      → refusal lib old_world p (process_create job program) ≡ answers (create_refusal lib handles r job program)
   unfolding refusal handle_operands examined operand listed has_room has_koids
   create_refused job program named = rw (may_create old_world p condition.NewProcess) (by_entry (get handles job) refl)
     where
       g : Option Program
       g = slice_get lib program
 
-      passes : (e : Entry) → IsJobAt r.objects e.koid → (o : Option Program) → slice_get lib program ≡ o → create_with o None e.koid ≡ answers (create_refusal_of lib handles r program (Ok e))
+      passes : (e : Entry) → IsJobAt r.objects e.koid → (o : Option Program) → slice_get lib program ≡ o
+          → create_with o None e.koid ≡ answers (create_refusal_of lib handles r program (Ok e))
       passes e at None is = rw is refl
       passes e at (Some x) is =
           rw (is, body_seen before r e.koid at, job_found r.objects e.koid at)
@@ -87,15 +98,18 @@ module _ (lib : Library) (before : List Process) (r : Objects) (lab_is : IsConsi
       by_tests e at true false fits = refl
       by_tests e at false b fits = ap (λ (x : Option Outcome). create_with g x e.koid) (fault_answers old_world p condition.WrongObject status.WrongType)
 
-      by_entry : (o : Option Entry) → get handles job ≡ o → create_with g (operand_of old_world p (kind.Job ∷ []) MANAGE_PROCESS o) (koid_in o) ≡ answers (create_refusal_of lib handles r program (granted o (kind.Job ∷ []) MANAGE_PROCESS))
+      by_entry : (o : Option Entry) → get handles job ≡ o → create_with g (operand_of old_world p (kind.Job ∷ []) MANAGE_PROCESS o) (koid_in o)
+          ≡ answers (create_refusal_of lib handles r program (granted o (kind.Job ∷ []) MANAGE_PROCESS))
       by_entry None at = ap (λ (x : Option Outcome). create_with g x 0) (fault_answers old_world p condition.BadHandle status.BadHandle)
       by_entry (Some e) at = by_tests e at (takes (kind.Job ∷ []) e.kind) (within MANAGE_PROCESS (bits e.rights)) refl
 
 -- ---- a process is made
 
 -- p has become p2, whose table has the handle to the new process
-module _ (lib : Library) (before mid : List Process) (r : Objects) (lab_is : IsConsistent before r) (p p2 : Process) (write : IsWrite before mid p p2) (state : p2.state ≡ p.state)
-    (job program made : ℕ) (above : Entry) (is_above : looked_up p.table.entries job (kind.Job ∷ []) MANAGE_PROCESS ≡ Ok above) (unrefused : create_refusal lib p.table.entries r job program ≡ None)
+module _ (lib : Library) (before mid : List Process) (r : Objects) (lab_is : IsConsistent before r) (p p2 : Process) (write : IsWrite before mid p p2)
+    (state : p2.state ≡ p.state)
+    (job program made : ℕ) (above : Entry) (is_above : looked_up p.table.entries job (kind.Job ∷ []) MANAGE_PROCESS ≡ Ok above)
+    (unrefused : create_refusal lib p.table.entries r job program ≡ None)
     (inserts : Inserts p.table (new_entry r.next_koid kind.Process) made p2.table) (has : HasRoom p.table.entries r.next_koid)
     (new : Process) (pid : new.pid ≡ r.next_koid) (created : process_value new ≡ created_process lib program) where
   abbrev n : ℕ
@@ -220,7 +234,8 @@ module _ (lib : Library) (before mid : List Process) (r : Objects) (lab_is : IsC
       next_koid = n + 1;
     }
 
-    create_ends : world_value after grown ≡ replied (with_effect lib w (taken w p.pid create_site) p.pid (process_create job program) (made ∷ [])) p.pid create_site status.Ok (made ∷ [])
+    create_ends : world_value after grown
+        ≡ replied (with_effect lib w (taken w p.pid create_site) p.pid (process_create job program) (made ∷ [])) p.pid create_site status.Ok (made ∷ [])
     unfolding taken_handles handle_operands remove_all new_handles effect insert_all
     create_ends =
         replied_inserted both after p p2 write_both grown create_site made entry (world_value both grown) refl refl inserts replies

@@ -1,5 +1,8 @@
 -- The call process_create in the midst of all processes: from what it did to a step, up to where processes wake.
-use Rattle.zl_calls.proofs.Common.{◌≡◌, ◌==◌, ℕ, zero, suc, true, List, [], ◌∷◌, ◌++◌, refl, sym, ap, ◌∙◌, subst, Some, None, Result, Ok, Err, IsActed, none-some, same_Some, get_or, slice_get, slice_set, set, position, is_ready, Library, Site, site, refusal, handle_operands, remove_all, taken_handles, gives_refused, AtCall, next_for, cpu_answered, Objects, with_new, told_by, one_value, Replies, status_of, process_value, state_value, world_blocked, world_value, AreBlocked, IsConsistent, IsRefusedBy}
+use Rattle.zl_calls.proofs.Common.{◌≡◌, ◌==◌, ℕ, zero, suc, true, List, [], ◌∷◌, ◌++◌, refl, sym, ap, ◌∙◌, subst, Some, None, Result, Ok, Err, IsActed}
+use Rattle.zl_calls.proofs.Common.{none-some, same_Some, get_or, slice_get, slice_set, set, position, is_ready, Library, Site, site, refusal, handle_operands}
+use Rattle.zl_calls.proofs.Common.{remove_all, taken_handles, gives_refused, AtCall, next_for, cpu_answered, Objects, with_new, told_by, one_value, Replies}
+use Rattle.zl_calls.proofs.Common.{status_of, process_value, state_value, world_blocked, world_value, AreBlocked, IsConsistent, IsRefusedBy}
 use Rattle.zl_code.specs.Sound.{IsSound as IsSoundWorld}
 use Rattle.zl_code.specs.CallTable.{process_create}
 use Rattle.zl_code.specs.declared.history.CallName.{CallName}
@@ -50,7 +53,8 @@ get_again (a ∷ xs) ys (suc i) x c at = get_again xs ys i x c at
 -- ---- the step
 
 -- the process p stands at the place, under the pid, and is at the call
-module _ (lib : Library) (ps : List Process) (r : Objects) (whole : IsConsistent ps r) (blocked : List ℕ) (are : AreBlocked ps blocked) (sound : IsSoundWorld (world_blocked ps r blocked)) (pid place : ℕ) (p : Process)
+module _ (lib : Library) (ps : List Process) (r : Objects) (whole : IsConsistent ps r) (blocked : List ℕ) (are : AreBlocked ps blocked)
+    (sound : IsSoundWorld (world_blocked ps r blocked)) (pid place : ℕ) (p : Process)
     (found : Some place ≡ position (λ q. q.pid == pid) ps) (read : p ≡ get_or ps place p) (is_ready_there : is_ready (state_value p.state) ≡ true)
     (name : CallName) (free : IsFree lib (world_value ps r) p.pid name) (job program : ℕ) (consumed destinations : List ℕ)
     (next : next_for lib (process_value p) ≡ AtCall name (site (process_create job program) consumed destinations)) (l2 : Lab) where
@@ -61,7 +65,8 @@ module _ (lib : Library) (ps : List Process) (r : Objects) (whole : IsConsistent
   abbrev Left : Outcome → Type 0
   Left o = HasLeft lib ps l2.processes r l2.objects blocked l2.blocked pid (item.Call pid name o)
 
-  left_as : (o : Outcome) (after : List Process) (r2 : Objects) → l2.processes ≡ after → l2.objects ≡ r2 → l2.blocked ≡ blocked → HasLeft lib ps after r r2 blocked blocked pid (item.Call pid name o) → Left o
+  left_as : (o : Outcome) (after : List Process) (r2 : Objects) → l2.processes ≡ after → l2.objects ≡ r2 → l2.blocked ≡ blocked
+      → HasLeft lib ps after r r2 blocked blocked pid (item.Call pid name o) → Left o
   left_as o after r2 processes objects list left =
       subst (λ (qs : List Process). HasLeft lib ps qs r l2.objects blocked l2.blocked pid (item.Call pid name o)) (sym processes)
       (subst (λ (x : Objects). HasLeft lib ps after r x blocked l2.blocked pid (item.Call pid name o)) (sym objects)
@@ -75,7 +80,8 @@ module _ (lib : Library) (ps : List Process) (r : Objects) (whole : IsConsistent
 
   refused_here : refusal lib (world_value ps r) p.pid (process_create job program) ≡ answers (create_refusal lib p.table.entries r job program)
   refused_here =
-      create_refused lib ps r whole p.pid job program (λ h e at. whole.named p.pid (process_value p) h e itself.there (rw (table_is ps (set ps place p) p p itself r) at at))
+      create_refused lib ps r whole p.pid job program
+      (λ h e at. whole.named p.pid (process_value p) h e itself.there (rw (table_is ps (set ps place p) p p itself r) at at))
       ∙ rw (table_is ps (set ps place p) p p itself r) refl
 
   -- ---- it is refused
@@ -93,22 +99,28 @@ module _ (lib : Library) (ps : List Process) (r : Objects) (whole : IsConsistent
     refused_called : IsCalled lib ps after_it r r p.pid s (outcome.Answered answer)
     unfolding taken_handles handle_operands remove_all gives_refused
     refused_called = record {
-      calls = refused_calls lib (world_value ps r) p.pid s true (create_refusal lib p.table.entries r job program) answer (world_value after_it r) (λ a. refl) refused_here refl refuses
+      calls =
+          refused_calls lib (world_value ps r) p.pid s true (create_refusal lib p.table.entries r job program) answer (world_value after_it r)
+          (λ a. refl) refused_here refl refuses
           (same_world ps after_it p told write_told r r s answer [] refl refl refl);
       keeps = refusal_keeps ps after_it p told write_told r whole refl refl;
     }
 
     refused_so : HasLeft lib ps after_it r r blocked blocked pid (item.Call pid name (outcome.Answered answer))
     refused_so =
-        let done : IsDone lib ps after_it r r p.pid name (outcome.Answered answer) = called_done lib ps after_it r r p told whole write_told (ready lib ps r whole blocked are sound pid place p found read is_ready_there) name s next (outcome.Answered answer) refused_called in
-        acted_so lib ps r whole blocked are sound pid place p found read is_ready_there after_it told r (item.Call pid name (outcome.Answered answer)) write_told
+        let done : IsDone lib ps after_it r r p.pid name (outcome.Answered answer) =
+        called_done lib ps after_it r r p told whole write_told (ready lib ps r whole blocked are sound pid place p found read is_ready_there) name s next
+        (outcome.Answered answer) refused_called in
+        acted_so lib ps r whole blocked are sound pid place p found read is_ready_there after_it told r
+        (item.Call pid name (outcome.Answered answer)) write_told
         (unblocked lib ps r whole blocked are sound pid place p found read is_ready_there) refl refl (ap next_looks next) done.lab
         (rw (← key lib ps r whole blocked are sound pid place p found read) (done.step free))
         (rw next (record { waits = λ test h. refl; made = refl }))
 
   -- ---- it is done
 
-  left_with : (after : List Process) (r2 : Objects) → IsConsistent after r2 → AreBlocked after blocked → IsActed lib (world_value ps r) p.pid (item.Call p.pid name (outcome.Answered status.Ok)) (settled_world after r2)
+  left_with : (after : List Process) (r2 : Objects) → IsConsistent after r2 → AreBlocked after blocked
+      → IsActed lib (world_value ps r) p.pid (item.Call p.pid name (outcome.Answered status.Ok)) (settled_world after r2)
       → ListsBut r.waits r.waits_made r2 → HasLeft lib ps after r r2 blocked blocked pid (item.Call pid name (outcome.Answered status.Ok))
   left_with after r2 keeps list step lists = record {
     lab = left_keeps after r2 keeps;
@@ -116,8 +128,10 @@ module _ (lib : Library) (ps : List Process) (r : Objects) (whole : IsConsistent
     acts = record {
       pid_is = refl;
       acted = rw (same_list pid (item.Call pid name (outcome.Answered status.Ok)) blocked refl)
-          (left_beside lib ps (left_all after r2) r r2 pid (item.Call pid name (outcome.Answered status.Ok)) blocked sound (process_value p) (there lib ps r whole blocked are sound pid place p found read)
-          (rw (there lib ps r whole blocked are sound pid place p found read) (unblocked lib ps r whole blocked are sound pid place p found read is_ready_there)) are refl refl (ap next_looks next)
+          (left_beside lib ps (left_all after r2) r r2 pid (item.Call pid name (outcome.Answered status.Ok)) blocked sound (process_value p)
+          (there lib ps r whole blocked are sound pid place p found read)
+          (rw (there lib ps r whole blocked are sound pid place p found read)
+          (unblocked lib ps r whole blocked are sound pid place p found read is_ready_there)) are refl refl (ap next_looks next)
           (rw (← key lib ps r whole blocked are sound pid place p found read) step)
           (rw next lists));
     };
@@ -139,7 +153,8 @@ module _ (lib : Library) (ps : List Process) (r : Objects) (whole : IsConsistent
     above = done.above
 
     found_above : looked_up p.table.entries job (kind.Job ∷ []) MANAGE_PROCESS ≡ Ok above
-    found_above = ap (λ (c : Process). looked_up c.table.entries job (kind.Job ∷ []) MANAGE_PROCESS) (sym (is_caller done.caller done.is_caller.is_there)) ∙ done.is_above
+    found_above =
+        ap (λ (c : Process). looked_up c.table.entries job (kind.Job ∷ []) MANAGE_PROCESS) (sym (is_caller done.caller done.is_caller.is_there)) ∙ done.is_above
 
     unrefused : create_refusal lib p.table.entries r job program ≡ None
     unrefused = ap (λ (c : Process). create_refusal lib c.table.entries r job program) (sym (is_caller done.caller done.is_caller.is_there)) ∙ done.unrefused
@@ -173,7 +188,9 @@ module _ (lib : Library) (ps : List Process) (r : Objects) (whole : IsConsistent
         (unblocked lib ps r whole blocked are sound pid place p found read is_ready_there) blocked are
 
     made_step : IsActed lib (world_value ps r) p.pid (item.Call p.pid name (outcome.Answered status.Ok)) (settled_world made_all made_grown)
-    made_step = call_settles lib ps made_all r made_grown made_grown p name s (outcome.Answered status.Ok) write_mid.there (ready lib ps r whole blocked are sound pid place p found read is_ready_there) next
+    made_step =
+        call_settles lib ps made_all r made_grown made_grown p name s (outcome.Answered status.Ok) write_mid.there
+        (ready lib ps r whole blocked are sound pid place p found read is_ready_there) next
         (created_calls lib ps mid r whole p given write_mid same_state job program made above found_above unrefused makes.inserts
         (has_left p.table.entries r.next_koid makes.unrefused) done.new done.pid done.created consumed destinations replies)
         (still_settles made_all made_grown made_keeps) free
@@ -183,7 +200,8 @@ module _ (lib : Library) (ps : List Process) (r : Objects) (whole : IsConsistent
 
   -- ---- either
 
-  by_answer : (answer : Result ℕ Status) (between : Lab) → ProcessCreateDoes lib place job program p (lab ps r blocked) answer between → IsToldIn s place (told_by one_value answer) between l2 → Left (outcome.Answered (status_of answer))
+  by_answer : (answer : Result ℕ Status) (between : Lab) → ProcessCreateDoes lib place job program p (lab ps r blocked) answer between
+      → IsToldIn s place (told_by one_value answer) between l2 → Left (outcome.Answered (status_of answer))
   by_answer (Err answer) between does is_told =
       let before : between.processes ≡ ps = ap (λ (l : Lab). l.processes) does.refused in
       let same : is_told.caller ≡ p = is_caller is_told.caller (ap (λ (qs : List Process). slice_get qs place) (sym before) ∙ is_told.is_there) in
@@ -194,11 +212,14 @@ module _ (lib : Library) (ps : List Process) (r : Objects) (whole : IsConsistent
   by_answer (Ok made) between does is_told =
       let done : CreatesProcess lib (lab ps r blocked) place job program made between = does.ok in
       let same : is_told.caller ≡ done.after =
-      sym (same_Some done.after is_told.caller (sym (get_again ps (done.new ∷ []) place done.after done.caller done.is_caller.is_there) ∙ (ap (λ (qs : List Process). slice_get qs place) (sym done.processes) ∙ is_told.is_there))) in
-      left_as (outcome.Answered status.Ok) (set ps place (record (done.after) { cpu = cpu_answered s status.Ok (made ∷ []) done.after.cpu }) ++ done.new ∷ []) (with_new r (body.Process done.above.koid life.Created) 1)
+      sym (same_Some done.after is_told.caller (sym (get_again ps (done.new ∷ []) place done.after done.caller done.is_caller.is_there)
+      ∙ (ap (λ (qs : List Process). slice_get qs place) (sym done.processes) ∙ is_told.is_there))) in
+      left_as (outcome.Answered status.Ok) (set ps place (record (done.after) { cpu = cpu_answered s status.Ok (made ∷ []) done.after.cpu }) ++ done.new ∷ [])
+      (with_new r (body.Process done.above.koid life.Created) 1)
       (is_told.processes
       ∙ ((λ i. slice_set (done.processes i) place (record (same i) { cpu = cpu_answered s status.Ok (made ∷ []) (same i).cpu }))
-      ∙ set_again ps (done.new ∷ []) place done.after (record (done.after) { cpu = cpu_answered s status.Ok (made ∷ []) done.after.cpu }) done.caller done.is_caller.is_there))
+      ∙ set_again ps (done.new ∷ []) place done.after (record (done.after) { cpu = cpu_answered s status.Ok (made ∷ []) done.after.cpu }) done.caller
+      done.is_caller.is_there))
       (is_told.objects ∙ done.makes.objects) (is_told.blocked ∙ done.blocked)
       (made_so made between done)
 

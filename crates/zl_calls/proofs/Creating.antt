@@ -1,5 +1,6 @@
 -- What process_create does where memory is wanted, from what its parts do.
-use Rattle.zl_calls.proofs.Common.{◌≡◌, ℕ, zero, suc, List, [], ◌∷◌, refl, sym, ap, ◌∙◌, subst, Option, Some, None, Result, Ok, Err, none-some, option_or, then_some, is_some, Map, get_or, slice_get, slice_set, Bool, true, false, not, Handles, IsRefusedBy, Library, Objects}
+use Rattle.zl_calls.proofs.Common.{◌≡◌, ℕ, zero, suc, List, [], ◌∷◌, refl, sym, ap, ◌∙◌, subst, Option, Some, None, Result, Ok, Err, none-some, option_or}
+use Rattle.zl_calls.proofs.Common.{then_some, is_some, Map, get_or, slice_get, slice_set, Bool, true, false, not, Handles, IsRefusedBy, Library, Objects}
 use Rattle.std.proofs.lemmas.Option.{get_or_from_slice_get}
 use Rattle.zl_rights.specs.declared.status.Status.{Status}
 use Rattle.zl_rights.specs.declared.status.Status.TheVariants as status
@@ -36,8 +37,10 @@ room_is_left lib entries r job program unrefused = by_job (looked_up entries job
     by_job (Ok e) h = by_tests (not (is_some (slice_get lib program))) (is_dead (job_at r.objects e.koid))
         (needs_more (action_of (job_at r.objects e.koid)) (slice_get lib program)) (room_refusal entries r.next_koid) h
 
-module _ (lib : Library) (ps ps2 : List Process) (r : Objects) (blocked blocked2 : List ℕ) (place job program : ℕ) (same_ps : ps2 ≡ ps) (same_blocked : blocked2 ≡ blocked)
-    (read : Process) (is_read : read ≡ get_or ps place read) (passes : None ≡ create_refusal lib read.table.entries r job program) (caller : Process) (there : slice_get ps place ≡ Some caller) where
+module _ (lib : Library) (ps ps2 : List Process) (r : Objects) (blocked blocked2 : List ℕ) (place job program : ℕ) (same_ps : ps2 ≡ ps)
+    (same_blocked : blocked2 ≡ blocked)
+    (read : Process) (is_read : read ≡ get_or ps place read) (passes : None ≡ create_refusal lib read.table.entries r job program) (caller : Process)
+    (there : slice_get ps place ≡ Some caller) where
   is_caller : read ≡ caller
   is_caller = is_read ∙ get_or_from_slice_get ps place caller read there
 
@@ -45,7 +48,8 @@ module _ (lib : Library) (ps ps2 : List Process) (r : Objects) (blocked blocked2
   unrefused = ap (λ (p : Process). create_refusal lib p.table.entries r job program) (sym is_caller) ∙ sym passes
 
   -- memory is wanted, and nothing has changed
-  pub wants_memory : (r2 : Objects) → r2 ≡ r → (ps3 : List Process) → ps3 ≡ ps2 → ProcessCreateDoes lib place job program caller (lab ps r blocked) (Err status.NoMemory) (lab ps3 r2 blocked2)
+  pub wants_memory : (r2 : Objects) → r2 ≡ r → (ps3 : List Process) → ps3 ≡ ps2
+      → ProcessCreateDoes lib place job program caller (lab ps r blocked) (Err status.NoMemory) (lab ps3 r2 blocked2)
   wants_memory r2 same_objects ps3 same = record {
     ok = tt;
     err = subst (λ (o : Option Status). IsRefusedBy true o status.NoMemory) (sym unrefused) refl;
@@ -57,7 +61,8 @@ module _ (lib : Library) (ps ps2 : List Process) (r : Objects) (blocked blocked2
       → MakeDoes b written.table r (Err s) table r2
       → ProcessCreateDoes lib place job program caller (lab ps r blocked) (Err s) (lab (slice_set ps2 place (record written { table = table })) r2 blocked2)
   not_made written is_written b table r2 s does =
-      subst (λ (x : Status). ProcessCreateDoes lib place job program caller (lab ps r blocked) (Err x) (lab (slice_set ps2 place (record written { table = table })) r2 blocked2)) (sym is)
+      subst (λ (x : Status). ProcessCreateDoes lib place job program caller (lab ps r blocked) (Err x)
+      (lab (slice_set ps2 place (record written { table = table })) r2 blocked2)) (sym is)
       (wants_memory r2 does.same_objects (slice_set ps2 place (record written { table = table }))
       (ap (λ (t : Handles). slice_set ps2 place (record written { table = t })) does.same_table ∙ set_itself ps2 place written is_written))
     where

@@ -1,5 +1,7 @@
 -- What a verdict makes of a call for the definitions: it is answered, or its caller ends.
-use Rattle.zl_code.proofs.Common.{◌≡◌, ℕ, Bool, true, false, [], refl, sym, ap, ◌∙◌, Option, Some, None, none-some, true≢false, get, World, Library, Request, Site, chan_create, chan_read_etc, event_create, handle_operands, refusal, gives_refused, remove_all, taken_handles, replied, ended, Calls, Refused}
+use Rattle.zl_code.proofs.Common.{◌≡◌, ℕ, Bool, true, false, [], refl, sym, ap, ◌∙◌, Option, Some, None, none-some, true≢false, get, World, Library, Request}
+use Rattle.zl_code.proofs.Common.{Site, chan_create, chan_read_etc, event_create, handle_operands, refusal, gives_refused, remove_all, taken_handles, replied}
+use Rattle.zl_code.proofs.Common.{ended, Calls, Refused}
 use Rattle.zl_rights.specs.Common.{Map}
 use Rattle.zl_rights.specs.Numbers.{BY_POLICY}
 use Rattle.zl_rights.specs.declared.entry.Entry.{Entry}
@@ -44,10 +46,12 @@ denied_makes o (Some status.WrongType) c is = absurd (never (o condition.WrongOb
     never action.Kill is = true≢false (sym (ap is_denial is))
 denied_makes o (Some _) c is = absurd (none-some _ is)
 
-pub denied_object : (entries : Map Entry) (objects : Map Object) (p : ℕ) (request : Request) → verdict_on entries objects p request ≡ Some verdict.Denied → (c : Condition) × (condition_of request ≡ Some c)
+pub denied_object : (entries : Map Entry) (objects : Map Object) (p : ℕ) (request : Request) → verdict_on entries objects p request ≡ Some verdict.Denied
+    → (c : Condition) × (condition_of request ≡ Some c)
 denied_object entries objects p request is = by_job (job_in (get objects p)) is
   where
-    by_job : (job : Option ℕ) → verdict_in objects job (operands_fault entries [] (handle_operands request)) (condition_of request) ≡ Some verdict.Denied → (c : Condition) × (condition_of request ≡ Some c)
+    by_job : (job : Option ℕ) → verdict_in objects job (operands_fault entries [] (handle_operands request)) (condition_of request) ≡ Some verdict.Denied
+        → (c : Condition) × (condition_of request ≡ Some c)
     by_job None is = absurd (none-some _ is)
     by_job (Some job) is = denied_makes (action_of (job_at objects job)) (operands_fault entries [] (handle_operands request)) (condition_of request) is
 
@@ -69,10 +73,17 @@ denial_tells_none w p _ = refl
 
 module _ (lib : Library) (w : World) (p : ℕ) (s : Site) (w2 : World) where
   -- a call that is denied is answered, and nothing else changes
-  pub denied_calls : (c : Condition) → condition_of s.request ≡ Some c → refusal lib w p s.request ≡ Some (ending verdict.Denied) → w2 ≡ replied w p s status.AccessDenied [] → Calls lib w p s (outcome.Answered status.AccessDenied) w2
+  pub denied_calls : (c : Condition) → condition_of s.request ≡ Some c → refusal lib w p s.request ≡ Some (ending verdict.Denied)
+      → w2 ≡ replied w p s status.AccessDenied [] → Calls lib w p s (outcome.Answered status.AccessDenied) w2
   unfolding remove_all
-  denied_calls c making is after =
-      (Refused, rw is (refl, after ∙ (λ i. replied (remove_all w p (sym (making_takes_none s.request c making) i)) p s status.AccessDenied (sym (denial_tells_none w p s.request) i))))
+  denied_calls c making is after = (
+    Refused,
+    rw is (
+      refl,
+      after ∙ (λ i. replied (remove_all w p (sym (making_takes_none s.request c making) i)) p s status.AccessDenied
+          (sym (denial_tells_none w p s.request) i)),
+    ),
+  )
 
   -- a caller that a policy kills ends
   pub killed_calls : refusal lib w p s.request ≡ Some (ending verdict.Killed) → w2 ≡ ended w p BY_POLICY → Calls lib w p s (outcome.Ended BY_POLICY) w2

@@ -1,5 +1,8 @@
 -- Processes that were never started go with their objects: what settling leaves of a world, and that the invariant stays.
-use Rattle.zl_calls.proofs.Common.{◌≡◌, ◌+◌, ◌<◌, ◌^◌, ◌==◌, ℕ, count_by, sum_by, sum_by-cons, queued_to, IsTable, true, false, List, [], ◌∷◌, map, refl, sym, ap, ◌∙◌, subst, Option, Some, None, IsTrue, eq-eqb, is_some, none-some, same_Some, cond, if◌then◌else◌, option_map, nat_cmp, is_sorted, Map, get, has_key, where_key, each, lives, Koids, handles_to, process_settled, Objects, AreBlocked, IsConsistent, object_entry, process_entry, state_value, world_value, without_others, state_without, state_passes, is_process, Bool, World}
+use Rattle.zl_calls.proofs.Common.{◌≡◌, ◌+◌, ◌<◌, ◌^◌, ◌==◌, ℕ, count_by, sum_by, sum_by-cons, queued_to, IsTable, true, false, List, [], ◌∷◌, map, refl, sym}
+use Rattle.zl_calls.proofs.Common.{ap, ◌∙◌, subst, Option, Some, None, IsTrue, eq-eqb, is_some, none-some, same_Some, cond, if◌then◌else◌, option_map, nat_cmp}
+use Rattle.zl_calls.proofs.Common.{is_sorted, Map, get, has_key, where_key, each, lives, Koids, handles_to, process_settled, Objects, AreBlocked, IsConsistent}
+use Rattle.zl_calls.proofs.Common.{object_entry, process_entry, state_value, world_value, without_others, state_without, state_passes, is_process, Bool, World}
 use Rattle.zl_code.proofs.Common.{Process as ProcessValue, Object as ObjectValue, State as StateValue, Created, is_blocked}
 use Rattle.zl_code.proofs.MapKept.{in_order-each}
 use Rattle.zl_rights.proofs.MapLaws.{get-each}
@@ -33,7 +36,8 @@ state_left b (state.Ended code) = refl
 state_left b state.Gone = refl
 
 -- for the definitions each process is settled
-pub seen_left : (r : Objects) (ps : List Process) → each (process_settled (has_key (map object_entry r.objects))) (map process_entry ps) ≡ map process_entry (left_all ps r)
+pub seen_left : (r : Objects) (ps : List Process)
+    → each (process_settled (has_key (map object_entry r.objects))) (map process_entry ps) ≡ map process_entry (left_all ps r)
 unfolding each
 seen_left r [] = refl
 seen_left r (p ∷ ps) = rw (has_seen r.objects p.pid, state_left (has_key r.objects p.pid) p.state, seen_left r ps) refl
@@ -53,7 +57,8 @@ where_passing {X} p (e ∷ m) all =
 -- the world in which all of these objects stay is theirs
 pub all_stay : (ps : List Process) (r r2 : Objects) → r2.next_koid ≡ r.next_koid → with_all (world_value ps r) r2.objects ≡ settled_world ps r2
 unfolding without_others
-all_stay ps r r2 koids = rw (seen_left r2 ps, where_passing (has_key (map object_entry r2.objects)) (map object_entry r2.objects) (λ k there. there), koids) refl
+all_stay ps r r2 koids =
+    rw (seen_left r2 ps, where_passing (has_key (map object_entry r2.objects)) (map object_entry r2.objects) (λ k there. there), koids) refl
 
 -- ---- the invariant
 
@@ -66,10 +71,12 @@ module _ (ps : List Process) (r : Objects) where
   get_left k = ap (λ (m : Map ProcessValue). get m k) (sym (seen_left r ps)) ∙ get-each (map process_entry ps) (process_settled K) k
 
   -- a process afterwards is one of before, with its handles
-  pub found_left : (k : ℕ) (q : ProcessValue) → get (map process_entry (left_all ps r)) k ≡ Some q → (old : ProcessValue) × (get (map process_entry ps) k ≡ Some old) × (process_settled K k old ≡ q)
+  pub found_left : (k : ℕ) (q : ProcessValue) → get (map process_entry (left_all ps r)) k ≡ Some q
+      → (old : ProcessValue) × (get (map process_entry ps) k ≡ Some old) × (process_settled K k old ≡ q)
   found_left k q at = by_process (get (map process_entry ps) k) refl (sym (get_left k) ∙ at)
     where
-      by_process : (o : Option ProcessValue) → get (map process_entry ps) k ≡ o → option_map (process_settled K k) o ≡ Some q → (old : ProcessValue) × (get (map process_entry ps) k ≡ Some old) × (process_settled K k old ≡ q)
+      by_process : (o : Option ProcessValue) → get (map process_entry ps) k ≡ o → option_map (process_settled K k) o ≡ Some q
+          → (old : ProcessValue) × (get (map process_entry ps) k ≡ Some old) × (process_settled K k old ≡ q)
       by_process None is read = absurd (none-some q read)
       by_process (Some old) is read = (old, is, same_Some (process_settled K k old) q read)
 
@@ -90,7 +97,8 @@ module _ (ps : List Process) (r : Objects) where
       by_process (Some q) = same (K k) q.state
 
   -- of a process whose object is there nothing changes
-  pub there_left : (k : ℕ) → IsTrue (has_key r.objects k) → (test : StateValue → Bool) → state_passes test (get (map process_entry (left_all ps r)) k) ≡ state_passes test (get (map process_entry ps) k)
+  pub there_left : (k : ℕ) → IsTrue (has_key r.objects k) → (test : StateValue → Bool)
+      → state_passes test (get (map process_entry (left_all ps r)) k) ≡ state_passes test (get (map process_entry ps) k)
   there_left k there test = ap (state_passes test) (get_left k) ∙ by_process (get (map process_entry ps) k)
     where
       held : K k ≡ true
@@ -121,13 +129,15 @@ module _ (ps : List Process) (r : Objects) where
   pub left_keeps : IsConsistent ps r → IsConsistent (left_all ps r) r
   unfolding is_process
   left_keeps lab = record {
-    processes_in_order = subst (λ (m : Map ProcessValue). IsTrue (is_sorted nat_cmp m)) (seen_left r ps) (in_order-each (map process_entry ps) (process_settled K) ∙ lab.processes_in_order);
+    processes_in_order = subst (λ (m : Map ProcessValue). IsTrue (is_sorted nat_cmp m)) (seen_left r ps)
+        (in_order-each (map process_entry ps) (process_settled K) ∙ lab.processes_in_order);
     given_processes = λ k there. lab.given_processes k (sym (has_left k) ∙ there);
     given_objects = lab.given_objects;
     koids = lab.koids;
     above_zero = lab.above_zero;
     no_zero = lab.no_zero;
-    tables = λ k p at. let (old, was, is) = found_left k p at in subst (λ (x : ProcessValue). IsTable (record { entries = x.handles; last = x.last })) is (lab.tables k old was);
+    tables = λ k p at. let (old, was, is) = found_left k p at in
+        subst (λ (x : ProcessValue). IsTable (record { entries = x.handles; last = x.last })) is (lab.tables k old was);
     named = λ k p v e at there. let (old, was, is) = found_left k p at in lab.named k old v e was (ap (λ (x : ProcessValue). get x.handles v) is ∙ there);
     queued = lab.queued;
     counted = λ k o at. lab.counted k o at ∙ sym (same_counts k);
@@ -148,20 +158,25 @@ module _ (ps : List Process) (r : Objects) where
     once = λ k. are.once k ∙ ap (λ (b : Bool). if b then 1 else 0) (sym (passes_left is_blocked same_blocked k));
     counters = λ k p at waits.
         let (old, was, is) = found_left k p at in
-        subst (λ (x : ProcessValue). IsTrue (is_blocked x.state) → x.cpu.counter < 2 ^ 32) is (λ w. are.counters k old was (sym (same_blocked (K k) old.state) ∙ w)) waits;
+        subst (λ (x : ProcessValue). IsTrue (is_blocked x.state) → x.cpu.counter < 2 ^ 32) is
+        (λ w. are.counters k old was (sym (same_blocked (K k) old.state) ∙ w)) waits;
   }
 
 -- ---- where each living process has its object
 
 -- nothing goes
-pub all_live : (ps : List Process) (r : Objects) → IsTrue (is_sorted nat_cmp (map process_entry ps)) → ((k : ℕ) (q : ProcessValue) → get (map process_entry ps) k ≡ Some q → IsTrue (lives q.state) → IsTrue (has_key r.objects k)) → settled_world ps r ≡ world_value ps r
+pub all_live : (ps : List Process) (r : Objects) → IsTrue (is_sorted nat_cmp (map process_entry ps))
+    → ((k : ℕ) (q : ProcessValue) → get (map process_entry ps) k ≡ Some q → IsTrue (lives q.state) → IsTrue (has_key r.objects k))
+    → settled_world ps r ≡ world_value ps r
 all_live ps r sorted living = ap (λ (m : Map ProcessValue). record (world_value ps r) { processes = m }) (sym (seen_left r ps) ∙ settled)
   where
-    by_state : (j : ℕ) (s : StateValue) → (IsTrue (lives s) → has_key (map object_entry r.objects) j ≡ true) → state_without (has_key (map object_entry r.objects) j) s ≡ s
+    by_state : (j : ℕ) (s : StateValue) → (IsTrue (lives s) → has_key (map object_entry r.objects) j ≡ true)
+        → state_without (has_key (map object_entry r.objects) j) s ≡ s
     by_state j Created h = rw (h refl) refl
     by_state j _ h = refl
 
-    by_process : (j : ℕ) (o : Option ProcessValue) → get (map process_entry ps) j ≡ o → option_map (process_settled (has_key (map object_entry r.objects)) j) o ≡ o
+    by_process : (j : ℕ) (o : Option ProcessValue) → get (map process_entry ps) j ≡ o
+        → option_map (process_settled (has_key (map object_entry r.objects)) j) o ≡ o
     by_process j None is = refl
     by_process j (Some q) is = ap (λ (s : StateValue). Some (record q { state = s })) (by_state j q.state (λ h. has_seen r.objects j ∙ living j q is h))
 

@@ -1,5 +1,7 @@
 -- That a call is done: it is a step up to where processes wake, and the invariant holds afterwards.
-use Rattle.zl_calls.proofs.Common.{◌≡◌, ℕ, Bool, List, [], ap, sym, ◌∙◌, subst, Option, Result, Ok, Err, Ready, Library, Site, refusal, AtCall, next_for, Calls, grows, replied, taken, Handles, Objects, Does, Replies, status_of, values_of, process_value, state_value, world_blocked, world_value, IsConsistent, World, IsActed}
+use Rattle.zl_calls.proofs.Common.{◌≡◌, ℕ, Bool, List, [], ap, sym, ◌∙◌, subst, Option, Result, Ok, Err, Ready, Library, Site, refusal, AtCall, next_for, Calls}
+use Rattle.zl_calls.proofs.Common.{grows, replied, taken, Handles, Objects, Does, Replies, status_of, values_of, process_value, state_value, world_blocked}
+use Rattle.zl_calls.proofs.Common.{world_value, IsConsistent, World, IsActed}
 use Rattle.zl_rights.specs.declared.status.Status.{Status}
 use Rattle.zl_rights.specs.declared.status.Status.TheVariants as status
 use Rattle.zl_code.specs.declared.history.CallName.{CallName}
@@ -30,7 +32,8 @@ pub record IsCalledAmong (lib : Library) (before after : List Process) (r r2 : O
   pub keeps : IsConsistent after r2
 
 -- a ready process of a lab, at the call
-module _ (lib : Library) (before after : List Process) (r r2 : Objects) (p p2 : Process) (lab : IsConsistent before r) (write : IsWrite before after p p2) (ready : state_value p.state ≡ Ready)
+module _ (lib : Library) (before after : List Process) (r r2 : Objects) (p p2 : Process) (lab : IsConsistent before r) (write : IsWrite before after p p2)
+    (ready : state_value p.state ≡ Ready)
     (call : CallName) (s : Site) (next : next_for lib (process_value p) ≡ AtCall call s) where
   abbrev w : World
   w = world_value before r
@@ -45,17 +48,22 @@ module _ (lib : Library) (before after : List Process) (r r2 : Objects) (p p2 : 
 
   -- a call that takes no handle and is either done or refused
   module _ {A : Type 0} (values : A → List ℕ) (Done : A → Handles → Objects → Type 0) (wants : Bool) (o : Option Status)
-      (refused : refusal lib w p.pid s.request ≡ answers o) (may_want : wants ≡ grows s.request) (takes_none : taken w p.pid s ≡ w) (nothing : TellsNothing lib w p.pid s)
+      (refused : refusal lib w p.pid s.request ≡ answers o) (may_want : wants ≡ grows s.request) (takes_none : taken w p.pid s ≡ w)
+      (nothing : TellsNothing lib w p.pid s)
       (done : (x : A) → Done x p2.table r2 → Replies s status.Ok (values x) p p2 → IsCalled lib before after r r2 p.pid s (outcome.Answered status.Ok)) where
     by_answer : (answer : Result A Status) → Does Done wants o p.table r answer p2.table r2 → Replies s (status_of answer) (values_of values answer) p p2
         → IsCalled lib before after r r2 p.pid s (outcome.Answered (status_of answer))
     by_answer (Ok x) does replies = done x does.ok replies
     by_answer (Err answer) does replies = record {
       calls = refused_calls lib w p.pid s wants o answer (world_value after r2) nothing refused may_want does.err
-          (same_world before after p p2 write r r2 s answer [] does.same_table does.same_objects replies ∙ ap (λ (v : World). replied v p.pid s answer []) (sym takes_none));
-      keeps = subst (IsConsistent after) (sym does.same_objects) (refusal_keeps before after p p2 write r lab does.same_table (ap (λ (q : Process). q.state) replies));
+          (same_world before after p p2 write r r2 s answer [] does.same_table does.same_objects replies
+          ∙ ap (λ (v : World). replied v p.pid s answer []) (sym takes_none));
+      keeps = subst (IsConsistent after) (sym does.same_objects)
+          (refusal_keeps before after p p2 write r lab does.same_table (ap (λ (q : Process). q.state) replies));
     }
 
-    pub answered_done : (ends : Outcome) (answer : Result A Status) → Does Done wants o p.table r answer p2.table r2 → Replies s (status_of answer) (values_of values answer) p p2
+    pub answered_done : (ends : Outcome) (answer : Result A Status) → Does Done wants o p.table r answer p2.table r2
+        → Replies s (status_of answer) (values_of values answer) p p2
         → ends ≡ outcome.Answered (status_of answer) → IsDone lib before after r r2 p.pid call ends
-    answered_done ends answer does replies is = called_done ends (subst (λ (x : Outcome). IsCalled lib before after r r2 p.pid s x) (sym is) (by_answer answer does replies))
+    answered_done ends answer does replies is =
+        called_done ends (subst (λ (x : Outcome). IsCalled lib before after r r2 p.pid s x) (sym is) (by_answer answer does replies))

@@ -1,5 +1,8 @@
 -- Waits end one after another: the objects stay the same but for waits, and of the list just what isn't to end is left.
-use Rattle.zl_calls.proofs.Common.{◌≡◌, ◌<◌, ◌+◌, ◌*◌, ◌-◌, ℕ, Bool, true, false, not, ◌&&◌, ◌||◌, ◌==◌, or_right, and_parts, eq-eqb, eqb-true, List, length, map, refl, sym, ap, ◌∙◌, subst, Option, Some, None, is_some, option_map, slice_get, slice_get-get_or, get_or, arith, Map, get, has_key, list_any, Objects, kind_at, kind_in, object_entry, process_entry, process_value, world_value, IsConsistent, IsPlaceOf, World}
+use Rattle.zl_calls.proofs.Common.{◌≡◌, ◌<◌, ◌+◌, ◌*◌, ◌-◌, ℕ, Bool, true, false, not, ◌&&◌, ◌||◌, ◌==◌, or_right, and_parts, eq-eqb, eqb-true, List, length}
+use Rattle.zl_calls.proofs.Common.{map, refl, sym, ap, ◌∙◌, subst, Option, Some, None, is_some, option_map, slice_get, slice_get-get_or, get_or, arith, Map}
+use Rattle.zl_calls.proofs.Common.{get, has_key, list_any, Objects, kind_at, kind_in, object_entry, process_entry, process_value, world_value, IsConsistent}
+use Rattle.zl_calls.proofs.Common.{IsPlaceOf, World}
 use Rattle.std.specs.List.{filter}
 use Rattle.std.proofs.lemmas.Option.{slice_get_within}
 use Rattle.zl_rights.specs.Settle.{has_handle, is_made_by_handle}
@@ -25,9 +28,11 @@ kind_there m k = by_object (get m k) ∙ sym (has_seen m k)
     by_object (Some o) = refl
 
 -- the table of the process at this place tells which handles the process has
-pub has_at : (ps : List Process) (pid place value : ℕ) (p : Process) → IsPlaceOf ps pid place → p ≡ get_or ps place p → has_key p.table.entries value ≡ has_handle (get (map process_entry ps) pid) value
+pub has_at : (ps : List Process) (pid place value : ℕ) (p : Process) → IsPlaceOf ps pid place → p ≡ get_or ps place p
+    → has_key p.table.entries value ≡ has_handle (get (map process_entry ps) pid) value
 has_at ps pid place value p found is =
-    sym (ap (λ o. has_handle o value) (found.holds ∙ ap (option_map process_value) (slice_get-get_or ps place p found.within ∙ ap (λ (q : Process). Some q) (sym is))))
+    sym (ap (λ o. has_handle o value)
+    (found.holds ∙ ap (option_map process_value) (slice_get-get_or ps place p found.within ∙ ap (λ (q : Process). Some q) (sym is))))
 
 -- ---- a walk along all waits
 
@@ -50,7 +55,8 @@ module _ (test : Wait → Bool) (old : Objects) where
       one_stays fail = record { beside = so_far.beside; made = so_far.made; list = sifting_stays test old.waits place now.waits x at fail so_far.list }
 
       -- the operation takes the earliest out of those that a narrower test asks for
-      module _ (narrow : Wait → Bool) (wider : (y : Wait) → narrow y ≡ true → test y ≡ true) (asked : narrow x ≡ true) (k : ℕ) (watch : Watch → Bool) (after : Objects) (is : after ≡ unwatching (unlisting narrow now) k watch) where
+      module _ (narrow : Wait → Bool) (wider : (y : Wait) → narrow y ≡ true → test y ≡ true) (asked : narrow x ≡ true) (k : ℕ) (watch : Watch → Bool)
+          (after : Objects) (is : after ≡ unwatching (unlisting narrow now) k watch) where
         still_beside : AreBeside old (unwatching (unlisting narrow now) k watch)
         still_beside = beside_then old (unlisting narrow now) (unwatching (unlisting narrow now) k watch)
             (record { objects = so_far.beside.objects; koids = so_far.beside.koids }) (unwatching_beside (unlisting narrow now) k watch)
@@ -68,7 +74,8 @@ module _ (test : Wait → Bool) (old : Objects) where
             omega (arith, less, one_less test narrow wider old.waits place now.waits x at asked so_far.list, slice_get_within now.waits place x at)
 
       -- it asks for the same at the object of the wait
-      module _ (passes : test x ≡ true) (watch : Watch → Bool) (after : Objects) (is : after ≡ unwatching (unlisting (λ y. (y.object == x.object) && test y) now) x.object watch) where
+      module _ (passes : test x ≡ true) (watch : Watch → Bool) (after : Objects)
+          (is : after ≡ unwatching (unlisting (λ y. (y.object == x.object) && test y) now) x.object watch) where
         here : ((x.object == x.object) && test x) ≡ true
         here = rw (eq-eqb x.object x.object refl) passes
 
@@ -102,7 +109,8 @@ module _ (test : Wait → Bool) (old : Objects) where
       pub one_uncancelled : test x ≡ false → IsCancelling test old any (place + 1) now
       one_uncancelled fail = record { ending = one_stays test old place now so_far.ending x at fail; found = so_far.found }
 
-      pub one_cancelled : test x ≡ true → (watch : Watch → Bool) (after : Objects) → after ≡ unwatching (unlisting (λ y. (y.object == x.object) && test y) now) x.object watch → IsCancelling test old true place after
+      pub one_cancelled : test x ≡ true → (watch : Watch → Bool) (after : Objects)
+          → after ≡ unwatching (unlisting (λ y. (y.object == x.object) && test y) now) x.object watch → IsCancelling test old true place after
       one_cancelled pass watch after is = record {
         ending = one_ends test old place now so_far.ending x at pass watch after is;
         found = so_far.found ∙ or_right any _ (any_there test now.waits place x at pass);
@@ -133,14 +141,16 @@ module _ (ps : List Process) (old : Objects) where
       (λ i. is_over (record { pid = pid i; value = value i; object = object i; port = port i; key = y.key; mask = y.mask })) ∙ over
 
   pub asks_for_itself : (x : Wait) → is_keyed_at x.object x.pid x.value x.port x.key x ≡ true
-  asks_for_itself x = rw (eq-eqb x.object x.object refl, eq-eqb x.pid x.pid refl, eq-eqb x.value x.value refl, eq-eqb x.port x.port refl) (eq-eqb x.key x.key refl)
+  asks_for_itself x =
+      rw (eq-eqb x.object x.object refl, eq-eqb x.pid x.pid refl, eq-eqb x.value x.value refl, eq-eqb x.port x.port refl) (eq-eqb x.key x.key refl)
 
   module _ (lab : IsConsistent ps old) (place : ℕ) (now : Objects) (so_far : IsEnding is_over old place now) where
     pub unheld_ended : slice_get now.waits place ≡ None → EndsUnheld ps old now
     unheld_ended none =
         let over = ends_all is_over old place now so_far none in
         record {
-          world = λ blocked. λ i. record (beside_world ps old now so_far.beside i) { waits = (over.waits ∙ left_is) i; waits_made = over.made i; blocked = blocked };
+          world = λ blocked.
+              λ i. record (beside_world ps old now so_far.beside i) { waits = (over.waits ∙ left_is) i; waits_made = over.made i; blocked = blocked };
           lab = beside_lab ps old now so_far.beside lab;
         }
       where
@@ -155,12 +165,17 @@ module _ (ps : List Process) (old : Objects) where
       pub held_stays : is_left (world_value ps now) x ≡ true → IsEnding is_over old (place + 1) now
       held_stays left = one_stays is_over old place now so_far x at (ap not (sym (still_left now so_far.beside x) ∙ left))
 
-      module _ (gone : is_left (world_value ps now) x ≡ false) (watch : Watch → Bool) (after : Objects) (is : after ≡ unwatching (unlisting (is_keyed_at x.object x.pid x.value x.port x.key) now) x.object watch) where
+      module _ (gone : is_left (world_value ps now) x ≡ false) (watch : Watch → Bool) (after : Objects)
+          (is : after ≡ unwatching (unlisting (is_keyed_at x.object x.pid x.value x.port x.key) now) x.object watch) where
         over : is_over x ≡ true
         over = ap not (sym (still_left now so_far.beside x) ∙ gone)
 
         pub unheld_ends : IsEnding is_over old place after
-        unheld_ends = narrow_ends is_over old place now so_far x at (is_keyed_at x.object x.pid x.value x.port x.key) (λ y. over_too x y over) (asks_for_itself x) x.object watch after is
+        unheld_ends =
+            narrow_ends is_over old place now so_far x at (is_keyed_at x.object x.pid x.value x.port x.key) (λ y. over_too x y over)
+            (asks_for_itself x) x.object watch after is
 
         pub unheld_fewer : length after.waits * 2 - place < length now.waits * 2 - place
-        unheld_fewer = narrow_fewer is_over old place now so_far x at (is_keyed_at x.object x.pid x.value x.port x.key) (λ y. over_too x y over) (asks_for_itself x) x.object watch after is
+        unheld_fewer =
+            narrow_fewer is_over old place now so_far x at (is_keyed_at x.object x.pid x.value x.port x.key) (λ y. over_too x y over)
+            (asks_for_itself x) x.object watch after is

@@ -1,5 +1,6 @@
 -- Handles that enter a table one after another, and those that are taken back in reverse.
-use Rattle.zl_calls.proofs.Common.{◌≡◌, ◌<◌, ◌≤◌, ◌+◌, ℕ, zero, suc, Bool, true, false, ◌==◌, List, [], ◌∷◌, ◌++◌, length, take, refl, sym, ap, ◌∙◌, subst, Option, Some, None, arith, if◌then◌else◌, Handles, Inserts, IfSome, slice_get-get_or, same_Some}
+use Rattle.zl_calls.proofs.Common.{◌≡◌, ◌<◌, ◌≤◌, ◌+◌, ℕ, zero, suc, Bool, true, false, ◌==◌, List, [], ◌∷◌, ◌++◌, length, take, refl, sym, ap, ◌∙◌, subst}
+use Rattle.zl_calls.proofs.Common.{Option, Some, None, arith, if◌then◌else◌, Handles, Inserts, IfSome, slice_get-get_or, same_Some}
 use Rattle.zl_code.proofs.Common.{get_or, take_more, is_empty, ne_eqb, eq-eqb, length-take-le}
 use Rattle.zl_rights.specs.declared.entry.Entry.{Entry}
 use Rattle.zl_rights.specs.World.{Message}
@@ -11,7 +12,8 @@ use Rattle.zl_calls.proofs.Taking.{one_longer}
 
 -- ---- one more behind the others
 
-pub one_behind : (t u w : Handles) (es : List Entry) (vs : List ℕ) (e : Entry) (v : ℕ) → InsertsEach t es vs u → Inserts u e v w → InsertsEach t (es ++ e ∷ []) (vs ++ v ∷ []) w
+pub one_behind : (t u w : Handles) (es : List Entry) (vs : List ℕ) (e : Entry) (v : ℕ) → InsertsEach t es vs u → Inserts u e v w
+    → InsertsEach t (es ++ e ∷ []) (vs ++ v ∷ []) w
 one_behind t u w [] [] e v so_far last = record { between = w; inserts = subst (λ x. Inserts x e v w) so_far last; rest = refl }
 one_behind t u w [] (y ∷ vs) e v so_far last = absurd so_far
 one_behind t u w (x ∷ es) [] e v so_far last = absurd so_far
@@ -40,14 +42,16 @@ longer_by t u (x ∷ es) (y ∷ vs) so_far =
 -- ---- the handles in the first message
 
 -- with the next of them
-pub front_more : (queue : List Message) (n : ℕ) (e : Entry) → n < length (first_handles queue) → Some e ≡ front_entry queue n → take (n + 1) (first_handles queue) ≡ take n (first_handles queue) ++ e ∷ []
+pub front_more : (queue : List Message) (n : ℕ) (e : Entry) → n < length (first_handles queue) → Some e ≡ front_entry queue n
+    → take (n + 1) (first_handles queue) ≡ take n (first_handles queue) ++ e ∷ []
 front_more [] n e within at = absurd (omega (arith, within))
 front_more (m ∷ ms) n e within at =
     let same : get_or m.handles n e ≡ e = same_Some (get_or m.handles n e) e (sym (slice_get-get_or m.handles n e within) ∙ sym at) in
     take_more m.handles n e within ∙ ap (λ (x : Entry). take n m.handles ++ x ∷ []) same
 
 -- the table has room for the next of them
-pub room_for_next : (t u : Handles) (es : List Entry) (vs : List ℕ) (n : ℕ) → n < length es → InsertsEach t (take n es) vs u → length t.entries + length es ≤ 1024 → length u.entries < 1024
+pub room_for_next : (t u : Handles) (es : List Entry) (vs : List ℕ) (n : ℕ) → n < length es → InsertsEach t (take n es) vs u
+    → length t.entries + length es ≤ 1024 → length u.entries < 1024
 room_for_next t u es vs n within so_far room =
     let longer = longer_by t u (take n es) vs so_far in
     let count : length (take n es) ≡ n = length-take-le n es (omega (arith, within)) in
@@ -73,7 +77,8 @@ none_either false o none = refl
 
 last_of : (before t : Handles) (es : List Entry) (vs : List ℕ) (v : ℕ) → InsertsEach before es (vs ++ v ∷ []) t → LastOf before vs v t
 last_of before t [] [] v is = absurd is
-last_of before t (e ∷ []) [] v is = record { entries = []; between = before; earlier = refl; entry = e; inserts = subst (λ x. Inserts before e v x) (sym is.rest) is.inserts; was = refl }
+last_of before t (e ∷ []) [] v is =
+    record { entries = []; between = before; earlier = refl; entry = e; inserts = subst (λ x. Inserts before e v x) (sym is.rest) is.inserts; was = refl }
 last_of before t (e ∷ f ∷ es) [] v is = absurd is.rest
 last_of before t [] (x ∷ vs) v is = absurd is
 last_of before t (e ∷ es) (x ∷ vs) v is =
@@ -108,11 +113,13 @@ pub told_none : (n : ℕ) (last told : Option ℕ) → (n ≡ 0 → ⊥) → tol
 told_none n last told later is = is ∙ sym (rw (ne_eqb n 0 later) refl)
 
 -- before a turn there was one value more, the k-th
-module _ (before t : Handles) (last : Option ℕ) (values : List ℕ) (k n d : ℕ) (next : n + 1 ≡ k) (within : k ≤ length values) (was : before.last ≡ last) (grown : Grown before (take k values) t)
+module _ (before t : Handles) (last : Option ℕ) (values : List ℕ) (k n d : ℕ) (next : n + 1 ≡ k) (within : k ≤ length values) (was : before.last ≡ last)
+    (grown : Grown before (take k values) t)
     (told : Option ℕ) (is_told : told ≡ told_at n last) where
   lasts : LastOf before (take n values) (get_or values n d) t
   lasts = last_of before t grown.entries (take n values) (get_or values n d)
-      (subst (λ vs. InsertsEach before grown.entries vs t) (ap (λ i. take i values) (sym next) ∙ take_more values n d (omega (arith, next, within))) grown.inserts)
+      (subst (λ vs. InsertsEach before grown.entries vs t) (ap (λ i. take i values) (sym next) ∙ take_more values n d (omega (arith, next, within)))
+      grown.inserts)
 
   tells : told ≡ lasts.between.last
   tells = is_told ∙ sym (lasts.was ∙ rw (none_taken values n (omega (arith, next, within)), was) refl)

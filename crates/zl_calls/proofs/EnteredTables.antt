@@ -1,5 +1,7 @@
 -- A table that handles entered one after another: the invariant, the counts, and the same in a process.
-use Rattle.zl_calls.proofs.Common.{◌≡◌, ◌≤◌, ◌+◌, ◌==◌, ℕ, true, List, [], ◌∷◌, length, refl, sym, ap, ◌∙◌, subst, cond, Option, Some, None, IsTrue, IfSome, arith, nat_tests, eq-eqb, count_by, sum_by-cons, All, Map, get, Handles, IsTable, process_with, process_with_all, may_get, may_get_all}
+use Rattle.zl_calls.proofs.Common.{◌≡◌, ◌≤◌, ◌+◌, ◌==◌, ℕ, true, List, [], ◌∷◌, length, refl, sym, ap, ◌∙◌, subst, cond, Option, Some, None, IsTrue, IfSome}
+use Rattle.zl_calls.proofs.Common.{arith, nat_tests, eq-eqb, count_by, sum_by-cons, All, Map, get, Handles, IsTable, process_with, process_with_all, may_get}
+use Rattle.zl_calls.proofs.Common.{may_get_all}
 use Rattle.zl_code.proofs.Common.{Process as ProcessValue, All-head, All-tail, may_get_after}
 use Rattle.zl_rights.specs.declared.entry.Entry.{Entry}
 use Rattle.zl_calls.specs.calls.Reading.{InsertsEach}
@@ -15,10 +17,12 @@ tables_entered t u [] (y ∷ vs) table room so_far = absurd so_far
 tables_entered t u (x ∷ es) [] table room so_far = absurd so_far
 tables_entered t u (x ∷ es) (y ∷ vs) table room so_far =
     let longer = one_longer t x y so_far.between so_far.inserts in
-    tables_entered so_far.between u es vs (inserted_table t x y so_far.between table (omega (arith, room)) so_far.inserts) (omega (arith, room, longer)) so_far.rest
+    tables_entered so_far.between u es vs (inserted_table t x y so_far.between table (omega (arith, room)) so_far.inserts)
+    (omega (arith, room, longer)) so_far.rest
 
 -- what each handle in the table had, and each that entered it, each has that is in it
-pub each_entered : (P : Entry → Type 0) (t u : Handles) (es : List Entry) (vs : List ℕ) → InsertsEach t es vs u → ((v : ℕ) (e : Entry) → get t.entries v ≡ Some e → P e) → All P es
+pub each_entered : (P : Entry → Type 0) (t u : Handles) (es : List Entry) (vs : List ℕ) → InsertsEach t es vs u
+    → ((v : ℕ) (e : Entry) → get t.entries v ≡ Some e → P e) → All P es
     → (v : ℕ) (e : Entry) → get u.entries v ≡ Some e → P e
 each_entered P t u [] [] so_far old new v e at = old v e (rw so_far at at)
 each_entered P t u [] (y ∷ vs) so_far old new v e at = absurd so_far
@@ -45,7 +49,8 @@ counts_entered j t u (x ∷ es) (y ∷ vs) so_far =
 abbrev pub with_table : Handles → ProcessValue → ProcessValue
 with_table t q = record q { handles = t.entries; last = t.last }
 
-pub all_given : (t u : Handles) (es : List Entry) (vs : List ℕ) (q : ProcessValue) → InsertsEach t es vs u → process_with_all es vs (with_table t q) ≡ with_table u q
+pub all_given : (t u : Handles) (es : List Entry) (vs : List ℕ) (q : ProcessValue) → InsertsEach t es vs u
+    → process_with_all es vs (with_table t q) ≡ with_table u q
 all_given t u [] [] q so_far = ap (λ (x : Handles). with_table x q) (sym so_far)
 all_given t u [] (y ∷ vs) q so_far = absurd so_far
 all_given t u (x ∷ es) [] q so_far = absurd so_far
@@ -60,7 +65,8 @@ all_chosen t u [] (y ∷ vs) q so_far = absurd so_far
 all_chosen t u (x ∷ es) [] q so_far = absurd so_far
 all_chosen t u (x ∷ es) (y ∷ vs) q so_far =
     let first : IsTrue (may_get (with_table t q) y) = may_get_here t.last so_far.inserts.again in
-    let next : process_with y x (with_table t q) ≡ with_table so_far.between q = λ i. record q { handles = sym so_far.inserts.entries i; last = sym so_far.inserts.last i } in
+    let next : process_with y x (with_table t q) ≡ with_table so_far.between q =
+    λ i. record q { handles = sym so_far.inserts.entries i; last = sym so_far.inserts.last i } in
     rw (first, next) (all_chosen so_far.between u es vs q so_far.rest)
   where
     may_get_here : (last : Option ℕ) → IfSome last (λ l. y ≡ l) → IsTrue (may_get_after last (with_table t q) y)

@@ -1,5 +1,11 @@
 -- The call event_create, and those that change signals, signal and signal_peer, each from its table and objects to a step.
-use Rattle.zl_calls.proofs.Common.{◌≡◌, ℕ, Bool, true, false, not, List, [], ◌∷◌, map, refl, sym, ap, ◌∙◌, Option, Some, None, IsTrue, if◌then◌else◌, then_some, first_some, is_some, Map, get, has_key, Ready, Library, Site, site, event_create, examined, has_room, has_koids, handles_to, table_of, answer_if, refusal, handle_operands, listed, may_choose, new_handles, insert_all, remove_all, taken_handles, effect, gives_ok, gives_refused, AtCall, next_for, Values, replied, taken, Ok, Err, ⊤, option_or, bits, within, SIGNAL, kind_of, signal, body_of, body_in, operand_of, by_look_up, operand, any, cpu_answered, on_object, object_changed, Objects, raised_changed, changing, IsAnswered, told_by, one_value, Replies, no_value, process_entry, process_value, object_entry, state_value, world_value, object_value, body_value, IsConsistent, IsNamed, koid_in, runs, settable_of, may_change, World}
+use Rattle.zl_calls.proofs.Common.{◌≡◌, ℕ, Bool, true, false, not, List, [], ◌∷◌, map, refl, sym, ap, ◌∙◌, Option, Some, None, IsTrue, if◌then◌else◌, then_some}
+use Rattle.zl_calls.proofs.Common.{first_some, is_some, Map, get, has_key, Ready, Library, Site, site, event_create, examined, has_room, has_koids, handles_to}
+use Rattle.zl_calls.proofs.Common.{table_of, answer_if, refusal, handle_operands, listed, may_choose, new_handles, insert_all, remove_all, taken_handles}
+use Rattle.zl_calls.proofs.Common.{effect, gives_ok, gives_refused, AtCall, next_for, Values, replied, taken, Ok, Err, ⊤, option_or, bits, within, SIGNAL}
+use Rattle.zl_calls.proofs.Common.{kind_of, signal, body_of, body_in, operand_of, by_look_up, operand, any, cpu_answered, on_object, object_changed, Objects}
+use Rattle.zl_calls.proofs.Common.{raised_changed, changing, IsAnswered, told_by, one_value, Replies, no_value, process_entry, process_value, object_entry}
+use Rattle.zl_calls.proofs.Common.{state_value, world_value, object_value, body_value, IsConsistent, IsNamed, koid_in, runs, settable_of, may_change, World}
 use Rattle.zl_code.proofs.Common.{Object as ObjectValue}
 use Rattle.zl_code.specs.Common.{signal_peer}
 use Rattle.zl_code.specs.Tests.{peer_at as peer_named, peer_in as peer_seen}
@@ -17,7 +23,8 @@ use Rattle.zl_objects.specs.declared.object.Body.TheVariants as body
 use Rattle.zl_objects.specs.declared.object.Object.{Object}
 use Rattle.zl_objects.specs.Objects.{peer_at}
 use Rattle.zl_calls.specs.declared.process.Process.{Process}
-use Rattle.zl_calls.specs.calls.Event.{EventCreateDoes, SignalsObject, SignalDoes, signal_refusal, signal_refusal_of, SignalsPeer, SignalPeerDoes, peer_signal_refusal, peer_signal_refusal_of, settable_at, may_change_at}
+use Rattle.zl_calls.specs.calls.Event.{EventCreateDoes, SignalsObject, SignalDoes, signal_refusal, signal_refusal_of, SignalsPeer, SignalPeerDoes}
+use Rattle.zl_calls.specs.calls.Event.{peer_signal_refusal, peer_signal_refusal_of, settable_at, may_change_at}
 use Rattle.zl_calls.proofs.Answered.{IsWrite, table_is, replied_with}
 use Rattle.zl_calls.proofs.Done.{IsDone, IsCalled, answered_done}
 use Rattle.zl_calls.proofs.MakeCalls.{made_done, room_refused}
@@ -44,9 +51,13 @@ settable_named os e named = rw (get_seen os e.koid, named.there, named.kind) (by
 
 module _ (lib : Library) (w : World) (p : ℕ) where
   abbrev signal_with : ℕ → ℕ → Option Entry → Option Outcome
-  signal_with clear set o = first_some (first_some (operand_of w p any SIGNAL o ∷ None ∷ []) ∷ None ∷ answer_if (not (may_change (body_of w (koid_in o)) clear set)) status.InvalidArgs ∷ [])
+  signal_with clear set o =
+      first_some
+      (first_some (operand_of w p any SIGNAL o ∷ None ∷ []) ∷ None ∷ answer_if (not (may_change (body_of w (koid_in o)) clear set)) status.InvalidArgs ∷ [])
 
-  by_tests : (e : Entry) (a b : Bool) → first_some (first_some (by_look_up w p (if a then Ok e else Err status.AccessDenied) ∷ None ∷ []) ∷ None ∷ answer_if (not b) status.InvalidArgs ∷ []) ≡ answers (option_or (then_some (not a) status.AccessDenied) (then_some (not b) status.InvalidArgs))
+  by_tests : (e : Entry) (a b : Bool)
+      → first_some (first_some (by_look_up w p (if a then Ok e else Err status.AccessDenied) ∷ None ∷ []) ∷ None ∷ answer_if (not b) status.InvalidArgs ∷ [])
+      ≡ answers (option_or (then_some (not a) status.AccessDenied) (then_some (not b) status.InvalidArgs))
   by_tests e false b = refl
   by_tests e true false = refl
   by_tests e true true = refl
@@ -57,7 +68,10 @@ module _ (lib : Library) (w : World) (p : ℕ) where
   signal_refused settable h clear set = by_entry (get (table_of w p) h) refl
     where
       by_entry : (o : Option Entry) → get (table_of w p) h ≡ o → signal_with clear set o ≡ answers (signal_refusal_of clear set o)
-      by_entry None is = ap (λ (x : Option Outcome). first_some (first_some (x ∷ None ∷ []) ∷ None ∷ answer_if (not (may_change (body_of w 0) clear set)) status.InvalidArgs ∷ [])) (fault_answers w p condition.BadHandle status.BadHandle)
+      by_entry None is =
+          ap (λ (x : Option Outcome).
+          first_some (first_some (x ∷ None ∷ []) ∷ None ∷ answer_if (not (may_change (body_of w 0) clear set)) status.InvalidArgs ∷ []))
+          (fault_answers w p condition.BadHandle status.BadHandle)
       by_entry (Some e) is = rw (settable h e is) (by_tests e (within SIGNAL (bits e.rights)) (may_change_at e.kind clear set))
 
 -- ---- the answer of signal_peer
@@ -89,16 +103,21 @@ module _ (lib : Library) (before : List Process) (r : Objects) (lab : IsConsiste
       has_peer : ℕ → Bool
       has_peer k = has_key old_world.objects (peer_seen (body_of old_world k))
 
-      passes : (e : Entry) → get handles h ≡ Some e → peer_with None (may e.koid) (has_peer e.koid) ≡ answers (peer_signal_refusal_of r.objects clear set (Ok e))
+      passes : (e : Entry) → get handles h ≡ Some e
+          → peer_with None (may e.koid) (has_peer e.koid) ≡ answers (peer_signal_refusal_of r.objects clear set (Ok e))
       passes e at = rw (settable e at, peer_there r lab.no_zero e.koid) (both_tests (may_change_at e.kind clear set) (is_some (peer_at r.objects e.koid)))
 
-      by_found : (e : Entry) → get handles h ≡ Some e → (a b : Bool) → peer_with (by_look_up old_world p (if a then (if b then Ok e else Err status.AccessDenied) else Err status.WrongType)) (may e.koid) (has_peer e.koid)
+      by_found : (e : Entry) → get handles h ≡ Some e → (a b : Bool) → peer_with
+          (by_look_up old_world p (if a then (if b then Ok e else Err status.AccessDenied) else Err status.WrongType)) (may e.koid) (has_peer e.koid)
           ≡ answers (peer_signal_refusal_of r.objects clear set (if a then (if b then Ok e else Err status.AccessDenied) else Err status.WrongType))
       by_found e at true true = passes e at
       by_found e at true false = refl
-      by_found e at false b = ap (λ (x : Option Outcome). peer_with x (may e.koid) (has_peer e.koid)) (fault_answers old_world p condition.WrongObject status.WrongType)
+      by_found e at false b =
+          ap (λ (x : Option Outcome). peer_with x (may e.koid) (has_peer e.koid)) (fault_answers old_world p condition.WrongObject status.WrongType)
 
-      by_end : (o : Option Entry) → get handles h ≡ o → peer_with (operand_of old_world p (kind.Channel ∷ []) SIGNAL_PEER o) (may (koid_in o)) (has_peer (koid_in o)) ≡ answers (peer_signal_refusal_of r.objects clear set (granted o (kind.Channel ∷ []) SIGNAL_PEER))
+      by_end : (o : Option Entry)
+          → get handles h ≡ o → peer_with (operand_of old_world p (kind.Channel ∷ []) SIGNAL_PEER o) (may (koid_in o)) (has_peer (koid_in o))
+          ≡ answers (peer_signal_refusal_of r.objects clear set (granted o (kind.Channel ∷ []) SIGNAL_PEER))
       by_end None at = ap (λ (x : Option Outcome). peer_with x (may 0) (has_peer 0)) (fault_answers old_world p condition.BadHandle status.BadHandle)
       by_end (Some e) at = by_found e at (takes (kind.Channel ∷ []) e.kind) (within SIGNAL_PEER (bits e.rights))
 
@@ -113,7 +132,8 @@ module _ (lib : Library) (before after : List Process) (r r2 : Objects) (p p2 : 
     abbrev create_site : Site
     create_site = site event_create consumed destinations
 
-    pub event_create_done : state_value p.state ≡ Ready → (call : CallName) → next_for lib (process_value p) ≡ AtCall call create_site → (o : Outcome) → IsAnswered (told_by one_value) EventCreateDoes create_site p r o p2 r2 → IsDone lib before after r r2 p.pid call o
+    pub event_create_done : state_value p.state ≡ Ready → (call : CallName) → next_for lib (process_value p) ≡ AtCall call create_site → (o : Outcome)
+        → IsAnswered (told_by one_value) EventCreateDoes create_site p r o p2 r2 → IsDone lib before after r r2 p.pid call o
     unfolding refusal handle_operands examined listed has_room has_koids taken_handles remove_all gives_refused may_choose
         new_handles effect insert_all gives_ok
     event_create_done = made_done lib before after r r2 p p2 lab write create_site body.Event (λ not. not runs) refl refl
@@ -134,11 +154,14 @@ module _ (lib : Library) (before after : List Process) (r r2 : Objects) (p p2 : 
 
     signal_rest : (record with_signals { processes = map process_entry after }) ≡ world_value after r2
     unfolding on_object
-    signal_rest = ap (λ (os : Map ObjectValue). record w { processes = map process_entry after; objects = os }) (sym (update_seen object_value r.objects k change (object_changed clear set) (λ o. refl))) ∙ ap (world_value after) (sym objects)
+    signal_rest =
+        ap (λ (os : Map ObjectValue). record w { processes = map process_entry after; objects = os })
+        (sym (update_seen object_value r.objects k change (object_changed clear set) (λ o. refl))) ∙ ap (world_value after) (sym objects)
 
     signal_ends : world_value after r2 ≡ replied with_signals p.pid s status.Ok []
     unfolding on_object
-    signal_ends = replied_with before after p p2 write r2 s status.Ok [] (λ q. q) with_signals (sym (update_itself (map process_entry before) p.pid)) signal_rest is
+    signal_ends =
+        replied_with before after p p2 write r2 s status.Ok [] (λ q. q) with_signals (sym (update_itself (map process_entry before) p.pid)) signal_rest is
 
     same_body : (o : Object) → (change o).body ≡ o.body
     same_body o = refl
@@ -172,16 +195,28 @@ module _ (lib : Library) (before after : List Process) (r r2 : Objects) (p p2 : 
     unfolding may_choose new_handles remove_all taken_handles handle_operands
     signal_chosen = rw write.there refl
 
-    signal_called : (done : ⊤) → SignalsObject p.table r h clear set p2.table r2 → Replies signal_site status.Ok [] p p2 → IsCalled lib before after r r2 p.pid signal_site (outcome.Answered status.Ok)
+    signal_called : (done : ⊤) → SignalsObject p.table r h clear set p2.table r2 → Replies signal_site status.Ok [] p p2
+        → IsCalled lib before after r r2 p.pid signal_site (outcome.Answered status.Ok)
     unfolding effect gives_ok new_handles insert_all remove_all taken_handles handle_operands
     signal_called done signals replies = record {
-      calls = (Values [], rw (refused_signal, signals.unrefused) (signal_chosen, refl, signal_ends signals.original.koid clear set signal_site signals.table signals.objects replies ∙ rw (table_is before after p p2 write r, signals.was) refl));
+      calls = (
+        Values [],
+        rw (refused_signal, signals.unrefused) (
+          signal_chosen,
+          refl,
+          signal_ends signals.original.koid clear set signal_site signals.table signals.objects replies
+              ∙ rw (table_is before after p p2 write r, signals.was) refl,
+        ),
+      );
       keeps = signal_keeps signals.original.koid clear set signal_site signals.table signals.objects replies;
     }
 
-    pub signal_done : state_value p.state ≡ Ready → (call : CallName) → next_for lib (process_value p) ≡ AtCall call signal_site → (o : Outcome) → IsAnswered (told_by no_value) (SignalDoes h clear set) signal_site p r o p2 r2 → IsDone lib before after r r2 p.pid call o
+    pub signal_done : state_value p.state ≡ Ready → (call : CallName) → next_for lib (process_value p) ≡ AtCall call signal_site → (o : Outcome)
+        → IsAnswered (told_by no_value) (SignalDoes h clear set) signal_site p r o p2 r2 → IsDone lib before after r r2 p.pid call o
     unfolding taken_handles handle_operands remove_all gives_refused
-    signal_done ready call next o acts = answered_done lib before after r r2 p p2 lab write ready call signal_site next no_value (λ _. SignalsObject p.table r h clear set) false (signal_refusal p.table.entries h clear set)
+    signal_done ready call next o acts =
+        answered_done lib before after r r2 p p2 lab write ready call signal_site next no_value (λ _. SignalsObject p.table r h clear set) false
+        (signal_refusal p.table.entries h clear set)
         refused_signal refl refl (λ answer. refl) signal_called o acts.answer acts.acts acts.replied acts.ends
 
     abbrev peer_site : Site
@@ -195,9 +230,12 @@ module _ (lib : Library) (before after : List Process) (r r2 : Objects) (p p2 : 
     peer_chosen = rw write.there refl
 
     peer_same : (signals : SignalsPeer p.table r h clear set p2.table r2) → peer_named w p.pid h ≡ signals.peer
-    peer_same signals = rw (table_is before after p p2 write r, is_found (get p.table.entries h) (kind.Channel ∷ []) SIGNAL_PEER signals.end signals.is_end) (peer_is r lab.no_zero signals.end.koid signals.peer signals.is_peer)
+    peer_same signals =
+        rw (table_is before after p p2 write r, is_found (get p.table.entries h) (kind.Channel ∷ []) SIGNAL_PEER signals.end signals.is_end)
+        (peer_is r lab.no_zero signals.end.koid signals.peer signals.is_peer)
 
-    peer_called : (done : ⊤) → SignalsPeer p.table r h clear set p2.table r2 → Replies peer_site status.Ok [] p p2 → IsCalled lib before after r r2 p.pid peer_site (outcome.Answered status.Ok)
+    peer_called : (done : ⊤) → SignalsPeer p.table r h clear set p2.table r2 → Replies peer_site status.Ok [] p p2
+        → IsCalled lib before after r r2 p.pid peer_site (outcome.Answered status.Ok)
     unfolding effect gives_ok new_handles insert_all remove_all taken_handles handle_operands
     peer_called done signals replies = record {
       calls = (
@@ -212,7 +250,10 @@ module _ (lib : Library) (before after : List Process) (r r2 : Objects) (p p2 : 
       keeps = signal_keeps signals.peer clear set peer_site signals.table signals.objects replies;
     }
 
-    pub signal_peer_done : state_value p.state ≡ Ready → (call : CallName) → next_for lib (process_value p) ≡ AtCall call peer_site → (o : Outcome) → IsAnswered (told_by no_value) (SignalPeerDoes h clear set) peer_site p r o p2 r2 → IsDone lib before after r r2 p.pid call o
+    pub signal_peer_done : state_value p.state ≡ Ready → (call : CallName) → next_for lib (process_value p) ≡ AtCall call peer_site → (o : Outcome)
+        → IsAnswered (told_by no_value) (SignalPeerDoes h clear set) peer_site p r o p2 r2 → IsDone lib before after r r2 p.pid call o
     unfolding taken_handles handle_operands remove_all gives_refused
-    signal_peer_done ready call next o acts = answered_done lib before after r r2 p p2 lab write ready call peer_site next no_value (λ _. SignalsPeer p.table r h clear set) false (peer_signal_refusal p.table.entries r.objects h clear set)
+    signal_peer_done ready call next o acts =
+        answered_done lib before after r r2 p p2 lab write ready call peer_site next no_value (λ _. SignalsPeer p.table r h clear set) false
+        (peer_signal_refusal p.table.entries r.objects h clear set)
         refused_peer refl refl (λ answer. refl) peer_called o acts.answer acts.acts acts.replied acts.ends

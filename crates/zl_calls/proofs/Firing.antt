@@ -1,5 +1,7 @@
 -- One registered wait that holds gives its packet before the others do: the world at the end is the same.
-use Rattle.zl_calls.proofs.Common.{◌≡◌, ℕ, Bool, true, false, not, ◌&&◌, ◌||◌, ◌==◌, List, [], ◌∷◌, ◌++◌, map, refl, sym, ap, ◌∙◌, if◌then◌else◌, Option, Some, None, inl, inr, IsTrue, cases_Bool, eqb-true, option_map, list_any, nat_cmp, below_all, is_sorted, is_sorted-update, Map, get, has_key-update, update, get-update, PortBody, is_process, lives, fired, each, World}
+use Rattle.zl_calls.proofs.Common.{◌≡◌, ℕ, Bool, true, false, not, ◌&&◌, ◌||◌, ◌==◌, List, [], ◌∷◌, ◌++◌, map, refl, sym, ap, ◌∙◌, if◌then◌else◌, Option, Some}
+use Rattle.zl_calls.proofs.Common.{None, inl, inr, IsTrue, cases_Bool, eqb-true, option_map, list_any, nat_cmp, below_all, is_sorted, is_sorted-update, Map}
+use Rattle.zl_calls.proofs.Common.{get, has_key-update, update, get-update, PortBody, is_process, lives, fired, each, World}
 use Rattle.std.specs.Bool.{passes}
 use Rattle.std.specs.List.{filter}
 use Rattle.std.specs.Prelude.{bit_or}
@@ -17,7 +19,8 @@ use Rattle.zl_code.specs.Waiting.{body_packed, repacked}
 
 -- ---- changes of a map
 
-any_updated : {X : Type 0} (test : ℕ × X → Bool) (f : X → X) → ((j : ℕ) (x : X) → test (j, f x) ≡ test (j, x)) → (m : Map X) (k : ℕ) → list_any test (update m k f) ≡ list_any test m
+any_updated : {X : Type 0} (test : ℕ × X → Bool) (f : X → X) → ((j : ℕ) (x : X) → test (j, f x) ≡ test (j, x)) → (m : Map X) (k : ℕ)
+    → list_any test (update m k f) ≡ list_any test m
 unfolding update
 any_updated test f same [] k = refl
 any_updated test f same (e ∷ m) k = elim (cases_Bool (e.0 == k)) as (λ _. list_any test (update (e ∷ m) k f) ≡ list_any test (e ∷ m)) [
@@ -64,7 +67,8 @@ module _ (f : List Packet → List Packet) where
   process_packed job _ = refl
 
 -- the first packet goes behind those that are there, and then the rest
-body_split : (all rest : List Packet) (p : Packet) → all ≡ p ∷ rest → (b : Body) → body_with_packets all b ≡ body_with_packets rest (body_packed (λ ps. ps ++ p ∷ []) b)
+body_split : (all rest : List Packet) (p : Packet) → all ≡ p ∷ rest → (b : Body)
+    → body_with_packets all b ≡ body_with_packets rest (body_packed (λ ps. ps ++ p ∷ []) b)
 body_split all rest p split (PortBody ps) = ap PortBody (ap (λ more. ps ++ more) split ∙ sym (append_assoc ps (p ∷ []) rest))
 body_split all rest p split _ = refl
 
@@ -95,7 +99,8 @@ module _ (w : World) (xs ys : List Wait) (x : Wait) where
     where
       by_object : (o : Option Object) → active_of after_one k (option_map with_one o) ≡ active_of w k o
       by_object None = refl
-      by_object (Some o) = ap (bit_or o.raised) (implied_packed (λ ps. ps ++ packet_of w x ∷ []) after_one k o.body) ∙ active_alike w after_one one_alike k (Some o)
+      by_object (Some o) =
+          ap (bit_or o.raised) (implied_packed (λ ps. ps ++ packet_of w x ∷ []) after_one k o.body) ∙ active_alike w after_one one_alike k (Some o)
 
       by_key : (b : Bool) (o : Option Object) → active_of after_one k (if b then option_map with_one o else o) ≡ active_of w k o
       by_key true o = by_object o
@@ -120,7 +125,8 @@ module _ (w : World) (xs ys : List Wait) (x : Wait) where
 
     none_given : (k : ℕ) (zs : List Wait) → given_at k (xs ++ zs) ≡ given_at k zs
     none_given k zs = filter-append (λ y. y.port == k && holds w y) xs zs
-        ∙ ap (λ (first : List Wait). first ++ given_at k zs) (filter_none (λ y. y.port == k && holds w y) xs (list_any-and (holds w) (λ y. y.port == k) xs before))
+        ∙ ap (λ (first : List Wait). first ++ given_at k zs)
+        (filter_none (λ y. y.port == k && holds w y) xs (list_any-and (holds w) (λ y. y.port == k) xs before))
 
     -- at its port its packet is the first of those to come
     packets_split : (k : ℕ) → packets_for w k ≡ (if x.port == k then packet_of w x ∷ [] else []) ++ packets_for after_one k
@@ -129,7 +135,8 @@ module _ (w : World) (xs ys : List Wait) (x : Wait) where
         ∙ (by_tests (x.port == k) (holds w x) now
         ∙ ap (λ (rest : List Packet). (if x.port == k then packet_of w x ∷ [] else []) ++ rest) (sym same_rest)))
       where
-        by_tests : (a b : Bool) → b ≡ true → map (packet_of w) (cond (a && b) (x ∷ given_at k ys) (given_at k ys)) ≡ (if a then packet_of w x ∷ [] else []) ++ map (packet_of w) (given_at k ys)
+        by_tests : (a b : Bool) → b ≡ true → map (packet_of w) (cond (a && b) (x ∷ given_at k ys) (given_at k ys))
+            ≡ (if a then packet_of w x ∷ [] else []) ++ map (packet_of w) (given_at k ys)
         by_tests true b h = rw h refl
         by_tests false b h = refl
 
@@ -166,7 +173,8 @@ module _ (w : World) (xs ys : List Wait) (x : Wait) where
         by_key : (k : ℕ) (b : Bool) → packets_for w k ≡ (if b then packet_of w x ∷ [] else []) ++ packets_for after_one k
             → (o : Option Object) → option_map (later k) (if b then option_map with_one o else o) ≡ option_map (all k) o
         by_key k true split None = refl
-        by_key k true split (Some o) = λ i. Some (record o { body = sym (body_split (packets_for w k) (packets_for after_one k) (packet_of w x) split o.body) i })
+        by_key k true split (Some o) =
+            λ i. Some (record o { body = sym (body_split (packets_for w k) (packets_for after_one k) (packet_of w x) split o.body) i })
         by_key k false split None = refl
         by_key k false split (Some o) = λ i. Some (record o { body = body_with_packets (sym split i) o.body })
 
@@ -186,4 +194,8 @@ unfolding fired
 fired_none w none = λ i. record w { objects = each_same _ unchanged w.objects i; waits = filter_all (holds w) w.waits none i }
   where
     unchanged : (k : ℕ) (o : Object) → record o { body = body_with_packets (packets_for w k) o.body } ≡ o
-    unchanged k o = λ i. record o { body = (ap (λ xs. body_with_packets (map (packet_of w) xs) o.body) (filter_none _ w.waits (list_any-and (holds w) (λ x. x.port == k) w.waits none)) ∙ no_packet_more o.body) i }
+    unchanged k o = λ i. record o {
+      body =
+          (ap (λ xs. body_with_packets (map (packet_of w) xs) o.body) (filter_none _ w.waits (list_any-and (holds w) (λ x. x.port == k) w.waits none))
+          ∙ no_packet_more o.body) i;
+    }

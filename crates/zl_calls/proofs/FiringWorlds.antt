@@ -1,5 +1,9 @@
 -- Registered waits fire one after another, in the order of the list.
-use Rattle.zl_calls.proofs.Common.{◌≡◌, ◌<◌, ◌≤◌, ◌+◌, ℕ, zero, suc, Bool, true, false, ◌&&◌, ◌==◌, ◌++◌, List, [], ◌∷◌, length, take, map, slice_get, refl, sym, ap, ◌∙◌, subst, cond, inl, inr, Option, Some, None, arith, cases_Bool, eqb-true, eq-eqb, none-some, same_Some, option_map, list_any, nat_cmp, below_all, is_sorted, length-append, and_from, position_or_len, sum_by-cons, queued_to, is_process, Map, update, get, handles_to, fired, kind_of, Objects, Agrees, AreNamed, IsConsistent, is_child, stays_alone, is_job_body, is_in_job, body_value, object_entry, object_value, world_blocked, world_value, World}
+use Rattle.zl_calls.proofs.Common.{◌≡◌, ◌<◌, ◌≤◌, ◌+◌, ℕ, zero, suc, Bool, true, false, ◌&&◌, ◌==◌, ◌++◌, List, [], ◌∷◌, length, take, map, slice_get, refl}
+use Rattle.zl_calls.proofs.Common.{sym, ap, ◌∙◌, subst, cond, inl, inr, Option, Some, None, arith, cases_Bool, eqb-true, eq-eqb, none-some, same_Some}
+use Rattle.zl_calls.proofs.Common.{option_map, list_any, nat_cmp, below_all, is_sorted, length-append, and_from, position_or_len, sum_by-cons, queued_to}
+use Rattle.zl_calls.proofs.Common.{is_process, Map, update, get, handles_to, fired, kind_of, Objects, Agrees, AreNamed, IsConsistent, is_child, stays_alone}
+use Rattle.zl_calls.proofs.Common.{is_job_body, is_in_job, body_value, object_entry, object_value, world_blocked, world_value, World}
 use Rattle.std.specs.List.{find}
 use Rattle.std.specs.Prelude.{◌-◌, drop}
 use Rattle.std.proofs.lemmas.Bool.{or_parts}
@@ -65,7 +69,8 @@ module _ {X : Type 0} where
       | inr apart ↦ rw apart (cut_later (position_or_len test xs) x xs)
     ]
 
-    taken_out : (xs : List X) (i : ℕ) (x : X) → slice_get xs i ≡ Some x → list_any test (take i xs) ≡ false → test x ≡ true → without_first test xs ≡ take i xs ++ drop (suc i) xs
+    taken_out : (xs : List X) (i : ℕ) (x : X) → slice_get xs i ≡ Some x → list_any test (take i xs) ≡ false → test x ≡ true
+        → without_first test xs ≡ take i xs ++ drop (suc i) xs
     taken_out [] i x at none passes = absurd (none-some x at)
     taken_out (y ∷ xs) zero x at none passes = first_out y xs ∙ rw (ap test (same_Some y x at) ∙ passes) refl
     taken_out (y ∷ xs) (suc i) x at none passes =
@@ -79,7 +84,8 @@ module _ {X : Type 0} where
         let both = or_parts (test y) (list_any test (take i xs)) none in
         rw both.0 (found_at xs i x at both.1 passes)
 
-    none_next : (xs : List X) (i : ℕ) (x : X) → slice_get xs i ≡ Some x → list_any test (take i xs) ≡ false → test x ≡ false → list_any test (take (suc i) xs) ≡ false
+    none_next : (xs : List X) (i : ℕ) (x : X) → slice_get xs i ≡ Some x → list_any test (take i xs) ≡ false → test x ≡ false
+        → list_any test (take (suc i) xs) ≡ false
     none_next [] i x at none fails = absurd (none-some x at)
     none_next (y ∷ xs) zero x at none fails = rw (ap test (same_Some y x at) ∙ fails) refl
     none_next (y ∷ xs) (suc i) x at none fails =
@@ -99,7 +105,9 @@ module _ {X : Type 0} where
 module _ (ps : List Process) (r : Objects) (blocked : List ℕ) where
   active_blocked : (k : ℕ) → active (world_blocked ps r blocked) k ≡ active (world_value ps r) k
   unfolding active has_child_job has_child_process is_process
-  active_blocked k = active_alike (world_value ps r) (world_blocked ps r blocked) (record { keys = λ j. refl; jobs = λ j. refl; processes = λ j. refl; ended = λ j. refl }) k (get (map object_entry r.objects) k)
+  active_blocked k =
+      active_alike (world_value ps r) (world_blocked ps r blocked) (record { keys = λ j. refl; jobs = λ j. refl; processes = λ j. refl; ended = λ j. refl }) k
+      (get (map object_entry r.objects) k)
 
   holds_blocked : holds (world_blocked ps r blocked) ≡ holds (world_value ps r)
   unfolding holds
@@ -165,8 +173,18 @@ module _ (f : Port → Port) where
   unfolding update
   queues_kept [] k j = refl
   queues_kept (e ∷ os) k j = elim (cases_Bool (e.0 == k)) as (λ _. queues (update (e ∷ os) k (at_port f)) j ≡ queues (e ∷ os) j) [
-    | inl here ↦ rw here (omega (arith, sum_by-cons n (object_entry (k, at_port f e.1)) (map object_entry os), sum_by-cons n (object_entry e) (map object_entry os), by_body e.1.body))
-    | inr apart ↦ rw apart (omega (arith, sum_by-cons n (object_entry e) (map object_entry (update os k (at_port f))), sum_by-cons n (object_entry e) (map object_entry os), queues_kept os k j))
+    | inl here ↦ rw here (omega (
+      arith,
+      sum_by-cons n (object_entry (k, at_port f e.1)) (map object_entry os),
+      sum_by-cons n (object_entry e) (map object_entry os),
+      by_body e.1.body,
+    ))
+    | inr apart ↦ rw apart (omega (
+      arith,
+      sum_by-cons n (object_entry e) (map object_entry (update os k (at_port f))),
+      sum_by-cons n (object_entry e) (map object_entry os),
+      queues_kept os k j,
+    ))
   ]
     where
       n : ℕ × ObjectValue → ℕ
@@ -224,13 +242,16 @@ module _ (ps : List Process) (first : Objects) (place : ℕ) (r : Objects) (so_f
     active_here = is ∙ signals_active ps r so_far.lab k
 
     none_first : list_any (holds_at k a) (take place r.waits) ≡ false
-    none_first = subst (λ (n : ℕ). list_any (holds_at k n) (take place r.waits) ≡ false) (sym active_here) (none_at (world_value ps r) k (take place r.waits) so_far.before)
+    none_first =
+        subst (λ (n : ℕ). list_any (holds_at k n) (take place r.waits) ≡ false) (sym active_here)
+        (none_at (world_value ps r) k (take place r.waits) so_far.before)
 
     abbrev fired_here : Objects
     fired_here = firing (unlisting (holds_at k a) r) k a
 
     -- the wait at the place is the earliest there that holds
-    module _ (y : Watch) (at : slice_get r.waits place ≡ Some (wait_at k y)) (now : meets a y.mask.0 ≡ true) (earliest : find (holds_there a) (waits_in (get r.objects k)) ≡ Some y) where
+    module _ (y : Watch) (at : slice_get r.waits place ≡ Some (wait_at k y)) (now : meets a y.mask.0 ≡ true)
+        (earliest : find (holds_there a) (waits_in (get r.objects k)) ≡ Some y) where
       abbrev before_it : List Wait
       before_it = take place r.waits
 
@@ -299,7 +320,8 @@ module _ (ps : List Process) (first : Objects) (place : ℕ) (r : Objects) (so_f
             by_body body.Event = refl
             by_body (body.ChannelEnd peer queue) = refl
 
-        seen : map object_entry fired_here.objects ≡ update (map object_entry r.objects) y.port (repacked (λ (qs : List Packet). qs ++ packet_of w (wait_at k y) ∷ []))
+        seen : map object_entry fired_here.objects
+            ≡ update (map object_entry r.objects) y.port (repacked (λ (qs : List Packet). qs ++ packet_of w (wait_at k y) ∷ []))
         seen = ap (map object_entry) objects_are
             ∙ (update_seen object_value without_it.objects y.port (at_port with_it) (repacked (λ (qs : List Packet). qs ++ packet_given k a y ∷ [])) port_seen
             ∙ (λ i. update (beside_seen ps r without_it beside_it i) y.port (repacked (λ (qs : List Packet). qs ++ packet_same i ∷ []))))
@@ -314,18 +336,22 @@ module _ (ps : List Process) (first : Objects) (place : ℕ) (r : Objects) (so_f
         same_fired : fired (world_blocked ps fired_here blocked) ≡ fired (world_blocked ps first blocked)
         same_fired = ap fired world_is
             ∙ (fired_one w before_it behind_it (wait_at k y) (at_split r.waits place (wait_at k y) at)
-            (ap (λ (test : Wait → Bool). list_any test before_it) (holds_blocked ps r blocked) ∙ so_far.before) now_held (sorted_seen r.objects ∙ so_far.lab.kept.in_order)
+            (ap (λ (test : Wait → Bool). list_any test before_it) (holds_blocked ps r blocked) ∙ so_far.before) now_held
+            (sorted_seen r.objects ∙ so_far.lab.kept.in_order)
             ∙ so_far.so_far blocked)
 
       same_holds : holds (world_value ps fired_here) ≡ holds (world_value ps r)
-      same_holds = sym (holds_blocked ps fired_here []) ∙ (ap holds (world_is []) ∙ (one_holds (world_blocked ps r []) before_it behind_it (wait_at k y) ∙ holds_blocked ps r []))
+      same_holds =
+          sym (holds_blocked ps fired_here [])
+          ∙ (ap holds (world_is []) ∙ (one_holds (world_blocked ps r []) before_it behind_it (wait_at k y) ∙ holds_blocked ps r []))
 
       fired_turn : IsFiring ps first place fired_here
       fired_turn = record {
         lab = fired_lab;
         so_far = same_fired;
         before = (λ i. list_any (same_holds i) (take place (waits_are i)))
-            ∙ (ap (list_any (holds (world_value ps r))) (take_again r.waits behind_it place (omega (arith, slice_get_within r.waits place (wait_at k y) at))) ∙ so_far.before);
+            ∙ (ap (list_any (holds (world_value ps r))) (take_again r.waits behind_it place (omega (arith, slice_get_within r.waits place (wait_at k y) at)))
+            ∙ so_far.before);
       }
 
   -- ---- a turn
@@ -340,7 +366,8 @@ module _ (ps : List Process) (first : Objects) (place : ℕ) (r : Objects) (so_f
       pub turn_fired : (taken : Option Watch) → taken ≡ find (holds_there a) (waits_in (get r.objects x.object))
           → option_map (wait_at x.object) taken ≡ find (holds_at x.object a) r.waits
           → IsFiring ps first place (firing (unlisting (holds_at x.object a) r) x.object a)
-      turn_fired taken earliest listed = by_taken taken earliest (listed ∙ found_at (holds_at x.object a) r.waits place x at (none_first x.object a is) passes_here)
+      turn_fired taken earliest listed =
+          by_taken taken earliest (listed ∙ found_at (holds_at x.object a) r.waits place x at (none_first x.object a is) passes_here)
         where
           by_taken : (o : Option Watch) → o ≡ find (holds_there a) (waits_in (get r.objects x.object)) → option_map (wait_at x.object) o ≡ Some x
               → IsFiring ps first place (firing (unlisting (holds_at x.object a) r) x.object a)
@@ -353,8 +380,16 @@ module _ (ps : List Process) (first : Objects) (place : ℕ) (r : Objects) (so_f
       fewer_left =
           let out : length (without_first (holds_at x.object a) r.waits) ≡ length (take place r.waits ++ drop (suc place) r.waits)
           = ap (λ (xs : List Wait). length xs) (taken_out (holds_at x.object a) r.waits place x at (none_first x.object a is) passes_here) in
-          let whole : length r.waits ≡ length (take place r.waits ++ x ∷ drop (suc place) r.waits) = ap (λ (xs : List Wait). length xs) (at_split r.waits place x at) in
-          omega (arith, out, whole, slice_get_within r.waits place x at, length-append (take place r.waits) (drop (suc place) r.waits), length-append (take place r.waits) (x ∷ drop (suc place) r.waits))
+          let whole : length r.waits ≡ length (take place r.waits ++ x ∷ drop (suc place) r.waits) =
+          ap (λ (xs : List Wait). length xs) (at_split r.waits place x at) in
+          omega (
+            arith,
+            out,
+            whole,
+            slice_get_within r.waits place x at,
+            length-append (take place r.waits) (drop (suc place) r.waits),
+            length-append (take place r.waits) (x ∷ drop (suc place) r.waits),
+          )
 
     -- it doesn't hold, and stays
     pub turn_kept : meets a x.mask ≡ false → IsFiring ps first (place + 1) r
@@ -365,13 +400,15 @@ module _ (ps : List Process) (first : Objects) (place : ℕ) (r : Objects) (so_f
           lab = so_far.lab;
           so_far = so_far.so_far;
           before = ap (λ (n : ℕ). list_any (holds (world_value ps r)) (take n r.waits)) next
-              ∙ none_next (holds (world_value ps r)) r.waits place x at so_far.before (ap (λ (n : ℕ). meets n x.mask) (sym (active_here x.object a is)) ∙ fails);
+              ∙ none_next (holds (world_value ps r)) r.waits place x at so_far.before
+              (ap (λ (n : ℕ). meets n x.mask) (sym (active_here x.object a is)) ∙ fails);
         }
 
   -- all waits have had their turn
   pub all_fired : slice_get r.waits place ≡ None → FiresWaits ps first r
   all_fired past = record {
-    world = λ blocked. sym (fired_none (world_blocked ps r blocked) (ap (λ (test : Wait → Bool). list_any test r.waits) (holds_blocked ps r blocked) ∙ none_at_all (holds (world_value ps r)) r.waits place past so_far.before)) ∙ so_far.so_far blocked;
+    world = λ blocked. sym (fired_none (world_blocked ps r blocked) (ap (λ (test : Wait → Bool). list_any test r.waits) (holds_blocked ps r blocked)
+        ∙ none_at_all (holds (world_value ps r)) r.waits place past so_far.before)) ∙ so_far.so_far blocked;
     lab = so_far.lab;
   }
 

@@ -1,5 +1,8 @@
 -- Where the policy of a process's job has no verdict on its call, no policy has a say at all.
-use Rattle.zl_calls.proofs.Common.{◌≡◌, ℕ, true, false, List, [], ◌∷◌, map, refl, sym, ap, ◌∙◌, Option, Some, None, arith, false≢true, same_Some, subst, first_some, option_map, option_or, is_ready, lives, Library, Site, AtCall, next_for, handle_operands, listed, refusal, table_of, get, Objects, body_in, body_value, is_job_at, is_job_body, is_job_in, object_entry, object_value, process_entry, process_value, state_value, world_blocked, IsConsistent, World}
+use Rattle.zl_calls.proofs.Common.{◌≡◌, ℕ, true, false, List, [], ◌∷◌, map, refl, sym, ap, ◌∙◌, Option, Some, None, arith, false≢true, same_Some, subst}
+use Rattle.zl_calls.proofs.Common.{first_some, option_map, option_or, is_ready, lives, Library, Site, AtCall, next_for, handle_operands, listed, refusal}
+use Rattle.zl_calls.proofs.Common.{table_of, get, Objects, body_in, body_value, is_job_at, is_job_body, is_job_in, object_entry, object_value, process_entry}
+use Rattle.zl_calls.proofs.Common.{process_value, state_value, world_blocked, IsConsistent, World}
 use Rattle.zl_code.proofs.Common.{Body as BodyValue, JobBody, Next, Process as ProcessValue}
 use Rattle.std.specs.Prelude.{Bool}
 use Rattle.zl_code.specs.CallTable.{Request}
@@ -62,7 +65,8 @@ ready_lives (state.AwaitsSignal koid mask to) h = absurd (false≢true h)
 ready_lives (state.AwaitsPacket port to) h = absurd (false≢true h)
 ready_lives (state.Ended code) h = absurd (false≢true h)
 
-module _ (lib : Library) (ps : List Process) (r : Objects) (lab : IsConsistent ps r) (blocked : List ℕ) (sound : IsSoundWorld (world_blocked ps r blocked)) (p : Process)
+module _ (lib : Library) (ps : List Process) (r : Objects) (lab : IsConsistent ps r) (blocked : List ℕ)
+    (sound : IsSoundWorld (world_blocked ps r blocked)) (p : Process)
     (there : get (map process_entry ps) p.pid ≡ Some (process_value p)) (ready : is_ready (state_value p.state) ≡ true) where
   -- its object is no job
   no_job : is_job_at r.objects p.pid ≡ false
@@ -85,7 +89,8 @@ module _ (lib : Library) (ps : List Process) (r : Objects) (lab : IsConsistent p
     none_at_zero = none_at_zero;
   }
 
-  module _ (name : CallName) (s : Site) (next : next_for lib (process_value p) ≡ AtCall name s) (none : verdict_on p.table.entries r.objects p.pid s.request ≡ None) where
+  module _ (name : CallName) (s : Site) (next : next_for lib (process_value p) ≡ AtCall name s)
+      (none : verdict_on p.table.entries r.objects p.pid s.request ≡ None) where
     -- whatever waits
     pub is_free : (w : World) → w.processes ≡ map process_entry ps → w.objects ≡ map object_entry r.objects → IsFree lib w p.pid name
     is_free w processes objects q t at stands =

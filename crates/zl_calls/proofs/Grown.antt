@@ -1,5 +1,10 @@
 -- One object more, with the handles that name it and are to enter a table: what the invariant says of both.
-use Rattle.zl_calls.proofs.Common.{IsTable, is_sorted-update, has_key-update, process_value, ◌≡◌, ◌<◌, ◌+◌, ◌^◌, ℕ, Bool, nat_cmp, is_sorted, nat_lt, true, false, ◌||◌, ◌==◌, List, [], ◌∷◌, ◌++◌, map, refl, sym, ap, ◌∙◌, subst, cond, Option, Some, None, inl, inr, IsTrue, arith, eq-eqb, if◌then◌else◌, is_some, list_any, count_by, sum_by-cons, cases_Bool, eqb-true, false≢true, same_Some, Map, get, put, has_key, is_process, map-append, state_passes, All, All-nil, has_living_child, handles_to, get-put, sorted_put, put_key, queued_to, body_value, Objects, AreKeptBut, new_object, with_new, is_kept, stays_alone, is_child, is_job_at, is_job_in, object_entry, object_value, process_entry, world_value, IsConsistent, IsSound, AreNamed, IsNamed, Agrees, is_in_job}
+use Rattle.zl_calls.proofs.Common.{IsTable, is_sorted-update, has_key-update, process_value, ◌≡◌, ◌<◌, ◌+◌, ◌^◌, ℕ, Bool, nat_cmp, is_sorted, nat_lt, true}
+use Rattle.zl_calls.proofs.Common.{false, ◌||◌, ◌==◌, List, [], ◌∷◌, ◌++◌, map, refl, sym, ap, ◌∙◌, subst, cond, Option, Some, None, inl, inr, IsTrue, arith}
+use Rattle.zl_calls.proofs.Common.{eq-eqb, if◌then◌else◌, is_some, list_any, count_by, sum_by-cons, cases_Bool, eqb-true, false≢true, same_Some, Map, get, put}
+use Rattle.zl_calls.proofs.Common.{has_key, is_process, map-append, state_passes, All, All-nil, has_living_child, handles_to, get-put, sorted_put, put_key}
+use Rattle.zl_calls.proofs.Common.{queued_to, body_value, Objects, AreKeptBut, new_object, with_new, is_kept, stays_alone, is_child, is_job_at, is_job_in}
+use Rattle.zl_calls.proofs.Common.{object_entry, object_value, process_entry, world_value, IsConsistent, IsSound, AreNamed, IsNamed, Agrees, is_in_job}
 use Rattle.zl_code.proofs.Common.{Process as ProcessValue, State as StateValue}
 use Rattle.zl_rights.specs.declared.entry.Entry.{Entry}
 use Rattle.zl_objects.specs.declared.object.Body.{Body}
@@ -22,12 +27,14 @@ any_more : {X : Type 0} (test : X → Bool) (xs : List X) (x : X) → IsTrue (li
 any_more test [] x some = absurd (false≢true some)
 any_more test (y ∷ xs) x some = by_first (test y) some (any_more test xs x)
   where
-    by_first : (b : Bool) → IsTrue (b || list_any test xs) → (IsTrue (list_any test xs) → IsTrue (list_any test (xs ++ x ∷ []))) → IsTrue (b || list_any test (xs ++ x ∷ []))
+    by_first : (b : Bool) → IsTrue (b || list_any test xs) → (IsTrue (list_any test xs) → IsTrue (list_any test (xs ++ x ∷ [])))
+        → IsTrue (b || list_any test (xs ++ x ∷ []))
     by_first true h more = refl
     by_first false h more = more h
 
 -- what is seen of the objects with a new one
-pub grown_seen : (r : Objects) (b : Body) (handles : ℕ) → ((k : ℕ) → IsTrue (has_key r.objects k) → k < r.next_koid) → put (map object_entry r.objects) r.next_koid (object_value (new_object b handles)) ≡ map object_entry (with_new r b handles).objects
+pub grown_seen : (r : Objects) (b : Body) (handles : ℕ) → ((k : ℕ) → IsTrue (has_key r.objects k) → k < r.next_koid)
+    → put (map object_entry r.objects) r.next_koid (object_value (new_object b handles)) ≡ map object_entry (with_new r b handles).objects
 grown_seen r b handles given =
     put_last (map object_entry r.objects) r.next_koid (object_value (new_object b handles)) (λ k there. given k (sym (has_seen r.objects k) ∙ there))
     ∙ sym (map-append object_entry r.objects ((r.next_koid, new_object b handles) ∷ []))
@@ -74,7 +81,8 @@ module _ (ps : List Process) (m : Map Entry) (r : Objects) (sound : IsSound ps m
     get_grown j = ap (λ (os : Map Object). get os j) (sym grown_is) ∙ get-put r.objects n fresh j
 
     -- an object afterwards is the new one, or was there before
-    pub found_grown : (A : Type 0) (j : ℕ) (q : Object) → get grown.objects j ≡ Some q → (IsTrue (n == j) → fresh ≡ q → A) → ((n == j) ≡ false → get r.objects j ≡ Some q → A) → A
+    pub found_grown : (A : Type 0) (j : ℕ) (q : Object) → get grown.objects j ≡ Some q → (IsTrue (n == j) → fresh ≡ q → A)
+        → ((n == j) ≡ false → get r.objects j ≡ Some q → A) → A
     found_grown A j q at new old =
         let read : (if n == j then Some fresh else get r.objects j) ≡ Some q = sym (get_grown j) ∙ at in
         elim (cases_Bool (n == j)) as (λ _. A) [
@@ -141,7 +149,8 @@ module _ (ps : List Process) (m : Map Entry) (r : Objects) (sound : IsSound ps m
         by_count false h = still_alone j q.body h
 
     -- what it is agrees with there being no such process, and no message is in it; none of the handles m names it, and so many of m2 do
-    module _ (quiet : ((test : StateValue → Bool) → is_process (world_value ps r) test n ≡ false) → Agrees (world_value ps r) n b) (empty : queue_of b ≡ []) (in_job : IsTrue (is_in_job grown.objects b)) (koid : n < 2 ^ 62)
+    module _ (quiet : ((test : StateValue → Bool) → is_process (world_value ps r) test n ≡ false) → Agrees (world_value ps r) n b) (empty : queue_of b ≡ [])
+        (in_job : IsTrue (is_in_job grown.objects b)) (koid : n < 2 ^ 62)
         (apart_from : ◌≡◌ {A = ℕ} (count_by (λ h. h.1.koid == n) m) 0) (m2 : Map Entry)
         (counted_is : (j : ℕ) → count_by (λ h. h.1.koid == j) m2 ≡ cond (n == j) count 0 + count_by (λ h. h.1.koid == j) m) where
       same_handles : (j : ℕ) → handles_to (world_value ps grown) j ≡ handles_to (world_value ps r) j
@@ -166,7 +175,8 @@ module _ (ps : List Process) (m : Map Entry) (r : Objects) (sound : IsSound ps m
         tables = sound.tables;
         named = λ k p v e at there. grown_named e (sound.named k p v e at there);
         queued = λ j q at. found_grown (AreNamed grown.objects (queue_of q.body)) j q at
-            (λ here is. subst (λ (o : Object). AreNamed grown.objects (queue_of o.body)) is (rw empty (All-nil (λ (y : Message). All (IsNamed grown.objects) y.handles))))
+            (λ here is.
+            subst (λ (o : Object). AreNamed grown.objects (queue_of o.body)) is (rw empty (All-nil (λ (y : Message). All (IsNamed grown.objects) y.handles))))
             (λ apart old. still_named r.objects grown.objects grown_named (queue_of q.body) (sound.queued j q old));
         counted = λ j q at. found_grown (q.handles ≡ handles_to (world_value ps grown) j + count_by (λ h. h.1.koid == j) m2) j q at
             (λ here is.
@@ -179,7 +189,8 @@ module _ (ps : List Process) (m : Map Entry) (r : Objects) (sound : IsSound ps m
             let other : ◌≡◌ {A = ℕ} (cond (n == j) count 0) 0 = rw apart refl in
             omega (arith, sound.counted j q old, same_handles j, counted_is j, other));
         agrees = λ j q at. found_grown (Agrees (world_value ps grown) j q.body) j q at
-            (λ here is. subst (λ (i : ℕ). Agrees (world_value ps grown) i q.body) (eqb-true n j here) (subst (λ (o : Object). Agrees (world_value ps grown) n o.body) is (as_before n b (quiet not_there))))
+            (λ here is. subst (λ (i : ℕ). Agrees (world_value ps grown) i q.body) (eqb-true n j here)
+            (subst (λ (o : Object). Agrees (world_value ps grown) n o.body) is (as_before n b (quiet not_there))))
             (λ apart old. as_before j q.body (sound.agrees j q old));
         in_jobs = λ j q at. found_grown (IsTrue (is_in_job grown.objects q.body)) j q at
             (λ here is. subst (λ (o : Object). IsTrue (is_in_job grown.objects o.body)) is in_job)

@@ -1,5 +1,7 @@
 -- Processes that were made and not started have no handles; and each process stands where its koid is.
-use Rattle.zl_calls.proofs.Common.{◌≡◌, ◌<◌, ℕ, zero, suc, true, false, ◌==◌, List, [], ◌∷◌, map, refl, subst, Some, inl, inr, IsTrue, arith, eq-eqb, eqb-true, cases_Bool, false≢true, none-some, same_Some, nat_cmp, nat_tests, is_sorted, slice_get, sorted_parts, Map, get, runs, Objects, process_entry, process_value, state_value, world_blocked}
+use Rattle.zl_calls.proofs.Common.{◌≡◌, ◌<◌, ℕ, zero, suc, true, false, ◌==◌, List, [], ◌∷◌, map, refl, subst, Some, inl, inr, IsTrue, arith, eq-eqb, eqb-true}
+use Rattle.zl_calls.proofs.Common.{cases_Bool, false≢true, none-some, same_Some, nat_cmp, nat_tests, is_sorted, slice_get, sorted_parts, Map, get, runs}
+use Rattle.zl_calls.proofs.Common.{Objects, process_entry, process_value, state_value, world_blocked}
 use Rattle.std.specs.FinMap.Entries.{below_all}
 use Rattle.zl_code.specs.Sound.{IsSound as IsSoundWorld}
 use Rattle.zl_code.specs.Starting.{is_created}
@@ -19,7 +21,8 @@ above k (e ∷ m) below j x at =
       | inr apart ↦ above k m parts.1 j x (rw apart at at)
     ]
 
-pub get_placed : (ps : List Process) → IsTrue (is_sorted nat_cmp (map process_entry ps)) → (n : ℕ) (q : Process) → slice_get ps n ≡ Some q → get (map process_entry ps) q.pid ≡ Some (process_value q)
+pub get_placed : (ps : List Process) → IsTrue (is_sorted nat_cmp (map process_entry ps)) → (n : ℕ) (q : Process) → slice_get ps n ≡ Some q
+    → get (map process_entry ps) q.pid ≡ Some (process_value q)
 unfolding get
 get_placed [] sorted n q at = absurd (none-some q at)
 get_placed (p ∷ ps) sorted zero q at = rw (← same_Some p q at, eq-eqb p.pid p.pid refl) refl
@@ -38,5 +41,6 @@ not_running (state.AwaitsPacket port to) h = absurd (false≢true h)
 not_running (state.Ended code) h = absurd (false≢true h)
 not_running state.Gone h = absurd (false≢true h)
 
-pub are_bare : (ps : List Process) (r : Objects) (blocked : List ℕ) → IsTrue (is_sorted nat_cmp (map process_entry ps)) → IsSoundWorld (world_blocked ps r blocked) → AreBare ps
+pub are_bare : (ps : List Process) (r : Objects) (blocked : List ℕ) → IsTrue (is_sorted nat_cmp (map process_entry ps))
+    → IsSoundWorld (world_blocked ps r blocked) → AreBare ps
 are_bare ps r blocked sorted sound n q at created = ((sound.tables q.pid (process_value q) (get_placed ps sorted n q at)).idle (not_running q.state created)).0

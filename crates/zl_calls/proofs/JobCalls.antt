@@ -1,5 +1,13 @@
 -- The calls on jobs, job_create and job_set_policy, each from its table and objects to a step.
-use Rattle.zl_calls.proofs.Common.{◌≡◌, ◌+◌, ◌==◌, ◌^◌, ◌&&◌, ◌||◌, ℕ, Bool, true, false, not, List, [], ◌∷◌, map, refl, sym, ap, ◌∙◌, subst, Option, Some, None, Result, Ok, Err, inl, inr, ⊤, IsTrue, nat_le, if◌then◌else◌, arith, sum_by-cons, cases_Bool, false≢true, then_some, first_some, option_or, is_some, Map, get, update, Ready, Library, Site, site, examined, has_room, has_koids, handles_to, table_of, answer_if, refusal, handle_operands, listed, may_choose, new_handles, insert_all, remove_all, taken_handles, effect, with_object, gives_ok, gives_refused, AtCall, next_for, Values, replied, taken, All, All-nil, bits, within, kind_of, body_of, operand_of, by_look_up, operand, new_entry, on_object, on_process, process_with, runs, Objects, with_new, IsAnswered, told_by, one_value, no_value, Replies, has_room_in, process_entry, process_value, object_entry, object_value, body_value, queued_to, state_value, world_value, is_child, stays_alone, is_job_body, is_in_job, Agrees, AreNamed, IsConsistent, IsNamed, IsSound, koid_in, World}
+use Rattle.zl_calls.proofs.Common.{◌≡◌, ◌+◌, ◌==◌, ◌^◌, ◌&&◌, ◌||◌, ℕ, Bool, true, false, not, List, [], ◌∷◌, map, refl, sym, ap, ◌∙◌, subst, Option, Some}
+use Rattle.zl_calls.proofs.Common.{None, Result, Ok, Err, inl, inr, ⊤, IsTrue, nat_le, if◌then◌else◌, arith, sum_by-cons, cases_Bool, false≢true, then_some}
+use Rattle.zl_calls.proofs.Common.{first_some, option_or, is_some, Map, get, update, Ready, Library, Site, site, examined, has_room, has_koids, handles_to}
+use Rattle.zl_calls.proofs.Common.{table_of, answer_if, refusal, handle_operands, listed, may_choose, new_handles, insert_all, remove_all, taken_handles}
+use Rattle.zl_calls.proofs.Common.{effect, with_object, gives_ok, gives_refused, AtCall, next_for, Values, replied, taken, All, All-nil, bits, within, kind_of}
+use Rattle.zl_calls.proofs.Common.{body_of, operand_of, by_look_up, operand, new_entry, on_object, on_process, process_with, runs, Objects, with_new}
+use Rattle.zl_calls.proofs.Common.{IsAnswered, told_by, one_value, no_value, Replies, has_room_in, process_entry, process_value, object_entry, object_value}
+use Rattle.zl_calls.proofs.Common.{body_value, queued_to, state_value, world_value, is_child, stays_alone, is_job_body, is_in_job, Agrees, AreNamed}
+use Rattle.zl_calls.proofs.Common.{IsConsistent, IsNamed, IsSound, koid_in, World}
 use Rattle.zl_code.proofs.Common.{Object as ObjectValue, Body as BodyValue, JobBody}
 use Rattle.std.specs.Result.{result_err}
 use Rattle.zl_rights.specs.declared.kind.Kind.{Kind}
@@ -21,7 +29,8 @@ use Rattle.zl_code.specs.declared.history.CallName.{CallName}
 use Rattle.zl_code.specs.declared.history.Outcome.{Outcome}
 use Rattle.zl_code.specs.declared.history.Outcome.TheVariants as outcome
 use Rattle.zl_code.specs.CallTable.{job_create, job_set_policy}
-use Rattle.zl_code.specs.Jobs.{body_with_policy, has_child, is_conflict, is_dead as is_dead_body, is_deepest as is_deepest_body, job_within as body_within, policy_changed}
+use Rattle.zl_code.specs.Jobs.{body_with_policy, has_child, is_conflict, is_dead as is_dead_body, is_deepest as is_deepest_body, job_within as body_within}
+use Rattle.zl_code.specs.Jobs.{policy_changed}
 use Rattle.zl_code.specs.Tests.{object_at, policy_in}
 use Rattle.zl_objects.specs.declared.object.Body.{Body}
 use Rattle.zl_objects.specs.declared.object.Body.TheVariants as body
@@ -32,7 +41,8 @@ use Rattle.zl_objects.specs.Seen.{is_above}
 use Rattle.zl_objects.proofs.Law.{get_seen}
 use Rattle.zl_objects.proofs.Showing.{job_shown, process_shown}
 use Rattle.zl_calls.specs.declared.process.Process.{Process}
-use Rattle.zl_calls.specs.calls.Job.{CreatesJob, JobCreateDoes, JobSetPolicyDoes, SetsPolicy, fault_status, has_child_at, job_refusal, job_refusal_of, policy_refusal, policy_refusal_of}
+use Rattle.zl_calls.specs.calls.Job.{CreatesJob, JobCreateDoes, JobSetPolicyDoes, SetsPolicy, fault_status, has_child_at, job_refusal, job_refusal_of}
+use Rattle.zl_calls.specs.calls.Job.{policy_refusal, policy_refusal_of}
 use Rattle.zl_calls.proofs.Active.{states_shown}
 use Rattle.zl_calls.proofs.Answered.{IsWrite, table_is, replied_with}
 use Rattle.zl_calls.proofs.Counting.{queues}
@@ -88,7 +98,8 @@ pub is_of_kind : (o : Option Entry) (kinds : List Kind) (needed : ℕ) (e : Entr
 is_of_kind None kinds needed e found = absurd cc
 is_of_kind (Some x) kinds needed e found = by_tests (takes kinds x.kind) (within needed (bits x.rights)) refl found
   where
-    by_tests : (a b : Bool) → takes kinds x.kind ≡ a → ◌≡◌ {A = Result Entry Status} (if a then (if b then Ok x else Err status.AccessDenied) else Err status.WrongType) (Ok e) → takes kinds e.kind ≡ true
+    by_tests : (a b : Bool) → takes kinds x.kind ≡ a
+        → ◌≡◌ {A = Result Entry Status} (if a then (if b then Ok x else Err status.AccessDenied) else Err status.WrongType) (Ok e) → takes kinds e.kind ≡ true
     by_tests true true is h = let same : x ≡ e = cc in subst (λ (y : Entry). takes kinds y.kind ≡ true) same is
     by_tests true false is h = absurd cc
     by_tests false b is h = absurd cc
@@ -118,7 +129,8 @@ module _ (before : List Process) (r : Objects) (lab : IsConsistent before r) (p 
       ∷ answer_if (is_dead_body (body_of old_world k)) status.BadState
       ∷ answer_if (not (has_room_in handles && nat_le (r.next_koid + 1) (2 ^ 62))) status.NoResources ∷ [])
 
-  by_job_tests : (j : Job) (a b c : Bool) → first_some (None ∷ None ∷ answer_if a status.OutOfRange ∷ answer_if b status.BadState ∷ answer_if (not c) status.NoResources ∷ [])
+  by_job_tests : (j : Job) (a b c : Bool)
+      → first_some (None ∷ None ∷ answer_if a status.OutOfRange ∷ answer_if b status.BadState ∷ answer_if (not c) status.NoResources ∷ [])
       ≡ answers (option_or (fault_status (if a then Err fault.OutOfRange else (if b then Err fault.BadState else Ok j))) (then_some (not c) status.NoResources))
   by_job_tests j true b c = refl
   by_job_tests j false true c = refl
@@ -131,7 +143,8 @@ module _ (before : List Process) (r : Objects) (lab : IsConsistent before r) (p 
     where
       passes : (e : Entry) → IsJobAt r.objects e.koid → job_with None e.koid ≡ answers (job_refusal_of handles r (Ok e))
       passes e at =
-          rw (body_seen before r e.koid at, job_found r.objects e.koid at) (by_job_tests (job_within e.koid at.job) (is_deepest_job at.job) at.job.killed (has_room_in handles && nat_le (r.next_koid + 1) (2 ^ 62)))
+          rw (body_seen before r e.koid at, job_found r.objects e.koid at)
+          (by_job_tests (job_within e.koid at.job) (is_deepest_job at.job) at.job.killed (has_room_in handles && nat_le (r.next_koid + 1) (2 ^ 62)))
 
       by_tests : (e : Entry) → get handles j ≡ Some e → (a b : Bool) → takes (kind.Job ∷ []) e.kind ≡ a
           → job_with (by_look_up old_world p (if a then (if b then Ok e else Err status.AccessDenied) else Err status.WrongType)) e.koid
@@ -140,7 +153,8 @@ module _ (before : List Process) (r : Objects) (lab : IsConsistent before r) (p 
       by_tests e at true false fits = refl
       by_tests e at false b fits = ap (λ (x : Option Outcome). job_with x e.koid) (fault_answers old_world p condition.WrongObject status.WrongType)
 
-      by_entry : (o : Option Entry) → get handles j ≡ o → job_with (operand_of old_world p (kind.Job ∷ []) MANAGE_JOB o) (koid_in o) ≡ answers (job_refusal_of handles r (granted o (kind.Job ∷ []) MANAGE_JOB))
+      by_entry : (o : Option Entry) → get handles j ≡ o → job_with (operand_of old_world p (kind.Job ∷ []) MANAGE_JOB o) (koid_in o)
+          ≡ answers (job_refusal_of handles r (granted o (kind.Job ∷ []) MANAGE_JOB))
       by_entry None at = ap (λ (x : Option Outcome). job_with x 0) (fault_answers old_world p condition.BadHandle status.BadHandle)
       by_entry (Some e) at = by_tests e at (takes (kind.Job ∷ []) e.kind) (within MANAGE_JOB (bits e.rights)) refl
 
@@ -161,7 +175,8 @@ module _ (before : List Process) (r : Objects) (lab : IsConsistent before r) (p 
   by_policy_tests false true = refl
   by_policy_tests false false = refl
 
-  set_refused : (lib : Library) (j mode condition action : ℕ) → AllNamed → refusal lib old_world p (job_set_policy j mode condition action) ≡ answers (policy_refusal handles r.objects j mode condition action)
+  set_refused : (lib : Library) (j mode condition action : ℕ) → AllNamed
+      → refusal lib old_world p (job_set_policy j mode condition action) ≡ answers (policy_refusal handles r.objects j mode condition action)
   unfolding refusal handle_operands examined operand listed
   set_refused lib j m c a named = by_entry (get handles j) refl
     where
@@ -171,7 +186,8 @@ module _ (before : List Process) (r : Objects) (lab : IsConsistent before r) (p 
       passes : (e : Entry) → IsJobAt r.objects e.koid → (o : Option Setting) → policy_with o None e.koid ≡ answers (policy_refusal_of r.objects o (Ok e))
       passes e at None = refl
       passes e at (Some x) =
-          rw (body_seen before r e.koid at, job_found r.objects e.koid at, child_seen e.koid) (by_policy_tests (at.job.killed || has_child_at r.objects e.koid) (is_absolute x.mode && conflicts at.job.policy x.condition x.action))
+          rw (body_seen before r e.koid at, job_found r.objects e.koid at, child_seen e.koid)
+          (by_policy_tests (at.job.killed || has_child_at r.objects e.koid) (is_absolute x.mode && conflicts at.job.policy x.condition x.action))
 
       by_tests : (e : Entry) → get handles j ≡ Some e → (b d : Bool) → takes (kind.Job ∷ []) e.kind ≡ b
           → policy_with s (by_look_up old_world p (if b then (if d then Ok e else Err status.AccessDenied) else Err status.WrongType)) e.koid
@@ -180,7 +196,8 @@ module _ (before : List Process) (r : Objects) (lab : IsConsistent before r) (p 
       by_tests e at true false fits = refl
       by_tests e at false d fits = ap (λ (x : Option Outcome). policy_with s x e.koid) (fault_answers old_world p condition.WrongObject status.WrongType)
 
-      by_entry : (o : Option Entry) → get handles j ≡ o → policy_with s (operand_of old_world p (kind.Job ∷ []) SET_POLICY o) (koid_in o) ≡ answers (policy_refusal_of r.objects s (granted o (kind.Job ∷ []) SET_POLICY))
+      by_entry : (o : Option Entry) → get handles j ≡ o → policy_with s (operand_of old_world p (kind.Job ∷ []) SET_POLICY o) (koid_in o)
+          ≡ answers (policy_refusal_of r.objects s (granted o (kind.Job ∷ []) SET_POLICY))
       by_entry None at = ap (λ (x : Option Outcome). policy_with s x 0) (fault_answers old_world p condition.BadHandle status.BadHandle)
       by_entry (Some e) at = by_tests e at (takes (kind.Job ∷ []) e.kind) (within SET_POLICY (bits e.rights)) refl
 
@@ -218,8 +235,18 @@ module _ (c : Condition) (a : Action) where
   unfolding update
   policy_queues [] k j = refl
   policy_queues (e ∷ os) k j = elim (cases_Bool (e.0 == k)) as (λ _. queues (update (e ∷ os) k (with_policy_set c a)) j ≡ queues (e ∷ os) j) [
-    | inl here ↦ rw here (omega (arith, sum_by-cons n (object_entry (k, with_policy_set c a e.1)) (map object_entry os), sum_by-cons n (object_entry e) (map object_entry os), by_body e.1.body))
-    | inr apart ↦ rw apart (omega (arith, sum_by-cons n (object_entry e) (map object_entry (update os k (with_policy_set c a))), sum_by-cons n (object_entry e) (map object_entry os), policy_queues os k j))
+    | inl here ↦ rw here (omega (
+      arith,
+      sum_by-cons n (object_entry (k, with_policy_set c a e.1)) (map object_entry os),
+      sum_by-cons n (object_entry e) (map object_entry os),
+      by_body e.1.body,
+    ))
+    | inr apart ↦ rw apart (omega (
+      arith,
+      sum_by-cons n (object_entry e) (map object_entry (update os k (with_policy_set c a))),
+      sum_by-cons n (object_entry e) (map object_entry os),
+      policy_queues os k j,
+    ))
   ]
     where
       n : ℕ × ObjectValue → ℕ
@@ -230,7 +257,8 @@ module _ (c : Condition) (a : Action) where
       by_body _ = refl
 
   -- the definitions see it so
-  pub policy_seen : (s : Setting) → s.condition ≡ c → s.action ≡ a → (o : Object) → object_value (with_policy_set c a o) ≡ policy_changed (Some s) (object_value o)
+  pub policy_seen : (s : Setting) → s.condition ≡ c → s.action ≡ a → (o : Object)
+      → object_value (with_policy_set c a o) ≡ policy_changed (Some s) (object_value o)
   policy_seen s is_condition is_action o = ap (λ b. record { body = b; raised = o.signals.raised }) (by_body o.body)
     where
       by_body : (b : Body) → body_value (with_policy_body c a b) ≡ body_with_policy (Some s) (body_value b)
@@ -241,12 +269,14 @@ module _ (c : Condition) (a : Action) where
       by_body (body.ChannelEnd peer queue) = refl
 
   -- queues are as they were
-  pub policy_named : (r : Objects) (k : ℕ) (b : Body) → AreNamed r.objects (queue_of b) → AreNamed (setting_policy r k c a).objects (queue_of (with_policy_body c a b))
+  pub policy_named : (r : Objects) (k : ℕ) (b : Body) → AreNamed r.objects (queue_of b)
+      → AreNamed (setting_policy r k c a).objects (queue_of (with_policy_body c a b))
   policy_named r k (body.Job own) old = All-nil (λ (x : Message). All (IsNamed (setting_policy r k c a).objects) x.handles)
   policy_named r k (body.Process job lives) old = All-nil (λ (x : Message). All (IsNamed (setting_policy r k c a).objects) x.handles)
   policy_named r k body.Event old = All-nil (λ (x : Message). All (IsNamed (setting_policy r k c a).objects) x.handles)
   policy_named r k (body.Port port) old = All-nil (λ (x : Message). All (IsNamed (setting_policy r k c a).objects) x.handles)
-  policy_named r k (body.ChannelEnd peer queue) old = still_named r.objects (setting_policy r k c a).objects (named_rebodied (with_policy_body c a) policy_keeps r.objects k) queue old
+  policy_named r k (body.ChannelEnd peer queue) old =
+      still_named r.objects (setting_policy r k c a).objects (named_rebodied (with_policy_body c a) policy_keeps r.objects k) queue old
 
 -- ---- a process of a lab, before and after its call
 
@@ -260,7 +290,8 @@ module _ (lib : Library) (before after : List Process) (r r2 : Objects) (p p2 : 
   -- the job that a handle of the caller names
   job_here : (h needed : ℕ) (e : Entry) → looked_up p.table.entries h (kind.Job ∷ []) needed ≡ Ok e → IsJobAt r.objects e.koid
   job_here h needed e found =
-      job_named r.objects e (lab.named p.pid (process_value p) h e write.there (is_found (get p.table.entries h) (kind.Job ∷ []) needed e found)) (is_of_kind (get p.table.entries h) (kind.Job ∷ []) needed e found)
+      job_named r.objects e (lab.named p.pid (process_value p) h e write.there (is_found (get p.table.entries h) (kind.Job ∷ []) needed e found))
+      (is_of_kind (get p.table.entries h) (kind.Job ∷ []) needed e found)
 
   named_koid : (h needed : ℕ) (e : Entry) → looked_up p.table.entries h (kind.Job ∷ []) needed ≡ Ok e → object_at w p.pid h ≡ e.koid
   named_koid h needed e found = rw (table_is before after p p2 write r, is_found (get p.table.entries h) (kind.Job ∷ []) needed e found) refl
@@ -287,7 +318,9 @@ module _ (lib : Library) (before after : List Process) (r r2 : Objects) (p p2 : 
       child_is : creates.child ≡ job_within k above.job
       child_is = by_tests (is_deepest_job above.job) above.job.killed (ap (new_in k) (sym (job_found r.objects k above)) ∙ creates.is_child)
         where
-          by_tests : (a b : Bool) → ◌≡◌ {A = Result Job JobFault} (if a then Err fault.OutOfRange else (if b then Err fault.BadState else Ok (job_within k above.job))) (Ok creates.child) → creates.child ≡ job_within k above.job
+          by_tests : (a b : Bool) → ◌≡◌ {A = Result Job JobFault}
+              (if a then Err fault.OutOfRange else (if b then Err fault.BadState else Ok (job_within k above.job))) (Ok creates.child)
+              → creates.child ≡ job_within k above.job
           by_tests true b h = absurd cc
           by_tests false true h = absurd cc
           by_tests false false h = cc
@@ -312,9 +345,11 @@ module _ (lib : Library) (before after : List Process) (r r2 : Objects) (p p2 : 
           with_child b = replied (on_process (with_object w b) p.pid (process_with made (new_entry r.next_koid kind.Job))) p.pid create_site status.Ok
               (made ∷ [])
 
-    pub job_create_done : state_value p.state ≡ Ready → (call : CallName) → next_for lib (process_value p) ≡ AtCall call create_site → (o : Outcome) → IsAnswered (told_by one_value) (JobCreateDoes j) create_site p r o p2 r2 → IsDone lib before after r r2 p.pid call o
+    pub job_create_done : state_value p.state ≡ Ready → (call : CallName) → next_for lib (process_value p) ≡ AtCall call create_site → (o : Outcome)
+        → IsAnswered (told_by one_value) (JobCreateDoes j) create_site p r o p2 r2 → IsDone lib before after r r2 p.pid call o
     unfolding taken_handles handle_operands remove_all gives_refused
-    job_create_done ready call next o acts = answered_done lib before after r r2 p p2 lab write ready call create_site next one_value (CreatesJob p.table r j) true (job_refusal p.table.entries r j)
+    job_create_done ready call next o acts =
+        answered_done lib before after r r2 p p2 lab write ready call create_site next one_value (CreatesJob p.table r j) true (job_refusal p.table.entries r j)
         refused_create refl refl (λ answer. refl) create_called o acts.answer acts.acts acts.replied acts.ends
 
   -- ---- job_set_policy
@@ -345,17 +380,25 @@ module _ (lib : Library) (before after : List Process) (r r2 : Objects) (p p2 : 
 
       set_rest : (record with_setting { processes = map process_entry after }) ≡ world_value after r2
       unfolding on_object
-      set_rest = ap (λ (os : Map ObjectValue). record w { processes = map process_entry after; objects = os }) (sym (update_seen object_value r.objects job_koid (with_policy_set c a) (policy_changed (Some sets.setting)) (policy_seen c a sets.setting refl refl))) ∙ ap (world_value after) (sym sets.objects)
+      set_rest = ap (λ (os : Map ObjectValue). record w {
+        processes = map process_entry after;
+        objects = os;
+      }) (sym (update_seen object_value r.objects job_koid (with_policy_set c a) (policy_changed (Some sets.setting)) (policy_seen c a sets.setting refl refl)))
+          ∙ ap (world_value after) (sym sets.objects)
 
       set_ends : world_value after r2 ≡ replied with_setting p.pid set_site status.Ok []
       unfolding on_object
-      set_ends = replied_with before after p p2 write r2 set_site status.Ok [] (λ q. q) with_setting (sym (update_itself (map process_entry before) p.pid)) set_rest (ap process_value replies ∙ rw sets.table refl)
+      set_ends =
+          replied_with before after p p2 write r2 set_site status.Ok [] (λ q. q) with_setting (sym (update_itself (map process_entry before) p.pid)) set_rest
+          (ap process_value replies ∙ rw sets.table refl)
 
       set_counts : (i : ℕ) → handles_to (world_value after (setting_policy r job_koid c a)) i ≡ handles_to w i
       set_counts i = same_counts before after p p2 write r (setting_policy r job_koid c a) i (policy_queues c a r.objects job_koid i) sets.table
 
       set_next : IsNext before after r (setting_policy r job_koid c a)
-      set_next = rebodied_next (with_policy_body c a) (policy_keeps c a) before after r lab job_koid (λ o at. policy_named c a r job_koid o.body (lab.queued job_koid o at)) set_counts
+      set_next =
+          rebodied_next (with_policy_body c a) (policy_keeps c a) before after r lab job_koid
+          (λ o at. policy_named c a r job_koid o.body (lab.queued job_koid o at)) set_counts
 
       set_called : IsCalled lib before after r r2 p.pid set_site (outcome.Answered status.Ok)
       unfolding effect gives_ok new_handles insert_all remove_all taken_handles handle_operands
@@ -365,13 +408,18 @@ module _ (lib : Library) (before after : List Process) (r r2 : Objects) (p p2 : 
           rw (refused_set, sets.unrefused) (
             set_chosen,
             refl,
-            set_ends ∙ (λ i. replied (on_object w (sym (named_koid j SET_POLICY sets.job sets.is_job) i) (policy_changed (sym sets.is_setting i))) p.pid set_site status.Ok []),
+            set_ends ∙ (λ i. replied (on_object w (sym (named_koid j SET_POLICY sets.job sets.is_job) i) (policy_changed (sym sets.is_setting i))) p.pid
+                set_site status.Ok []),
           ),
         );
-        keeps = rw sets.objects (keeps_table before after p p2 write r (setting_policy r job_koid c a) lab (ap (λ (q : Process). q.state) replies) sets.table set_next);
+        keeps = rw sets.objects
+            (keeps_table before after p p2 write r (setting_policy r job_koid c a) lab (ap (λ (q : Process). q.state) replies) sets.table set_next);
       }
 
-    pub job_set_policy_done : state_value p.state ≡ Ready → (call : CallName) → next_for lib (process_value p) ≡ AtCall call set_site → (o : Outcome) → IsAnswered (told_by no_value) (JobSetPolicyDoes j mode condition action) set_site p r o p2 r2 → IsDone lib before after r r2 p.pid call o
+    pub job_set_policy_done : state_value p.state ≡ Ready → (call : CallName) → next_for lib (process_value p) ≡ AtCall call set_site → (o : Outcome)
+        → IsAnswered (told_by no_value) (JobSetPolicyDoes j mode condition action) set_site p r o p2 r2 → IsDone lib before after r r2 p.pid call o
     unfolding taken_handles handle_operands remove_all gives_refused
-    job_set_policy_done ready call next o acts = answered_done lib before after r r2 p p2 lab write ready call set_site next no_value (λ _. SetsPolicy p.table r j mode condition action) false (policy_refusal p.table.entries r.objects j mode condition action)
+    job_set_policy_done ready call next o acts =
+        answered_done lib before after r r2 p p2 lab write ready call set_site next no_value (λ _. SetsPolicy p.table r j mode condition action) false
+        (policy_refusal p.table.entries r.objects j mode condition action)
         refused_set refl refl (λ answer. refl) (λ done. set_called) o acts.answer acts.acts acts.replied acts.ends

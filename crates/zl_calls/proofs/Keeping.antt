@@ -1,5 +1,6 @@
 -- A loop that takes out of a list what doesn't pass, and lists at one place.
-use Rattle.zl_rights.proofs.Common.{◌≡◌, ◌<◌, ◌≤◌, ◌+◌, ℕ, Bool, true, false, List, [], ◌∷◌, ◌++◌, length, take, drop, zero, suc, refl, sym, ap, ◌∙◌, arith, get_or, take_more, take_all, append-nil, append_assoc}
+use Rattle.zl_rights.proofs.Common.{◌≡◌, ◌<◌, ◌≤◌, ◌+◌, ℕ, Bool, true, false, List, [], ◌∷◌, ◌++◌, length, take, drop, zero, suc, refl, sym, ap, ◌∙◌, arith}
+use Rattle.zl_rights.proofs.Common.{get_or, take_more, take_all, append-nil, append_assoc}
 use Rattle.std.specs.List.{filter}
 
 module _ {X : Type 0} where

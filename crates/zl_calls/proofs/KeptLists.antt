@@ -1,5 +1,6 @@
 -- The list of registered waits, as handles and objects go: it loses those alone whose object or port is gone.
-use Rattle.zl_calls.proofs.Common.{◌≡◌, ℕ, Bool, List, [], ◌∷◌, refl, sym, ap, ◌∙◌, Option, Some, None, inl, inr, IsTrue, cases_Bool, false≢true, is_some, if◌then◌else◌, Map, get, has_key, has_key-update, Objects, stopping, stopped, job_in, Releases}
+use Rattle.zl_calls.proofs.Common.{◌≡◌, ℕ, Bool, List, [], ◌∷◌, refl, sym, ap, ◌∙◌, Option, Some, None, inl, inr, IsTrue, cases_Bool, false≢true, is_some}
+use Rattle.zl_calls.proofs.Common.{if◌then◌else◌, Map, get, has_key, has_key-update, Objects, stopping, stopped, job_in, Releases}
 use Rattle.zl_code.proofs.Common.{and_from, and_parts}
 use Rattle.std.specs.List.{filter}
 use Rattle.zl_rights.specs.World.{Wait}
@@ -67,4 +68,5 @@ listed_over k r r2 ends left = by_job (job_in (get r.objects k)) ends
     by_job : (job : Option ℕ) → ObjectEnded k job r r2 → KeepsListed r r2
     by_job None same = rw same (listed_same r)
     by_job (Some job) releases = leaves r r2 left (λ j there.
-        sym (has_key-update r.objects k stopped j) ∙ was_there (stopping r k).objects r2.objects (cascaded_was [] (stopping r k).objects r2.objects releases.cascades) j there)
+        sym (has_key-update r.objects k stopped j)
+        ∙ was_there (stopping r k).objects r2.objects (cascaded_was [] (stopping r k).objects r2.objects releases.cascades) j there)

@@ -1,10 +1,13 @@
 -- What a kill makes of the list of processes: koids stay, and each process that is over closes its handles in turn.
-use Rattle.zl_rights.proofs.Common.{◌≡◌, ◌<◌, ◌≤◌, ◌+◌, ℕ, Bool, true, false, ◌&&◌, List, [], ◌∷◌, ◌++◌, length, map, take, drop, refl, sym, ap, ◌∙◌, subst, arith, zero, suc, get_or, IsTrue, nat_cmp, below_all, is_sorted, set, slice_get, state_passes, Option, Some, None, Result, Ok, filter, has_key, is_some, option_map, Map, get, each, append-nil, take_all, length-map, none-some, same_Some}
+use Rattle.zl_rights.proofs.Common.{◌≡◌, ◌<◌, ◌≤◌, ◌+◌, ℕ, Bool, true, false, ◌&&◌, List, [], ◌∷◌, ◌++◌, length, map, take, drop, refl, sym, ap, ◌∙◌, subst}
+use Rattle.zl_rights.proofs.Common.{arith, zero, suc, get_or, IsTrue, nat_cmp, below_all, is_sorted, set, slice_get, state_passes, Option, Some, None, Result}
+use Rattle.zl_rights.proofs.Common.{Ok, filter, has_key, is_some, option_map, Map, get, each, append-nil, take_all, length-map, none-some, same_Some}
 use Rattle.std.specs.Ordering.{is_lt}
 use Rattle.zl_objects.specs.Objects.{Objects}
 use Rattle.zl_calls.specs.World.{process_entry}
 use Rattle.zl_calls.specs.declared.process.Process.{Process}
-use Rattle.zl_calls.specs.calls.Task.{ClosesAllEnded, ClosesEnded, IsCallerStill, TaskKillDoes, ended_if, ended_within, is_over, lab, lives_on, none_left, one_more}
+use Rattle.zl_calls.specs.calls.Task.{ClosesAllEnded, ClosesEnded, IsCallerStill, TaskKillDoes, ended_if, ended_within, is_over, lab, lives_on, none_left}
+use Rattle.zl_calls.specs.calls.Task.{one_more}
 use Rattle.zl_calls.proofs.Keeping.{drop_here, none_behind}
 use Rattle.std.proofs.lemmas.Option.{get_or_from_slice_get, slice_get-map}
 use Rattle.zl_rights.proofs.MapLaws.{get-each}
@@ -38,7 +41,8 @@ module _ (f : Process → Process) (same : (p : Process) → (f p).pid ≡ p.pid
       ∙ ap (λ (b : Bool). b && is_sorted nat_cmp (map process_entry ps)) (below_kept p.pid ps)
 
 -- the koids still rise
-pub in_order_ended : (r : Objects) (task : ℕ) (ps : List Process) → IsTrue (is_sorted nat_cmp (map process_entry ps)) → IsTrue (is_sorted nat_cmp (map process_entry (map (ended_within r task) ps)))
+pub in_order_ended : (r : Objects) (task : ℕ) (ps : List Process) → IsTrue (is_sorted nat_cmp (map process_entry ps))
+    → IsTrue (is_sorted nat_cmp (map process_entry (map (ended_within r task) ps)))
 in_order_ended r task ps sorted = order_kept (ended_within r task) (λ p. same_pid _ p) ps ∙ sorted
 
 -- ---- a loop over all processes
@@ -101,7 +105,8 @@ has_kept {X} f m k = ap (λ (o : Option X). is_some o) (get-each m f k) ∙ by_v
 pub listed_killed : (r r2 : Objects) (task : ℕ) → Releases [] (all_koids r.objects) (killing r task) r2 → LeavesListed r r2 → KeepsListed r r2
 unfolding all_killed
 listed_killed r r2 task releases left =
-    let kept : KeepsListed (killing r task) r2 = listed_gone [] (all_koids r.objects) (killing r task) r2 releases (record { waits = left.waits; made = left.made }) in
+    let kept : KeepsListed (killing r task) r2 =
+    listed_gone [] (all_koids r.objects) (killing r task) r2 releases (record { waits = left.waits; made = left.made }) in
     record {
       shrinks = λ k there. sym (has_kept (λ j. killed_if (is_within r.objects task j)) r.objects k) ∙ kept.shrinks k there;
       listed = record { waits = kept.listed.waits; made = kept.listed.made };
@@ -109,7 +114,8 @@ listed_killed r r2 task releases left =
 
 -- ---- the whole of it
 
-module _ (ps : List Process) (r : Objects) (blocked : List ℕ) (place task : ℕ) (caller : Process) (is_caller : slice_get ps place ≡ Some caller) (p : Process) (read : p ≡ get_or ps place p) where
+module _ (ps : List Process) (r : Objects) (blocked : List ℕ) (place task : ℕ) (caller : Process) (is_caller : slice_get ps place ≡ Some caller) (p : Process)
+    (read : p ≡ get_or ps place p) where
   is_it : p ≡ caller
   is_it = read ∙ get_or_from_slice_get ps place caller p is_caller
 
@@ -155,7 +161,8 @@ still_one : (p p2 : Process) (r r2 : Objects) → ClosesEnded p r p2 r2 → p2.c
 still_one _ _ _ _ (lives_on p r lives) = refl
 still_one _ _ _ _ (is_over p p2 r r2 over same none no_last drains) = ap (λ (q : Process). q.cpu) same
 
-still_closed : (ps ps2 : List Process) (r r2 : Objects) → ClosesAllEnded ps r ps2 r2 → (i : ℕ) (p : Process) → slice_get ps i ≡ Some p → IsCallerStill p (slice_get ps2 i)
+still_closed : (ps ps2 : List Process) (r r2 : Objects) → ClosesAllEnded ps r ps2 r2 → (i : ℕ) (p : Process) → slice_get ps i ≡ Some p
+    → IsCallerStill p (slice_get ps2 i)
 still_closed _ _ _ _ (none_left r) i p at = absurd (none-some p at)
 still_closed _ _ _ _ (one_more q q2 ps ps2 r mid r2 first rest) zero p at = still_one q q2 r mid first ∙ ap (λ (x : Process). x.cpu) (same_Some q p at)
 still_closed _ _ _ _ (one_more q q2 ps ps2 r mid r2 first rest) (suc i) p at = still_closed ps ps2 mid r2 rest i p at
@@ -174,7 +181,8 @@ module _ (n : ℕ) (ps d e d1 d2 ps2 : List Process) (r : Objects) (koid : ℕ) 
   all_ended = ended_back (ended_within r koid) n ps d e long same ended
 
   pub in_order_back : IsTrue (is_sorted nat_cmp (map process_entry ps)) → IsTrue (is_sorted nat_cmp (map process_entry d1))
-  in_order_back sorted = subst (λ (qs : List Process). IsTrue (is_sorted nat_cmp (map process_entry qs))) (sym (same1 ∙ all_ended)) (in_order_ended r koid ps sorted)
+  in_order_back sorted =
+      subst (λ (qs : List Process). IsTrue (is_sorted nat_cmp (map process_entry qs))) (sym (same1 ∙ all_ended)) (in_order_ended r koid ps sorted)
 
   module _ (between r2 : Objects) (closes : ClosesAllEnded d2 between ps2 r2) where
     closes_all : ClosesAllEnded (map (ended_within r koid) ps) between ps2 r2
@@ -185,7 +193,8 @@ module _ (n : ℕ) (ps d e d1 d2 ps2 : List Process) (r : Objects) (koid : ℕ) 
 
     written : take n (ps2 ++ drop (length ps2) (take n (e ++ drop (length e) ps))) ≡ ps2
     written =
-        let before : length (take n (e ++ drop (length e) ps)) ≡ length ps = ap (λ (qs : List Process). length qs) all_ended ∙ length-map ps (ended_within r koid) in
+        let before : length (take n (e ++ drop (length e) ps)) ≡ length ps =
+        ap (λ (qs : List Process). length qs) all_ended ∙ length-map ps (ended_within r koid) in
         back n (take n (e ++ drop (length e) ps)) ps2 (omega (arith, long, before)) (omega (arith, as_many, before))
 
     pub still_as_many : length (take n (ps2 ++ drop (length ps2) (take n (e ++ drop (length e) ps)))) ≡ length ps

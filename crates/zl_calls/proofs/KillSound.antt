@@ -1,5 +1,10 @@
 -- A kill: the handles of all who end count still and are in no table, and the invariant holds but for what keeps the objects.
-use Rattle.zl_calls.proofs.Common.{◌≡◌, ℕ, suc, ◌+◌, ◌<◌, Bool, true, false, not, ◌==◌, List, [], ◌∷◌, ◌++◌, map, refl, sym, ap, ◌∙◌, subst, cond, Option, Some, None, inl, inr, IsTrue, arith, option_map, Map, get, has_key, each, lives, runs, none-some, same_Some, eq-eqb, ne_eqb, false≢true, below_all, is_sorted, nat_cmp, is_some, object_entry, body_value, process_entry, process_value, Objects, world_value, count_by, sum_by, sum_by-cons, queued_to, handles_to, is_process, state_passes, kind_of, is_job_at, is_job_in, is_in_job, Agrees, AreNamed, IsNamed, IsConsistent, IsTable, Releases, AreKeptBut, if◌then◌else◌, ⊤, list_any, cases_Bool, eqb-true, and_from, nat_tests, or_left, or_right, ◌||◌}
+use Rattle.zl_calls.proofs.Common.{◌≡◌, ℕ, suc, ◌+◌, ◌<◌, Bool, true, false, not, ◌==◌, List, [], ◌∷◌, ◌++◌, map, refl, sym, ap, ◌∙◌, subst, cond, Option, Some}
+use Rattle.zl_calls.proofs.Common.{None, inl, inr, IsTrue, arith, option_map, Map, get, has_key, each, lives, runs, none-some, same_Some, eq-eqb, ne_eqb}
+use Rattle.zl_calls.proofs.Common.{false≢true, below_all, is_sorted, nat_cmp, is_some, object_entry, body_value, process_entry, process_value, Objects}
+use Rattle.zl_calls.proofs.Common.{world_value, count_by, sum_by, sum_by-cons, queued_to, handles_to, is_process, state_passes, kind_of, is_job_at, is_job_in}
+use Rattle.zl_calls.proofs.Common.{is_in_job, Agrees, AreNamed, IsNamed, IsConsistent, IsTable, Releases, AreKeptBut, if◌then◌else◌, ⊤, list_any, cases_Bool}
+use Rattle.zl_calls.proofs.Common.{eqb-true, and_from, nat_tests, or_left, or_right, ◌||◌}
 use Rattle.std.proofs.lemmas.List.Sums.{sum_by-append}
 use Rattle.zl_calls.specs.Making.{IsSound}
 use Rattle.zl_code.proofs.Common.{Process as ProcessValue, State as StateValue, Created, Ready, Blocked, Ended, Gone, get-each, Cpu}
@@ -89,7 +94,8 @@ numbered_sorted n (e ∷ es) = and_from (below_all nat_cmp n (numbered (suc n) e
 
 pub numbered_naming : (k n : ℕ) (es : List Entry) → count_by (λ (h : ℕ × Entry). h.1.koid == k) (numbered n es) ≡ naming k es
 numbered_naming k n [] = refl
-numbered_naming k n (e ∷ es) = omega (arith, naming_cons k e es, sum_by-cons (λ (x : ℕ × Entry). cond (x.1.koid == k) 1 0) (n, e) (numbered (suc n) es), numbered_naming k (suc n) es)
+numbered_naming k n (e ∷ es) =
+    omega (arith, naming_cons k e es, sum_by-cons (λ (x : ℕ × Entry). cond (x.1.koid == k) 1 0) (n, e) (numbered (suc n) es), numbered_naming k (suc n) es)
 
 pub numbered_all : (P : Entry → Type 0) (n : ℕ) (es : List Entry) → AllOf P es → (v : ℕ) (e : Entry) → get (numbered n es) v ≡ Some e → P e
 unfolding get
@@ -122,16 +128,20 @@ AllTables P (p ∷ ps) = (IsTrue (is_sorted nat_cmp p.table.entries) × ((v : �
 
 -- what is true of the table at each koid is true of each
 pub tables_from : (P : Entry → Type 0) (ps : List Process) → IsTrue (is_sorted nat_cmp (map process_entry ps))
-    → ((k : ℕ) (q : ProcessValue) → get (map process_entry ps) k ≡ Some q → IsTrue (is_sorted nat_cmp q.handles) × ((v : ℕ) (e : Entry) → get q.handles v ≡ Some e → P e)) → AllTables P ps
+    → ((k : ℕ) (q : ProcessValue) → get (map process_entry ps) k ≡ Some q
+    → IsTrue (is_sorted nat_cmp q.handles) × ((v : ℕ) (e : Entry) → get q.handles v ≡ Some e → P e)) → AllTables P ps
 unfolding get
 tables_from P [] sorted all = tt
 tables_from P (p ∷ ps) sorted all =
     let parts = sorted_parts (process_entry p) (map process_entry ps) sorted in (
       all p.pid (process_value p) (rw (eq-eqb p.pid p.pid refl) refl),
-      tables_from P ps parts.1 (λ k q at. all k q (elim (cases_Bool (p.pid == k)) as (λ _. (if p.pid == k then Some (process_value p) else get (map process_entry ps) k) ≡ Some q) [
-        | inl here ↦ absurd (none-some q (sym (no_lower k (map process_entry ps) (subst (λ (n : ℕ). IsTrue (below_all nat_cmp n (map process_entry ps))) (eqb-true p.pid k here) parts.0)) ∙ at))
-        | inr apart ↦ rw apart at
-      ])),
+      tables_from P ps parts.1
+          (λ k q at. all k q (elim (cases_Bool (p.pid == k)) as (λ _. (if p.pid == k then Some (process_value p) else get (map process_entry ps) k) ≡ Some q) [
+            | inl here ↦
+                absurd (none-some q (sym (no_lower k (map process_entry ps)
+                (subst (λ (n : ℕ). IsTrue (below_all nat_cmp n (map process_entry ps))) (eqb-true p.pid k here) parts.0)) ∙ at))
+            | inr apart ↦ rw apart at
+          ])),
     )
 
 -- the handles that have left the tables of ps, which are then those of ps2, and what went with them
@@ -148,7 +158,9 @@ module _ (P : Entry → Type 0) (r : Objects) (t : ℕ) where
   same_table true p = refl
   same_table false p = refl
 
-  one_gone : (p p1 p2 : Process) (a b : Objects) → p1.table ≡ p.table → (IsTrue (is_sorted nat_cmp p.table.entries) × ((v : ℕ) (e : Entry) → get p.table.entries v ≡ Some e → P e)) → ClosesEnded p1 a p2 b → AreAllGone P (p ∷ []) (p2 ∷ []) a b
+  one_gone : (p p1 p2 : Process) (a b : Objects)
+      → p1.table ≡ p.table → (IsTrue (is_sorted nat_cmp p.table.entries) × ((v : ℕ) (e : Entry) → get p.table.entries v ≡ Some e → P e)) → ClosesEnded p1 a p2 b
+      → AreAllGone P (p ∷ []) (p2 ∷ []) a b
   one_gone p p1 _ a _ table all (lives_on _ _ alive) = record {
     gone = [];
     passing = tt;
@@ -166,7 +178,14 @@ module _ (P : Entry → Type 0) (r : Objects) (t : ℕ) where
         koids = went.koids;
         counts = λ k. went.counts k ∙ sym (naming_in k p1.table.entries);
         releases = went.releases;
-        fewer = λ k. omega (arith, tables_cons k p [], tables_cons k p2 [], ap (λ (m : Map Entry). count_by (λ (h : ℕ × Entry). h.1.koid == k) m) entries, naming_in k p1.table.entries, ap (λ (x : _). count_by (λ (h : ℕ × Entry). h.1.koid == k) x.entries) table);
+        fewer = λ k. omega (
+          arith,
+          tables_cons k p [],
+          tables_cons k p2 [],
+          ap (λ (m : Map Entry). count_by (λ (h : ℕ × Entry). h.1.koid == k) m) entries,
+          naming_in k p1.table.entries,
+          ap (λ (x : _). count_by (λ (h : ℕ × Entry). h.1.koid == k) x.entries) table,
+        );
       }
 
   all_gone : (ps qs ps2 : List Process) (a b : Objects) → qs ≡ map (ended_within r t) ps → AllTables P ps → ClosesAllEnded qs a ps2 b → AreAllGone P ps ps2 a b
@@ -182,9 +201,24 @@ module _ (P : Entry → Type 0) (r : Objects) (t : ℕ) where
         gone = first.gone ++ later.gone;
         passing = joined_all P first.gone later.gone first.passing later.passing;
         koids = first.koids ++ later.koids;
-        counts = λ k. omega (arith, sum_by-append (λ (j : ℕ). cond (j == k) 1 0) first.koids later.koids, first.counts k, later.counts k, naming_joined k first.gone later.gone);
+        counts = λ k. omega (
+          arith,
+          sum_by-append (λ (j : ℕ). cond (j == k) 1 0) first.koids later.koids,
+          first.counts k,
+          later.counts k,
+          naming_joined k first.gone later.gone,
+        );
         releases = releases_then first.koids later.koids [] a mid b first.releases later.releases;
-        fewer = λ k. omega (arith, tables_cons k p ps, tables_cons k p [], tables_cons k p2 ps2, tables_cons k p2 [], first.fewer k, later.fewer k, naming_joined k first.gone later.gone);
+        fewer = λ k. omega (
+          arith,
+          tables_cons k p ps,
+          tables_cons k p [],
+          tables_cons k p2 ps2,
+          tables_cons k p2 [],
+          first.fewer k,
+          later.fewer k,
+          naming_joined k first.gone later.gone,
+        );
       }
 
   pub gone_of : (ps ps2 : List Process) (a b : Objects) → AllTables P ps → ClosesAllEnded (map (ended_within r t) ps) a ps2 b → AreAllGone P ps ps2 a b
@@ -315,7 +349,8 @@ abbrev pub killed_with : (ℕ → Bool) → (ℕ → ProcessValue → Cpu) → �
 killed_with f cpus k q = record (process_killed (f k) q) { cpu = cpus k q }
 
 module _ (ps ps3 : List Process) (r : Objects) (lab : IsConsistent ps r) (t : ℕ) (cpus : ℕ → ProcessValue → Cpu)
-    (got : (k : ℕ) → get (map process_entry ps3) k ≡ option_map (killed_with (is_within r.objects t) cpus k) (get (map process_entry ps) k)) (gone : List Entry) (fewer : (k : ℕ) → in_tables k ps ≡ in_tables k ps3 + naming k gone) where
+    (got : (k : ℕ) → get (map process_entry ps3) k ≡ option_map (killed_with (is_within r.objects t) cpus k) (get (map process_entry ps) k)) (gone : List Entry)
+    (fewer : (k : ℕ) → in_tables k ps ≡ in_tables k ps3 + naming k gone) where
   abbrev within : ℕ → Bool
   within = is_within r.objects t
 
@@ -332,19 +367,23 @@ module _ (ps ps3 : List Process) (r : Objects) (lab : IsConsistent ps r) (t : �
       by_process (Some x) here e = record { before = x; there = here; became = sym (same_Some _ q e) }
 
   -- the table is as it was, or empty
-  table_killed : (P : Map Entry → Option ℕ → Type 0) → P [] None → (b : Bool) (q : ProcessValue) → P q.handles q.last → P (process_killed b q).handles (process_killed b q).last
+  table_killed : (P : Map Entry → Option ℕ → Type 0) → P [] None → (b : Bool) (q : ProcessValue) → P q.handles q.last
+      → P (process_killed b q).handles (process_killed b q).last
   table_killed P none false q h = h
   table_killed P none true q h = by_life (lives q.state)
     where
-      by_life : (l : Bool) → P (if l then record q { state = Ended KILLED; handles = []; last = None } else q).handles (if l then record q { state = Ended KILLED; handles = []; last = None } else q).last
+      by_life : (l : Bool) → P (if l then record q { state = Ended KILLED; handles = []; last = None } else q).handles
+          (if l then record q { state = Ended KILLED; handles = []; last = None } else q).last
       by_life true = none
       by_life false = h
 
   -- the state is as it was, or killed
-  passes_after : (test : StateValue → Bool) (k : ℕ) → state_passes test (get (map process_entry ps3) k) ≡ state_passes test (option_map (process_killed (within k)) (get (map process_entry ps) k))
+  passes_after : (test : StateValue → Bool) (k : ℕ)
+      → state_passes test (get (map process_entry ps3) k) ≡ state_passes test (option_map (process_killed (within k)) (get (map process_entry ps) k))
   passes_after test k = ap (state_passes test) (got k) ∙ by_process (get (map process_entry ps) k)
     where
-      by_process : (x : Option ProcessValue) → state_passes test (option_map (killed_with within cpus k) x) ≡ state_passes test (option_map (process_killed (within k)) x)
+      by_process : (x : Option ProcessValue)
+          → state_passes test (option_map (killed_with within cpus k) x) ≡ state_passes test (option_map (process_killed (within k)) x)
       by_process None = refl
       by_process (Some x) = refl
 
@@ -359,7 +398,8 @@ module _ (ps ps3 : List Process) (r : Objects) (lab : IsConsistent ps r) (t : �
 
   -- a process that was killed has ended, whether by this or before
   stops : (o : Option ProcessValue) (l : Life) → is_alive l ≡ state_passes lives o → not (is_alive l) ≡ state_passes has_ended o
-      → (state_passes runs (option_map (process_killed true) o) ≡ false) × (state_passes lives (option_map (process_killed true) o) ≡ false) × (state_passes has_ended (option_map (process_killed true) o) ≡ true)
+      → (state_passes runs (option_map (process_killed true) o) ≡ false) × (state_passes lives (option_map (process_killed true) o) ≡ false)
+      × (state_passes has_ended (option_map (process_killed true) o) ≡ true)
   stops None l living over = absurd (neither (is_alive l) living over)
     where
       neither : (b : Bool) → b ≡ false → not b ≡ false → ⊥
@@ -367,7 +407,9 @@ module _ (ps ps3 : List Process) (r : Objects) (lab : IsConsistent ps r) (t : �
       neither false a c = false≢true (sym c)
   stops (Some q) l living over = by_state q.state refl
     where
-      by_state : (s : StateValue) → q.state ≡ s → (runs (if lives s then record q { state = Ended KILLED; handles = []; last = None } else q).state ≡ false) × (lives (if lives s then record q { state = Ended KILLED; handles = []; last = None } else q).state ≡ false) × (has_ended (if lives s then record q { state = Ended KILLED; handles = []; last = None } else q).state ≡ true)
+      by_state : (s : StateValue) → q.state ≡ s → (runs (if lives s then record q { state = Ended KILLED; handles = []; last = None } else q).state ≡ false)
+          × (lives (if lives s then record q { state = Ended KILLED; handles = []; last = None } else q).state ≡ false)
+          × (has_ended (if lives s then record q { state = Ended KILLED; handles = []; last = None } else q).state ≡ true)
       by_state Created at = (refl, refl, refl)
       by_state Ready at = (refl, refl, refl)
       by_state (Blocked awaited ds) at = (refl, refl, refl)
@@ -378,7 +420,8 @@ module _ (ps ps3 : List Process) (r : Objects) (lab : IsConsistent ps r) (t : �
           neither true a c = false≢true (sym a)
           neither false a c = false≢true (sym c)
 
-  unchanged_by : (test : StateValue → Bool) (k : ℕ) → within k ≡ false → is_process (world_value ps3 (killing r t)) test k ≡ is_process (world_value ps r) test k
+  unchanged_by : (test : StateValue → Bool) (k : ℕ) → within k ≡ false
+      → is_process (world_value ps3 (killing r t)) test k ≡ is_process (world_value ps r) test k
   unfolding is_process
   unchanged_by test k out = passes_after test k ∙ rw out (by_process (get (map process_entry ps) k))
     where
@@ -386,20 +429,30 @@ module _ (ps ps3 : List Process) (r : Objects) (lab : IsConsistent ps r) (t : �
       by_process None = refl
       by_process (Some q) = refl
 
-  changed_by : (test : StateValue → Bool) (k : ℕ) → within k ≡ true → is_process (world_value ps3 (killing r t)) test k ≡ state_passes test (option_map (process_killed true) (get (map process_entry ps) k))
+  changed_by : (test : StateValue → Bool) (k : ℕ) → within k ≡ true
+      → is_process (world_value ps3 (killing r t)) test k ≡ state_passes test (option_map (process_killed true) (get (map process_entry ps) k))
   unfolding is_process
   changed_by test k inside = passes_after test k ∙ rw inside refl
 
-  agrees_body : (k : ℕ) (b : Bool) → within k ≡ b → (c : Body) → Agrees (world_value ps r) k c → Agrees (world_value ps3 (killing r t)) k (if b then killed_body c else c)
+  agrees_body : (k : ℕ) (b : Bool) → within k ≡ b → (c : Body) → Agrees (world_value ps r) k c
+      → Agrees (world_value ps3 (killing r t)) k (if b then killed_body c else c)
   unfolding is_process
-  agrees_body k false out (body.Process job l) h = record { running = h.running ∙ sym (unchanged_by runs k out); living = h.living ∙ sym (unchanged_by lives k out); over = h.over ∙ sym (unchanged_by has_ended k out) }
+  agrees_body k false out (body.Process job l) h = record {
+    running = h.running ∙ sym (unchanged_by runs k out);
+    living = h.living ∙ sym (unchanged_by lives k out);
+    over = h.over ∙ sym (unchanged_by has_ended k out);
+  }
   agrees_body k false out (body.Job job) h = unchanged_by runs k out ∙ h
   agrees_body k false out body.Event h = unchanged_by runs k out ∙ h
   agrees_body k false out (body.ChannelEnd peer queue) h = unchanged_by runs k out ∙ h
   agrees_body k false out (body.Port port) h = unchanged_by runs k out ∙ h
   agrees_body k true inside (body.Process job l) h =
       let three = stops (get (map process_entry ps) k) l h.living h.over in
-      record { running = sym (changed_by runs k inside ∙ three.0); living = sym (changed_by lives k inside ∙ three.1); over = sym (changed_by has_ended k inside ∙ three.2) }
+      record {
+        running = sym (changed_by runs k inside ∙ three.0);
+        living = sym (changed_by lives k inside ∙ three.1);
+        over = sym (changed_by has_ended k inside ∙ three.2);
+      }
   agrees_body k true inside (body.Job job) h = changed_by runs k inside ∙ not_running (get (map process_entry ps) k) true h
   agrees_body k true inside body.Event h = changed_by runs k inside ∙ not_running (get (map process_entry ps) k) true h
   agrees_body k true inside (body.ChannelEnd peer queue) h = changed_by runs k inside ∙ not_running (get (map process_entry ps) k) true h
@@ -435,7 +488,8 @@ module _ (ps ps3 : List Process) (r : Objects) (lab : IsConsistent ps r) (t : �
         (λ found. named_killed r.objects t e (lab.named k w.before v e w.there found)) (subst (λ (x : ProcessValue). get x.handles v ≡ Some e) w.became there);
     queued = λ k o at. let w = was_there r.objects t k o at in
         subst (λ (x : Object). AreNamed (all_killed r.objects t) (queue_of x.body)) (sym w.is)
-        (rw (killed_queue (within k) w.before) (still_named r.objects (all_killed r.objects t) (named_killed r.objects t) (queue_of w.before.body) (lab.queued k w.before w.there)));
+        (rw (killed_queue (within k) w.before)
+        (still_named r.objects (all_killed r.objects t) (named_killed r.objects t) (queue_of w.before.body) (lab.queued k w.before w.there)));
     counted = λ k o at. let w = was_there r.objects t k o at in
         let same : o.handles ≡ w.before.handles = ap (λ (x : Object). x.handles) w.is ∙ killed_handles (within k) w.before in
         omega (arith, same, lab.counted k w.before w.there, fewer k, queues_all_killed r.objects t k, numbered_naming k 0 gone);

@@ -1,6 +1,10 @@
 -- What a kill makes of the world of a lab: the definitions see the same of its processes, objects and list of the blocked.
-use Rattle.zl_calls.proofs.Common.{◌≡◌, ℕ, zero, suc, Bool, true, false, not, ◌&&◌, ◌||◌, ◌==◌, List, [], ◌∷◌, map, refl, sym, ap, ◌∙◌, subst, Option, Some, None, inl, inr, IsTrue, arith, cases_Bool, option_map, Map, get, each, lives, runs, length, ◌<◌, state_passes, eqb-true, below_all, AreBlocked, none-some, eq-eqb, ne_eqb, false≢true, object_entry, object_value, body_value, process_entry, process_value, state_value, Objects, world_blocked, is_sorted, nat_cmp, if◌then◌else◌, ⊤}
-use Rattle.zl_code.proofs.Common.{Process as ProcessValue, Object as ObjectValue, State as StateValue, Created, Ready, Blocked, Ended, Gone, is_blocked, get-each}
+use Rattle.zl_calls.proofs.Common.{◌≡◌, ℕ, zero, suc, Bool, true, false, not, ◌&&◌, ◌||◌, ◌==◌, List, [], ◌∷◌, map, refl, sym, ap, ◌∙◌, subst, Option, Some}
+use Rattle.zl_calls.proofs.Common.{None, inl, inr, IsTrue, arith, cases_Bool, option_map, Map, get, each, lives, runs, length, ◌<◌, state_passes, eqb-true}
+use Rattle.zl_calls.proofs.Common.{below_all, AreBlocked, none-some, eq-eqb, ne_eqb, false≢true, object_entry, object_value, body_value, process_entry}
+use Rattle.zl_calls.proofs.Common.{process_value, state_value, Objects, world_blocked, is_sorted, nat_cmp, if◌then◌else◌, ⊤}
+use Rattle.zl_code.proofs.Common.{Process as ProcessValue, Object as ObjectValue, State as StateValue, Created, Ready, Blocked, Ended, Gone, is_blocked}
+use Rattle.zl_code.proofs.Common.{get-each}
 use Rattle.std.specs.List.{filter}
 use Rattle.zl_rights.specs.Numbers.{KILLED}
 use Rattle.zl_code.specs.Jobs.{body_killed, is_under_by, is_within as is_within_value, object_killed, process_killed}
@@ -55,7 +59,8 @@ killed_seen true o = ap (λ x. record (object_value o) { body = x }) (by_body o.
     by_body (body.ChannelEnd peer queue) = refl
     by_body (body.Port port) = refl
 
-each_seen : (f g : ℕ → Bool) → ((k : ℕ) → f k ≡ g k) → (m : Map Object) → map object_entry (each (λ k. killed_if (f k)) m) ≡ each (λ k. object_killed (g k)) (map object_entry m)
+each_seen : (f g : ℕ → Bool) → ((k : ℕ) → f k ≡ g k) → (m : Map Object)
+    → map object_entry (each (λ k. killed_if (f k)) m) ≡ each (λ k. object_killed (g k)) (map object_entry m)
 unfolding each
 each_seen f g same [] = refl
 each_seen f g same (e ∷ m) = λ i. (e.0, (killed_seen (f e.0) e.1 ∙ ap (λ (b : Bool). object_killed b (object_value e.1)) (same e.0)) i) ∷ each_seen f g same m i
@@ -85,16 +90,20 @@ lower_missing k (e ∷ m) below =
 
 module _ (ps : List Process) (r : Objects) (blocked : List ℕ) (sound : IsSoundWorld (world_blocked ps r blocked)) where
   -- what is true of the process at each koid is true of each
-  idle_from : (qs : List Process) → IsTrue (is_sorted nat_cmp (map process_entry qs)) → ((k : ℕ) (q : ProcessValue) → get (map process_entry qs) k ≡ Some q → lives q.state ≡ false → (q.handles ≡ []) × (q.last ≡ None)) → AreIdle qs
+  idle_from : (qs : List Process) → IsTrue (is_sorted nat_cmp (map process_entry qs))
+      → ((k : ℕ) (q : ProcessValue) → get (map process_entry qs) k ≡ Some q → lives q.state ≡ false → (q.handles ≡ []) × (q.last ≡ None)) → AreIdle qs
   unfolding get
   idle_from [] sorted all = tt
   idle_from (p ∷ qs) sorted all =
       let parts = sorted_parts (process_entry p) (map process_entry qs) sorted in (
         all p.pid (process_value p) (rw (eq-eqb p.pid p.pid refl) refl),
-        idle_from qs parts.1 (λ k q at. all k q (elim (cases_Bool (p.pid == k)) as (λ _. (if p.pid == k then Some (process_value p) else get (map process_entry qs) k) ≡ Some q) [
-          | inl here ↦ absurd (none-some q (sym (lower_missing k (map process_entry qs) (subst (λ (n : ℕ). IsTrue (below_all nat_cmp n (map process_entry qs))) (eqb-true p.pid k here) parts.0)) ∙ at))
-          | inr apart ↦ rw apart at
-        ])),
+        idle_from qs parts.1 (λ k q at.
+            all k q (elim (cases_Bool (p.pid == k)) as (λ _. (if p.pid == k then Some (process_value p) else get (map process_entry qs) k) ≡ Some q) [
+              | inl here ↦
+                  absurd (none-some q (sym (lower_missing k (map process_entry qs)
+                  (subst (λ (n : ℕ). IsTrue (below_all nat_cmp n (map process_entry qs))) (eqb-true p.pid k here) parts.0)) ∙ at))
+              | inr apart ↦ rw apart at
+            ])),
       )
 
   -- a process that doesn't live has no handle, as the world is sound
@@ -109,8 +118,10 @@ module _ (ps : List Process) (r : Objects) (blocked : List ℕ) (sound : IsSound
       not_running Gone dead = refl
 
   -- those are left that are still blocked: who isn't among the killed
-  pub blocked_left : (t : ℕ) (qs : List Process) → AreBlocked ps blocked → map process_entry qs ≡ each (λ k. process_killed (is_within_value (map object_entry r.objects) t k)) (map process_entry ps)
-      → filter (λ k. state_passes is_blocked (get (map process_entry qs) k)) blocked ≡ filter (λ k. not (is_within_value (map object_entry r.objects) t k)) blocked
+  pub blocked_left : (t : ℕ) (qs : List Process) → AreBlocked ps blocked
+      → map process_entry qs ≡ each (λ k. process_killed (is_within_value (map object_entry r.objects) t k)) (map process_entry ps)
+      → filter (λ k. state_passes is_blocked (get (map process_entry qs) k)) blocked
+      ≡ filter (λ k. not (is_within_value (map object_entry r.objects) t k)) blocked
   blocked_left t qs are is = alike blocked (λ k. times_of k)
     where
       within : ℕ → Bool
@@ -125,16 +136,21 @@ module _ (ps : List Process) (r : Objects) (blocked : List ℕ) (sound : IsSound
           by_test false at = let none : length (filter (λ q. q == k) blocked) ≡ 0 = are.once k ∙ rw at refl in absurd (omega (arith, some, none))
 
       one : (k : ℕ) → state_passes is_blocked (get (map process_entry ps) k) ≡ true → state_passes is_blocked (get (map process_entry qs) k) ≡ not (within k)
-      one k was = ap (λ m. state_passes is_blocked (get m k)) is ∙ (ap (state_passes is_blocked) (get-each (map process_entry ps) (λ j. process_killed (within j)) k) ∙ by_process (get (map process_entry ps) k) (within k) was)
+      one k was =
+          ap (λ m. state_passes is_blocked (get m k)) is
+          ∙ (ap (state_passes is_blocked) (get-each (map process_entry ps) (λ j. process_killed (within j)) k)
+          ∙ by_process (get (map process_entry ps) k) (within k) was)
         where
-          by_state : (q : ProcessValue) (s : StateValue) → q.state ≡ s → is_blocked s ≡ true → is_blocked (if lives s then record q { state = Ended KILLED; handles = []; last = None } else q).state ≡ false
+          by_state : (q : ProcessValue) (s : StateValue) → q.state ≡ s → is_blocked s ≡ true
+              → is_blocked (if lives s then record q { state = Ended KILLED; handles = []; last = None } else q).state ≡ false
           by_state q (Blocked awaited ds) at h = refl
           by_state q Created at h = absurd (false≢true h)
           by_state q Ready at h = absurd (false≢true h)
           by_state q (Ended code) at h = absurd (false≢true h)
           by_state q Gone at h = absurd (false≢true h)
 
-          by_process : (o : Option ProcessValue) (b : Bool) → state_passes is_blocked o ≡ true → state_passes is_blocked (option_map (process_killed b) o) ≡ not b
+          by_process : (o : Option ProcessValue) (b : Bool) → state_passes is_blocked o ≡ true
+              → state_passes is_blocked (option_map (process_killed b) o) ≡ not b
           by_process None b h = absurd (false≢true h)
           by_process (Some q) true h = by_state q q.state refl h
           by_process (Some q) false h = h
@@ -145,7 +161,8 @@ module _ (ps : List Process) (r : Objects) (blocked : List ℕ) (sound : IsSound
       alike (x ∷ xs) all =
           let here : state_passes is_blocked (get (map process_entry qs) x) ≡ not (within x) = one x (all x (rw (eq-eqb x x refl) (omega arith))) in
           let rest = alike xs (λ k some. all k (longer k some)) in
-          (λ i. if here i then x ∷ filter (λ k. state_passes is_blocked (get (map process_entry qs) k)) xs else filter (λ k. state_passes is_blocked (get (map process_entry qs) k)) xs)
+          (λ i. if here i then x ∷ filter (λ k. state_passes is_blocked (get (map process_entry qs) k)) xs
+          else filter (λ k. state_passes is_blocked (get (map process_entry qs) k)) xs)
           ∙ (λ i. if not (within x) then x ∷ rest i else rest i)
         where
           longer : (k : ℕ) → 0 < length (filter (λ q. q == k) xs) → 0 < length (filter (λ q. q == k) (x ∷ xs))
@@ -162,7 +179,8 @@ killed_one r t p p1 p2 mid r2 is idle closes = by_life (lives (state_value p.sta
     same_p : (l : Bool) → lives (state_value p.state) && is_within r.objects t p.pid ≡ false → p1 ≡ p
     same_p l none = is ∙ ap (λ (b : Bool). ended_if b p) none
 
-    over : p1 ≡ ended_if true p → lives (state_value p.state) ≡ true → (q1 q2 : Process) (a b : Objects) → q1 ≡ p1 → ClosesEnded q1 a q2 b → ◌≡◌ {A = ℕ × ProcessValue} (process_entry q2) (p.pid, process_killed true (process_value p))
+    over : p1 ≡ ended_if true p → lives (state_value p.state) ≡ true → (q1 q2 : Process) (a b : Objects) → q1 ≡ p1 → ClosesEnded q1 a q2 b
+        → ◌≡◌ {A = ℕ × ProcessValue} (process_entry q2) (p.pid, process_killed true (process_value p))
     over ended living q1 _ a b at (lives_on _ _ alive) = absurd (false≢true (sym (ap (λ (x : Process). lives (state_value x.state)) (at ∙ ended)) ∙ alive))
     over ended living q1 q2 a b at (is_over _ _ _ _ dead same entries last drained) =
         ap process_entry (same ∙ ap (λ (x : Process). record x { table = q2.table }) (at ∙ ended)) ∙ rw (living, entries, last) refl

@@ -1,5 +1,7 @@
 -- What follows from the invariant of the world, and that it makes a call a step up to where processes wake.
-use Rattle.zl_calls.proofs.Common.{◌≡◌, ◌<◌, ◌^◌, ℕ, not, List, map, refl, sym, ◌∙◌, Some, IsTrue, arith, nat_le, nat_tests, get, has_key, Ready, Option, subst, refusal, Settles, Library, Site, handles_to, AtCall, next_for, Calls, Objects, has_place, process_entry, process_value, state_value, world_value, IsConsistent, IsNamed, World, IsActed}
+use Rattle.zl_calls.proofs.Common.{◌≡◌, ◌<◌, ◌^◌, ℕ, not, List, map, refl, sym, ◌∙◌, Some, IsTrue, arith, nat_le, nat_tests, get, has_key, Ready, Option, subst}
+use Rattle.zl_calls.proofs.Common.{refusal, Settles, Library, Site, handles_to, AtCall, next_for, Calls, Objects, has_place, process_entry, process_value}
+use Rattle.zl_calls.proofs.Common.{state_value, world_value, IsConsistent, IsNamed, World, IsActed}
 use Rattle.zl_rights.specs.declared.entry.Entry.{Entry}
 use Rattle.zl_code.proofs.Common.{Process as ProcessValue}
 use Rattle.zl_code.specs.Calls.{CallBy, Calls as PolicedCalls}
@@ -30,10 +32,12 @@ module _ (ps : List Process) (r : Objects) (lab : IsConsistent ps r) where
 
 -- at the call no policy has a say
 abbrev pub IsFree : Library → World → ℕ → CallName → Type 0
-IsFree lib w p call = (q : ProcessValue) (s : Site) → get w.processes p ≡ Some q → next_for lib q ≡ AtCall call s → policed_refusal lib w p s.request ≡ refusal lib w p s.request
+IsFree lib w p call =
+    (q : ProcessValue) (s : Site) → get w.processes p ≡ Some q → next_for lib q ≡ AtCall call s → policed_refusal lib w p s.request ≡ refusal lib w p s.request
 
 -- a call of which no policy has a say is one of the definitions
-pub freely : (lib : Library) (w : World) (p : ℕ) (s : Site) (ends : Outcome) (w2 : World) → policed_refusal lib w p s.request ≡ refusal lib w p s.request → Calls lib w p s ends w2 → PolicedCalls lib w p s ends w2
+pub freely : (lib : Library) (w : World) (p : ℕ) (s : Site) (ends : Outcome) (w2 : World) → policed_refusal lib w p s.request ≡ refusal lib w p s.request
+    → Calls lib w p s ends w2 → PolicedCalls lib w p s ends w2
 freely lib w p s ends w2 free calls = (calls.0, subst (λ (o : Option Outcome). CallBy lib w p s calls.0 o ends w2) (sym free) calls.1)
 
 -- a call, and what isn't held any more goes

@@ -1,5 +1,7 @@
 -- What each call leaves of the list of registered waits: replace ends its own, and others end with objects and ports alone.
-use Rattle.zl_calls.proofs.Common.{◌≡◌, ℕ, Bool, true, false, List, refl, ap, ◌∙◌, Option, Some, None, Result, Ok, Err, inl, inr, get, is_empty, narrowed, then_some, with_rights, IsRefusedBy, Request, Site, site, close, dup, chan_write, event_create, signal, process_exit, calls_at, Objects, Does, status_of, Acted, Acts, action_of}
+use Rattle.zl_calls.proofs.Common.{◌≡◌, ℕ, Bool, true, false, List, refl, ap, ◌∙◌, Option, Some, None, Result, Ok, Err, inl, inr, get, is_empty, narrowed}
+use Rattle.zl_calls.proofs.Common.{then_some, with_rights, IsRefusedBy, Request, Site, site, close, dup, chan_write, event_create, signal, process_exit}
+use Rattle.zl_calls.proofs.Common.{calls_at, Objects, Does, status_of, Acted, Acts, action_of}
 use Rattle.zl_code.proofs.Common.{chan_create, chan_read_etc, replace}
 use Rattle.zl_code.specs.Common.{signal_peer, wait_poll}
 use Rattle.zl_code.specs.CallTable.{job_create, job_set_policy, port_cancel, port_create, port_poll, port_queue, port_wait, wait_async, wait_one}
@@ -42,13 +44,15 @@ module _ (r r2 : Objects) where
   does_lists Done wants refusal t t2 (Err s) done does = of_same r r2 r refl refl does.same_objects
 
   -- or the handles that it takes close
-  taking_lists : {A : Type 0} (Done : A → Handles → Objects → Type 0) (wants : Bool) (refusal : Option Status) (hs : List ℕ) (t t2 : Handles) (answer : Result A Status)
+  taking_lists : {A : Type 0} (Done : A → Handles → Objects → Type 0) (wants : Bool) (refusal : Option Status) (hs : List ℕ) (t t2 : Handles)
+      (answer : Result A Status)
       → ((x : A) → Done x t2 r2 → ListsBut r.waits r.waits_made r2) → DoesTaking Done wants refusal hs t r answer t2 r2 → ListsBut r.waits r.waits_made r2
   taking_lists Done wants refusal hs t t2 (Ok x) done does = done x does.ok
   taking_lists Done wants refusal hs t t2 (Err s) done does = does.closed.listed.listed
 
 -- a refusal of replace isn't OK
-refused_replace : (e : Option Entry) (h asked pid : ℕ) (ws : List Wait) (s : Status) → IsRefusedBy false (replace_refusal_of asked e) s → waits_after (replace h asked) (outcome.Answered s) pid ws ≡ ws
+refused_replace : (e : Option Entry) (h asked pid : ℕ) (ws : List Wait) (s : Status) → IsRefusedBy false (replace_refusal_of asked e) s
+    → waits_after (replace h asked) (outcome.Answered s) pid ws ≡ ws
 refused_replace None h asked pid ws s err = rw err refl
 refused_replace (Some e) h asked pid ws s err = by_test (is_empty (with_rights e (narrowed e.rights asked))) err
   where
@@ -60,12 +64,14 @@ module _ (p p2 : Process) (r r2 : Objects) (o : Outcome) (consumed destinations 
   abbrev Listed : Request → Type 0
   Listed request = ListsBut (waits_after request o p.pid r.waits) r.waits_made r2
 
-  by_request : (request : Request) → looks_at_waits request ≡ false → Acts (action_of p.pid request) (site request consumed destinations) p r o p2 r2 → Listed request
+  by_request : (request : Request) → looks_at_waits request ≡ false → Acts (action_of p.pid request) (site request consumed destinations) p r o p2 r2
+      → Listed request
   by_request (close h) plain acts = acts.acts.listed.listed
   by_request (dup h asked) plain acts = does_lists r r2 _ _ _ _ _ acts.answer (λ x done. of_same r r2 _ refl refl done.objects) acts.acts
   by_request (replace h asked) plain acts = replaced acts.answer acts.ends acts.acts
     where
-      replaced : (answer : Result ℕ Status) → o ≡ outcome.Answered (status_of answer) → ReplaceDoes p.pid h asked p.table r answer p2.table r2 → Listed (replace h asked)
+      replaced : (answer : Result ℕ Status) → o ≡ outcome.Answered (status_of answer) → ReplaceDoes p.pid h asked p.table r answer p2.table r2
+          → Listed (replace h asked)
       replaced (Ok made) ends does = rw ends (record { waits = λ test there. ap (filter test) does.ok.ends.waits; made = does.ok.ends.made })
       replaced (Err s) ends does = rw (ends, refused_replace (get p.table.entries h) h asked p.pid r.waits s does.err) does.closed.listed.listed
   by_request chan_create plain acts = does_lists r r2 _ _ _ _ _ acts.answer (λ x done. of_same r r2 _ refl refl done.objects) acts.acts
@@ -88,7 +94,8 @@ module _ (p p2 : Process) (r r2 : Objects) (o : Outcome) (consumed destinations 
   by_request (port_poll port) plain acts = does_lists r r2 _ _ _ _ _ acts.answer (λ x done. of_same r r2 _ refl refl done.objects) acts.acts
   by_request (process_exit code) plain acts = acts.over.listed.listed
   by_request (job_create j) plain acts = does_lists r r2 _ _ _ _ _ acts.answer (λ x done. of_same r r2 _ refl refl done.makes.objects) acts.acts
-  by_request (job_set_policy j mode condition action) plain acts = does_lists r r2 _ _ _ _ _ acts.answer (λ x done. of_same r r2 _ refl refl done.objects) acts.acts
+  by_request (job_set_policy j mode condition action) plain acts =
+      does_lists r r2 _ _ _ _ _ acts.answer (λ x done. of_same r r2 _ refl refl done.objects) acts.acts
   by_request (wait_async h port key mask) plain acts = absurd (true≢false plain)
   by_request (port_cancel port source key) plain acts = absurd (true≢false plain)
   by_request _ plain acts = absurd acts
@@ -96,7 +103,8 @@ module _ (p p2 : Process) (r r2 : Objects) (o : Outcome) (consumed destinations 
 -- ---- the call that stands next
 
 -- replace ends its own waits where it is done; but for those no call that doesn't look at waits ends any by itself
-pub acted_lists : (p p2 : Process) (r r2 : Objects) (pid : ℕ) (o : Outcome) (name : CallName) (at : Option Site) → p.pid ≡ pid → next_looks (calls_at name at) ≡ false → Acted at p r o p2 r2
+pub acted_lists : (p p2 : Process) (r r2 : Objects) (pid : ℕ) (o : Outcome) (name : CallName) (at : Option Site) → p.pid ≡ pid
+    → next_looks (calls_at name at) ≡ false → Acted at p r o p2 r2
     → ListsBut (waits_by (calls_at name at) (item.Call pid name o) r.waits) r.waits_made r2
 acted_lists p p2 r r2 pid o name None same plain acts = absurd acts
 acted_lists p p2 r r2 pid o name (Some s) same plain acts = rw (← same) (by_request p p2 r r2 o s.consumed s.destinations s.request plain acts)

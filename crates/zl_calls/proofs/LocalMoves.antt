@@ -1,5 +1,8 @@
 -- A ready process gets another Cpu: what is held stays held, no wait ends, and nothing becomes due.
-use Rattle.zl_calls.proofs.Common.{◌≡◌, ℕ, suc, Bool, true, false, ◌&&◌, ◌==◌, List, [], ◌∷◌, length, map, get_or, set, refl, sym, ap, ◌∙◌, subst, Option, Some, None, inl, inr, IsTrue, All, arith, nat_tests, position, and_from, cases_Bool, eqb-true, false≢true, none-some, is_some, list_any, Map, get, has_key, lives, is_process, is_ready, Settles, wakes, on_process, Library, Objects, process_entry, process_value, object_entry, state_value, world_blocked, world_value, AreBlocked, IsConsistent, World}
+use Rattle.zl_calls.proofs.Common.{◌≡◌, ℕ, suc, Bool, true, false, ◌&&◌, ◌==◌, List, [], ◌∷◌, length, map, get_or, set, refl, sym, ap, ◌∙◌, subst, Option, Some}
+use Rattle.zl_calls.proofs.Common.{None, inl, inr, IsTrue, All, arith, nat_tests, position, and_from, cases_Bool, eqb-true, false≢true, none-some, is_some}
+use Rattle.zl_calls.proofs.Common.{list_any, Map, get, has_key, lives, is_process, is_ready, Settles, wakes, on_process, Library, Objects, process_entry}
+use Rattle.zl_calls.proofs.Common.{process_value, object_entry, state_value, world_blocked, world_value, AreBlocked, IsConsistent, World}
 use Rattle.std.specs.List.{filter}
 use Rattle.std.specs.Prelude.{slice_index_or}
 use Rattle.zl_rights.specs.Settle.{has_handle, is_made_by_handle}
@@ -36,7 +39,8 @@ not_among p (q ∷ ps) none = elim (cases_Bool (q == p)) as (λ _. list_any (λ 
 
 -- ---- the process p stands at the place, under the pid, and is ready
 
-module _ (lib : Library) (ps : List Process) (r : Objects) (lab : IsConsistent ps r) (blocked : List ℕ) (are : AreBlocked ps blocked) (sound : IsSoundWorld (world_blocked ps r blocked)) (pid place : ℕ) (p : Process)
+module _ (lib : Library) (ps : List Process) (r : Objects) (lab : IsConsistent ps r) (blocked : List ℕ) (are : AreBlocked ps blocked)
+    (sound : IsSoundWorld (world_blocked ps r blocked)) (pid place : ℕ) (p : Process)
     (found : Some place ≡ position (λ q. q.pid == pid) ps) (read : p ≡ get_or ps place p) (is_ready_there : is_ready (state_value p.state) ≡ true) where
   abbrev before : World
   before = world_blocked ps r blocked

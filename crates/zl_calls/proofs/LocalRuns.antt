@@ -1,5 +1,7 @@
 -- Local instructions in a row are steps, one after another, where what a process computes with neither holds an object nor wakes anybody.
-use Rattle.zl_calls.proofs.Common.{◌≡◌, ℕ, zero, suc, List, [], ◌∷◌, ◌++◌, replicate, refl, sym, ap, ◌∙◌, subst, Option, Some, None, inl, inr, none-some, same_Some, cases_Bool, eq-eqb, eqb-true, ◌==◌, slice_get, Map, get, update, get-update, Cpu, Program, Ready, Settles, wakes, on_process, Library, Moves, AtCall, IsStuck, Step, World}
+use Rattle.zl_calls.proofs.Common.{◌≡◌, ℕ, zero, suc, List, [], ◌∷◌, ◌++◌, replicate, refl, sym, ap, ◌∙◌, subst, Option, Some, None, inl, inr, none-some}
+use Rattle.zl_calls.proofs.Common.{same_Some, cases_Bool, eq-eqb, eqb-true, ◌==◌, slice_get, Map, get, update, get-update, Cpu, Program, Ready, Settles, wakes}
+use Rattle.zl_calls.proofs.Common.{on_process, Library, Moves, AtCall, IsStuck, Step, World}
 use Rattle.zl_code.proofs.Common.{Process as ProcessValue, Next, Runs, next_at, pid_of}
 use Rattle.zl_code.specs.declared.history.TraceItem.{TraceItem}
 use Rattle.zl_code.specs.declared.history.TraceItem.TheVariants as item

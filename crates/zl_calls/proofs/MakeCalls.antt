@@ -1,5 +1,9 @@
 -- A call that makes one object: how it is refused, and what is left of the world and of the invariant. Each call that makes one goes by it.
-use Rattle.zl_calls.proofs.Common.{subst, Inserts, ◌≡◌, ◌<◌, ◌+◌, ◌^◌, ◌&&◌, ◌==◌, ℕ, Bool, true, false, not, List, [], ◌∷◌, map, length, refl, ap, ◌∙◌, cond, Some, None, IsTrue, nat_le, nat_tests, arith, none-some, sym, sum_by-cons, then_some, first_some, Map, get, Library, Site, Ready, AtCall, next_for, Values, refusal, grows, taken, answer_if, with_object, replied, may_get, new_entry, on_process, process_with, is_process, Objects, new_object, with_new, Replies, IsAnswered, told_by, one_value, has_room_in, process_entry, process_value, body_value, state_value, world_value, Agrees, is_in_job, IsConsistent, IsNamed, World}
+use Rattle.zl_calls.proofs.Common.{subst, Inserts, ◌≡◌, ◌<◌, ◌+◌, ◌^◌, ◌&&◌, ◌==◌, ℕ, Bool, true, false, not, List, [], ◌∷◌, map, length, refl, ap, ◌∙◌, cond}
+use Rattle.zl_calls.proofs.Common.{Some, None, IsTrue, nat_le, nat_tests, arith, none-some, sym, sum_by-cons, then_some, first_some, Map, get, Library, Site}
+use Rattle.zl_calls.proofs.Common.{Ready, AtCall, next_for, Values, refusal, grows, taken, answer_if, with_object, replied, may_get, new_entry, on_process}
+use Rattle.zl_calls.proofs.Common.{process_with, is_process, Objects, new_object, with_new, Replies, IsAnswered, told_by, one_value, has_room_in, process_entry}
+use Rattle.zl_calls.proofs.Common.{process_value, body_value, state_value, world_value, Agrees, is_in_job, IsConsistent, IsNamed, World}
 use Rattle.zl_code.proofs.Common.{Object as ObjectValue, State as StateValue}
 use Rattle.zl_rights.specs.declared.status.Status.TheVariants as status
 use Rattle.zl_rights.specs.declared.entry.Entry.{Entry}

@@ -21,7 +21,8 @@ same_length (x ∷ xs) (suc n) y = ap suc (same_length xs n y)
 pub none_mapped : {A : Type 0} (f : A → A) (xs : List A) → IsMapped f xs xs 0
 none_mapped f xs = record { so_far = refl; long = refl }
 
-pub one_mapped : {A : Type 0} (f : A → A) (before now : List A) (n : ℕ) (x y : A) → IsMapped f before now n → n < length now → x ≡ slice_index_or now n x → y ≡ f x → IsMapped f before (slice_set now n y) (n + 1)
+pub one_mapped : {A : Type 0} (f : A → A) (before now : List A) (n : ℕ) (x y : A) → IsMapped f before now n → n < length now → x ≡ slice_index_or now n x
+    → y ≡ f x → IsMapped f before (slice_set now n y) (n + 1)
 one_mapped f before now n x y so_far within is made =
     let next : n + 1 ≡ suc n = omega arith in
     record {

@@ -26,10 +26,19 @@ condition_again condition.NewEvent = refl
 condition_again condition.NewPort = refl
 condition_again condition.NewProcess = refl
 
-pub condition_found : (n : ℕ) (o : Option Condition) → IfSome o (λ c. condition_number c ≡ n) → IfNone o ((c : Condition) → condition_number c ≢ n) → o ≡ condition_numbered n
+pub condition_found : (n : ℕ) (o : Option Condition) → IfSome o (λ c. condition_number c ≡ n) → IfNone o ((c : Condition) → condition_number c ≢ n)
+    → o ≡ condition_numbered n
 condition_found n (Some c) found missing = rw (sym found) (condition_again c)
 condition_found n None found missing =
-    rw (ne_eqb 0 n (missing condition.BadHandle), ne_eqb 1 n (missing condition.WrongObject), ne_eqb 2 n (missing condition.NewAny), ne_eqb 3 n (missing condition.NewChannel), ne_eqb 4 n (missing condition.NewEvent), ne_eqb 6 n (missing condition.NewPort), ne_eqb 7 n (missing condition.NewProcess)) refl
+    rw (
+      ne_eqb 0 n (missing condition.BadHandle),
+      ne_eqb 1 n (missing condition.WrongObject),
+      ne_eqb 2 n (missing condition.NewAny),
+      ne_eqb 3 n (missing condition.NewChannel),
+      ne_eqb 4 n (missing condition.NewEvent),
+      ne_eqb 6 n (missing condition.NewPort),
+      ne_eqb 7 n (missing condition.NewProcess),
+    ) refl
 
 action_again : (a : Action) → Some a ≡ action_numbered (action_number a)
 action_again action.Allow = refl
@@ -55,8 +64,11 @@ module _ (m c a : ℕ) where
     module _ (c0 : Condition) (is_condition : condition_number c0 ≡ c) where
       pub no_action : ((x : Action) → action_number x ≢ a) → None ≡ setting_of m c a
       unfolding setting_of
-      no_action missing = λ i. setting_if (mode_found m (Some m0) is_mode tt i) (condition_found c (Some c0) is_condition tt i) (action_found a None tt missing i)
+      no_action missing =
+          λ i. setting_if (mode_found m (Some m0) is_mode tt i) (condition_found c (Some c0) is_condition tt i) (action_found a None tt missing i)
 
-      pub all_known : (a0 : Action) → action_number a0 ≡ a → ◌≡◌ {A = Option Setting} (Some (record { mode = m0; condition = c0; action = a0 })) (setting_of m c a)
+      pub all_known : (a0 : Action) → action_number a0 ≡ a
+          → ◌≡◌ {A = Option Setting} (Some (record { mode = m0; condition = c0; action = a0 })) (setting_of m c a)
       unfolding setting_of
-      all_known a0 is_action = λ i. setting_if (mode_found m (Some m0) is_mode tt i) (condition_found c (Some c0) is_condition tt i) (action_found a (Some a0) is_action tt i)
+      all_known a0 is_action =
+          λ i. setting_if (mode_found m (Some m0) is_mode tt i) (condition_found c (Some c0) is_condition tt i) (action_found a (Some a0) is_action tt i)

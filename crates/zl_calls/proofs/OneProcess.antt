@@ -1,5 +1,8 @@
 -- One process more, with its object: what the invariant says of both.
-use Rattle.zl_calls.proofs.Common.{cases_Bool, eqb-true, eq-eqb, ◌==◌, if◌then◌else◌, ◌≡◌, ◌<◌, ◌+◌, ◌^◌, ◌⊎◌, ℕ, Bool, false, List, [], ◌∷◌, ◌++◌, map, refl, sym, ap, ◌∙◌, subst, cond, Some, inl, inr, IsTrue, arith, sum_by, count_by, sum_by-cons, map-append, same_Some, Map, get, put, is_process, handles_to, get-put, IsTable, sorted_put, put_key, Objects, new_object, with_new, process_entry, process_value, state_value, world_value, IsNamed, Agrees, AreNamed, All, All-nil, is_in_job, IsSound}
+use Rattle.zl_calls.proofs.Common.{cases_Bool, eqb-true, eq-eqb, ◌==◌, if◌then◌else◌, ◌≡◌, ◌<◌, ◌+◌, ◌^◌, ◌⊎◌, ℕ, Bool, false, List, [], ◌∷◌, ◌++◌, map, refl}
+use Rattle.zl_calls.proofs.Common.{sym, ap, ◌∙◌, subst, cond, Some, inl, inr, IsTrue, arith, sum_by, count_by, sum_by-cons, map-append, same_Some, Map, get}
+use Rattle.zl_calls.proofs.Common.{put, is_process, handles_to, get-put, IsTable, sorted_put, put_key, Objects, new_object, with_new, process_entry}
+use Rattle.zl_calls.proofs.Common.{process_value, state_value, world_value, IsNamed, Agrees, AreNamed, All, All-nil, is_in_job, IsSound}
 use Rattle.zl_code.proofs.Common.{Process as ProcessValue, State as StateValue}
 use Rattle.std.proofs.lemmas.List.Sums.{sum_by-append}
 use Rattle.zl_rights.specs.declared.entry.Entry.{Entry}

@@ -1,5 +1,8 @@
 -- The packets of one port change, and nothing else: what the invariant says of the objects.
-use Rattle.zl_calls.proofs.Common.{◌≡◌, ℕ, ◌||◌, ◌==◌, List, [], ◌∷◌, refl, sym, ap, ◌∙◌, subst, Option, Some, None, inl, inr, IsTrue, arith, if◌then◌else◌, list_any, option_map, cases_Bool, map, sum_by-cons, queued_to, object_entry, Map, get, update, kind_of, handles_to, get-update, has_key-update, is_sorted-update, Objects, has_living_child, is_job_at, is_job_body, is_job_in, is_kept, is_child, stays_alone, body_value, is_in_job, world_value, Agrees, AreNamed, IsConsistent, IsNamed, World}
+use Rattle.zl_calls.proofs.Common.{◌≡◌, ℕ, ◌||◌, ◌==◌, List, [], ◌∷◌, refl, sym, ap, ◌∙◌, subst, Option, Some, None, inl, inr, IsTrue, arith, if◌then◌else◌}
+use Rattle.zl_calls.proofs.Common.{list_any, option_map, cases_Bool, map, sum_by-cons, queued_to, object_entry, Map, get, update, kind_of, handles_to}
+use Rattle.zl_calls.proofs.Common.{get-update, has_key-update, is_sorted-update, Objects, has_living_child, is_job_at, is_job_body, is_job_in, is_kept}
+use Rattle.zl_calls.proofs.Common.{is_child, stays_alone, body_value, is_in_job, world_value, Agrees, AreNamed, IsConsistent, IsNamed, World}
 use Rattle.zl_rights.specs.declared.entry.Entry.{Entry}
 use Rattle.zl_port.specs.Packets.{Port}
 use Rattle.zl_objects.specs.declared.object.Body.{Body}
@@ -52,8 +55,18 @@ module _ (f : Port → Port) where
   unfolding update
   queues_stay [] k j = refl
   queues_stay (e ∷ os) k j = elim (cases_Bool (e.0 == k)) as (λ _. queues (update (e ∷ os) k (at_port f)) j ≡ queues (e ∷ os) j) [
-    | inl here ↦ rw here (omega (arith, sum_by-cons (λ o. queued_to j o.1.body) (object_entry (k, at_port f e.1)) (map object_entry os), sum_by-cons (λ o. queued_to j o.1.body) (object_entry e) (map object_entry os), as_queued j e.1.body))
-    | inr apart ↦ rw apart (omega (arith, sum_by-cons (λ o. queued_to j o.1.body) (object_entry e) (map object_entry (update os k (at_port f))), sum_by-cons (λ o. queued_to j o.1.body) (object_entry e) (map object_entry os), queues_stay os k j))
+    | inl here ↦ rw here (omega (
+      arith,
+      sum_by-cons (λ o. queued_to j o.1.body) (object_entry (k, at_port f e.1)) (map object_entry os),
+      sum_by-cons (λ o. queued_to j o.1.body) (object_entry e) (map object_entry os),
+      as_queued j e.1.body,
+    ))
+    | inr apart ↦ rw apart (omega (
+      arith,
+      sum_by-cons (λ o. queued_to j o.1.body) (object_entry e) (map object_entry (update os k (at_port f))),
+      sum_by-cons (λ o. queued_to j o.1.body) (object_entry e) (map object_entry os),
+      queues_stay os k j,
+    ))
   ]
 
   -- ---- among the others
@@ -63,10 +76,12 @@ module _ (f : Port → Port) where
     after_it = update m k (at_port f)
 
     job_too : (j : ℕ) → is_job_at after_it j ≡ is_job_at m j
-    job_too j = ap is_job_in (get-update m k (at_port f) j) ∙ elim (cases_Bool (k == j)) as (λ _. is_job_in (if k == j then option_map (at_port f) (get m j) else get m j) ≡ is_job_in (get m j)) [
-      | inl here ↦ rw here (by_object (get m j))
-      | inr apart ↦ rw apart refl
-    ]
+    job_too j =
+        ap is_job_in (get-update m k (at_port f) j)
+        ∙ elim (cases_Bool (k == j)) as (λ _. is_job_in (if k == j then option_map (at_port f) (get m j) else get m j) ≡ is_job_in (get m j)) [
+          | inl here ↦ rw here (by_object (get m j))
+          | inr apart ↦ rw apart refl
+        ]
       where
         by_object : (o : Option Object) → is_job_in (option_map (at_port f) o) ≡ is_job_in o
         by_object None = refl
@@ -94,10 +109,12 @@ module _ (f : Port → Port) where
   child_too : (m : Map Object) (k job : ℕ) → has_living_child (update m k (at_port f)) job ≡ has_living_child m job
   unfolding update has_living_child
   child_too [] k job = refl
-  child_too (e ∷ m) k job = elim (cases_Bool (e.0 == k)) as (λ _. list_any (λ x. is_child job x.1.body) (update (e ∷ m) k (at_port f)) ≡ list_any (λ x. is_child job x.1.body) (e ∷ m)) [
-    | inl here ↦ rw (here, same_lives job e.1.body) refl
-    | inr apart ↦ rw apart (ap (λ b. is_child job e.1.body || b) (child_too m k job))
-  ]
+  child_too (e ∷ m) k job =
+      elim (cases_Bool (e.0 == k))
+      as (λ _. list_any (λ x. is_child job x.1.body) (update (e ∷ m) k (at_port f)) ≡ list_any (λ x. is_child job x.1.body) (e ∷ m)) [
+        | inl here ↦ rw (here, same_lives job e.1.body) refl
+        | inr apart ↦ rw apart (ap (λ b. is_child job e.1.body || b) (child_too m k job))
+      ]
 
   alone_too : (m : Map Object) (k j : ℕ) (b : Body) → stays_alone (update m k (at_port f)) j b ≡ stays_alone m j b
   alone_too m k j (body.Job own) = child_too m k j
@@ -105,7 +122,8 @@ module _ (f : Port → Port) where
 
   -- ---- the invariant
 
-  module _ (before after : List Process) (p p2 : Process) (write : IsWrite before after p p2) (table : p2.table ≡ p.table) (r : Objects) (lab : IsConsistent before r) (k : ℕ) where
+  module _ (before after : List Process) (p p2 : Process) (write : IsWrite before after p p2) (table : p2.table ≡ p.table) (r : Objects)
+      (lab : IsConsistent before r) (k : ℕ) where
     abbrev changed : Objects
     changed = changing_port r k f
 
@@ -120,7 +138,8 @@ module _ (f : Port → Port) where
       no_zero = λ j there. lab.no_zero j (sym (has_key-update r.objects k (at_port f) j) ∙ there);
       named = named_too r.objects k;
       queued = λ j q at. found_updated (at_port f) r.objects k (AreNamed changed.objects (queue_of q.body)) j q at
-          (λ o old here is. subst (λ (x : Object). AreNamed changed.objects (queue_of x.body)) is (rw (same_queue o.body) (still_named r.objects changed.objects (named_too r.objects k) (queue_of o.body) (lab.queued j o old))))
+          (λ o old here is. subst (λ (x : Object). AreNamed changed.objects (queue_of x.body)) is
+          (rw (same_queue o.body) (still_named r.objects changed.objects (named_too r.objects k) (queue_of o.body) (lab.queued j o old))))
           (λ apart old. still_named r.objects changed.objects (named_too r.objects k) (queue_of q.body) (lab.queued j q old));
       counted = λ j q at. found_updated (at_port f) r.objects k (q.handles ≡ handles_to (world_value after changed) j) j q at
           (λ o old here is. ap (λ (x : Object). x.handles) (sym is) ∙ (lab.counted j o old ∙ sym (counts j)))
@@ -129,9 +148,13 @@ module _ (f : Port → Port) where
           (λ o old here is. subst (λ (x : Object). Agrees (world_value before r) j x.body) is (agrees_too (world_value before r) j o.body (lab.agrees j o old)))
           (λ apart old. lab.agrees j q old);
       in_jobs = λ j q at. found_updated (at_port f) r.objects k (IsTrue (is_in_job changed.objects q.body)) j q at
-          (λ o old here is. subst (λ (x : Object). IsTrue (is_in_job changed.objects x.body)) is (rw (still_in_job changed.objects o.body, in_job_too r.objects k o.body) (lab.in_jobs j o old)))
+          (λ o old here is. subst (λ (x : Object). IsTrue (is_in_job changed.objects x.body)) is
+          (rw (still_in_job changed.objects o.body, in_job_too r.objects k o.body) (lab.in_jobs j o old)))
           (λ apart old. rw (in_job_too r.objects k q.body) (lab.in_jobs j q old));
-      kept = kept_each changed.objects (rw (is_sorted-update r.objects k (at_port f)) lab.kept.in_order) (λ j q at. found_updated (at_port f) r.objects k (IsTrue (is_kept changed.objects j q)) j q at
-          (λ o old here is. subst (λ (x : Object). IsTrue (is_kept changed.objects j x)) is (rw (still_alone changed.objects j o.body, alone_too r.objects k j o.body) (kept_all r.objects lab.kept j o old)))
+      kept =
+          kept_each changed.objects (rw (is_sorted-update r.objects k (at_port f)) lab.kept.in_order)
+          (λ j q at. found_updated (at_port f) r.objects k (IsTrue (is_kept changed.objects j q)) j q at
+          (λ o old here is. subst (λ (x : Object). IsTrue (is_kept changed.objects j x)) is
+          (rw (still_alone changed.objects j o.body, alone_too r.objects k j o.body) (kept_all r.objects lab.kept j o old)))
           (λ apart old. rw (alone_too r.objects k j q.body) (kept_all r.objects lab.kept j q old)));
     }

@@ -71,7 +71,8 @@ abbrev pub by_making : (Condition → Action) → Option Condition → Option Ou
 by_making decides None = None
 by_making decides (Some c) = unless_allowed (decides c)
 
-first_fault : (decides : Condition → Action) (f g : Option Status) → first_some (by_fault decides f ∷ by_fault decides g ∷ []) ≡ by_fault decides (option_or f g)
+first_fault : (decides : Condition → Action) (f g : Option Status)
+    → first_some (by_fault decides f ∷ by_fault decides g ∷ []) ≡ by_fault decides (option_or f g)
 first_fault decides None g = alone (by_fault decides g)
   where
     alone : (o : Option Outcome) → first_some (o ∷ []) ≡ o
@@ -122,7 +123,9 @@ module _ (w : World) (p : ℕ) where
   unfolding operand
   operand_fault seen o = by_tests (o.may_be_zero && (o.value == 0)) (o.is_taken && contains seen o.value)
     where
-      by_tests : (a b : Bool) → (if a then None else (if b then Some (ends_if_kill (decides condition.BadHandle) (outcome.Answered status.BadHandle)) else by_look_up w p (granted (entry_at w p o.value) o.kinds o.needed)))
+      by_tests : (a b : Bool)
+          → (if a then None else (if b then Some (ends_if_kill (decides condition.BadHandle) (outcome.Answered status.BadHandle))
+          else by_look_up w p (granted (entry_at w p o.value) o.kinds o.needed)))
           ≡ by_fault decides (if a then None else (if b then Some status.BadHandle else result_err (granted (entry_at w p o.value) o.kinds o.needed)))
       by_tests true b = refl
       by_tests false true = refl
@@ -155,12 +158,14 @@ verdict_allowed (Some status.BadHandle) c = refl
 verdict_allowed (Some status.WrongType) c = refl
 verdict_allowed (Some _) c = refl
 
-verdict_decided : (objects : Map Object) (job : Option ℕ) (f : Option Status) (c : Option Condition) → verdict_by (decides_in objects job) f c ≡ verdict_in objects job f c
+verdict_decided : (objects : Map Object) (job : Option ℕ) (f : Option Status) (c : Option Condition)
+    → verdict_by (decides_in objects job) f c ≡ verdict_in objects job f c
 verdict_decided objects (Some job) f c = refl
 verdict_decided objects None f c = verdict_allowed f c
 
 -- the action of an object that was found
-pub seen_action : (o : Option Object) (c : Condition) → unwrap_or (get (policy_in (body_in (option_map object_value o))) (condition_number c)) action.Allow ≡ job_action (as_job_in o) c
+pub seen_action : (o : Option Object) (c : Condition)
+    → unwrap_or (get (policy_in (body_in (option_map object_value o))) (condition_number c)) action.Allow ≡ job_action (as_job_in o) c
 unfolding get
 seen_action None c = refl
 seen_action (Some o) c = by_body o.body

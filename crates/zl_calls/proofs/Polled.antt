@@ -1,5 +1,6 @@
 -- What is taken from a port: its first packet, or nothing, and then nothing has changed.
-use Rattle.zl_calls.proofs.Common.{◌≡◌, ℕ, false, ◌==◌, List, [], ◌∷◌, refl, sym, ap, ◌∙◌, inl, inr, Some, None, Ok, Err, cases_Bool, eqb-true, none-some, slice_get, then_some, is_empty, Map, get, update, Handles, Objects, Does, IsRefusedBy}
+use Rattle.zl_calls.proofs.Common.{◌≡◌, ℕ, false, ◌==◌, List, [], ◌∷◌, refl, sym, ap, ◌∙◌, inl, inr, Some, None, Ok, Err, cases_Bool, eqb-true, none-some}
+use Rattle.zl_calls.proofs.Common.{slice_get, then_some, is_empty, Map, get, update, Handles, Objects, Does, IsRefusedBy}
 use Rattle.std.specs.Prelude.{drop}
 use Rattle.zl_rights.specs.declared.status.Status.TheVariants as status
 use Rattle.zl_rights.specs.declared.entry.Entry.{Entry}
@@ -32,10 +33,19 @@ unpopped (e ∷ m) k none = elim (cases_Bool (e.0 == k)) as (λ _. update (e ∷
 ]
 
 -- the handle at the value names the port, from which the first packet was taken
-module _ (t : Handles) (r r2 : Objects) (value : ℕ) (port : Entry) (is_port : port_at t.entries value READ ≡ Ok port) (rest : r2 ≡ changing_port r port.koid without_front) where
-  pub packet_polled : (packet : Packet) → slice_get (packets_in (get r.objects port.koid)) 0 ≡ Some packet → Does (TakesPacket t r value) false (poll_refusal t.entries r.objects value) t r (Ok packet) t r2
+module _ (t : Handles) (r r2 : Objects) (value : ℕ) (port : Entry) (is_port : port_at t.entries value READ ≡ Ok port)
+    (rest : r2 ≡ changing_port r port.koid without_front) where
+  pub packet_polled : (packet : Packet) → slice_get (packets_in (get r.objects port.koid)) 0 ≡ Some packet
+      → Does (TakesPacket t r value) false (poll_refusal t.entries r.objects value) t r (Ok packet) t r2
   packet_polled packet first = record {
-    ok = record { unrefused = rw is_port (by_packets (packets_in (get r.objects port.koid)) first); port = port; is_port = is_port; first = first; table = refl; objects = rest };
+    ok = record {
+      unrefused = rw is_port (by_packets (packets_in (get r.objects port.koid)) first);
+      port = port;
+      is_port = is_port;
+      first = first;
+      table = refl;
+      objects = rest;
+    };
     err = tt;
     same_table = tt;
     same_objects = tt;
@@ -45,7 +55,8 @@ module _ (t : Handles) (r r2 : Objects) (value : ℕ) (port : Entry) (is_port : 
       by_packets [] h = absurd (none-some packet h)
       by_packets (x ∷ xs) h = refl
 
-  pub nothing_polled : slice_get (packets_in (get r.objects port.koid)) 0 ≡ None → Does (TakesPacket t r value) false (poll_refusal t.entries r.objects value) t r (Err status.TimedOut) t r2
+  pub nothing_polled : slice_get (packets_in (get r.objects port.koid)) 0 ≡ None
+      → Does (TakesPacket t r value) false (poll_refusal t.entries r.objects value) t r (Err status.TimedOut) t r2
   nothing_polled none = record {
     ok = tt;
     err = rw is_port (by_packets (packets_in (get r.objects port.koid)) none);

@@ -1,5 +1,9 @@
 -- The calls on ports, port_create, port_queue, port_poll and port_wait, each from its table and objects to a step.
-use Rattle.zl_calls.proofs.Common.{◌≡◌, ℕ, true, false, List, [], ◌∷◌, refl, sym, ap, ◌∙◌, Option, Some, None, Result, Ok, Err, operand_of, on_object, IsTrue, none-some, slice_get, first_some, same_Some, ◌++◌, is_empty, get, Ready, Library, Site, site, examined, has_room, has_koids, table_of, refusal, handle_operands, listed, may_choose, new_handles, insert_all, remove_all, taken_handles, effect, gives_ok, gives_refused, AtCall, next_for, Values, replied, taken, ⊤, body_of, operand, Objects, IsAnswered, told_by, no_value, one_value, Replies, process_value, state_value, world_value, IsConsistent, runs, World}
+use Rattle.zl_calls.proofs.Common.{◌≡◌, ℕ, true, false, List, [], ◌∷◌, refl, sym, ap, ◌∙◌, Option, Some, None, Result, Ok, Err, operand_of, on_object, IsTrue}
+use Rattle.zl_calls.proofs.Common.{none-some, slice_get, first_some, same_Some, ◌++◌, is_empty, get, Ready, Library, Site, site, examined, has_room, has_koids}
+use Rattle.zl_calls.proofs.Common.{table_of, refusal, handle_operands, listed, may_choose, new_handles, insert_all, remove_all, taken_handles, effect, gives_ok}
+use Rattle.zl_calls.proofs.Common.{gives_refused, AtCall, next_for, Values, replied, taken, ⊤, body_of, operand, Objects, IsAnswered, told_by, no_value}
+use Rattle.zl_calls.proofs.Common.{one_value, Replies, process_value, state_value, world_value, IsConsistent, runs, World}
 use Rattle.std.specs.Prelude.{drop}
 use Rattle.zl_rights.specs.declared.kind.Kind.TheVariants as kind
 use Rattle.zl_rights.specs.declared.status.Status.TheVariants as status
@@ -19,7 +23,8 @@ use Rattle.zl_code.specs.Tests.{object_at}
 use Rattle.zl_code.specs.Waiting.{first_values, is_full, packet_awaited, packet_taken, packets_at, packets_in as packets_seen}
 use Rattle.zl_objects.specs.Ports.{new_port, packets_in}
 use Rattle.zl_calls.specs.declared.process.Process.{Process}
-use Rattle.zl_calls.specs.calls.Port.{PortCreateDoes, PortPollDoes, PortQueueDoes, PortWaitDoes, QueuesPacket, TakesPacket, poll_refusal, port_at, queue_refusal, refused_by}
+use Rattle.zl_calls.specs.calls.Port.{PortCreateDoes, PortPollDoes, PortQueueDoes, PortWaitDoes, QueuesPacket, TakesPacket, poll_refusal, port_at}
+use Rattle.zl_calls.specs.calls.Port.{queue_refusal, refused_by}
 use Rattle.zl_calls.proofs.Answered.{IsWrite, table_is}
 use Rattle.zl_calls.proofs.Done.{IsDone, IsCalled, answered_done}
 use Rattle.zl_calls.proofs.MakeCalls.{made_done, room_refused}
@@ -46,7 +51,8 @@ module _ (lib : Library) (before : List Process) (r : Objects) (lab : IsConsiste
   unfolding refusal handle_operands examined operand listed
   wait_refused port =
       by_look_up_alone (operand_of old_world p (kind.Port ∷ []) READ (get (table_of old_world p) port))
-      ∙ (port_refused before r lab p (λ packets. false) status.TimedOut READ (get (table_of old_world p) port) ∙ by_port (port_at (table_of old_world p) port READ))
+      ∙ (port_refused before r lab p (λ packets. false) status.TimedOut READ (get (table_of old_world p) port)
+      ∙ by_port (port_at (table_of old_world p) port READ))
     where
       by_look_up_alone : (x : Option Outcome) → first_some (first_some (x ∷ None ∷ []) ∷ None ∷ []) ≡ first_some (first_some (x ∷ None ∷ []) ∷ None ∷ None ∷ [])
       by_look_up_alone None = refl
@@ -67,7 +73,8 @@ module _ (lib : Library) (before after : List Process) (r r2 : Objects) (p p2 : 
     abbrev create_site : Site
     create_site = site port_create consumed destinations
 
-    pub port_create_done : state_value p.state ≡ Ready → (call : CallName) → next_for lib (process_value p) ≡ AtCall call create_site → (o : Outcome) → IsAnswered (told_by one_value) PortCreateDoes create_site p r o p2 r2 → IsDone lib before after r r2 p.pid call o
+    pub port_create_done : state_value p.state ≡ Ready → (call : CallName) → next_for lib (process_value p) ≡ AtCall call create_site → (o : Outcome)
+        → IsAnswered (told_by one_value) PortCreateDoes create_site p r o p2 r2 → IsDone lib before after r r2 p.pid call o
     unfolding refusal handle_operands examined listed has_room has_koids taken_handles remove_all gives_refused may_choose
         new_handles effect insert_all gives_ok
     port_create_done = made_done lib before after r r2 p p2 lab write create_site new_port (λ not. not runs) refl refl
@@ -87,19 +94,32 @@ module _ (lib : Library) (before after : List Process) (r r2 : Objects) (p p2 : 
     unfolding may_choose new_handles remove_all taken_handles handle_operands
     queue_chosen = rw write.there refl
 
-    queue_called : (done : ⊤) → QueuesPacket p.table r port key value p2.table r2 → Replies queue_site status.Ok [] p p2 → IsCalled lib before after r r2 p.pid queue_site (outcome.Answered status.Ok)
+    queue_called : (done : ⊤) → QueuesPacket p.table r port key value p2.table r2 → Replies queue_site status.Ok [] p p2
+        → IsCalled lib before after r r2 p.pid queue_site (outcome.Answered status.Ok)
     unfolding effect gives_ok new_handles insert_all remove_all taken_handles handle_operands
     queue_called done queued replies =
         let there : get p.table.entries port ≡ Some queued.port = is_found (get p.table.entries port) (kind.Port ∷ []) WRITE queued.port queued.is_port in
         let more : (x : Port) → (with_packet x (user_packet key value)).packets ≡ x.packets ++ user_packet key value ∷ [] = λ x. refl in
         record {
-          calls = (Values [], rw (refused_queue, queued.unrefused) (queue_chosen, refl, port_ends before after r r2 p p2 lab write queued.port.koid (λ x. with_packet x (user_packet key value)) (λ xs. xs ++ user_packet key value ∷ []) more queued.objects queued.table queue_site [] replies ∙ rw (table_is before after p p2 write r, there) refl));
-          keeps = port_kept before after r r2 p p2 lab write queued.port.koid (λ x. with_packet x (user_packet key value)) (λ xs. xs ++ user_packet key value ∷ []) more queued.objects queued.table queue_site [] replies;
+          calls = (
+            Values [],
+            rw (refused_queue, queued.unrefused) (
+              queue_chosen,
+              refl,
+              port_ends before after r r2 p p2 lab write queued.port.koid (λ x. with_packet x (user_packet key value)) (λ xs. xs ++ user_packet key value ∷ [])
+                  more queued.objects queued.table queue_site [] replies ∙ rw (table_is before after p p2 write r, there) refl,
+            ),
+          );
+          keeps = port_kept before after r r2 p p2 lab write queued.port.koid (λ x. with_packet x (user_packet key value))
+              (λ xs. xs ++ user_packet key value ∷ []) more queued.objects queued.table queue_site [] replies;
         }
 
-    pub port_queue_done : state_value p.state ≡ Ready → (call : CallName) → next_for lib (process_value p) ≡ AtCall call queue_site → (o : Outcome) → IsAnswered (told_by no_value) (PortQueueDoes port key value) queue_site p r o p2 r2 → IsDone lib before after r r2 p.pid call o
+    pub port_queue_done : state_value p.state ≡ Ready → (call : CallName) → next_for lib (process_value p) ≡ AtCall call queue_site → (o : Outcome)
+        → IsAnswered (told_by no_value) (PortQueueDoes port key value) queue_site p r o p2 r2 → IsDone lib before after r r2 p.pid call o
     unfolding taken_handles handle_operands remove_all gives_refused
-    port_queue_done ready call next o acts = answered_done lib before after r r2 p p2 lab write ready call queue_site next no_value (λ _. QueuesPacket p.table r port key value) true (queue_refusal p.table.entries r.objects port)
+    port_queue_done ready call next o acts =
+        answered_done lib before after r r2 p p2 lab write ready call queue_site next no_value (λ _. QueuesPacket p.table r port key value) true
+        (queue_refusal p.table.entries r.objects port)
         refused_queue refl refl (λ answer. refl) queue_called o acts.answer acts.acts acts.replied acts.ends
 
   -- ---- the first packet leaves the port
@@ -130,11 +150,15 @@ module _ (lib : Library) (before after : List Process) (r r2 : Objects) (p p2 : 
         by_packets (x ∷ xs) is = refl
 
     module _ (s : Site) (replies : Replies s status.Ok (packet_values packet) p p2) where
-      packet_ends : world_value after r2 ≡ replied (on_object w (object_at w p.pid port) packet_taken) p.pid s status.Ok (first_values (packets_at w p.pid port))
-      packet_ends = rw (first_told, koid_same) (port_ends before after r r2 p p2 lab write k without_front (drop 1) (λ x. refl) takes_one.objects takes_one.table s (packet_values packet) replies)
+      packet_ends : world_value after r2
+          ≡ replied (on_object w (object_at w p.pid port) packet_taken) p.pid s status.Ok (first_values (packets_at w p.pid port))
+      packet_ends =
+          rw (first_told, koid_same)
+          (port_ends before after r r2 p p2 lab write k without_front (drop 1) (λ x. refl) takes_one.objects takes_one.table s (packet_values packet) replies)
 
       packet_kept : IsConsistent after r2
-      packet_kept = port_kept before after r r2 p p2 lab write k without_front (drop 1) (λ x. refl) takes_one.objects takes_one.table s (packet_values packet) replies
+      packet_kept =
+          port_kept before after r r2 p p2 lab write k without_front (drop 1) (λ x. refl) takes_one.objects takes_one.table s (packet_values packet) replies
 
   -- ---- port_poll
 
@@ -149,16 +173,20 @@ module _ (lib : Library) (before after : List Process) (r r2 : Objects) (p p2 : 
     unfolding may_choose new_handles remove_all taken_handles handle_operands
     poll_chosen = rw write.there refl
 
-    poll_called : (packet : Packet) → TakesPacket p.table r port packet p2.table r2 → Replies poll_site status.Ok (packet_values packet) p p2 → IsCalled lib before after r r2 p.pid poll_site (outcome.Answered status.Ok)
+    poll_called : (packet : Packet) → TakesPacket p.table r port packet p2.table r2 → Replies poll_site status.Ok (packet_values packet) p p2
+        → IsCalled lib before after r r2 p.pid poll_site (outcome.Answered status.Ok)
     unfolding effect gives_ok new_handles insert_all remove_all taken_handles handle_operands
     poll_called packet takes_one replies = record {
       calls = (Values [], rw (refused_poll, takes_one.unrefused) (poll_chosen, refl, packet_ends port packet takes_one poll_site replies));
       keeps = packet_kept port packet takes_one poll_site replies;
     }
 
-    pub port_poll_done : state_value p.state ≡ Ready → (call : CallName) → next_for lib (process_value p) ≡ AtCall call poll_site → (o : Outcome) → IsAnswered (told_by packet_values) (PortPollDoes port) poll_site p r o p2 r2 → IsDone lib before after r r2 p.pid call o
+    pub port_poll_done : state_value p.state ≡ Ready → (call : CallName) → next_for lib (process_value p) ≡ AtCall call poll_site → (o : Outcome)
+        → IsAnswered (told_by packet_values) (PortPollDoes port) poll_site p r o p2 r2 → IsDone lib before after r r2 p.pid call o
     unfolding taken_handles handle_operands remove_all gives_refused
-    port_poll_done ready call next o acts = answered_done lib before after r r2 p p2 lab write ready call poll_site next packet_values (TakesPacket p.table r port) false (poll_refusal p.table.entries r.objects port)
+    port_poll_done ready call next o acts =
+        answered_done lib before after r r2 p p2 lab write ready call poll_site next packet_values (TakesPacket p.table r port) false
+        (poll_refusal p.table.entries r.objects port)
         refused_poll refl refl (λ answer. refl) poll_called o acts.answer acts.acts acts.replied acts.ends
 
   -- ---- port_wait
@@ -174,16 +202,23 @@ module _ (lib : Library) (before after : List Process) (r r2 : Objects) (p p2 : 
     unfolding may_choose new_handles remove_all taken_handles handle_operands
     wait_chosen = rw write.there refl
 
-    wait_called : (packet : Packet) → TakesPacket p.table r port packet p2.table r2 → Replies wait_site status.Ok (packet_values packet) p p2 → IsCalled lib before after r r2 p.pid wait_site (outcome.Answered status.Ok)
+    wait_called : (packet : Packet) → TakesPacket p.table r port packet p2.table r2 → Replies wait_site status.Ok (packet_values packet) p p2
+        → IsCalled lib before after r r2 p.pid wait_site (outcome.Answered status.Ok)
     unfolding effect gives_ok new_handles insert_all remove_all taken_handles handle_operands
     wait_called packet takes_one replies = record {
-      calls = (Values [], rw (refused_wait, takes_one.is_port, none_awaited port packet takes_one) (wait_chosen, refl, packet_ends port packet takes_one wait_site replies));
+      calls = (
+        Values [],
+        rw (refused_wait, takes_one.is_port, none_awaited port packet takes_one) (wait_chosen, refl, packet_ends port packet takes_one wait_site replies),
+      );
       keeps = packet_kept port packet takes_one wait_site replies;
     }
 
-    pub port_wait_done : state_value p.state ≡ Ready → (call : CallName) → next_for lib (process_value p) ≡ AtCall call wait_site → (o : Outcome) → IsAnswered (told_by packet_values) (PortWaitDoes port) wait_site p r o p2 r2 → IsDone lib before after r r2 p.pid call o
+    pub port_wait_done : state_value p.state ≡ Ready → (call : CallName) → next_for lib (process_value p) ≡ AtCall call wait_site → (o : Outcome)
+        → IsAnswered (told_by packet_values) (PortWaitDoes port) wait_site p r o p2 r2 → IsDone lib before after r r2 p.pid call o
     unfolding taken_handles handle_operands remove_all gives_refused
-    port_wait_done ready call next o acts = answered_done lib before after r r2 p p2 lab write ready call wait_site next packet_values (TakesPacket p.table r port) false (result_err (port_at p.table.entries port READ))
+    port_wait_done ready call next o acts =
+        answered_done lib before after r r2 p p2 lab write ready call wait_site next packet_values (TakesPacket p.table r port) false
+        (result_err (port_at p.table.entries port READ))
         refused_wait refl refl (λ answer. refl) wait_called o acts.answer acts.acts acts.replied acts.ends
 
     -- it isn't refused, where the port is there; and where that has no packet, it waits for one

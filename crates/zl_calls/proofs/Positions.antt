@@ -1,5 +1,6 @@
 -- The first element with a key: what it reads and writes, in the map by keys.
-use Rattle.zl_calls.proofs.Common.{◌≡◌, ◌<◌, ℕ, zero, suc, Bool, true, false, ◌==◌, List, [], ◌∷◌, length, map, get_or, set, refl, sym, ap, ◌∙◌, Some, None, inl, inr, arith, ◌≤◌, nat_lt, position, cases_Bool, eqb-true, nat_tests, none-some, Map, get, update, position_or_len}
+use Rattle.zl_calls.proofs.Common.{◌≡◌, ◌<◌, ℕ, zero, suc, Bool, true, false, ◌==◌, List, [], ◌∷◌, length, map, get_or, set, refl, sym, ap, ◌∙◌, Some, None}
+use Rattle.zl_calls.proofs.Common.{inl, inr, arith, ◌≤◌, nat_lt, position, cases_Bool, eqb-true, nat_tests, none-some, Map, get, update, position_or_len}
 use Rattle.std.proofs.lemmas.List.Quantifiers.{position-Some}
 
 -- the element at place i is the first with the key k
@@ -34,7 +35,8 @@ module _ {X Y : Type 0} (key : X → ℕ) (value : X → Y) where
   get_first (x ∷ xs) k zero d first = rw (first.here) refl
   get_first (x ∷ xs) k (suc i) d first = rw (first.before 0 (omega arith)) (get_first xs k i d (first_behind x xs k i d first))
 
-  pub update_first : (xs : List X) (k i : ℕ) (d : X) (f : Y → Y) (new : X) → IsFirst key xs k i d → value new ≡ f (value (get_or xs i d)) → key new ≡ key (get_or xs i d)
+  pub update_first : (xs : List X) (k i : ℕ) (d : X) (f : Y → Y) (new : X) → IsFirst key xs k i d → value new ≡ f (value (get_or xs i d))
+      → key new ≡ key (get_or xs i d)
       → map entry (set xs i new) ≡ update (map entry xs) k f
   unfolding update
   update_first [] k i d f new first is same = absurd (omega (arith, first.within))

@@ -1,5 +1,7 @@
 -- The queue of one object changes, and nothing else of it: what the invariant says of the objects.
-use Rattle.zl_calls.proofs.Common.{◌≡◌, ◌+◌, ℕ, ◌==◌, List, refl, Some, arith, count_by, map, sum_by, Map, get, update, kind_of, handles_to, Objects, is_job_body, is_child, stays_alone, body_value, is_in_job, process_entry, process_value, world_value, Agrees, AreNamed, IsConsistent, IsNamed, World}
+use Rattle.zl_calls.proofs.Common.{◌≡◌, ◌+◌, ℕ, ◌==◌, List, refl, Some, arith, count_by, map, sum_by, Map, get, update, kind_of, handles_to, Objects}
+use Rattle.zl_calls.proofs.Common.{is_job_body, is_child, stays_alone, body_value, is_in_job, process_entry, process_value, world_value, Agrees, AreNamed}
+use Rattle.zl_calls.proofs.Common.{IsConsistent, IsNamed, World}
 use Rattle.zl_code.proofs.Common.{Process as ProcessValue}
 use Rattle.zl_rights.specs.World.{Message}
 use Rattle.zl_rights.specs.declared.entry.Entry.{Entry}
@@ -67,11 +69,14 @@ module _ (h : List Message → List Message) where
 -- ---- counts
 
 -- handles that leave the table of the process for a queue are counted as before
-pub counts_moved : (before after : List Process) (p p2 : Process) (write : IsWrite before after p p2) (r r2 : Objects) (k c : ℕ) → queues r2.objects k ≡ queues r.objects k + c
+pub counts_moved : (before after : List Process) (p p2 : Process) (write : IsWrite before after p p2) (r r2 : Objects) (k c : ℕ)
+    → queues r2.objects k ≡ queues r.objects k + c
     → count_by (λ x. x.1.koid == k) p.table.entries ≡ count_by (λ x. x.1.koid == k) p2.table.entries + c
     → handles_to (world_value after r2) k ≡ handles_to (world_value before r) k
 unfolding handles_to
 counts_moved before after p p2 write r r2 k c more fewer =
-    let summed : sum_by (λ q. count_by (λ x. x.1.koid == k) q.1.handles) (map process_entry before) ≡ sum_by (λ (q : ℕ × ProcessValue). count_by (λ x. x.1.koid == k) q.1.handles) (update (map process_entry before) p.pid (λ _. process_value p2)) + c
-    = sum_fewer (λ q. count_by (λ x. x.1.koid == k) q.1.handles) (map process_entry before) p.pid c (process_value p) (λ _. process_value p2) write.there fewer in
+    let summed : sum_by (λ q. count_by (λ x. x.1.koid == k) q.1.handles) (map process_entry before)
+    ≡ sum_by (λ (q : ℕ × ProcessValue). count_by (λ x. x.1.koid == k) q.1.handles) (update (map process_entry before) p.pid (λ _. process_value p2)) + c
+    = sum_fewer (λ q. count_by (λ x. x.1.koid == k) q.1.handles) (map process_entry before) p.pid c (process_value p)
+    (λ _. process_value p2) write.there fewer in
     rw (write.writes (λ _. process_value p2) refl) (omega (arith, summed, more))

@@ -1,5 +1,12 @@
 -- The call chan_read_etc, from its table and objects to a step.
-use Rattle.zl_calls.proofs.Common.{◌≡◌, ◌≤◌, ◌+◌, ℕ, Bool, true, false, not, ◌&&◌, ◌==◌, List, [], ◌∷◌, map, length, refl, sym, ap, ◌∙◌, subst, if◌then◌else◌, Option, Some, None, Result, Ok, Err, IsTrue, arith, nat_tests, is_empty, is_some, count_by, sum_by, sum_by-cons, none-some, All, All-nil, bits, within, Map, get, has_key, update, Ready, Library, Site, site, refusal, handle_operands, examined, operand, operand_of, by_look_up, listed, has_room, table_of, answer_if, first_some, may_choose, new_handles, insert_all, remove_all, taken_handles, effect, with_effect, gives_ok, gives_refused, on_object, on_process, AtCall, next_for, Refused, WantsMemory, Values, replied, taken, cpu_answered, process_with, process_with_all, slice_get, nat_le, option_map, Objects, IsAnswered, process_entry, process_value, object_entry, object_value, state_value, world_value, body_value, body_in, body_of, koid_in, handles_to, queued_to, IsConsistent, IsNamed, AreNamed, World}
+use Rattle.zl_calls.proofs.Common.{◌≡◌, ◌≤◌, ◌+◌, ℕ, Bool, true, false, not, ◌&&◌, ◌==◌, List, [], ◌∷◌, map, length, refl, sym, ap, ◌∙◌, subst, if◌then◌else◌}
+use Rattle.zl_calls.proofs.Common.{Option, Some, None, Result, Ok, Err, IsTrue, arith, nat_tests, is_empty, is_some, count_by, sum_by, sum_by-cons, none-some}
+use Rattle.zl_calls.proofs.Common.{All, All-nil, bits, within, Map, get, has_key, update, Ready, Library, Site, site, refusal, handle_operands, examined}
+use Rattle.zl_calls.proofs.Common.{operand, operand_of, by_look_up, listed, has_room, table_of, answer_if, first_some, may_choose, new_handles, insert_all}
+use Rattle.zl_calls.proofs.Common.{remove_all, taken_handles, effect, with_effect, gives_ok, gives_refused, on_object, on_process, AtCall, next_for, Refused}
+use Rattle.zl_calls.proofs.Common.{WantsMemory, Values, replied, taken, cpu_answered, process_with, process_with_all, slice_get, nat_le, option_map, Objects}
+use Rattle.zl_calls.proofs.Common.{IsAnswered, process_entry, process_value, object_entry, object_value, state_value, world_value, body_value, body_in, body_of}
+use Rattle.zl_calls.proofs.Common.{koid_in, handles_to, queued_to, IsConsistent, IsNamed, AreNamed, World}
 use Rattle.zl_code.proofs.Common.{Object as ObjectValue, Process as ProcessValue, All-head, All-tail, chan_read_etc}
 use Rattle.std.specs.Prelude.{drop}
 use Rattle.std.specs.Result.{result_err}
@@ -73,18 +80,21 @@ module _ (lib : Library) (before : List Process) (r : Objects) (lab : IsConsiste
       ∷ answer_if (not (nat_le (length handles + length (first_handles queue)) 1024)) status.NoResources
       ∷ [])
 
-  by_queue : (room places k : ℕ) (queue : List Message) (there : Bool) → with_end room places None queue there ≡ answers (why (front_in (length handles) there room places k queue))
+  by_queue : (room places k : ℕ) (queue : List Message) (there : Bool)
+      → with_end room places None queue there ≡ answers (why (front_in (length handles) there room places k queue))
   by_queue room places k [] true = refl
   by_queue room places k [] false = refl
   by_queue room places k (m ∷ ms) there = by_tests (has_place_for room places (m ∷ ms)) (nat_le (length handles + length m.handles) 1024)
     where
       by_tests : (a b : Bool) → first_some (None ∷ None ∷ None ∷ None ∷ answer_if (not a) status.BufferTooSmall ∷ answer_if (not b) status.NoResources ∷ [])
-          ≡ answers (why (if not a then Err (fault.TooSmall (length m.bytes) (length m.handles)) else (if not b then Err (fault.Refused status.NoResources) else Ok (record { end = k; handles = length m.handles }))))
+          ≡ answers (why (if not a then Err (fault.TooSmall (length m.bytes) (length m.handles))
+          else (if not b then Err (fault.Refused status.NoResources) else Ok (record { end = k; handles = length m.handles }))))
       by_tests false b = refl
       by_tests true false = refl
       by_tests true true = refl
 
-  read_refused : (c address room places : ℕ) → refusal lib old_world p (chan_read_etc c address room places) ≡ answers (why (front_at handles r.objects c room places))
+  read_refused : (c address room places : ℕ)
+      → refusal lib old_world p (chan_read_etc c address room places) ≡ answers (why (front_at handles r.objects c room places))
   unfolding refusal handle_operands examined operand listed has_room
   read_refused c address room places = by_end (get handles c)
     where
@@ -95,16 +105,23 @@ module _ (lib : Library) (before : List Process) (r : Objects) (lab : IsConsiste
       has_peer k = has_key old_world.objects (peer_seen (body_of old_world k))
 
       passes : (e : Entry) → with_end room places None (queue_of_end e.koid) (has_peer e.koid) ≡ answers (why (front_by handles r.objects room places (Ok e)))
-      passes e = rw (queue_there r.objects e.koid, peer_there r lab.no_zero e.koid) (by_queue room places e.koid (queue_in (get r.objects e.koid)) (is_some (peer_at r.objects e.koid)))
+      passes e =
+          rw (queue_there r.objects e.koid, peer_there r lab.no_zero e.koid)
+          (by_queue room places e.koid (queue_in (get r.objects e.koid)) (is_some (peer_at r.objects e.koid)))
 
-      by_tests : (e : Entry) (a b : Bool) → with_end room places (by_look_up old_world p (if a then (if b then Ok e else Err status.AccessDenied) else Err status.WrongType)) (queue_of_end e.koid) (has_peer e.koid)
+      by_tests : (e : Entry) (a b : Bool) → with_end room places
+          (by_look_up old_world p (if a then (if b then Ok e else Err status.AccessDenied) else Err status.WrongType)) (queue_of_end e.koid) (has_peer e.koid)
           ≡ answers (why (front_by handles r.objects room places (if a then (if b then Ok e else Err status.AccessDenied) else Err status.WrongType)))
       by_tests e true true = passes e
       by_tests e true false = refl
-      by_tests e false b = ap (λ (x : Option Outcome). with_end room places x (queue_of_end e.koid) (has_peer e.koid)) (fault_answers old_world p condition.WrongObject status.WrongType)
+      by_tests e false b =
+          ap (λ (x : Option Outcome). with_end room places x (queue_of_end e.koid) (has_peer e.koid))
+          (fault_answers old_world p condition.WrongObject status.WrongType)
 
-      by_end : (o : Option Entry) → with_end room places (operand_of old_world p (kind.Channel ∷ []) READ o) (queue_of_end (koid_in o)) (has_peer (koid_in o)) ≡ answers (why (front_by handles r.objects room places (granted o (kind.Channel ∷ []) READ)))
-      by_end None = ap (λ (x : Option Outcome). with_end room places x (queue_of_end 0) (has_peer 0)) (fault_answers old_world p condition.BadHandle status.BadHandle)
+      by_end : (o : Option Entry) → with_end room places (operand_of old_world p (kind.Channel ∷ []) READ o) (queue_of_end (koid_in o)) (has_peer (koid_in o))
+          ≡ answers (why (front_by handles r.objects room places (granted o (kind.Channel ∷ []) READ)))
+      by_end None =
+          ap (λ (x : Option Outcome). with_end room places x (queue_of_end 0) (has_peer 0)) (fault_answers old_world p condition.BadHandle status.BadHandle)
       by_end (Some e) = by_tests e (takes (kind.Channel ∷ []) e.kind) (within READ (bits e.rights))
 
 -- ---- what holds of the message
@@ -116,19 +133,24 @@ record IsFrontOf (entries : Map Entry) (objects : Map Object) (c : ℕ) (front :
   pub koid : entry.koid ≡ front.end
   pub room : length entries + length (front_handles objects front.end) ≤ 1024
 
-front_of : (entries : Map Entry) (objects : Map Object) (c room places : ℕ) (front : Front) → front_at entries objects c room places ≡ Ok front → IsFrontOf entries objects c front
+front_of : (entries : Map Entry) (objects : Map Object) (c room places : ℕ) (front : Front) → front_at entries objects c room places ≡ Ok front
+    → IsFrontOf entries objects c front
 front_of entries objects c room places front is = by_found (looked_up entries c (kind.Channel ∷ []) READ) refl is
   where
-    by_found : (found : Result Entry Status) → looked_up entries c (kind.Channel ∷ []) READ ≡ found → front_by entries objects room places found ≡ Ok front → IsFrontOf entries objects c front
+    by_found : (found : Result Entry Status) → looked_up entries c (kind.Channel ∷ []) READ ≡ found → front_by entries objects room places found ≡ Ok front
+        → IsFrontOf entries objects c front
     by_found (Err s) found h = absurd cc
     by_found (Ok e) found h = by_messages (queue_in (get objects e.koid)) refl h
       where
-        by_messages : (queue : List Message) → queue_in (get objects e.koid) ≡ queue → front_in (length entries) (is_some (peer_at objects e.koid)) room places e.koid queue ≡ Ok front → IsFrontOf entries objects c front
+        by_messages : (queue : List Message) → queue_in (get objects e.koid) ≡ queue
+            → front_in (length entries) (is_some (peer_at objects e.koid)) room places e.koid queue ≡ Ok front → IsFrontOf entries objects c front
         by_messages [] at read = absurd cc
         by_messages (m ∷ ms) at read = by_tests (has_place_for room places (m ∷ ms)) (nat_le (length entries + length m.handles) 1024) refl read
           where
             by_tests : (a b : Bool) → nat_le (length entries + length m.handles) 1024 ≡ b
-                → ◌≡◌ {A = Result Front ReadFault} (if not a then Err (fault.TooSmall (length m.bytes) (length m.handles)) else (if not b then Err (fault.Refused status.NoResources) else Ok (record { end = e.koid; handles = length m.handles }))) (Ok front)
+                → ◌≡◌ {A = Result Front ReadFault}
+                (if not a then Err (fault.TooSmall (length m.bytes) (length m.handles))
+                else (if not b then Err (fault.Refused status.NoResources) else Ok (record { end = e.koid; handles = length m.handles }))) (Ok front)
                 → IsFrontOf entries objects c front
             by_tests false b fits read = absurd cc
             by_tests true false fits read = absurd cc
@@ -148,19 +170,26 @@ record IsTooSmall (entries : Map Entry) (objects : Map Object) (c bytes handles 
   pub there : get entries c ≡ Some entry
   pub sizes : sizes_of (queue_in (get objects entry.koid)) ≡ bytes ∷ handles ∷ []
 
-too_small : (entries : Map Entry) (objects : Map Object) (c room places bytes handles : ℕ) → front_at entries objects c room places ≡ Err (fault.TooSmall bytes handles) → IsTooSmall entries objects c bytes handles
+too_small : (entries : Map Entry) (objects : Map Object) (c room places bytes handles : ℕ)
+    → front_at entries objects c room places ≡ Err (fault.TooSmall bytes handles) → IsTooSmall entries objects c bytes handles
 too_small entries objects c room places bytes handles is = by_found (looked_up entries c (kind.Channel ∷ []) READ) refl is
   where
-    by_found : (found : Result Entry Status) → looked_up entries c (kind.Channel ∷ []) READ ≡ found → front_by entries objects room places found ≡ Err (fault.TooSmall bytes handles) → IsTooSmall entries objects c bytes handles
+    by_found : (found : Result Entry Status) → looked_up entries c (kind.Channel ∷ []) READ ≡ found
+        → front_by entries objects room places found ≡ Err (fault.TooSmall bytes handles) → IsTooSmall entries objects c bytes handles
     by_found (Err s) found h = absurd cc
     by_found (Ok e) found h = by_messages (queue_in (get objects e.koid)) refl h
       where
-        by_messages : (queue : List Message) → queue_in (get objects e.koid) ≡ queue → front_in (length entries) (is_some (peer_at objects e.koid)) room places e.koid queue ≡ Err (fault.TooSmall bytes handles) → IsTooSmall entries objects c bytes handles
+        by_messages : (queue : List Message) → queue_in (get objects e.koid) ≡ queue
+            → front_in (length entries) (is_some (peer_at objects e.koid)) room places e.koid queue ≡ Err (fault.TooSmall bytes handles)
+            → IsTooSmall entries objects c bytes handles
         by_messages [] at read = absurd cc
         by_messages (m ∷ ms) at read = by_tests (has_place_for room places (m ∷ ms)) (nat_le (length entries + length m.handles) 1024) read
           where
             by_tests : (a b : Bool)
-                → ◌≡◌ {A = Result Front ReadFault} (if not a then Err (fault.TooSmall (length m.bytes) (length m.handles)) else (if not b then Err (fault.Refused status.NoResources) else Ok (record { end = e.koid; handles = length m.handles }))) (Err (fault.TooSmall bytes handles))
+                → ◌≡◌ {A = Result Front ReadFault}
+                (if not a then Err (fault.TooSmall (length m.bytes) (length m.handles))
+                else (if not b then Err (fault.Refused status.NoResources) else Ok (record { end = e.koid; handles = length m.handles })))
+                (Err (fault.TooSmall bytes handles))
                 → IsTooSmall entries objects c bytes handles
             by_tests false b read =
                 let more : ◌≡◌ {A = ℕ} (length m.bytes) bytes = cc in
@@ -173,7 +202,8 @@ same_status : (a s : Status) → ◌≡◌ {A = Result Front ReadFault} (Err (fa
 same_status a s same = cc
 
 -- what is true of each status with which nothing else is told
-each_refused : (Holds : Status → Type 0) → Holds status.BadHandle → Holds status.WrongType → Holds status.AccessDenied → Holds status.PeerClosed → Holds status.ShouldWait → Holds status.NoResources
+each_refused : (Holds : Status → Type 0) → Holds status.BadHandle → Holds status.WrongType → Holds status.AccessDenied → Holds status.PeerClosed
+    → Holds status.ShouldWait → Holds status.NoResources
     → (entries : Map Entry) (objects : Map Object) (c room places : ℕ) (s : Status) → front_at entries objects c room places ≡ Err (fault.Refused s) → Holds s
 each_refused Holds bad wrong denied closed wait full entries objects c room places s is = by_entry (get entries c) is
   where
@@ -183,13 +213,17 @@ each_refused Holds bad wrong denied closed wait full entries objects c room plac
     by_messages e there (m ∷ ms) h = by_tests (has_place_for room places (m ∷ ms)) (nat_le (length entries + length m.handles) 1024) h
       where
         by_tests : (a b : Bool)
-            → ◌≡◌ {A = Result Front ReadFault} (if not a then Err (fault.TooSmall (length m.bytes) (length m.handles)) else (if not b then Err (fault.Refused status.NoResources) else Ok (record { end = e.koid; handles = length m.handles }))) (Err (fault.Refused s))
+            → ◌≡◌ {A = Result Front ReadFault}
+            (if not a then Err (fault.TooSmall (length m.bytes) (length m.handles))
+            else (if not b then Err (fault.Refused status.NoResources) else Ok (record { end = e.koid; handles = length m.handles }))) (Err (fault.Refused s))
             → Holds s
         by_tests false b read = absurd cc
         by_tests true false read = subst Holds (same_status status.NoResources s read) full
         by_tests true true read = absurd cc
 
-    by_look_up_of : (e : Entry) (a b : Bool) → front_by entries objects room places (if a then (if b then Ok e else Err status.AccessDenied) else Err status.WrongType) ≡ Err (fault.Refused s) → Holds s
+    by_look_up_of : (e : Entry) (a b : Bool)
+        → front_by entries objects room places (if a then (if b then Ok e else Err status.AccessDenied) else Err status.WrongType) ≡ Err (fault.Refused s)
+        → Holds s
     by_look_up_of e true true h = by_messages e (is_some (peer_at objects e.koid)) (queue_in (get objects e.koid)) h
     by_look_up_of e true false h = subst Holds (same_status status.AccessDenied s h) denied
     by_look_up_of e false b h = subst Holds (same_status status.WrongType s h) wrong
@@ -237,18 +271,23 @@ same_receiving r k = ap (λ (f : Object → Object). record r { objects = update
 module _ (os : Map Object) (k : ℕ) (m : Message) (first : IsFirstAt os k m) where
   queues_received : (j : ℕ) → queues os j ≡ queues (update os k received) j + count_by (λ (e : Entry). e.koid == j) m.handles
   queues_received j = rw (read_seen os k)
-      (sum_fewer (λ x. queued_to j x.1.body) (map object_entry os) k (count_by (λ (e : Entry). e.koid == j) m.handles) (object_value first.object) message_read (get_seen os k ∙ rw first.at refl) (by_body first.object.body first.queue))
+      (sum_fewer (λ x. queued_to j x.1.body) (map object_entry os) k (count_by (λ (e : Entry). e.koid == j) m.handles) (object_value first.object) message_read
+      (get_seen os k ∙ rw first.at refl) (by_body first.object.body first.queue))
     where
-      by_body : (b : Body) → queue_of b ≡ m ∷ drop 1 (queue_of b) → queued_to j (body_value b) ≡ queued_to j (body_after_read (body_value b)) + count_by (λ (e : Entry). e.koid == j) m.handles
+      by_body : (b : Body) → queue_of b ≡ m ∷ drop 1 (queue_of b)
+          → queued_to j (body_value b) ≡ queued_to j (body_after_read (body_value b)) + count_by (λ (e : Entry). e.koid == j) m.handles
       by_body (body.ChannelEnd peer queue) h =
           let all = ap (λ (q : List Message). sum_by (λ (x : Message). count_by (λ (e : Entry). e.koid == j) x.handles) q) h in
           omega (arith, all, sum_by-cons (λ (x : Message). count_by (λ (e : Entry). e.koid == j) x.handles) m (drop 1 queue))
       by_body _ h = absurd cc
 
   message_named : (named : (e : Entry) → Type 0) → All (λ (x : Message). All named x.handles) (queue_of first.object.body) → All named m.handles
-  message_named named all = All-head (λ (x : Message). All named x.handles) m (drop 1 (queue_of first.object.body)) (subst (λ (q : List Message). All (λ (x : Message). All named x.handles) q) first.queue all)
+  message_named named all =
+      All-head (λ (x : Message). All named x.handles) m (drop 1 (queue_of first.object.body))
+      (subst (λ (q : List Message). All (λ (x : Message). All named x.handles) q) first.queue all)
 
-fewer_queued : (ps : List Process) (r r2 : Objects) (j c : ℕ) → queues r.objects j ≡ queues r2.objects j + c → handles_to (world_value ps r) j ≡ handles_to (world_value ps r2) j + c
+fewer_queued : (ps : List Process) (r r2 : Objects) (j c : ℕ) → queues r.objects j ≡ queues r2.objects j + c
+    → handles_to (world_value ps r) j ≡ handles_to (world_value ps r2) j + c
 unfolding handles_to
 fewer_queued ps r r2 j c less = omega (arith, less)
 
@@ -267,7 +306,9 @@ inserted_is : (u : World) (p : ℕ) (es : List Entry) (vs : List ℕ) → insert
 unfolding insert_all on_process
 inserted_is u p [] vs = ap (λ (ps : Map ProcessValue). record u { processes = ps }) (sym (update_itself u.processes p))
 inserted_is u p (e ∷ es) [] = ap (λ (ps : Map ProcessValue). record u { processes = ps }) (sym (update_itself u.processes p))
-inserted_is u p (e ∷ es) (v ∷ vs) = inserted_is (on_process u p (process_with v e)) p es vs ∙ ap (λ (ps : Map ProcessValue). record u { processes = ps }) (update_twice u.processes p (process_with v e) (process_with_all es vs))
+inserted_is u p (e ∷ es) (v ∷ vs) =
+    inserted_is (on_process u p (process_with v e)) p es vs
+    ∙ ap (λ (ps : Map ProcessValue). record u { processes = ps }) (update_twice u.processes p (process_with v e) (process_with_all es vs))
 
 -- ---- the step
 
@@ -288,7 +329,8 @@ module _ (lib : Library) (before after : List Process) (r r2 : Objects) (p p2 : 
 
   -- ---- the message was read
 
-  module _ (message : Received) (reads : ReadsMessage p.table r c room places message p2.table r2) (told : IsTold read_site (told_read address (Ok message)) p p2) where
+  module _ (message : Received) (reads : ReadsMessage p.table r c room places message p2.table r2)
+      (told : IsTold read_site (told_read address (Ok message)) p p2) where
     abbrev k : ℕ
     k = reads.front.end
 
@@ -328,7 +370,9 @@ module _ (lib : Library) (before after : List Process) (r r2 : Objects) (p p2 : 
     change q = stored_in stored (process_with_all m.handles vs q)
 
     middle_is : middle ≡ on_process (on_process with_read p.pid (process_with_all m.handles vs)) p.pid (stored_in stored)
-    middle_is = storing_is (insert_all with_read p.pid m.handles vs) p.pid address m.bytes ∙ ap (λ (u : World). on_process u p.pid (stored_in stored)) (inserted_is with_read p.pid m.handles vs)
+    middle_is =
+        storing_is (insert_all with_read p.pid m.handles vs) p.pid address m.bytes
+        ∙ ap (λ (u : World). on_process u p.pid (stored_in stored)) (inserted_is with_read p.pid m.handles vs)
 
     so_far : middle.processes ≡ update (map process_entry before) p.pid change
     unfolding on_process on_object
@@ -337,15 +381,19 @@ module _ (lib : Library) (before after : List Process) (r r2 : Objects) (p p2 : 
     rest : (record middle { processes = map process_entry after }) ≡ world_value after r2
     unfolding on_process on_object
     rest = ap (λ (u : World). record u { processes = map process_entry after }) middle_is
-        ∙ (ap (λ (os : Map ObjectValue). record w { processes = map process_entry after; objects = os }) (sym (read_seen r.objects k)) ∙ ap (world_value after) (sym reads.objects))
+        ∙ (ap (λ (os : Map ObjectValue). record w { processes = map process_entry after; objects = os }) (sym (read_seen r.objects k))
+        ∙ ap (world_value after) (sym reads.objects))
 
     abbrev values : List ℕ
     values = length m.bytes ∷ length m.handles ∷ told_of m.handles vs
 
     is : process_value p2 ≡ record (change (process_value p)) { cpu = cpu_answered read_site status.Ok values (change (process_value p)).cpu }
-    is = ap process_value told ∙ ap (λ (q : ProcessValue). record q { cpu = cpu_answered read_site status.Ok values (with_stored stored q.cpu) }) (sym (all_given p.table p2.table m.handles vs (process_value p) reads.inserts))
+    is =
+        ap process_value told ∙ ap (λ (q : ProcessValue). record q { cpu = cpu_answered read_site status.Ok values (with_stored stored q.cpu) })
+        (sym (all_given p.table p2.table m.handles vs (process_value p) reads.inserts))
 
-    read_ends : world_value after r2 ≡ replied (with_effect lib w (taken w p.pid read_site) p.pid (chan_read_etc c address room places) vs) p.pid read_site status.Ok (gives_ok w p.pid (chan_read_etc c address room places) vs)
+    read_ends : world_value after r2 ≡ replied (with_effect lib w (taken w p.pid read_site) p.pid (chan_read_etc c address room places) vs) p.pid read_site
+        status.Ok (gives_ok w p.pid (chan_read_etc c address room places) vs)
     unfolding effect new_handles taken_handles handle_operands remove_all gives_ok
     read_ends = rw (queue_same, koid_same) (replied_with before after p p2 write r2 read_site status.Ok values change middle so_far rest is)
 
@@ -358,8 +406,10 @@ module _ (lib : Library) (before after : List Process) (r r2 : Objects) (p p2 : 
     read_counts : (j : ℕ) → handles_to (world_value after (receiving r k)) j ≡ handles_to w j
     read_counts j =
         let moved : ℕ = count_by (λ (e : Entry). e.koid == j) m.handles in
-        let more : handles_to (world_value after r) j ≡ handles_to w j + moved = counts_written before after p p2 r r j moved write refl (counts_entered j p.table p2.table m.handles vs reads.inserts) in
-        let less : handles_to (world_value after r) j ≡ handles_to (world_value after (receiving r k)) j + moved = fewer_queued after r (receiving r k) j moved (queues_received r.objects k m first j) in
+        let more : handles_to (world_value after r) j ≡ handles_to w j + moved =
+        counts_written before after p p2 r r j moved write refl (counts_entered j p.table p2.table m.handles vs reads.inserts) in
+        let less : handles_to (world_value after r) j ≡ handles_to (world_value after (receiving r k)) j + moved =
+        fewer_queued after r (receiving r k) j moved (queues_received r.objects k m first j) in
         omega (arith, more, less)
 
     abbrev changed : Objects
@@ -382,7 +432,8 @@ module _ (lib : Library) (before after : List Process) (r r2 : Objects) (p p2 : 
         (subst (λ (x : Objects). (j : ℕ) → handles_to (world_value after x) j ≡ handles_to w j) (same_receiving r k) read_counts))
 
     entered_named : (v : ℕ) (e : Entry) → get p2.table.entries v ≡ Some e → IsNamed r.objects e
-    entered_named = each_entered (IsNamed r.objects) p.table p2.table m.handles vs reads.inserts (λ v e at. lab.named p.pid (process_value p) v e write.there at)
+    entered_named =
+        each_entered (IsNamed r.objects) p.table p2.table m.handles vs reads.inserts (λ v e at. lab.named p.pid (process_value p) v e write.there at)
         (message_named r.objects k m first (IsNamed r.objects) (lab.queued k first.object first.at))
 
     fits : length p.table.entries + length m.handles ≤ 1024
@@ -399,10 +450,12 @@ module _ (lib : Library) (before after : List Process) (r r2 : Objects) (p p2 : 
   -- ---- no message was read
 
   module _ (table : p2.table ≡ p.table) (objects : r2 ≡ r) where
-    told_world : (answer : Status) (values : List ℕ) → p2 ≡ record p { cpu = cpu_answered read_site answer values p.cpu; table = p2.table } → world_value after r2 ≡ replied w p.pid read_site answer values
+    told_world : (answer : Status) (values : List ℕ) → p2 ≡ record p { cpu = cpu_answered read_site answer values p.cpu; table = p2.table }
+        → world_value after r2 ≡ replied w p.pid read_site answer values
     unfolding replied on_process
     told_world answer values told =
-        rw objects (ap (λ (ps : Map ProcessValue). record w { processes = ps }) (write.writes (λ q. record q { cpu = cpu_answered read_site answer values q.cpu }) seen))
+        rw objects
+        (ap (λ (ps : Map ProcessValue). record w { processes = ps }) (write.writes (λ q. record q { cpu = cpu_answered read_site answer values q.cpu }) seen))
       where
         seen : process_value p2 ≡ record (process_value p) { cpu = cpu_answered read_site answer values p.cpu }
         seen = ap process_value told ∙ rw table refl
@@ -411,7 +464,8 @@ module _ (lib : Library) (before after : List Process) (r r2 : Objects) (p p2 : 
     kept same = subst (IsConsistent after) (sym objects) (refusal_keeps before after p p2 write r lab table same)
 
     abbrev Called : ReadFault → Type 0
-    Called f = IsTold read_site (told_read address (Err f)) p p2 → IsCalled lib before after r r2 p.pid read_site (outcome.Answered (told_read address (Err f)).status)
+    Called f =
+        IsTold read_site (told_read address (Err f)) p p2 → IsCalled lib before after r r2 p.pid read_site (outcome.Answered (told_read address (Err f)).status)
 
     wanting : (front : Front) → front_now ≡ Ok front → Called (fault.Refused status.NoMemory)
     unfolding taken_handles handle_operands remove_all gives_refused
@@ -428,12 +482,21 @@ module _ (lib : Library) (before after : List Process) (r r2 : Objects) (p p2 : 
 
     nothing_told : (s : Status) → front_now ≡ Err (fault.Refused s) → gives_refused w p.pid (chan_read_etc c address room places) s ≡ []
     unfolding gives_refused
-    nothing_told s is = each_refused (λ answer. gives_refused w p.pid (chan_read_etc c address room places) answer ≡ []) refl refl refl refl refl refl p.table.entries r.objects c room places s is
+    nothing_told s is =
+        each_refused (λ answer. gives_refused w p.pid (chan_read_etc c address room places) answer ≡ []) refl refl refl refl refl refl p.table.entries r.objects
+        c room places s is
 
     by_known : (f : ReadFault) → front_now ≡ Err f → Called f
     unfolding taken_handles handle_operands remove_all gives_refused
     by_known (fault.TooSmall bytes handles) is told = record {
-      calls = (Refused, rw (refused, is) (refl, told_world status.BufferTooSmall (bytes ∷ handles ∷ []) told ∙ ap (replied w p.pid read_site status.BufferTooSmall) (sym (sizes_same bytes handles is))));
+      calls = (
+        Refused,
+        rw (refused, is) (
+          refl,
+          told_world status.BufferTooSmall (bytes ∷ handles ∷ []) told
+              ∙ ap (replied w p.pid read_site status.BufferTooSmall) (sym (sizes_same bytes handles is)),
+        ),
+      );
       keeps = kept (ap (λ (q : Process). q.state) told);
     }
     by_known (fault.Refused s) is told = record {
@@ -450,6 +513,7 @@ module _ (lib : Library) (before after : List Process) (r r2 : Objects) (p p2 : 
   by_answer (Ok message) does told = read_called message does.ok told
   by_answer (Err f) does told = by_front does.same_table does.same_objects front_now refl f does.err told
 
-  pub read_done : state_value p.state ≡ Ready → (call : CallName) → next_for lib (process_value p) ≡ AtCall call read_site → (o : Outcome) → IsAnswered (told_read address) (ChanReadDoes c room places) read_site p r o p2 r2 → IsDone lib before after r r2 p.pid call o
+  pub read_done : state_value p.state ≡ Ready → (call : CallName) → next_for lib (process_value p) ≡ AtCall call read_site → (o : Outcome)
+      → IsAnswered (told_read address) (ChanReadDoes c room places) read_site p r o p2 r2 → IsDone lib before after r r2 p.pid call o
   read_done ready call next o acts = called_done lib before after r r2 p p2 lab write ready call read_site next o
       (subst (λ (x : Outcome). IsCalled lib before after r r2 p.pid read_site x) (sym acts.ends) (by_answer acts.answer acts.acts acts.replied))

@@ -1,5 +1,9 @@
 -- What the calls on a port have in common: how they are refused, and what it means that the packets of one port change.
-use Rattle.zl_calls.proofs.Common.{◌≡◌, ℕ, Bool, true, false, ◌==◌, List, [], ◌∷◌, map, refl, sym, ap, ◌∙◌, Option, Some, None, inl, inr, if◌then◌else◌, arith, sum_by-cons, cases_Bool, option_map, then_some, first_some, Map, get, update, PortBody, Site, handles_to, answer_if, All, replied, Ok, Err, All-nil, bits, within, kind_of, body_of, body_in, operand_of, by_look_up, on_object, Objects, Replies, process_entry, process_value, object_entry, object_value, body_value, world_value, queued_to, is_child, stays_alone, is_job_body, is_in_job, Agrees, AreNamed, IsConsistent, IsNamed, koid_in, World}
+use Rattle.zl_calls.proofs.Common.{◌≡◌, ℕ, Bool, true, false, ◌==◌, List, [], ◌∷◌, map, refl, sym, ap, ◌∙◌, Option, Some, None, inl, inr, if◌then◌else◌, arith}
+use Rattle.zl_calls.proofs.Common.{sum_by-cons, cases_Bool, option_map, then_some, first_some, Map, get, update, PortBody, Site, handles_to, answer_if, All}
+use Rattle.zl_calls.proofs.Common.{replied, Ok, Err, All-nil, bits, within, kind_of, body_of, body_in, operand_of, by_look_up, on_object, Objects, Replies}
+use Rattle.zl_calls.proofs.Common.{process_entry, process_value, object_entry, object_value, body_value, world_value, queued_to, is_child, stays_alone}
+use Rattle.zl_calls.proofs.Common.{is_job_body, is_in_job, Agrees, AreNamed, IsConsistent, IsNamed, koid_in, World}
 use Rattle.zl_code.proofs.Common.{Object as ObjectValue}
 use Rattle.zl_rights.specs.declared.kind.Kind.TheVariants as kind
 use Rattle.zl_rights.specs.declared.status.Status.{Status}
@@ -52,7 +56,8 @@ module _ (before : List Process) (r : Objects) (lab : IsConsistent before r) (p 
 
   -- the refusal of a call that looks a port up and refuses packets that pass the test
   pub port_refused : (test : List Packet → Bool) (s : Status) (rights : ℕ) (o : Option Entry)
-      → with_port test s (operand_of old_world p (kind.Port ∷ []) rights o) (koid_in o) ≡ answers (refused_by r.objects test s (granted o (kind.Port ∷ []) rights))
+      → with_port test s (operand_of old_world p (kind.Port ∷ []) rights o) (koid_in o)
+      ≡ answers (refused_by r.objects test s (granted o (kind.Port ∷ []) rights))
   port_refused test s rights None = ap (λ (x : Option Outcome). with_port test s x 0) (fault_answers old_world p condition.BadHandle status.BadHandle)
   port_refused test s rights (Some e) = by_tests (takes (kind.Port ∷ []) e.kind) (within rights (bits e.rights))
     where
@@ -60,7 +65,8 @@ module _ (before : List Process) (r : Objects) (lab : IsConsistent before r) (p 
       by_test true = refl
       by_test false = refl
 
-      by_tests : (a b : Bool) → with_port test s (by_look_up old_world p (if a then (if b then Ok e else Err status.AccessDenied) else Err status.WrongType)) e.koid
+      by_tests : (a b : Bool)
+          → with_port test s (by_look_up old_world p (if a then (if b then Ok e else Err status.AccessDenied) else Err status.WrongType)) e.koid
           ≡ answers (refused_by r.objects test s (if a then (if b then Ok e else Err status.AccessDenied) else Err status.WrongType))
       by_tests true true = rw (packets_there r.objects e.koid) (by_test (test (packets_in (get r.objects e.koid))))
       by_tests true false = refl
@@ -100,8 +106,18 @@ module _ (f : Port → Port) where
   unfolding update
   queues_kept [] k j = refl
   queues_kept (e ∷ os) k j = elim (cases_Bool (e.0 == k)) as (λ _. queues (update (e ∷ os) k (at_port f)) j ≡ queues (e ∷ os) j) [
-    | inl here ↦ rw here (omega (arith, sum_by-cons n (object_entry (k, at_port f e.1)) (map object_entry os), sum_by-cons n (object_entry e) (map object_entry os), by_body e.1.body))
-    | inr apart ↦ rw apart (omega (arith, sum_by-cons n (object_entry e) (map object_entry (update os k (at_port f))), sum_by-cons n (object_entry e) (map object_entry os), queues_kept os k j))
+    | inl here ↦ rw here (omega (
+      arith,
+      sum_by-cons n (object_entry (k, at_port f e.1)) (map object_entry os),
+      sum_by-cons n (object_entry e) (map object_entry os),
+      by_body e.1.body,
+    ))
+    | inr apart ↦ rw apart (omega (
+      arith,
+      sum_by-cons n (object_entry e) (map object_entry (update os k (at_port f))),
+      sum_by-cons n (object_entry e) (map object_entry os),
+      queues_kept os k j,
+    ))
   ]
     where
       n : ℕ × ObjectValue → ℕ
@@ -117,7 +133,8 @@ module _ (before after : List Process) (r r2 : Objects) (p p2 : Process) (lab : 
   w = world_value before r
 
   -- the port k is as f leaves it, and its packets as g does; nothing else changes but the registers
-  module _ (k : ℕ) (f : Port → Port) (g : List Packet → List Packet) (packed : (x : Port) → (f x).packets ≡ g x.packets) (objects : r2 ≡ changing_port r k f) (table : p2.table ≡ p.table)
+  module _ (k : ℕ) (f : Port → Port) (g : List Packet → List Packet) (packed : (x : Port) → (f x).packets ≡ g x.packets) (objects : r2 ≡ changing_port r k f)
+      (table : p2.table ≡ p.table)
       (s : Site) (values : List ℕ) (replies : Replies s status.Ok values p p2) where
     abbrev with_packets : World
     with_packets = on_object w k (repacked g)
@@ -134,12 +151,16 @@ module _ (before after : List Process) (r r2 : Objects) (p p2 : Process) (lab : 
 
     port_rest : (record with_packets { processes = map process_entry after }) ≡ world_value after r2
     unfolding on_object
-    port_rest = ap (λ (os : Map ObjectValue). record w { processes = map process_entry after; objects = os }) (sym (update_seen object_value r.objects k (at_port f) (repacked g) port_seen)) ∙ ap (world_value after) (sym objects)
+    port_rest =
+        ap (λ (os : Map ObjectValue). record w { processes = map process_entry after; objects = os })
+        (sym (update_seen object_value r.objects k (at_port f) (repacked g) port_seen)) ∙ ap (world_value after) (sym objects)
 
     -- the world after it
     pub port_ends : world_value after r2 ≡ replied with_packets p.pid s status.Ok values
     unfolding on_object
-    port_ends = replied_with before after p p2 write r2 s status.Ok values (λ q. q) with_packets (sym (update_itself (map process_entry before) p.pid)) port_rest (ap process_value replies ∙ rw table refl)
+    port_ends =
+        replied_with before after p p2 write r2 s status.Ok values (λ q. q) with_packets (sym (update_itself (map process_entry before) p.pid)) port_rest
+        (ap process_value replies ∙ rw table refl)
 
     port_counts : (j : ℕ) → handles_to (world_value after (changing_port r k f)) j ≡ handles_to w j
     port_counts j = same_counts before after p p2 write r (changing_port r k f) j (queues_kept f r.objects k j) table
@@ -147,9 +168,11 @@ module _ (before after : List Process) (r r2 : Objects) (p p2 : Process) (lab : 
     port_queues : (b : Body) → AreNamed r.objects (queue_of b) → AreNamed (changing_port r k f).objects (queue_of (changed_port f b))
     port_queues (body.Port port) old = All-nil (λ (x : Message). All (IsNamed (changing_port r k f).objects) x.handles)
     port_queues (body.Job own) old = still_named r.objects (changing_port r k f).objects (named_rebodied (changed_port f) (port_keeps f) r.objects k) [] old
-    port_queues (body.Process job lives) old = still_named r.objects (changing_port r k f).objects (named_rebodied (changed_port f) (port_keeps f) r.objects k) [] old
+    port_queues (body.Process job lives) old =
+        still_named r.objects (changing_port r k f).objects (named_rebodied (changed_port f) (port_keeps f) r.objects k) [] old
     port_queues body.Event old = still_named r.objects (changing_port r k f).objects (named_rebodied (changed_port f) (port_keeps f) r.objects k) [] old
-    port_queues (body.ChannelEnd peer queue) old = still_named r.objects (changing_port r k f).objects (named_rebodied (changed_port f) (port_keeps f) r.objects k) queue old
+    port_queues (body.ChannelEnd peer queue) old =
+        still_named r.objects (changing_port r k f).objects (named_rebodied (changed_port f) (port_keeps f) r.objects k) queue old
 
     port_next : IsNext before after r (changing_port r k f)
     port_next = rebodied_next (changed_port f) (port_keeps f) before after r lab k (λ o at. port_queues o.body (lab.queued k o at)) port_counts

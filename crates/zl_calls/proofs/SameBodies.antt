@@ -1,5 +1,7 @@
 -- A change of one object that leaves its body as it is: what the invariant says of bodies stays.
-use Rattle.zl_calls.proofs.Common.{◌≡◌, ℕ, Bool, false, ◌==◌, List, refl, sym, ◌∙◌, subst, Option, Some, None, inl, inr, IsTrue, if◌then◌else◌, option_map, cases_Bool, none-some, same_Some, Map, get, update, get-update, false≢true, [], nat_cmp, is_sorted, is_kept, AreKeptBut, is_process, runs, lives, Agrees, AreNamed, IsNamed, World}
+use Rattle.zl_calls.proofs.Common.{◌≡◌, ℕ, Bool, false, ◌==◌, List, refl, sym, ◌∙◌, subst, Option, Some, None, inl, inr, IsTrue, if◌then◌else◌, option_map}
+use Rattle.zl_calls.proofs.Common.{cases_Bool, none-some, same_Some, Map, get, update, get-update, false≢true, [], nat_cmp, is_sorted, is_kept, AreKeptBut}
+use Rattle.zl_calls.proofs.Common.{is_process, runs, lives, Agrees, AreNamed, IsNamed, World}
 use Rattle.zl_code.proofs.Common.{State as StateValue, slice_index_or}
 use Rattle.zl_rights.specs.declared.entry.Entry.{Entry}
 use Rattle.zl_rights.specs.Signals.{has_ended}
@@ -30,15 +32,18 @@ kept_each m in_order each = record { in_order = in_order; noted = λ k o at unke
 -- an object says the same of its process where that passes the same tests
 pub still_agrees : (w w2 : World) (k : ℕ) (b : Body) → ((test : StateValue → Bool) → is_process w2 test k ≡ is_process w test k) → Agrees w k b → Agrees w2 k b
 still_agrees w w2 k (body.Job own) same agrees = same runs ∙ agrees
-still_agrees w w2 k (body.Process job alive) same agrees = record { running = agrees.running ∙ sym (same runs); living = agrees.living ∙ sym (same lives); over = agrees.over ∙ sym (same has_ended) }
+still_agrees w w2 k (body.Process job alive) same agrees =
+    record { running = agrees.running ∙ sym (same runs); living = agrees.living ∙ sym (same lives); over = agrees.over ∙ sym (same has_ended) }
 still_agrees w w2 k body.Event same agrees = same runs ∙ agrees
 still_agrees w w2 k (body.Port port) same agrees = same runs ∙ agrees
 still_agrees w w2 k (body.ChannelEnd peer queue) same agrees = same runs ∙ agrees
 
 -- the same where it runs, lives and has ended as before
-pub alike_agrees : (w w2 : World) (k : ℕ) (b : Body) → is_process w2 runs k ≡ is_process w runs k → is_process w2 lives k ≡ is_process w lives k → is_process w2 has_ended k ≡ is_process w has_ended k → Agrees w k b → Agrees w2 k b
+pub alike_agrees : (w w2 : World) (k : ℕ) (b : Body) → is_process w2 runs k ≡ is_process w runs k → is_process w2 lives k ≡ is_process w lives k
+    → is_process w2 has_ended k ≡ is_process w has_ended k → Agrees w k b → Agrees w2 k b
 alike_agrees w w2 k (body.Job own) runs_on lives_on over_on agrees = runs_on ∙ agrees
-alike_agrees w w2 k (body.Process job alive) runs_on lives_on over_on agrees = record { running = agrees.running ∙ sym runs_on; living = agrees.living ∙ sym lives_on; over = agrees.over ∙ sym over_on }
+alike_agrees w w2 k (body.Process job alive) runs_on lives_on over_on agrees =
+    record { running = agrees.running ∙ sym runs_on; living = agrees.living ∙ sym lives_on; over = agrees.over ∙ sym over_on }
 alike_agrees w w2 k body.Event runs_on lives_on over_on agrees = runs_on ∙ agrees
 alike_agrees w w2 k (body.Port port) runs_on lives_on over_on agrees = runs_on ∙ agrees
 alike_agrees w w2 k (body.ChannelEnd peer queue) runs_on lives_on over_on agrees = runs_on ∙ agrees
@@ -65,7 +70,9 @@ module _ (f : Object → Object) (same : (o : Object) → (f o).body ≡ o.body)
   ]
 
   -- the same of the handles in queues
-  pub queued_updated : ((j : ℕ) (o : Object) → get os j ≡ Some o → AreNamed os (queue_of o.body)) → (j : ℕ) (q : Object) → get (update os k f) j ≡ Some q → AreNamed (update os k f) (queue_of q.body)
+  pub queued_updated : ((j : ℕ) (o : Object) → get os j ≡ Some o → AreNamed os (queue_of o.body)) → (j : ℕ) (q : Object) → get (update os k f) j ≡ Some q
+      → AreNamed (update os k f) (queue_of q.body)
   queued_updated queued j q at = found_updated f os k (AreNamed (update os k f) (queue_of q.body)) j q at
-      (λ o old here is. subst (λ (x : Object). AreNamed (update os k f) (queue_of x.body)) is (rw (same o) (still_named os (update os k f) named_updated (queue_of o.body) (queued j o old))))
+      (λ o old here is. subst (λ (x : Object). AreNamed (update os k f) (queue_of x.body)) is
+      (rw (same o) (still_named os (update os k f) named_updated (queue_of o.body) (queued j o old))))
       (λ apart old. still_named os (update os k f) named_updated (queue_of q.body) (queued j q old))

@@ -1,5 +1,9 @@
 -- Handles go, and what nothing keeps any more with them: the invariant holds afterwards, and the worlds are settled.
-use Rattle.zl_calls.proofs.Common.{◌≡◌, ◌<◌, ℕ, zero, suc, Bool, true, ◌==◌, List, [], ◌∷◌, map, length, refl, sym, ap, ◌∙◌, subst, cond, Option, Some, None, inl, inr, ◌⊎◌, IsTrue, arith, eq-eqb, count_by, list_any, sum_by-cons, append-nil, is_some, or_left, or_right, false≢true, none-some, same_Some, nat_cmp, is_sorted, Map, get, has_key, without, kind_of, Settles, handles_to, queued_to, sorted_without, Objects, AreKeptBut, Cascades, none_left, Releases, IsExact, body_value, object_value, object_entry, process_entry, world_value, AreNamed, IsConsistent, IsNamed, IsSound, World, is_process}
+use Rattle.zl_calls.proofs.Common.{◌≡◌, ◌<◌, ℕ, zero, suc, Bool, true, ◌==◌, List, [], ◌∷◌, map, length, refl, sym, ap, ◌∙◌, subst, cond, Option, Some, None}
+use Rattle.zl_calls.proofs.Common.{inl, inr, ◌⊎◌, IsTrue, arith, eq-eqb, count_by, list_any, sum_by-cons, append-nil, is_some, or_left, or_right, false≢true}
+use Rattle.zl_calls.proofs.Common.{none-some, same_Some, nat_cmp, is_sorted, Map, get, has_key, without, kind_of, Settles, handles_to, queued_to}
+use Rattle.zl_calls.proofs.Common.{sorted_without, Objects, AreKeptBut, Cascades, none_left, Releases, IsExact, body_value, object_value, object_entry}
+use Rattle.zl_calls.proofs.Common.{process_entry, world_value, AreNamed, IsConsistent, IsNamed, IsSound, World, is_process}
 use Rattle.zl_code.proofs.Common.{Process as ProcessValue, queue_of as queue_value, slice_index_or}
 use Rattle.zl_rights.specs.declared.entry.Entry.{Entry}
 use Rattle.zl_rights.specs.Settle.{names}
@@ -32,7 +36,8 @@ same_key : (k : ℕ) → (k == k) ≡ true
 same_key k = eq-eqb k k refl
 
 -- the handles m have left their tables, and those to ks are to go
-module _ (ps : List Process) (m : Map Entry) (r : Objects) (sound : IsSound ps m r) (sorted : IsTrue (is_sorted nat_cmp m)) (left : (v : ℕ) (e : Entry) → get m v ≡ Some e → IsNamed r.objects e)
+module _ (ps : List Process) (m : Map Entry) (r : Objects) (sound : IsSound ps m r) (sorted : IsTrue (is_sorted nat_cmp m))
+    (left : (v : ℕ) (e : Entry) → get m v ≡ Some e → IsNamed r.objects e)
     (ks : List ℕ) (counts : (k : ℕ) → count_by (λ j. j == k) ks ≡ count_by (λ (h : ℕ × Entry). h.1.koid == k) m) where
   abbrev w : World
   w = world_value ps r
@@ -50,7 +55,8 @@ module _ (ps : List Process) (m : Map Entry) (r : Objects) (sound : IsSound ps m
       by_part : (k : ℕ) → (0 < handles_to w k) ⊎ (0 < count_by (λ j. j == k) ks) → IsTrue (has_key r.objects k)
       by_part k (inl inside) = counted_there ps m r sound k inside
       by_part k (inr gone) =
-          let handle : Found (λ h. h.1.koid == k) m = any_found (λ h. h.1.koid == k) m sorted (counted_any (λ h. h.1.koid == k) m (omega (arith, gone, counts k))) in
+          let handle : Found (λ h. h.1.koid == k) m =
+          any_found (λ h. h.1.koid == k) m sorted (counted_any (λ h. h.1.koid == k) m (omega (arith, gone, counts k))) in
           is_there ps m r sound k handle.value (left handle.key handle.value handle.at) handle.passes
 
   module _ (r2 : Objects) (cascades : Cascades ks r.objects r2.objects) (kept : AreKeptBut [] r2.objects) (koids : r2.next_koid ≡ r.next_koid) where
@@ -72,7 +78,8 @@ module _ (ps : List Process) (m : Map Entry) (r : Objects) (sound : IsSound ps m
 
     -- a handle that counts still names what it named
     named_left : (e : Entry) → 0 < handles_to (world_value ps r2) e.koid → IsNamed r.objects e → IsNamed r2.objects e
-    named_left e more named = by_object (get r2.objects e.koid) refl (exact_left.named e.koid (omega (arith, subst (λ (x : World). 0 < handles_to x e.koid) (sym seen) more)))
+    named_left e more named =
+        by_object (get r2.objects e.koid) refl (exact_left.named e.koid (omega (arith, subst (λ (x : World). 0 < handles_to x e.koid) (sym seen) more)))
       where
         by_object : (o : Option Object) → get r2.objects e.koid ≡ o → IsTrue (has_key r2.objects e.koid) → IsNamed r2.objects e
         by_object None is there = absurd (false≢true (rw is at there))
@@ -81,31 +88,44 @@ module _ (ps : List Process) (m : Map Entry) (r : Objects) (sound : IsSound ps m
             record {
               object = o;
               there = is;
-              kind = named.kind ∙ (ap (λ (x : Object). kind_of (body_value x.body)) (same_Some named.object old.before (sym named.there ∙ old.there)) ∙ ap kind_of (sym (was_seen r.objects e.koid o old)));
+              kind = named.kind ∙ (ap (λ (x : Object). kind_of (body_value x.body)) (same_Some named.object old.before (sym named.there ∙ old.there))
+                  ∙ ap kind_of (sym (was_seen r.objects e.koid o old)));
               rights = named.rights;
             }
 
-    in_table : (j v : ℕ) (p : ProcessValue) (e : Entry) → get (map process_entry ps) j ≡ Some p → get p.handles v ≡ Some e → 0 < handles_to (world_value ps r2) e.koid
+    in_table : (j v : ℕ) (p : ProcessValue) (e : Entry) → get (map process_entry ps) j ≡ Some p → get p.handles v ≡ Some e
+        → 0 < handles_to (world_value ps r2) e.koid
     unfolding handles_to
     in_table j v p e at there =
         let some : IsTrue (list_any (λ q. list_any (λ h. h.1.koid == e.koid) q.1.handles) (map process_entry ps)) =
-        any_at (λ q. list_any (λ h. h.1.koid == e.koid) q.1.handles) (map process_entry ps) j p at (any_at (λ h. h.1.koid == e.koid) p.handles v e there (same_key e.koid)) in
-        omega (arith, any_summed (λ q. count_by (λ h. h.1.koid == e.koid) q.1.handles) (λ q. list_any (λ h. h.1.koid == e.koid) q.1.handles) (λ q. any_counted (λ h. h.1.koid == e.koid) q.1.handles) (map process_entry ps) some)
+        any_at (λ q. list_any (λ h. h.1.koid == e.koid) q.1.handles) (map process_entry ps) j p at
+        (any_at (λ h. h.1.koid == e.koid) p.handles v e there (same_key e.koid)) in
+        omega (
+          arith,
+          any_summed (λ q. count_by (λ h. h.1.koid == e.koid) q.1.handles) (λ q. list_any (λ h. h.1.koid == e.koid) q.1.handles)
+              (λ q. any_counted (λ h. h.1.koid == e.koid) q.1.handles) (map process_entry ps) some,
+        )
 
     in_queue : (k j : ℕ) (o : Object) → get r2.objects k ≡ Some o → IsTrue (names j (queue_of o.body)) → 0 < handles_to (world_value ps r2) j
     unfolding handles_to
     in_queue k j o at named =
         let seen_at : get (map object_entry r2.objects) k ≡ Some (object_value o) = get_seen r2.objects k ∙ rw at refl in
         let some : IsTrue (list_any (λ x. names j (queue_value x.1.body)) (map object_entry r2.objects)) =
-        any_at (λ x. names j (queue_value x.1.body)) (map object_entry r2.objects) k (object_value o) seen_at (subst (λ (queue : List Message). IsTrue (names j queue)) (sym (queue_seen o.body)) named) in
-        omega (arith, any_summed (λ x. queued_to j x.1.body) (λ x. names j (queue_value x.1.body)) (λ x. queue_named j x.1.body) (map object_entry r2.objects) some)
+        any_at (λ x. names j (queue_value x.1.body)) (map object_entry r2.objects) k (object_value o) seen_at
+        (subst (λ (queue : List Message). IsTrue (names j queue)) (sym (queue_seen o.body)) named) in
+        omega (
+          arith,
+          any_summed (λ x. queued_to j x.1.body) (λ x. names j (queue_value x.1.body)) (λ x. queue_named j x.1.body) (map object_entry r2.objects) some,
+        )
 
     queued_left : (k : ℕ) (o : Object) → get r2.objects k ≡ Some o → AreNamed r2.objects (queue_of o.body)
     queued_left k o at = λ n x within i e inside.
         named_left (slice_index_or (slice_index_or (queue_of o.body) n x).handles i e)
         (in_queue k (slice_index_or (slice_index_or (queue_of o.body) n x).handles i e).koid o at
-        (any_place (λ (y : Message). list_any (λ (h : Entry). h.koid == (slice_index_or (slice_index_or (queue_of o.body) n x).handles i e).koid) y.handles) (queue_of o.body) n x within
-        (any_place (λ (h : Entry). h.koid == (slice_index_or (slice_index_or (queue_of o.body) n x).handles i e).koid) (slice_index_or (queue_of o.body) n x).handles i e inside (same_key _))))
+        (any_place (λ (y : Message). list_any (λ (h : Entry). h.koid == (slice_index_or (slice_index_or (queue_of o.body) n x).handles i e).koid) y.handles)
+        (queue_of o.body) n x within
+        (any_place (λ (h : Entry). h.koid == (slice_index_or (slice_index_or (queue_of o.body) n x).handles i e).koid)
+        (slice_index_or (queue_of o.body) n x).handles i e inside (same_key _))))
         (before n x within i e inside)
       where
         before : AreNamed r.objects (queue_of o.body)
@@ -154,7 +174,8 @@ sound_of ps r lab = record {
 -- where all is held, settling leaves the objects
 pub still_settles : (ps : List Process) (r : Objects) → IsConsistent ps r → Settles (world_value ps r) (settled_world ps r)
 unfolding get
-still_settles ps r lab = (settled ps [] r (sound_of ps r lab) refl (λ v e at. absurd (none-some e at)) [] (λ k. refl) r (none_left r.objects) lab.kept refl).settles
+still_settles ps r lab =
+    (settled ps [] r (sound_of ps r lab) refl (λ v e at. absurd (none-some e at)) [] (λ k. refl) r (none_left r.objects) lab.kept refl).settles
 
 -- ---- the handles of a table go
 
@@ -172,6 +193,7 @@ drained _ _ _ sorted (one_more m v e r mid r2 there first rest) =
     let later : AreGone (without m v) mid r2 = drained (without m v) mid r2 (sorted_without m v sorted) rest in
     record {
       koids = e.koid ∷ later.koids;
-      counts = λ k. omega (arith, count_without (λ h. h.1.koid == k) m v e sorted there, sum_by-cons (λ j. cond (j == k) 1 0) e.koid later.koids, later.counts k);
+      counts =
+          λ k. omega (arith, count_without (λ h. h.1.koid == k) m v e sorted there, sum_by-cons (λ j. cond (j == k) 1 0) e.koid later.koids, later.counts k);
       releases = releases_then (e.koid ∷ []) later.koids [] r mid r2 first later.releases;
     }

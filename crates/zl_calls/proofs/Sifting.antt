@@ -1,5 +1,7 @@
 -- A walk along a list that takes the elements out that pass a test: what is left is what doesn't pass.
-use Rattle.zl_calls.proofs.Common.{◌≡◌, ◌≤◌, ◌+◌, ℕ, Bool, true, false, not, List, [], ◌∷◌, ◌++◌, length, refl, sym, ap, ◌∙◌, subst, Some, None, inl, inr, zero, suc, same_Some, cases_Bool, false≢true, slice_get, take, take_more, length-take-le, list_any, arith, length-append, take_all, none-some}
+use Rattle.zl_calls.proofs.Common.{◌≡◌, ◌≤◌, ◌+◌, ℕ, Bool, true, false, not, List, [], ◌∷◌, ◌++◌, length, refl, sym, ap, ◌∙◌, subst, Some, None, inl, inr, zero}
+use Rattle.zl_calls.proofs.Common.{suc, same_Some, cases_Bool, false≢true, slice_get, take, take_more, length-take-le, list_any, arith, length-append, take_all}
+use Rattle.zl_calls.proofs.Common.{none-some}
 use Rattle.std.specs.Prelude.{drop}
 use Rattle.std.specs.List.{filter, find, position_or_len}
 use Rattle.std.proofs.lemmas.List.Elements.{filter-append}
@@ -18,14 +20,16 @@ module _ {X : Type 0} where
   parts (y ∷ xs) (suc place) x at = ap (λ (rest : List X). y ∷ rest) (parts xs place x at)
 
   -- nothing before the element passes, and it does
-  pub first_out : (test : X → Bool) (xs : List X) (x : X) (ys : List X) → list_any test xs ≡ false → test x ≡ true → without_first test (xs ++ (x ∷ ys)) ≡ xs ++ ys
+  pub first_out : (test : X → Bool) (xs : List X) (x : X) (ys : List X) → list_any test xs ≡ false → test x ≡ true
+      → without_first test (xs ++ (x ∷ ys)) ≡ xs ++ ys
   first_out test [] x ys none pass = rw pass refl
   first_out test (y ∷ xs) x ys none pass =
       let both = or_parts (test y) _ none in
       let place : ℕ = position_or_len test (xs ++ (x ∷ ys)) in
       let one : 1 + place ≡ suc place = omega arith in
       let two : 1 + place + 1 ≡ suc (place + 1) = omega arith in
-      rw both.0 ((λ i. take (one i) (y ∷ (xs ++ (x ∷ ys))) ++ drop (two i) (y ∷ (xs ++ (x ∷ ys)))) ∙ ap (λ (rest : List X). y ∷ rest) (first_out test xs x ys both.1 pass))
+      rw both.0 ((λ i. take (one i) (y ∷ (xs ++ (x ∷ ys))) ++ drop (two i) (y ∷ (xs ++ (x ∷ ys))))
+      ∙ ap (λ (rest : List X). y ∷ rest) (first_out test xs x ys both.1 pass))
 
   pub first_found : (test : X → Bool) (xs : List X) (x : X) (ys : List X) → list_any test xs ≡ false → test x ≡ true → find test (xs ++ (x ∷ ys)) ≡ Some x
   first_found test [] x ys none pass = rw pass refl
@@ -51,15 +55,23 @@ module _ {X : Type 0} where
   sifting_starts test xs = record { within = omega arith; none = refl; left = refl }
 
   -- the element at the place stays
-  pub sifting_stays : (test : X → Bool) (before : List X) (place : ℕ) (xs : List X) (x : X) → slice_get xs place ≡ Some x → test x ≡ false → IsSifting test before place xs → IsSifting test before (place + 1) xs
+  pub sifting_stays : (test : X → Bool) (before : List X) (place : ℕ) (xs : List X) (x : X) → slice_get xs place ≡ Some x → test x ≡ false
+      → IsSifting test before place xs → IsSifting test before (place + 1) xs
   sifting_stays test before place xs x at fail so_far = record {
     within = omega (arith, slice_get_within xs place x at);
-    none = rw (take_more xs place x (slice_get_within xs place x at), get_or_from_slice_get xs place x x at, list_any-append test (take place xs) (x ∷ []), so_far.none, fail) refl;
+    none = rw (
+      take_more xs place x (slice_get_within xs place x at),
+      get_or_from_slice_get xs place x x at,
+      list_any-append test (take place xs) (x ∷ []),
+      so_far.none,
+      fail,
+    ) refl;
     left = so_far.left;
   }
 
   -- the element at the place is taken out, as the first that a narrower test asks for
-  module _ (test narrow : X → Bool) (wider : (x : X) → narrow x ≡ true → test x ≡ true) (before : List X) (place : ℕ) (xs : List X) (x : X) (at : slice_get xs place ≡ Some x) (asked : narrow x ≡ true) (so_far : IsSifting test before place xs) where
+  module _ (test narrow : X → Bool) (wider : (x : X) → narrow x ≡ true → test x ≡ true) (before : List X) (place : ℕ) (xs : List X) (x : X)
+      (at : slice_get xs place ≡ Some x) (asked : narrow x ≡ true) (so_far : IsSifting test before place xs) where
     abbrev kept : List X
     kept = take place xs
 
@@ -100,7 +112,8 @@ module _ {X : Type 0} where
     }
 
   -- at the end nothing is left that passes
-  pub none_there : (test : X → Bool) (before : List X) (place : ℕ) (xs : List X) → slice_get xs place ≡ None → IsSifting test before place xs → list_any test xs ≡ false
+  pub none_there : (test : X → Bool) (before : List X) (place : ℕ) (xs : List X) → slice_get xs place ≡ None → IsSifting test before place xs
+      → list_any test xs ≡ false
   none_there test before place xs none so_far =
       let past : length xs ≤ place = elim (slice_get_cases xs place).1 as (λ _. length xs ≤ place) [
         | inl here ↦ absurd (none-some here.0 (sym none ∙ here.2))
@@ -109,10 +122,12 @@ module _ {X : Type 0} where
       subst (λ ys. list_any test ys ≡ false) (take_all place xs past) so_far.none
 
   -- just what doesn't pass is left
-  pub sifting_ends : (test : X → Bool) (before : List X) (place : ℕ) (xs : List X) → slice_get xs place ≡ None → IsSifting test before place xs → xs ≡ filter (λ x. not (test x)) before
+  pub sifting_ends : (test : X → Bool) (before : List X) (place : ℕ) (xs : List X) → slice_get xs place ≡ None → IsSifting test before place xs
+      → xs ≡ filter (λ x. not (test x)) before
   sifting_ends test before place xs none so_far = sym (filter_all test xs (none_there test before place xs none so_far)) ∙ so_far.left
 
   -- what stands at a place and passes is among what passes
   pub any_there : (test : X → Bool) (xs : List X) (place : ℕ) (x : X) → slice_get xs place ≡ Some x → test x ≡ true → list_any test xs ≡ true
   any_there test xs place x at pass =
-      ap (list_any test) (parts xs place x at) ∙ (list_any-append test (take place xs) (x ∷ drop (suc place) xs) ∙ or_right (list_any test (take place xs)) _ (or_left (test x) _ pass))
+      ap (list_any test) (parts xs place x at)
+      ∙ (list_any-append test (take place xs) (x ∷ drop (suc place) xs) ∙ or_right (list_any test (take place xs)) _ (or_left (test x) _ pass))

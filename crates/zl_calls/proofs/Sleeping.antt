@@ -1,5 +1,7 @@
 -- A call blocks: it is a step up to where processes wake, its process is the last of the blocked, and the invariant holds afterwards.
-use Rattle.zl_calls.proofs.Common.{◌≡◌, ◌<◌, ◌^◌, ℕ, List, [], ◌∷◌, ◌++◌, refl, sym, ap, ◌∙◌, subst, Some, None, Ready, Blocked, Library, Site, refusal, on_process, runs, lives, Map, AtCall, next_for, Objects, Settles, process_value, state_value, world_blocked, world_value, AreBlocked, IsActed, IsConsistent, Agrees}
+use Rattle.zl_calls.proofs.Common.{◌≡◌, ◌<◌, ◌^◌, ℕ, List, [], ◌∷◌, ◌++◌, refl, sym, ap, ◌∙◌, subst, Some, None, Ready, Blocked, Library, Site, refusal}
+use Rattle.zl_calls.proofs.Common.{on_process, runs, lives, Map, AtCall, next_for, Objects, Settles, process_value, state_value, world_blocked, world_value}
+use Rattle.zl_calls.proofs.Common.{AreBlocked, IsActed, IsConsistent, Agrees}
 use Rattle.zl_code.proofs.Common.{Process as ProcessValue, State as StateValue, is_blocked}
 use Rattle.zl_rights.specs.Signals.{has_ended}
 use Rattle.zl_rights.specs.World.{Awaited}
@@ -36,7 +38,8 @@ pub record IsAsleep (lib : Library) (before : List Process) (r r2 : Objects) (p 
   pub counter : p.cpu.counter < 2 ^ 32
   pub objects : r2 ≡ r
 
-module _ (lib : Library) (before after : List Process) (r r2 : Objects) (p p2 : Process) (lab : IsConsistent before r) (write : IsWrite before after p p2) (ready : state_value p.state ≡ Ready)
+module _ (lib : Library) (before after : List Process) (r r2 : Objects) (p p2 : Process) (lab : IsConsistent before r) (write : IsWrite before after p p2)
+    (ready : state_value p.state ≡ Ready)
     (name : CallName) (o : Outcome) (sleeps : IsAsleep lib before r r2 p p2 name o) where
   -- ---- the invariant
 
@@ -57,20 +60,27 @@ module _ (lib : Library) (before after : List Process) (r r2 : Objects) (p p2 : 
   -- ---- the list
 
   pub asleep_list : (blocked : List ℕ) → AreBlocked before blocked → AreBlocked after (blocked ++ (p.pid ∷ []))
-  asleep_list = one_asleep before after p p2 write (ap is_blocked ready) (ap is_blocked sleeps.state) (subst (λ (q : Process). q.cpu.counter < 2 ^ 32) (sym sleeps.process) sleeps.counter)
+  asleep_list =
+      one_asleep before after p p2 write (ap is_blocked ready) (ap is_blocked sleeps.state)
+      (subst (λ (q : Process). q.cpu.counter < 2 ^ 32) (sym sleeps.process) sleeps.counter)
 
   -- ---- the step
 
   asleep_world : blocked_in (world_value before r) p.pid sleeps.awaited sleeps.at.destinations ≡ world_value after r
   unfolding on_process
-  asleep_world = ap (λ (m : Map ProcessValue). record (world_value before r) { processes = m }) (sym (write.writes (λ q. record q { state = Blocked sleeps.awaited sleeps.at.destinations }) is))
+  asleep_world =
+      ap (λ (m : Map ProcessValue). record (world_value before r) { processes = m })
+      (sym (write.writes (λ q. record q { state = Blocked sleeps.awaited sleeps.at.destinations }) is))
     where
       is : process_value p2 ≡ record (process_value p) { state = Blocked sleeps.awaited sleeps.at.destinations }
       is = ap process_value sleeps.process ∙ ap (λ (s : StateValue). record (process_value p) { state = s }) sleeps.state
 
   -- beside registered waits and other blocked processes
-  pub asleep_acts : (blocked : List ℕ) → IsFree lib (world_value before r) p.pid name → IsSoundWorld (world_blocked before r blocked) → IsActed lib (world_blocked before r blocked) p.pid (item.Call p.pid name outcome.Blocked) (world_left (left_all after r) r (blocked ++ (p.pid ∷ [])))
-  asleep_acts blocked free sound = left_by lib before (left_all after r) r r p.pid (item.Call p.pid name outcome.Blocked) blocked sound r.waits r.waits_made (blocked ++ (p.pid ∷ []))
-      (block_waiting lib (world_value before r) p.pid (process_value p) write.there ready name sleeps.at sleeps.next sleeps.awaited (free (process_value p) sleeps.at write.there sleeps.next ∙ sleeps.passes) sleeps.is_awaited (settled_world after r)
+  pub asleep_acts : (blocked : List ℕ) → IsFree lib (world_value before r) p.pid name → IsSoundWorld (world_blocked before r blocked)
+      → IsActed lib (world_blocked before r blocked) p.pid (item.Call p.pid name outcome.Blocked) (world_left (left_all after r) r (blocked ++ (p.pid ∷ [])))
+  asleep_acts blocked free sound =
+      left_by lib before (left_all after r) r r p.pid (item.Call p.pid name outcome.Blocked) blocked sound r.waits r.waits_made (blocked ++ (p.pid ∷ []))
+      (block_waiting lib (world_value before r) p.pid (process_value p) write.there ready name sleeps.at sleeps.next sleeps.awaited
+      (free (process_value p) sleeps.at write.there sleeps.next ∙ sleeps.passes) sleeps.is_awaited (settled_world after r)
       (subst (λ u. Settles u (settled_world after r)) (sym asleep_world) (still_settles after r asleep_keeps)) r.waits r.waits_made blocked)
       (record { waits = λ test there. refl; made = refl })

@@ -1,5 +1,7 @@
 -- The process that a call starts: how it is found by its koid, and what becomes of all processes.
-use Rattle.zl_rights.proofs.Common.{◌≡◌, ◌≢◌, ◌<◌, ℕ, Bool, true, false, ◌==◌, List, [], ◌∷◌, length, Option, Some, None, Ok, Err, refl, sym, ap, ◌∙◌, subst, arith, zero, suc, false≢true, same_Some, none-some, position, find, slice_get, slice_set, slice_get-get_or, nat_tests, eqb-true, get_or}
+use Rattle.zl_rights.proofs.Common.{◌≡◌, ◌≢◌, ◌<◌, ℕ, Bool, true, false, ◌==◌, List, [], ◌∷◌, length, Option, Some, None, Ok, Err, refl, sym, ap, ◌∙◌, subst}
+use Rattle.zl_rights.proofs.Common.{arith, zero, suc, false≢true, same_Some, none-some, position, find, slice_get, slice_set, slice_get-get_or, nat_tests}
+use Rattle.zl_rights.proofs.Common.{eqb-true, get_or}
 use Rattle.std.specs.List.{position_or_len}
 use Rattle.std.proofs.lemmas.List.{length-set}
 use Rattle.std.proofs.lemmas.List.Folds.{find_at}
@@ -49,7 +51,8 @@ pub read_at : {X : Type 0} (xs : List X) (i : ℕ) (x : X) → i < length xs →
 read_at xs i x within read = slice_get-get_or xs i x within ∙ ap (λ y. Some y) (sym read)
 
 module _ (lib : Library) (ps : List Process) (pid : ℕ) (e : Entry) where
-  pub none_refused : ◌≡◌ {A = Option ℕ} None (position (λ (q : Process). q.pid == pid) ps) → ◌≡◌ {A = Option Status} (Some status.BadState) (child_refusal lib (process_at ps pid) e)
+  pub none_refused : ◌≡◌ {A = Option ℕ} None (position (λ (q : Process). q.pid == pid) ps)
+      → ◌≡◌ {A = Option Status} (Some status.BadState) (child_refusal lib (process_at ps pid) e)
   none_refused none = sym (ap (λ (o : Option Process). child_refusal lib o e) (none_found (λ (q : Process). q.pid == pid) ps (sym none)))
 
   module _ (i : ℕ) (q : Process) (at : Some i ≡ position (λ (q : Process). q.pid == pid) ps) (read : q ≡ get_or ps i q) where
@@ -63,21 +66,29 @@ module _ (lib : Library) (ps : List Process) (pid : ℕ) (e : Entry) where
     started_refused over = sym (found ∙ rw over refl)
 
     pub is_created_at : is_created (state_value q.state) ≡ true → IsCreatedAt ps pid i
-    is_created_at created = record { child = q; is_there = is; is_pid = eqb-true q.pid pid (passes_at (λ (x : Process). x.pid == pid) ps i q (sym at) is); is_created = created }
+    is_created_at created =
+        record { child = q; is_there = is; is_pid = eqb-true q.pid pid (passes_at (λ (x : Process). x.pid == pid) ps i q (sym at) is); is_created = created }
 
     module _ (q2 : Process) (again : q2 ≡ get_or ps i q2) where
       same : q2 ≡ q
       same = same_Some q2 q (sym (read_at ps i q2 (within_at (λ (x : Process). x.pid == pid) ps i (sym at)) again) ∙ is)
 
-      pub misfit_refused : is_created (state_value q.state) ≡ true → misfits (slice_get lib q2.program) (Some e) ≡ true → ◌≡◌ {A = Option Status} (Some status.InvalidArgs) (child_refusal lib (process_at ps pid) e)
-      misfit_refused created fails = let fails_too : misfits (slice_get lib q.program) (Some e) ≡ true = subst (λ (x : Process). misfits (slice_get lib x.program) (Some e) ≡ true) same fails in sym (found ∙ rw (created, fails_too) refl)
+      pub misfit_refused : is_created (state_value q.state) ≡ true → misfits (slice_get lib q2.program) (Some e) ≡ true
+          → ◌≡◌ {A = Option Status} (Some status.InvalidArgs) (child_refusal lib (process_at ps pid) e)
+      misfit_refused created fails =
+          let fails_too : misfits (slice_get lib q.program) (Some e) ≡ true =
+          subst (λ (x : Process). misfits (slice_get lib x.program) (Some e) ≡ true) same fails in sym (found ∙ rw (created, fails_too) refl)
 
-      pub not_refused : is_created (state_value q.state) ≡ true → misfits (slice_get lib q2.program) (Some e) ≡ false → ◌≡◌ {A = Option Status} None (child_refusal lib (process_at ps pid) e)
-      not_refused created fits = let fits_too : misfits (slice_get lib q.program) (Some e) ≡ false = subst (λ (x : Process). misfits (slice_get lib x.program) (Some e) ≡ false) same fits in sym (found ∙ rw (created, fits_too) refl)
+      pub not_refused : is_created (state_value q.state) ≡ true → misfits (slice_get lib q2.program) (Some e) ≡ false
+          → ◌≡◌ {A = Option Status} None (child_refusal lib (process_at ps pid) e)
+      not_refused created fits =
+          let fits_too : misfits (slice_get lib q.program) (Some e) ≡ false =
+          subst (λ (x : Process). misfits (slice_get lib x.program) (Some e) ≡ false) same fits in sym (found ∙ rw (created, fits_too) refl)
 
 -- ---- the handle enters its table
 
-module _ (lib : Library) (ps ds : List Process) (same : ds ≡ ps) (place child process h : ℕ) (e : Entry) (found : (caller : Process) → slice_get ds place ≡ Some caller → IsFound ds caller process h child e) where
+module _ (lib : Library) (ps ds : List Process) (same : ds ≡ ps) (place child process h : ℕ) (e : Entry)
+    (found : (caller : Process) → slice_get ds place ≡ Some caller → IsFound ds caller process h child e) where
   pub child_within : place < length ps → child < length ps
   child_within within =
       let there : (x : Process) × (slice_get ps place ≡ Some x) = stands_at ps place within in
@@ -87,7 +98,8 @@ module _ (lib : Library) (ps ds : List Process) (same : ds ≡ ps) (place child 
   module _ (q : Process) (read : q ≡ get_or ps child q) where
     is_child : (caller : Process) (at : slice_get ds place ≡ Some caller) → q ≡ (found caller at).at.child
     is_child caller at =
-        let there : slice_get ps child ≡ Some (found caller at).at.child = subst (λ (xs : List Process). slice_get xs child ≡ Some (found caller at).at.child) same (found caller at).at.is_there in
+        let there : slice_get ps child ≡ Some (found caller at).at.child =
+        subst (λ (xs : List Process). slice_get xs child ≡ Some (found caller at).at.child) same (found caller at).at.is_there in
         read ∙ get_or_from_slice_get ps child (found caller at).at.child q there
 
     pub child_room : place < length ps → AreBare ps → length q.table.entries < 1024
@@ -95,11 +107,14 @@ module _ (lib : Library) (ps ds : List Process) (same : ds ≡ ps) (place child 
         let there : (x : Process) × (slice_get ps place ≡ Some x) = stands_at ps place within in
         let at : slice_get ds place ≡ Some there.0 = ap (λ (xs : List Process). slice_get xs place) same ∙ there.1 in
         let it : IsFound ds there.0 process h child e = found there.0 at in
-        let empty : it.at.child.table.entries ≡ [] = bare child it.at.child (subst (λ (xs : List Process). slice_get xs child ≡ Some it.at.child) same it.at.is_there) it.at.is_created in
+        let empty : it.at.child.table.entries ≡ [] =
+        bare child it.at.child (subst (λ (xs : List Process). slice_get xs child ≡ Some it.at.child) same it.at.is_there) it.at.is_created in
         let none : q.table.entries ≡ [] = ap (λ (x : Process). x.table.entries) (is_child there.0 at) ∙ empty in
         rw none (omega arith)
 
-    pub enters_so : (refusal : (caller : Process) → slice_get ds place ≡ Some caller → ◌≡◌ {A = Option Status} None (start_refusal lib ds caller.table.entries process h)) (t2 : Handles) (value : ℕ)
+    pub enters_so :
+        (refusal : (caller : Process) → slice_get ds place ≡ Some caller → ◌≡◌ {A = Option Status} None (start_refusal lib ds caller.table.entries process h))
+        (t2 : Handles) (value : ℕ)
         → Inserts q.table e value t2 → (caller : Process) → slice_get ps place ≡ Some caller
         → Enters lib ps caller process h (record { place = child; handle = value }) (slice_set ps child (record q { table = t2 }))
     enters_so refusal t2 value inserts caller there =
@@ -181,7 +196,8 @@ not_both (state.AwaitsSignal koid mask to) created ready = false≢true created
 not_both (state.AwaitsPacket port to) created ready = false≢true created
 not_both (state.Ended code) created ready = false≢true created
 
-module _ (lib : Library) (ps : List Process) (r : Objects) (blocked : List ℕ) (place process h word : ℕ) (caller : Process) (is_caller : slice_get ps place ≡ Some caller) (ready : is_ready (state_value caller.state) ≡ true) where
+module _ (lib : Library) (ps : List Process) (r : Objects) (blocked : List ℕ) (place process h word : ℕ) (caller : Process)
+    (is_caller : slice_get ps place ≡ Some caller) (ready : is_ready (state_value caller.state) ≡ true) where
   -- the handle entered the table of the other; then it leaves the caller's, and the other begins
   module _ (started : Started) (ps1 : List Process) (enters : Enters lib ps caller process h started ps1) where
     abbrev child : Process
@@ -217,7 +233,8 @@ module _ (lib : Library) (ps : List Process) (r : Objects) (blocked : List ℕ) 
       pub child_inside : started.place < length ps2
       child_inside = slice_get_within ps2 started.place enters.child child_still
 
-      module _ (q q2 : Process) (read_too : q ≡ get_or ps2 started.place q) (begins : q2 ≡ record q { state = state.Ready; cpu = cpu_given (started.handle ∷ []) word q.cpu }) where
+      module _ (q q2 : Process) (read_too : q ≡ get_or ps2 started.place q)
+          (begins : q2 ≡ record q { state = state.Ready; cpu = cpu_given (started.handle ∷ []) word q.cpu }) where
         is_q : q ≡ enters.child
         is_q = read_too ∙ get_or_from_slice_get ps2 started.place enters.child q child_still
 
@@ -229,7 +246,8 @@ module _ (lib : Library) (ps : List Process) (r : Objects) (blocked : List ℕ) 
 
         written : slice_set ps2 started.place q2 ≡ slice_set (slice_set ps place after) started.place q2
         written =
-            let first : ps2 ≡ slice_set (slice_set ps started.place enters.child) place after = λ i. slice_set (enters.entered i) place (record (is_it i) { table = t }) in
+            let first : ps2 ≡ slice_set (slice_set ps started.place enters.child) place after =
+            λ i. slice_set (enters.entered i) place (record (is_it i) { table = t }) in
             ap (λ (xs : List Process). slice_set xs started.place q2) (first ∙ set_apart ps started.place place enters.child after apart)
             ∙ set_twice (slice_set ps place after) started.place enters.child q2
 
@@ -239,7 +257,8 @@ module _ (lib : Library) (ps : List Process) (r : Objects) (blocked : List ℕ) 
             (sym (get_apart ps2 started.place place q2 apart ∙ get_set ps1 place caller (record p { table = t }) caller_stays))
             (ap (λ (x : Process). x.cpu) is_it)
 
-        pub starts_so : (r2 : Objects) → r2 ≡ starting r q.pid → ProcessStartDoes lib place process h word caller (lab ps r blocked) (Ok tt) (lab (slice_set ps2 started.place q2) r2 blocked)
+        pub starts_so : (r2 : Objects) → r2 ≡ starting r q.pid
+            → ProcessStartDoes lib place process h word caller (lab ps r blocked) (Ok tt) (lab (slice_set ps2 started.place q2) r2 blocked)
         starts_so r2 begun = record {
           ok = record {
             caller = caller;
@@ -259,7 +278,8 @@ module _ (lib : Library) (ps : List Process) (r : Objects) (blocked : List ℕ) 
             pid = enters.found.at.is_pid;
             value = started.handle;
             inserts = subst (λ (x : Process). Inserts child.table enters.e started.handle x.table) (sym is_q2) enters.inserts;
-            starts = is_q2 ∙ ap (λ (x : Process). record child { state = state.Ready; cpu = cpu_given (started.handle ∷ []) word child.cpu; table = x.table }) (sym is_q2);
+            starts = is_q2
+                ∙ ap (λ (x : Process). record child { state = state.Ready; cpu = cpu_given (started.handle ∷ []) word child.cpu; table = x.table }) (sym is_q2);
             processes = written;
             objects = begun ∙ ap (λ (x : Process). starting r x.pid) (is_q ∙ enters.same);
             blocked = refl;
@@ -269,14 +289,16 @@ module _ (lib : Library) (ps : List Process) (r : Objects) (blocked : List ℕ) 
         }
 
   -- the start was refused, and the handle closes
-  module _ (refused : Status) (ps1 : List Process) (same : ps1 ≡ ps) (refuses : IsRefusedBy true (start_refusal lib ps caller.table.entries process h) refused) (p : Process) (read : p ≡ get_or ps1 place p) (t : Handles) (r2 : Objects) (closes : ClosesEach (h ∷ []) p.table r t r2) where
+  module _ (refused : Status) (ps1 : List Process) (same : ps1 ≡ ps) (refuses : IsRefusedBy true (start_refusal lib ps caller.table.entries process h) refused)
+      (p : Process) (read : p ≡ get_or ps1 place p) (t : Handles) (r2 : Objects) (closes : ClosesEach (h ∷ []) p.table r t r2) where
     pub refused_still : IsCallerStill caller (slice_get (slice_set ps1 place (record p { table = t })) place)
     refused_still =
         subst (λ (o : Option Process). IsCallerStill caller o)
         (sym (get_set ps1 place caller (record p { table = t }) (ap (λ (xs : List Process). slice_get xs place) same ∙ is_caller)))
         (ap (λ (x : Process). x.cpu) (read ∙ (ap (λ (xs : List Process). get_or xs place p) same ∙ get_or_from_slice_get ps place caller p is_caller)))
 
-    pub refused_so : ProcessStartDoes lib place process h word caller (lab ps r blocked) (Err refused) (lab (slice_set ps1 place (record p { table = t })) r2 blocked)
+    pub refused_so : ProcessStartDoes lib place process h word caller (lab ps r blocked) (Err refused)
+        (lab (slice_set ps1 place (record p { table = t })) r2 blocked)
     refused_so =
         let is_it : p ≡ caller = read ∙ (ap (λ (xs : List Process). get_or xs place p) same ∙ get_or_from_slice_get ps place caller p is_caller) in
         record {

@@ -1,5 +1,10 @@
 -- A process was started with a handle of another: the invariant of all processes and of the objects holds afterwards.
-use Rattle.zl_calls.proofs.Common.{◌≡◌, ◌+◌, ◌||◌, ◌==◌, ℕ, Bool, true, false, List, [], ◌∷◌, map, refl, sym, ap, ◌∙◌, subst, cond, Option, Some, None, inl, inr, IsTrue, arith, if◌then◌else◌, list_any, option_map, eq-eqb, eqb-true, cases_Bool, false≢true, same_Some, count_by, sum_by, Map, get, update, has_key, kind_of, get-update, has_key-update, is_sorted-update, Created, Ready, lives, runs, is_process, Inserts, IsTable, handles_to, queued_to, Objects, is_kept, is_child, stays_alone, has_living_child, is_job_at, is_job_body, is_job_in, process_entry, process_value, object_value, body_value, state_value, world_value, is_in_job, Agrees, AreNamed, AreBlocked, IsConsistent, IsNamed}
+use Rattle.zl_calls.proofs.Common.{◌≡◌, ◌+◌, ◌||◌, ◌==◌, ℕ, Bool, true, false, List, [], ◌∷◌, map, refl, sym, ap, ◌∙◌, subst, cond, Option, Some, None, inl}
+use Rattle.zl_calls.proofs.Common.{inr, IsTrue, arith, if◌then◌else◌, list_any, option_map, eq-eqb, eqb-true, cases_Bool, false≢true, same_Some, count_by}
+use Rattle.zl_calls.proofs.Common.{sum_by, Map, get, update, has_key, kind_of, get-update, has_key-update, is_sorted-update, Created, Ready, lives, runs}
+use Rattle.zl_calls.proofs.Common.{is_process, Inserts, IsTable, handles_to, queued_to, Objects, is_kept, is_child, stays_alone, has_living_child, is_job_at}
+use Rattle.zl_calls.proofs.Common.{is_job_body, is_job_in, process_entry, process_value, object_value, body_value, state_value, world_value, is_in_job, Agrees}
+use Rattle.zl_calls.proofs.Common.{AreNamed, AreBlocked, IsConsistent, IsNamed}
 use Rattle.std.proofs.lemmas.Bool.{or_cases}
 use Rattle.zl_code.proofs.Common.{Process as ProcessValue, State as StateValue, is_blocked, or_left, or_right}
 use Rattle.zl_code.specs.Starting.{is_created}
@@ -84,10 +89,12 @@ module _ (m : Map Object) (k : ℕ) where
   ]
 
   job_begun : (j : ℕ) → is_job_at begun j ≡ is_job_at m j
-  job_begun j = ap is_job_in (get-update m k started j) ∙ elim (cases_Bool (k == j)) as (λ _. is_job_in (if k == j then option_map started (get m j) else get m j) ≡ is_job_in (get m j)) [
-    | inl here ↦ rw here (by_object (get m j))
-    | inr apart ↦ rw apart refl
-  ]
+  job_begun j =
+      ap is_job_in (get-update m k started j)
+      ∙ elim (cases_Bool (k == j)) as (λ _. is_job_in (if k == j then option_map started (get m j) else get m j) ≡ is_job_in (get m j)) [
+        | inl here ↦ rw here (by_object (get m j))
+        | inr apart ↦ rw apart refl
+      ]
     where
       by_object : (o : Option Object) → is_job_in (option_map started o) ≡ is_job_in o
       by_object None = refl
@@ -102,10 +109,11 @@ module _ (m : Map Object) (k : ℕ) where
 child_begun : (m : Map Object) (k job : ℕ) → has_living_child (update m k started) job ≡ has_living_child m job
 unfolding update has_living_child
 child_begun [] k job = refl
-child_begun (e ∷ m) k job = elim (cases_Bool (e.0 == k)) as (λ _. list_any (λ x. is_child job x.1.body) (update (e ∷ m) k started) ≡ list_any (λ x. is_child job x.1.body) (e ∷ m)) [
-  | inl here ↦ rw (here, started_keeper e.1.body) refl
-  | inr apart ↦ rw apart (ap (λ b. is_child job e.1.body || b) (child_begun m k job))
-]
+child_begun (e ∷ m) k job =
+    elim (cases_Bool (e.0 == k)) as (λ _. list_any (λ x. is_child job x.1.body) (update (e ∷ m) k started) ≡ list_any (λ x. is_child job x.1.body) (e ∷ m)) [
+      | inl here ↦ rw (here, started_keeper e.1.body) refl
+      | inr apart ↦ rw apart (ap (λ b. is_child job e.1.body || b) (child_begun m k job))
+    ]
 
 alone_begun : (m : Map Object) (k j : ℕ) (b : Body) → stays_alone (update m k started) j b ≡ stays_alone m j b
 alone_begun m k j (body.Job own) = child_begun m k j
@@ -141,10 +149,12 @@ created_state state.Gone h = absurd (false≢true h)
 -- ---- the invariant
 
 -- the process child begins with a handle that leaves the process p
-module _ (ps mid after : List Process) (child begins p p2 : Process) (one : IsWrite ps mid child begins) (two : IsWrite mid after p p2) (there : get (map process_entry ps) p.pid ≡ Some (process_value p)) (r : Objects) (lab : IsConsistent ps r)
+module _ (ps mid after : List Process) (child begins p p2 : Process) (one : IsWrite ps mid child begins) (two : IsWrite mid after p p2)
+    (there : get (map process_entry ps) p.pid ≡ Some (process_value p)) (r : Objects) (lab : IsConsistent ps r)
     (named : Entry) (is_named : IsNamed r.objects named) (task : named.kind ≡ kind.Process) (pid : child.pid ≡ named.koid)
     (created : state_value child.state ≡ Created) (bare : child.table.entries ≡ []) (ready : state_value begins.state ≡ Ready) (state_is : p2.state ≡ p.state)
-    (h value : ℕ) (e : Entry) (given : get p.table.entries h ≡ Some e) (inserts : Inserts child.table e value begins.table) (table : p2.table ≡ without_handle p.table h) where
+    (h value : ℕ) (e : Entry) (given : get p.table.entries h ≡ Some e) (inserts : Inserts child.table e value begins.table)
+    (table : p2.table ≡ without_handle p.table h) where
   abbrev k : ℕ
   k = child.pid
 
@@ -212,7 +222,11 @@ module _ (ps mid after : List Process) (child begins p p2 : Process) (one : IsWr
       let fewer : count_by (λ x. x.1.koid == j) p.table.entries ≡ count_by (λ x. x.1.koid == j) (without_handle p.table h).entries + so_many j
       = count_without (λ x. x.1.koid == j) p.table.entries h e old_table.sorted given ∙ rw given refl in
       let left : count_by (λ x. x.1.koid == j) p.table.entries ≡ count_by (λ x. x.1.koid == j) p2.table.entries + so_many j = rw table fewer in
-      omega (arith, counts_written ps mid child begins r r2 j (so_many j) one (same_queues j) more, counts_fewer mid after p p2 r2 r2 j (so_many j) two refl left)
+      omega (
+        arith,
+        counts_written ps mid child begins r r2 j (so_many j) one (same_queues j) more,
+        counts_fewer mid after p p2 r2 r2 j (so_many j) two refl left,
+      )
 
   -- ---- states
 
@@ -250,7 +264,12 @@ module _ (ps mid after : List Process) (child begins p p2 : Process) (one : IsWr
 
   pub start_keeps : IsConsistent after r2
   start_keeps = record {
-    processes_in_order = rw (after_is mid after p p2 two, is_sorted-update (map process_entry mid) p.pid (λ _. process_value p2), after_is ps mid child begins one, is_sorted-update (map process_entry ps) child.pid (λ _. process_value begins)) lab.processes_in_order;
+    processes_in_order = rw (
+      after_is mid after p p2 two,
+      is_sorted-update (map process_entry mid) p.pid (λ _. process_value p2),
+      after_is ps mid child begins one,
+      is_sorted-update (map process_entry ps) child.pid (λ _. process_value begins),
+    ) lab.processes_in_order;
     given_processes = λ j has. lab.given_processes j
         (sym (has_key-update (map process_entry ps) child.pid (λ _. process_value begins) j)
         ∙ (ap (λ (m : Map ProcessValue). has_key m j) (sym (after_is ps mid child begins one))
@@ -263,7 +282,8 @@ module _ (ps mid after : List Process) (child begins p p2 : Process) (one : IsWr
     tables = tables_now;
     named = named_now;
     queued = λ j q at. found_updated started r.objects k (AreNamed r2.objects (queue_of q.body)) j q at
-        (λ o old here is. subst (λ (x : Object). AreNamed r2.objects (queue_of x.body)) is (rw (started_queue o.body) (still_named r.objects r2.objects still (queue_of o.body) (lab.queued j o old))))
+        (λ o old here is. subst (λ (x : Object). AreNamed r2.objects (queue_of x.body)) is
+        (rw (started_queue o.body) (still_named r.objects r2.objects still (queue_of o.body) (lab.queued j o old))))
         (λ apart old. still_named r.objects r2.objects still (queue_of q.body) (lab.queued j q old));
     counted = λ j q at. found_updated started r.objects k (q.handles ≡ handles_to (world_value after r2) j) j q at
         (λ o old here is. ap (λ (x : Object). x.handles) (sym is) ∙ (lab.counted j o old ∙ sym (counts j)))
@@ -273,12 +293,15 @@ module _ (ps mid after : List Process) (child begins p p2 : Process) (one : IsWr
         (λ o old here is.
         let same : k ≡ j = eqb-true k j here in
         let at_k : get r.objects k ≡ Some o = ap (get r.objects) same ∙ old in
-        subst (λ (i : ℕ). Agrees (world_value mid r2) i q.body) same (subst (λ (x : Object). Agrees (world_value mid r2) k x.body) is (agrees_now o.body (is_its o at_k) (lab.agrees k o at_k))))
+        subst (λ (i : ℕ). Agrees (world_value mid r2) i q.body) same
+        (subst (λ (x : Object). Agrees (world_value mid r2) k x.body) is (agrees_now o.body (is_its o at_k) (lab.agrees k o at_k))))
         (λ apart old. still_agrees (world_value ps r) (world_value mid r2) j q.body (others j apart) (lab.agrees j q old)));
     in_jobs = λ j q at. found_updated started r.objects k (IsTrue (is_in_job r2.objects q.body)) j q at
         (λ o old here is. subst (λ (x : Object). IsTrue (is_in_job r2.objects x.body)) is (in_job_started r.objects k o.body (lab.in_jobs j o old)))
         (λ apart old. in_job_begun r.objects k q.body (lab.in_jobs j q old));
-    kept = kept_each r2.objects (rw (is_sorted-update r.objects k started) lab.kept.in_order) (λ j q at. found_updated started r.objects k (IsTrue (is_kept r2.objects j q)) j q at
+    kept =
+        kept_each r2.objects (rw (is_sorted-update r.objects k started) lab.kept.in_order)
+        (λ j q at. found_updated started r.objects k (IsTrue (is_kept r2.objects j q)) j q at
         (λ o old here is. subst (λ (x : Object). IsTrue (is_kept r2.objects j x)) is (kept_started j o (kept_all r.objects lab.kept j o old)))
         (λ apart old. rw (alone_begun r.objects k j q.body) (kept_all r.objects lab.kept j q old)));
   }

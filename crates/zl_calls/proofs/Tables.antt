@@ -1,5 +1,7 @@
 -- Tables that handles enter and leave, and empty ones.
-use Rattle.zl_calls.proofs.Common.{false, ◌^◌, bit_and, ◌≡◌, ◌<◌, ◌≤◌, ℕ, [], ◌∷◌, length, Some, None, Result, Err, List, refl, sym, ap, ◌∙◌, arith, inl, inr, ◌==◌, if◌then◌else◌, cases_Bool, eqb-true, same_Some, Map, get, without, within, get-put, Handles, IsTable, Inserts, Drains, sorted_put, length-put_new, put_key, Objects, Releases, Drained, and_le_l}
+use Rattle.zl_calls.proofs.Common.{false, ◌^◌, bit_and, ◌≡◌, ◌<◌, ◌≤◌, ℕ, [], ◌∷◌, length, Some, None, Result, Err, List, refl, sym, ap, ◌∙◌, arith, inl, inr}
+use Rattle.zl_calls.proofs.Common.{◌==◌, if◌then◌else◌, cases_Bool, eqb-true, same_Some, Map, get, without, within, get-put, Handles, IsTable, Inserts, Drains}
+use Rattle.zl_calls.proofs.Common.{sorted_put, length-put_new, put_key, Objects, Releases, Drained, and_le_l}
 use Rattle.zl_rights.specs.declared.entry.Entry.{Entry}
 use Rattle.zl_rights.specs.declared.kind.Kind.{Kind}
 use Rattle.zl_rights.specs.declared.kind.Kind.TheVariants as kind
@@ -29,7 +31,8 @@ shorter (e ∷ m) k v h = elim (cases_Bool (e.0 == k)) as (λ _. length (without
 pub drained_is_shorter : (old : Handles) (entry : Entry) (new : Handles) → Drains old entry new → length new.entries < length old.entries
 drained_is_shorter old entry new d = rw d.removes.entries (shorter old.entries d.value entry d.removes.was)
 
-pub empty_refuses : (m : Map Entry) (value needed n : ℕ) (kinds : List Kind) → n ≡ length m → n ≡ 0 → ◌≡◌ {A = Result Entry Status} (Err status.BadHandle) (looked_up m value kinds needed)
+pub empty_refuses : (m : Map Entry) (value needed n : ℕ) (kinds : List Kind) → n ≡ length m → n ≡ 0
+    → ◌≡◌ {A = Result Entry Status} (Err status.BadHandle) (looked_up m value kinds needed)
 unfolding get
 empty_refuses [] value needed n kinds count empty = refl
 empty_refuses (e ∷ m) value needed n kinds count empty = absurd (omega (arith, count, empty))
@@ -55,9 +58,11 @@ inserted_table t e v t2 table room inserts = record {
 }
 
 -- what is in the new table is the new entry, or was there before
-pub found_inserted : (A : Type 0) (t : Handles) (e : Entry) (v : ℕ) (t2 : Handles) → Inserts t e v t2 → (value : ℕ) (q : Entry) → get t2.entries value ≡ Some q → (e ≡ q → A) → (get t.entries value ≡ Some q → A) → A
+pub found_inserted : (A : Type 0) (t : Handles) (e : Entry) (v : ℕ) (t2 : Handles) → Inserts t e v t2 → (value : ℕ) (q : Entry) → get t2.entries value ≡ Some q
+    → (e ≡ q → A) → (get t.entries value ≡ Some q → A) → A
 found_inserted A t e v t2 inserts value q at new old =
-    let read : (if v == value then Some e else get t.entries value) ≡ Some q = sym (get-put t.entries v e value) ∙ (ap (λ (m : Map Entry). get m value) (sym inserts.entries) ∙ at) in
+    let read : (if v == value then Some e else get t.entries value) ≡ Some q =
+    sym (get-put t.entries v e value) ∙ (ap (λ (m : Map Entry). get m value) (sym inserts.entries) ∙ at) in
     elim (cases_Bool (v == value)) as (λ _. A) [
       | inl here ↦ new (same_Some e q (rw here at read))
       | inr apart ↦ old (rw apart at read)
@@ -65,7 +70,8 @@ found_inserted A t e v t2 inserts value q at new old =
 
 -- ---- the handles of a table close
 
-pub drained_closes : (old : Handles) (e : Entry) (new : Handles) (r mid r2 : Objects) → Drains old e new → Releases (e.koid ∷ []) [] r mid → Drained new.entries mid r2 → Drained old.entries r r2
+pub drained_closes : (old : Handles) (e : Entry) (new : Handles) (r mid r2 : Objects) → Drains old e new → Releases (e.koid ∷ []) [] r mid
+    → Drained new.entries mid r2 → Drained old.entries r r2
 drained_closes old e new r mid r2 d first rest = one_more old.entries d.value e r mid r2 d.removes.was first (rw d.removes.entries at rest)
 
 pub all_closed : (t : Handles) (r : Objects) → t.entries ≡ [] → Drained t.entries r r

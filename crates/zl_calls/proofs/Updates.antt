@@ -21,7 +21,8 @@ module _ {X Y : Type 0} (seen : X → Y) where
   abbrev pub seen_entry : ℕ × X → ℕ × Y
   seen_entry e = (e.0, seen e.1)
 
-  pub update_seen : (m : Map X) (k : ℕ) (f : X → X) (g : Y → Y) → ((x : X) → seen (f x) ≡ g (seen x)) → map seen_entry (update m k f) ≡ update (map seen_entry m) k g
+  pub update_seen : (m : Map X) (k : ℕ) (f : X → X) (g : Y → Y) → ((x : X) → seen (f x) ≡ g (seen x))
+      → map seen_entry (update m k f) ≡ update (map seen_entry m) k g
   unfolding update
   update_seen [] k f g same = refl
   update_seen (e ∷ m) k f g same = elim (cases_Bool (e.0 == k)) as (λ _. map seen_entry (update (e ∷ m) k f) ≡ update (map seen_entry (e ∷ m)) k g) [

@@ -33,7 +33,8 @@ nothing_set (Some job) bare f c = by_actions job.policy bare
     by_actions [] h = verdict_allowed f c
     by_actions (x ∷ xs) h = absurd (true≢false h)
 
-pub unset : (entries : Map Entry) (objects : Map Object) (pid job : ℕ) (request : Request) → Some job ≡ job_in (get objects pid) → has_actions (job_at objects job) ≡ false → verdict_on entries objects pid request ≡ None
+pub unset : (entries : Map Entry) (objects : Map Object) (pid job : ℕ) (request : Request) → Some job ≡ job_in (get objects pid)
+    → has_actions (job_at objects job) ≡ false → verdict_on entries objects pid request ≡ None
 unset entries objects pid job request is bare =
     ap (λ (o : Option ℕ). verdict_in objects o (operands_fault entries [] (handle_operands request)) (condition_of request)) (sym is)
     ∙ nothing_set (job_at objects job) bare (operands_fault entries [] (handle_operands request)) (condition_of request)

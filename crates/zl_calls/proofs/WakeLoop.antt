@@ -1,5 +1,7 @@
 -- Blocked processes wake one after another, in the order of the list.
-use Rattle.zl_calls.proofs.Common.{◌≡◌, ◌<◌, ◌≤◌, ◌+◌, ◌^◌, ℕ, zero, suc, Bool, true, false, not, ◌==◌, ◌++◌, List, [], ◌∷◌, length, take, map, get_or, refl, sym, ap, ◌∙◌, subst, if◌then◌else◌, inl, inr, Some, IsTrue, arith, cases_Bool, eq-eqb, state_passes, get, Objects, process_entry, world_blocked, IsConsistent, AreBlocked, World}
+use Rattle.zl_calls.proofs.Common.{◌≡◌, ◌<◌, ◌≤◌, ◌+◌, ◌^◌, ℕ, zero, suc, Bool, true, false, not, ◌==◌, ◌++◌, List, [], ◌∷◌, length, take, map, get_or, refl}
+use Rattle.zl_calls.proofs.Common.{sym, ap, ◌∙◌, subst, if◌then◌else◌, inl, inr, Some, IsTrue, arith, cases_Bool, eq-eqb, state_passes, get, Objects}
+use Rattle.zl_calls.proofs.Common.{process_entry, world_blocked, IsConsistent, AreBlocked, World}
 use Rattle.std.specs.List.{filter, fold}
 use Rattle.std.specs.Prelude.{drop}
 use Rattle.zl_code.proofs.Common.{Process as ProcessValue, is_blocked, woken}
@@ -9,7 +11,8 @@ use Rattle.zl_calls.specs.Waking.{WakesOne}
 use Rattle.zl_calls.proofs.BlockedLists.{none_filtered}
 
 -- those before the place in the list have had their turn; the list was first at the start
-pub record IsWaking (ps0 : List Process) (r0 : Objects) (first : List ℕ) (capacity0 place : ℕ) (ps : List Process) (r : Objects) (blocked : List ℕ) (capacity : ℕ) : Type 0 where
+pub record IsWaking (ps0 : List Process) (r0 : Objects) (first : List ℕ) (capacity0 place : ℕ) (ps : List Process) (r : Objects) (blocked : List ℕ)
+    (capacity : ℕ) : Type 0 where
   pub so_far : fold woken (world_blocked ps r blocked) (drop place blocked) ≡ fold woken (world_blocked ps0 r0 first) first
   pub lab : IsConsistent ps r
   pub list : AreBlocked ps blocked
@@ -59,14 +62,17 @@ removed_one (x ∷ xs) zero d p within at once =
     let counted : 1 + times p xs ≤ 1 = subst (λ (b : Bool). (if b then 1 else 0) + times p xs ≤ 1) here (subst (λ (n : ℕ). n ≤ 1) (times_cons p x xs) once) in
     let none : ◌≡◌ {A = ℕ} (times p xs) 0 = omega (arith, counted) in
     rw here (none_filtered p xs none)
-removed_one (x ∷ xs) (suc i) d p within at once = elim (cases_Bool (x == p)) as (λ _. filter (λ q. not (q == p)) (x ∷ xs) ≡ take (suc i) (x ∷ xs) ++ drop (suc (suc i)) (x ∷ xs)) [
-  | inl here ↦
-      let counted : 1 + times p xs ≤ 1 = subst (λ (b : Bool). (if b then 1 else 0) + times p xs ≤ 1) here (subst (λ (n : ℕ). n ≤ 1) (times_cons p x xs) once) in
-      absurd (omega (arith, counted, once_there xs i d p (omega (arith, within)) at))
-  | inr apart ↦
-      let counted : 0 + times p xs ≤ 1 = subst (λ (b : Bool). (if b then 1 else 0) + times p xs ≤ 1) apart (subst (λ (n : ℕ). n ≤ 1) (times_cons p x xs) once) in
-      rw apart (ap (λ (ys : List ℕ). x ∷ ys) (removed_one xs i d p (omega (arith, within)) at (omega (arith, counted))))
-]
+removed_one (x ∷ xs) (suc i) d p within at once =
+    elim (cases_Bool (x == p)) as (λ _. filter (λ q. not (q == p)) (x ∷ xs) ≡ take (suc i) (x ∷ xs) ++ drop (suc (suc i)) (x ∷ xs)) [
+      | inl here ↦
+          let counted : 1 + times p xs ≤ 1 =
+          subst (λ (b : Bool). (if b then 1 else 0) + times p xs ≤ 1) here (subst (λ (n : ℕ). n ≤ 1) (times_cons p x xs) once) in
+          absurd (omega (arith, counted, once_there xs i d p (omega (arith, within)) at))
+      | inr apart ↦
+          let counted : 0 + times p xs ≤ 1 =
+          subst (λ (b : Bool). (if b then 1 else 0) + times p xs ≤ 1) apart (subst (λ (n : ℕ). n ≤ 1) (times_cons p x xs) once) in
+          rw apart (ap (λ (ys : List ℕ). x ∷ ys) (removed_one xs i d p (omega (arith, within)) at (omega (arith, counted))))
+    ]
 
 -- ---- who stands in the list
 

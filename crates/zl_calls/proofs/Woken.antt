@@ -1,11 +1,16 @@
 -- A blocked process wakes, or stays blocked: the world afterwards, its invariant, and the list.
-use Rattle.zl_calls.proofs.Common.{◌≡◌, ℕ, Bool, true, false, not, ◌==◌, List, [], ◌∷◌, length, map, get_or, set, refl, sym, ap, ◌∙◌, if◌then◌else◌, Option, Some, None, is_some, inl, inr, ◌⊎◌, IsTrue, position, cases_Bool, eqb-true, false≢true, option_map, below_all, is_sorted, nat_cmp, Map, get, put, update, get-put, get-update, is_sorted-update, sorted_put, runs, lives, is_process, Objects, body_value, object_entry, object_value, process_entry, process_value, state_value, world_blocked, world_value, Agrees, IsConsistent, PortBody}
+use Rattle.zl_calls.proofs.Common.{◌≡◌, ℕ, Bool, true, false, not, ◌==◌, List, [], ◌∷◌, length, map, get_or, set, refl, sym, ap, ◌∙◌, if◌then◌else◌, Option}
+use Rattle.zl_calls.proofs.Common.{Some, None, is_some, inl, inr, ◌⊎◌, IsTrue, position, cases_Bool, eqb-true, false≢true, option_map, below_all, is_sorted}
+use Rattle.zl_calls.proofs.Common.{nat_cmp, Map, get, put, update, get-put, get-update, is_sorted-update, sorted_put, runs, lives, is_process, Objects}
+use Rattle.zl_calls.proofs.Common.{body_value, object_entry, object_value, process_entry, process_value, state_value, world_blocked, world_value, Agrees}
+use Rattle.zl_calls.proofs.Common.{IsConsistent, PortBody}
 use Rattle.std.specs.Bool.{passes, then_some}
 use Rattle.std.proofs.lemmas.List.{length-set}
 use Rattle.std.specs.List.{filter}
 use Rattle.std.specs.Prelude.{slice_get, drop}
 use Rattle.zl_rights.proofs.Canonical.{same_map}
-use Rattle.zl_code.proofs.Common.{Process as ProcessValue, Body as BodyValue, Object as ObjectValue, State as StateValue, Ready, answered, meets, active, has_child_job, has_child_process, is_blocked, woken, made_ready}
+use Rattle.zl_code.proofs.Common.{Process as ProcessValue, Body as BodyValue, Object as ObjectValue, State as StateValue, Ready, answered, meets, active}
+use Rattle.zl_code.proofs.Common.{has_child_job, has_child_process, is_blocked, woken, made_ready}
 use Rattle.zl_rights.specs.Signals.{has_ended}
 use Rattle.zl_rights.specs.World.{Packet}
 use Rattle.zl_rights.specs.Wakes.{packet_values, woken_by, woken_from, woken_at_port}
@@ -70,7 +75,8 @@ nil-cons : {x : Packet} {xs : List Packet} → [] ≡ x ∷ xs → ⊥
 nil-cons e = cc
 
 -- a state that wakes passes the same tests of life as before
-lives_on : (s : State) → is_blocked (state_value s) ≡ true → (runs (state_value s) ≡ true) × (lives (state_value s) ≡ true) × (has_ended (state_value s) ≡ false)
+lives_on : (s : State) → is_blocked (state_value s) ≡ true
+    → (runs (state_value s) ≡ true) × (lives (state_value s) ≡ true) × (has_ended (state_value s) ≡ false)
 lives_on (state.AwaitsSignal koid mask to) h = (refl, refl, refl)
 lives_on (state.AwaitsPacket port to) h = (refl, refl, refl)
 lives_on state.Ready h = absurd (false≢true h)
@@ -113,7 +119,8 @@ module _ (ps : List Process) (r : Objects) (lab : IsConsistent ps r) (pid place 
 
       stays_asleep : WakesOne pid false ps r after r2
       stays_asleep = record {
-        world = λ blocked. rw same_objects (ap (λ (m : Map ProcessValue). record (world_blocked ps r blocked) { processes = m }) same_entries ∙ sym (asleep blocked));
+        world = λ blocked.
+            rw same_objects (ap (λ (m : Map ProcessValue). record (world_blocked ps r blocked) { processes = m }) same_entries ∙ sym (asleep blocked));
         list = λ blocked are. record {
           once = λ k. rw same_entries (are.once k);
           counters = λ k q at h. are.counters k q (rw same_entries at at) h;
@@ -124,12 +131,16 @@ module _ (ps : List Process) (r : Objects) (lab : IsConsistent ps r) (pid place 
 
     -- ---- it becomes ready
 
-    module _ (ds values : List ℕ) (is : p2 ≡ record p { state = state.Ready; cpu = answered p.cpu ds (0 ∷ values) }) (was : is_blocked (state_value p.state) ≡ true)
-        (next : IsNext ps after r r2) (wakes_so : (blocked : List ℕ) → woken (world_blocked ps r blocked) pid ≡ made_ready (world_blocked ps r2 blocked) pid (process_value p) ds (0 ∷ values)) where
+    module _ (ds values : List ℕ) (is : p2 ≡ record p { state = state.Ready; cpu = answered p.cpu ds (0 ∷ values) })
+        (was : is_blocked (state_value p.state) ≡ true)
+        (next : IsNext ps after r r2) (wakes_so : (blocked : List ℕ)
+        → woken (world_blocked ps r blocked) pid ≡ made_ready (world_blocked ps r2 blocked) pid (process_value p) ds (0 ∷ values)) where
       ready_entries : map process_entry after ≡ put (map process_entry ps) pid (process_value p2)
-      ready_entries = rw (← key) (after_is ps after p p2 write ∙ put_there (map process_entry ps) p.pid (process_value p) (λ _. process_value p2) lab.processes_in_order write.there)
+      ready_entries = rw (← key)
+          (after_is ps after p p2 write ∙ put_there (map process_entry ps) p.pid (process_value p) (λ _. process_value p2) lab.processes_in_order write.there)
 
-      tests_alike : (test : StateValue → Bool) → test (state_value p.state) ≡ test Ready → (k : ℕ) → is_process (world_value after r2) test k ≡ is_process (world_value ps r) test k
+      tests_alike : (test : StateValue → Bool) → test (state_value p.state) ≡ test Ready → (k : ℕ)
+          → is_process (world_value after r2) test k ≡ is_process (world_value ps r) test k
       tests_alike test alike k = alike_states ps after p p2 write test (ap (λ (q : Process). test (state_value q.state)) is ∙ sym alike) r r2 k
 
       agrees_on : (k : ℕ) (b : Body) → Agrees (world_value ps r) k b → Agrees (world_value after r2) k b
@@ -139,7 +150,8 @@ module _ (ps : List Process) (r : Objects) (lab : IsConsistent ps r) (pid place 
       gets_awake : WakesOne pid true ps r after r2
       unfolding made_ready
       gets_awake = record {
-        world = λ blocked. ap (λ (m : Map ProcessValue). record (world_blocked ps r2 (filter (λ q. not (q == pid)) blocked)) { processes = m }) (ready_entries ∙ ap (λ (q : Process). put (map process_entry ps) pid (process_value q)) is) ∙ sym (wakes_so blocked);
+        world = λ blocked. ap (λ (m : Map ProcessValue). record (world_blocked ps r2 (filter (λ q. not (q == pid)) blocked)) { processes = m })
+            (ready_entries ∙ ap (λ (q : Process). put (map process_entry ps) pid (process_value q)) is) ∙ sym (wakes_so blocked);
         list = λ blocked are. rw (← key) (one_awake ps after p p2 write (ap (λ (q : Process). is_blocked (state_value q.state)) is) blocked are);
         lab = keeps_agreeing ps after p p2 write r r2 lab agrees_on
             (rw (ap (λ (q : Process). q.table) is) (lab.tables p.pid (process_value p) write.there))
@@ -151,13 +163,17 @@ module _ (ps : List Process) (r : Objects) (lab : IsConsistent ps r) (pid place 
   -- ---- by what it waits for
 
   module _ (p2 : Process) (r2 : Objects) where
-    by_signal : (koid mask : ℕ) (to : SignalRegisters) → p.state ≡ state.AwaitsSignal koid mask to → (test : Bool) → meets (signals_at r.objects koid) mask ≡ test
-        → p2 ≡ awake (then_some test (signals_at r.objects koid ∷ [])) p → r2 ≡ r → WakesOne pid (is_some (then_some test (signals_at r.objects koid ∷ []))) ps r (set ps place p2) r2
+    by_signal : (koid mask : ℕ) (to : SignalRegisters) → p.state ≡ state.AwaitsSignal koid mask to → (test : Bool)
+        → meets (signals_at r.objects koid) mask ≡ test
+        → p2 ≡ awake (then_some test (signals_at r.objects koid ∷ [])) p → r2 ≡ r
+        → WakesOne pid (is_some (then_some test (signals_at r.objects koid ∷ []))) ps r (set ps place p2) r2
     by_signal koid mask to in_state true holds is objects =
         let so : p2 ≡ record p { state = state.Ready; cpu = answered p.cpu (to.status ∷ to.observed ∷ []) (0 ∷ signals_at r.objects koid ∷ []) } =
         is ∙ ap (λ (s : State). record p { state = state.Ready; cpu = answered p.cpu (destinations_of s) (0 ∷ signals_at r.objects koid ∷ []) }) in_state in
-        rw objects (gets_awake p2 r (ap (λ (q : Process). q.pid) so) (to.status ∷ to.observed ∷ []) (signals_at r.objects koid ∷ []) so (ap (λ (s : State). is_blocked (state_value s)) in_state)
-        (recounted_next ps (set ps place p2) r lab (λ k. same_counts ps (set ps place p2) p p2 (write p2 r (ap (λ (q : Process). q.pid) so)) r r k refl (ap (λ (q : Process). q.table) so)))
+        rw objects (gets_awake p2 r (ap (λ (q : Process). q.pid) so) (to.status ∷ to.observed ∷ []) (signals_at r.objects koid ∷ []) so
+        (ap (λ (s : State). is_blocked (state_value s)) in_state)
+        (recounted_next ps (set ps place p2) r lab
+        (λ k. same_counts ps (set ps place p2) p p2 (write p2 r (ap (λ (q : Process). q.pid) so)) r r k refl (ap (λ (q : Process). q.table) so)))
         (λ blocked. woken_is blocked ∙ rw (in_state, same_active blocked koid, holds) refl))
     by_signal koid mask to in_state false holds is objects =
         stays_asleep p2 r2 (ap (λ (q : Process). q.pid) is) is objects (λ blocked. woken_is blocked ∙ rw (in_state, same_active blocked koid, holds) refl)
@@ -166,11 +182,14 @@ module _ (ps : List Process) (r : Objects) (lab : IsConsistent ps r) (pid place 
       abbrev ds : List ℕ
       ds = to.status ∷ to.key ∷ to.kind ∷ to.trigger ∷ to.observed ∷ []
 
-      seen_there : (blocked : List ℕ) (o : Option OwnObject) → get r.objects port ≡ o → woken (world_blocked ps r blocked) pid ≡ woken_at_port (world_blocked ps r blocked) pid (process_value p) port ds (option_map object_value o)
+      seen_there : (blocked : List ℕ) (o : Option OwnObject) → get r.objects port ≡ o
+          → woken (world_blocked ps r blocked) pid ≡ woken_at_port (world_blocked ps r blocked) pid (process_value p) port ds (option_map object_value o)
       seen_there blocked o at = woken_is blocked ∙ rw (in_state, get_seen r.objects port, at) refl
 
       no_packet : (o : Option OwnObject) → get r.objects port ≡ o → packets_in o ≡ [] → changing_port r port without_front ≡ r
-      no_packet o at none = ap (λ (m : Map OwnObject). record r { objects = m }) (update_fixed r.objects port (at_port without_front) (λ x there2. same_object x (ap packets_in (sym there2 ∙ at) ∙ none)))
+      no_packet o at none =
+          ap (λ (m : Map OwnObject). record r { objects = m })
+          (update_fixed r.objects port (at_port without_front) (λ x there2. same_object x (ap packets_in (sym there2 ∙ at) ∙ none)))
         where
           same_object : (x : OwnObject) → packets_of x.body ≡ [] → at_port without_front x ≡ x
           same_object x h = ap (λ (b : Body). record x { body = b }) (by_body x.body h)
@@ -179,11 +198,13 @@ module _ (ps : List Process) (r : Objects) (lab : IsConsistent ps r) (pid place 
               by_body (body.Port q) h = ap (λ (xs : List Packet). body.Port (record q { packets = xs })) (rw h refl)
               by_body _ h = refl
 
-      asleep_at : (o : Option OwnObject) → get r.objects port ≡ o → packets_in o ≡ [] → (blocked : List ℕ) → woken (world_blocked ps r blocked) pid ≡ world_blocked ps r blocked
+      asleep_at : (o : Option OwnObject) → get r.objects port ≡ o → packets_in o ≡ [] → (blocked : List ℕ)
+          → woken (world_blocked ps r blocked) pid ≡ world_blocked ps r blocked
       asleep_at None at none blocked = seen_there blocked None at
       asleep_at (Some o) at none blocked = seen_there blocked (Some o) at ∙ by_body o.body none
         where
-          by_body : (b : Body) → packets_of b ≡ [] → woken_by (world_blocked ps r blocked) pid (process_value p) port ds (object_value o) (body_value b) ≡ world_blocked ps r blocked
+          by_body : (b : Body) → packets_of b ≡ []
+              → woken_by (world_blocked ps r blocked) pid (process_value p) port ds (object_value o) (body_value b) ≡ world_blocked ps r blocked
           by_body (body.Port q) h = rw h refl
           by_body (body.Job own) h = refl
           by_body (body.Process job alive) h = refl
@@ -191,43 +212,56 @@ module _ (ps : List Process) (r : Objects) (lab : IsConsistent ps r) (pid place 
           by_body (body.ChannelEnd peer queue) h = refl
 
       taken_at : (o : OwnObject) (x : Packet) (rest : List Packet) → get r.objects port ≡ Some o → packets_of o.body ≡ x ∷ rest → (blocked : List ℕ)
-          → woken (world_blocked ps r blocked) pid ≡ made_ready (world_blocked ps (changing_port r port without_front) blocked) pid (process_value p) ds (0 ∷ packet_values x)
+          → woken (world_blocked ps r blocked) pid
+          ≡ made_ready (world_blocked ps (changing_port r port without_front) blocked) pid (process_value p) ds (0 ∷ packet_values x)
       taken_at o x rest at first blocked = seen_there blocked (Some o) at ∙ by_body o.body refl first
         where
-          by_body : (b : Body) → o.body ≡ b → packets_of b ≡ x ∷ rest → woken_by (world_blocked ps r blocked) pid (process_value p) port ds (object_value o) (body_value b) ≡ made_ready (world_blocked ps (changing_port r port without_front) blocked) pid (process_value p) ds (0 ∷ packet_values x)
-          by_body (body.Port q) is h = rw h (ap (λ (m : Map ObjectValue). made_ready (record (world_blocked ps r blocked) { objects = m }) pid (process_value p) ds (0 ∷ packet_values x)) (sym objects_are))
+          by_body : (b : Body)
+              → o.body ≡ b → packets_of b ≡ x ∷ rest → woken_by (world_blocked ps r blocked) pid (process_value p) port ds (object_value o) (body_value b)
+              ≡ made_ready (world_blocked ps (changing_port r port without_front) blocked) pid (process_value p) ds (0 ∷ packet_values x)
+          by_body (body.Port q) is h = rw h
+              (ap (λ (m : Map ObjectValue). made_ready (record (world_blocked ps r blocked) { objects = m }) pid (process_value p) ds (0 ∷ packet_values x))
+              (sym objects_are))
             where
-              objects_are : map object_entry (update r.objects port (at_port without_front)) ≡ put (map object_entry r.objects) port (record (object_value o) { body = PortBody rest })
+              objects_are : map object_entry (update r.objects port (at_port without_front))
+                  ≡ put (map object_entry r.objects) port (record (object_value o) { body = PortBody rest })
               objects_are = update_seen object_value r.objects port (at_port without_front) packet_taken (λ y. seen_taken y y.body refl)
-                  ∙ (put_there (map object_entry r.objects) port (object_value o) packet_taken (rw (seen_sorted r.objects) lab.kept.in_order) (get_seen r.objects port ∙ rw at refl)
-                  ∙ ap (λ (b : BodyValue). put (map object_entry r.objects) port (record (object_value o) { body = b })) (ap (λ (c : Body). body_packed (drop 1) (body_value c)) is ∙ ap (λ (xs : List Packet). PortBody (drop 1 xs)) h))
+                  ∙ (put_there (map object_entry r.objects) port (object_value o) packet_taken (rw (seen_sorted r.objects) lab.kept.in_order)
+                  (get_seen r.objects port ∙ rw at refl)
+                  ∙ ap (λ (b : BodyValue). put (map object_entry r.objects) port (record (object_value o) { body = b }))
+                  (ap (λ (c : Body). body_packed (drop 1) (body_value c)) is ∙ ap (λ (xs : List Packet). PortBody (drop 1 xs)) h))
           by_body (body.Job own) is h = absurd (nil-cons h)
           by_body (body.Process job alive) is h = absurd (nil-cons h)
           by_body body.Event is h = absurd (nil-cons h)
           by_body (body.ChannelEnd peer queue) is h = absurd (nil-cons h)
 
-      by_packet : (o : Option OwnObject) → get r.objects port ≡ o → (xs : List Packet) → packets_in o ≡ xs → p2 ≡ awake (option_map packet_values (slice_get xs 0)) p → r2 ≡ changing_port r port without_front
+      by_packet : (o : Option OwnObject) → get r.objects port ≡ o → (xs : List Packet) → packets_in o ≡ xs
+          → p2 ≡ awake (option_map packet_values (slice_get xs 0)) p → r2 ≡ changing_port r port without_front
           → WakesOne pid (is_some (option_map packet_values (slice_get xs 0))) ps r (set ps place p2) r2
       by_packet o at [] first is objects = stays_asleep p2 r2 (ap (λ (q : Process). q.pid) is) is (objects ∙ no_packet o at first) (asleep_at o at first)
       by_packet None at (x ∷ rest) first is objects = absurd (nil-cons first)
       by_packet (Some o) at (x ∷ rest) first is objects =
           let so : p2 ≡ record p { state = state.Ready; cpu = answered p.cpu ds (0 ∷ packet_values x) } =
           is ∙ ap (λ (s : State). record p { state = state.Ready; cpu = answered p.cpu (destinations_of s) (0 ∷ packet_values x) }) in_state in
-          rw objects (gets_awake p2 (changing_port r port without_front) (ap (λ (q : Process). q.pid) so) ds (packet_values x) so (ap (λ (s : State). is_blocked (state_value s)) in_state)
+          rw objects (gets_awake p2 (changing_port r port without_front) (ap (λ (q : Process). q.pid) so) ds (packet_values x) so
+          (ap (λ (s : State). is_blocked (state_value s)) in_state)
           (repacked_next without_front ps (set ps place p2) p p2 (write p2 r (ap (λ (q : Process). q.pid) so)) (ap (λ (q : Process). q.table) so) r lab port)
           (taken_at o x rest at first))
 
     -- whatever it is in
-    by_state : (s : State) → p.state ≡ s → p2 ≡ awake (given_awake s r) p → r2 ≡ without_taken s r → WakesOne pid (is_some (given_awake s r)) ps r (set ps place p2) r2
+    by_state : (s : State) → p.state ≡ s → p2 ≡ awake (given_awake s r) p → r2 ≡ without_taken s r
+        → WakesOne pid (is_some (given_awake s r)) ps r (set ps place p2) r2
     by_state state.Ready in_state is objects = stays_asleep p2 r2 (ap (λ (q : Process). q.pid) is) is objects (λ blocked. woken_is blocked ∙ rw in_state refl)
-    by_state (state.Ended code) in_state is objects = stays_asleep p2 r2 (ap (λ (q : Process). q.pid) is) is objects (λ blocked. woken_is blocked ∙ rw in_state refl)
+    by_state (state.Ended code) in_state is objects =
+        stays_asleep p2 r2 (ap (λ (q : Process). q.pid) is) is objects (λ blocked. woken_is blocked ∙ rw in_state refl)
     by_state state.Created in_state is objects = stays_asleep p2 r2 (ap (λ (q : Process). q.pid) is) is objects (λ blocked. woken_is blocked ∙ rw in_state refl)
     by_state state.Gone in_state is objects = stays_asleep p2 r2 (ap (λ (q : Process). q.pid) is) is objects (λ blocked. woken_is blocked ∙ rw in_state refl)
     by_state (state.AwaitsSignal koid mask to) in_state is objects = by_signal koid mask to in_state (meets (signals_at r.objects koid) mask) refl is objects
     by_state (state.AwaitsPacket port to) in_state is objects =
         by_packet port to in_state (get r.objects port) refl (packets_in (get r.objects port)) refl is objects
 
-    pub wakes_one : p2 ≡ awake (given_awake p.state r) p → r2 ≡ without_taken p.state r → WakesOne pid (is_some (given_awake p.state r)) ps r (set ps place p2) r2
+    pub wakes_one : p2 ≡ awake (given_awake p.state r) p → r2 ≡ without_taken p.state r
+        → WakesOne pid (is_some (given_awake p.state r)) ps r (set ps place p2) r2
     wakes_one = by_state p.state refl
 
 -- where there is no such process, nothing wakes

@@ -1,5 +1,6 @@
 -- A queue from which a handle was taken.
-use Rattle.std.proofs.Common.{◌≡◌, ℕ, suc, ◌+◌, ◌<◌, List, [], ◌∷◌, ◌++◌, length, take, drop, sym, Option, Some, None, IfSome, slice_index_or, slice_set, append-nil, arith}
+use Rattle.std.proofs.Common.{◌≡◌, ℕ, suc, ◌+◌, ◌<◌, List, [], ◌∷◌, ◌++◌, length, take, drop, sym, Option, Some, None, IfSome, slice_index_or, slice_set}
+use Rattle.std.proofs.Common.{append-nil, arith}
 use Rattle.std.proofs.Math.Seq.{split_at}
 use Rattle.std.specs.Option.{option_to_list}
 use Rattle.std.proofs.lemmas.List.{take-append-drop, take-set, drop-set}
@@ -20,7 +21,9 @@ module _ {X : Type 0} where
       rw (take-set xs i x, drop-set xs i x within) at (sym (take-append-drop i (slice_set xs i x)))
 
 -- the last handle of the message at a place was taken
-pub drained : (queue : List Message) (place : ℕ) (bytes : List ℕ) (handles rest : List Entry) (taken : Option Entry) → place < length queue → slice_index_or queue place (record { bytes = bytes; handles = handles }) ≡ record { bytes = bytes; handles = handles } → handles ≡ rest ++ option_to_list taken → IfSome taken (λ entry. Drains queue entry (slice_set queue place (record { bytes = bytes; handles = rest })))
+pub drained : (queue : List Message) (place : ℕ) (bytes : List ℕ) (handles rest : List Entry) (taken : Option Entry)
+    → place < length queue → slice_index_or queue place (record { bytes = bytes; handles = handles }) ≡ record { bytes = bytes; handles = handles }
+    → handles ≡ rest ++ option_to_list taken → IfSome taken (λ entry. Drains queue entry (slice_set queue place (record { bytes = bytes; handles = rest })))
 drained queue place bytes handles rest None within at popped = tt
 drained queue place bytes handles rest (Some entry) within at popped = record {
   earlier = take place queue;

@@ -1,5 +1,9 @@
 -- Where nothing is due, nothing is due either once a process that isn't blocked has another Cpu.
-use Rattle.zl_code.proofs.Common.{◌≡◌, ℕ, Bool, true, false, ◌&&◌, ◌==◌, not, List, [], ◌∷◌, map, refl, ap, ◌∙◌, Option, Some, None, arith, nat_tests, or_parts, list_any, filter, fold, option_map, if◌then◌else◌, get-update, get, put, update, each, Map, World, Cpu, answered, Process, State, Ready, Blocked, Object, Body, ChannelEnd, EventBody, PortBody, JobBody, ProcessBody, Packet, is_process, state_passes, lives, active, has_child_job, has_child_process, holds, fired, made_ready, woken, wakes, on_process, meets, SignalOf, PacketAt, packets_for, body_with_packets, with_body, woken_by_first, woken_by, woken_at_port, woken_from, woken_if_there}
+use Rattle.zl_code.proofs.Common.{◌≡◌, ℕ, Bool, true, false, ◌&&◌, ◌==◌, not, List, [], ◌∷◌, map, refl, ap, ◌∙◌, Option, Some, None, arith, nat_tests, or_parts}
+use Rattle.zl_code.proofs.Common.{list_any, filter, fold, option_map, if◌then◌else◌, get-update, get, put, update, each, Map, World, Cpu, answered, Process}
+use Rattle.zl_code.proofs.Common.{State, Ready, Blocked, Object, Body, ChannelEnd, EventBody, PortBody, JobBody, ProcessBody, Packet, is_process, state_passes}
+use Rattle.zl_code.proofs.Common.{lives, active, has_child_job, has_child_process, holds, fired, made_ready, woken, wakes, on_process, meets, SignalOf}
+use Rattle.zl_code.proofs.Common.{PacketAt, packets_for, body_with_packets, with_body, woken_by_first, woken_by, woken_at_port, woken_from, woken_if_there}
 use Rattle.std.specs.Prelude.{bit_or}
 use Rattle.zl_rights.specs.Numbers.{TERMINATED, NO_JOBS, NO_PROCESSES}
 use Rattle.zl_rights.specs.World.{Wait}

@@ -1,5 +1,8 @@
 -- The turn of a blocked process when processes wake: it wakes, or all stays as it is, whatever waits beside it.
-use Rattle.zl_code.proofs.Common.{◌≡◌, ℕ, true, false, true≢false, not, ◌==◌, List, [], ◌∷◌, refl, filter, fold, Option, Some, None, get, put, meets, World, Process, State, Ready, Blocked, SignalOf, PacketAt, Object, Body, PortBody, Packet, answered, is_blocked, body_of, is_process, has_child_job, has_child_process, active, packet_values, with_body, wakes, woken, made_ready, woken_from, woken_at_port, woken_by, woken_by_first}
+use Rattle.zl_code.proofs.Common.{◌≡◌, ℕ, true, false, true≢false, not, ◌==◌, List, [], ◌∷◌, refl, filter, fold, Option, Some, None, get, put, meets, World}
+use Rattle.zl_code.proofs.Common.{Process, State, Ready, Blocked, SignalOf, PacketAt, Object, Body, PortBody, Packet, answered, is_blocked, body_of, is_process}
+use Rattle.zl_code.proofs.Common.{has_child_job, has_child_process, active, packet_values, with_body, wakes, woken, made_ready, woken_from, woken_at_port}
+use Rattle.zl_code.proofs.Common.{woken_by, woken_by_first}
 use Rattle.zl_rights.specs.World.{Wait}
 use Rattle.zl_rights.proofs.Waking.{wakes_turns}
 use Rattle.zl_code.specs.Waiting.{packets_in}
@@ -45,7 +48,8 @@ module _ (w : World) (ws : List Wait) (n : ℕ) (b : List ℕ) where
         turn_without_signal inactive = rw (there, blocked, active_among k, inactive) refl
 
         -- a process that waits for an active signal wakes with the active ones
-        pub turn_with_signal : meets (active w k) mask ≡ true → woken among p ≡ with_waiters (readied w p x destinations (0 ∷ active w k ∷ [])) ws n (filter (λ q. not (q == p)) b)
+        pub turn_with_signal : meets (active w k) mask ≡ true
+            → woken among p ≡ with_waiters (readied w p x destinations (0 ∷ active w k ∷ [])) ws n (filter (λ q. not (q == p)) b)
         unfolding woken made_ready
         turn_with_signal is_active = rw (there, blocked, active_among k, is_active) refl
 
@@ -68,6 +72,7 @@ module _ (w : World) (ws : List Wait) (n : ℕ) (b : List ℕ) where
 
         -- a process that waits at a port with packets wakes with the first, which is gone
         pub turn_with_packet : (o : Object) (packet : Packet) (rest : List Packet) → get w.objects k ≡ Some o → o.body ≡ PortBody (packet ∷ rest)
-            → woken among p ≡ with_waiters (readied (with_body w k o (PortBody rest)) p x destinations (0 ∷ packet_values packet)) ws n (filter (λ q. not (q == p)) b)
+            → woken among p
+            ≡ with_waiters (readied (with_body w k o (PortBody rest)) p x destinations (0 ∷ packet_values packet)) ws n (filter (λ q. not (q == p)) b)
         unfolding woken made_ready
         turn_with_packet o packet rest at port = rw (there, blocked, at, port) refl

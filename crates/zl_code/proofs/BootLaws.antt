@@ -1,5 +1,12 @@
 -- A boot makes a world or comes to a first fault, never both, whichever values new handles get.
-use Rattle.zl_code.proofs.Common.{on_object, update, body_in, is_process, lives, state_passes, list_any, has_child_job, has_child_process, ◌&&◌, Bool, if◌then◌else◌, ◌≡◌, ◌<◌, ◌≤◌, ◌+◌, ◌⊎◌, ◌==◌, ℕ, zero, suc, true, false, cond, List, [], ◌∷◌, take, length, refl, sym, ap, ◌∙◌, Option, Some, None, inl, inr, IsTrue, arith, slice_get, nat_lt, cases_lt, length-map, none-some, same_Some, Map, put, World, Body, ChannelEnd, EventBody, PortBody, ProcessBody, Library, with_object, boot_fault, boot_effect, may_boot, Boots, IsBoot, FirstFault, at_statement, at_limit, MOST_ITEMS, origin, map, and_from, and_parts, nat_tests, subst, false≢true, cases_Bool, eqb-true, get, has_key, Process, may_get, process_with, get-put, settled_in, keys_of, Settles-exists, Settles-unique, may_get_all, IsBooted, handles_given, values_given, gives_no_handle, created_process, list_all, condition_number, Program}
+use Rattle.zl_code.proofs.Common.{on_object, update, body_in, is_process, lives, state_passes, list_any, has_child_job, has_child_process, ◌&&◌, Bool}
+use Rattle.zl_code.proofs.Common.{if◌then◌else◌, ◌≡◌, ◌<◌, ◌≤◌, ◌+◌, ◌⊎◌, ◌==◌, ℕ, zero, suc, true, false, cond, List, [], ◌∷◌, take, length, refl, sym, ap}
+use Rattle.zl_code.proofs.Common.{◌∙◌, Option, Some, None, inl, inr, IsTrue, arith, slice_get, nat_lt, cases_lt, length-map, none-some, same_Some, Map, put}
+use Rattle.zl_code.proofs.Common.{World, Body, ChannelEnd, EventBody, PortBody, ProcessBody, Library, with_object, boot_fault, boot_effect, may_boot, Boots}
+use Rattle.zl_code.proofs.Common.{IsBoot, FirstFault, at_statement, at_limit, MOST_ITEMS, origin, map, and_from, and_parts, nat_tests, subst, false≢true}
+use Rattle.zl_code.proofs.Common.{cases_Bool, eqb-true, get, has_key, Process, may_get, process_with, get-put, settled_in, keys_of, Settles-exists}
+use Rattle.zl_code.proofs.Common.{Settles-unique, may_get_all, IsBooted, handles_given, values_given, gives_no_handle, created_process, list_all}
+use Rattle.zl_code.proofs.Common.{condition_number, Program}
 use Rattle.zl_rights.specs.declared.entry.Entry.{Entry}
 use Rattle.zl_code.specs.declared.boot.Statement.{Statement}
 use Rattle.zl_code.specs.declared.boot.Statement.TheVariants as statement
@@ -33,16 +40,19 @@ keys_with (j ∷ js) k = cond (j == k) (k ∷ js) (cond (nat_lt k j) (k ∷ j �
 keys_of-put : {X : Type 0} (m : Map X) (k : ℕ) (x : X) → keys_of (put m k x) ≡ keys_with (keys_of m) k
 unfolding put keys_with
 keys_of-put [] k x = refl
-keys_of-put (e ∷ m) k x = elim (e.0 == k) as (λ b. keys_of (cond b ((k, x) ∷ m) (cond (nat_lt k e.0) ((k, x) ∷ e ∷ m) (e ∷ put m k x))) ≡ cond b (k ∷ keys_of m) (cond (nat_lt k e.0) (k ∷ e.0 ∷ keys_of m) (e.0 ∷ keys_with (keys_of m) k))) [
-  | true ↦ refl
-  | false ↦ elim (nat_lt k e.0) as (λ b. keys_of (cond b ((k, x) ∷ e ∷ m) (e ∷ put m k x)) ≡ cond b (k ∷ e.0 ∷ keys_of m) (e.0 ∷ keys_with (keys_of m) k)) [
-    | true ↦ refl
-    | false ↦ ap (λ (js : List ℕ). e.0 ∷ js) (keys_of-put m k x)
-  ]
-]
+keys_of-put (e ∷ m) k x =
+    elim (e.0 == k) as (λ b. keys_of (cond b ((k, x) ∷ m) (cond (nat_lt k e.0) ((k, x) ∷ e ∷ m) (e ∷ put m k x)))
+    ≡ cond b (k ∷ keys_of m) (cond (nat_lt k e.0) (k ∷ e.0 ∷ keys_of m) (e.0 ∷ keys_with (keys_of m) k))) [
+      | true ↦ refl
+      | false ↦ elim (nat_lt k e.0) as (λ b. keys_of (cond b ((k, x) ∷ e ∷ m) (e ∷ put m k x)) ≡ cond b (k ∷ e.0 ∷ keys_of m) (e.0 ∷ keys_with (keys_of m) k)) [
+        | true ↦ refl
+        | false ↦ ap (λ (js : List ℕ). e.0 ∷ js) (keys_of-put m k x)
+      ]
+    ]
 
 -- a process that lives beside others
-lives_beside : (m : Map Process) (n : ℕ) (q : Process) (k : ℕ) → lives q.state ≡ true → state_passes lives (get (put m n q) k) ≡ (if n == k then true else state_passes lives (get m k))
+lives_beside : (m : Map Process) (n : ℕ) (q : Process) (k : ℕ) → lives q.state ≡ true
+    → state_passes lives (get (put m n q) k) ≡ (if n == k then true else state_passes lives (get m k))
 lives_beside m n q k alive = ap (state_passes lives) (get-put m n q k) ∙ by_test (n == k)
   where
     by_test : (b : Bool) → state_passes lives (if b then Some q else get m k) ≡ (if b then true else state_passes lives (get m k))
@@ -63,7 +73,9 @@ same_processes u v a job = λ i. list_any (λ e. is_process_of job e.1.body && a
 -- what a program needs
 same_needs : (u v : World) → IsAlike u v → (job : ℕ) (program : Option Program) → lacks_need u job program ≡ lacks_need v job program
 same_needs u v a job None = refl
-same_needs u v a job (Some g) = λ i. g.checked && list_any (λ c. not (is_allowing (unwrap_or (get (policy_in (body_in (get (a.objects i) job))) (condition_number c)) action.Allow))) g.image.needs
+same_needs u v a job (Some g) =
+    λ i. g.checked
+    && list_any (λ c. not (is_allowing (unwrap_or (get (policy_in (body_in (get (a.objects i) job))) (condition_number c)) action.Allow))) g.image.needs
 
 module _ (lib : Library) where
   same_fault : (u v : World) → IsAlike u v → (s : Statement) → boot_fault lib u s ≡ boot_fault lib v s
@@ -98,7 +110,8 @@ module _ (lib : Library) where
     living = λ k. lives_beside u.processes u.next_koid _ k refl ∙ (both_tests (a.next) k (a.living k) ∙ sym (lives_beside v.processes v.next_koid _ k refl));
   }
   alike_after u v a (statement.Job parent) vs xs = alike_with u v a _ _ (λ i. job_within parent (body_in (get (a.objects i) parent)))
-  alike_after u v a (statement.Policy job condition action) vs xs = record { objects = λ i. update (a.objects i) job (policy_changed (setting condition action)); next = a.next; pids = a.pids; living = a.living }
+  alike_after u v a (statement.Policy job condition action) vs xs =
+      record { objects = λ i. update (a.objects i) job (policy_changed (setting condition action)); next = a.next; pids = a.pids; living = a.living }
   alike_after u v a statement.Event vs xs = alike_with u v a EventBody EventBody refl
   alike_after u v a statement.Port vs xs = alike_with u v a (PortBody []) (PortBody []) refl
   alike_after u v a statement.Channel vs xs =
@@ -169,7 +182,8 @@ module _ (lib : Library) where
   values_from v (e ∷ es) = v ∷ values_from (v + 1) es
 
   -- where no handle stands at v or above, they may be given
-  may_get_from : (q : Process) (v : ℕ) (es : List Entry) → 0 < v → v + length es ≤ 65536 → q.last ≡ None → ((k : ℕ) → IsTrue (has_key q.handles k) → k < v) → IsTrue (may_get_all q es (values_from v es))
+  may_get_from : (q : Process) (v : ℕ) (es : List Entry) → 0 < v → v + length es ≤ 65536 → q.last ≡ None → ((k : ℕ) → IsTrue (has_key q.handles k) → k < v)
+      → IsTrue (may_get_all q es (values_from v es))
   may_get_from q v [] above room none below = refl
   may_get_from q v (e ∷ es) above room none below =
       and_from (may_get q v) _ (rw (none, unused) (grind (arith, nat_tests, above, room)))
@@ -180,7 +194,8 @@ module _ (lib : Library) where
       ]))
     where
       unused : has_key q.handles v ≡ false
-      unused = elim (cases_Bool (has_key q.handles v)) as (λ _. has_key q.handles v ≡ false) [ inl there ↦ absurd (omega (arith, below v there)) | inr free ↦ free ]
+      unused =
+          elim (cases_Bool (has_key q.handles v)) as (λ _. has_key q.handles v ≡ false) [ inl there ↦ absurd (omega (arith, below v there)) | inr free ↦ free ]
 
   -- values for the handles of each statement
   abbrev first_values : World → Statement → List ℕ
@@ -203,7 +218,8 @@ module _ (lib : Library) where
     where
       by_rest : boot_fault lib w s ≡ None → Ends (boot_effect lib w s (first_values w s)) ss → Ends w (s ∷ ss)
       by_rest fine (inl (made, rest)) = inl (made, (first_values w s, fine, chosen w s fine, rest))
-      by_rest fine (inr (n, c, f)) = inr (suc n, c, record { made = f.made; at = f.at; before = (first_values w s, fine, chosen w s fine, f.before); stands = f.stands; faulty = f.faulty })
+      by_rest fine (inr (n, c, f)) = inr
+          (suc n, c, record { made = f.made; at = f.at; before = (first_values w s, fine, chosen w s fine, f.before); stands = f.stands; faulty = f.faulty })
 
       by_fault : (o : Option BootCause) → boot_fault lib w s ≡ o → Ends (boot_effect lib w s (first_values w s)) ss → Ends w (s ∷ ss)
       by_fault None fine rest = by_rest fine rest
@@ -214,7 +230,8 @@ module _ (lib : Library) where
 same : (w : World) → IsAlike w w
 same w = record { objects = refl; next = refl; pids = refl; living = λ k. refl }
 
-pub same_fault_after : (lib : Library) (before : List Statement) (u v : World) (s : Statement) → Boots lib origin before u → Boots lib origin before v → boot_fault lib u s ≡ boot_fault lib v s
+pub same_fault_after : (lib : Library) (before : List Statement) (u v : World) (s : Statement) → Boots lib origin before u → Boots lib origin before v
+    → boot_fault lib u s ≡ boot_fault lib v s
 same_fault_after lib before u v s x y = same_fault lib u v (alike_made lib origin origin (same origin) before u v x y) s
 
 -- a first fault is that of a statement, or that of the limit
@@ -223,7 +240,8 @@ data Parts (lib : Library) (ss : List Statement) (limit n : ℕ) (c : BootCause)
   of_limit : (made : World) → Boots lib origin ss made → MOST_ITEMS < limit → length ss ≡ n → cause.Limit ≡ c → Parts lib ss limit n c
 
 parts : (lib : Library) (ss : List Statement) (limit n : ℕ) (c : BootCause) → FirstFault lib ss limit n c → Parts lib ss limit n c
-parts lib ss limit _ _ (at_statement made n s c boots stands faulty) = of_statement (record { made = made; at = s; before = boots; stands = stands; faulty = faulty })
+parts lib ss limit _ _ (at_statement made n s c boots stands faulty) =
+    of_statement (record { made = made; at = s; before = boots; stands = stands; faulty = faulty })
 parts lib ss limit _ _ (at_limit made boots above) = of_limit made boots above refl refl
 
 pub excluded : (lib : Library) (ss : List Statement) (limit : ℕ) (w : World) (n : ℕ) (c : BootCause) → IsBooted lib ss limit w → FirstFault lib ss limit n c → ⊥
@@ -233,7 +251,8 @@ excluded lib ss limit w n c booted first = by_parts (parts lib ss limit n c firs
     by_parts (of_statement f) = all_done lib origin origin booted.boots.made (same origin) ss n c booted.boots.boots f
     by_parts (of_limit made boots above is of) = omega (arith, booted.within, above)
 
-pub one_fault : (lib : Library) (ss : List Statement) (limit n m : ℕ) (c d : BootCause) → FirstFault lib ss limit n c → FirstFault lib ss limit m d → (n ≡ m) × (c ≡ d)
+pub one_fault : (lib : Library) (ss : List Statement) (limit n m : ℕ) (c d : BootCause) → FirstFault lib ss limit n c → FirstFault lib ss limit m d
+    → (n ≡ m) × (c ≡ d)
 one_fault lib ss limit n m c d first second = by_parts (parts lib ss limit n c first) (parts lib ss limit m d second)
   where
     by_parts : Parts lib ss limit n c → Parts lib ss limit m d → (n ≡ m) × (c ≡ d)
@@ -242,11 +261,16 @@ one_fault lib ss limit n m c d first second = by_parts (parts lib ss limit n c f
     by_parts (of_limit made boots above is of) (of_statement g) = absurd (all_done lib origin origin made (same origin) ss m d boots g)
     by_parts (of_limit made boots above is of) (of_limit made2 boots2 above2 is2 of2) = (sym is ∙ is2, sym of ∙ of2)
 
-pub one_or_other : (lib : Library) (ss : List Statement) (limit : ℕ) → ((w : World) × IsBooted lib ss limit w) ⊎ ((n : ℕ) × (c : BootCause) × FirstFault lib ss limit n c)
+pub one_or_other : (lib : Library) (ss : List Statement) (limit : ℕ)
+    → ((w : World) × IsBooted lib ss limit w) ⊎ ((n : ℕ) × (c : BootCause) × FirstFault lib ss limit n c)
 one_or_other lib ss limit = by_end (ends lib origin ss)
   where
-    by_limit : (made : World) → Boots lib origin ss made → (limit ≤ MOST_ITEMS) ⊎ (MOST_ITEMS < limit) → ((w : World) × IsBooted lib ss limit w) ⊎ ((n : ℕ) × (c : BootCause) × FirstFault lib ss limit n c)
-    by_limit made boots (inl within) = inl (settled_in made (length (keys_of made.objects)), record { boots = record { made = made; boots = boots; settles = Settles-exists made }; within = within })
+    by_limit : (made : World) → Boots lib origin ss made → (limit ≤ MOST_ITEMS) ⊎ (MOST_ITEMS < limit)
+        → ((w : World) × IsBooted lib ss limit w) ⊎ ((n : ℕ) × (c : BootCause) × FirstFault lib ss limit n c)
+    by_limit made boots (inl within) = inl (
+      settled_in made (length (keys_of made.objects)),
+      record { boots = record { made = made; boots = boots; settles = Settles-exists made }; within = within },
+    )
     by_limit made boots (inr above) = inr (length ss, cause.Limit, at_limit made boots above)
 
     by_end : Ends lib origin ss → ((w : World) × IsBooted lib ss limit w) ⊎ ((n : ℕ) × (c : BootCause) × FirstFault lib ss limit n c)
@@ -258,14 +282,17 @@ one_or_other lib ss limit = by_end (ends lib origin ss)
 both_same : (x y : List ℕ) (xs ys : List (List ℕ)) → x ∷ xs ≡ y ∷ ys → (x ≡ y) × (xs ≡ ys)
 both_same x y xs ys e = (cc, cc)
 
-one_made : (lib : Library) (w : World) (ss : List Statement) (u v : World) → (x : Boots lib w ss u) (y : Boots lib w ss v) → values_given lib w ss u x ≡ values_given lib w ss v y → u ≡ v
+one_made : (lib : Library) (w : World) (ss : List Statement) (u v : World) → (x : Boots lib w ss u) (y : Boots lib w ss v)
+    → values_given lib w ss u x ≡ values_given lib w ss v y → u ≡ v
 one_made lib w [] u v e f same = e ∙ sym f
 one_made lib w (s ∷ ss) u v (vs, fine, may, rest) (xs, fine2, may2, rest2) same =
     let apart = both_same vs xs (values_given lib (boot_effect lib w s vs) ss u rest) (values_given lib (boot_effect lib w s xs) ss v rest2) same in
-    subst (λ (zs : List ℕ). (y : Boots lib (boot_effect lib w s zs) ss v) → values_given lib (boot_effect lib w s vs) ss u rest ≡ values_given lib (boot_effect lib w s zs) ss v y → u ≡ v)
+    subst (λ (zs : List ℕ). (y : Boots lib (boot_effect lib w s zs) ss v)
+    → values_given lib (boot_effect lib w s vs) ss u rest ≡ values_given lib (boot_effect lib w s zs) ss v y → u ≡ v)
     apart.0 (λ y e. one_made lib (boot_effect lib w s vs) ss u v rest y e) rest2 apart.1
 
-pub one_boot_world : (lib : Library) (ss : List Statement) (u v : World) (x : IsBoot lib ss u) (y : IsBoot lib ss v) → values_given lib origin ss x.made x.boots ≡ values_given lib origin ss y.made y.boots → u ≡ v
+pub one_boot_world : (lib : Library) (ss : List Statement) (u v : World) (x : IsBoot lib ss u) (y : IsBoot lib ss v)
+    → values_given lib origin ss x.made x.boots ≡ values_given lib origin ss y.made y.boots → u ≡ v
 one_boot_world lib ss u v x y same = Settles-unique x.made u v x.settles (rw (one_made lib origin ss y.made x.made y.boots x.boots (sym same)) at y.settles)
 
 -- ---- where no handle is given, none gets a value
@@ -276,11 +303,13 @@ no_choice lib w (statement.Process job program word []) (v ∷ vs) none may = ab
 no_choice lib w (statement.Process job program word (g ∷ gs)) (v ∷ vs) none may = absurd (false≢true none)
 no_choice lib w _ (v ∷ vs) none may = absurd (false≢true may)
 
-no_values : (lib : Library) (w : World) (ss : List Statement) (u : World) → IsTrue (list_all gives_no_handle ss) → (x : Boots lib w ss u) → values_given lib w ss u x ≡ map (λ s. []) ss
+no_values : (lib : Library) (w : World) (ss : List Statement) (u : World) → IsTrue (list_all gives_no_handle ss) → (x : Boots lib w ss u)
+    → values_given lib w ss u x ≡ map (λ s. []) ss
 no_values lib w [] u none x = refl
 no_values lib w (s ∷ ss) u none (vs, fine, may, rest) =
     let both = and_parts (gives_no_handle s) (list_all gives_no_handle ss) none in
     λ i. no_choice lib w s vs both.0 may i ∷ no_values lib (boot_effect lib w s vs) ss u both.1 rest i
 
 pub one_without_handles : (lib : Library) (ss : List Statement) (u v : World) → IsTrue (list_all gives_no_handle ss) → IsBoot lib ss u → IsBoot lib ss v → u ≡ v
-one_without_handles lib ss u v none x y = one_boot_world lib ss u v x y (no_values lib origin ss x.made none x.boots ∙ sym (no_values lib origin ss y.made none y.boots))
+one_without_handles lib ss u v none x y =
+    one_boot_world lib ss u v x y (no_values lib origin ss x.made none x.boots ∙ sym (no_values lib origin ss y.made none y.boots))

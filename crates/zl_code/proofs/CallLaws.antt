@@ -1,11 +1,19 @@
 -- What each call says where it isn't refused: its new handles have room, and it is made of these changes.
-use Rattle.zl_code.proofs.Common.{◌==◌, ◌<◌, All, Body, ChannelEnd, EventBody, IsSound, IsTrue, Library, List, Map, None, Object, PortBody, Process, Ready, Request, Some, World, [], and_from, ap, arith, cases_Bool, chan_create, chan_read_etc, chan_write, copy_of, dup, effect, entry_at, eq-eqb, event_create, examined, false, first_some, get, handle_operands, handles_to, has_koids, has_room, inl, inr, insert_all, is_some, kind_of, queue_of, leb-true, length, listed, may_choose, may_get, may_get_all, nat_le, new_handles, not, object_at, on_object, operand, refl, refusal, remove_all, replace, row_of, runs, same_Some, signal, subst, sym, taken_handles, true, with_effect, with_object, without, ℕ, ◌+◌, ◌^◌, ◌∙◌, ◌∷◌, ◌≡◌, ◌≤◌, not-false, or_parts, new_entry, object_changed, gets_all, true≢false, false≢true, body_of, HasPeer, is_port_there, is_empty, eqb-true, on_process, ◌==◌, drop, filter, takes, ◌++◌}
+use Rattle.zl_code.proofs.Common.{◌==◌, ◌<◌, All, Body, ChannelEnd, EventBody, IsSound, IsTrue, Library, List, Map, None, Object, PortBody, Process, Ready}
+use Rattle.zl_code.proofs.Common.{Request, Some, World, [], and_from, ap, arith, cases_Bool, chan_create, chan_read_etc, chan_write, copy_of, dup, effect}
+use Rattle.zl_code.proofs.Common.{entry_at, eq-eqb, event_create, examined, false, first_some, get, handle_operands, handles_to, has_koids, has_room, inl, inr}
+use Rattle.zl_code.proofs.Common.{insert_all, is_some, kind_of, queue_of, leb-true, length, listed, may_choose, may_get, may_get_all, nat_le, new_handles, not}
+use Rattle.zl_code.proofs.Common.{object_at, on_object, operand, refl, refusal, remove_all, replace, row_of, runs, same_Some, signal, subst, sym, taken_handles}
+use Rattle.zl_code.proofs.Common.{true, with_effect, with_object, without, ℕ, ◌+◌, ◌^◌, ◌∙◌, ◌∷◌, ◌≡◌, ◌≤◌, not-false, or_parts, new_entry, object_changed}
+use Rattle.zl_code.proofs.Common.{gets_all, true≢false, false≢true, body_of, HasPeer, is_port_there, is_empty, eqb-true, on_process, ◌==◌, drop, filter, takes}
+use Rattle.zl_code.proofs.Common.{◌++◌}
 use Rattle.zl_rights.specs.declared.kind.Kind.TheVariants as kind
 use Rattle.zl_rights.specs.declared.entry.Entry.{Entry}
 use Rattle.zl_rights.specs.declared.status.Status.TheVariants as status
 use Rattle.zl_rights.specs.Numbers.{WAIT, WRITE}
 use Rattle.zl_rights.specs.Packets.{is_from, user_packet}
-use Rattle.zl_code.specs.CallTable.{choosing, receiver_of, signal_peer, wait_async, port_create, port_queue, port_wait, port_poll, port_cancel, process_create, process_start, task_kill, job_create, job_set_policy}
+use Rattle.zl_code.specs.CallTable.{choosing, receiver_of, signal_peer, wait_async, port_create, port_queue, port_wait, port_poll, port_cancel, process_create}
+use Rattle.zl_code.specs.CallTable.{process_start, task_kill, job_create, job_set_policy}
 use Rattle.zl_code.specs.Jobs.{is_dead, job_within, policy_changed, with_killed}
 use Rattle.zl_code.specs.Sound.{StandsBelow}
 use Rattle.zl_rights.specs.Policies.{setting_of}
@@ -18,11 +26,14 @@ use Rattle.zl_code.specs.Local.{overwritten}
 use Rattle.zl_code.specs.Tests.{koid_in, entries_at, first_bytes, first_handles, peer_at, queue_at}
 use Rattle.zl_code.specs.Operands.{operand_of}
 use Rattle.zl_code.proofs.MapKept.{changed}
-use Rattle.zl_code.proofs.Changes.{AreUnmade, computes, message_comes, message_goes, signals_change, Changes, stays, changes, join, one, object_changes, object_is_made, policy_changes, ends_are_made, packets_are_changed, process_changes, wait_begins, keyed_end, waits_end}
-use Rattle.zl_code.proofs.Entering.{IsFine, HaveRoom, MayTake, IsLeft, all_enter, get_without, gone_without, copy_is_fine, one_copy, entry_is_fine, length_without, new_is_fine, removed_last}
+use Rattle.zl_code.proofs.Changes.{AreUnmade, computes, message_comes, message_goes, signals_change, Changes, stays, changes, join, one, object_changes}
+use Rattle.zl_code.proofs.Changes.{object_is_made, policy_changes, ends_are_made, packets_are_changed, process_changes, wait_begins, keyed_end, waits_end}
+use Rattle.zl_code.proofs.Entering.{IsFine, HaveRoom, MayTake, IsLeft, all_enter, get_without, gone_without, copy_is_fine, one_copy, entry_is_fine}
+use Rattle.zl_code.proofs.Entering.{length_without, new_is_fine, removed_last}
 use Rattle.zl_code.proofs.Messages.{may_be_sent, received_are_fine, two_entries, both_are_fine}
 use Rattle.zl_code.proofs.Kills.{all_are_killed}
-use Rattle.zl_code.proofs.Passing.{IsGranted, first_is_none, first_none, is_granted, is_live, listed_none, may_signal, may_signal_peer, named_object, room_and, room_or, test_fails, unmade}
+use Rattle.zl_code.proofs.Passing.{IsGranted, first_is_none, first_none, is_granted, is_live, listed_none, may_signal, may_signal_peer, named_object, room_and}
+use Rattle.zl_code.proofs.Passing.{room_or, test_fails, unmade}
 use Rattle.zl_code.proofs.TaskLaws.{process_made, job_stands, process_begins, child_apart, task_is_some}
 
 -- ---- the calls
@@ -42,7 +53,8 @@ module _ (lib : Library) (w : World) (p : ℕ) (q : Process) (there : get w.proc
     room_for n es room few = let below = leb-true _ 1024 (rw there at room) in omega (arith, few, below, left.shorter)
 
     -- the new handles enter, in a world whose processes are those of u
-    enter : (v : World) → v.processes ≡ u.processes → MayTake w v.waits p after → (es : List Entry) (vs : List ℕ) → (IsSound w → HaveRoom after es) → IsTrue (may_get_all after es vs) → All (IsFine w v.objects) es → Changes w v (insert_all v p es vs)
+    enter : (v : World) → v.processes ≡ u.processes → MayTake w v.waits p after → (es : List Entry) (vs : List ℕ) → (IsSound w → HaveRoom after es)
+        → IsTrue (may_get_all after es vs) → All (IsFine w v.objects) es → Changes w v (insert_all v p es vs)
     enter v same may es vs room gets fine =
         all_enter w v p after es vs (λ s. ap (λ m. get m p) same ∙ left.is_there) (ap runs (left.state ∙ ready)) gets room may fine
 
@@ -55,12 +67,15 @@ module _ (lib : Library) (w : World) (p : ℕ) (q : Process) (there : get w.proc
     fine_in h e at = subst (λ (m : Map Object). IsFine w m e) (sym left.objects) (entry_is_fine w p h e at)
 
     -- a new object, and the first handle to it
-    one_made : MayTake w u.waits p after → (b : Body) → queue_of b ≡ [] → HasPeer (with_object u b).objects (with_object u b).next_koid b → (IsSound w → StandsBelow (with_object u b).objects u.next_koid b) → HaveRoom after (new_entry w.next_koid (kind_of b) ∷ []) → (vs : List ℕ) → IsTrue (gets_all (get u.processes p) (new_entry w.next_koid (kind_of b) ∷ []) vs)
+    one_made : MayTake w u.waits p after → (b : Body) → queue_of b ≡ [] → HasPeer (with_object u b).objects (with_object u b).next_koid b
+        → (IsSound w → StandsBelow (with_object u b).objects u.next_koid b) → HaveRoom after (new_entry w.next_koid (kind_of b) ∷ []) → (vs : List ℕ)
+        → IsTrue (gets_all (get u.processes p) (new_entry w.next_koid (kind_of b) ∷ []) vs)
         → Changes w u (insert_all (with_object u b) p (new_entry w.next_koid (kind_of b) ∷ []) vs)
     unfolding with_object
     one_made may b quiet peer tree room vs gets =
         changes u (with_object u b) _ (object_is_made w u b quiet peer tree)
-        (enter (with_object u b) refl may (new_entry w.next_koid (kind_of b) ∷ []) vs (λ s. room) (chosen _ vs gets) (new_is_fine w u b w.next_koid left.next_koid))
+        (enter (with_object u b) refl may (new_entry w.next_koid (kind_of b) ∷ []) vs (λ s. room) (chosen _ vs gets)
+        (new_is_fine w u b w.next_koid left.next_koid))
 
     -- two new ends of a channel, and the first handles to them
     two_made : MayTake w u.waits p after → HaveRoom after (two_entries w) → (vs : List ℕ) → IsTrue (gets_all (get u.processes p) (two_entries w) vs)
@@ -68,13 +83,15 @@ module _ (lib : Library) (w : World) (p : ℕ) (q : Process) (there : get w.proc
     unfolding with_object
     two_made may room vs gets =
         changes u both _ (ends_are_made w u w.next_koid left.next_koid)
-        (enter both refl may (two_entries w) vs (λ s. room) (chosen _ vs gets) (both_are_fine w u (ChannelEnd (w.next_koid + 1) []) (ChannelEnd w.next_koid []) w.next_koid left.next_koid refl refl))
+        (enter both refl may (two_entries w) vs (λ s. room) (chosen _ vs gets)
+        (both_are_fine w u (ChannelEnd (w.next_koid + 1) []) (ChannelEnd w.next_koid []) w.next_koid left.next_koid refl refl))
       where
         both : World
         both = with_object (with_object u (ChannelEnd (w.next_koid + 1) [])) (ChannelEnd w.next_koid [])
 
     -- a handle enters at the value that was removed last
-    enter_again : (v : World) (h : ℕ) → v.processes ≡ u.processes → MayTake w v.waits p after → (es : List Entry) → length es ≤ 1 → IsTrue (may_get after h) → (IsSound w → HaveRoom after es) → All (IsFine w v.objects) es
+    enter_again : (v : World) (h : ℕ) → v.processes ≡ u.processes → MayTake w v.waits p after → (es : List Entry) → length es ≤ 1 → IsTrue (may_get after h)
+        → (IsSound w → HaveRoom after es) → All (IsFine w v.objects) es
         → Changes w v (insert_all v p es (h ∷ []))
     unfolding insert_all
     enter_again v h same may [] few gets room fine = stays v
@@ -84,15 +101,19 @@ module _ (lib : Library) (w : World) (p : ℕ) (q : Process) (there : get w.proc
     -- the bytes are stored
     store : (v : World) (address : ℕ) (bytes : List ℕ) → Changes w v (storing v p (address, bytes))
     store v address [] = stays v
-    store v address (b ∷ bytes) = one w v _ (process_changes w v p (λ x. record x { cpu = record x.cpu { memory = overwritten x.cpu.memory address (b ∷ bytes) } }) (λ x at. changed x _ refl refl (computes _ refl)) (λ x. refl))
+    store v address (b ∷ bytes) =
+        one w v _ (process_changes w v p (λ x. record x { cpu = record x.cpu { memory = overwritten x.cpu.memory address (b ∷ bytes) } })
+        (λ x at. changed x _ refl refl (computes _ refl)) (λ x. refl))
 
     -- the first message at the end k is read: its handles enter, and its bytes are stored
-    received : MayTake w u.waits p after → (k address : ℕ) (es : List Entry) (bytes vs : List ℕ) → HaveRoom after es → IsTrue (gets_all (get u.processes p) es vs) → All (IsFine w (on_object u k message_read).objects) es
+    received : MayTake w u.waits p after → (k address : ℕ) (es : List Entry) (bytes vs : List ℕ) → HaveRoom after es
+        → IsTrue (gets_all (get u.processes p) es vs) → All (IsFine w (on_object u k message_read).objects) es
         → Changes w u (storing (insert_all (on_object u k message_read) p es vs) p (address, bytes))
     unfolding on_object
     received may k address es bytes vs room gets fine =
         changes u (on_object u k message_read) _ (object_changes w u k message_read (λ o at. message_goes refl))
-        (join w (on_object u k message_read) (insert_all (on_object u k message_read) p es vs) _ (enter (on_object u k message_read) refl may es vs (λ s. room) (chosen es vs gets) fine)
+        (join w (on_object u k message_read) (insert_all (on_object u k message_read) p es vs) _
+        (enter (on_object u k message_read) refl may es vs (λ s. room) (chosen es vs gets) fine)
         (store (insert_all (on_object u k message_read) p es vs) address bytes))
 
   -- the world without the handles that the call takes
@@ -124,8 +145,10 @@ module _ (lib : Library) (w : World) (p : ℕ) (q : Process) (there : get w.proc
       changes _ (without_waits u p h) _ (waits_end w u p h)
       (enter_again u after left (without_waits u p h) h refl (rw same (record {
         free = λ s v free. elim (cases_Bool (v == h)) as (λ _. AreUnmade (filter (λ x. not (is_by_handle p h x)) w.waits) p v) [
-          | inl here ↦ subst (AreUnmade (filter (λ x. not (is_by_handle p h x)) w.waits) p) (sym (eqb-true v h here)) (λ i d inside. not-true _ (filter_passes (λ x. not (is_by_handle p h x)) w.waits i d inside))
-          | inr other ↦ All-filter (λ x. not (is_by_handle p h x)) (λ x. is_by_handle p v x ≡ false) w.waits (unmade w p q there s v (sym (ap is_some (get_without q.handles h v other)) ∙ free))
+          | inl here ↦ subst (AreUnmade (filter (λ x. not (is_by_handle p h x)) w.waits) p) (sym (eqb-true v h here))
+              (λ i d inside. not-true _ (filter_passes (λ x. not (is_by_handle p h x)) w.waits i d inside))
+          | inr other ↦ All-filter (λ x. not (is_by_handle p h x)) (λ x. is_by_handle p v x ≡ false) w.waits
+              (unmade w p q there s v (sym (ap is_some (get_without q.handles h v other)) ∙ free))
         ];
         last = λ s v is. rw (← same_Some h v is) (gone_without q.handles h);
       })) (copy_of (entry_at w p h) rights) (one_copy (entry_at w p h) rights) (rw same (eq-eqb h h refl))
@@ -142,7 +165,8 @@ module _ (lib : Library) (w : World) (p : ℕ) (q : Process) (there : get w.proc
       let first = operand_of w p [] WAIT (entry_at w p h) in
       let second = operand_of w p (kind.Port ∷ []) WRITE (entry_at w p port) in
       let both : first_some (first ∷ first_some (second ∷ None ∷ []) ∷ []) ≡ None = first_is_none _ _ passes in
-      is_granted w p (kind.Port ∷ []) WRITE (entry_at w p port) (first_is_none second (None ∷ []) (first_is_none (first_some (second ∷ None ∷ [])) [] (first_none first (first_some (second ∷ None ∷ []) ∷ []) both)))
+      is_granted w p (kind.Port ∷ []) WRITE (entry_at w p port)
+      (first_is_none second (None ∷ []) (first_is_none (first_some (second ∷ None ∷ [])) [] (first_none first (first_some (second ∷ None ∷ []) ∷ []) both)))
 
   port_there : (b : Body) → IsTrue (takes (kind.Port ∷ []) (kind_of b)) → IsTrue (is_port_there (Some b))
   port_there (PortBody packets) fits = refl
@@ -152,7 +176,8 @@ module _ (lib : Library) (w : World) (p : ℕ) (q : Process) (there : get w.proc
   wait_registered : (h port key mask : ℕ) → refusal lib w p (wait_async h port key mask) ≡ None
       → Changes w (left_by (wait_async h port key mask)) (registered (left_by (wait_async h port key mask)) (wait_of w p h port key mask))
   unfolding taken_handles handle_operands row_of remove_all
-  wait_registered h port key mask passes = one w w _ (wait_begins w w (wait_of w p h port key mask) (λ s. record { handle = λ e at. sym (ap koid_in at); port = port_is s }))
+  wait_registered h port key mask passes =
+      one w w _ (wait_begins w w (wait_of w p h port key mask) (λ s. record { handle = λ e at. sym (ap koid_in at); port = port_is s }))
     where
       port_is : IsSound w → IsTrue (is_port_there (body_of w (object_at w p port)))
       port_is s = let (o, at, fits) = named_object w p port (kind.Port ∷ []) WRITE (has_port h port key mask passes) s.named in rw at (port_there o.body fits)
@@ -164,7 +189,11 @@ module _ (lib : Library) (w : World) (p : ℕ) (q : Process) (there : get w.proc
       let may = may_take (taken_handles (dup h rights)) refl after left in
       let some_room = room_or w p 1 (nat_le (2 ^ 62) (handles_to w (object_at w p h))) (listed_none lib w p (dup h rights) passes).1.0 in
       let room = room_for u after left 1 (copy_of (entry_at w p h) rights) some_room (one_copy (entry_at w p h) rights) in
-      record { room = λ e. room; changes = λ vs gets. enter u after left u refl may _ vs (λ s. room) (chosen u after left _ vs gets) (copy_is_fine w u.objects (entry_at w p h) rights (fine_in u after left h)) }
+      record {
+        room = λ e. room;
+        changes = λ vs gets. enter u after left u refl may _ vs (λ s. room) (chosen u after left _ vs gets)
+            (copy_is_fine w u.objects (entry_at w p h) rights (fine_in u after left h));
+      }
   laws (replace h rights) after left passes = record { room = λ e. omega arith; changes = λ vs gets. replaced h rights after left passes }
   laws chan_create after left passes =
       let u = left_by chan_create in
@@ -184,7 +213,8 @@ module _ (lib : Library) (w : World) (p : ℕ) (q : Process) (there : get w.proc
       let enough = room_for u after left (length (first_handles (queue_at w p c))) (first_handles (queue_at w p c)) some_room (omega arith) in
       record {
         room = λ e. enough;
-        changes = λ vs gets. received u after left (may_take (taken_handles (chan_read_etc c address room places)) refl after left) (object_at w p c) address _ (first_bytes (queue_at w p c)) vs enough gets (received_are_fine w u p c left.objects);
+        changes = λ vs gets. received u after left (may_take (taken_handles (chan_read_etc c address room places)) refl after left) (object_at w p c) address _
+            (first_bytes (queue_at w p c)) vs enough gets (received_are_fine w u p c left.objects);
       }
   laws event_create after left passes =
       let u = left_by event_create in
@@ -196,7 +226,8 @@ module _ (lib : Library) (w : World) (p : ℕ) (q : Process) (there : get w.proc
       record {
         room = λ e. omega arith;
         changes = λ vs gets. one w u _ (object_changes w u (peer_at w p h) (object_changed clear set)
-            (λ o at. signals_change clear set refl (may_signal_peer w p h clear set lib passes o (subst (λ (m : Map Object). get m (peer_at w p h) ≡ Some o) left.objects at))));
+            (λ o at. signals_change clear set refl
+            (may_signal_peer w p h clear set lib passes o (subst (λ (m : Map Object). get m (peer_at w p h) ≡ Some o) left.objects at))));
       }
   laws (wait_async h port key mask) after left passes =
       record { room = λ e. omega arith; changes = λ vs gets. wait_registered h port key mask passes }
@@ -207,7 +238,10 @@ module _ (lib : Library) (w : World) (p : ℕ) (q : Process) (there : get w.proc
       record { room = λ e. room; changes = one_made u after left (may_take (taken_handles port_create) refl after left) (PortBody []) refl tt (λ s. tt) room }
   laws (port_queue port key value) after left passes =
       let u = left_by (port_queue port key value) in
-      record { room = λ e. omega arith; changes = λ vs gets. one w u _ (packets_are_changed w u (object_at w p port) (λ xs. xs ++ (user_packet key value ∷ []))) }
+      record {
+        room = λ e. omega arith;
+        changes = λ vs gets. one w u _ (packets_are_changed w u (object_at w p port) (λ xs. xs ++ (user_packet key value ∷ [])));
+      }
   laws (port_wait port) after left passes =
       let u = left_by (port_wait port) in
       record { room = λ e. omega arith; changes = λ vs gets. one w u _ (packets_are_changed w u (object_at w p port) (drop 1)) }
@@ -220,33 +254,52 @@ module _ (lib : Library) (w : World) (p : ℕ) (q : Process) (there : get w.proc
       record {
         room = λ e. omega arith;
         changes = λ vs gets. changes u (without_keyed u p source k key) _ (keyed_end w u p source k key)
-            (one w (without_keyed u p source k key) _ (packets_are_changed w (without_keyed u p source k key) k (filter (λ x. not (is_from (source_at w p source) key x)))));
+            (one w (without_keyed u p source k key) _
+            (packets_are_changed w (without_keyed u p source k key) k (filter (λ x. not (is_from (source_at w p source) key x)))));
       }
   laws (process_create job program) after left passes =
       let u = left_by (process_create job program) in
       let some_room = room_and w p 1 (has_koids w 1) (listed_none lib w p (process_create job program) passes).1.1.1.0 in
       let room = room_for u after left 1 (new_entry w.next_koid kind.Process ∷ []) some_room (omega arith) in
       let same : after ≡ q = none_left (taken_handles (process_create job program)) refl after left in
-      record { room = λ e. room; changes = λ vs gets. process_made lib w p q there ready job program vs passes (subst (λ (x : Process). HaveRoom x (new_entry w.next_koid kind.Process ∷ [])) same room) gets }
-  laws (process_start process h word) after left passes = record { room = λ e. absurd (true≢false (sym (eq-eqb p (object_at w p process) (sym e)) ∙ child_apart lib w p q there ready process h word passes)); changes = λ vs gets. process_begins lib w p q there ready process h word vs passes gets }
-  laws (task_kill task) after left passes = record { room = λ e. omega arith; changes = λ vs gets. one w w (with_killed w (object_at w p task)) (all_are_killed w w (object_at w p task) (λ k s inside. childless w s (object_at w p task) (task_is_some lib w p q there ready task passes s) k inside)) }
+      record {
+        room = λ e. room;
+        changes = λ vs gets. process_made lib w p q there ready job program vs passes
+            (subst (λ (x : Process). HaveRoom x (new_entry w.next_koid kind.Process ∷ [])) same room) gets;
+      }
+  laws (process_start process h word) after left passes = record {
+    room = λ e. absurd (true≢false (sym (eq-eqb p (object_at w p process) (sym e)) ∙ child_apart lib w p q there ready process h word passes));
+    changes = λ vs gets. process_begins lib w p q there ready process h word vs passes gets;
+  }
+  laws (task_kill task) after left passes = record {
+    room = λ e. omega arith;
+    changes = λ vs gets. one w w (with_killed w (object_at w p task)) (all_are_killed w w (object_at w p task)
+        (λ k s inside. childless w s (object_at w p task) (task_is_some lib w p q there ready task passes s) k inside));
+  }
   laws (job_set_policy j mode condition action) after left passes =
       let u = left_by (job_set_policy j mode condition action) in
       record {
         room = λ e. omega arith;
         changes = λ vs gets. one w u _ (object_changes w u (object_at w p j) (policy_changed (setting_of mode condition action))
-            (λ o at. policy_changes (setting_of mode condition action) refl (λ s. (or_parts (is_dead (body_of w (object_at w p j))) _ (test_fails _ status.BadState (listed_none lib w p (job_set_policy j mode condition action) passes).1.0)).1)));
+            (λ o at. policy_changes (setting_of mode condition action) refl
+            (λ s. (or_parts (is_dead (body_of w (object_at w p j))) _
+            (test_fails _ status.BadState (listed_none lib w p (job_set_policy j mode condition action) passes).1.0)).1)));
       }
   laws (job_create j) after left passes =
       let u = left_by (job_create j) in
       let some_room = room_and w p 1 (has_koids w 1) (listed_none lib w p (job_create j) passes).1.1.0 in
       let room = room_for u after left 1 (new_entry w.next_koid kind.Job ∷ []) some_room (omega arith) in
-      record { room = λ e. room; changes = one_made u after left (may_take (taken_handles (job_create j)) refl after left) (job_within (object_at w p j) (body_of w (object_at w p j))) refl tt (job_stands lib w p q there ready j passes) room }
+      record {
+        room = λ e. room;
+        changes = one_made u after left (may_take (taken_handles (job_create j)) refl after left)
+            (job_within (object_at w p j) (body_of w (object_at w p j))) refl tt (job_stands lib w p q there ready j passes) room;
+      }
   laws (signal h clear set) after left passes =
       let u = left_by (signal h clear set) in
       record {
         room = λ e. omega arith;
         changes = λ vs gets. one w u _ (object_changes w u (object_at w p h) (object_changed clear set)
-            (λ o at. signals_change clear set refl (may_signal w p h clear set lib passes o (subst (λ (m : Map Object). get m (object_at w p h) ≡ Some o) left.objects at))));
+            (λ o at. signals_change clear set refl
+            (may_signal w p h clear set lib passes o (subst (λ (m : Map Object). get m (object_at w p h) ≡ Some o) left.objects at))));
       }
   laws _ after left passes = record { room = λ e. omega arith; changes = λ vs gets. stays _ }

@@ -1,5 +1,9 @@
 -- What is known of the process of a statement that has no fault, and how it gets its handles.
-use Rattle.zl_code.proofs.Common.{◌+◌, ◌≡◌, ◌<◌, ◌≤◌, ◌&&◌, ◌||◌, ℕ, Bool, true, false, not, List, [], ◌∷◌, ◌++◌, length, refl, sym, arith, nat_tests, nat_le, nat_lt, Option, Some, None, IsTrue, is_some, then_some, slice_get, and_parts, none-some, first_some, Map, get, Object, World, Library, Process, body_in, boot_fault, has_default_rights, may_get, process_with, not-false, or_parts, may_get_all, MOST_GRANTS, MOST_PROCESSES, MOST_KOIDS, process_with_all, is_job, all_known, handle_given, handles_given, may_start_with, started_with, list_all}
+use Rattle.zl_code.proofs.Common.{◌+◌, ◌≡◌, ◌<◌, ◌≤◌, ◌&&◌, ◌||◌, ℕ, Bool, true, false, not, List, [], ◌∷◌, ◌++◌, length, refl, sym, arith, nat_tests, nat_le}
+use Rattle.zl_code.proofs.Common.{nat_lt, Option, Some, None, IsTrue, is_some, then_some, slice_get, and_parts, none-some, first_some, Map, get, Object, World}
+use Rattle.zl_code.proofs.Common.{Library, Process, body_in, boot_fault, has_default_rights, may_get, process_with, not-false, or_parts, may_get_all}
+use Rattle.zl_code.proofs.Common.{MOST_GRANTS, MOST_PROCESSES, MOST_KOIDS, process_with_all, is_job, all_known, handle_given, handles_given, may_start_with}
+use Rattle.zl_code.proofs.Common.{started_with, list_all}
 use Rattle.std.specs.Option.{option_to_list}
 use Rattle.zl_code.specs.Boot.{are_misfits, lacks_koids}
 use Rattle.zl_code.specs.Jobs.{lacks_need}
@@ -24,7 +28,8 @@ pub none_first : (b : Bool) (c : BootCause) (rest : List (Option BootCause)) →
 none_first true c rest fine = absurd (none-some c (sym fine))
 none_first false c rest fine = (refl, fine)
 
-pub can_start : (lib : Library) (w : World) (job program word : ℕ) (handles : List Grant) → boot_fault lib w (statement.Process job program word handles) ≡ None → CanStart lib w job program handles
+pub can_start : (lib : Library) (w : World) (job program word : ℕ) (handles : List Grant) → boot_fault lib w (statement.Process job program word handles) ≡ None
+    → CanStart lib w job program handles
 unfolding boot_fault
 can_start lib w job program word handles fine =
     let first = none_first (not (is_job w job && (is_some (slice_get lib program) && all_known w.objects handles))) cause.Unknown _ fine in
@@ -49,15 +54,17 @@ can_start lib w job program word handles fine =
 
 pub handles_at_most : (objects : Map Object) (gs : List Grant) → length (handles_given objects gs) ≤ length gs
 handles_at_most objects [] = omega arith
-handles_at_most objects (g ∷ gs) = elim (handle_given g (body_in (get objects g.koid))) as (λ o. length (option_to_list o ++ handles_given objects gs) ≤ length (g ∷ gs)) [
-  | None ↦ omega (arith, handles_at_most objects gs)
-  | Some e ↦ omega (arith, handles_at_most objects gs)
-]
+handles_at_most objects (g ∷ gs) =
+    elim (handle_given g (body_in (get objects g.koid))) as (λ o. length (option_to_list o ++ handles_given objects gs) ≤ length (g ∷ gs)) [
+      | None ↦ omega (arith, handles_at_most objects gs)
+      | Some e ↦ omega (arith, handles_at_most objects gs)
+    ]
 
 -- ---- its start, and its handles
 
 -- a process gets its handles after its start as before
-pub started_with_all : (es : List Entry) (vs xs : List ℕ) (word : ℕ) (q : Process) → process_with_all es vs (started_with xs word q) ≡ started_with xs word (process_with_all es vs q)
+pub started_with_all : (es : List Entry) (vs xs : List ℕ) (word : ℕ) (q : Process)
+    → process_with_all es vs (started_with xs word q) ≡ started_with xs word (process_with_all es vs q)
 started_with_all [] vs xs word q = refl
 started_with_all (e ∷ es) [] xs word q = refl
 started_with_all (e ∷ es) (v ∷ vs) xs word q = started_with_all es vs xs word (process_with v e q)
@@ -69,4 +76,5 @@ started_may_get (e ∷ es) [] xs word q = refl
 started_may_get (e ∷ es) (v ∷ vs) xs word q = rw (same_values, started_may_get es vs xs word (process_with v e q)) refl
   where
     same_values : may_get (started_with xs word q) v ≡ may_get q v
-    same_values = elim q.last as (λ o. may_get (record (started_with xs word q) { last = o }) v ≡ may_get (record q { last = o }) v) [ None ↦ refl | Some l ↦ refl ]
+    same_values =
+        elim q.last as (λ o. may_get (record (started_with xs word q) { last = o }) v ≡ may_get (record q { last = o }) v) [ None ↦ refl | Some l ↦ refl ]

@@ -1,5 +1,12 @@
 -- The elementary changes of which a step is made.
-use Rattle.zl_code.proofs.Common.{◌≡◌, ◌<◌, ◌≤◌, inl, inr, arith, ℕ, suc, Bool, true, false, not, ◌==◌, List, [], ◌∷◌, length, refl, ap, sym, subst, ◌∙◌, IsTrue, Option, Some, None, eq-eqb, if◌then◌else◌, ℤ, option_map, cases_Bool, eqb-true, within, Map, get, put, update, has_key, without, World, Cpu, answered, Process, State, Created, Ready, Blocked, Ended, Object, Body, ChannelEnd, EventBody, PortBody, JobBody, ProcessBody, is_process, state_passes, lives, runs, Settles, queue_of, fired, on_process, process_with, process_without, ended, with_object, may_get, in_order, has_default_rights, names_its_object, HandlesAreSound, HandlesAreNamed, raisable, IsSound, Packet, Message, All, list_all, get-put, get-update, on_object, process_ended, object_changed, with_process, is_blocked, HasItsObject, packets_for, made_ready, with_body, body_with_packets, filter, Awaited, HasPeer, body_of, entry_at, is_port_there, ◌++◌, ◌+◌, ne_eqb, length-append, append-nil, same_Some}
+use Rattle.zl_code.proofs.Common.{◌≡◌, ◌<◌, ◌≤◌, inl, inr, arith, ℕ, suc, Bool, true, false, not, ◌==◌, List, [], ◌∷◌, length, refl, ap, sym, subst, ◌∙◌}
+use Rattle.zl_code.proofs.Common.{IsTrue, Option, Some, None, eq-eqb, if◌then◌else◌, ℤ, option_map, cases_Bool, eqb-true, within, Map, get, put, update}
+use Rattle.zl_code.proofs.Common.{has_key, without, World, Cpu, answered, Process, State, Created, Ready, Blocked, Ended, Object, Body, ChannelEnd, EventBody}
+use Rattle.zl_code.proofs.Common.{PortBody, JobBody, ProcessBody, is_process, state_passes, lives, runs, Settles, queue_of, fired, on_process, process_with}
+use Rattle.zl_code.proofs.Common.{process_without, ended, with_object, may_get, in_order, has_default_rights, names_its_object, HandlesAreSound}
+use Rattle.zl_code.proofs.Common.{HandlesAreNamed, raisable, IsSound, Packet, Message, All, list_all, get-put, get-update, on_object, process_ended}
+use Rattle.zl_code.proofs.Common.{object_changed, with_process, is_blocked, HasItsObject, packets_for, made_ready, with_body, body_with_packets, filter}
+use Rattle.zl_code.proofs.Common.{Awaited, HasPeer, body_of, entry_at, is_port_there, ◌++◌, ◌+◌, ne_eqb, length-append, append-nil, same_Some}
 use Rattle.std.proofs.lemmas.List.Elements.{filter-append}
 use Rattle.zl_rights.specs.declared.entry.Entry.{Entry}
 use Rattle.zl_code.specs.Effects.{message_sent, message_read, without_waits, waiting}
@@ -9,7 +16,8 @@ use Rattle.zl_rights.specs.Policies.{Setting}
 use Rattle.zl_rights.specs.Signals.{is_job_below, is_process_of}
 use Rattle.zl_code.specs.Jobs.{has_child, object_killed, policy_changed}
 use Rattle.zl_code.specs.Sound.{StandsBelow}
-use Rattle.zl_code.proofs.MapKept.{in_order-put, in_order-update, in_order-each, Changed, same, changed, new, EachChanged, unchanged, changed_put, changed_update, changed_each}
+use Rattle.zl_code.proofs.MapKept.{in_order-put, in_order-update, in_order-each, Changed, same, changed, new, EachChanged, unchanged, changed_put}
+use Rattle.zl_code.proofs.MapKept.{changed_update, changed_each}
 
 -- ---- registered waits
 
@@ -54,7 +62,8 @@ pub data ProcessChange (start after : World) (p : ℕ) (x y : Process) : Type 0 
   -- it was not started yet, and is ready
   starts : (c : Cpu) → y ≡ record x { state = Ready; cpu = c } → x.state ≡ Created → ProcessChange start after p x y
   -- it was ready, and waits within a call
-  blocks : (awaited : Awaited) (destinations : List ℕ) → y ≡ record x { state = Blocked awaited destinations } → IsTrue (runs x.state) → ProcessChange start after p x y
+  blocks : (awaited : Awaited) (destinations : List ℕ) → y ≡ record x { state = Blocked awaited destinations } → IsTrue (runs x.state)
+      → ProcessChange start after p x y
 
 -- a process that is made between w and after
 pub record IsNewProcess (start w after : World) (k : ℕ) (y : Process) : Type 0 where
@@ -72,7 +81,8 @@ pub record MayBeSent (start after : World) (m : Message) : Type 0 where
 -- no job lives directly below the job k, and no process
 pub record IsChildless (w : World) (k : ℕ) : Type 0 where
   pub jobs : (c : ℕ) (o : Object) → get w.objects c ≡ Some o → is_job_below k o.body ≡ false
-  pub processes : (p : ℕ) (q : Process) (o : Object) → get w.processes p ≡ Some q → IsTrue (lives q.state) → get w.objects p ≡ Some o → is_process_of k o.body ≡ false
+  pub processes : (p : ℕ) (q : Process) (o : Object) → get w.processes p ≡ Some q → IsTrue (lives q.state) → get w.objects p ≡ Some o
+      → is_process_of k o.body ≡ false
 
 -- x becomes y
 pub data ObjectChange (start after : World) (k : ℕ) (x y : Object) : Type 0 where
@@ -133,14 +143,16 @@ pub one : (start w w2 : World) → Change start w w2 → Changes start w w2
 one start w w2 c = changes w w2 w2 c (stays w2)
 
 -- what each change and each settling keeps, all of them keep
-pub kept : (start : World) (P : World → Type 0) → ((u v : World) → Change start u v → P u → P v) → ((u v : World) → Settles u v → P u → P v) → (u w : World) → Changes start u w → P u → P w
+pub kept : (start : World) (P : World → Type 0) → ((u v : World) → Change start u v → P u → P v) → ((u v : World) → Settles u v → P u → P v) → (u w : World)
+    → Changes start u w → P u → P w
 kept start P by_change by_settling _ _ (stays w) p = p
 kept start P by_change by_settling _ _ (changes u v w c rest) p = kept start P by_change by_settling v w rest (by_change u v c p)
 kept start P by_change by_settling _ _ (settles u v w c rest) p = kept start P by_change by_settling v w rest (by_settling u v c p)
 
 -- what is true of a table stays true of it, where it is true of none, and of one without a handle or with one more
 pub table_kept : (P : Map Entry → Type 0) (start after : World) → P [] → ((m : Map Entry) (v : ℕ) → P m → P (without m v))
-    → ((m : Map Entry) (v : ℕ) (e : Entry) → (HandlesAreSound start → IsTrue (has_default_rights e)) → (HandlesAreNamed start → names_its_object after.objects e) → P m → P (put m v e))
+    → ((m : Map Entry) (v : ℕ) (e : Entry) → (HandlesAreSound start → IsTrue (has_default_rights e))
+    → (HandlesAreNamed start → names_its_object after.objects e) → P m → P (put m v e))
     → (p : ℕ) (x y : Process) → ProcessChange start after p x y → P x.handles → P y.handles
 table_kept P start after none out in_ p x y (handle_enters v e is may) t = rw is (in_ x.handles v e may.rights may.names t)
 table_kept P start after none out in_ p x y (handle_leaves v is there) t = rw is (out x.handles v t)
@@ -169,7 +181,8 @@ times-other p k apart (q ∷ ps) = elim (cases_Bool (q == p)) as (λ _. times k 
 ]
   where
     by_test : (b : Bool) → times k (filter (λ x. not (x == p)) ps) ≡ times k ps
-        → length (if b then q ∷ filter (λ x. x == k) (filter (λ x. not (x == p)) ps) else filter (λ x. x == k) (filter (λ x. not (x == p)) ps)) ≡ length (if b then q ∷ filter (λ x. x == k) ps else filter (λ x. x == k) ps)
+        → length (if b then q ∷ filter (λ x. x == k) (filter (λ x. not (x == p)) ps) else filter (λ x. x == k) (filter (λ x. not (x == p)) ps))
+        ≡ length (if b then q ∷ filter (λ x. x == k) ps else filter (λ x. x == k) ps)
     by_test true e = ap (λ (n : ℕ). suc n) e
     by_test false e = e
 
@@ -179,7 +192,8 @@ times-behind p k other ps = ap length (filter-append (λ q. q == k) ps (p ∷ []
 
 pub times-last : (p : ℕ) (ps : List ℕ) → times p ps ≡ 0 → times p (ps ++ (p ∷ [])) ≡ 1
 times-last p ps none =
-    ap length (filter-append (λ q. q == p) ps (p ∷ [])) ∙ (length-append (filter (λ q. q == p) ps) (filter (λ q. q == p) (p ∷ [])) ∙ rw (none, eq-eqb p p refl) refl)
+    ap length (filter-append (λ q. q == p) ps (p ∷ []))
+    ∙ (length-append (filter (λ q. q == p) ps) (filter (λ q. q == p) (p ∷ [])) ∙ rw (none, eq-eqb p p refl) refl)
 
 -- the list without p, where p isn't blocked after
 without_one : (w w2 : World) (p : ℕ) → w2.blocked ≡ filter (λ q. not (q == p)) w.blocked → is_process w2 is_blocked p ≡ false
@@ -192,7 +206,8 @@ without_one w w2 p list here apart k = elim (cases_Bool (p == k)) as (λ _. Keep
 
 -- ---- changes of a process
 
-state_kept : (m : Map Process) (p : ℕ) (f : Process → Process) → ((x : Process) → (f x).state ≡ x.state) → (k : ℕ) → state_passes is_blocked (get (update m p f) k) ≡ state_passes is_blocked (get m k)
+state_kept : (m : Map Process) (p : ℕ) (f : Process → Process) → ((x : Process) → (f x).state ≡ x.state) → (k : ℕ)
+    → state_passes is_blocked (get (update m p f) k) ≡ state_passes is_blocked (get m k)
 state_kept m p f same_state k = ap (state_passes is_blocked) (get-update m p f k) ∙ by_test (p == k) (get m k)
   where
     by_test : (b : Bool) (o : Option Process) → state_passes is_blocked (if b then option_map f o else o) ≡ state_passes is_blocked o
@@ -201,7 +216,8 @@ state_kept m p f same_state k = ap (state_passes is_blocked) (get-update m p f k
     by_test false o = refl
 
 pub process_changes : (start w : World) (p : ℕ) (f : Process → Process)
-    → ((x : Process) → get w.processes p ≡ Some x → Changed (ProcessChange start (on_process w p f) p) (IsNewProcess start w (on_process w p f) p) (Some x) (Some (f x)))
+    → ((x : Process) → get w.processes p ≡ Some x
+    → Changed (ProcessChange start (on_process w p f) p) (IsNewProcess start w (on_process w p f) p) (Some x) (Some (f x)))
     → ((x : Process) → (f x).state ≡ x.state) → Change start w (on_process w p f)
 unfolding on_process is_process
 process_changes start w p f ok same_state = record {
@@ -226,7 +242,8 @@ handle_goes start w p v = process_changes start w p (process_without v) (λ x at
     state_of x false = refl
 
     by_key : (x : Process) (b : Bool) → has_key x.handles v ≡ b
-        → Changed (ProcessChange start (on_process w p (process_without v)) p) (IsNewProcess start w (on_process w p (process_without v)) p) (Some x) (Some (after b x))
+        → Changed (ProcessChange start (on_process w p (process_without v)) p) (IsNewProcess start w (on_process w p (process_without v)) p) (Some x)
+        (Some (after b x))
     by_key x true is = changed x _ refl refl (handle_leaves v refl is)
     by_key x false is = same refl
 
@@ -238,7 +255,9 @@ process_ends start w p code = record {
   objects_in_order = λ h. h;
   processes = changed_update _ _ w.processes p (process_ended code) (λ x there. by_life x (lives x.state));
   objects = unchanged _ _ w.objects w.objects refl;
-  blocked = λ s. without_one w (ended w p code) p refl (ap (state_passes is_blocked) (get-update w.processes p (process_ended code) p ∙ rw (eq-eqb p p refl) refl) ∙ by_process (get w.processes p))
+  blocked =
+      λ s. without_one w (ended w p code) p refl
+      (ap (state_passes is_blocked) (get-update w.processes p (process_ended code) p ∙ rw (eq-eqb p p refl) refl) ∙ by_process (get w.processes p))
       (λ k other. get-update w.processes p (process_ended code) k ∙ rw other refl);
   waits = alike refl;
 }
@@ -260,7 +279,8 @@ process_ends start w p code = record {
     by_process None = refl
     by_process (Some x) = unblocked x x.state refl
 
-pub process_wakes : (start w : World) (p : ℕ) (q : Process) (ds vs : List ℕ) → get w.processes p ≡ Some q → IsTrue (runs q.state) → Change start w (made_ready w p q ds vs)
+pub process_wakes : (start w : World) (p : ℕ) (q : Process) (ds vs : List ℕ) → get w.processes p ≡ Some q → IsTrue (runs q.state)
+    → Change start w (made_ready w p q ds vs)
 unfolding made_ready is_process
 process_wakes start w p q ds vs there running = record {
   next_koid = omega arith;
@@ -268,21 +288,27 @@ process_wakes start w p q ds vs there running = record {
   objects_in_order = λ h. h;
   processes = changed_put _ _ w.processes p _ (changed q _ there refl (wakes (answered q.cpu ds vs) refl running));
   objects = unchanged _ _ w.objects w.objects refl;
-  blocked = λ s. without_one w (made_ready w p q ds vs) p refl (ap (state_passes is_blocked) {y = Some (record q { state = Ready; cpu = answered q.cpu ds vs })} (get-put w.processes p _ p ∙ rw (eq-eqb p p refl) refl)) (λ k other. get-put w.processes p _ k ∙ rw other refl);
+  blocked = λ s. without_one w (made_ready w p q ds vs) p refl
+      (ap (state_passes is_blocked) {y = Some (record q { state = Ready; cpu = answered q.cpu ds vs })} (get-put w.processes p _ p ∙ rw (eq-eqb p p refl) refl))
+      (λ k other. get-put w.processes p _ k ∙ rw other refl);
   waits = alike refl;
 }
 
 -- a ready process waits within a call, last of all
-pub process_blocks : (w : World) (p : ℕ) (q : Process) (ds : List ℕ) (awaited : Awaited) → get w.processes p ≡ Some q → q.state ≡ Ready → Change w w (waiting w p ds (Some awaited))
+pub process_blocks : (w : World) (p : ℕ) (q : Process) (ds : List ℕ) (awaited : Awaited) → get w.processes p ≡ Some q → q.state ≡ Ready
+    → Change w w (waiting w p ds (Some awaited))
 unfolding on_process is_process
 process_blocks w p q ds awaited there ready = record {
   next_koid = omega arith;
   processes_in_order = λ h. rw (in_order-update w.processes p blocked) h;
   objects_in_order = λ h. h;
-  processes = changed_update _ _ w.processes p blocked (λ x at. changed x _ refl refl (blocks awaited ds refl (rw (ap (λ (y : Process). y.state) (same_Some x q (sym at ∙ there)), ready) refl)));
+  processes = changed_update _ _ w.processes p blocked
+      (λ x at. changed x _ refl refl (blocks awaited ds refl (rw (ap (λ (y : Process). y.state) (same_Some x q (sym at ∙ there)), ready) refl)));
   objects = unchanged _ _ w.objects w.objects refl;
   blocked = λ s k. elim (cases_Bool (p == k)) as (λ _. KeepsBlocked w (waiting w p ds (Some awaited)) k) [
-    | inl is ↦ subst (KeepsBlocked w (waiting w p ds (Some awaited))) (eqb-true p k is) (asleep (times-last p w.blocked (s.blocked p ∙ rw (there, ready) refl)) (ap (state_passes is_blocked) {y = Some (blocked q)} (get-update w.processes p blocked p ∙ rw (eq-eqb p p refl, there) refl)))
+    | inl is ↦ subst (KeepsBlocked w (waiting w p ds (Some awaited))) (eqb-true p k is)
+        (asleep (times-last p w.blocked (s.blocked p ∙ rw (there, ready) refl))
+        (ap (state_passes is_blocked) {y = Some (blocked q)} (get-update w.processes p blocked p ∙ rw (eq-eqb p p refl, there) refl)))
     | inr other ↦ still (times-behind p k other w.blocked) (ap (state_passes is_blocked) (get-update w.processes p blocked k ∙ rw other refl))
   ];
   waits = alike refl;
@@ -301,10 +327,12 @@ process_starts start w p f created = record {
   objects_in_order = λ h. h;
   processes = changed_update _ _ w.processes p after (λ x at. changed x _ refl refl (starts (f x) refl (created x at)));
   objects = unchanged _ _ w.objects w.objects refl;
-  blocked = λ s k. still refl (ap (state_passes is_blocked) (get-update w.processes p after k) ∙ elim (cases_Bool (p == k)) as (λ _. state_passes is_blocked (if p == k then option_map after (get w.processes k) else get w.processes k) ≡ state_passes is_blocked (get w.processes k)) [
-    | inl here ↦ rw (here, ← eqb-true p k here) (unblocked (get w.processes p) refl)
-    | inr other ↦ rw other refl
-  ]);
+  blocked =
+      λ s k. still refl (ap (state_passes is_blocked) (get-update w.processes p after k) ∙ elim (cases_Bool (p == k)) as (λ _.
+      state_passes is_blocked (if p == k then option_map after (get w.processes k) else get w.processes k) ≡ state_passes is_blocked (get w.processes k)) [
+        | inl here ↦ rw (here, ← eqb-true p k here) (unblocked (get w.processes p) refl)
+        | inr other ↦ rw other refl
+      ]);
   waits = alike refl;
 }
   where
@@ -315,7 +343,8 @@ process_starts start w p f created = record {
     unblocked None at = refl
     unblocked (Some x) at = sym (ap is_blocked (created x at))
 
-pub process_is_made : (start w : World) (k : ℕ) (y : Process) → IsNewProcess start w (with_process w k y) k y → is_blocked y.state ≡ false → Change start w (with_process w k y)
+pub process_is_made : (start w : World) (k : ℕ) (y : Process) → IsNewProcess start w (with_process w k y) k y → is_blocked y.state ≡ false
+    → Change start w (with_process w k y)
 unfolding is_process
 process_is_made start w k y fine unblocked = record {
   next_koid = omega arith;
@@ -323,10 +352,12 @@ process_is_made start w k y fine unblocked = record {
   objects_in_order = λ h. h;
   processes = changed_put _ _ w.processes k y (new y refl fine);
   objects = unchanged _ _ w.objects w.objects refl;
-  blocked = λ s p. still refl (ap (state_passes is_blocked) (get-put w.processes k y p) ∙ elim (cases_Bool (k == p)) as (λ _. state_passes is_blocked (if k == p then Some y else get w.processes p) ≡ state_passes is_blocked (get w.processes p)) [
-    | inl here ↦ rw (here, ← eqb-true k p here, fine.free s) unblocked
-    | inr other ↦ rw other refl
-  ]);
+  blocked =
+      λ s p. still refl (ap (state_passes is_blocked) (get-put w.processes k y p) ∙ elim (cases_Bool (k == p))
+      as (λ _. state_passes is_blocked (if k == p then Some y else get w.processes p) ≡ state_passes is_blocked (get w.processes p)) [
+        | inl here ↦ rw (here, ← eqb-true k p here, fine.free s) unblocked
+        | inr other ↦ rw other refl
+      ]);
   waits = alike refl;
 }
 
@@ -334,7 +365,8 @@ process_is_made start w k y fine unblocked = record {
 
 -- a world with other objects alone
 objects_alone : (start w w2 : World) → w2.processes ≡ w.processes → w2.blocked ≡ w.blocked → w.next_koid ≤ w2.next_koid
-    → (IsTrue (in_order w.objects) → IsTrue (in_order w2.objects)) → EachChanged (ObjectChange start w2) (IsNewObject start w w2) w.objects w2.objects → WaitsChange start w w2 → Change start w w2
+    → (IsTrue (in_order w.objects) → IsTrue (in_order w2.objects)) → EachChanged (ObjectChange start w2) (IsNewObject start w w2) w.objects w2.objects
+    → WaitsChange start w w2 → Change start w w2
 unfolding is_process
 objects_alone start w w2 processes blocked next order objects waits = record {
   next_koid = next;
@@ -346,21 +378,27 @@ objects_alone start w w2 processes blocked next order objects waits = record {
   waits = waits;
 }
 
-pub object_changes : (start w : World) (k : ℕ) (f : Object → Object) → ((x : Object) → get w.objects k ≡ Some x → ObjectChange start (on_object w k f) k x (f x)) → Change start w (on_object w k f)
+pub object_changes : (start w : World) (k : ℕ) (f : Object → Object)
+    → ((x : Object) → get w.objects k ≡ Some x → ObjectChange start (on_object w k f) k x (f x)) → Change start w (on_object w k f)
 unfolding on_object
-object_changes start w k f ok = objects_alone start w (on_object w k f) refl refl (omega arith) (λ h. rw (in_order-update w.objects k f) h) (changed_update _ _ w.objects k f (λ x there. changed x _ refl refl (ok x there))) (alike refl)
+object_changes start w k f ok =
+    objects_alone start w (on_object w k f) refl refl (omega arith) (λ h. rw (in_order-update w.objects k f) h)
+    (changed_update _ _ w.objects k f (λ x there. changed x _ refl refl (ok x there))) (alike refl)
 
-pub object_is_made : (start w : World) (b : Body) → queue_of b ≡ [] → HasPeer (with_object w b).objects (with_object w b).next_koid b → (IsSound start → StandsBelow (with_object w b).objects w.next_koid b) → Change start w (with_object w b)
+pub object_is_made : (start w : World) (b : Body) → queue_of b ≡ [] → HasPeer (with_object w b).objects (with_object w b).next_koid b
+    → (IsSound start → StandsBelow (with_object w b).objects w.next_koid b) → Change start w (with_object w b)
 unfolding with_object
 object_is_made start w b quiet peer tree =
     objects_alone start w (with_object w b) refl refl (omega arith) (in_order-put w.objects w.next_koid _)
-    (changed_put _ _ w.objects w.next_koid _ (new _ refl (record { next = omega arith; given = omega arith; quiet = quiet; unraised = refl; peer = peer; tree = tree }))) (alike refl)
+    (changed_put _ _ w.objects w.next_koid _
+    (new _ refl (record { next = omega arith; given = omega arith; quiet = quiet; unraised = refl; peer = peer; tree = tree }))) (alike refl)
 
 -- both ends of a channel
 pub ends_are_made : (start w : World) (n : ℕ) → w.next_koid ≡ n → Change start w (with_object (with_object w (ChannelEnd (n + 1) [])) (ChannelEnd n []))
 unfolding with_object
 ends_are_made start w n here =
-    objects_alone start w (with_object (with_object w (ChannelEnd (n + 1) [])) (ChannelEnd n [])) refl refl (omega arith) (λ h. in_order-put first _ _ (in_order-put w.objects _ _ h)) at_koid (alike refl)
+    objects_alone start w (with_object (with_object w (ChannelEnd (n + 1) [])) (ChannelEnd n [])) refl refl (omega arith)
+    (λ h. in_order-put first _ _ (in_order-put w.objects _ _ h)) at_koid (alike refl)
   where
     end_at : ℕ → Object
     end_at peer = record { body = ChannelEnd peer []; raised = 0 }
@@ -372,23 +410,48 @@ ends_are_made start w n here =
     both = put first (w.next_koid + 1) (end_at n)
 
     at_first : get both n ≡ Some (end_at (n + 1))
-    at_first = get-put first (w.next_koid + 1) (end_at n) n ∙ (rw (ne_eqb (w.next_koid + 1) n (λ e. omega (arith, here))) (get-put w.objects w.next_koid (end_at (n + 1)) n ∙ rw (eq-eqb w.next_koid n here) refl))
+    at_first =
+        get-put first (w.next_koid + 1) (end_at n) n
+        ∙ (rw (ne_eqb (w.next_koid + 1) n (λ e. omega (arith, here))) (get-put w.objects w.next_koid (end_at (n + 1)) n ∙ rw (eq-eqb w.next_koid n here) refl))
 
     at_second : get both (n + 1) ≡ Some (end_at n)
     at_second = get-put first (w.next_koid + 1) (end_at n) (n + 1) ∙ rw (eq-eqb (w.next_koid + 1) (n + 1) (omega (arith, here))) refl
 
-    at_koid : EachChanged (ObjectChange start (with_object (with_object w (ChannelEnd (n + 1) [])) (ChannelEnd n []))) (IsNewObject start w (with_object (with_object w (ChannelEnd (n + 1) [])) (ChannelEnd n []))) w.objects both
-    at_koid k = elim (cases_Bool (w.next_koid + 1 == k)) as (λ _. Changed (ObjectChange start (with_object (with_object w (ChannelEnd (n + 1) [])) (ChannelEnd n [])) k) (IsNewObject start w (with_object (with_object w (ChannelEnd (n + 1) [])) (ChannelEnd n [])) k) (get w.objects k) (get both k)) [
-      | inl second ↦
-          let is : w.next_koid + 1 ≡ k = eqb-true (w.next_koid + 1) k second in
-          new (end_at n) (get-put first (w.next_koid + 1) (end_at n) k ∙ rw second refl) (record { next = omega (arith, is); given = omega (arith, is); quiet = refl; unraised = refl; peer = (omega (arith, here), rw at_first refl); tree = λ s. tt })
-      | inr other ↦ elim (cases_Bool (w.next_koid == k)) as (λ _. Changed (ObjectChange start (with_object (with_object w (ChannelEnd (n + 1) [])) (ChannelEnd n [])) k) (IsNewObject start w (with_object (with_object w (ChannelEnd (n + 1) [])) (ChannelEnd n [])) k) (get w.objects k) (get both k)) [
-        | inl now ↦
-            let is : w.next_koid ≡ k = eqb-true w.next_koid k now in
-            new (end_at (n + 1)) (get-put first (w.next_koid + 1) (end_at n) k ∙ (rw other (get-put w.objects w.next_koid (end_at (n + 1)) k ∙ rw now refl))) (record { next = omega (arith, is); given = omega (arith, is); quiet = refl; unraised = refl; peer = (omega (arith, here), rw at_second refl); tree = λ s. tt })
-        | inr apart ↦ same (get-put first (w.next_koid + 1) (end_at n) k ∙ (rw other (get-put w.objects w.next_koid (end_at (n + 1)) k ∙ rw apart refl)))
-      ]
-    ]
+    at_koid : EachChanged (ObjectChange start (with_object (with_object w (ChannelEnd (n + 1) [])) (ChannelEnd n [])))
+        (IsNewObject start w (with_object (with_object w (ChannelEnd (n + 1) [])) (ChannelEnd n []))) w.objects both
+    at_koid k =
+        elim (cases_Bool (w.next_koid + 1 == k)) as (λ _. Changed (ObjectChange start (with_object (with_object w (ChannelEnd (n + 1) [])) (ChannelEnd n [])) k)
+        (IsNewObject start w (with_object (with_object w (ChannelEnd (n + 1) [])) (ChannelEnd n [])) k) (get w.objects k) (get both k)) [
+          | inl second ↦
+              let is : w.next_koid + 1 ≡ k = eqb-true (w.next_koid + 1) k second in
+              new (end_at n) (get-put first (w.next_koid + 1) (end_at n) k ∙ rw second refl)
+              (record {
+                next = omega (arith, is);
+                given = omega (arith, is);
+                quiet = refl;
+                unraised = refl;
+                peer = (omega (arith, here), rw at_first refl);
+                tree = λ s. tt;
+              })
+          | inr other ↦ elim (cases_Bool (w.next_koid == k))
+              as (λ _. Changed (ObjectChange start (with_object (with_object w (ChannelEnd (n + 1) [])) (ChannelEnd n [])) k)
+              (IsNewObject start w (with_object (with_object w (ChannelEnd (n + 1) [])) (ChannelEnd n [])) k) (get w.objects k) (get both k)) [
+                | inl now ↦
+                    let is : w.next_koid ≡ k = eqb-true w.next_koid k now in
+                    new (end_at (n + 1))
+                    (get-put first (w.next_koid + 1) (end_at n) k ∙ (rw other (get-put w.objects w.next_koid (end_at (n + 1)) k ∙ rw now refl)))
+                    (record {
+                      next = omega (arith, is);
+                      given = omega (arith, is);
+                      quiet = refl;
+                      unraised = refl;
+                      peer = (omega (arith, here), rw at_second refl);
+                      tree = λ s. tt;
+                    })
+                | inr apart ↦
+                    same (get-put first (w.next_koid + 1) (end_at n) k ∙ (rw other (get-put w.objects w.next_koid (end_at (n + 1)) k ∙ rw apart refl)))
+              ]
+        ]
 
 -- packets come to a port, or leave it
 pub packets_are_changed : (start w : World) (k : ℕ) (f : List Packet → List Packet) → Change start w (on_object w k (repacked f))
@@ -397,10 +460,12 @@ packets_are_changed start w k f =
     objects_alone start w (on_object w k (repacked f)) refl refl (omega arith) (λ h. rw (in_order-update w.objects k (repacked f)) h)
     (changed_update _ _ w.objects k (repacked f) (λ x there. by_body x x.body refl)) (alike refl)
   where
-    other : (x : Object) → body_packed f x.body ≡ x.body → Changed (ObjectChange start (on_object w k (repacked f)) k) (IsNewObject start w (on_object w k (repacked f)) k) (Some x) (Some (repacked f x))
+    other : (x : Object) → body_packed f x.body ≡ x.body
+        → Changed (ObjectChange start (on_object w k (repacked f)) k) (IsNewObject start w (on_object w k (repacked f)) k) (Some x) (Some (repacked f x))
     other x e = same (ap (λ (b : Body). Some (record x { body = b })) e)
 
-    by_body : (x : Object) (b : Body) → x.body ≡ b → Changed (ObjectChange start (on_object w k (repacked f)) k) (IsNewObject start w (on_object w k (repacked f)) k) (Some x) (Some (repacked f x))
+    by_body : (x : Object) (b : Body) → x.body ≡ b
+        → Changed (ObjectChange start (on_object w k (repacked f)) k) (IsNewObject start w (on_object w k (repacked f)) k) (Some x) (Some (repacked f x))
     by_body x (PortBody packets) is = changed x _ refl refl (packets_change packets _ is (ap (λ (b : Body). record x { body = body_packed f b }) is))
     by_body x (ChannelEnd peer queue) is = other x (ap (body_packed f) is ∙ sym is)
     by_body x EventBody is = other x (ap (body_packed f) is ∙ sym is)
@@ -409,18 +474,21 @@ packets_are_changed start w k f =
 
 -- a wait is registered
 pub wait_begins : (start w : World) (x : Wait) → (IsSound start → IsWait (registered w x) x) → Change start w (registered w x)
-wait_begins start w x fine = objects_alone start w (registered w x) refl refl (omega arith) (λ h. h) (unchanged _ _ w.objects w.objects refl) (begins x refl refl fine)
+wait_begins start w x fine =
+    objects_alone start w (registered w x) refl refl (omega arith) (λ h. h) (unchanged _ _ w.objects w.objects refl) (begins x refl refl fine)
 
 -- waits with a key end
 pub keyed_end : (start w : World) (p v k key : ℕ) → Change start w (without_keyed w p v k key)
-keyed_end start w p v k key = objects_alone start w (without_keyed w p v k key) refl refl (omega arith) (λ h. h) (unchanged _ _ w.objects w.objects refl) (fewer _ refl)
+keyed_end start w p v k key =
+    objects_alone start w (without_keyed w p v k key) refl refl (omega arith) (λ h. h) (unchanged _ _ w.objects w.objects refl) (fewer _ refl)
 
 -- waits end
 pub waits_end : (start w : World) (p v : ℕ) → Change start w (without_waits w p v)
 waits_end start w p v = objects_alone start w (without_waits w p v) refl refl (omega arith) (λ h. h) (unchanged _ _ w.objects w.objects refl) (fewer _ refl)
 
 -- the first packet leaves the port
-pub packet_goes : (start w : World) (k : ℕ) (o : Object) (old rest : List Packet) → get w.objects k ≡ Some o → o.body ≡ PortBody old → Change start w (with_body w k o (PortBody rest))
+pub packet_goes : (start w : World) (k : ℕ) (o : Object) (old rest : List Packet) → get w.objects k ≡ Some o → o.body ≡ PortBody old
+    → Change start w (with_body w k o (PortBody rest))
 packet_goes start w k o old rest there port =
     objects_alone start w (with_body w k o (PortBody rest)) refl refl (omega arith) (in_order-put w.objects k _)
     (changed_put _ _ w.objects k _ (changed o _ there refl (packets_change old rest port refl))) (alike refl)
@@ -428,14 +496,18 @@ packet_goes start w k o old rest there port =
 pub waits_fire : (start w : World) → Change start w (fired w)
 unfolding fired
 waits_fire start w =
-    objects_alone start w (fired w) refl refl (omega arith) (λ h. rw (in_order-each w.objects (λ k o. record o { body = body_with_packets (packets_for w k) o.body })) h)
+    objects_alone start w (fired w) refl refl (omega arith)
+    (λ h. rw (in_order-each w.objects (λ k o. record o { body = body_with_packets (packets_for w k) o.body })) h)
     (changed_each _ _ w.objects (λ k o. record o { body = body_with_packets (packets_for w k) o.body }) (λ k x. by_body k x x.body refl)) (fewer _ refl)
   where
-    other : (k : ℕ) (x : Object) → body_with_packets (packets_for w k) x.body ≡ x.body → Changed (ObjectChange start (fired w) k) (IsNewObject start w (fired w) k) (Some x) (Some (record x { body = body_with_packets (packets_for w k) x.body }))
+    other : (k : ℕ) (x : Object) → body_with_packets (packets_for w k) x.body ≡ x.body → Changed (ObjectChange start (fired w) k)
+        (IsNewObject start w (fired w) k) (Some x) (Some (record x { body = body_with_packets (packets_for w k) x.body }))
     other k x e = same (ap (λ (b : Body). Some (record x { body = b })) e)
 
-    by_body : (k : ℕ) (x : Object) (b : Body) → x.body ≡ b → Changed (ObjectChange start (fired w) k) (IsNewObject start w (fired w) k) (Some x) (Some (record x { body = body_with_packets (packets_for w k) x.body }))
-    by_body k x (PortBody packets) is = changed x _ refl refl (packets_change packets _ is (ap (λ (b : Body). record x { body = body_with_packets (packets_for w k) b }) is))
+    by_body : (k : ℕ) (x : Object) (b : Body) → x.body ≡ b → Changed (ObjectChange start (fired w) k) (IsNewObject start w (fired w) k) (Some x)
+        (Some (record x { body = body_with_packets (packets_for w k) x.body }))
+    by_body k x (PortBody packets) is =
+        changed x _ refl refl (packets_change packets _ is (ap (λ (b : Body). record x { body = body_with_packets (packets_for w k) b }) is))
     by_body k x (ChannelEnd peer queue) is = other k x (ap (body_with_packets (packets_for w k)) is ∙ sym is)
     by_body k x EventBody is = other k x (ap (body_with_packets (packets_for w k)) is ∙ sym is)
     by_body k x (JobBody a b c d) is = other k x (ap (body_with_packets (packets_for w k)) is ∙ sym is)

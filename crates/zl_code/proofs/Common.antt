@@ -1,16 +1,44 @@
 -- The names that most proofs cite, of this crate and those above, passed on from one place. Declares nothing.
-pub use Rattle.zl_rights.proofs.Common.{All, All-nil, Blocked, Body, Bool, ChannelEnd, Cpu, Created, DUPLICATE, Ended, Err, EventBody, Gone, IfErr, IfNone, IfOk, IfSome, IsSome, IsTrue, JobBody, Koids, List, Map, None, Object, Ok, OnOk, Option, PortBody, Process, ProcessBody, Ready, Result, SIGNAL, SIGNALED, STUCK, Settles, Some, State, World, [], and_from, and_parts, ap, append-nil, append_assoc, arith, at_drop_all, at_drop_more, below_all, bit_and, bits, cases_Bool, cases_lt, codes, cond, condition_name, condition_number, count_by, decimal, default_rights_of, drop, drop_at, eq-eqb, eqb, eqb-true, err_from_is_err_and, false, false≢true, filter, find, flat_map, flat_map-append, fold, get_or, get_or-drop, get_or-map, has_key, if◌then◌else◌, inl, inr, is_empty, is_ready, is_some, is_sorted, kind_of, le-leb, leb, leb-true, length, length-append, length-drop, length-map, length-take, length-take-le, list_all, list_all-append, list_any, lives, lt-ltb, ltb, ltb-true, map, map-append, narrowed, nat_cmp, nat_le, nat_lt, nat_tests, ne_eqb, none-some, not, option_map, option_or, or_left, or_right, pos, position, process_settled, queue_of, refl, replicate, rights_of, rules, runs, same_Some, set, slice_get, slice_get-get_or, slice_index, slice_set, starts_with, state_passes, string_bytes, subst, suc, sum_by, sum_by-cons, sym, take, take-append-drop, take_all, take_at, take_more, then_some, true, true≢false, within, zero, ℕ, ℤ, ⊤, ◌%◌, ◌&&◌, ◌*◌, ◌++◌, ◌+◌, ◌-◌, ◌/◌, ◌<◌, ◌==◌, ◌^◌, ◌||◌, ◌∙◌, ◌∷◌, ◌≡◌, ◌≢◌, ◌≤◌, ◌⊎◌}
-unfoldable pub use Rattle.zl_rights.proofs.Common.{answered, each, fired, get, has_living_child, in_queue, in_table, is_held, is_process, put, update, wakes, where_key, without, without_others}
-pub use Rattle.zl_code.specs.Common.{Acts, AtCall, Boots, Calls, Choice, FirstFault, HandlesAreNamed, HandlesAreSound, HasGivenKoids, Image, IsBoot, IsLegalHistory, IsSound, IsStuck, Layout, Library, MOST_ITEMS, Moves, Next, Program, Reading, Refused, Request, Row, Site, Spells, Step, Values, WantsMemory, answer_if, any, are_needs, are_registers, at_limit, at_statement, body_in, body_of, by_look_up, bytes_of, call_name, call_row, calls_at, chan_create, chan_read_etc, chan_write, close, copy_of, cpu_answered, dup, entry_at, event_create, first_some, grows, has_default_rights, in_order, instr_bytes, is_among, is_in_range, is_instr_in_range, is_job_body, is_slot_in_range, is_start_in_range, layout_of, may_boot, may_get, names_its_object, needs_byte, needs_named, needs_value, next_for, number_at, number_of, object_at, ok_outcome, operand_of, origin, pid_of, process_exit, process_with, process_without, raisable, reading_of, replace, row_bytes, seven, signal, single, site, slot_bytes, spelling, start_bytes, table_of, taken, with_effect, with_rights}
-unfoldable pub use Rattle.zl_code.specs.Common.{boot_effect, boot_fault, effect, ended, examined, first_fault, gives_ok, gives_refused, handle_operands, handles_to, has_koids, has_room, header_fault, insert_all, instr_fault, listed, local_effect, local_parts, may_choose, new_handles, on_process, operand, pieces, refusal, remove_all, replied, row_named, row_of, site_of, slot_fault, start_fault, taken_handles, with_object}
+pub use Rattle.zl_rights.proofs.Common.{All, All-nil, Blocked, Body, Bool, ChannelEnd, Cpu, Created, DUPLICATE, Ended, Err, EventBody, Gone, IfErr, IfNone}
+pub use Rattle.zl_rights.proofs.Common.{IfOk, IfSome, IsSome, IsTrue, JobBody, Koids, List, Map, None, Object, Ok, OnOk, Option, PortBody, Process, ProcessBody}
+pub use Rattle.zl_rights.proofs.Common.{Ready, Result, SIGNAL, SIGNALED, STUCK, Settles, Some, State, World, [], and_from, and_parts, ap, append-nil}
+pub use Rattle.zl_rights.proofs.Common.{append_assoc, arith, at_drop_all, at_drop_more, below_all, bit_and, bits, cases_Bool, cases_lt, codes, cond}
+pub use Rattle.zl_rights.proofs.Common.{condition_name, condition_number, count_by, decimal, default_rights_of, drop, drop_at, eq-eqb, eqb, eqb-true}
+pub use Rattle.zl_rights.proofs.Common.{err_from_is_err_and, false, false≢true, filter, find, flat_map, flat_map-append, fold, get_or, get_or-drop, get_or-map}
+pub use Rattle.zl_rights.proofs.Common.{has_key, if◌then◌else◌, inl, inr, is_empty, is_ready, is_some, is_sorted, kind_of, le-leb, leb, leb-true, length}
+pub use Rattle.zl_rights.proofs.Common.{length-append, length-drop, length-map, length-take, length-take-le, list_all, list_all-append, list_any, lives, lt-ltb}
+pub use Rattle.zl_rights.proofs.Common.{ltb, ltb-true, map, map-append, narrowed, nat_cmp, nat_le, nat_lt, nat_tests, ne_eqb, none-some, not, option_map}
+pub use Rattle.zl_rights.proofs.Common.{option_or, or_left, or_right, pos, position, process_settled, queue_of, refl, replicate, rights_of, rules, runs}
+pub use Rattle.zl_rights.proofs.Common.{same_Some, set, slice_get, slice_get-get_or, slice_index, slice_set, starts_with, state_passes, string_bytes, subst}
+pub use Rattle.zl_rights.proofs.Common.{suc, sum_by, sum_by-cons, sym, take, take-append-drop, take_all, take_at, take_more, then_some, true, true≢false}
+pub use Rattle.zl_rights.proofs.Common.{within, zero, ℕ, ℤ, ⊤, ◌%◌, ◌&&◌, ◌*◌, ◌++◌, ◌+◌, ◌-◌, ◌/◌, ◌<◌, ◌==◌, ◌^◌, ◌||◌, ◌∙◌, ◌∷◌, ◌≡◌, ◌≢◌, ◌≤◌, ◌⊎◌}
+unfoldable pub use Rattle.zl_rights.proofs.Common.{answered, each, fired, get, has_living_child, in_queue, in_table, is_held, is_process, put, update, wakes}
+unfoldable pub use Rattle.zl_rights.proofs.Common.{where_key, without, without_others}
+pub use Rattle.zl_code.specs.Common.{Acts, AtCall, Boots, Calls, Choice, FirstFault, HandlesAreNamed, HandlesAreSound, HasGivenKoids, Image, IsBoot}
+pub use Rattle.zl_code.specs.Common.{IsLegalHistory, IsSound, IsStuck, Layout, Library, MOST_ITEMS, Moves, Next, Program, Reading, Refused, Request, Row, Site}
+pub use Rattle.zl_code.specs.Common.{Spells, Step, Values, WantsMemory, answer_if, any, are_needs, are_registers, at_limit, at_statement, body_in, body_of}
+pub use Rattle.zl_code.specs.Common.{by_look_up, bytes_of, call_name, call_row, calls_at, chan_create, chan_read_etc, chan_write, close, copy_of, cpu_answered}
+pub use Rattle.zl_code.specs.Common.{dup, entry_at, event_create, first_some, grows, has_default_rights, in_order, instr_bytes, is_among, is_in_range}
+pub use Rattle.zl_code.specs.Common.{is_instr_in_range, is_job_body, is_slot_in_range, is_start_in_range, layout_of, may_boot, may_get, names_its_object}
+pub use Rattle.zl_code.specs.Common.{needs_byte, needs_named, needs_value, next_for, number_at, number_of, object_at, ok_outcome, operand_of, origin, pid_of}
+pub use Rattle.zl_code.specs.Common.{process_exit, process_with, process_without, raisable, reading_of, replace, row_bytes, seven, signal, single, site}
+pub use Rattle.zl_code.specs.Common.{slot_bytes, spelling, start_bytes, table_of, taken, with_effect, with_rights}
+unfoldable pub use Rattle.zl_code.specs.Common.{boot_effect, boot_fault, effect, ended, examined, first_fault, gives_ok, gives_refused, handle_operands}
+unfoldable pub use Rattle.zl_code.specs.Common.{handles_to, has_koids, has_room, header_fault, insert_all, instr_fault, listed, local_effect, local_parts}
+unfoldable pub use Rattle.zl_code.specs.Common.{may_choose, new_handles, on_process, operand, pieces, refusal, remove_all, replied, row_named, row_of, site_of}
+unfoldable pub use Rattle.zl_code.specs.Common.{slot_fault, start_fault, taken_handles, with_object}
 pub use Rattle.std.proofs.Common.{MatchResult, T, add-zero, max, min, slice_index_or}
 pub use Rattle.std.proofs.lemmas.Bool.{le-ltb, ltb-false, not-false, or_parts}
 pub use Rattle.std.proofs.lemmas.List.{drop-drop, drop_all, get_or-take, get_or_past, map_more, take_rest}
-pub use Rattle.zl_code.specs.Boot.{IsBooted, MOST_GRANTS, MOST_KOIDS, MOST_PROCESSES, all_known, gives_no_handle, handle_given, handles_given, is_job, may_start_with, process_with_all, started_process, values_given}
+pub use Rattle.zl_code.specs.Boot.{IsBooted, MOST_GRANTS, MOST_KOIDS, MOST_PROCESSES, all_known, gives_no_handle, handle_given, handles_given, is_job}
+pub use Rattle.zl_code.specs.Boot.{may_start_with, process_with_all, started_process, values_given}
 pub use Rattle.zl_code.specs.Effects.{gets_all, may_get_after, may_get_all, new_entry, object_changed, process_ended, with_process}
 unfoldable pub use Rattle.zl_code.specs.Effects.{on_object}
 pub use Rattle.zl_code.specs.Sound.{HasItsObject, HasPeer, IsSoundTable, IsSoundWait, KeepsProcesses, is_blocked, is_end_if_there, is_port_there, is_value}
-pub use Rattle.zl_code.specs.Spells.{Parts, allows, are_places, ascend_from, code_pieces, count_at, ending_bytes, fault_by, has_length, has_rights, header, is_32_bits, is_call_in_range, is_ending_clear, is_header_in_range, is_local_in_range, is_needs_byte, is_packed, is_raw_at, is_room, is_unused_zero, kind_at, kind_byte, length_at, magic, names_registers, registers_at, rights_allowed, slot_pieces, slots_at, start_pieces, starts_at}
+pub use Rattle.zl_code.specs.Spells.{Parts, allows, are_places, ascend_from, code_pieces, count_at, ending_bytes, fault_by, has_length, has_rights, header}
+pub use Rattle.zl_code.specs.Spells.{is_32_bits, is_call_in_range, is_ending_clear, is_header_in_range, is_local_in_range, is_needs_byte, is_packed, is_raw_at}
+pub use Rattle.zl_code.specs.Spells.{is_room, is_unused_zero, kind_at, kind_byte, length_at, magic, names_registers, registers_at, rights_allowed, slot_pieces}
+pub use Rattle.zl_code.specs.Spells.{slots_at, start_pieces, starts_at}
 pub use Rattle.zl_code.specs.Tests.{action_of, handles_in, parent_of, settable_of}
 pub use Rattle.zl_code.specs.Operands.{Operand, by_policy, contains, ends_if_kill, faults, operand_after, seen_after, unless_allowed}
 unfoldable pub use Rattle.zl_code.specs.Operands.{creates}
@@ -28,5 +56,6 @@ unfoldable pub use Rattle.zl_code.specs.Steps.{next_at}
 pub use Rattle.zl_rights.specs.Settle.{IsLargestHeld, state_without}
 unfoldable pub use Rattle.zl_rights.specs.Settle.{is_made_by_handle}
 unfoldable pub use Rattle.zl_rights.specs.Signals.{active, has_child_job, has_child_process}
-pub use Rattle.zl_rights.specs.Wakes.{body_with_packets, packet_values, packets_for, with_body, woken_at_port, woken_by, woken_by_first, woken_from, woken_if_there}
+pub use Rattle.zl_rights.specs.Wakes.{body_with_packets, packet_values, packets_for, with_body, woken_at_port, woken_by, woken_by_first, woken_from}
+pub use Rattle.zl_rights.specs.Wakes.{woken_if_there}
 unfoldable pub use Rattle.zl_rights.specs.Wakes.{holds, made_ready, woken}

@@ -1,5 +1,11 @@
 -- Handles enter and leave the table of a process: where there is room values are free, and each handle is one change.
-use Rattle.zl_code.proofs.Common.{IsSound, All, All-nil, Body, Bool, HandlesAreNamed, HandlesAreSound, IsTrue, List, Map, None, Object, Option, Process, Some, World, [], and_from, and_parts, ap, arith, cases_Bool, cond, copy_of, default_rights_of, entry_at, eq-eqb, false, get, has_default_rights, has_key, inl, inr, insert_all, is_some, kind_of, length, lt-ltb, may_get, names_its_object, narrowed, nat_tests, ne_eqb, none-some, not, on_process, process_with, process_without, put, refl, remove_all, runs, same_Some, subst, suc, sym, taken, true, where_key, with_object, with_rights, without, zero, ℕ, ◌-◌, ◌<◌, ◌==◌, ◌∙◌, ◌∷◌, ◌≡◌, ◌≤◌, get-put, get-update, get-where_key-in, get-where_key-out, handles_in, new_entry, may_get_all, All-cons, All-head, All-tail, filter, true≢false, eqb-true, nat_lt, may_get_after, and_parts}
+use Rattle.zl_code.proofs.Common.{IsSound, All, All-nil, Body, Bool, HandlesAreNamed, HandlesAreSound, IsTrue, List, Map, None, Object, Option, Process, Some}
+use Rattle.zl_code.proofs.Common.{World, [], and_from, and_parts, ap, arith, cases_Bool, cond, copy_of, default_rights_of, entry_at, eq-eqb, false, get}
+use Rattle.zl_code.proofs.Common.{has_default_rights, has_key, inl, inr, insert_all, is_some, kind_of, length, lt-ltb, may_get, names_its_object, narrowed}
+use Rattle.zl_code.proofs.Common.{nat_tests, ne_eqb, none-some, not, on_process, process_with, process_without, put, refl, remove_all, runs, same_Some, subst}
+use Rattle.zl_code.proofs.Common.{suc, sym, taken, true, where_key, with_object, with_rights, without, zero, ℕ, ◌-◌, ◌<◌, ◌==◌, ◌∙◌, ◌∷◌, ◌≡◌, ◌≤◌, get-put}
+use Rattle.zl_code.proofs.Common.{get-update, get-where_key-in, get-where_key-out, handles_in, new_entry, may_get_all, All-cons, All-head, All-tail, filter}
+use Rattle.zl_code.proofs.Common.{true≢false, eqb-true, nat_lt, may_get_after, and_parts}
 use Rattle.zl_rights.specs.declared.kind.Kind.TheVariants as kind
 use Rattle.zl_rights.specs.declared.rights.Rights.{Rights}
 use Rattle.zl_rights.specs.declared.entry.Entry.{Entry}
@@ -87,7 +93,8 @@ changed_table : (w : World) (p : ℕ) (q : Process) (f : Process → Process) �
 unfolding on_process
 changed_table w p q f there = get-update w.processes p f p ∙ rw (eq-eqb p p refl, there) refl
 
-pub all_enter : (start u : World) (p : ℕ) (q : Process) (es : List Entry) (vs : List ℕ) → (IsSound start → get u.processes p ≡ Some q) → IsTrue (runs q.state) → IsTrue (may_get_all q es vs)
+pub all_enter : (start u : World) (p : ℕ) (q : Process) (es : List Entry) (vs : List ℕ) → (IsSound start → get u.processes p ≡ Some q) → IsTrue (runs q.state)
+    → IsTrue (may_get_all q es vs)
     → (IsSound start → HaveRoom q es) → MayTake start u.waits p q → All (IsFine start u.objects) es → Changes start u (insert_all u p es vs)
 unfolding insert_all on_process
 all_enter start u p q [] vs there running gets room may fine = stays u
@@ -106,7 +113,9 @@ all_enter start u p q (e ∷ es) (v ∷ vs) there running gets room may fine =
     } in
     changes u (on_process u p (process_with v e)) _
     (process_changes start u p (process_with v e) (λ x at. changed x _ refl refl (handle_enters v e refl (enters x at))) (λ x. refl))
-    (all_enter start (on_process u p (process_with v e)) p (process_with v e q) es vs (λ s. changed_table u p q (process_with v e) (there s)) running both.1 (λ s. omega (arith, room s, longer)) (record { free = λ s j none. may.free s j (free_before j none); last = λ s j is. absurd (none-some j is) }) (All-tail (IsFine start u.objects) e es fine))
+    (all_enter start (on_process u p (process_with v e)) p (process_with v e q) es vs (λ s. changed_table u p q (process_with v e) (there s)) running both.1
+    (λ s. omega (arith, room s, longer)) (record { free = λ s j none. may.free s j (free_before j none); last = λ s j is. absurd (none-some j is) })
+    (All-tail (IsFine start u.objects) e es fine))
   where
     -- what is free after v was taken was free before
     free_before : (j : ℕ) → has_key (put q.handles v e) j ≡ false → has_key q.handles j ≡ false
@@ -134,7 +143,8 @@ all_leave start u p (h ∷ hs) =
     (all_leave start (on_process u p (process_without h)) p hs)
 
 -- what is removed last is kept
-pub removed_last : (w : World) (p v : ℕ) (q : Process) → get w.processes p ≡ Some q → has_key q.handles v ≡ true → get (on_process w p (process_without v)).processes p ≡ Some (record q { handles = without q.handles v; last = Some v })
+pub removed_last : (w : World) (p v : ℕ) (q : Process) → get w.processes p ≡ Some q → has_key q.handles v ≡ true
+    → get (on_process w p (process_without v)).processes p ≡ Some (record q { handles = without q.handles v; last = Some v })
 removed_last w p v q there live = changed_table w p q (process_without v) there ∙ rw live refl
 
 -- u is w after handles left the table of p, which is q in u
@@ -147,15 +157,25 @@ pub record IsLeft (w u : World) (p : ℕ) (before after : Process) : Type 0 wher
 
 shorter_without : (v : ℕ) (q : Process) → length (process_without v q).handles ≤ length q.handles
 unfolding without
-shorter_without v q = elim (cases_Bool (has_key q.handles v)) as (λ _. length (process_without v q).handles ≤ length q.handles) [ inl there ↦ rw there (length_filter _ q.handles) | inr gone ↦ rw gone (omega arith) ]
+shorter_without v q =
+    elim (cases_Bool (has_key q.handles v))
+    as (λ _. length (process_without v q).handles ≤ length q.handles) [ inl there ↦ rw there (length_filter _ q.handles) | inr gone ↦ rw gone (omega arith) ]
 
 pub left_behind : (w : World) (p : ℕ) (q : Process) (hs : List ℕ) → get w.processes p ≡ Some q → (after : Process) × IsLeft w (remove_all w p hs) p q after
 unfolding remove_all on_process
 left_behind w p q [] there = (q, record { objects = refl; next_koid = refl; is_there = there; state = refl; shorter = omega arith })
 left_behind w p q (h ∷ hs) there =
     let rest = left_behind (on_process w p (process_without h)) p (process_without h q) hs (changed_table w p q (process_without h) there) in
-    let shorter : length (process_without h q).handles ≤ length q.handles = shorter_without h q in
-    (rest.0, record { objects = rest.1.objects; next_koid = rest.1.next_koid; is_there = rest.1.is_there; state = rest.1.state ∙ same_state h q; shorter = omega (arith, rest.1.shorter) })
+    let shorter : length (process_without h q).handles ≤ length q.handles = shorter_without h q in (
+      rest.0,
+      record {
+        objects = rest.1.objects;
+        next_koid = rest.1.next_koid;
+        is_there = rest.1.is_there;
+        state = rest.1.state ∙ same_state h q;
+        shorter = omega (arith, rest.1.shorter);
+      },
+    )
 
 -- values that new handles may get one after another
 pub values_for : (q : Process) (es : List Entry) → HaveRoom q es → (vs : List ℕ) × (may_get_all q es vs ≡ true)
@@ -169,7 +189,8 @@ values_for q (e ∷ es) room =
 
 -- ---- new handles
 
-pub copy_is_fine : (start : World) (m : Map Object) (e : Option Entry) (asked : ℕ) → ((x : Entry) → e ≡ Some x → IsFine start m x) → All (IsFine start m) (copy_of e asked)
+pub copy_is_fine : (start : World) (m : Map Object) (e : Option Entry) (asked : ℕ) → ((x : Entry) → e ≡ Some x → IsFine start m x)
+    → All (IsFine start m) (copy_of e asked)
 copy_is_fine start m None asked fine = All-nil (IsFine start m)
 copy_is_fine start m (Some e) asked fine = by_rights (narrowed e.rights asked) refl
   where
@@ -194,7 +215,8 @@ entry_is_fine w p h e there = by_process (get w.processes p) refl there
 
 new_is_named : (u : World) (b : Body) (k : ℕ) → u.next_koid ≡ k → names_its_object (with_object u b).objects (new_entry k (kind_of b))
 unfolding with_object
-new_is_named u b k is = (record { body = b; raised = 0 }, get-put u.objects u.next_koid (record { body = b; raised = 0 }) k ∙ rw (eq-eqb u.next_koid k is) refl, refl)
+new_is_named u b k is =
+    (record { body = b; raised = 0 }, get-put u.objects u.next_koid (record { body = b; raised = 0 }) k ∙ rw (eq-eqb u.next_koid k is) refl, refl)
 
 pub default_rights : (k : ℕ) (kind : Kind) → IsTrue (has_default_rights (new_entry k kind))
 default_rights k kind.Event = refl
@@ -203,4 +225,5 @@ default_rights k _ = refl
 -- the first handle to a new object
 pub new_is_fine : (start u : World) (b : Body) (k : ℕ) → u.next_koid ≡ k → All (IsFine start (with_object u b).objects) (new_entry k (kind_of b) ∷ [])
 new_is_fine start u b k is =
-    All-cons (IsFine start (with_object u b).objects) (new_entry k (kind_of b)) [] (record { rights = λ s. default_rights k (kind_of b); names = λ s. new_is_named u b k is }) (All-nil (IsFine start (with_object u b).objects))
+    All-cons (IsFine start (with_object u b).objects) (new_entry k (kind_of b)) []
+    (record { rights = λ s. default_rights k (kind_of b); names = λ s. new_is_named u b k is }) (All-nil (IsFine start (with_object u b).objects))

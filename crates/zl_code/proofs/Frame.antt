@@ -1,5 +1,15 @@
 -- The step of a process leaves the others alone unless it starts, wakes, kills or drops them, keeps what their tables name, and changes no policy of theirs.
-use Rattle.zl_code.proofs.Common.{HasItsObject, and_from, or_left, or_right, not, IsTrue, lives, runs, refusal, may_choose, may_get, may_get_all, update, and_parts, has_child_job, has_child_process, eq-eqb, true≢false, false≢true, body_in, JobBody, ProcessBody, is_process, entry_at, object_at, handle_operands, row_of, new_handles, ◌⊎◌, ne_eqb, created_process, ◌≡◌, ◌<◌, ◌≤◌, arith, inl, inr, ℕ, Bool, true, false, ◌==◌, List, [], ◌∷◌, refl, ap, sym, subst, ◌∙◌, Option, Some, None, if◌then◌else◌, option_map, cases_Bool, eqb-true, is_some, none-some, same_Some, meets, fold, get, World, Process, State, Created, Ready, Blocked, Gone, Ended, Object, Body, PortBody, process_settled, state_without, Settles, without_others, wakes, fired, answered, active, packet_values, with_body, woken_if_there, woken_from, woken_at_port, woken_by, woken_by_first, Awaited, SignalOf, PacketAt, Packet, Library, Site, Request, Choice, Refused, WantsMemory, Values, CallBy, after_refusal, after_ok, ok_outcome, taken, taken_handles, with_effect, effect, replied, on_process, on_object, with_object, insert_all, remove_all, process_with, process_without, process_ended, ended, Next, Moves, AtCall, IsStuck, Acts, Step, next_for, IsSound, get-update, get-put, get-each, get-where_key-in, get-where_key-out, where_key, ChannelEnd}
+use Rattle.zl_code.proofs.Common.{HasItsObject, and_from, or_left, or_right, not, IsTrue, lives, runs, refusal, may_choose, may_get, may_get_all, update}
+use Rattle.zl_code.proofs.Common.{and_parts, has_child_job, has_child_process, eq-eqb, true≢false, false≢true, body_in, JobBody, ProcessBody, is_process}
+use Rattle.zl_code.proofs.Common.{entry_at, object_at, handle_operands, row_of, new_handles, ◌⊎◌, ne_eqb, created_process, ◌≡◌, ◌<◌, ◌≤◌, arith, inl, inr, ℕ}
+use Rattle.zl_code.proofs.Common.{Bool, true, false, ◌==◌, List, [], ◌∷◌, refl, ap, sym, subst, ◌∙◌, Option, Some, None, if◌then◌else◌, option_map, cases_Bool}
+use Rattle.zl_code.proofs.Common.{eqb-true, is_some, none-some, same_Some, meets, fold, get, World, Process, State, Created, Ready, Blocked, Gone, Ended}
+use Rattle.zl_code.proofs.Common.{Object, Body, PortBody, process_settled, state_without, Settles, without_others, wakes, fired, answered, active}
+use Rattle.zl_code.proofs.Common.{packet_values, with_body, woken_if_there, woken_from, woken_at_port, woken_by, woken_by_first, Awaited, SignalOf, PacketAt}
+use Rattle.zl_code.proofs.Common.{Packet, Library, Site, Request, Choice, Refused, WantsMemory, Values, CallBy, after_refusal, after_ok, ok_outcome, taken}
+use Rattle.zl_code.proofs.Common.{taken_handles, with_effect, effect, replied, on_process, on_object, with_object, insert_all, remove_all, process_with}
+use Rattle.zl_code.proofs.Common.{process_without, process_ended, ended, Next, Moves, AtCall, IsStuck, Acts, Step, next_for, IsSound, get-update, get-put}
+use Rattle.zl_code.proofs.Common.{get-each, get-where_key-in, get-where_key-out, where_key, ChannelEnd}
 use Rattle.zl_rights.specs.declared.entry.Entry.{Entry}
 use Rattle.zl_rights.specs.Wakes.{made_ready, woken}
 use Rattle.zl_rights.specs.declared.status.Status.TheVariants as status
@@ -16,7 +26,8 @@ use Rattle.zl_rights.specs.Signals.{is_job_below, is_process_of}
 use Rattle.std.specs.Option.{option_to_list}
 use Rattle.std.proofs.lemmas.Bool.{not-true}
 use Rattle.zl_code.specs.Effects.{body_after_read, body_with_message, storing, waiting}
-use Rattle.zl_code.specs.Frame.{OthersMake, left_alone, woken as is_woken, was_started, was_killed, dropped, LeavesOthers, HasLiving, IsWithin, itself, below, policy_of}
+use Rattle.zl_code.specs.Frame.{OthersMake, left_alone, woken as is_woken, was_started, was_killed, dropped, LeavesOthers, HasLiving, IsWithin, itself, below}
+use Rattle.zl_code.specs.Frame.{policy_of}
 use Rattle.zl_code.proofs.Changes.{ObjectChange, signals_change, packets_change, message_comes, message_goes, policy_changes, dies, Change, kept}
 use Rattle.zl_code.proofs.TaskLaws.{arg_there, child_of}
 use Rattle.zl_code.proofs.Killing.{job_of}
@@ -65,10 +76,12 @@ module _ (p q : ℕ) (apart : (p == q) ≡ false) where
   spares w (task_kill task) = not (is_within w.objects (object_at w p task) q)
   spares w r = true
 
-  effect_other : (lib : Library) (w u : World) (request : Request) (vs : List ℕ) → (w.next_koid == q) ≡ false → u.objects ≡ w.objects → spares w request ≡ true → Same (effect lib w u p request vs) u
+  effect_other : (lib : Library) (w u : World) (request : Request) (vs : List ℕ) → (w.next_koid == q) ≡ false → u.objects ≡ w.objects → spares w request ≡ true
+      → Same (effect lib w u p request vs) u
   unfolding effect with_object on_object on_process with_killed
   effect_other lib w u (process_create job program) vs old same free = get-put u.processes w.next_koid (created_process lib program) q ∙ rw old refl
-  effect_other lib w u (process_start process h word) vs old same free = get-update u.processes (object_at w p process) (started_with vs word) q ∙ rw (not-true _ free) refl
+  effect_other lib w u (process_start process h word) vs old same free =
+      get-update u.processes (object_at w p process) (started_with vs word) q ∙ rw (not-true _ free) refl
   effect_other lib w u (task_kill task) vs old same free =
       get-each u.processes (λ k. process_killed (is_within u.objects (object_at w p task) k)) q ∙ rw (same, not-true _ free) (as_it_was (get u.processes q))
     where
@@ -132,7 +145,8 @@ settled_becomes q x u v (K, largest, is) there = record {
 }
 
 -- the process at p is made ready
-readied : (q p : ℕ) (x y : Process) (w u : World) (awaited : Awaited) (ds values : List ℕ) → get w.processes q ≡ Some x → get w.processes p ≡ Some y → y.state ≡ Blocked awaited ds → u.processes ≡ w.processes → Becomes q x (made_ready u p y ds values)
+readied : (q p : ℕ) (x y : Process) (w u : World) (awaited : Awaited) (ds values : List ℕ) → get w.processes q ≡ Some x → get w.processes p ≡ Some y
+    → y.state ≡ Blocked awaited ds → u.processes ≡ w.processes → Becomes q x (made_ready u p y ds values)
 unfolding made_ready
 readied q p x y w u awaited ds values there at blocked same =
     elim (cases_Bool (p == q)) as (λ _. Becomes q x (made_ready u p y ds values)) [
@@ -163,10 +177,11 @@ module _ (q p : ℕ) (x y : Process) (w : World) (there : get w.processes q ≡ 
   by_port k ds (Some o) blocked = by_body k ds o o.body blocked
 
   by_state : (s : State) → y.state ≡ s → Becomes q x (woken_from w p y s)
-  by_state (Blocked (SignalOf k mask) ds) is = elim (meets (active w k) mask) as (λ b. Becomes q x (if b then made_ready w p y ds (0 ∷ active w k ∷ []) else w)) [
-    | true ↦ readied q p x y w w (SignalOf k mask) ds (0 ∷ active w k ∷ []) there at is refl
-    | false ↦ alone
-  ]
+  by_state (Blocked (SignalOf k mask) ds) is =
+      elim (meets (active w k) mask) as (λ b. Becomes q x (if b then made_ready w p y ds (0 ∷ active w k ∷ []) else w)) [
+        | true ↦ readied q p x y w w (SignalOf k mask) ds (0 ∷ active w k ∷ []) there at is refl
+        | false ↦ alone
+      ]
   by_state (Blocked (PacketAt k) ds) is = by_port k ds (get w.objects k) is
   by_state _ is = alone
 
@@ -191,7 +206,8 @@ no_more y s t is quiet was moves = true≢false (sym quiet ∙ (ap rests (sym is
 later_then : (x y z : Process) → Later x y → Later y z → Later x z
 later_then x y z (stays e) b = subst (λ (u : Process). Later u z) e b
 later_then x y z a (stays e) = subst (Later x) (sym e) a
-later_then x y z (wakes_up awaited ds values was is) (wakes_up a2 ds2 values2 was2 is2) = absurd (no_more y Ready (Blocked a2 ds2) (ap (λ (u : Process). u.state) is) refl was2 refl)
+later_then x y z (wakes_up awaited ds values was is) (wakes_up a2 ds2 values2 was2 is2) =
+    absurd (no_more y Ready (Blocked a2 ds2) (ap (λ (u : Process). u.state) is) refl was2 refl)
 later_then x y z (wakes_up awaited ds values was is) (goes was2 is2) = absurd (no_more y Ready Created (ap (λ (u : Process). u.state) is) refl was2 refl)
 later_then x y z (goes was is) (wakes_up a2 ds2 values2 was2 is2) = absurd (no_more y Gone (Blocked a2 ds2) (ap (λ (u : Process). u.state) is) refl was2 refl)
 later_then x y z (goes was is) (goes was2 is2) = absurd (no_more y Gone Created (ap (λ (u : Process). u.state) is) refl was2 refl)
@@ -231,12 +247,14 @@ made_later x y z (was_started e v word was is) b = ended_there x y z Ready (was_
 made_later x y z (was_killed is) b = ended_there x y z (Ended KILLED) (was_killed is) (ap (λ (u : Process). u.state) is) refl b
 made_later x y z (dropped was is) b = ended_there x y z Gone (dropped was is) (ap (λ (u : Process). u.state) is) refl b
 
-module _ (p q : ℕ) (apart : (p == q) ≡ false) (lib : Library) (w : World) (x : Process) (there : get w.processes q ≡ Some x) (old : (w.next_koid == q) ≡ false) (caller : Process) where
+module _ (p q : ℕ) (apart : (p == q) ≡ false) (lib : Library) (w : World) (x : Process) (there : get w.processes q ≡ Some x) (old : (w.next_koid == q) ≡ false)
+    (caller : Process) where
   same_made : (u : World) → get u.processes q ≡ get w.processes q → Made q x u
   same_made u same = record { process = x; there = same ∙ there; made = left_alone refl }
 
   -- the handle that a child starts with has one value
-  started_made : (u : World) (es : List Entry) (vs : List ℕ) (word : ℕ) → get u.processes q ≡ Some x → x.state ≡ Created → (e : Entry) → es ≡ e ∷ [] → IsTrue (may_get_all x es vs)
+  started_made : (u : World) (es : List Entry) (vs : List ℕ) (word : ℕ) → get u.processes q ≡ Some x → x.state ≡ Created → (e : Entry) → es ≡ e ∷ []
+      → IsTrue (may_get_all x es vs)
       → Made q x (insert_all (on_process u q (started_with vs word)) q es vs)
   unfolding insert_all on_process
   started_made u [] vs word at created e is may = absurd (none_one is)
@@ -251,7 +269,8 @@ module _ (p q : ℕ) (apart : (p == q) ≡ false) (lib : Library) (w : World) (x
   started_made u (e1 ∷ []) (v ∷ w2 ∷ vs) word at created e is may = absurd (false≢true (and_parts (may_get x v) false may).1)
   started_made u (e1 ∷ []) (v ∷ []) word at created e is may = record {
     process = process_with v e1 (started_with (v ∷ []) word x);
-    there = get-update (update u.processes q (started_with (v ∷ []) word)) q (process_with v e1) q ∙ rw (eq-eqb q q refl, get-update u.processes q (started_with (v ∷ []) word) q, eq-eqb q q refl, at) refl;
+    there = get-update (update u.processes q (started_with (v ∷ []) word)) q (process_with v e1) q
+        ∙ rw (eq-eqb q q refl, get-update u.processes q (started_with (v ∷ []) word) q, eq-eqb q q refl, at) refl;
     made = was_started e1 v word created refl;
   }
 
@@ -262,10 +281,12 @@ module _ (p q : ℕ) (apart : (p == q) ≡ false) (lib : Library) (w : World) (x
   carry u u2 same a = record { process = a.process; there = same ∙ a.there; made = a.made }
 
   -- a call that neither starts nor kills q leaves it alone
-  spared_done : (r : Request) (vs : List ℕ) → spares p q apart w r ≡ true → get (with_effect lib w (remove_all w p (taken_handles r)) p r vs).processes q ≡ get w.processes q
+  spared_done : (r : Request) (vs : List ℕ) → spares p q apart w r ≡ true
+      → get (with_effect lib w (remove_all w p (taken_handles r)) p r vs).processes q ≡ get w.processes q
   spared_done r vs free =
       stored_other p q apart _ (stored_by w p r)
-      ∙ (enter_other (receiver_of w p r) q (receiver_other p q apart w r free) (effect lib w (remove_all w p (taken_handles r)) p r vs) (new_handles w p r) (entering_at r vs)
+      ∙ (enter_other (receiver_of w p r) q (receiver_other p q apart w r free) (effect lib w (remove_all w p (taken_handles r)) p r vs) (new_handles w p r)
+      (entering_at r vs)
       ∙ (effect_other p q apart lib w (remove_all w p (taken_handles r)) r vs old (same_objects w (taken_handles r)) free
       ∙ leave_other p q apart w (taken_handles r)))
     where
@@ -273,7 +294,8 @@ module _ (p q : ℕ) (apart : (p == q) ≡ false) (lib : Library) (w : World) (x
       same_objects u hs = objects_left p u hs
 
   module _ (process_there : get w.processes p ≡ Some caller) (ready : caller.state ≡ Ready) (alive : IsTrue (lives x.state)) where
-    begins : (process h word : ℕ) (vs : List ℕ) → refusal lib w p (process_start process h word) ≡ None → IsTrue (may_choose w (remove_all w p (taken_handles (process_start process h word))) p (process_start process h word) vs) → object_at w p process ≡ q
+    begins : (process h word : ℕ) (vs : List ℕ) → refusal lib w p (process_start process h word) ≡ None
+        → IsTrue (may_choose w (remove_all w p (taken_handles (process_start process h word))) p (process_start process h word) vs) → object_at w p process ≡ q
         → Made q x (with_effect lib w (remove_all w p (taken_handles (process_start process h word))) p (process_start process h word) vs)
     unfolding effect new_handles may_choose
     begins process h word vs passes gets here =
@@ -281,11 +303,13 @@ module _ (p q : ℕ) (apart : (p == q) ≡ false) (lib : Library) (w : World) (x
         let child = child_of lib w p caller process_there ready process h word passes in
         let u = remove_all w p (taken_handles (process_start process h word)) in
         let at : get u.processes q ≡ Some x = leave_other p q apart w (taken_handles (process_start process h word)) ∙ there in
-        let created : x.state ≡ Created = ap (λ (y : Process). y.state) (same_Some x child.0 (sym there ∙ (ap (get w.processes) (sym here) ∙ child.1))) ∙ child.2 in
+        let created : x.state ≡ Created =
+        ap (λ (y : Process). y.state) (same_Some x child.0 (sym there ∙ (ap (get w.processes) (sym here) ∙ child.1))) ∙ child.2 in
         subst (λ k. Made q x (insert_all (on_process u k (started_with vs word)) k (option_to_list (entry_at w p h)) vs)) (sym here)
         (started_made u (option_to_list (entry_at w p h)) vs word at created e (ap option_to_list arg) (rw (here, at) at gets))
 
-    killed : (task : ℕ) (vs : List ℕ) → is_within w.objects (object_at w p task) q ≡ true → Made q x (with_effect lib w (remove_all w p (taken_handles (task_kill task))) p (task_kill task) vs)
+    killed : (task : ℕ) (vs : List ℕ) → is_within w.objects (object_at w p task) q ≡ true
+        → Made q x (with_effect lib w (remove_all w p (taken_handles (task_kill task))) p (task_kill task) vs)
     unfolding effect new_handles insert_all with_killed taken_handles handle_operands row_of remove_all
     killed task vs inside = record {
       process = process_killed true x;
@@ -294,15 +318,20 @@ module _ (p q : ℕ) (apart : (p == q) ≡ false) (lib : Library) (w : World) (x
     }
 
     -- all that a call does but for its caller's registers
-    done_made : (r : Request) (vs : List ℕ) → refusal lib w p r ≡ None → IsTrue (may_choose w (remove_all w p (taken_handles r)) p r vs) → Made q x (with_effect lib w (remove_all w p (taken_handles r)) p r vs)
-    done_made (process_start process h word) vs passes gets = elim (cases_Bool (object_at w p process == q)) as (λ _. Made q x (with_effect lib w (remove_all w p (taken_handles (process_start process h word))) p (process_start process h word) vs)) [
-      | inl here ↦ begins process h word vs passes gets (eqb-true (object_at w p process) q here)
-      | inr other ↦ same_made _ (spared_done (process_start process h word) vs (ap not other))
-    ]
-    done_made (task_kill task) vs passes gets = elim (cases_Bool (is_within w.objects (object_at w p task) q)) as (λ _. Made q x (with_effect lib w (remove_all w p (taken_handles (task_kill task))) p (task_kill task) vs)) [
-      | inl inside ↦ killed task vs inside
-      | inr outside ↦ same_made _ (spared_done (task_kill task) vs (ap not outside))
-    ]
+    done_made : (r : Request) (vs : List ℕ) → refusal lib w p r ≡ None → IsTrue (may_choose w (remove_all w p (taken_handles r)) p r vs)
+        → Made q x (with_effect lib w (remove_all w p (taken_handles r)) p r vs)
+    done_made (process_start process h word) vs passes gets =
+        elim (cases_Bool (object_at w p process == q))
+        as (λ _. Made q x (with_effect lib w (remove_all w p (taken_handles (process_start process h word))) p (process_start process h word) vs)) [
+          | inl here ↦ begins process h word vs passes gets (eqb-true (object_at w p process) q here)
+          | inr other ↦ same_made _ (spared_done (process_start process h word) vs (ap not other))
+        ]
+    done_made (task_kill task) vs passes gets =
+        elim (cases_Bool (is_within w.objects (object_at w p task) q))
+        as (λ _. Made q x (with_effect lib w (remove_all w p (taken_handles (task_kill task))) p (task_kill task) vs)) [
+          | inl inside ↦ killed task vs inside
+          | inr outside ↦ same_made _ (spared_done (task_kill task) vs (ap not outside))
+        ]
     done_made (close h) vs passes gets = same_made _ (spared_done (close h) vs refl)
     done_made r vs passes gets = same_made _ (spared_done r vs refl)
 
@@ -312,7 +341,8 @@ module _ (p q : ℕ) (apart : (p == q) ≡ false) (lib : Library) (w : World) (x
     ok_made s vs (outcome.Ended code) a = carry (with_effect lib w (taken w p s) p s.request vs) _ (ended_other p q apart _ code) a
     ok_made s vs outcome.Blocked a = same_made _ (waiting_other p q apart w s.destinations (awaited_by w p s.request))
 
-    call_made : (s : Site) (choice : Choice) (r : Option Outcome) (answer : Outcome) (w2 : World) → refusal lib w p s.request ≡ r → CallBy lib w p s choice r answer w2 → Made q x w2
+    call_made : (s : Site) (choice : Choice) (r : Option Outcome) (answer : Outcome) (w2 : World) → refusal lib w p s.request ≡ r
+        → CallBy lib w p s choice r answer w2 → Made q x w2
     call_made s Refused None answer w2 is c = absurd c
     call_made s Refused (Some o) answer w2 is c = rw c.1 (same_made _ (refused_other p q apart w s o))
     call_made s WantsMemory None answer w2 is c = rw c.2 (same_made _ (refused_other p q apart w s (outcome.Answered status.NoMemory)))
@@ -325,17 +355,21 @@ module _ (p q : ℕ) (apart : (p == q) ≡ false) (lib : Library) (w : World) (x
     act_made (AtCall call s) item w2 (o, e, c) = call_made s c.0 (refusal lib w p s.request) o w2 refl c.1
     act_made IsStuck item w2 a = rw a.1 (same_made _ (ended_other p q apart w _))
 
-step_made : (lib : Library) (w : World) (p : ℕ) (item : TraceItem) (after : World) → IsSound w → Step lib w p item after → (q : ℕ) (x : Process) → (p == q) ≡ false → get w.processes q ≡ Some x → IsTrue (lives x.state) → Made q x after
+step_made : (lib : Library) (w : World) (p : ℕ) (item : TraceItem) (after : World) → IsSound w → Step lib w p item after → (q : ℕ) (x : Process)
+    → (p == q) ≡ false → get w.processes q ≡ Some x → IsTrue (lives x.state) → Made q x after
 step_made lib w p item after sound step q x apart there alive =
     let below : q < w.next_koid = sound.processes q (ap is_some there) in
-    let a = act_made p q apart lib w x there (ne_eqb w.next_koid q (λ e. omega (arith, e, below))) step.process step.is_there step.is_ready alive (next_for lib step.process) item step.acted step.acts in
-    let b = becomes_then q a.process step.settled _ (settled_becomes q a.process step.acted step.settled step.settles a.there) (λ y at. waking_becomes q y step.settled at) in
+    let a = act_made p q apart lib w x there (ne_eqb w.next_koid q (λ e. omega (arith, e, below))) step.process step.is_there step.is_ready alive
+    (next_for lib step.process) item step.acted step.acts in
+    let b = becomes_then q a.process step.settled _ (settled_becomes q a.process step.acted step.settled step.settles a.there)
+    (λ y at. waking_becomes q y step.settled at) in
     rw step.ends_awake (record { process = b.process; there = b.there; made = made_later x a.process b.process a.made b.made })
 
 -- ---- what their tables name
 
 -- while it lives, a process keeps what its table had
-table_kept : (x y : Process) (v : ℕ) (e : Entry) → OthersMake x y → IsTrue (lives y.state) → get x.handles v ≡ Some e → (x.state ≡ Created → x.handles ≡ []) → get y.handles v ≡ Some e
+table_kept : (x y : Process) (v : ℕ) (e : Entry) → OthersMake x y → IsTrue (lives y.state) → get x.handles v ≡ Some e → (x.state ≡ Created → x.handles ≡ [])
+    → get y.handles v ≡ Some e
 unfolding get
 table_kept x y v e (left_alone is) alive at idle = rw is at
 table_kept x y v e (is_woken awaited ds values was is) alive at idle = rw is at
@@ -356,13 +390,14 @@ at_zero w s j _ (below k parent d policy killed o at is inner) e =
 within_is_busy : (w : World) → IsSound w → (j k : ℕ) → IsWithin w.objects j k → (depth : ℕ) → LivesAt w.objects k depth → (k ≡ j) ⊎ (has_child_job w j ≡ true)
 unfolding has_child_job
 within_is_busy w s j _ itself depth l = inl refl
-within_is_busy w s j _ (below k parent d policy killed o at is inner) depth l = inr (elim ((job_of w.objects s.tree k depth l).above refl) as (λ _. has_child_job w j ≡ true) [
-  | inl root ↦ child (sym same_parent ∙ (root.0 ∙ sym (at_zero w s j parent inner (sym same_parent ∙ root.0))))
-  | inr up ↦ elim (within_is_busy w s j parent inner up.0 (subst (λ n. LivesAt w.objects n up.0) same_parent up.2)) as (λ _. has_child_job w j ≡ true) [
-    | inl here ↦ child here
-    | inr busy ↦ busy
-  ]
-])
+within_is_busy w s j _ (below k parent d policy killed o at is inner) depth l =
+    inr (elim ((job_of w.objects s.tree k depth l).above refl) as (λ _. has_child_job w j ≡ true) [
+      | inl root ↦ child (sym same_parent ∙ (root.0 ∙ sym (at_zero w s j parent inner (sym same_parent ∙ root.0))))
+      | inr up ↦ elim (within_is_busy w s j parent inner up.0 (subst (λ n. LivesAt w.objects n up.0) same_parent up.2)) as (λ _. has_child_job w j ≡ true) [
+        | inl here ↦ child here
+        | inr busy ↦ busy
+      ]
+    ])
   where
     body : o.body ≡ JobBody l.parent depth l.policy false
     body = same_Some o.body _ (sym (ap body_in at) ∙ l.there)
@@ -378,10 +413,12 @@ within_is_busy w s j _ (below k parent d policy killed o at is inner) depth l = 
 
 is_busy : (w : World) (j : ℕ) → IsSound w → HasLiving w j → has_child w j ≡ true
 unfolding has_child_process is_process
-is_busy w j s h = elim (within_is_busy w s j h.job h.within has.depth (subst (λ n. LivesAt w.objects n has.depth) same_job has.lives)) as (λ _. has_child w j ≡ true) [
-  | inl here ↦ or_right (has_child_job w j) _ (list_any-get _ w.objects h.pid h.object h.object_there (and_from (is_process_of j h.object.body) _ (in_it h.object.body h.in_job here) (rw h.there h.living)))
-  | inr busy ↦ or_left (has_child_job w j) _ busy
-]
+is_busy w j s h =
+    elim (within_is_busy w s j h.job h.within has.depth (subst (λ n. LivesAt w.objects n has.depth) same_job has.lives)) as (λ _. has_child w j ≡ true) [
+      | inl here ↦ or_right (has_child_job w j) _ (list_any-get _ w.objects h.pid h.object h.object_there
+          (and_from (is_process_of j h.object.body) _ (in_it h.object.body h.in_job here) (rw h.there h.living)))
+      | inr busy ↦ or_left (has_child_job w j) _ busy
+    ]
   where
     has : HasItsObject w.objects h.pid
     has = s.living h.pid h.process h.there h.living
@@ -395,7 +432,8 @@ is_busy w j s h = elim (within_is_busy w s j h.job h.within has.depth (subst (λ
     in_it : (b : Body) → b ≡ ProcessBody h.job → h.job ≡ j → is_process_of j b ≡ true
     in_it b is here = rw (is, here, eq-eqb j j refl) refl
 
-policy_same : (start after : World) (k : ℕ) (x y : Object) → IsSound start → HasLiving start k → ObjectChange start after k x y → policy_of y.body ≡ policy_of x.body
+policy_same : (start after : World) (k : ℕ) (x y : Object) → IsSound start → HasLiving start k → ObjectChange start after k x y
+    → policy_of y.body ≡ policy_of x.body
 policy_same start after k x y sound busy (signals_change clear set is may) = ap (λ (o : Object). policy_of o.body) is
 policy_same start after k x y sound busy (packets_change old packets port is) = rw (is, port) refl
 policy_same start after k x y sound busy (message_comes m is may) = ap (λ (o : Object). policy_of o.body) is ∙ by_body2 x.body
@@ -418,12 +456,15 @@ policy_same start after k x y sound busy (dies is may) = ap (λ (o : Object). po
 -- u comes after start, and the jobs that are in both have the policies that they had, where a living process is in them or below
 record KeepsPolicies (start u : World) : Type 0 where
   grown : start.next_koid ≤ u.next_koid
-  same : (j : ℕ) (o : Object) → get u.objects j ≡ Some o → HasLiving start j → (old : Object) → get start.objects j ≡ Some old → policy_of o.body ≡ policy_of old.body
+  same : (j : ℕ) (o : Object) → get u.objects j ≡ Some o → HasLiving start j → (old : Object) → get start.objects j ≡ Some old
+      → policy_of o.body ≡ policy_of old.body
 
 policies_change : (start u v : World) → IsSound start → Change start u v → KeepsPolicies start u → KeepsPolicies start v
 policies_change start u v sound c s = record {
   grown = omega (arith, s.grown, c.next_koid);
-  same = each_changed _ _ (λ j o. HasLiving start j → (old : Object) → get start.objects j ≡ Some old → policy_of o.body ≡ policy_of old.body) u.objects v.objects c.objects
+  same =
+      each_changed _ _ (λ j o. HasLiving start j → (old : Object) → get start.objects j ≡ Some old → policy_of o.body ≡ policy_of old.body) u.objects
+      v.objects c.objects
       (λ j x y changed same busy old at. policy_same start v j x y sound busy changed ∙ same busy old at)
       (λ j y fresh busy old at. absurd (was_given j old at fresh.next))
       s.same;
@@ -436,11 +477,13 @@ policies_settled : (start u v : World) → Settles u v → KeepsPolicies start u
 unfolding without_others
 policies_settled start u v (K, largest, is) s = rw is (record { grown = s.grown; same = kept_policies })
   where
-    kept_policies : (j : ℕ) (o : Object) → get (where_key K u.objects) j ≡ Some o → HasLiving start j → (old : Object) → get start.objects j ≡ Some old → policy_of o.body ≡ policy_of old.body
-    kept_policies j o there = elim (cases_Bool (K j)) as (λ _. HasLiving start j → (old : Object) → get start.objects j ≡ Some old → policy_of o.body ≡ policy_of old.body) [
-      | inl kept_there ↦ s.same j o (rw (get-where_key-in u.objects K j kept_there) at there)
-      | inr gone ↦ absurd (none-some o (rw (get-where_key-out u.objects K j gone) at there))
-    ]
+    kept_policies : (j : ℕ) (o : Object) → get (where_key K u.objects) j ≡ Some o → HasLiving start j → (old : Object) → get start.objects j ≡ Some old
+        → policy_of o.body ≡ policy_of old.body
+    kept_policies j o there =
+        elim (cases_Bool (K j)) as (λ _. HasLiving start j → (old : Object) → get start.objects j ≡ Some old → policy_of o.body ≡ policy_of old.body) [
+          | inl kept_there ↦ s.same j o (rw (get-where_key-in u.objects K j kept_there) at there)
+          | inr gone ↦ absurd (none-some o (rw (get-where_key-out u.objects K j gone) at there))
+        ]
 
 -- ---- a step
 
@@ -450,7 +493,8 @@ step_leaves_others lib w p item after sound step = record {
   objects = λ q v x y e apart there living at alive has.
       let a = step_made lib w p item after sound step q x apart there living in
       let same : a.process ≡ y = same_Some a.process y (sym a.there ∙ at) in
-      (step_handles_named lib w p item after sound.objects sound.named step).tables q v y e at (table_kept x y v e (subst (OthersMake x) same a.made) alive has (λ created. ((sound.tables q x there).idle (ap runs created)).0));
+      (step_handles_named lib w p item after sound.objects sound.named step).tables q v y e at
+      (table_kept x y v e (subst (OthersMake x) same a.made) alive has (λ created. ((sound.tables q x there).idle (ap runs created)).0));
   policies = λ j o o2 busy at at2. policies.same j o2 at2 busy o at;
 }
   where

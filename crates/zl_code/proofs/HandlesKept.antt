@@ -1,5 +1,7 @@
 -- Handles stay sound: at places of their own, with no right beyond the defaults of their kinds.
-use Rattle.zl_code.proofs.Common.{◌≡◌, ℕ, Bool, true, List, Message, Body, ChannelEnd, JobBody, Option, ◌∷◌, and_from, and_parts, list_all-append, not, ◌==◌, [], refl, IsTrue, Some, list_all, none-some, Map, get, put, without, where_key, World, Process, Object, process_settled, Settles, without_others, queue_of, in_order, has_default_rights, HandlesAreSound}
+use Rattle.zl_code.proofs.Common.{◌≡◌, ℕ, Bool, true, List, Message, Body, ChannelEnd, JobBody, Option, ◌∷◌, and_from, and_parts, list_all-append, not, ◌==◌}
+use Rattle.zl_code.proofs.Common.{[], refl, IsTrue, Some, list_all, none-some, Map, get, put, without, where_key, World, Process, Object, process_settled}
+use Rattle.zl_code.proofs.Common.{Settles, without_others, queue_of, in_order, has_default_rights, HandlesAreSound}
 use Rattle.zl_rights.specs.declared.entry.Entry.{Entry}
 use Rattle.zl_code.proofs.MapKept.{in_order-put, in_order-where_key, in_order-each, each_put, each_where_key, changed, changed_each, each_changed}
 use Rattle.zl_code.proofs.Changes.{ObjectChange, signals_change, packets_change, message_comes, message_goes, policy_changes, dies, Change, table_kept}
@@ -31,8 +33,10 @@ leaves m v t = record {
 abbrev AreFine : List Message → Bool
 AreFine ms = list_all (λ m. list_all has_default_rights m.handles) ms
 
-sent_fine : (m : Message) (b : Body) → IsTrue (list_all has_default_rights m.handles) → IsTrue (AreFine (queue_of b)) → IsTrue (AreFine (queue_of (body_with_message m b)))
-sent_fine m (ChannelEnd peer queue) fine t = rw (list_all-append (λ (x : Message). list_all has_default_rights x.handles) queue (m ∷ [])) (and_from _ _ t (and_from _ true fine refl))
+sent_fine : (m : Message) (b : Body) → IsTrue (list_all has_default_rights m.handles) → IsTrue (AreFine (queue_of b))
+    → IsTrue (AreFine (queue_of (body_with_message m b)))
+sent_fine m (ChannelEnd peer queue) fine t =
+    rw (list_all-append (λ (x : Message). list_all has_default_rights x.handles) queue (m ∷ [])) (and_from _ _ t (and_from _ true fine refl))
 sent_fine m _ fine t = t
 
 read_fine : (b : Body) → IsTrue (AreFine (queue_of b)) → IsTrue (AreFine (queue_of (body_after_read b)))
@@ -61,7 +65,8 @@ by_object start after k x y before (dies is may) t = rw (is, killed_queue x.body
 fine_tables : (w : World) → HandlesAreSound w → (p : ℕ) (q : Process) → get w.processes p ≡ Some q → IsFineTable q.handles
 fine_tables w s p q there = record { order = s.places p q there; rights = λ v e at. s.rights p v q e there at }
 
-from_tables : (w : World) → IsTrue (in_order w.processes) → IsTrue (in_order w.objects) → ((p : ℕ) (q : Process) → get w.processes p ≡ Some q → IsFineTable q.handles)
+from_tables : (w : World) → IsTrue (in_order w.processes) → IsTrue (in_order w.objects)
+    → ((p : ℕ) (q : Process) → get w.processes p ≡ Some q → IsFineTable q.handles)
     → ((k : ℕ) (o : Object) → get w.objects k ≡ Some o → HasFineQueue o) → HandlesAreSound w
 from_tables w processes objects tables queues = record {
   processes = processes;
@@ -74,13 +79,16 @@ from_tables w processes objects tables queues = record {
 pub sound_change : (start u v : World) → HandlesAreSound start → Change start u v → HandlesAreSound u → HandlesAreSound v
 sound_change start u v before c s =
     from_tables v (c.processes_in_order s.processes) (c.objects_in_order s.objects)
-    (each_changed _ _ (λ k q. IsFineTable q.handles) u.processes v.processes c.processes (table_kept IsFineTable start v empty_table leaves (λ m n e rights names. enters m n e (rights before))) (λ k y n. rw n.empty empty_table) (fine_tables u s))
+    (each_changed _ _ (λ k q. IsFineTable q.handles) u.processes v.processes c.processes
+    (table_kept IsFineTable start v empty_table leaves (λ m n e rights names. enters m n e (rights before))) (λ k y n. rw n.empty empty_table)
+    (fine_tables u s))
     (each_changed _ _ (λ k o. HasFineQueue o) u.objects v.objects c.objects (λ k x y. by_object start v k x y before) (λ k y n. rw n.quiet refl) s.queued)
 
 pub sound_settled : (u v : World) → Settles u v → HandlesAreSound u → HandlesAreSound v
 unfolding without_others
 sound_settled u v (K, largest, e) s = rw e
     (from_tables (without_others u K) (rw (in_order-each u.processes (process_settled K)) s.processes) (in_order-where_key u.objects K s.objects)
-    (each_changed (λ k x y. y ≡ process_settled K k x) (λ k y. ⊥) (λ k q. IsFineTable q.handles) u.processes _ (changed_each _ _ u.processes (process_settled K) (λ k x. changed x _ refl refl refl))
+    (each_changed (λ k x y. y ≡ process_settled K k x) (λ k y. ⊥) (λ k q. IsFineTable q.handles) u.processes _
+    (changed_each _ _ u.processes (process_settled K) (λ k x. changed x _ refl refl refl))
     (λ k x y is t. rw is t) (λ k y none. absurd none) (fine_tables u s))
     (each_where_key HasFineQueue u.objects s.queued K))

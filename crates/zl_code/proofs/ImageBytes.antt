@@ -1,5 +1,7 @@
 -- Numbers as bytes, and parts of a list of bytes.
-use Rattle.zl_code.proofs.Common.{◌≡◌, ℕ, zero, suc, ◌+◌, ◌*◌, ◌/◌, ◌%◌, ◌^◌, ◌<◌, ◌≤◌, true, List, [], ◌∷◌, ◌++◌, length, get_or, take, drop, nat_lt, refl, sym, ap, ◌∙◌, arith, inl, inr, list_all, cases_lt, lt-ltb, and_from, length-take, length-drop, get_or-drop, number_of, bytes_of, number_at, add-zero, drop-drop, get_or-take, get_or_past, take-append-drop}
+use Rattle.zl_code.proofs.Common.{◌≡◌, ℕ, zero, suc, ◌+◌, ◌*◌, ◌/◌, ◌%◌, ◌^◌, ◌<◌, ◌≤◌, true, List, [], ◌∷◌, ◌++◌, length, get_or, take, drop, nat_lt, refl}
+use Rattle.zl_code.proofs.Common.{sym, ap, ◌∙◌, arith, inl, inr, list_all, cases_lt, lt-ltb, and_from, length-take, length-drop, get_or-drop, number_of}
+use Rattle.zl_code.proofs.Common.{bytes_of, number_at, add-zero, drop-drop, get_or-take, get_or_past, take-append-drop}
 use Rattle.std.proofs.Math.Nat.{pow-suc}
 
 abbrev pub IsBytes : List ℕ → Type 0
@@ -42,7 +44,8 @@ length-bytes_of zero v = refl
 length-bytes_of (suc n) v = ap suc (length-bytes_of n (v / 256))
 
 -- the bytes of a number that is read are where it was read
-pub bytes_of-number_at : (bytes : List ℕ) (offset n : ℕ) → offset + n ≤ length bytes → IsBytes bytes → bytes_of n (number_at bytes offset n) ≡ take n (drop offset bytes)
+pub bytes_of-number_at : (bytes : List ℕ) (offset n : ℕ) → offset + n ≤ length bytes → IsBytes bytes
+    → bytes_of n (number_at bytes offset n) ≡ take n (drop offset bytes)
 bytes_of-number_at bytes offset n le h =
     let part = take n (drop offset bytes) in
     let len : length part ≡ n = omega (arith, length-take n (drop offset bytes), length-drop offset bytes) in
@@ -61,7 +64,8 @@ two_cells [] le = absurd (omega arith)
 two_cells (a ∷ []) le = absurd (omega arith)
 two_cells (a ∷ b ∷ bytes) le = omega arith
 
-four_cells : (bytes : List ℕ) → 4 ≤ length bytes → number_of (take 4 bytes) ≡ get_or bytes 0 0 + get_or bytes 1 0 * 256 + get_or bytes 2 0 * 65536 + get_or bytes 3 0 * 16777216
+four_cells : (bytes : List ℕ) → 4 ≤ length bytes
+    → number_of (take 4 bytes) ≡ get_or bytes 0 0 + get_or bytes 1 0 * 256 + get_or bytes 2 0 * 65536 + get_or bytes 3 0 * 16777216
 four_cells [] le = absurd (omega arith)
 four_cells (a ∷ []) le = absurd (omega arith)
 four_cells (a ∷ b ∷ []) le = absurd (omega arith)
@@ -71,12 +75,15 @@ four_cells (a ∷ b ∷ c ∷ d ∷ bytes) le = omega arith
 first_of_rest : (bytes : List ℕ) (offset : ℕ) → get_or (drop offset bytes) 0 0 ≡ get_or bytes offset 0
 first_of_rest bytes offset = get_or-drop offset bytes 0 0 ∙ ap (λ (k : ℕ). get_or bytes k 0) (add-zero offset)
 
-pub number_at_2 : (bytes : List ℕ) (offset : ℕ) → offset + 2 ≤ length bytes → number_at bytes offset 2 ≡ get_or bytes offset 0 + get_or bytes (offset + 1) 0 * 256
+pub number_at_2 : (bytes : List ℕ) (offset : ℕ) → offset + 2 ≤ length bytes
+    → number_at bytes offset 2 ≡ get_or bytes offset 0 + get_or bytes (offset + 1) 0 * 256
 number_at_2 bytes offset le =
     two_cells (drop offset bytes) (omega (arith, length-drop offset bytes)) ∙ (λ i. first_of_rest bytes offset i + get_or-drop offset bytes 1 0 i * 256)
 
 pub number_at_4 : (bytes : List ℕ) (offset : ℕ) → offset + 4 ≤ length bytes
-    → number_at bytes offset 4 ≡ get_or bytes offset 0 + get_or bytes (offset + 1) 0 * 256 + get_or bytes (offset + 2) 0 * 65536 + get_or bytes (offset + 3) 0 * 16777216
+    → number_at bytes offset 4
+    ≡ get_or bytes offset 0 + get_or bytes (offset + 1) 0 * 256 + get_or bytes (offset + 2) 0 * 65536 + get_or bytes (offset + 3) 0 * 16777216
 number_at_4 bytes offset le =
     four_cells (drop offset bytes) (omega (arith, length-drop offset bytes))
-    ∙ (λ i. first_of_rest bytes offset i + get_or-drop offset bytes 1 0 i * 256 + get_or-drop offset bytes 2 0 i * 65536 + get_or-drop offset bytes 3 0 i * 16777216)
+    ∙ (λ i. first_of_rest bytes offset i + get_or-drop offset bytes 1 0 i * 256 + get_or-drop offset bytes 2 0 i * 65536
+    + get_or-drop offset bytes 3 0 i * 16777216)

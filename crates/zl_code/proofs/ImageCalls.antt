@@ -94,7 +94,8 @@ call_again i w = λ k. record { name = name_again i.name k; registers = front i 
 
 -- ---- the call that is read
 
-module _ (n : CallName) (opcode : ℕ) (rs last : List ℕ) (len : length rs ≡ 7) (eight : length last ≡ 8) (fits : IsBytes last) (row : row_of opcode ≡ Some (call_row n)) where
+module _ (n : CallName) (opcode : ℕ) (rs last : List ℕ) (len : length rs ≡ 7) (eight : length last ≡ 8) (fits : IsBytes last)
+    (row : row_of opcode ≡ Some (call_row n)) where
   abbrev r : Reading
   r = call_reading (record { name = n; registers = rs; last = last })
 
@@ -105,7 +106,8 @@ module _ (n : CallName) (opcode : ℕ) (rs last : List ℕ) (len : length rs ≡
   has_numbers : bytes_of 4 r.imm ++ bytes_of 4 r.target ≡ r.places
   has_numbers =
       let imm : bytes_of 4 r.imm ≡ take 4 last = bytes_of-number_at last 0 4 (omega (arith, eight)) fits in
-      let target : bytes_of 4 r.target ≡ drop 4 last = bytes_of-number_at last 4 4 (omega (arith, eight)) fits ∙ take_all 4 (drop 4 last) (omega (arith, eight, length-drop 4 last)) in
+      let target : bytes_of 4 r.target ≡ drop 4 last =
+      bytes_of-number_at last 4 4 (omega (arith, eight)) fits ∙ take_all 4 (drop 4 last) (omega (arith, eight, length-drop 4 last)) in
       (λ i. imm i ++ target i) ∙ sym (parts_at 0 4 last)
 
   pub known_bytes : (call_row n).opcode ≡ opcode

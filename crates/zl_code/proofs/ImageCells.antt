@@ -1,8 +1,10 @@
 -- Lists of seven and of eight numbers by their cells, and registers in seven places.
-use Rattle.zl_code.proofs.Common.{◌≡◌, ℕ, suc, ◌+◌, ◌<◌, ◌≤◌, List, [], ◌∷◌, ◌++◌, length, get_or, set, take, drop, replicate, refl, sym, ap, ◌∙◌, arith, append-nil, take-append-drop, take_all, take_more, seven}
+use Rattle.zl_code.proofs.Common.{◌≡◌, ℕ, suc, ◌+◌, ◌<◌, ◌≤◌, List, [], ◌∷◌, ◌++◌, length, get_or, set, take, drop, replicate, refl, sym, ap, ◌∙◌, arith}
+use Rattle.zl_code.proofs.Common.{append-nil, take-append-drop, take_all, take_more, seven}
 use Rattle.std.proofs.Math.Seq.{take-suc-set}
 
-pub cells_7 : (xs rest : List ℕ) → length xs ≡ 7 → get_or xs 0 0 ∷ get_or xs 1 0 ∷ get_or xs 2 0 ∷ get_or xs 3 0 ∷ get_or xs 4 0 ∷ get_or xs 5 0 ∷ get_or xs 6 0 ∷ rest ≡ xs ++ rest
+pub cells_7 : (xs rest : List ℕ) → length xs ≡ 7
+    → get_or xs 0 0 ∷ get_or xs 1 0 ∷ get_or xs 2 0 ∷ get_or xs 3 0 ∷ get_or xs 4 0 ∷ get_or xs 5 0 ∷ get_or xs 6 0 ∷ rest ≡ xs ++ rest
 cells_7 (a ∷ b ∷ c ∷ d ∷ e ∷ f ∷ g ∷ []) rest len = refl
 cells_7 (a ∷ b ∷ c ∷ d ∷ e ∷ f ∷ g ∷ h ∷ xs) rest len = absurd (omega (arith, len))
 cells_7 (a ∷ b ∷ c ∷ d ∷ e ∷ f ∷ []) rest len = absurd (omega (arith, len))
@@ -13,7 +15,8 @@ cells_7 (a ∷ b ∷ []) rest len = absurd (omega (arith, len))
 cells_7 (a ∷ []) rest len = absurd (omega (arith, len))
 cells_7 [] rest len = absurd (omega (arith, len))
 
-pub cells_8 : (xs : List ℕ) → length xs ≡ 8 → get_or xs 0 0 ∷ get_or xs 1 0 ∷ get_or xs 2 0 ∷ get_or xs 3 0 ∷ get_or xs 4 0 ∷ get_or xs 5 0 ∷ get_or xs 6 0 ∷ get_or xs 7 0 ∷ [] ≡ xs
+pub cells_8 : (xs : List ℕ) → length xs ≡ 8
+    → get_or xs 0 0 ∷ get_or xs 1 0 ∷ get_or xs 2 0 ∷ get_or xs 3 0 ∷ get_or xs 4 0 ∷ get_or xs 5 0 ∷ get_or xs 6 0 ∷ get_or xs 7 0 ∷ [] ≡ xs
 cells_8 [] len = absurd (omega (arith, len))
 cells_8 (a ∷ xs) len = (let short : length xs ≡ 7 = omega (arith, len) in ap (λ (r : List ℕ). a ∷ r) (cells_7 xs [] short ∙ append-nil xs))
 
@@ -41,4 +44,5 @@ module _ (used places : List ℕ) (i : ℕ) (front : take i places ≡ take i us
   -- all of them are
   pub all_placed : length used ≤ 7 → i ≡ length used → drop i places ≡ drop i (replicate 7 0) → places ≡ seven used
   all_placed few all behind =
-      sym (take-append-drop i places) ∙ (λ k. front k ++ behind k) ∙ (λ k. take_all i used (omega arith) k ++ drop (all k) (replicate 7 0)) ∙ seven_places used few
+      sym (take-append-drop i places) ∙ (λ k. front k ++ behind k) ∙ (λ k. take_all i used (omega arith) k ++ drop (all k) (replicate 7 0))
+      ∙ seven_places used few

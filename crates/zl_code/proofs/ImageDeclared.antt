@@ -1,5 +1,9 @@
 -- The eight bytes of a declaration.
-use Rattle.zl_code.proofs.Common.{◌≡◌, ◌≢◌, ℕ, ◌<◌, ◌≤◌, Bool, true, false, List, [], ◌∷◌, ◌++◌, length, take, drop, Option, Some, None, ◌==◌, ◌&&◌, not, refl, sym, ap, ◌∙◌, arith, slice_index, nat_lt, nat_le, bit_and, list_all, and_parts, and_from, eqb-true, ne_eqb, leb-true, length-drop, take_all, then_some, bits, rights_of, within, number_of, number_at, bytes_of, start_bytes, slot_bytes, is_start_in_range, is_slot_in_range, start_fault, slot_fault, kind_number, kind_byte, kind_at, rights_allowed, allows, has_rights, has_length}
+use Rattle.zl_code.proofs.Common.{◌≡◌, ◌≢◌, ℕ, ◌<◌, ◌≤◌, Bool, true, false, List, [], ◌∷◌, ◌++◌, length, take, drop, Option, Some, None, ◌==◌, ◌&&◌, not, refl}
+use Rattle.zl_code.proofs.Common.{sym, ap, ◌∙◌, arith, slice_index, nat_lt, nat_le, bit_and, list_all, and_parts, and_from, eqb-true, ne_eqb, leb-true}
+use Rattle.zl_code.proofs.Common.{length-drop, take_all, then_some, bits, rights_of, within, number_of, number_at, bytes_of, start_bytes, slot_bytes}
+use Rattle.zl_code.proofs.Common.{is_start_in_range, is_slot_in_range, start_fault, slot_fault, kind_number, kind_byte, kind_at, rights_allowed, allows}
+use Rattle.zl_code.proofs.Common.{has_rights, has_length}
 use Rattle.std.proofs.lemmas.Nat.{and_le_l}
 use Rattle.zl_rights.specs.declared.kind.Kind.{Kind}
 use Rattle.zl_rights.specs.declared.kind.Kind.TheVariants as kind
@@ -8,14 +12,22 @@ use Rattle.zl_code.specs.declared.image.Start.{Start}
 use Rattle.zl_code.specs.declared.image.SlotArray.{SlotArray}
 use Rattle.zl_code.proofs.ImageBytes.{IsBytes, bytes_of-number_at, number_of-bytes_of, parts_at}
 
-pub has_rights_allowed : (bytes : List ℕ) (k : Option Kind) (b : Bool) → kind_at (slice_index bytes 0) ≡ Some k → within (number_at bytes 4 4) (rights_allowed k) ≡ b → has_rights bytes ≡ b
+pub has_rights_allowed : (bytes : List ℕ) (k : Option Kind) (b : Bool) → kind_at (slice_index bytes 0) ≡ Some k
+    → within (number_at bytes 4 4) (rights_allowed k) ≡ b → has_rights bytes ≡ b
 has_rights_allowed bytes k b h e = rw h e
 
 pub has_rights_none : (bytes : List ℕ) → kind_at (slice_index bytes 0) ≡ None → has_rights bytes ≡ false
 has_rights_none bytes h = rw h refl
 
 pub kind_at_none : (b : ℕ) → b ≢ 0 → ((k : Kind) → kind_number k ≢ b) → kind_at b ≡ None
-kind_at_none b named missing = rw (ne_eqb b 0 named, ne_eqb 1 b (missing kind.Process), ne_eqb 4 b (missing kind.Channel), ne_eqb 5 b (missing kind.Event), ne_eqb 6 b (missing kind.Port), ne_eqb 17 b (missing kind.Job)) refl
+kind_at_none b named missing = rw (
+  ne_eqb b 0 named,
+  ne_eqb 1 b (missing kind.Process),
+  ne_eqb 4 b (missing kind.Channel),
+  ne_eqb 5 b (missing kind.Event),
+  ne_eqb 6 b (missing kind.Port),
+  ne_eqb 17 b (missing kind.Job),
+) refl
 
 -- ---- the bytes that are read are spelled
 
@@ -39,18 +51,22 @@ first_and_rest [] le = absurd (omega arith)
 first_and_rest (b ∷ bytes) le = refl
 
 -- eight bytes by their parts: the first, the three behind it, and the last four
-by_parts : (bytes middle : List ℕ) (k n : ℕ) → length bytes ≡ 8 → IsBytes bytes → k ≡ slice_index bytes 0 → middle ≡ take 3 (drop 1 bytes) → n ≡ number_at bytes 4 4 → k ∷ (middle ++ bytes_of 4 n) ≡ bytes
+by_parts : (bytes middle : List ℕ) (k n : ℕ) → length bytes ≡ 8 → IsBytes bytes → k ≡ slice_index bytes 0 → middle ≡ take 3 (drop 1 bytes)
+    → n ≡ number_at bytes 4 4 → k ∷ (middle ++ bytes_of 4 n) ≡ bytes
 by_parts bytes middle k n len fits first between rights =
     (λ i. first i ∷ (between i ++ rights_again bytes n len fits rights i))
     ∙ ap (λ (r : List ℕ). slice_index bytes 0 ∷ r) (sym (parts_at 1 3 bytes))
     ∙ first_and_rest bytes (omega arith)
 
-pub start_bytes-read : (bytes : List ℕ) (s : Start) → length bytes ≡ 8 → IsBytes bytes → kind_byte s.kind ≡ slice_index bytes 0 → list_all (λ b. b == 0) (take 3 (drop 1 bytes)) ≡ true → bits s.rights ≡ number_at bytes 4 4 → start_bytes s ≡ bytes
+pub start_bytes-read : (bytes : List ℕ) (s : Start) → length bytes ≡ 8 → IsBytes bytes → kind_byte s.kind ≡ slice_index bytes 0
+    → list_all (λ b. b == 0) (take 3 (drop 1 bytes)) ≡ true → bits s.rights ≡ number_at bytes 4 4 → start_bytes s ≡ bytes
 start_bytes-read bytes s len fits first zero rights =
-    by_parts bytes (0 ∷ 0 ∷ 0 ∷ []) (kind_byte s.kind) (bits s.rights) len fits first (sym (three_zeros (drop 1 bytes) (omega (arith, length-drop 1 bytes)) zero)) rights
+    by_parts bytes (0 ∷ 0 ∷ 0 ∷ []) (kind_byte s.kind) (bits s.rights) len fits first
+    (sym (three_zeros (drop 1 bytes) (omega (arith, length-drop 1 bytes)) zero)) rights
 
 -- the second byte and the two behind it
-middle_three : (bytes : List ℕ) (n : ℕ) → length bytes ≡ 8 → IsBytes bytes → slice_index bytes 1 ≡ 0 → n ≡ number_at bytes 2 2 → 0 ∷ bytes_of 2 n ≡ take 3 (drop 1 bytes)
+middle_three : (bytes : List ℕ) (n : ℕ) → length bytes ≡ 8 → IsBytes bytes → slice_index bytes 1 ≡ 0 → n ≡ number_at bytes 2 2
+    → 0 ∷ bytes_of 2 n ≡ take 3 (drop 1 bytes)
 middle_three bytes n len fits zero size =
     (λ i. sym zero i ∷ (ap (bytes_of 2) size ∙ bytes_of-number_at bytes 2 2 (omega arith) fits) i) ∙ cells bytes (omega arith)
   where
@@ -59,26 +75,30 @@ middle_three bytes n len fits zero size =
     cells (a ∷ []) le = absurd (omega arith)
     cells (a ∷ b ∷ bs) le = refl
 
-pub slot_bytes-read : (bytes : List ℕ) (s : SlotArray) → length bytes ≡ 8 → IsBytes bytes → kind_byte s.kind ≡ slice_index bytes 0 → has_length bytes ≡ true → s.length ≡ number_at bytes 2 2 → bits s.rights ≡ number_at bytes 4 4 → slot_bytes s ≡ bytes
+pub slot_bytes-read : (bytes : List ℕ) (s : SlotArray) → length bytes ≡ 8 → IsBytes bytes → kind_byte s.kind ≡ slice_index bytes 0 → has_length bytes ≡ true
+    → s.length ≡ number_at bytes 2 2 → bits s.rights ≡ number_at bytes 4 4 → slot_bytes s ≡ bytes
 slot_bytes-read bytes s len fits first there size rights =
     let zero : slice_index bytes 1 ≡ 0 = eqb-true _ 0 (and_parts (slice_index bytes 1 == 0) _ there).0 in
     by_parts bytes (0 ∷ bytes_of 2 s.length) (kind_byte s.kind) (bits s.rights) len fits first (middle_three bytes s.length len fits zero size) rights
 
-pub slot_in_range-read : (bytes : List ℕ) (s : SlotArray) → has_length bytes ≡ true → s.length ≡ number_at bytes 2 2 → within (bits s.rights) (rights_allowed s.kind) ≡ true → is_slot_in_range s ≡ true
+pub slot_in_range-read : (bytes : List ℕ) (s : SlotArray) → has_length bytes ≡ true → s.length ≡ number_at bytes 2 2
+    → within (bits s.rights) (rights_allowed s.kind) ≡ true → is_slot_in_range s ≡ true
 slot_in_range-read bytes s there size allowed =
     let p = and_parts (nat_lt 0 (number_at bytes 2 2)) (nat_le (number_at bytes 2 2) 256) (and_parts (slice_index bytes 1 == 0) _ there).1 in
     and_from _ _ (ap (λ (n : ℕ). nat_lt 0 n) size ∙ p.0) (and_from _ _ (ap (λ (n : ℕ). nat_le n 256) size ∙ p.1) allowed)
 
 -- ---- faults
 
-pub start_fault-by : (bytes : List ℕ) (zero there : Bool) → list_all (λ b. b == 0) (take 3 (drop 1 bytes)) ≡ zero → has_rights bytes ≡ there → start_fault bytes ≡ then_some (not (zero && there)) faults.BadHeader
+pub start_fault-by : (bytes : List ℕ) (zero there : Bool) → list_all (λ b. b == 0) (take 3 (drop 1 bytes)) ≡ zero → has_rights bytes ≡ there
+    → start_fault bytes ≡ then_some (not (zero && there)) faults.BadHeader
 unfolding start_fault
 start_fault-by bytes zero there h e = λ i. then_some (not (h i && e i)) faults.BadHeader
 
 pub start_fault-zero : (bytes : List ℕ) → list_all (λ b. b == 0) (take 3 (drop 1 bytes)) ≡ false → start_fault bytes ≡ Some faults.BadHeader
 start_fault-zero bytes h = start_fault-by bytes false _ h refl
 
-pub slot_fault-by : (bytes : List ℕ) (long there : Bool) → has_length bytes ≡ long → has_rights bytes ≡ there → slot_fault bytes ≡ then_some (not (long && there)) faults.BadHeader
+pub slot_fault-by : (bytes : List ℕ) (long there : Bool) → has_length bytes ≡ long → has_rights bytes ≡ there
+    → slot_fault bytes ≡ then_some (not (long && there)) faults.BadHeader
 unfolding slot_fault
 slot_fault-by bytes long there h e = λ i. then_some (not (h i && e i)) faults.BadHeader
 
@@ -145,7 +165,8 @@ pub start_fits : (s : Start) → is_start_in_range s ≡ true → StartFits s
 unfolding read_start
 start_fits s h = record {
   len = refl;
-  fault = start_fault-by (start_bytes s) true true refl ((λ i. allows (kind_again s.kind i) (number_of (bytes_of 4 (bits s.rights)))) ∙ allowed_again s.kind (bits s.rights) h);
+  fault = start_fault-by (start_bytes s) true true refl
+      ((λ i. allows (kind_again s.kind i) (number_of (bytes_of 4 (bits s.rights)))) ∙ allowed_again s.kind (bits s.rights) h);
   again = λ i. record { kind = kind_or_any (kind_again s.kind i); rights = rights_of (word_again s.kind (bits s.rights) h i) };
 }
 
@@ -158,6 +179,7 @@ slots_fit s h =
     let size : number_of (bytes_of 2 s.length) ≡ s.length = number_of-bytes_of 2 s.length (omega arith) in
     record {
       len = refl;
-      fault = slot_fault-by (slot_bytes s) true true (rw (size, p.0, q.0) refl) ((λ i. allows (kind_again s.kind i) (number_of (bytes_of 4 (bits s.rights)))) ∙ allowed_again s.kind (bits s.rights) q.1);
+      fault = slot_fault-by (slot_bytes s) true true (rw (size, p.0, q.0) refl)
+          ((λ i. allows (kind_again s.kind i) (number_of (bytes_of 4 (bits s.rights)))) ∙ allowed_again s.kind (bits s.rights) q.1);
       again = λ i. record { kind = kind_or_any (kind_again s.kind i); length = size i; rights = rights_of (word_again s.kind (bits s.rights) q.1 i) };
     }

@@ -1,5 +1,8 @@
 -- The header: its tests, and its 20 bytes.
-use Rattle.zl_code.proofs.Common.{◌≡◌, ℕ, zero, suc, ◌≤◌, Bool, true, false, cond, eqb, leb, List, [], ◌∷◌, ◌++◌, length, get_or, take, drop, Option, None, ◌==◌, not, refl, sym, ap, ◌∙◌, arith, slice_index, nat_le, nat_lt, starts_with, and_parts, leb-true, eqb-true, length-drop, get_or-drop, then_some, first_some, Image, header_fault, needs_byte, number_at, bytes_of, ltb-false, le-ltb, header, is_header_in_range, is_needs_byte, magic, count_at, starts_at, slots_at, length_at, is_raw_at, eq-eqb}
+use Rattle.zl_code.proofs.Common.{◌≡◌, ℕ, zero, suc, ◌≤◌, Bool, true, false, cond, eqb, leb, List, [], ◌∷◌, ◌++◌, length, get_or, take, drop, Option, None}
+use Rattle.zl_code.proofs.Common.{◌==◌, not, refl, sym, ap, ◌∙◌, arith, slice_index, nat_le, nat_lt, starts_with, and_parts, leb-true, eqb-true, length-drop}
+use Rattle.zl_code.proofs.Common.{get_or-drop, then_some, first_some, Image, header_fault, needs_byte, number_at, bytes_of, ltb-false, le-ltb, header}
+use Rattle.zl_code.proofs.Common.{is_header_in_range, is_needs_byte, magic, count_at, starts_at, slots_at, length_at, is_raw_at, eq-eqb}
 use Rattle.std.specs.Cmp.Lexicographic.{pointwise}
 use Rattle.zl_code.specs.declared.image.DecodeFault.{DecodeFault}
 use Rattle.zl_code.specs.declared.image.DecodeFault.TheVariants as faults
@@ -13,7 +16,8 @@ pub record HeaderFits (bytes : List ℕ) : Type 0 where
   pub in_range : is_header_in_range bytes ≡ true
   pub len : length bytes ≡ length_at bytes
 
-no_fault_if : (b : Bool) (f : DecodeFault) (rest : List (Option DecodeFault)) → first_some (then_some b f ∷ rest) ≡ None → (b ≡ false) × (first_some rest ≡ None)
+no_fault_if : (b : Bool) (f : DecodeFault) (rest : List (Option DecodeFault)) → first_some (then_some b f ∷ rest) ≡ None
+    → (b ≡ false) × (first_some rest ≡ None)
 no_fault_if true f rest h = absurd cc
 no_fault_if false f rest h = (refl, h)
 
@@ -67,7 +71,8 @@ mark_is (suc zero) h = refl
 mark_is (suc (suc b)) h = absurd (omega (arith, leb-true _ _ h))
 
 -- the parts of the header, from the front
-header_parts : (bytes : List ℕ) → bytes ≡ take 4 bytes ++ (take 2 (drop 4 bytes) ++ (take 2 (drop 6 bytes) ++ (take 4 (drop 8 bytes) ++ (take 4 (drop 12 bytes) ++ (take 4 (drop 16 bytes) ++ drop 20 bytes)))))
+header_parts : (bytes : List ℕ) → bytes ≡ take 4 bytes
+    ++ (take 2 (drop 4 bytes) ++ (take 2 (drop 6 bytes) ++ (take 4 (drop 8 bytes) ++ (take 4 (drop 12 bytes) ++ (take 4 (drop 16 bytes) ++ drop 20 bytes)))))
 header_parts bytes =
     parts_at 0 4 bytes
     ∙ ap (λ (r : List ℕ). take 4 bytes ++ r) (parts_at 4 2 bytes
@@ -115,12 +120,15 @@ header_spelled bytes i fits h has =
     let long = h.long in
     let r = header_ranges bytes h.in_range in
     let front : take 4 bytes ≡ magic = sym (same_from_pointwise magic (take 4 bytes) h.front) in
-    let two : take 2 (drop 4 bytes) ≡ get_or bytes 4 0 ∷ get_or bytes 5 0 ∷ [] = first_two (drop 4 bytes) (omega (arith, length-drop 4 bytes)) ∙ (λ k. get_or-drop 4 bytes 0 0 k ∷ get_or-drop 4 bytes 1 0 k ∷ []) in
+    let two : take 2 (drop 4 bytes) ≡ get_or bytes 4 0 ∷ get_or bytes 5 0 ∷ [] =
+    first_two (drop 4 bytes) (omega (arith, length-drop 4 bytes)) ∙ (λ k. get_or-drop 4 bytes 0 0 k ∷ get_or-drop 4 bytes 1 0 k ∷ []) in
     let mark : slice_index bytes 5 ≡ cond i.raw 1 0 = mark_is (slice_index bytes 5) r.mark ∙ ap (λ (b : Bool). cond b 1 0) (sym has.raw) in
     let marked : get_or bytes 4 0 ∷ get_or bytes 5 0 ∷ [] ≡ 1 ∷ cond i.raw 1 0 ∷ [] = (λ k. h.version k ∷ mark k ∷ []) in
     let instrs : take 2 (drop 6 bytes) ≡ bytes_of 2 (length i.code) = sym (ap (bytes_of 2) has.code ∙ bytes_of-number_at bytes 6 2 (omega arith) fits) in
     let memory : take 4 (drop 8 bytes) ≡ bytes_of 4 i.memory = sym (ap (bytes_of 4) has.memory ∙ bytes_of-number_at bytes 8 4 (omega arith) fits) in
     let budget : take 4 (drop 12 bytes) ≡ bytes_of 4 i.budget = sym (ap (bytes_of 4) has.budget ∙ bytes_of-number_at bytes 12 4 (omega arith) fits) in
-    let four = first_four (drop 16 bytes) (omega (arith, length-drop 16 bytes)) ∙ (λ k. get_or-drop 16 bytes 0 0 k ∷ get_or-drop 16 bytes 1 0 k ∷ get_or-drop 16 bytes 2 0 k ∷ get_or-drop 16 bytes 3 0 k ∷ []) in
-    let counts : take 4 (drop 16 bytes) ≡ needs_byte i.needs ∷ length i.starts ∷ length i.slots ∷ 0 ∷ [] = four ∙ (λ k. sym has.needs k ∷ sym has.starts k ∷ sym has.slots k ∷ r.last k ∷ []) in
+    let four = first_four (drop 16 bytes) (omega (arith, length-drop 16 bytes))
+    ∙ (λ k. get_or-drop 16 bytes 0 0 k ∷ get_or-drop 16 bytes 1 0 k ∷ get_or-drop 16 bytes 2 0 k ∷ get_or-drop 16 bytes 3 0 k ∷ []) in
+    let counts : take 4 (drop 16 bytes) ≡ needs_byte i.needs ∷ length i.starts ∷ length i.slots ∷ 0 ∷ [] =
+    four ∙ (λ k. sym has.needs k ∷ sym has.starts k ∷ sym has.slots k ∷ r.last k ∷ []) in
     header_parts bytes ∙ (λ k. front k ++ ((two ∙ marked) k ++ (instrs k ++ (memory k ++ (budget k ++ (counts k ++ drop 20 bytes))))))

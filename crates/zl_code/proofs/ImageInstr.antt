@@ -1,5 +1,9 @@
 -- The 16 bytes of an instruction and what is read of them.
-use Rattle.zl_code.proofs.Common.{◌≡◌, ℕ, zero, suc, ◌≤◌, Bool, true, false, eqb, List, [], ◌∷◌, ◌++◌, length, take, drop, replicate, Option, Some, None, ◌==◌, not, refl, sym, ap, subst, ◌∙◌, arith, slice_index, IfSome, list_all, and_parts, and_from, eqb-true, take_all, length-take, length-drop, then_some, first_some, Layout, layout_of, Reading, reading_of, is_instr_in_range, are_registers, row_bytes, seven, instr_fault, number_at, bytes_of, names_registers, is_ending_clear, is_unused_zero, ending_bytes, fault_by, registers_at, eq-eqb}
+use Rattle.zl_code.proofs.Common.{◌≡◌, ℕ, zero, suc, ◌≤◌, Bool, true, false, eqb, List, [], ◌∷◌, ◌++◌, length, take, drop, replicate, Option, Some, None, ◌==◌}
+use Rattle.zl_code.proofs.Common.{not, refl, sym, ap, subst, ◌∙◌, arith, slice_index, IfSome, list_all, and_parts, and_from, eqb-true, take_all, length-take}
+use Rattle.zl_code.proofs.Common.{length-drop, then_some, first_some, Layout, layout_of, Reading, reading_of, is_instr_in_range, are_registers, row_bytes}
+use Rattle.zl_code.proofs.Common.{seven, instr_fault, number_at, bytes_of, names_registers, is_ending_clear, is_unused_zero, ending_bytes, fault_by}
+use Rattle.zl_code.proofs.Common.{registers_at, eq-eqb}
 use Rattle.zl_code.specs.declared.instr.Instr.TheVariants as instr
 use Rattle.zl_code.specs.declared.image.DecodeFault.{DecodeFault}
 use Rattle.zl_code.specs.declared.image.DecodeFault.TheVariants as faults
@@ -8,7 +12,8 @@ use Rattle.zl_code.specs.declared.layout.Ending.TheVariants as ending
 use Rattle.zl_code.proofs.ImageBytes.{IsBytes, bytes_of-number_at, parts_at, list_all-from_IsBytes}
 
 -- numbers of which those from the nth on are 0 are the first n and zeros
-padded : (j n : ℕ) (registers : List ℕ) → length registers ≤ j → list_all (λ b. b == 0) (drop n registers) ≡ true → take (length registers) (take n registers ++ replicate j 0) ≡ registers
+padded : (j n : ℕ) (registers : List ℕ) → length registers ≤ j → list_all (λ b. b == 0) (drop n registers) ≡ true
+    → take (length registers) (take n registers ++ replicate j 0) ≡ registers
 padded j n [] le h = refl
 padded zero n (b ∷ bs) le h = absurd (omega arith)
 padded (suc j) zero (b ∷ bs) le h =
@@ -33,17 +38,20 @@ ending_clear ending.Both r same h = same
 ending_clear ending.Handles r same h = refl
 
 -- where what the layout doesn't use is 0, nothing is lost
-pub row_bytes-unused : (opcode : ℕ) (l : Layout) (r : Reading) → length r.registers ≡ 7 → HasNumbers r → is_unused_zero l r ≡ true → row_bytes opcode l r ≡ opcode ∷ (r.registers ++ r.places)
+pub row_bytes-unused : (opcode : ℕ) (l : Layout) (r : Reading) → length r.registers ≡ 7 → HasNumbers r → is_unused_zero l r ≡ true
+    → row_bytes opcode l r ≡ opcode ∷ (r.registers ++ r.places)
 row_bytes-unused opcode l r len same h =
     let zeros = and_parts (list_all (λ b. b == 0) (drop l.registers r.registers)) (is_ending_clear l.ending r) h in
-    let front : seven (take l.registers r.registers) ≡ r.registers = ap (λ (k : ℕ). take k (take l.registers r.registers ++ replicate 7 0)) (sym len) ∙ padded 7 l.registers r.registers (omega arith) zeros.0 in
+    let front : seven (take l.registers r.registers) ≡ r.registers =
+    ap (λ (k : ℕ). take k (take l.registers r.registers ++ replicate 7 0)) (sym len) ∙ padded 7 l.registers r.registers (omega arith) zeros.0 in
     let behind : ending_bytes l.ending r ≡ r.places = ending_clear l.ending r same zeros.1 in
     λ i. opcode ∷ (front i ++ behind i)
 
 has_numbers : (bytes : List ℕ) → length bytes ≡ 16 → IsBytes bytes → HasNumbers (reading_of bytes)
 has_numbers bytes len h =
     let imm : bytes_of 4 (number_at bytes 8 4) ≡ take 4 (drop 8 bytes) = bytes_of-number_at bytes 8 4 (omega arith) h in
-    let target : bytes_of 4 (number_at bytes 12 4) ≡ drop 12 bytes = bytes_of-number_at bytes 12 4 (omega arith) h ∙ take_all 4 (drop 12 bytes) (omega (arith, length-drop 12 bytes)) in
+    let target : bytes_of 4 (number_at bytes 12 4) ≡ drop 12 bytes =
+    bytes_of-number_at bytes 12 4 (omega arith) h ∙ take_all 4 (drop 12 bytes) (omega (arith, length-drop 12 bytes)) in
     (λ i. imm i ++ target i) ∙ sym (parts_at 8 4 bytes)
 
 -- the 16 bytes are those of what is read from them
@@ -65,12 +73,14 @@ as_read : (bytes : List ℕ) (r : Reading) → IsReadFrom bytes r → r ≡ read
 as_read bytes r e = λ i. record { registers = e.registers i; imm = e.imm i; target = e.target i; places = e.places i }
 
 -- an instruction that has the fields that were read has the bytes
-pub row_bytes-read : (bytes : List ℕ) (opcode : ℕ) (l : Layout) (r : Reading) (spelled : List ℕ) → length bytes ≡ 16 → IsBytes bytes → opcode ≡ slice_index bytes 0
+pub row_bytes-read : (bytes : List ℕ) (opcode : ℕ) (l : Layout) (r : Reading) (spelled : List ℕ) → length bytes ≡ 16 → IsBytes bytes
+    → opcode ≡ slice_index bytes 0
     → IsReadFrom bytes r → is_unused_zero l r ≡ true → spelled ≡ row_bytes opcode l r → spelled ≡ bytes
 row_bytes-read bytes opcode l r spelled len fits first from unused e =
     let read = as_read bytes r from in
     let clear : is_unused_zero l (reading_of bytes) ≡ true = sym (ap (is_unused_zero l) read) ∙ unused in
-    e ∙ (λ i. row_bytes (first i) l (read i)) ∙ row_bytes-unused (slice_index bytes 0) l (reading_of bytes) (seven_registers bytes len) (has_numbers bytes len fits) clear ∙ bytes_are_read bytes len
+    e ∙ (λ i. row_bytes (first i) l (read i))
+    ∙ row_bytes-unused (slice_index bytes 0) l (reading_of bytes) (seven_registers bytes len) (has_numbers bytes len fits) clear ∙ bytes_are_read bytes len
 
 -- ---- faults
 
@@ -79,11 +89,13 @@ unfolding instr_fault
 instr_fault-unknown raw bytes h = ap (fault_by raw (reading_of bytes)) h
 
 -- registers that aren't there, in their fields or in the last eight bytes
-pub instr_fault-register : (raw : Bool) (bytes : List ℕ) (l : Layout) → layout_of (slice_index bytes 0) ≡ Some l → are_registers (registers_at bytes) ≡ false → instr_fault raw bytes ≡ Some faults.BadRegister
+pub instr_fault-register : (raw : Bool) (bytes : List ℕ) (l : Layout) → layout_of (slice_index bytes 0) ≡ Some l → are_registers (registers_at bytes) ≡ false
+    → instr_fault raw bytes ≡ Some faults.BadRegister
 unfolding instr_fault
 instr_fault-register raw bytes l h bad = ap (fault_by raw (reading_of bytes)) h ∙ rw bad refl
 
-pub instr_fault-named : (raw : Bool) (bytes : List ℕ) (l : Layout) (r : Reading) → layout_of (slice_index bytes 0) ≡ Some l → are_registers (registers_at bytes) ≡ true
+pub instr_fault-named : (raw : Bool) (bytes : List ℕ) (l : Layout) (r : Reading) → layout_of (slice_index bytes 0) ≡ Some l
+    → are_registers (registers_at bytes) ≡ true
     → IsReadFrom bytes r → names_registers l.ending r ≡ false → instr_fault raw bytes ≡ Some faults.BadRegister
 unfolding instr_fault
 instr_fault-named raw bytes l r h good from bad =
@@ -92,7 +104,8 @@ instr_fault-named raw bytes l r h good from bad =
     ap (fault_by raw (reading_of bytes)) h ∙ rw (good, missing) refl
 
 -- with registers in their range, a fault is a set field that isn't used
-pub instr_fault-known : (raw : Bool) (bytes : List ℕ) (l : Layout) (r : Reading) (unused : Bool) → layout_of (slice_index bytes 0) ≡ Some l → are_registers (registers_at bytes) ≡ true
+pub instr_fault-known : (raw : Bool) (bytes : List ℕ) (l : Layout) (r : Reading) (unused : Bool) → layout_of (slice_index bytes 0) ≡ Some l
+    → are_registers (registers_at bytes) ≡ true
     → IsReadFrom bytes r → names_registers l.ending r ≡ true → is_unused_zero l r ≡ unused → instr_fault raw bytes ≡ then_some (not unused) faults.UnusedField
 unfolding instr_fault
 instr_fault-known raw bytes l r unused h good from named e =
@@ -110,6 +123,7 @@ IfSome-at None P x e h = absurd cc
 IfSome-at (Some y) P x e h = let same : y ≡ x = cc in subst P same h
 
 -- bytes of an unknown opcode are in range under the raw mark
-pub unknown_in_range : (raw : Bool) (bytes : List ℕ) → raw ≡ true → length bytes ≡ 16 → IsBytes bytes → layout_of (slice_index bytes 0) ≡ None → is_instr_in_range raw (instr.Unknown bytes) ≡ true
+pub unknown_in_range : (raw : Bool) (bytes : List ℕ) → raw ≡ true → length bytes ≡ 16 → IsBytes bytes → layout_of (slice_index bytes 0) ≡ None
+    → is_instr_in_range raw (instr.Unknown bytes) ≡ true
 unknown_in_range raw bytes marked len fits unknown =
     and_from _ _ marked (and_from _ _ (eq-eqb (length bytes) 16 len) (and_from _ _ (list_all-from_IsBytes bytes fits) (rw unknown refl)))

@@ -1,5 +1,7 @@
 -- The byte of the needs.
-use Rattle.zl_code.proofs.Common.{◌≡◌, ℕ, ◌<◌, ◌/◌, ◌%◌, Bool, true, false, ◌==◌, ◌||◌, not, if◌then◌else◌, List, [], ◌∷◌, refl, ap, ◌∙◌, nat_lt, map, and_parts, eqb-true, ltb-true, condition_number, is_among, needs_named, needs_value, needs_byte, are_needs, is_needs_byte, ascend_from}
+use Rattle.zl_code.proofs.Common.{◌≡◌, ℕ, ◌<◌, ◌/◌, ◌%◌, Bool, true, false, ◌==◌, ◌||◌, not, if◌then◌else◌, List, [], ◌∷◌, refl, ap, ◌∙◌, nat_lt, map}
+use Rattle.zl_code.proofs.Common.{and_parts, eqb-true, ltb-true, condition_number, is_among, needs_named, needs_value, needs_byte, are_needs, is_needs_byte}
+use Rattle.zl_code.proofs.Common.{ascend_from}
 use Rattle.zl_rights.specs.declared.policy.Condition.{Condition}
 use Rattle.zl_rights.specs.declared.policy.Condition.TheVariants as condition
 use Rattle.zl_code.specs.declared.image.Needs.{Needs}
@@ -9,7 +11,8 @@ use Rattle.zl_code.proofs.Below.{all_below, below}
 -- the needs whose bits are in the byte
 abbrev pub needs_at : ℕ → List Condition
 needs_at b =
-    need_if (b % 2 == 1) condition.NewChannel (need_if (b / 2 % 2 == 1) condition.NewEvent (need_if (b / 8 % 2 == 1) condition.NewPort (need_if (b / 16 % 2 == 1) condition.NewProcess [])))
+    need_if (b % 2 == 1) condition.NewChannel
+    (need_if (b / 2 % 2 == 1) condition.NewEvent (need_if (b / 8 % 2 == 1) condition.NewPort (need_if (b / 16 % 2 == 1) condition.NewProcess [])))
 
 again : ℕ → Bool
 again b = not (is_needs_byte b) || (needs_byte (needs_at b) == b)
@@ -29,7 +32,8 @@ needs_of_byte b h =
 pub are_needs-value : (n : Needs) → are_needs (needs_value n) ≡ true
 are_needs-value n = by n.channel n.event n.port n.process
   where
-    by : (c e p q : Bool) → are_needs (need_if c condition.NewChannel (need_if e condition.NewEvent (need_if p condition.NewPort (need_if q condition.NewProcess [])))) ≡ true
+    by : (c e p q : Bool)
+        → are_needs (need_if c condition.NewChannel (need_if e condition.NewEvent (need_if p condition.NewPort (need_if q condition.NewProcess [])))) ≡ true
     by true true true true = refl
     by true true true false = refl
     by true true false true = refl
@@ -82,7 +86,8 @@ after_event (condition.NewEvent ∷ needs) h = absurd cc
 after_event (condition.NewPort ∷ needs) h = let r = after_port needs h in (true, r.0, ap (λ (r : List Condition). condition.NewPort ∷ r) r.1)
 after_event (condition.NewProcess ∷ needs) h = (false, true, ap (λ (r : List Condition). condition.NewProcess ∷ r) (after_process needs h))
 
-after_channel : (needs : List Condition) → InOrder 3 needs → (e : Bool) × (p : Bool) × (q : Bool) × (needs ≡ need_if e condition.NewEvent (need_if p condition.NewPort (need_if q condition.NewProcess [])))
+after_channel : (needs : List Condition) → InOrder 3 needs
+    → (e : Bool) × (p : Bool) × (q : Bool) × (needs ≡ need_if e condition.NewEvent (need_if p condition.NewPort (need_if q condition.NewProcess [])))
 after_channel [] h = (false, false, false, refl)
 after_channel (condition.BadHandle ∷ needs) h = absurd cc
 after_channel (condition.WrongObject ∷ needs) h = absurd cc
@@ -107,7 +112,8 @@ flagged (condition.NewEvent ∷ needs) h =
 flagged (condition.NewPort ∷ needs) h =
     let r = after_port needs h in
     (record { channel = false; event = false; port = true; process = r.0 }, ap (λ (r : List Condition). condition.NewPort ∷ r) r.1)
-flagged (condition.NewProcess ∷ needs) h = (record { channel = false; event = false; port = false; process = true }, ap (λ (r : List Condition). condition.NewProcess ∷ r) (after_process needs h))
+flagged (condition.NewProcess ∷ needs) h =
+    (record { channel = false; event = false; port = false; process = true }, ap (λ (r : List Condition). condition.NewProcess ∷ r) (after_process needs h))
 
 -- what is kept by a byte of needs
 pub record FitsByte (needs : List Condition) : Type 0 where
@@ -117,7 +123,8 @@ pub record FitsByte (needs : List Condition) : Type 0 where
 value_fits : (n : Needs) → FitsByte (needs_value n)
 value_fits n = by n.channel n.event n.port n.process
   where
-    by : (c e p q : Bool) → FitsByte (need_if c condition.NewChannel (need_if e condition.NewEvent (need_if p condition.NewPort (need_if q condition.NewProcess []))))
+    by : (c e p q : Bool)
+        → FitsByte (need_if c condition.NewChannel (need_if e condition.NewEvent (need_if p condition.NewPort (need_if q condition.NewProcess []))))
     by true true true true = record { valid = refl; again = refl }
     by true true true false = record { valid = refl; again = refl }
     by true true false true = record { valid = refl; again = refl }
@@ -146,16 +153,24 @@ flags c e p q = need_if c condition.NewChannel (need_if e condition.NewEvent (ne
 
 -- which of the four are named
 abbrev named_flags : List Condition → List Condition
-named_flags named = flags (is_among named condition.NewChannel) (is_among named condition.NewEvent) (is_among named condition.NewPort) (is_among named condition.NewProcess)
+named_flags named =
+    flags (is_among named condition.NewChannel) (is_among named condition.NewEvent) (is_among named condition.NewPort) (is_among named condition.NewProcess)
 
 needs_named-flags : (named : List Condition) → needs_named named ≡ named_flags named
-needs_named-flags named = by (is_among named condition.NewChannel) (is_among named condition.NewEvent) (is_among named condition.NewPort) (is_among named condition.NewProcess)
+needs_named-flags named =
+    by (is_among named condition.NewChannel) (is_among named condition.NewEvent) (is_among named condition.NewPort) (is_among named condition.NewProcess)
   where
     one : (b : Bool) (c : Condition) (xs ys : List Condition) → xs ≡ ys → (if b then c ∷ xs else xs) ≡ need_if b c ys
     one true c xs ys e = ap (λ (r : List Condition). c ∷ r) e
     one false c xs ys e = e
 
-    by : (c e p q : Bool) → (if c then condition.NewChannel ∷ (if e then condition.NewEvent ∷ (if p then condition.NewPort ∷ (if q then condition.NewProcess ∷ [] else []) else (if q then condition.NewProcess ∷ [] else [])) else (if p then condition.NewPort ∷ (if q then condition.NewProcess ∷ [] else []) else (if q then condition.NewProcess ∷ [] else []))) else (if e then condition.NewEvent ∷ (if p then condition.NewPort ∷ (if q then condition.NewProcess ∷ [] else []) else (if q then condition.NewProcess ∷ [] else [])) else (if p then condition.NewPort ∷ (if q then condition.NewProcess ∷ [] else []) else (if q then condition.NewProcess ∷ [] else [])))) ≡ flags c e p q
+    by : (c e p q : Bool)
+        → (if c then condition.NewChannel ∷ (if e then condition.NewEvent
+        ∷ (if p then condition.NewPort ∷ (if q then condition.NewProcess ∷ [] else []) else (if q then condition.NewProcess ∷ [] else []))
+        else (if p then condition.NewPort ∷ (if q then condition.NewProcess ∷ [] else []) else (if q then condition.NewProcess ∷ [] else [])))
+        else (if e then condition.NewEvent
+        ∷ (if p then condition.NewPort ∷ (if q then condition.NewProcess ∷ [] else []) else (if q then condition.NewProcess ∷ [] else []))
+        else (if p then condition.NewPort ∷ (if q then condition.NewProcess ∷ [] else []) else (if q then condition.NewProcess ∷ [] else [])))) ≡ flags c e p q
     by c e p q = one c _ _ _ (one e _ _ _ (one p _ _ _ (one q _ _ _ refl)))
 
 -- each of the four is among the flags where its flag is set

@@ -1,5 +1,7 @@
 -- A list of bytes in pieces of one size.
-use Rattle.zl_code.proofs.Common.{◌≡◌, ℕ, zero, suc, ◌+◌, ◌-◌, ◌*◌, ◌/◌, ◌≤◌, Bool, true, List, [], ◌∷◌, ◌++◌, length, take, drop, map, Option, None, refl, ap, ◌∙◌, arith, append_assoc, list_all, flat_map, and_parts, length-drop, take_at, drop_at, first_some, pieces, drop-drop, take_rest, length-append, take-append-drop}
+use Rattle.zl_code.proofs.Common.{◌≡◌, ℕ, zero, suc, ◌+◌, ◌-◌, ◌*◌, ◌/◌, ◌≤◌, Bool, true, List, [], ◌∷◌, ◌++◌, length, take, drop, map, Option, None, refl, ap}
+use Rattle.zl_code.proofs.Common.{◌∙◌, arith, append_assoc, list_all, flat_map, and_parts, length-drop, take_at, drop_at, first_some, pieces, drop-drop}
+use Rattle.zl_code.proofs.Common.{take_rest, length-append, take-append-drop}
 use Rattle.std.specs.Simd.{first_chunks}
 use Rattle.std.proofs.lemmas.List.Concat.{flat_map-cons}
 use Rattle.zl_code.specs.declared.image.DecodeFault.{DecodeFault}
@@ -14,13 +16,15 @@ take_chunks size (suc n) (suc m) bytes le = ap (λ (r : List (List ℕ)). take s
 
 -- the first n chunks of the rest from the offset on are its n pieces
 pub chunks_of_8 : (bytes : List ℕ) (offset n : ℕ) → offset + 8 * n ≤ length bytes
-    → take n (first_chunks 8 (length (take (length bytes - offset) (drop offset bytes)) / 8) (take (length bytes - offset) (drop offset bytes))) ≡ pieces 8 n (drop offset bytes)
+    → take n (first_chunks 8 (length (take (length bytes - offset) (drop offset bytes)) / 8) (take (length bytes - offset) (drop offset bytes)))
+    ≡ pieces 8 n (drop offset bytes)
 chunks_of_8 bytes offset n le =
     ap (λ (rest : List ℕ). take n (first_chunks 8 (length rest / 8) rest)) (take_rest bytes offset)
     ∙ take_chunks 8 n (length (drop offset bytes) / 8) (drop offset bytes) (omega (arith, length-drop offset bytes))
 
 pub chunks_of_16 : (bytes : List ℕ) (offset n : ℕ) → offset + 16 * n ≤ length bytes
-    → take n (first_chunks 16 (length (take (length bytes - offset) (drop offset bytes)) / 16) (take (length bytes - offset) (drop offset bytes))) ≡ pieces 16 n (drop offset bytes)
+    → take n (first_chunks 16 (length (take (length bytes - offset) (drop offset bytes)) / 16) (take (length bytes - offset) (drop offset bytes)))
+    ≡ pieces 16 n (drop offset bytes)
 chunks_of_16 bytes offset n le =
     ap (λ (rest : List ℕ). take n (first_chunks 16 (length rest / 16) rest)) (take_rest bytes offset)
     ∙ take_chunks 16 n (length (drop offset bytes) / 16) (drop offset bytes) (omega (arith, length-drop offset bytes))
@@ -40,7 +44,8 @@ after_8 (suc n) bytes = after_8 n (drop 8 bytes) ∙ drop-drop (8 * n) 8 bytes �
 pub after_16 : (n : ℕ) (bytes : List ℕ) → after 16 n bytes ≡ drop (16 * n) bytes
 unfolding after
 after_16 zero bytes = refl
-after_16 (suc n) bytes = after_16 n (drop 16 bytes) ∙ drop-drop (16 * n) 16 bytes ∙ (let e : 16 + 16 * n ≡ 16 * suc n = omega arith in ap (λ (k : ℕ). drop k bytes) e)
+after_16 (suc n) bytes =
+    after_16 n (drop 16 bytes) ∙ drop-drop (16 * n) 16 bytes ∙ (let e : 16 + 16 * n ≡ 16 * suc n = omega arith in ap (λ (k : ℕ). drop k bytes) e)
 
 pub length-pieces : (size n : ℕ) (bytes : List ℕ) → length (pieces size n bytes) ≡ n
 unfolding pieces
@@ -48,7 +53,8 @@ length-pieces size zero bytes = refl
 length-pieces size (suc n) bytes = ap suc (length-pieces size n (drop size bytes))
 
 -- what has the pieces as its bytes, with what is behind them, is all of the bytes
-pub joined : {X : Type 0} (size : ℕ) (spell : X → List ℕ) (xs : List X) (bytes : List ℕ) → map spell xs ≡ pieces size (length xs) bytes → flat_map spell xs ++ after size (length xs) bytes ≡ bytes
+pub joined : {X : Type 0} (size : ℕ) (spell : X → List ℕ) (xs : List X) (bytes : List ℕ) → map spell xs ≡ pieces size (length xs) bytes
+    → flat_map spell xs ++ after size (length xs) bytes ≡ bytes
 unfolding pieces after
 joined size spell [] bytes h = refl
 joined size spell (x ∷ xs) bytes h =
@@ -77,7 +83,8 @@ span_16 (suc n) = omega (arith, span_16 n)
 -- ---- what is spelled one after another
 
 -- Of things that have so many bytes each and are read again from them without a fault, followed by other bytes.
-pub record Parted {X : Type 0} (size : ℕ) (spell : X → List ℕ) (fault : List ℕ → Option DecodeFault) (read : List ℕ → X) (xs : List X) (behind : List ℕ) : Type 0 where
+pub record Parted {X : Type 0} (size : ℕ) (spell : X → List ℕ) (fault : List ℕ → Option DecodeFault) (read : List ℕ → X) (xs : List X)
+    (behind : List ℕ) : Type 0 where
   pub len : length (flat_map spell xs) ≡ span size (length xs)
   pub pieces_are : pieces size (length xs) (flat_map spell xs ++ behind) ≡ map spell xs
   pub rest_is : after size (length xs) (flat_map spell xs ++ behind) ≡ behind
@@ -90,7 +97,8 @@ pub record Fits {X : Type 0} (size : ℕ) (spell : X → List ℕ) (fault : List
   pub fault_is : fault (spell x) ≡ None
   pub again : read (spell x) ≡ x
 
-pub parted : {X : Type 0} (size : ℕ) (spell : X → List ℕ) (fault : List ℕ → Option DecodeFault) (read : List ℕ → X) (test : X → Bool) → ((x : X) → test x ≡ true → Fits size spell fault read x)
+pub parted : {X : Type 0} (size : ℕ) (spell : X → List ℕ) (fault : List ℕ → Option DecodeFault) (read : List ℕ → X) (test : X → Bool)
+    → ((x : X) → test x ≡ true → Fits size spell fault read x)
     → (xs : List X) (behind : List ℕ) → list_all test xs ≡ true → Parted size spell fault read xs behind
 unfolding pieces after span
 parted size spell fault read test fit [] behind h = record { len = refl; pieces_are = refl; rest_is = refl; no_fault = refl; again = refl }
@@ -98,9 +106,11 @@ parted size spell fault read test fit (x ∷ xs) behind h =
     let p = and_parts (test x) (list_all test xs) h in
     let f = fit x p.0 in
     let r = parted size spell fault read test fit xs behind p.1 in
-    let whole : flat_map spell (x ∷ xs) ++ behind ≡ spell x ++ (flat_map spell xs ++ behind) = (λ k. flat_map-cons spell x xs k ++ behind) ∙ append_assoc (spell x) (flat_map spell xs) behind in
+    let whole : flat_map spell (x ∷ xs) ++ behind ≡ spell x ++ (flat_map spell xs ++ behind) =
+    (λ k. flat_map-cons spell x xs k ++ behind) ∙ append_assoc (spell x) (flat_map spell xs) behind in
     let first : take size (flat_map spell (x ∷ xs) ++ behind) ≡ spell x = ap (take size) whole ∙ take_at (spell x) (flat_map spell xs ++ behind) size f.len in
-    let rest : drop size (flat_map spell (x ∷ xs) ++ behind) ≡ flat_map spell xs ++ behind = ap (drop size) whole ∙ drop_at (spell x) (flat_map spell xs ++ behind) size f.len in
+    let rest : drop size (flat_map spell (x ∷ xs) ++ behind) ≡ flat_map spell xs ++ behind =
+    ap (drop size) whole ∙ drop_at (spell x) (flat_map spell xs ++ behind) size f.len in
     record {
       len = ap length (flat_map-cons spell x xs) ∙ length-append (spell x) (flat_map spell xs) ∙ (λ k. f.len k + r.len k);
       pieces_are = λ k. first k ∷ (ap (pieces size (length xs)) rest ∙ r.pieces_are) k;

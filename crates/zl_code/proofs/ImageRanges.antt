@@ -1,5 +1,7 @@
 -- The ranges of an image, one by one, and of an image to which one thing is added.
-use Rattle.zl_code.proofs.Common.{◌≡◌, ℕ, ◌<◌, ◌≤◌, Bool, true, List, [], ◌∷◌, ◌++◌, length, refl, arith, nat_le, nat_lt, list_all, and_parts, and_from, leb-true, ltb-true, le-leb, lt-ltb, Image, are_needs, is_in_range, is_start_in_range, is_slot_in_range, is_instr_in_range, length-append}
+use Rattle.zl_code.proofs.Common.{◌≡◌, ℕ, ◌<◌, ◌≤◌, Bool, true, List, [], ◌∷◌, ◌++◌, length, refl, arith, nat_le, nat_lt, list_all, and_parts, and_from}
+use Rattle.zl_code.proofs.Common.{leb-true, ltb-true, le-leb, lt-ltb, Image, are_needs, is_in_range, is_start_in_range, is_slot_in_range, is_instr_in_range}
+use Rattle.zl_code.proofs.Common.{length-append}
 use Rattle.zl_rights.specs.declared.policy.Condition.{Condition}
 use Rattle.zl_code.specs.declared.image.Start.{Start}
 use Rattle.zl_code.specs.declared.image.SlotArray.{SlotArray}
@@ -47,7 +49,8 @@ ranges i h =
 pub in_range_by : (i : Image) → Ranges i → is_in_range i ≡ true
 in_range_by i r =
     and_from _ _ (le-leb _ _ r.count) (and_from _ _ (le-leb _ _ r.memory) (and_from _ _ (lt-ltb _ _ r.least) (and_from _ _ (le-leb _ _ r.most)
-    (and_from _ _ r.needs (and_from _ _ (le-leb _ _ r.starts_count) (and_from _ _ (le-leb _ _ r.slots_count) (and_from _ _ r.starts (and_from _ _ r.slots r.code))))))))
+    (and_from _ _ r.needs
+    (and_from _ _ (le-leb _ _ r.starts_count) (and_from _ _ (le-leb _ _ r.slots_count) (and_from _ _ r.starts (and_from _ _ r.slots r.code))))))))
 
 -- ---- one thing more
 
@@ -65,29 +68,78 @@ marked raw (instr.Unknown bytes ∷ code) h =
     and_from _ _ (and_parts raw _ p.0).1 (marked raw code p.1)
 
 abbrev image : Bool → ℕ → ℕ → List Condition → List Start → List SlotArray → List Instr → Image
-image raw memory budget needs starts slots code = record { raw = raw; memory = memory; budget = budget; needs = needs; starts = starts; slots = slots; code = code }
+image raw memory budget needs starts slots code =
+    record { raw = raw; memory = memory; budget = budget; needs = needs; starts = starts; slots = slots; code = code }
 
-module _ (raw : Bool) (memory budget : ℕ) (needs : List Condition) (starts : List Start) (slots : List SlotArray) (code : List Instr) (h : is_in_range (image raw memory budget needs starts slots code) ≡ true) where
+module _ (raw : Bool) (memory budget : ℕ) (needs : List Condition) (starts : List Start) (slots : List SlotArray) (code : List Instr)
+    (h : is_in_range (image raw memory budget needs starts slots code) ≡ true) where
   pub raw_in_range : is_in_range (image true memory budget needs starts slots code) ≡ true
   raw_in_range =
       let r = ranges (image raw memory budget needs starts slots code) h in
       in_range_by (image true memory budget needs starts slots code)
-      (record { count = r.count; memory = r.memory; least = r.least; most = r.most; needs = r.needs; starts_count = r.starts_count; slots_count = r.slots_count; starts = r.starts; slots = r.slots; code = marked raw code r.code })
+      (record {
+        count = r.count;
+        memory = r.memory;
+        least = r.least;
+        most = r.most;
+        needs = r.needs;
+        starts_count = r.starts_count;
+        slots_count = r.slots_count;
+        starts = r.starts;
+        slots = r.slots;
+        code = marked raw code r.code;
+      })
 
-  pub starts_in_range : (start : Start) → is_start_in_range start ≡ true → length starts < 7 → is_in_range (image raw memory budget needs (starts ++ (start ∷ [])) slots code) ≡ true
+  pub starts_in_range : (start : Start) → is_start_in_range start ≡ true → length starts < 7
+      → is_in_range (image raw memory budget needs (starts ++ (start ∷ [])) slots code) ≡ true
   starts_in_range start fits room =
       let r = ranges (image raw memory budget needs starts slots code) h in
       in_range_by (image raw memory budget needs (starts ++ (start ∷ [])) slots code)
-      (record { count = r.count; memory = r.memory; least = r.least; most = r.most; needs = r.needs; starts_count = one_more starts start 7 room; slots_count = r.slots_count; starts = list_all_push is_start_in_range starts start r.starts fits; slots = r.slots; code = r.code })
+      (record {
+        count = r.count;
+        memory = r.memory;
+        least = r.least;
+        most = r.most;
+        needs = r.needs;
+        starts_count = one_more starts start 7 room;
+        slots_count = r.slots_count;
+        starts = list_all_push is_start_in_range starts start r.starts fits;
+        slots = r.slots;
+        code = r.code;
+      })
 
-  pub slots_in_range : (array : SlotArray) → is_slot_in_range array ≡ true → length slots < 8 → is_in_range (image raw memory budget needs starts (slots ++ (array ∷ [])) code) ≡ true
+  pub slots_in_range : (array : SlotArray) → is_slot_in_range array ≡ true → length slots < 8
+      → is_in_range (image raw memory budget needs starts (slots ++ (array ∷ [])) code) ≡ true
   slots_in_range array fits room =
       let r = ranges (image raw memory budget needs starts slots code) h in
       in_range_by (image raw memory budget needs starts (slots ++ (array ∷ [])) code)
-      (record { count = r.count; memory = r.memory; least = r.least; most = r.most; needs = r.needs; starts_count = r.starts_count; slots_count = one_more slots array 8 room; starts = r.starts; slots = list_all_push is_slot_in_range slots array r.slots fits; code = r.code })
+      (record {
+        count = r.count;
+        memory = r.memory;
+        least = r.least;
+        most = r.most;
+        needs = r.needs;
+        starts_count = r.starts_count;
+        slots_count = one_more slots array 8 room;
+        starts = r.starts;
+        slots = list_all_push is_slot_in_range slots array r.slots fits;
+        code = r.code;
+      })
 
-  pub code_in_range : (x : Instr) → is_instr_in_range raw x ≡ true → length code < 4096 → is_in_range (image raw memory budget needs starts slots (code ++ (x ∷ []))) ≡ true
+  pub code_in_range : (x : Instr) → is_instr_in_range raw x ≡ true → length code < 4096
+      → is_in_range (image raw memory budget needs starts slots (code ++ (x ∷ []))) ≡ true
   code_in_range x fits room =
       let r = ranges (image raw memory budget needs starts slots code) h in
       in_range_by (image raw memory budget needs starts slots (code ++ (x ∷ [])))
-      (record { count = one_more code x 4096 room; memory = r.memory; least = r.least; most = r.most; needs = r.needs; starts_count = r.starts_count; slots_count = r.slots_count; starts = r.starts; slots = r.slots; code = list_all_push (is_instr_in_range raw) code x r.code fits })
+      (record {
+        count = one_more code x 4096 room;
+        memory = r.memory;
+        least = r.least;
+        most = r.most;
+        needs = r.needs;
+        starts_count = r.starts_count;
+        slots_count = r.slots_count;
+        starts = r.starts;
+        slots = r.slots;
+        code = list_all_push (is_instr_in_range raw) code x r.code fits;
+      })

@@ -1,5 +1,8 @@
 -- Each instruction in turn: its 16 bytes have no fault, and it is read from them again.
-use Rattle.zl_code.proofs.Common.{◌≡◌, ℕ, ◌+◌, ◌*◌, ◌≤◌, Bool, true, List, [], ◌∷◌, length, Option, Some, None, ◌==◌, ◌&&◌, not, refl, ap, ◌∙◌, arith, is_some, slice_index, nat_lt, nat_le, drop, if◌then◌else◌, list_all, and_parts, ltb-true, leb-true, eqb-true, Layout, layout_of, row_of, local_parts, instr_fault, instr_bytes, bytes_of, number_of, number_at, is_instr_in_range, are_registers, is_local_in_range, is_call_in_range, is_room, are_places, is_packed, is_32_bits}
+use Rattle.zl_code.proofs.Common.{◌≡◌, ℕ, ◌+◌, ◌*◌, ◌≤◌, Bool, true, List, [], ◌∷◌, length, Option, Some, None, ◌==◌, ◌&&◌, not, refl, ap, ◌∙◌, arith, is_some}
+use Rattle.zl_code.proofs.Common.{slice_index, nat_lt, nat_le, drop, if◌then◌else◌, list_all, and_parts, ltb-true, leb-true, eqb-true, Layout, layout_of}
+use Rattle.zl_code.proofs.Common.{row_of, local_parts, instr_fault, instr_bytes, bytes_of, number_of, number_at, is_instr_in_range, are_registers}
+use Rattle.zl_code.proofs.Common.{is_local_in_range, is_call_in_range, is_room, are_places, is_packed, is_32_bits}
 use Rattle.zl_code.specs.declared.instr.Instr.{Instr}
 use Rattle.zl_code.specs.declared.instr.Instr.TheVariants as instr
 use Rattle.zl_code.specs.declared.instr.LocalInstr.{LocalInstr}
@@ -63,7 +66,8 @@ imm_and imm rs h = let p = and_parts (is_32_bits imm && true) (are_registers rs)
 target_and : (target : ℕ) (rs : List ℕ) → is_32_bits target && are_registers rs ≡ true → (is_32_bits target ≡ true) × (are_registers rs ≡ true)
 target_and target rs h = and_parts (is_32_bits target) (are_registers rs) h
 
-both_and : (imm target : ℕ) (rs : List ℕ) → (is_32_bits imm && is_32_bits target) && are_registers rs ≡ true → (is_32_bits imm ≡ true) × (is_32_bits target ≡ true) × (are_registers rs ≡ true)
+both_and : (imm target : ℕ) (rs : List ℕ) → (is_32_bits imm && is_32_bits target) && are_registers rs ≡ true
+    → (is_32_bits imm ≡ true) × (is_32_bits target ≡ true) × (are_registers rs ≡ true)
 both_and imm target rs h =
     let p = and_parts (is_32_bits imm && is_32_bits target) (are_registers rs) h in
     let q = and_parts (is_32_bits imm) (is_32_bits target) p.0 in
@@ -154,7 +158,8 @@ instr_fits raw (instr.Call i) h = call_fits raw i h
 instr_fits raw (instr.Unknown bytes) h =
     let marked = and_parts raw ((length bytes == 16) && (list_all (λ b. nat_lt b 256) bytes && not (is_some (layout_of (slice_index bytes 0))))) h in
     let sixteen = and_parts (length bytes == 16) (list_all (λ b. nat_lt b 256) bytes && not (is_some (layout_of (slice_index bytes 0)))) marked.1 in
-    let unknown = not_some (layout_of (slice_index bytes 0)) (and_parts (list_all (λ b. nat_lt b 256) bytes) (not (is_some (layout_of (slice_index bytes 0)))) sixteen.1).1 in
+    let unknown =
+    not_some (layout_of (slice_index bytes 0)) (and_parts (list_all (λ b. nat_lt b 256) bytes) (not (is_some (layout_of (slice_index bytes 0)))) sixteen.1).1 in
     record {
       len = eqb-true (length bytes) 16 sixteen.0;
       fault = instr_fault-unknown raw bytes unknown ∙ rw marked.0 refl;

@@ -1,5 +1,10 @@
 -- The bytes of a whole image.
-use Rattle.zl_code.proofs.Common.{◌≡◌, ℕ, ◌+◌, ◌*◌, Bool, true, false, cond, eqb, List, [], ◌∷◌, ◌++◌, length, drop, map, Option, Some, None, Result, Ok, Err, ◌⊎◌, inl, inr, IfOk, refl, sym, ap, ◌∙◌, arith, append-nil, nat_le, nat_lt, slice_index, list_all, flat_map, and_from, le-leb, lt-ltb, length-map, first_some, Image, spelling, Spells, needs_byte, are_needs, is_in_range, is_start_in_range, is_slot_in_range, is_instr_in_range, start_bytes, slot_bytes, instr_bytes, start_fault, slot_fault, instr_fault, header_fault, first_fault, pieces, number_at, MatchResult, drop-drop, drop_all, header, start_pieces, slot_pieces, code_pieces, count_at, starts_at, slots_at, is_raw_at, length-append}
+use Rattle.zl_code.proofs.Common.{◌≡◌, ℕ, ◌+◌, ◌*◌, Bool, true, false, cond, eqb, List, [], ◌∷◌, ◌++◌, length, drop, map, Option, Some, None, Result, Ok, Err}
+use Rattle.zl_code.proofs.Common.{◌⊎◌, inl, inr, IfOk, refl, sym, ap, ◌∙◌, arith, append-nil, nat_le, nat_lt, slice_index, list_all, flat_map, and_from, le-leb}
+use Rattle.zl_code.proofs.Common.{lt-ltb, length-map, first_some, Image, spelling, Spells, needs_byte, are_needs, is_in_range, is_start_in_range}
+use Rattle.zl_code.proofs.Common.{is_slot_in_range, is_instr_in_range, start_bytes, slot_bytes, instr_bytes, start_fault, slot_fault, instr_fault, header_fault}
+use Rattle.zl_code.proofs.Common.{first_fault, pieces, number_at, MatchResult, drop-drop, drop_all, header, start_pieces, slot_pieces, code_pieces, count_at}
+use Rattle.zl_code.proofs.Common.{starts_at, slots_at, is_raw_at, length-append}
 use Rattle.zl_code.specs.declared.image.DecodeFault.{DecodeFault}
 use Rattle.zl_code.specs.declared.image.DecodeFault.TheVariants as faults
 use Rattle.zl_code.proofs.ImageBytes.{IsBytes, number_of-bytes_of}
@@ -51,10 +56,13 @@ read_in_range bytes i h r =
     let most : nat_le i.budget 1000000 ≡ true = ap (λ (n : ℕ). nat_le n 1000000) r.budget ∙ g.most in
     let starts : nat_le (length i.starts) 7 ≡ true = ap (λ (n : ℕ). nat_le n 7) has.starts ∙ g.starts in
     let slots : nat_le (length i.slots) 8 ≡ true = ap (λ (n : ℕ). nat_le n 8) has.slots ∙ g.slots in
-    and_from _ _ count (and_from _ _ memory (and_from _ _ least (and_from _ _ most (and_from _ _ r.needs_in_range (and_from _ _ starts (and_from _ _ slots (and_from _ _ r.starts_in_range (and_from _ _ r.slots_in_range r.code_in_range))))))))
+    and_from _ _ count (and_from _ _ memory
+    (and_from _ _ least (and_from _ _ most (and_from _ _ r.needs_in_range
+    (and_from _ _ starts (and_from _ _ slots (and_from _ _ r.starts_in_range (and_from _ _ r.slots_in_range r.code_in_range))))))))
 
 -- the parts of the bytes behind the header
-behind_read : (bytes : List ℕ) (i : Image) → HeaderFits bytes → IsRead bytes i → flat_map start_bytes i.starts ++ (flat_map slot_bytes i.slots ++ flat_map instr_bytes i.code) ≡ drop 20 bytes
+behind_read : (bytes : List ℕ) (i : Image) → HeaderFits bytes → IsRead bytes i
+    → flat_map start_bytes i.starts ++ (flat_map slot_bytes i.slots ++ flat_map instr_bytes i.code) ≡ drop 20 bytes
 behind_read bytes i h r =
     let has = header_read bytes i r in
     let s = starts_at bytes in
@@ -63,7 +71,8 @@ behind_read bytes i h r =
     let code_at = drop (20 + 8 * s + 8 * t) bytes in
     let slots_from = drop (20 + 8 * s) bytes in
     let code_end : after 16 (length i.code) code_at ≡ [] =
-    after_16 (length i.code) code_at ∙ drop-drop (16 * length i.code) (20 + 8 * s + 8 * t) bytes ∙ drop_all (20 + 8 * s + 8 * t + 16 * length i.code) bytes (omega (arith, h.len, has.code)) in
+    after_16 (length i.code) code_at ∙ drop-drop (16 * length i.code) (20 + 8 * s + 8 * t) bytes
+    ∙ drop_all (20 + 8 * s + 8 * t + 16 * length i.code) bytes (omega (arith, h.len, has.code)) in
     let code : flat_map instr_bytes i.code ≡ code_at =
     sym (append-nil (flat_map instr_bytes i.code)) ∙ ap (λ (e : List ℕ). flat_map instr_bytes i.code ++ e) (sym code_end)
     ∙ joined 16 instr_bytes i.code code_at (r.code ∙ ap (λ (k : ℕ). pieces 16 k code_at) (sym has.code)) in
@@ -94,7 +103,8 @@ starts_read bytes s e = ap (λ (n : ℕ). pieces 8 n (drop 20 bytes)) e
 pub slots_read : (bytes : List ℕ) (s t : ℕ) → s ≡ starts_at bytes → t ≡ slots_at bytes → pieces 8 t (drop (20 + 8 * s) bytes) ≡ slot_pieces bytes
 slots_read bytes s t e f = λ k. pieces 8 (f k) (drop (20 + 8 * e k) bytes)
 
-pub code_read : (bytes : List ℕ) (s t n : ℕ) → s ≡ starts_at bytes → t ≡ slots_at bytes → n ≡ count_at bytes → pieces 16 n (drop (20 + 8 * s + 8 * t) bytes) ≡ code_pieces bytes
+pub code_read : (bytes : List ℕ) (s t n : ℕ) → s ≡ starts_at bytes → t ≡ slots_at bytes → n ≡ count_at bytes
+    → pieces 16 n (drop (20 + 8 * s + 8 * t) bytes) ≡ code_pieces bytes
 code_read bytes s t n e f g = λ k. pieces 16 (g k) (drop (20 + 8 * e k + 8 * f k) bytes)
 
 -- ---- the first fault
@@ -104,15 +114,18 @@ unfolding first_fault
 first_fault-header bytes fault h = rw h refl
 
 -- the faults of the parts behind the header, up to one that has some
-pub first_fault-starts : (bytes : List ℕ) (fault : DecodeFault) → header_fault bytes ≡ None → first_some (map start_fault (start_pieces bytes)) ≡ Some fault → first_fault bytes ≡ Some fault
+pub first_fault-starts : (bytes : List ℕ) (fault : DecodeFault) → header_fault bytes ≡ None → first_some (map start_fault (start_pieces bytes)) ≡ Some fault
+    → first_fault bytes ≡ Some fault
 unfolding first_fault
 first_fault-starts bytes fault none h = rw (none, h) refl
 
-pub first_fault-slots : (bytes : List ℕ) (fault : DecodeFault) → header_fault bytes ≡ None → first_some (map start_fault (start_pieces bytes)) ≡ None → first_some (map slot_fault (slot_pieces bytes)) ≡ Some fault → first_fault bytes ≡ Some fault
+pub first_fault-slots : (bytes : List ℕ) (fault : DecodeFault) → header_fault bytes ≡ None → first_some (map start_fault (start_pieces bytes)) ≡ None
+    → first_some (map slot_fault (slot_pieces bytes)) ≡ Some fault → first_fault bytes ≡ Some fault
 unfolding first_fault
 first_fault-slots bytes fault none starts h = rw (none, starts, h) refl
 
-pub first_fault-code : (bytes : List ℕ) (fault : Option DecodeFault) → header_fault bytes ≡ None → first_some (map start_fault (start_pieces bytes)) ≡ None → first_some (map slot_fault (slot_pieces bytes)) ≡ None
+pub first_fault-code : (bytes : List ℕ) (fault : Option DecodeFault) → header_fault bytes ≡ None → first_some (map start_fault (start_pieces bytes)) ≡ None
+    → first_some (map slot_fault (slot_pieces bytes)) ≡ None
     → first_some (map (instr_fault (is_raw_at bytes)) (code_pieces bytes)) ≡ fault → first_fault bytes ≡ fault
 unfolding first_fault
 first_fault-code bytes fault none starts slots h = rw (none, starts, slots, h) (last fault)
@@ -133,13 +146,20 @@ mark_small false = refl
 
 module _ (i : Image) (r : Ranges i) where
   code_parts : Parted 16 instr_bytes (instr_fault i.raw) read_instr i.code []
-  code_parts = parted 16 instr_bytes (instr_fault i.raw) read_instr (is_instr_in_range i.raw) (λ x h. let f = instr_fits i.raw x h in record { len = f.len; fault_is = f.fault; again = f.again }) i.code [] r.code
+  code_parts =
+      parted 16 instr_bytes (instr_fault i.raw) read_instr (is_instr_in_range i.raw)
+      (λ x h. let f = instr_fits i.raw x h in record { len = f.len; fault_is = f.fault; again = f.again }) i.code [] r.code
 
   slots_parts : Parted 8 slot_bytes slot_fault read_slots i.slots (flat_map instr_bytes i.code)
-  slots_parts = parted 8 slot_bytes slot_fault read_slots is_slot_in_range (λ x h. let f = slots_fit x h in record { len = f.len; fault_is = f.fault; again = f.again }) i.slots (flat_map instr_bytes i.code) r.slots
+  slots_parts =
+      parted 8 slot_bytes slot_fault read_slots is_slot_in_range
+      (λ x h. let f = slots_fit x h in record { len = f.len; fault_is = f.fault; again = f.again }) i.slots (flat_map instr_bytes i.code) r.slots
 
   starts_parts : Parted 8 start_bytes start_fault read_start i.starts (flat_map slot_bytes i.slots ++ flat_map instr_bytes i.code)
-  starts_parts = parted 8 start_bytes start_fault read_start is_start_in_range (λ x h. let f = start_fits x h in record { len = f.len; fault_is = f.fault; again = f.again }) i.starts (flat_map slot_bytes i.slots ++ flat_map instr_bytes i.code) r.starts
+  starts_parts =
+      parted 8 start_bytes start_fault read_start is_start_in_range
+      (λ x h. let f = start_fits x h in record { len = f.len; fault_is = f.fault; again = f.again }) i.starts
+      (flat_map slot_bytes i.slots ++ flat_map instr_bytes i.code) r.starts
 
   count_again : count_at (spelling i) ≡ length i.code
   count_again = let le = r.count in number_of-bytes_of 2 (length i.code) (omega arith)
@@ -156,9 +176,32 @@ module _ (i : Image) (r : Ranges i) where
     front = refl;
     version = refl;
     in_range =
-        rw (mark_small i.raw, count_again, memory_again, budget_again, le-leb _ _ r.count, le-leb _ _ r.memory, lt-ltb _ _ r.least, le-leb _ _ r.most, (needs_fit i.needs r.needs).valid, le-leb _ _ r.starts_count, le-leb _ _ r.slots_count) refl;
+        rw (
+          mark_small i.raw,
+          count_again,
+          memory_again,
+          budget_again,
+          le-leb _ _ r.count,
+          le-leb _ _ r.memory,
+          lt-ltb _ _ r.least,
+          le-leb _ _ r.most,
+          (needs_fit i.needs r.needs).valid,
+          le-leb _ _ r.starts_count,
+          le-leb _ _ r.slots_count,
+        ) refl;
     len =
-        omega (arith, count_again, starts_parts.len, slots_parts.len, code_parts.len, span_8 (length i.starts), span_8 (length i.slots), span_16 (length i.code), length-append (flat_map start_bytes i.starts) (flat_map slot_bytes i.slots ++ flat_map instr_bytes i.code), length-append (flat_map slot_bytes i.slots) (flat_map instr_bytes i.code));
+        omega (
+          arith,
+          count_again,
+          starts_parts.len,
+          slots_parts.len,
+          code_parts.len,
+          span_8 (length i.starts),
+          span_8 (length i.slots),
+          span_16 (length i.code),
+          length-append (flat_map start_bytes i.starts) (flat_map slot_bytes i.slots ++ flat_map instr_bytes i.code),
+          length-append (flat_map slot_bytes i.slots) (flat_map instr_bytes i.code),
+        );
   }
 
   -- the parts of the bytes behind the header, by their offsets
@@ -223,7 +266,8 @@ spells_one bytes i j h k =
 
 -- bytes that spell an image are read as that image, unless memory was refused
 pub only_image : (bytes : List ℕ) (i : Image) (r : Result Image DecodeFault) → Spells bytes i → IfOk r (λ image. Spells bytes image)
-    → MatchResult r (λ _. first_fault bytes ≡ None) (λ fault. (fault ≡ faults.NoMemory) ⊎ (first_fault bytes ≡ Some fault)) → MatchResult r (λ image. image ≡ i) (λ fault. fault ≡ faults.NoMemory)
+    → MatchResult r (λ _. first_fault bytes ≡ None) (λ fault. (fault ≡ faults.NoMemory) ⊎ (first_fault bytes ≡ Some fault))
+    → MatchResult r (λ image. image ≡ i) (λ fault. fault ≡ faults.NoMemory)
 only_image bytes i (Ok image) h found first = spells_one bytes image i found h
 only_image bytes i (Err fault) h found (inl memory) = memory
 only_image bytes i (Err fault) h found (inr other) = let none = spells_no_fault bytes i h in absurd cc

@@ -1,5 +1,9 @@
 -- What holds of the 16 bytes of an instruction in range, and of 16 bytes without a fault.
-use Rattle.zl_code.proofs.Common.{◌≡◌, ℕ, zero, suc, ◌<◌, ◌%◌, Bool, true, false, List, [], ◌∷◌, ◌++◌, length, replicate, Some, None, ◌==◌, ◌&&◌, ◌||◌, not, nat_lt, refl, sym, ap, ◌∙◌, inl, inr, arith, slice_index, is_some, list_all, and_parts, eqb-true, ltb-true, cases_Bool, then_some, first_some, Layout, layout_of, local_parts, seven, bytes_of, are_registers, is_instr_in_range, instr_bytes, instr_fault, reading_of, row_bytes, is_32_bits, is_local_in_range, is_call_in_range, fault_by, names_registers, is_unused_zero}
+use Rattle.zl_code.proofs.Common.{◌≡◌, ℕ, zero, suc, ◌<◌, ◌%◌, Bool, true, false, List, [], ◌∷◌, ◌++◌, length, replicate, Some, None, ◌==◌, ◌&&◌, ◌||◌, not}
+use Rattle.zl_code.proofs.Common.{nat_lt, refl, sym, ap, ◌∙◌, inl, inr, arith, slice_index, is_some, list_all, and_parts, eqb-true, ltb-true, cases_Bool}
+use Rattle.zl_code.proofs.Common.{then_some, first_some, Layout, layout_of, local_parts, seven, bytes_of, are_registers, is_instr_in_range, instr_bytes}
+use Rattle.zl_code.proofs.Common.{instr_fault, reading_of, row_bytes, is_32_bits, is_local_in_range, is_call_in_range, fault_by, names_registers}
+use Rattle.zl_code.proofs.Common.{is_unused_zero}
 use Rattle.zl_code.specs.declared.instr.Instr.{Instr}
 use Rattle.zl_code.specs.declared.instr.Instr.TheVariants as instr
 use Rattle.zl_code.specs.declared.instr.LocalInstr.{LocalInstr}
@@ -44,7 +48,8 @@ IsBytes-bytes_of (suc n) v = IsBytes-cons (v % 256) _ (omega arith) (IsBytes-byt
 -- bytes that pass a test that only bytes pass
 IsBytes-all : (test : ℕ → Bool) → ((b : ℕ) → test b ≡ true → b < 256) → (bytes : List ℕ) → list_all test bytes ≡ true → IsBytes bytes
 IsBytes-all test small [] h = IsBytes-none
-IsBytes-all test small (b ∷ bytes) h = let p = and_parts (test b) (list_all test bytes) h in IsBytes-cons b bytes (small b p.0) (IsBytes-all test small bytes p.1)
+IsBytes-all test small (b ∷ bytes) h =
+    let p = and_parts (test b) (list_all test bytes) h in IsBytes-cons b bytes (small b p.0) (IsBytes-all test small bytes p.1)
 
 small_register : (b : ℕ) → nat_lt b 32 ≡ true → b < 256
 small_register b h = let lt : b < 32 = ltb-true b 32 h in omega arith
@@ -68,14 +73,16 @@ IsBytes-local : (i : LocalInstr) → is_local_in_range i ≡ true → IsBytes (l
 IsBytes-local i h =
     let p = local_parts i in
     let both = and_parts (is_32_bits p.imm && is_32_bits p.target) (are_registers p.registers) h in
-    let registers = IsBytes-take 7 (p.registers ++ replicate 7 0) (IsBytes-append p.registers (replicate 7 0) (IsBytes-registers p.registers both.1) (IsBytes-zeros 7)) in
+    let registers =
+    IsBytes-take 7 (p.registers ++ replicate 7 0) (IsBytes-append p.registers (replicate 7 0) (IsBytes-registers p.registers both.1) (IsBytes-zeros 7)) in
     let last = IsBytes-append (bytes_of 4 p.imm) (bytes_of 4 p.target) (IsBytes-bytes_of 4 p.imm) (IsBytes-bytes_of 4 p.target) in
     IsBytes-cons p.opcode _ (ltb-true _ 256 (local_opcode i)) (IsBytes-append (seven p.registers) _ registers last)
 
 IsBytes-call : (i : CallInstr) → is_call_in_range i ≡ true → IsBytes (call_bytes i)
 IsBytes-call i h =
     let w = whole i h in
-    IsBytes-cons _ _ (ltb-true _ 256 (opcode_is_byte i.name)) (IsBytes-append i.registers i.last (IsBytes-registers i.registers w.registers) (IsBytes-all (λ b. nat_lt b 256) (λ b e. ltb-true b 256 e) i.last w.bytes))
+    IsBytes-cons _ _ (ltb-true _ 256 (opcode_is_byte i.name))
+    (IsBytes-append i.registers i.last (IsBytes-registers i.registers w.registers) (IsBytes-all (λ b. nat_lt b 256) (λ b e. ltb-true b 256 e) i.last w.bytes))
 
 pub IsBytes-instr_bytes : (raw : Bool) (i : Instr) → is_instr_in_range raw i ≡ true → IsBytes (instr_bytes i)
 IsBytes-instr_bytes raw (instr.Local i) h = IsBytes-local i h
@@ -83,7 +90,8 @@ IsBytes-instr_bytes raw (instr.Call i) h = IsBytes-call i h
 IsBytes-instr_bytes raw (instr.Unknown bytes) h =
     let marked = and_parts raw ((length bytes == 16) && (list_all (λ b. nat_lt b 256) bytes && not (is_some (layout_of (slice_index bytes 0))))) h in
     let sixteen = and_parts (length bytes == 16) (list_all (λ b. nat_lt b 256) bytes && not (is_some (layout_of (slice_index bytes 0)))) marked.1 in
-    IsBytes-all (λ b. nat_lt b 256) (λ b e. ltb-true b 256 e) bytes (and_parts (list_all (λ b. nat_lt b 256) bytes) (not (is_some (layout_of (slice_index bytes 0)))) sixteen.1).0
+    IsBytes-all (λ b. nat_lt b 256) (λ b e. ltb-true b 256 e) bytes
+    (and_parts (list_all (λ b. nat_lt b 256) bytes) (not (is_some (layout_of (slice_index bytes 0)))) sixteen.1).0
 
 -- ---- bytes of a known opcode without a fault
 
@@ -96,16 +104,20 @@ pub record IsRow (bytes : List ℕ) (l : Layout) : Type 0 where
 pub no_fault-row : (raw : Bool) (bytes : List ℕ) (l : Layout) → layout_of (slice_index bytes 0) ≡ Some l → instr_fault raw bytes ≡ None → IsRow bytes l
 unfolding instr_fault
 no_fault-row raw bytes l at none =
-    let p = by (are_registers (reading_of bytes).registers) (names_registers l.ending (reading_of bytes)) (is_unused_zero l (reading_of bytes)) (sym (ap (fault_by raw (reading_of bytes)) at) ∙ none) in
+    let p = by (are_registers (reading_of bytes).registers) (names_registers l.ending (reading_of bytes)) (is_unused_zero l (reading_of bytes))
+    (sym (ap (fault_by raw (reading_of bytes)) at) ∙ none) in
     record { registers = p.0; named = p.1; unused = p.2 }
   where
-    by : (a b c : Bool) → first_some (then_some (not (a && b)) faults.BadRegister ∷ then_some (not c) faults.UnusedField ∷ []) ≡ None → (a ≡ true) × (b ≡ true) × (c ≡ true)
+    by : (a b c : Bool) → first_some (then_some (not (a && b)) faults.BadRegister ∷ then_some (not c) faults.UnusedField ∷ []) ≡ None
+        → (a ≡ true) × (b ≡ true) × (c ≡ true)
     by true true true h = (refl, refl, refl)
     by true true false h = absurd cc
     by true false c h = absurd cc
     by false b c h = absurd cc
 
 -- the bytes are those of what is read from them
-pub row_bytes-again : (raw : Bool) (bytes : List ℕ) (l : Layout) → length bytes ≡ 16 → IsBytes bytes → layout_of (slice_index bytes 0) ≡ Some l → instr_fault raw bytes ≡ None → row_bytes (slice_index bytes 0) l (reading_of bytes) ≡ bytes
+pub row_bytes-again : (raw : Bool) (bytes : List ℕ) (l : Layout) → length bytes ≡ 16 → IsBytes bytes → layout_of (slice_index bytes 0) ≡ Some l
+    → instr_fault raw bytes ≡ None → row_bytes (slice_index bytes 0) l (reading_of bytes) ≡ bytes
 row_bytes-again raw bytes l len fits at none =
-    row_bytes-read bytes (slice_index bytes 0) l (reading_of bytes) _ len fits refl (record { registers = refl; imm = refl; target = refl; places = refl }) (no_fault-row raw bytes l at none).unused refl
+    row_bytes-read bytes (slice_index bytes 0) l (reading_of bytes) _ len fits refl (record { registers = refl; imm = refl; target = refl; places = refl })
+    (no_fault-row raw bytes l at none).unused refl

@@ -42,7 +42,8 @@ not_false true h = absurd cc
 not_false false h = refl
 
 -- where no other row passes the test beside a row, that row is found
-found_among : (same : Row → Row → Bool) (rs : List Row) (opcode : ℕ) (r : Row) → ((x : Row) → same x x ≡ true) → apart same rs ≡ true → row_among rs opcode ≡ Some r → find (λ x. same x r) rs ≡ Some r
+found_among : (same : Row → Row → Bool) (rs : List Row) (opcode : ℕ) (r : Row) → ((x : Row) → same x x ≡ true) → apart same rs ≡ true
+    → row_among rs opcode ≡ Some r → find (λ x. same x r) rs ≡ Some r
 found_among same [] opcode r alike h e = absurd cc
 found_among same (x ∷ rs) opcode r alike h e =
     let p = and_parts (list_all (λ y. not (same x y)) rs) (apart same rs) h in
@@ -50,11 +51,13 @@ found_among same (x ∷ rs) opcode r alike h e =
       | inl here ↦ let e : x ≡ r = cc in rw (← e) (rw (alike x) refl)
       | inr other ↦
           let rest : row_among rs opcode ≡ Some r = cc in
-          let differs : same x r ≡ false = not_false (same x r) (each_among (λ y. not (same x y) ≡ true) rs opcode r (all_of (λ y. not (same x y)) rs p.0) rest) in
+          let differs : same x r ≡ false =
+          not_false (same x r) (each_among (λ y. not (same x y) ≡ true) rs opcode r (all_of (λ y. not (same x y)) rs p.0) rest) in
           rw differs (found_among same rs opcode r alike p.1 rest)
     ]
 
-row_again : (test : Row → Bool) (rs : List Row) (r : Row) → apart (λ x y. x.opcode == y.opcode) rs ≡ true → find test rs ≡ Some r → row_among rs r.opcode ≡ Some r
+row_again : (test : Row → Bool) (rs : List Row) (r : Row) → apart (λ x y. x.opcode == y.opcode) rs ≡ true → find test rs ≡ Some r
+    → row_among rs r.opcode ≡ Some r
 row_again test [] r h e = absurd cc
 row_again test (x ∷ rs) r h e =
     let p = and_parts (list_all (λ y. not (x.opcode == y.opcode)) rs) (apart (λ x y. x.opcode == y.opcode) rs) h in
@@ -62,7 +65,9 @@ row_again test (x ∷ rs) r h e =
       | inl here ↦ let e : x ≡ r = cc in rw (← e) (rw (eq-eqb x.opcode x.opcode refl) refl)
       | inr other ↦
           let rest : find test rs ≡ Some r = cc in
-          let differs : (x.opcode == r.opcode) ≡ false = not_false (x.opcode == r.opcode) (each_found (λ y. not (x.opcode == y.opcode) ≡ true) test rs r (all_of (λ y. not (x.opcode == y.opcode)) rs p.0) rest).0 in
+          let differs : (x.opcode == r.opcode) ≡ false =
+          not_false (x.opcode == r.opcode)
+          (each_found (λ y. not (x.opcode == y.opcode) ≡ true) test rs r (all_of (λ y. not (x.opcode == y.opcode)) rs p.0) rest).0 in
           rw differs (row_again test rs r p.1 rest)
     ]
 
@@ -109,7 +114,8 @@ laid_out row o e = ap (λ n. Some (layout n row.columns.now.ending)) (sym (lengt
     ∙ ap (option_map (λ r. layout (length r.fields) r.ending)) e
 
 -- opcodes below have other names, and so has this one
-pub not_here : (name : List ℕ) (opcode : ℕ) → ((r : Row) → row_named name ≡ Some r → opcode ≤ r.opcode) → ((r : Row) → row_of opcode ≡ Some r → r.name ≢ name) → (r : Row) → row_named name ≡ Some r → opcode + 1 ≤ r.opcode
+pub not_here : (name : List ℕ) (opcode : ℕ) → ((r : Row) → row_named name ≡ Some r → opcode ≤ r.opcode) → ((r : Row) → row_of opcode ≡ Some r → r.name ≢ name)
+    → (r : Row) → row_named name ≡ Some r → opcode + 1 ≤ r.opcode
 not_here name opcode below other r e =
     let found = row_of-named name r e in
     elim (cases_Bool (r.opcode == opcode)) as (λ _. opcode + 1 ≤ r.opcode) [
@@ -134,7 +140,8 @@ other_name n name opcode r has differs e same =
 
 small : (name : List ℕ) (r : Row) → row_named name ≡ Some r → r.opcode < 87
 unfolding row_named
-small name r e = ltb-true r.opcode 87 (each_found (λ x. nat_lt x.opcode 87 ≡ true) (λ x. pointwise ◌==◌ x.name name) rows r (all_of (λ x. nat_lt x.opcode 87) rows refl) e).0
+small name r e =
+    ltb-true r.opcode 87 (each_found (λ x. nat_lt x.opcode 87 ≡ true) (λ x. pointwise ◌==◌ x.name name) rows r (all_of (λ x. nat_lt x.opcode 87) rows refl) e).0
 
 -- where no opcode has the name, no row has it
 pub no_name : (name : List ℕ) → ((r : Row) → row_named name ≡ Some r → 87 ≤ r.opcode) → row_named name ≡ None

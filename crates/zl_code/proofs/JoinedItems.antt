@@ -1,5 +1,6 @@
 -- A history tells of a process what the single steps tell that it stands for.
-use Rattle.zl_code.proofs.Common.{◌≡◌, ℕ, zero, suc, ◌-◌, ◌==◌, Bool, true, false, List, [], ◌∷◌, ◌++◌, replicate, refl, sym, ap, ◌∙◌, subst, Option, Some, None, if◌then◌else◌, flat_map, pid_of, single, arith, nat_tests, nat_le}
+use Rattle.zl_code.proofs.Common.{◌≡◌, ℕ, zero, suc, ◌-◌, ◌==◌, Bool, true, false, List, [], ◌∷◌, ◌++◌, replicate, refl, sym, ap, ◌∙◌, subst, Option, Some}
+use Rattle.zl_code.proofs.Common.{None, if◌then◌else◌, flat_map, pid_of, single, arith, nat_tests, nat_le}
 use Rattle.std.specs.Prelude.{IsSomeAnd, ◌↔◌}
 use Rattle.std.specs.List.{AllByRecursion}
 use Rattle.std.proofs.lemmas.List.Concat.{flat_map-cons}

@@ -1,5 +1,8 @@
 -- What stands below a killed job is killed with it: nothing that lives is left below it.
-use Rattle.zl_code.proofs.Common.{nat_tests, is_some, ne_eqb, get-put, with_object, body_of, ◌≡◌, ◌<◌, ◌≤◌, ◌+◌, arith, inl, inr, ℕ, zero, suc, Bool, true, false, ◌==◌, ◌&&◌, ◌||◌, [], refl, ap, sym, ◌∙◌, subst, IsTrue, Option, Some, None, option_map, if◌then◌else◌, cases_Bool, eqb-true, or_left, or_right, none-some, same_Some, true≢false, false≢true, Map, get, World, Process, State, Created, Ready, Blocked, Ended, Gone, Object, Body, JobBody, ProcessBody, lives, body_in, IsSound, get-each}
+use Rattle.zl_code.proofs.Common.{nat_tests, is_some, ne_eqb, get-put, with_object, body_of, ◌≡◌, ◌<◌, ◌≤◌, ◌+◌, arith, inl, inr, ℕ, zero, suc, Bool, true}
+use Rattle.zl_code.proofs.Common.{false, ◌==◌, ◌&&◌, ◌||◌, [], refl, ap, sym, ◌∙◌, subst, IsTrue, Option, Some, None, option_map, if◌then◌else◌, cases_Bool}
+use Rattle.zl_code.proofs.Common.{eqb-true, or_left, or_right, none-some, same_Some, true≢false, false≢true, Map, get, World, Process, State, Created, Ready}
+use Rattle.zl_code.proofs.Common.{Blocked, Ended, Gone, Object, Body, JobBody, ProcessBody, lives, body_in, IsSound, get-each}
 use Rattle.std.proofs.lemmas.Bool.{or_cases}
 use Rattle.zl_rights.specs.Numbers.{KILLED}
 use Rattle.zl_rights.specs.Signals.{is_job_below, is_process_of}
@@ -72,22 +75,26 @@ module _ (m : Map Object) (tree : IsTree m) where
         from_root : (up : ℕ) → up ≡ 0 → ((up == t) || is_under_by m t n up) ≡ false
         from_root up is = rw (is, some) (none_from_zero n)
 
-        by_level : ((e : ℕ) → LivesAt m l.parent (suc e) → is_under_by m t n l.parent ≡ true → is_under_by m t e l.parent ≡ true) → (level e : ℕ) → level ≡ e → LivesAt m l.parent level → is_under_by m t e k ≡ true
+        by_level : ((e : ℕ) → LivesAt m l.parent (suc e) → is_under_by m t n l.parent ≡ true → is_under_by m t e l.parent ≡ true) → (level e : ℕ) → level ≡ e
+            → LivesAt m l.parent level → is_under_by m t e k ≡ true
         by_level again level zero is up = let deep : 0 < level = some_depth l.parent level up in absurd (omega (arith, is, deep))
-        by_level again level (suc e) is up = rw above (elim (or_cases (l.parent == t) (is_under_by m t n l.parent) first) as (λ _. ((l.parent == t) || is_under_by m t e l.parent) ≡ true) [
-          | inl here ↦ or_left _ _ here
-          | inr further ↦ or_right (l.parent == t) _ (again e (subst (LivesAt m l.parent) is up) further)
-        ])
+        by_level again level (suc e) is up =
+            rw above (elim (or_cases (l.parent == t) (is_under_by m t n l.parent) first) as (λ _. ((l.parent == t) || is_under_by m t e l.parent) ≡ true) [
+              | inl here ↦ or_left _ _ here
+              | inr further ↦ or_right (l.parent == t) _ (again e (subst (LivesAt m l.parent) is up) further)
+            ])
 
     -- more steps find no less
     found_with_more : (n j k : ℕ) → n ≤ j → is_under_by m t n k ≡ true → is_under_by m t j k ≡ true
     unfolding is_under_by
     found_with_more zero j k few found = absurd (false≢true found)
     found_with_more (suc n) zero k few found = absurd (omega arith)
-    found_with_more (suc n) (suc j) k few found = elim (or_cases (parent_in (body_in (get m k)) == t) (is_under_by m t n (parent_in (body_in (get m k)))) found) as (λ _. is_under_by m t (suc j) k ≡ true) [
-      | inl here ↦ or_left (parent_in (body_in (get m k)) == t) _ here
-      | inr above ↦ or_right (parent_in (body_in (get m k)) == t) _ (found_with_more n j (parent_in (body_in (get m k))) (omega arith) above)
-    ]
+    found_with_more (suc n) (suc j) k few found =
+        elim (or_cases (parent_in (body_in (get m k)) == t) (is_under_by m t n (parent_in (body_in (get m k)))) found)
+        as (λ _. is_under_by m t (suc j) k ≡ true) [
+          | inl here ↦ or_left (parent_in (body_in (get m k)) == t) _ here
+          | inr above ↦ or_right (parent_in (body_in (get m k)) == t) _ (found_with_more n j (parent_in (body_in (get m k))) (omega arith) above)
+        ]
 
     -- whoever stands directly below a living job that is t or below it, is below t
     pub below_is_within : (k d c : ℕ) → LivesAt m k d → is_within m t k ≡ true → parent_in (body_in (get m c)) ≡ k → is_within m t c ≡ true
@@ -118,12 +125,14 @@ module _ (w : World) (s : IsSound w) (t : ℕ) (some : (0 == t) ≡ false) where
   unfolding with_killed
   childless k inside = record {
     jobs = λ c o at. by_job c o (get w.objects c) refl (sym (get-each w.objects (λ j. object_killed (is_within w.objects t j)) c) ∙ at);
-    processes = λ p q o there alive at. by_process p q o (get w.processes p) refl (sym (get-each w.processes (λ j. process_killed (is_within w.objects t j)) p) ∙ there) alive
+    processes = λ p q o there alive at.
+        by_process p q o (get w.processes p) refl (sym (get-each w.processes (λ j. process_killed (is_within w.objects t j)) p) ∙ there) alive
         (sym (get-each w.objects (λ j. object_killed (is_within w.objects t j)) p) ∙ at);
   }
     where
       -- a living job below it would be among the killed
-      no_job : (c : ℕ) (x : Object) (parent depth : ℕ) (policy : Map Action) → get w.objects c ≡ Some x → x.body ≡ JobBody parent depth policy false → is_within w.objects t c ≡ false → (parent == k) ≡ false
+      no_job : (c : ℕ) (x : Object) (parent depth : ℕ) (policy : Map Action) → get w.objects c ≡ Some x → x.body ≡ JobBody parent depth policy false
+          → is_within w.objects t c ≡ false → (parent == k) ≡ false
       no_job c x parent depth policy at is outside = elim (cases_Bool (parent == k)) as (λ _. (parent == k) ≡ false) [
         | inr apart ↦ apart
         | inl here ↦
@@ -131,7 +140,9 @@ module _ (w : World) (s : IsSound w) (t : ℕ) (some : (0 == t) ≡ false) where
             let job : IsSoundJob w.objects c parent depth policy false = subst (StandsBelow w.objects c) is (s.tree c x at) in
             elim (job.above refl) as (λ _. (parent == k) ≡ false) [
               | inl root ↦ absurd (true≢false (sym inside ∙ (ap (is_within w.objects t) (sym same ∙ root.0) ∙ zero_is_outside w.objects s.tree t some)))
-              | inr below ↦ absurd (true≢false (sym (below_is_within w.objects s.tree t some k below.0 c (subst (λ j. LivesAt w.objects j below.0) same below.2) inside (rw (at, is) same)) ∙ outside))
+              | inr below ↦ absurd (true≢false
+                  (sym (below_is_within w.objects s.tree t some k below.0 c (subst (λ j. LivesAt w.objects j below.0) same below.2) inside (rw (at, is) same))
+                  ∙ outside))
             ]
       ]
 
@@ -148,14 +159,16 @@ module _ (w : World) (s : IsSound w) (t : ℕ) (some : (0 == t) ≡ false) where
       by_reach c x true at is = dead_body x.body
       by_reach c x false at is = by_body c x x.body at refl is
 
-      by_job : (c : ℕ) (o : Object) (old : Option Object) → get w.objects c ≡ old → option_map (object_killed (is_within w.objects t c)) old ≡ Some o → is_job_below k o.body ≡ false
+      by_job : (c : ℕ) (o : Object) (old : Option Object) → get w.objects c ≡ old → option_map (object_killed (is_within w.objects t c)) old ≡ Some o
+          → is_job_below k o.body ≡ false
       by_job c o None at is = absurd (none-some o is)
       by_job c o (Some x) at is = rw (← same_Some _ o is) (by_reach c x (is_within w.objects t c) at refl)
 
       over : (x : Process) → IsTrue (lives (process_killed true x).state) → ⊥
       over x alive = by_state x.state refl alive
         where
-          by_state : (st : State) → x.state ≡ st → IsTrue (lives (if lives st then record x { state = Ended KILLED; handles = []; last = None } else x).state) → ⊥
+          by_state : (st : State) → x.state ≡ st
+              → IsTrue (lives (if lives st then record x { state = Ended KILLED; handles = []; last = None } else x).state) → ⊥
           by_state Created is h = false≢true h
           by_state Ready is h = false≢true h
           by_state (Blocked awaited ds) is h = false≢true h
@@ -163,7 +176,8 @@ module _ (w : World) (s : IsSound w) (t : ℕ) (some : (0 == t) ≡ false) where
           by_state Gone is h = false≢true (rw is at h)
 
       -- nor is a living process directly below it
-      by_spared : (p : ℕ) (x : Process) (y : Object) → get w.processes p ≡ Some x → IsTrue (lives x.state) → get w.objects p ≡ Some y → is_within w.objects t p ≡ false → is_process_of k y.body ≡ false
+      by_spared : (p : ℕ) (x : Process) (y : Object) → get w.processes p ≡ Some x → IsTrue (lives x.state) → get w.objects p ≡ Some y
+          → is_within w.objects t p ≡ false → is_process_of k y.body ≡ false
       by_spared p x y there alive at outside =
           let has = s.living p x there alive in
           let body : y.body ≡ ProcessBody has.job = same_Some y.body _ (sym (ap body_in at) ∙ has.there) in
@@ -171,19 +185,23 @@ module _ (w : World) (s : IsSound w) (t : ℕ) (some : (0 == t) ≡ false) where
             | inr apart ↦ rw body apart
             | inl here ↦
                 let same : has.job ≡ k = eqb-true has.job k here in
-                absurd (true≢false (sym (below_is_within w.objects s.tree t some k has.depth p (subst (λ j. LivesAt w.objects j has.depth) same has.lives) inside (ap parent_in has.there ∙ same)) ∙ outside))
+                absurd (true≢false (sym (below_is_within w.objects s.tree t some k has.depth p (subst (λ j. LivesAt w.objects j has.depth) same has.lives)
+                inside (ap parent_in has.there ∙ same)) ∙ outside))
           ]
 
-      by_life : (p : ℕ) (x : Process) (y : Object) (b : Bool) → get w.processes p ≡ Some x → get w.objects p ≡ Some y → is_within w.objects t p ≡ b → IsTrue (lives (process_killed b x).state) → is_process_of k (object_killed b y).body ≡ false
+      by_life : (p : ℕ) (x : Process) (y : Object) (b : Bool) → get w.processes p ≡ Some x → get w.objects p ≡ Some y → is_within w.objects t p ≡ b
+          → IsTrue (lives (process_killed b x).state) → is_process_of k (object_killed b y).body ≡ false
       by_life p x y true there at is alive = absurd (over x alive)
       by_life p x y false there at is alive = by_spared p x y there alive at is
 
-      by_process : (p : ℕ) (q : Process) (o : Object) (old : Option Process) → get w.processes p ≡ old → option_map (process_killed (is_within w.objects t p)) old ≡ Some q → IsTrue (lives q.state)
+      by_process : (p : ℕ) (q : Process) (o : Object) (old : Option Process) → get w.processes p ≡ old
+          → option_map (process_killed (is_within w.objects t p)) old ≡ Some q → IsTrue (lives q.state)
           → option_map (object_killed (is_within w.objects t p)) (get w.objects p) ≡ Some o → is_process_of k o.body ≡ false
       by_process p q o None there is alive at = absurd (none-some q is)
       by_process p q o (Some x) there is alive at = by_object (get w.objects p) refl at
         where
-          by_object : (old : Option Object) → get w.objects p ≡ old → option_map (object_killed (is_within w.objects t p)) old ≡ Some o → is_process_of k o.body ≡ false
+          by_object : (old : Option Object) → get w.objects p ≡ old → option_map (object_killed (is_within w.objects t p)) old ≡ Some o
+              → is_process_of k o.body ≡ false
           by_object None here e = absurd (none-some o e)
           by_object (Some y) here e =
               rw (← same_Some _ o e) (by_life p x y (is_within w.objects t p) there here refl (rw (same_Some _ q is) alive))
@@ -191,18 +209,25 @@ module _ (w : World) (s : IsSound w) (t : ℕ) (some : (0 == t) ≡ false) where
 -- ---- what is made in a job
 
 -- the job in which something is to be made lives
-pub living_job : (w : World) (k : ℕ) → is_dead (body_of w k) ≡ false → (depth : ℕ) × (parent : ℕ) × (policy : Map Action) × (body_of w k ≡ Some (JobBody parent depth policy false))
+pub living_job : (w : World) (k : ℕ) → is_dead (body_of w k) ≡ false
+    → (depth : ℕ) × (parent : ℕ) × (policy : Map Action) × (body_of w k ≡ Some (JobBody parent depth policy false))
 living_job w k alive = by_body (body_of w k) refl alive
   where
-    by_body : (b : Option Body) → body_of w k ≡ b → is_dead b ≡ false → (depth : ℕ) × (parent : ℕ) × (policy : Map Action) × (body_of w k ≡ Some (JobBody parent depth policy false))
+    by_body : (b : Option Body) → body_of w k ≡ b → is_dead b ≡ false
+        → (depth : ℕ) × (parent : ℕ) × (policy : Map Action) × (body_of w k ≡ Some (JobBody parent depth policy false))
     by_body (Some (JobBody parent depth policy false)) is h = (depth, parent, policy, is)
     by_body (Some (JobBody parent depth policy true)) is h = absurd (true≢false h)
     by_body _ is h = absurd (true≢false h)
 
 -- it lives beside a new object too
-pub lives_beside : (w : World) (b : Body) (k depth parent : ℕ) (policy : Map Action) → body_of w k ≡ Some (JobBody parent depth policy false) → IsSound w → LivesAt (with_object w b).objects k depth
+pub lives_beside : (w : World) (b : Body) (k depth parent : ℕ) (policy : Map Action) → body_of w k ≡ Some (JobBody parent depth policy false) → IsSound w
+    → LivesAt (with_object w b).objects k depth
 unfolding with_object
-lives_beside w b k depth parent policy is s = record { parent = parent; policy = policy; there = ap body_in (get-put w.objects w.next_koid (record { body = b; raised = 0 }) k ∙ rw (ne_eqb w.next_koid k (λ e. omega (arith, e, below))) refl) ∙ is }
+lives_beside w b k depth parent policy is s = record {
+  parent = parent;
+  policy = policy;
+  there = ap body_in (get-put w.objects w.next_koid (record { body = b; raised = 0 }) k ∙ rw (ne_eqb w.next_koid k (λ e. omega (arith, e, below))) refl) ∙ is;
+}
   where
     some_body : (o : Option Object) → body_in o ≡ Some (JobBody parent depth policy false) → IsTrue (is_some o)
     some_body None e = absurd (none-some _ e)
@@ -218,7 +243,12 @@ new_job_stands w k lives_there shallow_there s = record {
   later = below;
   shallow = rw living.3 deeper;
   policy_known = rw living.3 above.policy_known;
-  above = λ e. inr (depth_in (body_of w k), refl, subst (λ d. LivesAt (with_object w (job_within k (body_of w k))).objects k d) (sym (ap depth_in living.3)) (lives_beside w (job_within k (body_of w k)) k living.0 living.1 living.2 living.3 s));
+  above = λ e. inr (
+    depth_in (body_of w k),
+    refl,
+    subst (λ d. LivesAt (with_object w (job_within k (body_of w k))).objects k d) (sym (ap depth_in living.3))
+        (lives_beside w (job_within k (body_of w k)) k living.0 living.1 living.2 living.3 s),
+  );
 }
   where
     living : (depth : ℕ) × (parent : ℕ) × (policy : Map Action) × (body_of w k ≡ Some (JobBody parent depth policy false))

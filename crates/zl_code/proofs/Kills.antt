@@ -1,9 +1,12 @@
 -- A kill is one change: of processes, of jobs and of the list of the blocked.
-use Rattle.zl_code.proofs.Common.{◌≡◌, inl, inr, arith, ℕ, suc, Bool, true, false, not, ◌==◌, List, [], ◌∷◌, length, refl, ap, sym, ◌∙◌, Option, Some, None, if◌then◌else◌, option_map, cases_Bool, eqb-true, get, World, Process, State, Created, Ready, Blocked, Ended, Object, is_process, state_passes, lives, IsSound, is_blocked, filter, true≢false, get-each}
+use Rattle.zl_code.proofs.Common.{◌≡◌, inl, inr, arith, ℕ, suc, Bool, true, false, not, ◌==◌, List, [], ◌∷◌, length, refl, ap, sym, ◌∙◌, Option, Some, None}
+use Rattle.zl_code.proofs.Common.{if◌then◌else◌, option_map, cases_Bool, eqb-true, get, World, Process, State, Created, Ready, Blocked, Ended, Object}
+use Rattle.zl_code.proofs.Common.{is_process, state_passes, lives, IsSound, is_blocked, filter, true≢false, get-each}
 use Rattle.zl_rights.specs.Numbers.{KILLED}
 use Rattle.zl_code.specs.Jobs.{is_within, object_killed, process_killed, with_killed}
 use Rattle.zl_code.proofs.MapKept.{in_order-each, Changed, same, changed, changed_each}
-use Rattle.zl_code.proofs.Changes.{IsChildless, ProcessChange, ends, IsNewProcess, ObjectChange, dies, IsNewObject, KeepsBlocked, awake, still, Change, alike, times}
+use Rattle.zl_code.proofs.Changes.{IsChildless, ProcessChange, ends, IsNewProcess, ObjectChange, dies, IsNewObject, KeepsBlocked, awake, still, Change, alike}
+use Rattle.zl_code.proofs.Changes.{times}
 
 -- ---- a list of koids
 
@@ -29,14 +32,16 @@ times-kept test k passes (q ∷ ps) = elim (cases_Bool (test q)) as (λ _. times
 ]
   where
     by_test : (b : Bool) → times k (filter test ps) ≡ times k ps
-        → length (if b then q ∷ filter (λ x. x == k) (filter test ps) else filter (λ x. x == k) (filter test ps)) ≡ length (if b then q ∷ filter (λ x. x == k) ps else filter (λ x. x == k) ps)
+        → length (if b then q ∷ filter (λ x. x == k) (filter test ps) else filter (λ x. x == k) (filter test ps))
+        ≡ length (if b then q ∷ filter (λ x. x == k) ps else filter (λ x. x == k) ps)
     by_test true e = ap (λ (n : ℕ). suc n) e
     by_test false e = e
 
 -- ---- a kill
 
 -- t and whatever stands below it are killed, where nothing that lives is left directly below
-pub all_are_killed : (start w : World) (t : ℕ) → ((k : ℕ) → IsSound start → is_within w.objects t k ≡ true → IsChildless (with_killed w t) k) → Change start w (with_killed w t)
+pub all_are_killed : (start w : World) (t : ℕ) → ((k : ℕ) → IsSound start → is_within w.objects t k ≡ true → IsChildless (with_killed w t) k)
+    → Change start w (with_killed w t)
 unfolding with_killed is_process
 all_are_killed start w t childless = record {
   next_koid = omega arith;
@@ -48,15 +53,18 @@ all_are_killed start w t childless = record {
   waits = alike refl;
 }
   where
-    by_reach : (k : ℕ) (x : Process) (b : Bool) → Changed (ProcessChange start (with_killed w t) k) (IsNewProcess start w (with_killed w t) k) (Some x) (Some (process_killed b x))
+    by_reach : (k : ℕ) (x : Process) (b : Bool)
+        → Changed (ProcessChange start (with_killed w t) k) (IsNewProcess start w (with_killed w t) k) (Some x) (Some (process_killed b x))
     by_reach k x false = same refl
     by_reach k x true = by_life (lives x.state)
       where
-        by_life : (b : Bool) → Changed (ProcessChange start (with_killed w t) k) (IsNewProcess start w (with_killed w t) k) (Some x) (Some (if b then record x { state = Ended KILLED; handles = []; last = None } else x))
+        by_life : (b : Bool) → Changed (ProcessChange start (with_killed w t) k) (IsNewProcess start w (with_killed w t) k) (Some x)
+            (Some (if b then record x { state = Ended KILLED; handles = []; last = None } else x))
         by_life true = changed x _ refl refl (ends KILLED refl)
         by_life false = same refl
 
-    by_object : (k : ℕ) (x : Object) (b : Bool) → is_within w.objects t k ≡ b → Changed (ObjectChange start (with_killed w t) k) (IsNewObject start w (with_killed w t) k) (Some x) (Some (object_killed b x))
+    by_object : (k : ℕ) (x : Object) (b : Bool) → is_within w.objects t k ≡ b
+        → Changed (ObjectChange start (with_killed w t) k) (IsNewObject start w (with_killed w t) k) (Some x) (Some (object_killed b x))
     by_object k x false is = same refl
     by_object k x true is = changed x _ refl refl (dies refl (λ s. childless k s is))
 

@@ -1,5 +1,7 @@
 -- What each value of a map has, and the order of its keys, after a change.
-use Rattle.zl_code.proofs.Common.{◌≡◌, ℕ, inl, inr, Bool, true, false, ◌==◌, [], ◌∷◌, refl, ap, sym, subst, ◌∙◌, Option, Some, None, arith, eq-eqb, IsTrue, option_map, nat_cmp, below_all, cases_Bool, eqb-true, nat_tests, none-some, same_Some, Map, get, put, where_key, each, update, in_order, T, get-put, get-update, get-each, get-where_key-in, get-where_key-out}
+use Rattle.zl_code.proofs.Common.{◌≡◌, ℕ, inl, inr, Bool, true, false, ◌==◌, [], ◌∷◌, refl, ap, sym, subst, ◌∙◌, Option, Some, None, arith, eq-eqb, IsTrue}
+use Rattle.zl_code.proofs.Common.{option_map, nat_cmp, below_all, cases_Bool, eqb-true, nat_tests, none-some, same_Some, Map, get, put, where_key, each, update}
+use Rattle.zl_code.proofs.Common.{in_order, T, get-put, get-update, get-each, get-where_key-in, get-where_key-out}
 use Rattle.std.specs.Cmp.{nat_cmp_total}
 use Rattle.std.specs.FinMap.Entries.{is_sorted-put, is_sorted-where_key}
 use Rattle.zl_rights.proofs.Canonical.{put-std}
@@ -84,11 +86,13 @@ module _ {X : Type 0} (R : ℕ → X → X → Type 0) (N : ℕ → X → Type 0
       at_one_key m (put m q v) q (λ k other. get-put m q v k ∙ rw other refl)
       (subst (Changed (R q) (N q) (get m q)) (sym (get-put m q v q ∙ rw (eq-eqb q q refl) refl)) here)
 
-  by_f : (k : ℕ) (f : X → X) (a b : Option X) → b ≡ option_map f a → ((x : X) → a ≡ Some x → Changed (R k) (N k) (Some x) (Some (f x))) → Changed (R k) (N k) a b
+  by_f : (k : ℕ) (f : X → X) (a b : Option X) → b ≡ option_map f a → ((x : X) → a ≡ Some x → Changed (R k) (N k) (Some x) (Some (f x)))
+      → Changed (R k) (N k) a b
   by_f k f None b is ok = same is
   by_f k f (Some x) b is ok = subst (Changed (R k) (N k) (Some x)) (sym is) (ok x refl)
 
-  pub changed_update : (m : Map X) (q : ℕ) (f : X → X) → ((x : X) → get m q ≡ Some x → Changed (R q) (N q) (Some x) (Some (f x))) → EachChanged R N m (update m q f)
+  pub changed_update : (m : Map X) (q : ℕ) (f : X → X) → ((x : X) → get m q ≡ Some x → Changed (R q) (N q) (Some x) (Some (f x)))
+      → EachChanged R N m (update m q f)
   changed_update m q f ok =
       at_one_key m (update m q f) q (λ k other. get-update m q f k ∙ rw other refl)
       (by_f q f (get m q) (get (update m q f) q) (get-update m q f q ∙ rw (eq-eqb q q refl) refl) ok)
@@ -97,7 +101,8 @@ module _ {X : Type 0} (R : ℕ → X → X → Type 0) (N : ℕ → X → Type 0
   changed_each m f ok k = by_f k (f k) (get m k) (get (each f m) k) (get-each m f k) (λ x there. ok k x)
 
   -- what changes and new values keep is true of each value
-  pub each_changed : (P : ℕ → X → Type 0) (m m2 : Map X) → EachChanged R N m m2 → ((k : ℕ) (x y : X) → R k x y → P k x → P k y) → ((k : ℕ) (y : X) → N k y → P k y)
+  pub each_changed : (P : ℕ → X → Type 0) (m m2 : Map X) → EachChanged R N m m2 → ((k : ℕ) (x y : X) → R k x y → P k x → P k y)
+      → ((k : ℕ) (y : X) → N k y → P k y)
       → ((k : ℕ) (x : X) → get m k ≡ Some x → P k x) → (k : ℕ) (y : X) → get m2 k ≡ Some y → P k y
   each_changed P m m2 all keeps fresh old k y there = elim (all k) as (λ _. P k y) [
     | same e ↦ old k y (sym e ∙ there)

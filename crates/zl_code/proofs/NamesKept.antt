@@ -1,5 +1,9 @@
 -- What handles name stays there, of the kind that they have.
-use Rattle.zl_code.proofs.Common.{◌≡◌, ◌<◌, ◌⊎◌, inl, inr, arith, ℕ, Bool, not, ◌||◌, ◌==◌, [], ◌∷◌, length, refl, ap, sym, ◌∙◌, IsTrue, Some, eq-eqb, is_some, All, list_any, cases_Bool, eqb-true, and_from, or_left, or_right, none-some, same_Some, All-nil, All-cons, All-tail, ChannelEnd, Map, get, without, where_key, World, Process, Object, Body, kind_of, is_process, runs, process_settled, Koids, Settles, without_others, is_held, in_table, in_queue, has_living_child, queue_of, HasGivenKoids, names_its_object, HandlesAreNamed, slice_index_or, Message, get-where_key-in, get-where_key-out, is_held-larger, IsLargestHeld}
+use Rattle.zl_code.proofs.Common.{◌≡◌, ◌<◌, ◌⊎◌, inl, inr, arith, ℕ, Bool, not, ◌||◌, ◌==◌, [], ◌∷◌, length, refl, ap, sym, ◌∙◌, IsTrue, Some, eq-eqb, is_some}
+use Rattle.zl_code.proofs.Common.{All, list_any, cases_Bool, eqb-true, and_from, or_left, or_right, none-some, same_Some, All-nil, All-cons, All-tail}
+use Rattle.zl_code.proofs.Common.{ChannelEnd, Map, get, without, where_key, World, Process, Object, Body, kind_of, is_process, runs, process_settled, Koids}
+use Rattle.zl_code.proofs.Common.{Settles, without_others, is_held, in_table, in_queue, has_living_child, queue_of, HasGivenKoids, names_its_object}
+use Rattle.zl_code.proofs.Common.{HandlesAreNamed, slice_index_or, Message, get-where_key-in, get-where_key-out, is_held-larger, IsLargestHeld}
 use Rattle.std.proofs.lemmas.List.Folds.{list_any_at}
 use Rattle.zl_rights.specs.declared.entry.Entry.{Entry}
 use Rattle.zl_code.proofs.MapKept.{Each, each_put, each_where_key, same, changed, new, changed_each, each_changed}
@@ -28,18 +32,22 @@ leaves : (m : Map Object) (h : Map Entry) (v : ℕ) → Each (names_its_object m
 unfolding without where_key
 leaves m h v t = each_where_key (names_its_object m) h t (λ j. not (j == v))
 
-sent_names : (objects : Map Object) (m : Message) (b : Body) → All (names_its_object objects) m.handles → All (λ x. All (names_its_object objects) x.handles) (queue_of b)
+sent_names : (objects : Map Object) (m : Message) (b : Body) → All (names_its_object objects) m.handles
+    → All (λ x. All (names_its_object objects) x.handles) (queue_of b)
     → All (λ x. All (names_its_object objects) x.handles) (queue_of (body_with_message m b))
 sent_names objects m (ChannelEnd peer queue) names t =
-    All-append (λ (x : Message). All (names_its_object objects) x.handles) queue (m ∷ []) t (All-cons (λ (x : Message). All (names_its_object objects) x.handles) m [] names (All-nil (λ (x : Message). All (names_its_object objects) x.handles)))
+    All-append (λ (x : Message). All (names_its_object objects) x.handles) queue (m ∷ []) t
+    (All-cons (λ (x : Message). All (names_its_object objects) x.handles) m [] names (All-nil (λ (x : Message). All (names_its_object objects) x.handles)))
 sent_names objects m _ names t = t
 
-read_names : (objects : Map Object) (b : Body) → All (λ x. All (names_its_object objects) x.handles) (queue_of b) → All (λ x. All (names_its_object objects) x.handles) (queue_of (body_after_read b))
+read_names : (objects : Map Object) (b : Body) → All (λ x. All (names_its_object objects) x.handles) (queue_of b)
+    → All (λ x. All (names_its_object objects) x.handles) (queue_of (body_after_read b))
 read_names objects (ChannelEnd peer []) t = t
 read_names objects (ChannelEnd peer (m ∷ ms)) t = All-tail (λ (x : Message). All (names_its_object objects) x.handles) m ms t
 read_names objects _ t = t
 
-by_object : (start after : World) (k : ℕ) (x y : Object) → HandlesAreNamed start → ObjectChange start after k x y → QueueNames after.objects x → QueueNames after.objects y
+by_object : (start after : World) (k : ℕ) (x y : Object) → HandlesAreNamed start → ObjectChange start after k x y → QueueNames after.objects x
+    → QueueNames after.objects y
 by_object start after k x y before (signals_change clear set is may) t = rw is t
 by_object start after k x y before (packets_change old packets port is) t = no_queue after.objects y.body (rw is refl)
 by_object start after k x y before (message_comes m is may) t = rw is (sent_names after.objects m x.body (may.names before) t)
@@ -66,12 +74,17 @@ queue_grows m n more o t i x inside j e below = more (slice_index_or (slice_inde
 pub named_change : (start u v : World) → HandlesAreNamed start → HasGivenKoids u → Change start u v → HandlesAreNamed u → HandlesAreNamed v
 named_change start u v before given c s = record {
   tables = λ p w q e there at. all_tables p q there w e at;
-  queues = each_changed _ _ (λ k o. QueueNames v.objects o) u.objects v.objects c.objects (λ k x y. by_object start v k x y before) (λ k y n. no_queue v.objects y.body n.quiet)
+  queues =
+      each_changed _ _ (λ k o. QueueNames v.objects o) u.objects v.objects c.objects (λ k x y. by_object start v k x y before)
+      (λ k y n. no_queue v.objects y.body n.quiet)
       (λ k o there. queue_grows u.objects v.objects (still start u v given c) o (s.queues k o there));
 }
   where
     all_tables : (p : ℕ) (q : Process) → get v.processes p ≡ Some q → TableNames v.objects q
-    all_tables = each_changed _ _ (λ k q. TableNames v.objects q) u.processes v.processes c.processes (table_kept (Each (names_its_object v.objects)) start v (no_handle v.objects) (leaves v.objects) (λ m n e rights names t. each_put (names_its_object v.objects) m t n e (names before))) (λ k y n. rw n.empty (no_handle v.objects))
+    all_tables =
+        each_changed _ _ (λ k q. TableNames v.objects q) u.processes v.processes c.processes
+        (table_kept (Each (names_its_object v.objects)) start v (no_handle v.objects) (leaves v.objects)
+        (λ m n e rights names t. each_put (names_its_object v.objects) m t n e (names before))) (λ k y n. rw n.empty (no_handle v.objects))
         (λ p q there w e at. still start u v given c e (s.tables p w q e there at))
 
 -- ---- settling
@@ -93,7 +106,8 @@ unfolding in_table
 named_in_table w p v q e there at = list_any-get _ w.processes p q there (list_any-get _ q.handles v e at (eq-eqb e.koid e.koid refl))
 
 named_in_queue : (w : World) (K : Koids) (k : ℕ) (o : Object) → get w.objects k ≡ Some o → IsTrue (K k) → (i j : ℕ) (m : Message) (e : Entry)
-    → i < length (queue_of o.body) → j < length (slice_index_or (queue_of o.body) i m).handles → IsTrue (in_queue w K (slice_index_or (slice_index_or (queue_of o.body) i m).handles j e).koid)
+    → i < length (queue_of o.body) → j < length (slice_index_or (queue_of o.body) i m).handles
+    → IsTrue (in_queue w K (slice_index_or (slice_index_or (queue_of o.body) i m).handles j e).koid)
 unfolding in_queue
 named_in_queue w K k o there kept i j m e inside below =
     list_any-get _ w.objects k o there (and_from (K k) _ kept
@@ -101,11 +115,14 @@ named_in_queue w K k o there kept i j m e inside below =
     (list_any_at _ (slice_index_or (queue_of o.body) i m).handles j e below (eq-eqb _ _ refl))))
 
 -- what a handle in a table or in a kept queue names is kept
-named_still : (w : World) (K : Koids) → IsLargestHeld w K → (e : Entry) → (IsTrue (in_table w e.koid) ⊎ IsTrue (in_queue w K e.koid)) → names_its_object w.objects e → names_its_object (where_key K w.objects) e
+named_still : (w : World) (K : Koids) → IsLargestHeld w K → (e : Entry) → (IsTrue (in_table w e.koid) ⊎ IsTrue (in_queue w K e.koid))
+    → names_its_object w.objects e → names_its_object (where_key K w.objects) e
 unfolding is_held
-named_still w K l e by (o, there, kind) = (o, get-where_key-in w.objects K e.koid (held_is_kept w K l e.koid (and_from _ _ (ap is_some there) (held by))) ∙ there, kind)
+named_still w K l e by (o, there, kind) =
+    (o, get-where_key-in w.objects K e.koid (held_is_kept w K l e.koid (and_from _ _ (ap is_some there) (held by))) ∙ there, kind)
   where
-    held : (IsTrue (in_table w e.koid) ⊎ IsTrue (in_queue w K e.koid)) → IsTrue (in_table w e.koid || in_queue w K e.koid || is_process w runs e.koid || has_living_child w K e.koid)
+    held : (IsTrue (in_table w e.koid) ⊎ IsTrue (in_queue w K e.koid))
+        → IsTrue (in_table w e.koid || in_queue w K e.koid || is_process w runs e.koid || has_living_child w K e.koid)
     held (inl table) = or_left _ _ (or_left _ _ (or_left (in_table w e.koid) (in_queue w K e.koid) table))
     held (inr queue) = or_left _ _ (or_left _ _ (or_right (in_table w e.koid) (in_queue w K e.koid) queue))
 
@@ -121,7 +138,8 @@ named_settled u v (K, largest, settled) s = rw settled (record {
   where
     all_tables : (p : ℕ) (q : Process) → get (without_others u K).processes p ≡ Some q → TableNames (where_key K u.objects) q
     all_tables =
-        each_changed (λ k x y. y ≡ process_settled K k x) (λ k y. ⊥) (λ k q. TableNames (where_key K u.objects) q) u.processes _ (changed_each _ _ u.processes (process_settled K) (λ k x. changed x _ refl refl refl))
+        each_changed (λ k x y. y ≡ process_settled K k x) (λ k y. ⊥) (λ k q. TableNames (where_key K u.objects) q) u.processes _
+        (changed_each _ _ u.processes (process_settled K) (λ k x. changed x _ refl refl refl))
         (λ k x y is t. rw is t) (λ k y none. absurd none)
         (λ p q there w e at. named_still u K largest e (inl (named_in_table u p w q e there at)) (s.tables p w q e there at))
 

@@ -1,9 +1,12 @@
 -- No koid is given again, no object changes its kind, and no process vanishes or changes its program.
-use Rattle.zl_code.proofs.Common.{◌≡◌, ◌<◌, ◌≤◌, inl, inr, arith, ℕ, refl, ap, sym, ◌∙◌, Option, Some, None, is_some, cases_Bool, none-some, same_Some, get, World, Process, Object, Body, ChannelEnd, JobBody, Message, kind_of, Settles, without_others, process_settled, HasGivenKoids, IsSound, get-each, get-where_key-in, get-where_key-out, KeepsProcesses, true≢false}
+use Rattle.zl_code.proofs.Common.{◌≡◌, ◌<◌, ◌≤◌, inl, inr, arith, ℕ, refl, ap, sym, ◌∙◌, Option, Some, None, is_some, cases_Bool, none-some, same_Some, get}
+use Rattle.zl_code.proofs.Common.{World, Process, Object, Body, ChannelEnd, JobBody, Message, kind_of, Settles, without_others, process_settled, HasGivenKoids}
+use Rattle.zl_code.proofs.Common.{IsSound, get-each, get-where_key-in, get-where_key-out, KeepsProcesses, true≢false}
 use Rattle.zl_rights.specs.declared.kind.Kind.{Kind}
 use Rattle.zl_code.specs.Koids.{KeepsKoids}
 use Rattle.zl_code.proofs.MapKept.{same, changed, new}
-use Rattle.zl_code.proofs.Changes.{ProcessChange, handle_enters, handle_leaves, computes, ends, wakes, starts, blocks, ObjectChange, signals_change, packets_change, message_comes, message_goes, policy_changes, dies, Change, Changes, kept}
+use Rattle.zl_code.proofs.Changes.{ProcessChange, handle_enters, handle_leaves, computes, ends, wakes, starts, blocks, ObjectChange, signals_change}
+use Rattle.zl_code.proofs.Changes.{packets_change, message_comes, message_goes, policy_changes, dies, Change, Changes, kept}
 use Rattle.zl_code.specs.Effects.{body_with_message, body_after_read}
 use Rattle.zl_code.specs.Jobs.{body_killed, body_with_policy}
 
@@ -89,7 +92,8 @@ by_settling u v (K, largest, e) = rw e (record {
 
 -- from u all changes keep koids
 pub koids_kept : (start u w : World) → Changes start u w → Keeps u w
-koids_kept start u w c = kept start (Keeps u) (λ v x d k. follows u v x k (by_change start v x d)) (λ v x d k. follows u v x k (by_settling v x d)) u w c (nothing_changed u)
+koids_kept start u w c =
+    kept start (Keeps u) (λ v x d k. follows u v x k (by_change start v x d)) (λ v x d k. follows u v x k (by_settling v x d)) u w c (nothing_changed u)
 
 some_kind : (o : Option Object) → is_some (kind_in o) ≡ is_some o
 some_kind None = refl
@@ -113,7 +117,9 @@ Keeps-KeepsKoids w w2 below keeps = record {
 pub given_still : (w w2 : World) → HasGivenKoids w → Keeps w w2 → HasGivenKoids w2
 given_still w w2 below keeps = record {
   below = λ k there. elim (keeps.koids k) as (λ _. k < w2.next_koid) [
-    | alike e ↦ let before : k < w.next_koid = below.below k (sym (some_kind (get w.objects k)) ∙ (sym (ap is_some e) ∙ (some_kind (get w2.objects k) ∙ there))) in omega (arith, keeps.next)
+    | alike e ↦
+        let before : k < w.next_koid = below.below k (sym (some_kind (get w.objects k)) ∙ (sym (ap is_some e) ∙ (some_kind (get w2.objects k) ∙ there))) in
+        omega (arith, keeps.next)
     | gone e ↦ absurd (true≢false (sym there ∙ (sym (some_kind (get w2.objects k)) ∙ ap is_some e)))
     | fresh low high ↦ high
   ];
@@ -153,4 +159,5 @@ stay_then u v w a b p q there = let (x, is, first) = a p q there in let (y, at, 
 -- from u no change takes a process away or changes its program
 pub processes_kept : (start u w : World) → IsSound start → Changes start u w → KeepsProcesses u w
 processes_kept start u w s c =
-    kept start (KeepsProcesses u) (λ v x d k. stay_then u v x k (process_stays start v x s d)) (λ v x d k. stay_then u v x k (settled_stays v x d)) u w c (λ p q there. (q, there, refl))
+    kept start (KeepsProcesses u) (λ v x d k. stay_then u v x k (process_stays start v x s d)) (λ v x d k. stay_then u v x k (settled_stays v x d)) u w c
+    (λ p q there. (q, there, refl))

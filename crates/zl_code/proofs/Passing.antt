@@ -1,5 +1,11 @@
 -- What is known of a call that isn't refused: that none of its causes is there, and what its look-ups granted.
-use Rattle.zl_code.proofs.Common.{◌==◌, Body, Bool, ChannelEnd, HandlesAreNamed, HandlesAreSound, IsSound, IsTrue, Library, List, None, Object, Option, PortBody, Process, Request, SIGNAL, Some, World, [], and_parts, answer_if, ap, bits, by_look_up, cases_Bool, default_rights_of, entry_at, examined, false, first_some, get, handle_operands, handles_in, has_key, has_room, inl, inr, is_some, kind_of, listed, none-some, not, object_at, operand, raisable, refl, refusal, replace, rights_of, row_of, same_Some, signal, subst, sym, true, within, ℕ, ◌&&◌, ◌||◌, ◌∙◌, ◌∷◌, ◌≡◌, ⊤, not-false, or_parts, Packet, settable_of, by_policy, true≢false, false≢true, body_in, body_of, HasPeer, IsSoundWait, slice_index_or, eqb-true, ◌==◌, is_end_if_there, takes, if◌then◌else◌, Ok, Err}
+use Rattle.zl_code.proofs.Common.{◌==◌, Body, Bool, ChannelEnd, HandlesAreNamed, HandlesAreSound, IsSound, IsTrue, Library, List, None, Object, Option}
+use Rattle.zl_code.proofs.Common.{PortBody, Process, Request, SIGNAL, Some, World, [], and_parts, answer_if, ap, bits, by_look_up, cases_Bool}
+use Rattle.zl_code.proofs.Common.{default_rights_of, entry_at, examined, false, first_some, get, handle_operands, handles_in, has_key, has_room, inl, inr}
+use Rattle.zl_code.proofs.Common.{is_some, kind_of, listed, none-some, not, object_at, operand, raisable, refl, refusal, replace, rights_of, row_of, same_Some}
+use Rattle.zl_code.proofs.Common.{signal, subst, sym, true, within, ℕ, ◌&&◌, ◌||◌, ◌∙◌, ◌∷◌, ◌≡◌, ⊤, not-false, or_parts, Packet, settable_of, by_policy}
+use Rattle.zl_code.proofs.Common.{true≢false, false≢true, body_in, body_of, HasPeer, IsSoundWait, slice_index_or, eqb-true, ◌==◌, is_end_if_there, takes}
+use Rattle.zl_code.proofs.Common.{if◌then◌else◌, Ok, Err}
 use Rattle.zl_code.proofs.Changes.{AreUnmade}
 use Rattle.zl_rights.specs.declared.kind.Kind.TheVariants as kind
 use Rattle.zl_rights.specs.declared.entry.Entry.{Entry}
@@ -60,7 +66,8 @@ room_and w p n b h = (and_parts (has_room w p n) b (not-false _ (test_fails _ st
 abbrev pub IsGranted : List Kind → ℕ → Option Entry → Type 0
 IsGranted kinds needed o = (x : Entry) × (o ≡ Some x) × IsTrue (takes kinds x.kind) × IsTrue (within needed (bits x.rights))
 
-pub is_granted : (w : World) (p : ℕ) (kinds : List Kind) (needed : ℕ) (o : Option Entry) → by_look_up w p (granted o kinds needed) ≡ None → IsGranted kinds needed o
+pub is_granted : (w : World) (p : ℕ) (kinds : List Kind) (needed : ℕ) (o : Option Entry) → by_look_up w p (granted o kinds needed) ≡ None
+    → IsGranted kinds needed o
 is_granted w p kinds needed None fails = absurd (none-some _ (sym fails))
 is_granted w p kinds needed (Some x) fits = by_tests (takes kinds x.kind) (within needed (bits x.rights)) refl refl fits
   where
@@ -78,7 +85,8 @@ named_object w p h kinds needed (e, at, fits, right) named =
     (o, rw at there, subst (λ k. IsTrue (takes kinds k)) same fits)
 
 -- the handle that is replaced is live
-pub is_live : (w : World) (p h rights : ℕ) (q : Process) (lib : Library) → get w.processes p ≡ Some q → refusal lib w p (replace h rights) ≡ None → has_key q.handles h ≡ true
+pub is_live : (w : World) (p h rights : ℕ) (q : Process) (lib : Library) → get w.processes p ≡ Some q → refusal lib w p (replace h rights) ≡ None
+    → has_key q.handles h ≡ true
 unfolding row_of refusal handle_operands examined operand
 is_live w p h rights q lib there passes =
     let found = is_granted w p [] 0 (entry_at w p h) (first_is_none _ _ (first_is_none _ _ passes)) in
@@ -92,19 +100,23 @@ unfolding row_of refusal handle_operands examined operand
 has_right w p h clear set lib passes = is_granted w p [] SIGNAL (entry_at w p h) (first_is_none _ _ (first_is_none _ _ passes))
 
 -- no handle to a port has it
-pub no_port : (w : World) (p h : ℕ) (e : Entry) (o : Object) (packets : List Packet) → entry_at w p h ≡ Some e → IsTrue (within SIGNAL (bits e.rights)) → get w.objects e.koid ≡ Some o → o.body ≡ PortBody packets
+pub no_port : (w : World) (p h : ℕ) (e : Entry) (o : Object) (packets : List Packet) → entry_at w p h ≡ Some e → IsTrue (within SIGNAL (bits e.rights))
+    → get w.objects e.koid ≡ Some o → o.body ≡ PortBody packets
     → HandlesAreSound w → HandlesAreNamed w → ⊥
 no_port w p h e o packets at right there port sound named =
     let fine = entry_is_fine w p h e at in
     let (x, is, same) = fine.names named in
     let is_port : e.kind ≡ kind.Port = same ∙ ap kind_of (ap (λ (y : Object). y.body) (same_Some x o (sym is ∙ there)) ∙ port) in
-    let inside : IsTrue (within SIGNAL (default_rights_of e.kind)) = narrowed_within e.rights SIGNAL (rights_of SIGNAL) (default_rights_of e.kind) (rw right refl) (fine.rights sound) in
+    let inside : IsTrue (within SIGNAL (default_rights_of e.kind)) =
+    narrowed_within e.rights SIGNAL (rights_of SIGNAL) (default_rights_of e.kind) (rw right refl) (fine.rights sound) in
     true≢false (sym (rw is_port at inside))
 
-pub may_signal : (w : World) (p h clear set : ℕ) (lib : Library) → refusal lib w p (signal h clear set) ≡ None → (o : Object) → get w.objects (object_at w p h) ≡ Some o
+pub may_signal : (w : World) (p h clear set : ℕ) (lib : Library) → refusal lib w p (signal h clear set) ≡ None → (o : Object)
+    → get w.objects (object_at w p h) ≡ Some o
     → IsSound w → IsTrue (within set (raisable o.body))
 unfolding listed
-may_signal w p h clear set lib passes o there sound = by_body o.body refl (and_parts _ _ (rw there at (not-false _ (test_fails _ status.InvalidArgs (listed_none lib w p (signal h clear set) passes).0)))).1
+may_signal w p h clear set lib passes o there sound =
+    by_body o.body refl (and_parts _ _ (rw there at (not-false _ (test_fails _ status.InvalidArgs (listed_none lib w p (signal h clear set) passes).0)))).1
   where
     by_body : (b : Body) → o.body ≡ b → IsTrue (within set (settable_of (Some b))) → IsTrue (within set (raisable b))
     by_body (PortBody packets) is h2 =
@@ -113,11 +125,13 @@ may_signal w p h clear set lib passes o there sound = by_body o.body refl (and_p
     by_body _ is h2 = h2
 
 -- the handle by which the peer is signaled names an end
-pub has_end : (w : World) (p h clear set : ℕ) (lib : Library) → refusal lib w p (signal_peer h clear set) ≡ None → IsGranted (kind.Channel ∷ []) SIGNAL_PEER (entry_at w p h)
+pub has_end : (w : World) (p h clear set : ℕ) (lib : Library) → refusal lib w p (signal_peer h clear set) ≡ None
+    → IsGranted (kind.Channel ∷ []) SIGNAL_PEER (entry_at w p h)
 unfolding row_of refusal handle_operands examined operand
 has_end w p h clear set lib passes = is_granted w p (kind.Channel ∷ []) SIGNAL_PEER (entry_at w p h) (first_is_none _ _ (first_is_none _ _ passes))
 
-pub may_signal_peer : (w : World) (p h clear set : ℕ) (lib : Library) → refusal lib w p (signal_peer h clear set) ≡ None → (o : Object) → get w.objects (peer_at w p h) ≡ Some o
+pub may_signal_peer : (w : World) (p h clear set : ℕ) (lib : Library) → refusal lib w p (signal_peer h clear set) ≡ None → (o : Object)
+    → get w.objects (peer_at w p h) ≡ Some o
     → IsSound w → IsTrue (within set (raisable o.body))
 unfolding listed
 may_signal_peer w p h clear set lib passes o there sound =
@@ -128,12 +142,14 @@ may_signal_peer w p h clear set lib passes o there sound =
     at_end (ChannelEnd peer queue) is h2 = h2
     at_end _ is h2 = absurd (false≢true is)
 
-    by_body : (x : Object) (b : Body) → get w.objects (object_at w p h) ≡ Some x → x.body ≡ b → IsTrue (takes (kind.Channel ∷ []) (kind_of b)) → IsTrue (within set (raisable o.body))
+    by_body : (x : Object) (b : Body) → get w.objects (object_at w p h) ≡ Some x → x.body ≡ b → IsTrue (takes (kind.Channel ∷ []) (kind_of b))
+        → IsTrue (within set (raisable o.body))
     by_body x (ChannelEnd peer queue) at is fits =
         let body : body_of w (object_at w p h) ≡ Some (ChannelEnd peer queue) = ap body_in at ∙ ap Some is in
         let has : HasPeer w.objects w.next_koid (ChannelEnd peer queue) = subst (HasPeer w.objects w.next_koid) is (sound.peers (object_at w p h) x at) in
         let found : get w.objects peer ≡ Some o = ap (get w.objects) (sym (ap peer_in body)) ∙ there in
-        at_end o.body (rw found at has.1) (and_parts _ _ (rw body at (not-false _ (test_fails _ status.InvalidArgs (listed_none lib w p (signal_peer h clear set) passes).0)))).1
+        at_end o.body (rw found at has.1)
+        (and_parts _ _ (rw body at (not-false _ (test_fails _ status.InvalidArgs (listed_none lib w p (signal_peer h clear set) passes).0)))).1
     by_body x _ at is fits = absurd (false≢true fits)
 
 -- by a value that no handle of p has no wait was made

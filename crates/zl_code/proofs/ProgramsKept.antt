@@ -1,5 +1,13 @@
 -- Each process runs a program of the library, in every world of a run from a boot world.
-use Rattle.zl_code.proofs.Common.{◌≡◌, ℕ, ℤ, Bool, true, false, not, ◌&&◌, ◌==◌, List, [], ◌∷◌, refl, sym, ◌∙◌, subst, Option, Some, None, IsTrue, is_some, slice_get, option_map, if◌then◌else◌, none-some, same_Some, not-false, and_parts, fold, Map, get, put, update, each, has_key, World, Process, State, Ready, Blocked, Ended, Object, Body, PortBody, Koids, Settles, without_others, process_settled, fired, wakes, woken, made_ready, answered, meets, active, SignalOf, PacketAt, Awaited, Packet, with_body, woken_by_first, woken_by, woken_at_port, woken_from, woken_if_there, packet_values, Library, Request, Site, Choice, Refused, WantsMemory, Values, CallBy, refusal, listed, effect, with_effect, after_ok, after_refusal, ok_outcome, replied, cpu_answered, taken, gives_ok, gives_refused, taken_handles, STUCK, without, next_for, on_process, on_object, with_object, insert_all, remove_all, process_with, process_without, process_ended, ended, lives, Next, Moves, AtCall, IsStuck, Acts, Step, pid_of, Runs, Boots, IsBoot, boot_effect, boot_fault, origin, created_process, started_with, handles_given, process_with_all, get-update, get-each}
+use Rattle.zl_code.proofs.Common.{◌≡◌, ℕ, ℤ, Bool, true, false, not, ◌&&◌, ◌==◌, List, [], ◌∷◌, refl, sym, ◌∙◌, subst, Option, Some, None, IsTrue, is_some}
+use Rattle.zl_code.proofs.Common.{slice_get, option_map, if◌then◌else◌, none-some, same_Some, not-false, and_parts, fold, Map, get, put, update, each, has_key}
+use Rattle.zl_code.proofs.Common.{World, Process, State, Ready, Blocked, Ended, Object, Body, PortBody, Koids, Settles, without_others, process_settled, fired}
+use Rattle.zl_code.proofs.Common.{wakes, woken, made_ready, answered, meets, active, SignalOf, PacketAt, Awaited, Packet, with_body, woken_by_first, woken_by}
+use Rattle.zl_code.proofs.Common.{woken_at_port, woken_from, woken_if_there, packet_values, Library, Request, Site, Choice, Refused, WantsMemory, Values}
+use Rattle.zl_code.proofs.Common.{CallBy, refusal, listed, effect, with_effect, after_ok, after_refusal, ok_outcome, replied, cpu_answered, taken, gives_ok}
+use Rattle.zl_code.proofs.Common.{gives_refused, taken_handles, STUCK, without, next_for, on_process, on_object, with_object, insert_all, remove_all}
+use Rattle.zl_code.proofs.Common.{process_with, process_without, process_ended, ended, lives, Next, Moves, AtCall, IsStuck, Acts, Step, pid_of, Runs, Boots}
+use Rattle.zl_code.proofs.Common.{IsBoot, boot_effect, boot_fault, origin, created_process, started_with, handles_given, process_with_all, get-update, get-each}
 use Rattle.zl_rights.specs.declared.entry.Entry.{Entry}
 use Rattle.zl_rights.specs.declared.status.Status.{Status}
 use Rattle.zl_rights.specs.declared.status.Status.TheVariants as status

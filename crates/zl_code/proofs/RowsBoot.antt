@@ -1,5 +1,6 @@
 -- Statements that give handles, and their faults, by computation.
-use Rattle.zl_code.proofs.Common.{◌≡◌, ℕ, true, false, ◌++◌, List, [], ◌∷◌, refl, replicate, Some, None, World, Library, boot_fault, boot_effect, origin, table_of}
+use Rattle.zl_code.proofs.Common.{◌≡◌, ℕ, true, false, ◌++◌, List, [], ◌∷◌, refl, replicate, Some, None, World, Library, boot_fault, boot_effect, origin}
+use Rattle.zl_code.proofs.Common.{table_of}
 use Rattle.zl_rights.specs.declared.kind.Kind.TheVariants as kind
 use Rattle.zl_rights.specs.Numbers.{rights_of}
 use Rattle.zl_code.specs.declared.boot.BootCause.TheVariants as cause
@@ -54,7 +55,8 @@ rows_of_a_second_process_with_the_handles_1_and_2_16385_at_the_values_9_and_5 :
     -- The first handle is in register 0, the word in 1 and the second handle in 2.
     × (registers_of after_two 3 ≡ 9 ∷ 6 ∷ 5 ∷ 0 ∷ 0 ∷ 0 ∷ [])
     -- The table has the default rights of a job, 251407, at the first, and those that are named at the second.
-    × (table_of after_two 3 ≡ (5, record { koid = 2; kind = kind.Process; rights = rights_of 16385 }) ∷ (9, record { koid = 1; kind = kind.Job; rights = rights_of 251407 }) ∷ [])
+    × (table_of after_two 3
+    ≡ (5, record { koid = 2; kind = kind.Process; rights = rights_of 16385 }) ∷ (9, record { koid = 1; kind = kind.Job; rights = rights_of 251407 }) ∷ [])
 unfolding computing boot_fault boot_effect
 rows_of_a_second_process_with_the_handles_1_and_2_16385_at_the_values_9_and_5 = (refl, refl, refl)
 

@@ -1,5 +1,6 @@
 -- Which handles and policies a boot asks of a checked program, by computation in small worlds.
-use Rattle.zl_code.proofs.Common.{◌≡◌, ℕ, Bool, true, false, List, [], ◌∷◌, ◌++◌, refl, replicate, Option, Some, None, World, Library, Program, boot_fault, boot_effect, origin, rights_of}
+use Rattle.zl_code.proofs.Common.{◌≡◌, ℕ, Bool, true, false, List, [], ◌∷◌, ◌++◌, refl, replicate, Option, Some, None, World, Library, Program, boot_fault}
+use Rattle.zl_code.proofs.Common.{boot_effect, origin, rights_of}
 use Rattle.zl_rights.specs.declared.kind.Kind.{Kind}
 use Rattle.zl_rights.specs.declared.kind.Kind.TheVariants as kind
 use Rattle.zl_rights.specs.declared.policy.Action.{Action}
@@ -130,7 +131,8 @@ unfolding computing boot_fault boot_effect
 rows_of_needs = (refl, refl, refl, refl, refl, refl, refl, refl, refl, refl, refl, refl)
 
 -- Once the process is started, no policy of its job is set.
-policy_stays : boot_fault library (boot_effect library with_objects (statement.Process 1 0 6 declared) (9 ∷ 5 ∷ [])) (statement.Policy 1 condition.NewEvent action.Deny) ≡ Some cause.BadState
+policy_stays : boot_fault library (boot_effect library with_objects (statement.Process 1 0 6 declared) (9 ∷ 5 ∷ []))
+    (statement.Policy 1 condition.NewEvent action.Deny) ≡ Some cause.BadState
 unfolding computing boot_fault boot_effect
 policy_stays = refl
 

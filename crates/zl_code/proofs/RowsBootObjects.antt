@@ -1,5 +1,6 @@
 -- Statements that make events, ports and channels, and their limits, by computation.
-use Rattle.zl_code.proofs.Common.{◌≡◌, ℕ, List, [], ◌∷◌, refl, false, Some, None, World, Object, Body, ChannelEnd, EventBody, PortBody, JobBody, ProcessBody, Library, IsBoot, boot_fault, boot_effect, may_boot, origin, settled_in, Settles-by, table_of}
+use Rattle.zl_code.proofs.Common.{◌≡◌, ℕ, List, [], ◌∷◌, refl, false, Some, None, World, Object, Body, ChannelEnd, EventBody, PortBody, JobBody, ProcessBody}
+use Rattle.zl_code.proofs.Common.{Library, IsBoot, boot_fault, boot_effect, may_boot, origin, settled_in, Settles-by, table_of}
 use Rattle.zl_rights.specs.declared.kind.Kind.{Kind}
 use Rattle.zl_rights.specs.declared.kind.Kind.TheVariants as kind
 use Rattle.zl_rights.specs.declared.entry.Entry.{Entry}
@@ -66,7 +67,8 @@ boot = settled_in made 1
 rows_of_objects_that_processes_get :
     IsBoot library (statement.Event ∷ statement.Port ∷ statement.Channel ∷ statement.Event ∷ statement.Port ∷ statement.Channel ∷ first ∷ second ∷ []) boot
     -- What no handle names is gone, and each end of the channel has the other for its peer.
-    × (boot.objects ≡ new 1 (JobBody 0 1 [] false) ∷ new 2 EventBody ∷ new 3 (PortBody []) ∷ new 4 (ChannelEnd 5 []) ∷ new 5 (ChannelEnd 4 []) ∷ new 10 (ProcessBody 1) ∷ new 11 (ProcessBody 1) ∷ [])
+    × (boot.objects ≡ new 1 (JobBody 0 1 [] false) ∷ new 2 EventBody ∷ new 3 (PortBody []) ∷ new 4 (ChannelEnd 5 []) ∷ new 5 (ChannelEnd 4 [])
+    ∷ new 10 (ProcessBody 1) ∷ new 11 (ProcessBody 1) ∷ [])
     -- Each handle has the kind of its object and the default rights of the kind, or those that are named.
     × (table_of boot 10 ≡ handle 5 4 kind.Channel 61454 ∷ handle 7 3 kind.Port 12 ∷ handle 9 2 kind.Event 53251 ∷ [])
     × (table_of boot 11 ≡ handle 9 5 kind.Channel 61454 ∷ [])
@@ -74,7 +76,12 @@ unfolding computing boot_fault boot_effect
 rows_of_objects_that_processes_get = (
   record {
     made = made;
-    boots = ([], refl, refl, ([], refl, refl, ([], refl, refl, ([], refl, refl, ([], refl, refl, ([], refl, refl, (9 ∷ 5 ∷ 7 ∷ [], refl, refl, (9 ∷ [], refl, refl, refl))))))));
+    boots = (
+      [],
+      refl,
+      refl,
+      ([], refl, refl, ([], refl, refl, ([], refl, refl, ([], refl, refl, ([], refl, refl, (9 ∷ 5 ∷ 7 ∷ [], refl, refl, (9 ∷ [], refl, refl, refl))))))),
+    );
     settles = Settles-by made 1 refl;
   },
   refl,

@@ -1,5 +1,8 @@
 -- Each cause of each call, by computation in small worlds.
-use Rattle.zl_code.proofs.Common.{◌≡◌, ℕ, ◌+◌, ◌-◌, ◌^◌, ◌==◌, IsTrue, [], ◌∷◌, refl, Option, Some, None, true, false, pos, and_parts, eqb-true, option_map, DUPLICATE, SIGNAL, SIGNALED, condition_number, has_key, World, Ended, kind_of, close, dup, event_create, signal, process_exit, table_of, body_of, may_choose, effect, Choice, Refused, WantsMemory, Values, ok_outcome, SAME_RIGHTS, READABLE, TERMINATED, negsuc, active}
+use Rattle.zl_code.proofs.Common.{◌≡◌, ℕ, ◌+◌, ◌-◌, ◌^◌, ◌==◌, IsTrue, [], ◌∷◌, refl, Option, Some, None, true, false, pos, and_parts, eqb-true, option_map}
+use Rattle.zl_code.proofs.Common.{DUPLICATE, SIGNAL, SIGNALED, condition_number, has_key, World, Ended, kind_of, close, dup, event_create, signal, process_exit}
+use Rattle.zl_code.proofs.Common.{table_of, body_of, may_choose, effect, Choice, Refused, WantsMemory, Values, ok_outcome, SAME_RIGHTS, READABLE, TERMINATED}
+use Rattle.zl_code.proofs.Common.{negsuc, active}
 use Rattle.zl_rights.specs.declared.kind.Kind.{Kind}
 use Rattle.zl_rights.specs.declared.kind.Kind.TheVariants as kind
 use Rattle.zl_rights.specs.declared.status.Status.TheVariants as status
@@ -13,7 +16,8 @@ use Rattle.zl_code.specs.declared.history.CallName.TheVariants as name
 use Rattle.zl_code.specs.declared.history.Outcome.TheVariants as outcome
 use Rattle.zl_code.specs.declared.history.TraceItem.TheVariants as item
 use Rattle.zl_code.proofs.Running.{Acted, step_by, computing}
-use Rattle.zl_code.proofs.RowsWords.{Refuses, Passes, world_of, process_of, event_with, job_with, FIRST_RIGHTS, times, program_of, told, after, state_of, last_of}
+use Rattle.zl_code.proofs.RowsWords.{Refuses, Passes, world_of, process_of, event_with, job_with, FIRST_RIGHTS, times, program_of, told, after, state_of}
+use Rattle.zl_code.proofs.RowsWords.{last_of}
 use Rattle.zl_code.proofs.Called.{called}
 
 -- ---- the words of the rows
@@ -181,7 +185,8 @@ rows_of_event_create :
     -- The policy that kills comes before the koids too.
     × (Refuses (record (bare_under condition.NewEvent action.Kill) { next_koid = 2 ^ 62 }) event_create (outcome.Ended (negsuc 1025)))
     -- The policy comes before the full table.
-    × (Refuses (world_of ((condition_number condition.NewEvent, action.Deny) ∷ []) (process_of [] (times 1024 (event_with FIRST_RIGHTS)) None)) event_create (outcome.Answered status.AccessDenied))
+    × (Refuses (world_of ((condition_number condition.NewEvent, action.Deny) ∷ []) (process_of [] (times 1024 (event_with FIRST_RIGHTS)) None)) event_create
+    (outcome.Answered status.AccessDenied))
     -- The event's handle gets a value that isn't used.
     × (told (turn (called name.EventCreate (0 ∷ 1 ∷ []) 0) bare (Values (6 ∷ [])))
     ≡ Some (item.Call 2 name.EventCreate (outcome.Answered status.Ok), 0 ∷ 6 ∷ 9 ∷ 0 ∷ 0 ∷ 0 ∷ []))
@@ -231,7 +236,8 @@ rows_of_signal_2 :
     -- The user signals may be set at a job.
     × (Passes with_job (signal 7 0 0x100_0000))
     -- The answer is a status alone.
-    × (told (turn (called name.Signal (0 ∷ 1 ∷ 3 ∷ 4 ∷ []) 0) (record bare { processes = (2, process_of (9 ∷ 7 ∷ 9 ∷ 0 ∷ SIGNALED ∷ []) ((7, event_with SIGNAL) ∷ []) None) ∷ [] }) (Values []))
+    × (told (turn (called name.Signal (0 ∷ 1 ∷ 3 ∷ 4 ∷ []) 0)
+    (record bare { processes = (2, process_of (9 ∷ 7 ∷ 9 ∷ 0 ∷ SIGNALED ∷ []) ((7, event_with SIGNAL) ∷ []) None) ∷ [] }) (Values []))
     ≡ Some (item.Call 2 name.Signal (outcome.Answered status.Ok), 0 ∷ 7 ∷ 9 ∷ 0 ∷ 8 ∷ 0 ∷ []))
     -- What is cleared and set stays set, as set comes last.
     × (active (effect [] (with_rights SIGNAL) (with_rights SIGNAL) 2 (signal 7 SIGNALED SIGNALED) []) 3 ≡ SIGNALED)

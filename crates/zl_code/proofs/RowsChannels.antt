@@ -1,5 +1,8 @@
 -- Each cause of replace and of the calls on channels, by computation in small worlds.
-use Rattle.zl_code.proofs.Common.{◌≡◌, ℕ, ◌^◌, ◌-◌, List, [], ◌∷◌, refl, replicate, Option, Some, None, true, false, DUPLICATE, READ, READABLE, SAME_RIGHTS, has_key, rights_of, active, Map, World, Object, ChannelEnd, EventBody, JobBody, ProcessBody, Process, get, replace, chan_create, chan_write, chan_read_etc, table_of, body_of, refusal, may_choose, effect, Site, site, Choice, Refused, WantsMemory, Values, condition_number, negsuc, Message}
+use Rattle.zl_code.proofs.Common.{◌≡◌, ℕ, ◌^◌, ◌-◌, List, [], ◌∷◌, refl, replicate, Option, Some, None, true, false, DUPLICATE, READ, READABLE, SAME_RIGHTS}
+use Rattle.zl_code.proofs.Common.{has_key, rights_of, active, Map, World, Object, ChannelEnd, EventBody, JobBody, ProcessBody, Process, get, replace}
+use Rattle.zl_code.proofs.Common.{chan_create, chan_write, chan_read_etc, table_of, body_of, refusal, may_choose, effect, Site, site, Choice, Refused}
+use Rattle.zl_code.proofs.Common.{WantsMemory, Values, condition_number, negsuc, Message}
 use Rattle.zl_rights.specs.Numbers.{PEER_CLOSED, TRANSFER, WRITE, WRITABLE}
 use Rattle.zl_rights.specs.World.{Wait}
 use Rattle.std.specs.Prelude.{bit_or, map}
@@ -108,7 +111,8 @@ rows_of_replace :
     -- The value isn't chosen.
     × (may_choose (with_event FIRST_RIGHTS) (with_event FIRST_RIGHTS) 2 (replace 7 DUPLICATE) (8 ∷ []) ≡ false)
     -- The waits of the old handle end, and no others.
-    × (map (λ x. x.value) (effect [] (record (with_event 0) { waits = two_waits }) (record (with_event 0) { waits = two_waits }) 2 (replace 7 0) []).waits ≡ 8 ∷ [])
+    × (map (λ x. x.value) (effect [] (record (with_event 0) { waits = two_waits }) (record (with_event 0) { waits = two_waits }) 2 (replace 7 0) []).waits
+    ≡ 8 ∷ [])
     -- In a full table there is place, as the old handle's is free.
     × (Passes (world_of [] (process_of [] (times 1024 (event_with FIRST_RIGHTS)) None)) (replace 7 SAME_RIGHTS))
 unfolding computing
@@ -132,7 +136,8 @@ rows_of_chan_create :
     -- Nothing stands against it.
     (Passes bare chan_create)
     -- The policy denies new channels.
-    × (Refuses (world_of ((condition_number condition.NewChannel, action.Deny) ∷ []) (process_of [] [] None)) chan_create (outcome.Answered status.AccessDenied))
+    × (Refuses (world_of ((condition_number condition.NewChannel, action.Deny) ∷ []) (process_of [] [] None)) chan_create
+    (outcome.Answered status.AccessDenied))
     -- The policy kills for new channels.
     × (Refuses (world_of ((condition_number condition.NewChannel, action.Kill) ∷ []) (process_of [] [] None)) chan_create (outcome.Ended (negsuc 1025)))
     -- The table has place for one handle alone.
@@ -176,7 +181,9 @@ writing = λ bytes hs. site (chan_write 7 bytes hs) (4 ∷ []) (0 ∷ [])
 
 -- the world after event 3 was sent to the end 5, which register 4 names no more
 abbrev sent : World
-sent = after (with_ends end_and_events [] []) (turn name.ChanWrite (writing (1 ∷ 2 ∷ []) (8 ∷ [])) (with_ends ((7, end_with 4 END_RIGHTS) ∷ (8, event_with FIRST_RIGHTS) ∷ (10, end_with 5 END_RIGHTS) ∷ []) [] []) (Values []))
+sent =
+    after (with_ends end_and_events [] []) (turn name.ChanWrite (writing (1 ∷ 2 ∷ []) (8 ∷ []))
+    (with_ends ((7, end_with 4 END_RIGHTS) ∷ (8, event_with FIRST_RIGHTS) ∷ (10, end_with 5 END_RIGHTS) ∷ []) [] []) (Values []))
 
 rows_of_chan_write :
     -- The value 5 isn't live.
@@ -210,12 +217,16 @@ rows_of_chan_write :
     -- The handles of the list are gone where the call is refused too, and their registers become 0.
     × (told (turn name.ChanWrite (writing [] (8 ∷ [])) (with_one_end ((7, end_with 5 END_RIGHTS) ∷ (8, event_with FIRST_RIGHTS) ∷ []) []) Refused)
     ≡ Some (item.Call 2 name.ChanWrite (outcome.Answered status.PeerClosed), 24 ∷ 2 ∷ 3 ∷ 4 ∷ 0 ∷ 6 ∷ []))
-    × (table_of (after sent (turn name.ChanWrite (writing [] (8 ∷ [])) (with_one_end ((7, end_with 5 END_RIGHTS) ∷ (8, event_with FIRST_RIGHTS) ∷ []) []) Refused)) 2
+    × (table_of
+    (after sent (turn name.ChanWrite (writing [] (8 ∷ [])) (with_one_end ((7, end_with 5 END_RIGHTS) ∷ (8, event_with FIRST_RIGHTS) ∷ []) []) Refused)) 2
     ≡ (7, end_with 5 END_RIGHTS) ∷ [])
     -- What they named is gone with the last of them.
-    × (has_key (after sent (turn name.ChanWrite (writing [] (8 ∷ [])) (with_one_end ((7, end_with 5 END_RIGHTS) ∷ (8, event_with FIRST_RIGHTS) ∷ []) []) Refused)).objects 3 ≡ false)
+    × (has_key (after sent
+    (turn name.ChanWrite (writing [] (8 ∷ [])) (with_one_end ((7, end_with 5 END_RIGHTS) ∷ (8, event_with FIRST_RIGHTS) ∷ []) []) Refused)).objects 3 ≡ false)
     -- The message goes last into the queue of the peer, with its bytes and its handles.
-    × (queue_of_object (effect [] (with_ends end_and_events [] (message [] [] ∷ [])) (with_ends end_and_events [] (message [] [] ∷ [])) 2 (chan_write 7 (1 ∷ 2 ∷ []) (8 ∷ [])) []) 5
+    × (queue_of_object
+    (effect [] (with_ends end_and_events [] (message [] [] ∷ [])) (with_ends end_and_events [] (message [] [] ∷ [])) 2 (chan_write 7 (1 ∷ 2 ∷ []) (8 ∷ [])) [])
+    5
     ≡ message [] [] ∷ message (1 ∷ 2 ∷ []) (event_with FIRST_RIGHTS ∷ []) ∷ [])
     -- The handle that was sent has left the table.
     × (table_of sent 2 ≡ (7, end_with 4 END_RIGHTS) ∷ (10, end_with 5 END_RIGHTS) ∷ [])
@@ -243,7 +254,8 @@ readable = with_ends both_ends (message (11 ∷ 12 ∷ []) (event_with FIRST_RIG
 -- the same world where process 2 has four bytes of memory
 abbrev with_memory : World
 with_memory = record readable {
-  processes = (2, record (process_of [] both_ends None) { cpu = record { counter = 0; registers = replicate 32 9; memory = 1 ∷ 2 ∷ 3 ∷ 4 ∷ []; slots = [] } }) ∷ [];
+  processes =
+      (2, record (process_of [] both_ends None) { cpu = record { counter = 0; registers = replicate 32 9; memory = 1 ∷ 2 ∷ 3 ∷ 4 ∷ []; slots = [] } }) ∷ [];
 }
 
 -- the world after the first message was read
@@ -274,11 +286,13 @@ rows_of_chan_read_etc :
     -- There is just room.
     × (Passes readable (chan_read_etc 7 1 2 1))
     -- The table is full.
-    × (Refuses (with_ends (times 1024 (end_with 4 END_RIGHTS)) (message [] (event_with 0 ∷ []) ∷ []) []) (chan_read_etc 7 0 9 9) (outcome.Answered status.NoResources))
+    × (Refuses (with_ends (times 1024 (end_with 4 END_RIGHTS)) (message [] (event_with 0 ∷ []) ∷ []) []) (chan_read_etc 7 0 9 9)
+    (outcome.Answered status.NoResources))
     -- A message without handles needs no place.
     × (Passes (with_ends (times 1024 (end_with 4 END_RIGHTS)) (message [] [] ∷ []) []) (chan_read_etc 7 0 9 9))
     -- The want of room comes before the full table.
-    × (Refuses (with_ends (times 1024 (end_with 4 END_RIGHTS)) (message [] (event_with 0 ∷ []) ∷ []) []) (chan_read_etc 7 0 9 0) (outcome.Answered status.BufferTooSmall))
+    × (Refuses (with_ends (times 1024 (end_with 4 END_RIGHTS)) (message [] (event_with 0 ∷ []) ∷ []) []) (chan_read_etc 7 0 9 0)
+    (outcome.Answered status.BufferTooSmall))
     -- Where there is too little room both counts are told, and no triple.
     × (told (turn name.ChanReadEtc (reading 1) readable Refused)
     ≡ Some (item.Call 2 name.ChanReadEtc (outcome.Answered status.BufferTooSmall), 15 ∷ 2 ∷ 1 ∷ 0 ∷ 0 ∷ 0 ∷ []))

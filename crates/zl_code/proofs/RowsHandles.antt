@@ -1,5 +1,6 @@
 -- Worlds whose handles are sound, and worlds whose handles aren't, by computation.
-use Rattle.zl_code.proofs.Common.{◌≡◌, ℕ, ◌+◌, ◌==◌, true, false, [], ◌∷◌, refl, sym, subst, ◌∙◌, IsTrue, Option, Some, None, inl, inr, cases_Bool, none-some, same_Some, Map, get, World, Process, ChannelEnd, in_order, has_default_rights, HandlesAreSound, READ, true≢false}
+use Rattle.zl_code.proofs.Common.{◌≡◌, ℕ, ◌+◌, ◌==◌, true, false, [], ◌∷◌, refl, sym, subst, ◌∙◌, IsTrue, Option, Some, None, inl, inr, cases_Bool, none-some}
+use Rattle.zl_code.proofs.Common.{same_Some, Map, get, World, Process, ChannelEnd, in_order, has_default_rights, HandlesAreSound, READ, true≢false}
 use Rattle.zl_rights.specs.declared.entry.Entry.{Entry}
 use Rattle.zl_code.proofs.RowsWords.{world_of, process_of, event_with, job_with, FIRST_RIGHTS}
 
@@ -52,7 +53,8 @@ queued_is_sound = record {
   processes = refl;
   objects = refl;
   places = only (λ q. IsTrue (in_order q.handles)) 2 (process_of [] [] None) refl;
-  rights = λ p v q e there at. absurd (none-some e (sym (only (λ (r : Process). ◌≡◌ {A = Option Entry} (get r.handles v) None) 2 (process_of [] [] None) refl p q there) ∙ at));
+  rights = λ p v q e there at.
+      absurd (none-some e (sym (only (λ (r : Process). ◌≡◌ {A = Option Entry} (get r.handles v) None) 2 (process_of [] [] None) refl p q there) ∙ at));
   queued = only _ 3 _ refl;
 }
 

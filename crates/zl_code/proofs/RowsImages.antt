@@ -1,5 +1,7 @@
 -- The table of instructions, and images with declarations and messages, by computation.
-use Rattle.zl_code.proofs.Common.{◌≡◌, ℕ, zero, suc, ◌+◌, true, List, [], ◌∷◌, ◌++◌, map, length, refl, replicate, Some, None, nat_le, slice_set, false, list_all, rights_of, Image, row_of, Spells, local_parts, first_fault, header_fault, start_fault, slot_fault, instr_fault, pieces, rows}
+use Rattle.zl_code.proofs.Common.{◌≡◌, ℕ, zero, suc, ◌+◌, true, List, [], ◌∷◌, ◌++◌, map, length, refl, replicate, Some, None, nat_le, slice_set, false}
+use Rattle.zl_code.proofs.Common.{list_all, rights_of, Image, row_of, Spells, local_parts, first_fault, header_fault, start_fault, slot_fault, instr_fault}
+use Rattle.zl_code.proofs.Common.{pieces, rows}
 use Rattle.zl_rights.specs.declared.kind.Kind.TheVariants as kind
 use Rattle.zl_rights.specs.declared.policy.Condition.TheVariants as condition
 use Rattle.zl_code.specs.declared.image.DecodeFault.{DecodeFault}

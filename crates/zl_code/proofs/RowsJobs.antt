@@ -1,5 +1,6 @@
 -- Each cause of the calls on jobs and processes, by computation in small worlds.
-use Rattle.zl_code.proofs.Common.{◌≡◌, ℕ, ◌^◌, Bool, true, false, [], ◌∷◌, refl, replicate, Some, None, negsuc, get, Program, World, Map, Body, Created, Gone, JobBody, ProcessBody, body_of, close, refusal, Request, Library, Choice, WantsMemory, Values}
+use Rattle.zl_code.proofs.Common.{◌≡◌, ℕ, ◌^◌, Bool, true, false, [], ◌∷◌, refl, replicate, Some, None, negsuc, get, Program, World, Map, Body, Created, Gone}
+use Rattle.zl_code.proofs.Common.{JobBody, ProcessBody, body_of, close, refusal, Request, Library, Choice, WantsMemory, Values}
 use Rattle.zl_rights.specs.Numbers.{MANAGE_JOB, MANAGE_PROCESS, default_rights_of, condition_number}
 use Rattle.zl_rights.specs.declared.kind.Kind.TheVariants as kind
 use Rattle.zl_rights.specs.declared.status.Status.TheVariants as status
@@ -173,7 +174,13 @@ rows_of_process_create_2 :
     × (state_of with_created 5 ≡ Some Created)
     -- It has the memory that its program asks for, and its registers are 0.
     × (get with_created.processes 5
-    ≡ Some (record { program = 1; cpu = record { counter = 0; registers = replicate 32 0; memory = 0 ∷ 0 ∷ 0 ∷ []; slots = [] }; state = Created; handles = []; last = None }))
+    ≡ Some (record {
+      program = 1;
+      cpu = record { counter = 0; registers = replicate 32 0; memory = 0 ∷ 0 ∷ 0 ∷ []; slots = [] };
+      state = Created;
+      handles = [];
+      last = None;
+    }))
     -- Its handle has the rights of a first handle.
     × (entry_at with_created 2 8 ≡ Some (entry_of kind.Process 5 (default_rights_of kind.Process)))
     -- Without a handle to it, it is gone.

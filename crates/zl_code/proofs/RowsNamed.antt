@@ -1,5 +1,7 @@
 -- Worlds whose handles name objects of their kinds, and worlds with a handle that doesn't, by computation.
-use Rattle.zl_code.proofs.Common.{◌≡◌, arith, ◌==◌, [], ◌∷◌, refl, ap, sym, subst, ◌∙◌, None, inl, inr, All, cases_Bool, none-some, same_Some, All-nil, rights_of, Map, get, World, Process, Object, ChannelEnd, EventBody, kind_of, queue_of, names_its_object, HandlesAreNamed, Message, All-cons}
+use Rattle.zl_code.proofs.Common.{◌≡◌, arith, ◌==◌, [], ◌∷◌, refl, ap, sym, subst, ◌∙◌, None, inl, inr, All, cases_Bool, none-some, same_Some, All-nil}
+use Rattle.zl_code.proofs.Common.{rights_of, Map, get, World, Process, Object, ChannelEnd, EventBody, kind_of, queue_of, names_its_object, HandlesAreNamed}
+use Rattle.zl_code.proofs.Common.{Message, All-cons}
 use Rattle.zl_rights.specs.declared.kind.Kind.TheVariants as kind
 use Rattle.zl_rights.specs.declared.entry.Entry.{Entry}
 use Rattle.zl_code.proofs.MapKept.{Each}
@@ -75,7 +77,8 @@ no_messages m = All-nil (λ (x : Message). All (names_its_object m) x.handles)
 
 in_a_table_is_named : HandlesAreNamed (with_handle (event_with 0))
 unfolding get
-in_a_table_is_named = named_by w (((record { body = EventBody; raised = 0 }, refl, refl), tt), tt) (no_messages w.objects, (no_messages w.objects, (no_messages w.objects, tt)))
+in_a_table_is_named =
+    named_by w (((record { body = EventBody; raised = 0 }, refl, refl), tt), tt) (no_messages w.objects, (no_messages w.objects, (no_messages w.objects, tt)))
   where
     w : World
     w = with_handle (event_with 0)
@@ -97,7 +100,9 @@ in_a_queue_is_named = named_by w (tt, tt) (no_messages w.objects, (queued, tt))
 
 in_a_table : HandlesAreNamed (with_handle elsewhere) → ⊥
 unfolding get
-in_a_table s = (λ (named : names_its_object (with_handle elsewhere).objects elsewhere). none-some named.0 named.1) (s.tables 2 7 (process_of [] ((7, elsewhere) ∷ []) None) elsewhere refl refl)
+in_a_table s =
+    (λ (named : names_its_object (with_handle elsewhere).objects elsewhere). none-some named.0 named.1)
+    (s.tables 2 7 (process_of [] ((7, elsewhere) ∷ []) None) elsewhere refl refl)
 
 in_a_queue : HandlesAreNamed (with_queued elsewhere) → ⊥
 unfolding get

@@ -1,5 +1,6 @@
 -- Each cause of the calls on ports, by computation in small worlds.
-use Rattle.zl_code.proofs.Common.{◌≡◌, ℕ, ◌+◌, ◌^◌, ◌-◌, List, [], ◌∷◌, ◌++◌, map, replicate, refl, Some, None, false, READ, Map, World, EventBody, PortBody, JobBody, ProcessBody, Ready, Blocked, PacketAt, table_of, body_of, condition_number, Refused, WantsMemory, Values, Packet}
+use Rattle.zl_code.proofs.Common.{◌≡◌, ℕ, ◌+◌, ◌^◌, ◌-◌, List, [], ◌∷◌, ◌++◌, map, replicate, refl, Some, None, false, READ, Map, World, EventBody, PortBody}
+use Rattle.zl_code.proofs.Common.{JobBody, ProcessBody, Ready, Blocked, PacketAt, table_of, body_of, condition_number, Refused, WantsMemory, Values, Packet}
 use Rattle.std.specs.Prelude.{negsuc}
 use Rattle.zl_rights.specs.Numbers.{WRITE, default_rights_of}
 use Rattle.zl_rights.specs.World.{Wait}
@@ -16,7 +17,8 @@ use Rattle.zl_code.specs.CallTable.{port_create, port_queue, port_wait, port_pol
 use Rattle.zl_code.specs.Request.{Site, site}
 use Rattle.zl_code.specs.Waiting.{packets_in}
 use Rattle.zl_code.proofs.Running.{computing}
-use Rattle.zl_code.proofs.RowsWords.{Refuses, Passes, world_of, process_of, entry_of, event_with, FIRST_RIGHTS, times, told, item_of, after, state_of, registers_of, turn_of}
+use Rattle.zl_code.proofs.RowsWords.{Refuses, Passes, world_of, process_of, entry_of, event_with, FIRST_RIGHTS, times, told, item_of, after, state_of}
+use Rattle.zl_code.proofs.RowsWords.{registers_of, turn_of}
 
 -- ---- the words of the rows
 
@@ -114,7 +116,8 @@ rows_of_port_queue :
     -- The packet goes last; its key and its value have 64 bits.
     × (told (turn_of 2 name.PortQueue (queueing (2 ^ 64 - 1) (2 ^ 64 - 1)) (with_port port_and_event (signal_packet 8 3 5 ∷ [])) (Values []))
     ≡ Some (item.Call 2 name.PortQueue (outcome.Answered status.Ok), 0 ∷ 2 ∷ 3 ∷ 4 ∷ 5 ∷ 6 ∷ []))
-    × (packets_there (after bare (turn_of 2 name.PortQueue (queueing (2 ^ 64 - 1) (2 ^ 64 - 1)) (with_port port_and_event (signal_packet 8 3 5 ∷ [])) (Values [])))
+    × (packets_there
+    (after bare (turn_of 2 name.PortQueue (queueing (2 ^ 64 - 1) (2 ^ 64 - 1)) (with_port port_and_event (signal_packet 8 3 5 ∷ [])) (Values [])))
     ≡ (1, 5, 8, 8) ∷ (0, 2 ^ 64 - 1, 2 ^ 64 - 1, 0) ∷ [])
     -- Where memory is wanted, none comes.
     × (told (turn_of 2 name.PortQueue (queueing 1 1) (with_port port_and_event []) WantsMemory)
@@ -243,9 +246,11 @@ port_and_two = (7, entry_of kind.Port 4 WRITE) ∷ (8, event_with 0) ∷ (9, eve
 
 -- the waits and packets of which the call takes some
 abbrev many : World
-many = record (with_port port_and_two (signal_packet 8 3 5 ∷ user_packet 5 5 ∷ signal_packet 9 3 5 ∷ signal_packet 8 3 6 ∷ signal_packet 8 1 5 ∷ signal_packet 8 3 5 ∷ [])) {
-  waits = wait_by 2 8 5 ∷ wait_by 2 8 6 ∷ wait_by 2 9 5 ∷ wait_by 2 8 5 ∷ [];
-}
+many =
+    record (with_port port_and_two
+    (signal_packet 8 3 5 ∷ user_packet 5 5 ∷ signal_packet 9 3 5 ∷ signal_packet 8 3 6 ∷ signal_packet 8 1 5 ∷ signal_packet 8 3 5 ∷ [])) {
+      waits = wait_by 2 8 5 ∷ wait_by 2 8 6 ∷ wait_by 2 9 5 ∷ wait_by 2 8 5 ∷ [];
+    }
 
 -- of the packets at port 4, whether of a wait, and the key
 abbrev kinds_and_keys : World → List (ℕ × ℕ)

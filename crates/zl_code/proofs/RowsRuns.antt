@@ -1,5 +1,7 @@
 -- Boot, its faults, and the run of a program that ends stuck, by computation.
-use Rattle.zl_code.proofs.Common.{◌≡◌, ℕ, arith, Bool, true, ◌&&◌, IsTrue, List, [], ◌∷◌, refl, replicate, map, take, Option, Some, None, not, is_some, and_parts, World, Ready, Ended, Library, Choice, Refused, IsLegalHistory, IsBoot, Boots, FirstFault, at_statement, at_limit, boot_fault, boot_effect, may_boot, origin, settled_in, Settles-by, started_process, negsuc}
+use Rattle.zl_code.proofs.Common.{◌≡◌, ℕ, arith, Bool, true, ◌&&◌, IsTrue, List, [], ◌∷◌, refl, replicate, map, take, Option, Some, None, not, is_some}
+use Rattle.zl_code.proofs.Common.{and_parts, World, Ready, Ended, Library, Choice, Refused, IsLegalHistory, IsBoot, Boots, FirstFault, at_statement, at_limit}
+use Rattle.zl_code.proofs.Common.{boot_fault, boot_effect, may_boot, origin, settled_in, Settles-by, started_process, negsuc}
 use Rattle.zl_code.specs.declared.boot.BootCause.TheVariants as cause
 use Rattle.zl_code.specs.declared.boot.Statement.{Statement}
 use Rattle.zl_code.specs.declared.boot.Statement.TheVariants as statement
@@ -105,7 +107,8 @@ rows_of_faults_of_boot_2 = (refl, refl, refl)
 -- The second statement names program 1 of a library of one.
 second_is_unknown : FirstFault library (one ∷ statement.Process 1 1 0 [] ∷ []) 100 1 cause.Unknown
 unfolding computing boot_fault boot_effect
-second_is_unknown = at_statement (booted library origin (one ∷ [])) 1 (statement.Process 1 1 0 []) cause.Unknown (Boots-by library origin (one ∷ []) refl) refl refl
+second_is_unknown =
+    at_statement (booted library origin (one ∷ [])) 1 (statement.Process 1 1 0 []) cause.Unknown (Boots-by library origin (one ∷ []) refl) refl refl
 
 -- The 65th process is one too many.
 too_many_processes : FirstFault library (replicate 65 one) 100 64 cause.Limit

@@ -1,5 +1,6 @@
 -- Each cause of signal_peer, by computation in small worlds.
-use Rattle.zl_code.proofs.Common.{◌≡◌, ℕ, ◌+◌, [], ◌∷◌, refl, Some, None, false, SIGNALED, USER_SIGNALS, active, Map, World, ChannelEnd, EventBody, JobBody, ProcessBody, Refused, Values}
+use Rattle.zl_code.proofs.Common.{◌≡◌, ℕ, ◌+◌, [], ◌∷◌, refl, Some, None, false, SIGNALED, USER_SIGNALS, active, Map, World, ChannelEnd, EventBody, JobBody}
+use Rattle.zl_code.proofs.Common.{ProcessBody, Refused, Values}
 use Rattle.zl_rights.specs.Numbers.{SIGNAL, SIGNAL_PEER, PEER_CLOSED, WRITABLE}
 use Rattle.zl_rights.specs.declared.kind.Kind.TheVariants as kind
 use Rattle.zl_rights.specs.declared.status.Status.TheVariants as status

@@ -1,5 +1,7 @@
 -- Each cause and effect of the calls that start, kill and set policies, by computation in small worlds.
-use Rattle.zl_code.proofs.Common.{◌≡◌, ℕ, Bool, true, false, [], ◌∷◌, List, refl, replicate, Some, None, negsuc, Program, World, Map, Body, Process, State, Created, Ready, Ended, Blocked, JobBody, ProcessBody, EventBody, body_of, refusal, Request, Library, Choice, Refused, WantsMemory, Values, SignalOf}
+use Rattle.zl_code.proofs.Common.{◌≡◌, ℕ, Bool, true, false, [], ◌∷◌, List, refl, replicate, Some, None, negsuc, Program, World, Map, Body, Process, State}
+use Rattle.zl_code.proofs.Common.{Created, Ready, Ended, Blocked, JobBody, ProcessBody, EventBody, body_of, refusal, Request, Library, Choice, Refused}
+use Rattle.zl_code.proofs.Common.{WantsMemory, Values, SignalOf}
 use Rattle.zl_rights.specs.Numbers.{DESTROY, SET_POLICY, TRANSFER, WRITE, default_rights_of, condition_number, mode_number, action_number}
 use Rattle.zl_rights.specs.declared.kind.Kind.TheVariants as kind
 use Rattle.zl_rights.specs.declared.status.Status.TheVariants as status
@@ -38,7 +40,13 @@ library = program_that false [] ∷ program_that true (record { kind = Some kind
 
 -- process 5, which is to run the program, in this state and with this table
 abbrev child_of : ℕ → State → Map Entry → Process
-child_of program state handles = record { program = program; cpu = record { counter = 0; registers = replicate 32 0; memory = []; slots = [] }; state = state; handles = handles; last = None }
+child_of program state handles = record {
+  program = program;
+  cpu = record { counter = 0; registers = replicate 32 0; memory = []; slots = [] };
+  state = state;
+  handles = handles;
+  last = None;
+}
 
 -- Process 2 with this table in job 1, in which job 4 stands with this body; in that stands process 5; object 3 is an event.
 abbrev family : Map Entry → Body → Process → World
@@ -95,10 +103,12 @@ rows_of_process_start :
     -- The handle names an event.
     × (RefusesIn created (process_start 8 8 77) (outcome.Answered status.WrongType))
     -- The handle to the process has no right to start it; that right alone will do.
-    × (RefusesIn (family ((7, entry_of kind.Process 5 DESTROY) ∷ (8, event_with FIRST_RIGHTS) ∷ []) child_job (child_of 0 Created [])) (process_start 7 8 77) (outcome.Answered status.AccessDenied))
+    × (RefusesIn (family ((7, entry_of kind.Process 5 DESTROY) ∷ (8, event_with FIRST_RIGHTS) ∷ []) child_job (child_of 0 Created [])) (process_start 7 8 77)
+    (outcome.Answered status.AccessDenied))
     × (PassesIn (family ((7, entry_of kind.Process 5 WRITE) ∷ (8, event_with FIRST_RIGHTS) ∷ []) child_job (child_of 0 Created [])) (process_start 7 8 77))
     -- The handle that is given may not be transferred; that right alone will do.
-    × (RefusesIn (family ((7, entry_of kind.Process 5 WRITE) ∷ (8, event_with 0x1000) ∷ []) child_job (child_of 0 Created [])) (process_start 7 8 77) (outcome.Answered status.AccessDenied))
+    × (RefusesIn (family ((7, entry_of kind.Process 5 WRITE) ∷ (8, event_with 0x1000) ∷ []) child_job (child_of 0 Created [])) (process_start 7 8 77)
+    (outcome.Answered status.AccessDenied))
     × (PassesIn (family ((7, entry_of kind.Process 5 WRITE) ∷ (8, event_with TRANSFER) ∷ []) child_job (child_of 0 Created [])) (process_start 7 8 77))
     -- It was started before, or it is over.
     × (RefusesIn (family all_handles child_job (child_of 0 Ready [])) (process_start 7 8 77) (outcome.Answered status.BadState))
@@ -107,7 +117,8 @@ rows_of_process_start :
     × (RefusesIn created (process_start 11 8 77) (outcome.Answered status.BadState))
     -- A checked program wants the handle that it declares: of its kind, with its rights at least.
     × (RefusesIn (family all_handles child_job (child_of 1 Created [])) (process_start 7 9 77) (outcome.Answered status.InvalidArgs))
-    × (RefusesIn (family ((7, entry_of kind.Process 5 WRITE) ∷ (8, event_with TRANSFER) ∷ []) child_job (child_of 1 Created [])) (process_start 7 8 77) (outcome.Answered status.InvalidArgs))
+    × (RefusesIn (family ((7, entry_of kind.Process 5 WRITE) ∷ (8, event_with TRANSFER) ∷ []) child_job (child_of 1 Created [])) (process_start 7 8 77)
+    (outcome.Answered status.InvalidArgs))
     × (PassesIn (family all_handles child_job (child_of 1 Created [])) (process_start 7 8 77))
     -- The state comes first.
     × (RefusesIn (family all_handles child_job (child_of 1 Ready [])) (process_start 7 9 77) (outcome.Answered status.BadState))
@@ -122,7 +133,8 @@ started = after created (turn_in name.ProcessStart (starting 8) created (Values 
 
 rows_of_process_start_2 :
     -- The status is OK, and the register of the handle becomes 0.
-    (told (turn_in name.ProcessStart (starting 8) created (Values (30 ∷ []))) ≡ Some (item.Call 2 name.ProcessStart (outcome.Answered status.Ok), 0 ∷ 0 ∷ 9 ∷ 0 ∷ 0 ∷ 0 ∷ []))
+    (told (turn_in name.ProcessStart (starting 8) created (Values (30 ∷ [])))
+    ≡ Some (item.Call 2 name.ProcessStart (outcome.Answered status.Ok), 0 ∷ 0 ∷ 9 ∷ 0 ∷ 0 ∷ 0 ∷ []))
     -- The process is ready, has the value of the handle in register 0, and the word in register 1.
     × (state_of started 5 ≡ Some Ready)
     × (registers_of started 5 ≡ 30 ∷ 77 ∷ 0 ∷ 0 ∷ 0 ∷ 0 ∷ [])
@@ -132,7 +144,8 @@ rows_of_process_start_2 :
     -- Refused, the handle is gone too.
     × (entry_at (after created (turn_in name.ProcessStart (site (process_start 11 8 77) (1 ∷ []) (0 ∷ [])) created Refused)) 2 8 ≡ None)
     -- It may want memory; then the process isn't started.
-    × (told (turn_in name.ProcessStart (starting 8) created WantsMemory) ≡ Some (item.Call 2 name.ProcessStart (outcome.Answered status.NoMemory), 4 ∷ 0 ∷ 9 ∷ 0 ∷ 0 ∷ 0 ∷ []))
+    × (told (turn_in name.ProcessStart (starting 8) created WantsMemory)
+    ≡ Some (item.Call 2 name.ProcessStart (outcome.Answered status.NoMemory), 4 ∷ 0 ∷ 9 ∷ 0 ∷ 0 ∷ 0 ∷ []))
     × (state_of (after created (turn_in name.ProcessStart (starting 8) created WantsMemory)) 5 ≡ Some Created)
 unfolding computing
 rows_of_process_start_2 = (refl, refl, refl, refl, refl, refl, refl, refl)
@@ -153,7 +166,8 @@ rows_of_task_kill = (refl, refl, refl, refl)
 
 -- process 5 waits for the event, and has a handle to it
 abbrev waiting_child : World
-waiting_child = record (family all_handles child_job (child_of 0 (Blocked (SignalOf 3 8) (0 ∷ 1 ∷ [])) ((30, event_with FIRST_RIGHTS) ∷ []))) { blocked = 5 ∷ [] }
+waiting_child =
+    record (family all_handles child_job (child_of 0 (Blocked (SignalOf 3 8) (0 ∷ 1 ∷ [])) ((30, event_with FIRST_RIGHTS) ∷ []))) { blocked = 5 ∷ [] }
 
 -- the world after a kill by the handle h
 abbrev killed_by : ℕ → World → World
@@ -177,12 +191,14 @@ rows_of_task_kill_2 :
     -- What is over keeps its code.
     × (state_of (killed_by 7 (family all_handles child_job (child_of 0 (Ended (negsuc 0)) []))) 5 ≡ Some (Ended (negsuc 0)))
     -- The job above all ends everything, its caller too, and nothing is left.
-    × (told (turn_in name.TaskKill (killing 10) waiting_child (Values [])) ≡ Some (item.Call 2 name.TaskKill (outcome.Ended (negsuc 1023)), 9 ∷ 7 ∷ 9 ∷ 0 ∷ 0 ∷ 0 ∷ []))
+    × (told (turn_in name.TaskKill (killing 10) waiting_child (Values []))
+    ≡ Some (item.Call 2 name.TaskKill (outcome.Ended (negsuc 1023)), 9 ∷ 7 ∷ 9 ∷ 0 ∷ 0 ∷ 0 ∷ []))
     × (state_of (killed_by 10 waiting_child) 2 ≡ Some (Ended (negsuc 1023)))
     × (state_of (killed_by 10 waiting_child) 5 ≡ Some (Ended (negsuc 1023)))
     × ((killed_by 10 waiting_child).objects ≡ [])
     -- A process that kills itself ends alone.
-    × (told (turn_in name.TaskKill (killing 11) created (Values [])) ≡ Some (item.Call 2 name.TaskKill (outcome.Ended (negsuc 1023)), 9 ∷ 7 ∷ 9 ∷ 0 ∷ 0 ∷ 0 ∷ []))
+    × (told (turn_in name.TaskKill (killing 11) created (Values []))
+    ≡ Some (item.Call 2 name.TaskKill (outcome.Ended (negsuc 1023)), 9 ∷ 7 ∷ 9 ∷ 0 ∷ 0 ∷ 0 ∷ []))
     × (state_of (killed_by 11 waiting_child) 5 ≡ Some (Blocked (SignalOf 3 8) (0 ∷ 1 ∷ [])))
 unfolding computing
 rows_of_task_kill_2 = (refl, refl, refl, refl, refl, refl, refl, refl, refl, refl, refl, refl, refl, refl, refl, refl, refl)
@@ -223,7 +239,8 @@ set_in = λ j m c a w. after w (turn_in name.JobSetPolicy (site (job_set_policy 
 rows_of_job_set_policy :
     (RefusesIn (childless child_job) (job_set_policy 6 ABSOLUTE EVENTS DENY) (outcome.Answered status.BadHandle))
     × (RefusesIn (childless child_job) (job_set_policy 8 ABSOLUTE EVENTS DENY) (outcome.Answered status.WrongType))
-    × (RefusesIn (family ((9, entry_of kind.Job 4 DESTROY) ∷ []) child_job (child_of 0 (Ended (negsuc 0)) [])) (job_set_policy 9 ABSOLUTE EVENTS DENY) (outcome.Answered status.AccessDenied))
+    × (RefusesIn (family ((9, entry_of kind.Job 4 DESTROY) ∷ []) child_job (child_of 0 (Ended (negsuc 0)) [])) (job_set_policy 9 ABSOLUTE EVENTS DENY)
+    (outcome.Answered status.AccessDenied))
     × (PassesIn (family ((9, entry_of kind.Job 4 SET_POLICY) ∷ []) child_job (child_of 0 (Ended (negsuc 0)) [])) (job_set_policy 9 ABSOLUTE EVENTS DENY))
     -- Unknown numbers of a mode, a condition and an action, which come before the state of the job.
     × (RefusesIn created (job_set_policy 9 2 EVENTS DENY) (outcome.Answered status.InvalidArgs))
@@ -251,6 +268,7 @@ rows_of_job_set_policy_2 :
     × (body_of (set_in 9 RELATIVE ANY_NEW ALLOW (childless denying)) 4
     ≡ Some (JobBody 1 2 ((3, action.Allow) ∷ (4, action.Deny) ∷ (6, action.Allow) ∷ (7, action.Allow) ∷ []) false))
     -- A conflict sets nothing.
-    × (body_of (after (childless denying) (turn_in name.JobSetPolicy (site (job_set_policy 9 ABSOLUTE ANY_NEW ALLOW) [] (0 ∷ [])) (childless denying) Refused)) 4 ≡ Some denying)
+    × (body_of (after (childless denying) (turn_in name.JobSetPolicy (site (job_set_policy 9 ABSOLUTE ANY_NEW ALLOW) [] (0 ∷ [])) (childless denying) Refused))
+    4 ≡ Some denying)
 unfolding computing
 rows_of_job_set_policy_2 = (refl, refl, refl, refl)

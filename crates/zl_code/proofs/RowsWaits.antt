@@ -1,5 +1,7 @@
 -- Each cause of the calls that wait for signals, by computation in small worlds.
-use Rattle.zl_code.proofs.Common.{◌≡◌, ℕ, ◌^◌, ◌-◌, ◌+◌, List, [], ◌∷◌, map, refl, Some, None, false, READ, SIGNALED, close, signal, Map, World, Object, ChannelEnd, EventBody, PortBody, JobBody, ProcessBody, Ready, Blocked, SignalOf, body_of, Refused, WantsMemory, Values, Packet}
+use Rattle.zl_code.proofs.Common.{◌≡◌, ℕ, ◌^◌, ◌-◌, ◌+◌, List, [], ◌∷◌, map, refl, Some, None, false, READ, SIGNALED, close, signal, Map, World, Object}
+use Rattle.zl_code.proofs.Common.{ChannelEnd, EventBody, PortBody, JobBody, ProcessBody, Ready, Blocked, SignalOf, body_of, Refused, WantsMemory, Values}
+use Rattle.zl_code.proofs.Common.{Packet}
 use Rattle.zl_rights.specs.Numbers.{SIGNAL, WAIT, WRITE, PEER_CLOSED}
 use Rattle.zl_rights.specs.declared.kind.Kind.TheVariants as kind
 use Rattle.zl_rights.specs.declared.status.Status.TheVariants as status
@@ -11,7 +13,8 @@ use Rattle.zl_code.specs.CallTable.{wait_one, wait_poll, wait_async, port_wait}
 use Rattle.zl_code.specs.Request.{Site, site}
 use Rattle.zl_code.specs.Waiting.{packets_in}
 use Rattle.zl_code.proofs.Running.{computing}
-use Rattle.zl_code.proofs.RowsWords.{Refuses, Passes, world_of, process_of, entry_of, event_with, FIRST_RIGHTS, told, item_of, after, state_of, registers_of, turn_of}
+use Rattle.zl_code.proofs.RowsWords.{Refuses, Passes, world_of, process_of, entry_of, event_with, FIRST_RIGHTS, told, item_of, after, state_of, registers_of}
+use Rattle.zl_code.proofs.RowsWords.{turn_of}
 
 -- ---- the words of the rows
 

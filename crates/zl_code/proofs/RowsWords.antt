@@ -1,5 +1,6 @@
 -- Small worlds for worked examples, and what is told of them.
-use Rattle.zl_code.proofs.Common.{◌≡◌, refusal, Request, Site, Choice, ℕ, zero, suc, List, [], ◌∷◌, ◌++◌, take, replicate, Option, Some, None, true, false, rights_of, Map, get, World, Process, State, Ready, EventBody, JobBody, ProcessBody, Library}
+use Rattle.zl_code.proofs.Common.{◌≡◌, refusal, Request, Site, Choice, ℕ, zero, suc, List, [], ◌∷◌, ◌++◌, take, replicate, Option, Some, None, true, false}
+use Rattle.zl_code.proofs.Common.{rights_of, Map, get, World, Process, State, Ready, EventBody, JobBody, ProcessBody, Library}
 use Rattle.zl_rights.specs.declared.kind.Kind.{Kind}
 use Rattle.zl_rights.specs.declared.kind.Kind.TheVariants as kind
 use Rattle.zl_rights.specs.declared.policy.Action.{Action}

@@ -1,5 +1,9 @@
 -- What steps keep, along runs and histories from a boot world.
-use Rattle.zl_code.proofs.Common.{on_object, ◌≡◌, ◌<◌, arith, inl, inr, ℕ, false, ◌∙◌, All-nil, HasPeer, IsSoundWait, JobBody, with_object, ◌==◌, List, [], ◌∷◌, refl, subst, IsTrue, Option, Some, None, is_some, list_all, flat_map, cases_Bool, eqb-true, false≢true, none-some, same_Some, within, get, World, Object, is_process, queue_of, Library, Step, pid_of, single, IsLegalHistory, Boots, IsBoot, boot_effect, boot_fault, may_boot, origin, HasGivenKoids, has_default_rights, HandlesAreSound, HandlesAreNamed, raisable, IsSound, KeepsProcesses, Runs}
+use Rattle.zl_code.proofs.Common.{on_object, ◌≡◌, ◌<◌, arith, inl, inr, ℕ, false, ◌∙◌, All-nil, HasPeer, IsSoundWait, JobBody, with_object, ◌==◌, List, [], ◌∷◌}
+use Rattle.zl_code.proofs.Common.{refl, subst, IsTrue, Option, Some, None, is_some, list_all, flat_map, cases_Bool, eqb-true, false≢true, none-some, same_Some}
+use Rattle.zl_code.proofs.Common.{within, get, World, Object, is_process, queue_of, Library, Step, pid_of, single, IsLegalHistory, Boots, IsBoot, boot_effect}
+use Rattle.zl_code.proofs.Common.{boot_fault, may_boot, origin, HasGivenKoids, has_default_rights, HandlesAreSound, HandlesAreNamed, raisable, IsSound}
+use Rattle.zl_code.proofs.Common.{KeepsProcesses, Runs}
 use Rattle.zl_code.specs.declared.boot.Statement.{Statement}
 use Rattle.zl_code.specs.declared.history.TraceItem.{TraceItem}
 use Rattle.zl_code.specs.Koids.{KeepsKoids}
@@ -10,7 +14,8 @@ use Rattle.zl_code.proofs.StepChanges.{NoneKilled, is_killed, boot_kills_none, s
 use Rattle.zl_code.proofs.StepsBeside.{ActsAndSettles}
 use Rattle.zl_code.proofs.HandlesKept.{sound_change, sound_settled}
 use Rattle.zl_code.proofs.NamesKept.{QueueNames, no_queue, named_change, named_settled}
-use Rattle.zl_code.proofs.NotReused.{Keeps, nothing_changed, follows, koids_kept, Keeps-KeepsKoids, given_still, given_change, given_settled, stay_then, processes_kept}
+use Rattle.zl_code.proofs.NotReused.{Keeps, nothing_changed, follows, koids_kept, Keeps-KeepsKoids, given_still, given_change, given_settled, stay_then}
+use Rattle.zl_code.proofs.NotReused.{processes_kept}
 use Rattle.zl_code.specs.declared.boot.Statement.TheVariants as statement
 use Rattle.zl_code.proofs.WaitsKept.{AreLive, live_awake, live_settled, live_without}
 use Rattle.zl_code.proofs.SoundKept.{IsNearlySound, nearly_sound, wholly_sound, none_raised, kept_by_change, kept_by_settling}
@@ -26,7 +31,8 @@ module _ (P : World → Type 0) (keeps : (lib : Library) (w : World) (p : ℕ) (
   throughout lib w [] after s e = s
   throughout lib w (x ∷ items) after s (mid, step, rest) = (s, throughout lib mid items after (keeps lib w (pid_of x) x mid s step) rest)
 
-weaker : (P Q : World → Type 0) → ((w : World) → P w → Q w) → (lib : Library) (w : World) (items : List TraceItem) (after : World) (run : Runs lib w items after)
+weaker : (P Q : World → Type 0) → ((w : World) → P w → Q w)
+    → (lib : Library) (w : World) (items : List TraceItem) (after : World) (run : Runs lib w items after)
     → Throughout P lib w items after run → Throughout Q lib w items after run
 weaker P Q more lib w [] after e s = more w s
 weaker P Q more lib w (x ∷ items) after (mid, step, rest) s = (more w s.0, weaker P Q more lib mid items after rest s.1)
@@ -42,7 +48,8 @@ step_given lib w p x after given step = given_still w after given (koids_kept w 
 pub step_handles_sound : (lib : Library) (w : World) (p : ℕ) (x : TraceItem) (after : World) → HandlesAreSound w → Step lib w p x after → HandlesAreSound after
 step_handles_sound lib w p x after s step = kept w HandlesAreSound (λ u v. sound_change w u v s) sound_settled w after (step_changes lib w p x after step) s
 
-pub step_handles_named : (lib : Library) (w : World) (p : ℕ) (x : TraceItem) (after : World) → HasGivenKoids w → HandlesAreNamed w → Step lib w p x after → HandlesAreNamed after
+pub step_handles_named : (lib : Library) (w : World) (p : ℕ) (x : TraceItem) (after : World) → HasGivenKoids w → HandlesAreNamed w → Step lib w p x after
+    → HandlesAreNamed after
 step_handles_named lib w p x after given s step =
     (kept w (λ u. HasGivenKoids u × HandlesAreNamed u)
     (λ u v c both. (given_change w u v c both.0, named_change w u v s both.0 c both.1))
@@ -61,7 +68,8 @@ step_sound lib w p x after s step = wholly_sound after live (nearly_kept w after
 
 -- what isn't held has gone, and nothing has woken yet
 pub settled_sound : (lib : Library) (w : World) (p : ℕ) (x : TraceItem) (after : World) → IsSound w → ActsAndSettles lib w p x after → IsSound after
-settled_sound lib w p x after s step = wholly_sound after (live_settled step.acted after step.settles) (nearly_kept w after (settling_changes lib w p x after step) s)
+settled_sound lib w p x after s step =
+    wholly_sound after (live_settled step.acted after step.settles) (nearly_kept w after (settling_changes lib w p x after step) s)
 
 -- a boot registers no wait
 no_wait_booted : (lib : Library) (w : World) (s : Statement) (vs : List ℕ) → (boot_effect lib w s vs).waits ≡ w.waits
@@ -79,18 +87,21 @@ pub record IsBooting (w : World) : Type 0 where
   pub alive : NoneKilled w
   pub unwatched : w.waits ≡ []
 
-pub still_booting : (lib : Library) (w : World) (s : Statement) (vs : List ℕ) → boot_fault lib w s ≡ None → IsTrue (may_boot lib w s vs) → IsBooting w → IsBooting (boot_effect lib w s vs)
+pub still_booting : (lib : Library) (w : World) (s : Statement) (vs : List ℕ) → boot_fault lib w s ≡ None → IsTrue (may_boot lib w s vs) → IsBooting w
+    → IsBooting (boot_effect lib w s vs)
 still_booting lib w s vs fine may b =
     let none : (boot_effect lib w s vs).waits ≡ [] = no_wait_booted lib w s vs ∙ b.unwatched in
     record {
-      sound = wholly_sound (boot_effect lib w s vs) (live_without (boot_effect lib w s vs) none) (nearly_kept w (boot_effect lib w s vs) (boot_changes lib w s vs b.sound.objects b.alive fine may) b.sound);
+      sound = wholly_sound (boot_effect lib w s vs) (live_without (boot_effect lib w s vs) none)
+          (nearly_kept w (boot_effect lib w s vs) (boot_changes lib w s vs b.sound.objects b.alive fine may) b.sound);
       alive = boot_kills_none lib w s vs b.alive;
       unwatched = none;
     }
 
 boots_booting : (lib : Library) (w : World) (statements : List Statement) (after : World) → IsBooting w → Boots lib w statements after → IsBooting after
 boots_booting lib w [] after b e = rw e b
-boots_booting lib w (s ∷ statements) after b (vs, fine, may, rest) = boots_booting lib (boot_effect lib w s vs) statements after (still_booting lib w s vs fine may b) rest
+boots_booting lib w (s ∷ statements) after b (vs, fine, may, rest) =
+    boots_booting lib (boot_effect lib w s vs) statements after (still_booting lib w s vs fine may b) rest
 
 -- the root job is alone in the world where a boot begins
 root_alone : (P : ℕ → Object → Type 0) → P 1 (record { body = JobBody 0 1 [] false; raised = 0 }) → (k : ℕ) (o : Object) → get origin.objects k ≡ Some o → P k o
@@ -119,7 +130,8 @@ origin_is_sound = record {
   tables = λ p q there. absurd (none-some q there);
   living = λ p q there. absurd (none-some q there);
   blocked = λ p. refl;
-  tree = root_alone (λ k o. StandsBelow origin.objects k o.body) (record { later = omega arith; shallow = omega arith; policy_known = refl; above = λ e. inl (refl, refl) });
+  tree = root_alone (λ k o. StandsBelow origin.objects k o.body)
+      (record { later = omega arith; shallow = omega arith; policy_known = refl; above = λ e. inl (refl, refl) });
   peers = root_alone (λ k o. HasPeer origin.objects 2 o.body) tt;
   waits = All-nil (IsSoundWait origin);
   raised = root_alone (λ k o. IsTrue (within o.raised (raisable o.body))) (none_raised (raisable (JobBody 0 1 [] false)));
@@ -134,22 +146,27 @@ origin_booting = record { sound = origin_is_sound; alive = root_alone (λ k o. i
 
 pub boot_sound : (lib : Library) (statements : List Statement) (w : World) → IsBoot lib statements w → IsSound w
 boot_sound lib statements w boot =
-    wholly_sound w (live_settled boot.made w boot.settles) (kept_by_settling boot.made w boot.settles (nearly_sound boot.made (boots_booting lib origin statements boot.made origin_booting boot.boots).sound))
+    wholly_sound w (live_settled boot.made w boot.settles)
+    (kept_by_settling boot.made w boot.settles (nearly_sound boot.made (boots_booting lib origin statements boot.made origin_booting boot.boots).sound))
 
 -- ---- runs and histories from a boot world
 
-pub run_sound : (lib : Library) (statements : List Statement) (boot after : World) (items : List TraceItem) → IsBoot lib statements boot → Runs lib boot items after → IsSound after
+pub run_sound : (lib : Library) (statements : List Statement) (boot after : World) (items : List TraceItem) → IsBoot lib statements boot
+    → Runs lib boot items after → IsSound after
 run_sound lib statements boot after items is_boot run = run_keeps IsSound step_sound lib boot items after (boot_sound lib statements boot is_boot) run
 
 -- what every sound world has is true of every world of a legal history
-pub history_keeps : (Q : World → Type 0) → ((w : World) → IsSound w → Q w) → (lib : Library) (statements : List Statement) (boot after : World) (history : List TraceItem) → IsBoot lib statements boot
+pub history_keeps : (Q : World → Type 0) → ((w : World) → IsSound w → Q w)
+    → (lib : Library) (statements : List Statement) (boot after : World) (history : List TraceItem) → IsBoot lib statements boot
     → (legal : IsLegalHistory lib boot history after) → Throughout Q lib boot (flat_map single history) after legal.run × Q after
 history_keeps Q of_sound lib statements boot after history is_boot legal = (
-  weaker IsSound Q of_sound lib boot (flat_map single history) after legal.run (throughout IsSound step_sound lib boot (flat_map single history) after (boot_sound lib statements boot is_boot) legal.run),
+  weaker IsSound Q of_sound lib boot (flat_map single history) after legal.run
+      (throughout IsSound step_sound lib boot (flat_map single history) after (boot_sound lib statements boot is_boot) legal.run),
   of_sound after (run_sound lib statements boot after (flat_map single history) is_boot legal.run),
 )
 
-pub runs_keep_koids : (lib : Library) (statements : List Statement) (boot w after : World) (items more : List TraceItem) → IsBoot lib statements boot → Runs lib boot items w → Runs lib w more after → KeepsKoids w after
+pub runs_keep_koids : (lib : Library) (statements : List Statement) (boot w after : World) (items more : List TraceItem) → IsBoot lib statements boot
+    → Runs lib boot items w → Runs lib w more after → KeepsKoids w after
 runs_keep_koids lib statements boot w after items more is_boot first second =
     Keeps-KeepsKoids w after (run_sound lib statements boot w items is_boot first).objects
     (run_keeps (Keeps w) (λ l u p x v k step. follows w u v k (koids_kept u u v (step_changes l u p x v step))) lib w more after (nothing_changed w) second)
@@ -157,7 +174,8 @@ runs_keep_koids lib statements boot w after items more is_boot first second =
 pub step_keeps_processes : (lib : Library) (w : World) (p : ℕ) (x : TraceItem) (after : World) → IsSound w → Step lib w p x after → KeepsProcesses w after
 step_keeps_processes lib w p x after s step = processes_kept w w after s (step_changes lib w p x after step)
 
-pub runs_keep_processes : (lib : Library) (statements : List Statement) (boot w after : World) (items more : List TraceItem) → IsBoot lib statements boot → Runs lib boot items w → Runs lib w more after → KeepsProcesses w after
+pub runs_keep_processes : (lib : Library) (statements : List Statement) (boot w after : World) (items more : List TraceItem) → IsBoot lib statements boot
+    → Runs lib boot items w → Runs lib w more after → KeepsProcesses w after
 runs_keep_processes lib statements boot w after items more is_boot first second =
     (run_keeps (λ u. IsSound u × KeepsProcesses w u)
     (λ l u p x v both step. (step_sound l u p x v both.0 step, stay_then w u v both.1 (step_keeps_processes l u p x v both.0 step)))

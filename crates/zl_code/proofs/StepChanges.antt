@@ -1,5 +1,14 @@
 -- Which changes a step is made of: a call with its answer, a statement of a boot, and waking.
-use Rattle.zl_code.proofs.Common.{◌||◌, on_object, update, not, queue_of, body_of, ◌+◌, ◌≡◌, ◌<◌, arith, ℕ, Bool, true, false, ChannelEnd, JobBody, List, [], ◌∷◌, refl, ap, sym, IsTrue, Option, Some, None, eq-eqb, if◌then◌else◌, is_some, ne_eqb, get, put, World, Process, State, Ready, Blocked, Object, Body, EventBody, PortBody, ProcessBody, runs, wakes, fired, Library, Site, body_in, refusal, with_object, with_effect, gives_ok, gives_refused, taken_handles, may_choose, cpu_answered, replied, taken, ok_outcome, Choice, Refused, WantsMemory, Values, Next, Moves, AtCall, IsStuck, next_for, Acts, Step, boot_fault, boot_effect, is_job_body, IsSound, subst, ◌∙◌, All, and_parts, nat_tests, All-nil, Map, has_key, on_process, insert_all, process_with, has_default_rights, HasGivenKoids, ◌++◌, may_boot, update, meets, SignalOf, PacketAt, Packet, get-put, is_job, handle_given, handles_given, process_with_all, with_process, All-cons, active, packet_values, woken, made_ready, with_body, woken_by_first, woken_by, woken_at_port, woken_from, woken_if_there, after_refusal, after_ok, CallBy, created_process, started_with, fold, list_all, true≢false, IsSoundWait, none-some, slice_index_or, cases_Bool, inl, inr, eqb-true, ◌==◌}
+use Rattle.zl_code.proofs.Common.{◌||◌, on_object, update, not, queue_of, body_of, ◌+◌, ◌≡◌, ◌<◌, arith, ℕ, Bool, true, false, ChannelEnd, JobBody, List, []}
+use Rattle.zl_code.proofs.Common.{◌∷◌, refl, ap, sym, IsTrue, Option, Some, None, eq-eqb, if◌then◌else◌, is_some, ne_eqb, get, put, World, Process, State}
+use Rattle.zl_code.proofs.Common.{Ready, Blocked, Object, Body, EventBody, PortBody, ProcessBody, runs, wakes, fired, Library, Site, body_in, refusal}
+use Rattle.zl_code.proofs.Common.{with_object, with_effect, gives_ok, gives_refused, taken_handles, may_choose, cpu_answered, replied, taken, ok_outcome}
+use Rattle.zl_code.proofs.Common.{Choice, Refused, WantsMemory, Values, Next, Moves, AtCall, IsStuck, next_for, Acts, Step, boot_fault, boot_effect}
+use Rattle.zl_code.proofs.Common.{is_job_body, IsSound, subst, ◌∙◌, All, and_parts, nat_tests, All-nil, Map, has_key, on_process, insert_all, process_with}
+use Rattle.zl_code.proofs.Common.{has_default_rights, HasGivenKoids, ◌++◌, may_boot, update, meets, SignalOf, PacketAt, Packet, get-put, is_job, handle_given}
+use Rattle.zl_code.proofs.Common.{handles_given, process_with_all, with_process, All-cons, active, packet_values, woken, made_ready, with_body, woken_by_first}
+use Rattle.zl_code.proofs.Common.{woken_by, woken_at_port, woken_from, woken_if_there, after_refusal, after_ok, CallBy, created_process, started_with, fold}
+use Rattle.zl_code.proofs.Common.{list_all, true≢false, IsSoundWait, none-some, slice_index_or, cases_Bool, inl, inr, eqb-true, ◌==◌}
 use Rattle.std.specs.Option.{option_to_list}
 use Rattle.zl_rights.specs.declared.entry.Entry.{Entry}
 use Rattle.zl_rights.specs.declared.status.Status.{Status}
@@ -24,7 +33,8 @@ use Rattle.zl_code.proofs.Killing.{new_job_stands}
 use Rattle.zl_code.proofs.CanStart.{none_first, CanStart, can_start, handles_at_most, started_with_all, started_may_get}
 use Rattle.zl_rights.specs.declared.policy.Action.{Action}
 use Rattle.zl_code.proofs.MapKept.{changed, changed_update, each_changed, each_put}
-use Rattle.zl_code.proofs.Changes.{AreUnmade, computes, Changes, stays, changes, settles, join, one, process_changes, process_ends, process_wakes, process_blocks, process_is_made, object_changes, policy_changes, object_is_made, ends_are_made, packet_goes, waits_fire}
+use Rattle.zl_code.proofs.Changes.{AreUnmade, computes, Changes, stays, changes, settles, join, one, process_changes, process_ends, process_wakes}
+use Rattle.zl_code.proofs.Changes.{process_blocks, process_is_made, object_changes, policy_changes, object_is_made, ends_are_made, packet_goes, waits_fire}
 use Rattle.zl_code.proofs.Entering.{IsFine, all_enter, all_leave, left_behind}
 use Rattle.zl_code.proofs.CallLaws.{laws}
 use Rattle.zl_code.proofs.StepsBeside.{ActsAndSettles}
@@ -34,28 +44,33 @@ use Rattle.zl_code.proofs.StepsBeside.{ActsAndSettles}
 module _ (lib : Library) (w : World) (p : ℕ) (q : Process) (there : get w.processes p ≡ Some q) (ready : q.state ≡ Ready) where
   reply_changes : (u : World) (s : Site) (answer : Status) (values : List ℕ) → Changes w u (replied u p s answer values)
   unfolding replied
-  reply_changes u s answer values = one w u _ (process_changes w u p (λ x. record x { cpu = cpu_answered s answer values x.cpu }) (λ x at. changed x _ refl refl (computes _ refl)) (λ x. refl))
+  reply_changes u s answer values = one w u _
+      (process_changes w u p (λ x. record x { cpu = cpu_answered s answer values x.cpu }) (λ x at. changed x _ refl refl (computes _ refl)) (λ x. refl))
 
   waiting_changes : (ds : List ℕ) (awaited : Option Awaited) → Changes w w (waiting w p ds awaited)
   waiting_changes ds None = stays w
   waiting_changes ds (Some awaited) = one w w _ (process_blocks w p q ds awaited there ready)
 
   refused_changes : (s : Site) (o : Outcome) → Changes w w (after_refusal w p s o)
-  refused_changes s (outcome.Answered answer) = join w w (taken w p s) _ (all_leave w w p (taken_handles s.request)) (reply_changes (taken w p s) s answer (gives_refused w p s.request answer))
+  refused_changes s (outcome.Answered answer) =
+      join w w (taken w p s) _ (all_leave w w p (taken_handles s.request)) (reply_changes (taken w p s) s answer (gives_refused w p s.request answer))
   refused_changes s (outcome.Ended code) = one w w _ (process_ends w w p code)
   refused_changes s outcome.Blocked = stays w
 
-  done_changes : (s : Site) (vs : List ℕ) → refusal lib w p s.request ≡ None → IsTrue (may_choose w (taken w p s) p s.request vs) → Changes w w (with_effect lib w (taken w p s) p s.request vs)
+  done_changes : (s : Site) (vs : List ℕ) → refusal lib w p s.request ≡ None → IsTrue (may_choose w (taken w p s) p s.request vs)
+      → Changes w w (with_effect lib w (taken w p s) p s.request vs)
   done_changes s vs passes gets =
       let behind = left_behind w p q (taken_handles s.request) there in
       join w w (taken w p s) _ (all_leave w w p (taken_handles s.request)) ((laws lib w p q there ready s.request behind.0 behind.1 passes).changes vs gets)
 
-  ok_changes : (s : Site) (vs : List ℕ) (o : Outcome) → refusal lib w p s.request ≡ None → IsTrue (may_choose w (taken w p s) p s.request vs) → Changes w w (after_ok lib w p s vs o)
+  ok_changes : (s : Site) (vs : List ℕ) (o : Outcome) → refusal lib w p s.request ≡ None → IsTrue (may_choose w (taken w p s) p s.request vs)
+      → Changes w w (after_ok lib w p s vs o)
   ok_changes s vs (outcome.Answered answer) passes gets = join w w _ _ (done_changes s vs passes gets) (reply_changes _ s status.Ok (gives_ok w p s.request vs))
   ok_changes s vs (outcome.Ended code) passes gets = join w w _ _ (done_changes s vs passes gets) (one w _ _ (process_ends w _ p code))
   ok_changes s vs outcome.Blocked passes gets = waiting_changes s.destinations (awaited_by w p s.request)
 
-  call_changes : (s : Site) (choice : Choice) (r : Option Outcome) (answer : Outcome) (w2 : World) → refusal lib w p s.request ≡ r → CallBy lib w p s choice r answer w2 → Changes w w w2
+  call_changes : (s : Site) (choice : Choice) (r : Option Outcome) (answer : Outcome) (w2 : World) → refusal lib w p s.request ≡ r
+      → CallBy lib w p s choice r answer w2 → Changes w w w2
   call_changes s Refused None answer w2 is c = absurd c
   call_changes s Refused (Some o) answer w2 is c = rw c.1 (refused_changes s o)
   call_changes s WantsMemory None answer w2 is c = rw c.2 (refused_changes s (outcome.Answered status.NoMemory))
@@ -64,17 +79,20 @@ module _ (lib : Library) (w : World) (p : ℕ) (q : Process) (there : get w.proc
   call_changes s (Values vs) (Some o) answer w2 is c = absurd c
 
   act_changes : (n : Next) (x : TraceItem) (w2 : World) → Acts lib w p n x w2 → Changes w w w2
-  act_changes (Moves c) x w2 a = rw a.1 (one w w _ (process_changes w w p (λ x. record x { cpu = c }) (λ x at. changed x _ refl refl (computes c refl)) (λ x. refl)))
+  act_changes (Moves c) x w2 a =
+      rw a.1 (one w w _ (process_changes w w p (λ x. record x { cpu = c }) (λ x at. changed x _ refl refl (computes c refl)) (λ x. refl)))
   act_changes (AtCall call s) x w2 (o, e, c) = call_changes s c.0 (refusal lib w p s.request) o w2 refl c.1
   act_changes IsStuck x w2 a = rw a.1 (one w w _ (process_ends w w p _))
 
 -- ---- waking
 
 module _ (start w : World) (p : ℕ) (q : Process) (there : get w.processes p ≡ Some q) (running : IsTrue (runs q.state)) where
-  woken_by_packets : (k : ℕ) (ds : List ℕ) (o : Object) (packets : List Packet) → get w.objects k ≡ Some o → o.body ≡ PortBody packets → Changes start w (woken_by_first w p q k ds o packets)
+  woken_by_packets : (k : ℕ) (ds : List ℕ) (o : Object) (packets : List Packet) → get w.objects k ≡ Some o → o.body ≡ PortBody packets
+      → Changes start w (woken_by_first w p q k ds o packets)
   woken_by_packets k ds o [] at port = stays w
   woken_by_packets k ds o (x ∷ rest) at port =
-      changes w (with_body w k o (PortBody rest)) _ (packet_goes start w k o (x ∷ rest) rest at port) (one start _ _ (process_wakes start (with_body w k o (PortBody rest)) p q ds (0 ∷ packet_values x) there running))
+      changes w (with_body w k o (PortBody rest)) _ (packet_goes start w k o (x ∷ rest) rest at port)
+      (one start _ _ (process_wakes start (with_body w k o (PortBody rest)) p q ds (0 ∷ packet_values x) there running))
 
   woken_by_body : (k : ℕ) (ds : List ℕ) (o : Object) (b : Body) → get w.objects k ≡ Some o → o.body ≡ b → Changes start w (woken_by w p q k ds o b)
   woken_by_body k ds o (PortBody packets) at port = woken_by_packets k ds o packets at port
@@ -89,10 +107,11 @@ unfolding woken
 woken_changes start w p = by_process (get w.processes p) refl
   where
     by_state : (q : Process) (s : State) → get w.processes p ≡ Some q → q.state ≡ s → Changes start w (woken_from w p q s)
-    by_state q (Blocked (SignalOf k mask) ds) there is = elim (meets (active w k) mask) as (λ b. Changes start w (if b then made_ready w p q ds (0 ∷ active w k ∷ []) else w)) [
-      | true ↦ one start w _ (process_wakes start w p q ds (0 ∷ active w k ∷ []) there (ap runs is))
-      | false ↦ stays w
-    ]
+    by_state q (Blocked (SignalOf k mask) ds) there is =
+        elim (meets (active w k) mask) as (λ b. Changes start w (if b then made_ready w p q ds (0 ∷ active w k ∷ []) else w)) [
+          | true ↦ one start w _ (process_wakes start w p q ds (0 ∷ active w k ∷ []) there (ap runs is))
+          | false ↦ stays w
+        ]
     by_state q (Blocked (PacketAt k) ds) there is = woken_by_object start w p q there (ap runs is) k ds (get w.objects k) refl
     by_state q _ there is = stays w
 
@@ -132,22 +151,28 @@ update_put [] k x f = rw (eq-eqb k k refl) refl
 update_put (e ∷ m) k x f = grind (arith, nat_tests, update_put m k x f)
 
 -- a process that was just made gets its handles
-made_with_all : (u : World) (k : ℕ) (q : Process) (es : List Entry) (vs : List ℕ) → insert_all (with_process u k q) k es vs ≡ with_process u k (process_with_all es vs q)
+made_with_all : (u : World) (k : ℕ) (q : Process) (es : List Entry) (vs : List ℕ)
+    → insert_all (with_process u k q) k es vs ≡ with_process u k (process_with_all es vs q)
 unfolding insert_all on_process
 made_with_all u k q [] vs = refl
 made_with_all u k q (e ∷ es) [] = refl
 made_with_all u k q (e ∷ es) (v ∷ vs) =
-    ap (λ (m : Map Process). insert_all (record u { processes = m }) k es vs) (update_put u.processes k q (process_with v e)) ∙ made_with_all u k (process_with v e q) es vs
+    ap (λ (m : Map Process). insert_all (record u { processes = m }) k es vs) (update_put u.processes k q (process_with v e))
+    ∙ made_with_all u k (process_with v e q) es vs
 
 -- the handles that a statement gives name objects that stay beside a new one
-given_are_fine : (w : World) (made : Map Object) (gs : List Grant) → ((k : ℕ) (o : Object) → get w.objects k ≡ Some o → get made k ≡ Some o) → IsTrue (list_all has_default_rights (handles_given w.objects gs)) → All (IsFine w made) (handles_given w.objects gs)
+given_are_fine : (w : World) (made : Map Object) (gs : List Grant) → ((k : ℕ) (o : Object) → get w.objects k ≡ Some o → get made k ≡ Some o)
+    → IsTrue (list_all has_default_rights (handles_given w.objects gs)) → All (IsFine w made) (handles_given w.objects gs)
 given_are_fine w made [] stay rights = All-nil (IsFine w made)
 given_are_fine w made (g ∷ gs) stay rights = by_object (get w.objects g.koid) refl rights (given_are_fine w made gs stay)
   where
-    by_object : (o : Option Object) → get w.objects g.koid ≡ o → IsTrue (list_all has_default_rights (option_to_list (handle_given g (body_in o)) ++ handles_given w.objects gs))
-        → (IsTrue (list_all has_default_rights (handles_given w.objects gs)) → All (IsFine w made) (handles_given w.objects gs)) → All (IsFine w made) (option_to_list (handle_given g (body_in o)) ++ handles_given w.objects gs)
+    by_object : (o : Option Object) → get w.objects g.koid ≡ o
+        → IsTrue (list_all has_default_rights (option_to_list (handle_given g (body_in o)) ++ handles_given w.objects gs))
+        → (IsTrue (list_all has_default_rights (handles_given w.objects gs)) → All (IsFine w made) (handles_given w.objects gs))
+        → All (IsFine w made) (option_to_list (handle_given g (body_in o)) ++ handles_given w.objects gs)
     by_object None is h others = others h
-    by_object (Some o) is h others = All-cons (IsFine w made) _ _ (record { rights = λ s. (and_parts _ _ h).0; names = λ s. (o, stay g.koid o is, refl) }) (others (and_parts _ _ h).1)
+    by_object (Some o) is h others =
+        All-cons (IsFine w made) _ _ (record { rights = λ s. (and_parts _ _ h).0; names = λ s. (o, stay g.koid o is, refl) }) (others (and_parts _ _ h).1)
 
 -- no wait was made by a process that isn't there
 nothing_made : (w : World) (k v : ℕ) → IsSound w → get w.processes k ≡ None → AreUnmade w.waits k v
@@ -172,14 +197,16 @@ NoneKilled w = (k : ℕ) (o : Object) → get w.objects k ≡ Some o → is_kill
 -- a new object that is no killed job leaves it so
 none_killed_beside : (w : World) (b : Body) → is_killed b ≡ false → NoneKilled w → NoneKilled (with_object w b)
 unfolding with_object
-none_killed_beside w b alive none k o there = each_put (λ (x : Object). is_killed x.body ≡ false) w.objects none w.next_koid (record { body = b; raised = 0 }) alive k o there
+none_killed_beside w b alive none k o there =
+    each_put (λ (x : Object). is_killed x.body ≡ false) w.objects none w.next_koid (record { body = b; raised = 0 }) alive k o there
 
 pub boot_kills_none : (lib : Library) (w : World) (s : Statement) (vs : List ℕ) → NoneKilled w → NoneKilled (boot_effect lib w s vs)
 unfolding boot_effect on_object
 boot_kills_none lib w (statement.Process job program word handles) vs none = none_killed_beside w (ProcessBody job) refl none
 boot_kills_none lib w (statement.Job parent) vs none = none_killed_beside w (job_within parent (body_of w parent)) refl none
 boot_kills_none lib w (statement.Policy job condition action) vs none = λ k o there.
-    each_changed (λ j x y. y ≡ policy_changed (setting condition action) x) (λ j y. ⊥) (λ j x. is_killed x.body ≡ false) w.objects (update w.objects job (policy_changed (setting condition action)))
+    each_changed (λ j x y. y ≡ policy_changed (setting condition action) x) (λ j y. ⊥) (λ j x. is_killed x.body ≡ false) w.objects
+    (update w.objects job (policy_changed (setting condition action)))
     (changed_update _ _ w.objects job (policy_changed (setting condition action)) (λ x at. changed x _ refl refl refl))
     (λ j x y is alive. rw is (set_alive x.body alive)) (λ j y none2. absurd none2) none k o there
   where
@@ -189,10 +216,12 @@ boot_kills_none lib w (statement.Policy job condition action) vs none = λ k o t
 boot_kills_none lib w statement.Event vs none = none_killed_beside w EventBody refl none
 boot_kills_none lib w statement.Port vs none = none_killed_beside w (PortBody []) refl none
 boot_kills_none lib w statement.Channel vs none =
-    none_killed_beside (with_object w (ChannelEnd (w.next_koid + 1) [])) (ChannelEnd w.next_koid []) refl (none_killed_beside w (ChannelEnd (w.next_koid + 1) []) refl none)
+    none_killed_beside (with_object w (ChannelEnd (w.next_koid + 1) [])) (ChannelEnd w.next_koid []) refl
+    (none_killed_beside w (ChannelEnd (w.next_koid + 1) []) refl none)
 
 -- nothing lives in the job whose policy a statement sets
-pub no_child_booted : (lib : Library) (w : World) (job : ℕ) (condition : Condition) (action : Action) → boot_fault lib w (statement.Policy job condition action) ≡ None → has_child w job ≡ false
+pub no_child_booted : (lib : Library) (w : World) (job : ℕ) (condition : Condition) (action : Action)
+    → boot_fault lib w (statement.Policy job condition action) ≡ None → has_child w job ≡ false
 unfolding boot_fault
 no_child_booted lib w job condition action fine =
     let first = none_first (not (is_job w job)) cause.Unknown _ fine in
@@ -218,7 +247,8 @@ boot_job_stands lib w parent fine none s =
         by_body (JobBody up depth policy killed) is h2 = sym (ap is_killed is) ∙ none parent o at
         by_body _ is h2 = absurd (true≢false (sym h2))
 
-pub boot_changes : (lib : Library) (w : World) (s : Statement) (vs : List ℕ) → HasGivenKoids w → NoneKilled w → boot_fault lib w s ≡ None → IsTrue (may_boot lib w s vs) → Changes w w (boot_effect lib w s vs)
+pub boot_changes : (lib : Library) (w : World) (s : Statement) (vs : List ℕ) → HasGivenKoids w → NoneKilled w → boot_fault lib w s ≡ None
+    → IsTrue (may_boot lib w s vs) → Changes w w (boot_effect lib w s vs)
 unfolding boot_effect with_object
 boot_changes lib w (statement.Process job program word handles) vs given none fine may =
     changes w made _ (object_is_made w w (ProcessBody job) refl tt (λ s. given.below job (job_is_there (get w.objects job) can.in_job)))
@@ -234,8 +264,11 @@ boot_changes lib w (statement.Process job program word handles) vs given none fi
         lives = record { parent = alive.1; policy = alive.2; there = alive.3 };
       };
     }) refl)
-    (subst (λ (x : World). Changes w begun x) (made_with_all made w.next_koid first es vs ∙ ap (with_process made w.next_koid) (started_with_all es vs vs word (created_process lib program)))
-    (all_enter w begun w.next_koid first es vs (λ s. there) refl (rw (started_may_get es vs vs word (created_process lib program)) may) (λ s. omega (arith, can.few, handles_at_most w.objects handles)) (record { free = λ s v none. nothing_made w w.next_koid v s (no_process s (get w.processes w.next_koid) refl); last = λ s v is. absurd (none-some v is) })
+    (subst (λ (x : World). Changes w begun x)
+    (made_with_all made w.next_koid first es vs ∙ ap (with_process made w.next_koid) (started_with_all es vs vs word (created_process lib program)))
+    (all_enter w begun w.next_koid first es vs (λ s. there) refl (rw (started_may_get es vs vs word (created_process lib program)) may)
+    (λ s. omega (arith, can.few, handles_at_most w.objects handles))
+    (record { free = λ s v none. nothing_made w w.next_koid v s (no_process s (get w.processes w.next_koid) refl); last = λ s v is. absurd (none-some v is) })
     (given_are_fine w made.objects handles (λ k o at. stays k (rw at refl) ∙ at) can.rights))))
   where
     made : World
@@ -265,7 +298,8 @@ boot_changes lib w (statement.Process job program word handles) vs given none fi
 
     -- an object that was there is there beside the new one
     stays : (k : ℕ) → IsTrue (has_key w.objects k) → get made.objects k ≡ get w.objects k
-    stays k old = let below : k < w.next_koid = given.below k old in get-put w.objects w.next_koid new_object k ∙ rw (ne_eqb w.next_koid k (λ e. omega arith)) refl
+    stays k old =
+        let below : k < w.next_koid = given.below k old in get-put w.objects w.next_koid new_object k ∙ rw (ne_eqb w.next_koid k (λ e. omega arith)) refl
 
     -- its job is there beside it, and lives
     alive : (depth : ℕ) × (parent : ℕ) × (policy : Map Action) × (body_in (get made.objects job) ≡ Some (JobBody parent depth policy false))
@@ -282,9 +316,11 @@ boot_changes lib w (statement.Process job program word handles) vs given none fi
         by_object None at h = absurd (true≢false (sym h))
         by_object (Some o) at h = by_body o o.body at refl h
 boot_changes lib w (statement.Job parent) vs given none fine may =
-    one w w _ (object_is_made w w (job_within parent (body_of w parent)) (job_is_quiet parent (body_of w parent)) tt (λ s. boot_job_stands lib w parent fine none s))
+    one w w _
+    (object_is_made w w (job_within parent (body_of w parent)) (job_is_quiet parent (body_of w parent)) tt (λ s. boot_job_stands lib w parent fine none s))
 boot_changes lib w (statement.Policy job condition action) vs given none fine may =
-    one w w _ (object_changes w w job (policy_changed (setting condition action)) (λ o at. policy_changes (setting condition action) refl (λ s. no_child_booted lib w job condition action fine)))
+    one w w _ (object_changes w w job (policy_changed (setting condition action))
+    (λ o at. policy_changes (setting condition action) refl (λ s. no_child_booted lib w job condition action fine)))
 boot_changes lib w statement.Event vs given none fine may = one w w _ (object_is_made w w EventBody refl tt (λ s. tt))
 boot_changes lib w statement.Port vs given none fine may = one w w _ (object_is_made w w (PortBody []) refl tt (λ s. tt))
 boot_changes lib w statement.Channel vs given none fine may = one w w _ (ends_are_made w w w.next_koid refl)

@@ -1,5 +1,8 @@
 -- A step beside registered waits: it is the same, and those waits are left whose handle and port are.
-use Rattle.zl_code.proofs.Common.{◌≡◌, ℕ, Bool, false, ◌&&◌, ◌++◌, List, [], ◌∷◌, refl, ap, sym, subst, ◌∙◌, Option, Some, None, option_map, and_parts, cases_Bool, inl, inr, filter, get, where_key, has_key, World, Process, Ready, Koids, Settles, IsLargestHeld, without_others, process_settled, is_held, is_made_by_handle, same_Some, Library, Site, AtCall, next_for, refusal, get-each, get-where_key-in, get-where_key-out}
+use Rattle.zl_code.proofs.Common.{◌≡◌, ℕ, Bool, false, ◌&&◌, ◌++◌, List, [], ◌∷◌, refl, ap, sym, subst, ◌∙◌, Option, Some, None, option_map, and_parts}
+use Rattle.zl_code.proofs.Common.{cases_Bool, inl, inr, filter, get, where_key, has_key, World, Process, Ready, Koids, Settles, IsLargestHeld, without_others}
+use Rattle.zl_code.proofs.Common.{process_settled, is_held, is_made_by_handle, same_Some, Library, Site, AtCall, next_for, refusal, get-each, get-where_key-in}
+use Rattle.zl_code.proofs.Common.{get-where_key-out}
 use Rattle.zl_rights.specs.World.{Awaited, Wait}
 use Rattle.zl_rights.specs.Settle.{has_handle}
 use Rattle.zl_code.specs.declared.history.CallName.{CallName}
@@ -8,7 +11,8 @@ use Rattle.zl_code.specs.declared.history.TraceItem.{TraceItem}
 use Rattle.zl_code.specs.declared.history.TraceItem.TheVariants as item
 use Rattle.zl_code.specs.CallTable.{awaited_by}
 use Rattle.zl_code.proofs.Waiters.{with_waiters}
-use Rattle.zl_code.proofs.StepsBeside.{ActsAndSettles, acts_among, blocked_by, blocked_in, blocks_among, next_looks, settles_among, tells_blocking, waits_by, waits_kept}
+use Rattle.zl_code.proofs.StepsBeside.{ActsAndSettles, acts_among, blocked_by, blocked_in, blocks_among, next_looks, settles_among, tells_blocking, waits_by}
+use Rattle.zl_code.proofs.StepsBeside.{waits_kept}
 
 -- the handle of the wait is there, and its port
 abbrev pub is_left : World → Wait → Bool
@@ -37,12 +41,17 @@ module _ (w w2 : World) (K : Koids) (largest : IsLargestHeld w K) (is : w2 ≡ w
   kept_left ws = ap (λ (test : Wait → Bool). filter test ws) (λ i x. made_alike x i && kept_there x.port i)
 
 -- with waits, it settles alike: those are left whose handle and port are
-pub settles_waiting : (w w2 : World) → Settles w w2 → (ws : List Wait) (n : ℕ) (b : List ℕ) → Settles (with_waiters w ws n b) (with_waiters w2 (filter (is_left w2) ws) n b)
-settles_waiting w w2 settles ws n b = subst (λ (kept : List Wait). Settles (with_waiters w ws n b) (with_waiters w2 kept n b)) (kept_left w w2 settles.0 settles.1 settles.2 ws) (settles_among w w2 n b ws settles)
+pub settles_waiting : (w w2 : World) → Settles w w2 → (ws : List Wait) (n : ℕ) (b : List ℕ)
+    → Settles (with_waiters w ws n b) (with_waiters w2 (filter (is_left w2) ws) n b)
+settles_waiting w w2 settles ws n b =
+    subst (λ (kept : List Wait). Settles (with_waiters w ws n b) (with_waiters w2 kept n b)) (kept_left w w2 settles.0 settles.1 settles.2 ws)
+    (settles_among w w2 n b ws settles)
 
 -- a step beside waits, where it neither looks at them nor blocks
-pub step_waiting : (lib : Library) (w : World) (p : ℕ) (q : Process) → get w.processes p ≡ Some q → next_looks (next_for lib q) ≡ false → (x : TraceItem) → tells_blocking x ≡ false → (w2 : World) → ActsAndSettles lib w p x w2
-    → (ws : List Wait) (n : ℕ) (b : List ℕ) → ActsAndSettles lib (with_waiters w ws n b) p x (with_waiters w2 (filter (is_left w2) (waits_by (next_for lib q) x ws)) n (blocked_by x b))
+pub step_waiting : (lib : Library) (w : World) (p : ℕ) (q : Process) → get w.processes p ≡ Some q → next_looks (next_for lib q) ≡ false → (x : TraceItem)
+    → tells_blocking x ≡ false → (w2 : World) → ActsAndSettles lib w p x w2
+    → (ws : List Wait) (n : ℕ) (b : List ℕ)
+    → ActsAndSettles lib (with_waiters w ws n b) p x (with_waiters w2 (filter (is_left w2) (waits_by (next_for lib q) x ws)) n (blocked_by x b))
 step_waiting lib w p q there looks x goes w2 steps ws n b =
     let same : steps.process ≡ q = same_Some steps.process q (sym steps.is_there ∙ there) in
     let next : next_for lib steps.process ≡ next_for lib q = ap (next_for lib) same in
@@ -57,9 +66,12 @@ step_waiting lib w p q there looks x goes w2 steps ws n b =
     }
 
 -- a call that blocks beside waits
-pub block_waiting : (lib : Library) (w : World) (p : ℕ) (q : Process) → get w.processes p ≡ Some q → q.state ≡ Ready → (call : CallName) (s : Site) → next_for lib q ≡ AtCall call s
-    → (awaited : Awaited) → refusal lib w p s.request ≡ None → awaited_by w p s.request ≡ Some awaited → (w2 : World) → Settles (blocked_in w p awaited s.destinations) w2
-    → (ws : List Wait) (n : ℕ) (b : List ℕ) → ActsAndSettles lib (with_waiters w ws n b) p (item.Call p call outcome.Blocked) (with_waiters w2 (filter (is_left w2) ws) n (b ++ (p ∷ [])))
+pub block_waiting : (lib : Library) (w : World) (p : ℕ) (q : Process) → get w.processes p ≡ Some q → q.state ≡ Ready → (call : CallName) (s : Site)
+    → next_for lib q ≡ AtCall call s
+    → (awaited : Awaited) → refusal lib w p s.request ≡ None → awaited_by w p s.request ≡ Some awaited → (w2 : World)
+    → Settles (blocked_in w p awaited s.destinations) w2
+    → (ws : List Wait) (n : ℕ) (b : List ℕ)
+    → ActsAndSettles lib (with_waiters w ws n b) p (item.Call p call outcome.Blocked) (with_waiters w2 (filter (is_left w2) ws) n (b ++ (p ∷ [])))
 block_waiting lib w p q there ready call s next awaited passes waits w2 settles ws n b = record {
   process = q;
   is_there = there;

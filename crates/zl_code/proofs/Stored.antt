@@ -1,5 +1,6 @@
 -- The stored run: its bytes, its boot world and its history, by computation.
-use Rattle.zl_code.proofs.Common.{◌≡◌, ℕ, List, [], ◌∷◌, refl, Some, true, false, pos, World, Ended, Image, Library, Spells, local_parts, Choice, Refused, Values, IsLegalHistory, IsBoot, boot_fault, boot_effect, origin, settled_in, Settles-by}
+use Rattle.zl_code.proofs.Common.{◌≡◌, ℕ, List, [], ◌∷◌, refl, Some, true, false, pos, World, Ended, Image, Library, Spells, local_parts, Choice, Refused}
+use Rattle.zl_code.proofs.Common.{Values, IsLegalHistory, IsBoot, boot_fault, boot_effect, origin, settled_in, Settles-by}
 use Rattle.zl_rights.specs.declared.status.Status.TheVariants as status
 use Rattle.zl_code.specs.declared.boot.Statement.{Statement}
 use Rattle.zl_code.specs.declared.boot.Statement.TheVariants as statement

@@ -1,7 +1,11 @@
 -- Jobs and processes keep their places in the tree of jobs: what lives stands below what lives.
-use Rattle.zl_code.proofs.Common.{◌≡◌, ◌<◌, inl, inr, arith, nat_tests, ℕ, Bool, true, false, [], ◌∷◌, list_all, PortBody, refl, ap, sym, ◌∙◌, IsTrue, Option, Some, None, eq-eqb, if◌then◌else◌, is_some, cases_Bool, and_parts, and_from, false≢true, none-some, same_Some, Map, get, put, has_key, World, Process, State, Ready, Blocked, Object, Body, ChannelEnd, JobBody, ProcessBody, lives, runs, body_in, HasGivenKoids, IsSound, HasItsObject, true≢false}
+use Rattle.zl_code.proofs.Common.{◌≡◌, ◌<◌, inl, inr, arith, nat_tests, ℕ, Bool, true, false, [], ◌∷◌, list_all, PortBody, refl, ap, sym, ◌∙◌, IsTrue, Option}
+use Rattle.zl_code.proofs.Common.{Some, None, eq-eqb, if◌then◌else◌, is_some, cases_Bool, and_parts, and_from, false≢true, none-some, same_Some, Map, get, put}
+use Rattle.zl_code.proofs.Common.{has_key, World, Process, State, Ready, Blocked, Object, Body, ChannelEnd, JobBody, ProcessBody, lives, runs, body_in}
+use Rattle.zl_code.proofs.Common.{HasGivenKoids, IsSound, HasItsObject, true≢false}
 use Rattle.zl_code.proofs.MapKept.{in_order-put, same, changed, new}
-use Rattle.zl_code.proofs.Changes.{IsChildless, ProcessChange, handle_enters, handle_leaves, computes, ends, wakes, starts, blocks, ObjectChange, signals_change, packets_change, message_comes, message_goes, policy_changes, dies, Change}
+use Rattle.zl_code.proofs.Changes.{IsChildless, ProcessChange, handle_enters, handle_leaves, computes, ends, wakes, starts, blocks, ObjectChange}
+use Rattle.zl_code.proofs.Changes.{signals_change, packets_change, message_comes, message_goes, policy_changes, dies, Change}
 use Rattle.zl_rights.specs.Policies.{Setting, condition_numbered, policy_set, with_unset}
 use Rattle.zl_rights.specs.Signals.{is_job_below, is_process_of}
 use Rattle.zl_rights.specs.declared.policy.Action.{Action}
@@ -32,7 +36,8 @@ has_body None b e = absurd (none-some b e)
 has_body (Some o) b e = refl
 
 -- no change but settling takes away a process, or moves it to another job
-pub process_stays : (start u v : World) → HasGivenKoids u → Change start u v → (k job : ℕ) → body_in (get u.objects k) ≡ Some (ProcessBody job) → body_in (get v.objects k) ≡ Some (ProcessBody job)
+pub process_stays : (start u v : World) → HasGivenKoids u → Change start u v → (k job : ℕ) → body_in (get u.objects k) ≡ Some (ProcessBody job)
+    → body_in (get v.objects k) ≡ Some (ProcessBody job)
 process_stays start u v given c k job there = elim (c.objects k) as (λ _. body_in (get v.objects k) ≡ Some (ProcessBody job)) [
   | same e ↦ ap body_in e ∙ there
   | changed x y was is r ↦ ap body_in is ∙ by_change x y r (same_Some x.body (ProcessBody job) (rw was at there))
@@ -55,7 +60,8 @@ abbrev pub IsLiving : ℕ → Body → Type 0
 IsLiving depth b = (parent : ℕ) × (policy : Map Action) × (b ≡ JobBody parent depth policy false)
 
 -- a job that lives does so still, where something lives directly below it
-pub job_stays : (start u v : World) → HasGivenKoids u → Change start u v → (k depth : ℕ) → (IsChildless v k → ⊥) → IsSound start → LivesAt u.objects k depth → LivesAt v.objects k depth
+pub job_stays : (start u v : World) → HasGivenKoids u → Change start u v → (k depth : ℕ) → (IsChildless v k → ⊥) → IsSound start → LivesAt u.objects k depth
+    → LivesAt v.objects k depth
 job_stays start u v given c k depth busy before l = elim (c.objects k) as (λ _. LivesAt v.objects k depth) [
   | same e ↦ record { parent = l.parent; policy = l.policy; there = ap body_in e ∙ l.there }
   | changed x y was is r ↦
@@ -76,7 +82,8 @@ job_stays start u v given c k depth busy before l = elim (c.objects k) as (λ _.
     by_change x y (dies is may) e = absurd (busy (may before))
 
 -- a process that lives keeps its object and its job
-pub object_stays : (start u v : World) → IsSound start → HasGivenKoids u → Change start u v → (p : ℕ) (q : Process) → get v.processes p ≡ Some q → IsTrue (lives q.state) → HasItsObject u.objects p → HasItsObject v.objects p
+pub object_stays : (start u v : World) → IsSound start → HasGivenKoids u → Change start u v → (p : ℕ) (q : Process) → get v.processes p ≡ Some q
+    → IsTrue (lives q.state) → HasItsObject u.objects p → HasItsObject v.objects p
 object_stays start u v before given c p q there alive has = record {
   job = has.job;
   there = stays;
@@ -92,7 +99,8 @@ object_stays start u v before given c p q there alive has = record {
       where
         by_object : (o : Option Object) → get v.objects p ≡ o → body_in o ≡ Some (ProcessBody has.job) → ⊥
         by_object None at is = none-some _ is
-        by_object (Some o) at is = true≢false (sym (eq-eqb has.job has.job refl) ∙ (ap (is_process_of has.job) (sym (same_Some o.body _ is)) ∙ none.processes p q o there alive at))
+        by_object (Some o) at is =
+            true≢false (sym (eq-eqb has.job has.job refl) ∙ (ap (is_process_of has.job) (sym (same_Some o.body _ is)) ∙ none.processes p q o there alive at))
 
 -- ---- the tree of jobs
 
@@ -110,7 +118,8 @@ pub set_one : (a : Action) (m : Map Action) (n : ℕ) → is_some (condition_num
 unfolding with_unset
 set_one a m n known old = elim (cases_Bool (has_key m n)) as (λ _. IsTrue (is_policy (if has_key m n then m else put m n a))) [
   | inl there ↦ rw there old
-  | inr free ↦ rw free (and_from _ _ (all_put is_condition m n a known (and_parts (list_all is_condition m) _ old).0) (in_order-put m n a (and_parts (list_all is_condition m) _ old).1))
+  | inr free ↦ rw free (and_from _ _ (all_put is_condition m n a known (and_parts (list_all is_condition m) _ old).0)
+      (in_order-put m n a (and_parts (list_all is_condition m) _ old).1))
 ]
 
 -- what is set anew keeps a policy one
@@ -129,7 +138,8 @@ set_policy policy (Some s) h = by_condition s.condition
     by_condition condition.NewProcess = set_one s.action policy 7 refl h
 
 -- a change of an object leaves its place in the tree right
-pub changed_stands : (start after : World) (m : Map Object) (k : ℕ) (x y : Object) → ObjectChange start after k x y → StandsBelow m k x.body → StandsBelow m k y.body
+pub changed_stands : (start after : World) (m : Map Object) (k : ℕ) (x y : Object) → ObjectChange start after k x y → StandsBelow m k x.body
+    → StandsBelow m k y.body
 changed_stands start after m k x y (signals_change clear set is may) t = rw is t
 changed_stands start after m k x y (packets_change old packets port is) t = rw is tt
 changed_stands start after m k x y (message_comes message is may) t = rw is (sent x.body t)
@@ -145,16 +155,19 @@ changed_stands start after m k x y (message_goes is) t = rw is (read x.body t)
 changed_stands start after m k x y (policy_changes s is may) t = rw is (set x.body t)
   where
     set : (b : Body) → StandsBelow m k b → StandsBelow m k (body_with_policy s b)
-    set (JobBody parent depth policy killed) h = record { later = h.later; shallow = h.shallow; policy_known = set_policy policy s h.policy_known; above = h.above }
+    set (JobBody parent depth policy killed) h =
+        record { later = h.later; shallow = h.shallow; policy_known = set_policy policy s h.policy_known; above = h.above }
     set _ h = h
 changed_stands start after m k x y (dies is may) t = rw is (died x.body t)
   where
     died : (b : Body) → StandsBelow m k b → StandsBelow m k (body_killed b)
-    died (JobBody parent depth policy killed) h = record { later = h.later; shallow = h.shallow; policy_known = h.policy_known; above = λ e. absurd (true≢false e) }
+    died (JobBody parent depth policy killed) h =
+        record { later = h.later; shallow = h.shallow; policy_known = h.policy_known; above = λ e. absurd (true≢false e) }
     died _ h = h
 
 -- what a job stands below stays, while the job lives
-pub stands_on : (start u v : World) → IsSound start → HasGivenKoids u → Change start u v → (k : ℕ) (o : Object) → get v.objects k ≡ Some o → (b : Body) → o.body ≡ b → StandsBelow u.objects k b → StandsBelow v.objects k b
+pub stands_on : (start u v : World) → IsSound start → HasGivenKoids u → Change start u v → (k : ℕ) (o : Object) → get v.objects k ≡ Some o → (b : Body)
+    → o.body ≡ b → StandsBelow u.objects k b → StandsBelow v.objects k b
 stands_on start u v before given c k o at (JobBody parent depth policy killed) is h = record {
   later = h.later;
   shallow = h.shallow;

@@ -1,5 +1,12 @@
 -- No call but wait_async, port_cancel and task_kill looks at registered waits or at blocked processes: it does the same whatever waits beside it.
-use Rattle.zl_code.proofs.Common.{◌≡◌, ℕ, ℤ, Bool, true, false, not, ◌==◌, ◌&&◌, List, [], ◌∷◌, filter, refl, ap, sym, ◌∙◌, Option, Some, None, true≢false, World, Library, Site, Request, chan_read_etc, close, replace, effect, new_handles, gives_ok, gives_refused, taken_handles, may_choose, replied, taken, with_effect, ok_outcome, after_ok, after_refusal, CallBy, Choice, Refused, WantsMemory, Values, Calls, handles_to, listed, refusal, examined, operand, has_room, has_koids, creates, by_policy, Operand, operand_after, seen_after, handle_operands, first_some, on_process, on_object, with_object, insert_all, remove_all, process_with, process_without, ended, gets_all, is_process, active, has_child_job, has_child_process, get, is_empty, copy_of, entry_at, answer_if, operand_of, by_look_up, faults, ends_if_kill, action_of, parent_of, unless_allowed, contains, bits, within, takes, if◌then◌else◌, Ok, Err}
+use Rattle.zl_code.proofs.Common.{◌≡◌, ℕ, ℤ, Bool, true, false, not, ◌==◌, ◌&&◌, List, [], ◌∷◌, filter, refl, ap, sym, ◌∙◌, Option, Some, None, true≢false}
+use Rattle.zl_code.proofs.Common.{World, Library, Site, Request, chan_read_etc, close, replace, effect, new_handles, gives_ok, gives_refused, taken_handles}
+use Rattle.zl_code.proofs.Common.{may_choose, replied, taken, with_effect, ok_outcome, after_ok, after_refusal, CallBy, Choice, Refused, WantsMemory, Values}
+use Rattle.zl_code.proofs.Common.{Calls, handles_to, listed, refusal, examined, operand, has_room, has_koids, creates, by_policy, Operand, operand_after}
+use Rattle.zl_code.proofs.Common.{seen_after, handle_operands, first_some, on_process, on_object, with_object, insert_all, remove_all, process_with}
+use Rattle.zl_code.proofs.Common.{process_without, ended, gets_all, is_process, active, has_child_job, has_child_process, get, is_empty, copy_of, entry_at}
+use Rattle.zl_code.proofs.Common.{answer_if, operand_of, by_look_up, faults, ends_if_kill, action_of, parent_of, unless_allowed, contains, bits, within, takes}
+use Rattle.zl_code.proofs.Common.{if◌then◌else◌, Ok, Err}
 use Rattle.zl_rights.specs.declared.entry.Entry.{Entry}
 use Rattle.zl_rights.specs.declared.kind.Kind.{Kind}
 use Rattle.zl_rights.specs.declared.policy.Action.{Action}
@@ -11,7 +18,8 @@ use Rattle.zl_rights.specs.declared.status.Status.TheVariants as status
 use Rattle.zl_rights.specs.World.{Wait}
 use Rattle.zl_code.specs.declared.history.Outcome.{Outcome}
 use Rattle.zl_code.specs.declared.history.Outcome.TheVariants as outcome
-use Rattle.zl_code.specs.CallTable.{awaited_by, choosing, ends_caller, entering_at, outcome_of, receiver_of, stored_by, task_kill, wait_async, wait_one, wait_poll, port_cancel}
+use Rattle.zl_code.specs.CallTable.{awaited_by, choosing, ends_caller, entering_at, outcome_of, receiver_of, stored_by, task_kill, wait_async, wait_one}
+use Rattle.zl_code.specs.CallTable.{wait_poll, port_cancel}
 use Rattle.zl_code.specs.Effects.{storing}
 use Rattle.zl_code.specs.Refusals.{condition_of}
 
@@ -121,7 +129,8 @@ module _ (p : ℕ) (ws : List Wait) (n : ℕ) (b : List ℕ) where
   storing_among w (address, x ∷ bytes) = refl
 
   -- a caller is answered alike
-  pub replied_among : (w : World) (s : Site) (answer : Status) (values : List ℕ) → replied (with_waiters w ws n b) p s answer values ≡ with_waiters (replied w p s answer values) ws n b
+  pub replied_among : (w : World) (s : Site) (answer : Status) (values : List ℕ)
+      → replied (with_waiters w ws n b) p s answer values ≡ with_waiters (replied w p s answer values) ws n b
   unfolding replied on_process
   replied_among w s answer values = refl
 
@@ -132,7 +141,8 @@ module _ (p : ℕ) (ws : List Wait) (n : ℕ) (b : List ℕ) where
 
 module _ (lib : Library) (w : World) (p : ℕ) (ws : List Wait) (n : ℕ) (b : List ℕ) where
   -- the effect is the same; of the waits, just replace ends some
-  pub effect_among : (u : World) (r : Request) → looks_at_waits r ≡ false → (vs : List ℕ) → effect lib (with_waiters w ws n b) (with_waiters u ws n b) p r vs ≡ with_waiters (effect lib w u p r vs) (waits_left r p ws) n b
+  pub effect_among : (u : World) (r : Request) → looks_at_waits r ≡ false → (vs : List ℕ)
+      → effect lib (with_waiters w ws n b) (with_waiters u ws n b) p r vs ≡ with_waiters (effect lib w u p r vs) (waits_left r p ws) n b
   unfolding effect on_object on_process with_object
   effect_among u (wait_async h port key mask) looks vs = absurd (true≢false looks)
   effect_among u (port_cancel port source key) looks vs = absurd (true≢false looks)
@@ -144,8 +154,10 @@ module _ (lib : Library) (w : World) (p : ℕ) (ws : List Wait) (n : ℕ) (b : L
   pub with_effect_among : (u : World) (r : Request) (vs : List ℕ) → looks_at_waits r ≡ false
       → with_effect lib (with_waiters w ws n b) (with_waiters u ws n b) p r vs ≡ with_waiters (with_effect lib w u p r vs) (waits_left r p ws) n b
   with_effect_among u r vs looks =
-      (λ i. storing (insert_all (effect_among u r looks vs i) (receiver_same lib w p ws n b r i) (handles_same lib w p ws n b r i) (entering_at r vs)) p (stored_same lib w p ws n b r i))
-      ∙ (ap (λ v. storing v p (stored_by w p r)) (insert_among (receiver_of w p r) (waits_left r p ws) n b (effect lib w u p r vs) (new_handles w p r) (entering_at r vs))
+      (λ i. storing (insert_all (effect_among u r looks vs i) (receiver_same lib w p ws n b r i) (handles_same lib w p ws n b r i) (entering_at r vs)) p
+      (stored_same lib w p ws n b r i))
+      ∙ (ap (λ v. storing v p (stored_by w p r))
+      (insert_among (receiver_of w p r) (waits_left r p ws) n b (effect lib w u p r vs) (new_handles w p r) (entering_at r vs))
       ∙ storing_among p (waits_left r p ws) n b _ (stored_by w p r))
 
 -- ---- the call
@@ -193,16 +205,20 @@ module _ (lib : Library) (w : World) (p : ℕ) where
       by_tests true false = refl
       by_tests false may = fault_refuses _ status.WrongType refl
 
-  first_refuses : (a : Option Outcome) (rest : List (Option Outcome)) → refuses a ≡ true → refuses (first_some rest) ≡ true → refuses (first_some (a ∷ rest)) ≡ true
+  first_refuses : (a : Option Outcome) (rest : List (Option Outcome)) → refuses a ≡ true → refuses (first_some rest) ≡ true
+      → refuses (first_some (a ∷ rest)) ≡ true
   first_refuses None rest one more = more
   first_refuses (Some o) rest one more = one
 
   examined_refuses : (seen : List ℕ) (os : List Operand) → refuses (examined w p seen os) ≡ true
   unfolding examined operand
   examined_refuses seen [] = refl
-  examined_refuses seen (o ∷ os) = first_refuses _ _ (by_tests (o.may_be_zero && (o.value == 0)) (o.is_taken && contains seen o.value)) (first_refuses _ [] (examined_refuses (seen_after seen o) os) refl)
+  examined_refuses seen (o ∷ os) =
+      first_refuses _ _ (by_tests (o.may_be_zero && (o.value == 0)) (o.is_taken && contains seen o.value))
+      (first_refuses _ [] (examined_refuses (seen_after seen o) os) refl)
     where
-      by_tests : (zero taken : Bool) → refuses (if zero then None else (if taken then faults w p condition.BadHandle status.BadHandle else operand_of w p o.kinds o.needed (entry_at w p o.value))) ≡ true
+      by_tests : (zero taken : Bool) → refuses (if zero then None
+          else (if taken then faults w p condition.BadHandle status.BadHandle else operand_of w p o.kinds o.needed (entry_at w p o.value))) ≡ true
       by_tests true taken = refl
       by_tests false true = fault_refuses _ status.BadHandle refl
       by_tests false false = operand_refuses o.kinds o.needed (entry_at w p o.value)
@@ -242,30 +258,38 @@ module _ (lib : Library) (w : World) (p : ℕ) where
     taken_among : taken (with_waiters w ws n b) p s ≡ with_waiters (taken w p s) ws n b
     taken_among = remove_among p ws n b w (taken_handles s.request)
 
-    refused_among : (o : Outcome) → is_blocking o ≡ false → with_waiters (after_refusal w p s o) ws n (blocked_after o p b) ≡ after_refusal (with_waiters w ws n b) p s o
+    refused_among : (o : Outcome) → is_blocking o ≡ false
+        → with_waiters (after_refusal w p s o) ws n (blocked_after o p b) ≡ after_refusal (with_waiters w ws n b) p s o
     unfolding replied on_process ended
     refused_among (outcome.Answered answer) goes = λ i. replied (sym taken_among i) p s answer (sym (refused_same lib w p ws n b s.request answer) i)
     refused_among (outcome.Ended code) goes = refl
     refused_among outcome.Blocked goes = absurd (true≢false goes)
 
-    done_among : (vs : List ℕ) → with_waiters (with_effect lib w (taken w p s) p s.request vs) (waits_left s.request p ws) n b ≡ with_effect lib (with_waiters w ws n b) (taken (with_waiters w ws n b) p s) p s.request vs
-    done_among vs = sym (with_effect_among lib w p ws n b (taken w p s) s.request vs looks) ∙ ap (λ u. with_effect lib (with_waiters w ws n b) u p s.request vs) (sym taken_among)
+    done_among : (vs : List ℕ) → with_waiters (with_effect lib w (taken w p s) p s.request vs) (waits_left s.request p ws) n b
+        ≡ with_effect lib (with_waiters w ws n b) (taken (with_waiters w ws n b) p s) p s.request vs
+    done_among vs =
+        sym (with_effect_among lib w p ws n b (taken w p s) s.request vs looks)
+        ∙ ap (λ u. with_effect lib (with_waiters w ws n b) u p s.request vs) (sym taken_among)
 
-    ok_among : (vs : List ℕ) (o : Outcome) → is_blocking o ≡ false → with_waiters (after_ok lib w p s vs o) (waits_left s.request p ws) n (blocked_after o p b) ≡ after_ok lib (with_waiters w ws n b) p s vs o
+    ok_among : (vs : List ℕ) (o : Outcome) → is_blocking o ≡ false
+        → with_waiters (after_ok lib w p s vs o) (waits_left s.request p ws) n (blocked_after o p b) ≡ after_ok lib (with_waiters w ws n b) p s vs o
     unfolding replied on_process ended
     ok_among vs (outcome.Answered answer) goes = λ i. replied (done_among vs i) p s status.Ok (sym (given_same lib w p ws n b s.request vs) i)
     ok_among vs (outcome.Ended code) goes = λ i. ended (done_among vs i) p code
     ok_among vs outcome.Blocked goes = absurd (true≢false goes)
 
     -- the same values may be chosen
-    pub chosen_among : (vs : List ℕ) → may_choose w (taken w p s) p s.request vs ≡ may_choose (with_waiters w ws n b) (taken (with_waiters w ws n b) p s) p s.request vs
+    pub chosen_among : (vs : List ℕ)
+        → may_choose w (taken w p s) p s.request vs ≡ may_choose (with_waiters w ws n b) (taken (with_waiters w ws n b) p s) p s.request vs
     unfolding may_choose
-    chosen_among vs = λ i. gets_all (get (sym taken_among i).processes (sym (receiver_same lib w p ws n b s.request) i)) (sym (choosing_same lib w p ws n b s.request) i) vs
+    chosen_among vs =
+        λ i. gets_all (get (sym taken_among i).processes (sym (receiver_same lib w p ws n b s.request) i)) (sym (choosing_same lib w p ws n b s.request) i) vs
 
     outcome_same : ok_outcome w p s.request ≡ ok_outcome (with_waiters w ws n b) p s.request
     outcome_same = λ i. outcome_of (sym (awaited_same lib w p ws n b s.request) i) (sym (ends_same lib w p ws n b s.request) i)
 
-    by_among : (choice : Choice) (r : Option Outcome) (o : Outcome) (w2 : World) → refusal lib w p s.request ≡ r → is_blocking o ≡ false → CallBy lib w p s choice r o w2
+    by_among : (choice : Choice) (r : Option Outcome) (o : Outcome) (w2 : World) → refusal lib w p s.request ≡ r → is_blocking o ≡ false
+        → CallBy lib w p s choice r o w2
         → CallBy lib (with_waiters w ws n b) p s choice r o (with_waiters w2 (waits_after s.request o p ws) n (blocked_after o p b))
     by_among Refused None o w2 is goes c = absurd c
     by_among Refused (Some a) o w2 is goes c = (
@@ -286,7 +310,8 @@ module _ (lib : Library) (w : World) (p : ℕ) where
       sym (chosen_among vs) ∙ c.0,
       c.1 ∙ outcome_same,
       (λ i. with_waiters (c.2 i) (waits_after s.request (c.1 i) p ws) n (blocked_after (c.1 i) p b))
-          ∙ (ap (λ xs. with_waiters (after_ok lib w p s vs (ok_outcome w p s.request)) xs n (blocked_after (ok_outcome w p s.request) p b)) (done_waits ws s.request)
+          ∙ (ap (λ xs. with_waiters (after_ok lib w p s vs (ok_outcome w p s.request)) xs n (blocked_after (ok_outcome w p s.request) p b))
+          (done_waits ws s.request)
           ∙ (ok_among vs (ok_outcome w p s.request) (sym (ap is_blocking c.1) ∙ goes)
           ∙ ap (after_ok lib (with_waiters w ws n b) p s vs) outcome_same)),
     )
@@ -294,9 +319,11 @@ module _ (lib : Library) (w : World) (p : ℕ) where
 
     -- a call that doesn't block does the same, and leaves the waits and the blocked as they were but for its own
     pub call_among : (choice : Choice) (o : Outcome) (w2 : World) → is_blocking o ≡ false → CallBy lib w p s choice (refusal lib w p s.request) o w2
-        → CallBy lib (with_waiters w ws n b) p s choice (refusal lib (with_waiters w ws n b) p s.request) o (with_waiters w2 (waits_after s.request o p ws) n (blocked_after o p b))
+        → CallBy lib (with_waiters w ws n b) p s choice (refusal lib (with_waiters w ws n b) p s.request) o
+        (with_waiters w2 (waits_after s.request o p ws) n (blocked_after o p b))
     call_among choice o w2 goes c = rw (refusal_same lib w p ws n b s.request looks) (by_among choice (refusal lib w p s.request) o w2 refl goes c)
 
     -- the same of the relation of calls
-    pub calls_among : (o : Outcome) (w2 : World) → is_blocking o ≡ false → Calls lib w p s o w2 → Calls lib (with_waiters w ws n b) p s o (with_waiters w2 (waits_after s.request o p ws) n (blocked_after o p b))
+    pub calls_among : (o : Outcome) (w2 : World) → is_blocking o ≡ false → Calls lib w p s o w2
+        → Calls lib (with_waiters w ws n b) p s o (with_waiters w2 (waits_after s.request o p ws) n (blocked_after o p b))
     calls_among o w2 goes c = (c.0, call_among c.0 o w2 goes c.1)

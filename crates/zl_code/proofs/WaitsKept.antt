@@ -1,5 +1,11 @@
 -- Registered waits stay right: their handles name what they watch, and their ports stay. After a step their handles are live.
-use Rattle.zl_code.proofs.Common.{◌≡◌, ◌<◌, inl, inr, arith, ℕ, Bool, true, false, not, ◌&&◌, ◌==◌, List, [], ◌∷◌, refl, ap, sym, subst, ◌∙◌, IsTrue, Option, Some, None, eq-eqb, if◌then◌else◌, is_some, fold, filter, each, answered, Ready, option_map, cases_Bool, eqb-true, and_parts, and_from, false≢true, none-some, same_Some, slice_index_or, All, All-cons, All-nil, meets, Map, get, without, where_key, has_key, World, Process, State, Blocked, SignalOf, PacketAt, Object, Body, PortBody, Packet, Koids, Settles, without_others, process_settled, wakes, fired, active, packet_values, woken, made_ready, with_body, woken_by_first, woken_by, woken_at_port, woken_from, woken_if_there, is_made_by_handle, handles_in, entry_at, body_in, body_of, HasGivenKoids, IsSound, IsSoundWait, is_port_there, get-put, get-each, get-where_key-in, get-where_key-out, true≢false}
+use Rattle.zl_code.proofs.Common.{◌≡◌, ◌<◌, inl, inr, arith, ℕ, Bool, true, false, not, ◌&&◌, ◌==◌, List, [], ◌∷◌, refl, ap, sym, subst, ◌∙◌, IsTrue, Option}
+use Rattle.zl_code.proofs.Common.{Some, None, eq-eqb, if◌then◌else◌, is_some, fold, filter, each, answered, Ready, option_map, cases_Bool, eqb-true, and_parts}
+use Rattle.zl_code.proofs.Common.{and_from, false≢true, none-some, same_Some, slice_index_or, All, All-cons, All-nil, meets, Map, get, without, where_key}
+use Rattle.zl_code.proofs.Common.{has_key, World, Process, State, Blocked, SignalOf, PacketAt, Object, Body, PortBody, Packet, Koids, Settles, without_others}
+use Rattle.zl_code.proofs.Common.{process_settled, wakes, fired, active, packet_values, woken, made_ready, with_body, woken_by_first, woken_by, woken_at_port}
+use Rattle.zl_code.proofs.Common.{woken_from, woken_if_there, is_made_by_handle, handles_in, entry_at, body_in, body_of, HasGivenKoids, IsSound, IsSoundWait}
+use Rattle.zl_code.proofs.Common.{is_port_there, get-put, get-each, get-where_key-in, get-where_key-out, true≢false}
 use Rattle.std.proofs.lemmas.List.Elements.{All-append, All-filter, filter_passes}
 use Rattle.zl_rights.specs.declared.entry.Entry.{Entry}
 use Rattle.zl_rights.specs.World.{Wait}
@@ -10,7 +16,8 @@ use Rattle.zl_code.specs.Effects.{body_with_message, body_after_read}
 use Rattle.zl_code.specs.Jobs.{body_killed, body_with_policy}
 use Rattle.zl_code.specs.Waiting.{is_by_handle}
 use Rattle.zl_code.proofs.MapKept.{same, changed, new}
-use Rattle.zl_code.proofs.Changes.{IsWait, AreUnmade, alike, fewer, begins, ProcessChange, handle_enters, handle_leaves, computes, ends, wakes as wakes_up, starts, blocks, ObjectChange, signals_change, packets_change, message_comes, message_goes, policy_changes, dies, Change}
+use Rattle.zl_code.proofs.Changes.{IsWait, AreUnmade, alike, fewer, begins, ProcessChange, handle_enters, handle_leaves, computes, ends, wakes as wakes_up}
+use Rattle.zl_code.proofs.Changes.{starts, blocks, ObjectChange, signals_change, packets_change, message_comes, message_goes, policy_changes, dies, Change}
 
 -- ---- within a step
 
@@ -24,7 +31,8 @@ port_killed (PortBody packets) h = refl
 port_killed _ h = absurd (false≢true h)
 
 -- a port stays one
-port_stays : (start after : World) (k : ℕ) (x y : Object) → ObjectChange start after k x y → IsTrue (is_port_there (Some x.body)) → IsTrue (is_port_there (Some y.body))
+port_stays : (start after : World) (k : ℕ) (x y : Object) → ObjectChange start after k x y → IsTrue (is_port_there (Some x.body))
+    → IsTrue (is_port_there (Some y.body))
 port_stays start after k x y (signals_change clear set is may) t = rw is t
 port_stays start after k x y (packets_change old packets port is) t = rw is refl
 port_stays start after k x y (policy_changes s is may) t = rw is (port_set s x.body t)
@@ -52,7 +60,8 @@ port_kept start u v given c k there = elim (c.objects k) as (λ _. IsTrue (is_po
 ]
 
 -- what a table has at a value after a change it had there before, unless it entered where no wait was made
-entry_before : (start v : World) (p n : ℕ) (x y : Process) (e : Entry) → IsSound start → ProcessChange start v p x y → get y.handles n ≡ Some e → (AreUnmade v.waits p n → ⊥) → get x.handles n ≡ Some e
+entry_before : (start v : World) (p n : ℕ) (x y : Process) (e : Entry) → IsSound start → ProcessChange start v p x y → get y.handles n ≡ Some e
+    → (AreUnmade v.waits p n → ⊥) → get x.handles n ≡ Some e
 unfolding get without where_key
 entry_before start v p n x y e s (handle_enters j f is may) at made = by_key (j == n) refl
   where
@@ -75,7 +84,8 @@ module _ (start u v : World) (s : IsSound start) (given : HasGivenKoids u) (c : 
   unfolding get
   handle_kept x t made e at = elim (c.processes x.pid) as (λ _. e.koid ≡ x.object) [
     | same is ↦ t.handle e (ap (λ o. get (handles_in o) x.value) (sym is) ∙ at)
-    | changed a b was is r ↦ t.handle e (ap (λ o. get (handles_in o) x.value) was ∙ entry_before start v x.pid x.value a b e s r (sym (ap (λ o. get (handles_in o) x.value) is) ∙ at) made)
+    | changed a b was is r ↦ t.handle e
+        (ap (λ o. get (handles_in o) x.value) was ∙ entry_before start v x.pid x.value a b e s r (sym (ap (λ o. get (handles_in o) x.value) is) ∙ at) made)
     | new b is n ↦ absurd (none-some e (rw (is, n.empty) at at))
   ]
 
@@ -87,7 +97,8 @@ module _ (start u v : World) (s : IsSound start) (given : HasGivenKoids u) (c : 
   wait_kept x t made = record { handle = handle_kept x t made; port = port_kept start u v given c x.port t.port }
 
   each_kept : All (IsWait u) v.waits → All (IsWait v) v.waits
-  each_kept before i d inside = wait_kept (slice_index_or v.waits i d) (before i d inside) (λ unmade. true≢false (sym (is_made (slice_index_or v.waits i d)) ∙ unmade i d inside))
+  each_kept before i d inside =
+      wait_kept (slice_index_or v.waits i d) (before i d inside) (λ unmade. true≢false (sym (is_made (slice_index_or v.waits i d)) ∙ unmade i d inside))
 
   same_tables : v.processes ≡ u.processes → (x : Wait) → IsWait u x → IsWait v x
   same_tables processes x t = record {
@@ -100,7 +111,8 @@ module _ (start u v : World) (s : IsSound start) (given : HasGivenKoids u) (c : 
     | alike e ↦ each_kept (subst (All (IsWait u)) (sym e) all)
     | fewer test e ↦ each_kept (subst (All (IsWait u)) (sym e) (All-filter test (IsWait u) u.waits all))
     | begins x e processes fine ↦ subst (All (IsWait v)) (sym e)
-        (All-append (IsWait v) u.waits (x ∷ []) (λ i d inside. same_tables processes (slice_index_or u.waits i d) (all i d inside)) (All-cons (IsWait v) x [] (fine s) (All-nil (IsWait v))))
+        (All-append (IsWait v) u.waits (x ∷ []) (λ i d inside. same_tables processes (slice_index_or u.waits i d) (all i d inside))
+        (All-cons (IsWait v) x [] (fine s) (All-nil (IsWait v))))
   ]
 
 -- ---- settling
@@ -119,12 +131,15 @@ remains u K x = is_made_by_handle u x && K x.port
 
 pub waits_settled : (u : World) (K : Koids) → All (IsWait u) u.waits → All (IsWait (without_others u K)) (without_others u K).waits
 unfolding without_others
-waits_settled u K all i d inside = one (slice_index_or (filter (remains u K) u.waits) i d) (All-filter (remains u K) (IsWait u) u.waits all i d inside) (filter_passes (remains u K) u.waits i d inside)
+waits_settled u K all i d inside =
+    one (slice_index_or (filter (remains u K) u.waits) i d) (All-filter (remains u K) (IsWait u) u.waits all i d inside)
+    (filter_passes (remains u K) u.waits i d inside)
   where
     one : (x : Wait) → IsWait u x → remains u K x ≡ true → IsWait (without_others u K) x
     one x t passes = record {
       handle = λ e at. t.handle e (sym (ap (λ m. get m x.value) (settled_table u K x.pid)) ∙ at);
-      port = subst (λ (o : Option Object). IsTrue (is_port_there (body_in o))) (sym (get-where_key-in u.objects K x.port (and_parts (is_made_by_handle u x) (K x.port) passes).1)) t.port;
+      port = subst (λ (o : Option Object). IsTrue (is_port_there (body_in o)))
+          (sym (get-where_key-in u.objects K x.port (and_parts (is_made_by_handle u x) (K x.port) passes).1)) t.port;
     }
 
 -- ---- handles are live after a step
@@ -143,7 +158,8 @@ live_by (Some q) v = refl
 
 pub live_settled : (u v : World) → Settles u v → AreLive v
 unfolding without_others is_made_by_handle
-live_settled u v (K, largest, e) = subst AreLive (sym e) (λ i d inside. one (slice_index_or (filter (remains u K) u.waits) i d) (filter_passes (remains u K) u.waits i d inside))
+live_settled u v (K, largest, e) =
+    subst AreLive (sym e) (λ i d inside. one (slice_index_or (filter (remains u K) u.waits) i d) (filter_passes (remains u K) u.waits i d inside))
   where
     one : (x : Wait) → remains u K x ≡ true → is_made_by_handle (without_others u K) x ≡ true
     one x passes =
@@ -152,14 +168,18 @@ live_settled u v (K, largest, e) = subst AreLive (sym e) (λ i d inside. one (sl
 
 -- who wakes keeps its handles
 module _ (w : World) (p : ℕ) (q : Process) (there : get w.processes p ≡ Some q) where
-  ready_table : (u : World) (ds vs : List ℕ) → u.processes ≡ w.processes → (k : ℕ) → handles_in (get (made_ready u p q ds vs).processes k) ≡ handles_in (get w.processes k)
+  ready_table : (u : World) (ds vs : List ℕ) → u.processes ≡ w.processes → (k : ℕ)
+      → handles_in (get (made_ready u p q ds vs).processes k) ≡ handles_in (get w.processes k)
   unfolding made_ready
-  ready_table u ds vs as_before k = ap handles_in (get-put u.processes p _ k) ∙ elim (cases_Bool (p == k)) as (λ _. handles_in (if p == k then Some (record q { state = Ready; cpu = answered q.cpu ds vs }) else get u.processes k) ≡ handles_in (get w.processes k)) [
-    | inl here ↦ rw (here, ← eqb-true p k here, there) refl
-    | inr other ↦ rw (other, as_before) refl
-  ]
+  ready_table u ds vs as_before k =
+      ap handles_in (get-put u.processes p _ k) ∙ elim (cases_Bool (p == k)) as (λ _.
+      handles_in (if p == k then Some (record q { state = Ready; cpu = answered q.cpu ds vs }) else get u.processes k) ≡ handles_in (get w.processes k)) [
+        | inl here ↦ rw (here, ← eqb-true p k here, there) refl
+        | inr other ↦ rw (other, as_before) refl
+      ]
 
-  packet_table : (k : ℕ) (ds : List ℕ) (o : Object) (packets : List Packet) (j : ℕ) → handles_in (get (woken_by_first w p q k ds o packets).processes j) ≡ handles_in (get w.processes j)
+  packet_table : (k : ℕ) (ds : List ℕ) (o : Object) (packets : List Packet) (j : ℕ)
+      → handles_in (get (woken_by_first w p q k ds o packets).processes j) ≡ handles_in (get w.processes j)
   packet_table k ds o [] j = refl
   packet_table k ds o (x ∷ rest) j = ready_table (with_body w k o (PortBody rest)) ds (0 ∷ packet_values x) refl j
 
@@ -172,10 +192,12 @@ module _ (w : World) (p : ℕ) (q : Process) (there : get w.processes p ≡ Some
   object_table k ds (Some o) j = body_table k ds o o.body j
 
   state_table : (s : State) (j : ℕ) → handles_in (get (woken_from w p q s).processes j) ≡ handles_in (get w.processes j)
-  state_table (Blocked (SignalOf k mask) ds) j = elim (meets (active w k) mask) as (λ b. handles_in (get (if b then made_ready w p q ds (0 ∷ active w k ∷ []) else w).processes j) ≡ handles_in (get w.processes j)) [
-    | true ↦ ready_table w ds (0 ∷ active w k ∷ []) refl j
-    | false ↦ refl
-  ]
+  state_table (Blocked (SignalOf k mask) ds) j =
+      elim (meets (active w k) mask)
+      as (λ b. handles_in (get (if b then made_ready w p q ds (0 ∷ active w k ∷ []) else w).processes j) ≡ handles_in (get w.processes j)) [
+        | true ↦ ready_table w ds (0 ∷ active w k ∷ []) refl j
+        | false ↦ refl
+      ]
   state_table (Blocked (PacketAt k) ds) j = object_table k ds (get w.objects k) j
   state_table _ j = refl
 
@@ -196,7 +218,9 @@ unfolding wakes fired is_made_by_handle
 live_awake w live i d inside = same_made (slice_index_or (wakes w).waits i d) ∙ stayed i d inside
   where
     stayed : All (λ x. is_made_by_handle w x ≡ true) (wakes w).waits
-    stayed = subst (All (λ x. is_made_by_handle w x ≡ true)) (sym (turns-later (fired w) w.blocked).waits) (All-filter _ (λ x. is_made_by_handle w x ≡ true) w.waits live)
+    stayed =
+        subst (All (λ x. is_made_by_handle w x ≡ true)) (sym (turns-later (fired w) w.blocked).waits)
+        (All-filter _ (λ x. is_made_by_handle w x ≡ true) w.waits live)
 
     same_made : (x : Wait) → is_made_by_handle (wakes w) x ≡ is_made_by_handle w x
     same_made x =

@@ -1,5 +1,6 @@
 -- The registers of a list, place by place.
-use Rattle.zl_code.proofs.Common.{◌≡◌, ◌<◌, ◌+◌, ℕ, zero, suc, Bool, true, false, List, [], ◌∷◌, ◌++◌, map, take, length, refl, sym, ap, ◌∙◌, if◌then◌else◌, Some, None, none-some, same_Some, nat_lt, arith, slice_get, slice_set}
+use Rattle.zl_code.proofs.Common.{◌≡◌, ◌<◌, ◌+◌, ℕ, zero, suc, Bool, true, false, List, [], ◌∷◌, ◌++◌, map, take, length, refl, sym, ap, ◌∙◌, if◌then◌else◌}
+use Rattle.zl_code.proofs.Common.{Some, None, none-some, same_Some, nat_lt, arith, slice_get, slice_set}
 use Rattle.std.specs.Prelude.{drop, slice_index}
 use Rattle.std.proofs.Common.{add-one}
 use Rattle.std.proofs.lemmas.Grind.{common_steps}
@@ -23,7 +24,8 @@ put_one xs k x rest h = grind (arith, common_steps)
 
 -- one value more is read
 pub read_step : (registers values places : List ℕ) (count i r : ℕ) → Some r ≡ register_in (slice_get places i) → count < length values
-    → take count values ++ map (slice_index registers) (used (drop i places)) ≡ take (count + 1) (slice_set values count (slice_index registers r)) ++ map (slice_index registers) (used (drop (i + 1) places))
+    → take count values ++ map (slice_index registers) (used (drop i places))
+    ≡ take (count + 1) (slice_set values count (slice_index registers r)) ++ map (slice_index registers) (used (drop (i + 1) places))
 read_step registers values places count i r h within =
     ap (λ (rs : List ℕ). take count values ++ map (slice_index registers) rs) (used_more places i r h)
     ∙ put_one values count (slice_index registers r) (map (slice_index registers) (used (drop (i + 1) places))) within

@@ -1,5 +1,6 @@
 -- One place of the slot arrays is written.
-use Rattle.zl_code.proofs.Common.{◌≡◌, ◌<◌, length, ℕ, zero, suc, List, [], ◌∷◌, map, get_or, Option, Some, None, refl, ◌∙◌, sym, ap, slice_get, slice_set, IsSome}
+use Rattle.zl_code.proofs.Common.{◌≡◌, ◌<◌, length, ℕ, zero, suc, List, [], ◌∷◌, map, get_or, Option, Some, None, refl, ◌∙◌, sym, ap, slice_get, slice_set}
+use Rattle.zl_code.proofs.Common.{IsSome}
 use Rattle.std.proofs.lemmas.List.{get_or-map}
 use Rattle.zl_interp.specs.Running.{slot_in, slot_set, set_in}
 
@@ -8,7 +9,8 @@ set_behind y ys n place value None = refl
 set_behind y ys n place value (Some places) = refl
 
 -- the arrays as f sees them, where one that has the place is replaced by the same with the value there
-pub slot_written : {V : Type 0} (f : V → List ℕ) (xs : List V) (array place value : ℕ) (d w : V) → IsSome (slot_in (map f xs) array place) → f w ≡ slice_set (f (get_or xs array d)) place value
+pub slot_written : {V : Type 0} (f : V → List ℕ) (xs : List V) (array place value : ℕ) (d w : V) → IsSome (slot_in (map f xs) array place)
+    → f w ≡ slice_set (f (get_or xs array d)) place value
     → map f (slice_set xs array w) ≡ slot_set (map f xs) array place value
 slot_written f [] array place value d w there same = absurd cc
 slot_written f (x ∷ xs) zero place value d w there same = λ i. same i ∷ map f xs

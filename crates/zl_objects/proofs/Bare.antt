@@ -1,5 +1,6 @@
 -- Objects that are the same but for waits and reserved places: what doesn't see these.
-use Rattle.zl_rights.proofs.Common.{◌≡◌, ℕ, ◌&&◌, ◌||◌, List, [], ◌∷◌, length, map, refl, sym, ap, ◌∙◌, subst, cond, Option, Some, None, arith, nat_lt, is_some, suc, option_map, count_by, sum_by-cons, below_all, is_sorted, nat_cmp, none-some, same_Some, Map, get, has_key, each}
+use Rattle.zl_rights.proofs.Common.{◌≡◌, ℕ, ◌&&◌, ◌||◌, List, [], ◌∷◌, length, map, refl, sym, ap, ◌∙◌, subst, cond, Option, Some, None, arith, nat_lt, is_some}
+use Rattle.zl_rights.proofs.Common.{suc, option_map, count_by, sum_by-cons, below_all, is_sorted, nat_cmp, none-some, same_Some, Map, get, has_key, each}
 use Rattle.std.specs.Ordering.{is_lt}
 use Rattle.zl_rights.specs.World.{World}
 use Rattle.zl_rights.proofs.MapLaws.{get-each}
@@ -20,7 +21,10 @@ abbrev all_bare : Map Object → Map Object
 all_bare m = each (λ k. bare) m
 
 -- what a body without reserved places gives as well
-pub of_body : {X : Type 0} (f : Body → X) → ((packets : _) (reserved : ℕ) → f (body.Port (record { packets = packets; reserved = 0 })) ≡ f (body.Port (record { packets = packets; reserved = reserved }))) → (b c : Body) → unreserved b ≡ unreserved c → f b ≡ f c
+pub of_body : {X : Type 0} (f : Body → X)
+    → ((packets : _) (reserved : ℕ)
+    → f (body.Port (record { packets = packets; reserved = 0 })) ≡ f (body.Port (record { packets = packets; reserved = reserved })))
+    → (b c : Body) → unreserved b ≡ unreserved c → f b ≡ f c
 of_body f port b c same = sym (bare_body b) ∙ (ap f same ∙ bare_body c)
   where
     bare_body : (b : Body) → f (unreserved b) ≡ f b
@@ -80,7 +84,8 @@ length_bare (e ∷ m) = ap (λ (n : ℕ). suc n) (length_bare m)
 named_bare : (m : Map Object) → count_by is_named (all_bare m) ≡ count_by is_named m
 unfolding each
 named_bare [] = refl
-named_bare (e ∷ m) = omega (arith, sum_by-cons (λ x. cond (is_named x) 1 0) (e.0, bare e.1) (all_bare m), sum_by-cons (λ x. cond (is_named x) 1 0) e m, named_bare m)
+named_bare (e ∷ m) =
+    omega (arith, sum_by-cons (λ x. cond (is_named x) 1 0) (e.0, bare e.1) (all_bare m), sum_by-cons (λ x. cond (is_named x) 1 0) e m, named_bare m)
 
 child_bare : (m : Map Object) (k : ℕ) → has_living_child (all_bare m) k ≡ has_living_child m k
 unfolding has_living_child
@@ -154,7 +159,8 @@ module _ (m m2 : Map Object) (same : AreSameButWaits m m2) where
       by_body (body.Port p) = refl
 
   pub in_job_same : (b c : Body) → unreserved b ≡ unreserved c → is_in_job m2 b ≡ is_in_job m c
-  in_job_same b c is = same_in_job m m2 (λ job. carried (λ n. is_job_at n job) (λ n. job_bare n job)) b ∙ of_body (is_in_job m) (λ packets reserved. refl) b c is
+  in_job_same b c is =
+      same_in_job m m2 (λ job. carried (λ n. is_job_at n job) (λ n. job_bare n job)) b ∙ of_body (is_in_job m) (λ packets reserved. refl) b c is
 
   pub alike : (k : ℕ) (o : Object) → get m2 k ≡ Some o → IsAlike m k o
   alike k o at = by_object (get m k) refl

@@ -1,5 +1,7 @@
 -- What keeps objects, once one of them was changed or has gone.
-use Rattle.zl_rights.proofs.Common.{◌≡◌, ℕ, Bool, true, false, ◌||◌, ◌==◌, [], ◌∷◌, refl, sym, ap, ◌∙◌, Option, Some, None, inl, inr, IsTrue, if◌then◌else◌, is_some, list_any, option_map, nat_cmp, is_sorted, cases_Bool, eqb-true, false≢true, or_left, or_right, none-some, same_Some, Map, get, has_key, update, without}
+use Rattle.zl_rights.proofs.Common.{◌≡◌, ℕ, Bool, true, false, ◌||◌, ◌==◌, [], ◌∷◌, refl, sym, ap, ◌∙◌, Option, Some, None, inl, inr, IsTrue, if◌then◌else◌}
+use Rattle.zl_rights.proofs.Common.{is_some, list_any, option_map, nat_cmp, is_sorted, cases_Bool, eqb-true, false≢true, or_left, or_right, none-some}
+use Rattle.zl_rights.proofs.Common.{same_Some, Map, get, has_key, update, without}
 use Rattle.std.proofs.lemmas.Bool.{or_cases}
 use Rattle.zl_rights.proofs.MapLaws.{get-update}
 use Rattle.zl_table.proofs.MapEdits.{get-without, sorted_parts, without_lower}
@@ -34,10 +36,11 @@ module _ (f : Object → Object) (same : (o : Object) → (f o).body ≡ o.body)
   child_updated : (m : Map Object) (k job : ℕ) → has_living_child (update m k f) job ≡ has_living_child m job
   unfolding update has_living_child
   child_updated [] k job = refl
-  child_updated (e ∷ m) k job = elim (cases_Bool (e.0 == k)) as (λ _. list_any (λ x. is_child job x.1.body) (update (e ∷ m) k f) ≡ list_any (λ x. is_child job x.1.body) (e ∷ m)) [
-    | inl here ↦ rw (here, same e.1) refl
-    | inr apart ↦ rw apart (ap (λ b. is_child job e.1.body || b) (child_updated m k job))
-  ]
+  child_updated (e ∷ m) k job =
+      elim (cases_Bool (e.0 == k)) as (λ _. list_any (λ x. is_child job x.1.body) (update (e ∷ m) k f) ≡ list_any (λ x. is_child job x.1.body) (e ∷ m)) [
+        | inl here ↦ rw (here, same e.1) refl
+        | inr apart ↦ rw apart (ap (λ b. is_child job e.1.body || b) (child_updated m k job))
+      ]
 
   pub alone_updated : (m : Map Object) (k j : ℕ) (b : Body) → stays_alone (update m k f) j b ≡ stays_alone m j b
   alone_updated m k j (body.Job own) = child_updated m k j
@@ -63,7 +66,8 @@ has_left m k j has = by_object (get (without m k) j) refl has
     by_object (Some q) is h = rw ((found_left m k j q is).1) refl
 
 -- a test that the entry fails is passed as often without it
-any_without_at : {X : Type 0} (test : ℕ × X → Bool) (m : Map X) (k : ℕ) (x : X) → IsTrue (is_sorted nat_cmp m) → get m k ≡ Some x → test (k, x) ≡ false → list_any test (without m k) ≡ list_any test m
+any_without_at : {X : Type 0} (test : ℕ × X → Bool) (m : Map X) (k : ℕ) (x : X) → IsTrue (is_sorted nat_cmp m) → get m k ≡ Some x → test (k, x) ≡ false
+    → list_any test (without m k) ≡ list_any test m
 unfolding get without
 any_without_at test [] k x sorted there out = refl
 any_without_at {X} test (e ∷ m) k x sorted there out = elim (cases_Bool (e.0 == k)) as (λ _. list_any test (without (e ∷ m) k) ≡ list_any test (e ∷ m)) [
@@ -76,7 +80,8 @@ any_without_at {X} test (e ∷ m) k x sorted there out = elim (cases_Bool (e.0 =
   | inr apart ↦ rw apart (ap (λ b. test e || b) (any_without_at test m k x (sorted_parts e m sorted).1 (rw apart at there) out))
 ]
 
-module _ (m : Map Object) (sorted : IsTrue (is_sorted nat_cmp m)) (k : ℕ) (o : Object) (there : get m k ≡ Some o) (j : ℕ) (apart : is_child j o.body ≡ false) where
+module _ (m : Map Object) (sorted : IsTrue (is_sorted nat_cmp m)) (k : ℕ) (o : Object) (there : get m k ≡ Some o) (j : ℕ)
+    (apart : is_child j o.body ≡ false) where
   -- another job has its living children
   child_left : has_living_child (without m k) j ≡ has_living_child m j
   unfolding has_living_child
@@ -113,13 +118,17 @@ module _ (m n : Map Object) where
 
 module _ (f : Object → Object) (same : (o : Object) → (f o).body ≡ o.body) where
   pub changed_body : (m : Map Object) (k j : ℕ) (q : Object) → (c : Changed f m k j q) → q.body ≡ c.before.body
-  changed_body m k j q c = ap (λ (x : Object). x.body) c.is ∙ elim (k == j) as (λ b. (if b then f c.before else c.before).body ≡ c.before.body) [ true ↦ same c.before | false ↦ refl ]
+  changed_body m k j q c =
+      ap (λ (x : Object). x.body) c.is
+      ∙ elim (k == j) as (λ b. (if b then f c.before else c.before).body ≡ c.before.body) [ true ↦ same c.before | false ↦ refl ]
 
   job_updated : (m : Map Object) (k j : ℕ) → is_job_at (update m k f) j ≡ is_job_at m j
-  job_updated m k j = ap is_job_in (get-update m k f j) ∙ elim (cases_Bool (k == j)) as (λ _. is_job_in (if k == j then option_map f (get m j) else get m j) ≡ is_job_in (get m j)) [
-    | inl here ↦ rw here (by_object (get m j))
-    | inr apart ↦ rw apart refl
-  ]
+  job_updated m k j =
+      ap is_job_in (get-update m k f j)
+      ∙ elim (cases_Bool (k == j)) as (λ _. is_job_in (if k == j then option_map f (get m j) else get m j) ≡ is_job_in (get m j)) [
+        | inl here ↦ rw here (by_object (get m j))
+        | inr apart ↦ rw apart refl
+      ]
     where
       by_object : (o : Option Object) → is_job_in (option_map f o) ≡ is_job_in o
       by_object None = refl

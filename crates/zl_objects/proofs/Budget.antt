@@ -1,5 +1,8 @@
 -- What notes an object takes one place, and one object that handles name is fewer.
-use Rattle.zl_rights.proofs.Common.{◌≡◌, ◌+◌, ◌<◌, ◌≤◌, ℕ, true, false, ◌||◌, ◌==◌, List, [], ◌∷◌, ◌++◌, length, refl, sym, ap, ◌∙◌, cond, Option, Some, None, inl, inr, ◌⊎◌, IsTrue, arith, eq-eqb, nat_lt, if◌then◌else◌, count_by, drop, filter, get_or, has_key, is_some, list_any, map-append, slice_get, take, take_more, length-append, append_assoc, cases_Bool, eqb-true, false≢true, or_left, or_right, nat_tests, none-some, same_Some, Map, get, update, without}
+use Rattle.zl_rights.proofs.Common.{◌≡◌, ◌+◌, ◌<◌, ◌≤◌, ℕ, true, false, ◌||◌, ◌==◌, List, [], ◌∷◌, ◌++◌, length, refl, sym, ap, ◌∙◌, cond, Option, Some, None}
+use Rattle.zl_rights.proofs.Common.{inl, inr, ◌⊎◌, IsTrue, arith, eq-eqb, nat_lt, if◌then◌else◌, count_by, drop, filter, get_or, has_key, is_some, list_any}
+use Rattle.zl_rights.proofs.Common.{map-append, slice_get, take, take_more, length-append, append_assoc, cases_Bool, eqb-true, false≢true, or_left, or_right}
+use Rattle.zl_rights.proofs.Common.{nat_tests, none-some, same_Some, Map, get, update, without}
 use Rattle.std.proofs.lemmas.Bool.{or_cases, or_parts}
 use Rattle.std.proofs.lemmas.List.Concat.{flat_map-cons}
 use Rattle.std.specs.Option.{option_to_list}
@@ -83,7 +86,9 @@ less_thins m k j o at =
     record { before = c.before; there = c.there; waits = λ test left. ap (λ s. filter test s.waits) (signals_same c) }
   where
     signals_same : (c : Changed held_once_less m k j o) → o.signals ≡ c.before.signals
-    signals_same c = ap (λ (x : Object). x.signals) c.is ∙ elim (k == j) as (λ b. (if b then held_once_less c.before else c.before).signals ≡ c.before.signals) [ true ↦ refl | false ↦ refl ]
+    signals_same c =
+        ap (λ (x : Object). x.signals) c.is
+        ∙ elim (k == j) as (λ b. (if b then held_once_less c.before else c.before).signals ≡ c.before.signals) [ true ↦ refl | false ↦ refl ]
 
 pub last_went : (m : Map Object) (dying : List ℕ) (k : ℕ) → IsTrue (is_last (get m k)) → LetsGo (k ∷ []) m dying (update m k held_once_less) (dying ++ k ∷ [])
 unfolding budget
@@ -98,7 +103,8 @@ last_went m dying k last = record {
   thins = λ j o at. less_thins m k j o at;
 }
   where
-    by_key : (others : List ℕ) → AreKeptBut (others ++ dying) m → (j : ℕ) (q : Object) → Changed held_once_less m k j q → is_kept (update m k held_once_less) j q ≡ false → IsTrue (k == j) ⊎ ((k == j) ≡ false)
+    by_key : (others : List ℕ) → AreKeptBut (others ++ dying) m → (j : ℕ) (q : Object) → Changed held_once_less m k j q
+        → is_kept (update m k held_once_less) j q ≡ false → IsTrue (k == j) ⊎ ((k == j) ≡ false)
         → IsTrue (list_any (λ x. x == j) ((others ++ dying) ++ k ∷ []))
     by_key others old j q c unkept (inl here) = rw (eqb-true k j here) (noted_last j (others ++ dying))
     by_key others old j q c unkept (inr apart) =
@@ -118,12 +124,14 @@ other_went m dying k other = record {
   thins = λ j o at. less_thins m k j o at;
 }
   where
-    by_key : (others : List ℕ) → AreKeptBut (others ++ dying) m → (j : ℕ) (q : Object) → Changed held_once_less m k j q → is_kept (update m k held_once_less) j q ≡ false → IsTrue (k == j) ⊎ ((k == j) ≡ false)
+    by_key : (others : List ℕ) → AreKeptBut (others ++ dying) m → (j : ℕ) (q : Object) → Changed held_once_less m k j q
+        → is_kept (update m k held_once_less) j q ≡ false → IsTrue (k == j) ⊎ ((k == j) ≡ false)
         → IsTrue (list_any (λ x. x == j) (others ++ dying))
     by_key others old j q c unkept (inl here) =
         let same : q ≡ held_once_less c.before = c.is ∙ rw here refl in
         let not_last : is_last (Some c.before) ≡ false = ap is_last (sym c.there ∙ ap (get m) (sym (eqb-true k j here))) ∙ other in
-        let both = or_parts (nat_lt 0 (held_once_less c.before).handles) (stays_alone m j c.before.body) (rw (same, alone_updated held_once_less same_body m k j c.before.body) at unkept) in
+        let both = or_parts (nat_lt 0 (held_once_less c.before).handles) (stays_alone m j c.before.body)
+        (rw (same, alone_updated held_once_less same_body m k j c.before.body) at unkept) in
         old.noted j c.before c.there (rw both.1 (no_handle c.before both.0 not_last))
       where
         no_handle : (o : Object) → nat_lt 0 (held_once_less o).handles ≡ false → is_last (Some o) ≡ false → (nat_lt 0 o.handles || false) ≡ false
@@ -138,18 +146,24 @@ thin_refl : (m : Map Object) (k : ℕ) (o : Object) → get m k ≡ Some o → T
 thin_refl m k o at = record { before = o; there = at; waits = λ test left. refl }
 
 -- what thins, and then thins again
-pub thin_then : (m m2 m3 : Map Object) → ((k : ℕ) (o : Object) → get m2 k ≡ Some o → Thins m m2 k o) → ((k : ℕ) (o : Object) → get m3 k ≡ Some o → Thins m2 m3 k o) → (k : ℕ) (o : Object) → get m3 k ≡ Some o → Thins m m3 k o
+pub thin_then : (m m2 m3 : Map Object) → ((k : ℕ) (o : Object) → get m2 k ≡ Some o → Thins m m2 k o)
+    → ((k : ℕ) (o : Object) → get m3 k ≡ Some o → Thins m2 m3 k o) → (k : ℕ) (o : Object) → get m3 k ≡ Some o → Thins m m3 k o
 thin_then m m2 m3 first later k o at =
     let new : Thins m2 m3 k o = later k o at in
     let old : Thins m m2 k new.before = first k new.before new.there in
-    record { before = old.before; there = old.there; waits = λ test left. new.waits test left ∙ old.waits test (λ x takes. there_before x.port (get m3 x.port) refl (left x takes)) }
+    record {
+      before = old.before;
+      there = old.there;
+      waits = λ test left. new.waits test left ∙ old.waits test (λ x takes. there_before x.port (get m3 x.port) refl (left x takes));
+    }
   where
     there_before : (p : ℕ) (q : Option Object) → get m3 p ≡ q → IsTrue (is_some q) → IsTrue (has_key m2 p)
     there_before p None is h = absurd (false≢true h)
     there_before p (Some q) is h = rw ((later p q is).there) refl
 
 pub none_went : (m : Map Object) (dying : List ℕ) → LetsGo [] m dying m dying
-none_went m dying = record { cheap = omega arith; notes = λ others old. old; leads = λ rest m3 tail. tail; places = λ have. have; thins = λ k o at. thin_refl m k o at }
+none_went m dying =
+    record { cheap = omega arith; notes = λ others old. old; leads = λ rest m3 tail. tail; places = λ have. have; thins = λ k o at. thin_refl m k o at }
 
 pub both_went : (ks ls : List ℕ) (m m2 m3 : Map Object) (d d2 d3 : List ℕ) → LetsGo ks m d m2 d2 → LetsGo ls m2 d2 m3 d3 → LetsGo (ks ++ ls) m d m3 d3
 both_went ks ls m m2 m3 d d2 d3 a b = record {
@@ -190,12 +204,21 @@ module _ (m : Map Object) (d : List ℕ) (k : ℕ) where
       → LetsGo (named_in (queue_of o.body)) (ending_waits k o (without m k)) (d ++ option_to_list (keeper_of o.body)) m2 d2 → LetsGo [] m (d ++ k ∷ []) m2 d2
   unfolding budget
   unkept_went o m2 d2 there unkept once queue = record {
-    cheap = omega (arith, queue.cheap, length-append d (k ∷ []), length-append d keeper, few_keepers (keeper_of o.body), sum_left (λ e. cond (is_named e) 1 0) m k, named_same (without m k) mid same);
+    cheap = omega (
+      arith,
+      queue.cheap,
+      length-append d (k ∷ []),
+      length-append d keeper,
+      few_keepers (keeper_of o.body),
+      sum_left (λ e. cond (is_named e) 1 0) m k,
+      named_same (without m k) mid same,
+    );
     notes = λ others old. queue.notes others (still_kept (without m k) mid same (others ++ (d ++ keeper)) (record {
       in_order = sorted_without m k old.in_order;
       noted = λ j q at loose. by_child others old j q (found_left m k j q at) loose (cases_Bool (is_child j o.body));
     }));
-    leads = λ rest m3 tail. goes k o rest m m3 there unkept (waits_end (named_in (queue_of o.body) ++ rest) (without m k) mid m3 same (queue.leads rest m3 tail));
+    leads =
+        λ rest m3 tail. goes k o rest m m3 there unkept (waits_end (named_in (queue_of o.body) ++ rest) (without m k) mid m3 same (queue.leads rest m3 tail));
     places = λ have. queue.places (ending_places m k o there once have);
     thins = thin_then m mid m2 (λ j q at. ending_thins m k o j q (ending_gone m k o (λ n is. has_same (without m k) n is k)) at) queue.thins;
   }
@@ -209,15 +232,25 @@ module _ (m : Map Object) (d : List ℕ) (k : ℕ) where
       same : AreSameButWaits (without m k) mid
       same = ending_bare k o (without m k)
 
-      by_child : (others : List ℕ) → AreKeptBut (others ++ (d ++ k ∷ [])) m → (j : ℕ) (q : Object) → ((k == j) ≡ false) × (get m j ≡ Some q) → is_kept (without m k) j q ≡ false → IsTrue (is_child j o.body) ⊎ (is_child j o.body ≡ false) → IsTrue (list_any (λ x. x == j) (others ++ (d ++ keeper)))
+      by_child : (others : List ℕ) → AreKeptBut (others ++ (d ++ k ∷ [])) m → (j : ℕ) (q : Object)
+          → ((k == j) ≡ false) × (get m j ≡ Some q) → is_kept (without m k) j q ≡ false → IsTrue (is_child j o.body) ⊎ (is_child j o.body ≡ false)
+          → IsTrue (list_any (λ x. x == j) (others ++ (d ++ keeper)))
       by_child others old j q was loose (inl child) = noted_right j others (d ++ keeper) (noted_right j d keeper (keeper_noted j (keeper_of o.body) child))
       by_child others old j q was loose (inr apart) = rw (← append_assoc others d keeper) (noted_left j (others ++ d) keeper
-          (noted_before j k (others ++ d) was.0 (rw (append_assoc others d (k ∷ [])) (old.noted j q was.1 (rw (← alone_left m old.in_order k o there j apart q.body) loose)))))
+          (noted_before j k (others ++ d) was.0
+          (rw (append_assoc others d (k ∷ [])) (old.noted j q was.1 (rw (← alone_left m old.in_order k o there j apart q.body) loose)))))
 
   -- what it takes is no more
   pub less_ending : (o : Object) → budget (ending_waits k o (without m k)) (d ++ option_to_list (keeper_of o.body)) ≤ budget m (d ++ k ∷ [])
   unfolding budget
-  less_ending o = omega (arith, length-append d (k ∷ []), length-append d (option_to_list (keeper_of o.body)), few_keepers (keeper_of o.body), sum_left (λ e. cond (is_named e) 1 0) m k, named_same (without m k) (ending_waits k o (without m k)) (ending_bare k o (without m k)))
+  less_ending o = omega (
+    arith,
+    length-append d (k ∷ []),
+    length-append d (option_to_list (keeper_of o.body)),
+    few_keepers (keeper_of o.body),
+    sum_left (λ e. cond (is_named e) 1 0) m k,
+    named_same (without m k) (ending_waits k o (without m k)) (ending_bare k o (without m k)),
+  )
 
   -- and there is one object less
   pub fewer_ending : (o : Object) → get m k ≡ Some o → length (ending_waits k o (without m k)) < length m
@@ -307,9 +340,11 @@ popped_less m d left k is = rw is (omega (arith, length-append left (k ∷ [])))
 
 -- ---- handles one after another
 
-pub handle_went : (es : List Entry) (i : ℕ) (e : Entry) → i < length es → (m m2 m3 : Map Object) (d d2 d3 : List ℕ) → LetsGo (koids_of (take i es)) m d m2 d2 → LetsGo ((get_or es i e).koid ∷ []) m2 d2 m3 d3 → LetsGo (koids_of (take (i + 1) es)) m d m3 d3
+pub handle_went : (es : List Entry) (i : ℕ) (e : Entry) → i < length es → (m m2 m3 : Map Object) (d d2 d3 : List ℕ) → LetsGo (koids_of (take i es)) m d m2 d2
+    → LetsGo ((get_or es i e).koid ∷ []) m2 d2 m3 d3 → LetsGo (koids_of (take (i + 1) es)) m d m3 d3
 handle_went es i e within m m2 m3 d d2 d3 before last =
-    rw (take_more es i e within, map-append (λ (x : Entry). x.koid) (take i es) (get_or es i e ∷ [])) (both_went (koids_of (take i es)) ((get_or es i e).koid ∷ []) m m2 m3 d d2 d3 before last)
+    rw (take_more es i e within, map-append (λ (x : Entry). x.koid) (take i es) (get_or es i e ∷ []))
+    (both_went (koids_of (take i es)) ((get_or es i e).koid ∷ []) m m2 m3 d d2 d3 before last)
 
 -- the first message of a queue, and then the others
 pub message_went : (q q2 : List Message) (first : Message) (es : List Entry) → slice_get q 0 ≡ Some first → q2 ≡ drop 1 q → es ≡ first.handles

@@ -1,5 +1,6 @@
 -- What std's map from koids holds after a read or a write, in the words of the definitions.
-use Rattle.zl_rights.proofs.Common.{◌≡◌, ◌<◌, ◌==◌, ℕ, Bool, true, false, ◌||◌, [], ◌∷◌, ◌++◌, refl, sym, ap, ◌∙◌, cond, Some, None, arith, eq-eqb, IsTrue, is_some, list_any, nat_cmp, nat_tests, Map, get, put, update, without, has_key}
+use Rattle.zl_rights.proofs.Common.{◌≡◌, ◌<◌, ◌==◌, ℕ, Bool, true, false, ◌||◌, [], ◌∷◌, ◌++◌, refl, sym, ap, ◌∙◌, cond, Some, None, arith, eq-eqb, IsTrue}
+use Rattle.zl_rights.proofs.Common.{is_some, list_any, nat_cmp, nat_tests, Map, get, put, update, without, has_key}
 use Rattle.std.specs.Cmp.{unsigned_tied}
 use Rattle.std.specs.Map.{lookup, set_value, remove_entry, values_of}
 use Rattle.std.specs.BTreeMap.{is_at, insert_entry}
@@ -38,7 +39,8 @@ module _ {X : Type 0} where
   value_set (e ∷ es) k f v there = grind (arith, nat_tests, value_set es k f v, unsigned_tied k e.0)
 
   -- the map after a write to what was found
-  pub written : (es new : Map X) (k : ℕ) (f : X → X) (v w : X) → Some v ≡ lookup (is_at (nat_cmp k)) es → w ≡ f v → new ≡ set_value (is_at (nat_cmp k)) es w → new ≡ update es k f
+  pub written : (es new : Map X) (k : ℕ) (f : X → X) (v w : X) → Some v ≡ lookup (is_at (nat_cmp k)) es → w ≡ f v → new ≡ set_value (is_at (nat_cmp k)) es w
+      → new ≡ update es k f
   written es new k f v w there is set = set ∙ (ap (set_value (is_at (nat_cmp k)) es) is ∙ value_set es k f v there)
 
   -- where nothing was found nothing changes
@@ -52,7 +54,8 @@ module _ {X : Type 0} where
   without_missing (e ∷ es) k none = grind (arith, nat_tests, without_missing es k)
 
   -- without the first entry with a key, where no other has it
-  pub entry_removed : (es : Map X) (k : ℕ) → lookup (is_at (nat_cmp k)) (remove_entry (is_at (nat_cmp k)) es) ≡ None → remove_entry (is_at (nat_cmp k)) es ≡ without es k
+  pub entry_removed : (es : Map X) (k : ℕ) → lookup (is_at (nat_cmp k)) (remove_entry (is_at (nat_cmp k)) es) ≡ None
+      → remove_entry (is_at (nat_cmp k)) es ≡ without es k
   unfolding without
   entry_removed [] k gone = refl
   entry_removed (e ∷ es) k gone = grind (arith, nat_tests, entry_removed es k, unsigned_tied k e.0, looked_up es k, without_missing es k)

@@ -10,10 +10,12 @@ one_up m job i k within = let step : 16 - i ≡ suc (16 - (i + 1)) = omega (arit
 
 -- the job stands directly above
 pub met : (m : Map Object) (job i k above : ℕ) → i < 16 → above ≡ parent_at m k → above ≡ job → is_below_by m job (16 - i) k ≡ true
-met m job i k above within is same = one_up m job i k within ∙ ap (λ b. b || is_below_by m job (16 - (i + 1)) (parent_at m k)) (eq-eqb (parent_at m k) job (sym is ∙ same))
+met m job i k above within is same =
+    one_up m job i k within ∙ ap (λ b. b || is_below_by m job (16 - (i + 1)) (parent_at m k)) (eq-eqb (parent_at m k) job (sym is ∙ same))
 
 -- another stands directly above
-pub passed : (m : Map Object) (job i k above : ℕ) → i < 16 → above ≡ parent_at m k → above ≢ job → is_below_by m job (16 - i) k ≡ is_below_by m job (16 - (i + 1)) above
+pub passed : (m : Map Object) (job i k above : ℕ) → i < 16 → above ≡ parent_at m k → above ≢ job
+    → is_below_by m job (16 - i) k ≡ is_below_by m job (16 - (i + 1)) above
 passed m job i k above within is other = one_up m job i k within ∙ rw (← is, ne_eqb above job other) refl
 
 -- the same parents have the same below them

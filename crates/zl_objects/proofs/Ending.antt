@@ -1,5 +1,7 @@
 -- The waits that end with an object that goes: its own, and those that give their packets to it.
-use Rattle.zl_rights.proofs.Common.{◌≡◌, ◌+◌, ◌<◌, ◌⊎◌, ℕ, Bool, true, false, not, ◌==◌, List, [], ◌∷◌, drop, filter, length, refl, sym, ap, ◌∙◌, subst, cond, Option, Some, None, inl, inr, IsTrue, arith, eq-eqb, nat_lt, if◌then◌else◌, option_map, slice_get, count_by, sum_by, sum_by-cons, cases_Bool, eqb-true, false≢true, none-some, same_Some, nat_tests, Map, get, has_key, update, without, each}
+use Rattle.zl_rights.proofs.Common.{◌≡◌, ◌+◌, ◌<◌, ◌⊎◌, ℕ, Bool, true, false, not, ◌==◌, List, [], ◌∷◌, drop, filter, length, refl, sym, ap, ◌∙◌, subst, cond}
+use Rattle.zl_rights.proofs.Common.{Option, Some, None, inl, inr, IsTrue, arith, eq-eqb, nat_lt, if◌then◌else◌, option_map, slice_get, count_by, sum_by}
+use Rattle.zl_rights.proofs.Common.{sum_by-cons, cases_Bool, eqb-true, false≢true, none-some, same_Some, nat_tests, Map, get, has_key, update, without, each}
 use Rattle.std.specs.Prelude.{◌-◌}
 use Rattle.zl_rights.proofs.MapLaws.{get-each, get-update}
 use Rattle.zl_table.proofs.MapEdits.{get-without}
@@ -17,9 +19,11 @@ use Rattle.zl_objects.proofs.Sums.{sum_same, sum_taken, sum_updated}
 
 -- ---- the steps of the code
 
-pub given_back : (xs ys : List Watch) (x : Watch) (m n : Map Object) → slice_get xs 0 ≡ Some x → ys ≡ drop 1 xs → n ≡ update m x.port (at_port without_place) → giving_back ys n ≡ giving_back xs m
+pub given_back : (xs ys : List Watch) (x : Watch) (m n : Map Object) → slice_get xs 0 ≡ Some x → ys ≡ drop 1 xs → n ≡ update m x.port (at_port without_place)
+    → giving_back ys n ≡ giving_back xs m
 given_back [] ys x m n there rest is = absurd (none-some x there)
-given_back (y ∷ xs) ys x m n there rest is = λ i. giving_back (rest i) ((is ∙ ap (λ (z : Watch). update m z.port (at_port without_place)) (sym (same_Some y x there))) i)
+given_back (y ∷ xs) ys x m n there rest is =
+    λ i. giving_back (rest i) ((is ∙ ap (λ (z : Watch). update m z.port (at_port without_place)) (sym (same_Some y x there))) i)
 
 pub fewer_waits : (xs ys : List Watch) (x : Watch) → slice_get xs 0 ≡ Some x → ys ≡ drop 1 xs → length ys < length xs
 fewer_waits [] ys x there rest = absurd (none-some x there)
@@ -30,7 +34,8 @@ none_to_give [] m none = refl
 none_to_give (x ∷ xs) m none = absurd (none-some x (sym none))
 
 -- what was read of the object before it went
-pub ended_by : (m n : Map Object) (k : ℕ) (o : Object) (reserved : Bool) → get m k ≡ Some o → n ≡ without m k → reserved ≡ nat_lt 0 (reserved_in (get m k)) → ending_port k reserved (giving_back o.signals.waits n) ≡ ending_waits k o (without m k)
+pub ended_by : (m n : Map Object) (k : ℕ) (o : Object) (reserved : Bool) → get m k ≡ Some o → n ≡ without m k → reserved ≡ nat_lt 0 (reserved_in (get m k))
+    → ending_port k reserved (giving_back o.signals.waits n) ≡ ending_waits k o (without m k)
 ended_by m n k o reserved there left is = λ i. ending_port k ((is ∙ ap (λ q. nat_lt 0 (reserved_in q)) there) i) (giving_back o.signals.waits (left i))
 
 -- ---- nothing but waits and places changes
@@ -63,7 +68,8 @@ each_bare k [] = refl
 each_bare k (e ∷ m) = λ i. (e.0, bare e.1) ∷ each_bare k m i
 
 ending_port_bare : (k : ℕ) (reserved : Bool) (m : Map Object) → AreSameButWaits m (ending_port k reserved m)
-ending_port_bare k reserved m = elim reserved as (λ b. AreSameButWaits m (if b then each (λ j. without_port_waits k) m else m)) [ true ↦ each_bare k m | false ↦ refl ]
+ending_port_bare k reserved m =
+    elim reserved as (λ b. AreSameButWaits m (if b then each (λ j. without_port_waits k) m else m)) [ true ↦ each_bare k m | false ↦ refl ]
 
 -- what is left is the same but for waits
 pub ending_bare : (k : ℕ) (o : Object) (m : Map Object) → AreSameButWaits m (ending_waits k o m)
@@ -93,7 +99,8 @@ update_still m p k o at =
     record {
       before = c.before;
       there = c.there;
-      same = ap (λ (x : Object). x.signals) c.is ∙ elim (p == k) as (λ b. (if b then at_port without_place c.before else c.before).signals ≡ c.before.signals) [ true ↦ refl | false ↦ refl ];
+      same = ap (λ (x : Object). x.signals) c.is
+          ∙ elim (p == k) as (λ b. (if b then at_port without_place c.before else c.before).signals ≡ c.before.signals) [ true ↦ refl | false ↦ refl ];
     }
 
 giving_still : (xs : List Watch) (m : Map Object) (k : ℕ) (o : Object) → get (giving_back xs m) k ≡ Some o → IsStill m k o
@@ -108,7 +115,8 @@ module _ (m m2 : Map Object) (k : ℕ) (gone : has_key m2 k ≡ false) where
   port_thins : (n : Bool) (j : ℕ) (o : Object) → get (ending_port k n m) j ≡ Some o → m2 ≡ ending_port k n m → Thins m m2 j o
   port_thins n j o at is = by_test n at
     where
-      apart : (test : Watch → Bool) → ((x : Watch) → IsTrue (test x) → IsTrue (has_key m2 x.port)) → (x : Watch) → IsTrue (test x) → IsTrue (not (is_at_port k x))
+      apart : (test : Watch → Bool) → ((x : Watch) → IsTrue (test x) → IsTrue (has_key m2 x.port)) → (x : Watch) → IsTrue (test x)
+          → IsTrue (not (is_at_port k x))
       apart test left x takes = elim (cases_Bool (x.port == k)) as (λ _. IsTrue (not (is_at_port k x))) [
         | inl here ↦ absurd (false≢true (sym gone ∙ subst (λ (p : ℕ). IsTrue (has_key m2 p)) (eqb-true x.port k here) (left x takes)))
         | inr other ↦ rw other refl
@@ -129,10 +137,12 @@ module _ (m m2 : Map Object) (k : ℕ) (gone : has_key m2 k ≡ false) where
       by_test false read = record { before = o; there = read; waits = λ test left. refl }
 
 -- where k has gone, the waits of the others are left whose port isn't k
-pub ending_thins : (m : Map Object) (k : ℕ) (gone : Object) (j : ℕ) (o : Object) → has_key (ending_waits k gone (without m k)) k ≡ false → get (ending_waits k gone (without m k)) j ≡ Some o → Thins m (ending_waits k gone (without m k)) j o
+pub ending_thins : (m : Map Object) (k : ℕ) (gone : Object) (j : ℕ) (o : Object) → has_key (ending_waits k gone (without m k)) k ≡ false
+    → get (ending_waits k gone (without m k)) j ≡ Some o → Thins m (ending_waits k gone (without m k)) j o
 ending_thins m k gone j o out at =
     let mid : Map Object = giving_back gone.signals.waits (without m k) in
-    let later : Thins mid (ending_waits k gone (without m k)) j o = port_thins mid (ending_waits k gone (without m k)) k out (nat_lt 0 (reserved_of gone.body)) j o at refl in
+    let later : Thins mid (ending_waits k gone (without m k)) j o =
+    port_thins mid (ending_waits k gone (without m k)) k out (nat_lt 0 (reserved_of gone.body)) j o at refl in
     let first : IsStill (without m k) j later.before = giving_still gone.signals.waits (without m k) j later.before later.there in
     record {
       before = first.before;
@@ -143,10 +153,12 @@ ending_thins m k gone j o out at =
 -- ---- their places
 
 reserved_back : (m : Map Object) (p j : ℕ) → reserved_in (get (update m p (at_port without_place)) j) ≡ reserved_in (get m j) - cond (p == j) 1 0
-reserved_back m p j = ap reserved_in (get-update m p (at_port without_place) j) ∙ elim (p == j) as (λ b. reserved_in (if b then option_map (at_port without_place) (get m j) else get m j) ≡ reserved_in (get m j) - cond b 1 0) [
-  | true ↦ by_object (get m j)
-  | false ↦ omega arith
-]
+reserved_back m p j =
+    ap reserved_in (get-update m p (at_port without_place) j)
+    ∙ elim (p == j) as (λ b. reserved_in (if b then option_map (at_port without_place) (get m j) else get m j) ≡ reserved_in (get m j) - cond b 1 0) [
+      | true ↦ by_object (get m j)
+      | false ↦ omega arith
+    ]
   where
     by_body : (b : Body) → reserved_of (changed_port without_place b) ≡ reserved_of b - 1
     by_body (body.Job own) = refl
@@ -161,7 +173,12 @@ reserved_back m p j = ap reserved_in (get-update m p (at_port without_place) j) 
 
 giving_reserved : (xs : List Watch) (m : Map Object) (j : ℕ) → reserved_in (get (giving_back xs m) j) ≡ reserved_in (get m j) - count_by (is_at_port j) xs
 giving_reserved [] m j = omega arith
-giving_reserved (x ∷ xs) m j = omega (arith, sum_by-cons (λ (y : Watch). cond (is_at_port j y) 1 0) x xs, reserved_back m x.port j, giving_reserved xs (update m x.port (at_port without_place)) j)
+giving_reserved (x ∷ xs) m j = omega (
+  arith,
+  sum_by-cons (λ (y : Watch). cond (is_at_port j y) 1 0) x xs,
+  reserved_back m x.port j,
+  giving_reserved xs (update m x.port (at_port without_place)) j,
+)
 
 giving_waits : (xs : List Watch) (m : Map Object) (j : ℕ) → waits_at (giving_back xs m) j ≡ waits_at m j
 giving_waits [] m j = refl
@@ -207,7 +224,12 @@ module _ (k j : ℕ) (apart : (k == j) ≡ false) where
 each_none : (k : ℕ) (m : Map Object) → ◌≡◌ {A = ℕ} (waits_at (each (λ j. without_port_waits k) m) k) 0
 unfolding each
 each_none k [] = refl
-each_none k (e ∷ m) = omega (arith, sum_by-cons (λ (x : ℕ × Object). waits_for k x.1) (e.0, without_port_waits k e.1) (each (λ j. without_port_waits k) m), none_at k e.1.signals.waits, each_none k m)
+each_none k (e ∷ m) = omega (
+  arith,
+  sum_by-cons (λ (x : ℕ × Object). waits_for k x.1) (e.0, without_port_waits k e.1) (each (λ j. without_port_waits k) m),
+  none_at k e.1.signals.waits,
+  each_none k m,
+)
 
 each_reserved : (k j : ℕ) (m : Map Object) → reserved_in (get (each (λ i. without_port_waits k) m) j) ≡ reserved_in (get m j)
 each_reserved k j m = ap reserved_in (get-each m (λ i. without_port_waits k) j) ∙ by_object (get m j)
@@ -257,14 +279,17 @@ ending_places m k o there once have j = by_key (cases_Bool (k == j))
         other apart (nat_lt 0 (reserved_of o.body)) (omega (arith, fewer, have j, reserved, still))
 
 -- k has gone
-pub ending_gone : (m : Map Object) (k : ℕ) (o : Object) → ((n : Map Object) → AreSameButWaits (without m k) n → has_key n k ≡ has_key (without m k) k) → has_key (ending_waits k o (without m k)) k ≡ false
+pub ending_gone : (m : Map Object) (k : ℕ) (o : Object) → ((n : Map Object) → AreSameButWaits (without m k) n → has_key n k ≡ has_key (without m k) k)
+    → has_key (ending_waits k o (without m k)) k ≡ false
 ending_gone m k o same = same (ending_waits k o (without m k)) (ending_bare k o (without m k)) ∙ rw (get-without m k k, eq-eqb k k refl) refl
 
 -- ---- every wait has its port
 
 wait_counts : (K : ℕ → Bool) (xs : List Watch) → ((p : ℕ) → 0 < count_by (is_at_port p) xs → IsTrue (K p)) → filter (λ x. K x.port) xs ≡ xs
 wait_counts K [] each_there = refl
-wait_counts K (x ∷ xs) each_there = rw first (ap (λ (ys : List Watch). x ∷ ys) (wait_counts K xs (λ p some. each_there p (omega (arith, some, sum_by-cons (λ (y : Watch). cond (is_at_port p y) 1 0) x xs)))))
+wait_counts K (x ∷ xs) each_there =
+    rw first (ap (λ (ys : List Watch). x ∷ ys)
+    (wait_counts K xs (λ p some. each_there p (omega (arith, some, sum_by-cons (λ (y : Watch). cond (is_at_port p y) 1 0) x xs)))))
   where
     one : ◌≡◌ {A = ℕ} (cond (is_at_port x.port x) 1 0) 1
     one = rw (eq-eqb x.port x.port refl) refl
@@ -272,7 +297,8 @@ wait_counts K (x ∷ xs) each_there = rw first (ap (λ (ys : List Watch). x ∷ 
     first : IsTrue (K x.port)
     first = each_there x.port (omega (arith, one, sum_by-cons (λ (y : Watch). cond (is_at_port x.port y) 1 0) x xs))
 
-pub all_ports_there : (m : Map Object) → HavePlaces m → (k : ℕ) (o : Object) → get m k ≡ Some o → filter (λ (x : Watch). has_key m x.port) o.signals.waits ≡ o.signals.waits
+pub all_ports_there : (m : Map Object) → HavePlaces m → (k : ℕ) (o : Object) → get m k ≡ Some o
+    → filter (λ (x : Watch). has_key m x.port) o.signals.waits ≡ o.signals.waits
 all_ports_there m have k o at =
     wait_counts (has_key m) o.signals.waits (λ p some. by_object p (get m p) refl
     (omega (arith, some, have p, sum_updated (λ (e : ℕ × Object). waits_for p e.1) m k o (without_port_waits p) at, none_at p o.signals.waits)))

@@ -1,5 +1,6 @@
 -- Tests of a map in order, and what get finds.
-use Rattle.zl_rights.proofs.Common.{◌≡◌, ℕ, Bool, true, false, ◌||◌, ◌==◌, ◌⊎◌, [], ◌∷◌, refl, sym, ap, ◌∙◌, Some, None, inl, inr, IsTrue, eq-eqb, list_any, nat_cmp, is_sorted, below_all, cases_Bool, eqb-true, false≢true, or_left, or_right, none-some, same_Some, Map, get}
+use Rattle.zl_rights.proofs.Common.{◌≡◌, ℕ, Bool, true, false, ◌||◌, ◌==◌, ◌⊎◌, [], ◌∷◌, refl, sym, ap, ◌∙◌, Some, None, inl, inr, IsTrue, eq-eqb, list_any}
+use Rattle.zl_rights.proofs.Common.{nat_cmp, is_sorted, below_all, cases_Bool, eqb-true, false≢true, or_left, or_right, none-some, same_Some, Map, get}
 use Rattle.std.proofs.lemmas.Bool.{or_cases}
 use Rattle.zl_table.proofs.MapEdits.{sorted_parts, without_lower, get-without}
 
@@ -32,8 +33,10 @@ module _ {X : Type 0} where
       same : (j : ℕ) → (j == j) ≡ true
       same j = eq-eqb j j refl
 
-      behind : (found : Found test m) → (IsTrue (e.0 == found.key)) ⊎ ((e.0 == found.key) ≡ false) → IsTrue (below_all nat_cmp e.0 m) → get (e ∷ m) found.key ≡ Some found.value
-      behind found (inl here) below = absurd (none-some found.value (sym (lower_missing e.0 m below) ∙ (ap (λ (k : ℕ). get m k) (eqb-true e.0 found.key here) ∙ found.at)))
+      behind : (found : Found test m) → (IsTrue (e.0 == found.key)) ⊎ ((e.0 == found.key) ≡ false) → IsTrue (below_all nat_cmp e.0 m)
+          → get (e ∷ m) found.key ≡ Some found.value
+      behind found (inl here) below =
+          absurd (none-some found.value (sym (lower_missing e.0 m below) ∙ (ap (λ (k : ℕ). get m k) (eqb-true e.0 found.key here) ∙ found.at)))
       behind found (inr apart) below = rw apart found.at
 
   pub any_at : (test : ℕ × X → Bool) (m : Map X) (k : ℕ) (v : X) → get m k ≡ Some v → IsTrue (test (k, v)) → IsTrue (list_any test m)

@@ -1,5 +1,6 @@
 -- The invariant of the objects and of the list of all waits, after each change.
-use Rattle.zl_rights.proofs.Common.{◌≡◌, ◌<◌, ◌≤◌, ◌+◌, ◌==◌, ◌&&◌, ℕ, Bool, false, List, [], ◌∷◌, ◌++◌, length, refl, ap, ◌∙◌, Option, Some, None, IsTrue, filter, find, nat_cmp, Map, get, update, has_key}
+use Rattle.zl_rights.proofs.Common.{◌≡◌, ◌<◌, ◌≤◌, ◌+◌, ◌==◌, ◌&&◌, ℕ, Bool, false, List, [], ◌∷◌, ◌++◌, length, refl, ap, ◌∙◌, Option, Some, None, IsTrue}
+use Rattle.zl_rights.proofs.Common.{filter, find, nat_cmp, Map, get, update, has_key}
 use Rattle.std.specs.Prelude.{◌-◌, ◌↔◌, IfNone, IfSome, IsSome, Result, OnOk, OnErr}
 use Rattle.std.specs.Map.{lookup, set_value}
 use Rattle.std.specs.BTreeMap.{BTreeMap, is_at, insert_entry, IsUnchanged, IsUpperBound, Updates}
@@ -16,10 +17,13 @@ use Rattle.zl_objects.specs.Listed.{is_there, wait_value, watch_of}
 use Rattle.zl_objects.specs.Ports.{at_port, is_port_at, reserved_in, reserved_of}
 use Rattle.zl_objects.specs.Release.{Cascades}
 use Rattle.zl_objects.specs.Waits.{HavePlaces, unwatched, waits_in, watched}
-use Rattle.zl_objects.proofs.Listed.{inserted_listed, left_listed, none_listed, popped_listed, unwatched_listed, updated_listed, updated_or_listed, watched_listed}
+use Rattle.zl_objects.proofs.Listed.{inserted_listed, left_listed, none_listed, popped_listed, unwatched_listed, updated_listed, updated_or_listed}
+use Rattle.zl_objects.proofs.Listed.{watched_listed}
 use Rattle.zl_objects.proofs.Released.{waits_left, whole_left}
 use Rattle.zl_objects.proofs.Tasks.{killed_kept, started_kept}
-use Rattle.zl_objects.proofs.Whole.{below_first, changed_whole, channel_whole, end_of, gone_whole, inserted_whole, made_whole, more_quiet, more_whole, none_out_whole, none_whole, popped_whole, port_or_same_whole, port_whole, received_whole, roomy_whole, sent_or_same_whole, stopped_whole, watched_whole}
+use Rattle.zl_objects.proofs.Whole.{below_first, changed_whole, channel_whole, end_of, gone_whole, inserted_whole, made_whole, more_quiet, more_whole}
+use Rattle.zl_objects.proofs.Whole.{none_out_whole, none_whole, popped_whole, port_or_same_whole, port_whole, received_whole, roomy_whole, sent_or_same_whole}
+use Rattle.zl_objects.proofs.Whole.{stopped_whole, watched_whole}
 
 pub none_kept : (m : Map Object) (next room : ℕ) (d : List ℕ) (waits : List WaitValue) → m ≡ [] → d ≡ [] → waits ≡ [] → IsKept None m next d room waits
 none_kept m next room d waits none empty no_waits = record { whole = none_whole m next room d none empty; listed = none_listed waits m no_waits none }
@@ -27,44 +31,52 @@ none_kept m next room d waits none empty no_waits = record { whole = none_whole 
 module _ {waits : List WaitValue} where
   -- ---- one of the objects is written
 
-  pub more_kept : (m n : Map Object) (next room k : ℕ) (d : List ℕ) → IsKept None m next d room waits → n ≡ update m k held_once_more → IsKept None n next d room waits
+  pub more_kept : (m n : Map Object) (next room k : ℕ) (d : List ℕ) → IsKept None m next d room waits → n ≡ update m k held_once_more
+      → IsKept None n next d room waits
   more_kept m n next room k d kept is = record {
     whole = more_whole m n next room k d kept.whole is;
     listed = updated_listed held_once_more (λ o. ap (λ (s : SignalState). s.waits) (more_quiet o)) waits m n k kept.listed is;
   }
 
-  pub changed_kept : (m n : Map Object) (next room k clear set : ℕ) (d : List ℕ) → IsKept None m next d room waits → n ≡ update m k (raised_changed clear set) → IsKept None n next d room waits
+  pub changed_kept : (m n : Map Object) (next room k clear set : ℕ) (d : List ℕ) → IsKept None m next d room waits → n ≡ update m k (raised_changed clear set)
+      → IsKept None n next d room waits
   changed_kept m n next room k clear set d kept is = record {
     whole = changed_whole m n next room k clear set d kept.whole is;
     listed = updated_listed (raised_changed clear set) (λ o. refl) waits m n k kept.listed is;
   }
 
-  pub port_kept : (g : Port → Port) → ((p : Port) → (g p).reserved ≡ p.reserved) → (m n : Map Object) (next room k : ℕ) (d : List ℕ) → IsKept None m next d room waits → n ≡ update m k (at_port g) → IsKept None n next d room waits
+  pub port_kept : (g : Port → Port) → ((p : Port) → (g p).reserved ≡ p.reserved) → (m n : Map Object) (next room k : ℕ) (d : List ℕ)
+      → IsKept None m next d room waits → n ≡ update m k (at_port g) → IsKept None n next d room waits
   port_kept g same m n next room k d kept is = record {
     whole = port_whole g same m n next room k d kept.whole is;
     listed = updated_listed (at_port g) (λ o. refl) waits m n k kept.listed is;
   }
 
-  pub stopped_kept : (m n : Map Object) (next room k : ℕ) (d : List ℕ) → IsKept None m next d room waits → n ≡ update m k stopped → IsKept None n next d room waits
+  pub stopped_kept : (m n : Map Object) (next room k : ℕ) (d : List ℕ) → IsKept None m next d room waits → n ≡ update m k stopped
+      → IsKept None n next d room waits
   stopped_kept m n next room k d kept is = record {
     whole = stopped_whole m n next room k d kept.whole is;
     listed = updated_listed stopped (λ o. refl) waits m n k kept.listed is;
   }
 
-  pub received_kept : (m n : Map Object) (next room k : ℕ) (d : List ℕ) → IsKept None m next d room waits → n ≡ update m k received → IsKept None n next d room waits
+  pub received_kept : (m n : Map Object) (next room k : ℕ) (d : List ℕ) → IsKept None m next d room waits → n ≡ update m k received
+      → IsKept None n next d room waits
   received_kept m n next room k d kept is = record {
     whole = received_whole m n next room k d kept.whole is;
     listed = updated_listed received (λ o. refl) waits m n k kept.listed is;
   }
 
-  pub sent_or_same_kept : {A B : Type 0} (m n : Map Object) (next room k : ℕ) (d : List ℕ) (message : Message) (v w : Object) (r : Result A B) → IsKept None m next d room waits → OnOk r (w ≡ sent message v) → OnErr r (w ≡ v)
+  pub sent_or_same_kept : {A B : Type 0} (m n : Map Object) (next room k : ℕ) (d : List ℕ) (message : Message) (v w : Object) (r : Result A B)
+      → IsKept None m next d room waits → OnOk r (w ≡ sent message v) → OnErr r (w ≡ v)
       → Some v ≡ lookup (is_at (nat_cmp k)) m → n ≡ set_value (is_at (nat_cmp k)) m w → IsKept None n next d room waits
   sent_or_same_kept m n next room k d message v w r kept is other there set = record {
     whole = sent_or_same_whole m n next room k d message v w r kept.whole is other there set;
     listed = updated_or_listed (sent message) (λ o. refl) waits m n k v w r kept.listed is other there set;
   }
 
-  pub port_or_same_kept : {A B : Type 0} (g : Port → Port) → ((p : Port) → (g p).reserved ≡ p.reserved) → (m n : Map Object) (next room k : ℕ) (d : List ℕ) (v w : Object) (r : Result A B) → IsKept None m next d room waits → OnOk r (w ≡ at_port g v) → OnErr r (w ≡ v)
+  pub port_or_same_kept : {A B : Type 0} (g : Port → Port) → ((p : Port) → (g p).reserved ≡ p.reserved)
+      → (m n : Map Object) (next room k : ℕ) (d : List ℕ) (v w : Object) (r : Result A B) → IsKept None m next d room waits → OnOk r (w ≡ at_port g v)
+      → OnErr r (w ≡ v)
       → Some v ≡ lookup (is_at (nat_cmp k)) m → n ≡ set_value (is_at (nat_cmp k)) m w → IsKept None n next d room waits
   port_or_same_kept g same m n next room k d v w r kept is other there set = record {
     whole = port_or_same_whole g same m n next room k d v w r kept.whole is other there set;
@@ -73,8 +85,10 @@ module _ {waits : List WaitValue} where
 
   -- ---- other room, and one object more or less
 
-  pub roomy_kept : (m n : Map Object) (next room room2 : ℕ) (d d2 : List ℕ) → IsKept None m next d room waits → n ≡ m → d2 ≡ d → room ≤ room2 → IsKept None n next d2 room2 waits
-  roomy_kept m n next room room2 d d2 kept is same more = record { whole = roomy_whole m n next room room2 d d2 kept.whole is same more; listed = rw is kept.listed }
+  pub roomy_kept : (m n : Map Object) (next room room2 : ℕ) (d d2 : List ℕ) → IsKept None m next d room waits → n ≡ m → d2 ≡ d → room ≤ room2
+      → IsKept None n next d2 room2 waits
+  roomy_kept m n next room room2 d d2 kept is same more =
+      record { whole = roomy_whole m n next room room2 d d2 kept.whole is same more; listed = rw is kept.listed }
 
   pub inserted_kept : (m n : Map Object) (next room room2 : ℕ) (d d2 : List ℕ) (o : Object) → IsKept None m next d room waits → is_end_body o.body ≡ false
       → reserved_of o.body ≡ 0 → o.signals.waits ≡ [] → d2 ≡ d → length m + 1 ≤ room2 → n ≡ insert_entry nat_cmp m next o
@@ -84,16 +98,21 @@ module _ {waits : List WaitValue} where
     listed = inserted_listed waits m n next o kept.whole.below fresh kept.listed into;
   }
 
-  pub channel_kept : (m n n2 : Map Object) (next room room2 handles : ℕ) (d d2 : List ℕ) (o o2 : Object) → IsKept None m next d room waits → o ≡ end_of (next + 1) handles → o2 ≡ end_of next handles → d2 ≡ d → length m + 2 ≤ room2
+  pub channel_kept : (m n n2 : Map Object) (next room room2 handles : ℕ) (d d2 : List ℕ) (o o2 : Object) → IsKept None m next d room waits
+      → o ≡ end_of (next + 1) handles → o2 ≡ end_of next handles → d2 ≡ d → length m + 2 ≤ room2
       → n ≡ insert_entry nat_cmp m next o → n2 ≡ insert_entry nat_cmp n (next + 1) o2 → IsKept None n2 (next + 1 + 1) d2 room2 waits
   channel_kept m n n2 next room room2 handles d d2 o o2 kept first second same more into into2 = record {
     whole = channel_whole m n n2 next room room2 handles d d2 o o2 kept.whole first second same more into into2;
-    listed = inserted_listed waits n n2 (next + 1) o2 (below_first m n next o kept.whole.below into) (rw second refl) (inserted_listed waits m n next o kept.whole.below (rw first refl) kept.listed into) into2;
+    listed = inserted_listed waits n n2 (next + 1) o2 (below_first m n next o kept.whole.below into) (rw second refl)
+        (inserted_listed waits m n next o kept.whole.below (rw first refl) kept.listed into) into2;
   }
 
   -- it was no end, and no wait was at it
-  pub popped_kept : (m n : BTreeMap ℕ Object) (next koid room : ℕ) (d : List ℕ) (r : Option (ℕ × Object)) → IsKept None m.entries next d room waits → next ≡ koid + 1 → is_end_at m.entries koid ≡ false → reserved_in (get m.entries koid) ≡ 0 → waits_in (get m.entries koid) ≡ [] → IsTrue (has_key m.entries koid) → length n.entries ≤ length m.entries
-      → IsSome r ↔ (0 < length m.entries) → IfNone r (IsUnchanged m n) → IfSome r (λ p. lookup (is_at (nat_cmp p.0)) m.entries ≡ Some p.1) → IfSome r (λ p. IsUpperBound nat_cmp m p.0) → IfSome r (λ p. Updates nat_cmp m n p.0 None) → IfSome r (λ p. m.entries ≡ n.entries ++ p ∷ [])
+  pub popped_kept : (m n : BTreeMap ℕ Object) (next koid room : ℕ) (d : List ℕ) (r : Option (ℕ × Object)) → IsKept None m.entries next d room waits
+      → next ≡ koid + 1 → is_end_at m.entries koid ≡ false → reserved_in (get m.entries koid) ≡ 0 → waits_in (get m.entries koid) ≡ []
+      → IsTrue (has_key m.entries koid) → length n.entries ≤ length m.entries
+      → IsSome r ↔ (0 < length m.entries) → IfNone r (IsUnchanged m n) → IfSome r (λ p. lookup (is_at (nat_cmp p.0)) m.entries ≡ Some p.1)
+      → IfSome r (λ p. IsUpperBound nat_cmp m p.0) → IfSome r (λ p. Updates nat_cmp m n p.0 None) → IfSome r (λ p. m.entries ≡ n.entries ++ p ∷ [])
       → IsKept None n.entries koid d room waits
   popped_kept m n next koid room d r kept newest alone unreserved unwatched there fewer some unchanged value greatest updates removal = record {
     whole = popped_whole m n next koid room d r kept.whole newest alone unreserved unwatched there fewer some unchanged value greatest updates removal;
@@ -103,8 +122,10 @@ module _ {waits : List WaitValue} where
   -- ---- waits
 
   -- the wait is registered last of all, and a place is reserved for it
-  pub watched_kept : (order : ℕ) (x : Wait) (m n : Map Object) (next room : ℕ) (d : List ℕ) (waits2 : List WaitValue) → IsTrue (is_port_at m x.port) → IsTrue (has_key m x.object) → IsKept None m next d room waits
-      → n ≡ update (update m x.port (at_port with_place)) x.object (watched (watch_of order x)) → waits2 ≡ waits ++ wait_value x ∷ [] → IsKept None n next d room waits2
+  pub watched_kept : (order : ℕ) (x : Wait) (m n : Map Object) (next room : ℕ) (d : List ℕ) (waits2 : List WaitValue) → IsTrue (is_port_at m x.port)
+      → IsTrue (has_key m x.object) → IsKept None m next d room waits
+      → n ≡ update (update m x.port (at_port with_place)) x.object (watched (watch_of order x)) → waits2 ≡ waits ++ wait_value x ∷ []
+      → IsKept None n next d room waits2
   watched_kept order x m n next room d waits2 port there kept is more = rw more record {
     whole = watched_whole (watch_of order x) mid n next room x.object d still (made_whole (watch_of order x) m mid next room d port kept.whole refl) is;
     listed = watched_listed order x waits mid n still (updated_listed (at_port with_place) (λ o. refl) waits m mid x.port kept.listed refl) is;
@@ -127,14 +148,16 @@ module _ {waits : List WaitValue} where
     }
 
     -- its place was given back, or holds its packet
-    pub gone_kept : (x : Watch) → find (λ x. test (wait_at k x)) (waits_in (get m k)) ≡ Some x → (g : Port → Port) → ((p : Port) → (g p).reserved ≡ p.reserved - 1) → (n2 : Map Object) → n2 ≡ update n x.port (at_port g) → IsKept None n2 next d room waits2
+    pub gone_kept : (x : Watch) → find (λ x. test (wait_at k x)) (waits_in (get m k)) ≡ Some x → (g : Port → Port)
+        → ((p : Port) → (g p).reserved ≡ p.reserved - 1) → (n2 : Map Object) → n2 ≡ update n x.port (at_port g) → IsKept None n2 next d room waits2
     gone_kept x found g fewer n2 is = record {
       whole = gone_whole (λ x. test (wait_at k x)) m n next room k d kept.whole out x found g fewer n2 is;
       listed = updated_listed (at_port g) (λ o. refl) waits2 n n2 x.port (rw less (unwatched_listed k test waits m kept.listed n out)) is;
     }
 
   -- handles went, and with them waits of which the object or the port went
-  pub left_kept : (ks : List ℕ) (m m2 : Map Object) (next room room2 : ℕ) (d d2 : List ℕ) (waits2 : List WaitValue) → Cascades ks m m2 → HavePlaces m2 → ((k : ℕ) (o : Object) → get m2 k ≡ Some o → Thins m m2 k o) → IsKept None m next d room waits → d2 ≡ [] → room2 ≡ room
+  pub left_kept : (ks : List ℕ) (m m2 : Map Object) (next room room2 : ℕ) (d d2 : List ℕ) (waits2 : List WaitValue) → Cascades ks m m2 → HavePlaces m2
+      → ((k : ℕ) (o : Object) → get m2 k ≡ Some o → Thins m m2 k o) → IsKept None m next d room waits → d2 ≡ [] → room2 ≡ room
       → waits2 ≡ filter (is_there m2) waits → IsKept None m2 next d2 room2 waits2
   left_kept ks m m2 next room room2 d d2 waits2 cascades places thins kept none same is = record {
     whole = whole_left ks m m2 next room room2 d d2 cascades places kept.whole none same;

@@ -1,5 +1,10 @@
 -- Once no handle is left to go and nothing is left that nothing keeps, the largest held set is left.
-use Rattle.zl_rights.proofs.Common.{◌≡◌, ◌+◌, ◌<◌, ℕ, Bool, true, false, not, ◌&&◌, ◌||◌, ◌==◌, List, [], ◌∷◌, ◌++◌, map, refl, sym, ap, ◌∙◌, subst, cond, if◌then◌else◌, Option, Some, None, inl, inr, ◌⊎◌, IsTrue, arith, eq-eqb, nat_lt, is_some, list_any, count_by, sum_by, option_map, sum_by-cons, cases_Bool, eqb-true, false≢true, or_left, or_right, and_parts, and_from, nat_tests, Map, get, has_key, update, without, World, State, Created, Ready, Blocked, Ended, Gone, Process, is_process, runs, lives, state_passes, Koids, Settles, is_held, in_table, in_queue, has_living_child as living_child, queue_of as queue_value, ChannelEnd, EventBody, PortBody, JobBody, ProcessBody}
+use Rattle.zl_rights.proofs.Common.{◌≡◌, ◌+◌, ◌<◌, ℕ, Bool, true, false, not, ◌&&◌, ◌||◌, ◌==◌, List, [], ◌∷◌, ◌++◌, map, refl, sym, ap, ◌∙◌, subst, cond}
+use Rattle.zl_rights.proofs.Common.{if◌then◌else◌, Option, Some, None, inl, inr, ◌⊎◌, IsTrue, arith, eq-eqb, nat_lt, is_some, list_any, count_by, sum_by}
+use Rattle.zl_rights.proofs.Common.{option_map, sum_by-cons, cases_Bool, eqb-true, false≢true, or_left, or_right, and_parts, and_from, nat_tests, Map, get}
+use Rattle.zl_rights.proofs.Common.{has_key, update, without, World, State, Created, Ready, Blocked, Ended, Gone, Process, is_process, runs, lives}
+use Rattle.zl_rights.proofs.Common.{state_passes, Koids, Settles, is_held, in_table, in_queue, has_living_child as living_child, queue_of as queue_value}
+use Rattle.zl_rights.proofs.Common.{ChannelEnd, EventBody, PortBody, JobBody, ProcessBody}
 use Rattle.std.proofs.lemmas.List.Sums.{sum_by-append}
 use Rattle.std.proofs.lemmas.List.Concat.{flat_map-cons}
 use Rattle.std.proofs.lemmas.Bool.{or_cases, or_parts}
@@ -12,7 +17,8 @@ use Rattle.zl_table.proofs.MapEdits.{get-without, sorted_without, is_sorted-upda
 use Rattle.zl_objects.specs.declared.object.Body.{Body}
 use Rattle.zl_objects.specs.declared.object.Body.TheVariants as body
 use Rattle.zl_objects.specs.declared.object.Object.{Object}
-use Rattle.zl_objects.specs.Objects.{Objects, has_living_child, held_once_less, is_alive, is_child, is_job_at, is_job_body, is_kept, is_koid, keeper_of, queue_of, stays_alone}
+use Rattle.zl_objects.specs.Objects.{Objects, has_living_child, held_once_less, is_alive, is_child, is_job_at, is_job_body, is_kept, is_koid, keeper_of}
+use Rattle.zl_objects.specs.Objects.{queue_of, stays_alone}
 use Rattle.zl_objects.specs.Release.{koids_of, named_in, Cascades, none_left, let_go, goes, waits_end, AreKeptBut, Releases}
 use Rattle.zl_objects.specs.Waits.{AreSameButWaits}
 use Rattle.zl_objects.specs.Seen.{body_value, object_value, object_entry, with_objects, with_all, Agrees, is_above, is_in_job, IsExact, LeavesLargest}
@@ -63,7 +69,8 @@ sum_seen n (e ∷ m) = omega (arith, sum_by-cons n (object_entry e) (map object_
 
 -- a queue in which a handle names k counts
 pub queue_named : (k : ℕ) (b : BodyValue) → IsTrue (names k (queue_value b)) → 0 < queued_to k b
-queue_named k (ChannelEnd peer queue) h = any_summed (λ m. count_by (λ h. h.koid == k) m.handles) (λ m. list_any (λ h. h.koid == k) m.handles) (λ m. any_counted (λ h. h.koid == k) m.handles) queue h
+queue_named k (ChannelEnd peer queue) h =
+    any_summed (λ m. count_by (λ h. h.koid == k) m.handles) (λ m. list_any (λ h. h.koid == k) m.handles) (λ m. any_counted (λ h. h.koid == k) m.handles) queue h
 queue_named k EventBody h = absurd (false≢true h)
 queue_named k (PortBody packets) h = absurd (false≢true h)
 queue_named k (JobBody parent depth policy killed) h = absurd (false≢true h)
@@ -92,7 +99,8 @@ named_queue k (ProcessBody job) h = refl
 
 queue_counts : (k : ℕ) (es : List Entry) → count_by (λ j. j == k) (koids_of es) ≡ count_by (λ (h : Entry). h.koid == k) es
 queue_counts k [] = refl
-queue_counts k (e ∷ es) = omega (arith, sum_by-cons (λ j. cond (j == k) 1 0) e.koid (koids_of es), sum_by-cons (λ (h : Entry). cond (h.koid == k) 1 0) e es, queue_counts k es)
+queue_counts k (e ∷ es) =
+    omega (arith, sum_by-cons (λ j. cond (j == k) 1 0) e.koid (koids_of es), sum_by-cons (λ (h : Entry). cond (h.koid == k) 1 0) e es, queue_counts k es)
 
 one_queue : (k : ℕ) (ms : List Message) → sum_by (λ (m : Message). count_by (λ (h : Entry). h.koid == k) m.handles) ms ≡ count_by (λ j. j == k) (named_in ms)
 one_queue k [] = refl
@@ -115,7 +123,8 @@ queue_moved k (body.ChannelEnd peer queue) = one_queue k queue
 -- ---- children
 
 -- the world sees a living child where the object is one
-pub seen_child : (w : World) (k j : ℕ) (b : Body) → Agrees w j b → (is_job_below k (body_value b) || (is_process_of k (body_value b) && is_process w lives j)) ≡ is_child k b
+pub seen_child : (w : World) (k j : ℕ) (b : Body) → Agrees w j b
+    → (is_job_below k (body_value b) || (is_process_of k (body_value b) && is_process w lives j)) ≡ is_child k b
 seen_child w k j (body.Job own) agrees = by_state own.killed
   where
     never : (b : Bool) → ((b && false) || false) ≡ false
@@ -178,7 +187,8 @@ module _ (w : World) (ks : List ℕ) (m : Map Object) (exact : IsExact w ks m) w
       same : (j : ℕ) → handles_to (with_objects w (update m k held_once_less)) j ≡ handles_to (with_objects w m) j
       same j = ap (λ (os : Map ObjectValue). handles_to (record w { objects = os }) j) (update_unseen m k)
 
-      by_key : (j : ℕ) (q : Object) → Changed held_once_less m k j q → IsTrue (k == j) ⊎ ((k == j) ≡ false) → q.handles ≡ handles_to (with_objects w (update m k held_once_less)) j + count_by (λ i. i == j) rest
+      by_key : (j : ℕ) (q : Object) → Changed held_once_less m k j q → IsTrue (k == j) ⊎ ((k == j) ≡ false)
+          → q.handles ≡ handles_to (with_objects w (update m k held_once_less)) j + count_by (λ i. i == j) rest
       by_key j q c (inl here) =
           let one : ◌≡◌ {A = ℕ} (cond (k == j) 1 0) 1 = rw here refl in
           let was : q ≡ held_once_less c.before = c.is ∙ rw here refl in
@@ -198,8 +208,10 @@ module _ (w : World) (ks : List ℕ) (m : Map Object) (exact : IsExact w ks m) w
     no_zero = λ k has. exact.no_zero k (sym (has_same m mid same k) ∙ has);
     counted = λ k o at. let was : IsAlike m k o = alike m mid same k o at in omega (arith, was.handles, exact.counted k was.before was.there, still k);
     named = λ k some. rw (has_same m mid same k) (exact.named k (omega (arith, some, still k)));
-    agrees = λ k o at. let was : IsAlike m k o = alike m mid same k o at in agrees_same w k o.body was.before.body was.body (exact.agrees k was.before was.there);
-    in_jobs = λ k o at. let was : IsAlike m k o = alike m mid same k o at in rw (in_job_same m mid same o.body was.before.body was.body) (exact.in_jobs k was.before was.there);
+    agrees = λ k o at. let was : IsAlike m k o = alike m mid same k o at in
+        agrees_same w k o.body was.before.body was.body (exact.agrees k was.before was.there);
+    in_jobs = λ k o at. let was : IsAlike m k o = alike m mid same k o at in
+        rw (in_job_same m mid same o.body was.before.body was.body) (exact.in_jobs k was.before was.there);
   }
     where
       still : (k : ℕ) → handles_to (with_objects w mid) k ≡ handles_to (with_objects w m) k
@@ -258,16 +270,26 @@ module _ (w : World) (ks : List ℕ) (m : Map Object) (exact : IsExact w ks m) w
       in_jobs = λ j q at. job_left j q (found_left m k j q at).1 (exact.in_jobs j q (found_left m k j q at).1);
     }
       where
-        moved : (j : ℕ) → handles_to (with_objects w m) j + count_by (λ i. i == j) ks ≡ handles_to (with_objects w (without m k)) j + count_by (λ i. i == j) (named_in (queue_of o.body) ++ ks)
+        moved : (j : ℕ) → handles_to (with_objects w m) j + count_by (λ i. i == j) ks
+            ≡ handles_to (with_objects w (without m k)) j + count_by (λ i. i == j) (named_in (queue_of o.body) ++ ks)
         moved j =
             let apart = sum_by-append (λ i. cond (i == j) 1 0) (named_in (queue_of o.body)) ks in
-            omega (arith, apart, queue_moved j o.body, sum_seen (λ e. queued_to j e.1.body) m, sum_seen (λ e. queued_to j e.1.body) (without m k), sum_without (λ e. queued_to j (object_entry e).1.body) m k o exact.in_order there)
+            omega (
+              arith,
+              apart,
+              queue_moved j o.body,
+              sum_seen (λ e. queued_to j e.1.body) m,
+              sum_seen (λ e. queued_to j e.1.body) (without m k),
+              sum_without (λ e. queued_to j (object_entry e).1.body) m k o exact.in_order there,
+            )
 
         none_here : 0 < handles_to (with_objects w m) k + count_by (λ i. i == k) ks → ⊥
         none_here some = omega (arith, nothing, some, exact.counted k o there)
 
-        by_key : (j : ℕ) → 0 < handles_to (with_objects w m) j + count_by (λ i. i == j) ks → IsTrue (k == j) ⊎ ((k == j) ≡ false) → IsTrue (has_key (without m k) j)
-        by_key j some (inl here) = absurd (none_here (subst (λ (i : ℕ). 0 < handles_to (with_objects w m) i + count_by (λ x. x == i) ks) (sym (eqb-true k j here)) some))
+        by_key : (j : ℕ) → 0 < handles_to (with_objects w m) j + count_by (λ i. i == j) ks → IsTrue (k == j) ⊎ ((k == j) ≡ false)
+            → IsTrue (has_key (without m k) j)
+        by_key j some (inl here) =
+            absurd (none_here (subst (λ (i : ℕ). 0 < handles_to (with_objects w m) i + count_by (λ x. x == i) ks) (sym (eqb-true k j here)) some))
         by_key j some (inr apart) = rw (get-without m k j, apart) (exact.named j some)
 
     none : ◌≡◌ {A = ℕ} (handles_to (with_objects w m) k) 0
@@ -276,16 +298,28 @@ module _ (w : World) (ks : List ℕ) (m : Map Object) (exact : IsExact w ks m) w
     no_table : in_table (with_objects w m) k ≡ false
     unfolding in_table handles_to
     no_table = elim (cases_Bool (in_table (with_objects w m) k)) as (λ _. in_table (with_objects w m) k ≡ false) [
-      | inl some ↦ absurd (omega (arith, any_summed (λ p. count_by (λ h. h.1.koid == k) p.1.handles) (λ p. list_any (λ h. h.1.koid == k) p.1.handles) (λ p. any_counted (λ h. h.1.koid == k) p.1.handles) w.processes some, none))
+      | inl some ↦ absurd (omega (
+        arith,
+        any_summed (λ p. count_by (λ h. h.1.koid == k) p.1.handles) (λ p. list_any (λ h. h.1.koid == k) p.1.handles)
+            (λ p. any_counted (λ h. h.1.koid == k) p.1.handles) w.processes some,
+        none,
+      ))
       | inr not ↦ not
     ]
 
     no_queue : in_queue (with_objects w m) (has_key (map object_entry m)) k ≡ false
     unfolding in_queue handles_to
-    no_queue = elim (cases_Bool (in_queue (with_objects w m) (has_key (map object_entry m)) k)) as (λ _. in_queue (with_objects w m) (has_key (map object_entry m)) k ≡ false) [
-      | inl some ↦ absurd (omega (arith, any_summed (λ e. queued_to k e.1.body) (λ e. has_key (map object_entry m) e.0 && names k (queue_value e.1.body)) (λ e h. queue_named k e.1.body (and_parts (has_key (map object_entry m) e.0) _ h).1) (map object_entry m) some, none))
-      | inr not ↦ not
-    ]
+    no_queue =
+        elim (cases_Bool (in_queue (with_objects w m) (has_key (map object_entry m)) k))
+        as (λ _. in_queue (with_objects w m) (has_key (map object_entry m)) k ≡ false) [
+          | inl some ↦ absurd (omega (
+            arith,
+            any_summed (λ e. queued_to k e.1.body) (λ e. has_key (map object_entry m) e.0 && names k (queue_value e.1.body))
+                (λ e h. queue_named k e.1.body (and_parts (has_key (map object_entry m) e.0) _ h).1) (map object_entry m) some,
+            none,
+          ))
+          | inr not ↦ not
+        ]
 
     not_running : is_process w runs k ≡ false
     not_running = by_body o.body parts.1 (exact.agrees k o there)
@@ -299,10 +333,12 @@ module _ (w : World) (ks : List ℕ) (m : Map Object) (exact : IsExact w ks m) w
 
     no_child : living_child (with_objects w m) (has_key (map object_entry m)) k ≡ false
     unfolding living_child is_process
-    no_child = elim (cases_Bool (living_child (with_objects w m) (has_key (map object_entry m)) k)) as (λ _. living_child (with_objects w m) (has_key (map object_entry m)) k ≡ false) [
-      | inl some ↦ absurd (found some)
-      | inr not ↦ not
-    ]
+    no_child =
+        elim (cases_Bool (living_child (with_objects w m) (has_key (map object_entry m)) k))
+        as (λ _. living_child (with_objects w m) (has_key (map object_entry m)) k ≡ false) [
+          | inl some ↦ absurd (found some)
+          | inr not ↦ not
+        ]
       where
         test : ℕ × ObjectValue → Bool
         test x = has_key (map object_entry m) x.0 && (is_job_below k x.1.body || (is_process_of k x.1.body && is_process w lives x.0))
@@ -310,7 +346,9 @@ module _ (w : World) (ks : List ℕ) (m : Map Object) (exact : IsExact w ks m) w
         found : IsTrue (living_child (with_objects w m) (has_key (map object_entry m)) k) → ⊥
         found some =
             let f : Found (λ e. test (object_entry e)) m = any_found (λ e. test (object_entry e)) m exact.in_order (sym (any_seen test m) ∙ some) in
-            no_living f.key f.value f.at (sym (seen_child w k f.key f.value.body (exact.agrees f.key f.value f.at)) ∙ (and_parts (has_key (map object_entry m) f.key) (is_job_below k (body_value f.value.body) || (is_process_of k (body_value f.value.body) && is_process w lives f.key)) f.passes).1)
+            no_living f.key f.value f.at (sym (seen_child w k f.key f.value.body (exact.agrees f.key f.value f.at))
+            ∙ (and_parts (has_key (map object_entry m) f.key)
+            (is_job_below k (body_value f.value.body) || (is_process_of k (body_value f.value.body) && is_process w lives f.key)) f.passes).1)
 
     not_held : is_held (with_objects w m) (has_key (map object_entry m)) k ≡ false
     unfolding is_held is_process
@@ -322,7 +360,8 @@ module _ (w : World) (ks : List ℕ) (m : Map Object) (exact : IsExact w ks m) w
 
     -- it can go first
     pub left_leads : (v : World) → Settles (with_objects w (without m k)) v → Settles (with_objects w m) v
-    left_leads v settles = settles_removed (with_objects w m) k not_held v (subst (λ (os : Map ObjectValue). Settles (record w { objects = os }) v) (without_seen m k) settles)
+    left_leads v settles =
+        settles_removed (with_objects w m) k not_held v (subst (λ (os : Map ObjectValue). Settles (record w { objects = os }) v) (without_seen m k) settles)
 
 -- ---- all of it
 
@@ -334,13 +373,19 @@ pub cascaded : (w : World) (ks : List ℕ) (m m2 : Map Object) → IsExact w ks 
 cascaded w _ _ _ exact (none_left m) = record { exact = exact; leads = λ v settles. settles }
 cascaded w _ _ _ exact (let_go k ks m m2 more) =
     let later : IsLeft w (update m k held_once_less) m2 = cascaded w ks (update m k held_once_less) m2 (less_exact w (k ∷ ks) m exact k ks refl) more in
-    record { exact = later.exact; leads = λ v settles. subst (λ (os : Map ObjectValue). Settles (record w { objects = os }) v) (update_unseen m k) (later.leads v settles) }
+    record {
+      exact = later.exact;
+      leads = λ v settles. subst (λ (os : Map ObjectValue). Settles (record w { objects = os }) v) (update_unseen m k) (later.leads v settles);
+    }
 cascaded w _ _ _ exact (goes k o ks m m2 there unkept more) =
     let later : IsLeft w (without m k) m2 = cascaded w (named_in (queue_of o.body) ++ ks) (without m k) m2 (left_exact w ks m exact k o there unkept) more in
     record { exact = later.exact; leads = λ v settles. left_leads w ks m exact k o there unkept v (later.leads v settles) }
 cascaded w _ _ _ exact (waits_end ks m mid m2 same more) =
     let later : IsLeft w mid m2 = cascaded w ks mid m2 (same_exact w ks m exact mid same) more in
-    record { exact = later.exact; leads = λ v settles. subst (λ (os : Map ObjectValue). Settles (record w { objects = os }) v) (seen_same m mid same) (later.leads v settles) }
+    record {
+      exact = later.exact;
+      leads = λ v settles. subst (λ (os : Map ObjectValue). Settles (record w { objects = os }) v) (seen_same m mid same) (later.leads v settles);
+    }
 
 runs_lives : (w : World) (k : ℕ) → IsTrue (is_process w runs k) → is_process w lives k ≡ true
 unfolding is_process
@@ -374,7 +419,8 @@ module _ (w : World) (m : Map Object) (exact : IsExact w [] m) (kept : (k : ℕ)
   child_held k some =
       let found : Found (λ e. is_child k e.1.body) m = any_found (λ e. is_child k e.1.body) m exact.in_order some in
       let seen : get (map object_entry m) found.key ≡ Some (object_value found.value) = get_seen m found.key ∙ rw found.at refl in
-      any_at (λ x. all x.0 && (is_job_below k x.1.body || (is_process_of k x.1.body && is_process w lives x.0))) (map object_entry m) found.key (object_value found.value) seen
+      any_at (λ x. all x.0 && (is_job_below k x.1.body || (is_process_of k x.1.body && is_process w lives x.0))) (map object_entry m) found.key
+      (object_value found.value) seen
       (and_from (all found.key) _ (rw seen refl) (seen_child w k found.key found.value.body (exact.agrees found.key found.value found.at) ∙ found.passes))
 
   pub all_held : IsHeld wm all
@@ -385,10 +431,15 @@ module _ (w : World) (m : Map Object) (exact : IsExact w [] m) (kept : (k : ℕ)
       by_object None none = absurd (false≢true (rw (has_seen m k, none) at has))
       by_object (Some o) there = by_reason (or_cases (nat_lt 0 o.handles) (stays_alone m k o.body) (kept k o there))
         where
-          by_part : (0 < sum_by (λ p. count_by (λ h. h.1.koid == k) p.1.handles) w.processes) ⊎ (0 < sum_by (λ e. queued_to k e.1.body) (map object_entry m)) → IsHeldBy k
-          by_part (inl tables) = or_left _ _ (or_left _ _ (or_left _ _ (summed_any (λ p. count_by (λ h. h.1.koid == k) p.1.handles) (λ p. list_any (λ h. h.1.koid == k) p.1.handles) (λ p none. count_none (λ h. h.1.koid == k) p.1.handles none) w.processes tables)))
-          by_part (inr queues) = or_left _ _ (or_left _ _ (or_right _ _ (any_there (λ e. names k (queue_value e.1.body)) all (map object_entry m) (λ j there. there)
-              (summed_any (λ e. queued_to k e.1.body) (λ e. names k (queue_value e.1.body)) (λ e none. named_queue k e.1.body none) (map object_entry m) queues))))
+          by_part : (0 < sum_by (λ p. count_by (λ h. h.1.koid == k) p.1.handles) w.processes) ⊎ (0 < sum_by (λ e. queued_to k e.1.body) (map object_entry m))
+              → IsHeldBy k
+          by_part (inl tables) =
+              or_left _ _ (or_left _ _ (or_left _ _ (summed_any (λ p. count_by (λ h. h.1.koid == k) p.1.handles)
+              (λ p. list_any (λ h. h.1.koid == k) p.1.handles) (λ p none. count_none (λ h. h.1.koid == k) p.1.handles none) w.processes tables)))
+          by_part (inr queues) =
+              or_left _ _ (or_left _ _ (or_right _ _ (any_there (λ e. names k (queue_value e.1.body)) all (map object_entry m) (λ j there. there)
+              (summed_any (λ e. queued_to k e.1.body) (λ e. names k (queue_value e.1.body)) (λ e none. named_queue k e.1.body none)
+              (map object_entry m) queues))))
 
           alone : (b : Body) → o.body ≡ b → IsTrue (stays_alone m k b) → IsHeldBy k
           alone (body.Job own) is stays = or_right _ _ (child_held k stays)
@@ -412,7 +463,8 @@ kept_all m all k o at = elim (cases_Bool (is_kept m k o)) as (λ _. IsTrue (is_k
 ]
 
 -- once something keeps each object that is left, the largest held set is left
-pub settles_left : (w : World) (ks : List ℕ) (m m2 : Map Object) → IsExact w ks m → Cascades ks m m2 → AreKeptBut [] m2 → Settles (with_objects w m) (with_all w m2)
+pub settles_left : (w : World) (ks : List ℕ) (m m2 : Map Object) → IsExact w ks m → Cascades ks m m2 → AreKeptBut [] m2
+    → Settles (with_objects w m) (with_all w m2)
 settles_left w ks m m2 exact cascades kept =
     let left : IsLeft w m m2 = cascaded w ks m m2 exact cascades in
     left.leads (with_all w m2) (settles_all (with_objects w m2) (all_held w m2 left.exact (kept_all m2 kept)))

@@ -1,5 +1,7 @@
 -- The list of all waits beside those at the objects, after each change of the objects.
-use Rattle.zl_rights.proofs.Common.{◌≡◌, ◌<◌, ◌+◌, ◌==◌, ◌&&◌, ◌⊎◌, ℕ, Bool, false, List, [], ◌∷◌, ◌++◌, refl, sym, ap, ◌∙◌, subst, Option, Some, None, inl, inr, arith, append-nil, eq-eqb, eqb-true, IsTrue, if◌then◌else◌, map, map-append, option_map, filter, find, and_parts, nat_cmp, cases_Bool, false≢true, nat_tests, Map, get, put, update, has_key}
+use Rattle.zl_rights.proofs.Common.{◌≡◌, ◌<◌, ◌+◌, ◌==◌, ◌&&◌, ◌⊎◌, ℕ, Bool, false, List, [], ◌∷◌, ◌++◌, refl, sym, ap, ◌∙◌, subst, Option, Some, None, inl}
+use Rattle.zl_rights.proofs.Common.{inr, arith, append-nil, eq-eqb, eqb-true, IsTrue, if◌then◌else◌, map, map-append, option_map, filter, find, and_parts}
+use Rattle.zl_rights.proofs.Common.{nat_cmp, cases_Bool, false≢true, nat_tests, Map, get, put, update, has_key}
 use Rattle.std.proofs.lemmas.List.Elements.{filter-append}
 use Rattle.std.specs.Prelude.{IfSome, IfNone, Result, Ok, Err, OnOk, OnErr}
 use Rattle.std.specs.Cmp.{unsigned_tied}
@@ -34,7 +36,8 @@ module _ (f : Object → Object) (quiet : (o : Object) → (f o).signals.waits �
   updated_listed waits m n k listed is = rw is (same_listed waits m (update m k f) (seen_updated waits_in f quiet m k) listed)
 
   -- or it is as it was
-  pub updated_or_listed : {A B : Type 0} (waits : List WaitValue) (m n : Map Object) (k : ℕ) (v w : Object) (r : Result A B) → AreListed waits m → OnOk r (w ≡ f v) → OnErr r (w ≡ v)
+  pub updated_or_listed : {A B : Type 0} (waits : List WaitValue) (m n : Map Object) (k : ℕ) (v w : Object) (r : Result A B) → AreListed waits m
+      → OnOk r (w ≡ f v) → OnErr r (w ≡ v)
       → Some v ≡ lookup (is_at (nat_cmp k)) m → n ≡ set_value (is_at (nat_cmp k)) m w → AreListed waits n
   updated_or_listed waits m n k v w (Ok x) listed is other there set = updated_listed waits m n k listed (written m n k f v w there is set)
   updated_or_listed waits m n k v w (Err e) listed other is there set = rw (written_back m n k v w there is set) listed
@@ -43,7 +46,8 @@ module _ (f : Object → Object) (quiet : (o : Object) → (f o).signals.waits �
 
 module _ (waits : List WaitValue) where
   -- the new object has no waits
-  pub inserted_listed : (m n : Map Object) (next : ℕ) (o : Object) → ((k : ℕ) → IsTrue (has_key m k) → k < next) → o.signals.waits ≡ [] → AreListed waits m → n ≡ insert_entry nat_cmp m next o → AreListed waits n
+  pub inserted_listed : (m n : Map Object) (next : ℕ) (o : Object) → ((k : ℕ) → IsTrue (has_key m k) → k < next) → o.signals.waits ≡ [] → AreListed waits m
+      → n ≡ insert_entry nat_cmp m next o → AreListed waits n
   inserted_listed m n next o below fresh listed into = rw (into, inserted m next o) (same_listed waits m (put m next o) same listed)
     where
       -- no object has the new koid yet
@@ -52,14 +56,17 @@ module _ (waits : List WaitValue) where
       before (Some q) is = absurd (omega (arith, below next (rw is refl)))
 
       same : (k : ℕ) → waits_in (get (put m next o) k) ≡ waits_in (get m k)
-      same k = ap waits_in (get-put m next o k) ∙ elim (cases_Bool (next == k)) as (λ _. waits_in (if next == k then Some o else get m k) ≡ waits_in (get m k)) [
-        | inl here ↦ rw here (fresh ∙ (sym (before (get m next) refl) ∙ ap (λ (i : ℕ). waits_in (get m i)) (eqb-true next k here)))
-        | inr apart ↦ rw apart refl
-      ]
+      same k =
+          ap waits_in (get-put m next o k) ∙ elim (cases_Bool (next == k)) as (λ _. waits_in (if next == k then Some o else get m k) ≡ waits_in (get m k)) [
+            | inl here ↦ rw here (fresh ∙ (sym (before (get m next) refl) ∙ ap (λ (i : ℕ). waits_in (get m i)) (eqb-true next k here)))
+            | inr apart ↦ rw apart refl
+          ]
 
   -- the newest object has gone, and no wait was at it
-  pub popped_listed : (m n : BTreeMap ℕ Object) (next koid : ℕ) (r : Option (ℕ × Object)) → ((k : ℕ) → IsTrue (has_key m.entries k) → k < next) → next ≡ koid + 1 → waits_in (get m.entries koid) ≡ [] → IsTrue (has_key m.entries koid)
-      → IfNone r (IsUnchanged m n) → IfSome r (λ p. lookup (is_at (nat_cmp p.0)) m.entries ≡ Some p.1) → IfSome r (λ p. IsUpperBound nat_cmp m p.0) → IfSome r (λ p. Updates nat_cmp m n p.0 None)
+  pub popped_listed : (m n : BTreeMap ℕ Object) (next koid : ℕ) (r : Option (ℕ × Object)) → ((k : ℕ) → IsTrue (has_key m.entries k) → k < next)
+      → next ≡ koid + 1 → waits_in (get m.entries koid) ≡ [] → IsTrue (has_key m.entries koid)
+      → IfNone r (IsUnchanged m n) → IfSome r (λ p. lookup (is_at (nat_cmp p.0)) m.entries ≡ Some p.1) → IfSome r (λ p. IsUpperBound nat_cmp m p.0)
+      → IfSome r (λ p. Updates nat_cmp m n p.0 None)
       → AreListed waits m.entries → AreListed waits n.entries
   popped_listed m n next koid None below newest none there unchanged value greatest updates listed = rw unchanged listed
   popped_listed m n next koid (Some p) below newest none there unchanged value greatest updates listed = same_listed waits m.entries n.entries same listed
@@ -72,34 +79,46 @@ module _ (waits : List WaitValue) where
       is_koid = grind (arith, nat_tests, last, newest, greatest koid (rw (looked_up m.entries koid) there), unsigned_tied p.0 koid)
 
       same : (k : ℕ) → waits_in (get n.entries k) ≡ waits_in (get m.entries k)
-      same k = ap waits_in (sym (looked_up n.entries k) ∙ updates.0 k) ∙ elim (cases_Bool (is_at (nat_cmp p.0) k)) as (λ _. waits_in (if is_at (nat_cmp p.0) k then None else lookup (is_at (nat_cmp k)) m.entries) ≡ waits_in (get m.entries k)) [
-        | inl here ↦
-            let key : koid ≡ k = grind (arith, nat_tests, is_koid, here, unsigned_tied p.0 k) in
-            rw here (sym none ∙ ap (λ (i : ℕ). waits_in (get m.entries i)) key)
-        | inr apart ↦ rw apart (ap waits_in (looked_up m.entries k))
-      ]
+      same k =
+          ap waits_in (sym (looked_up n.entries k) ∙ updates.0 k) ∙ elim (cases_Bool (is_at (nat_cmp p.0) k))
+          as (λ _. waits_in (if is_at (nat_cmp p.0) k then None else lookup (is_at (nat_cmp k)) m.entries) ≡ waits_in (get m.entries k)) [
+            | inl here ↦
+                let key : koid ≡ k = grind (arith, nat_tests, is_koid, here, unsigned_tied p.0 k) in
+                rw here (sym none ∙ ap (λ (i : ℕ). waits_in (get m.entries i)) key)
+            | inr apart ↦ rw apart (ap waits_in (looked_up m.entries k))
+          ]
 
 -- ---- one wait more
 
 -- it stands last in the list, and at its object
-pub watched_listed : (order : ℕ) (x : Wait) (waits : List WaitValue) (m n : Map Object) → IsTrue (has_key m x.object) → AreListed waits m → n ≡ update m x.object (watched (watch_of order x)) → AreListed (waits ++ wait_value x ∷ []) n
+pub watched_listed : (order : ℕ) (x : Wait) (waits : List WaitValue) (m n : Map Object) → IsTrue (has_key m x.object) → AreListed waits m
+    → n ≡ update m x.object (watched (watch_of order x)) → AreListed (waits ++ wait_value x ∷ []) n
 watched_listed order x waits m n there listed is j = rw is (by_key (cases_Bool (x.object == j)))
   where
     f : Object → Object
     f = watched (watch_of order x)
 
-    at_object : (q : Option Object) → get m x.object ≡ q → filter (λ y. y.object == x.object) waits ++ wait_value x ∷ [] ≡ map (wait_at x.object) (waits_in (option_map f q))
+    at_object : (q : Option Object) → get m x.object ≡ q
+        → filter (λ y. y.object == x.object) waits ++ wait_value x ∷ [] ≡ map (wait_at x.object) (waits_in (option_map f q))
     at_object None none = absurd (false≢true (rw none at there))
     at_object (Some o) some =
         ap (λ (ys : List WaitValue). ys ++ wait_value x ∷ []) (listed x.object ∙ ap (λ (q : Option Object). map (wait_at x.object) (waits_in q)) some)
         ∙ sym (map-append (wait_at x.object) o.signals.waits (watch_of order x ∷ []))
 
-    by_key : IsTrue (x.object == j) ⊎ ((x.object == j) ≡ false) → filter (λ y. y.object == j) (waits ++ wait_value x ∷ []) ≡ map (wait_at j) (waits_in (get (update m x.object f) j))
+    by_key : IsTrue (x.object == j) ⊎ ((x.object == j) ≡ false)
+        → filter (λ y. y.object == j) (waits ++ wait_value x ∷ []) ≡ map (wait_at j) (waits_in (get (update m x.object f) j))
     by_key (inl here) =
-        subst (λ (i : ℕ). filter (λ y. y.object == i) (waits ++ wait_value x ∷ []) ≡ map (wait_at i) (waits_in (get (update m x.object f) i))) (eqb-true x.object j here)
-        (rw (filter-append (λ (y : WaitValue). y.object == x.object) waits (wait_value x ∷ []), get-update m x.object f x.object, eq-eqb x.object x.object refl) (at_object (get m x.object) refl))
+        subst (λ (i : ℕ). filter (λ y. y.object == i) (waits ++ wait_value x ∷ []) ≡ map (wait_at i) (waits_in (get (update m x.object f) i)))
+        (eqb-true x.object j here)
+        (rw (filter-append (λ (y : WaitValue). y.object == x.object) waits (wait_value x ∷ []), get-update m x.object f x.object, eq-eqb x.object x.object refl)
+        (at_object (get m x.object) refl))
     by_key (inr apart) =
-        rw (filter-append (λ (y : WaitValue). y.object == j) waits (wait_value x ∷ []), get-update m x.object f j, apart, append-nil (filter (λ (y : WaitValue). y.object == j) waits)) (listed j)
+        rw (
+          filter-append (λ (y : WaitValue). y.object == j) waits (wait_value x ∷ []),
+          get-update m x.object f j,
+          apart,
+          append-nil (filter (λ (y : WaitValue). y.object == j) waits),
+        ) (listed j)
 
 -- ---- one wait less
 
@@ -109,7 +128,8 @@ module _ (k : ℕ) (test : WaitValue → Bool) (waits : List WaitValue) (m : Map
   found_listed = find_first (λ x. x.object == k) test waits ∙ (ap (find test) (listed k) ∙ find_map (wait_at k) test (waits_in (get m k)))
 
   -- it is taken out of both
-  pub unwatched_listed : (n : Map Object) → n ≡ update m k (unwatched (λ x. test (wait_at k x))) → AreListed (without_first (λ x. (x.object == k) && test x) waits) n
+  pub unwatched_listed : (n : Map Object) → n ≡ update m k (unwatched (λ x. test (wait_at k x)))
+      → AreListed (without_first (λ x. (x.object == k) && test x) waits) n
   unwatched_listed n is j = rw is (by_key (cases_Bool (k == j)))
     where
       f : Object → Object
@@ -123,10 +143,15 @@ module _ (k : ℕ) (test : WaitValue → Bool) (waits : List WaitValue) (m : Map
       at_object (Some o) = refl
 
       here_left : filter (λ x. x.object == k) (without_first both waits) ≡ map (wait_at k) (waits_in (get (update m k f) k))
-      here_left = filter_first (λ x. x.object == k) test waits ∙ (ap (without_first test) (listed k) ∙ (first_map (wait_at k) test (waits_in (get m k)) ∙ rw (get-update m k f k, eq-eqb k k refl) (at_object (get m k))))
+      here_left =
+          filter_first (λ x. x.object == k) test waits
+          ∙ (ap (without_first test) (listed k)
+          ∙ (first_map (wait_at k) test (waits_in (get m k)) ∙ rw (get-update m k f k, eq-eqb k k refl) (at_object (get m k))))
 
       by_key : IsTrue (k == j) ⊎ ((k == j) ≡ false) → filter (λ x. x.object == j) (without_first both waits) ≡ map (wait_at j) (waits_in (get (update m k f) j))
-      by_key (inl here) = subst (λ (i : ℕ). filter (λ x. x.object == i) (without_first both waits) ≡ map (wait_at i) (waits_in (get (update m k f) i))) (eqb-true k j here) here_left
+      by_key (inl here) =
+          subst (λ (i : ℕ). filter (λ x. x.object == i) (without_first both waits) ≡ map (wait_at i) (waits_in (get (update m k f) i)))
+          (eqb-true k j here) here_left
       by_key (inr apart) = filter_apart (λ x. x.object == j) both other waits ∙ (listed j ∙ rw (get-update m k f j, apart) refl)
         where
           other : (x : WaitValue) → IsTrue (both x) → (x.object == j) ≡ false
@@ -135,7 +160,8 @@ module _ (k : ℕ) (test : WaitValue → Bool) (waits : List WaitValue) (m : Map
 -- ---- what is left
 
 -- at each object that is left those waits are left whose port is
-pub left_listed : (waits : List WaitValue) (m m2 : Map Object) → ((k : ℕ) (o : Object) → get m2 k ≡ Some o → KeepsWaits m m2 k o) → AreListed waits m → AreListed (filter (is_there m2) waits) m2
+pub left_listed : (waits : List WaitValue) (m m2 : Map Object) → ((k : ℕ) (o : Object) → get m2 k ≡ Some o → KeepsWaits m m2 k o) → AreListed waits m
+    → AreListed (filter (is_there m2) waits) m2
 left_listed waits m m2 keeps listed k = by_object (get m2 k) refl
   where
     by_object : (q : Option Object) → get m2 k ≡ q → filter (λ x. x.object == k) (filter (is_there m2) waits) ≡ map (wait_at k) (waits_in q)
@@ -154,7 +180,8 @@ left_listed waits m m2 keeps listed k = by_object (get m2 k) refl
 
 -- the object and the port of each wait are there
 pub all_there : (waits : List WaitValue) (m : Map Object) → HavePlaces m → AreListed waits m → filter (is_there m) waits ≡ waits
-all_there waits m have listed = all_left (λ x. x.object) (is_there m) waits (λ k. ap (filter (is_there m)) (listed k) ∙ (by_object k (get m k) refl ∙ sym (listed k)))
+all_there waits m have listed =
+    all_left (λ x. x.object) (is_there m) waits (λ k. ap (filter (is_there m)) (listed k) ∙ (by_object k (get m k) refl ∙ sym (listed k)))
   where
     by_object : (k : ℕ) (q : Option Object) → get m k ≡ q → filter (is_there m) (map (wait_at k) (waits_in q)) ≡ map (wait_at k) (waits_in q)
     by_object k None is = refl

@@ -1,5 +1,6 @@
 -- Lists of which some elements are left, and lists of which the first element that passes was taken out.
-use Rattle.zl_rights.proofs.Common.{◌≡◌, ◌≤◌, Bool, true, false, ◌&&◌, ◌⊎◌, List, [], ◌∷◌, length, refl, sym, ap, ◌∙◌, cond, Some, inl, inr, IsTrue, arith, map, option_map, filter, find, drop, ℕ, ◌==◌, eq-eqb, cases_Bool, false≢true}
+use Rattle.zl_rights.proofs.Common.{◌≡◌, ◌≤◌, Bool, true, false, ◌&&◌, ◌⊎◌, List, [], ◌∷◌, length, refl, sym, ap, ◌∙◌, cond, Some, inl, inr, IsTrue, arith, map}
+use Rattle.zl_rights.proofs.Common.{option_map, filter, find, drop, ℕ, ◌==◌, eq-eqb, cases_Bool, false≢true}
 use Rattle.zl_signals.specs.Waits.{without_first}
 use Rattle.zl_objects.proofs.Places.{first_out}
 
@@ -24,7 +25,8 @@ module _ {X Y : Type 0} (f : X → Y) (q : Y → Bool) where
   first_map [] = refl
   first_map (x ∷ xs) = first_out q (f x) (map f xs) ∙ (by_test (q (f x)) (first_map xs) ∙ ap (λ (ys : List X). map f ys) (sym (first_out (λ y. q (f y)) x xs)))
     where
-      by_test : (b : Bool) → without_first q (map f xs) ≡ map f (without_first (λ y. q (f y)) xs) → cond b (map f xs) (f x ∷ without_first q (map f xs)) ≡ map f (cond b xs (x ∷ without_first (λ y. q (f y)) xs))
+      by_test : (b : Bool) → without_first q (map f xs) ≡ map f (without_first (λ y. q (f y)) xs)
+          → cond b (map f xs) (f x ∷ without_first q (map f xs)) ≡ map f (cond b xs (x ∷ without_first (λ y. q (f y)) xs))
       by_test true rest = refl
       by_test false rest = ap (λ (ys : List Y). f x ∷ ys) rest
 
@@ -36,7 +38,8 @@ module _ {X : Type 0} (p q : X → Bool) where
   filter_first [] = refl
   filter_first (x ∷ xs) = ap (filter p) (first_out (λ y. p y && q y) x xs) ∙ by_tests (filter_first xs) (p x) (q x) refl refl
     where
-      by_tests : filter p (without_first (λ y. p y && q y) xs) ≡ without_first q (filter p xs) → (b d : Bool) → p x ≡ b → q x ≡ d → filter p (cond (b && d) xs (x ∷ without_first (λ y. p y && q y) xs)) ≡ without_first q (cond b (x ∷ filter p xs) (filter p xs))
+      by_tests : filter p (without_first (λ y. p y && q y) xs) ≡ without_first q (filter p xs) → (b d : Bool) → p x ≡ b → q x ≡ d
+          → filter p (cond (b && d) xs (x ∷ without_first (λ y. p y && q y) xs)) ≡ without_first q (cond b (x ∷ filter p xs) (filter p xs))
       by_tests rest true true is next = sym (first_out q x (filter p xs) ∙ rw next refl)
       by_tests rest true false is next =
           let behind : filter p (x ∷ without_first (λ y. p y && q y) xs) ≡ x ∷ without_first q (filter p xs) = rw is (ap (λ (ys : List X). x ∷ ys) rest) in
@@ -47,7 +50,8 @@ module _ {X : Type 0} (p q : X → Bool) where
   find_first [] = refl
   find_first (x ∷ xs) = by_tests (find_first xs) (p x) (q x) refl
     where
-      by_tests : find (λ y. p y && q y) xs ≡ find q (filter p xs) → (b d : Bool) → q x ≡ d → cond (b && d) (Some x) (find (λ y. p y && q y) xs) ≡ find q (cond b (x ∷ filter p xs) (filter p xs))
+      by_tests : find (λ y. p y && q y) xs ≡ find q (filter p xs) → (b d : Bool) → q x ≡ d
+          → cond (b && d) (Some x) (find (λ y. p y && q y) xs) ≡ find q (cond b (x ∷ filter p xs) (filter p xs))
       by_tests rest true true next = rw next refl
       by_tests rest true false next = rw next rest
       by_tests rest false d next = rest
@@ -71,7 +75,8 @@ module _ {X : Type 0} (p q : X → Bool) where
   filter_apart apart [] = refl
   filter_apart apart (x ∷ xs) = ap (filter p) (first_out q x xs) ∙ by_test (filter_apart apart xs) (cases_Bool (q x))
     where
-      by_test : filter p (without_first q xs) ≡ filter p xs → (IsTrue (q x)) ⊎ (q x ≡ false) → filter p (cond (q x) xs (x ∷ without_first q xs)) ≡ filter p (x ∷ xs)
+      by_test : filter p (without_first q xs) ≡ filter p xs → (IsTrue (q x)) ⊎ (q x ≡ false)
+          → filter p (cond (q x) xs (x ∷ without_first q xs)) ≡ filter p (x ∷ xs)
       by_test rest (inl passes) = rw (passes, apart x passes) refl
       by_test rest (inr fails) = rw fails (ap (λ (ys : List X). cond (p x) (x ∷ ys) ys) rest)
 
@@ -83,11 +88,13 @@ filter_both {X} p q r same (x ∷ xs) = elim (cases_Bool (p x)) as (λ _. filter
   | inr fails ↦ rw fails (by_other (filter_both p q r same xs) fails (cases_Bool (q x)))
 ]
   where
-    by_test : filter p (filter q xs) ≡ filter r (filter p xs) → IsTrue (p x) → (IsTrue (q x)) ⊎ (q x ≡ false) → filter p (cond (q x) (x ∷ filter q xs) (filter q xs)) ≡ cond (q x) (x ∷ filter r (filter p xs)) (filter r (filter p xs))
+    by_test : filter p (filter q xs) ≡ filter r (filter p xs) → IsTrue (p x) → (IsTrue (q x)) ⊎ (q x ≡ false)
+        → filter p (cond (q x) (x ∷ filter q xs) (filter q xs)) ≡ cond (q x) (x ∷ filter r (filter p xs)) (filter r (filter p xs))
     by_test rest passes (inl here) = rw (here, passes) (ap (λ (ys : List X). x ∷ ys) rest)
     by_test rest passes (inr other) = rw other rest
 
-    by_other : filter p (filter q xs) ≡ filter r (filter p xs) → p x ≡ false → (IsTrue (q x)) ⊎ (q x ≡ false) → filter p (cond (q x) (x ∷ filter q xs) (filter q xs)) ≡ filter r (filter p xs)
+    by_other : filter p (filter q xs) ≡ filter r (filter p xs) → p x ≡ false → (IsTrue (q x)) ⊎ (q x ≡ false)
+        → filter p (cond (q x) (x ∷ filter q xs) (filter q xs)) ≡ filter r (filter p xs)
     by_other rest fails (inl here) = rw (here, fails) rest
     by_other rest fails (inr other) = rw other rest
 
@@ -104,11 +111,13 @@ filter_shorter p (x ∷ xs) = elim (p x) as (λ b. length (cond b (x ∷ filter 
 pub filter_head : {X : Type 0} (p : X → Bool) (x : X) (xs : List X) → filter p (x ∷ xs) ≡ x ∷ xs → (IsTrue (p x)) × (filter p xs ≡ xs)
 filter_head {X} p x xs all = elim (cases_Bool (p x)) as (λ _. (IsTrue (p x)) × (filter p xs ≡ xs)) [
   | inl passes ↦ (passes, ap (λ (ys : List X). drop 1 ys) (rw passes at all))
-  | inr fails ↦ absurd (let longer : ◌≡◌ {A = ℕ} (length (filter p xs)) (length (x ∷ xs)) = ap (λ (ys : List X). length ys) (rw fails at all) in omega (arith, longer, filter_shorter p xs))
+  | inr fails ↦ absurd (let longer : ◌≡◌ {A = ℕ} (length (filter p xs)) (length (x ∷ xs)) = ap (λ (ys : List X). length ys) (rw fails at all) in
+      omega (arith, longer, filter_shorter p xs))
 ]
 
 -- all with one key are left, for each key
-pub all_left : {X : Type 0} (key : X → ℕ) (p : X → Bool) (xs : List X) → ((k : ℕ) → filter p (filter (λ x. key x == k) xs) ≡ filter (λ x. key x == k) xs) → filter p xs ≡ xs
+pub all_left : {X : Type 0} (key : X → ℕ) (p : X → Bool) (xs : List X) → ((k : ℕ) → filter p (filter (λ x. key x == k) xs) ≡ filter (λ x. key x == k) xs)
+    → filter p xs ≡ xs
 all_left key p [] by_key = refl
 all_left {X} key p (x ∷ xs) by_key = rw passes (ap (λ (ys : List X). x ∷ ys) (all_left key p xs behind))
   where

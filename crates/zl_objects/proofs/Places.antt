@@ -1,5 +1,7 @@
 -- The places that are reserved for the packets of waits, after each change of the objects.
-use Rattle.zl_rights.proofs.Common.{◌≡◌, ◌+◌, ◌<◌, ◌⊎◌, ℕ, suc, take, drop, Bool, true, false, ◌==◌, List, [], ◌∷◌, ◌++◌, refl, sym, ap, ◌∙◌, subst, cond, Option, Some, None, inl, inr, IsTrue, is_some, arith, eq-eqb, if◌then◌else◌, count_by, sum_by-cons, option_map, find, cases_Bool, eqb-true, false≢true, nat_tests, Map, get, has_key, put, update}
+use Rattle.zl_rights.proofs.Common.{◌≡◌, ◌+◌, ◌<◌, ◌⊎◌, ℕ, suc, take, drop, Bool, true, false, ◌==◌, List, [], ◌∷◌, ◌++◌, refl, sym, ap, ◌∙◌, subst, cond}
+use Rattle.zl_rights.proofs.Common.{Option, Some, None, inl, inr, IsTrue, is_some, arith, eq-eqb, if◌then◌else◌, count_by, sum_by-cons, option_map, find}
+use Rattle.zl_rights.proofs.Common.{cases_Bool, eqb-true, false≢true, nat_tests, Map, get, has_key, put, update}
 use Rattle.std.specs.Prelude.{◌-◌}
 use Rattle.std.specs.List.{position_or_len}
 use Rattle.std.proofs.lemmas.List.Sums.{sum_by-append}
@@ -19,11 +21,13 @@ use Rattle.zl_objects.proofs.Sums.{sum_same, sum_updated}
 -- ---- one object is written
 
 -- what is seen of each object, where the change keeps it
-pub seen_updated : {X : Type 0} (g : Option Object → X) (f : Object → Object) → ((o : Object) → g (Some (f o)) ≡ g (Some o)) → (m : Map Object) (k j : ℕ) → g (get (update m k f) j) ≡ g (get m j)
-seen_updated g f same m k j = ap g (get-update m k f j) ∙ elim (cases_Bool (k == j)) as (λ _. g (if k == j then option_map f (get m j) else get m j) ≡ g (get m j)) [
-  | inl here ↦ rw here (by_object (get m j))
-  | inr apart ↦ rw apart refl
-]
+pub seen_updated : {X : Type 0} (g : Option Object → X) (f : Object → Object) → ((o : Object) → g (Some (f o)) ≡ g (Some o)) → (m : Map Object) (k j : ℕ)
+    → g (get (update m k f) j) ≡ g (get m j)
+seen_updated g f same m k j =
+    ap g (get-update m k f j) ∙ elim (cases_Bool (k == j)) as (λ _. g (if k == j then option_map f (get m j) else get m j) ≡ g (get m j)) [
+      | inl here ↦ rw here (by_object (get m j))
+      | inr apart ↦ rw apart refl
+    ]
   where
     by_object : (o : Option Object) → g (option_map f o) ≡ g o
     by_object None = refl
@@ -51,38 +55,53 @@ first_out test x xs = elim (cases_Bool (test x)) as (λ _. without_first test (x
   | inr apart ↦ rw apart (cut_later (position_or_len test xs) x xs)
 ]
 
-counted_out : (j : ℕ) (test : Watch → Bool) (xs : List Watch) → count_by (is_at_port j) xs ≡ count_by (is_at_port j) (without_first test xs) + one_for j (find test xs)
+counted_out : (j : ℕ) (test : Watch → Bool) (xs : List Watch)
+    → count_by (is_at_port j) xs ≡ count_by (is_at_port j) (without_first test xs) + one_for j (find test xs)
 counted_out j test [] = refl
-counted_out j test (x ∷ xs) = elim (cases_Bool (test x)) as (λ _. count_by (is_at_port j) (x ∷ xs) ≡ count_by (is_at_port j) (without_first test (x ∷ xs)) + one_for j (find test (x ∷ xs))) [
-  | inl here ↦ rw (first_out test x xs, here) (omega (arith, sum_by-cons (λ (y : Watch). cond (is_at_port j y) 1 0) x xs))
-  | inr apart ↦ rw (first_out test x xs, apart) (omega (arith, sum_by-cons (λ (y : Watch). cond (is_at_port j y) 1 0) x xs, sum_by-cons (λ (y : Watch). cond (is_at_port j y) 1 0) x (without_first test xs), counted_out j test xs))
-]
+counted_out j test (x ∷ xs) =
+    elim (cases_Bool (test x))
+    as (λ _. count_by (is_at_port j) (x ∷ xs) ≡ count_by (is_at_port j) (without_first test (x ∷ xs)) + one_for j (find test (x ∷ xs))) [
+      | inl here ↦ rw (first_out test x xs, here) (omega (arith, sum_by-cons (λ (y : Watch). cond (is_at_port j y) 1 0) x xs))
+      | inr apart ↦ rw (first_out test x xs, apart) (omega (
+        arith,
+        sum_by-cons (λ (y : Watch). cond (is_at_port j y) 1 0) x xs,
+        sum_by-cons (λ (y : Watch). cond (is_at_port j y) 1 0) x (without_first test xs),
+        counted_out j test xs,
+      ))
+    ]
 
 -- the place of what was taken out is left
-pub places_unwatched : (test : Watch → Bool) (m : Map Object) (k : ℕ) → HavePlaces m → HavePlacesWith (find test (waits_in (get m k))) (update m k (unwatched test))
+pub places_unwatched : (test : Watch → Bool) (m : Map Object) (k : ℕ) → HavePlaces m
+    → HavePlacesWith (find test (waits_in (get m k))) (update m k (unwatched test))
 places_unwatched test m k have = by_object (get m k) refl
   where
     by_object : (q : Option Object) → get m k ≡ q → HavePlacesWith (find test (waits_in q)) (update m k (unwatched test))
     by_object None is j = rw (update_missing m k (unwatched test) is) (have j)
     by_object (Some o) is j =
-        let reserved : reserved_in (get (update m k (unwatched test)) j) ≡ reserved_in (get m j) = seen_updated reserved_in (unwatched test) (λ q. refl) m k j in
+        let reserved : reserved_in (get (update m k (unwatched test)) j) ≡ reserved_in (get m j) =
+        seen_updated reserved_in (unwatched test) (λ q. refl) m k j in
         omega (arith, have j, sum_updated (λ (e : ℕ × Object). waits_for j e.1) m k o (unwatched test) is, counted_out j test o.signals.waits, reserved)
 
 -- ---- the port of one wait
 
-reserved_at_port : (f : Port → Port) (m : Map Object) (p j : ℕ) → reserved_in (get (update m p (at_port f)) j) ≡ (if p == j then reserved_in (option_map (at_port f) (get m j)) else reserved_in (get m j))
-reserved_at_port f m p j = ap reserved_in (get-update m p (at_port f) j) ∙ elim (p == j) as (λ b. reserved_in (if b then option_map (at_port f) (get m j) else get m j) ≡ (if b then reserved_in (option_map (at_port f) (get m j)) else reserved_in (get m j))) [ true ↦ refl | false ↦ refl ]
+reserved_at_port : (f : Port → Port) (m : Map Object) (p j : ℕ)
+    → reserved_in (get (update m p (at_port f)) j) ≡ (if p == j then reserved_in (option_map (at_port f) (get m j)) else reserved_in (get m j))
+reserved_at_port f m p j =
+    ap reserved_in (get-update m p (at_port f) j) ∙ elim (p == j) as (λ b. reserved_in (if b then option_map (at_port f) (get m j) else get m j)
+    ≡ (if b then reserved_in (option_map (at_port f) (get m j)) else reserved_in (get m j))) [ true ↦ refl | false ↦ refl ]
 
 waits_at_port : (f : Port → Port) (m : Map Object) (p j : ℕ) → waits_at (update m p (at_port f)) j ≡ waits_at m j
 waits_at_port f m p j = sum_same (λ (e : ℕ × Object). waits_for j e.1) m p (at_port f) (λ o. refl)
 
 -- its place is no longer reserved
-pub places_used : (f : Port → Port) → ((p : Port) → (f p).reserved ≡ p.reserved - 1) → (x : Watch) (m : Map Object) → HavePlacesWith (Some x) m → HavePlaces (update m x.port (at_port f))
+pub places_used : (f : Port → Port) → ((p : Port) → (f p).reserved ≡ p.reserved - 1) → (x : Watch) (m : Map Object) → HavePlacesWith (Some x) m
+    → HavePlaces (update m x.port (at_port f))
 places_used f less x m have j =
     elim (cases_Bool (x.port == j)) as (λ _. waits_at (update m x.port (at_port f)) j + 0 ≡ reserved_in (get (update m x.port (at_port f)) j)) [
       | inl here ↦
           let one : ◌≡◌ {A = ℕ} (cond (x.port == j) 1 0) 1 = rw here refl in
-          let reserved : reserved_in (get (update m x.port (at_port f)) j) ≡ reserved_in (get m j) - 1 = reserved_at_port f m x.port j ∙ rw here (by_object (get m j)) in
+          let reserved : reserved_in (get (update m x.port (at_port f)) j) ≡ reserved_in (get m j) - 1 =
+          reserved_at_port f m x.port j ∙ rw here (by_object (get m j)) in
           omega (arith, have j, waits_at_port f m x.port j, one, reserved)
       | inr apart ↦
           let none : ◌≡◌ {A = ℕ} (cond (x.port == j) 1 0) 0 = rw apart refl in
@@ -107,11 +126,13 @@ places_made x m port have j = elim (cases_Bool (x.port == j))
     as (λ _. waits_at (update m x.port (at_port with_place)) j + cond (x.port == j) 1 0 ≡ reserved_in (get (update m x.port (at_port with_place)) j)) [
       | inl here ↦
           let one : ◌≡◌ {A = ℕ} (cond (x.port == j) 1 0) 1 = rw here refl in
-          let reserved : reserved_in (get (update m x.port (at_port with_place)) j) ≡ reserved_in (get m j) + 1 = reserved_at_port with_place m x.port j ∙ rw here (by_object (get m j) (subst (λ (i : ℕ). IsTrue (is_port_at m i)) (eqb-true x.port j here) port)) in
+          let reserved : reserved_in (get (update m x.port (at_port with_place)) j) ≡ reserved_in (get m j) + 1 =
+          reserved_at_port with_place m x.port j ∙ rw here (by_object (get m j) (subst (λ (i : ℕ). IsTrue (is_port_at m i)) (eqb-true x.port j here) port)) in
           omega (arith, have j, waits_at_port with_place m x.port j, one, reserved)
       | inr apart ↦
           let none : ◌≡◌ {A = ℕ} (cond (x.port == j) 1 0) 0 = rw apart refl in
-          let reserved : reserved_in (get (update m x.port (at_port with_place)) j) ≡ reserved_in (get m j) = reserved_at_port with_place m x.port j ∙ rw apart refl in
+          let reserved : reserved_in (get (update m x.port (at_port with_place)) j) ≡ reserved_in (get m j) =
+          reserved_at_port with_place m x.port j ∙ rw apart refl in
           omega (arith, have j, waits_at_port with_place m x.port j, none, reserved)
     ]
   where
@@ -197,7 +218,12 @@ places_put m next o below none empty have j = by_key (cases_Bool (next == j))
     no_waits = rw none refl
 
     waits : waits_at (put m next o) j ≡ waits_at m j
-    waits = rw (put_last m next o below) (omega (arith, sum_by-append (λ (e : ℕ × Object). waits_for j e.1) m ((next, o) ∷ []), sum_by-cons (λ (e : ℕ × Object). waits_for j e.1) (next, o) [], no_waits))
+    waits = rw (put_last m next o below) (omega (
+      arith,
+      sum_by-append (λ (e : ℕ × Object). waits_for j e.1) m ((next, o) ∷ []),
+      sum_by-cons (λ (e : ℕ × Object). waits_for j e.1) (next, o) [],
+      no_waits,
+    ))
 
     reserved : reserved_in (get (put m next o) j) ≡ reserved_in (if next == j then Some o else get m j)
     reserved = ap reserved_in (get-put m next o j)

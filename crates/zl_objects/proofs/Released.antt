@@ -1,12 +1,15 @@
 -- What is left of the objects once handles have gone: each as it was, and the invariant holds.
-use Rattle.zl_rights.proofs.Common.{◌≡◌, ◌<◌, ◌≤◌, ℕ, true, false, sym, ◌||◌, ◌==◌, ◌⊎◌, List, [], ◌∷◌, ◌++◌, length, if◌then◌else◌, refl, ap, ◌∙◌, subst, Option, Some, None, inl, inr, IsTrue, arith, cond, count_by, nat_tests, is_some, list_any, append-nil, append_assoc, same_Some, or_left, or_right, cases_Bool, false≢true, Map, get, has_key, update, without}
+use Rattle.zl_rights.proofs.Common.{◌≡◌, ◌<◌, ◌≤◌, ℕ, true, false, sym, ◌||◌, ◌==◌, ◌⊎◌, List, [], ◌∷◌, ◌++◌, length, if◌then◌else◌, refl, ap, ◌∙◌, subst}
+use Rattle.zl_rights.proofs.Common.{Option, Some, None, inl, inr, IsTrue, arith, cond, count_by, nat_tests, is_some, list_any, append-nil, append_assoc}
+use Rattle.zl_rights.proofs.Common.{same_Some, or_left, or_right, cases_Bool, false≢true, Map, get, has_key, update, without}
 use Rattle.std.proofs.lemmas.List.Sums.{count_by-le-length}
 use Rattle.zl_rights.specs.World.{Wait}
 use Rattle.zl_table.proofs.MapEdits.{is_sorted-update, length-update}
 use Rattle.zl_objects.specs.declared.object.Body.{Body}
 use Rattle.zl_objects.specs.declared.object.Body.TheVariants as body
 use Rattle.zl_objects.specs.declared.object.Object.{Object}
-use Rattle.zl_objects.specs.Objects.{Objects, has_living_child, held_once_less, is_alive, is_child, is_end_at, is_end_body, is_kept, is_koid, job_in, job_of, queue_of, stays_alone, stopped, stopped_body, stopping}
+use Rattle.zl_objects.specs.Objects.{Objects, has_living_child, held_once_less, is_alive, is_child, is_end_at, is_end_body, is_kept, is_koid, job_in, job_of}
+use Rattle.zl_objects.specs.Objects.{queue_of, stays_alone, stopped, stopped_body, stopping}
 use Rattle.zl_objects.specs.Release.{named_in, AreKeptBut, Cascades, none_left, let_go, goes, waits_end, Releases}
 use Rattle.zl_objects.specs.Dying.{HasPeer, IsWhole, LetsGo, Thins, budget, is_named}
 use Rattle.zl_objects.specs.Ports.{unreserved}
@@ -46,7 +49,9 @@ less_was m k j o was =
     }
   where
     raised_same : (c : Changed held_once_less m k j was.before) → was.before.signals.raised ≡ c.before.signals.raised
-    raised_same c = ap (λ (x : Object). x.signals.raised) c.is ∙ elim (k == j) as (λ b. (if b then held_once_less c.before else c.before).signals.raised ≡ c.before.signals.raised) [ true ↦ refl | false ↦ refl ]
+    raised_same c =
+        ap (λ (x : Object). x.signals.raised) c.is
+        ∙ elim (k == j) as (λ b. (if b then held_once_less c.before else c.before).signals.raised ≡ c.before.signals.raised) [ true ↦ refl | false ↦ refl ]
 
 pub cascaded_was : (ks : List ℕ) (m m2 : Map Object) → Cascades ks m m2 → (j : ℕ) (o : Object) → get m2 j ≡ Some o → Was m j o
 cascaded_was _ _ _ (none_left m) j o at = record { before = o; there = at; body = refl; raised = refl }
@@ -68,7 +73,8 @@ cascaded_shorter _ _ _ (waits_end ks m mid m2 same more) = omega (arith, cascade
 -- no more objects are named than before
 pub cascaded_named : (ks : List ℕ) (m m2 : Map Object) → Cascades ks m m2 → count_by is_named m2 ≤ count_by is_named m
 cascaded_named _ _ _ (none_left m) = omega arith
-cascaded_named _ _ _ (let_go k ks m m2 more) = omega (arith, cascaded_named ks (update m k held_once_less) m2 more, sum_no_more (λ e. cond (is_named e) 1 0) m k held_once_less (lower k))
+cascaded_named _ _ _ (let_go k ks m m2 more) =
+    omega (arith, cascaded_named ks (update m k held_once_less) m2 more, sum_no_more (λ e. cond (is_named e) 1 0) m k held_once_less (lower k))
   where
     lower : (j : ℕ) (o : Object) → cond (is_named (j, held_once_less o)) 1 0 ≤ cond (is_named (j, o)) 1 0
     lower j o = grind (arith, nat_tests)
@@ -81,7 +87,8 @@ pub starts : (m : Map Object) (next room : ℕ) (d : List ℕ) → IsWhole None 
 unfolding budget
 starts m next room d whole = rw whole.none (omega (arith, whole.enough, count_by-le-length is_named m))
 
-pub whole_left : (ks : List ℕ) (m m2 : Map Object) (next room room2 : ℕ) (d d2 : List ℕ) → Cascades ks m m2 → HavePlaces m2 → IsWhole None m next d room → d2 ≡ [] → room2 ≡ room → IsWhole None m2 next d2 room2
+pub whole_left : (ks : List ℕ) (m m2 : Map Object) (next room room2 : ℕ) (d d2 : List ℕ) → Cascades ks m m2 → HavePlaces m2 → IsWhole None m next d room
+    → d2 ≡ [] → room2 ≡ room → IsWhole None m2 next d2 room2
 whole_left ks m m2 next room room2 d d2 cascades places whole none same = record {
   below = λ k there. by_object k (get m2 k) refl there;
   peers = λ k o at. peers k o at;
@@ -136,7 +143,8 @@ pub cascades_of : (ks : List ℕ) (m m2 : Map Object) (d d2 : List ℕ) → Lets
 cascades_of ks m m2 d d2 went = rw (append-nil ks) at (went.leads [] m2 (none_left m2))
 
 pub released : (ks loose : List ℕ) (m m2 : Map Object) (next made : ℕ) (waits waits2 : List Wait) (d d2 : List ℕ) → LetsGo ks m d m2 d2 → d ≡ loose → d2 ≡ []
-    → Releases ks loose (record { objects = m; next_koid = next; waits = waits; waits_made = made }) (record { objects = m2; next_koid = next; waits = waits2; waits_made = made })
+    → Releases ks loose (record { objects = m; next_koid = next; waits = waits; waits_made = made })
+    (record { objects = m2; next_koid = next; waits = waits2; waits_made = made })
 released ks loose m m2 next made waits waits2 d d2 went noted none = record {
   cascades = cascades_of ks m m2 d d2 went;
   keeps = λ others kept. rw (none, append-nil others) at (went.notes others (rw noted kept));
@@ -144,7 +152,8 @@ released ks loose m m2 next made waits waits2 d d2 went noted none = record {
 }
 
 -- where waits ended with their ports alone, and each port that is left has places for those that are left
-pub waits_left : (ks : List ℕ) (m m2 : Map Object) → Cascades ks m m2 → HavePlaces m2 → ((k : ℕ) (o : Object) → get m2 k ≡ Some o → Thins m m2 k o) → (k : ℕ) (o : Object) → get m2 k ≡ Some o → KeepsWaits m m2 k o
+pub waits_left : (ks : List ℕ) (m m2 : Map Object) → Cascades ks m m2 → HavePlaces m2 → ((k : ℕ) (o : Object) → get m2 k ≡ Some o → Thins m m2 k o)
+    → (k : ℕ) (o : Object) → get m2 k ≡ Some o → KeepsWaits m m2 k o
 waits_left ks m m2 cascades have thins k o at =
     let was : Was m k o = cascaded_was ks m m2 cascades k o at in
     let thin : Thins m m2 k o = thins k o at in
@@ -159,11 +168,14 @@ waits_left ks m m2 cascades have thins k o at =
 
 -- a process that has ended and then its job are looked at
 module _ (m m1 m2 : Map Object) (pid job : ℕ) (first : LetsGo [] m (pid ∷ []) m1 []) (second : LetsGo [] m1 (job ∷ []) m2 []) where
-  pub both_released : (next made : ℕ) (waits waits2 : List Wait) → Releases [] (job ∷ pid ∷ []) (record { objects = m; next_koid = next; waits = waits; waits_made = made }) (record { objects = m2; next_koid = next; waits = waits2; waits_made = made })
+  pub both_released : (next made : ℕ) (waits waits2 : List Wait)
+      → Releases [] (job ∷ pid ∷ []) (record { objects = m; next_koid = next; waits = waits; waits_made = made })
+      (record { objects = m2; next_koid = next; waits = waits2; waits_made = made })
   both_released next made waits waits2 = record {
     cascades = first.leads [] m2 (second.leads [] m2 (none_left m2));
     keeps = λ others kept. rw (append-nil others) at
-        (second.notes others (rw (append-nil (others ++ job ∷ [])) at (first.notes (others ++ job ∷ []) (rw (append_assoc others (job ∷ []) (pid ∷ [])) kept))));
+        (second.notes others
+        (rw (append-nil (others ++ job ∷ [])) at (first.notes (others ++ job ∷ []) (rw (append_assoc others (job ∷ []) (pid ∷ [])) kept))));
     koids = refl;
   }
 
@@ -180,7 +192,8 @@ pub cascades_then : (ks ls : List ℕ) (m m2 m3 : Map Object) → Cascades ks m 
 cascades_then _ ls _ _ m3 (none_left m) later = later
 cascades_then _ ls _ _ m3 (let_go k ks m m2 more) later = let_go k (ks ++ ls) m m3 (cascades_then ks ls (update m k held_once_less) m2 m3 more later)
 cascades_then _ ls _ _ m3 (goes k o ks m m2 there unkept more) later =
-    goes k o (ks ++ ls) m m3 there unkept (subst (λ (all : List ℕ). Cascades all (without m k) m3) (append_assoc (named_in (queue_of o.body)) ks ls) (cascades_then (named_in (queue_of o.body) ++ ks) ls (without m k) m2 m3 more later))
+    goes k o (ks ++ ls) m m3 there unkept (subst (λ (all : List ℕ). Cascades all (without m k) m3) (append_assoc (named_in (queue_of o.body)) ks ls)
+    (cascades_then (named_in (queue_of o.body) ++ ks) ls (without m k) m2 m3 more later))
 cascades_then _ ls _ _ m3 (waits_end ks m mid m2 same more) later = waits_end (ks ++ ls) m mid m3 same (cascades_then ks ls mid m2 m3 more later)
 
 -- handles go one after another
@@ -194,17 +207,20 @@ releases_then ks ls loose r r2 r3 first later = record {
 -- the end of a process may leave it and its job without what kept them
 module _ (r : Objects) (pid job : ℕ) (of : job_in (get r.objects pid) ≡ Some job) where
   -- another job has no living child less
-  other_child : (k : ℕ) → (job == k) ≡ false → (m : Map Object) → job_in (get m pid) ≡ Some job → has_living_child (update m pid stopped) k ≡ has_living_child m k
+  other_child : (k : ℕ) → (job == k) ≡ false → (m : Map Object) → job_in (get m pid) ≡ Some job
+      → has_living_child (update m pid stopped) k ≡ has_living_child m k
   unfolding get update has_living_child
   other_child k apart [] is = refl
-  other_child k apart (e ∷ m) is = elim (cases_Bool (e.0 == pid)) as (λ _. list_any (λ x. is_child k x.1.body) (update (e ∷ m) pid stopped) ≡ list_any (λ x. is_child k x.1.body) (e ∷ m)) [
-    | inl here ↦ rw (here, by_body e.1.body (rw here at is)) refl
-    | inr there ↦ rw there (ap (λ b. is_child k e.1.body || b) (other_child k apart m (rw there at is)))
-  ]
+  other_child k apart (e ∷ m) is =
+      elim (cases_Bool (e.0 == pid)) as (λ _. list_any (λ x. is_child k x.1.body) (update (e ∷ m) pid stopped) ≡ list_any (λ x. is_child k x.1.body) (e ∷ m)) [
+        | inl here ↦ rw (here, by_body e.1.body (rw here at is)) refl
+        | inr there ↦ rw there (ap (λ b. is_child k e.1.body || b) (other_child k apart m (rw there at is)))
+      ]
     where
       by_body : (b : Body) → job_of b ≡ Some job → is_child k (stopped_body b) ≡ is_child k b
       by_body (body.Job own) h = refl
-      by_body (body.Process j life) h = elim (is_alive life) as (λ b. false ≡ is_koid k (if b then Some j else None)) [ true ↦ rw (same_Some j job h, apart) refl | false ↦ refl ]
+      by_body (body.Process j life) h =
+          elim (is_alive life) as (λ b. false ≡ is_koid k (if b then Some j else None)) [ true ↦ rw (same_Some j job h, apart) refl | false ↦ refl ]
       by_body body.Event h = refl
       by_body (body.Port port) h = refl
       by_body (body.ChannelEnd p queue) h = refl
@@ -222,7 +238,8 @@ module _ (r : Objects) (pid job : ℕ) (of : job_in (get r.objects pid) ≡ Some
       alone k (body.Port port) apart = refl
       alone k (body.ChannelEnd p queue) apart = refl
 
-      by_key : (k : ℕ) (o : Object) → Changed stopped r.objects pid k o → is_kept (update r.objects pid stopped) k o ≡ false → IsTrue (job == k) ⊎ ((job == k) ≡ false) → IsTrue (pid == k) ⊎ ((pid == k) ≡ false) → IsTrue (list_any (λ x. x == k) (job ∷ pid ∷ []))
+      by_key : (k : ℕ) (o : Object) → Changed stopped r.objects pid k o → is_kept (update r.objects pid stopped) k o ≡ false
+          → IsTrue (job == k) ⊎ ((job == k) ≡ false) → IsTrue (pid == k) ⊎ ((pid == k) ≡ false) → IsTrue (list_any (λ x. x == k) (job ∷ pid ∷ []))
       by_key k o c unkept (inl parent) process = or_left (job == k) _ parent
       by_key k o c unkept (inr other) (inl here) = or_right (job == k) _ (or_left (pid == k) _ here)
       by_key k o c unkept (inr other) (inr apart) =

@@ -1,5 +1,6 @@
 -- What the objects show of active signals.
-use Rattle.zl_rights.proofs.Common.{◌≡◌, ℕ, Bool, true, false, not, ◌&&◌, ◌||◌, ◌==◌, [], ◌∷◌, refl, sym, ap, ◌∙◌, subst, Option, Some, None, IsTrue, list_any, Map, get, World, is_process, lives}
+use Rattle.zl_rights.proofs.Common.{◌≡◌, ℕ, Bool, true, false, not, ◌&&◌, ◌||◌, ◌==◌, [], ◌∷◌, refl, sym, ap, ◌∙◌, subst, Option, Some, None, IsTrue, list_any}
+use Rattle.zl_rights.proofs.Common.{Map, get, World, is_process, lives}
 use Rattle.std.specs.Prelude.{bit_or}
 use Rattle.zl_rights.specs.Numbers.{NO_JOBS, NO_PROCESSES, TERMINATED}
 use Rattle.zl_rights.specs.Signals.{active, has_child_job, has_child_process, implied as implied_in, is_job_below as is_job_of, is_process_of, signal_if}
@@ -67,7 +68,8 @@ module _ (w : World) (m : Map Object) (shows : ShowStates w m) (k : ℕ) where
 
   implied_shown : (o : Object) (b : Body) → o.body ≡ b → get m k ≡ Some o → implied m k b ≡ implied_in (with_objects w m) k (body_value b)
   unfolding is_process
-  implied_shown o (body.Job own) is at = λ i. bit_or (signal_if TERMINATED own.killed) (bit_or (signal_if NO_JOBS (not (sym job_shown i))) (signal_if NO_PROCESSES (not (sym process_shown i))))
+  implied_shown o (body.Job own) is at =
+      λ i. bit_or (signal_if TERMINATED own.killed) (bit_or (signal_if NO_JOBS (not (sym job_shown i))) (signal_if NO_PROCESSES (not (sym process_shown i))))
   implied_shown o (body.Process job life) is at =
       let shown : Shows w k (body.Process job life) = subst (Shows w k) is (shows.shown k o at) in
       ap (signal_if TERMINATED) shown.over

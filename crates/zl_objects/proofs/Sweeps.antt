@@ -1,5 +1,7 @@
 -- A sweep that goes from koid to koid and leaves what something keeps.
-use Rattle.zl_rights.proofs.Common.{◌≡◌, ◌+◌, ◌<◌, ◌≤◌, ◌==◌, ℕ, Bool, true, false, List, [], ◌∷◌, ◌++◌, length, map, filter, refl, sym, ap, ◌∙◌, Option, Some, None, inl, inr, arith, eqb-true, IsTrue, is_some, nat_cmp, nat_lt, nat_tests, if◌then◌else◌, is_sorted, list_any, count_by, append-nil, cases_Bool, false≢true, none-some, or_left, or_right, Map, each, get, has_key}
+use Rattle.zl_rights.proofs.Common.{◌≡◌, ◌+◌, ◌<◌, ◌≤◌, ◌==◌, ℕ, Bool, true, false, List, [], ◌∷◌, ◌++◌, length, map, filter, refl, sym, ap, ◌∙◌, Option, Some}
+use Rattle.zl_rights.proofs.Common.{None, inl, inr, arith, eqb-true, IsTrue, is_some, nat_cmp, nat_lt, nat_tests, if◌then◌else◌, is_sorted, list_any, count_by}
+use Rattle.zl_rights.proofs.Common.{append-nil, cases_Bool, false≢true, none-some, or_left, or_right, Map, each, get, has_key}
 use Rattle.std.proofs.lemmas.Bool.{or_cases}
 use Rattle.zl_objects.specs.declared.object.Object.{Object}
 use Rattle.zl_objects.specs.Dying.{LetsGo, Thins, budget, is_named}

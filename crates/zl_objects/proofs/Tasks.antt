@@ -1,5 +1,6 @@
 -- The invariant of the objects, once jobs and processes were started, killed or given a policy.
-use Rattle.zl_rights.proofs.Common.{◌≡◌, ℕ, Bool, true, false, List, [], ◌∷◌, length, refl, sym, ap, ◌∙◌, subst, suc, Option, Some, None, arith, is_some, nat_cmp, none-some, same_Some, Map, each, get, update, has_key, option_map, sum_by-cons}
+use Rattle.zl_rights.proofs.Common.{◌≡◌, ℕ, Bool, true, false, List, [], ◌∷◌, length, refl, sym, ap, ◌∙◌, subst, suc, Option, Some, None, arith, is_some}
+use Rattle.zl_rights.proofs.Common.{nat_cmp, none-some, same_Some, Map, each, get, update, has_key, option_map, sum_by-cons}
 use Rattle.std.specs.Prelude.{Result, Ok, Err, OnOk, OnErr}
 use Rattle.std.specs.Map.{lookup, set_value}
 use Rattle.std.specs.BTreeMap.{is_at}
@@ -52,14 +53,17 @@ killed_stays (body.ChannelEnd p queue) = stays_same (body.ChannelEnd p queue)
 -- ---- one of them
 
 module _ {waits : List WaitValue} where
-  pub started_kept : (m n : Map Object) (next room k : ℕ) (d : List ℕ) → IsKept None m next d room waits → n ≡ update m k started → IsKept None n next d room waits
+  pub started_kept : (m n : Map Object) (next room k : ℕ) (d : List ℕ) → IsKept None m next d room waits → n ≡ update m k started
+      → IsKept None n next d room waits
   started_kept m n next room k d kept is = record {
-    whole = updated_whole started (λ o. (started_stays o.body).ends) (λ m next o. (started_stays o.body).peer m next) (λ o. refl) (λ o. (started_stays o.body).reserved) m n next room k d kept.whole is;
+    whole = updated_whole started (λ o. (started_stays o.body).ends) (λ m next o. (started_stays o.body).peer m next) (λ o. refl)
+        (λ o. (started_stays o.body).reserved) m n next room k d kept.whole is;
     listed = updated_listed started (λ o. refl) waits m n k kept.listed is;
   }
 
   -- a policy was set, or that was refused
-  pub policy_or_same_kept : {A B : Type 0} (c : Condition) (a : Action) (m n : Map Object) (next room k : ℕ) (d : List ℕ) (v w : Object) (r : Result A B) → IsKept None m next d room waits → OnOk r (w ≡ with_policy_set c a v) → OnErr r (w ≡ v)
+  pub policy_or_same_kept : {A B : Type 0} (c : Condition) (a : Action) (m n : Map Object) (next room k : ℕ) (d : List ℕ) (v w : Object) (r : Result A B)
+      → IsKept None m next d room waits → OnOk r (w ≡ with_policy_set c a v) → OnErr r (w ≡ v)
       → Some v ≡ lookup (is_at (nat_cmp k)) m → n ≡ set_value (is_at (nat_cmp k)) m w → IsKept None n next d room waits
   policy_or_same_kept c a m n next room k d v w r kept is other there set = record {
     whole = by_result r is other;
@@ -67,7 +71,9 @@ module _ {waits : List WaitValue} where
   }
     where
       by_result : {A B : Type 0} (r : Result A B) → OnOk r (w ≡ with_policy_set c a v) → OnErr r (w ≡ v) → IsWhole None n next d room
-      by_result (Ok x) is other = updated_whole (with_policy_set c a) (λ o. (policy_stays c a o.body).ends) (λ m next o. (policy_stays c a o.body).peer m next) (λ o. refl) (λ o. (policy_stays c a o.body).reserved) m n next room k d kept.whole (written m n k (with_policy_set c a) v w there is set)
+      by_result (Ok x) is other =
+          updated_whole (with_policy_set c a) (λ o. (policy_stays c a o.body).ends) (λ m next o. (policy_stays c a o.body).peer m next) (λ o. refl)
+          (λ o. (policy_stays c a o.body).reserved) m n next room k d kept.whole (written m n k (with_policy_set c a) v w there is set)
       by_result (Err e) is other = roomy_whole m n next room room d d kept.whole (written_back m n k v w there other set) refl (omega arith)
 
 -- ---- all of them
@@ -84,7 +90,8 @@ module _ (kills : ℕ → Bool) where
   stays j o = elim (kills j) as (λ b. Stays o.body (killed_if b o).body) [ true ↦ killed_stays o.body | false ↦ stays_same o.body ]
 
   -- what is seen of each object, where the change keeps it
-  seen_each : {X : Type 0} (g : Option Object → X) → ((j : ℕ) (o : Object) → g (Some (f j o)) ≡ g (Some o)) → (m : Map Object) (k : ℕ) → g (get (each f m) k) ≡ g (get m k)
+  seen_each : {X : Type 0} (g : Option Object → X) → ((j : ℕ) (o : Object) → g (Some (f j o)) ≡ g (Some o)) → (m : Map Object) (k : ℕ)
+      → g (get (each f m) k) ≡ g (get m k)
   seen_each g same m k = ap g (get-each m f k) ∙ by_object (get m k)
     where
       by_object : (o : Option Object) → g (option_map (f k) o) ≡ g o
@@ -95,8 +102,15 @@ module _ (kills : ℕ → Bool) where
   unfolding each
   waits_each [] j = refl
   waits_each (e ∷ m) j =
-      let same : waits_for j (f e.0 e.1) ≡ waits_for j e.1 = elim (kills e.0) as (λ b. waits_for j (killed_if b e.1) ≡ waits_for j e.1) [ true ↦ refl | false ↦ refl ] in
-      omega (arith, same, sum_by-cons (λ (x : ℕ × Object). waits_for j x.1) (e.0, f e.0 e.1) (each f m), sum_by-cons (λ (x : ℕ × Object). waits_for j x.1) e m, waits_each m j)
+      let same : waits_for j (f e.0 e.1) ≡ waits_for j e.1 =
+      elim (kills e.0) as (λ b. waits_for j (killed_if b e.1) ≡ waits_for j e.1) [ true ↦ refl | false ↦ refl ] in
+      omega (
+        arith,
+        same,
+        sum_by-cons (λ (x : ℕ × Object). waits_for j x.1) (e.0, f e.0 e.1) (each f m),
+        sum_by-cons (λ (x : ℕ × Object). waits_for j x.1) e m,
+        waits_each m j,
+      )
 
   length_each : (m : Map Object) → length (each f m) ≡ length m
   unfolding each
@@ -127,20 +141,24 @@ module _ (kills : ℕ → Bool) where
     where
       by_object : (k : ℕ) (o : Object) (q : Option Object) → get m k ≡ q → option_map (f k) (get m k) ≡ Some o → HasPeer (each f m) next o.body
       by_object k o None is read = absurd (none-some o (rw is at read))
-      by_object k o (Some q) is read = subst (λ (x : Object). HasPeer (each f m) next x.body) (same_Some (f k q) o (rw is at read)) (still m next (f k q).body ((stays k q).peer m next (whole.peers k q is)))
+      by_object k o (Some q) is read =
+          subst (λ (x : Object). HasPeer (each f m) next x.body) (same_Some (f k q) o (rw is at read))
+          (still m next (f k q).body ((stays k q).peer m next (whole.peers k q is)))
 
       places : HavePlaces (each f m)
       places j =
           let reserved : reserved_in (get (each f m) j) ≡ reserved_in (get m j) = seen_each reserved_in (λ i o. (stays i o).reserved) m j in
           omega (arith, waits_each m j, reserved, whole.places j)
 
-  each_kept : {waits : List WaitValue} (m : Map Object) (next room : ℕ) (d : List ℕ) → IsKept None m next d room waits → IsKept None (each f m) next d room waits
+  each_kept : {waits : List WaitValue} (m : Map Object) (next room : ℕ) (d : List ℕ) → IsKept None m next d room waits
+      → IsKept None (each f m) next d room waits
   each_kept {waits} m next room d kept = record {
     whole = each_whole m next room d kept.whole;
     listed = same_listed waits m (each f m) (seen_each waits_in (λ j o. same_waits j o) m) kept.listed;
   }
 
 -- a kill
-pub killed_kept : {waits : List WaitValue} (m n : Map Object) (next room task : ℕ) (d : List ℕ) → IsKept None m next d room waits → n ≡ all_killed m task → IsKept None n next d room waits
+pub killed_kept : {waits : List WaitValue} (m n : Map Object) (next room task : ℕ) (d : List ℕ) → IsKept None m next d room waits → n ≡ all_killed m task
+    → IsKept None n next d room waits
 unfolding all_killed
 killed_kept m n next room task d kept is = rw is (each_kept (is_within m task) m next room d kept)

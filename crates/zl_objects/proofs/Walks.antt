@@ -1,5 +1,7 @@
 -- Going through the objects by koid.
-use Rattle.zl_rights.proofs.Common.{◌≡◌, ◌<◌, ◌≤◌, ◌+◌, ◌==◌, ◌||◌, ℕ, Bool, true, false, not, ◌&&◌, List, [], ◌∷◌, refl, sym, ap, ◌∙◌, subst, Option, Some, None, inl, inr, arith, eq-eqb, eqb-true, IsTrue, is_some, if◌then◌else◌, cases_Bool, false≢true, true≢false, nat_tests, nat_cmp, nat_lt, Map, get, each, update, has_key, option_map}
+use Rattle.zl_rights.proofs.Common.{◌≡◌, ◌<◌, ◌≤◌, ◌+◌, ◌==◌, ◌||◌, ℕ, Bool, true, false, not, ◌&&◌, List, [], ◌∷◌, refl, sym, ap, ◌∙◌, subst, Option, Some}
+use Rattle.zl_rights.proofs.Common.{None, inl, inr, arith, eq-eqb, eqb-true, IsTrue, is_some, if◌then◌else◌, cases_Bool, false≢true, true≢false, nat_tests}
+use Rattle.zl_rights.proofs.Common.{nat_cmp, nat_lt, Map, get, each, update, has_key, option_map}
 use Rattle.std.specs.Cmp.{unsigned_tied}
 use Rattle.std.specs.Ordering.{is_gt}
 use Rattle.std.specs.List.{AllByRecursion}
@@ -33,7 +35,8 @@ from_start : (a b : ℕ) → a ≤ b → is_gt (nat_cmp a b) ≡ false
 from_start a b h = grind (arith, nat_tests, unsigned_tied a b, h)
 
 -- the first of what lies from this koid on
-pub first_from : (b : BTreeMap ℕ Object) (from : ℕ) (r t : List (ℕ × Object)) (e : ℕ × Object) → IsRangeOf nat_cmp (Included from) Unbounded b r → r ≡ e ∷ t → IsLeastFrom b.entries from e.0
+pub first_from : (b : BTreeMap ℕ Object) (from : ℕ) (r t : List (ℕ × Object)) (e : ℕ × Object) → IsRangeOf nat_cmp (Included from) Unbounded b r → r ≡ e ∷ t
+    → IsLeastFrom b.entries from e.0
 first_from b from r t e part is =
     let whole : IsRangeOf nat_cmp (Included from) Unbounded b (e ∷ t) = subst (IsRangeOf nat_cmp (Included from) Unbounded b) is part in
     record {
@@ -43,7 +46,8 @@ first_from b from r t e part is =
     }
 
 -- nothing lies from this koid on
-pub none_from : (b : BTreeMap ℕ Object) (from : ℕ) (r : List (ℕ × Object)) → IsRangeOf nat_cmp (Included from) Unbounded b r → r ≡ [] → (j : ℕ) → from ≤ j → has_key b.entries j ≡ false
+pub none_from : (b : BTreeMap ℕ Object) (from : ℕ) (r : List (ℕ × Object)) → IsRangeOf nat_cmp (Included from) Unbounded b r → r ≡ [] → (j : ℕ) → from ≤ j
+    → has_key b.entries j ≡ false
 none_from b from r part is j above = ap is_some (sym (looked_up b.entries j) ∙ part.5 is j (from_start from j above, tt))
 
 -- ---- a change of each object below some koid
@@ -101,7 +105,8 @@ module _ (f : ℕ → Object → Object) where
         absurd (true≢false (sym (first_there e m) ∙ none e.0 above))
   ]
 
-  one_done : (m : Map Object) (from k : ℕ) → IsStrictlySortedBy nat_cmp (keys_of m) → IsLeastFrom m from k → update (each (till from f) m) k (f k) ≡ each (till (k + 1) f) m
+  one_done : (m : Map Object) (from k : ℕ) → IsStrictlySortedBy nat_cmp (keys_of m) → IsLeastFrom m from k
+      → update (each (till from f) m) k (f k) ≡ each (till (k + 1) f) m
   unfolding each update IsStrictlySortedBy
   one_done [] from k sorted next = refl
   one_done (e ∷ m) from k sorted next = elim (cases_Bool (e.0 == k)) as (λ _. update (each (till from f) (e ∷ m)) k (f k) ≡ each (till (k + 1) f) (e ∷ m)) [
@@ -165,7 +170,9 @@ same_within m task from k =
 
     by_found : (j : ℕ) (o : Option Object) → parent_in (option_map (till from (kills m task) j) o) ≡ parent_in o
     by_found j None = refl
-    by_found j (Some o) = elim (nat_lt j from) as (λ t. parent_of (if t then kills m task j o else o).body ≡ parent_of o.body) [ true ↦ if_stays (is_within m task j) o | false ↦ refl ]
+    by_found j (Some o) =
+        elim (nat_lt j from)
+        as (λ t. parent_of (if t then kills m task j o else o).body ≡ parent_of o.body) [ true ↦ if_stays (is_within m task j) o | false ↦ refl ]
 
     parent : (j : ℕ) → parent_at (each (till from (kills m task)) m) j ≡ parent_at m j
     parent j = ap parent_in (get-each m (till from (kills m task)) j) ∙ by_found j (get m j)
@@ -175,10 +182,13 @@ pub kill_begins : (m : Map Object) (task : ℕ) → m ≡ each (till 0 (kills m 
 kill_begins m task = sym (none_yet (kills m task) m 0 (λ j there. omega arith))
 
 -- one koid more
-pub kill_goes_on : (m now new : Map Object) (task from k : ℕ) (within : Bool) → now ≡ each (till from (kills m task)) m → IsStrictlySortedBy nat_cmp (keys_of now) → IsLeastFrom now from k → within ≡ is_within now task k → new ≡ update now k (killed_if within) → new ≡ each (till (k + 1) (kills m task)) m
+pub kill_goes_on : (m now new : Map Object) (task from k : ℕ) (within : Bool) → now ≡ each (till from (kills m task)) m
+    → IsStrictlySortedBy nat_cmp (keys_of now) → IsLeastFrom now from k → within ≡ is_within now task k → new ≡ update now k (killed_if within)
+    → new ≡ each (till (k + 1) (kills m task)) m
 kill_goes_on m now new task from k within is sorted next one set =
     set ∙ (ap (λ b. update now k (killed_if b)) (one ∙ (ap (λ n. is_within n task k) is ∙ same_within m task from k))
-    ∙ (ap (λ n. update n k (kills m task k)) is ∙ one_done (kills m task) m from k (subst (IsStrictlySortedBy nat_cmp) (ap (λ n. keys_of n) is ∙ keys-each (kills m task) m from) sorted) (record {
+    ∙ (ap (λ n. update n k (kills m task k)) is
+    ∙ one_done (kills m task) m from k (subst (IsStrictlySortedBy nat_cmp) (ap (λ n. keys_of n) is ∙ keys-each (kills m task) m from) sorted) (record {
       later = next.later;
       there = sym (has_key-each (kills m task) m from k) ∙ (ap (λ n. has_key n k) (sym is) ∙ next.there);
       least = λ j above there. next.least j above (ap (λ n. has_key n j) is ∙ (has_key-each (kills m task) m from j ∙ there));
@@ -187,7 +197,8 @@ kill_goes_on m now new task from k within is sorted next one set =
 -- no koid is left
 pub kill_ends : (m now : Map Object) (task from : ℕ) → now ≡ each (till from (kills m task)) m → IsNext now from None → now ≡ all_killed m task
 unfolding all_killed
-kill_ends m now task from is none = is ∙ all_done (kills m task) m from (λ j above. sym (has_key-each (kills m task) m from j) ∙ (ap (λ n. has_key n j) (sym is) ∙ none j above))
+kill_ends m now task from is none =
+    is ∙ all_done (kills m task) m from (λ j above. sym (has_key-each (kills m task) m from j) ∙ (ap (λ n. has_key n j) (sym is) ∙ none j above))
 
 -- what is there on the way was there before
 pub there_before : (m now : Map Object) (task from k : ℕ) → now ≡ each (till from (kills m task)) m → IsTrue (has_key now k) → IsTrue (has_key m k)

@@ -1,5 +1,8 @@
 -- The invariant of the objects, after each change.
-use Rattle.zl_rights.proofs.Common.{◌≡◌, ◌<◌, ◌≤◌, ◌+◌, ◌^◌, ◌==◌, ◌⊎◌, ℕ, Bool, true, false, List, [], ◌∷◌, ◌++◌, length, refl, sym, ap, ◌∙◌, subst, cond, Option, Some, None, inl, inr, arith, eq-eqb, IsTrue, is_some, nat_lt, if◌then◌else◌, find, count_by, nat_cmp, cases_Bool, false≢true, nat_tests, none-some, same_Some, Map, get, put, update, has_key, length-append, sum_by-cons, option_map, eqb-true}
+use Rattle.zl_rights.proofs.Common.{◌≡◌, ◌<◌, ◌≤◌, ◌+◌, ◌^◌, ◌==◌, ◌⊎◌, ℕ, Bool, true, false, List, [], ◌∷◌, ◌++◌, length, refl, sym, ap, ◌∙◌, subst, cond}
+use Rattle.zl_rights.proofs.Common.{Option, Some, None, inl, inr, arith, eq-eqb, IsTrue, is_some, nat_lt, if◌then◌else◌, find, count_by, nat_cmp, cases_Bool}
+use Rattle.zl_rights.proofs.Common.{false≢true, nat_tests, none-some, same_Some, Map, get, put, update, has_key, length-append, sum_by-cons, option_map}
+use Rattle.zl_rights.proofs.Common.{eqb-true}
 use Rattle.std.proofs.lemmas.List.Sums.{sum_by-append}
 use Rattle.std.specs.Prelude.{◌-◌, ◌↔◌, IfNone, IfSome, IsSome, Result, Ok, Err, OnOk, OnErr, is_err}
 use Rattle.std.specs.Cmp.{unsigned_tied}
@@ -23,16 +26,20 @@ use Rattle.zl_objects.proofs.ByKoid.{inserted, entry_inserted, looked_up, writte
 
 pub none_whole : (m : Map Object) (next room : ℕ) (d : List ℕ) → m ≡ [] → d ≡ [] → IsWhole None m next d room
 unfolding get
-none_whole m next room d none empty = rw none record { below = λ k there. cc; peers = λ k o at. absurd (none-some o at); places = λ k. omega arith; enough = omega arith; none = empty }
+none_whole m next room d none empty =
+    rw none record { below = λ k there. cc; peers = λ k o at. absurd (none-some o at); places = λ k. omega arith; enough = omega arith; none = empty }
 
 -- ---- one of the objects is written
 
-module _ (f : Object → Object) (ends : (o : Object) → is_end_body (f o).body ≡ is_end_body o.body) (peer : (m : Map Object) (next : ℕ) (o : Object) → HasPeer m next o.body → HasPeer m next (f o).body) where
+module _ (f : Object → Object) (ends : (o : Object) → is_end_body (f o).body ≡ is_end_body o.body)
+    (peer : (m : Map Object) (next : ℕ) (o : Object) → HasPeer m next o.body → HasPeer m next (f o).body) where
   end_updated : (m : Map Object) (k j : ℕ) → is_end_at (update m k f) j ≡ is_end_at m j
-  end_updated m k j = ap is_end_in (get-update m k f j) ∙ elim (cases_Bool (k == j)) as (λ _. is_end_in (if k == j then option_map f (get m j) else get m j) ≡ is_end_in (get m j)) [
-    | inl here ↦ rw here (by_object (get m j))
-    | inr apart ↦ rw apart refl
-  ]
+  end_updated m k j =
+      ap is_end_in (get-update m k f j)
+      ∙ elim (cases_Bool (k == j)) as (λ _. is_end_in (if k == j then option_map f (get m j) else get m j) ≡ is_end_in (get m j)) [
+        | inl here ↦ rw here (by_object (get m j))
+        | inr apart ↦ rw apart refl
+      ]
     where
       by_object : (o : Option Object) → is_end_in (option_map f o) ≡ is_end_in o
       by_object None = refl
@@ -46,7 +53,8 @@ module _ (f : Object → Object) (ends : (o : Object) → is_end_body (f o).body
   still m k next (body.Port port) has = has
 
   -- the places are those that the wait needs
-  pub placed_whole : (x y : Option Watch) (m n : Map Object) (next room k : ℕ) (d : List ℕ) → IsWhole x m next d room → n ≡ update m k f → HavePlacesWith y (update m k f) → IsWhole y n next d room
+  pub placed_whole : (x y : Option Watch) (m n : Map Object) (next room k : ℕ) (d : List ℕ) → IsWhole x m next d room → n ≡ update m k f
+      → HavePlacesWith y (update m k f) → IsWhole y n next d room
   placed_whole x y m n next room k d whole is places = rw is record {
     below = λ j there. whole.below j (sym (has_key-update m k f j) ∙ there);
     peers = λ j o at. by_object j o (get m j) refl (sym (get-update m k f j) ∙ at);
@@ -55,14 +63,17 @@ module _ (f : Object → Object) (ends : (o : Object) → is_end_body (f o).body
     none = whole.none;
   }
     where
-      by_object : (j : ℕ) (o : Object) (q : Option Object) → get m j ≡ q → (if k == j then option_map f (get m j) else get m j) ≡ Some o → HasPeer (update m k f) next o.body
+      by_object : (j : ℕ) (o : Object) (q : Option Object) → get m j ≡ q → (if k == j then option_map f (get m j) else get m j) ≡ Some o
+          → HasPeer (update m k f) next o.body
       by_object j o None is read = elim (cases_Bool (k == j)) as (λ _. HasPeer (update m k f) next o.body) [
         | inl here ↦ absurd (none-some o (rw (here, is) at read))
         | inr apart ↦ absurd (none-some o (rw (apart, is) at read))
       ]
       by_object j o (Some q) is read = elim (cases_Bool (k == j)) as (λ _. HasPeer (update m k f) next o.body) [
-        | inl here ↦ subst (λ (x : Object). HasPeer (update m k f) next x.body) (same_Some (f q) o (rw (here, is) at read)) (still m k next (f q).body (peer m next q (whole.peers j q is)))
-        | inr apart ↦ subst (λ (x : Object). HasPeer (update m k f) next x.body) (same_Some q o (rw (apart, is) at read)) (still m k next q.body (whole.peers j q is))
+        | inl here ↦ subst (λ (x : Object). HasPeer (update m k f) next x.body) (same_Some (f q) o (rw (here, is) at read))
+            (still m k next (f q).body (peer m next q (whole.peers j q is)))
+        | inr apart ↦
+            subst (λ (x : Object). HasPeer (update m k f) next x.body) (same_Some q o (rw (apart, is) at read)) (still m k next q.body (whole.peers j q is))
       ]
 
   module _ (quiet : (o : Object) → (f o).signals ≡ o.signals) (same : (o : Object) → reserved_of (f o).body ≡ reserved_of o.body) where
@@ -75,21 +86,25 @@ module _ (f : Object → Object) (ends : (o : Object) → is_end_body (f o).body
 same_ends : (f : Object → Object) → ((o : Object) → (f o).body ≡ o.body) → (o : Object) → is_end_body (f o).body ≡ is_end_body o.body
 same_ends f same o = ap is_end_body (same o)
 
-same_peer : (f : Object → Object) → ((o : Object) → (f o).body ≡ o.body) → (m : Map Object) (next : ℕ) (o : Object) → HasPeer m next o.body → HasPeer m next (f o).body
+same_peer : (f : Object → Object) → ((o : Object) → (f o).body ≡ o.body) → (m : Map Object) (next : ℕ) (o : Object) → HasPeer m next o.body
+    → HasPeer m next (f o).body
 same_peer f same m next o has = rw (same o) has
 
 pub more_same : (o : Object) → (held_once_more o).body ≡ o.body
 more_same o = elim (nat_lt o.handles (2 ^ 62)) as (λ b. (if b then record o { handles = o.handles + 1 } else o).body ≡ o.body) [ true ↦ refl | false ↦ refl ]
 
 pub more_quiet : (o : Object) → (held_once_more o).signals ≡ o.signals
-more_quiet o = elim (nat_lt o.handles (2 ^ 62)) as (λ b. (if b then record o { handles = o.handles + 1 } else o).signals ≡ o.signals) [ true ↦ refl | false ↦ refl ]
+more_quiet o =
+    elim (nat_lt o.handles (2 ^ 62)) as (λ b. (if b then record o { handles = o.handles + 1 } else o).signals ≡ o.signals) [ true ↦ refl | false ↦ refl ]
 
 -- one handle more
 pub more_whole : (m n : Map Object) (next room k : ℕ) (d : List ℕ) → IsWhole None m next d room → n ≡ update m k held_once_more → IsWhole None n next d room
-more_whole = updated_whole held_once_more (same_ends held_once_more more_same) (same_peer held_once_more more_same) more_quiet (λ o. ap reserved_of (more_same o))
+more_whole =
+    updated_whole held_once_more (same_ends held_once_more more_same) (same_peer held_once_more more_same) more_quiet (λ o. ap reserved_of (more_same o))
 
 -- other signals
-pub changed_whole : (m n : Map Object) (next room k clear set : ℕ) (d : List ℕ) → IsWhole None m next d room → n ≡ update m k (raised_changed clear set) → IsWhole None n next d room
+pub changed_whole : (m n : Map Object) (next room k clear set : ℕ) (d : List ℕ) → IsWhole None m next d room → n ≡ update m k (raised_changed clear set)
+    → IsWhole None n next d room
 changed_whole m n next room k clear set d whole is =
     placed_whole f (λ o. refl) (λ m next o has. has) None None m n next room k d whole is (places_updated f (λ j o. refl) (λ o. refl) None m k whole.places)
   where
@@ -110,11 +125,13 @@ same_other g m next body.Event has = has
 same_other g m next (body.Port port) has = has
 same_other g m next (body.ChannelEnd p queue) has = has
 
-at_port_whole : (g : Port → Port) (x y : Option Watch) (m n : Map Object) (next room k : ℕ) (d : List ℕ) → IsWhole x m next d room → n ≡ update m k (at_port g) → HavePlacesWith y (update m k (at_port g)) → IsWhole y n next d room
+at_port_whole : (g : Port → Port) (x y : Option Watch) (m n : Map Object) (next room k : ℕ) (d : List ℕ) → IsWhole x m next d room → n ≡ update m k (at_port g)
+    → HavePlacesWith y (update m k (at_port g)) → IsWhole y n next d room
 at_port_whole g = placed_whole (at_port g) (λ o. same_end g o.body) (λ m next o. same_other g m next o.body)
 
 -- other packets at a port
-pub port_whole : (g : Port → Port) → ((p : Port) → (g p).reserved ≡ p.reserved) → (m n : Map Object) (next room k : ℕ) (d : List ℕ) → IsWhole None m next d room → n ≡ update m k (at_port g) → IsWhole None n next d room
+pub port_whole : (g : Port → Port) → ((p : Port) → (g p).reserved ≡ p.reserved) → (m n : Map Object) (next room k : ℕ) (d : List ℕ) → IsWhole None m next d room
+    → n ≡ update m k (at_port g) → IsWhole None n next d room
 port_whole g same m n next room k d whole is =
     at_port_whole g None None m n next room k d whole is (places_updated (at_port g) (λ j o. refl) (λ o. by_body o.body) None m k whole.places)
   where
@@ -126,7 +143,8 @@ port_whole g same m n next room k d whole is =
     by_body (body.ChannelEnd p queue) = refl
 
 -- a place is reserved for the wait
-pub made_whole : (x : Watch) (m n : Map Object) (next room : ℕ) (d : List ℕ) → IsTrue (is_port_at m x.port) → IsWhole None m next d room → n ≡ update m x.port (at_port with_place) → IsWhole (Some x) n next d room
+pub made_whole : (x : Watch) (m n : Map Object) (next room : ℕ) (d : List ℕ) → IsTrue (is_port_at m x.port) → IsWhole None m next d room
+    → n ≡ update m x.port (at_port with_place) → IsWhole (Some x) n next d room
 made_whole x m n next room d port whole is = at_port_whole with_place None (Some x) m n next room x.port d whole is (places_made x m port whole.places)
 
 -- the wait is registered
@@ -136,11 +154,15 @@ watched_whole x m n next room k d there whole is =
     placed_whole (watched x) (λ o. refl) (λ m next o has. has) (Some x) None m n next room k d whole is (places_taken x m k there whole.places)
 
 -- the wait has gone, and its place is left
-pub unwatched_whole : (test : Watch → Bool) (m n : Map Object) (next room k : ℕ) (d : List ℕ) → IsWhole None m next d room → n ≡ update m k (unwatched test) → IsWhole (find test (waits_in (get m k))) n next d room
-unwatched_whole test m n next room k d whole is = placed_whole (unwatched test) (λ o. refl) (λ m next o has. has) None (find test (waits_in (get m k))) m n next room k d whole is (places_unwatched test m k whole.places)
+pub unwatched_whole : (test : Watch → Bool) (m n : Map Object) (next room k : ℕ) (d : List ℕ) → IsWhole None m next d room → n ≡ update m k (unwatched test)
+    → IsWhole (find test (waits_in (get m k))) n next d room
+unwatched_whole test m n next room k d whole is =
+    placed_whole (unwatched test) (λ o. refl) (λ m next o has. has) None (find test (waits_in (get m k))) m n next room k d whole is
+    (places_unwatched test m k whole.places)
 
 -- its place is given back, or holds its packet
-pub used_whole : (g : Port → Port) → ((p : Port) → (g p).reserved ≡ p.reserved - 1) → (x : Watch) (m n : Map Object) (next room : ℕ) (d : List ℕ) → IsWhole (Some x) m next d room → n ≡ update m x.port (at_port g) → IsWhole None n next d room
+pub used_whole : (g : Port → Port) → ((p : Port) → (g p).reserved ≡ p.reserved - 1) → (x : Watch) (m n : Map Object) (next room : ℕ) (d : List ℕ)
+    → IsWhole (Some x) m next d room → n ≡ update m x.port (at_port g) → IsWhole None n next d room
 used_whole g less x m n next room d whole is = at_port_whole g (Some x) None m n next room x.port d whole is (places_used g less x m whole.places)
 
 -- the end of a process
@@ -161,7 +183,8 @@ stopped_whole = updated_whole stopped (λ o. ends o.body) (λ m next o. peer m n
     same (body.Port port) = refl
     same (body.ChannelEnd p queue) = refl
 
-    peer : (m : Map Object) (next : ℕ) (b : Body) → HasPeer m next b → HasPeer m next (stopped (record { body = b; signals = record { raised = 0; waits = [] }; handles = 0 })).body
+    peer : (m : Map Object) (next : ℕ) (b : Body) → HasPeer m next b
+        → HasPeer m next (stopped (record { body = b; signals = record { raised = 0; waits = [] }; handles = 0 })).body
     peer m next (body.Job own) has = has
     peer m next (body.Process job lives) has = has
     peer m next body.Event has = has
@@ -169,8 +192,10 @@ stopped_whole = updated_whole stopped (λ o. ends o.body) (λ m next o. peer m n
     peer m next (body.ChannelEnd p queue) has = has
 
 -- one message more
-pub sent_whole : (m n : Map Object) (next room k : ℕ) (d : List ℕ) (message : Message) → IsWhole None m next d room → n ≡ update m k (sent message) → IsWhole None n next d room
-sent_whole m n next room k d message = updated_whole (sent message) (λ o. ends o.body) (λ m next o. peer m next o.body) (λ o. refl) (λ o. same o.body) m n next room k d
+pub sent_whole : (m n : Map Object) (next room k : ℕ) (d : List ℕ) (message : Message) → IsWhole None m next d room → n ≡ update m k (sent message)
+    → IsWhole None n next d room
+sent_whole m n next room k d message =
+    updated_whole (sent message) (λ o. ends o.body) (λ m next o. peer m next o.body) (λ o. refl) (λ o. same o.body) m n next room k d
   where
     ends : (b : Body) → is_end_body (sent message (record { body = b; signals = record { raised = 0; waits = [] }; handles = 0 })).body ≡ is_end_body b
     ends (body.Job own) = refl
@@ -186,7 +211,8 @@ sent_whole m n next room k d message = updated_whole (sent message) (λ o. ends 
     same (body.Port port) = refl
     same (body.ChannelEnd p queue) = refl
 
-    peer : (m : Map Object) (next : ℕ) (b : Body) → HasPeer m next b → HasPeer m next (sent message (record { body = b; signals = record { raised = 0; waits = [] }; handles = 0 })).body
+    peer : (m : Map Object) (next : ℕ) (b : Body) → HasPeer m next b
+        → HasPeer m next (sent message (record { body = b; signals = record { raised = 0; waits = [] }; handles = 0 })).body
     peer m next (body.Job own) has = has
     peer m next (body.Process job lives) has = has
     peer m next body.Event has = has
@@ -211,7 +237,8 @@ received_whole = updated_whole received (λ o. ends o.body) (λ m next o. peer m
     same (body.Port port) = refl
     same (body.ChannelEnd p queue) = refl
 
-    peer : (m : Map Object) (next : ℕ) (b : Body) → HasPeer m next b → HasPeer m next (received (record { body = b; signals = record { raised = 0; waits = [] }; handles = 0 })).body
+    peer : (m : Map Object) (next : ℕ) (b : Body) → HasPeer m next b
+        → HasPeer m next (received (record { body = b; signals = record { raised = 0; waits = [] }; handles = 0 })).body
     peer m next (body.Job own) has = has
     peer m next (body.Process job lives) has = has
     peer m next body.Event has = has
@@ -220,12 +247,14 @@ received_whole = updated_whole received (λ o. ends o.body) (λ m next o. peer m
 
 -- ---- one object more
 
-later_peer : (m : Map Object) (next : ℕ) (o : Object) (b : Body) → ((j : ℕ) → IsTrue (has_key m j) → j < next) → HasPeer m next b → HasPeer (put m next o) (next + 1) b
+later_peer : (m : Map Object) (next : ℕ) (o : Object) (b : Body) → ((j : ℕ) → IsTrue (has_key m j) → j < next) → HasPeer m next b
+    → HasPeer (put m next o) (next + 1) b
 later_peer m next o (body.Job own) below has = has
 later_peer m next o (body.Process job lives) below has = has
 later_peer m next o body.Event below has = has
 later_peer m next o (body.Port port) below has = has
-later_peer m next o (body.ChannelEnd p queue) below has = (omega (arith, has.0), λ there. rw (get-put m next o p, apart) (has.1 (rw (get-put m next o p, apart) at there)))
+later_peer m next o (body.ChannelEnd p queue) below has =
+    (omega (arith, has.0), λ there. rw (get-put m next o p, apart) (has.1 (rw (get-put m next o p, apart) at there)))
   where
     apart : (next == p) ≡ false
     apart = grind (arith, nat_tests, has.0)
@@ -240,7 +269,8 @@ inserted_whole m n next room room2 d d2 o whole alone empty fresh same more into
   ];
   peers = λ k q at. by_key k q (cases_Bool (next == k)) (sym (get-put m next o k) ∙ at);
   places = places_put m next o whole.below fresh empty whole.places;
-  enough = omega (arith, more, ap (λ (x : Map Object). length x) (sym (inserted m next o) ∙ entry_inserted m next o whole.below), length-append m ((next, o) ∷ []));
+  enough =
+      omega (arith, more, ap (λ (x : Map Object). length x) (sym (inserted m next o) ∙ entry_inserted m next o whole.below), length-append m ((next, o) ∷ []));
   none = whole.none;
 }
   where
@@ -251,7 +281,8 @@ inserted_whole m n next room room2 d d2 o whole alone empty fresh same more into
     no_end (body.Port port) h = tt
     no_end (body.ChannelEnd p queue) h = absurd (false≢true (sym h))
 
-    by_key : (k : ℕ) (q : Object) → IsTrue (next == k) ⊎ ((next == k) ≡ false) → (if next == k then Some o else get m k) ≡ Some q → HasPeer (put m next o) (next + 1) q.body
+    by_key : (k : ℕ) (q : Object) → IsTrue (next == k) ⊎ ((next == k) ≡ false) → (if next == k then Some o else get m k) ≡ Some q
+        → HasPeer (put m next o) (next + 1) q.body
     by_key k q (inl here) read = subst (λ (x : Object). HasPeer (put m next o) (next + 1) x.body) (same_Some o q (rw here at read)) (no_end o.body alone)
     by_key k q (inr apart) read = later_peer m next o q.body whole.below (whole.peers k q (rw apart at read))
 
@@ -267,24 +298,29 @@ abbrev pub end_of : ℕ → ℕ → Object
 end_of peer handles = new_object (body.ChannelEnd peer []) handles
 
 -- all koids lie below the one after the new object's
-pub below_first : (m n : Map Object) (next : ℕ) (o : Object) → ((j : ℕ) → IsTrue (has_key m j) → j < next) → n ≡ insert_entry nat_cmp m next o → (j : ℕ) → IsTrue (has_key n j) → j < next + 1
+pub below_first : (m n : Map Object) (next : ℕ) (o : Object) → ((j : ℕ) → IsTrue (has_key m j) → j < next) → n ≡ insert_entry nat_cmp m next o → (j : ℕ)
+    → IsTrue (has_key n j) → j < next + 1
 below_first m n next o below into j there = elim (put_key m next o j (rw (into, inserted m next o) at there)) as (λ _. j < next + 1) [
   | inl here ↦ omega (arith, here)
   | inr old ↦ omega (arith, below j old)
 ]
 
 -- the second end goes behind the first
-pub channel_created : (m n n2 : Map Object) (next : ℕ) (o o2 : Object) → ((j : ℕ) → IsTrue (has_key m j) → j < next) → n ≡ insert_entry nat_cmp m next o → n2 ≡ insert_entry nat_cmp n (next + 1) o2 → n2 ≡ (m ++ (next, o) ∷ []) ++ (next + 1, o2) ∷ []
+pub channel_created : (m n n2 : Map Object) (next : ℕ) (o o2 : Object) → ((j : ℕ) → IsTrue (has_key m j) → j < next) → n ≡ insert_entry nat_cmp m next o
+    → n2 ≡ insert_entry nat_cmp n (next + 1) o2 → n2 ≡ (m ++ (next, o) ∷ []) ++ (next + 1, o2) ∷ []
 channel_created m n n2 next o o2 below into into2 =
-    into2 ∙ (entry_inserted n (next + 1) o2 (below_first m n next o below into) ∙ ap (λ (x : Map Object). x ++ (next + 1, o2) ∷ []) (into ∙ entry_inserted m next o below))
+    into2 ∙ (entry_inserted n (next + 1) o2 (below_first m n next o below into)
+    ∙ ap (λ (x : Map Object). x ++ (next + 1, o2) ∷ []) (into ∙ entry_inserted m next o below))
 
-pub channel_whole : (m n n2 : Map Object) (next room room2 handles : ℕ) (d d2 : List ℕ) (o o2 : Object) → IsWhole None m next d room → o ≡ end_of (next + 1) handles → o2 ≡ end_of next handles → d2 ≡ d → length m + 2 ≤ room2
+pub channel_whole : (m n n2 : Map Object) (next room room2 handles : ℕ) (d d2 : List ℕ) (o o2 : Object) → IsWhole None m next d room
+    → o ≡ end_of (next + 1) handles → o2 ≡ end_of next handles → d2 ≡ d → length m + 2 ≤ room2
     → n ≡ insert_entry nat_cmp m next o → n2 ≡ insert_entry nat_cmp n (next + 1) o2 → IsWhole None n2 (next + 1 + 1) d2 room2
 channel_whole m n n2 next room room2 handles d d2 o o2 whole first second same more into into2 = rw same record {
   below = λ k there. below_second k (rw is_put2 at there);
   peers = λ k q at. by_key k q (cases_Bool (next + 1 == k)) (cases_Bool (next == k)) (sym (get_second k) ∙ at);
   places = rw is_put2 (places_put n (next + 1) o2 below (rw second refl) (rw second refl) first_places);
-  enough = rw (channel_created m n n2 next o o2 whole.below into into2) (omega (arith, more, length-append (m ++ (next, o) ∷ []) ((next + 1, o2) ∷ []), length-append m ((next, o) ∷ [])));
+  enough = rw (channel_created m n n2 next o o2 whole.below into into2)
+      (omega (arith, more, length-append (m ++ (next, o) ∷ []) ((next + 1, o2) ∷ []), length-append m ((next, o) ∷ [])));
   none = whole.none;
 }
   where
@@ -326,15 +362,19 @@ channel_whole m n n2 next room room2 handles d d2 o o2 whole first second same m
 
     by_key : (k : ℕ) (q : Object) → IsTrue (next + 1 == k) ⊎ ((next + 1 == k) ≡ false) → IsTrue (next == k) ⊎ ((next == k) ≡ false)
         → (if next + 1 == k then Some o2 else (if next == k then Some o else get m k)) ≡ Some q → HasPeer n2 (next + 1 + 1) q.body
-    by_key k q (inl last) other read = subst (λ (x : Object). HasPeer n2 (next + 1 + 1) x.body) (sym second ∙ same_Some o2 q (rw last at read)) (omega arith, λ there. first_there)
-    by_key k q (inr apart) (inl here) read = subst (λ (x : Object). HasPeer n2 (next + 1 + 1) x.body) (sym first ∙ same_Some o q (rw (apart, here) at read)) (omega arith, λ there. second_there)
+    by_key k q (inl last) other read =
+        subst (λ (x : Object). HasPeer n2 (next + 1 + 1) x.body) (sym second ∙ same_Some o2 q (rw last at read)) (omega arith, λ there. first_there)
+    by_key k q (inr apart) (inl here) read =
+        subst (λ (x : Object). HasPeer n2 (next + 1 + 1) x.body) (sym first ∙ same_Some o q (rw (apart, here) at read)) (omega arith, λ there. second_there)
     by_key k q (inr apart) (inr old) read =
         rw is_put2 (later_peer n (next + 1) o2 q.body below (rw is_put (later_peer m next o q.body whole.below (whole.peers k q (rw (apart, old) at read)))))
 
 -- the first end is taken back where there is no memory for the second
-pub end_taken : (m n n2 n3 : Map Object) (next : ℕ) (o : Object) → ((j : ℕ) → IsTrue (has_key m j) → j < next) → n ≡ insert_entry nat_cmp m next o → n2 ≡ n → n3 ≡ remove_entry (is_at (nat_cmp next)) n2 → n3 ≡ m
+pub end_taken : (m n n2 n3 : Map Object) (next : ℕ) (o : Object) → ((j : ℕ) → IsTrue (has_key m j) → j < next) → n ≡ insert_entry nat_cmp m next o → n2 ≡ n
+    → n3 ≡ remove_entry (is_at (nat_cmp next)) n2 → n3 ≡ m
 unfolding get
-end_taken m n n2 n3 next o below into still out = out ∙ (ap (remove_entry (is_at (nat_cmp next))) (still ∙ (into ∙ entry_inserted m next o below)) ∙ last_removed m below)
+end_taken m n n2 n3 next o below into still out =
+    out ∙ (ap (remove_entry (is_at (nat_cmp next))) (still ∙ (into ∙ entry_inserted m next o below)) ∙ last_removed m below)
   where
     last_removed : (m : Map Object) → ((j : ℕ) → IsTrue (has_key m j) → j < next) → remove_entry (is_at (nat_cmp next)) (m ++ (next, o) ∷ []) ≡ m
     last_removed [] below = grind (arith, nat_tests, unsigned_tied next next)
@@ -365,24 +405,34 @@ kept_err (Ok x) P h = tt
 kept_err (Err e) P h = h
 
 -- other room
-pub roomy_whole : (m n : Map Object) (next room room2 : ℕ) (d d2 : List ℕ) → IsWhole None m next d room → n ≡ m → d2 ≡ d → room ≤ room2 → IsWhole None n next d2 room2
-roomy_whole m n next room room2 d d2 whole is same more = rw (is, same) record { below = whole.below; peers = whole.peers; places = whole.places; enough = omega (arith, whole.enough, more); none = whole.none }
+pub roomy_whole : (m n : Map Object) (next room room2 : ℕ) (d d2 : List ℕ) → IsWhole None m next d room → n ≡ m → d2 ≡ d → room ≤ room2
+    → IsWhole None n next d2 room2
+roomy_whole m n next room room2 d d2 whole is same more =
+    rw (is, same) record { below = whole.below; peers = whole.peers; places = whole.places; enough = omega (arith, whole.enough, more); none = whole.none }
 
 -- one message more, or the end as it was
-pub sent_or_same_whole : {A B : Type 0} (m n : Map Object) (next room k : ℕ) (d : List ℕ) (message : Message) (v w : Object) (r : Result A B) → IsWhole None m next d room → OnOk r (w ≡ sent message v) → OnErr r (w ≡ v)
+pub sent_or_same_whole : {A B : Type 0} (m n : Map Object) (next room k : ℕ) (d : List ℕ) (message : Message) (v w : Object) (r : Result A B)
+    → IsWhole None m next d room → OnOk r (w ≡ sent message v) → OnErr r (w ≡ v)
     → Some v ≡ lookup (is_at (nat_cmp k)) m → n ≡ set_value (is_at (nat_cmp k)) m w → IsWhole None n next d room
-sent_or_same_whole m n next room k d message v w (Ok x) whole is other there set = sent_whole m n next room k d message whole (written m n k (sent message) v w there is set)
-sent_or_same_whole m n next room k d message v w (Err e) whole other is there set = roomy_whole m n next room room d d whole (written_back m n k v w there is set) refl (omega arith)
+sent_or_same_whole m n next room k d message v w (Ok x) whole is other there set =
+    sent_whole m n next room k d message whole (written m n k (sent message) v w there is set)
+sent_or_same_whole m n next room k d message v w (Err e) whole other is there set =
+    roomy_whole m n next room room d d whole (written_back m n k v w there is set) refl (omega arith)
 
 -- other packets at a port, or the port as it was
-pub port_or_same_whole : {A B : Type 0} (g : Port → Port) → ((p : Port) → (g p).reserved ≡ p.reserved) → (m n : Map Object) (next room k : ℕ) (d : List ℕ) (v w : Object) (r : Result A B) → IsWhole None m next d room → OnOk r (w ≡ at_port g v) → OnErr r (w ≡ v)
+pub port_or_same_whole : {A B : Type 0} (g : Port → Port) → ((p : Port) → (g p).reserved ≡ p.reserved)
+    → (m n : Map Object) (next room k : ℕ) (d : List ℕ) (v w : Object) (r : Result A B) → IsWhole None m next d room → OnOk r (w ≡ at_port g v)
+    → OnErr r (w ≡ v)
     → Some v ≡ lookup (is_at (nat_cmp k)) m → n ≡ set_value (is_at (nat_cmp k)) m w → IsWhole None n next d room
-port_or_same_whole g same m n next room k d v w (Ok y) whole is other there set = port_whole g same m n next room k d whole (written m n k (at_port g) v w there is set)
-port_or_same_whole g same m n next room k d v w (Err e) whole other is there set = roomy_whole m n next room room d d whole (written_back m n k v w there is set) refl (omega arith)
+port_or_same_whole g same m n next room k d v w (Ok y) whole is other there set =
+    port_whole g same m n next room k d whole (written m n k (at_port g) v w there is set)
+port_or_same_whole g same m n next room k d v w (Err e) whole other is there set =
+    roomy_whole m n next room room d d whole (written_back m n k v w there is set) refl (omega arith)
 
 -- ---- a wait that is taken out
 
-module _ (test : Watch → Bool) (m n : Map Object) (next room k : ℕ) (d : List ℕ) (whole : IsWhole None m next d room) (out : n ≡ update m k (unwatched test)) where
+module _ (test : Watch → Bool) (m n : Map Object) (next room k : ℕ) (d : List ℕ) (whole : IsWhole None m next d room)
+    (out : n ≡ update m k (unwatched test)) where
   -- none was found
   pub none_out_whole : find test (waits_in (get m k)) ≡ None → IsWhole None n next d room
   none_out_whole none = subst (λ (q : Option Watch). IsWhole q n next d room) none (unwatched_whole test m n next room k d whole out)
@@ -393,7 +443,8 @@ module _ (test : Watch → Bool) (m n : Map Object) (next room k : ℕ) (d : Lis
     one_out_whole = subst (λ (q : Option Watch). IsWhole q n next d room) found (unwatched_whole test m n next room k d whole out)
 
     -- its place was given back, or holds its packet
-    pub gone_whole : (g : Port → Port) → ((p : Port) → (g p).reserved ≡ p.reserved - 1) → (n2 : Map Object) → n2 ≡ update n x.port (at_port g) → IsWhole None n2 next d room
+    pub gone_whole : (g : Port → Port) → ((p : Port) → (g p).reserved ≡ p.reserved - 1) → (n2 : Map Object) → n2 ≡ update n x.port (at_port g)
+        → IsWhole None n2 next d room
     gone_whole g less n2 is = used_whole g less x n n2 next room d one_out_whole is
 
 -- ---- the newest object less
@@ -406,7 +457,8 @@ no_entries (e ∷ es) some = absurd (false≢true (some (omega arith)))
 pub popped_whole : (m n : BTreeMap ℕ Object) (next koid room : ℕ) (d : List ℕ) (r : Option (ℕ × Object)) → IsWhole None m.entries next d room
     → next ≡ koid + 1 → is_end_at m.entries koid ≡ false → reserved_in (get m.entries koid) ≡ 0 → waits_in (get m.entries koid) ≡ []
     → IsTrue (has_key m.entries koid) → length n.entries ≤ length m.entries
-    → IsSome r ↔ (0 < length m.entries) → IfNone r (IsUnchanged m n) → IfSome r (λ p. lookup (is_at (nat_cmp p.0)) m.entries ≡ Some p.1) → IfSome r (λ p. IsUpperBound nat_cmp m p.0) → IfSome r (λ p. Updates nat_cmp m n p.0 None) → IfSome r (λ p. m.entries ≡ n.entries ++ p ∷ [])
+    → IsSome r ↔ (0 < length m.entries) → IfNone r (IsUnchanged m n) → IfSome r (λ p. lookup (is_at (nat_cmp p.0)) m.entries ≡ Some p.1)
+    → IfSome r (λ p. IsUpperBound nat_cmp m p.0) → IfSome r (λ p. Updates nat_cmp m n p.0 None) → IfSome r (λ p. m.entries ≡ n.entries ++ p ∷ [])
     → IsWhole None n.entries koid d room
 unfolding get
 popped_whole m n next koid room d None whole newest alone unreserved unwatched there fewer some unchanged value greatest updates removal =
@@ -448,7 +500,8 @@ popped_whole m n next koid room d (Some p) whole newest alone unreserved unwatch
       | inr apart ↦ grind (arith, nat_tests, given, newest, apart)
     ]
 
-    end_left : (q : ℕ) (o : Option Object) → get n.entries q ≡ o → (IsTrue (has_key m.entries q) → IsTrue (is_end_at m.entries q)) → IsTrue (is_some o) → IsTrue (is_end_at n.entries q)
+    end_left : (q : ℕ) (o : Option Object) → get n.entries q ≡ o → (IsTrue (has_key m.entries q) → IsTrue (is_end_at m.entries q)) → IsTrue (is_some o)
+        → IsTrue (is_end_at n.entries q)
     end_left q None is end at = absurd (false≢true at)
     end_left q (Some o) is end at = rw is (rw (was q o is) at (end (rw (was q o is) refl)))
 

@@ -1,5 +1,6 @@
 -- A worked world that the objects fit: handles in a table and in a queue, and one that has gone and still counts.
-use Rattle.zl_rights.proofs.Common.{◌≡◌, ◌+◌, ◌<◌, ℕ, false, ◌==◌, ◌⊎◌, [], ◌∷◌, refl, sym, subst, None, Some, inl, inr, IsTrue, arith, count_by, cases_Bool, eqb-true, false≢true, nat_tests, same_Some, none-some, Map, each, get, has_key, World, Process, Created, Ready, is_process}
+use Rattle.zl_rights.proofs.Common.{◌≡◌, ◌+◌, ◌<◌, ℕ, false, ◌==◌, ◌⊎◌, [], ◌∷◌, refl, sym, subst, None, Some, inl, inr, IsTrue, arith, count_by, cases_Bool}
+use Rattle.zl_rights.proofs.Common.{eqb-true, false≢true, nat_tests, same_Some, none-some, Map, each, get, has_key, World, Process, Created, Ready, is_process}
 use Rattle.zl_rights.specs.declared.entry.Entry.{Entry}
 use Rattle.zl_rights.specs.declared.kind.Kind.TheVariants as kind
 use Rattle.zl_rights.specs.Counts.{handles_to}
@@ -80,9 +81,11 @@ unfolding handles_to get is_process
 worked = record {
   in_order = refl;
   no_zero = λ k there. positive k there (cases_Bool (0 == k));
-  counted = each_at (λ k o. o.handles ≡ handles_to (with_objects world objects) k + count_by (λ j. j == k) (3 ∷ [])) objects (refl, (refl, (refl, (refl, (refl, (refl, tt))))));
+  counted = each_at (λ k o. o.handles ≡ handles_to (with_objects world objects) k + count_by (λ j. j == k) (3 ∷ [])) objects
+      (refl, (refl, (refl, (refl, (refl, (refl, tt))))));
   named = λ k some. named k some (cases_Bool (3 == k)) (cases_Bool (4 == k)) (cases_Bool (5 == k)) (cases_Bool (7 == k));
-  agrees = each_at (λ k o. Agrees world k o.body) objects (refl, (refl, (refl, (record { running = refl; living = refl; over = refl }, (refl, (record { running = refl; living = refl; over = refl }, tt))))));
+  agrees = each_at (λ k o. Agrees world k o.body) objects
+      (refl, (refl, (refl, (record { running = refl; living = refl; over = refl }, (refl, (record { running = refl; living = refl; over = refl }, tt))))));
   in_jobs = each_at (λ k o. IsTrue (is_in_job objects o.body)) objects (refl, (refl, (refl, (refl, (refl, (refl, tt))))));
 }
   where
@@ -90,7 +93,8 @@ worked = record {
     positive k there (inl zero) = absurd (false≢true (subst (λ (j : ℕ). IsTrue (has_key objects j)) (sym (eqb-true 0 k zero)) there))
     positive k there (inr apart) = grind (arith, nat_tests, apart)
 
-    named : (k : ℕ) → 0 < handles_to (with_objects world objects) k + count_by (λ j. j == k) (3 ∷ []) → IsTrue (3 == k) ⊎ ((3 == k) ≡ false) → IsTrue (4 == k) ⊎ ((4 == k) ≡ false) → IsTrue (5 == k) ⊎ ((5 == k) ≡ false) → IsTrue (7 == k) ⊎ ((7 == k) ≡ false) → IsTrue (has_key objects k)
+    named : (k : ℕ) → 0 < handles_to (with_objects world objects) k + count_by (λ j. j == k) (3 ∷ []) → IsTrue (3 == k) ⊎ ((3 == k) ≡ false)
+        → IsTrue (4 == k) ⊎ ((4 == k) ≡ false) → IsTrue (5 == k) ⊎ ((5 == k) ≡ false) → IsTrue (7 == k) ⊎ ((7 == k) ≡ false) → IsTrue (has_key objects k)
     named k some (inl three) four five seven = subst (λ (j : ℕ). IsTrue (has_key objects j)) (eqb-true 3 k three) refl
     named k some (inr no3) (inl four) five seven = subst (λ (j : ℕ). IsTrue (has_key objects j)) (eqb-true 4 k four) refl
     named k some (inr no3) (inr no4) (inl five) seven = subst (λ (j : ℕ). IsTrue (has_key objects j)) (eqb-true 5 k five) refl

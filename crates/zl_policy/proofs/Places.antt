@@ -1,5 +1,6 @@
 -- A row of places and the policy that is set in it.
-use Rattle.zl_rights.proofs.Common.{◌≡◌, ℕ, zero, suc, ◌+◌, ◌<◌, ◌||◌, Bool, true, false, not, is_empty, List, [], ◌∷◌, length, map, get_or, slice_set, refl, sym, ap, ◌∙◌, arith, eq-eqb, nat_tests, ne_eqb, Option, Some, None, is_some, list_any, Map, get, put}
+use Rattle.zl_rights.proofs.Common.{◌≡◌, ℕ, zero, suc, ◌+◌, ◌<◌, ◌||◌, Bool, true, false, not, is_empty, List, [], ◌∷◌, length, map, get_or, slice_set, refl}
+use Rattle.zl_rights.proofs.Common.{sym, ap, ◌∙◌, arith, eq-eqb, nat_tests, ne_eqb, Option, Some, None, is_some, list_any, Map, get, put}
 use Rattle.zl_rights.specs.declared.policy.Action.{Action}
 use Rattle.zl_policy.specs.Policies.{set_from, with_unset}
 
@@ -30,7 +31,8 @@ put_first n j a (None ∷ places) lower = put_first (n + 1) j a places (omega (a
 put_first n j a (Some b ∷ places) lower = grind (arith, nat_tests, lower)
 
 -- one place more is set
-put_from : (n k j : ℕ) (a : Action) (places : List (Option Action)) → j ≡ n + k → k < length places → get_or places k None ≡ None → put (set_from n places) j a ≡ set_from n (slice_set places k (Some a))
+put_from : (n k j : ℕ) (a : Action) (places : List (Option Action)) → j ≡ n + k → k < length places → get_or places k None ≡ None
+    → put (set_from n places) j a ≡ set_from n (slice_set places k (Some a))
 unfolding put set_from
 put_from n k j a [] is within unset = absurd (omega (arith, within))
 put_from n zero j a (None ∷ places) is within unset =
@@ -46,7 +48,8 @@ pub set_at : (k : ℕ) (places : List (Option Action)) → get (set_from 0 place
 set_at k places = set_from_at 0 k k places (omega arith)
 
 -- the place of the condition is written
-pub set_more : (k : ℕ) (a : Action) (places : List (Option Action)) → k < length places → is_some (get (set_from 0 places) k) ≡ false → set_from 0 (slice_set places k (Some a)) ≡ with_unset a (set_from 0 places) k
+pub set_more : (k : ℕ) (a : Action) (places : List (Option Action)) → k < length places → is_some (get (set_from 0 places) k) ≡ false
+    → set_from 0 (slice_set places k (Some a)) ≡ with_unset a (set_from 0 places) k
 unfolding with_unset
 set_more k a places within unset =
     rw unset (sym (put_from 0 k k a places (omega arith) within (sym (set_at k places) ∙ none (get (set_from 0 places) k) unset)))

@@ -36,21 +36,24 @@ module _ {X : Type 0} where
   each_same f same [] = refl
   each_same f same (e ∷ m) = rw (same e.0 e.1, each_same f same m)
 
-  pub list_any-each : (test : ℕ × X → Bool) (f : ℕ → X → X) → ((k : ℕ) (x : X) → test (k, f k x) ≡ test (k, x)) → (m : Map X) → list_any test (each f m) ≡ list_any test m
+  pub list_any-each : (test : ℕ × X → Bool) (f : ℕ → X → X) → ((k : ℕ) (x : X) → test (k, f k x) ≡ test (k, x)) → (m : Map X)
+      → list_any test (each f m) ≡ list_any test m
   unfolding each
   list_any-each test f same [] = refl
   list_any-each test f same (e ∷ m) = rw (same e.0 e.1, list_any-each test f same m)
 
-  pub list_any-put : (test : ℕ × X → Bool) (m : Map X) (k : ℕ) (old new : X) → get m k ≡ Some old → test (k, old) ≡ false → test (k, new) ≡ false → list_any test (put m k new) ≡ list_any test m
+  pub list_any-put : (test : ℕ × X → Bool) (m : Map X) (k : ℕ) (old new : X) → get m k ≡ Some old → test (k, old) ≡ false → test (k, new) ≡ false
+      → list_any test (put m k new) ≡ list_any test m
   unfolding get put
   list_any-put test [] k old new there o n = cc
-  list_any-put test ((j, x) ∷ m) k old new there o n = elim (cases_Bool (j == k)) as (λ _. list_any test (put ((j, x) ∷ m) k new) ≡ list_any test ((j, x) ∷ m)) [
-    | inl here ↦ let same : x ≡ old = same_Some x old (rw here at there) in rw (here, n, same, eqb-true j k here, o) refl
-    | inr apart ↦ rw apart (elim (nat_lt k j) as (λ b. list_any test (cond b ((k, new) ∷ (j, x) ∷ m) ((j, x) ∷ put m k new)) ≡ list_any test ((j, x) ∷ m)) [
-      | true ↦ rw n refl
-      | false ↦ ap (λ b. test (j, x) || b) (list_any-put test m k old new (rw apart at there) o n)
-    ])
-  ]
+  list_any-put test ((j, x) ∷ m) k old new there o n =
+      elim (cases_Bool (j == k)) as (λ _. list_any test (put ((j, x) ∷ m) k new) ≡ list_any test ((j, x) ∷ m)) [
+        | inl here ↦ let same : x ≡ old = same_Some x old (rw here at there) in rw (here, n, same, eqb-true j k here, o) refl
+        | inr apart ↦ rw apart (elim (nat_lt k j) as (λ b. list_any test (cond b ((k, new) ∷ (j, x) ∷ m) ((j, x) ∷ put m k new)) ≡ list_any test ((j, x) ∷ m)) [
+          | true ↦ rw n refl
+          | false ↦ ap (λ b. test (j, x) || b) (list_any-put test m k old new (rw apart at there) o n)
+        ])
+      ]
 
 -- ---- the list without p
 

@@ -14,7 +14,8 @@ part_of a b c first second =
     eq-eqb (bit_and c a) a (ap (λ (x : ℕ). bit_and c x) (sym ab) ∙ (sym (and_assoc a c b) ∙ (ap (λ (x : ℕ). bit_and x a) bc ∙ ab)))
 
 -- a copy has the rights of its original, or a part of them
-pub narrowed_within : (have : Rights) (asked : ℕ) (granted : Rights) (whole : ℕ) → narrowed have asked ≡ Some granted → IsTrue (within (bits have) whole) → IsTrue (within (bits granted) whole)
+pub narrowed_within : (have : Rights) (asked : ℕ) (granted : Rights) (whole : ℕ) → narrowed have asked ≡ Some granted → IsTrue (within (bits have) whole)
+    → IsTrue (within (bits granted) whole)
 narrowed_within have asked granted whole allowed inside = by_same (cases_Bool (asked == SAME_RIGHTS))
   where
     by_part : ((asked == SAME_RIGHTS) ≡ false) → IsTrue (within asked (bits have)) ⊎ (within asked (bits have) ≡ false) → IsTrue (within (bits granted) whole)

@@ -6,7 +6,8 @@ use Rattle.std.specs.Option.{option_map, is_some}
 use Rattle.std.proofs.lemmas.Bool.{cases_Bool, eqb-true}
 use Rattle.zl_rights.specs.Map.{get, has_key}
 use Rattle.zl_rights.specs.World.{World, answered, Process, State, Ready, Object, Body, ChannelEnd, EventBody, PortBody, JobBody, ProcessBody, Packet}
-use Rattle.zl_rights.specs.Signals.{active, active_of, implied, is_process, state_passes, lives, has_ended, has_child_job, has_child_process, is_job_below, is_process_of}
+use Rattle.zl_rights.specs.Signals.{active, active_of, implied, is_process, state_passes, lives, has_ended, has_child_job, has_child_process, is_job_below}
+use Rattle.zl_rights.specs.Signals.{is_process_of}
 use Rattle.zl_rights.specs.Wakes.{fired, body_with_packets, packets_for, made_ready, with_body}
 use Rattle.zl_rights.proofs.MapLaws.{get-put, get-each}
 use Rattle.zl_rights.proofs.MapTests.{list_any-each, list_any-put}
@@ -50,7 +51,8 @@ unfolding fired has_child_job has_child_process is_process
 fired-alike w = record {
   keys = λ k. rw get-each (kept (get w.objects k) _);
   jobs = λ k. list_any-each (λ e. is_job_below k e.1.body) _ (λ j o. is_job_below-with_packets k (packets_for w j) o.body) w.objects;
-  processes = λ k. list_any-each (λ e. is_process_of k e.1.body && is_process w lives e.0) _ (λ j o. ap (λ b. b && is_process w lives j) (is_process_of-with_packets k (packets_for w j) o.body)) w.objects;
+  processes = λ k. list_any-each (λ e. is_process_of k e.1.body && is_process w lives e.0) _
+      (λ j o. ap (λ b. b && is_process w lives j) (is_process_of-with_packets k (packets_for w j) o.body)) w.objects;
   ended = λ k. refl;
 }
   where
@@ -62,19 +64,25 @@ pub fired-active : (w : World) (k : ℕ) → active (fired w) k ≡ active w k
 unfolding active fired
 fired-active w k = rw get-each (by_object (get w.objects k))
   where
-    by_object : (o : Option Object) → active_of (fired w) k (option_map {T = Object} (λ x. record x { body = body_with_packets (packets_for w k) x.body }) o) ≡ active_of w k o
+    by_object : (o : Option Object)
+        → active_of (fired w) k (option_map {T = Object} (λ x. record x { body = body_with_packets (packets_for w k) x.body }) o) ≡ active_of w k o
     by_object None = refl
-    by_object (Some o) = ap (bit_or o.raised) (implied-with_packets (fired w) k (packets_for w k) o.body) ∙ active_of-same w (fired w) (fired-alike w) k (Some o)
+    by_object (Some o) =
+        ap (bit_or o.raised) (implied-with_packets (fired w) k (packets_for w k) o.body) ∙ active_of-same w (fired w) (fired-alike w) k (Some o)
 
 -- ---- a process that becomes ready changes no signal
 
 module _ (w : World) (p : ℕ) (process : Process) (destinations values : List ℕ) (there : get w.processes p ≡ Some process) where
-  is_process-made_ready : (test : State → Bool) → test Ready ≡ test process.state → (k : ℕ) → is_process (made_ready w p process destinations values) test k ≡ is_process w test k
+  is_process-made_ready : (test : State → Bool) → test Ready ≡ test process.state → (k : ℕ)
+      → is_process (made_ready w p process destinations values) test k ≡ is_process w test k
   unfolding is_process made_ready
-  is_process-made_ready test same k = rw get-put (elim (cases_Bool (p == k)) as (λ _. state_passes test (if p == k then Some (record process { state = Ready; cpu = answered process.cpu destinations values }) else get w.processes k) ≡ state_passes test (get w.processes k)) [
-    | inl here ↦ rw (here, ← eqb-true p k here, there, same) refl
-    | inr apart ↦ rw apart refl
-  ])
+  is_process-made_ready test same k =
+      rw get-put (elim (cases_Bool (p == k))
+      as (λ _. state_passes test (if p == k then Some (record process { state = Ready; cpu = answered process.cpu destinations values }) else get w.processes k)
+      ≡ state_passes test (get w.processes k)) [
+        | inl here ↦ rw (here, ← eqb-true p k here, there, same) refl
+        | inr apart ↦ rw apart refl
+      ])
 
   made_ready-alike : lives process.state ≡ true → has_ended process.state ≡ false → IsAlike w (made_ready w p process destinations values)
   unfolding made_ready has_child_job has_child_process
@@ -85,7 +93,8 @@ module _ (w : World) (p : ℕ) (process : Process) (destinations values : List �
     ended = is_process-made_ready has_ended (sym unended);
   }
 
-  pub made_ready-active : lives process.state ≡ true → has_ended process.state ≡ false → (k : ℕ) → active (made_ready w p process destinations values) k ≡ active w k
+  pub made_ready-active : lives process.state ≡ true → has_ended process.state ≡ false → (k : ℕ)
+      → active (made_ready w p process destinations values) k ≡ active w k
   unfolding made_ready active
   made_ready-active alive unended k = active_of-same w (made_ready w p process destinations values) (made_ready-alike alive unended) k (get w.objects k)
 
@@ -98,10 +107,12 @@ module _ (w : World) (k : ℕ) (o : Object) (packets rest : List Packet) (there 
   with_rest-alike : IsAlike w (with_body w k o (PortBody rest))
   unfolding has_child_job has_child_process is_process
   with_rest-alike = record {
-    keys = λ j. rw get-with_rest (elim (cases_Bool (k == j)) as (λ _. is_some (if k == j then Some (record o { body = PortBody rest }) else get w.objects j) ≡ is_some (get w.objects j)) [
-      | inl here ↦ rw (here, ← eqb-true k j here, there) refl
-      | inr apart ↦ rw apart refl
-    ]);
+    keys =
+        λ j. rw get-with_rest (elim (cases_Bool (k == j))
+        as (λ _. is_some (if k == j then Some (record o { body = PortBody rest }) else get w.objects j) ≡ is_some (get w.objects j)) [
+          | inl here ↦ rw (here, ← eqb-true k j here, there) refl
+          | inr apart ↦ rw apart refl
+        ]);
     jobs = λ j. list_any-put (λ e. is_job_below j e.1.body) w.objects k o _ there (rw port refl) refl;
     processes = λ j. list_any-put (λ e. is_process_of j e.1.body && is_process w lives e.0) w.objects k o _ there (rw port refl) refl;
     ended = λ j. refl;
@@ -109,7 +120,9 @@ module _ (w : World) (k : ℕ) (o : Object) (packets rest : List Packet) (there 
 
   pub with_rest-active : (j : ℕ) → active (with_body w k o (PortBody rest)) j ≡ active w j
   unfolding active
-  with_rest-active j = rw get-with_rest (elim (cases_Bool (k == j)) as (λ _. active_of (with_body w k o (PortBody rest)) j (if k == j then Some (record o { body = PortBody rest }) else get w.objects j) ≡ active_of w j (get w.objects j)) [
-    | inl here ↦ rw (here, ← eqb-true k j here, there, port) refl
-    | inr apart ↦ rw apart (active_of-same w (with_body w k o (PortBody rest)) with_rest-alike j (get w.objects j))
-  ])
+  with_rest-active j =
+      rw get-with_rest (elim (cases_Bool (k == j)) as (λ _. active_of (with_body w k o (PortBody rest)) j
+      (if k == j then Some (record o { body = PortBody rest }) else get w.objects j) ≡ active_of w j (get w.objects j)) [
+        | inl here ↦ rw (here, ← eqb-true k j here, there, port) refl
+        | inr apart ↦ rw apart (active_of-same w (with_body w k o (PortBody rest)) with_rest-alike j (get w.objects j))
+      ])

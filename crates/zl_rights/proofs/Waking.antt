@@ -8,7 +8,8 @@ use Rattle.zl_rights.specs.Numbers.{meets}
 use Rattle.zl_rights.specs.Map.{get, put}
 use Rattle.zl_rights.specs.World.{World, Process, State, Blocked, SignalOf, PacketAt, Object, Body, PortBody, Packet}
 use Rattle.zl_rights.specs.Signals.{active, lives, has_ended}
-use Rattle.zl_rights.specs.Wakes.{holds, fired, body_with_packets, packets_for, packet_of, made_ready, with_body, woken, woken_if_there, woken_from, woken_at_port, woken_by, wakes}
+use Rattle.zl_rights.specs.Wakes.{holds, fired, body_with_packets, packets_for, packet_of, made_ready, with_body, woken, woken_if_there, woken_from}
+use Rattle.zl_rights.specs.Wakes.{woken_at_port, woken_by, wakes}
 use Rattle.zl_rights.proofs.MapLaws.{get-put}
 use Rattle.zl_rights.proofs.Settling.{among}
 use Rattle.zl_rights.proofs.MapTests.{filter_none, filter_all, none_left, list_any-and, each_same, gone, among-filtered, apart_from}
@@ -78,20 +79,24 @@ module _ (w : World) (k : ℕ) (o : Object) (x : Packet) (rest : List Packet) (t
   }
 
 module _ (w : World) (p : ℕ) (process : Process) (there : get w.processes p ≡ Some process) where
-  woken_by-later : lives process.state ≡ true → has_ended process.state ≡ false → (k : ℕ) (destinations : List ℕ) (o : Object) → get w.objects k ≡ Some o → (b : Body) → o.body ≡ b → IsLater w (woken_by w p process k destinations o b)
+  woken_by-later : lives process.state ≡ true → has_ended process.state ≡ false → (k : ℕ) (destinations : List ℕ) (o : Object) → get w.objects k ≡ Some o
+      → (b : Body) → o.body ≡ b → IsLater w (woken_by w p process k destinations o b)
   woken_by-later alive unended k destinations o here (PortBody (x ∷ rest)) port =
-      IsLater-after w _ _ (with_rest-later w k o x rest here port) (made_ready-later (with_body w k o (PortBody rest)) p process destinations _ there alive unended)
+      IsLater-after w _ _ (with_rest-later w k o x rest here port)
+      (made_ready-later (with_body w k o (PortBody rest)) p process destinations _ there alive unended)
   woken_by-later alive unended k destinations o here _ port = IsLater-same w
 
-  woken_at_port-later : lives process.state ≡ true → has_ended process.state ≡ false → (k : ℕ) (destinations : List ℕ) (o : Option Object) → get w.objects k ≡ o → IsLater w (woken_at_port w p process k destinations o)
+  woken_at_port-later : lives process.state ≡ true → has_ended process.state ≡ false → (k : ℕ) (destinations : List ℕ) (o : Option Object) → get w.objects k ≡ o
+      → IsLater w (woken_at_port w p process k destinations o)
   woken_at_port-later alive unended k destinations None e = IsLater-same w
   woken_at_port-later alive unended k destinations (Some o) e = woken_by-later alive unended k destinations o e o.body refl
 
   woken_from-later : (s : State) → process.state ≡ s → IsLater w (woken_from w p process s)
-  woken_from-later (Blocked (SignalOf k mask) destinations) e = elim (meets (active w k) mask) as (λ b. IsLater w (if b then made_ready w p process destinations (0 ∷ active w k ∷ []) else w)) [
-    | true ↦ made_ready-later w p process destinations _ there (ap lives e) (ap has_ended e)
-    | false ↦ IsLater-same w
-  ]
+  woken_from-later (Blocked (SignalOf k mask) destinations) e =
+      elim (meets (active w k) mask) as (λ b. IsLater w (if b then made_ready w p process destinations (0 ∷ active w k ∷ []) else w)) [
+        | true ↦ made_ready-later w p process destinations _ there (ap lives e) (ap has_ended e)
+        | false ↦ IsLater-same w
+      ]
   woken_from-later (Blocked (PacketAt k) destinations) e = woken_at_port-later (ap lives e) (ap has_ended e) k destinations (get w.objects k) refl
   woken_from-later _ e = IsLater-same w
 
@@ -111,7 +116,8 @@ turns-later w (p ∷ ps) = IsLater-after w (woken w p) _ (woken-later w p) (turn
 
 -- p has its turn in u, and v is later
 module _ (u v : World) (p : ℕ) (later : IsLater u v) where
-  woken_by-stays : (process : Process) (k : ℕ) (destinations : List ℕ) (o : Object) → (IsTrue (has_no_packet o.body) → get v.objects k ≡ Some o) → (b : Body) → o.body ≡ b
+  woken_by-stays : (process : Process) (k : ℕ) (destinations : List ℕ) (o : Object) → (IsTrue (has_no_packet o.body) → get v.objects k ≡ Some o)
+      → (b : Body) → o.body ≡ b
       → IsTrue (among (woken_by u p process k destinations o b).blocked p) → woken_at_port v p process k destinations (get v.objects k) ≡ v
   unfolding made_ready
   woken_by-stays process k destinations o same (PortBody (x ∷ rest)) e h = absurd (false≢true (sym (gone u.blocked p) ∙ h))
@@ -126,7 +132,8 @@ module _ (u v : World) (p : ℕ) (later : IsLater u v) where
   unfolding made_ready
   woken_from-stays process (Blocked (SignalOf k mask) destinations) h = rw (later.signals k) (by_test (meets (active u k) mask) (0 ∷ active u k ∷ []) h)
     where
-      by_test : (b : Bool) (values : List ℕ) → IsTrue (among (if b then made_ready u p process destinations values else u).blocked p) → (if b then made_ready v p process destinations values else v) ≡ v
+      by_test : (b : Bool) (values : List ℕ) → IsTrue (among (if b then made_ready u p process destinations values else u).blocked p)
+          → (if b then made_ready v p process destinations values else v) ≡ v
       by_test true values stays = absurd (false≢true (sym (gone u.blocked p) ∙ stays))
       by_test false values stays = refl
   woken_from-stays process (Blocked (PacketAt k) destinations) h = woken_at_port-stays process k destinations (get u.objects k) (later.objects k) h
@@ -146,7 +153,8 @@ woken-stays u v p later h =
 turns-stay : (u : World) (ps : List ℕ) (q : ℕ) → IsTrue (among ps q) → IsTrue (among (fold woken u ps).blocked q) → woken (fold woken u ps) q ≡ fold woken u ps
 turns-stay u [] q h blocked = absurd (false≢true h)
 turns-stay u (p ∷ ps) q h blocked = elim (or_cases (p == q) (among ps q) h) as (λ _. woken (fold woken (woken u p) ps) q ≡ fold woken (woken u p) ps) [
-  | inl same ↦ woken-stays u (fold woken (woken u p) ps) q (subst (λ x. IsLater (woken u x) (fold woken (woken u p) ps)) (eqb-true p q same) (turns-later (woken u p) ps)) blocked
+  | inl same ↦ woken-stays u (fold woken (woken u p) ps) q
+      (subst (λ x. IsLater (woken u x) (fold woken (woken u p) ps)) (eqb-true p q same) (turns-later (woken u p) ps)) blocked
   | inr later ↦ turns-stay (woken u p) ps q later blocked
 ]
 
@@ -189,7 +197,11 @@ fired-same w none = λ i. record w {
 }
   where
     unchanged : (k : ℕ) (o : Object) → record o { body = body_with_packets (packets_for w k) o.body } ≡ o
-    unchanged k o = λ i. record o { body = (ap (λ xs. body_with_packets (map (packet_of w) xs) o.body) (filter_none _ w.waits (list_any-and (holds w) (λ x. x.port == k) w.waits none)) ∙ no_packets o.body) i }
+    unchanged k o = λ i. record o {
+      body =
+          (ap (λ xs. body_with_packets (map (packet_of w) xs) o.body) (filter_none _ w.waits (list_any-and (holds w) (λ x. x.port == k) w.waits none))
+          ∙ no_packets o.body) i;
+    }
 
 -- where no wait holds, waking is the turns of the blocked processes, one after another
 pub wakes_turns : (w : World) → list_any (holds w) w.waits ≡ false → wakes w ≡ fold woken w w.blocked

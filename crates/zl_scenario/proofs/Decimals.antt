@@ -1,5 +1,7 @@
 -- When a word spells a number.
-use Rattle.zl_scenario.proofs.Common.{◌≡◌, ℕ, ◌+◌, ◌-◌, ◌*◌, ◌^◌, ◌<◌, ◌≤◌, Bool, true, false, ◌&&◌, not, eqb, ltb, cond, List, [], ◌∷◌, length, take, drop, get_or, fold, Some, None, refl, sym, ap, ◌∙◌, subst, arith, take-append-drop, list_all, nat_tests, is_number, decimal_value, is_decimal_digit, decimal_digit_of, number_of}
+use Rattle.zl_scenario.proofs.Common.{◌≡◌, ℕ, ◌+◌, ◌-◌, ◌*◌, ◌^◌, ◌<◌, ◌≤◌, Bool, true, false, ◌&&◌, not, eqb, ltb, cond, List, [], ◌∷◌, length, take, drop}
+use Rattle.zl_scenario.proofs.Common.{get_or, fold, Some, None, refl, sym, ap, ◌∙◌, subst, arith, take-append-drop, list_all, nat_tests, is_number}
+use Rattle.zl_scenario.proofs.Common.{decimal_value, is_decimal_digit, decimal_digit_of, number_of}
 use Rattle.std.proofs.lemmas.Bool.{le-ltb}
 use Rattle.std.proofs.lemmas.List.Folds.{list_all_at}
 use Rattle.std.proofs.lemmas.List.Sums.{fold-append, fold_more}
@@ -40,7 +42,8 @@ none_empty word e = none_by word (ap (λ (n : ℕ). not (eqb n 0) && (list_all i
 pub none_digit : (word : List ℕ) (i : ℕ) → i < length word → is_decimal_digit (get_or word i 0) ≡ false → None ≡ number_of word
 none_digit word i within e =
     let digits : list_all is_decimal_digit word ≡ false = list_all_at is_decimal_digit word i 0 within e in
-    none_by word (last_false (not (eqb (length word) 0)) (list_all is_decimal_digit word && ltb (decimal_value word) (2 ^ 64)) (first_false (list_all is_decimal_digit word) (ltb (decimal_value word) (2 ^ 64)) digits))
+    none_by word (last_false (not (eqb (length word) 0)) (list_all is_decimal_digit word && ltb (decimal_value word) (2 ^ 64))
+    (first_false (list_all is_decimal_digit word) (ltb (decimal_value word) (2 ^ 64)) digits))
 
 -- the digits so far and the next one are too large a number
 pub none_large : (word : List ℕ) (i : ℕ) → i < length word → 2 ^ 64 ≤ decimal_value (take i word) * 10 + (get_or word i 0 - 48) → None ≡ number_of word
@@ -48,15 +51,18 @@ none_large word i within large =
     let more : decimal_value (take (i + 1) word) ≡ with (decimal_value (take i word)) (get_or word i 0) = fold_more with 0 word i 0 within in
     let front = value_of_front word (i + 1) in
     let above : ltb (decimal_value word) (2 ^ 64) ≡ false = le-ltb (decimal_value word) (2 ^ 64) (omega arith) in
-    none_by word (last_false (not (eqb (length word) 0)) (list_all is_decimal_digit word && ltb (decimal_value word) (2 ^ 64)) (last_false (list_all is_decimal_digit word) (ltb (decimal_value word) (2 ^ 64)) above))
+    none_by word (last_false (not (eqb (length word) 0)) (list_all is_decimal_digit word && ltb (decimal_value word) (2 ^ 64))
+    (last_false (list_all is_decimal_digit word) (ltb (decimal_value word) (2 ^ 64)) above))
 
 -- every byte is a digit, and the number is below the limit
-pub some_number : (word : List ℕ) → 0 < length word → list_all is_decimal_digit word ≡ true → decimal_value word < 2 ^ 64 → Some (decimal_value word) ≡ number_of word
+pub some_number : (word : List ℕ) → 0 < length word → list_all is_decimal_digit word ≡ true → decimal_value word < 2 ^ 64
+    → Some (decimal_value word) ≡ number_of word
 unfolding number_of
 some_number word nonempty digits below =
     let filled : not (eqb (length word) 0) ≡ true = grind (arith, nat_tests) in
     let small : ltb (decimal_value word) (2 ^ 64) ≡ true = grind (arith, nat_tests) in
-    ap (λ (x : Bool). cond x (Some (decimal_value word)) None) (sym (all_true (not (eqb (length word) 0)) (list_all is_decimal_digit word) (ltb (decimal_value word) (2 ^ 64)) filled digits small))
+    ap (λ (x : Bool). cond x (Some (decimal_value word)) None)
+    (sym (all_true (not (eqb (length word) 0)) (list_all is_decimal_digit word) (ltb (decimal_value word) (2 ^ 64)) filled digits small))
 
 false_by : (t : Bool) (n : ℕ) → None ≡ cond t (Some n) None → t ≡ false
 false_by true n e = absurd (cc)

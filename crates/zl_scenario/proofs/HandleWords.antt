@@ -1,5 +1,6 @@
 -- The handles of a line, one word after the other.
-use Rattle.zl_scenario.proofs.Common.{◌≡◌, false, true≢false, Result, Ok, Err, OnOk, ℕ, ◌+◌, ◌<◌, ◌≤◌, List, [], ◌∷◌, ◌++◌, length, drop, get_or, Option, Some, None, refl, sym, ap, ◌∙◌, append_assoc, append-nil, at_drop_more, at_drop_all, all_of, handle_of}
+use Rattle.zl_scenario.proofs.Common.{◌≡◌, false, true≢false, Result, Ok, Err, OnOk, ℕ, ◌+◌, ◌<◌, ◌≤◌, List, [], ◌∷◌, ◌++◌, length, drop, get_or, Option, Some}
+use Rattle.zl_scenario.proofs.Common.{None, refl, sym, ap, ◌∙◌, append_assoc, append-nil, at_drop_more, at_drop_all, all_of, handle_of}
 use Rattle.std.specs.Prelude.{⊤}
 use Rattle.std.specs.Result.{is_err}
 use Rattle.std.specs.Option.{option_map}
@@ -31,24 +32,28 @@ at_first words = itself (handles_in words)
     itself None = refl
     itself (Some handles) = refl
 
-at_word : (words : List Text) (i : ℕ) (d : Text) → i < length words → handles_in (drop i words) ≡ onto_all (handle_of (get_or words i d).now) (handles_in (drop (i + 1) words))
+at_word : (words : List Text) (i : ℕ) (d : Text) → i < length words
+    → handles_in (drop i words) ≡ onto_all (handle_of (get_or words i d).now) (handles_in (drop (i + 1) words))
 unfolding all_of
 at_word words i d within = at_drop_more handles_in words i d within
 
 -- a word is one handle more
-pub one_more : (words : List Text) (i : ℕ) (d : Text) (handles : List Grant) (handle : Grant) → i < length words → Some handle ≡ handle_of (get_or words i d).now
+pub one_more : (words : List Text) (i : ℕ) (d : Text) (handles : List Grant) (handle : Grant) → i < length words
+    → Some handle ≡ handle_of (get_or words i d).now
     → SoFar words i handles → SoFar words (i + 1) (handles ++ handle ∷ [])
 one_more words i d handles handle within named so_far =
     so_far
     ∙ ap (option_map (λ more. handles ++ more)) (at_word words i d within ∙ ap (λ (o : Option Grant). onto_all o (handles_in (drop (i + 1) words))) (sym named))
     ∙ joined (handles_in (drop (i + 1) words))
   where
-    joined : (o : Option (List Grant)) → option_map (λ more. handles ++ more) (onto_all (Some handle) o) ≡ option_map (λ more. (handles ++ handle ∷ []) ++ more) o
+    joined : (o : Option (List Grant))
+        → option_map (λ more. handles ++ more) (onto_all (Some handle) o) ≡ option_map (λ more. (handles ++ handle ∷ []) ++ more) o
     joined None = refl
     joined (Some more) = ap Some (sym (append_assoc handles (handle ∷ []) more))
 
 -- a word names no handle
-pub at_other : (words : List Text) (i : ℕ) (d : Text) (handles : List Grant) → i < length words → None ≡ handle_of (get_or words i d).now → SoFar words i handles → None ≡ handles_in words
+pub at_other : (words : List Text) (i : ℕ) (d : Text) (handles : List Grant) → i < length words → None ≡ handle_of (get_or words i d).now
+    → SoFar words i handles → None ≡ handles_in words
 at_other words i d handles within named so_far =
     sym (so_far
     ∙ ap (option_map (λ more. handles ++ more)) (at_word words i d within ∙ ap (λ (o : Option Grant). onto_all o (handles_in (drop (i + 1) words))) (sym named))

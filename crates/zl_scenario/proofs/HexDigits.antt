@@ -1,5 +1,6 @@
 -- The digits of bytes.
-use Rattle.zl_scenario.proofs.Common.{◌≡◌, ℕ, ◌+◌, ◌*◌, ◌/◌, ◌%◌, List, [], ◌∷◌, ◌++◌, length, refl, arith, length-append, flat_map, hex_digits_of_byte, bytes_of_digits}
+use Rattle.zl_scenario.proofs.Common.{◌≡◌, ℕ, ◌+◌, ◌*◌, ◌/◌, ◌%◌, List, [], ◌∷◌, ◌++◌, length, refl, arith, length-append, flat_map, hex_digits_of_byte}
+use Rattle.zl_scenario.proofs.Common.{bytes_of_digits}
 
 -- two digits for a byte
 pub length-digits : (bytes : List ℕ) → length (flat_map hex_digits_of_byte bytes) ≡ 2 * length bytes

@@ -1,5 +1,6 @@
 -- The digits of a line, one byte after the other.
-use Rattle.zl_scenario.proofs.Common.{◌≡◌, ℕ, ◌+◌, ◌<◌, Bool, true, false, eqb, cond, List, [], ◌∷◌, ◌++◌, length, drop, get_or, Option, Some, None, Ok, Err, refl, sym, ap, ◌∙◌, arith, append_assoc, append-nil, at_drop_more, nat_tests, hex_digit_of, digits_of, both, digits_said}
+use Rattle.zl_scenario.proofs.Common.{◌≡◌, ℕ, ◌+◌, ◌<◌, Bool, true, false, eqb, cond, List, [], ◌∷◌, ◌++◌, length, drop, get_or, Option, Some, None, Ok, Err}
+use Rattle.zl_scenario.proofs.Common.{refl, sym, ap, ◌∙◌, arith, append_assoc, append-nil, at_drop_more, nat_tests, hex_digit_of, digits_of, both, digits_said}
 use Rattle.zl_scenario.specs.declared.cause.Cause.TheVariants as cause
 
 spaced : (byte : ℕ) (bytes : List ℕ) → byte ≡ 32 → digits_of (byte ∷ bytes) ≡ digits_of bytes
@@ -18,11 +19,13 @@ more : (digits : List ℕ) (digit : ℕ) (rest : Option (List ℕ)) → digits_s
 more digits digit None = refl
 more digits digit (Some ds) = ap Ok (sym (append_assoc digits (digit ∷ []) ds))
 
-at_byte : (digits line : List ℕ) (i : ℕ) → i < length line → digits_said digits (digits_of (drop i line)) ≡ digits_said digits (digits_of (get_or line i 0 ∷ drop (i + 1) line))
+at_byte : (digits line : List ℕ) (i : ℕ) → i < length line
+    → digits_said digits (digits_of (drop i line)) ≡ digits_said digits (digits_of (get_or line i 0 ∷ drop (i + 1) line))
 at_byte digits line i within = at_drop_more (λ rest. digits_said digits (digits_of rest)) line i 0 within
 
 -- a space changes nothing
-pub after_space : (digits line : List ℕ) (i : ℕ) → i < length line → get_or line i 0 ≡ 32 → digits_said digits (digits_of (drop i line)) ≡ digits_said digits (digits_of (drop (i + 1) line))
+pub after_space : (digits line : List ℕ) (i : ℕ) → i < length line → get_or line i 0 ≡ 32
+    → digits_said digits (digits_of (drop i line)) ≡ digits_said digits (digits_of (drop (i + 1) line))
 after_space digits line i within e = at_byte digits line i within ∙ ap (digits_said digits) (spaced (get_or line i 0) (drop (i + 1) line) e)
 
 -- a digit comes after those before it

@@ -1,5 +1,7 @@
 -- The programs of a scenario, and the bytes that spell them.
-use Rattle.zl_scenario.proofs.Common.{◌≡◌, ℕ, ◌<◌, Bool, true, ◌&&◌, ltb, List, [], ◌∷◌, ◌++◌, length, Result, Ok, IsTrue, refl, sym, ap, ◌∙◌, arith, list_all, and_parts, nat_tests, list_all-append, Image, Library, Program, Spells, spelling, is_in_range, Scenario, MOST_PROGRAMS, with_program, program_said, AcceptsImage, IsPassed, listed}
+use Rattle.zl_scenario.proofs.Common.{◌≡◌, ℕ, ◌<◌, Bool, true, ◌&&◌, ltb, List, [], ◌∷◌, ◌++◌, length, Result, Ok, IsTrue, refl, sym, ap, ◌∙◌, arith, list_all}
+use Rattle.zl_scenario.proofs.Common.{and_parts, nat_tests, list_all-append, Image, Library, Program, Spells, spelling, is_in_range, Scenario, MOST_PROGRAMS}
+use Rattle.zl_scenario.proofs.Common.{with_program, program_said, AcceptsImage, IsPassed, listed}
 use Rattle.std.proofs.Common.{zero, suc, subst, Some}
 use Rattle.std.proofs.lemmas.Option.{none-some, same_Some}
 use Rattle.std.specs.List.{AllByRecursion}
@@ -25,13 +27,16 @@ accepted_pushed : (library : Library) (p : Program) → AreAccepted library → 
 accepted_pushed [] p all here = (here, tt)
 accepted_pushed (q ∷ library) p all here = (all.0, accepted_pushed library p all.1 here)
 
-pub program_pushed : (library : Library) (p : Program) → IsLibrary library → IsTrue (has_ranges p) → AcceptsImage p.checked p.image → IsLibrary (library ++ p ∷ [])
+pub program_pushed : (library : Library) (p : Program) → IsLibrary library → IsTrue (has_ranges p) → AcceptsImage p.checked p.image
+    → IsLibrary (library ++ p ∷ [])
 program_pushed library p all ranges here =
-    let more : list_all has_ranges (library ++ (p ∷ [])) ≡ (list_all has_ranges library && (has_ranges p && true)) = list_all-append has_ranges library (p ∷ []) in
+    let more : list_all has_ranges (library ++ (p ∷ [])) ≡ (list_all has_ranges library && (has_ranges p && true)) =
+    list_all-append has_ranges library (p ∷ []) in
     record { ranges = more ∙ rw (all.ranges, ranges) refl; accepted = accepted_pushed library p all.accepted here }
 
 -- a program of this mark and this image is in range where the image is
-pub ranges_by : (p : Program) (checked : Bool) (image : Image) → p ≡ record { checked = checked; image = image } → IsTrue (is_in_range image) → IsTrue (has_ranges p)
+pub ranges_by : (p : Program) (checked : Bool) (image : Image) → p ≡ record { checked = checked; image = image } → IsTrue (is_in_range image)
+    → IsTrue (has_ranges p)
 unfolding has_ranges
 ranges_by p checked image is e = rw is e
 
@@ -39,7 +44,8 @@ ranges_by p checked image is e = rw is e
 
 module _ (checked : Bool) (image : Image) (given : Result (List ℕ) Cause) (gives : given ≡ Ok (spelling image)) where
   -- one more program, where there is room for it
-  pub said_more : (said new : Scenario) → length said.programs < MOST_PROGRAMS → new ≡ with_program said checked (spelling image) → program_said said checked given ≡ Ok new
+  pub said_more : (said new : Scenario) → length said.programs < MOST_PROGRAMS → new ≡ with_program said checked (spelling image)
+      → program_said said checked given ≡ Ok new
   unfolding program_said
   said_more said new room added =
       let test : ltb (length said.programs) MOST_PROGRAMS ≡ true = grind (arith, nat_tests) in

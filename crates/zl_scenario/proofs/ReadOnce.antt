@@ -1,5 +1,7 @@
 -- A text is read in one way.
-use Rattle.zl_scenario.proofs.Common.{◌≡◌, ℕ, ◌+◌, Bool, true, false, List, [], ◌∷◌, Option, Some, None, Result, Ok, Err, refl, sym, ap, ◌∙◌, subst, Image, AcceptsImage, RefusesImage, Listed, Place, Reading, start, lines_of, line_said, told_line, refused_at, fault_at_end, Reads, at_end, line_taken, line_faulty, program_refused, IsPassed, IsStopped, whole_at, TextsAreReadOnce}
+use Rattle.zl_scenario.proofs.Common.{◌≡◌, ℕ, ◌+◌, Bool, true, false, List, [], ◌∷◌, Option, Some, None, Result, Ok, Err, refl, sym, ap, ◌∙◌, subst, Image}
+use Rattle.zl_scenario.proofs.Common.{AcceptsImage, RefusesImage, Listed, Place, Reading, start, lines_of, line_said, told_line, refused_at, fault_at_end}
+use Rattle.zl_scenario.proofs.Common.{Reads, at_end, line_taken, line_faulty, program_refused, IsPassed, IsStopped, whole_at, TextsAreReadOnce}
 use Rattle.zl_code.proofs.ImageWhole.{spells_one}
 use Rattle.zl_scenario.specs.declared.cause.Cause.{Cause}
 use Rattle.zl_scenario.specs.declared.cause.Cause.TheVariants as cause
@@ -11,7 +13,9 @@ both_ways true i accepts refuses = refuses.none accepts
 both_ways false i accepts refuses = refuses
 
 apart : (program : Option Listed) → IsPassed program → IsStopped program → ⊥
-apart (Some p) passed stopped = both_ways p.checked stopped.image (subst (AcceptsImage p.checked) (spells_one p.bytes passed.image stopped.image passed.spelled stopped.spelled) passed.is_true) stopped.is_true
+apart (Some p) passed stopped =
+    both_ways p.checked stopped.image
+    (subst (AcceptsImage p.checked) (spells_one p.bytes passed.image stopped.image passed.spelled stopped.spelled) passed.is_true) stopped.is_true
 apart None passed stopped = stopped
 
 -- ---- one line
@@ -19,7 +23,8 @@ apart None passed stopped = stopped
 -- what is read from a line on, by what becomes of the line
 data Read (n : ℕ) (place : Place) (line : List ℕ) (lines : List (List ℕ)) (reading : Reading) : Type 0 where
   on : (next : Place) → line_said n place line ≡ Ok next → IsPassed (whole_at place line) → Reads (n + 1) next lines reading → Read n place line lines reading
-  faulty : (c : Cause) → line_said n place line ≡ Err c → IsPassed (whole_at place line) → reading ≡ refused_at place.said (told_line n place.part) c → Read n place line lines reading
+  faulty : (c : Cause) → line_said n place line ≡ Err c → IsPassed (whole_at place line) → reading ≡ refused_at place.said (told_line n place.part) c
+      → Read n place line lines reading
   refused : IsStopped (whole_at place line) → reading ≡ refused_at place.said (told_line n place.part) cause.Check → Read n place line lines reading
 
 -- the same of any lines that begin with this one
@@ -42,7 +47,8 @@ same_err a b e = cc
 ok_err : (a : Place) (b : Cause) → ◌≡◌ {A = Result Place Cause} (Ok a) (Err b) → ⊥
 ok_err a b e = absurd (cc)
 
-line_once : (n : ℕ) (place : Place) (line : List ℕ) (lines : List (List ℕ)) (one other : Reading) → ((next : Place) → Reads (n + 1) next lines one → Reads (n + 1) next lines other → one ≡ other)
+line_once : (n : ℕ) (place : Place) (line : List ℕ) (lines : List (List ℕ)) (one other : Reading)
+    → ((next : Place) → Reads (n + 1) next lines one → Reads (n + 1) next lines other → one ≡ other)
     → Read n place line lines one → Read n place line lines other → one ≡ other
 line_once n place line lines one other later (on next said passed more) (on next2 said2 passed2 more2) =
     later next more (subst (λ (p : Place). Reads (n + 1) p lines other) (same_ok next2 next (sym said2 ∙ said)) more2)
@@ -61,7 +67,8 @@ line_once n place line lines one other later (refused stopped is) (refused stopp
 reads_once : (n : ℕ) (place : Place) (lines : List (List ℕ)) (one other : Reading) → Reads n place lines one → Reads n place lines other → one ≡ other
 reads_once n place [] one other a b = begins n place [] one a ∙ sym (begins n place [] other b)
 reads_once n place (line ∷ lines) one other a b =
-    line_once n place line lines one other (λ next c d. reads_once (n + 1) next lines one other c d) (begins n place (line ∷ lines) one a) (begins n place (line ∷ lines) other b)
+    line_once n place line lines one other (λ next c d. reads_once (n + 1) next lines one other c d) (begins n place (line ∷ lines) one a)
+    (begins n place (line ∷ lines) other b)
 
 pub read_once : TextsAreReadOnce
 read_once text one other a b = reads_once 1 start (lines_of text) one other a b

@@ -1,5 +1,9 @@
 -- Worked texts: what they say and their first faults, by computation.
-use Rattle.zl_scenario.proofs.Common.{◌≡◌, ℕ, true, false, List, [], ◌∷◌, ◌++◌, Option, Some, None, Err, replicate, refl, codes, flat_map, row_of, first_fault, header_fault, instr_fault, pieces, is_word, number_of, digits_of, bytes_of_digits, hex_digits_of_byte, Scenario, Listed, Reading, refused_at, reading_of, reading_from, line_said, statement_said, block_said, body_said, digits_spelled, program_said, turns_said, body_named, limit_said, process_said, object_named, all_of, handle_of, rights_named, map, pair_said, is_end, digits_in, text_in, mark_named, whole_at, whole_in, at, Statements, Block, Hex}
+use Rattle.zl_scenario.proofs.Common.{◌≡◌, ℕ, true, false, List, [], ◌∷◌, ◌++◌, Option, Some, None, Err, replicate, refl, codes, flat_map, row_of, first_fault}
+use Rattle.zl_scenario.proofs.Common.{header_fault, instr_fault, pieces, is_word, number_of, digits_of, bytes_of_digits, hex_digits_of_byte, Scenario, Listed}
+use Rattle.zl_scenario.proofs.Common.{Reading, refused_at, reading_of, reading_from, line_said, statement_said, block_said, body_said, digits_spelled}
+use Rattle.zl_scenario.proofs.Common.{program_said, turns_said, body_named, limit_said, process_said, object_named, all_of, handle_of, rights_named, map}
+use Rattle.zl_scenario.proofs.Common.{pair_said, is_end, digits_in, text_in, mark_named, whole_at, whole_in, at, Statements, Block, Hex}
 use Rattle.zl_code.specs.declared.boot.Grant.{Grant}
 use Rattle.zl_code.specs.declared.boot.Statement.{Statement}
 use Rattle.zl_code.specs.declared.boot.Statement.TheVariants as statement
@@ -14,7 +18,8 @@ abbrev raw : List ℕ → Listed
 raw bytes = record { checked = false; bytes = bytes }
 
 abbrev said : List Listed → List Statement → List ℕ → ℕ → List (ℕ × ℕ) → Scenario
-said programs statements lines limit schedule = record { programs = programs; statements = statements; lines = lines; limit = limit; schedule_line = None; schedule = schedule }
+said programs statements lines limit schedule =
+    record { programs = programs; statements = statements; lines = lines; limit = limit; schedule_line = None; schedule = schedule }
 
 -- the same with a schedule, which this line begins
 abbrev scheduled : ℕ → Scenario → Scenario
@@ -45,7 +50,8 @@ last_limit_counts : reading_of (codes "limit 1000000\n  limit   0010  \n\nlimit 
 unfolding reading_from line_said statement_said mark_named body_named limit_said process_said is_word number_of
 last_limit_counts = refl
 
-turns : reading_of (codes "--\n2 20\n\n# no turn\n  9 0 \n18446744073709551615 1000000") ≡ whole (scheduled 1 (said [] [] [] 1000 ((2, 20) ∷ (9, 0) ∷ (18446744073709551615, 1000000) ∷ [])))
+turns : reading_of (codes "--\n2 20\n\n# no turn\n  9 0 \n18446744073709551615 1000000")
+    ≡ whole (scheduled 1 (said [] [] [] 1000 ((2, 20) ∷ (9, 0) ∷ (18446744073709551615, 1000000) ∷ [])))
 unfolding reading_from line_said statement_said mark_named body_named limit_said process_said turns_said pair_said is_word number_of
 turns = refl
 
@@ -53,7 +59,8 @@ abbrev empty_program : List ℕ
 empty_program = codes "program raw hex\n5a4c4142 0101 0000\n# a comment\n\n 00000000 0 1\n000000 00000000\nend\n"
 
 a_program : reading_of empty_program ≡ whole (said (raw empty_image ∷ []) [] [] 1000 [])
-unfolding reading_from line_said statement_said mark_named body_named limit_said process_said block_said is_end program_said digits_spelled body_said is_word digits_of bytes_of_digits first_fault header_fault pieces
+unfolding reading_from line_said statement_said mark_named body_named limit_said process_said block_said is_end program_said digits_spelled body_said is_word
+    digits_of bytes_of_digits first_fault header_fault pieces
 a_program = refl
 
 -- a checked program beside a raw one
@@ -64,11 +71,14 @@ abbrev empty_checked_program : List ℕ
 empty_checked_program = codes "program checked hex\n5a4c4142010100000000000001000000 00000000\nend\n"
 
 two_programs : reading_of (empty_checked_program ++ empty_program) ≡ whole (said (checked empty_image ∷ raw empty_image ∷ []) [] [] 1000 [])
-unfolding reading_from line_said statement_said mark_named body_named limit_said process_said block_said is_end program_said digits_spelled body_said is_word digits_of bytes_of_digits first_fault header_fault pieces
+unfolding reading_from line_said statement_said mark_named body_named limit_said process_said block_said is_end program_said digits_spelled body_said is_word
+    digits_of bytes_of_digits first_fault header_fault pieces
 two_programs = refl
 
-processes : reading_of (empty_program ++ codes "process 1 0 5\n\nprocess 77 0 0") ≡ whole (said (raw empty_image ∷ []) (statement.Process 1 0 5 [] ∷ statement.Process 77 0 0 [] ∷ []) (8 ∷ 10 ∷ []) 1000 [])
-unfolding reading_from line_said statement_said mark_named body_named limit_said process_said all_of block_said is_end program_said digits_spelled body_said is_word number_of digits_of bytes_of_digits first_fault header_fault pieces
+processes : reading_of (empty_program ++ codes "process 1 0 5\n\nprocess 77 0 0")
+    ≡ whole (said (raw empty_image ∷ []) (statement.Process 1 0 5 [] ∷ statement.Process 77 0 0 [] ∷ []) (8 ∷ 10 ∷ []) 1000 [])
+unfolding reading_from line_said statement_said mark_named body_named limit_said process_said all_of block_said is_end program_said digits_spelled body_said
+    is_word number_of digits_of bytes_of_digits first_fault header_fault pieces
 processes = refl
 
 -- ---- handles of a process
@@ -78,32 +88,40 @@ handle koid rights = record { koid = koid; rights = rights }
 
 -- rights are a number of 64 bits, or those of the kind; what a kind gives is no matter of the text
 named_handles : handles_of (codes "2:5" ∷ codes "1:*" ∷ codes "0003:00" ∷ codes "1025:4294967296" ∷ codes "18446744073709551615:18446744073709551615" ∷ [])
-    ≡ Some (handle 2 (Some 5) ∷ handle 1 None ∷ handle 3 (Some 0) ∷ handle 1025 (Some 4294967296) ∷ handle 18446744073709551615 (Some 18446744073709551615) ∷ [])
+    ≡ Some (handle 2 (Some 5) ∷ handle 1 None ∷ handle 3 (Some 0) ∷ handle 1025 (Some 4294967296)
+    ∷ handle 18446744073709551615 (Some 18446744073709551615) ∷ [])
 unfolding all_of handle_of rights_named is_word number_of
 named_handles = refl
 
 -- without a colon, without one of the two, with more than both, and with what is no number
-no_handles : map handle_of (codes "2" ∷ codes ":" ∷ codes "2:" ∷ codes ":5" ∷ codes "2:5:6" ∷ codes "2:*:" ∷ codes "2:*x" ∷ codes "2:**" ∷ codes "*:5" ∷ codes "2:-5" ∷ codes "+2:5" ∷ codes "2:0x5" ∷ codes "2:18446744073709551616" ∷ codes "18446744073709551616:5" ∷ [])
+no_handles : map handle_of (codes "2" ∷ codes ":" ∷ codes "2:" ∷ codes ":5" ∷ codes "2:5:6" ∷ codes "2:*:" ∷ codes "2:*x" ∷ codes "2:**" ∷ codes "*:5"
+    ∷ codes "2:-5" ∷ codes "+2:5" ∷ codes "2:0x5" ∷ codes "2:18446744073709551616" ∷ codes "18446744073709551616:5" ∷ [])
     ≡ replicate 14 None
 unfolding handle_of rights_named is_word number_of
 no_handles = refl
 
 -- objects, and a process with handles to them, one of which isn't there: that is found by the boot
 objects_and_handles : reading_of (empty_program ++ codes "event\nchannel\n\n  port  \nprocess 1 0 7 3:8 2:* 9:*")
-    ≡ whole (said (raw empty_image ∷ []) (statement.Event ∷ statement.Channel ∷ statement.Port ∷ statement.Process 1 0 7 (handle 3 (Some 8) ∷ handle 2 None ∷ handle 9 None ∷ []) ∷ []) (8 ∷ 9 ∷ 11 ∷ 12 ∷ []) 1000 [])
-unfolding reading_from line_said statement_said mark_named body_named limit_said process_said object_named all_of handle_of rights_named block_said is_end program_said digits_spelled body_said is_word number_of digits_of bytes_of_digits first_fault header_fault pieces
+    ≡ whole (said (raw empty_image ∷ [])
+    (statement.Event ∷ statement.Channel ∷ statement.Port ∷ statement.Process 1 0 7 (handle 3 (Some 8) ∷ handle 2 None ∷ handle 9 None ∷ []) ∷ [])
+    (8 ∷ 9 ∷ 11 ∷ 12 ∷ []) 1000 [])
+unfolding reading_from line_said statement_said mark_named body_named limit_said process_said object_named all_of handle_of rights_named block_said is_end
+    program_said digits_spelled body_said is_word number_of digits_of bytes_of_digits first_fault header_fault pieces
 objects_and_handles = refl
 
 -- so is that eight handles are too many
 eight_handles : reading_of (empty_program ++ codes "process 1 0 0 1:* 1:* 1:* 1:* 1:* 1:* 1:* 1:*")
     ≡ whole (said (raw empty_image ∷ []) (statement.Process 1 0 0 (replicate 8 (handle 1 None)) ∷ []) (8 ∷ []) 1000 [])
-unfolding reading_from line_said statement_said mark_named body_named limit_said process_said all_of handle_of rights_named block_said is_end program_said digits_spelled body_said is_word number_of digits_of bytes_of_digits first_fault header_fault pieces
+unfolding reading_from line_said statement_said mark_named body_named limit_said process_said all_of handle_of rights_named block_said is_end program_said
+    digits_spelled body_said is_word number_of digits_of bytes_of_digits first_fault header_fault pieces
 eight_handles = refl
 
 -- the stored run
-stored_run : reading_of (codes "program raw hex\n5a4c41420101080000000000640000000000 0000\n46020300000000000000000000000000\n01050000000000000800000000000000\n47020300050000000000000000000000\n41020304000000000000008000000000\n40020300000000000000000000000000\n40020400000000000000000000000000\n40020400000000000000000000000000\n53000000000000000000000000000000\nend\nprocess 1 0 0\n--\n2 20\n")
+stored_run : reading_of
+    (codes "program raw hex\n5a4c41420101080000000000640000000000 0000\n46020300000000000000000000000000\n01050000000000000800000000000000\n47020300050000000000000000000000\n41020304000000000000008000000000\n40020300000000000000000000000000\n40020400000000000000000000000000\n40020400000000000000000000000000\n53000000000000000000000000000000\nend\nprocess 1 0 0\n--\n2 20\n")
     ≡ whole (scheduled 13 (said (raw bytes ∷ []) (statement.Process 1 0 0 [] ∷ []) (12 ∷ []) 1000 ((2, 20) ∷ [])))
-unfolding reading_from line_said statement_said mark_named body_named limit_said process_said all_of block_said is_end program_said digits_spelled body_said turns_said pair_said is_word number_of digits_of bytes_of_digits first_fault header_fault instr_fault row_of pieces
+unfolding reading_from line_said statement_said mark_named body_named limit_said process_said all_of block_said is_end program_said digits_spelled body_said
+    turns_said pair_said is_word number_of digits_of bytes_of_digits first_fault header_fault instr_fault row_of pieces
 stored_run = refl
 
 -- ---- first faults
@@ -167,27 +185,33 @@ rows_of_objects = (refl, refl, refl)
 
 -- a block that no line ends, and `--` in a block
 open_block : reading_of (codes "\nprogram raw hex\n5a\n") ≡ fails nothing 2 cause.Syntax
-unfolding reading_from line_said statement_said mark_named body_named limit_said process_said block_said is_end program_said digits_spelled body_said is_word digits_of bytes_of_digits first_fault
+unfolding reading_from line_said statement_said mark_named body_named limit_said process_said block_said is_end program_said digits_spelled body_said is_word
+    digits_of bytes_of_digits first_fault
 open_block = refl
 
 dashes_in_block : reading_of (codes "\nprogram raw hex\n5a\n--\nend\n") ≡ fails nothing 2 cause.Syntax
-unfolding reading_from line_said statement_said mark_named body_named limit_said process_said block_said is_end program_said digits_spelled body_said is_word digits_of bytes_of_digits first_fault
+unfolding reading_from line_said statement_said mark_named body_named limit_said process_said block_said is_end program_said digits_spelled body_said is_word
+    digits_of bytes_of_digits first_fault
 dashes_in_block = refl
 
 capital_digit : reading_of (codes "program raw hex\n5A\nend\n") ≡ fails nothing 1 cause.Syntax
-unfolding reading_from line_said statement_said mark_named body_named limit_said process_said block_said is_end program_said digits_spelled body_said is_word digits_of bytes_of_digits first_fault
+unfolding reading_from line_said statement_said mark_named body_named limit_said process_said block_said is_end program_said digits_spelled body_said is_word
+    digits_of bytes_of_digits first_fault
 capital_digit = refl
 
 odd_digits : reading_of (codes "program raw hex\n5a 4\nend\n") ≡ fails nothing 1 cause.Syntax
-unfolding reading_from line_said statement_said mark_named body_named limit_said process_said block_said is_end program_said digits_spelled body_said is_word digits_of bytes_of_digits first_fault
+unfolding reading_from line_said statement_said mark_named body_named limit_said process_said block_said is_end program_said digits_spelled body_said is_word
+    digits_of bytes_of_digits first_fault
 odd_digits = refl
 
 outside_ascii_in_block : reading_of (codes "program raw hex\n# " ++ (195 ∷ 169 ∷ codes "\nend\n")) ≡ fails nothing 1 cause.Syntax
-unfolding reading_from line_said statement_said mark_named body_named limit_said process_said block_said is_end program_said digits_spelled body_said is_word digits_of bytes_of_digits first_fault
+unfolding reading_from line_said statement_said mark_named body_named limit_said process_said block_said is_end program_said digits_spelled body_said is_word
+    digits_of bytes_of_digits first_fault
 outside_ascii_in_block = refl
 
 no_image : reading_of (codes "limit 5\nprogram raw hex\n5a\nend\nnonsense") ≡ fails (said [] [] [] 5 []) 2 cause.Program
-unfolding reading_from line_said statement_said mark_named body_named limit_said process_said block_said is_end program_said digits_spelled body_said is_word number_of digits_of bytes_of_digits first_fault header_fault pieces
+unfolding reading_from line_said statement_said mark_named body_named limit_said process_said block_said is_end program_said digits_spelled body_said is_word
+    number_of digits_of bytes_of_digits first_fault header_fault pieces
 no_image = refl
 
 -- no block is opened by a wrong line

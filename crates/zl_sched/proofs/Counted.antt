@@ -1,5 +1,6 @@
 -- How often a koid stands in a list.
-use Rattle.zl_sched.proofs.Common.{◌≡◌, ◌≤◌, ◌+◌, ◌∙◌, ℕ, suc, Bool, true, false, List, [], ◌∷◌, ◌++◌, length, map, refl, sym, ap, subst, arith, inl, inr, cases_Bool, IsTrue, Some, None, is_some, if◌then◌else◌, get, length-append}
+use Rattle.zl_sched.proofs.Common.{◌≡◌, ◌≤◌, ◌+◌, ◌∙◌, ℕ, suc, Bool, true, false, List, [], ◌∷◌, ◌++◌, length, map, refl, sym, ap, subst, arith, inl, inr}
+use Rattle.zl_sched.proofs.Common.{cases_Bool, IsTrue, Some, None, is_some, if◌then◌else◌, get, length-append}
 use Rattle.std.specs.Prelude.{not, ◌==◌, nat_lt}
 use Rattle.std.specs.List.{filter, list_any}
 use Rattle.std.proofs.lemmas.List.Elements.{filter-append}

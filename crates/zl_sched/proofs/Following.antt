@@ -1,5 +1,6 @@
 -- A run that is computed along a schedule follows it.
-use Rattle.zl_sched.proofs.Common.{◌≡◌, ℕ, Bool, true, false, List, [], ◌∷◌, map, refl, ap, Some, None, is_some, is_process, is_ready, Library, Choice, Follows, ends, skips, goes}
+use Rattle.zl_sched.proofs.Common.{◌≡◌, ℕ, Bool, true, false, List, [], ◌∷◌, map, refl, ap, Some, None, is_some, is_process, is_ready, Library, Choice, Follows}
+use Rattle.zl_sched.proofs.Common.{ends, skips, goes}
 use Rattle.zl_code.proofs.Common.{World}
 use Rattle.zl_code.specs.declared.history.TraceItem.{TraceItem}
 use Rattle.zl_code.proofs.Running.{Acted, step_by, step_by-Step, Went, onto, items_of, world_after}
@@ -25,7 +26,8 @@ Led lib w turn turns ready acted = elim ready as (λ _. Went) [
   | false ↦ follow_by lib w turns
 ]
 
-turn_by : (lib : Library) (w : World) (turn : ℕ × Choice) (turns : List (ℕ × Choice)) (ready : Bool) (acted : Acted) → is_process w is_ready turn.0 ≡ ready → step_by lib w turn.0 turn.1 ≡ acted
+turn_by : (lib : Library) (w : World) (turn : ℕ × Choice) (turns : List (ℕ × Choice)) (ready : Bool) (acted : Acted) → is_process w is_ready turn.0 ≡ ready
+    → step_by lib w turn.0 turn.1 ≡ acted
     → ((v : World) (items : List TraceItem) (w2 : World) → follow_by lib v turns ≡ Some (items, w2) → Follows lib v (pids_of turns) items w2)
     → (items : List TraceItem) (w2 : World) → Led lib w turn turns ready acted ≡ Some (items, w2) → Follows lib w (turn.0 ∷ pids_of turns) items w2
 turn_by lib w turn turns true None r a rest items w2 is = cc
@@ -40,17 +42,20 @@ turn_by lib w turn turns true (Some x) r a rest items w2 is = goes_on (follow_by
         rw (first_is, last_is) (goes w x.1 y.1 turn.0 x.0 (pids_of turns) y.0 r (step_by-Step lib w turn.0 turn.1 x a) (rest x.1 y.0 y.1 f))
 turn_by lib w turn turns false acted r a rest items w2 is = skips w w2 turn.0 (pids_of turns) items r (rest w items w2 is)
 
-pub follow_by-Follows : (lib : Library) (w : World) (turns : List (ℕ × Choice)) (items : List TraceItem) (w2 : World) → follow_by lib w turns ≡ Some (items, w2) → Follows lib w (pids_of turns) items w2
+pub follow_by-Follows : (lib : Library) (w : World) (turns : List (ℕ × Choice)) (items : List TraceItem) (w2 : World) → follow_by lib w turns ≡ Some (items, w2)
+    → Follows lib w (pids_of turns) items w2
 follow_by-Follows lib w [] items w2 e =
     let both : ◌≡◌ {A = List TraceItem × World} (items, w2) ([], w) = cc in
     let none : items ≡ [] = ap (λ (t : List TraceItem × World). t.0) both in
     let same : w2 ≡ w = ap (λ (t : List TraceItem × World). t.1) both in
     rw (none, same) (ends w)
 follow_by-Follows lib w (turn ∷ turns) items w2 e =
-    turn_by lib w turn turns (is_process w is_ready turn.0) (step_by lib w turn.0 turn.1) refl refl (λ v items w2 f. follow_by-Follows lib v turns items w2 f) items w2 e
+    turn_by lib w turn turns (is_process w is_ready turn.0) (step_by lib w turn.0 turn.1) refl refl
+    (λ v items w2 f. follow_by-Follows lib v turns items w2 f) items w2 e
 
 -- Only the items are compared, and never two worlds.
-pub Follows-by : (lib : Library) (w : World) (turns : List (ℕ × Choice)) (items : List TraceItem) → is_some (follow_by lib w turns) ≡ true → items_of (follow_by lib w turns) ≡ items
+pub Follows-by : (lib : Library) (w : World) (turns : List (ℕ × Choice)) (items : List TraceItem) → is_some (follow_by lib w turns) ≡ true
+    → items_of (follow_by lib w turns) ≡ items
     → Follows lib w (pids_of turns) items (world_after w (follow_by lib w turns))
 Follows-by lib w turns items there same = go (follow_by lib w turns) refl there same
   where

@@ -1,5 +1,12 @@
 -- A process that a step makes isn't ready after it.
-use Rattle.zl_code.proofs.Common.{◌≡◌, ℕ, Bool, true, false, ◌==◌, List, [], ◌∷◌, refl, ap, sym, ◌∙◌, Option, Some, None, if◌then◌else◌, option_map, cases_Bool, eqb-true, inl, inr, meets, fold, get, World, Process, State, Created, Ready, Blocked, Gone, Ended, Object, Body, PortBody, is_process, is_ready, state_passes, process_settled, state_without, Settles, without_others, wakes, fired, active, with_body, woken_if_there, woken_from, woken_at_port, woken_by, woken_by_first, SignalOf, PacketAt, Packet, Library, Site, Request, Choice, Refused, WantsMemory, Values, CallBy, after_refusal, after_ok, ok_outcome, refusal, object_at, taken, taken_handles, with_effect, effect, new_handles, replied, on_process, on_object, with_object, insert_all, remove_all, process_with, process_without, process_ended, ended, Next, Moves, AtCall, IsStuck, Acts, Step, next_for, get-update, get-put, get-each, none-some, false≢true}
+use Rattle.zl_code.proofs.Common.{◌≡◌, ℕ, Bool, true, false, ◌==◌, List, [], ◌∷◌, refl, ap, sym, ◌∙◌, Option, Some, None, if◌then◌else◌, option_map, cases_Bool}
+use Rattle.zl_code.proofs.Common.{eqb-true, inl, inr, meets, fold, get, World, Process, State, Created, Ready, Blocked, Gone, Ended, Object, Body, PortBody}
+use Rattle.zl_code.proofs.Common.{is_process, is_ready, state_passes, process_settled, state_without, Settles, without_others, wakes, fired, active, with_body}
+use Rattle.zl_code.proofs.Common.{woken_if_there, woken_from, woken_at_port, woken_by, woken_by_first, SignalOf, PacketAt, Packet, Library, Site, Request}
+use Rattle.zl_code.proofs.Common.{Choice, Refused, WantsMemory, Values, CallBy, after_refusal, after_ok, ok_outcome, refusal, object_at, taken, taken_handles}
+use Rattle.zl_code.proofs.Common.{with_effect, effect, new_handles, replied, on_process, on_object, with_object, insert_all, remove_all, process_with}
+use Rattle.zl_code.proofs.Common.{process_without, process_ended, ended, Next, Moves, AtCall, IsStuck, Acts, Step, next_for, get-update, get-put, get-each}
+use Rattle.zl_code.proofs.Common.{none-some, false≢true}
 use Rattle.zl_rights.specs.declared.entry.Entry.{Entry}
 use Rattle.zl_rights.specs.World.{Awaited}
 use Rattle.zl_rights.specs.Wakes.{made_ready, woken}
@@ -83,12 +90,14 @@ module _ (q : ℕ) where
 
   fresh_effect : (lib : Library) (w u : World) (p : ℕ) (request : Request) (vs : List ℕ) → IsFree u → IsFresh (effect lib w u p request vs)
   unfolding effect with_object on_object on_process with_killed
-  fresh_effect lib w u p (process_create job program) vs free = rw (get-put u.processes w.next_koid (created_process lib program) q, free) (by_test (w.next_koid == q))
+  fresh_effect lib w u p (process_create job program) vs free =
+      rw (get-put u.processes w.next_koid (created_process lib program) q, free) (by_test (w.next_koid == q))
     where
       by_test : (b : Bool) → is_fresh (if b then Some (created_process lib program) else None) ≡ true
       by_test true = refl
       by_test false = refl
-  fresh_effect lib w u p (process_start process h word) vs free = free_fresh (on_process u (object_at w p process) (started_with vs word)) (free_on u (object_at w p process) (started_with vs word) free)
+  fresh_effect lib w u p (process_start process h word) vs free =
+      free_fresh (on_process u (object_at w p process) (started_with vs word)) (free_on u (object_at w p process) (started_with vs word) free)
   fresh_effect lib w u p (task_kill task) vs free = rw (get-each u.processes (λ k. process_killed (is_within u.objects (object_at w p task) k)) q, free) refl
   fresh_effect lib w u p _ vs free = free_fresh u free
 
@@ -96,18 +105,21 @@ module _ (q : ℕ) where
 
   module _ (lib : Library) (w : World) (p : ℕ) (apart : (p == q) ≡ false) (free : IsFree w) where
     fresh_refused : (s : Site) (o : Outcome) → IsFresh (after_refusal w p s o)
-    fresh_refused s (outcome.Answered answer) = fresh_replied (taken w p s) p s answer _ (free_fresh (taken w p s) (free_left w p (taken_handles s.request) free))
+    fresh_refused s (outcome.Answered answer) =
+        fresh_replied (taken w p s) p s answer _ (free_fresh (taken w p s) (free_left w p (taken_handles s.request) free))
     fresh_refused s (outcome.Ended code) = fresh_ended w p code apart (free_fresh w free)
     fresh_refused s outcome.Blocked = free_fresh w free
 
     fresh_done : (s : Site) (vs : List ℕ) → IsFresh (with_effect lib w (taken w p s) p s.request vs)
-    fresh_done s vs = fresh_stored _ p (stored_by w p s.request) (fresh_entered _ (receiver_of w p s.request) (new_handles w p s.request) (entering_at s.request vs)
+    fresh_done s vs =
+        fresh_stored _ p (stored_by w p s.request) (fresh_entered _ (receiver_of w p s.request) (new_handles w p s.request) (entering_at s.request vs)
         (fresh_effect lib w (taken w p s) p s.request vs (free_left w p (taken_handles s.request) free)))
 
     fresh_ok : (s : Site) (vs : List ℕ) (o : Outcome) → IsFresh (after_ok lib w p s vs o)
     fresh_ok s vs (outcome.Answered answer) = fresh_replied (with_effect lib w (taken w p s) p s.request vs) p s status.Ok _ (fresh_done s vs)
     fresh_ok s vs (outcome.Ended code) = fresh_ended (with_effect lib w (taken w p s) p s.request vs) p code apart (fresh_done s vs)
-    fresh_ok s vs outcome.Blocked = free_fresh (waiting w p s.destinations (awaited_by w p s.request)) (free_waiting w p s.destinations (awaited_by w p s.request) free)
+    fresh_ok s vs outcome.Blocked =
+        free_fresh (waiting w p s.destinations (awaited_by w p s.request)) (free_waiting w p s.destinations (awaited_by w p s.request) free)
 
     fresh_called : (s : Site) (choice : Choice) (r : Option Outcome) (answer : Outcome) (w2 : World) → CallBy lib w p s choice r answer w2 → IsFresh w2
     fresh_called s Refused None answer w2 c = absurd c
@@ -161,10 +173,11 @@ module _ (q : ℕ) where
     fresh_by_port k ds (Some o) old = fresh_by_body k ds o o.body old
 
     fresh_by_state : (s : State) → y.state ≡ s → IsFresh (woken_from u p y s)
-    fresh_by_state (Blocked (SignalOf k mask) ds) is = elim (meets (active u k) mask) as (λ b. IsFresh (if b then made_ready u p y ds (0 ∷ active u k ∷ []) else u)) [
-      | true ↦ fresh_readied u ds _ refl (ap is_new is)
-      | false ↦ fresh
-    ]
+    fresh_by_state (Blocked (SignalOf k mask) ds) is =
+        elim (meets (active u k) mask) as (λ b. IsFresh (if b then made_ready u p y ds (0 ∷ active u k ∷ []) else u)) [
+          | true ↦ fresh_readied u ds _ refl (ap is_new is)
+          | false ↦ fresh
+        ]
     fresh_by_state (Blocked (PacketAt k) ds) is = fresh_by_port k ds (get u.objects k) (ap is_new is)
     fresh_by_state _ is = fresh
 
@@ -200,10 +213,12 @@ module _ (q : ℕ) where
       by_process (Some x) h = by_state x.state h
 
 -- who wasn't made before a step isn't ready after it
-pub made_not_ready : (lib : Library) (w : World) (p : ℕ) (x : TraceItem) (after : World) → Step lib w p x after → (q : ℕ) → get w.processes q ≡ None → is_process after is_ready q ≡ false
+pub made_not_ready : (lib : Library) (w : World) (p : ℕ) (x : TraceItem) (after : World) → Step lib w p x after → (q : ℕ) → get w.processes q ≡ None
+    → is_process after is_ready q ≡ false
 made_not_ready lib w p x after step q free =
     let apart : (p == q) ≡ false = apart_from (p == q) refl in
-    not_ready q after (rw step.ends_awake (fresh_wakes q step.settled (fresh_settled q step.acted step.settled step.settles (fresh_acted q lib w p apart free (next_for lib step.process) x step.acted step.acts))))
+    not_ready q after (rw step.ends_awake (fresh_wakes q step.settled
+    (fresh_settled q step.acted step.settled step.settles (fresh_acted q lib w p apart free (next_for lib step.process) x step.acted step.acts))))
   where
     apart_from : (b : Bool) → (p == q) ≡ b → (p == q) ≡ false
     apart_from false e = e

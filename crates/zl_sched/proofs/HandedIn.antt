@@ -1,5 +1,6 @@
 -- What is handed in is a legal history more, and the list with its marks behind it is that of the definitions and has room.
-use Rattle.zl_sched.proofs.Common.{◌≡◌, ◌≤◌, ◌+◌, ◌∙◌, ◌++◌, ◌∷◌, [], ℕ, Bool, List, true, false, length, length-append, sym, subst, ap, refl, arith, IsTrue, None, get, is_process, is_ready, if◌then◌else◌, pid_of, State, System, IsLegalHistory}
+use Rattle.zl_sched.proofs.Common.{◌≡◌, ◌≤◌, ◌+◌, ◌∙◌, ◌++◌, ◌∷◌, [], ℕ, Bool, List, true, false, length, length-append, sym, subst, ap, refl, arith, IsTrue}
+use Rattle.zl_sched.proofs.Common.{None, get, is_process, is_ready, if◌then◌else◌, pid_of, State, System, IsLegalHistory}
 use Rattle.std.specs.Prelude.{not, ◌==◌, ◌&&◌}
 use Rattle.std.specs.List.{filter, list_all}
 use Rattle.zl_code.specs.declared.history.TraceItem.{TraceItem}
@@ -18,7 +19,8 @@ use Rattle.zl_sched.proofs.StillReady.{ready_as_before}
 use Rattle.zl_sched.proofs.Fresh.{made_not_ready}
 use Rattle.zl_sched.proofs.Legal.{history_then, nothing_legal, run_legal, step_legal}
 use Rattle.zl_sched.proofs.MarksKept.{state_kept, place_still}
-use Rattle.zl_sched.proofs.MarksMoved.{OthersStay, others_left, step_stays, local_stays, stays_then, before, after_listed, after_room, not_listed, takes_listed, forgets_listed, puts_back_listed}
+use Rattle.zl_sched.proofs.MarksMoved.{OthersStay, others_left, step_stays, local_stays, stays_then, before, after_listed, after_room, not_listed, takes_listed}
+use Rattle.zl_sched.proofs.MarksMoved.{forgets_listed, puts_back_listed}
 use Rattle.zl_sched.proofs.Queued.{Before, moved_is, requeued_is}
 
 -- ---- the list and the marks alone change

@@ -1,5 +1,6 @@
 -- Processes that come to a list one after another, where they pass a test.
-use Rattle.zl_sched.proofs.Common.{◌≡◌, ◌<◌, ◌≤◌, ◌+◌, ◌∙◌, ◌++◌, ◌∷◌, [], ℕ, Bool, List, length, length-append, append_assoc, take, append-nil, true, false, refl, sym, ap, subst, arith, Some, is_process, is_ready}
+use Rattle.zl_sched.proofs.Common.{◌≡◌, ◌<◌, ◌≤◌, ◌+◌, ◌∙◌, ◌++◌, ◌∷◌, [], ℕ, Bool, List, length, length-append, append_assoc, take, append-nil, true, false}
+use Rattle.zl_sched.proofs.Common.{refl, sym, ap, subst, arith, Some, is_process, is_ready}
 use Rattle.std.specs.Prelude.{slice_get}
 use Rattle.std.specs.List.{filter}
 use Rattle.std.proofs.Math.Seq.{take-append_seam}

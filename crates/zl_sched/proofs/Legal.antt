@@ -1,5 +1,7 @@
 -- What follows a schedule is a legal history, and a legal history with one step more is one.
-use Rattle.zl_sched.proofs.Common.{Bool, true, false, zero, suc, replicate, if◌then◌else◌, arith, length-append, ◌++◌, ◌∙◌, ap, append-nil, IsLegal, System, Runs, ◌≡◌, ℕ, List, [], ◌∷◌, refl, sym, subst, IsTrue, Library, Step, Acts, Next, Moves, AtCall, IsStuck, next_for, pid_of, single, IsLegalHistory, Follows, ends, skips, goes, EndsBy}
+use Rattle.zl_sched.proofs.Common.{Bool, true, false, zero, suc, replicate, if◌then◌else◌, arith, length-append, ◌++◌, ◌∙◌, ap, append-nil, IsLegal, System}
+use Rattle.zl_sched.proofs.Common.{Runs, ◌≡◌, ℕ, List, [], ◌∷◌, refl, sym, subst, IsTrue, Library, Step, Acts, Next, Moves, AtCall, IsStuck, next_for, pid_of}
+use Rattle.zl_sched.proofs.Common.{single, IsLegalHistory, Follows, ends, skips, goes, EndsBy}
 use Rattle.zl_code.proofs.Common.{World, nat_lt, nat_tests}
 use Rattle.std.specs.Prelude.{◌==◌}
 use Rattle.std.proofs.lemmas.List.Folds.{list_all-append}

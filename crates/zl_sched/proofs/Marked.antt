@@ -1,5 +1,6 @@
 -- The marks beside the ready list: who isn't marked stands in the list, if it is ready, and nothing else does.
-use Rattle.zl_sched.proofs.Common.{◌≡◌, ◌<◌, ◌≤◌, ◌+◌, ◌∙◌, ◌∷◌, [], ℕ, Bool, List, true, false, refl, sym, ap, subst, arith, inl, inr, cases_Bool, if◌then◌else◌, IsTrue, is_process, is_ready, length}
+use Rattle.zl_sched.proofs.Common.{◌≡◌, ◌<◌, ◌≤◌, ◌+◌, ◌∙◌, ◌∷◌, [], ℕ, Bool, List, true, false, refl, sym, ap, subst, arith, inl, inr, cases_Bool}
+use Rattle.zl_sched.proofs.Common.{if◌then◌else◌, IsTrue, is_process, is_ready, length}
 use Rattle.std.specs.Prelude.{◌&&◌, not, ◌==◌, nat_lt}
 use Rattle.zl_rights.proofs.Common.{nat_tests, false≢true, eq-eqb, eqb-true}
 use Rattle.zl_code.proofs.Common.{World, ne_eqb}

@@ -1,5 +1,6 @@
 -- A step of one process leaves the marks of the others what they are: who has one is ready or has ended, and doesn't become ready.
-use Rattle.zl_sched.proofs.Common.{◌≡◌, ◌∙◌, ℕ, Bool, true, false, refl, ap, sym, IsTrue, Option, Some, None, if◌then◌else◌, get, is_process, is_ready, state_passes, Library, Process, State, Created, Ready, Blocked, Gone, Ended, Step}
+use Rattle.zl_sched.proofs.Common.{◌≡◌, ◌∙◌, ℕ, Bool, true, false, refl, ap, sym, IsTrue, Option, Some, None, if◌then◌else◌, get, is_process, is_ready}
+use Rattle.zl_sched.proofs.Common.{state_passes, Library, Process, State, Created, Ready, Blocked, Gone, Ended, Step}
 use Rattle.std.specs.Prelude.{◌==◌}
 use Rattle.zl_rights.proofs.Common.{false≢true}
 use Rattle.zl_rights.specs.Signals.{has_ended, lives}

@@ -1,5 +1,6 @@
 -- What becomes of the list and the marks: a process is taken out, put back, forgotten, or did something.
-use Rattle.zl_sched.proofs.Common.{◌≡◌, ◌≤◌, ◌+◌, ◌∙◌, ◌++◌, ◌∷◌, [], ℕ, suc, Bool, true, false, List, length, length-append, refl, ap, sym, subst, arith, inl, inr, cases_Bool, IsTrue, None, if◌then◌else◌, get, is_process, is_ready, Library, Step, Process}
+use Rattle.zl_sched.proofs.Common.{◌≡◌, ◌≤◌, ◌+◌, ◌∙◌, ◌++◌, ◌∷◌, [], ℕ, suc, Bool, true, false, List, length, length-append, refl, ap, sym, subst, arith, inl}
+use Rattle.zl_sched.proofs.Common.{inr, cases_Bool, IsTrue, None, if◌then◌else◌, get, is_process, is_ready, Library, Step, Process}
 use Rattle.std.specs.Prelude.{◌==◌, ◌&&◌, not}
 use Rattle.zl_rights.proofs.Common.{false≢true, eqb-true, nat_tests}
 use Rattle.zl_rights.specs.Signals.{lives}
@@ -8,7 +9,8 @@ use Rattle.zl_code.specs.declared.history.TraceItem.{TraceItem}
 use Rattle.zl_code.proofs.Changes.{times-other}
 use Rattle.zl_sched.specs.Ready.{times, is_in, others_of, is_ready_or_over, Listed, queued_after}
 use Rattle.zl_sched.proofs.Counted.{times-append}
-use Rattle.zl_sched.proofs.Marked.{some_mark, no_mark, counted_mark, listed_but, listed_by, self_unmarked, others_marked, fewer_marks, left_marked, other_way, shorter, times_self, times_none}
+use Rattle.zl_sched.proofs.Marked.{some_mark, no_mark, counted_mark, listed_but, listed_by, self_unmarked, others_marked, fewer_marks, left_marked, other_way}
+use Rattle.zl_sched.proofs.Marked.{shorter, times_self, times_none}
 use Rattle.zl_sched.proofs.MarksKept.{marked_stays, marked_known, over_not_ready, state_kept, ready_passes}
 use Rattle.zl_sched.proofs.Queued.{Before, queued_ready, queued_room}
 

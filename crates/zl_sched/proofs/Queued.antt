@@ -1,5 +1,7 @@
 -- The ready list after a step: the code's is that of the definitions, holds each ready process that isn't out once, and has room.
-use Rattle.zl_sched.proofs.Common.{◌-◌, take, drop, take_more, take-append-drop, get_or, ◌≡◌, ◌<◌, ◌≤◌, ◌+◌, ◌∙◌, ℕ, Bool, true, false, List, [], ◌∷◌, ◌++◌, length, refl, sym, ap, subst, arith, inl, inr, cases_Bool, IsTrue, Option, Some, None, if◌then◌else◌, get, is_process, is_ready, state_passes, append-nil, length-append}
+use Rattle.zl_sched.proofs.Common.{◌-◌, take, drop, take_more, take-append-drop, get_or, ◌≡◌, ◌<◌, ◌≤◌, ◌+◌, ◌∙◌, ℕ, Bool, true, false, List, [], ◌∷◌, ◌++◌}
+use Rattle.zl_sched.proofs.Common.{length, refl, sym, ap, subst, arith, inl, inr, cases_Bool, IsTrue, Option, Some, None, if◌then◌else◌, get, is_process}
+use Rattle.zl_sched.proofs.Common.{is_ready, state_passes, append-nil, length-append}
 use Rattle.std.specs.Prelude.{◌&&◌, not, ◌==◌, nat_lt}
 use Rattle.std.specs.List.{filter, list_any}
 use Rattle.std.proofs.lemmas.List.Elements.{filter-append}

@@ -1,5 +1,6 @@
 -- A process that is told to be ready is ready, and no other.
-use Rattle.zl_sched.proofs.Common.{◌≡◌, ℕ, false, Option, Some, None, IsTrue, refl, get, State, Process, Created, Ready, Blocked, Ended, Gone, is_ready, is_process, state_passes, state_in, seen_in, seen_of, is_ready_in}
+use Rattle.zl_sched.proofs.Common.{◌≡◌, ℕ, false, Option, Some, None, IsTrue, refl, get, State, Process, Created, Ready, Blocked, Ended, Gone, is_ready}
+use Rattle.zl_sched.proofs.Common.{is_process, state_passes, state_in, seen_in, seen_of, is_ready_in}
 use Rattle.zl_code.specs.declared.history.ProcState.TheVariants as seen
 use Rattle.zl_calls.specs.World.{World}
 

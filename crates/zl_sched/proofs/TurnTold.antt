@@ -1,5 +1,6 @@
 -- What a turn does that has a step, and what one is answered for which the trace has no room.
-use Rattle.zl_sched.proofs.Common.{IsTrue, false, ap, ◌≡◌, ◌∷◌, ◌++◌, List, [], ◌<◌, ◌≤◌, ℕ, Bool, inl, inr, refl, length, if◌then◌else◌, cases_Bool, is_ready_in, Runs, System, Turns}
+use Rattle.zl_sched.proofs.Common.{IsTrue, false, ap, ◌≡◌, ◌∷◌, ◌++◌, List, [], ◌<◌, ◌≤◌, ℕ, Bool, inl, inr, refl, length, if◌then◌else◌, cases_Bool}
+use Rattle.zl_sched.proofs.Common.{is_ready_in, Runs, System, Turns}
 use Rattle.zl_code.specs.declared.history.TraceItem.{TraceItem}
 use Rattle.zl_calls.specs.World.{World}
 use Rattle.zl_sched.specs.Ready.{is_in, queued_after}

@@ -1,5 +1,7 @@
 -- Turns, one after another: what was walked, and what follows it.
-use Rattle.zl_sched.proofs.Common.{Bool, true, ◌≡◌, ℕ, ◌+◌, ◌-◌, ◌<◌, ◌≤◌, false, List, [], ◌∷◌, ◌++◌, length, replicate, take, drop, take-append-drop, get_or, refl, sym, ap, ◌∙◌, subst, IsTrue, arith, append_assoc, append-nil, zero, suc, take_more, is_process, is_ready, Library, is_ready_in, Follows, ends, skips, goes, StopsBefore, EndsBy, turns_of, System, Adds, Runs, Walks, room_of, length-append}
+use Rattle.zl_sched.proofs.Common.{Bool, true, ◌≡◌, ℕ, ◌+◌, ◌-◌, ◌<◌, ◌≤◌, false, List, [], ◌∷◌, ◌++◌, length, replicate, take, drop, take-append-drop, get_or}
+use Rattle.zl_sched.proofs.Common.{refl, sym, ap, ◌∙◌, subst, IsTrue, arith, append_assoc, append-nil, zero, suc, take_more, is_process, is_ready, Library}
+use Rattle.zl_sched.proofs.Common.{is_ready_in, Follows, ends, skips, goes, StopsBefore, EndsBy, turns_of, System, Adds, Runs, Walks, room_of, length-append}
 use Rattle.zl_code.proofs.Common.{World, and_parts}
 use Rattle.std.specs.Prelude.{◌&&◌}
 use Rattle.zl_sched.specs.System.{may_step}

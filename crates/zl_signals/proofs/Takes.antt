@@ -1,5 +1,6 @@
 -- What is left of a list, where the first element that passes was taken out.
-use Rattle.zl_rights.proofs.Common.{◌≡◌, ℕ, ◌+◌, ◌<◌, ◌≤◌, Bool, List, length, Option, Some, None, IfSome, IsSome, arith, refl, false≢true, find, position, take_all, slice_get, slice_get-get_or, nat_tests, append-nil}
+use Rattle.zl_rights.proofs.Common.{◌≡◌, ℕ, ◌+◌, ◌<◌, ◌≤◌, Bool, List, length, Option, Some, None, IfSome, IsSome, arith, refl, false≢true, find, position}
+use Rattle.zl_rights.proofs.Common.{take_all, slice_get, slice_get-get_or, nat_tests, append-nil}
 use Rattle.std.proofs.Common.{add-one}
 use Rattle.std.specs.Prelude.{◌↔◌, OnSome, slice_index_or}
 use Rattle.std.specs.List.{position_or_len, remove}

@@ -1,12 +1,15 @@
 -- That operations keep how a table is stored.
-use Rattle.zl_rights.proofs.Common.{◌≡◌, ◌≢◌, ℕ, ◌+◌, ◌-◌, ◌<◌, ◌≤◌, ◌⊎◌, inl, inr, List, [], ◌∷◌, ◌++◌, length, get_or, take, refl, sym, ◌∙◌, Option, Some, None, arith, length-append, Result, Ok, Err, true, OnOk, IsTrue, IfSome, slice_index, length-take-le, slice_get-get_or, false≢true, cases_lt, Map, get, put, without, update, has_key}
+use Rattle.zl_rights.proofs.Common.{◌≡◌, ◌≢◌, ℕ, ◌+◌, ◌-◌, ◌<◌, ◌≤◌, ◌⊎◌, inl, inr, List, [], ◌∷◌, ◌++◌, length, get_or, take, refl, sym, ◌∙◌, Option, Some}
+use Rattle.zl_rights.proofs.Common.{None, arith, length-append, Result, Ok, Err, true, OnOk, IsTrue, IfSome, slice_index, length-take-le, slice_get-get_or}
+use Rattle.zl_rights.proofs.Common.{false≢true, cases_lt, Map, get, put, without, update, has_key}
 use Rattle.std.specs.Prelude.{is_ok}
 use Rattle.std.proofs.Math.Seq.{get_or-append_seam}
 use Rattle.std.proofs.lemmas.List.{get_or-take, get_or_append_left}
 use Rattle.std.proofs.lemmas.Option.{slice_get_past}
 use Rattle.std.proofs.lemmas.Bool.{eq-eqb}
 use Rattle.zl_rights.specs.declared.entry.Entry.{Entry}
-use Rattle.zl_table.proofs.MapEdits.{none_not_some, none_unless_some, sorted_put, length-put_new, put_key, get-put_none, get-without, get-without_none, sorted_without, length-without, is_sorted-update, length-update, has_key-update, get-update_none}
+use Rattle.zl_table.proofs.MapEdits.{none_not_some, none_unless_some, sorted_put, length-put_new, put_key, get-put_none, get-without, get-without_none}
+use Rattle.zl_table.proofs.MapEdits.{sorted_without, length-without, is_sorted-update, length-update, has_key-update, get-update_none}
 use Rattle.zl_table.specs.Places.{IsKept, next_value}
 use Rattle.zl_table.specs.Table.{CAPACITY}
 
@@ -40,13 +43,15 @@ next_top : (live : ℕ) (freed : List ℕ) → 0 < length freed → next_value l
 next_top live freed some = rw (slice_get-get_or freed (length freed - 1) 0 (omega arith)) refl
 
 -- it is a fresh one, or the one freed most recently
-next_cases : (live : ℕ) (freed : List ℕ) → ((length freed ≡ 0) × (next_value live freed ≡ live + 1)) ⊎ ((0 < length freed) × (next_value live freed ≡ get_or freed (length freed - 1) 0))
+next_cases : (live : ℕ) (freed : List ℕ)
+    → ((length freed ≡ 0) × (next_value live freed ≡ live + 1)) ⊎ ((0 < length freed) × (next_value live freed ≡ get_or freed (length freed - 1) 0))
 next_cases live freed = elim (cases_lt 0 (length freed)) [
   | inl some ↦ inr (some, next_top live freed some)
   | inr none ↦ inl (omega arith, rw (slice_get_past freed (length freed - 1) (omega arith)) refl)
 ]
 
-again_from_top : (live : ℕ) (freed : List ℕ) (last : Option ℕ) → IfSome last (λ v. (0 < length freed) × (v ≡ slice_index freed (length freed - 1))) → IfSome last (λ v. next_value live freed ≡ v)
+again_from_top : (live : ℕ) (freed : List ℕ) (last : Option ℕ) → IfSome last (λ v. (0 < length freed) × (v ≡ slice_index freed (length freed - 1)))
+    → IfSome last (λ v. next_value live freed ≡ v)
 again_from_top live freed None top = tt
 again_from_top live freed (Some v) top = next_top live freed top.0 ∙ sym top.1
 
@@ -83,13 +88,15 @@ module _ (places : Map Entry) (freed : List ℕ) (room : ℕ) (last : Option ℕ
   rest_at : (i : ℕ) → i < length rest → (i < length freed - 1) × (get_or rest i 0 ≡ get_or freed i 0)
   rest_at i lt = let below : i < length freed - 1 = omega (arith, length-rest) in (below, get_or-take (length freed - 1) freed i 0 below)
 
-  pub kept_inserted : (e : Entry) (new_room : ℕ) → length places < CAPACITY → length freed + (length places + 1) ≤ new_room → IsKept (put places value e) rest new_room None
+  pub kept_inserted : (e : Entry) (new_room : ℕ) → length places < CAPACITY → length freed + (length places + 1) ≤ new_room
+      → IsKept (put places value e) rest new_room None
   kept_inserted e new_room free has_room = record {
     sorted = sorted_put places value e kept.sorted;
     few = omega (arith, total, kept.few);
     has_room = omega (arith, total);
     values = λ k there. in_total k (in_range k there);
-    freed_values = λ i lt. let same = rest_at i lt in let old = kept.freed_values i (omega (arith, same.0)) in rw same.1 (old.0, omega (arith, old.1, total, same.0));
+    freed_values = λ i lt. let same = rest_at i lt in let old = kept.freed_values i (omega (arith, same.0)) in
+        rw same.1 (old.0, omega (arith, old.1, total, same.0));
     unused = unused;
     distinct = λ i j lt within is.
         let first = rest_at i (omega arith) in
@@ -114,7 +121,8 @@ module _ (places : Map Entry) (freed : List ℕ) (room : ℕ) (last : Option ℕ
       unused i lt =
           let same = rest_at i lt in
           let top = next_top (length places) freed (omega (arith, same.0)) in
-          rw same.1 (get-put_none places value e _ (λ is. kept.distinct i (length freed - 1) same.0 (omega (arith, same.0)) (sym is ∙ top)) (kept.unused i (omega (arith, same.0))))
+          rw same.1 (get-put_none places value e _ (λ is. kept.distinct i (length freed - 1) same.0 (omega (arith, same.0)) (sym is ∙ top))
+          (kept.unused i (omega (arith, same.0))))
 
   -- ---- a change of an entry
 
@@ -136,13 +144,15 @@ module _ (places : Map Entry) (freed : List ℕ) (room : ℕ) (last : Option ℕ
 -- ---- a removal
 
 -- an element of a list after a push is an earlier one or the last
-pushed : (xs : List ℕ) (v i : ℕ) → i < length (xs ++ v ∷ []) → ((i < length xs) × (get_or (xs ++ v ∷ []) i 0 ≡ get_or xs i 0)) ⊎ ((i ≡ length xs) × (get_or (xs ++ v ∷ []) i 0 ≡ v))
+pushed : (xs : List ℕ) (v i : ℕ) → i < length (xs ++ v ∷ [])
+    → ((i < length xs) × (get_or (xs ++ v ∷ []) i 0 ≡ get_or xs i 0)) ⊎ ((i ≡ length xs) × (get_or (xs ++ v ∷ []) i 0 ≡ v))
 pushed xs v i lt = elim (cases_lt i (length xs)) [
   | inl earlier ↦ inl (earlier, get_or_append_left xs (v ∷ []) 0 i earlier)
   | inr later ↦ let same : i ≡ length xs = omega (arith, length-append xs (v ∷ [])) in inr (same, rw same (get_or-append_seam xs v [] 0))
 ]
 
-module _ (places : Map Entry) (freed : List ℕ) (room : ℕ) (last : Option ℕ) (kept : IsKept places freed room last) (value : ℕ) (live : IsTrue (has_key places value)) where
+module _ (places : Map Entry) (freed : List ℕ) (room : ℕ) (last : Option ℕ) (kept : IsKept places freed room last) (value : ℕ)
+    (live : IsTrue (has_key places value)) where
   abbrev more : List ℕ
   more = freed ++ value ∷ []
 

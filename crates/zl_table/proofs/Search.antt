@@ -1,5 +1,6 @@
 -- What a search finds in a map, and what an edit at the place that was found does to it.
-use Rattle.zl_rights.proofs.Common.{◌≡◌, ℕ, zero, suc, ◌-◌, ◌<◌, ◌≤◌, [], ◌∷◌, length, get_or, set, refl, sym, ap, ◌∙◌, Some, None, Result, Ok, Err, IfOk, IfErr, arith, IsTrue, slice_get, nat_cmp, is_sorted, below_all, nat_tests, Map, get, put, without, update}
+use Rattle.zl_rights.proofs.Common.{◌≡◌, ℕ, zero, suc, ◌-◌, ◌<◌, ◌≤◌, [], ◌∷◌, length, get_or, set, refl, sym, ap, ◌∙◌, Some, None, Result, Ok, Err, IfOk}
+use Rattle.zl_rights.proofs.Common.{IfErr, arith, IsTrue, slice_get, nat_cmp, is_sorted, below_all, nat_tests, Map, get, put, without, update}
 use Rattle.std.specs.List.{insert, remove}
 use Rattle.std.specs.List.Sorted.{IsSearchInRange, IsBinarySearchResult, IsNonDecreasingBy}
 use Rattle.std.specs.Ordering.{ordering_index}
@@ -34,7 +35,8 @@ module _ {X : Type 0} where
       grind (arith, nat_tests)
 
   -- a binary search by key ends at the key, or at the gap for it
-  pub searched : (m : Map X) → IsTrue (is_sorted nat_cmp m) → (k : ℕ) (r : Result ℕ ℕ) → IsSearchInRange r (length m) → IsBinarySearchResult (λ e. nat_cmp e.0 k) m r
+  pub searched : (m : Map X) → IsTrue (is_sorted nat_cmp m) → (k : ℕ) (r : Result ℕ ℕ) → IsSearchInRange r (length m)
+      → IsBinarySearchResult (λ e. nat_cmp e.0 k) m r
       → record { found : IfOk r (IsAt m k); missing : IfErr r (IsGapFor m k) }
   searched m sorted k (Ok i) in_range equal = record {
     found = record { in_range = in_range; has_key = λ d. ranked _ k _ (sym (equal d)) };
@@ -78,7 +80,8 @@ module _ {X : Type 0} where
   remove_at (e ∷ m) sorted k (suc i) at =
       grind (arith, nat_tests, at_above e m sorted k i at, remove_at m (sorted_parts e m sorted).1 k i (at_later e m k i at))
 
-  update_at : (m : Map X) → IsTrue (is_sorted nat_cmp m) → (k i : ℕ) → IsAt m k i → (f : X → X) (d : ℕ × X) → set m i ((get_or m i d).0, f (get_or m i d).1) ≡ update m k f
+  update_at : (m : Map X) → IsTrue (is_sorted nat_cmp m) → (k i : ℕ) → IsAt m k i → (f : X → X) (d : ℕ × X)
+      → set m i ((get_or m i d).0, f (get_or m i d).1) ≡ update m k f
   unfolding update
   update_at [] sorted k i at f d = absurd (omega (arith, at.in_range))
   update_at (e ∷ m) sorted k zero at f d = grind (arith, nat_tests, at.has_key d)
@@ -89,7 +92,8 @@ module _ {X : Type 0} where
   pub get_read : (m : Map X) → IsTrue (is_sorted nat_cmp m) → (k i : ℕ) → IsAt m k i → (x : ℕ × X) → x ≡ get_or m i x → get m k ≡ Some x.1
   get_read m sorted k i at x read = get_at m sorted k i at x ∙ sym (ap (λ (e : ℕ × X). Some e.1) read)
 
-  pub update_read : (m : Map X) → IsTrue (is_sorted nat_cmp m) → (k i : ℕ) → IsAt m k i → (f : X → X) (x : ℕ × X) → x ≡ get_or m i x → set m i (x.0, f x.1) ≡ update m k f
+  pub update_read : (m : Map X) → IsTrue (is_sorted nat_cmp m) → (k i : ℕ) → IsAt m k i → (f : X → X) (x : ℕ × X) → x ≡ get_or m i x
+      → set m i (x.0, f x.1) ≡ update m k f
   update_read m sorted k i at f x read = ap (λ (e : ℕ × X). set m i (e.0, f e.1)) read ∙ update_at m sorted k i at f x
 
   gap_later : (e : ℕ × X) (m : Map X) (k i : ℕ) → IsGapFor (e ∷ m) k (suc i) → IsGapFor m k i

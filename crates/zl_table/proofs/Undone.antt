@@ -26,7 +26,8 @@ same_table : (t u : Handles) → t.entries ≡ u.entries → t.last ≡ u.last �
 same_table t u entries last i = record { entries = entries i; last = last i }
 
 -- an entry was removed, and the value removed last is written
-pub taken_back : (old removed : Handles) (value : ℕ) (told : Option ℕ) (entry : Entry) → Removes old value entry removed → TakesBack old value told (Some entry) (record removed { last = told })
+pub taken_back : (old removed : Handles) (value : ℕ) (told : Option ℕ) (entry : Entry) → Removes old value entry removed
+    → TakesBack old value told (Some entry) (record removed { last = told })
 taken_back old removed value told entry removes = record {
   entry = λ before given inserts. sym removes.was ∙ rw inserts.entries (get_put before.entries value given);
   table = λ before given inserts last.

@@ -1,7 +1,9 @@
 -- A checked program that goes through each of the 23 calls: its process starts properly, each call but its exit is answered OK, it waits
 -- for a checked child that it starts, and wakes. So the headline speaks of something.
 use Rattle.std.proofs.lemmas.Option.{none-some, same_Some}
-use Rattle.zl_code.proofs.Common.{◌≡◌, ℕ, zero, suc, subst, slice_get, arith, true, false, List, [], ◌∷◌, ◌++◌, refl, map, replicate, pos, Some, None, World, Process, Library, Choice, Values, IsBoot, IsLegalHistory, boot_fault, boot_effect, origin, settled_in, Settles-by, started_process, creates, rights_of}
+use Rattle.zl_code.proofs.Common.{◌≡◌, ℕ, zero, suc, subst, slice_get, arith, true, false, List, [], ◌∷◌, ◌++◌, refl, map, replicate, pos, Some, None, World}
+use Rattle.zl_code.proofs.Common.{Process, Library, Choice, Values, IsBoot, IsLegalHistory, boot_fault, boot_effect, origin, settled_in, Settles-by}
+use Rattle.zl_code.proofs.Common.{started_process, creates, rights_of}
 use Rattle.zl_rights.specs.declared.kind.Kind.{Kind}
 use Rattle.zl_rights.specs.declared.kind.Kind.TheVariants as kind
 use Rattle.zl_rights.specs.declared.policy.Condition.{Condition}
@@ -246,7 +248,8 @@ first_items =
     one ∷ ok name.Signal ∷ ok name.WaitOne ∷ ok name.WaitPoll ∷ ok name.WaitAsync ∷ ok name.PortWait ∷ ok name.PortQueue ∷ ok name.PortPoll
     ∷ ok name.WaitAsync ∷ ok name.PortCancel
     ∷ one ∷ ok name.SignalPeer ∷ ok name.ChanWrite ∷ ok name.ChanReadEtc ∷ ok name.Close
-    ∷ ok name.Dup ∷ ok name.Close ∷ ok name.ChanCreate ∷ ok name.Close ∷ ok name.Close ∷ ok name.EventCreate ∷ ok name.Close ∷ ok name.PortCreate ∷ ok name.Close
+    ∷ ok name.Dup ∷ ok name.Close ∷ ok name.ChanCreate ∷ ok name.Close ∷ ok name.Close ∷ ok name.EventCreate ∷ ok name.Close ∷ ok name.PortCreate
+    ∷ ok name.Close
     ∷ one ∷ ok name.JobSetPolicy ∷ ok name.JobCreate ∷ ok name.Close ∷ one ∷ ok name.ProcessCreate ∷ one ∷ []
 
 -- and behind it: process 7 waits, the child ends, and process 7 is awake and ends

@@ -1,5 +1,6 @@
 -- A typing of an image and a step bound of it, found and tested by computation, where an instruction is led to from one place alone.
-use Rattle.zl_code.proofs.Common.{◌≡◌, ◌+◌, ◌-◌, ◌==◌, ◌&&◌, ℕ, zero, suc, arith, Bool, true, false, IsTrue, List, [], ◌∷◌, refl, subst, replicate, length, list_all, and_parts, eqb-true, ltb-true, nat_lt, Option, Some, None, Result, Ok, Err}
+use Rattle.zl_code.proofs.Common.{◌≡◌, ◌+◌, ◌-◌, ◌==◌, ◌&&◌, ℕ, zero, suc, arith, Bool, true, false, IsTrue, List, [], ◌∷◌, refl, subst, replicate, length}
+use Rattle.zl_code.proofs.Common.{list_all, and_parts, eqb-true, ltb-true, nat_lt, Option, Some, None, Result, Ok, Err}
 use Rattle.std.specs.Prelude.{slice_set, slice_index_or}
 use Rattle.zl_code.specs.declared.instr.Instr.{Instr}
 use Rattle.zl_code.specs.Image.{Image}
@@ -51,7 +52,8 @@ all_from test n [] = true
 all_from test n (None ∷ xs) = all_from test (n + 1) xs
 all_from test n (Some a ∷ xs) = test n a && all_from test (n + 1) xs
 
-passed_from : {A : Type 0} (test : ℕ → A → Bool) (n : ℕ) (xs : List (Option A)) → IsTrue (all_from test n xs) → (k : ℕ) (a : A) → at xs k ≡ Some a → IsTrue (test (n + k) a)
+passed_from : {A : Type 0} (test : ℕ → A → Bool) (n : ℕ) (xs : List (Option A)) → IsTrue (all_from test n xs) → (k : ℕ) (a : A) → at xs k ≡ Some a
+    → IsTrue (test (n + k) a)
 passed_from test n [] h k a is = cc
 passed_from test n (None ∷ xs) h zero a is = cc
 passed_from test n (Some b ∷ xs) h zero a is =
@@ -180,5 +182,6 @@ IsStepBound-by i f steps h = record {
 
 -- names what has to unfold for both to compute
 unfoldable pub typing : Unit {0}
-unfolding below joined all_below all_joined with_value with_all start_state imm_of least_from local_rule call_rule uses_of examined_all are_distinct rule_with row_of local_parts
+unfolding below joined all_below all_joined with_value with_all start_state imm_of least_from local_rule call_rule uses_of examined_all are_distinct rule_with
+    row_of local_parts
 typing = tt

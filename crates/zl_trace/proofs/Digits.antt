@@ -16,7 +16,8 @@ not_utf8 word not n below is = not (subst IsUtf8 (sym is) (IsUtf8-from_ascii (de
 pub not_parsed : {E : Type 0} (word : List ℕ) (r : Result ℕ E) (e : E) → ParsesUnsigned 64 10 word r → r ≡ Err e → (n : ℕ) → n < 2 ^ 64 → word ≢ decimal n
 not_parsed word r e parsed err n below is = let ok = parse-decimal 64 n word r below below is parsed in absurd cc
 
-pub not_written : {E : Type 0} (word : List ℕ) (r : Result ℕ E) (m : ℕ) → ParsesUnsigned 64 10 word r → r ≡ Ok m → (word ≡ decimal m → ⊥) → (n : ℕ) → n < 2 ^ 64 → word ≢ decimal n
+pub not_written : {E : Type 0} (word : List ℕ) (r : Result ℕ E) (m : ℕ) → ParsesUnsigned 64 10 word r → r ≡ Ok m → (word ≡ decimal m → ⊥) → (n : ℕ) → n < 2 ^ 64
+    → word ≢ decimal n
 not_written word r m parsed ok other n below is =
     let same : m ≡ n = ok_is m n (sym ok ∙ parse-decimal 64 n word r below below is parsed) in
     other (subst (λ k. word ≡ decimal k) (sym same) is)
@@ -36,10 +37,12 @@ not_utf8_signed word not z fits is = not (subst IsUtf8 (sym is) (IsUtf8-from_asc
     wider : (z : ℤ) → FitsSigned w32 z → FitsSigned w64 z
     wider z fits = omega (arith, fits)
 
-pub not_parsed_signed : {E : Type 0} (word : List ℕ) (r : Result ℤ E) (e : E) → ParsesSigned w32 10 word r → r ≡ Err e → (z : ℤ) → FitsSigned w32 z → word ≢ signed_decimal z
+pub not_parsed_signed : {E : Type 0} (word : List ℕ) (r : Result ℤ E) (e : E) → ParsesSigned w32 10 word r → r ≡ Err e → (z : ℤ) → FitsSigned w32 z
+    → word ≢ signed_decimal z
 not_parsed_signed word r e parsed err z fits is = let ok = parse-signed_decimal w32 z word r fits (small z fits) is parsed in absurd cc
 
-pub not_written_signed : {E : Type 0} (word : List ℕ) (r : Result ℤ E) (y : ℤ) → ParsesSigned w32 10 word r → r ≡ Ok y → (word ≡ signed_decimal y → ⊥) → (z : ℤ) → FitsSigned w32 z → word ≢ signed_decimal z
+pub not_written_signed : {E : Type 0} (word : List ℕ) (r : Result ℤ E) (y : ℤ) → ParsesSigned w32 10 word r → r ≡ Ok y → (word ≡ signed_decimal y → ⊥) → (z : ℤ)
+    → FitsSigned w32 z → word ≢ signed_decimal z
 not_written_signed word r y parsed ok other z fits is =
     let same : y ≡ z = ok_is y z (sym ok ∙ parse-signed_decimal w32 z word r fits (small z fits) is parsed) in
     other (subst (λ k. word ≡ signed_decimal k) (sym same) is)

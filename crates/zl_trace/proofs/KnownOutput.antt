@@ -1,5 +1,6 @@
 -- What has been written so far, to a writer that may tell its bytes.
-use Rattle.zl_trace.proofs.Common.{◌≡◌, ℕ, ◌+◌, ◌-◌, ◌<◌, List, [], ◌∷◌, ◌++◌, length, take, drop, get_or, Option, Result, Ok, Err, refl, sym, ap, ◌∙◌, subst, append_assoc, append-nil, take-append-drop, flat_map, take_more, at_drop_more, Appends, AppendsBeginning, Gathers}
+use Rattle.zl_trace.proofs.Common.{◌≡◌, ℕ, ◌+◌, ◌-◌, ◌<◌, List, [], ◌∷◌, ◌++◌, length, take, drop, get_or, Option, Result, Ok, Err, refl, sym, ap, ◌∙◌, subst}
+use Rattle.zl_trace.proofs.Common.{append_assoc, append-nil, take-append-drop, flat_map, take_more, at_drop_more, Appends, AppendsBeginning, Gathers}
 use Rattle.std.proofs.Common.{OnErr, OnOk}
 use Rattle.std.proofs.lemmas.List.{take_rest}
 use Rattle.std.proofs.lemmas.List.Concat.{flat_map-append}
@@ -7,7 +8,8 @@ use Rattle.std.proofs.Math.Seq.{take-add}
 use Rattle.std.proofs.KnownBytes.{Appends-nil, Appends-trans}
 
 -- after the first n bytes, the writer took m of the rest
-pub appended_more : (a b c : Option (List ℕ)) (bytes : List ℕ) (n m : ℕ) → Appends a b (take n bytes) → Appends b c (take m (take (length bytes - n) (drop n bytes)))
+pub appended_more : (a b c : Option (List ℕ)) (bytes : List ℕ) (n m : ℕ) → Appends a b (take n bytes)
+    → Appends b c (take m (take (length bytes - n) (drop n bytes)))
     → Appends a c (take (n + m) bytes)
 appended_more a b c bytes n m first second =
     let rest = drop n bytes in
@@ -40,11 +42,13 @@ pub gathers_both : (a c e : Option (List ℕ)) (b d f first second : List ℕ) �
 gathers_both a c e b d f first second g h = record {
   written = g.written ++ h.written;
   appended = Appends-trans a c e g.written h.written g.appended h.appended;
-  gathered = sym (append_assoc b first second) ∙ ap (λ (x : List ℕ). x ++ second) g.gathered ∙ append_assoc g.written d second ∙ ap (λ (x : List ℕ). g.written ++ x) h.gathered ∙ sym (append_assoc g.written h.written f);
+  gathered = sym (append_assoc b first second) ∙ ap (λ (x : List ℕ). x ++ second) g.gathered ∙ append_assoc g.written d second
+      ∙ ap (λ (x : List ℕ). g.written ++ x) h.gathered ∙ sym (append_assoc g.written h.written f);
 }
 
 -- what came before, a beginning of the next, and what never came
-pub begun_after : (a c e : Option (List ℕ)) (b d first second third : List ℕ) → Gathers a b c d first → AppendsBeginning c e (d ++ second) → AppendsBeginning a e (b ++ (first ++ (second ++ third)))
+pub begun_after : (a c e : Option (List ℕ)) (b d first second third : List ℕ) → Gathers a b c d first → AppendsBeginning c e (d ++ second)
+    → AppendsBeginning a e (b ++ (first ++ (second ++ third)))
 begun_after a c e b d first second third g h = record {
   written = g.written ++ h.written;
   rest = h.rest ++ third;
@@ -52,16 +56,20 @@ begun_after a c e b d first second third g h = record {
   beginning =
       let left : (g.written ++ h.written) ++ (h.rest ++ third) ≡ g.written ++ ((h.written ++ h.rest) ++ third) =
       append_assoc g.written h.written (h.rest ++ third) ∙ ap (λ (x : List ℕ). g.written ++ x) (sym (append_assoc h.written h.rest third)) in
-      let middle : g.written ++ ((h.written ++ h.rest) ++ third) ≡ g.written ++ ((d ++ second) ++ third) = ap (λ (x : List ℕ). g.written ++ (x ++ third)) h.beginning in
+      let middle : g.written ++ ((h.written ++ h.rest) ++ third) ≡ g.written ++ ((d ++ second) ++ third) =
+      ap (λ (x : List ℕ). g.written ++ (x ++ third)) h.beginning in
       let right : g.written ++ ((d ++ second) ++ third) ≡ (b ++ first) ++ (second ++ third) =
-      ap (λ (x : List ℕ). g.written ++ x) (append_assoc d second third) ∙ sym (append_assoc g.written d (second ++ third)) ∙ ap (λ (x : List ℕ). x ++ (second ++ third)) (sym g.gathered) in
+      ap (λ (x : List ℕ). g.written ++ x) (append_assoc d second third) ∙ sym (append_assoc g.written d (second ++ third))
+      ∙ ap (λ (x : List ℕ). x ++ (second ++ third)) (sym g.gathered) in
       left ∙ middle ∙ right ∙ append_assoc b first (second ++ third);
 }
 
 -- a list of lines, cut at one of them
-pub lines_cut : {X : Type 0} (f : X → List ℕ) (xs : List X) (i : ℕ) (d : X) → i < length xs → flat_map f xs ≡ flat_map f (take i xs) ++ (f (get_or xs i d) ++ flat_map f (drop (i + 1) xs))
+pub lines_cut : {X : Type 0} (f : X → List ℕ) (xs : List X) (i : ℕ) (d : X) → i < length xs
+    → flat_map f xs ≡ flat_map f (take i xs) ++ (f (get_or xs i d) ++ flat_map f (drop (i + 1) xs))
 lines_cut f xs i d within =
-    ap (flat_map f) (sym (take-append-drop i xs)) ∙ flat_map-append f (take i xs) (drop i xs) ∙ ap (λ (x : List ℕ). flat_map f (take i xs) ++ x) (at_drop_more (flat_map f) xs i d within)
+    ap (flat_map f) (sym (take-append-drop i xs)) ∙ flat_map-append f (take i xs) (drop i xs)
+    ∙ ap (λ (x : List ℕ). flat_map f (take i xs) ++ x) (at_drop_more (flat_map f) xs i d within)
 
 -- what holds anyway holds on an error
 pub on_err : {T E P : Type 0} (r : Result T E) → P → OnErr r P
@@ -79,15 +87,19 @@ when_err (Ok x) p gives = tt
 when_err (Err e) p gives = gives p
 
 -- one line more
-pub gathers_line : {X : Type 0} (f : X → List ℕ) (xs : List X) (i : ℕ) (default : X) (a c e : Option (List ℕ)) (b d after : List ℕ) → i < length xs → Gathers a b c d (flat_map f (take i xs)) → Gathers c d e after (f (get_or xs i default))
+pub gathers_line : {X : Type 0} (f : X → List ℕ) (xs : List X) (i : ℕ) (default : X) (a c e : Option (List ℕ)) (b d after : List ℕ) → i < length xs
+    → Gathers a b c d (flat_map f (take i xs)) → Gathers c d e after (f (get_or xs i default))
     → Gathers a b e after (flat_map f (take (i + 1) xs))
 gathers_line f xs i default a c e b d after within g h =
     let more : flat_map f (take (i + 1) xs) ≡ flat_map f (take i xs) ++ f (get_or xs i default) =
-    ap (flat_map f) (take_more xs i default within) ∙ flat_map-append f (take i xs) (get_or xs i default ∷ []) ∙ ap (λ (x : List ℕ). flat_map f (take i xs) ++ x) (append-nil (f (get_or xs i default))) in
+    ap (flat_map f) (take_more xs i default within) ∙ flat_map-append f (take i xs) (get_or xs i default ∷ [])
+    ∙ ap (λ (x : List ℕ). flat_map f (take i xs) ++ x) (append-nil (f (get_or xs i default))) in
     subst (Gathers a b e after) (sym more) (gathers_both a c e b d after (flat_map f (take i xs)) (f (get_or xs i default)) g h)
 
 -- a beginning of one line more
-pub begun_line : {X : Type 0} (f : X → List ℕ) (xs : List X) (i : ℕ) (default : X) (a c e : Option (List ℕ)) (b d : List ℕ) → i < length xs → Gathers a b c d (flat_map f (take i xs)) → AppendsBeginning c e (d ++ f (get_or xs i default))
+pub begun_line : {X : Type 0} (f : X → List ℕ) (xs : List X) (i : ℕ) (default : X) (a c e : Option (List ℕ)) (b d : List ℕ) → i < length xs
+    → Gathers a b c d (flat_map f (take i xs)) → AppendsBeginning c e (d ++ f (get_or xs i default))
     → AppendsBeginning a e (b ++ flat_map f xs)
 begun_line f xs i default a c e b d within g h =
-    subst (λ (x : List ℕ). AppendsBeginning a e (b ++ x)) (sym (lines_cut f xs i default within)) (begun_after a c e b d (flat_map f (take i xs)) (f (get_or xs i default)) (flat_map f (drop (i + 1) xs)) g h)
+    subst (λ (x : List ℕ). AppendsBeginning a e (b ++ x)) (sym (lines_cut f xs i default within))
+    (begun_after a c e b d (flat_map f (take i xs)) (f (get_or xs i default)) (flat_map f (drop (i + 1) xs)) g h)

@@ -1,5 +1,6 @@
 -- A status or a system call that is found by its name.
-use Rattle.zl_trace.proofs.Common.{◌≡◌, ◌==◌, ℕ, Bool, true, List, [], ◌∷◌, Option, None, Some, slice_get, zero, suc, refl, sym, subst, eq-eqb, eqb-true, and_parts, cases_Bool, inl, inr}
+use Rattle.zl_trace.proofs.Common.{◌≡◌, ◌==◌, ℕ, Bool, true, List, [], ◌∷◌, Option, None, Some, slice_get, zero, suc, refl, sym, subst, eq-eqb, eqb-true}
+use Rattle.zl_trace.proofs.Common.{and_parts, cases_Bool, inl, inr}
 use Rattle.std.specs.Prelude.{IfSome, IfNone, ◌≢◌, ◌-◌}
 use Rattle.std.specs.List.{find}
 use Rattle.std.specs.Cmp.Lexicographic.{pointwise}
@@ -59,7 +60,8 @@ module _ {X : Type 0} (name_of : X → List ℕ) (all : List X) (name : List ℕ
 
   -- where nothing is found, nothing has it
   pub missing : ((x : X) → (i : ℕ) × (slice_get all i ≡ Some x)) → (r : Option X) → r ≡ find by_name all → IfNone r ((x : X) → name ≢ name_of x)
-  missing among None e = λ x same. none_at by_name all (among x).0 x (sym e) (among x).1 (subst (λ n. pointwise ◌==◌ (name_of x) n ≡ true) (sym same) (same_refl (name_of x)))
+  missing among None e =
+      λ x same. none_at by_name all (among x).0 x (sym e) (among x).1 (subst (λ n. pointwise ◌==◌ (name_of x) n ≡ true) (sym same) (same_refl (name_of x)))
   missing among (Some x) e = tt
 
 pub status_among : (s : Status) → (i : ℕ) × (slice_get statuses i ≡ Some s)

@@ -1,5 +1,6 @@
 -- The elements of a list, yielded with their numbers.
-use Rattle.zl_trace.proofs.Common.{◌≡◌, ℕ, ◌+◌, ◌<◌, List, [], ◌∷◌, ◌++◌, length, map, take, drop, get_or, refl, sym, ap, ◌∙◌, arith, length-map, take-append-drop, take-map, at_drop_more}
+use Rattle.zl_trace.proofs.Common.{◌≡◌, ℕ, ◌+◌, ◌<◌, List, [], ◌∷◌, ◌++◌, length, map, take, drop, get_or, refl, sym, ap, ◌∙◌, arith, length-map}
+use Rattle.zl_trace.proofs.Common.{take-append-drop, take-map, at_drop_more}
 use Rattle.std.specs.List.{enumerate_from}
 use Rattle.std.proofs.lemmas.List.FromFn.{length-enumerate_from, get_or-enumerate_from}
 
@@ -12,7 +13,8 @@ second_shown v [] = refl
 second_shown v (y ∷ ys) = ap (λ (zs : List _). v y.1 ∷ zs) (second_shown v ys)
 
 -- all were yielded
-pub all_yielded : {A B : Type 0} (v : A → B) (all : List B) (ys : List (ℕ × A)) → map {B = ℕ × B} (λ p. (p.0, v p.1)) ys ≡ enumerate_from 0 all → map (λ p. v p.1) ys ≡ all
+pub all_yielded : {A B : Type 0} (v : A → B) (all : List B) (ys : List (ℕ × A)) → map {B = ℕ × B} (λ p. (p.0, v p.1)) ys ≡ enumerate_from 0 all
+    → map (λ p. v p.1) ys ≡ all
 all_yielded {A} {B} v all ys e = sym (second_shown v ys) ∙ ap (map (λ (p : ℕ × B). p.1)) e ∙ second_enumerated 0 all
 
 -- one is yielded next, with its number, and others are left
@@ -23,7 +25,8 @@ pub record IsNext {B : Type 0} (all done : List B) (index : ℕ) (x : B) : Type 
 
 pub next_by : {A B : Type 0} (v : A → B) (all : List B) (ys : List (ℕ × A)) (index : ℕ) (x : B)
     → map {B = ℕ × B} (λ p. (p.0, v p.1)) ys ≡ take (length ys) (enumerate_from 0 all)
-    → length ys < length (enumerate_from 0 all) → ◌≡◌ {A = ℕ × B} (index, x) (get_or (enumerate_from 0 all) (length ys) (index, x)) → IsNext all (map (λ p. v p.1) ys) index x
+    → length ys < length (enumerate_from 0 all) → ◌≡◌ {A = ℕ × B} (index, x) (get_or (enumerate_from 0 all) (length ys) (index, x))
+    → IsNext all (map (λ p. v p.1) ys) index x
 next_by {A} {B} v all ys index x front below e =
     let within : length ys < length all = omega (arith, length-enumerate_from 0 all) in
     let as_many : length (map (λ p. v p.1) ys) ≡ length ys = length-map ys (λ (p : ℕ × A). v p.1) in
@@ -31,10 +34,13 @@ next_by {A} {B} v all ys index x front below e =
     let number : index ≡ 0 + length ys = ap (λ (p : ℕ × B). p.0) both in
     let same : x ≡ get_or all (length ys) x = ap (λ (p : ℕ × B). p.1) both in
     let done : map (λ p. v p.1) ys ≡ take (length ys) all =
-    sym (second_shown v ys) ∙ ap (map (λ (p : ℕ × B). p.1)) front ∙ sym (take-map (λ (p : ℕ × B). p.1) (length ys) (enumerate_from 0 all)) ∙ ap (take (length ys)) (second_enumerated 0 all) in
-    let next : drop (length ys) all ≡ x ∷ drop (length ys + 1) all = at_drop_more (λ (l : List B). l) all (length ys) x within ∙ ap (λ (y : B). y ∷ drop (length ys + 1) all) (sym same) in
+    sym (second_shown v ys) ∙ ap (map (λ (p : ℕ × B). p.1)) front ∙ sym (take-map (λ (p : ℕ × B). p.1) (length ys) (enumerate_from 0 all))
+    ∙ ap (take (length ys)) (second_enumerated 0 all) in
+    let next : drop (length ys) all ≡ x ∷ drop (length ys + 1) all =
+    at_drop_more (λ (l : List B). l) all (length ys) x within ∙ ap (λ (y : B). y ∷ drop (length ys + 1) all) (sym same) in
     record {
       number = omega (arith, number, as_many);
       rest = drop (length ys + 1) all;
-      cut = sym (take-append-drop (length ys) all) ∙ ap (λ (l : List B). l ++ drop (length ys) all) (sym done) ∙ ap (λ (l : List B). map (λ p. v p.1) ys ++ l) next;
+      cut = sym (take-append-drop (length ys) all) ∙ ap (λ (l : List B). l ++ drop (length ys) all) (sym done)
+          ∙ ap (λ (l : List B). map (λ p. v p.1) ys ++ l) next;
     }

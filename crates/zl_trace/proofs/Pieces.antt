@@ -1,5 +1,6 @@
 -- The whole text of a trace, piece by piece: what is gathered so far, and what is written where the writer fails or memory is refused.
-use Rattle.zl_trace.proofs.Common.{◌≡◌, ℕ, List, [], ◌++◌, Option, sym, ap, ◌∙◌, subst, append_assoc, append-nil, flat_map, Appends, AppendsBeginning, Gathers, System, states_of, item_line, end_line, history_text, trace_text}
+use Rattle.zl_trace.proofs.Common.{◌≡◌, ℕ, List, [], ◌++◌, Option, sym, ap, ◌∙◌, subst, append_assoc, append-nil, flat_map, Appends, AppendsBeginning, Gathers}
+use Rattle.zl_trace.proofs.Common.{System, states_of, item_line, end_line, history_text, trace_text}
 use Rattle.zl_sched.specs.declared.system.End.{End}
 use Rattle.zl_trace.proofs.KnownOutput.{gathers_both, begun_after}
 use Rattle.zl_trace.proofs.States.{line_of}
@@ -47,7 +48,9 @@ module _ (s : System) (e : End) (block : List ℕ) where
     -- the writer failed at an item
     pub items_begun : AppendsBeginning a b (block ++ items_text) → AppendsBeginning a b whole
     unfolding history_text
-    items_begun begun = subst (AppendsBeginning a b) (append_assoc block items_text (states_text ++ end_line e)) (begins_longer a b (block ++ items_text) (states_text ++ end_line e) begun)
+    items_begun begun =
+        subst (AppendsBeginning a b) (append_assoc block items_text (states_text ++ end_line e))
+        (begins_longer a b (block ++ items_text) (states_text ++ end_line e) begun)
 
     module _ (d : List ℕ) (items : Gathers a block b d items_text) (c : Option (List ℕ)) where
       -- the writer failed at a state
@@ -62,7 +65,9 @@ module _ (s : System) (e : End) (block : List ℕ) where
         -- memory was refused for the last line
         pub end_wanting : AppendsBeginning a c whole
         unfolding history_text
-        end_wanting = subst (AppendsBeginning a c) (append_assoc block (items_text ++ states_text) (end_line e) ∙ in_order (end_line e)) (gathered_begins a c block f (items_text ++ states_text) (end_line e) both)
+        end_wanting =
+            subst (AppendsBeginning a c) (append_assoc block (items_text ++ states_text) (end_line e) ∙ in_order (end_line e))
+            (gathered_begins a c block f (items_text ++ states_text) (end_line e) both)
 
         module _ (g : List ℕ) (grown : g ≡ f ++ end_line e) (z : Option (List ℕ)) where
           -- the writer failed at the last block
@@ -76,7 +81,12 @@ module _ (s : System) (e : End) (block : List ℕ) where
           pub all_gathered : (last : List ℕ) → Gathers c g z last [] → last ≡ [] → Appends a z whole
           unfolding history_text
           all_gathered last last_block empty =
-              subst (Appends a z) (in_order (end_line e)) (all_written a z block ((items_text ++ states_text) ++ end_line e) (gathers_both a c z block f [] (items_text ++ states_text) (end_line e) both ended))
+              subst (Appends a z) (in_order (end_line e)) (all_written a z block ((items_text ++ states_text) ++ end_line e)
+              (gathers_both a c z block f [] (items_text ++ states_text) (end_line e) both ended))
             where
               ended : Gathers c f z [] (end_line e)
-              ended = record { written = last_block.written; appended = last_block.appended; gathered = sym grown ∙ (sym (append-nil g) ∙ (last_block.gathered ∙ ap (λ (x : List ℕ). last_block.written ++ x) empty)) }
+              ended = record {
+                written = last_block.written;
+                appended = last_block.appended;
+                gathered = sym grown ∙ (sym (append-nil g) ∙ (last_block.gathered ∙ ap (λ (x : List ℕ). last_block.written ++ x) empty));
+              }

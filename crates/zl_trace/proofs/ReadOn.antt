@@ -21,11 +21,13 @@ ending : (n : ℕ) (line : List ℕ) (lines : List (List ℕ)) → ends_items li
 unfolding item_lines_from
 ending n line lines ends = rw ends refl
 
-passing : (n : ℕ) (line : List ℕ) (lines : List (List ℕ)) → ends_items line ≡ false → says_nothing line ≡ true → item_lines_from n (line ∷ lines) ≡ item_lines_from (n + 1) lines
+passing : (n : ℕ) (line : List ℕ) (lines : List (List ℕ)) → ends_items line ≡ false → says_nothing line ≡ true
+    → item_lines_from n (line ∷ lines) ≡ item_lines_from (n + 1) lines
 unfolding item_lines_from
 passing n line lines goes nothing = rw (goes, nothing) refl
 
-coming : (n : ℕ) (line : List ℕ) (lines : List (List ℕ)) → ends_items line ≡ false → says_nothing line ≡ false → item_lines_from n (line ∷ lines) ≡ (n, line) ∷ item_lines_from (n + 1) lines
+coming : (n : ℕ) (line : List ℕ) (lines : List (List ℕ)) → ends_items line ≡ false → says_nothing line ≡ false
+    → item_lines_from n (line ∷ lines) ≡ (n, line) ∷ item_lines_from (n + 1) lines
 unfolding item_lines_from
 coming n line lines goes some = rw (goes, some) refl
 
@@ -48,7 +50,8 @@ module _ (done : List (List ℕ)) (items : List TraceItem) (so_far : ReadOn done
     are_lines = so_far.are_lines;
   }
 
-  one_line_more : (found : List (ℕ × List ℕ)) (items : List TraceItem) (n : ℕ) (x : TraceItem) → AreLinesOf found items → Tells (words_of line) x → AreLinesOf (found ++ ((n, line) ∷ [])) (items ++ (x ∷ []))
+  one_line_more : (found : List (ℕ × List ℕ)) (items : List TraceItem) (n : ℕ) (x : TraceItem) → AreLinesOf found items → Tells (words_of line) x
+      → AreLinesOf (found ++ ((n, line) ∷ [])) (items ++ (x ∷ []))
   one_line_more [] [] n x are tells = (tells, tt)
   one_line_more (l ∷ found) (y ∷ items) n x are tells = (are.0, one_line_more found items n x are.1 tells)
   one_line_more [] (y ∷ items) n x are tells = absurd are
@@ -69,7 +72,9 @@ module _ (done : List (List ℕ)) (items : List TraceItem) (so_far : ReadOn done
 -- no line is left
 pub all_read : (done : List (List ℕ)) (items : List TraceItem) → ReadOn done items → AreLinesOf (item_lines_from 1 done) items
 all_read done items so_far =
-    let same : item_lines_from 1 done ≡ so_far.found = ap (item_lines_from 1) (sym (append-nil done)) ∙ so_far.goes_on [] ∙ ap (λ (l : List (ℕ × List ℕ)). so_far.found ++ l) (over (length done + 1)) ∙ append-nil so_far.found in
+    let same : item_lines_from 1 done ≡ so_far.found =
+    ap (item_lines_from 1) (sym (append-nil done)) ∙ so_far.goes_on [] ∙ ap (λ (l : List (ℕ × List ℕ)). so_far.found ++ l) (over (length done + 1))
+    ∙ append-nil so_far.found in
     rw same so_far.are_lines
 
 -- the line is none of an item
@@ -79,7 +84,8 @@ wrong text done rest items line so_far lines goes some none = record {
   before = so_far.found;
   line = line;
   after = item_lines_from (length done + 1 + 1) rest;
-  are_all = ap (item_lines_from 1) lines ∙ so_far.goes_on (line ∷ rest) ∙ ap (λ (l : List (ℕ × List ℕ)). so_far.found ++ l) (coming (length done + 1) line rest goes some);
+  are_all = ap (item_lines_from 1) lines ∙ so_far.goes_on (line ∷ rest)
+      ∙ ap (λ (l : List (ℕ × List ℕ)). so_far.found ++ l) (coming (length done + 1) line rest goes some);
   items = items;
   are_items = so_far.are_lines;
   is_none = none;

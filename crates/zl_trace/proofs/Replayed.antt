@@ -1,5 +1,6 @@
 -- A legal history that goes on by one item, and an item that differs.
-use Rattle.zl_trace.proofs.Common.{take, drop, get_or, take_more, take-append-drop, at_drop_more, ◌≡◌, ℕ, ◌+◌, ◌-◌, ◌<◌, List, [], ◌∷◌, ◌++◌, true, zero, suc, inl, inr, length, replicate, flat_map, refl, sym, ap, ◌∙◌, subst, arith, append-nil}
+use Rattle.zl_trace.proofs.Common.{take, drop, get_or, take_more, take-append-drop, at_drop_more, ◌≡◌, ℕ, ◌+◌, ◌-◌, ◌<◌, List, [], ◌∷◌, ◌++◌, true, zero, suc}
+use Rattle.zl_trace.proofs.Common.{inl, inr, length, replicate, flat_map, refl, sym, ap, ◌∙◌, subst, arith, append-nil}
 use Rattle.std.specs.Prelude.{◌⊎◌, ◌≢◌}
 use Rattle.std.proofs.lemmas.List.{length-take-le}
 use Rattle.std.proofs.lemmas.List.Concat.{flat_map-append}
@@ -16,7 +17,8 @@ use Rattle.zl_trace.specs.Replaying.{Differs, DiffersAt, IsReplayed, Repeats, St
 -- ---- runs
 
 -- one run after another
-runs_joined : (lib : Library) (w : WorldValue) (xs : List TraceItem) (mid : WorldValue) (ys : List TraceItem) (w2 : WorldValue) → Runs lib w xs mid → Runs lib mid ys w2 → Runs lib w (xs ++ ys) w2
+runs_joined : (lib : Library) (w : WorldValue) (xs : List TraceItem) (mid : WorldValue) (ys : List TraceItem) (w2 : WorldValue) → Runs lib w xs mid
+    → Runs lib mid ys w2 → Runs lib w (xs ++ ys) w2
 runs_joined lib w [] mid ys w2 same more = subst (λ v. Runs lib v ys w2) same more
 runs_joined lib w (x ∷ xs) mid ys w2 (first, step, rest) more = (first, step, runs_joined lib first xs mid ys w2 rest more)
 
@@ -27,7 +29,8 @@ pub repeats_one : (l : World) (x : TraceItem) (l2 : World) → single x ≡ x �
 repeats_one l x l2 one count steps = record { programs = steps.programs; count = count; runs = rw one (l2.world, steps.step, refl) }
 
 pub differs_by : (l : World) (pid : ℕ) (x own : TraceItem) (l2 : World) → pid_of x ≡ pid → TakesStep l pid l2 own → own ≢ x → StepDiffers l.programs l.world x
-differs_by l pid x own l2 is taken other = another own l2.world (subst (λ p. Step l.programs l.world p own l2.world) (taken.pid_is ∙ sym is) taken.steps.step) other
+differs_by l pid x own l2 is taken other =
+    another own l2.world (subst (λ p. Step l.programs l.world p own l2.world) (taken.pid_is ∙ sym is) taken.steps.step) other
 
 pub differs_one : (lib : Library) (w : WorldValue) (x : TraceItem) → single x ≡ x ∷ [] → StepDiffers lib w x → Differs lib w x
 differs_one lib w x one differs = at_step [] w x [] one refl differs
@@ -50,7 +53,8 @@ one_longer (suc n) x = let e : suc n + 1 ≡ suc (n + 1) = omega arith in rw e (
 cut_before : {X : Type 0} (n k : ℕ) (x : X) → k < n → replicate n x ≡ replicate k x ++ (x ∷ replicate (n - (k + 1)) x)
 cut_before zero k x below = absurd (omega arith)
 cut_before (suc n) zero x below = let e : suc n - 1 ≡ n = omega arith in rw e refl
-cut_before (suc n) (suc k) x below = let e : suc n - (suc k + 1) ≡ n - (k + 1) = omega arith in rw e (ap (λ (l : List _). x ∷ l) (cut_before n k x (omega arith)))
+cut_before (suc n) (suc k) x below =
+    let e : suc n - (suc k + 1) ≡ n - (k + 1) = omega arith in rw e (ap (λ (l : List _). x ∷ l) (cut_before n k x (omega arith)))
 
 pub one_more_ran : (pid : ℕ) (l : World) (n : ℕ) (l2 l3 : World) → RanOn pid l n l2 → StepsTo l2 (item.Run pid 1) l3 → RanOn pid l (n + 1) l3
 one_more_ran pid l n l2 l3 ran steps = record {
@@ -60,9 +64,11 @@ one_more_ran pid l n l2 l3 ran steps = record {
       (l3.world, subst (λ lib. Step lib l2.world pid (item.Run pid 1) l3.world) ran.programs steps.step, refl));
 }
 
-pub differs_after : (pid : ℕ) (l : World) (n count : ℕ) (l2 : World) → n < count → RanOn pid l n l2 → StepDiffers l2.programs l2.world (item.Run pid 1) → Differs l.programs l.world (item.Run pid count)
+pub differs_after : (pid : ℕ) (l : World) (n count : ℕ) (l2 : World) → n < count → RanOn pid l n l2 → StepDiffers l2.programs l2.world (item.Run pid 1)
+    → Differs l.programs l.world (item.Run pid count)
 differs_after pid l n count l2 below ran differs =
-    at_step (replicate n (item.Run pid 1)) l2.world (item.Run pid 1) (replicate (count - (n + 1)) (item.Run pid 1)) (cut_before count n (item.Run pid 1) below) ran.runs
+    at_step (replicate n (item.Run pid 1)) l2.world (item.Run pid 1) (replicate (count - (n + 1)) (item.Run pid 1))
+    (cut_before count n (item.Run pid 1) below) ran.runs
     (subst (λ lib. StepDiffers lib l2.world (item.Run pid 1)) ran.programs differs)
 
 pub all_ran : (pid : ℕ) (l : World) (count : ℕ) (l2 : World) → has_count (item.Run pid count) ≡ true → RanOn pid l count l2 → Repeats l (item.Run pid count) l2
@@ -71,7 +77,8 @@ all_ran pid l count l2 some ran = record { programs = ran.programs; count = some
 -- ---- many items
 
 module _ (lib : Library) (statements : List Statement) (limit : ℕ) where
-  pub one_more : (items : List TraceItem) (l : World) (x : TraceItem) (l2 : World) → IsReplayed lib statements limit items l → Repeats l x l2 → IsReplayed lib statements limit (items ++ (x ∷ [])) l2
+  pub one_more : (items : List TraceItem) (l : World) (x : TraceItem) (l2 : World) → IsReplayed lib statements limit items l → Repeats l x l2
+      → IsReplayed lib statements limit (items ++ (x ∷ [])) l2
   one_more items l x l2 replayed repeats =
       let steps : flat_map single items ++ single x ≡ flat_map single (items ++ (x ∷ [])) =
       ap (λ (more : List TraceItem). flat_map single items ++ more) (sym (append-nil (single x))) ∙ sym (flat_map-append single items (x ∷ [])) in
@@ -82,7 +89,8 @@ module _ (lib : Library) (statements : List Statement) (limit : ℕ) where
         boots = replayed.boots;
         legal = record {
           counts = rw (list_all-append has_count items (x ∷ []), replayed.legal.counts, repeats.count) refl;
-          run = subst (λ (run : List TraceItem). Runs lib replayed.boot run l2.world) steps (runs_joined lib replayed.boot (flat_map single items) l.world (single x) l2.world replayed.legal.run more);
+          run = subst (λ (run : List TraceItem). Runs lib replayed.boot run l2.world) steps
+              (runs_joined lib replayed.boot (flat_map single items) l.world (single x) l2.world replayed.legal.run more);
         };
       }
 
@@ -104,15 +112,19 @@ module _ (lib : Library) (statements : List Statement) (limit : ℕ) where
   }
 
   -- the item at this place comes next
-  pub next_replayed : (items : List TraceItem) (n : ℕ) (d : TraceItem) (l l2 : World) → n < length items → IsReplayed lib statements limit (take n items) l → Repeats l (get_or items n d) l2
+  pub next_replayed : (items : List TraceItem) (n : ℕ) (d : TraceItem) (l l2 : World) → n < length items → IsReplayed lib statements limit (take n items) l
+      → Repeats l (get_or items n d) l2
       → IsReplayed lib statements limit (take (n + 1) items) l2
-  next_replayed items n d l l2 within replayed repeats = subst (λ front. IsReplayed lib statements limit front l2) (sym (take_more items n d within)) (one_more (take n items) l (get_or items n d) l2 replayed repeats)
+  next_replayed items n d l l2 within replayed repeats =
+      subst (λ front. IsReplayed lib statements limit front l2) (sym (take_more items n d within))
+      (one_more (take n items) l (get_or items n d) l2 replayed repeats)
 
   pub differs_at : (items : List TraceItem) (n : ℕ) (d : TraceItem) (l : World) → n < length items → IsReplayed lib statements limit (take n items) l
       → Differs l.programs l.world (get_or items n d) ⊎ (n ≡ MOST_ITEMS) → DiffersAt lib statements limit items (n + 1)
   differs_at items n d l within replayed why =
       let next : drop n items ≡ get_or items n d ∷ drop (n + 1) items = at_drop_more (λ (l : List TraceItem). l) items n d within in
-      let cut : items ≡ take n items ++ (get_or items n d ∷ drop (n + 1) items) = sym (take-append-drop n items) ∙ ap (λ (rest : List TraceItem). take n items ++ rest) next in
+      let cut : items ≡ take n items ++ (get_or items n d ∷ drop (n + 1) items) =
+      sym (take-append-drop n items) ∙ ap (λ (rest : List TraceItem). take n items ++ rest) next in
       let long : length (take n items) ≡ n = length-take-le n items (omega arith) in
       subst (λ k. DiffersAt lib statements limit items (k + 1)) long
       (differs_here items (take n items) (drop (n + 1) items) (get_or items n d) l cut replayed (elim why [

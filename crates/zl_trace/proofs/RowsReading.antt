@@ -15,8 +15,10 @@ unfolding item_lines_from
 lines = refl
 
 -- the items whose lines these are
-items : AreLinesOf ((2, codes "3 run 2") ∷ (4, codes "4  signal OK ") ∷ (5, codes "3 wait_one blocked") ∷ (6, codes "12 process_exit ended 7") ∷ (7, codes "5 stuck") ∷ [])
-    (item.Run 3 2 ∷ item.Call 4 call.Signal (outcome.Answered status.Ok) ∷ item.Call 3 call.WaitOne outcome.Blocked ∷ item.Call 12 call.ProcessExit (outcome.Ended (pos 7)) ∷ item.Stuck 5 ∷ [])
+items : AreLinesOf
+    ((2, codes "3 run 2") ∷ (4, codes "4  signal OK ") ∷ (5, codes "3 wait_one blocked") ∷ (6, codes "12 process_exit ended 7") ∷ (7, codes "5 stuck") ∷ [])
+    (item.Run 3 2 ∷ item.Call 4 call.Signal (outcome.Answered status.Ok) ∷ item.Call 3 call.WaitOne outcome.Blocked
+    ∷ item.Call 12 call.ProcessExit (outcome.Ended (pos 7)) ∷ item.Stuck 5 ∷ [])
 unfolding digits
 items = (
   record { has_line = (omega arith, omega arith, omega arith); same = refl },

@@ -1,5 +1,6 @@
 -- The rule of each local instruction and its effect agree.
-use Rattle.std.proofs.Common.{◌≡◌, ◌≢◌, ℕ, zero, suc, ◌+◌, ◌-◌, ◌*◌, ◌<◌, ◌≤◌, ◌⊎◌, Bool, true, false, not, ◌&&◌, ◌||◌, ◌==◌, List, [], ◌∷◌, length, take, drop, refl, sym, ap, subst, Option, Some, None, Result, Ok, Err, arith, inl, inr, slice_set, eq-eqb}
+use Rattle.std.proofs.Common.{◌≡◌, ◌≢◌, ℕ, zero, suc, ◌+◌, ◌-◌, ◌*◌, ◌<◌, ◌≤◌, ◌⊎◌, Bool, true, false, not, ◌&&◌, ◌||◌, ◌==◌, List, [], ◌∷◌, length, take, drop}
+use Rattle.std.proofs.Common.{refl, sym, ap, subst, Option, Some, None, Result, Ok, Err, arith, inl, inr, slice_set, eq-eqb}
 use Rattle.std.specs.Prelude.{if◌then◌else◌, nat_lt, nat_le, slice_get, slice_index_or, bit_and, bit_or, bit_xor, ◌%◌, ◌/◌, ◌^◌}
 use Rattle.std.proofs.lemmas.Bool.Decides.{nat_tests}
 use Rattle.std.proofs.lemmas.Nat.{and_le_l, and_le_r, or_lt, xor_lt, le-div, pow_pos}
@@ -22,7 +23,8 @@ use Rattle.zl_abs.specs.Values.{ANY, is_has, capped, smaller, kind_below}
 use Rattle.zl_abs.specs.States.{State, IsState, value_at, with_value}
 use Rattle.zl_abs.specs.Bounds.{least_from, rounded}
 use Rattle.zl_abs.specs.Rule.{and_then, passes, writes, word_at}
-use Rattle.zl_abs.specs.LocalRules.{computes, shifted, in_memory, loads, stores, copies, may_move, moved, takes, slot_fault, swaps_by, swaps_in, unless, zero_ways, equal_ways, below_ways, has_ways, local_rule}
+use Rattle.zl_abs.specs.LocalRules.{computes, shifted, in_memory, loads, stores, copies, may_move, moved, takes, slot_fault, swaps_by, swaps_in, unless}
+use Rattle.zl_abs.specs.LocalRules.{zero_ways, equal_ways, below_ways, has_ways, local_rule}
 use Rattle.zl_abs.specs.Typing.{target_of}
 use Rattle.zl_abs.proofs.Order.{both}
 use Rattle.zl_verify.specs.Conforms.{Table, IsHandle, Describes, one_if, is_it, owns, Holds, IsMemory}
@@ -114,7 +116,8 @@ imm_in imm target rs h = leads (both (is_32_bits imm) (is_32_bits target) (both 
 -- ---- slots
 
 -- what may go into a slot array is a handle as the array keeps it, or 0
-slot_goes : (f : Table) (xs : List ℕ) (t : SlotArray) (v : AbsVal) (x : ℕ) → slot_fault t v ≡ None → Describes f xs v x → IsHandle f true t.kind t.rights x × ((y : ℕ) → one_if (owns y v x) ≡ one_if (is_it y x))
+slot_goes : (f : Table) (xs : List ℕ) (t : SlotArray) (v : AbsVal) (x : ℕ) → slot_fault t v ≡ None → Describes f xs v x
+    → IsHandle f true t.kind t.rights x × ((y : ℕ) → one_if (owns y v x) ≡ one_if (is_it y x))
 unfolding owns
 slot_goes f xs t (Word m) x e d = by (m == 0) refl e
   where
@@ -125,7 +128,8 @@ slot_goes f xs t (Word m) x e d = by (m == 0) refl e
         test true = refl
         test false = refl
 
-    by : (b : Bool) → (m == 0) ≡ b → (if b then None else Some cause.NotLive) ≡ None → IsHandle f true t.kind t.rights x × ((y : ℕ) → one_if (owns y (Word m) x) ≡ one_if (is_it y x))
+    by : (b : Bool) → (m == 0) ≡ b → (if b then None else Some cause.NotLive) ≡ None
+        → IsHandle f true t.kind t.rights x × ((y : ℕ) → one_if (owns y (Word m) x) ≡ one_if (is_it y x))
     by true is e = let z : x ≡ 0 = grind (arith, nat_tests) in (inl (refl, z), λ y. rw z (sym (none y)))
     by false is e = cc
 slot_goes f xs t (Has maybe k q) x e d = by (kind_below k t.kind) refl (within (bits t.rights) (bits q)) refl e
@@ -134,7 +138,8 @@ slot_goes f xs t (Has maybe k q) x e d = by (kind_below k t.kind) refl (within (
     any true = refl
     any false = refl
 
-    by : (b : Bool) → kind_below k t.kind ≡ b → (c : Bool) → within (bits t.rights) (bits q) ≡ c → (if not b then Some cause.WrongKind else if not c then Some cause.LacksRight else None) ≡ None
+    by : (b : Bool) → kind_below k t.kind ≡ b → (c : Bool) → within (bits t.rights) (bits q) ≡ c
+        → (if not b then Some cause.WrongKind else if not c then Some cause.LacksRight else None) ≡ None
         → IsHandle f true t.kind t.rights x × ((y : ℕ) → one_if (owns y (Has maybe k q) x) ≡ one_if (is_it y x))
     by true kind true rights e = (handle_below f maybe true k t.kind q t.rights x (any maybe) kind rights d, λ y. refl)
     by true kind false rights e = cc
@@ -157,7 +162,8 @@ Arrives f i n target (Ok w) (Some c) =
     IsMemory i c.memory
     × (((c.counter ≡ target) × Known f c.registers i.slots c.slots w.jumped) ⊎ ((c.counter ≡ n + 1) × Known f c.registers i.slots c.slots w.passed))
 
-module _ {f : Table} {i : Image} {s : State} (c : Cpu) (h : Holds f s c.registers i.slots c.slots) (states : IsState s) (memory : IsMemory i c.memory) (target : ℕ) where
+module _ {f : Table} {i : Image} {s : State} (c : Cpu) (h : Holds f s c.registers i.slots c.slots) (states : IsState s) (memory : IsMemory i c.memory)
+    (target : ℕ) where
   abbrev Ends : Result Outcome Cause → Option Cpu → Type 0
   Ends w o = Arrives f i c.counter target w o
 
@@ -176,7 +182,8 @@ module _ {f : Table} {i : Image} {s : State} (c : Cpu) (h : Holds f s c.register
   computed : (bounds : List ℕ) (a n x : ℕ) → a < 32 → x ≤ ANY → x ≤ n → Ends (computes bounds s a n) (Some (sets c a x))
   computed bounds a n x less few le = word_written a (rounded bounds n) x less few (above bounds x n le few)
 
-  with_word : (b : ℕ) (g : ℕ → Result Outcome Cause) (o : Option Cpu) → ((m : ℕ) → reg c b ≤ m → is_has (value_at s b) ≡ false → Ends (g m) o) → Ends (and_then (word_at s b) g) o
+  with_word : (b : ℕ) (g : ℕ → Result Outcome Cause) (o : Option Cpu) → ((m : ℕ) → reg c b ≤ m → is_has (value_at s b) ≡ false → Ends (g m) o)
+      → Ends (and_then (word_at s b) g) o
   with_word b g o k = by (value_at s b) refl
     where
       by : (v : AbsVal) → value_at s b ≡ v → Ends (and_then (word_at s b) g) o
@@ -188,7 +195,8 @@ module _ {f : Table} {i : Image} {s : State} (c : Cpu) (h : Holds f s c.register
   copied : (a b : ℕ) → a < 32 → Ends (copies s a b) (Some (sets c a (reg c b)))
   copied a b less = with_word b _ _ (λ m le plain. by plain (is_has (value_at s a)) refl)
     where
-      by : is_has (value_at s b) ≡ false → (t : Bool) → is_has (value_at s a) ≡ t → Ends (if t then Err cause.Leak else Ok (passes (with_value s a (value_at s b)))) (Some (sets c a (reg c b)))
+      by : is_has (value_at s b) ≡ false → (t : Bool) → is_has (value_at s a) ≡ t
+          → Ends (if t then Err cause.Leak else Ok (passes (with_value s a (value_at s b)))) (Some (sets c a (reg c b)))
       by plain true e = tt
       by plain false e = (memory, inr (refl, write_copy h states a (there a less) e b plain))
 
@@ -203,10 +211,12 @@ module _ {f : Table} {i : Image} {s : State} (c : Cpu) (h : Holds f s c.register
   is_there : (address n : ℕ) → address + n ≤ length c.memory → is_in_memory c address n ≡ true
   is_there address n le = grind (arith, nat_tests)
 
-  loaded : (n bound a b offset : ℕ) → a < 32 → bound ≤ ANY → ((address : ℕ) → number_of (take n (drop address c.memory)) ≤ bound) → Ends (loads i s n bound a b offset) (loads_from c n a (reg c b + offset))
+  loaded : (n bound a b offset : ℕ) → a < 32 → bound ≤ ANY → ((address : ℕ) → number_of (take n (drop address c.memory)) ≤ bound)
+      → Ends (loads i s n bound a b offset) (loads_from c n a (reg c b + offset))
   loaded n bound a b offset less few fits = with_word b _ _ (λ m le plain. by m le (in_memory i m offset n) refl)
     where
-      by : (m : ℕ) → reg c b ≤ m → (t : Bool) → in_memory i m offset n ≡ t → Ends (if t then writes s a (Word bound) else Err cause.MemoryRange) (loads_from c n a (reg c b + offset))
+      by : (m : ℕ) → reg c b ≤ m → (t : Bool) → in_memory i m offset n ≡ t
+          → Ends (if t then writes s a (Word bound) else Err cause.MemoryRange) (loads_from c n a (reg c b + offset))
       by m le false e = tt
       by m le true e =
           let x = fits (reg c b + offset) in
@@ -215,7 +225,8 @@ module _ {f : Table} {i : Image} {s : State} (c : Cpu) (h : Holds f s c.register
   kept : (n a b offset : ℕ) → Ends (stores i s n a b offset) (stores_to c n (reg c a + offset) (reg c b))
   kept n a b offset = with_word a _ _ (λ m le plain. with_word b _ _ (λ m2 le2 plain2. by m le (in_memory i m offset n) refl))
     where
-      by : (m : ℕ) → reg c a ≤ m → (t : Bool) → in_memory i m offset n ≡ t → Ends (if t then Ok (passes s) else Err cause.MemoryRange) (stores_to c n (reg c a + offset) (reg c b))
+      by : (m : ℕ) → reg c a ≤ m → (t : Bool) → in_memory i m offset n ≡ t
+          → Ends (if t then Ok (passes s) else Err cause.MemoryRange) (stores_to c n (reg c a + offset) (reg c b))
       by m le false e = tt
       by m le true e =
           let inside = in_it (reg c a) offset n m le e in
@@ -223,14 +234,16 @@ module _ {f : Table} {i : Image} {s : State} (c : Cpu) (h : Holds f s c.register
 
   -- ---- moves
 
-  taken : (a b : ℕ) → a < 32 → b < 32 → Ends (takes s a b) (Some (record (sets c a (reg c b)) { registers = slice_set (slice_set c.registers a (reg c b)) b 0 }))
+  taken : (a b : ℕ) → a < 32 → b < 32
+      → Ends (takes s a b) (Some (record (sets c a (reg c b)) { registers = slice_set (slice_set c.registers a (reg c b)) b 0 }))
   taken a b in_a in_b = by (a == b) refl (may_move (value_at s b)) refl (is_has (value_at s a)) refl
     where
       apart : (a == b) ≡ false → b ≢ a
       apart e is = let t : (a == b) ≡ true = eq-eqb a b (sym is) in cc
 
       by : (x : Bool) → (a == b) ≡ x → (y : Bool) → may_move (value_at s b) ≡ y → (z : Bool) → is_has (value_at s a) ≡ z
-          → Ends (if x then Err cause.IllegalOp else if not y then Err cause.NotLive else if z then Err cause.Leak else Ok (passes (moved s a b (value_at s b))))
+          → Ends (if x then Err cause.IllegalOp else if not y then Err cause.NotLive else if z then Err cause.Leak
+          else Ok (passes (moved s a b (value_at s b))))
           (Some (record (sets c a (reg c b)) { registers = slice_set (slice_set c.registers a (reg c b)) b 0 }))
       by true e y moves z free = tt
       by false e false moves z free = tt
@@ -276,53 +289,69 @@ module _ {f : Table} {i : Image} {s : State} (c : Cpu) (h : Holds f s c.register
     (known : (v : ℕ) (e : Entry) → f v ≡ Some e → within (bits e.rights) KNOWN_RIGHTS ≡ true) (bounds : List ℕ) where
   pub agrees : (x : LocalInstr) → is_local_in_range x ≡ true → Arrives f i c.counter (target_of x) (local_rule bounds i x s) (local_effect x c)
   unfolding local_rule local_effect local_parts
-  agrees (local.Const a imm) r = word_written c h states memory 0 a (capped imm) imm (first_in imm 0 a [] r) (imm_in imm 0 (a ∷ []) r) (let k = imm_in imm 0 (a ∷ []) r in omega arith)
+  agrees (local.Const a imm) r =
+      word_written c h states memory 0 a (capped imm) imm (first_in imm 0 a [] r) (imm_in imm 0 (a ∷ []) r) (let k = imm_in imm 0 (a ∷ []) r in omega arith)
   agrees (local.Move a b) r = copied c h states memory 0 a b (first_in 0 0 a (b ∷ []) r)
   agrees (local.Add a b d) r =
       with_word c h states memory 0 b _ _ (λ m le p. with_word c h states memory 0 d _ _ (λ n le2 p2.
-      computed c h states memory 0 bounds a (capped (m + n)) _ (first_in 0 0 a (b ∷ d ∷ []) r) (wrapped_few (reg c b + reg c d)) (sum_fits (reg c b + reg c d) (m + n) (omega arith))))
+      computed c h states memory 0 bounds a (capped (m + n)) _ (first_in 0 0 a (b ∷ d ∷ []) r) (wrapped_few (reg c b + reg c d))
+      (sum_fits (reg c b + reg c d) (m + n) (omega arith))))
   agrees (local.AddNumber a b imm) r =
       with_word c h states memory 0 b _ _ (λ m le p.
-      computed c h states memory 0 bounds a (capped (m + imm)) _ (first_in imm 0 a (b ∷ []) r) (wrapped_few (reg c b + imm)) (sum_fits (reg c b + imm) (m + imm) (omega arith)))
+      computed c h states memory 0 bounds a (capped (m + imm)) _ (first_in imm 0 a (b ∷ []) r) (wrapped_few (reg c b + imm))
+      (sum_fits (reg c b + imm) (m + imm) (omega arith)))
   agrees (local.Subtract a b d) r =
       with_word c h states memory 0 b _ _ (λ m le p. with_word c h states memory 0 d _ _ (λ n le2 p2.
-      word_written c h states memory 0 a ANY _ (first_in 0 0 a (b ∷ d ∷ []) r) (wrapped_few (reg c b + 2 ^ 64 - reg c d)) (wrapped_few (reg c b + 2 ^ 64 - reg c d))))
+      word_written c h states memory 0 a ANY _ (first_in 0 0 a (b ∷ d ∷ []) r) (wrapped_few (reg c b + 2 ^ 64 - reg c d))
+      (wrapped_few (reg c b + 2 ^ 64 - reg c d))))
   agrees (local.And a b d) r =
       with_word c h states memory 0 b _ _ (λ m le p. with_word c h states memory 0 d _ _ (λ n le2 p2.
-      computed c h states memory 0 bounds a (smaller m n) _ (first_in 0 0 a (b ∷ d ∷ []) r) (let k = and_le_l (reg c b) (reg c d) in let few = h.small b in omega arith) (meet_fits (reg c b) (reg c d) m n le le2)))
+      computed c h states memory 0 bounds a (smaller m n) _ (first_in 0 0 a (b ∷ d ∷ []) r)
+      (let k = and_le_l (reg c b) (reg c d) in let few = h.small b in omega arith) (meet_fits (reg c b) (reg c d) m n le le2)))
   agrees (local.Or a b d) r =
       with_word c h states memory 0 b _ _ (λ m le p. with_word c h states memory 0 d _ _ (λ n le2 p2.
-      word_written c h states memory 0 a ANY _ (first_in 0 0 a (b ∷ d ∷ []) r) (or_few (reg c b) (reg c d) (h.small b) (h.small d)) (or_few (reg c b) (reg c d) (h.small b) (h.small d))))
+      word_written c h states memory 0 a ANY _ (first_in 0 0 a (b ∷ d ∷ []) r) (or_few (reg c b) (reg c d) (h.small b) (h.small d))
+      (or_few (reg c b) (reg c d) (h.small b) (h.small d))))
   agrees (local.Xor a b d) r =
       with_word c h states memory 0 b _ _ (λ m le p. with_word c h states memory 0 d _ _ (λ n le2 p2.
-      word_written c h states memory 0 a ANY _ (first_in 0 0 a (b ∷ d ∷ []) r) (xor_few (reg c b) (reg c d) (h.small b) (h.small d)) (xor_few (reg c b) (reg c d) (h.small b) (h.small d))))
+      word_written c h states memory 0 a ANY _ (first_in 0 0 a (b ∷ d ∷ []) r) (xor_few (reg c b) (reg c d) (h.small b) (h.small d))
+      (xor_few (reg c b) (reg c d) (h.small b) (h.small d))))
   agrees (local.ShiftLeft a b imm) r =
-      with_word c h states memory 0 b _ _ (λ m le p. word_written c h states memory 0 a ANY _ (first_in imm 0 a (b ∷ []) r) (up_few (reg c b) imm) (up_few (reg c b) imm))
+      with_word c h states memory 0 b _ _
+      (λ m le p. word_written c h states memory 0 a ANY _ (first_in imm 0 a (b ∷ []) r) (up_few (reg c b) imm) (up_few (reg c b) imm))
   agrees (local.ShiftRight a b imm) r =
       with_word c h states memory 0 b _ _ (λ m le p. computed c h states memory 0 bounds a (shifted m imm) (shifted (reg c b) imm) (first_in imm 0 a (b ∷ []) r)
       (let k = down_less (reg c b) imm in let few = h.small b in omega arith) (down_fits (reg c b) m imm le))
   agrees (local.Take a b) r = taken c h states memory 0 a b (first_in 0 0 a (b ∷ []) r) (second_in 0 0 a b [] r)
   agrees (local.Swap a b imm) r = swapped c h states memory 0 a b imm (first_in imm 0 a (b ∷ []) r) (slice_get i.slots imm) refl
-  agrees (local.LoadByte a b imm) r = loaded c h states memory 0 1 255 a b imm (first_in imm 0 a (b ∷ []) r) (omega arith) (λ n. byte_less c.memory n memory.bytes)
-  agrees (local.LoadWord a b imm) r = loaded c h states memory 0 8 ANY a b imm (first_in imm 0 a (b ∷ []) r) (omega arith) (λ n. word_less c.memory n memory.bytes)
+  agrees (local.LoadByte a b imm) r =
+      loaded c h states memory 0 1 255 a b imm (first_in imm 0 a (b ∷ []) r) (omega arith) (λ n. byte_less c.memory n memory.bytes)
+  agrees (local.LoadWord a b imm) r =
+      loaded c h states memory 0 8 ANY a b imm (first_in imm 0 a (b ∷ []) r) (omega arith) (λ n. word_less c.memory n memory.bytes)
   agrees (local.StoreByte a b imm) r = kept c h states memory 0 1 a b imm
   agrees (local.StoreWord a b imm) r = kept c h states memory 0 8 a b imm
   agrees (local.Jump target) r = (memory, inl (refl, h))
   agrees (local.JumpZero a target) r =
-      split_ends c h states memory target (reg c a == 0) (zero_ways s a (value_at s a)) (zero_splits h states a (there c h states memory target a (first_in 0 target a [] r)) (value_at s a) refl)
+      split_ends c h states memory target (reg c a == 0) (zero_ways s a (value_at s a))
+      (zero_splits h states a (there c h states memory target a (first_in 0 target a [] r)) (value_at s a) refl)
   agrees (local.JumpNotZero a target) r =
       split_ends c h states memory target (not (reg c a == 0)) (unless (zero_ways s a (value_at s a)))
-      (unless_splits _ (reg c a == 0) (zero_ways s a (value_at s a)) (zero_splits h states a (there c h states memory target a (first_in 0 target a [] r)) (value_at s a) refl))
+      (unless_splits _ (reg c a == 0) (zero_ways s a (value_at s a))
+      (zero_splits h states a (there c h states memory target a (first_in 0 target a [] r)) (value_at s a) refl))
   agrees (local.JumpEqual a imm target) r =
-      split_ends c h states memory target (reg c a == imm) (equal_ways s a imm (value_at s a)) (equal_splits h states a imm (there c h states memory target a (first_in imm target a [] r)) (value_at s a) refl)
+      split_ends c h states memory target (reg c a == imm) (equal_ways s a imm (value_at s a))
+      (equal_splits h states a imm (there c h states memory target a (first_in imm target a [] r)) (value_at s a) refl)
   agrees (local.JumpNotEqual a imm target) r =
       split_ends c h states memory target (not (reg c a == imm)) (unless (equal_ways s a imm (value_at s a)))
-      (unless_splits _ (reg c a == imm) (equal_ways s a imm (value_at s a)) (equal_splits h states a imm (there c h states memory target a (first_in imm target a [] r)) (value_at s a) refl))
+      (unless_splits _ (reg c a == imm) (equal_ways s a imm (value_at s a))
+      (equal_splits h states a imm (there c h states memory target a (first_in imm target a [] r)) (value_at s a) refl))
   agrees (local.JumpBelow a imm target) r =
-      split_ends c h states memory target (nat_lt (reg c a) imm) (below_ways s a imm) (below_splits h states a imm (there c h states memory target a (first_in imm target a [] r)))
+      split_ends c h states memory target (nat_lt (reg c a) imm) (below_ways s a imm)
+      (below_splits h states a imm (there c h states memory target a (first_in imm target a [] r)))
   agrees (local.JumpNotBelow a imm target) r =
       split_ends c h states memory target (not (nat_lt (reg c a) imm)) (unless (below_ways s a imm))
-      (unless_splits _ (nat_lt (reg c a) imm) (below_ways s a imm) (below_splits h states a imm (there c h states memory target a (first_in imm target a [] r))))
+      (unless_splits _ (nat_lt (reg c a) imm) (below_ways s a imm)
+      (below_splits h states a imm (there c h states memory target a (first_in imm target a [] r))))
   agrees (local.JumpHas a imm target) r =
       split_ends c h states memory target (within imm (reg c a)) (has_ways s imm (value_at s a)) (has_splits h states known a imm (value_at s a) refl)
   agrees (local.JumpHasNot a imm target) r =

@@ -37,7 +37,9 @@ AreRegisters rs = AllByRecursion (λ (r : ℕ). r < register_count) rs
 
 registers_are : (rs : List ℕ) → are_registers rs ≡ true → AreRegisters rs
 registers_are [] e = tt
-registers_are (r ∷ rs) e = let two = both (nat_lt r register_count) (are_registers rs) e in let less : nat_lt r register_count ≡ true = two.0 in (grind (arith, nat_tests), registers_are rs two.1)
+registers_are (r ∷ rs) e =
+    let two = both (nat_lt r register_count) (are_registers rs) e in
+    let less : nat_lt r register_count ≡ true = two.0 in (grind (arith, nat_tests), registers_are rs two.1)
 
 register_at : (rs : List ℕ) (n : ℕ) → AreRegisters rs → slice_index rs n < register_count
 register_at [] n h = omega arith
@@ -77,7 +79,9 @@ abbrev pub room_ends : ℕ → ℕ → Type 0
 room_ends first n = first + 3 * n ≤ register_count
 
 room_there : (first n : ℕ) → (nat_le n most_handles && nat_le (first + 3 * n) register_count) ≡ true → room_ends first n
-room_there first n e = let two = both (nat_le n most_handles) (nat_le (first + 3 * n) register_count) e in let less : nat_le (first + 3 * n) register_count ≡ true = two.1 in grind (arith, nat_tests)
+room_there first n e =
+    let two = both (nat_le n most_handles) (nat_le (first + 3 * n) register_count) e in
+    let less : nat_le (first + 3 * n) register_count ≡ true = two.1 in grind (arith, nat_tests)
 
 module _ (x : CallInstr) (range : is_call_in_range x ≡ true) where
   registers : AreRegisters x.registers

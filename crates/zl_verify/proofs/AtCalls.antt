@@ -100,7 +100,8 @@ module _ (i : Image) (t : ℕ → Option State) (w : World) (p : ℕ) (q : Proce
     in_range_here : is_call_in_range at.call ≡ true
     in_range_here = rw at.stands at (in_range_at i.raw i.code q.cpu.counter (ranges i k.range).code)
 
-    ruled : (ways : Ways) → call_rule (bounds_of i.code) i at.call k.conforms.state ≡ Ok ways → RuleHolds t (and_then (Ok ways) (edges (length i.code) q.cpu.counter 0)) → IsRuled i t w p q called s k.conforms.state
+    ruled : (ways : Ways) → call_rule (bounds_of i.code) i at.call k.conforms.state ≡ Ok ways
+        → RuleHolds t (and_then (Ok ways) (edges (length i.code) q.cpu.counter 0)) → IsRuled i t w p q called s k.conforms.state
     ruled ways is holds =
         let (r, has) = has_rule i k.conforms.state at.call (bounds_of i.code) ways is in
         record {
@@ -123,7 +124,8 @@ module _ (i : Image) (t : ℕ → Option State) (w : World) (p : ℕ) (q : Proce
           };
         }
 
-    by_rule : (x : Result Ways Cause) → call_rule (bounds_of i.code) i at.call k.conforms.state ≡ x → RuleHolds t (and_then x (edges (length i.code) q.cpu.counter 0)) → IsRuled i t w p q called s k.conforms.state
+    by_rule : (x : Result Ways Cause) → call_rule (bounds_of i.code) i at.call k.conforms.state ≡ x
+        → RuleHolds t (and_then x (edges (length i.code) q.cpu.counter 0)) → IsRuled i t w p q called s k.conforms.state
     by_rule (Err c) is holds = absurd holds
     by_rule (Ok ways) is holds = ruled ways is holds
 

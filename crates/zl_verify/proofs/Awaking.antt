@@ -79,7 +79,8 @@ module _ (i : Image) (t : ℕ → Option State) (range : is_in_range i ≡ true)
     in_range_here : is_call_in_range x ≡ true
     in_range_here = rw is at (in_range_at i.raw i.code q.cpu.counter (ranges i range).code)
 
-    leads_here : (ways : Ways) → call_rule (bounds_of i.code) i x k.state ≡ Ok ways → targets_of (and_then (Ok ways) (edges (length i.code) q.cpu.counter 0)) ≡ ends_of i t q.cpu.counter
+    leads_here : (ways : Ways) → call_rule (bounds_of i.code) i x k.state ≡ Ok ways
+        → targets_of (and_then (Ok ways) (edges (length i.code) q.cpu.counter 0)) ≡ ends_of i t q.cpu.counter
     unfolding rule_with
     leads_here ways rule = rw (k.stands, is, rule) refl
 
@@ -103,7 +104,9 @@ module _ (i : Image) (t : ℕ → Option State) (range : is_in_range i ≡ true)
       nothing_left = ap (λ hs. get (losing_all hs q).handles) (sym none_taken) ∙ left_there before
 
       holds_after : Holds (get q.handles) (with_all r u.results) after.cpu.registers i.slots q.cpu.slots
-      holds_after = answer_holds before status.Ok values q.cpu (get q.handles) refl (subst (λ f. Fits f r (zeroed before) u.results (0 ∷ values) (get q.handles)) nothing_left (fits (zeroed before)))
+      holds_after =
+          answer_holds before status.Ok values q.cpu (get q.handles) refl
+          (subst (λ f. Fits f r (zeroed before) u.results (0 ∷ values) (get q.handles)) nothing_left (fits (zeroed before)))
 
       passes_on : ways.passed ≡ Some (with_all r u.results)
       passes_on = ap (λ y. y.passed) (sym has.leads ∙ ap (λ (b : Bool). if b then passes (with_all r u.results) else stops) on)
@@ -124,12 +127,14 @@ module _ (i : Image) (t : ℕ → Option State) (range : is_in_range i ≡ true)
     awake_at : ((r : State) (xs : List ℕ) → Fits (get q.handles) r xs u.results (0 ∷ values) (get q.handles)) → IsAwake i t q after
     awake_at fits = by (call_rule (bounds_of i.code) i x k.state) refl holds_here
       where
-        by : (o : Result Ways Cause) → call_rule (bounds_of i.code) i x k.state ≡ o → RuleHolds t (and_then o (edges (length i.code) q.cpu.counter 0)) → IsAwake i t q after
+        by : (o : Result Ways Cause) → call_rule (bounds_of i.code) i x k.state ≡ o → RuleHolds t (and_then o (edges (length i.code) q.cpu.counter 0))
+            → IsAwake i t q after
         by (Err c) rule holds = absurd holds
         by (Ok ways) rule holds = let (r, has) = has_rule i k.state x (bounds_of i.code) ways rule in is_awake ways rule holds r has (fits r)
 
   -- a signal that it waits for is there
-  pub signal_wakes : (koid mask : ℕ) (ds : List ℕ) → q.state ≡ Blocked (SignalOf koid mask) ds → (n : ℕ) → n ≤ 0xffff_ffff → IsAwake i t q (record q { state = Ready; cpu = answered q.cpu ds (0 ∷ n ∷ []) })
+  pub signal_wakes : (koid mask : ℕ) (ds : List ℕ) → q.state ≡ Blocked (SignalOf koid mask) ds → (n : ℕ) → n ≤ 0xffff_ffff
+      → IsAwake i t q (record q { state = Ready; cpu = answered q.cpu ds (0 ∷ n ∷ []) })
   unfolding uses_of site_of taken_handles handle_operands
   signal_wakes koid mask ds blocked n few = by (instr_at i q.cpu.counter) refl (subst (λ (l : Life). WaitsAt l (call_at i q.cpu.counter)) blocked k.waits)
     where
@@ -141,12 +146,14 @@ module _ (i : Image) (t : ℕ → Option State) (range : is_in_range i ≡ true)
           (n ∷ []) (λ r xs. (get q.handles, (omega arith, omega arith, refl), (get q.handles, (few, omega arith, refl), refl)))
       named _ rs last is e = cc
 
-      by : (o : Option Instr) → instr_at i q.cpu.counter ≡ o → WaitsAt (Blocked (SignalOf koid mask) ds) (call_in o) → IsAwake i t q (record q { state = Ready; cpu = answered q.cpu ds (0 ∷ n ∷ []) })
+      by : (o : Option Instr) → instr_at i q.cpu.counter ≡ o → WaitsAt (Blocked (SignalOf koid mask) ds) (call_in o)
+          → IsAwake i t q (record q { state = Ready; cpu = answered q.cpu ds (0 ∷ n ∷ []) })
       by (Some (instr.Call x)) is (e, same) = rw same (named x.name x.registers x.last is e)
       by _ is bad = absurd bad
 
   -- a packet that it waits for is there
-  pub packet_wakes : (koid : ℕ) (ds : List ℕ) → q.state ≡ Blocked (PacketAt koid) ds → (y : Packet) → IsSizedPacket y → IsAwake i t q (record q { state = Ready; cpu = answered q.cpu ds (0 ∷ packet_values y) })
+  pub packet_wakes : (koid : ℕ) (ds : List ℕ) → q.state ≡ Blocked (PacketAt koid) ds → (y : Packet) → IsSizedPacket y
+      → IsAwake i t q (record q { state = Ready; cpu = answered q.cpu ds (0 ∷ packet_values y) })
   unfolding uses_of site_of taken_handles handle_operands
   packet_wakes koid ds blocked y sized = by (instr_at i q.cpu.counter) refl (subst (λ (l : Life). WaitsAt l (call_at i q.cpu.counter)) blocked k.waits)
     where
@@ -163,6 +170,7 @@ module _ (i : Image) (t : ℕ → Option State) (range : is_in_range i ≡ true)
           (at 4) (at 5)))
       named _ rs last is e = cc
 
-      by : (o : Option Instr) → instr_at i q.cpu.counter ≡ o → WaitsAt (Blocked (PacketAt koid) ds) (call_in o) → IsAwake i t q (record q { state = Ready; cpu = answered q.cpu ds (0 ∷ packet_values y) })
+      by : (o : Option Instr) → instr_at i q.cpu.counter ≡ o → WaitsAt (Blocked (PacketAt koid) ds) (call_in o)
+          → IsAwake i t q (record q { state = Ready; cpu = answered q.cpu ds (0 ∷ packet_values y) })
       by (Some (instr.Call x)) is (e, same) = rw same (named x.name x.registers x.last is e)
       by _ is bad = absurd bad

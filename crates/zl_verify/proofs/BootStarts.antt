@@ -17,7 +17,8 @@ use Rattle.zl_code.specs.Image.{Image, Library, Program, is_among}
 use Rattle.zl_code.specs.Effects.{with_object, on_object, process_with, may_get_all}
 use Rattle.zl_code.specs.Jobs.{job_within}
 use Rattle.zl_code.specs.Starting.{created_process, program_in, program_of}
-use Rattle.zl_code.specs.Boot.{Boots, setting, are_declared, are_misfits, may_boot, boot_fault, boot_effect, handles_given, origin, process_with_all, started_process}
+use Rattle.zl_code.specs.Boot.{Boots, setting, are_declared, are_misfits, may_boot, boot_fault, boot_effect, handles_given, origin, process_with_all}
+use Rattle.zl_code.specs.Boot.{started_process}
 use Rattle.zl_code.specs.Tests.{body_of}
 use Rattle.zl_code.specs.Operands.{creates}
 use Rattle.zl_code.specs.Sound.{IsSound}
@@ -53,7 +54,8 @@ abbrev AreStarts : Library → World → Type 0
 AreStarts lib w = (p : ℕ) (q : Process) → get w.processes p ≡ Some q → IsWellBooted lib w p q
 
 -- where another world allows no less
-still_well : (lib : Library) (w v : World) (p : ℕ) (q : Process) → ((c : Condition) → creates v p c ≡ creates w p c) → IsWellBooted lib w p q → IsWellBooted lib v p q
+still_well : (lib : Library) (w v : World) (p : ℕ) (q : Process) → ((c : Condition) → creates v p c ≡ creates w p c) → IsWellBooted lib w p q
+    → IsWellBooted lib v p q
 still_well lib w v p q same b = record { booted = b.booted; declared = b.declared; allowed = λ i is c named. same c ∙ b.allowed i is c named }
 
 started_lives : (lib : Library) (q : Process) → IsBooted lib q → lives q.state ≡ true
@@ -73,16 +75,20 @@ boot_alike lib w statement.Event vs fine = made_alike w w EventBody (omega arith
 boot_alike lib w statement.Port vs fine = made_alike w w (PortBody []) (omega arith)
 boot_alike lib w statement.Channel vs fine =
     let first : Body = ChannelEnd (w.next_koid + 1) [] in
-    alike_then w w (with_object w first) _ (made_alike w w first (omega arith)) (made_alike w (with_object w first) (ChannelEnd w.next_koid []) (more_koids w w first (omega arith)))
+    alike_then w w (with_object w first) _ (made_alike w w first (omega arith))
+    (made_alike w (with_object w first) (ChannelEnd w.next_koid []) (more_koids w w first (omega arith)))
 
 -- one that was there before the statement
-before : (lib : Library) (w : World) (s : Statement) (vs : List ℕ) → boot_fault lib w s ≡ None → IsSound w → AreStarts lib w → (p : ℕ) (q : Process) → get w.processes p ≡ Some q → IsWellBooted lib (boot_effect lib w s vs) p q
+before : (lib : Library) (w : World) (s : Statement) (vs : List ℕ) → boot_fault lib w s ≡ None → IsSound w → AreStarts lib w → (p : ℕ) (q : Process)
+    → get w.processes p ≡ Some q → IsWellBooted lib (boot_effect lib w s vs) p q
 before lib w s vs fine sound all p q there =
     let b = all p q there in
-    still_well lib w (boot_effect lib w s vs) p q (same_policy w (boot_effect lib w s vs) p q sound there (started_lives lib q b.booted) (boot_alike lib w s vs fine)) b
+    still_well lib w (boot_effect lib w s vs) p q
+    (same_policy w (boot_effect lib w s vs) p q sound there (started_lives lib q b.booted) (boot_alike lib w s vs fine)) b
 
 -- the one that the statement makes
-module _ (lib : Library) (w : World) (job program word : ℕ) (handles : List Grant) (vs : List ℕ) (few : word ≤ ANY) (fine : boot_fault lib w (statement.Process job program word handles) ≡ None)
+module _ (lib : Library) (w : World) (job program word : ℕ) (handles : List Grant) (vs : List ℕ) (few : word ≤ ANY)
+    (fine : boot_fault lib w (statement.Process job program word handles) ≡ None)
     (may : IsTrue (may_boot lib w (statement.Process job program word handles) vs)) (sound : IsSound w) where
   abbrev new : Process
   new = started_process lib program (handles_given w.objects handles) vs word
@@ -96,10 +102,12 @@ module _ (lib : Library) (w : World) (job program word : ℕ) (handles : List Gr
     booted = record { program = program; handles = handles_given w.objects handles; values = vs; word = word; made = refl; free = may; small = few };
     declared = λ i is. none_misfits (slice_get lib program) i (handles_given w.objects handles) is can.declared;
     allowed = λ i is c named.
-        made_allows lib w (boot_effect lib w (statement.Process job program word handles) vs) job program (sound.objects.below job (job_is_there (get w.objects job) can.in_job)) can.needs refl (record { checked = true; image = i }) is refl c named;
+        made_allows lib w (boot_effect lib w (statement.Process job program word handles) vs) job program
+        (sound.objects.below job (job_is_there (get w.objects job) can.in_job)) can.needs refl (record { checked = true; image = i }) is refl c named;
   }
 
-statement_starts : (lib : Library) (w : World) (s : Statement) (vs : List ℕ) → word_of s ≤ ANY → boot_fault lib w s ≡ None → IsTrue (may_boot lib w s vs) → IsSound w → AreStarts lib w → AreStarts lib (boot_effect lib w s vs)
+statement_starts : (lib : Library) (w : World) (s : Statement) (vs : List ℕ) → word_of s ≤ ANY → boot_fault lib w s ≡ None → IsTrue (may_boot lib w s vs)
+    → IsSound w → AreStarts lib w → AreStarts lib (boot_effect lib w s vs)
 unfolding boot_effect with_object on_object
 statement_starts lib w (statement.Process job program word handles) vs few fine may sound all p q there = by (cases_Bool (w.next_koid == p))
   where
@@ -118,17 +126,20 @@ statement_starts lib w (statement.Process job program word handles) vs few fine 
         (subst (IsWellBooted lib after w.next_koid) (same_Some made q (rw here at stands)) (new_well lib w job program word handles vs few fine may sound))
     by (inr other) = before lib w (statement.Process job program word handles) vs fine sound all p q (rw other at stands)
 statement_starts lib w (statement.Job parent) vs few fine may sound all p q there = before lib w (statement.Job parent) vs fine sound all p q there
-statement_starts lib w (statement.Policy job condition action) vs few fine may sound all p q there = before lib w (statement.Policy job condition action) vs fine sound all p q there
+statement_starts lib w (statement.Policy job condition action) vs few fine may sound all p q there =
+    before lib w (statement.Policy job condition action) vs fine sound all p q there
 statement_starts lib w statement.Event vs few fine may sound all p q there = before lib w statement.Event vs fine sound all p q there
 statement_starts lib w statement.Port vs few fine may sound all p q there = before lib w statement.Port vs fine sound all p q there
 statement_starts lib w statement.Channel vs few fine may sound all p q there = before lib w statement.Channel vs fine sound all p q there
 
 -- ---- all statements, and the end of the boot
 
-boots_start : (lib : Library) (w : World) (statements : List Statement) (after : World) → AllByRecursion (λ s. word_of s ≤ ANY) statements → IsBooting w → AreStarts lib w → Boots lib w statements after → AreStarts lib after
+boots_start : (lib : Library) (w : World) (statements : List Statement) (after : World) → AllByRecursion (λ s. word_of s ≤ ANY) statements → IsBooting w
+    → AreStarts lib w → Boots lib w statements after → AreStarts lib after
 boots_start lib w [] after few b all e = rw e all
 boots_start lib w (s ∷ statements) after (one, few) b all (vs, fine, may, rest) =
-    boots_start lib (boot_effect lib w s vs) statements after few (still_booting lib w s vs fine may b) (statement_starts lib w s vs one fine may b.sound all) rest
+    boots_start lib (boot_effect lib w s vs) statements after few (still_booting lib w s vs fine may b)
+    (statement_starts lib w s vs one fine may b.sound all) rest
 
 origin_starts : (lib : Library) → AreStarts lib origin
 unfolding get
@@ -137,7 +148,8 @@ origin_starts lib p q there = absurd (none-some q there)
 -- a process that was started is ready, and settling leaves it so
 settled_starts : (lib : Library) (u v : World) → Settles u v → IsSound v → AreStarts lib u → AreStarts lib v
 unfolding without_others
-settled_starts lib u v (K, largest, is) sound all p q there = by (get u.processes p) refl (sym (get-each u.processes (process_settled K) p) ∙ (ap (λ (z : World). get z.processes p) (sym is) ∙ there))
+settled_starts lib u v (K, largest, is) sound all p q there =
+    by (get u.processes p) refl (sym (get-each u.processes (process_settled K) p) ∙ (ap (λ (z : World). get z.processes p) (sym is) ∙ there))
   where
     by : (o : Option Process) → get u.processes p ≡ o → option_map (process_settled K p) o ≡ Some q → IsWellBooted lib v p q
     by None at e = cc
@@ -149,7 +161,8 @@ settled_starts lib u v (K, largest, is) sound all p q there = by (get u.processe
 
 boot_starts : (lib : Library) (statements : List Statement) (boot : World) → IsSizedBoot lib statements boot → AreStarts lib boot
 boot_starts lib statements boot b =
-    settled_starts lib b.boots.made boot b.boots.settles (boot_sound lib statements boot b.boots) (boots_start lib origin statements b.boots.made b.words origin_booting (origin_starts lib) b.boots.boots)
+    settled_starts lib b.boots.made boot b.boots.settles (boot_sound lib statements boot b.boots)
+    (boots_start lib origin statements b.boots.made b.words origin_booting (origin_starts lib) b.boots.boots)
 
 -- ---- the laws
 

@@ -1,5 +1,6 @@
 -- What the numbers of a typing's instructions say of its step bound, and of those of other typings.
-use Rattle.std.proofs.Common.{◌≡◌, ℕ, zero, suc, ◌+◌, ◌<◌, ◌≤◌, Bool, true, false, List, [], ◌∷◌, map, length, Option, Some, None, refl, sym, ap, ◌∙◌, subst, inl, inr, arith}
+use Rattle.std.proofs.Common.{◌≡◌, ℕ, zero, suc, ◌+◌, ◌<◌, ◌≤◌, Bool, true, false, List, [], ◌∷◌, map, length, Option, Some, None, refl, sym, ap, ◌∙◌, subst}
+use Rattle.std.proofs.Common.{inl, inr, arith}
 use Rattle.std.specs.Prelude.{Result, Ok, Err, if◌then◌else◌, slice_get, get_or, nat_le, nat_lt}
 use Rattle.std.specs.List.{position, position_or_len}
 use Rattle.std.proofs.lemmas.Bool.Decides.{nat_tests}
@@ -55,17 +56,20 @@ below_all : (steps : ℕ → Option ℕ) (k : ℕ) (fs es : List Edge) → AreAm
 below_all steps k fs [] h b = tt
 below_all steps k fs (e ∷ es) h b = (below_one steps k fs e (h.0) b, below_all steps k fs es (h.1) b)
 
-below_rule : (steps : ℕ → Option ℕ) (k : ℕ) (t : ℕ → Option State) (r q : Result (List Edge) Cause) → RuleBelow r q → Holds t q → AllBelow steps k (targets_of q) → AllBelow steps k (targets_of r)
+below_rule : (steps : ℕ → Option ℕ) (k : ℕ) (t : ℕ → Option State) (r q : Result (List Edge) Cause) → RuleBelow r q → Holds t q
+    → AllBelow steps k (targets_of q) → AllBelow steps k (targets_of r)
 below_rule steps k t r (Err c) h y b = absurd y
 below_rule steps k t (Err c) (Ok fs) h y b = tt
 below_rule steps k t (Ok es) (Ok fs) h y b = below_all steps k fs es h b
 
-below_unless : (steps : ℕ → Option ℕ) (k : ℕ) (p : Bool) (ms ns : List ℕ) → (AllBelow steps k ms → AllBelow steps k ns) → AllBelow steps k (if p then [] else ms) → AllBelow steps k (if p then [] else ns)
+below_unless : (steps : ℕ → Option ℕ) (k : ℕ) (p : Bool) (ms ns : List ℕ) → (AllBelow steps k ms → AllBelow steps k ns)
+    → AllBelow steps k (if p then [] else ms) → AllBelow steps k (if p then [] else ns)
 below_unless steps k true ms ns f b = tt
 below_unless steps k false ms ns f b = f b
 
 -- the least typing leads to no more instructions than another
-lower_leads : (i : Image) (t y : ℕ → Option State) → IsLeastTyping i t → IsTyping i y → (steps : ℕ → Option ℕ) (k n : ℕ) → AllBelow steps k (leads i y n) → AllBelow steps k (leads i t n)
+lower_leads : (i : Image) (t y : ℕ → Option State) → IsLeastTyping i t → IsTyping i y → (steps : ℕ → Option ℕ) (k n : ℕ) → AllBelow steps k (leads i y n)
+    → AllBelow steps k (leads i t n)
 lower_leads i t y l w steps k n b = by (t n) refl
   where
     at_both : (s : State) (o : Option State) → y n ≡ o → IsAbove o s → AllBelow steps k (leads_by i n o) → AllBelow steps k (leads_by i n (Some s))
@@ -79,13 +83,15 @@ lower_leads i t y l w steps k n b = by (t n) refl
     by (Some s) e = at_both s (y n) refl (l.least y w n s e) b
 
 -- an instruction that is over in the least typing refutes each bound of each typing
-pub no_bound : (i : Image) (t : ℕ → Option State) (n : ℕ) → IsLeastTyping i t → IsOver i t n → (y : ℕ → Option State) (steps : ℕ → Option ℕ) → IsTyping i y → IsStepBound i y steps → ⊥
+pub no_bound : (i : Image) (t : ℕ → Option State) (n : ℕ) → IsLeastTyping i t → IsOver i t n → (y : ℕ → Option State) (steps : ℕ → Option ℕ) → IsTyping i y
+    → IsStepBound i y steps → ⊥
 no_bound i t n l over y steps w bound = by (t n) refl over
   where
     numbered : (o : Option ℕ) → steps n ≡ o → IsBelow o (i.budget + 1) → ⊥
     numbered None q b = b
     numbered (Some k) q b =
-        let h : suc i.budget ≤ k = bounded (leads i t) steps (i.budget + 1) (λ m j e c. lower_leads i t y l w steps j m (bound.falls m j e)) (suc i.budget) n k q b over in omega arith
+        let h : suc i.budget ≤ k =
+        bounded (leads i t) steps (i.budget + 1) (λ m j e c. lower_leads i t y l w steps j m (bound.falls m j e)) (suc i.budget) n k q b over in omega arith
 
     typed : (s : State) (o : Option State) → y n ≡ o → IsAbove o s → ⊥
     typed s None q a = a
@@ -164,6 +170,7 @@ module _ (i : Image) (states : List (Option State)) (targets : List Targets) (ns
 
   pub step_bound : position (is_over most) ns ≡ None → IsStepBound i (at states) (at ns)
   step_bound e = record {
-    within = λ n s q. subst (λ (m : ℕ). IsBelow (at ns n) m) (omega (arith, is_most)) (all_under ns most e n (let h = mapped states n s q in omega (arith, numbers.long)));
+    within = λ n s q.
+        subst (λ (m : ℕ). IsBelow (at ns n) m) (omega (arith, is_most)) (all_under ns most e n (let h = mapped states n s q in omega (arith, numbers.long)));
     falls = λ n k q. numbers.given.falls n k q (subst (λ (o : Option ℕ). IsBelow o most) q (all_under ns most e n (mapped ns n k q)));
   }

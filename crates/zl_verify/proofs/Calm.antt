@@ -43,7 +43,8 @@ one_few s true h = h
 one_few s false h = omega arith
 
 implied_few : (w : World) (k : ℕ) (b : Body) → implied w k b ≤ 0xffff_ffff
-implied_few w k (ChannelEnd peer queue) = both_few (signal_if READABLE (not (is_empty queue))) _ (one_few READABLE (not (is_empty queue)) (omega arith)) (by (has_key w.objects peer))
+implied_few w k (ChannelEnd peer queue) =
+    both_few (signal_if READABLE (not (is_empty queue))) _ (one_few READABLE (not (is_empty queue)) (omega arith)) (by (has_key w.objects peer))
   where
     by : (b : Bool) → (if b then WRITABLE else PEER_CLOSED) ≤ 0xffff_ffff
     by true = omega arith
@@ -52,7 +53,8 @@ implied_few w k EventBody = omega arith
 implied_few w k (PortBody packets) = omega arith
 implied_few w k (JobBody parent depth policy killed) =
     both_few (signal_if TERMINATED killed) _ (one_few TERMINATED killed (omega arith))
-    (both_few (signal_if NO_JOBS (not (has_child_job w k))) (signal_if NO_PROCESSES (not (has_child_process w k))) (one_few NO_JOBS (not (has_child_job w k)) (omega arith)) (one_few NO_PROCESSES (not (has_child_process w k)) (omega arith)))
+    (both_few (signal_if NO_JOBS (not (has_child_job w k))) (signal_if NO_PROCESSES (not (has_child_process w k)))
+    (one_few NO_JOBS (not (has_child_job w k)) (omega arith)) (one_few NO_PROCESSES (not (has_child_process w k)) (omega arith)))
 implied_few w k (ProcessBody job) = one_few TERMINATED (is_process w has_ended k) (omega arith)
 
 -- so many at most are active, where no more are raised
@@ -114,14 +116,17 @@ default_few kind.Job = omega arith
 
 entries_few : (es : List Entry) → list_all has_default_rights es ≡ true → AllByRecursion HasFewRights es
 entries_few [] h = tt
-entries_few (e ∷ es) h = let two = both (has_default_rights e) (list_all has_default_rights es) h in (within_few (bits e.rights) (default_rights_of e.kind) ANY two.0 (default_few e.kind), entries_few es two.1)
+entries_few (e ∷ es) h =
+    let two = both (has_default_rights e) (list_all has_default_rights es) h in
+    (within_few (bits e.rights) (default_rights_of e.kind) ANY two.0 (default_few e.kind), entries_few es two.1)
 
 pub first_rights : (w : World) → IsSound w → (p h : ℕ) → AllByRecursion HasFewRights (first_handles (queue_at w p h))
 first_rights w sound p h = by (get w.objects (object_at w p h)) refl
   where
     of_queue : (ms : List Message) → list_all (λ m. list_all has_default_rights m.handles) ms ≡ true → AllByRecursion HasFewRights (first_handles ms)
     of_queue [] e = tt
-    of_queue (m ∷ ms) e = entries_few m.handles (both (list_all has_default_rights m.handles) (list_all (λ (x : Message). list_all has_default_rights x.handles) ms) e).0
+    of_queue (m ∷ ms) e =
+        entries_few m.handles (both (list_all has_default_rights m.handles) (list_all (λ (x : Message). list_all has_default_rights x.handles) ms) e).0
 
     by : (o : Option Object) → get w.objects (object_at w p h) ≡ o → AllByRecursion HasFewRights (first_handles (queue_in (body_in o)))
     by None is = tt

@@ -1,5 +1,6 @@
 -- A process that conforms is never refused for a handle, no policy ends it, and it keeps its budget, till it ends itself or another kills it.
-use Rattle.std.proofs.Common.{◌≡◌, ◌≢◌, ℕ, ◌+◌, ◌-◌, ◌<◌, ◌≤◌, ◌⊎◌, true, false, ◌==◌, List, [], ◌∷◌, ◌++◌, refl, sym, ap, ◌∙◌, subst, Option, Some, None, inl, inr, arith}
+use Rattle.std.proofs.Common.{◌≡◌, ◌≢◌, ℕ, ◌+◌, ◌-◌, ◌<◌, ◌≤◌, ◌⊎◌, true, false, ◌==◌, List, [], ◌∷◌, ◌++◌, refl, sym, ap, ◌∙◌, subst, Option, Some, None, inl}
+use Rattle.std.proofs.Common.{inr, arith}
 use Rattle.std.specs.Prelude.{nat_le, slice_get, IsSomeAnd}
 use Rattle.std.specs.List.{AllByRecursion}
 use Rattle.std.proofs.lemmas.Bool.{cases_Bool, eqb-true}
@@ -29,7 +30,8 @@ use Rattle.zl_verify.proofs.OwnSteps.{fine_other, Went, goes, pauses, Stopped, b
 
 -- ---- runs
 
-pub one_more : (lib : Library) (boot : World) (items : List TraceItem) (w : World) (x : TraceItem) (mid : World) → Runs lib boot items w → Step lib w (pid_of x) x mid → Runs lib boot (items ++ (x ∷ [])) mid
+pub one_more : (lib : Library) (boot : World) (items : List TraceItem) (w : World) (x : TraceItem) (mid : World) → Runs lib boot items w
+    → Step lib w (pid_of x) x mid → Runs lib boot (items ++ (x ∷ [])) mid
 one_more lib boot [] w x mid e step = (mid, subst (λ v. Step lib v (pid_of x) x mid) e step, refl)
 one_more lib boot (y ∷ items) w x mid (first, before, rest) step = (first, before, one_more lib first items w x mid rest step)
 
@@ -56,7 +58,8 @@ module _ (lib : Library) (i : Image) (t : ℕ → Option State) (range : is_in_r
     over_still : (p : ℕ) → (m == p) ≡ false → HasEnded w p → HasEnded w2 p
     over_still p apart o = record {
       process = o.process;
-      there = ended_still p o.process o.over lib w m x w2 b.step (over_after_act lib w m x w2 (sound_before lib w m x w2 b) b.step p o.process apart o.there o.over);
+      there = ended_still p o.process o.over lib w m x w2 b.step
+          (over_after_act lib w m x w2 (sound_before lib w m x w2 b) b.step p o.process apart o.there o.over);
       over = o.over;
     }
 
@@ -89,7 +92,8 @@ module _ (lib : Library) (i : Image) (t : ℕ → Option State) (range : is_in_r
       by (inr e) = (fine_other p x e, other_stands w (pid_of x) x w2 b p e s)
 
   module _ (statements : List Statement) (boot : World) (begins : IsSizedBoot lib statements boot) (p : ℕ) where
-    run_fine : (more items : List TraceItem) (w after : World) → Runs lib boot items w → StandsIn w p → Runs lib w more after → AllByRecursion (IsFineItem p) more
+    run_fine : (more items : List TraceItem) (w after : World) → Runs lib boot items w → StandsIn w p → Runs lib w more after
+        → AllByRecursion (IsFineItem p) more
     run_fine [] items w after run s e = tt
     run_fine (x ∷ more) items w after run s (mid, step, rest) =
         let (fine, later) = stands_still w x mid (fit_of lib w (pid_of x) x mid
@@ -106,7 +110,8 @@ module _ (lib : Library) (i : Image) (t : ℕ → Option State) (range : is_in_r
     pub stays_so : (items more : List TraceItem) (w after : World) → Runs lib boot items w → IsUnderWay lib i t w p → Runs lib w more after → StandsIn after p
     stays_so items more w after run u rest = run_stands more items w after run (inl u) rest
 
-    pub never_refused : (items more : List TraceItem) (w after : World) → Runs lib boot items w → IsUnderWay lib i t w p → Runs lib w more after → AllByRecursion (IsFineItem p) more
+    pub never_refused : (items more : List TraceItem) (w after : World) → Runs lib boot items w → IsUnderWay lib i t w p → Runs lib w more after
+        → AllByRecursion (IsFineItem p) more
     never_refused items more w after run u rest = run_fine more items w after run (inl u) rest
 
   -- ---- the budget
@@ -143,7 +148,8 @@ module _ (lib : Library) (i : Image) (t : ℕ → Option State) (range : is_in_r
         by (Some k) h = omega arith
 
     -- an instruction that is no pause is left where one stands
-    one_left : (w : World) (p : ℕ) (q : Process) (left : ℕ) → Conforms i t w p q → is_pause (call_at i q.cpu.counter) ≡ false → IsCounted q left → nat_le 1 left ≡ true
+    one_left : (w : World) (p : ℕ) (q : Process) (left : ℕ) → Conforms i t w p q → is_pause (call_at i q.cpu.counter) ≡ false → IsCounted q left
+        → nat_le 1 left ≡ true
     one_left w p q left k no_pause c = by (steps q.cpu.counter) refl c.number
       where
         room : (left m : ℕ) → 1 ≤ m → m < left + 1 → nat_le 1 left ≡ true
@@ -151,9 +157,12 @@ module _ (lib : Library) (i : Image) (t : ℕ → Option State) (range : is_in_r
 
         by : (o : Option ℕ) → steps q.cpu.counter ≡ o → IsBelow o (left + 1) → nat_le 1 left ≡ true
         by None at h = absurd h
-        by (Some m) at h = room left m (some_left m _ (bound.falls q.cpu.counter m at) (has_edge i t typing q.cpu.counter (record { state = k.state; mapped = k.stands; goes_on = no_pause }))) h
+        by (Some m) at h =
+            room left m (some_left m _ (bound.falls q.cpu.counter m at)
+            (has_edge i t typing q.cpu.counter (record { state = k.state; mapped = k.stands; goes_on = no_pause }))) h
 
-    after_own : (w2 : World) (p : ℕ) (q y : Process) (x : TraceItem) (left : ℕ) → Conforms i t w2 p y → Went i t q y x → IsCounted q left → IsSomeAnd (left_behind i.budget left (executed x)) (IsCounted y)
+    after_own : (w2 : World) (p : ℕ) (q y : Process) (x : TraceItem) (left : ℕ) → Conforms i t w2 p y → Went i t q y x → IsCounted q left
+        → IsSomeAnd (left_behind i.budget left (executed x)) (IsCounted y)
     after_own w2 p q y x left k (pauses is) c = rw is (whole_budget w2 p y k)
     after_own w2 p q y x left k (goes is follows ready) c = by (steps q.cpu.counter) refl c.number
       where
@@ -181,7 +190,8 @@ module _ (lib : Library) (i : Image) (t : ℕ → Option State) (range : is_in_r
           then_so None after h = absurd h
           then_so (Some more) after h = inl (after, h)
 
-          by : ((after : IsUnderWay lib i t w2 m) × Went i t u.process after.process x) ⊎ (HasEnded w2 m × Stopped i u.process x) → IsSomeAnd (left_behind i.budget left (executed x)) (CountsIn w2 m)
+          by : ((after : IsUnderWay lib i t w2 m) × Went i t u.process after.process x) ⊎ (HasEnded w2 m × Stopped i u.process x)
+              → IsSomeAnd (left_behind i.budget left (executed x)) (CountsIn w2 m)
           by (inl (after, went)) = then_so (left_behind i.budget left (executed x)) after (after_own w2 m u.process after.process x left after.conforms went c)
           by (inr (over, by_exit is)) = rw is (inr over)
           by (inr (over, by_kill is no_pause)) = rw (is, one_left w m u.process left u.conforms no_pause c) (inr over)
@@ -193,30 +203,44 @@ module _ (lib : Library) (i : Image) (t : ℕ → Option State) (range : is_in_r
         where
           by : OthersLeave i t p u.process w2 → CountsIn w2 p left
           by (was_killed at) = inr (killed_there w2 p u.process at)
-          by (left_so (stays at k)) = inl (record { process = u.process; there = at; running = u.running; checked = u.checked; program = u.program; conforms = k }, c)
+          by (left_so (stays at k)) =
+              inl (record { process = u.process; there = at; running = u.running; checked = u.checked; program = u.program; conforms = k }, c)
           by (left_so (wakes awaited ds waited a)) = inl (
-            record { process = a.after; there = a.there; running = ap runs a.ready; checked = u.checked; program = ap (slice_get lib) a.program ∙ u.program; conforms = a.conforms },
+            record {
+              process = a.after;
+              there = a.there;
+              running = ap runs a.ready;
+              checked = u.checked;
+              program = ap (slice_get lib) a.program ∙ u.program;
+              conforms = a.conforms;
+            },
             subst (IsCounted a.after) (sym (c.waiting awaited ds waited)) (whole_budget w2 p a.after a.conforms),
           )
 
     module _ (statements : List Statement) (boot : World) (begins : IsSizedBoot lib statements boot) (p : ℕ) where
-      run_counts : (more items : List TraceItem) (w after : World) (left : ℕ) → Runs lib boot items w → CountsIn w p left → Runs lib w more after → KeepsBudget i.budget p left more
+      run_counts : (more items : List TraceItem) (w after : World) (left : ℕ) → Runs lib boot items w → CountsIn w p left → Runs lib w more after
+          → KeepsBudget i.budget p left more
       run_counts [] items w after left run s e = tt
       run_counts (x ∷ more) items w after left run s (mid, step, rest) =
-          by (λ fewer still. run_counts more (items ++ (x ∷ [])) mid after fewer (one_more lib boot items w x mid run step) still rest) (cases_Bool (pid_of x == p))
+          by (λ fewer still. run_counts more (items ++ (x ∷ [])) mid after fewer (one_more lib boot items w x mid run step) still rest)
+          (cases_Bool (pid_of x == p))
         where
           b : IsFitStep lib w (pid_of x) x mid
           b = fit_of lib w (pid_of x) x mid (record { statements = statements; boot = boot; items = items; begins = begins; run = run; step = step })
 
-          all_later : (o : Option ℕ) → ((fewer : ℕ) → CountsIn mid p fewer → KeepsBudget i.budget p fewer more) → IsSomeAnd o (CountsIn mid p) → IsSomeAnd o (λ fewer. KeepsBudget i.budget p fewer more)
+          all_later : (o : Option ℕ) → ((fewer : ℕ) → CountsIn mid p fewer → KeepsBudget i.budget p fewer more) → IsSomeAnd o (CountsIn mid p)
+              → IsSomeAnd o (λ fewer. KeepsBudget i.budget p fewer more)
           all_later None later h = absurd h
           all_later (Some fewer) later h = later fewer h
 
-          by : ((fewer : ℕ) → CountsIn mid p fewer → KeepsBudget i.budget p fewer more) → ((pid_of x == p) ≡ true) ⊎ ((pid_of x == p) ≡ false) → KeepsBudget i.budget p left (x ∷ more)
+          by : ((fewer : ℕ) → CountsIn mid p fewer → KeepsBudget i.budget p fewer more) → ((pid_of x == p) ≡ true) ⊎ ((pid_of x == p) ≡ false)
+              → KeepsBudget i.budget p left (x ∷ more)
           by later (inl e) =
               let same : pid_of x ≡ p = eqb-true (pid_of x) p e in
-              rw e (all_later (left_behind i.budget left (executed x)) later (subst (λ j. IsSomeAnd (left_behind i.budget left (executed x)) (CountsIn mid j)) same (own_counts w (pid_of x) x mid b left (subst (λ j. CountsIn w j left) (sym same) s))))
+              rw e (all_later (left_behind i.budget left (executed x)) later (subst (λ j. IsSomeAnd (left_behind i.budget left (executed x)) (CountsIn mid j))
+              same (own_counts w (pid_of x) x mid b left (subst (λ j. CountsIn w j left) (sym same) s))))
           by later (inr e) = rw e (later left (other_counts w (pid_of x) x mid b p e left s))
 
-      pub budget_kept : (items more : List TraceItem) (w after : World) → Runs lib boot items w → IsUnderWay lib i t w p → Runs lib w more after → KeepsBudget i.budget p i.budget more
+      pub budget_kept : (items more : List TraceItem) (w after : World) → Runs lib boot items w → IsUnderWay lib i t w p → Runs lib w more after
+          → KeepsBudget i.budget p i.budget more
       budget_kept items more w after run u rest = run_counts more items w after i.budget run (inl (u, whole_budget w p u.process u.conforms)) rest

@@ -1,5 +1,6 @@
 -- A process that another starts is started properly, where its program is checked.
-use Rattle.std.proofs.Common.{◌≡◌, ℕ, ◌≤◌, Bool, true, false, not, ◌&&◌, ◌==◌, List, [], ◌∷◌, ◌++◌, refl, sym, ap, ◌∙◌, subst, Option, Some, None, option_map, Ok, Err, arith}
+use Rattle.std.proofs.Common.{◌≡◌, ℕ, ◌≤◌, Bool, true, false, not, ◌&&◌, ◌==◌, List, [], ◌∷◌, ◌++◌, refl, sym, ap, ◌∙◌, subst, Option, Some, None, option_map}
+use Rattle.std.proofs.Common.{Ok, Err, arith}
 use Rattle.std.specs.Prelude.{if◌then◌else◌, slice_get}
 use Rattle.std.specs.List.{AllByRecursion}
 use Rattle.std.specs.Option.{option_to_list}
@@ -27,7 +28,8 @@ use Rattle.zl_code.specs.declared.image.Start.{Start}
 use Rattle.zl_code.specs.Image.{Image, Library, Program}
 use Rattle.zl_code.specs.First.{first_some}
 use Rattle.zl_code.specs.Tests.{entry_at, object_at, action_of, parent_of}
-use Rattle.zl_code.specs.Operands.{Operand, creates, ends_if_kill, faults, by_look_up, operand, operand_after, seen_after, contains, examined, unless_allowed, by_policy}
+use Rattle.zl_code.specs.Operands.{Operand, creates, ends_if_kill, faults, by_look_up, operand, operand_after, seen_after, contains, examined, unless_allowed}
+use Rattle.zl_code.specs.Operands.{by_policy}
 use Rattle.zl_code.specs.Effects.{on_process, process_with, may_get, may_get_all}
 use Rattle.zl_code.specs.Starting.{is_created, started_with, program_in, program_of}
 use Rattle.zl_code.specs.Jobs.{is_only_start, misfits}
@@ -98,7 +100,8 @@ module _ (w : World) (p : ℕ) where
   examined_not_ok : (os : List Operand) (seen : List ℕ) → IsNotOk (examined w p seen os)
   unfolding examined
   examined_not_ok [] seen = tt
-  examined_not_ok (o ∷ os) seen = first_not_ok (operand_after w p seen o ∷ examined w p (seen_after seen o) os ∷ []) (operand_not_ok seen o, (examined_not_ok os (seen_after seen o), tt))
+  examined_not_ok (o ∷ os) seen =
+      first_not_ok (operand_after w p seen o ∷ examined w p (seen_after seen o) os ∷ []) (operand_not_ok seen o, (examined_not_ok os (seen_after seen o), tt))
 
   policy_not_ok : (c : Option Condition) → IsNotOk (by_policy w p c)
   unfolding creates
@@ -119,7 +122,9 @@ module _ (w : World) (p : ℕ) where
 
   refusal_not_ok : (lib : Library) (r : Request) → IsNotOk (refusal lib w p r)
   unfolding refusal
-  refusal_not_ok lib r = first_not_ok (examined w p [] (handle_operands r) ∷ by_policy w p (condition_of r) ∷ listed lib w p r) (examined_not_ok (handle_operands r) [], (policy_not_ok (condition_of r), all_not_ok (listed lib w p r) (listed_ordinary lib w p r)))
+  refusal_not_ok lib r =
+      first_not_ok (examined w p [] (handle_operands r) ∷ by_policy w p (condition_of r) ∷ listed lib w p r)
+      (examined_not_ok (handle_operands r) [], (policy_not_ok (condition_of r), all_not_ok (listed lib w p r) (listed_ordinary lib w p r)))
 
 -- ---- what it gets
 
@@ -137,9 +142,11 @@ only_one (s ∷ r ∷ ss) None e = cc
 only_one (s ∷ r ∷ ss) (Some x) e = cc
 only_one (s ∷ []) (Some x) e = record { entry = x; there = refl; declared = rw e refl }
 
-fits_declared : (o : Option Program) (i : Image) (e : Option Entry) → o ≡ Some (record { checked = true; image = i }) → misfits o e ≡ false → is_only_start i.starts e ≡ true
+fits_declared : (o : Option Program) (i : Image) (e : Option Entry) → o ≡ Some (record { checked = true; image = i }) → misfits o e ≡ false
+    → is_only_start i.starts e ≡ true
 fits_declared None i e is fits = cc
-fits_declared (Some g) i e is fits = by (is_only_start i.starts e) (subst (λ (h : Program). (h.checked && not (is_only_start h.image.starts e)) ≡ false) (same_Some g _ is) fits)
+fits_declared (Some g) i e is fits =
+    by (is_only_start i.starts e) (subst (λ (h : Program). (h.checked && not (is_only_start h.image.starts e)) ≡ false) (same_Some g _ is) fits)
   where
     by : (b : Bool) → not b ≡ false → b ≡ true
     by true k = refl
@@ -178,14 +185,16 @@ pub found_created : (w : World) (k : ℕ) → is_process w is_created k ≡ true
 unfolding is_process
 found_created w k e = by (get w.processes k) refl e
   where
-    by : (o : Option Process) → get w.processes k ≡ o → state_passes is_created o ≡ true → (x : Process) × (get w.processes k ≡ Some x) × (is_created x.state ≡ true)
+    by : (o : Option Process) → get w.processes k ≡ o → state_passes is_created o ≡ true
+        → (x : Process) × (get w.processes k ≡ Some x) × (is_created x.state ≡ true)
     by None is e = cc
     by (Some x) is e = (x, is, e)
 
 other_way : (a b : ℕ) → (a == b) ≡ false → (b == a) ≡ false
 other_way a b e = grind (arith, nat_tests)
 
-module _ (lib : Library) (w : World) (p : ℕ) (caller : Process) (there : get w.processes p ≡ Some caller) (ready : caller.state ≡ Ready) (process h word : ℕ) (cs ds : List ℕ) (i : Image)
+module _ (lib : Library) (w : World) (p : ℕ) (caller : Process) (there : get w.processes p ≡ Some caller) (ready : caller.state ≡ Ready) (process h word : ℕ)
+    (cs ds : List ℕ) (i : Image)
     (program : program_of lib w (object_at w p process) ≡ Some (record { checked = true; image = i })) where
   abbrev child : ℕ
   child = object_at w p process
@@ -200,13 +209,15 @@ module _ (lib : Library) (w : World) (p : ℕ) (caller : Process) (there : get w
   taken_child x at created = left_other p child (apart created) (taken_handles (process_start process h word)) w ∙ at
 
   -- what an answer OK leaves
-  started : refusal lib w p (process_start process h word) ≡ None → (vs : List ℕ) → may_choose w (taken w p start) p (process_start process h word) vs ≡ true → (u : World)
+  started : refusal lib w p (process_start process h word) ≡ None → (vs : List ℕ)
+      → may_choose w (taken w p start) p (process_start process h word) vs ≡ true → (u : World)
       → u ≡ replied (with_effect lib w (taken w p start) p (process_start process h word) vs) p start status.Ok [] → IsReadyChild lib i w u child word
   unfolding listed may_choose effect new_handles
   started passes vs may u is =
       let created = starts_created lib w p process h word passes in
       let (x, at, new) = found_created w child created in
-      let only = only_one i.starts (entry_at w p h) (fits_declared (program_of lib w child) i (entry_at w p h) program (test_fails _ status.InvalidArgs (listed_none lib w p (process_start process h word) passes).1.0)) in
+      let only = only_one i.starts (entry_at w p h) (fits_declared (program_of lib w child) i (entry_at w p h) program
+      (test_fails _ status.InvalidArgs (listed_none lib w p (process_start process h word) passes).1.0)) in
       let gets : may_get_all x (option_to_list (entry_at w p h)) vs ≡ true = rw (taken_child x at created) at may in
       let one = one_value x only.entry vs (ap (λ (o : Option Entry). may_get_all x (option_to_list o) vs) (sym only.there) ∙ gets) in
       record {
@@ -219,13 +230,16 @@ module _ (lib : Library) (w : World) (p : ℕ) (caller : Process) (there : get w
             ap (λ (v : World). get v.processes child) is
             ∙ (replied_other p child (apart created) (with_effect lib w (taken w p start) p (process_start process h word) vs) start status.Ok []
             ∙ (inserted_at (option_to_list (entry_at w p h)) vs (on_process (taken w p start) child (started_with vs word)) child
-            ∙ (ap (option_map (getting_all (option_to_list (entry_at w p h)) vs)) (changed_at (taken w p start) child (started_with vs word) ∙ ap (option_map (started_with vs word)) (taken_child x at created))
-            ∙ (ap (λ (o : Option Entry). Some (getting_all (option_to_list o) vs (started_with vs word x))) only.there ∙ ap (λ us. Some (getting_all (only.entry ∷ []) us (started_with us word x))) one.same))));
+            ∙ (ap (option_map (getting_all (option_to_list (entry_at w p h)) vs))
+            (changed_at (taken w p start) child (started_with vs word) ∙ ap (option_map (started_with vs word)) (taken_child x at created))
+            ∙ (ap (λ (o : Option Entry). Some (getting_all (option_to_list o) vs (started_with vs word x))) only.there
+            ∙ ap (λ us. Some (getting_all (only.entry ∷ []) us (started_with us word x))) one.same))));
         free = one.free;
         declared = only.declared;
       }
 
-  by_choice : (choice : Choice) (r : Option Outcome) → refusal lib w p (process_start process h word) ≡ r → IsNotOk r → (u : World) → CallBy lib w p start choice r (outcome.Answered status.Ok) u → IsReadyChild lib i w u child word
+  by_choice : (choice : Choice) (r : Option Outcome) → refusal lib w p (process_start process h word) ≡ r → IsNotOk r → (u : World)
+      → CallBy lib w p start choice r (outcome.Answered status.Ok) u → IsReadyChild lib i w u child word
   unfolding gives_ok
   by_choice Refused None is ok u c = absurd c
   by_choice Refused (Some o) is ok u c = let bad : true ≡ false = subst (λ y. IsNotOk (Some y)) (sym c.0) ok in cc
@@ -251,7 +265,8 @@ module _ (lib : Library) (statements : List Statement) (boot : World) (begins : 
   run_unstarted (x ∷ more) items w after run all (mid, step, rest) =
       let b : IsFitStep lib w (pid_of x) x mid =
       fit_of lib w (pid_of x) x mid (record { statements = statements; boot = boot; items = items; begins = begins; run = run; step = step }) in
-      run_unstarted more (items ++ (x ∷ [])) mid after (one_more lib boot items w x mid run step) (step_unstarted lib w (pid_of x) x mid b (sound_before lib w (pid_of x) x mid b) all) rest
+      run_unstarted more (items ++ (x ∷ [])) mid after (one_more lib boot items w x mid run step)
+      (step_unstarted lib w (pid_of x) x mid b (sound_before lib w (pid_of x) x mid b) all) rest
 
 module _ (lib : Library) (w : World) (p : ℕ) (x : TraceItem) (w2 : World) (b : IsFitStep lib w p x w2) (unstarted : AreUnstarted lib w) (i : Image) (k : ℕ)
     (told : x ≡ item.Call p name.ProcessStart (outcome.Answered status.Ok)) (c : StartsChild lib w p b.step.process k)
@@ -267,7 +282,8 @@ module _ (lib : Library) (w : World) (p : ℕ) (x : TraceItem) (w2 : World) (b :
       let (o, is, h) = acts in
       let both : ◌≡◌ {A = TraceItem} (item.Call p name.ProcessStart o) (item.Call p name.ProcessStart (outcome.Answered status.Ok)) = sym is ∙ told in
       let same : o ≡ outcome.Answered status.Ok = cc in
-      subst (λ r. Calls lib w p (site r c.site.consumed c.site.destinations) (outcome.Answered status.Ok) b.step.acted) c.asks (subst (λ y. Calls lib w p c.site y b.step.acted) same h)
+      subst (λ r. Calls lib w p (site r c.site.consumed c.site.destinations) (outcome.Answered status.Ok) b.step.acted) c.asks
+      (subst (λ y. Calls lib w p c.site y b.step.acted) same h)
     where
       acts : Acts lib w p (AtCall name.ProcessStart c.site) x b.step.acted
       acts = subst (λ n. Acts lib w p n x b.step.acted) c.next b.step.acts
@@ -275,7 +291,8 @@ module _ (lib : Library) (w : World) (p : ℕ) (x : TraceItem) (w2 : World) (b :
   child_ready : IsReadyChild lib i w b.step.acted k c.word
   child_ready =
       subst (λ j. IsReadyChild lib i w b.step.acted j c.word) c.child
-      (ready_child lib w p own b.step.is_there b.step.is_ready c.process c.handle c.word c.site.consumed c.site.destinations i (ap (program_of lib w) c.child ∙ program) b.step.acted calls)
+      (ready_child lib w p own b.step.is_there b.step.is_ready c.process c.handle c.word c.site.consumed c.site.destinations i
+      (ap (program_of lib w) c.child ∙ program) b.step.acted calls)
 
   word_small : c.word ≤ ANY
   word_small = by (slice_get lib own.program) c.next
@@ -293,7 +310,9 @@ module _ (lib : Library) (w : World) (p : ℕ) (x : TraceItem) (w2 : World) (b :
       by r =
           let y : Process = process_with r.value r.entry (started_with (r.value ∷ []) c.word r.before) in
           let runs_program : slice_get lib r.before.program ≡ Some (record { checked = true; image = i }) = ap (program_in lib) (sym r.was) ∙ program in
-          let at : get w2.processes k ≡ Some y = subst (λ v. get v.processes k ≡ Some y) (sym b.step.ends_awake) (awake_still k y refl b.step.settled (settled_there b.step.acted b.step.settled b.step.settles k y r.there refl)) in
+          let at : get w2.processes k ≡ Some y =
+          subst (λ v. get v.processes k ≡ Some y) (sym b.step.ends_awake)
+          (awake_still k y refl b.step.settled (settled_there b.step.acted b.step.settled b.step.settles k y r.there refl)) in
           let kept = unstarted k r.before r.was r.new in
           record {
             process = y;
@@ -310,7 +329,8 @@ module _ (lib : Library) (w : World) (p : ℕ) (x : TraceItem) (w2 : World) (b :
               small = word_small;
               allowed = λ d named.
                   allowed_after lib w p x w2 b k y at refl d
-                  ∙ (same_policy w b.step.acted k r.before sound r.was (lives_new r.before.state r.new) (left_by_step lib w p x w2 sound b.step).alike d ∙ kept.allowed (record { checked = true; image = i }) runs_program refl d named);
+                  ∙ (same_policy w b.step.acted k r.before sound r.was (lives_new r.before.state r.new) (left_by_step lib w p x w2 sound b.step).alike d
+                  ∙ kept.allowed (record { checked = true; image = i }) runs_program refl d named);
             };
           }
 

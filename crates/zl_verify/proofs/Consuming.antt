@@ -1,5 +1,6 @@
 -- A register gives its handle away, or gets a new one, or what is told of one.
-use Rattle.std.proofs.Common.{◌≡◌, ◌≢◌, ℕ, ◌+◌, ◌<◌, ◌≤◌, ◌⊎◌, Bool, true, false, ◌==◌, List, length, refl, sym, ap, ◌∙◌, subst, Option, Some, None, cond, arith, inl, inr, slice_set, slice_index}
+use Rattle.std.proofs.Common.{◌≡◌, ◌≢◌, ℕ, ◌+◌, ◌<◌, ◌≤◌, ◌⊎◌, Bool, true, false, ◌==◌, List, length, refl, sym, ap, ◌∙◌, subst, Option, Some, None, cond}
+use Rattle.std.proofs.Common.{arith, inl, inr, slice_set, slice_index}
 use Rattle.std.specs.Prelude.{is_some, if◌then◌else◌}
 use Rattle.std.proofs.lemmas.Bool.{cases_eq, eqb-true}
 use Rattle.std.proofs.lemmas.Bool.Decides.{nat_tests}
@@ -30,7 +31,8 @@ owns_not v = refl
 none_and_some : (n : ℕ) → n ≡ 0 → 1 ≤ n → ⊥
 none_and_some n z m = omega arith
 
-module _ {f : Table} {s : State} {xs : List ℕ} {arrays : List SlotArray} {slots : List (List ℕ)} (h : Holds f s xs arrays slots) (states : IsState s) (r : ℕ) (lt : r < length s) where
+module _ {f : Table} {s : State} {xs : List ℕ} {arrays : List SlotArray} {slots : List (List ℕ)} (h : Holds f s xs arrays slots) (states : IsState s) (r : ℕ)
+    (lt : r < length s) where
   others_and : (v : ℕ) → others r s xs slots v + one_if (owns v (value_at s r) (slice_index xs r)) ≡ one_if (is_some (f v))
   others_and v =
       let none = owners-set v r s xs (Word 0) 0 h.width lt in
@@ -72,7 +74,8 @@ module _ {f : Table} {s : State} {xs : List ℕ} {arrays : List SlotArray} {slot
       counts : (v : ℕ) → others r s xs slots v + one_if (owns v (Word 0) 0) ≡ one_if (is_some (removed (slice_index xs r) f v))
       counts v = counts_by v (slice_index xs r == v) refl
 
-  pub consume : (maybe : Bool) (kind : Option Kind) (rights : Rights) → value_at s r ≡ Has maybe kind rights → Holds (removed (slice_index xs r) f) (with_value s r (Word 0)) (slice_set xs r 0) arrays slots
+  pub consume : (maybe : Bool) (kind : Option Kind) (rights : Rights) → value_at s r ≡ Has maybe kind rights
+      → Holds (removed (slice_index xs r) f) (with_value s r (Word 0)) (slice_set xs r 0) arrays slots
   consume maybe kind rights is = consume_by (λ y some e. rw (is, e) (owns_it maybe kind rights y some))
 
   pub consume_0 : slice_index xs r ≡ 0 → Holds (removed (slice_index xs r) f) (with_value s r (Word 0)) (slice_set xs r 0) arrays slots
@@ -117,9 +120,11 @@ module _ {f : Table} {s : State} {xs : List ℕ} {arrays : List SlotArray} {slot
         not_0 : x ≡ 0 → ⊥
         not_0 z = omega arith
 
-        counts_by : (v : ℕ) (b : Bool) → (x == v) ≡ b → others r s xs slots v + one_if (owns v (Has maybe kind rights) x) ≡ one_if (is_some (cond b (Some e) (f v)))
+        counts_by : (v : ℕ) (b : Bool) → (x == v) ≡ b
+            → others r s xs slots v + one_if (owns v (Has maybe kind rights) x) ≡ one_if (is_some (cond b (Some e) (f v)))
         counts_by v true t =
-            let owned : one_if (owns v (Has maybe kind rights) x) ≡ 1 = subst (λ k. one_if (owns k (Has maybe kind rights) x) ≡ 1) (eqb-true x v t) (rw (owns_it maybe kind rights x (λ z. not_0 z)) refl) in
+            let owned : one_if (owns v (Has maybe kind rights) x) ≡ 1 =
+            subst (λ k. one_if (owns k (Has maybe kind rights) x) ≡ 1) (eqb-true x v t) (rw (owns_it maybe kind rights x (λ z. not_0 z)) refl) in
             let unowned = none v t in
             omega arith
         counts_by v false t = let both = free_count v in let other = owns_apart v (Has maybe kind rights) x t in omega arith
@@ -130,8 +135,11 @@ module _ {f : Table} {s : State} {xs : List ℕ} {arrays : List SlotArray} {slot
     -- the kind or the rights of the handle in another register
     pub write_kind : (t x : ℕ) → t ≢ r → x ≤ ANY → x ≡ kind_in (f (slice_index xs t)) → Holds f (with_value s r (KindOf t)) (slice_set xs r x) arrays slots
     write_kind t x apart few e =
-        write_plain h states r lt free (KindOf t) x few (rw (test_apart t r apart) (e ∙ ap (λ k. kind_in (f k)) (sym (get_or-set_other xs r t x 0 apart)))) (λ v. owns_free v (KindOf t) x refl)
+        write_plain h states r lt free (KindOf t) x few (rw (test_apart t r apart) (e ∙ ap (λ k. kind_in (f k)) (sym (get_or-set_other xs r t x 0 apart))))
+        (λ v. owns_free v (KindOf t) x refl)
 
-    pub write_rights : (t x : ℕ) → t ≢ r → x ≤ ANY → x ≡ rights_in (f (slice_index xs t)) → Holds f (with_value s r (RightsOf t)) (slice_set xs r x) arrays slots
+    pub write_rights : (t x : ℕ) → t ≢ r → x ≤ ANY → x ≡ rights_in (f (slice_index xs t))
+        → Holds f (with_value s r (RightsOf t)) (slice_set xs r x) arrays slots
     write_rights t x apart few e =
-        write_plain h states r lt free (RightsOf t) x few (rw (test_apart t r apart) (e ∙ ap (λ k. rights_in (f k)) (sym (get_or-set_other xs r t x 0 apart)))) (λ v. owns_free v (RightsOf t) x refl)
+        write_plain h states r lt free (RightsOf t) x few (rw (test_apart t r apart) (e ∙ ap (λ k. rights_in (f k)) (sym (get_or-set_other xs r t x 0 apart))))
+        (λ v. owns_free v (RightsOf t) x refl)

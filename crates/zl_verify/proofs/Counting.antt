@@ -1,5 +1,6 @@
 -- What is over by counting instructions is over by counting edges, and the other way round.
-use Rattle.std.proofs.Common.{◌≡◌, ◌≢◌, ℕ, zero, suc, Bool, true, false, List, [], ◌∷◌, length, Option, Some, None, Result, Ok, Err, refl, sym, subst, inl, inr, arith, ◌↔◌}
+use Rattle.std.proofs.Common.{◌≡◌, ◌≢◌, ℕ, zero, suc, Bool, true, false, List, [], ◌∷◌, length, Option, Some, None, Result, Ok, Err, refl, sym, subst, inl, inr}
+use Rattle.std.proofs.Common.{arith, ◌↔◌}
 use Rattle.std.specs.Prelude.{if◌then◌else◌}
 use Rattle.zl_code.specs.Image.{Image, call_at}
 use Rattle.zl_abs.specs.declared.cause.Cause.{Cause}
@@ -84,7 +85,8 @@ module _ (i : Image) (t : ℕ → Option State) where
       record {
         behind = x.place ∷ b.behind;
         long = (let e = b.long in omega arith);
-        count = (l.counts, record { state = l.counts.state; mapped = l.counts.mapped; edge = subst (λ ns. OneOf (λ k. k ≡ x.place) ns) l.same x.among }, b.count);
+        count =
+            (l.counts, record { state = l.counts.state; mapped = l.counts.mapped; edge = subst (λ ns. OneOf (λ k. k ≡ x.place) ns) l.same x.among }, b.count);
       }
 
   -- in a typing an instruction is over by edges just where it is over by instructions

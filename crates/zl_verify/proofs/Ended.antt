@@ -5,7 +5,8 @@ use Rattle.std.specs.List.{fold}
 use Rattle.std.specs.Option.{option_map}
 use Rattle.std.proofs.lemmas.Bool.{cases_Bool, eqb-true}
 use Rattle.std.proofs.lemmas.Option.{same_Some}
-use Rattle.zl_rights.specs.Common.{answered, get, put, Settles, process_settled, without_others, fired, wakes, World, Process, State as Life, Created, Ready, Blocked, Ended, Object, Body, PortBody}
+use Rattle.zl_rights.specs.Common.{answered, get, put, Settles, process_settled, without_others, fired, wakes, World, Process, State as Life, Created, Ready}
+use Rattle.zl_rights.specs.Common.{Blocked, Ended, Object, Body, PortBody}
 use Rattle.zl_rights.specs.World.{Awaited, SignalOf, PacketAt, Packet}
 use Rattle.zl_rights.specs.Signals.{active, has_ended}
 use Rattle.zl_rights.specs.Numbers.{meets}
@@ -20,7 +21,8 @@ use Rattle.zl_code.specs.Sound.{is_blocked}
 module _ (p : ℕ) (q : Process) (awake : is_blocked q.state ≡ false) where
   module _ (u : World) (there : get u.processes p ≡ Some q) (m : ℕ) where
     -- another gets its answer
-    readied : (v : World) → v.processes ≡ u.processes → (y : Process) → get u.processes m ≡ Some y → (awaited : Awaited) (ds vs : List ℕ) → y.state ≡ Blocked awaited ds → get (made_ready v m y ds vs).processes p ≡ Some q
+    readied : (v : World) → v.processes ≡ u.processes → (y : Process) → get u.processes m ≡ Some y → (awaited : Awaited) (ds vs : List ℕ)
+        → y.state ≡ Blocked awaited ds → get (made_ready v m y ds vs).processes p ≡ Some q
     unfolding made_ready
     readied v same y at awaited ds vs blocked = by (cases_Bool (m == p))
       where
@@ -31,15 +33,18 @@ module _ (p : ℕ) (q : Process) (awake : is_blocked q.state ≡ false) where
             cc
         by (inr e) = get-put v.processes m (record y { state = Ready; cpu = answered y.cpu ds vs }) p ∙ rw e (ap (λ ps. get ps p) same ∙ there)
 
-    by_packets : (y : Process) → get u.processes m ≡ Some y → (koid : ℕ) (ds : List ℕ) → y.state ≡ Blocked (PacketAt koid) ds → (o : Object) (packets : List Packet) → get (woken_by_first u m y koid ds o packets).processes p ≡ Some q
+    by_packets : (y : Process) → get u.processes m ≡ Some y → (koid : ℕ) (ds : List ℕ) → y.state ≡ Blocked (PacketAt koid) ds
+        → (o : Object) (packets : List Packet) → get (woken_by_first u m y koid ds o packets).processes p ≡ Some q
     by_packets y at koid ds blocked o [] = there
     by_packets y at koid ds blocked o (x ∷ rest) = readied (with_body u koid o (PortBody rest)) refl y at (PacketAt koid) ds (0 ∷ packet_values x) blocked
 
-    by_body : (y : Process) → get u.processes m ≡ Some y → (koid : ℕ) (ds : List ℕ) → y.state ≡ Blocked (PacketAt koid) ds → (o : Object) (b : Body) → get (woken_by u m y koid ds o b).processes p ≡ Some q
+    by_body : (y : Process) → get u.processes m ≡ Some y → (koid : ℕ) (ds : List ℕ) → y.state ≡ Blocked (PacketAt koid) ds → (o : Object) (b : Body)
+        → get (woken_by u m y koid ds o b).processes p ≡ Some q
     by_body y at koid ds blocked o (PortBody packets) = by_packets y at koid ds blocked o packets
     by_body y at koid ds blocked o _ = there
 
-    by_object : (y : Process) → get u.processes m ≡ Some y → (koid : ℕ) (ds : List ℕ) → y.state ≡ Blocked (PacketAt koid) ds → (o : Option Object) → get (woken_at_port u m y koid ds o).processes p ≡ Some q
+    by_object : (y : Process) → get u.processes m ≡ Some y → (koid : ℕ) (ds : List ℕ) → y.state ≡ Blocked (PacketAt koid) ds → (o : Option Object)
+        → get (woken_at_port u m y koid ds o).processes p ≡ Some q
     by_object y at koid ds blocked None = there
     by_object y at koid ds blocked (Some o) = by_body y at koid ds blocked o o.body
 
@@ -76,7 +81,9 @@ not_blocked _ e = refl
 module _ (p : ℕ) (q : Process) (over : has_ended q.state ≡ true) where
   settled_still : (u v : World) → Settles u v → get u.processes p ≡ Some q → get v.processes p ≡ Some q
   unfolding without_others
-  settled_still u v (K, largest, is) there = rw is (get-each u.processes (process_settled K) p ∙ (ap (option_map (process_settled K p)) there ∙ ap (λ (l : Life). Some (record q { state = l })) (by q.state over)))
+  settled_still u v (K, largest, is) there =
+      rw is (get-each u.processes (process_settled K) p
+      ∙ (ap (option_map (process_settled K p)) there ∙ ap (λ (l : Life). Some (record q { state = l })) (by q.state over)))
     where
       by : (l : Life) → has_ended l ≡ true → state_without (K p) l ≡ l
       by (Ended code) e = refl
@@ -84,5 +91,8 @@ module _ (p : ℕ) (q : Process) (over : has_ended q.state ≡ true) where
       by _ e = cc
 
   -- what has ended right after the act of a step has ended at its end
-  pub ended_still : (lib : Library) (w : World) (m : ℕ) (x : TraceItem) (w2 : World) → (step : Step lib w m x w2) → get step.acted.processes p ≡ Some q → get w2.processes p ≡ Some q
-  ended_still lib w m x w2 step there = subst (λ v. get v.processes p ≡ Some q) (sym step.ends_awake) (awake_still p q (not_blocked q.state over) step.settled (settled_still step.acted step.settled step.settles there))
+  pub ended_still : (lib : Library) (w : World) (m : ℕ) (x : TraceItem) (w2 : World) → (step : Step lib w m x w2) → get step.acted.processes p ≡ Some q
+      → get w2.processes p ≡ Some q
+  ended_still lib w m x w2 step there =
+      subst (λ v. get v.processes p ≡ Some q) (sym step.ends_awake)
+      (awake_still p q (not_blocked q.state over) step.settled (settled_still step.acted step.settled step.settles there))

@@ -1,5 +1,6 @@
 -- The search ends: what is left to rise, and what waits. States stay fine on the way.
-use Rattle.std.proofs.Common.{◌≡◌, ◌≢◌, ℕ, ◌+◌, ◌-◌, ◌*◌, ◌<◌, ◌≤◌, Bool, true, false, List, [], ◌∷◌, Option, Some, None, refl, sym, ap, ◌∙◌, subst, IsTrue, length, ◌⊎◌, inl, inr, arith, get_or}
+use Rattle.std.proofs.Common.{◌≡◌, ◌≢◌, ℕ, ◌+◌, ◌-◌, ◌*◌, ◌<◌, ◌≤◌, Bool, true, false, List, [], ◌∷◌, Option, Some, None, refl, sym, ap, ◌∙◌, subst, IsTrue}
+use Rattle.std.proofs.Common.{length, ◌⊎◌, inl, inr, arith, get_or}
 use Rattle.std.specs.Prelude.{slice_get, slice_set, if◌then◌else◌, Result, Ok, IfOk}
 use Rattle.std.specs.List.{sum_by}
 use Rattle.std.specs.Option.{option_map, option_and_then}
@@ -44,7 +45,8 @@ pub record AreFine (t : Table) : Type 0 where
 -- ---- one state comes to an instruction
 
 put_fine : (t : Table) (n : ℕ) (j : State) → n < length t.states → AreFine t → IsFine j → AreFine (put t n j)
-put_fine t n j h f g = record { each = λ m s e. by m s e (equal_or_not n m); same = length-set t.states n (Some j) ∙ (f.same ∙ sym (length-set t.waiting n true)) }
+put_fine t n j h f g =
+    record { each = λ m s e. by m s e (equal_or_not n m); same = length-set t.states n (Some j) ∙ (f.same ∙ sym (length-set t.waiting n true)) }
   where
     by : (m : ℕ) (s : State) → at (slice_set t.states n (Some j)) m ≡ Some s → (n ≡ m) ⊎ (n ≢ m) → IsFine s
     by m s e (inl p) =
@@ -53,7 +55,8 @@ put_fine t n j h f g = record { each = λ m s e. by m s e (equal_or_not n m); sa
         subst IsFine b g
     by m s e (inr d) = f.each m s (sym (ap within (get_put_other t.states n m (Some j) d)) ∙ e)
 
-put_falls : (t : Table) (n : ℕ) (o : Option State) (j : State) → slice_get t.states n ≡ Some o → length t.states ≡ length t.waiting → room j < room_in o → energy (put t n j) < energy t
+put_falls : (t : Table) (n : ℕ) (o : Option State) (j : State) → slice_get t.states n ≡ Some o → length t.states ≡ length t.waiting → room j < room_in o
+    → energy (put t n j) < energy t
 unfolding energy
 put_falls t n o j e q h =
     let k : n < length t.states = there t.states n o e in
@@ -77,13 +80,19 @@ easing : (t : Table) (n : ℕ) (s : State) → AreFine t → IsFine s → EasesO
 easing t n s f g = found (slice_get t.states n) refl
   where
     puts : (o : Option State) (j : State) → slice_get t.states n ≡ Some o → IsFine j → room j < room_in o → Eases t (put t n j)
-    puts o j e k h = record { fine = put_fine t n j (there t.states n o e) f k; no_more = (let a = put_falls t n o j e f.same h in omega arith); long = length-set t.states n (Some j) }
+    puts o j e k h = record {
+      fine = put_fine t n j (there t.states n o e) f k;
+      no_more = (let a = put_falls t n o j e f.same h in omega arith);
+      long = length-set t.states n (Some j);
+    }
 
-    joins : (u : State) → slice_get t.states n ≡ Some (Some u) → all_below s u ≡ false → (o : Option State) → all_joined u s ≡ o → EasesOr t (option_map (put t n) o)
+    joins : (u : State) → slice_get t.states n ≡ Some (Some u) → all_below s u ≡ false → (o : Option State) → all_joined u s ≡ o
+        → EasesOr t (option_map (put t n) o)
     joins u e h None k = tt
     joins u e h (Some j) k = let i = f.each n u (ap within e) in puts (Some u) j e (fine_joined u s j i g k) (room_falls u s j i g k h)
 
-    new : (u : State) → slice_get t.states n ≡ Some (Some u) → (b : Bool) → all_below s u ≡ b → EasesOr t (if b then Some t else option_map (put t n) (all_joined u s))
+    new : (u : State) → slice_get t.states n ≡ Some (Some u) → (b : Bool) → all_below s u ≡ b
+        → EasesOr t (if b then Some t else option_map (put t n) (all_joined u s))
     new u e true h = record { fine = f; no_more = omega arith; long = refl }
     new u e false h = joins u e h (all_joined u s) refl
 
@@ -124,20 +133,30 @@ cleared_fine : (t : Table) (n : ℕ) → AreFine t → AreFine (cleared t n)
 cleared_fine t n f = record { each = f.each; same = f.same ∙ sym (length-set t.waiting n false) }
 
 edges_fine : (i : Image) (bs : Blocks) → IsTrue (is_in_range i) → (n : ℕ) (s : State) (es : List Edge) → IsFine s → block i bs n s ≡ Ok es → AllFine es
-edges_fine i bs range n s es f r = subst (λ (x : Result (List Edge) Cause). IfOk x AllFine) r (out_fine i range bs.numbers (length i.code - start_of i bs n) (start_of i bs n) s f)
+edges_fine i bs range n s es f r =
+    subst (λ (x : Result (List Edge) Cause). IfOk x AllFine) r (out_fine i range bs.numbers (length i.code - start_of i bs n) (start_of i bs n) s f)
 
-pub tiring : (i : Image) (bs : Blocks) → IsTrue (is_in_range i) → (t u : Table) (n : ℕ) (s : State) (es : List Edge) → AreFine t → at t.states n ≡ Some s → slice_get t.waiting n ≡ Some true → block i bs n s ≡ Ok es → raised_all (cleared t n) es ≡ Some u → Tires t u
+pub tiring : (i : Image) (bs : Blocks) → IsTrue (is_in_range i) → (t u : Table) (n : ℕ) (s : State) (es : List Edge) → AreFine t → at t.states n ≡ Some s
+    → slice_get t.waiting n ≡ Some true → block i bs n s ≡ Ok es → raised_all (cleared t n) es ≡ Some u → Tires t u
 unfolding remaining
 tiring i bs range t u n s es f e w r k =
     let a = subst (EasesOr (cleared t n)) k (easing_all (cleared t n) es (cleared_fine t n f) (edges_fine i bs range n s es (f.each n s e) r)) in
     let d = drop_one t n w in
-    record { fine = a.fine; less = smaller (energy u) (energy t) (length u.states) (length t.states) u.from t.from a.long (omega (arith, a.no_more)); long = a.long }
+    record {
+      fine = a.fine;
+      less = smaller (energy u) (energy t) (length u.states) (length t.states) u.from t.from a.long (omega (arith, a.no_more));
+      long = a.long;
+    }
 
 pub clearing : (t : Table) (n : ℕ) → AreFine t → slice_get t.waiting n ≡ Some true → Tires t (cleared t n)
 unfolding remaining
 clearing t n f w =
     let d = drop_one t n w in
-    record { fine = cleared_fine t n f; less = smaller (energy (cleared t n)) (energy t) (length t.states) (length t.states) t.from t.from refl (omega arith); long = refl }
+    record {
+      fine = cleared_fine t n f;
+      less = smaller (energy (cleared t n)) (energy t) (length t.states) (length t.states) t.from t.from refl (omega arith);
+      long = refl;
+    }
 
 -- one instruction on
 pub moving : (t : Table) → t.from < length t.states → remaining (record t { from = t.from + 1 }) < remaining t

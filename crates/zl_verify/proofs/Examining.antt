@@ -43,7 +43,8 @@ IsLive f o x = ((o.may_be_zero && (x == 0)) ≡ true) ⊎ ((e : Entry) × (f x �
 takes_below : (kinds : List Kind) (kind : Option Kind) (k : Kind) → takes_any kinds kind ≡ true → kind_below (Some k) kind ≡ true → takes kinds k ≡ true
 takes_below [] kind k e b = refl
 takes_below (x ∷ xs) None k e b = cc
-takes_below (x ∷ xs) (Some j) k e b = subst (λ n. ((length (x ∷ xs) == 0) || list_any (λ y. n == kind_number y) (x ∷ xs)) ≡ true) (sym (eqb-true (kind_number k) (kind_number j) b)) e
+takes_below (x ∷ xs) (Some j) k e b =
+    subst (λ n. ((length (x ∷ xs) == 0) || list_any (λ y. n == kind_number y) (x ∷ xs)) ≡ true) (sym (eqb-true (kind_number k) (kind_number j) b)) e
 
 zero_word : (z : Bool) (m x : ℕ) → (z && (m == 0)) ≡ true → x ≤ m → ((z && (x == 0)) ≡ true) × (x ≡ 0)
 zero_word true m x e le = let z : x ≡ 0 = grind (arith, nat_tests) in (rw z refl, z)
@@ -128,7 +129,8 @@ first_two None None e g = refl
 first_two None (Some o) e g = cc
 first_two (Some o) b e g = cc
 
-operand_passes : (w : World) (p : ℕ) (kinds : List Kind) (needed x : ℕ) (e : Entry) → entry_at w p x ≡ Some e → takes kinds e.kind ≡ true → within needed (bits e.rights) ≡ true → operand w p kinds needed x ≡ None
+operand_passes : (w : World) (p : ℕ) (kinds : List Kind) (needed x : ℕ) (e : Entry) → entry_at w p x ≡ Some e → takes kinds e.kind ≡ true
+    → within needed (bits e.rights) ≡ true → operand w p kinds needed x ≡ None
 unfolding operand
 operand_passes w p kinds needed x e there kind rights = rw (there, kind, rights) refl
 
@@ -150,7 +152,8 @@ one_examined w p seen o (inr (y, there, kind, rights)) =
     by false false c bad rest h k = k
 
 -- what holds after the operands, which leave the state s of the rule
-pub record Passed (w : World) (p : ℕ) (read : List ℕ) (arrays : List SlotArray) (slots : List (List ℕ)) (s : State) (xs seen : List ℕ) (os : List Operand) : Type 0 where
+pub record Passed (w : World) (p : ℕ) (read : List ℕ) (arrays : List SlotArray) (slots : List (List ℕ)) (s : State) (xs seen : List ℕ)
+    (os : List Operand) : Type 0 where
   pub none : examined_at w p seen (map (valued read) os) ≡ None
   pub holds : Holds (unseen (Reads w p) (seen_all read seen os)) s (written xs (taken_registers os) []) arrays slots
   pub states : IsState s
@@ -175,7 +178,8 @@ not_zero o none e = let z : o.may_be_zero ≡ true = by o.may_be_zero (word_pass
     by false e = cc
 
 -- the first passes, and the others do behind it
-pub parts : (s t : State) (o : Operand) (os : List Operand) → examined_all s (o ∷ os) ≡ Ok t → (fault_of o (value_at s o.value) ≡ None) × (examined_all (taken_from s o) os ≡ Ok t)
+pub parts : (s t : State) (o : Operand) (os : List Operand) → examined_all s (o ∷ os) ≡ Ok t
+    → (fault_of o (value_at s o.value) ≡ None) × (examined_all (taken_from s o) os ≡ Ok t)
 unfolding examined_all
 parts s t o os = by (fault_of o (value_at s o.value))
   where
@@ -184,18 +188,26 @@ parts s t o os = by (fault_of o (value_at s o.value))
     by (Some c) e = cc
 
 module _ (w : World) (p : ℕ) (read : List ℕ) (arrays : List SlotArray) (slots : List (List ℕ)) where
-  takes_it : (f : Table) (s : State) (xs : List ℕ) (o : Operand) → Holds f s xs arrays slots → IsState s → o.value < length s → (a : AbsVal) → value_at s o.value ≡ a → fault_of o a ≡ None
+  takes_it : (f : Table) (s : State) (xs : List ℕ) (o : Operand) → Holds f s xs arrays slots → IsState s → o.value < length s → (a : AbsVal)
+      → value_at s o.value ≡ a → fault_of o a ≡ None
       → Holds (removed (slice_index xs o.value) f) (with_value s o.value (Word 0)) (slice_set xs o.value 0) arrays slots
-  takes_it f s xs o h states lt (Word m) is e = consume_0 h states o.value lt (zero_word o.may_be_zero m (slice_index xs o.value) (word_passes o m e) (subst (λ a. Describes f xs a (slice_index xs o.value)) is (h.described o.value))).1
+  takes_it f s xs o h states lt (Word m) is e =
+      consume_0 h states o.value lt
+      (zero_word o.may_be_zero m (slice_index xs o.value) (word_passes o m e)
+      (subst (λ a. Describes f xs a (slice_index xs o.value)) is (h.described o.value))).1
   takes_it f s xs o h states lt (Has maybe kind rights) is e = consume h states o.value lt maybe kind rights is
   takes_it f s xs o h states lt (KindOf t) is e = cc
   takes_it f s xs o h states lt (RightsOf t) is e = cc
 
-  live_at : (seen : List ℕ) (s : State) (xs : List ℕ) (o : Operand) → Holds (unseen (Reads w p) seen) s xs arrays slots → slice_index xs o.value ≡ slice_index read o.value → fault_of o (value_at s o.value) ≡ None
+  live_at : (seen : List ℕ) (s : State) (xs : List ℕ) (o : Operand) → Holds (unseen (Reads w p) seen) s xs arrays slots
+      → slice_index xs o.value ≡ slice_index read o.value → fault_of o (value_at s o.value) ≡ None
       → IsLive (unseen (Reads w p) seen) o (slice_index read o.value)
-  live_at seen s xs o h same e = subst (IsLive (unseen (Reads w p) seen) o) same (passes_live (unseen (Reads w p) seen) xs o (value_at s o.value) (slice_index xs o.value) e (h.described o.value))
+  live_at seen s xs o h same e =
+      subst (IsLive (unseen (Reads w p) seen) o) same
+      (passes_live (unseen (Reads w p) seen) xs o (value_at s o.value) (slice_index xs o.value) e (h.described o.value))
 
-  named_step : (o : Operand) (os : List Operand) (s : State) (xs seen : List ℕ) → o.is_taken ≡ false → IsLive (unseen (Reads w p) seen) o (slice_index read o.value)
+  named_step : (o : Operand) (os : List Operand) (s : State) (xs seen : List ℕ) → o.is_taken ≡ false
+      → IsLive (unseen (Reads w p) seen) o (slice_index read o.value)
       → Passed w p read arrays slots s xs seen os → Passed w p read arrays slots s xs seen (o ∷ os)
   unfolding examined_at
   named_step o os s xs seen is live rest = record {
@@ -204,7 +216,8 @@ module _ (w : World) (p : ℕ) (read : List ℕ) (arrays : List SlotArray) (slot
     states = rest.states;
   }
 
-  taken_step : (o : Operand) (os : List Operand) (s : State) (xs seen : List ℕ) → o.is_taken ≡ true → IsLive (unseen (Reads w p) seen) o (slice_index read o.value)
+  taken_step : (o : Operand) (os : List Operand) (s : State) (xs seen : List ℕ) → o.is_taken ≡ true
+      → IsLive (unseen (Reads w p) seen) o (slice_index read o.value)
       → Passed w p read arrays slots s (slice_set xs o.value 0) (slice_index read o.value ∷ seen) os → Passed w p read arrays slots s xs seen (o ∷ os)
   unfolding examined_at
   taken_step o os s xs seen is live rest = record {
@@ -219,15 +232,19 @@ module _ (w : World) (p : ℕ) (read : List ℕ) (arrays : List SlotArray) (slot
     where
       by : (q ≡ r) ⊎ (q ≢ r) → (slice_index (slice_set xs r 0) q ≡ slice_index read q) ⊎ (value_at (with_value s r (Word 0)) q ≡ Word 0)
       by (inl e) = inr (rw e (value_at-here s r (Word 0) lt))
-      by (inr apart) = ⊎_elim (λ same. inl (get_or-set_other xs r q 0 0 apart ∙ same)) (λ word. inr (value_at-with s r q (Word 0) apart ∙ ap (untagged r) word)) (unread q)
+      by (inr apart) =
+          ⊎_elim (λ same. inl (get_or-set_other xs r q 0 0 apart ∙ same)) (λ word. inr (value_at-with s r q (Word 0) apart ∙ ap (untagged r) word)) (unread q)
 
-  same_read : (s : State) (xs : List ℕ) (o : Operand) → o.may_be_zero ≡ false → fault_of o (value_at s o.value) ≡ None → IsUnread s xs read → slice_index xs o.value ≡ slice_index read o.value
+  same_read : (s : State) (xs : List ℕ) (o : Operand) → o.may_be_zero ≡ false → fault_of o (value_at s o.value) ≡ None → IsUnread s xs read
+      → slice_index xs o.value ≡ slice_index read o.value
   same_read s xs o some e unread = ⊎_elim (λ same. same) (λ word. absurd (not_zero o some (subst (λ a. fault_of o a ≡ None) word e))) (unread o.value)
 
   -- one operand, and then those behind it
-  step_by : (o : Operand) (os : List Operand) (s t : State) (xs seen : List ℕ) → Holds (unseen (Reads w p) seen) s xs arrays slots → IsState s → IsUnread s xs read → o.value < register_count
+  step_by : (o : Operand) (os : List Operand) (s t : State) (xs seen : List ℕ) → Holds (unseen (Reads w p) seen) s xs arrays slots → IsState s
+      → IsUnread s xs read → o.value < register_count
       → slice_index xs o.value ≡ slice_index read o.value → fault_of o (value_at s o.value) ≡ None → examined_all (taken_from s o) os ≡ Ok t
-      → ((u : State) (ys more : List ℕ) → Holds (unseen (Reads w p) more) u ys arrays slots → IsState u → IsUnread u ys read → examined_all u os ≡ Ok t → Passed w p read arrays slots t ys more os)
+      → ((u : State) (ys more : List ℕ) → Holds (unseen (Reads w p) more) u ys arrays slots → IsState u → IsUnread u ys read → examined_all u os ≡ Ok t
+      → Passed w p read arrays slots t ys more os)
       → Passed w p read arrays slots t xs seen (o ∷ os)
   step_by o os s t xs seen h states unread inside same passed later rest = by o.is_taken refl
     where

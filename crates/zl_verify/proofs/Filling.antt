@@ -14,7 +14,8 @@ use Rattle.zl_abs.proofs.FineRules.{rule_fine}
 use Rattle.zl_abs.proofs.StateOrder.{all_below_refl}
 use Rattle.zl_verify.specs.Lists.{at}
 use Rattle.zl_verify.specs.Checks.{IsLeastTyping}
-use Rattle.zl_verify.specs.Blocks.{Blocks, AreBlocks, start_of, Out, leaves_last, leaves_first, leaves, out, block, inner_last, inner, inner_of, passed_on, known_by, flows, known, listed, states_of}
+use Rattle.zl_verify.specs.Blocks.{Blocks, AreBlocks, start_of, Out, leaves_last, leaves_first, leaves, out, block, inner_last, inner, inner_of, passed_on}
+use Rattle.zl_verify.specs.Blocks.{known_by, flows, known, listed, states_of}
 use Rattle.zl_verify.proofs.Places.{mapped}
 use Rattle.zl_verify.proofs.Parting.{AreParted, rule_parted}
 use Rattle.zl_verify.proofs.Lowers.{typed_at}
@@ -58,7 +59,8 @@ module _ (i : Image) (range : IsTrue (is_in_range i)) (bs : Blocks) (a : AreBloc
   first_holds b s (Err c) h = absurd h
   first_holds b s (Ok es) h = h.0
 
-  inner_holds : (go : State → Out) (x : State) (es : List Edge) → Holds (at kept) (leaves bs.numbers go es) → inner bs.numbers es ≡ Some x → Holds (at kept) (go x)
+  inner_holds : (go : State → Out) (x : State) (es : List Edge) → Holds (at kept) (leaves bs.numbers go es) → inner bs.numbers es ≡ Some x
+      → Holds (at kept) (go x)
   unfolding leaves inner
   inner_holds go x [] h e = absurd (some_none x e)
   inner_holds go x (e ∷ []) h q = by (at bs.numbers (e.0)) h q
@@ -82,7 +84,8 @@ module _ (i : Image) (range : IsTrue (is_in_range i)) (bs : Blocks) (a : AreBloc
       by (Some b) p = absurd (some_none x p)
   inner_fine x (e ∷ f ∷ es) h q = inner_fine x (f ∷ es) (h.1) q
 
-  inner_lower : (y : ℕ → Option State) (n : ℕ) (x : State) (es : List Edge) → AllLead y es → AreParted bs.numbers n es → inner bs.numbers es ≡ Some x → IsAbove (y (n + 1)) x
+  inner_lower : (y : ℕ → Option State) (n : ℕ) (x : State) (es : List Edge) → AllLead y es → AreParted bs.numbers n es → inner bs.numbers es ≡ Some x
+      → IsAbove (y (n + 1)) x
   unfolding inner AreParted
   inner_lower y n x [] h p e = absurd (some_none x e)
   inner_lower y n x (e ∷ []) h p q = by (at bs.numbers (e.0)) refl q
@@ -97,7 +100,8 @@ module _ (i : Image) (range : IsTrue (is_in_range i)) (bs : Blocks) (a : AreBloc
   next_suits n u x h (Err c) r e = absurd (some_none x e)
   next_suits n u x h (Ok es) r e = record {
     leads = λ j l. inner_holds (λ t. out bs.numbers i j (n + 1) t) x es
-        (subst (λ (q : Result (List Edge) Cause). Holds (at kept) (and_then q (leaves bs.numbers (λ t. out bs.numbers i j (n + 1) t)))) r (h.leads (suc j) (omega (arith, l)))) e;
+        (subst (λ (q : Result (List Edge) Cause). Holds (at kept) (and_then q (leaves bs.numbers (λ t. out bs.numbers i j (n + 1) t)))) r
+        (h.leads (suc j) (omega (arith, l)))) e;
     fine = inner_fine x es (subst (λ (q : Result (List Edge) Cause). IfOk q AllFine) r (rule_fine (bounds_of i.code) i n u range h.fine)) e;
     lower = λ y k. inner_lower y n x es (subst (λ (q : Result (List Edge) Cause). Holds y q) r (typed_at i y k n u (h.lower y k)))
         (subst (λ (q : Result (List Edge) Cause). IfOk q (AreParted bs.numbers n)) r (rule_parted i bs a n u)) e;
@@ -109,7 +113,8 @@ module _ (i : Image) (range : IsTrue (is_in_range i)) (bs : Blocks) (a : AreBloc
       record {
         leads = λ j l.
             let m : length i.code - n ≡ j = omega (arith, l) in
-            subst (λ (k : ℕ). Holds (at kept) (out bs.numbers i k n s)) m (subst (λ (k : ℕ). Holds (at kept) (out bs.numbers i (length i.code - k) k s)) z (settled b s e));
+            subst (λ (k : ℕ). Holds (at kept) (out bs.numbers i k n s)) m
+            (subst (λ (k : ℕ). Holds (at kept) (out bs.numbers i (length i.code - k) k s)) z (settled b s e));
         fine = all_fine b s e;
         lower = λ y k. subst (λ (m : ℕ). IsAbove (y m) s) z (least y k b s e);
       }
@@ -126,7 +131,8 @@ module _ (i : Image) (range : IsTrue (is_in_range i)) (bs : Blocks) (a : AreBloc
   flow_suits zero s e = absurd (some_none s e)
   flow_suits (suc n) s e = by (λ u p. known_suits n (λ x q. flow_suits n x q) u p) (known i bs.numbers kept n) refl e
     where
-      by : ((u : State) → known i bs.numbers kept n ≡ Some u → Suits n u) → (o : Option State) → known i bs.numbers kept n ≡ o → passed_on i bs.numbers n o ≡ Some s → Suits (suc n) s
+      by : ((u : State) → known i bs.numbers kept n ≡ Some u → Suits n u) → (o : Option State) → known i bs.numbers kept n ≡ o
+          → passed_on i bs.numbers n o ≡ Some s → Suits (suc n) s
       by suits None q p = absurd (some_none s p)
       by suits (Some u) q p = let z : n + 1 ≡ suc n = omega arith in subst (λ (m : ℕ). Suits m s) z (next_suits n u s (suits u q) (rule i n u) refl p)
 
@@ -140,7 +146,8 @@ module _ (i : Image) (range : IsTrue (is_in_range i)) (bs : Blocks) (a : AreBloc
 
   is_known : (n : ℕ) (s : State) → typed n ≡ Some s → (n < length i.code) × (known i bs.numbers kept n ≡ Some s)
   is_known n s e =
-      let l : n < length i.code = subst (λ (m : ℕ). n < m) (length_listed (length i.code) (known i bs.numbers kept)) (mapped (states_of i bs.numbers kept) n s e) in
+      let l : n < length i.code =
+      subst (λ (m : ℕ). n < m) (length_listed (length i.code) (known i bs.numbers kept)) (mapped (states_of i bs.numbers kept) n s e) in
       (l, sym (at_listed (length i.code) (known i bs.numbers kept) n l) ∙ e)
 
   above : (n : ℕ) (s : State) → n < length i.code → (o : Option State) → known i bs.numbers kept n ≡ o → IsAbove o s → IsAbove (typed n) s
@@ -149,7 +156,8 @@ module _ (i : Image) (range : IsTrue (is_in_range i)) (bs : Blocks) (a : AreBloc
   at_begin : (n b : ℕ) (s : State) → at bs.numbers n ≡ Some b → IsAbove (at kept b) s → IsAbove (typed n) s
   at_begin n b s q h = above n s (let z = mapped bs.numbers n b q in omega (arith, a.long)) (at kept b) (rw q refl) h
 
-  behind : (n : ℕ) (s x : State) (j : ℕ) → (n + 1) + j ≡ length i.code → known i bs.numbers kept n ≡ Some s → Holds (at kept) (out bs.numbers i j (n + 1) x) → inner_of bs.numbers (rule i n s) ≡ Some x
+  behind : (n : ℕ) (s x : State) (j : ℕ) → (n + 1) + j ≡ length i.code → known i bs.numbers kept n ≡ Some s → Holds (at kept) (out bs.numbers i j (n + 1) x)
+      → inner_of bs.numbers (rule i n s) ≡ Some x
       → at bs.numbers (n + 1) ≡ None → IsAbove (typed (n + 1)) x
   unfolding flows out
   behind n s x zero l e h q none = absurd h
@@ -165,7 +173,8 @@ module _ (i : Image) (range : IsTrue (is_in_range i)) (bs : Blocks) (a : AreBloc
     lead_all [] p h next = tt
     lead_all (e ∷ []) p h next = by (at bs.numbers (e.0)) refl h (λ x g. next x g)
       where
-        by : (o : Option ℕ) → at bs.numbers (e.0) ≡ o → Holds (at kept) (leaves_last go (e.1) o) → ((x : State) → inner_last (e.1) o ≡ Some x → at bs.numbers (n + 1) ≡ None → IsAbove (typed (n + 1)) x)
+        by : (o : Option ℕ) → at bs.numbers (e.0) ≡ o → Holds (at kept) (leaves_last go (e.1) o)
+            → ((x : State) → inner_last (e.1) o ≡ Some x → at bs.numbers (n + 1) ≡ None → IsAbove (typed (n + 1)) x)
             → IsAbove (typed (e.0)) (e.1) × Unit {0}
         by None q g on = (subst (λ (m : ℕ). IsAbove (typed m) (e.1)) (sym (p q)) (on (e.1) refl (subst (λ (m : ℕ). at bs.numbers m ≡ None) (p q) q)), tt)
         by (Some b) q g on = (at_begin (e.0) b (e.1) q (g.0), tt)
@@ -174,15 +183,19 @@ module _ (i : Image) (range : IsTrue (is_in_range i)) (bs : Blocks) (a : AreBloc
         by : (o : Option ℕ) → at bs.numbers (e.0) ≡ o → Holds (at kept) (leaves_first (e.1) (leaves bs.numbers go (f ∷ es)) o)
             → (Holds (at kept) (leaves bs.numbers go (f ∷ es)) → AllLead typed (f ∷ es)) → IsAbove (typed (e.0)) (e.1) × AllLead typed (f ∷ es)
         by None q g more = absurd g
-        by (Some b) q g more = (at_begin (e.0) b (e.1) q (first_holds b (e.1) (leaves bs.numbers go (f ∷ es)) g), more (rest_holds b (e.1) (leaves bs.numbers go (f ∷ es)) g))
+        by (Some b) q g more =
+            (at_begin (e.0) b (e.1) q (first_holds b (e.1) (leaves bs.numbers go (f ∷ es)) g), more (rest_holds b (e.1) (leaves bs.numbers go (f ∷ es)) g))
 
-  rule_holds : (n : ℕ) (s : State) (j : ℕ) → (n + 1) + j ≡ length i.code → known i bs.numbers kept n ≡ Some s → Suits n s → (r : Result (List Edge) Cause) → rule i n s ≡ r → Holds typed r
+  rule_holds : (n : ℕ) (s : State) (j : ℕ) → (n + 1) + j ≡ length i.code → known i bs.numbers kept n ≡ Some s → Suits n s → (r : Result (List Edge) Cause)
+      → rule i n s ≡ r → Holds typed r
   unfolding out
   rule_holds n s j l e h r q =
-      by r q (subst (λ (x : Result (List Edge) Cause). Holds (at kept) (and_then x (leaves bs.numbers (λ t. out bs.numbers i j (n + 1) t)))) q (h.leads (suc j) (omega (arith, l))))
+      by r q (subst (λ (x : Result (List Edge) Cause). Holds (at kept) (and_then x (leaves bs.numbers (λ t. out bs.numbers i j (n + 1) t)))) q
+      (h.leads (suc j) (omega (arith, l))))
       (subst (λ (x : Result (List Edge) Cause). IfOk x (AreParted bs.numbers n)) q (rule_parted i bs a n s))
     where
-      by : (r : Result (List Edge) Cause) → rule i n s ≡ r → Holds (at kept) (and_then r (leaves bs.numbers (λ t. out bs.numbers i j (n + 1) t))) → IfOk r (AreParted bs.numbers n) → Holds typed r
+      by : (r : Result (List Edge) Cause) → rule i n s ≡ r → Holds (at kept) (and_then r (leaves bs.numbers (λ t. out bs.numbers i j (n + 1) t)))
+          → IfOk r (AreParted bs.numbers n) → Holds typed r
       by (Err c) q g p = g
       by (Ok es) q g p =
           lead_all n (λ t. out bs.numbers i j (n + 1) t) es p g

@@ -1,5 +1,6 @@
 -- The destinations of an answer get their values one after another, and are then as the rule says.
-use Rattle.std.proofs.Common.{◌≡◌, ℕ, ◌<◌, ◌≤◌, ◌⊎◌, Bool, true, false, ◌&&◌, ◌||◌, not, ◌==◌, List, [], ◌∷◌, map, length, refl, sym, subst, Some, None, inl, inr, slice_set, slice_index}
+use Rattle.std.proofs.Common.{◌≡◌, ℕ, ◌<◌, ◌≤◌, ◌⊎◌, Bool, true, false, ◌&&◌, ◌||◌, not, ◌==◌, List, [], ◌∷◌, map, length, refl, sym, subst, Some, None, inl}
+use Rattle.std.proofs.Common.{inr, slice_set, slice_index}
 use Rattle.std.specs.List.{AllByRecursion}
 use Rattle.std.proofs.lemmas.Bool.{eqb-false}
 use Rattle.zl_rights.specs.declared.entry.Entry.{Entry}
@@ -44,19 +45,23 @@ Fits f s xs (d ∷ ds) vs g =
 
 -- ---- one destination
 
-module _ {f : Table} {s : State} {xs : List ℕ} {arrays : List SlotArray} {slots : List (List ℕ)} (h : Holds f s xs arrays slots) (states : IsState s) (r : ℕ) (lt : r < length s) (free : is_has (value_at s r) ≡ false) where
+module _ {f : Table} {s : State} {xs : List ℕ} {arrays : List SlotArray} {slots : List (List ℕ)} (h : Holds f s xs arrays slots) (states : IsState s) (r : ℕ)
+    (lt : r < length s) (free : is_has (value_at s r) ≡ false) where
   enters : (a : AbsVal) (x : ℕ) (g : Table) → Enters f s xs r a x g → Holds g (with_value s r a) (slice_set xs r x) arrays slots
   enters (Word n) x g (le, few, same) = rw same (write_word h states r lt free n x few le)
   enters (Has maybe kind rights) x g (inl (m, z, same)) = rw (same, m, z) (write_none h states r lt free kind rights)
-  enters (Has maybe kind rights) x g (inr (e, few, some, unused, fits, same)) = rw same (write_handle h states r lt free maybe kind rights x e few some unused fits)
+  enters (Has maybe kind rights) x g (inr (e, few, some, unused, fits, same)) =
+      rw same (write_handle h states r lt free maybe kind rights x e few some unused fits)
   enters (KindOf t) x g (apart, named, few, is, same) = rw same (write_kind h states r lt free t x apart few is)
   enters (RightsOf t) x g (apart, named, few, is, same) = rw same (write_rights h states r lt free t x apart few is)
 
   still_states : (a : AbsVal) (x : ℕ) (g : Table) → Enters f s xs r a x g → IsState (with_value s r a)
   still_states (Word n) x g e = states_with s states r lt (Word n) refl
   still_states (Has maybe kind rights) x g e = states_with s states r lt (Has maybe kind rights) refl
-  still_states (KindOf t) x g (apart, named, few, is, same) = states_with s states r lt (KindOf t) (rw (test_apart t r apart) (named_with s states r lt (KindOf t) t apart named))
-  still_states (RightsOf t) x g (apart, named, few, is, same) = states_with s states r lt (RightsOf t) (rw (test_apart t r apart) (named_with s states r lt (RightsOf t) t apart named))
+  still_states (KindOf t) x g (apart, named, few, is, same) =
+      states_with s states r lt (KindOf t) (rw (test_apart t r apart) (named_with s states r lt (KindOf t) t apart named))
+  still_states (RightsOf t) x g (apart, named, few, is, same) =
+      states_with s states r lt (RightsOf t) (rw (test_apart t r apart) (named_with s states r lt (RightsOf t) t apart named))
 
 -- ---- all destinations
 
@@ -90,7 +95,8 @@ abbrev pub AreInside : List (ℕ × AbsVal) → Type 0
 AreInside ds = AllByRecursion (λ (d : ℕ × AbsVal). d.0 < register_count) ds
 
 -- registers that hold no handle before get what fits, and hold it then
-pub results : (ds : List (ℕ × AbsVal)) (vs : List ℕ) (f : Table) (s : State) (xs : List ℕ) (arrays : List SlotArray) (slots : List (List ℕ)) (g : Table) → Holds f s xs arrays slots → IsState s → AreInside ds
+pub results : (ds : List (ℕ × AbsVal)) (vs : List ℕ) (f : Table) (s : State) (xs : List ℕ) (arrays : List SlotArray) (slots : List (List ℕ)) (g : Table)
+    → Holds f s xs arrays slots → IsState s → AreInside ds
     → are_distinct ds ≡ true → has_one s ds ≡ false → Fits f s xs ds vs g → Holds g (with_all s ds) (written xs (map (λ x. x.0) ds) vs) arrays slots
 unfolding are_distinct with_all
 results [] vs f s xs arrays slots g h states inside distinct free fits = rw fits h

@@ -1,5 +1,6 @@
 -- What answers give fits: a status, handles at free values, and handles with their kinds and rights.
-use Rattle.std.proofs.Common.{◌≡◌, ℕ, zero, suc, ◌+◌, ◌*◌, ◌<◌, ◌≤◌, Bool, true, false, ◌&&◌, not, ◌==◌, List, [], ◌∷◌, length, refl, sym, ap, ◌∙◌, subst, IsTrue, Option, Some, None, arith, inl, inr, slice_set, slice_index}
+use Rattle.std.proofs.Common.{◌≡◌, ℕ, zero, suc, ◌+◌, ◌*◌, ◌<◌, ◌≤◌, Bool, true, false, ◌&&◌, not, ◌==◌, List, [], ◌∷◌, length, refl, sym, ap, ◌∙◌, subst}
+use Rattle.std.proofs.Common.{IsTrue, Option, Some, None, arith, inl, inr, slice_set, slice_index}
 use Rattle.std.specs.Prelude.{is_some, nat_lt, bit_and}
 use Rattle.std.specs.List.{list_all, AllByRecursion}
 use Rattle.std.proofs.lemmas.Bool.{eqb-true}
@@ -118,7 +119,8 @@ AllAs [] [] = Unit {0}
 AllAs ((r, Has maybe kind rights) ∷ ds) (e ∷ es) = IsAs kind rights (Some e) × AllAs ds es
 AllAs _ _ = ⊥
 
-pub handles_fit : (ds : List (ℕ × AbsVal)) (es : List Entry) (vs : List ℕ) (q : Process) (s : State) (xs : List ℕ) → IsFreeLast q → may_get_all q es vs ≡ true → AllAs ds es
+pub handles_fit : (ds : List (ℕ × AbsVal)) (es : List Entry) (vs : List ℕ) (q : Process) (s : State) (xs : List ℕ) → IsFreeLast q
+    → may_get_all q es vs ≡ true → AllAs ds es
     → Fits (get q.handles) s xs ds vs (get (getting_all es vs q).handles)
 handles_fit [] [] [] q s xs sound may a = refl
 handles_fit [] [] (v ∷ vs) q s xs sound may a = cc
@@ -165,7 +167,8 @@ abbrev written_triple : ℕ → List ℕ → ℕ → ℕ → ℕ → List ℕ
 written_triple a xs v k r = slice_set (slice_set (slice_set xs a v) (a + 1) k) (a + 2) r
 
 -- the kind and the rights of the handle that has just been written to a
-module _ (f : Table) (a : ℕ) (s : State) (xs : List ℕ) (inside : a < length s) (wide : length xs ≡ length s) (g : Table) (ds : List (ℕ × AbsVal)) (vs : List ℕ) where
+module _ (f : Table) (a : ℕ) (s : State) (xs : List ℕ) (inside : a < length s) (wide : length xs ≡ length s) (g : Table) (ds : List (ℕ × AbsVal))
+    (vs : List ℕ) where
   reports : (maybe : Bool) (kind : Option Kind) (rights : Rights) (v k r : ℕ) → k ≤ ANY → r ≤ ANY → k ≡ kind_in (f v) → r ≡ rights_in (f v)
       → Fits f (after_triple a s (Has maybe kind rights)) (written_triple a xs v k r) ds vs g
       → Fits f (with_value s a (Has maybe kind rights)) (slice_set xs a v) ((a + 1, KindOf a) ∷ (a + 2, RightsOf a) ∷ ds) (k ∷ r ∷ vs) g
@@ -191,7 +194,8 @@ module _ (f : Table) (a : ℕ) (s : State) (xs : List ℕ) (inside : a < length 
       named2 = rw (value_at-with (with_value s a (Has maybe kind rights)) (a + 1) a (KindOf a) apart1, value_at-here s a (Has maybe kind rights) inside) refl
 
 long_after : (a : ℕ) (s : State) (h : AbsVal) → length (after_triple a s h) ≡ length s
-long_after a s h = long_with (with_value (with_value s a h) (a + 1) (KindOf a)) (a + 2) (RightsOf a) ∙ (long_with (with_value s a h) (a + 1) (KindOf a) ∙ long_with s a h)
+long_after a s h =
+    long_with (with_value (with_value s a h) (a + 1) (KindOf a)) (a + 2) (RightsOf a) ∙ (long_with (with_value s a h) (a + 1) (KindOf a) ∙ long_with s a h)
 
 wide_after : (a : ℕ) (xs : List ℕ) (v k r : ℕ) → length (written_triple a xs v k r) ≡ length xs
 wide_after a xs v k r = length-set (slice_set (slice_set xs a v) (a + 1) k) (a + 2) r ∙ (length-set (slice_set xs a v) (a + 1) k ∙ length-set xs a v)
@@ -203,17 +207,20 @@ HasFewRights e = bits e.rights ≤ ANY
 abbrev any_handle : AbsVal
 any_handle = Has true None (rights_of 0)
 
-pub no_triples_fit : (n a : ℕ) (f : Table) (s : State) (xs : List ℕ) → a + 3 * n ≤ length s → length xs ≡ length s → f 0 ≡ None → Fits f s xs (triple_results a n) [] f
+pub no_triples_fit : (n a : ℕ) (f : Table) (s : State) (xs : List ℕ) → a + 3 * n ≤ length s → length xs ≡ length s → f 0 ≡ None
+    → Fits f s xs (triple_results a n) [] f
 no_triples_fit zero a f s xs room wide none = refl
 no_triples_fit (suc n) a f s xs room wide none =
     let long = long_after a s any_handle in (
       f,
       inl (refl, refl, refl),
-      reports f a s xs (omega arith) wide f (triple_results (a + 3) n) [] true None (rights_of 0) 0 0 0 (omega arith) (omega arith) (rw none refl) (rw none refl)
+      reports f a s xs (omega arith) wide f (triple_results (a + 3) n) [] true None (rights_of 0) 0 0 0 (omega arith) (omega arith) (rw none refl)
+          (rw none refl)
           (no_triples_fit n (a + 3) f (after_triple a s any_handle) (written_triple a xs 0 0 0) (omega arith) (wide_after a xs 0 0 0 ∙ (wide ∙ sym long)) none),
     )
 
-pub triples_fit : (n a : ℕ) (es : List Entry) (vs : List ℕ) (q : Process) (s : State) (xs : List ℕ) → a + 3 * n ≤ length s → length xs ≡ length s → length es ≤ n
+pub triples_fit : (n a : ℕ) (es : List Entry) (vs : List ℕ) (q : Process) (s : State) (xs : List ℕ) → a + 3 * n ≤ length s → length xs ≡ length s
+    → length es ≤ n
     → get q.handles 0 ≡ None → IsFreeLast q → may_get_all q es vs ≡ true → AllByRecursion HasFewRights es
     → Fits (get q.handles) s xs (triple_results a n) (told_of es vs) (get (getting_all es vs q).handles)
 triples_fit n a [] [] q s xs room wide few none sound may fewer = no_triples_fit n a (get q.handles) s xs room wide none
@@ -226,7 +233,8 @@ triples_fit (suc n) a (e ∷ es) (v ∷ vs) q s xs room wide few none sound may 
     let long = long_after a s any_handle in (
       get (process_with v e q).handles,
       inr (e, omega arith, some, unused, (refl, within_none (bits e.rights)), getting v e q),
-      reports (get (process_with v e q).handles) a s xs (omega arith) wide (get (getting_all es vs (process_with v e q)).handles) (triple_results (a + 3) n) (told_of es vs) true None (rights_of 0) v (kind_number e.kind) (bits e.rights) (kind_few e.kind) rights
+      reports (get (process_with v e q).handles) a s xs (omega arith) wide (get (getting_all es vs (process_with v e q)).handles) (triple_results (a + 3) n)
+          (told_of es vs) true None (rights_of 0) v (kind_number e.kind) (bits e.rights) (kind_few e.kind) rights
           (rw there refl) (rw there refl)
           (triples_fit n (a + 3) es vs (process_with v e q) (after_triple a s any_handle) (written_triple a xs v (kind_number e.kind) (bits e.rights))
           (omega arith) (wide_after a xs v (kind_number e.kind) (bits e.rights) ∙ (wide ∙ sym long)) (omega arith)

@@ -51,11 +51,13 @@ module _ (p : ℕ) where
   not_stuck (item.Stuck pid) fine = fine
 
 -- an image of the library is in its ranges
-pub in_range : (lib : Library) (i : Image) (w : World) (p : ℕ) → AllByRecursion (λ x. IsTrue (is_in_range x.image)) lib → IsStarted lib i w p → is_in_range i ≡ true
+pub in_range : (lib : Library) (i : Image) (w : World) (p : ℕ) → AllByRecursion (λ x. IsTrue (is_in_range x.image)) lib → IsStarted lib i w p
+    → is_in_range i ≡ true
 in_range lib i w p images started = program_in lib started.process.program _ images started.proper.running
 
 -- who was properly started is under way
-pub started_under_way : (lib : Library) (i : Image) (t : ℕ → Option State) → is_in_range i ≡ true → IsTyping i t → (w : World) (p : ℕ) → IsStarted lib i w p → IsUnderWay lib i t w p
+pub started_under_way : (lib : Library) (i : Image) (t : ℕ → Option State) → is_in_range i ≡ true → IsTyping i t → (w : World) (p : ℕ) → IsStarted lib i w p
+    → IsUnderWay lib i t w p
 started_under_way lib i t range typing w p started = record {
   process = started.process;
   there = started.there;

@@ -1,5 +1,6 @@
 -- Where the instructions of a typing lead, from the edges that the code hands out.
-use Rattle.std.proofs.Common.{◌≡◌, ◌≢◌, ℕ, suc, ◌+◌, ◌<◌, ◌≤◌, Bool, true, false, List, [], ◌∷◌, ◌++◌, map, length, Option, Some, None, refl, sym, ap, ◌∙◌, subst, ◌⊎◌, inl, inr, arith}
+use Rattle.std.proofs.Common.{◌≡◌, ◌≢◌, ℕ, suc, ◌+◌, ◌<◌, ◌≤◌, Bool, true, false, List, [], ◌∷◌, ◌++◌, map, length, Option, Some, None, refl, sym, ap, ◌∙◌}
+use Rattle.std.proofs.Common.{subst, ◌⊎◌, inl, inr, arith}
 use Rattle.std.specs.Prelude.{Result, Ok, Err, if◌then◌else◌, slice_get, slice_set}
 use Rattle.std.proofs.Math.ListN.{length-set}
 use Rattle.std.specs.Option.{option_to_list}
@@ -43,7 +44,8 @@ leads_nowhere i n s c h = rw (← h) (by (is_pause (call_at i n)))
     by true = refl
     by false = refl
 
-pub inner_told : (numbers : List (Option ℕ)) (o : Option State) (t : State) (x : Steps) (r : Result (List Lead) Cause) → Ok (step_in t x.jump ++ step_in t x.next) ≡ r
+pub inner_told : (numbers : List (Option ℕ)) (o : Option State) (t : State) (x : Steps) (r : Result (List Lead) Cause)
+    → Ok (step_in t x.jump ++ step_in t x.next) ≡ r
     → o ≡ inner numbers (step_in t x.jump ++ step_in t x.next) → o ≡ inner_of numbers r
 inner_told numbers o t x r h k = k ∙ ap (inner_of numbers) h
 
@@ -53,16 +55,19 @@ inner_none numbers c r h = ap (inner_of numbers) h
 -- ---- one instruction after another
 
 -- what holds before this instruction is looked at, where the state that flows to it is this, if it is there
-pub record Flowing (i : Image) (numbers : List (Option ℕ)) (kept : List (Option State)) (targets : List Targets) (there : Bool) (s : State) (p : ℕ) : Type 0 where
+pub record Flowing (i : Image) (numbers : List (Option ℕ)) (kept : List (Option State)) (targets : List Targets) (there : Bool) (s : State)
+    (p : ℕ) : Type 0 where
   pub long : length targets ≡ length i.code
   pub same : (n : ℕ) → n < p → places_at targets n ≡ leads_by i n (known i numbers kept n)
   pub flow : flow_in there s ≡ flows i numbers kept p
 
-pub flow_begins : (i : Image) (numbers : List (Option ℕ)) (kept : List (Option State)) (targets : List Targets) (s : State) → length targets ≡ length i.code → Flowing i numbers kept targets false s 0
+pub flow_begins : (i : Image) (numbers : List (Option ℕ)) (kept : List (Option State)) (targets : List Targets) (s : State) → length targets ≡ length i.code
+    → Flowing i numbers kept targets false s 0
 unfolding flows
 flow_begins i numbers kept targets s h = record { long = h; same = λ n k. absurd (omega arith); flow = refl }
 
-pub flow_more : (i : Image) (numbers : List (Option ℕ)) (kept : List (Option State)) (targets : List Targets) (b : Bool) (s : State) (p : ℕ) → Flowing i numbers kept targets b s p → p < length i.code
+pub flow_more : (i : Image) (numbers : List (Option ℕ)) (kept : List (Option State)) (targets : List Targets) (b : Bool) (s : State) (p : ℕ)
+    → Flowing i numbers kept targets b s p → p < length i.code
     → (b2 : Bool) (s2 : State) → flow_in b2 s2 ≡ known_by kept (flow_in b s) (at numbers p) → (x : Targets) → places x ≡ leads_by i p (flow_in b2 s2)
     → (b3 : Bool) (s3 : State) → flow_in b3 s3 ≡ passed_on i numbers p (flow_in b2 s2) → Flowing i numbers kept (slice_set targets p x) b3 s3 (p + 1)
 unfolding flows
@@ -83,7 +88,8 @@ flow_more i numbers kept targets b s p a inside b2 s2 known_is x places_are b3 s
         (ap places_by (get_put targets p x (omega (arith, a.long))) ∙ (places_are ∙ ap (leads_by i p) there))
     same n h (inr d) = ap places_by (get_put_other targets p n x d) ∙ a.same n (omega arith)
 
-pub flow_ends : (i : Image) (numbers : List (Option ℕ)) (kept : List (Option State)) (targets : List Targets) (b : Bool) (s : State) (p : ℕ) → Flowing i numbers kept targets b s p → length i.code ≤ p
+pub flow_ends : (i : Image) (numbers : List (Option ℕ)) (kept : List (Option State)) (targets : List Targets) (b : Bool) (s : State) (p : ℕ)
+    → Flowing i numbers kept targets b s p → length i.code ≤ p
     → AreTargets i (states_of i numbers kept) targets
 flow_ends i numbers kept targets b s p a past = record {
   long = a.long ∙ sym (length_listed (length i.code) (known i numbers kept));
@@ -94,7 +100,8 @@ flow_ends i numbers kept targets b s p a past = record {
     same n (inl h) = a.same n (omega arith) ∙ ap (leads_by i n) (sym (at_listed (length i.code) (known i numbers kept) n h))
     same n (inr h) =
         let e : slice_get targets n ≡ None = get_past targets n (omega (arith, a.long)) in
-        let f : at (states_of i numbers kept) n ≡ None = ap within (get_past (states_of i numbers kept) n (omega (arith, length_listed (length i.code) (known i numbers kept)))) in
+        let f : at (states_of i numbers kept) n ≡ None =
+        ap within (get_past (states_of i numbers kept) n (omega (arith, length_listed (length i.code) (known i numbers kept)))) in
         ap places_by e ∙ ap (leads_by i n) (sym f)
 
 -- ---- a typing's instructions lead to such that have a state
@@ -125,6 +132,8 @@ closed i states y n = by (at states n) refl
 pub same_places : (i : Image) (states : List (Option State)) (targets : List Targets) → AreTargets i states targets → places_at targets ≡ leads i (at states)
 same_places i states targets a = λ j. λ n. a.same n j
 
-pub closed_targets : (i : Image) (states : List (Option State)) (targets : List Targets) → AreTargets i states targets → IsTyping i (at states) → IsClosed (length targets) (places_at targets)
+pub closed_targets : (i : Image) (states : List (Option State)) (targets : List Targets) → AreTargets i states targets → IsTyping i (at states)
+    → IsClosed (length targets) (places_at targets)
 closed_targets i states targets a y =
-    subst (λ (f : ℕ → List ℕ). IsClosed (length targets) f) (sym (same_places i states targets a)) (subst (λ (n : ℕ). IsClosed n (leads i (at states))) (sym a.long) (closed i states y))
+    subst (λ (f : ℕ → List ℕ). IsClosed (length targets) f) (sym (same_places i states targets a))
+    (subst (λ (n : ℕ). IsClosed n (leads i (at states))) (sym a.long) (closed i states y))

@@ -1,5 +1,6 @@
 -- Where the rule of an instruction holds, it leads to another, but for the exit.
-use Rattle.std.proofs.Common.{◌≡◌, ◌≢◌, ℕ, ◌+◌, Bool, true, false, ◌&&◌, ◌||◌, not, List, [], ◌∷◌, ◌++◌, length, Option, Some, None, Result, Ok, Err, IfOk, refl, subst, arith, eqb, ltb}
+use Rattle.std.proofs.Common.{◌≡◌, ◌≢◌, ℕ, ◌+◌, Bool, true, false, ◌&&◌, ◌||◌, not, List, [], ◌∷◌, ◌++◌, length, Option, Some, None, Result, Ok, Err, IfOk}
+use Rattle.std.proofs.Common.{refl, subst, arith, eqb, ltb}
 use Rattle.std.specs.Prelude.{is_some, if◌then◌else◌}
 use Rattle.std.proofs.lemmas.Bool.Decides.{nat_tests}
 use Rattle.zl_rights.specs.Numbers.{same_kind}
@@ -22,7 +23,8 @@ use Rattle.zl_abs.specs.Values.{capped}
 use Rattle.zl_abs.specs.States.{State, value_at, refined}
 use Rattle.zl_abs.specs.Bounds.{bounds_of}
 use Rattle.zl_abs.specs.Rule.{and_then, Edge, edge_to, edges}
-use Rattle.zl_abs.specs.LocalRules.{becomes, known_zero, known_there, known_kind, known_other, kind_numbered, kind_ways, equal_ways, zero_ways, below_ways, has_ways, unless, local_rule}
+use Rattle.zl_abs.specs.LocalRules.{becomes, known_zero, known_there, known_kind, known_other, kind_numbered, kind_ways, equal_ways, zero_ways, below_ways}
+use Rattle.zl_abs.specs.LocalRules.{has_ways, unless, local_rule}
 use Rattle.zl_abs.specs.CallRules.{Uses, uses_of, state_after, goes_on, call_rule_by, call_rule}
 use Rattle.zl_abs.specs.Typing.{target_of, rule_by, rule_with, rule}
 use Rattle.zl_verify.specs.Steps.{is_pause}
@@ -53,7 +55,8 @@ zero_or_there s a r (Has maybe k q) = or_true _
 zero_or_there s a r (KindOf q) = refl
 zero_or_there s a r (RightsOf q) = refl
 
-kind_or_other : (s : State) (a imm r : ℕ) (k : Option Kind) (v : AbsVal) → HasWay (record { jumped = becomes a imm (known_kind s r k v); passed = known_other s k v })
+kind_or_other : (s : State) (a imm r : ℕ) (k : Option Kind) (v : AbsVal)
+    → HasWay (record { jumped = becomes a imm (known_kind s r k v); passed = known_other s k v })
 kind_or_other s a imm r None v = refl
 kind_or_other s a imm r (Some k) (Word m) = refl
 kind_or_other s a imm r (Some k) (KindOf q) = refl
@@ -147,7 +150,8 @@ abbrev IsThere : List Edge → Type 0
 IsThere [] = ⊥
 IsThere (e ∷ es) = Unit {0}
 
-some_edge : (size target next : ℕ) (c d : Cause) (o p : Option State) → (is_some o || is_some p) ≡ true → IfOk (and_then (edge_to size c target o) (λ xs. and_then (edge_to size d next p) (λ ys. Ok (xs ++ ys)))) IsThere
+some_edge : (size target next : ℕ) (c d : Cause) (o p : Option State) → (is_some o || is_some p) ≡ true
+    → IfOk (and_then (edge_to size c target o) (λ xs. and_then (edge_to size d next p) (λ ys. Ok (xs ++ ys)))) IsThere
 some_edge size target next c d None None h = cc
 some_edge size target next c d None (Some s) h = by (ltb next size)
   where
@@ -156,7 +160,8 @@ some_edge size target next c d None (Some s) h = by (ltb next size)
     by false = tt
 some_edge size target next c d (Some s) p h = by (ltb target size) (edge_to size d next p)
   where
-    by : (t : Bool) (r : Result (List Edge) Cause) → IfOk (and_then (if t then Ok ((target, s) ∷ []) else Err c) (λ xs. and_then r (λ ys. Ok (xs ++ ys)))) IsThere
+    by : (t : Bool) (r : Result (List Edge) Cause)
+        → IfOk (and_then (if t then Ok ((target, s) ∷ []) else Err c) (λ xs. and_then r (λ ys. Ok (xs ++ ys)))) IsThere
     by true (Ok ys) = tt
     by true (Err x) = tt
     by false r = tt

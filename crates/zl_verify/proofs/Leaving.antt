@@ -12,7 +12,8 @@ use Rattle.zl_abs.specs.Typing.{rule, IsAbove, AllLead, Holds, IsTyping}
 use Rattle.zl_abs.proofs.FineRules.{rule_fine}
 use Rattle.zl_verify.specs.Lists.{at}
 use Rattle.zl_verify.specs.Search.{Table, raised, raised_all, turned_over}
-use Rattle.zl_verify.specs.Blocks.{Blocks, AreBlocks, start_of, start_or, Out, leaves_last, leaves_first, leaves, out, out_from, block, Went, went_last, went_first, went, stepped}
+use Rattle.zl_verify.specs.Blocks.{Blocks, AreBlocks, start_of, start_or, Out, leaves_last, leaves_first, leaves, out, out_from, block, Went, went_last}
+use Rattle.zl_verify.specs.Blocks.{went_first, went, stepped}
 use Rattle.zl_verify.proofs.Places.{there}
 use Rattle.zl_verify.proofs.Parting.{AreParted, rule_parted}
 use Rattle.zl_verify.proofs.Lowers.{typed_at, inside}
@@ -27,14 +28,16 @@ begins_at i bs a n b e = rw (a.begin n b e) refl
 -- ---- a typing above leads on
 
 module _ (i : Image) (bs : Blocks) (a : AreBlocks i bs) (y : ℕ → Option State) (k : IsTyping i y) where
-  one_more : (b : ℕ) (s : State) → IsAbove (at_starts i bs y b) s → (r : Out) → Holds (at_starts i bs y) r → Holds (at_starts i bs y) (and_then r (λ es. Ok ((b, s) ∷ es)))
+  one_more : (b : ℕ) (s : State) → IsAbove (at_starts i bs y b) s → (r : Out) → Holds (at_starts i bs y) r
+      → Holds (at_starts i bs y) (and_then r (λ es. Ok ((b, s) ∷ es)))
   one_more b s h (Err c) g = g
   one_more b s h (Ok es) g = (h, g)
 
   at_start : (e : Edge) (b : ℕ) → at bs.numbers (e.0) ≡ Some b → IsAbove (y (e.0)) (e.1) → IsAbove (at_starts i bs y b) (e.1)
   at_start e b q h = subst (λ (m : ℕ). IsAbove (y m) (e.1)) (sym (begins_at i bs a (e.0) b q)) h
 
-  leaving : (n : ℕ) (go : State → Out) → ((s : State) → IsAbove (y (n + 1)) s → Holds (at_starts i bs y) (go s)) → (es : List Edge) → AllLead y es → AreParted bs.numbers n es
+  leaving : (n : ℕ) (go : State → Out) → ((s : State) → IsAbove (y (n + 1)) s → Holds (at_starts i bs y) (go s)) → (es : List Edge) → AllLead y es
+      → AreParted bs.numbers n es
       → Holds (at_starts i bs y) (leaves bs.numbers go es)
   unfolding leaves AreParted
   leaving n go more [] h p = tt
@@ -45,7 +48,8 @@ module _ (i : Image) (bs : Blocks) (a : AreBlocks i bs) (y : ℕ → Option Stat
       by (Some b) q = (at_start e b q (h.0), tt)
   leaving n go more (e ∷ f ∷ es) h p = by (at bs.numbers (e.0)) refl (leaving n go more (f ∷ es) (h.1) (p.1))
     where
-      by : (o : Option ℕ) → at bs.numbers (e.0) ≡ o → Holds (at_starts i bs y) (leaves bs.numbers go (f ∷ es)) → Holds (at_starts i bs y) (leaves_first (e.1) (leaves bs.numbers go (f ∷ es)) o)
+      by : (o : Option ℕ) → at bs.numbers (e.0) ≡ o → Holds (at_starts i bs y) (leaves bs.numbers go (f ∷ es))
+          → Holds (at_starts i bs y) (leaves_first (e.1) (leaves bs.numbers go (f ∷ es)) o)
       by None q g = absurd (p.0 q)
       by (Some b) q g = one_more b (e.1) (at_start e b q (h.0)) (leaves bs.numbers go (f ∷ es)) g
 
@@ -54,7 +58,8 @@ module _ (i : Image) (bs : Blocks) (a : AreBlocks i bs) (y : ℕ → Option Stat
   led zero n s l h = absurd (let z = inside i y k n s h in omega arith)
   led (suc j) n s l h = by (rule i n s) (typed_at i y k n s h) (rule_parted i bs a n s) (λ t g. led j (n + 1) t (omega arith) g)
     where
-      by : (r : Out) → Holds y r → IfOk r (AreParted bs.numbers n) → ((t : State) → IsAbove (y (n + 1)) t → Holds (at_starts i bs y) (out bs.numbers i j (n + 1) t))
+      by : (r : Out) → Holds y r → IfOk r (AreParted bs.numbers n)
+          → ((t : State) → IsAbove (y (n + 1)) t → Holds (at_starts i bs y) (out bs.numbers i j (n + 1) t))
           → Holds (at_starts i bs y) (and_then r (leaves bs.numbers (λ t. out bs.numbers i j (n + 1) t)))
       by (Err c) g p more = g
       by (Ok es) g p more = leaving n (λ t. out bs.numbers i j (n + 1) t) more es g p
@@ -97,7 +102,8 @@ module _ (i : Image) (range : IsTrue (is_in_range i)) (numbers : List (Option �
   out_fine zero n s h = tt
   out_fine (suc j) n s h = by (rule i n s) (rule_fine (bounds_of i.code) i n s range h) (λ t g. out_fine j (n + 1) t g)
     where
-      by : (r : Out) → IfOk r AllFine → ((t : State) → IsFine t → IfOk (out numbers i j (n + 1) t) AllFine) → IfOk (and_then r (leaves numbers (λ t. out numbers i j (n + 1) t))) AllFine
+      by : (r : Out) → IfOk r AllFine → ((t : State) → IsFine t → IfOk (out numbers i j (n + 1) t) AllFine)
+          → IfOk (and_then r (leaves numbers (λ t. out numbers i j (n + 1) t))) AllFine
       by (Err c) g more = tt
       by (Ok es) g more = leaves_fine (λ t. out numbers i j (n + 1) t) more es g
 
@@ -120,7 +126,8 @@ module _ (numbers : List (Option ℕ)) (go : State → Out) where
   last t s None = refl
   last t s (Some b) = alone t b s (raised t b s)
 
-  before : (t : Table) (b : ℕ) (s : State) (r : Out) → turned_over t (and_then r (λ es. Ok ((b, s) ∷ es))) ≡ option_and_then (λ u. turned_over u r) (raised t b s)
+  before : (t : Table) (b : ℕ) (s : State) (r : Out)
+      → turned_over t (and_then r (λ es. Ok ((b, s) ∷ es))) ≡ option_and_then (λ u. turned_over u r) (raised t b s)
   unfolding raised_all
   before t b s (Err c) = by (raised t b s)
     where
@@ -157,7 +164,8 @@ module _ (numbers : List (Option ℕ)) (i : Image) (t : Table) (n : ℕ) (s : St
   unfolding out
   on h = rw (one_less h) (stepping numbers (λ x. out_from numbers i (n + 1) x) t (rule i n s))
 
-  pub ran_on : (u : Table) (x : State) → n < length i.code → Some (u, Some x) ≡ stepped numbers t (rule i n s) → turned_over t (out_from numbers i n s) ≡ turned_over u (out_from numbers i (n + 1) x)
+  pub ran_on : (u : Table) (x : State) → n < length i.code → Some (u, Some x) ≡ stepped numbers t (rule i n s)
+      → turned_over t (out_from numbers i n s) ≡ turned_over u (out_from numbers i (n + 1) x)
   ran_on u x h e = on h ∙ ap (ran (λ x. out_from numbers i (n + 1) x)) (sym e)
 
   pub ran_out : (u : Table) → n < length i.code → Some (u, None) ≡ stepped numbers t (rule i n s) → Some u ≡ turned_over t (out_from numbers i n s)

@@ -46,7 +46,8 @@ use Rattle.zl_verify.proofs.Sites.{has_site}
 
 -- ---- facts of an image and of a world
 
-pub in_range_at : (raw : Bool) (code : List Instr) (n : ℕ) → list_all (is_instr_in_range raw) code ≡ true → IfSome (slice_get code n) (λ x. is_instr_in_range raw x ≡ true)
+pub in_range_at : (raw : Bool) (code : List Instr) (n : ℕ) → list_all (is_instr_in_range raw) code ≡ true
+    → IfSome (slice_get code n) (λ x. is_instr_in_range raw x ≡ true)
 in_range_at raw [] n h = tt
 in_range_at raw (x ∷ code) zero h = (both (is_instr_in_range raw x) (list_all (is_instr_in_range raw) code) h).0
 in_range_at raw (x ∷ code) (suc n) h = in_range_at raw code n (both (is_instr_in_range raw x) (list_all (is_instr_in_range raw) code) h).1
@@ -68,7 +69,8 @@ pub record Reaches (t : ℕ → Option State) (f : Table) (i : Image) (c : Cpu) 
   pub follows : OneOf (λ n. c.counter ≡ n) targets
 
 module _ (t : ℕ → Option State) (f : Table) (i : Image) (c : Cpu) where
-  arrived : (m : ℕ) (s : State) (targets : List ℕ) → c.counter ≡ m → IsAbove (t m) s → Holds f s c.registers i.slots c.slots → OneOf (λ n. c.counter ≡ n) targets → Reaches t f i c targets
+  arrived : (m : ℕ) (s : State) (targets : List ℕ) → c.counter ≡ m → IsAbove (t m) s → Holds f s c.registers i.slots c.slots
+      → OneOf (λ n. c.counter ≡ n) targets → Reaches t f i c targets
   arrived m s targets e above h follows = by (t m) refl above
     where
       by : (o : Option State) → t m ≡ o → IsAbove o s → Reaches t f i c targets
@@ -103,8 +105,10 @@ module _ (t : ℕ → Option State) (f : Table) (i : Image) (c : Cpu) where
     reached_by true true (Some s) (Some u) k (inr (e, h)) = arrived (n + 1) u _ e k.1.0 h (inr (inl e))
 
     reached_with : (j o : Option State)
-        → RuleHolds t (and_then (edge_to size cause.BadJump target j) (λ xs. and_then (edge_to size cause.FallsOff (n + 1) o) (λ ys. Ok (xs ++ ys)))) → StandsAt j o
-        → Reaches t f i c (targets_of (and_then (edge_to size cause.BadJump target j) (λ xs. and_then (edge_to size cause.FallsOff (n + 1) o) (λ ys. Ok (xs ++ ys)))))
+        → RuleHolds t (and_then (edge_to size cause.BadJump target j) (λ xs. and_then (edge_to size cause.FallsOff (n + 1) o) (λ ys. Ok (xs ++ ys))))
+        → StandsAt j o
+        → Reaches t f i c
+        (targets_of (and_then (edge_to size cause.BadJump target j) (λ xs. and_then (edge_to size cause.FallsOff (n + 1) o) (λ ys. Ok (xs ++ ys)))))
     reached_with None None = reached_by (nat_lt target size) (nat_lt (n + 1) size) None None
     reached_with None (Some u) = reached_by (nat_lt target size) (nat_lt (n + 1) size) None (Some u)
     reached_with (Some s) None = reached_by (nat_lt target size) (nat_lt (n + 1) size) (Some s) None
@@ -116,7 +120,8 @@ module _ (t : ℕ → Option State) (f : Table) (i : Image) (c : Cpu) where
     reached (Ok w) k at = (at.0, reached_with w.jumped w.passed k at.1)
 
 -- an effect is there, where the rule holds
-effect_there : (t : ℕ → Option State) (f : Table) (i : Image) (size n target : ℕ) (w : Result Outcome Cause) → RuleHolds t (and_then w (edges size n target)) → Arrives f i n target w None → ⊥
+effect_there : (t : ℕ → Option State) (f : Table) (i : Image) (size n target : ℕ) (w : Result Outcome Cause) → RuleHolds t (and_then w (edges size n target))
+    → Arrives f i n target w None → ⊥
 effect_there t f i size n target (Err x) k at = absurd k
 effect_there t f i size n target (Ok w) k at = absurd at
 
@@ -209,7 +214,8 @@ able_still i c d range a next =
 
 -- ---- the law
 
-module _ (i : Image) (t : ℕ → Option State) (w : World) (p : ℕ) (q : Process) (range : IsTrue (is_in_range i)) (typing : IsTyping i t) (sound : HandlesAreSound w)
+module _ (i : Image) (t : ℕ → Option State) (w : World) (p : ℕ) (q : Process) (range : IsTrue (is_in_range i)) (typing : IsTyping i t)
+    (sound : HandlesAreSound w)
     (is_there : get w.processes p ≡ Some q) (k : Conforms i t w p q) where
   known : (v : ℕ) (e : Entry) → get q.handles v ≡ Some e → within (bits e.rights) KNOWN_RIGHTS ≡ true
   known v e is = within_trans KNOWN_RIGHTS (default_rights_of e.kind) (bits e.rights) (defaults_known e.kind) (sound.rights p v q e is_there is)
@@ -221,7 +227,8 @@ module _ (i : Image) (t : ℕ → Option State) (w : World) (p : ℕ) (q : Proce
   pub able_of : IsAble i q.cpu
   able_of = record { typing = t; types = typing; table = get q.handles; known = known; by = stands_by }
 
-  still_allowed : (c : Cpu) (condition : Condition) → IsTrue (is_among i.needs condition) → creates (on_process w p (λ x. record x { cpu = c })) p condition ≡ None
+  still_allowed : (c : Cpu) (condition : Condition) → IsTrue (is_among i.needs condition)
+      → creates (on_process w p (λ x. record x { cpu = c })) p condition ≡ None
   unfolding creates on_process
   still_allowed c condition e = k.allowed condition e
 

@@ -1,6 +1,7 @@
 -- The edges that are followed from an instruction, at any state, are among those of the code alone, so what bounds
 -- these bounds those.
-use Rattle.std.proofs.Common.{◌≡◌, ◌≢◌, ℕ, ◌+◌, ◌<◌, ◌≤◌, Bool, true, false, List, [], ◌∷◌, ◌++◌, map, length, Option, Some, None, Result, Ok, Err, IfOk, refl, sym, ap, ◌∙◌, subst, ◌⊎◌, inl, inr, arith}
+use Rattle.std.proofs.Common.{◌≡◌, ◌≢◌, ℕ, ◌+◌, ◌<◌, ◌≤◌, Bool, true, false, List, [], ◌∷◌, ◌++◌, map, length, Option, Some, None, Result, Ok, Err, IfOk, refl}
+use Rattle.std.proofs.Common.{sym, ap, ◌∙◌, subst, ◌⊎◌, inl, inr, arith}
 use Rattle.std.specs.Prelude.{nat_lt, slice_set, if◌then◌else◌}
 use Rattle.std.specs.List.{position}
 use Rattle.std.specs.Option.{option_to_list}
@@ -77,7 +78,8 @@ module _ (steps : ℕ → Option ℕ) (k : ℕ) where
 
   module _ (size place : ℕ) where
     -- behind these edges, the one to the next instruction
-    behind : (xs : List Edge) (p : Option State) → AllBelow steps k (map (λ e. e.0) xs) → AllBelow steps k (option_to_list (place_within size (Some (place + 1))))
+    behind : (xs : List Edge) (p : Option State) → AllBelow steps k (map (λ e. e.0) xs)
+        → AllBelow steps k (option_to_list (place_within size (Some (place + 1))))
         → AllBelow steps k (targets_of (and_then (edge_to size cause.FallsOff (place + 1) p) (λ ys. Ok (xs ++ ys))))
     behind xs None h g = joined xs [] h tt
     behind xs (Some s) h g = by (nat_lt (place + 1) size) g
@@ -89,13 +91,17 @@ module _ (steps : ℕ → Option ℕ) (k : ℕ) where
 
     edges_below : (j : Option ℕ) (target : ℕ) (o p : Option State) → Suits j target o
         → AllBelow steps k (option_to_list (place_within size j) ++ option_to_list (place_within size (Some (place + 1))))
-        → AllBelow steps k (targets_of (and_then (edge_to size cause.BadJump target o) (λ xs. and_then (edge_to size cause.FallsOff (place + 1) p) (λ ys. Ok (xs ++ ys)))))
+        → AllBelow steps k
+        (targets_of (and_then (edge_to size cause.BadJump target o) (λ xs. and_then (edge_to size cause.FallsOff (place + 1) p) (λ ys. Ok (xs ++ ys)))))
     edges_below j target None p h g = behind [] p tt (second (option_to_list (place_within size j)) (option_to_list (place_within size (Some (place + 1)))) g)
     edges_below None target (Some s) p h g = cc
-    edges_below (Some n) target (Some s) p h g = by (nat_lt target size) (subst (λ (m : ℕ). AllBelow steps k (option_to_list (place_within size (Some m)) ++ option_to_list (place_within size (Some (place + 1))))) h g)
+    edges_below (Some n) target (Some s) p h g =
+        by (nat_lt target size)
+        (subst (λ (m : ℕ). AllBelow steps k (option_to_list (place_within size (Some m)) ++ option_to_list (place_within size (Some (place + 1))))) h g)
       where
         by : (b : Bool) → AllBelow steps k (option_to_list (if b then Some target else None) ++ option_to_list (place_within size (Some (place + 1))))
-            → AllBelow steps k (targets_of (and_then (if b then Ok ((target, s) ∷ []) else Err cause.BadJump) (λ xs. and_then (edge_to size cause.FallsOff (place + 1) p) (λ ys. Ok (xs ++ ys)))))
+            → AllBelow steps k (targets_of (and_then (if b then Ok ((target, s) ∷ []) else Err cause.BadJump)
+            (λ xs. and_then (edge_to size cause.FallsOff (place + 1) p) (λ ys. Ok (xs ++ ys)))))
         by true g = behind ((target, s) ∷ []) p (g.0, tt) (g.1)
         by false g = tt
 
@@ -111,7 +117,8 @@ module _ (steps : ℕ → Option ℕ) (k : ℕ) where
     where
       by : (o : Option Instr) → AllBelow steps k (onward i n (local_in o)) → AllBelow steps k (targets_of (rule_by (bounds_of i.code) i n s o))
       by None g = tt
-      by (Some (instr.Local x)) g = through (length i.code) n (jump_in (Some x)) (target_of x) (local_rule (bounds_of i.code) i x s) (local_suits (bounds_of i.code) i x s) g
+      by (Some (instr.Local x)) g =
+          through (length i.code) n (jump_in (Some x)) (target_of x) (local_rule (bounds_of i.code) i x s) (local_suits (bounds_of i.code) i x s) g
       by (Some (instr.Call x)) g = through (length i.code) n None 0 (call_rule (bounds_of i.code) i x s) (call_suits (bounds_of i.code) i x s) g
       by (Some (instr.Unknown bytes)) g = tt
 
@@ -129,7 +136,8 @@ pub ahead_begins : (i : Image) (targets : List Targets) → length targets ≡ l
 ahead_begins i targets h = record { long = h; same = λ n k. absurd (omega arith) }
 
 -- one more place has its targets
-pub ahead_more : (i : Image) (targets : List Targets) (p : ℕ) (x : Targets) → AreAhead i targets p → p < length targets → places x ≡ ahead i p → AreAhead i (slice_set targets p x) (p + 1)
+pub ahead_more : (i : Image) (targets : List Targets) (p : ℕ) (x : Targets) → AreAhead i targets p → p < length targets → places x ≡ ahead i p
+    → AreAhead i (slice_set targets p x) (p + 1)
 ahead_more i targets p x a inside are = record {
   long = length-set targets p x ∙ a.long;
   same = λ n h. same n h (equal_or_not p n);
@@ -165,16 +173,20 @@ closed_ahead i targets a n = by (below_or_not n (length i.code))
     unless false ns h = h
 
     by : (n < length i.code) ⊎ (length i.code ≤ n) → AllInside (length targets) (places_at targets n)
-    by (inl h) = rw (a.same n h) (subst (λ (m : ℕ). AllInside m (ahead i n)) (sym a.long) (unless (is_pause (call_at i n)) (onward i n (local_at i n)) (both (jump_in (local_at i n)))))
+    by (inl h) =
+        rw (a.same n h)
+        (subst (λ (m : ℕ). AllInside m (ahead i n)) (sym a.long) (unless (is_pause (call_at i n)) (onward i n (local_at i n)) (both (jump_in (local_at i n)))))
     by (inr h) = subst (λ ns. AllInside (length targets) ns) (sym (ap places_by (get_past targets n (omega (arith, a.long))))) tt
 
 -- ---- the bound
 
-pub bounds_all : (i : Image) (targets : List Targets) (ns : List (Option ℕ)) (most : ℕ) → most ≡ i.budget + 1 → AreAhead i targets (length i.code) → AreNumbers (places_at targets) (length targets) most ns
+pub bounds_all : (i : Image) (targets : List Targets) (ns : List (Option ℕ)) (most : ℕ) → most ≡ i.budget + 1 → AreAhead i targets (length i.code)
+    → AreNumbers (places_at targets) (length targets) most ns
     → position (is_over most) ns ≡ None → BoundsAll i ns
 bounds_all i targets ns most is_most a numbers e = record {
   bound = λ states long. record {
-    within = λ n s q. subst (λ (m : ℕ). IsBelow (at ns n) m) is_most (all_under ns most e n (let h = mapped states n s q in omega (arith, long, a.long, numbers.long)));
+    within = λ n s q.
+        subst (λ (m : ℕ). IsBelow (at ns n) m) is_most (all_under ns most e n (let h = mapped states n s q in omega (arith, long, a.long, numbers.long)));
     falls = λ n k q. (let h = mapped ns n k q in
         leads_ahead (at ns) k i n (at states n)
         (subst (λ l. AllBelow (at ns) k l) (a.same n (omega (arith, a.long, numbers.long)))

@@ -1,5 +1,6 @@
 -- What is marked and numbered makes the blocks of an image.
-use Rattle.std.proofs.Common.{◌≡◌, ◌≢◌, ℕ, zero, suc, ◌+◌, ◌<◌, ◌≤◌, Bool, true, false, List, [], ◌∷◌, ◌++◌, length, Option, Some, None, refl, sym, ap, ◌∙◌, subst, ◌⊎◌, inl, inr, arith}
+use Rattle.std.proofs.Common.{◌≡◌, ◌≢◌, ℕ, zero, suc, ◌+◌, ◌<◌, ◌≤◌, Bool, true, false, List, [], ◌∷◌, ◌++◌, length, Option, Some, None, refl, sym, ap, ◌∙◌}
+use Rattle.std.proofs.Common.{subst, ◌⊎◌, inl, inr, arith}
 use Rattle.std.specs.Prelude.{slice_get, slice_set, replicate}
 use Rattle.std.proofs.lemmas.Option.{same_Some}
 use Rattle.std.proofs.Math.ListN.{length-set, length-replicate}
@@ -79,7 +80,8 @@ numbers_begin begins = record {
 off_on : Some false ≡ Some true → ⊥
 off_on e = cc
 
-pub numbers_same : (begins : List Bool) (numbers : List (Option ℕ)) (starts : List ℕ) (p : ℕ) → AreNumbered begins numbers starts p → slice_get begins p ≡ Some false → AreNumbered begins numbers starts (p + 1)
+pub numbers_same : (begins : List Bool) (numbers : List (Option ℕ)) (starts : List ℕ) (p : ℕ) → AreNumbered begins numbers starts p
+    → slice_get begins p ≡ Some false → AreNumbered begins numbers starts (p + 1)
 numbers_same begins numbers starts p a off = record {
   long = a.long;
   few = (let h = a.few in omega arith);
@@ -96,7 +98,8 @@ numbers_same begins numbers starts p a off = record {
     first on (inl e) = absurd (off_on (sym off ∙ rw e on))
     first on (inr d) = a.first (omega arith) on
 
-pub numbers_more : (begins : List Bool) (numbers : List (Option ℕ)) (starts : List ℕ) (p : ℕ) → AreNumbered begins numbers starts p → p < length begins → AreNumbered begins (slice_set numbers p (Some (length starts))) (starts ++ p ∷ []) (p + 1)
+pub numbers_more : (begins : List Bool) (numbers : List (Option ℕ)) (starts : List ℕ) (p : ℕ) → AreNumbered begins numbers starts p → p < length begins
+    → AreNumbered begins (slice_set numbers p (Some (length starts))) (starts ++ p ∷ []) (p + 1)
 numbers_more begins numbers starts p a inside = record {
   long = length-set numbers p (Some (length starts)) ∙ a.long;
   few = (let h = a.few in let l = length_more starts p in omega arith);
@@ -113,7 +116,8 @@ numbers_more begins numbers starts p a inside = record {
 
     begin : (n b : ℕ) → at (slice_set numbers p (Some (length starts))) n ≡ Some b → (p ≡ n) ⊎ (p ≢ n) → slice_get (starts ++ p ∷ []) b ≡ Some n
     begin n b e (inl q) =
-        let z : length starts ≡ b = same_Some (length starts) b (sym put ∙ subst (λ (x : ℕ). at (slice_set numbers p (Some (length starts))) x ≡ Some b) (sym q) e) in
+        let z : length starts ≡ b =
+        same_Some (length starts) b (sym put ∙ subst (λ (x : ℕ). at (slice_set numbers p (Some (length starts))) x ≡ Some b) (sym q) e) in
         subst (λ (x : ℕ). slice_get (starts ++ p ∷ []) x ≡ Some n) z (get_last starts p ∙ ap Some q)
     begin n b e (inr d) = get_before starts p b n (a.begin n b (sym (other n d) ∙ e))
 
@@ -129,7 +133,8 @@ numbers_more begins numbers starts p a inside = record {
 
 -- ---- the blocks
 
-pub are_blocks : (i : Image) (begins : List Bool) (bs : Blocks) → 0 < length i.code → AreMarked i begins (length i.code) → AreNumbered begins bs.numbers bs.starts (length begins) → AreBlocks i bs
+pub are_blocks : (i : Image) (begins : List Bool) (bs : Blocks) → 0 < length i.code → AreMarked i begins (length i.code)
+    → AreNumbered begins bs.numbers bs.starts (length begins) → AreBlocks i bs
 are_blocks i begins bs h m a = record {
   long = a.long ∙ m.long;
   first = a.first (omega (arith, m.long)) m.first;
@@ -137,6 +142,7 @@ are_blocks i begins bs h m a = record {
   jumps = λ n k l. a.all (jump_of i n) (omega (arith, m.long)) (m.jumps n k l);
 }
 
-pub numbers_pushed : (begins : List Bool) (numbers : List (Option ℕ)) (starts pushed : List ℕ) (p m : ℕ) → AreNumbered begins numbers starts p → p < length begins → m ≡ length starts → pushed ≡ starts ++ p ∷ []
+pub numbers_pushed : (begins : List Bool) (numbers : List (Option ℕ)) (starts pushed : List ℕ) (p m : ℕ) → AreNumbered begins numbers starts p
+    → p < length begins → m ≡ length starts → pushed ≡ starts ++ p ∷ []
     → AreNumbered begins (slice_set numbers p (Some m)) pushed (p + 1)
 numbers_pushed begins numbers starts pushed p m a inside count items = rw (count, items) (numbers_more begins numbers starts p a inside)

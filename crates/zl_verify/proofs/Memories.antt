@@ -56,10 +56,12 @@ all_of (suc n) v (suc k) = all_of n (v / 256) k
 
 -- a memory of bytes has bytes in it, where bytes are written to it
 pub bytes_over : (memory bytes : List ℕ) (address : ℕ) → AreBytes memory → AreBytes bytes → AreBytes (overwritten memory address bytes)
-bytes_over memory bytes address old new = all_both (take address memory) _ (all_taken address memory old) (all_both bytes _ new (all_dropped (address + length bytes) memory old))
+bytes_over memory bytes address old new =
+    all_both (take address memory) _ (all_taken address memory old) (all_both bytes _ new (all_dropped (address + length bytes) memory old))
 
 -- the memory keeps its size, and has bytes in it
-pub bytes_stored : (i : Image) (memory bytes : List ℕ) (address : ℕ) → IsMemory i memory → AreBytes bytes → address + length bytes ≤ length memory → IsMemory i (overwritten memory address bytes)
+pub bytes_stored : (i : Image) (memory bytes : List ℕ) (address : ℕ) → IsMemory i memory → AreBytes bytes → address + length bytes ≤ length memory
+    → IsMemory i (overwritten memory address bytes)
 bytes_stored i memory bytes address m are fits = record {
   long = whole;
   bytes = bytes_over memory bytes address m.bytes are;
@@ -74,5 +76,6 @@ bytes_stored i memory bytes address m are fits = record {
         let size = m.long in
         omega arith
 
-pub stored : (i : Image) (memory : List ℕ) (n v address : ℕ) → IsMemory i memory → address + n ≤ length memory → IsMemory i (overwritten memory address (bytes_of n v))
+pub stored : (i : Image) (memory : List ℕ) (n v address : ℕ) → IsMemory i memory → address + n ≤ length memory
+    → IsMemory i (overwritten memory address (bytes_of n v))
 stored i memory n v address m fits = let long = length-bytes_of n v in bytes_stored i memory (bytes_of n v) address m (all_of n v) (omega arith)

@@ -1,5 +1,6 @@
 -- A handle moves from one register to another, or is exchanged with one in a slot array.
-use Rattle.std.proofs.Common.{◌≡◌, ◌≢◌, ℕ, zero, suc, ◌+◌, ◌<◌, ◌≤◌, ◌⊎◌, Bool, true, false, ◌==◌, List, [], ◌∷◌, map, length, refl, sym, ap, ◌∙◌, subst, Option, Some, arith, inl, inr, slice_set, slice_index}
+use Rattle.std.proofs.Common.{◌≡◌, ◌≢◌, ℕ, zero, suc, ◌+◌, ◌<◌, ◌≤◌, ◌⊎◌, Bool, true, false, ◌==◌, List, [], ◌∷◌, map, length, refl, sym, ap, ◌∙◌, subst}
+use Rattle.std.proofs.Common.{Option, Some, arith, inl, inr, slice_set, slice_index}
 use Rattle.std.proofs.lemmas.Option.{same_Some}
 use Rattle.std.specs.Prelude.{is_some, if◌then◌else◌, slice_get, slice_index_or}
 use Rattle.std.proofs.lemmas.Bool.{cases_Bool, cases_eq, eqb-true, eqb-false}
@@ -12,7 +13,8 @@ use Rattle.zl_abs.specs.Values.{ANY, is_has, untagged, retagged}
 use Rattle.zl_abs.specs.States.{State, IsState, value_at, with_value}
 use Rattle.zl_abs.specs.LocalRules.{may_move, moved, slot_value}
 use Rattle.zl_verify.specs.Conforms.{Table, kind_in, rights_in, IsHandle, Describes, one_if, is_it, owns, owners, keepers, place_at, Holds}
-use Rattle.zl_verify.proofs.Owners.{owns_free, owners-map, owners-set, owners-with, value_at-map, value_at-with, value_at-here, set_same, set_apart, keepers-set}
+use Rattle.zl_verify.proofs.Owners.{owns_free, owners-map, owners-set, owners-with, value_at-map, value_at-with, value_at-here, set_same, set_apart}
+use Rattle.zl_verify.proofs.Owners.{keepers-set}
 use Rattle.zl_verify.proofs.Writing.{nothing_at_0, long_with, other_described}
 
 -- ---- take
@@ -47,7 +49,8 @@ described_anywhere f xs ys (RightsOf t) x e d = cc
 abbrev pub moved_to : List ℕ → ℕ → ℕ → List ℕ
 moved_to xs a b = slice_set (slice_set xs a (slice_index xs b)) b 0
 
-module _ {f : Table} {s : State} {xs : List ℕ} {arrays : List SlotArray} {slots : List (List ℕ)} (h : Holds f s xs arrays slots) (a b : ℕ) (apart : b ≢ a) (in_a : a < length s) (in_b : b < length s)
+module _ {f : Table} {s : State} {xs : List ℕ} {arrays : List SlotArray} {slots : List (List ℕ)} (h : Holds f s xs arrays slots) (a b : ℕ) (apart : b ≢ a)
+    (in_a : a < length s) (in_b : b < length s)
     (free : is_has (value_at s a) ≡ false) (v : AbsVal) (is : value_at s b ≡ v) (moves : may_move v ≡ true) where
   long_between : length (map (retagged b a) (with_value s a v)) ≡ length s
   long_between = length-map (with_value s a v) (retagged b a) ∙ long_with s a v
@@ -65,14 +68,17 @@ module _ {f : Table} {s : State} {xs : List ℕ} {arrays : List SlotArray} {slot
       let mapped = owners-map (retagged b a) (is_has-retagged b a) y (with_value s a v) (slice_set xs a (slice_index xs b)) in
       let second = owners-set y b (map (retagged b a) (with_value s a v)) (slice_set xs a (slice_index xs b)) (Word 0) 0
       (length-set xs a (slice_index xs b) ∙ (h.width ∙ sym long_between)) (subst (λ n. b < n) (sym long_between) in_b) in
-      let there : one_if (owns y (value_at (map (retagged b a) (with_value s a v)) b) (slice_index (slice_set xs a (slice_index xs b)) b)) ≡ one_if (owns y v (slice_index xs b)) =
+      let there : one_if (owns y (value_at (map (retagged b a) (with_value s a v)) b) (slice_index (slice_set xs a (slice_index xs b)) b))
+      ≡ one_if (owns y v (slice_index xs b)) =
       rw (value_between b apart, is, stays a b v moves, get_or-set_other xs a b (slice_index xs b) 0 apart) refl in
       let loose = owns_free y (value_at s a) (slice_index xs a) free in
       let none = owns_free y (Word 0) 0 refl in
       omega arith
 
   moved_a : slice_index (moved_to xs a b) a ≡ slice_index xs b
-  moved_a = get_or-set_other (slice_set xs a (slice_index xs b)) b a 0 0 (λ e. apart (sym e)) ∙ get_or-set_same xs a (slice_index xs b) 0 (subst (λ n. a < n) (sym h.width) in_a)
+  moved_a =
+      get_or-set_other (slice_set xs a (slice_index xs b)) b a 0 0 (λ e. apart (sym e))
+      ∙ get_or-set_same xs a (slice_index xs b) 0 (subst (λ n. a < n) (sym h.width) in_a)
 
   moved_b : slice_index (moved_to xs a b) b ≡ 0
   moved_b = get_or-set_same (slice_set xs a (slice_index xs b)) b 0 0 (subst (λ n. b < n) (sym (length-set xs a (slice_index xs b) ∙ h.width)) in_b)
@@ -81,11 +87,13 @@ module _ {f : Table} {s : State} {xs : List ℕ} {arrays : List SlotArray} {slot
   moved_other t na nb = get_or-set_other (slice_set xs a (slice_index xs b)) b t 0 0 nb ∙ get_or-set_other xs a t (slice_index xs b) 0 na
 
   -- a tag goes on, follows the handle, or is lost
-  tag_moved : (tag : ℕ → AbsVal) (number : Option Entry → ℕ) → ((t x : ℕ) (g : List ℕ) → x ≡ number (f (slice_index g t)) → Describes f g (tag t) x) → (t x : ℕ) → x ≤ ANY → x ≡ number (f (slice_index xs t))
+  tag_moved : (tag : ℕ → AbsVal) (number : Option Entry → ℕ) → ((t x : ℕ) (g : List ℕ) → x ≡ number (f (slice_index g t)) → Describes f g (tag t) x) → (t x : ℕ)
+      → x ≤ ANY → x ≡ number (f (slice_index xs t))
       → Describes f (moved_to xs a b) (if t == a then Word ANY else (if t == b then tag a else tag t)) x
   tag_moved tag number tells t x small d = by (cases_Bool (t == a)) (cases_Bool (t == b))
     where
-      by : ((t == a) ≡ true) ⊎ ((t == a) ≡ false) → ((t == b) ≡ true) ⊎ ((t == b) ≡ false) → Describes f (moved_to xs a b) (if t == a then Word ANY else (if t == b then tag a else tag t)) x
+      by : ((t == a) ≡ true) ⊎ ((t == a) ≡ false) → ((t == b) ≡ true) ⊎ ((t == b) ≡ false)
+          → Describes f (moved_to xs a b) (if t == a then Word ANY else (if t == b then tag a else tag t)) x
       by (inl e) k = rw e small
       by (inr e) (inl k) = rw (e, k) (tells a x (moved_to xs a b) (d ∙ ap (λ n. number (f n)) (ap (slice_index xs) (eqb-true t b k) ∙ sym moved_a)))
       by (inr e) (inr k) = rw (e, k) (tells t x (moved_to xs a b) (d ∙ ap (λ n. number (f n)) (sym (moved_other t (eqb-false t a e) (eqb-false t b k)))))
@@ -95,18 +103,21 @@ module _ {f : Table} {s : State} {xs : List ℕ} {arrays : List SlotArray} {slot
   described_other (Has maybe kind rights) x small d = d
   described_other (KindOf t) x small d = by (t == a) (tag_moved KindOf kind_in (λ t x g e. e) t x small d)
     where
-      by : (y : Bool) → Describes f (moved_to xs a b) (if y then Word ANY else (if t == b then KindOf a else KindOf t)) x → Describes f (moved_to xs a b) (retagged b a (if y then Word ANY else KindOf t)) x
+      by : (y : Bool) → Describes f (moved_to xs a b) (if y then Word ANY else (if t == b then KindOf a else KindOf t)) x
+          → Describes f (moved_to xs a b) (retagged b a (if y then Word ANY else KindOf t)) x
       by true k = k
       by false k = k
   described_other (RightsOf t) x small d = by (t == a) (tag_moved RightsOf rights_in (λ t x g e. e) t x small d)
     where
-      by : (y : Bool) → Describes f (moved_to xs a b) (if y then Word ANY else (if t == b then RightsOf a else RightsOf t)) x → Describes f (moved_to xs a b) (retagged b a (if y then Word ANY else RightsOf t)) x
+      by : (y : Bool) → Describes f (moved_to xs a b) (if y then Word ANY else (if t == b then RightsOf a else RightsOf t)) x
+          → Describes f (moved_to xs a b) (retagged b a (if y then Word ANY else RightsOf t)) x
       by true k = k
       by false k = k
 
   pub take_holds : Holds f (moved s a b v) (moved_to xs a b) arrays slots
   take_holds = record {
-    width = length-set (slice_set xs a (slice_index xs b)) b 0 ∙ (length-set xs a (slice_index xs b) ∙ (h.width ∙ sym (length-set (map (retagged b a) (with_value s a v)) b (Word 0) ∙ long_between)));
+    width = length-set (slice_set xs a (slice_index xs b)) b 0
+        ∙ (length-set xs a (slice_index xs b) ∙ (h.width ∙ sym (length-set (map (retagged b a) (with_value s a v)) b (Word 0) ∙ long_between)));
     small = λ q. few q (cases_eq q a) (cases_eq q b);
     described = λ q. by q (cases_eq q a) (cases_eq q b);
     lengths = h.lengths;
@@ -128,8 +139,10 @@ module _ {f : Table} {s : State} {xs : List ℕ} {arrays : List SlotArray} {slot
 
       by : (q : ℕ) → (q ≡ a) ⊎ (q ≢ a) → (q ≡ b) ⊎ (q ≢ b) → Describes f (moved_to xs a b) (value_at (moved s a b v) q) (slice_index (moved_to xs a b) q)
       by q x (inl e) = rw (e, value_b, moved_b) (omega arith)
-      by q (inl e) (inr nb) = rw (value_else q nb, e, value_at_a, moved_a) (described_anywhere f xs (moved_to xs a b) v (slice_index xs b) moves (rw is at (h.described b)))
-      by q (inr na) (inr nb) = rw (value_else q nb, value_between q na, moved_other q na nb) (described_other (value_at s q) (slice_index xs q) (h.small q) (h.described q))
+      by q (inl e) (inr nb) =
+          rw (value_else q nb, e, value_at_a, moved_a) (described_anywhere f xs (moved_to xs a b) v (slice_index xs b) moves (rw is at (h.described b)))
+      by q (inr na) (inr nb) =
+          rw (value_else q nb, value_between q na, moved_other q na nb) (described_other (value_at s q) (slice_index xs q) (h.small q) (h.described q))
 
 -- ---- swap
 
@@ -144,15 +157,20 @@ unfolding owns
 owned_kept v t x = refl
 
 -- the slot array is there, with its length
-pub array_there : (slots : List (List ℕ)) (arrays : List SlotArray) (n : ℕ) (t : SlotArray) → map length slots ≡ map (λ a. a.length) arrays → slice_get arrays n ≡ Some t
+pub array_there : (slots : List (List ℕ)) (arrays : List SlotArray) (n : ℕ) (t : SlotArray) → map length slots ≡ map (λ a. a.length) arrays
+    → slice_get arrays n ≡ Some t
     → (n < length slots) × (length (slice_index_or slots n []) ≡ t.length)
 array_there slots arrays n t e is =
     let there = there_for arrays n t t is in
     let long : length slots ≡ length arrays = sym (length-map slots length) ∙ (ap length e ∙ length-map arrays (λ a. a.length)) in
-    let less : n < length slots = subst (λ k. n < k) (sym long) there.0 in
-    (less, sym (get_or-map length slots n [] 0 less) ∙ (ap (λ l. slice_index l n) e ∙ (get_or-map (λ a. a.length) arrays n t 0 there.0 ∙ ap (λ a. a.length) there.1)))
+    let less : n < length slots = subst (λ k. n < k) (sym long) there.0 in (
+      less,
+      sym (get_or-map length slots n [] 0 less)
+          ∙ (ap (λ l. slice_index l n) e ∙ (get_or-map (λ a. a.length) arrays n t 0 there.0 ∙ ap (λ a. a.length) there.1)),
+    )
 
-module _ {f : Table} {s : State} {xs : List ℕ} {arrays : List SlotArray} {slots : List (List ℕ)} (h : Holds f s xs arrays slots) (states : IsState s) (a n k : ℕ) (t : SlotArray) (in_a : a < length s)
+module _ {f : Table} {s : State} {xs : List ℕ} {arrays : List SlotArray} {slots : List (List ℕ)} (h : Holds f s xs arrays slots) (states : IsState s)
+    (a n k : ℕ) (t : SlotArray) (in_a : a < length s)
     (is : slice_get arrays n ≡ Some t) (in_k : k < t.length) (goes : IsHandle f true t.kind t.rights (slice_index xs a))
     (alike : (v : ℕ) → one_if (owns v (value_at s a) (slice_index xs a)) ≡ one_if (is_it v (slice_index xs a))) where
   abbrev array : List ℕ
@@ -179,12 +197,15 @@ module _ {f : Table} {s : State} {xs : List ℕ} {arrays : List SlotArray} {slot
   place_else : (m j : ℕ) → m ≢ n → place_at exchanged m j ≡ place_at slots m j
   place_else m j apart = ap (λ l. slice_index l j) (get_or-set_other slots n m (slice_set array k (slice_index xs a)) [] apart)
 
-  pub swap_holds : Holds f (with_value s a (slot_value t)) (slice_set xs a (place_at slots n k)) arrays (slice_set slots n (slice_set (slice_index_or slots n []) k (slice_index xs a)))
+  pub swap_holds : Holds f (with_value s a (slot_value t)) (slice_set xs a (place_at slots n k)) arrays
+      (slice_set slots n (slice_set (slice_index_or slots n []) k (slice_index xs a)))
   swap_holds = record {
     width = length-set xs a (place_at slots n k) ∙ (h.width ∙ sym (long_with s a (slot_value t)));
     small = λ q. small_at q (cases_eq q a);
     described = λ q. by q (cases_eq q a);
-    lengths = map-set length slots n (slice_set array k (slice_index xs a)) ∙ (ap (slice_set (map length slots) n) (length-set array k (slice_index xs a) ∙ sym (get_or-map length slots n [] 0 n_there)) ∙ (set-get_or (map length slots) n 0 ∙ h.lengths));
+    lengths = map-set length slots n (slice_set array k (slice_index xs a))
+        ∙ (ap (slice_set (map length slots) n) (length-set array k (slice_index xs a) ∙ sym (get_or-map length slots n [] 0 n_there))
+        ∙ (set-get_or (map length slots) n 0 ∙ h.lengths));
     narrow = λ m j. narrow_at m j (cases_eq m n) (cases_eq j k);
     stored = λ m j u here less. stored_at m j u here less (cases_eq m n) (cases_eq j k);
     once = once_at;
@@ -197,7 +218,8 @@ module _ {f : Table} {s : State} {xs : List ℕ} {arrays : List SlotArray} {slot
       small_at q (inl e) = rw (e, get_or-set_same xs a (place_at slots n k) 0 wide_a) (h.narrow n k)
       small_at q (inr apart) = rw (get_or-set_other xs a q (place_at slots n k) 0 apart) (h.small q)
 
-      by : (q : ℕ) → (q ≡ a) ⊎ (q ≢ a) → Describes f (slice_set xs a (place_at slots n k)) (value_at (with_value s a (slot_value t)) q) (slice_index (slice_set xs a (place_at slots n k)) q)
+      by : (q : ℕ) → (q ≡ a) ⊎ (q ≢ a)
+          → Describes f (slice_set xs a (place_at slots n k)) (value_at (with_value s a (slot_value t)) q) (slice_index (slice_set xs a (place_at slots n k)) q)
       by q (inl e) = rw (e, value_at-here s a (slot_value t) in_a, get_or-set_same xs a (place_at slots n k) 0 wide_a) (h.stored n k t is in_k)
       by q (inr apart) = rw (value_at-with s a q (slot_value t) apart, get_or-set_other xs a q (place_at slots n k) 0 apart)
           (other_described h states f a in_a (nothing_at_0 h) (λ y m. refl) q (place_at slots n k) apart (value_at s q) refl (states.tags q) (h.described q))
@@ -207,7 +229,8 @@ module _ {f : Table} {s : State} {xs : List ℕ} {arrays : List SlotArray} {slot
       narrow_at m j (inl e) (inr g) = rw (e, place_beside j g) (h.narrow n j)
       narrow_at m j (inr e) g = rw (place_else m j e) (h.narrow m j)
 
-      stored_at : (m j : ℕ) (u : SlotArray) → slice_get arrays m ≡ Some u → j < u.length → (m ≡ n) ⊎ (m ≢ n) → (j ≡ k) ⊎ (j ≢ k) → IsHandle f true u.kind u.rights (place_at exchanged m j)
+      stored_at : (m j : ℕ) (u : SlotArray) → slice_get arrays m ≡ Some u → j < u.length → (m ≡ n) ⊎ (m ≢ n) → (j ≡ k) ⊎ (j ≢ k)
+          → IsHandle f true u.kind u.rights (place_at exchanged m j)
       stored_at m j u here less (inl e) (inl g) =
           let one : t ≡ u = same_Some t u (sym is ∙ (ap (slice_get arrays) (sym e) ∙ here)) in
           rw (e, g, place_here) (subst (λ r. IsHandle f true r.kind r.rights (slice_index xs a)) one goes)

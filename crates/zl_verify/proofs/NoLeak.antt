@@ -1,5 +1,6 @@
 -- The table of a process that conforms has just its handles, each in one place, and so it is in every run.
-use Rattle.std.proofs.Common.{◌≡◌, ℕ, zero, suc, ◌+◌, ◌<◌, ◌≤◌, Bool, true, false, ◌&&◌, ◌==◌, List, [], ◌∷◌, ◌++◌, length, refl, sym, ap, ◌∙◌, subst, Option, inl, inr, arith, ◌↔◌, ◌⊎◌}
+use Rattle.std.proofs.Common.{◌≡◌, ℕ, zero, suc, ◌+◌, ◌<◌, ◌≤◌, Bool, true, false, ◌&&◌, ◌==◌, List, [], ◌∷◌, ◌++◌, length, refl, sym, ap, ◌∙◌, subst, Option}
+use Rattle.std.proofs.Common.{inl, inr, arith, ◌↔◌, ◌⊎◌}
 use Rattle.std.specs.Prelude.{nat_lt, if◌then◌else◌, slice_index_or, is_some}
 use Rattle.std.specs.List.{AllByRecursion, Contains, IsDistinct, concat, filter}
 use Rattle.std.proofs.lemmas.Bool.Decides.{nat_tests}
@@ -49,12 +50,14 @@ owners_counted : (v : ℕ) (s : State) (xs : List ℕ) → owners v s xs ≡ tim
 unfolding owners owns values_in_registers
 owners_counted v [] xs = refl
 owners_counted v (a ∷ s) [] = refl
-owners_counted v (a ∷ s) (x ∷ xs) = ap (λ n. one_if (owns v a x) + n) (owners_counted v s xs) ∙ sym (one_taken v x (is_has a) (nat_lt 0 x) (values_in_registers s xs))
+owners_counted v (a ∷ s) (x ∷ xs) =
+    ap (λ n. one_if (owns v a x) + n) (owners_counted v s xs) ∙ sym (one_taken v x (is_has a) (nat_lt 0 x) (values_in_registers s xs))
 
 array_counted : (v : ℕ) (places : List ℕ) → places_with v places ≡ times v (filter (nat_lt 0) places)
 array_counted v [] = refl
 array_counted v (x ∷ places) =
-    sum_by-cons (λ y. one_if (is_it v y)) x places ∙ ap (λ n. one_if (is_it v x) + n) (array_counted v places) ∙ sym (one_taken v x true (nat_lt 0 x) (filter (nat_lt 0) places))
+    sum_by-cons (λ y. one_if (is_it v y)) x places ∙ ap (λ n. one_if (is_it v x) + n) (array_counted v places)
+    ∙ sym (one_taken v x true (nat_lt 0 x) (filter (nat_lt 0) places))
 
 keepers_counted : (v : ℕ) (slots : List (List ℕ)) → keepers v slots ≡ times v (values_in_slots slots)
 unfolding keepers values_in_slots
@@ -126,7 +129,10 @@ holds_just_its_handles i t w p q k = record { state = k.state; stands = k.stands
     few v = let n = counted v in let h = one_at_most (is_some (get q.handles v)) in omega arith
 
     exactly : (v : ℕ) → ((is_some (get q.handles v) ≡ true) ↔ Contains values v)
-    exactly v = (λ h. contained v values (let n = counted v ∙ ap one_if h in omega arith), λ (n, inside, is). by (is_some (get q.handles v)) (counted v) (counted_at v values n inside is))
+    exactly v = (
+      λ h. contained v values (let n = counted v ∙ ap one_if h in omega arith),
+      λ (n, inside, is). by (is_some (get q.handles v)) (counted v) (counted_at v values n inside is),
+    )
       where
         by : (b : Bool) → times v values ≡ one_if b → 1 ≤ times v values → b ≡ true
         by true n h = refl

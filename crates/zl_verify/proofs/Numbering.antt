@@ -1,5 +1,6 @@
 -- Numbers given backwards: what they say of the steps that can be made, and what one more number leaves.
-use Rattle.std.proofs.Common.{◌≡◌, ◌≢◌, ℕ, zero, suc, ◌+◌, ◌<◌, ◌≤◌, Bool, true, false, List, [], ◌∷◌, length, Option, Some, None, refl, sym, ap, ◌∙◌, subst, ◌⊎◌, inl, inr, arith, leb, min}
+use Rattle.std.proofs.Common.{◌≡◌, ◌≢◌, ℕ, zero, suc, ◌+◌, ◌<◌, ◌≤◌, Bool, true, false, List, [], ◌∷◌, length, Option, Some, None, refl, sym, ap, ◌∙◌, subst}
+use Rattle.std.proofs.Common.{◌⊎◌, inl, inr, arith, leb, min}
 use Rattle.std.specs.Prelude.{◌-◌, is_some, get_or, slice_set, if◌then◌else◌}
 use Rattle.std.specs.Option.{option_map}
 use Rattle.std.proofs.lemmas.Bool.Decides.{nat_tests}
@@ -9,7 +10,8 @@ use Rattle.std.proofs.Math.ListN.{length-set}
 use Rattle.zl_verify.specs.declared.steps.Targets.{Targets}
 use Rattle.zl_verify.specs.Steps.{IsBelow, AllBelow, OneOf, Follow}
 use Rattle.zl_verify.specs.Lists.{within, at}
-use Rattle.zl_verify.specs.Numbers.{larger, one_more, above_all, number_of, places, places_by, places_at, Given, IsStuckFrom, AllInside, IsClosed, AreNumbers, unnumbered, one_if, one_if_none}
+use Rattle.zl_verify.specs.Numbers.{larger, one_more, above_all, number_of, places, places_by, places_at, Given, IsStuckFrom, AllInside, IsClosed, AreNumbers}
+use Rattle.zl_verify.specs.Numbers.{unnumbered, one_if, one_if_none}
 use Rattle.zl_verify.proofs.Places.{get_put, get_put_other, equal_or_not}
 
 -- ---- the number above those of some places
@@ -32,7 +34,8 @@ above_below f (n ∷ ns) k e = by (λ j h. above_below f ns j h) (f n) (above_al
     rest : (i j k : ℕ) → (if leb (i + 1) j then j else i + 1) ≡ k → j ≤ k
     rest i j k h = grind (arith, nat_tests)
 
-    by : ((j : ℕ) → above_all f ns ≡ Some j → AllBelow f j ns) → (o p : Option ℕ) → f n ≡ o → above_all f ns ≡ p → larger (one_more o) p ≡ Some k → IsBelow (f n) k × AllBelow f k ns
+    by : ((j : ℕ) → above_all f ns ≡ Some j → AllBelow f j ns) → (o p : Option ℕ) → f n ≡ o → above_all f ns ≡ p → larger (one_more o) p ≡ Some k
+        → IsBelow (f n) k × AllBelow f k ns
     by more None p q r e = cc
     by more (Some i) None q r e = cc
     by more (Some i) (Some j) q r e =
@@ -47,7 +50,8 @@ above_one f (n ∷ ns) k e = by (λ h. above_one f ns k h) (f n) (above_all f ns
     either : (i j : ℕ) → (if leb (i + 1) j then j else i + 1) ≡ suc k → (i ≡ k) ⊎ (j ≡ suc k)
     either i j h = grind (arith, nat_tests)
 
-    by : (above_all f ns ≡ Some (suc k) → OneOf (λ m. f m ≡ Some k) ns) → (o p : Option ℕ) → f n ≡ o → above_all f ns ≡ p → larger (one_more o) p ≡ Some (suc k) → (f n ≡ Some k) ⊎ OneOf (λ m. f m ≡ Some k) ns
+    by : (above_all f ns ≡ Some (suc k) → OneOf (λ m. f m ≡ Some k) ns) → (o p : Option ℕ) → f n ≡ o → above_all f ns ≡ p → larger (one_more o) p ≡ Some (suc k)
+        → (f n ≡ Some k) ⊎ OneOf (λ m. f m ≡ Some k) ns
     by more None p q r e = cc
     by more (Some i) None q r e = cc
     by more (Some i) (Some j) q r e = elim (either i j (same_Some _ (suc k) e)) [ inl h ↦ inl (q ∙ ap Some h) | inr h ↦ inr (more (r ∙ ap Some h)) ]
@@ -56,7 +60,8 @@ above_none : (f : ℕ → Option ℕ) (ns : List ℕ) → above_all f ns ≡ Non
 above_none f [] e = cc
 above_none f (n ∷ ns) e = by (λ h. above_none f ns h) (f n) (above_all f ns) refl refl e
   where
-    by : (above_all f ns ≡ None → OneOf (λ m. f m ≡ None) ns) → (o p : Option ℕ) → f n ≡ o → above_all f ns ≡ p → larger (one_more o) p ≡ None → (f n ≡ None) ⊎ OneOf (λ m. f m ≡ None) ns
+    by : (above_all f ns ≡ None → OneOf (λ m. f m ≡ None) ns) → (o p : Option ℕ) → f n ≡ o → above_all f ns ≡ p → larger (one_more o) p ≡ None
+        → (f n ≡ None) ⊎ OneOf (λ m. f m ≡ None) ns
     by more None p q r e = inl q
     by more (Some i) None q r e = inr (more r)
     by more (Some i) (Some j) q r e = cc
@@ -77,11 +82,13 @@ one_inside P Q size f [] i h = h
 one_inside P Q size f (n ∷ ns) i h = elim h [ inl p ↦ inl (f n (i.0) p) | inr r ↦ inr (one_inside P Q size f ns (i.1) r) ]
 
 -- from a place without a number so many steps can be made, where the numbers leave no more to be given
-pub endless : (leads : ℕ → List ℕ) (size : ℕ) (ns : List (Option ℕ)) (most : ℕ) → IsClosed size leads → ((n : ℕ) → n < size → at ns n ≡ None → number_of ns most (leads n) ≡ None)
+pub endless : (leads : ℕ → List ℕ) (size : ℕ) (ns : List (Option ℕ)) (most : ℕ) → IsClosed size leads
+    → ((n : ℕ) → n < size → at ns n ≡ None → number_of ns most (leads n) ≡ None)
     → (k n : ℕ) → n < size → at ns n ≡ None → Follow leads k n
 endless leads size ns most closed stuck zero n h e = tt
 endless leads size ns most closed stuck (suc k) n h e =
-    one_inside (λ m. at ns m ≡ None) (λ m. Follow leads k m) size (λ m i z. endless leads size ns most closed stuck k m i z) (leads n) (closed n) (above_none (at ns) (leads n) (uncapped (above_all (at ns) (leads n)) (stuck n h e)))
+    one_inside (λ m. at ns m ≡ None) (λ m. Follow leads k m) size (λ m i z. endless leads size ns most closed stuck k m i z) (leads n) (closed n)
+    (above_none (at ns) (leads n) (uncapped (above_all (at ns) (leads n)) (stuck n h e)))
   where
     uncapped : (o : Option ℕ) → option_map (λ k. min k most) o ≡ None → o ≡ None
     uncapped None q = refl
@@ -111,7 +118,8 @@ module _ (leads : ℕ → List ℕ) (most : ℕ) where
             follow = fewer leads k j n (omega arith) (steps j q);
           }
 
-  pub numbered : (ns : List (Option ℕ)) → Given leads most ns → (n k : ℕ) → n < length ns → at ns n ≡ None → number_of ns most (leads n) ≡ Some k → Given leads most (slice_set ns n (Some k))
+  pub numbered : (ns : List (Option ℕ)) → Given leads most ns → (n k : ℕ) → n < length ns → at ns n ≡ None → number_of ns most (leads n) ≡ Some k
+      → Given leads most (slice_set ns n (Some k))
   numbered ns g n k h z e = record {
     falls = λ m j a b. falls m j a b (equal_or_not n m);
     follow = λ m j a. follow m j a (equal_or_not n m);
@@ -176,7 +184,8 @@ free_there (Some k ∷ ns) zero h e = cc
 free_there (o ∷ ns) (suc n) h e = free_there ns n (omega arith) e
 
 -- one place was given a number
-pub given_one : (targets : List Targets) (most : ℕ) (old ns : List (Option ℕ)) (p : ℕ) (changed : Bool) → Passing (places_at targets) most old ns p changed → 0 < p → p ≤ length ns → p ≤ length targets
+pub given_one : (targets : List Targets) (most : ℕ) (old ns : List (Option ℕ)) (p : ℕ) (changed : Bool) → Passing (places_at targets) most old ns p changed
+    → 0 < p → p ≤ length ns → p ≤ length targets
     → is_some (get_or ns (p - 1) None) ≡ false → (d : Targets) (k : ℕ) → number_of ns most (places (get_or targets (p - 1) d)) ≡ Some k
     → Passing (places_at targets) most old (slice_set ns (p - 1) (Some k)) (p - 1) true
 unfolding unnumbered
@@ -199,7 +208,8 @@ pub record Going (targets : List Targets) (most : ℕ) (ns : List (Option ℕ)) 
   pub long : length ns ≡ length targets
   pub stuck : changed ≡ false → IsStuckFrom (places_at targets) most ns 0
 
-pub ends : (targets : List Targets) (most : ℕ) (ns : List (Option ℕ)) → IsClosed (length targets) (places_at targets) → Going targets most ns false → AreNumbers (places_at targets) (length targets) most ns
+pub ends : (targets : List Targets) (most : ℕ) (ns : List (Option ℕ)) → IsClosed (length targets) (places_at targets) → Going targets most ns false
+    → AreNumbers (places_at targets) (length targets) most ns
 ends targets most ns closed g = record {
   long = g.long;
   given = g.given;

@@ -9,7 +9,9 @@ use Rattle.zl_code.specs.declared.history.Outcome.TheVariants as outcome
 use Rattle.zl_code.specs.First.{first_some}
 use Rattle.zl_code.specs.Image.{Library}
 use Rattle.zl_code.specs.Tests.{answer_if}
-use Rattle.zl_code.specs.CallTable.{Request, listed, close, dup, replace, chan_create, chan_write, chan_read_etc, event_create, signal, signal_peer, wait_one, wait_poll, wait_async, port_create, port_queue, port_wait, port_poll, port_cancel, process_create, process_start, process_exit, task_kill, job_create, job_set_policy}
+use Rattle.zl_code.specs.CallTable.{Request, listed, close, dup, replace, chan_create, chan_write, chan_read_etc, event_create, signal, signal_peer, wait_one}
+use Rattle.zl_code.specs.CallTable.{wait_poll, wait_async, port_create, port_queue, port_wait, port_poll, port_cancel, process_create, process_start}
+use Rattle.zl_code.specs.CallTable.{process_exit, task_kill, job_create, job_set_policy}
 use Rattle.zl_code.specs.Headline.{is_fault}
 
 abbrev pub is_good : Status → Bool

@@ -104,7 +104,8 @@ module _ (p q : ℕ) (apart : (p == q) ≡ false) where
         (killed_or_not (is_within u.objects (object_at w p task) q))
     effect_other _ lib passes u at below vs = as_before at
 
-module _ (lib : Library) (w : World) (p : ℕ) (caller : Process) (there : get w.processes p ≡ Some caller) (below : (q : ℕ) (y : Process) → get w.processes q ≡ Some y → q < w.next_koid) where
+module _ (lib : Library) (w : World) (p : ℕ) (caller : Process) (there : get w.processes p ≡ Some caller)
+    (below : (q : ℕ) (y : Process) → get w.processes q ≡ Some y → q < w.next_koid) where
   -- a world in which every started process but p is as it was or killed, and each policy of such a one as it was
   pub record LeavesOthers (w2 : World) : Type 0 where
     pub others : (q : ℕ) (y : Process) → (p == q) ≡ false → get w.processes q ≡ Some y → is_created y.state ≡ false → IsLeft y (get w2.processes q)
@@ -115,7 +116,10 @@ module _ (lib : Library) (w : World) (p : ℕ) (caller : Process) (there : get w
 
   -- p alone changes
   then_p : (u v : World) → LeavesOthers u → ((q : ℕ) → (p == q) ≡ false → get v.processes q ≡ get u.processes q) → v.objects ≡ u.objects → LeavesOthers v
-  then_p u v l same objects = record { others = λ q y apart at old. left_same y _ _ (same q apart) (l.others q y apart at old); alike = alike_then w w u v l.alike (same_objects w u v objects) }
+  then_p u v l same objects = record {
+    others = λ q y apart at old. left_same y _ _ (same q apart) (l.others q y apart at old);
+    alike = alike_then w w u v l.alike (same_objects w u v objects);
+  }
 
   when_ended : (u : World) (code : _) → LeavesOthers u → LeavesOthers (ended u p code)
   unfolding ended on_process
@@ -131,7 +135,9 @@ module _ (lib : Library) (w : World) (p : ℕ) (caller : Process) (there : get w
   when_waiting ds (Some awaited) = then_p w (waiting w p ds (Some awaited)) nothing_done (λ q apart. waiting_other p q apart w ds (Some awaited)) refl
 
   when_taken : (t : Site) → LeavesOthers (taken w p t)
-  when_taken t = then_p w (taken w p t) nothing_done (λ q apart. left_other p q apart (taken_handles t.request) w) (left_behind w p caller (taken_handles t.request) there).1.objects
+  when_taken t =
+      then_p w (taken w p t) nothing_done (λ q apart. left_other p q apart (taken_handles t.request) w)
+      (left_behind w p caller (taken_handles t.request) there).1.objects
 
   when_refused : (t : Site) (o : Outcome) → LeavesOthers (after_refusal w p t o)
   when_refused t (outcome.Answered answer) = when_replied (taken w p t) t answer (gives_refused w p t.request answer) (when_taken t)
@@ -155,7 +161,8 @@ module _ (lib : Library) (w : World) (p : ℕ) (caller : Process) (there : get w
     when_ok passes vs (outcome.Ended code) = when_ended _ code (when_done passes vs)
     when_ok passes vs outcome.Blocked = when_waiting t.destinations (awaited_by w p t.request)
 
-    when_called : (choice : Choice) (r : Option Outcome) → refusal lib w p t.request ≡ r → (answer : Outcome) (w2 : World) → CallBy lib w p t choice r answer w2 → LeavesOthers w2
+    when_called : (choice : Choice) (r : Option Outcome) → refusal lib w p t.request ≡ r → (answer : Outcome) (w2 : World) → CallBy lib w p t choice r answer w2
+        → LeavesOthers w2
     when_called Refused None is answer w2 h = absurd h
     when_called Refused (Some o) is answer w2 h = rw h.1 (when_refused t o)
     when_called WantsMemory None is answer w2 h = rw h.2 (when_refused t (outcome.Answered status.NoMemory))
@@ -203,7 +210,8 @@ module _ (i : Image) (t : ℕ → Option State) (range : is_in_range i ≡ true)
   sound = sound_before lib w p x w2 b
 
   still_allowed : (c : Condition) → IsTrue (is_among i.needs c) → creates b.step.acted q c ≡ None
-  still_allowed c named = same_policy w b.step.acted q process sound there (lives_then process.state running) (left_by_step lib w p x w2 sound b.step).alike c ∙ k.allowed c named
+  still_allowed c named =
+      same_policy w b.step.acted q process sound there (lives_then process.state running) (left_by_step lib w p x w2 sound b.step).alike c ∙ k.allowed c named
 
   conforms_still : Conforms i t b.step.acted q process
   conforms_still = record { state = k.state; stands = k.stands; holds = k.holds; memory = k.memory; allowed = still_allowed; waits = k.waits }
@@ -218,5 +226,6 @@ module _ (i : Image) (t : ℕ → Option State) (range : is_in_range i ≡ true)
       by : IsLeft process (get b.step.acted.processes q) → OthersLeave i t q process w2
       by (as_before is) = left_so (ends_step i t range typing lib w p x w2 b q process is running conforms_still)
       by (was_ended is) =
-          let over : get b.step.acted.processes q ≡ Some (record process { state = Ended KILLED; handles = []; last = None }) = is ∙ rw (lives_then process.state running) refl in
+          let over : get b.step.acted.processes q ≡ Some (record process { state = Ended KILLED; handles = []; last = None }) =
+          is ∙ rw (lives_then process.state running) refl in
           was_killed (ended_still q (record process { state = Ended KILLED; handles = []; last = None }) refl lib w p x w2 b.step over)

@@ -29,7 +29,8 @@ use Rattle.zl_code.specs.CallTable.{outcome_of}
 use Rattle.zl_code.specs.Jobs.{is_within}
 use Rattle.zl_code.specs.Refusals.{condition_of, handle_operands, refusal}
 use Rattle.zl_code.specs.Request.{Site, site, site_of}
-use Rattle.zl_code.specs.Calls.{Calls, CallBy, Choice, Refused, WantsMemory, Values, taken_handles, may_choose, taken, cpu_answered, replied, with_effect, after_refusal, after_ok}
+use Rattle.zl_code.specs.Calls.{Calls, CallBy, Choice, Refused, WantsMemory, Values, taken_handles, may_choose, taken, cpu_answered, replied, with_effect}
+use Rattle.zl_code.specs.Calls.{after_refusal, after_ok}
 use Rattle.zl_code.specs.Headline.{is_fault}
 use Rattle.zl_code.proofs.CallRows.{asks_again}
 use Rattle.zl_code.proofs.Entering.{left_behind}
@@ -128,7 +129,8 @@ record IsCaller (i : Image) (q2 q : Process) : Type 0 where
   program : q2.program ≡ q.program
   memory : IsMemory i q2.cpu.memory
 
-module _ (i : Image) (t : ℕ → Option State) (w : World) (p : ℕ) (q : Process) (called : CallName) (s : Site) (k : StandsAtCall i t w p q called s) (ruled : IsRuled i t w p q called s k.conforms.state) (lib : Library) where
+module _ (i : Image) (t : ℕ → Option State) (w : World) (p : ℕ) (q : Process) (called : CallName) (s : Site) (k : StandsAtCall i t w p q called s)
+    (ruled : IsRuled i t w p q called s k.conforms.state) (lib : Library) where
   abbrev uses : Uses
   uses = uses_of (bounds_of i.code) k.conforms.state ruled.at.call
 
@@ -181,7 +183,8 @@ module _ (i : Image) (t : ℕ → Option State) (w : World) (p : ℕ) (q : Proce
             stands = r.1.stands;
             holds = r.1.holds;
             memory = r.0;
-            allowed = still_allowed (replied w1 p s answer values) (alike_then w w w1 (replied w1 p s answer values) alike (same_objects w w1 (replied w1 p s answer values) refl));
+            allowed = still_allowed (replied w1 p s answer values)
+                (alike_then w w w1 (replied w1 p s answer values) alike (same_objects w w1 (replied w1 p s answer values) refl));
             waits = rw (same.state, k.ready) tt;
           };
         }
@@ -193,7 +196,14 @@ module _ (i : Image) (t : ℕ → Option State) (w : World) (p : ℕ) (q : Proce
     after_refused answer bad =
         let same = losing_same (taken_handles s.request) q in
         after_answer (taken w p s) (losing_all (taken_handles s.request) q) answer (gives_refused w p s.request answer) (taken_there ruled.before)
-        (record { registers = ap (λ x. x.registers) same.cpu; counter = ap (λ x. x.counter) same.cpu; slots = ap (λ x. x.slots) same.cpu; state = same.state; program = same.program; memory = subst (λ x. IsMemory i x.memory) (sym same.cpu) k.conforms.memory })
+        (record {
+          registers = ap (λ x. x.registers) same.cpu;
+          counter = ap (λ x. x.counter) same.cpu;
+          slots = ap (λ x. x.slots) same.cpu;
+          state = same.state;
+          program = same.program;
+          memory = subst (λ x. IsMemory i x.memory) (sym same.cpu) k.conforms.memory;
+        })
         taken_alike
         (subst (Fits (left ruled.before) ruled.left (zeroed ruled.before) uses.results (status_magnitude answer ∷ gives_refused w p s.request answer))
         (sym (left_there ruled.before))
@@ -204,7 +214,8 @@ module _ (i : Image) (t : ℕ → Option State) (w : World) (p : ℕ) (q : Proce
     abbrev given : List ℕ → Process
     given vs = getting_all (own_handles w p s.request) (entering_at s.request vs) (losing_all (taken_handles s.request) q)
 
-    after_worked : refusal lib w p s.request ≡ None → ends_caller w p s.request ≡ None → (vs : List ℕ) → may_choose w (taken w p s) p s.request vs ≡ true → IsAnswered i t p q (after_ok lib w p s vs (outcome.Answered status.Ok))
+    after_worked : refusal lib w p s.request ≡ None → ends_caller w p s.request ≡ None → (vs : List ℕ) → may_choose w (taken w p s) p s.request vs ≡ true
+        → IsAnswered i t p q (after_ok lib w p s vs (outcome.Answered status.Ok))
     after_worked none goes vs may =
         let q2 : Process = storing_in (stored_by w p s.request) (given vs) in
         let same = lost_and_got (own_handles w p s.request) (entering_at s.request vs) (taken_handles s.request) q in
@@ -247,11 +258,13 @@ module _ (i : Image) (t : ℕ → Option State) (w : World) (p : ℕ) (q : Proce
     by_refusal (outcome.Ended code) h = absurd h
 
     -- it ends its caller, or is answered
-    by_ending : refusal lib w p s.request ≡ None → (vs : List ℕ) → may_choose w (taken w p s) p s.request vs ≡ true → (e : Option ℤ) → ends_caller w p s.request ≡ e → Ends (outcome_of None e) (after_ok lib w p s vs (outcome_of None e))
+    by_ending : refusal lib w p s.request ≡ None → (vs : List ℕ) → may_choose w (taken w p s) p s.request vs ≡ true → (e : Option ℤ)
+        → ends_caller w p s.request ≡ e → Ends (outcome_of None e) (after_ok lib w p s vs (outcome_of None e))
     by_ending none vs may None goes = (refl, after_worked none goes vs may)
     by_ending none vs may (Some code) is = subst (λ n. IsOwnEnd w p n s code) asked (ends_so s.request s.consumed s.destinations w p code is)
 
-    by_waiting : refusal lib w p s.request ≡ None → (vs : List ℕ) → may_choose w (taken w p s) p s.request vs ≡ true → (o : Option Awaited) → awaited_by w p s.request ≡ o
+    by_waiting : refusal lib w p s.request ≡ None → (vs : List ℕ) → may_choose w (taken w p s) p s.request vs ≡ true → (o : Option Awaited)
+        → awaited_by w p s.request ≡ o
         → Ends (outcome_of o (ends_caller w p s.request)) (after_ok lib w p s vs (outcome_of o (ends_caller w p s.request)))
     by_waiting none vs may None is = by_ending none vs may (ends_caller w p s.request) refl
     by_waiting none vs may (Some awaited) is = rw is (waiting_there awaited is)
@@ -277,7 +290,8 @@ module _ (i : Image) (t : ℕ → Option State) (w : World) (p : ℕ) (q : Proce
     unfolding refusal
     refused_ordinary = rw (not_refused ruled.before, ruled.before.allowed) (first_ordinary (listed lib w p s.request) (listed_ordinary lib w p s.request))
 
-    by_choice : (choice : Choice) (r : Option Outcome) → refusal lib w p s.request ≡ r → IsOrdinary r → (answer : Outcome) (w2 : World) → CallBy lib w p s choice r answer w2 → Ends answer w2
+    by_choice : (choice : Choice) (r : Option Outcome) → refusal lib w p s.request ≡ r → IsOrdinary r → (answer : Outcome) (w2 : World)
+        → CallBy lib w p s choice r answer w2 → Ends answer w2
     by_choice Refused None none o answer w2 h = absurd h
     by_choice Refused (Some x) none o answer w2 (is, same) = rw (is, same) (by_refusal x o)
     by_choice WantsMemory None none o answer w2 (grows, is, same) = rw (is, same) (refl, after_refused status.NoMemory refl)
@@ -296,7 +310,8 @@ module _ (i : Image) (t : ℕ → Option State) (w : World) (p : ℕ) (q : Proce
       rw (only_exits lib w p number s.consumed s.destinations answer w2 calls) (exits number (sym asked ∙ ap (λ r. (asks r).0) same) same refl)
 
 -- however the call ends, it ends as is promised
-pub promised : (i : Image) (t : ℕ → Option State) (w : World) (p : ℕ) (q : Process) (called : CallName) (s : Site) → StandsAtCall i t w p q called s → (lib : Library) (answer : Outcome) (w2 : World) → Calls lib w p s answer w2
+pub promised : (i : Image) (t : ℕ → Option State) (w : World) (p : ℕ) (q : Process) (called : CallName) (s : Site) → StandsAtCall i t w p q called s
+    → (lib : Library) (answer : Outcome) (w2 : World) → Calls lib w p s answer w2
     → Promised i t w p q called s answer w2
 promised i t w p q called s k lib answer w2 h = by (is_ruled i t w p q called s k)
   where
@@ -309,7 +324,8 @@ promised i t w p q called s k lib answer w2 h = by (is_ruled i t w p q called s 
         either (inr (number, same)) = promised_exiting i t w p q called s k ruled lib number same answer w2 h
 
 -- what a call asks for can be read
-pub can_call : (i : Image) (t : ℕ → Option State) (w : World) (p : ℕ) (q : Process) → IsTrue (is_in_range i) → IsTyping i t → HandlesAreSound w → get w.processes p ≡ Some q → Conforms i t w p q
+pub can_call : (i : Image) (t : ℕ → Option State) (w : World) (p : ℕ) (q : Process) → IsTrue (is_in_range i) → IsTyping i t → HandlesAreSound w
+    → get w.processes p ≡ Some q → Conforms i t w p q
     → (x : CallInstr) → call_at i q.cpu.counter ≡ Some x → CanCall i q.cpu x
 can_call i t w p q range typing sound there k x is = by (reads i q.cpu x is)
   where

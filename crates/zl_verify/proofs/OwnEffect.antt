@@ -1,5 +1,6 @@
 -- What a call leaves of its caller, and of the policy that the caller is under.
-use Rattle.std.proofs.Common.{◌≡◌, ℕ, ◌+◌, ◌<◌, ◌≤◌, ◌⊎◌, Bool, true, false, ◌&&◌, ◌||◌, ◌==◌, List, [], ◌∷◌, refl, sym, ap, ◌∙◌, subst, Option, Some, None, option_map, arith, inl, inr}
+use Rattle.std.proofs.Common.{◌≡◌, ℕ, ◌+◌, ◌<◌, ◌≤◌, ◌⊎◌, Bool, true, false, ◌&&◌, ◌||◌, ◌==◌, List, [], ◌∷◌, refl, sym, ap, ◌∙◌, subst, Option, Some, None}
+use Rattle.std.proofs.Common.{option_map, arith, inl, inr}
 use Rattle.std.specs.Prelude.{is_some, if◌then◌else◌, unwrap_or, ℤ}
 use Rattle.std.specs.Bool.{then_some}
 use Rattle.std.proofs.lemmas.Bool.{cases_Bool, eqb-true}
@@ -21,7 +22,8 @@ use Rattle.zl_code.specs.Tests.{object_at, body_in, body_of, parent_in, parent_o
 use Rattle.zl_code.specs.Operands.{unless_allowed, creates}
 use Rattle.zl_code.specs.Effects.{on_process, on_object, with_object, insert_all, storing, message_sent, message_read}
 use Rattle.zl_code.specs.Starting.{is_created, created_process, started_with}
-use Rattle.zl_code.specs.Jobs.{is_dead, has_child, is_within, body_killed, object_killed, process_killed, with_killed, body_with_policy, policy_changed, job_within}
+use Rattle.zl_code.specs.Jobs.{is_dead, has_child, is_within, body_killed, object_killed, process_killed, with_killed, body_with_policy, policy_changed}
+use Rattle.zl_code.specs.Jobs.{job_within}
 use Rattle.zl_code.specs.Waiting.{without_keyed, repacked}
 use Rattle.zl_code.specs.CallTable.{Request, chan_create, chan_write, chan_read_etc, event_create, signal, signal_peer, port_create, port_queue, port_wait}
 use Rattle.zl_code.specs.CallTable.{port_poll, port_cancel}
@@ -48,12 +50,14 @@ pub record IsDone (lib : Library) (w u : World) (p : ℕ) (r : Request) : Type 0
   pub koids : u.next_koid ≡ w.next_koid
 
 -- the process that is started was only created
-pub starts_created : (lib : Library) (w : World) (p process h word : ℕ) → refusal lib w p (process_start process h word) ≡ None → is_process w is_created (object_at w p process) ≡ true
+pub starts_created : (lib : Library) (w : World) (p process h word : ℕ) → refusal lib w p (process_start process h word) ≡ None
+    → is_process w is_created (object_at w p process) ≡ true
 unfolding listed
 starts_created lib w p process h word passes = test_passes _ status.BadState (listed_none lib w p (process_start process h word) passes).0
 
 -- what is no created process is another
-pub no_child : (w : World) (k q : ℕ) (y : Process) → is_process w is_created k ≡ true → get w.processes q ≡ Some y → is_created y.state ≡ false → (k == q) ≡ false
+pub no_child : (w : World) (k q : ℕ) (y : Process) → is_process w is_created k ≡ true → get w.processes q ≡ Some y → is_created y.state ≡ false
+    → (k == q) ≡ false
 unfolding is_process
 no_child w k q y created there old = by (cases_Bool (k == q))
   where
@@ -95,7 +99,8 @@ same_caller (task_kill task) lib w u p k goes vs =
     (ap (λ m. is_within m (object_at w p task) p) k.objects ∙ not_within (is_within w.objects (object_at w p task) p) goes)
 same_caller _ lib w u p k goes vs = refl
 
-entered_own : (es : List Entry) (vs : List ℕ) (at : ℕ × List ℕ) (v : World) (p : ℕ) (q : Process) → get v.processes p ≡ Some q → get (storing (insert_all v p es vs) p at).processes p ≡ Some (storing_in at (getting_all es vs q))
+entered_own : (es : List Entry) (vs : List ℕ) (at : ℕ × List ℕ) (v : World) (p : ℕ) (q : Process) → get v.processes p ≡ Some q
+    → get (storing (insert_all v p es vs) p at).processes p ≡ Some (storing_in at (getting_all es vs q))
 entered_own es vs at v p q there = stored_here at (insert_all v p es vs) p (getting_all es vs q) (inserted_here es vs v p q there)
 
 -- handles enter the caller's table and bytes its memory, and nothing else changes there
@@ -115,8 +120,11 @@ pub caller_ending : (r : Request) (lib : Library) (w u : World) (p : ℕ) (code 
 unfolding effect new_handles insert_all with_killed
 caller_ending (process_exit number) lib w u p code is vs q there ready = (q, there, inl ready)
 caller_ending (task_kill task) lib w u p code is vs q there ready =
-    let k : ℕ = object_at w p task in
-    (process_killed (is_within u.objects k p) q, get-each u.processes (λ j y. process_killed (is_within u.objects k j) y) p ∙ ap (option_map (process_killed (is_within u.objects k p))) there, by (is_within u.objects k p))
+    let k : ℕ = object_at w p task in (
+      process_killed (is_within u.objects k p) q,
+      get-each u.processes (λ j y. process_killed (is_within u.objects k j) y) p ∙ ap (option_map (process_killed (is_within u.objects k p))) there,
+      by (is_within u.objects k p),
+    )
   where
     by : (b : Bool) → ((process_killed b q).state ≡ Ready) ⊎ (has_ended (process_killed b q).state ≡ true)
     by false = inl ready
@@ -131,10 +139,12 @@ pub record AreAlike (v w w2 : World) : Type 0 where
   pub policies : (k : ℕ) → k < v.next_koid → has_child_process v k ≡ true → policy_in (body_of w2 k) ≡ policy_in (body_of w k)
 
 pub alike_then : (v a b c : World) → AreAlike v a b → AreAlike v b c → AreAlike v a c
-alike_then v a b c h g = record { parents = λ k less. g.parents k less ∙ h.parents k less; policies = λ k less child. g.policies k less child ∙ h.policies k less child }
+alike_then v a b c h g =
+    record { parents = λ k less. g.parents k less ∙ h.parents k less; policies = λ k less child. g.policies k less child ∙ h.policies k less child }
 
 pub same_objects : (v w w2 : World) → w2.objects ≡ w.objects → AreAlike v w w2
-same_objects v w w2 same = record { parents = λ k less. ap (λ m. parent_in (body_in (get m k))) same; policies = λ k less child. ap (λ m. policy_in (body_in (get m k))) same }
+same_objects v w w2 same =
+    record { parents = λ k less. ap (λ m. parent_in (body_in (get m k))) same; policies = λ k less child. ap (λ m. policy_in (body_in (get m k))) same }
 
 -- the object is in the same job as before, and sets the same actions
 abbrev IsAlike : Body → Body → Type 0
@@ -163,12 +173,15 @@ changed_alike v u k f same = so_alike v u _ (λ j less. rw (get-update u.objects
 -- an object is made
 pub made_alike : (v u : World) (b : Body) → v.next_koid ≤ u.next_koid → AreAlike v u (with_object u b)
 unfolding with_object
-made_alike v u b le = so_alike v u _ (λ k less. rw (get-put u.objects u.next_koid (record { body = b; raised = 0 }) k, other_koid u.next_koid k (omega arith)) (refl, refl))
+made_alike v u b le =
+    so_alike v u _ (λ k less. rw (get-put u.objects u.next_koid (record { body = b; raised = 0 }) k, other_koid u.next_koid k (omega arith)) (refl, refl))
 
 -- jobs are killed
 killed_alike : (v u : World) (t : ℕ) → AreAlike v u (with_killed u t)
 unfolding with_killed
-killed_alike v u t = so_alike v u _ (λ k less. rw (get-each u.objects (λ j o. object_killed (is_within u.objects t j) o) k) (each_so (object_killed (is_within u.objects t k)) (by (is_within u.objects t k)) (get u.objects k)))
+killed_alike v u t =
+    so_alike v u _ (λ k less. rw (get-each u.objects (λ j o. object_killed (is_within u.objects t j) o) k)
+    (each_so (object_killed (is_within u.objects t k)) (by (is_within u.objects t k)) (get u.objects k)))
   where
     of_body : (b : Body) → IsAlike (body_killed b) b
     of_body (JobBody parent depth policy killed) = (refl, refl)
@@ -199,17 +212,21 @@ set_alike v u job s none = record {
     above true (Some o) = of_body o.body
     above false o = refl
 
-    actions : (k : ℕ) → has_child_process v k ≡ true → ((job == k) ≡ true) ⊎ ((job == k) ≡ false) → policy_in (body_in (if job == k then option_map (policy_changed s) (get u.objects k) else get u.objects k)) ≡ policy_in (body_in (get u.objects k))
-    actions k child (inl same) = let here : has_child_process v job ≡ true = subst (λ n. has_child_process v n ≡ true) (sym (eqb-true job k same)) child in let free = none in cc
+    actions : (k : ℕ) → has_child_process v k ≡ true → ((job == k) ≡ true) ⊎ ((job == k) ≡ false)
+        → policy_in (body_in (if job == k then option_map (policy_changed s) (get u.objects k) else get u.objects k)) ≡ policy_in (body_in (get u.objects k))
+    actions k child (inl same) =
+        let here : has_child_process v job ≡ true = subst (λ n. has_child_process v n ≡ true) (sym (eqb-true job k same)) child in let free = none in cc
     actions k child (inr other) = rw other refl
 
 -- where the call isn't refused, no process lives in the job
-none_in_job : (lib : Library) (w : World) (p j mode condition action : ℕ) → refusal lib w p (job_set_policy j mode condition action) ≡ None → has_child_process w (object_at w p j) ≡ false
+none_in_job : (lib : Library) (w : World) (p j mode condition action : ℕ) → refusal lib w p (job_set_policy j mode condition action) ≡ None
+    → has_child_process w (object_at w p j) ≡ false
 unfolding listed
 none_in_job lib w p j mode condition action passes =
     let job : ℕ = object_at w p j in
     neither_one (has_child_job w job) (has_child_process w job)
-    (neither_one (is_dead (body_of w job)) (has_child w job) (test_fails _ status.BadState (listed_none lib w p (job_set_policy j mode condition action) passes).1.0))
+    (neither_one (is_dead (body_of w job)) (has_child w job)
+    (test_fails _ status.BadState (listed_none lib w p (job_set_policy j mode condition action) passes).1.0))
 
 sends_alike : (m : Message) (o : Object) → IsAlike (message_sent m o).body o.body
 sends_alike m o = by o.body
@@ -288,7 +305,8 @@ some_body None b e = absurd (none-some b e)
 some_body (Some x) b e = (x, refl, same_Some x.body b e)
 
 -- a process that lives in the job is one of its children
-child_in : (w : World) (p : ℕ) (q : Process) (job : ℕ) → get w.processes p ≡ Some q → lives q.state ≡ true → body_in (get w.objects p) ≡ Some (ProcessBody job) → has_child_process w job ≡ true
+child_in : (w : World) (p : ℕ) (q : Process) (job : ℕ) → get w.processes p ≡ Some q → lives q.state ≡ true → body_in (get w.objects p) ≡ Some (ProcessBody job)
+    → has_child_process w job ≡ true
 unfolding has_child_process is_process
 child_in w p q job there living body =
     let (x, at, is) = some_body (get w.objects p) (ProcessBody job) body in
@@ -297,7 +315,8 @@ child_in w p q job there living body =
     itself : (n : ℕ) → ((n == n) && true) ≡ true
     itself n = grind (arith, nat_tests)
 
-pub same_policy : (w w2 : World) (p : ℕ) (q : Process) → IsSound w → get w.processes p ≡ Some q → lives q.state ≡ true → AreAlike w w w2 → (c : Condition) → creates w2 p c ≡ creates w p c
+pub same_policy : (w w2 : World) (p : ℕ) (q : Process) → IsSound w → get w.processes p ≡ Some q → lives q.state ≡ true → AreAlike w w w2 → (c : Condition)
+    → creates w2 p c ≡ creates w p c
 unfolding creates
 same_policy w w2 p q sound there living alike c =
     let own = sound.living p q there living in

@@ -51,7 +51,8 @@ fine_other p (item.Stuck pid) apart = λ same. let bad : (pid == p) ≡ true = e
 -- ---- a process that is over
 
 -- one that was ready, or over before
-ended_there : (w : World) (p : ℕ) (q : Process) → get w.processes p ≡ Some q → (q.state ≡ Ready) ⊎ (has_ended q.state ≡ true) → (code : ℤ) → HasEnded (ended w p code) p
+ended_there : (w : World) (p : ℕ) (q : Process) → get w.processes p ≡ Some q → (q.state ≡ Ready) ⊎ (has_ended q.state ≡ true) → (code : ℤ)
+    → HasEnded (ended w p code) p
 unfolding ended
 ended_there w p q there was code = record {
   process = process_ended code q;
@@ -101,7 +102,8 @@ leads_so i t n no_pause = by (t n)
     by (Some s) = rw no_pause refl
 
 -- what is ready doesn't wake
-still_there : (i : Image) (t : ℕ → Option State) (p : ℕ) (y : Process) (w2 : World) → y.state ≡ Ready → EndsStep i t p y w2 → (get w2.processes p ≡ Some y) × Conforms i t w2 p y
+still_there : (i : Image) (t : ℕ → Option State) (p : ℕ) (y : Process) (w2 : World) → y.state ≡ Ready → EndsStep i t p y w2
+    → (get w2.processes p ≡ Some y) × Conforms i t w2 p y
 still_there i t p y w2 ready (stays at k) = (at, k)
 still_there i t p y w2 ready (wakes awaited ds waited a) = absurd (apart (sym ready ∙ waited))
   where
@@ -111,10 +113,19 @@ still_there i t p y w2 ready (wakes awaited ds waited a) = absurd (apart (sym re
 -- ---- its own step
 
 module _ (lib : Library) (i : Image) (t : ℕ → Option State) (range : is_in_range i ≡ true) (typing : IsTyping i t) where
-  pub under_way : (p : ℕ) (y : Process) (w2 : World) (checked : Bool) → slice_get lib y.program ≡ Some (record { checked = checked; image = i }) → runs y.state ≡ true → EndsStep i t p y w2 → IsUnderWay lib i t w2 p
-  under_way p y w2 checked program running (stays at k) = record { process = y; there = at; running = running; checked = checked; program = program; conforms = k }
+  pub under_way : (p : ℕ) (y : Process) (w2 : World) (checked : Bool) → slice_get lib y.program ≡ Some (record { checked = checked; image = i })
+      → runs y.state ≡ true → EndsStep i t p y w2 → IsUnderWay lib i t w2 p
+  under_way p y w2 checked program running (stays at k) =
+      record { process = y; there = at; running = running; checked = checked; program = program; conforms = k }
   under_way p y w2 checked program running (wakes awaited ds waited a) =
-      record { process = a.after; there = a.there; running = ap runs a.ready; checked = checked; program = ap (slice_get lib) a.program ∙ program; conforms = a.conforms }
+      record {
+        process = a.after;
+        there = a.there;
+        running = ap runs a.ready;
+        checked = checked;
+        program = ap (slice_get lib) a.program ∙ program;
+        conforms = a.conforms;
+      }
 
   module _ (w : World) (p : ℕ) (x : TraceItem) (w2 : World) (b : IsFitStep lib w p x w2) (checked : Bool)
       (program : slice_get lib b.step.process.program ≡ Some (record { checked = checked; image = i })) (k : Conforms i t w p b.step.process) where
@@ -135,15 +146,20 @@ module _ (lib : Library) (i : Image) (t : ℕ → Option State) (range : is_in_r
     ends y at running c = ends_step i t range typing lib w p x w2 b p y at running c
 
     -- it is ready, at the end of a followed edge
-    goes_to : (y : Process) → get b.step.acted.processes p ≡ Some y → y.state ≡ Ready → y.program ≡ own.program → Conforms i t b.step.acted p y → Went i t own y x → HasGone
+    goes_to : (y : Process) → get b.step.acted.processes p ≡ Some y → y.state ≡ Ready → y.program ≡ own.program → Conforms i t b.step.acted p y
+        → Went i t own y x → HasGone
     goes_to y at ready same c went =
         let still = still_there i t p y w2 ready (ends y at (ap runs ready) c) in
-        inl (record { process = y; there = still.0; running = ap runs ready; checked = checked; program = ap (slice_get lib) same ∙ program; conforms = still.1 }, went)
+        inl (
+          record { process = y; there = still.0; running = ap runs ready; checked = checked; program = ap (slice_get lib) same ∙ program; conforms = still.1 },
+          went,
+        )
 
     moved : (c : Cpu) → next_at i own.cpu ≡ Moves c → x ≡ item.Run p 1 → b.step.acted ≡ on_process w p (λ y. record y { cpu = c }) → HasGone
     moved c next told same =
         let g = goes_on i t w p own range typing sound.handles b.step.is_there k b.step.is_ready c next in
-        goes_to (record own { cpu = c }) (ap (λ v. get v.processes p) same ∙ changed_here w p (λ (y : Process). record y { cpu = c }) own b.step.is_there) b.step.is_ready refl
+        goes_to (record own { cpu = c }) (ap (λ v. get v.processes p) same ∙ changed_here w p (λ (y : Process). record y { cpu = c }) own b.step.is_there)
+        b.step.is_ready refl
         (subst (λ v. Conforms i t v p (record own { cpu = c })) (sym same) g.conforms)
         (goes (ap executed told) g.follows b.step.is_ready)
 
@@ -195,13 +211,16 @@ module _ (lib : Library) (i : Image) (t : ℕ → Option State) (range : is_in_r
 
           by : (c : Bool) → is_pause_name called ≡ c → HasGone
           by true same = goes_to a.after a.there a.ready a.program a.conforms (pauses (told true same))
-          by false same = goes_to a.after a.there a.ready a.program a.conforms (goes (told false same) (subst (OneOf (λ n. a.after.cpu.counter ≡ n)) (leads_so i t own.cpu.counter (pause_here ∙ same)) a.follows) a.ready)
+          by false same =
+              goes_to a.after a.there a.ready a.program a.conforms
+              (goes (told false same) (subst (OneOf (λ n. a.after.cpu.counter ≡ n)) (leads_so i t own.cpu.counter (pause_here ∙ same)) a.follows) a.ready)
 
       blocked : (o : Outcome) → x ≡ item.Call p called o → IsWaiting i t p own b.step.acted → HasGone
       blocked o is a =
           let pause : is_pause_name called ≡ true = sym pause_here ∙ waits_pause a.awaited a.destinations (call_at i own.cpu.counter) a.conforms.waits in
           inl (
-            under_way p (record own { state = Blocked a.awaited a.destinations }) w2 checked program refl (ends (record own { state = Blocked a.awaited a.destinations }) a.there refl a.conforms),
+            under_way p (record own { state = Blocked a.awaited a.destinations }) w2 checked program refl
+                (ends (record own { state = Blocked a.awaited a.destinations }) a.there refl a.conforms),
             pauses (ap executed is ∙ ap (λ (d : Bool). if d then None else Some 1) pause),
           )
 
@@ -212,12 +231,15 @@ module _ (lib : Library) (i : Image) (t : ℕ → Option State) (range : is_in_r
 
       stopped : (code : ℤ) → x ≡ item.Call p called (outcome.Ended code) → IsOwnEnd w p called s code → Stopped i own x
       stopped code is (exits n named asked told) = by_exit (ap executed is ∙ ap (λ (n : CallName). if is_pause_name n then None else Some 1) named)
-      stopped code is (kills task named asked within told) = by_kill (ap executed is ∙ ap (λ (n : CallName). if is_pause_name n then None else Some 1) named) (pause_here ∙ ap is_pause_name named)
+      stopped code is (kills task named asked within told) =
+          by_kill (ap executed is ∙ ap (λ (n : CallName). if is_pause_name n then None else Some 1) named) (pause_here ∙ ap is_pause_name named)
 
-      by_outcome : (o : Outcome) → x ≡ item.Call p called o → Calls lib w p s o b.step.acted → Promised i t w p own called s o b.step.acted → IsFineItem p x × HasGone
+      by_outcome : (o : Outcome) → x ≡ item.Call p called o → Calls lib w p s o b.step.acted → Promised i t w p own called s o b.step.acted
+          → IsFineItem p x × HasGone
       by_outcome (outcome.Answered answer) is h (fine, a) = (subst (IsFineItem p) (sym is) (λ same. fine), answered (outcome.Answered answer) is a)
       by_outcome outcome.Blocked is h a = (subst (IsFineItem p) (sym is) tt, blocked outcome.Blocked is a)
-      by_outcome (outcome.Ended code) is h a = (subst (IsFineItem p) (sym is) (λ same. may_end code a), inr (over_after (exited code h.0 (refusal lib w p s.request) h.1), stopped code is a))
+      by_outcome (outcome.Ended code) is h a =
+          (subst (IsFineItem p) (sym is) (λ same. may_end code a), inr (over_after (exited code h.0 (refusal lib w p s.request) h.1), stopped code is a))
 
     by_next : (n : Next) → next_at i own.cpu ≡ n → Acts lib w p n x b.step.acted → IsFineItem p x × HasGone
     by_next (Moves c) next a = (subst (IsFineItem p) (sym a.0) tt, moved c next a.0 a.1)

@@ -65,7 +65,8 @@ losing h q = λ i k. at k i
         gone is true t = ap (get q.handles) (sym (eqb-true h k t)) ∙ is
         gone is false t = refl
 
-        by : (o : Option Entry) → get q.handles h ≡ o → get (if is_some o then record q { handles = without q.handles h; last = Some h } else q).handles k ≡ removed h (get q.handles) k
+        by : (o : Option Entry) → get q.handles h ≡ o
+            → get (if is_some o then record q { handles = without q.handles h; last = Some h } else q).handles k ≡ removed h (get q.handles) k
         by None is = gone is (h == k) refl
         by (Some y) is = without_it q.handles h k
 
@@ -82,25 +83,30 @@ losing_seen f xs (o ∷ os) seen q e = by o.is_taken
     rest = filter (λ (o : Operand). o.is_taken) (map (valued xs) os)
 
     by : (t : Bool)
-        → get (losing_all (map (λ o. o.value) rest) (process_without (slice_index xs o.value) q)).handles ≡ unseen f (seen_all xs (slice_index xs o.value ∷ seen) os)
+        → get (losing_all (map (λ o. o.value) rest) (process_without (slice_index xs o.value) q)).handles
+        ≡ unseen f (seen_all xs (slice_index xs o.value ∷ seen) os)
         → get (losing_all (map (λ o. o.value) rest) q).handles ≡ unseen f (seen_all xs seen os)
-        → get (losing_all (map (λ o. o.value) (cond t (valued xs o ∷ rest) rest)) q).handles ≡ unseen f (seen_all xs (if t then slice_index xs o.value ∷ seen else seen) os)
+        → get (losing_all (map (λ o. o.value) (cond t (valued xs o ∷ rest) rest)) q).handles
+        ≡ unseen f (seen_all xs (if t then slice_index xs o.value ∷ seen else seen) os)
     by true a b = a
     by false a b = b
 
 -- ---- handles enter, and bytes are stored
 
-pub inserted_here : (es : List Entry) (vs : List ℕ) (w : World) (p : ℕ) (q : Process) → get w.processes p ≡ Some q → get (insert_all w p es vs).processes p ≡ Some (getting_all es vs q)
+pub inserted_here : (es : List Entry) (vs : List ℕ) (w : World) (p : ℕ) (q : Process) → get w.processes p ≡ Some q
+    → get (insert_all w p es vs).processes p ≡ Some (getting_all es vs q)
 unfolding insert_all
 inserted_here [] vs w p q there = there
 inserted_here (e ∷ es) [] w p q there = there
-inserted_here (e ∷ es) (v ∷ vs) w p q there = inserted_here es vs (on_process w p (process_with v e)) p (process_with v e q) (changed_here w p (process_with v e) q there)
+inserted_here (e ∷ es) (v ∷ vs) w p q there =
+    inserted_here es vs (on_process w p (process_with v e)) p (process_with v e q) (changed_here w p (process_with v e) q there)
 
 pub inserted_elsewhere : (es : List Entry) (vs : List ℕ) (w : World) (k p : ℕ) → (k == p) ≡ false → get (insert_all w k es vs).processes p ≡ get w.processes p
 unfolding insert_all
 inserted_elsewhere [] vs w k p apart = refl
 inserted_elsewhere (e ∷ es) [] w k p apart = refl
-inserted_elsewhere (e ∷ es) (v ∷ vs) w k p apart = inserted_elsewhere es vs (on_process w k (process_with v e)) k p apart ∙ changed_elsewhere w k (process_with v e) p apart
+inserted_elsewhere (e ∷ es) (v ∷ vs) w k p apart =
+    inserted_elsewhere es vs (on_process w k (process_with v e)) k p apart ∙ changed_elsewhere w k (process_with v e) p apart
 
 -- the new handles that enter the caller's own table: not that of the process that it starts
 abbrev pub own_handles : World → ℕ → Request → List Entry

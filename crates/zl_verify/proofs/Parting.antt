@@ -52,16 +52,19 @@ module _ (numbers : List (Option ℕ)) (size n target : ℕ) where
           tt_or (x ∷ []) h = h
           tt_or (x ∷ y ∷ ys) h = (h.0, tt_or (y ∷ ys) (h.1))
 
-      by : (j p : Option State) → IfOk (and_then (edge_to size cause.BadJump target j) (λ xs. and_then (edge_to size cause.FallsOff (n + 1) p) (λ ys. Ok (xs ++ ys)))) (AreParted numbers n)
+      by : (j p : Option State) → IfOk
+          (and_then (edge_to size cause.BadJump target j) (λ xs. and_then (edge_to size cause.FallsOff (n + 1) p) (λ ys. Ok (xs ++ ys)))) (AreParted numbers n)
       by None p = behind [] (λ y e k. e) tt p
       by (Some s) p = jumps (nat_lt target size) refl
         where
           jumps : (b : Bool) → nat_lt target size ≡ b
-              → IfOk (and_then (if b then Ok ((target, s) ∷ []) else Err cause.BadJump) (λ xs. and_then (edge_to size cause.FallsOff (n + 1) p) (λ ys. Ok (xs ++ ys)))) (AreParted numbers n)
+              → IfOk (and_then (if b then Ok ((target, s) ∷ []) else Err cause.BadJump)
+              (λ xs. and_then (edge_to size cause.FallsOff (n + 1) p) (λ ys. Ok (xs ++ ys)))) (AreParted numbers n)
           jumps false e = tt
           jumps true e = behind ((target, s) ∷ []) (λ y k. (begin (inside true e refl), λ z. k)) (λ z. absurd (begin (inside true e refl) z)) p
 
-then_parted : (numbers : List (Option ℕ)) (n : ℕ) (r : Result Ways Cause) (f : Ways → Result (List Edge) Cause) → ((w : Ways) → IfOk (f w) (AreParted numbers n)) → IfOk (and_then r f) (AreParted numbers n)
+then_parted : (numbers : List (Option ℕ)) (n : ℕ) (r : Result Ways Cause) (f : Ways → Result (List Edge) Cause)
+    → ((w : Ways) → IfOk (f w) (AreParted numbers n)) → IfOk (and_then r f) (AreParted numbers n)
 then_parted numbers n (Err c) f h = tt
 then_parted numbers n (Ok w) f h = h w
 
@@ -74,7 +77,8 @@ rule_parted i bs a n s = by (instr_at i n) refl
     by (Some (instr.Local x)) e =
         let j : jump_in (local_in (instr_at i n)) ≡ target_of x = rw e refl in
         then_parted bs.numbers n (local_rule (bounds_of i.code) i x s) (edges (length i.code) n (target_of x))
-        (λ w. edges_parted bs.numbers (length i.code) n (target_of x) (λ h. subst (λ (m : ℕ). Begins bs.numbers m) j (a.jumps n (there i.code n (instr.Local x) e) (subst (λ (m : ℕ). m < length i.code) (sym j) h))) w)
+        (λ w. edges_parted bs.numbers (length i.code) n (target_of x)
+        (λ h. subst (λ (m : ℕ). Begins bs.numbers m) j (a.jumps n (there i.code n (instr.Local x) e) (subst (λ (m : ℕ). m < length i.code) (sym j) h))) w)
     by (Some (instr.Call x)) e =
         then_parted bs.numbers n (call_rule (bounds_of i.code) i x s) (edges (length i.code) n 0)
         (λ w. edges_parted bs.numbers (length i.code) n 0 (λ h z. let q : None ≡ Some 0 = sym z ∙ a.first in cc) w)

@@ -32,7 +32,8 @@ module _ (P : Outcome → Type 0) where
   pub one : (s : State) (b : ℕ) (f : ℕ → Result Outcome Cause) → ((m : ℕ) → IfOk (f m) P) → IfOk (and_then (word_at s b) f) P
   one s b f h = then_on (word_at s b) f h
 
-  two : (s : State) (b c : ℕ) (f : ℕ → ℕ → Result Outcome Cause) → ((m n : ℕ) → IfOk (f m n) P) → IfOk (and_then (word_at s b) (λ m. and_then (word_at s c) (λ n. f m n))) P
+  two : (s : State) (b c : ℕ) (f : ℕ → ℕ → Result Outcome Cause) → ((m n : ℕ) → IfOk (f m n) P)
+      → IfOk (and_then (word_at s b) (λ m. and_then (word_at s c) (λ n. f m n))) P
   two s b c f h = one s b _ (λ m. one s c (f m) (h m))
 
 module _ (P : Outcome → Type 0) (on : (s : State) → P (passes s)) where

@@ -20,7 +20,8 @@ raised_none t n s u there none = rw (there, not_below u s none, none) refl
 pub raised_same : (t : Table) (n : ℕ) (s u : State) → slice_get t.states n ≡ Some (Some u) → all_below s u ≡ true → Some t ≡ raised t n s
 raised_same t n s u there below = rw (there, below) refl
 
-pub raised_up : (t : Table) (n : ℕ) (s u v : State) → slice_get t.states n ≡ Some (Some u) → all_below s u ≡ false → all_joined u s ≡ Some v → Some (put t n v) ≡ raised t n s
+pub raised_up : (t : Table) (n : ℕ) (s u v : State) → slice_get t.states n ≡ Some (Some u) → all_below s u ≡ false → all_joined u s ≡ Some v
+    → Some (put t n v) ≡ raised t n s
 raised_up t n s u v there above joined = rw (there, above, joined) refl
 
 -- what was read of a place stands there

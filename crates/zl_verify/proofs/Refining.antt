@@ -1,5 +1,6 @@
 -- A register is known better, and what the edges of a test know.
-use Rattle.std.proofs.Common.{◌≡◌, ◌≢◌, ℕ, zero, suc, ◌+◌, ◌-◌, ◌<◌, ◌≤◌, ◌⊎◌, Bool, true, false, not, ◌&&◌, ◌==◌, List, [], ◌∷◌, length, refl, sym, ap, ◌∙◌, subst, Option, Some, None, Result, Ok, Err, arith, inl, inr, slice_set, slice_index, eq-eqb}
+use Rattle.std.proofs.Common.{◌≡◌, ◌≢◌, ℕ, zero, suc, ◌+◌, ◌-◌, ◌<◌, ◌≤◌, ◌⊎◌, Bool, true, false, not, ◌&&◌, ◌==◌, List, [], ◌∷◌, length, refl, sym, ap, ◌∙◌}
+use Rattle.std.proofs.Common.{subst, Option, Some, None, Result, Ok, Err, arith, inl, inr, slice_set, slice_index, eq-eqb}
 use Rattle.std.proofs.lemmas.Option.{same_Some}
 use Rattle.std.specs.Prelude.{is_some, if◌then◌else◌, nat_lt, bit_or}
 use Rattle.std.proofs.lemmas.Bool.{cases_eq, eqb-true}
@@ -18,7 +19,8 @@ use Rattle.zl_abs.specs.declared.cause.Cause.{Cause}
 use Rattle.zl_abs.specs.Outcome.{Outcome}
 use Rattle.zl_abs.specs.Values.{ANY, is_has, capped, smaller}
 use Rattle.zl_abs.specs.States.{State, IsState, can_be_named, value_at, refined}
-use Rattle.zl_abs.specs.LocalRules.{kind_numbered, known_zero, known_there, known_kind, known_other, known_rights, becomes, kind_ways, equal_ways, zero_ways, below_ways, has_ways, unless}
+use Rattle.zl_abs.specs.LocalRules.{kind_numbered, known_zero, known_there, known_kind, known_other, known_rights, becomes, kind_ways, equal_ways, zero_ways}
+use Rattle.zl_abs.specs.LocalRules.{below_ways, has_ways, unless}
 use Rattle.zl_abs.proofs.Order.{same_kind_refl, within_trans}
 use Rattle.zl_verify.specs.Conforms.{Table, kind_in, rights_in, IsAs, IsHandle, Describes, one_if, owns, owners, keepers, Holds}
 use Rattle.zl_verify.proofs.Owners.{owns_free, owns_0, owners-set, set_same, set_apart, has_inside}
@@ -33,7 +35,8 @@ set_itself (x ∷ l) zero = refl
 set_itself (x ∷ l) (suc k) = ap (λ m. x ∷ m) (set_itself l k)
 
 -- the number stays, and the same places are owned
-pub refine : {f : Table} {s : State} {xs : List ℕ} {arrays : List SlotArray} {slots : List (List ℕ)} → Holds f s xs arrays slots → (r : ℕ) → r < length s → (a : AbsVal) → Describes f xs a (slice_index xs r)
+pub refine : {f : Table} {s : State} {xs : List ℕ} {arrays : List SlotArray} {slots : List (List ℕ)} → Holds f s xs arrays slots → (r : ℕ) → r < length s
+    → (a : AbsVal) → Describes f xs a (slice_index xs r)
     → ((v : ℕ) → one_if (owns v a (slice_index xs r)) ≡ one_if (owns v (value_at s r) (slice_index xs r))) → Holds f (refined s r a) xs arrays slots
 refine {f} {s} {xs} {arrays} {slots} h r lt a new same = record {
   width = h.width ∙ sym (length-set s r a);
@@ -70,7 +73,8 @@ among_is : (ks : List Kind) (n : ℕ) (k : Kind) → kind_among ks n ≡ Some k 
 among_is [] n k e = cc
 among_is (x ∷ ks) n k e = by (kind_number x == n) refl e (λ g. among_is ks n k g)
   where
-    by : (t : Bool) → (kind_number x == n) ≡ t → (if t then Some x else kind_among ks n) ≡ Some k → (kind_among ks n ≡ Some k → kind_number k ≡ n) → kind_number k ≡ n
+    by : (t : Bool) → (kind_number x == n) ≡ t → (if t then Some x else kind_among ks n) ≡ Some k → (kind_among ks n ≡ Some k → kind_number k ≡ n)
+        → kind_number k ≡ n
     by true is e more = ap kind_number (sym (same_Some x k e)) ∙ eqb-true (kind_number x) n is
     by false is e more = more e
 
@@ -116,17 +120,22 @@ module _ {f : Table} {s : State} {xs : List ℕ} {arrays : List SlotArray} {slot
   without a (Some t) k = k.0
 
   -- a word or a tag in register a is this number
-  turned_out : (t : State) → Holds f t xs arrays slots → (a n : ℕ) → a < length t → is_has (value_at t a) ≡ false → slice_index xs a ≤ n → Holds f (refined t a (Word n)) xs arrays slots
-  turned_out t k a n lt free le = refine k a lt (Word n) le (λ v. owns_free v (Word n) (slice_index xs a) refl ∙ sym (owns_free v (value_at t a) (slice_index xs a) free))
+  turned_out : (t : State) → Holds f t xs arrays slots → (a n : ℕ) → a < length t → is_has (value_at t a) ≡ false → slice_index xs a ≤ n
+      → Holds f (refined t a (Word n)) xs arrays slots
+  turned_out t k a n lt free le =
+      refine k a lt (Word n) le (λ v. owns_free v (Word n) (slice_index xs a) refl ∙ sym (owns_free v (value_at t a) (slice_index xs a) free))
 
-  becomes_known : (a imm : ℕ) → a < length s → is_has (value_at s a) ≡ false → slice_index xs a ≡ imm → (o : Option State) → KnownBeside a o → Known f xs arrays slots (becomes a imm o)
+  becomes_known : (a imm : ℕ) → a < length s → is_has (value_at s a) ≡ false → slice_index xs a ≡ imm → (o : Option State) → KnownBeside a o
+      → Known f xs arrays slots (becomes a imm o)
   becomes_known a imm lt free e None k = k
-  becomes_known a imm lt free e (Some t) k = turned_out t k.0 a (capped imm) (subst (λ n. a < n) (sym k.1) lt) (ap is_has k.2 ∙ free) (let few = h.small a in omega arith)
+  becomes_known a imm lt free e (Some t) k =
+      turned_out t k.0 a (capped imm) (subst (λ n. a < n) (sym k.1) lt) (ap is_has k.2 ∙ free) (let few = h.small a in omega arith)
 
   here : (a : ℕ) → KnownBeside a (Some s)
   here a = (h, refl, refl)
 
-  better : (a r : ℕ) → a ≢ r → (v : AbsVal) → r < length s → Describes f xs v (slice_index xs r) → ((y : ℕ) → one_if (owns y v (slice_index xs r)) ≡ one_if (owns y (value_at s r) (slice_index xs r)))
+  better : (a r : ℕ) → a ≢ r → (v : AbsVal) → r < length s → Describes f xs v (slice_index xs r)
+      → ((y : ℕ) → one_if (owns y v (slice_index xs r)) ≡ one_if (owns y (value_at s r) (slice_index xs r)))
       → KnownBeside a (Some (refined s r v))
   better a r apart v lt new same = (refine h r lt v new same, length-set s r v, set_apart s r a v apart)
 
@@ -149,7 +158,8 @@ module _ {f : Table} {s : State} {xs : List ℕ} {arrays : List SlotArray} {slot
       by (inr l) = absurd (live_apart f (nothing_at_0 h) k q (slice_index xs r) l z)
 
   pub there_known : (a r : ℕ) → a ≢ r → slice_index xs r ≢ 0 → (v : AbsVal) → value_at s r ≡ v → KnownBeside a (known_there s r v)
-  there_known a r apart some (Word m) is = let le : slice_index xs r ≤ m = rw is at (h.described r) in let not_0 : (m == 0) ≡ false = test m le in rw not_0 (here a)
+  there_known a r apart some (Word m) is =
+      let le : slice_index xs r ≤ m = rw is at (h.described r) in let not_0 : (m == 0) ≡ false = test m le in rw not_0 (here a)
     where
       test : (m : ℕ) → slice_index xs r ≤ m → (m == 0) ≡ false
       test zero le = absurd (some (omega arith))
@@ -172,7 +182,8 @@ module _ {f : Table} {s : State} {xs : List ℕ} {arrays : List SlotArray} {slot
       none_some : None ≡ Some e → ⊥
       none_some p = cc
 
-  as_there : (r : ℕ) (e : Entry) → f (slice_index xs r) ≡ Some e → (maybe : Bool) (k : Option Kind) (q : Rights) → value_at s r ≡ Has maybe k q → IsAs k q (Some e)
+  as_there : (r : ℕ) (e : Entry) → f (slice_index xs r) ≡ Some e → (maybe : Bool) (k : Option Kind) (q : Rights) → value_at s r ≡ Has maybe k q
+      → IsAs k q (Some e)
   as_there r e there maybe k q is = by (rw is at (h.described r))
     where
       none_some : None ≡ Some e → ⊥
@@ -182,17 +193,20 @@ module _ {f : Table} {s : State} {xs : List ℕ} {arrays : List SlotArray} {slot
       by (inl (m, z)) = absurd (none_some (sym (nothing_at_0 h) ∙ (ap f (sym z) ∙ there)))
       by (inr l) = subst (IsAs k q) there l
 
-  pub kind_known : (a r : ℕ) → a ≢ r → (e : Entry) → f (slice_index xs r) ≡ Some e → (v : AbsVal) → value_at s r ≡ v → can_be_named v ≡ true → KnownBeside a (known_kind s r (Some e.kind) v)
+  pub kind_known : (a r : ℕ) → a ≢ r → (e : Entry) → f (slice_index xs r) ≡ Some e → (v : AbsVal) → value_at s r ≡ v → can_be_named v ≡ true
+      → KnownBeside a (known_kind s r (Some e.kind) v)
   kind_known a r apart e there (Word m) is fine = absurd (named_has r e there m is fine)
   kind_known a r apart e there (KindOf t) is fine = cc
   kind_known a r apart e there (RightsOf t) is fine = cc
   kind_known a r apart e there (Has maybe j q) is fine =
       let l = as_there r e there maybe j q is in
-      rw l.0 (better a r apart (Has false (Some e.kind) q) (has_there r maybe j q is) (inr (subst (IsAs (Some e.kind) q) (sym there) (same_kind_refl e.kind, l.1)))
+      rw l.0 (better a r apart (Has false (Some e.kind) q) (has_there r maybe j q is)
+      (inr (subst (IsAs (Some e.kind) q) (sym there) (same_kind_refl e.kind, l.1)))
       (λ y. rw is (owned_alike y false maybe (Some e.kind) j q q (slice_index xs r))))
 
   -- a handle of another kind
-  other_by : (r : ℕ) (k : Kind) → (kind_in (f (slice_index xs r)) ≡ kind_number k → ⊥) → (v : AbsVal) → value_at s r ≡ v → Known f xs arrays slots (known_other s (Some k) v)
+  other_by : (r : ℕ) (k : Kind) → (kind_in (f (slice_index xs r)) ≡ kind_number k → ⊥) → (v : AbsVal) → value_at s r ≡ v
+      → Known f xs arrays slots (known_other s (Some k) v)
   other_by r k apart (Word m) is = h
   other_by r k apart (KindOf t) is = h
   other_by r k apart (RightsOf t) is = h
@@ -212,18 +226,21 @@ module _ {f : Table} {s : State} {xs : List ℕ} {arrays : List SlotArray} {slot
       by true e = apart (live (rw is at (h.described r)) ∙ sym (eqb-true (kind_number k) (kind_number j) e))
       by false e = h
 
-  pub other_known : (r imm : ℕ) → (kind_in (f (slice_index xs r)) ≡ imm → ⊥) → (o : Option Kind) → kind_numbered imm ≡ o → Known f xs arrays slots (known_other s o (value_at s r))
+  pub other_known : (r imm : ℕ) → (kind_in (f (slice_index xs r)) ≡ imm → ⊥) → (o : Option Kind) → kind_numbered imm ≡ o
+      → Known f xs arrays slots (known_other s o (value_at s r))
   other_known r imm apart None is = h
   other_known r imm apart (Some k) is = other_by r k (λ e. apart (e ∙ numbered_is imm k is)) (value_at s r) refl
 
-  pub rights_known : (r imm : ℕ) (e : Entry) → f (slice_index xs r) ≡ Some e → within imm (bits e.rights) ≡ true → within imm KNOWN_RIGHTS ≡ true → (v : AbsVal) → value_at s r ≡ v → can_be_named v ≡ true
+  pub rights_known : (r imm : ℕ) (e : Entry) → f (slice_index xs r) ≡ Some e → within imm (bits e.rights) ≡ true → within imm KNOWN_RIGHTS ≡ true → (v : AbsVal)
+      → value_at s r ≡ v → can_be_named v ≡ true
       → Known f xs arrays slots (known_rights s r imm v)
   rights_known r imm e there has known (Word m) is fine = absurd (named_has r e there m is fine)
   rights_known r imm e there has known (KindOf t) is fine = cc
   rights_known r imm e there has known (RightsOf t) is fine = cc
   rights_known r imm e there has known (Has maybe k q) is fine =
       let l = as_there r e there maybe k q is in
-      rw known (refine h r (has_there r maybe k q is) (Has false k (rights_of (bit_or (bits q) imm))) (inr (subst (IsAs k (rights_of (bit_or (bits q) imm))) (sym there) (l.0, within_both (bits q) imm (bits e.rights) l.1 has)))
+      rw known (refine h r (has_there r maybe k q is) (Has false k (rights_of (bit_or (bits q) imm)))
+      (inr (subst (IsAs k (rights_of (bit_or (bits q) imm))) (sym there) (l.0, within_both (bits q) imm (bits e.rights) l.1 has)))
       (λ y. rw is (owned_alike y false maybe k k (rights_of (bit_or (bits q) imm)) q (slice_index xs r))))
 
   -- ---- the tests
@@ -265,7 +282,8 @@ module _ {f : Table} {s : State} {xs : List ℕ} {arrays : List SlotArray} {slot
       some_then : slice_index xs a ≢ 0 → slice_index xs r ≢ 0
       some_then some z = some (tells ∙ (ap kind_in (ap f z ∙ nothing_at_0 h)))
 
-      kind_then : slice_index xs a ≡ imm → imm ≢ 0 → (o : Option Entry) → f (slice_index xs r) ≡ o → KnownBeside a (known_kind s r (kind_numbered imm) (value_at s r))
+      kind_then : slice_index xs a ≡ imm → imm ≢ 0 → (o : Option Entry) → f (slice_index xs r) ≡ o
+          → KnownBeside a (known_kind s r (kind_numbered imm) (value_at s r))
       kind_then e some None there = absurd (some (sym e ∙ (tells ∙ ap kind_in there)))
       kind_then e some (Some x) there =
           let number : kind_numbered imm ≡ Some x.kind = ap kind_numbered (sym e ∙ (tells ∙ ap kind_in there)) ∙ numbered_again x.kind in
@@ -273,11 +291,13 @@ module _ {f : Table} {s : State} {xs : List ℕ} {arrays : List SlotArray} {slot
 
       by : (t : Bool) → (imm == 0) ≡ t → Splits (Known f xs arrays slots) (slice_index xs a == imm) (Ok (if t
           then record { jumped = becomes a 0 (known_zero s r (value_at s r)); passed = known_there s r (value_at s r) }
-          else record { jumped = becomes a imm (known_kind s r (kind_numbered imm) (value_at s r)); passed = known_other s (kind_numbered imm) (value_at s r) }))
+          else
+          record { jumped = becomes a imm (known_kind s r (kind_numbered imm) (value_at s r)); passed = known_other s (kind_numbered imm) (value_at s r) }))
       by true z = (
         (λ e. let at_0 : slice_index xs a ≡ 0 = eqb-true (slice_index xs a) imm e ∙ eqb-true imm 0 z in
             becomes_known a 0 lt free at_0 _ (zero_known a r apart (zero_then at_0) (value_at s r) refl)),
-        (λ e. without a _ (there_known a r apart (some_then (λ at_0. test_apart (slice_index xs a) imm e (at_0 ∙ sym (eqb-true imm 0 z)))) (value_at s r) refl)),
+        (λ e.
+            without a _ (there_known a r apart (some_then (λ at_0. test_apart (slice_index xs a) imm e (at_0 ∙ sym (eqb-true imm 0 z)))) (value_at s r) refl)),
       )
       by false z = (
         (λ e. let at_imm : slice_index xs a ≡ imm = eqb-true (slice_index xs a) imm e in
@@ -285,7 +305,8 @@ module _ {f : Table} {s : State} {xs : List ℕ} {arrays : List SlotArray} {slot
         (λ e. other_known r imm (λ k. test_apart (slice_index xs a) imm e (tells ∙ k)) (kind_numbered imm) refl),
       )
 
-  pub equal_splits : (a imm : ℕ) → a < length s → (v : AbsVal) → value_at s a ≡ v → Splits (Known f xs arrays slots) (slice_index xs a == imm) (equal_ways s a imm v)
+  pub equal_splits : (a imm : ℕ) → a < length s → (v : AbsVal) → value_at s a ≡ v
+      → Splits (Known f xs arrays slots) (slice_index xs a == imm) (equal_ways s a imm v)
   equal_splits a imm lt (Has maybe k r) is = tt
   equal_splits a imm lt (KindOf r) is = kind_splits a imm r lt is
   equal_splits a imm lt (RightsOf r) is = ((λ e. becomes_known a imm lt (ap is_has is) (eqb-true (slice_index xs a) imm e) (Some s) (here a)), (λ e. h))
@@ -317,10 +338,11 @@ module _ {f : Table} {s : State} {xs : List ℕ} {arrays : List SlotArray} {slot
       above : suc a ≢ a
       above e = omega arith
 
-  bound_splits : (a imm m : ℕ) → a < length s → is_has (value_at s a) ≡ false → slice_index xs a ≤ m → Splits (Known f xs arrays slots) (nat_lt (slice_index xs a) imm) (Ok (record {
-    jumped = if imm == 0 then None else Some (refined s a (Word (smaller m (imm - 1))));
-    passed = if nat_lt m imm then None else Some s;
-  }))
+  bound_splits : (a imm m : ℕ) → a < length s → is_has (value_at s a) ≡ false → slice_index xs a ≤ m
+      → Splits (Known f xs arrays slots) (nat_lt (slice_index xs a) imm) (Ok (record {
+        jumped = if imm == 0 then None else Some (refined s a (Word (smaller m (imm - 1))));
+        passed = if nat_lt m imm then None else Some s;
+      }))
   bound_splits a imm m lt free le = (jump, pass)
     where
       jump : nat_lt (slice_index xs a) imm ≡ true → Known f xs arrays slots (if imm == 0 then None else Some (refined s a (Word (smaller m (imm - 1)))))
@@ -345,12 +367,14 @@ module _ {f : Table} {s : State} {xs : List ℕ} {arrays : List SlotArray} {slot
 
   -- the rights of handles are known ones
   module _ (known : (v : ℕ) (e : Entry) → f v ≡ Some e → within (bits e.rights) KNOWN_RIGHTS ≡ true) where
-    rights_by : (a imm r : ℕ) → value_at s a ≡ RightsOf r → within imm (slice_index xs a) ≡ true → (imm == 0) ≡ false → (o : Option Entry) → f (slice_index xs r) ≡ o → Known f xs arrays slots (known_rights s r imm (value_at s r))
+    rights_by : (a imm r : ℕ) → value_at s a ≡ RightsOf r → within imm (slice_index xs a) ≡ true → (imm == 0) ≡ false → (o : Option Entry)
+        → f (slice_index xs r) ≡ o → Known f xs arrays slots (known_rights s r imm (value_at s r))
     rights_by a imm r is has some None there = absurd (rights_none imm (slice_index xs a) (rw (is, there) at (h.described a)) has some)
     rights_by a imm r is has some (Some e) there =
         let tells : slice_index xs a ≡ rights_in (f (slice_index xs r)) = rw is at (h.described a) in
         let inside : within imm (bits e.rights) ≡ true = subst (λ n. within imm n ≡ true) (tells ∙ ap rights_in there) has in
-        rights_known r imm e there inside (within_trans KNOWN_RIGHTS (bits e.rights) imm (known (slice_index xs r) e there) inside) (value_at s r) refl (rw is at (states.tags a))
+        rights_known r imm e there inside (within_trans KNOWN_RIGHTS (bits e.rights) imm (known (slice_index xs r) e there) inside) (value_at s r) refl
+        (rw is at (states.tags a))
 
     pub has_splits : (a imm : ℕ) (v : AbsVal) → value_at s a ≡ v → Splits (Known f xs arrays slots) (within imm (slice_index xs a)) (has_ways s imm v)
     has_splits a imm (Word m) is = ((λ e. h), (λ e. h))
@@ -358,6 +382,7 @@ module _ {f : Table} {s : State} {xs : List ℕ} {arrays : List SlotArray} {slot
     has_splits a imm (Has maybe k r) is = tt
     has_splits a imm (RightsOf r) is = ((λ e. by e (imm == 0) refl), (λ e. h))
       where
-        by : within imm (slice_index xs a) ≡ true → (t : Bool) → (imm == 0) ≡ t → Known f xs arrays slots (if t then Some s else known_rights s r imm (value_at s r))
+        by : within imm (slice_index xs a) ≡ true → (t : Bool) → (imm == 0) ≡ t
+            → Known f xs arrays slots (if t then Some s else known_rights s r imm (value_at s r))
         by e true z = h
         by e false z = rights_by a imm r is e z (f (slice_index xs r)) refl

@@ -61,10 +61,12 @@ narrowed_zero a _ imm = refl
 
 -- ---- with what a refusal tells
 
-poll_fits : (f : Table) (s : State) (xs : List ℕ) (a d n : ℕ) (vs : List ℕ) → n ≤ 30 → first_value vs ≤ 0xffff_ffff → Fits f s xs ((a, Word 30) ∷ (d, Word 0xffff_ffff) ∷ []) (n ∷ vs) f
+poll_fits : (f : Table) (s : State) (xs : List ℕ) (a d n : ℕ) (vs : List ℕ) → n ≤ 30 → first_value vs ≤ 0xffff_ffff
+    → Fits f s xs ((a, Word 30) ∷ (d, Word 0xffff_ffff) ∷ []) (n ∷ vs) f
 poll_fits f s xs a d n vs few le = (f, (few, omega arith, refl), (f, (le, omega arith, refl), refl))
 
-read_fits : (f : Table) (s : State) (xs : List ℕ) → IsOver f s xs → (a d e g places n : ℕ) (vs : List ℕ) → n ≤ 30 → first_value vs ≤ 65536 → first_value (more_values vs) ≤ 64 → more_values (more_values vs) ≡ []
+read_fits : (f : Table) (s : State) (xs : List ℕ) → IsOver f s xs → (a d e g places n : ℕ) (vs : List ℕ) → n ≤ 30 → first_value vs ≤ 65536
+    → first_value (more_values vs) ≤ 64 → more_values (more_values vs) ≡ []
     → g + 3 * places ≤ register_count → Fits f s xs ((a, Word 30) ∷ (d, Word 65536) ∷ (e, Word 64) ∷ triple_results g places) (n ∷ vs) f
 read_fits f s xs over a d e g places n vs few one two rest room = (
   f,
@@ -88,10 +90,14 @@ read_fits f s xs over a d e g places n vs few one two rest room = (
     xs3 = slice_set (slice_set (slice_set xs a n) d (first_value vs)) e (first_value (more_values vs))
 
     long : length s3 ≡ length s
-    long = long_with (with_value (with_value s a (Word 30)) d (Word 65536)) e (Word 64) ∙ (long_with (with_value s a (Word 30)) d (Word 65536) ∙ long_with s a (Word 30))
+    long =
+        long_with (with_value (with_value s a (Word 30)) d (Word 65536)) e (Word 64)
+        ∙ (long_with (with_value s a (Word 30)) d (Word 65536) ∙ long_with s a (Word 30))
 
     wide3 : length xs3 ≡ length xs
-    wide3 = length-set (slice_set (slice_set xs a n) d (first_value vs)) e (first_value (more_values vs)) ∙ (length-set (slice_set xs a n) d (first_value vs) ∙ length-set xs a n)
+    wide3 =
+        length-set (slice_set (slice_set xs a n) d (first_value vs)) e (first_value (more_values vs))
+        ∙ (length-set (slice_set xs a n) d (first_value vs) ∙ length-set xs a n)
 
 module _ (w : World) (p : ℕ) (sound : IsSound w) (sized : QueuesAreSized w) (st : Status) where
   poll_few : (h mask : ℕ) → (st : Status) → first_value (gives_refused w p (wait_poll h mask) st) ≤ 0xffff_ffff

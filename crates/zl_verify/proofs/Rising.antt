@@ -1,5 +1,6 @@
 -- What states that come to instructions make of the table of the search.
-use Rattle.std.proofs.Common.{◌≡◌, ◌≢◌, ℕ, ◌<◌, Bool, true, false, List, [], ◌∷◌, Option, Some, None, refl, sym, ap, ◌∙◌, subst, IsTrue, length, ◌⊎◌, inl, inr, arith}
+use Rattle.std.proofs.Common.{◌≡◌, ◌≢◌, ℕ, ◌<◌, Bool, true, false, List, [], ◌∷◌, Option, Some, None, refl, sym, ap, ◌∙◌, subst, IsTrue, length, ◌⊎◌, inl, inr}
+use Rattle.std.proofs.Common.{arith}
 use Rattle.std.specs.Prelude.{slice_get, slice_set, if◌then◌else◌, Result, Ok, Err}
 use Rattle.std.specs.Option.{option_map, option_and_then}
 use Rattle.std.proofs.lemmas.Option.{same_Some}
@@ -74,7 +75,8 @@ typed_still t u h (Ok es) k = all_lead_still t u h es k
 
 -- ---- one state comes to a place
 
-pub put_rises : (t : Table) (n : ℕ) (j : State) → length t.states ≡ length t.waiting → n < length t.states → ((s : State) → at t.states n ≡ Some s → IsTrue (all_below s j)) → Rises t (put t n j)
+pub put_rises : (t : Table) (n : ℕ) (j : State) → length t.states ≡ length t.waiting → n < length t.states
+    → ((s : State) → at t.states n ≡ Some s → IsTrue (all_below s j)) → Rises t (put t n j)
 put_rises t n j q h k = record {
   quiet = λ r m a e. r m (omega arith) (sym (get_put_other t.waiting n m true (λ i. omega arith)) ∙ e);
   up = λ m s e. up m s e (equal_or_not n m);
@@ -90,7 +92,9 @@ put_rises t n j q h k = record {
     up m s e (inl p) = subst (λ (x : ℕ). IsAbove (at (slice_set t.states n (Some j)) x) s) p (rw here (k s (rw p e)))
     up m s e (inr d) = rw (get_put_other t.states n m (Some j) d) (above_itself (at t.states m) s e)
 
-    kept : (m : ℕ) → (n ≡ m) ⊎ (n ≢ m) → ((at (slice_set t.states n (Some j)) m ≡ at t.states m) × (slice_get (slice_set t.waiting n true) m ≡ slice_get t.waiting m)) ⊎ (slice_get (slice_set t.waiting n true) m ≡ Some true)
+    kept : (m : ℕ)
+        → (n ≡ m) ⊎ (n ≢ m) → ((at (slice_set t.states n (Some j)) m ≡ at t.states m) × (slice_get (slice_set t.waiting n true) m ≡ slice_get t.waiting m))
+        ⊎ (slice_get (slice_set t.waiting n true) m ≡ Some true)
     kept m (inl p) = inr (subst (λ (x : ℕ). slice_get (slice_set t.waiting n true) x ≡ Some true) p (get_put t.waiting n true (omega arith)))
     kept m (inr d) = inl (ap within (get_put_other t.states n m (Some j) d), get_put_other t.waiting n m true d)
 
@@ -154,7 +158,8 @@ raising t n s q = found (slice_get t.states n) refl
       lower = λ y l a. put_lower y t n j (there t.states n (Some u) e) l (joined_in y n u s j h (l n u (ap within e)) a);
     }
 
-    new : (u : State) → slice_get t.states n ≡ Some (Some u) → (b : Bool) → all_below s u ≡ b → RaisesOr t n s (if b then Some t else option_map (put t n) (all_joined u s))
+    new : (u : State) → slice_get t.states n ≡ Some (Some u) → (b : Bool) → all_below s u ≡ b
+        → RaisesOr t n s (if b then Some t else option_map (put t n) (all_joined u s))
     new u e true h = record { rises = rises_refl t; leads = rw e h; lower = λ y l a. l }
     new u e false h = joins u e (all_joined u s) refl
 
@@ -195,6 +200,7 @@ raising_all t (e ∷ es) q = one (λ u k. raising_all u es k) (raised t (e.0) (e
       lower = λ y l a. k.lower y (h.lower y l (a.0)) (a.1);
     }
 
-    one : ((u : Table) → length u.states ≡ length u.waiting → AllRaiseOr u es (raised_all u es)) → (o : Option Table) → RaisesOr t (e.0) (e.1) o → AllRaiseOr t (e ∷ es) (option_and_then (λ u. raised_all u es) o)
+    one : ((u : Table) → length u.states ≡ length u.waiting → AllRaiseOr u es (raised_all u es)) → (o : Option Table) → RaisesOr t (e.0) (e.1) o
+        → AllRaiseOr t (e ∷ es) (option_and_then (λ u. raised_all u es) o)
     one more None h = λ y l a i. h y l (a.0) (i (e.0) (e.1) (a.0))
     one more (Some u) h = both u h (raised_all u es) (more u (h.rises.same ∙ (q ∙ sym h.rises.long)))

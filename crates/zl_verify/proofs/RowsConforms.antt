@@ -1,5 +1,6 @@
 -- A worked example: a process of a program with one handle and one slot array conforms where it starts.
-use Rattle.std.proofs.Common.{◌≡◌, ℕ, zero, suc, ◌+◌, ◌<◌, ◌≤◌, Bool, true, false, ◌&&◌, ◌==◌, List, [], ◌∷◌, replicate, refl, sym, subst, Option, Some, None, arith, inl, inr, slice_index}
+use Rattle.std.proofs.Common.{◌≡◌, ℕ, zero, suc, ◌+◌, ◌<◌, ◌≤◌, Bool, true, false, ◌&&◌, ◌==◌, List, [], ◌∷◌, replicate, refl, sym, subst, Option, Some, None}
+use Rattle.std.proofs.Common.{arith, inl, inr, slice_index}
 use Rattle.std.specs.Prelude.{nat_lt, if◌then◌else◌, is_some, slice_get}
 use Rattle.zl_rights.specs.Common.{get, World, Process, Ready}
 use Rattle.zl_rights.specs.Numbers.{rights_of, READ}
@@ -85,7 +86,8 @@ owned v =
     let none = not_0 v in
     by (17 == v) (owners v (replicate 30 (Word 0)) (replicate 30 0)) (one_if (is_it v 0)) rest none
   where
-    by : (b : Bool) (rest none : ℕ) → rest ≡ 0 → none ≡ 0 → one_if (b && true) + (0 + rest) + (0 + (0 + none + none)) ≡ one_if (is_some (if b then Some channel else None))
+    by : (b : Bool) (rest none : ℕ) → rest ≡ 0 → none ≡ 0
+        → one_if (b && true) + (0 + rest) + (0 + (0 + none + none)) ≡ one_if (is_some (if b then Some channel else None))
     by true rest none e g = omega arith
     by false rest none e g = omega arith
 
@@ -117,7 +119,8 @@ holds = record {
     narrow zero (suc (suc k)) = omega arith
     narrow (suc n) k = omega arith
 
-    stored : (n k : ℕ) (a : SlotArray) → slice_get image.slots n ≡ Some a → k < a.length → IsHandle (get process.handles) true a.kind a.rights (place_at process.cpu.slots n k)
+    stored : (n k : ℕ) (a : SlotArray) → slice_get image.slots n ≡ Some a → k < a.length
+        → IsHandle (get process.handles) true a.kind a.rights (place_at process.cpu.slots n k)
     stored zero zero a is less = inl (refl, refl)
     stored zero (suc zero) a is less = inl (refl, refl)
     stored zero (suc (suc k)) a is less = inl (refl, refl)

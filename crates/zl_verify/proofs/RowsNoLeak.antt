@@ -1,5 +1,7 @@
--- A worked example: a process with one handle in a register and one in a slot array conforms, and its table has just these two; and tables, states and places of which that isn't so.
-use Rattle.std.proofs.Common.{◌≡◌, ℕ, zero, suc, ◌+◌, ◌<◌, ◌≤◌, Bool, true, false, ◌&&◌, ◌||◌, ◌==◌, List, [], ◌∷◌, replicate, refl, sym, subst, Option, Some, None, arith, inl, inr, slice_index, ◌↔◌, IsTrue}
+-- A worked example: a process with one handle in a register and one in a slot array conforms, and its table has just these two; and tables, states and places
+-- of which that isn't so.
+use Rattle.std.proofs.Common.{◌≡◌, ℕ, zero, suc, ◌+◌, ◌<◌, ◌≤◌, Bool, true, false, ◌&&◌, ◌||◌, ◌==◌, List, [], ◌∷◌, replicate, refl, sym, subst, Option, Some}
+use Rattle.std.proofs.Common.{None, arith, inl, inr, slice_index, ◌↔◌, IsTrue}
 use Rattle.std.specs.Prelude.{if◌then◌else◌, is_some, slice_get}
 use Rattle.std.specs.List.{Contains, IsDistinct, list_any}
 use Rattle.std.proofs.lemmas.Bool.{eqb-true}
@@ -76,7 +78,8 @@ owned v =
     by (17 == v) (23 == v) refl refl (owners v (replicate 27 (Word 0)) (replicate 27 0)) (one_if (is_it v 0)) rest none
   where
     by : (b c : Bool) → (17 == v) ≡ b → (23 == v) ≡ c → (rest none : ℕ) → rest ≡ 0 → none ≡ 0
-        → (0 + (one_if (c && true) + (0 + (none + (0 + rest))))) + (0 + (0 + none + one_if (b && true))) ≡ one_if (is_some (if b then Some (channel 4) else (if c then Some (channel 6) else None)))
+        → (0 + (one_if (c && true) + (0 + (none + (0 + rest))))) + (0 + (0 + none + one_if (b && true)))
+        ≡ one_if (is_some (if b then Some (channel 4) else (if c then Some (channel 6) else None)))
     by true true at_17 at_23 rest none e g = let one = eqb-true 17 v at_17 in let other = eqb-true 23 v at_23 in absurd (omega arith)
     by true false at_17 at_23 rest none e g = omega arith
     by false true at_17 at_23 rest none e g = omega arith
@@ -146,7 +149,8 @@ just_two t is = record { state = known; stands = is; exactly = λ v. (there v, l
     there : (v : ℕ) → has_key handles v ≡ true → Contains (23 ∷ 17 ∷ []) v
     there v h = by (17 == v) (23 == v) refl refl h
       where
-        by : (b c : Bool) → (17 == v) ≡ b → (23 == v) ≡ c → is_some (if b then Some (channel 4) else (if c then Some (channel 6) else None)) ≡ true → Contains (23 ∷ 17 ∷ []) v
+        by : (b c : Bool) → (17 == v) ≡ b → (23 == v) ≡ c → is_some (if b then Some (channel 4) else (if c then Some (channel 6) else None)) ≡ true
+            → Contains (23 ∷ 17 ∷ []) v
         by true c at_17 at_23 h = (1, omega arith, eqb-true 17 v at_17)
         by false true at_17 at_23 h = (0, omega arith, eqb-true 23 v at_23)
         by false false at_17 at_23 h = cc

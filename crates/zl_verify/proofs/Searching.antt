@@ -28,22 +28,29 @@ pub record Searching (i : Image) (bs : Blocks) (t : Table) : Type 0 where
   pub quiet : Quiet t
 
 -- no rule at a state that was found: no typing
-pub none_by_rule : (i : Image) (bs : Blocks) → AreBlocks i bs → (t : Table) → Searching i bs t → (n : ℕ) (s : State) → at t.states n ≡ Some s → (c : Cause) → block i bs n s ≡ Err c → (y : ℕ → Option State) → IsTyping i y → ⊥
+pub none_by_rule : (i : Image) (bs : Blocks) → AreBlocks i bs → (t : Table) → Searching i bs t → (n : ℕ) (s : State) → at t.states n ≡ Some s → (c : Cause)
+    → block i bs n s ≡ Err c → (y : ℕ → Option State) → IsTyping i y → ⊥
 none_by_rule i bs a t h n s e c r y k = subst (λ (x : Result (List Edge) Cause). Holds (at_starts i bs y) x) r (leads_out i bs a y k n s (h.lower y k n s e))
 
 -- an edge that can't be followed: no typing
-pub none_by_edge : (i : Image) (bs : Blocks) → AreBlocks i bs → (t : Table) → Searching i bs t → length t.states ≡ length bs.starts → (n : ℕ) (s : State) (es : List Edge) → at t.states n ≡ Some s → block i bs n s ≡ Ok es → raised_all (cleared t n) es ≡ None → (y : ℕ → Option State) → IsTyping i y → ⊥
+pub none_by_edge : (i : Image) (bs : Blocks) → AreBlocks i bs → (t : Table) → Searching i bs t → length t.states ≡ length bs.starts
+    → (n : ℕ) (s : State) (es : List Edge) → at t.states n ≡ Some s → block i bs n s ≡ Ok es → raised_all (cleared t n) es ≡ None → (y : ℕ → Option State)
+    → IsTyping i y → ⊥
 none_by_edge i bs a t h l n s es e r f y k =
-    subst (λ (o : Option Table). AllRaiseOr (cleared t n) es o) f (raising_all (cleared t n) es (h.same ∙ sym (length-set t.waiting n false))) (at_starts i bs y) (h.lower y k)
-    (subst (λ (x : Result (List Edge) Cause). Holds (at_starts i bs y) x) r (leads_out i bs a y k n s (h.lower y k n s e))) (λ m x g. let b = at_block i bs a y k m x g in omega arith)
+    subst (λ (o : Option Table). AllRaiseOr (cleared t n) es o) f (raising_all (cleared t n) es (h.same ∙ sym (length-set t.waiting n false)))
+    (at_starts i bs y) (h.lower y k)
+    (subst (λ (x : Result (List Edge) Cause). Holds (at_starts i bs y) x) r (leads_out i bs a y k n s (h.lower y k n s e)))
+    (λ m x g. let b = at_block i bs a y k m x g in omega arith)
 
 -- one turn
-pub turned_on : (i : Image) (bs : Blocks) → AreBlocks i bs → (t u : Table) → Searching i bs t → (n : ℕ) (s : State) (es : List Edge) → at t.states n ≡ Some s → block i bs n s ≡ Ok es → raised_all (cleared t n) es ≡ Some u → Searching i bs u
+pub turned_on : (i : Image) (bs : Blocks) → AreBlocks i bs → (t u : Table) → Searching i bs t → (n : ℕ) (s : State) (es : List Edge) → at t.states n ≡ Some s
+    → block i bs n s ≡ Ok es → raised_all (cleared t n) es ≡ Some u → Searching i bs u
 turned_on i bs a t u h n s es e r f = record {
   same = all.rises.same ∙ (q ∙ sym all.rises.long);
   begins = leads_still t0 u all.rises 0 (start_state i) h.begins;
   settled = λ m x g w. settled m x g w (all.rises.kept m);
-  lower = λ y k. all.lower (at_starts i bs y) (h.lower y k) (subst (λ (x : Result (List Edge) Cause). Holds (at_starts i bs y) x) r (leads_out i bs a y k n s (h.lower y k n s e)));
+  lower = λ y k. all.lower (at_starts i bs y) (h.lower y k)
+      (subst (λ (x : Result (List Edge) Cause). Holds (at_starts i bs y) x) r (leads_out i bs a y k n s (h.lower y k n s e)));
   quiet = all.rises.quiet (λ m l g. quiet m l g (equal_or_not n m));
 }
   where
@@ -63,7 +70,9 @@ turned_on i bs a t u h n s es e r f = record {
     quiet m l g (inl p) = off t.waiting n (subst (λ (x : ℕ). slice_get (slice_set t.waiting n false) x ≡ Some true) (sym p) g)
     quiet m l g (inr d) = h.quiet m l (sym (get_put_other t.waiting n m false d) ∙ g)
 
-    settled : (m : ℕ) (x : State) → at u.states m ≡ Some x → slice_get u.waiting m ≡ Some false → ((at u.states m ≡ at t.states m) × (slice_get u.waiting m ≡ slice_get (slice_set t.waiting n false) m)) ⊎ (slice_get u.waiting m ≡ Some true) → Holds (at u.states) (block i bs m x)
+    settled : (m : ℕ) (x : State) → at u.states m ≡ Some x → slice_get u.waiting m ≡ Some false
+        → ((at u.states m ≡ at t.states m) × (slice_get u.waiting m ≡ slice_get (slice_set t.waiting n false) m)) ⊎ (slice_get u.waiting m ≡ Some true)
+        → Holds (at u.states) (block i bs m x)
     settled m x g w (inr p) = let z : Some false ≡ Some true = sym w ∙ p in absurd (cc)
     settled m x g w (inl p) = by (equal_or_not n m)
       where
@@ -85,7 +94,8 @@ cleared_on i bs a t h n e = record {
   quiet = λ m l g. quiet m l g (equal_or_not n m);
 }
   where
-    settled : (m : ℕ) (x : State) → at t.states m ≡ Some x → slice_get (slice_set t.waiting n false) m ≡ Some false → (n ≡ m) ⊎ (n ≢ m) → Holds (at t.states) (block i bs m x)
+    settled : (m : ℕ) (x : State) → at t.states m ≡ Some x → slice_get (slice_set t.waiting n false) m ≡ Some false → (n ≡ m) ⊎ (n ≢ m)
+        → Holds (at t.states) (block i bs m x)
     settled m x g w (inl p) = absurd (none_some x (sym e ∙ rw p g))
     settled m x g w (inr d) = h.settled m x g (sym (get_put_other t.waiting n m false d) ∙ w)
 
@@ -94,7 +104,8 @@ cleared_on i bs a t h n e = record {
     quiet m l g (inr d) = h.quiet m l (sym (get_put_other t.waiting n m false d) ∙ g)
 
 -- one instruction on
-pub moved_on : (i : Image) (bs : Blocks) → AreBlocks i bs → (t : Table) → Searching i bs t → slice_get t.waiting t.from ≡ Some false → Searching i bs (record t { from = t.from + 1 })
+pub moved_on : (i : Image) (bs : Blocks) → AreBlocks i bs → (t : Table) → Searching i bs t → slice_get t.waiting t.from ≡ Some false
+    → Searching i bs (record t { from = t.from + 1 })
 moved_on i bs a t h e = record {
   same = h.same;
   begins = h.begins;
@@ -108,8 +119,10 @@ moved_on i bs a t h e = record {
     by m g (inr d) a = h.quiet m (omega arith) g
 
 -- at the end each state is settled
-pub all_settled : (i : Image) (bs : Blocks) → AreBlocks i bs → (t : Table) → Searching i bs t → length t.states ≤ t.from → (n : ℕ) (s : State) → at t.states n ≡ Some s → Holds (at t.states) (block i bs n s)
-all_settled i bs a t h k n s e = h.settled n s e (let b = mapped t.states n s e in not_waiting (slice_get t.waiting n) refl (omega arith) (omega (arith, h.same)))
+pub all_settled : (i : Image) (bs : Blocks) → AreBlocks i bs → (t : Table) → Searching i bs t → length t.states ≤ t.from → (n : ℕ) (s : State)
+    → at t.states n ≡ Some s → Holds (at t.states) (block i bs n s)
+all_settled i bs a t h k n s e =
+    h.settled n s e (let b = mapped t.states n s e in not_waiting (slice_get t.waiting n) refl (omega arith) (omega (arith, h.same)))
   where
     not_waiting : (o : Option Bool) → slice_get t.waiting n ≡ o → n < t.from → n < length t.waiting → slice_get t.waiting n ≡ Some false
     not_waiting None e a b = absurd (nowhere t.waiting n e b)

@@ -11,7 +11,8 @@ use Rattle.std.proofs.lemmas.Option.{same_Some}
 use Rattle.zl_rights.specs.declared.entry.Entry.{Entry}
 use Rattle.zl_rights.specs.declared.status.Status.{Status}
 use Rattle.zl_rights.specs.declared.status.Status.TheVariants as status
-use Rattle.zl_rights.specs.Common.{get, has_key, lives, without, within, runs, queue_of, World, Cpu, Process, Object, Body, ChannelEnd, EventBody, JobBody, PortBody, ProcessBody, Ended}
+use Rattle.zl_rights.specs.Common.{get, has_key, lives, without, within, runs, queue_of, World, Cpu, Process, Object, Body, ChannelEnd, EventBody, JobBody}
+use Rattle.zl_rights.specs.Common.{PortBody, ProcessBody, Ended}
 use Rattle.zl_rights.specs.World.{written, Message, Packet}
 use Rattle.zl_rights.specs.Numbers.{status_magnitude, changed, KILLED}
 use Rattle.zl_rights.specs.Policies.{Setting, setting_of}
@@ -27,11 +28,16 @@ use Rattle.zl_code.specs.Tests.{settable_of, may_change, object_at, body_of, pee
 use Rattle.zl_code.specs.Waiting.{packets_in, packets_at, first_values, is_keyed, is_by_handle, body_packed, source_at, wait_of}
 use Rattle.zl_code.specs.Starting.{created_process, started_with}
 use Rattle.zl_code.specs.Jobs.{job_within, body_with_policy, body_killed, object_killed, process_killed, is_within, with_killed}
-use Rattle.zl_code.specs.Effects.{on_process, insert_all, remove_all, with_object, process_with, process_without, may_get_after, may_get_all, gets_all, told_of, body_with_message, body_after_read}
-use Rattle.zl_code.specs.CallTable.{Request, replace, chan_create, chan_write, chan_read_etc, event_create, signal, signal_peer, wait_one, wait_poll, wait_async, port_create, port_queue, port_wait, port_poll, port_cancel, process_create, process_start, task_kill, job_create, job_set_policy, listed, new_handles, receiver_of, choosing, entering_at, effect, stored_by, gives_ok, gives_refused, awaited_by}
+use Rattle.zl_code.specs.Effects.{on_process, insert_all, remove_all, with_object, process_with, process_without, may_get_after, may_get_all, gets_all, told_of}
+use Rattle.zl_code.specs.Effects.{body_with_message, body_after_read}
+use Rattle.zl_code.specs.CallTable.{Request, replace, chan_create, chan_write, chan_read_etc, event_create, signal, signal_peer, wait_one, wait_poll}
+use Rattle.zl_code.specs.CallTable.{wait_async, port_create, port_queue, port_wait, port_poll, port_cancel, process_create, process_start, task_kill}
+use Rattle.zl_code.specs.CallTable.{job_create, job_set_policy, listed, new_handles, receiver_of, choosing, entering_at, effect, stored_by, gives_ok}
+use Rattle.zl_code.specs.CallTable.{gives_refused, awaited_by}
 use Rattle.zl_code.specs.Refusals.{refusal}
 use Rattle.zl_code.specs.Request.{Site, site_of}
-use Rattle.zl_code.specs.Calls.{taken_handles, may_choose, taken, cpu_answered, replied, with_effect, after_refusal, after_ok, ok_outcome, CallBy, Choice, Refused, WantsMemory, Values, Calls}
+use Rattle.zl_code.specs.Calls.{taken_handles, may_choose, taken, cpu_answered, replied, with_effect, after_refusal, after_ok, ok_outcome, CallBy, Choice}
+use Rattle.zl_code.specs.Calls.{Refused, WantsMemory, Values, Calls}
 use Rattle.zl_code.specs.Sound.{IsSound, IsSoundTable, is_value}
 use Rattle.zl_code.proofs.Entering.{get_without, gone_without}
 use Rattle.zl_code.proofs.MapKept.{Each}
@@ -46,7 +52,9 @@ use Rattle.zl_verify.proofs.Sites.{call, AtSite, of_site}
 use Rattle.zl_verify.proofs.Working.{listed_none, test_fails, test_passes}
 use Rattle.zl_verify.proofs.SizedCpus.{AreSmall, registers_written, answered_sized, blank_sized, started_sized}
 use Rattle.zl_verify.specs.SizedLaws.{IsSized, IsSizedObject}
-use Rattle.zl_verify.proofs.SizedWorlds.{IsSizedProcess, IsSizedAt, all_filtered, all_behind, each_update, each_each, queues_sized, active_sized, process_sized, new_process_sized, removed_sized, inserted_sized, stored_sized, ended_sized, waiting_sized, object_sized, new_object_sized, fewer_waits, wait_sized}
+use Rattle.zl_verify.proofs.SizedWorlds.{IsSizedProcess, IsSizedAt, all_filtered, all_behind, each_update, each_each, queues_sized, active_sized, process_sized}
+use Rattle.zl_verify.proofs.SizedWorlds.{new_process_sized, removed_sized, inserted_sized, stored_sized, ended_sized, waiting_sized, object_sized}
+use Rattle.zl_verify.proofs.SizedWorlds.{new_object_sized, fewer_waits, wait_sized}
 
 -- ---- what is asked for
 
@@ -89,7 +97,9 @@ lost_small h q k = by (has_key q.handles h) refl
     still v there = either (cases_Bool (v == h))
       where
         either : ((v == h) ≡ true) ⊎ ((v == h) ≡ false) → has_key q.handles v ≡ true
-        either (inl same) = let left : has_key (without q.handles h) h ≡ true = subst (λ (j : ℕ). has_key (without q.handles h) j ≡ true) (eqb-true v h same) there in let none = gone_without q.handles h in cc
+        either (inl same) =
+            let left : has_key (without q.handles h) h ≡ true = subst (λ (j : ℕ). has_key (without q.handles h) j ≡ true) (eqb-true v h same) there in
+            let none = gone_without q.handles h in cc
         either (inr other) = ap (λ (o : Option Entry). is_some o) (sym (get_without q.handles h v other)) ∙ there
 
     by : (b : Bool) → has_key q.handles h ≡ b → HasSmallValues (if b then record q { handles = without q.handles h; last = Some h } else q)
@@ -100,7 +110,8 @@ lost_small h q k = by (has_key q.handles h) refl
 all_lost_small : (hs : List ℕ) (w : World) (p : ℕ) → Each HasSmallValues w.processes → Each HasSmallValues (remove_all w p hs).processes
 unfolding remove_all on_process
 all_lost_small [] w p all = all
-all_lost_small (h ∷ hs) w p all = all_lost_small hs (on_process w p (process_without h)) p (each_update HasSmallValues w.processes all p (process_without h) (lost_small h))
+all_lost_small (h ∷ hs) w p all =
+    all_lost_small hs (on_process w p (process_without h)) p (each_update HasSmallValues w.processes all p (process_without h) (lost_small h))
 
 pub chosen_small : (q : Process) (es : List Entry) (vs : List ℕ) → HasSmallLast q → may_get_all q es vs ≡ true → AreSmall vs
 chosen_small q [] [] k may = tt
@@ -144,7 +155,8 @@ module _ (w : World) (p : ℕ) (s : IsSized w) where
   given_small : IsSound w → (r : Request) → IsSizedRequest r → (vs : List ℕ) → AreSmall vs → AreSmall (gives_ok w p r vs)
   unfolding gives_ok
   given_small sound (replace h rights) fits vs few = (fits, tt)
-  given_small sound (chan_read_etc c address room places) fits vs few = let sizes = sizes_small c in (sizes.0, (sizes.1, told_small (first_handles (queue_at w p c)) vs (first_rights w sound p c) few))
+  given_small sound (chan_read_etc c address room places) fits vs few =
+      let sizes = sizes_small c in (sizes.0, (sizes.1, told_small (first_handles (queue_at w p c)) vs (first_rights w sound p c) few))
   given_small sound (wait_one h mask) fits vs few = (active_sized w s (object_at w p h), tt)
   given_small sound (wait_poll h mask) fits vs few = (active_sized w s (object_at w p h), tt)
   given_small sound (port_wait port) fits vs few = packet_small (packets_at w p port) (packets_at_sized w (queues_sized w s) p port)
@@ -164,18 +176,21 @@ settable_few None = omega arith
 settable_few (Some EventBody) = omega arith
 settable_few (Some _) = omega arith
 
-signals_changed : (b : Option Body) (clear set : ℕ) → may_change b clear set ≡ true → (body : Body) (raised : ℕ) → IsSizedObject body raised → IsSizedObject body (changed raised clear set)
+signals_changed : (b : Option Body) (clear set : ℕ) → may_change b clear set ≡ true → (body : Body) (raised : ℕ) → IsSizedObject body raised
+    → IsSizedObject body (changed raised clear set)
 signals_changed b clear set may body raised o = record {
   messages = o.messages;
   packets = o.packets;
   signals =
       let less = and_le_l raised (bit_xor clear 0xffff_ffff) in
       let few = o.signals in
-      both_few (bit_and raised (bit_xor clear 0xffff_ffff)) set (omega arith) (within_few set (settable_of b) 0xffff_ffff (both (within clear (settable_of b)) (within set (settable_of b)) may).1 (settable_few b));
+      both_few (bit_and raised (bit_xor clear 0xffff_ffff)) set (omega arith)
+      (within_few set (settable_of b) 0xffff_ffff (both (within clear (settable_of b)) (within set (settable_of b)) may).1 (settable_few b));
 }
 
 message_comes : (m : Message) → IsSizedMessage m → (b : Body) (raised : ℕ) → IsSizedObject b raised → IsSizedObject (body_with_message m b) raised
-message_comes m new (ChannelEnd peer queue) raised o = record { messages = all_behind IsSizedMessage queue (m ∷ []) o.messages (new, tt); packets = tt; signals = o.signals }
+message_comes m new (ChannelEnd peer queue) raised o =
+    record { messages = all_behind IsSizedMessage queue (m ∷ []) o.messages (new, tt); packets = tt; signals = o.signals }
 message_comes m new _ raised o = o
 
 message_goes : (b : Body) (raised : ℕ) → IsSizedObject b raised → IsSizedObject (body_after_read b) raised
@@ -183,7 +198,8 @@ message_goes (ChannelEnd peer []) raised o = o
 message_goes (ChannelEnd peer (m ∷ ms)) raised o = record { messages = o.messages.1; packets = tt; signals = o.signals }
 message_goes _ raised o = o
 
-packets_become : (f : List Packet → List Packet) → ((xs : List Packet) → AllByRecursion IsSizedPacket xs → AllByRecursion IsSizedPacket (f xs)) → (b : Body) (raised : ℕ) → IsSizedObject b raised → IsSizedObject (body_packed f b) raised
+packets_become : (f : List Packet → List Packet) → ((xs : List Packet) → AllByRecursion IsSizedPacket xs → AllByRecursion IsSizedPacket (f xs))
+    → (b : Body) (raised : ℕ) → IsSizedObject b raised → IsSizedObject (body_packed f b) raised
 packets_become f keeps (PortBody packets) raised o = record { messages = tt; packets = keeps packets o.packets; signals = o.signals }
 packets_become f keeps _ raised o = o
 
@@ -201,13 +217,19 @@ entries_few w p (h ∷ hs) = by (entry_at w p h) (entries_few w p hs)
     by (Some e) le = omega arith
 
 -- what is not too large has its sizes
-message_sized : (w : World) (p : ℕ) (bytes hs : List ℕ) → AreBytes bytes → is_too_large bytes hs ≡ false → IsSizedMessage (record { bytes = bytes; handles = entries_at w p hs })
+message_sized : (w : World) (p : ℕ) (bytes hs : List ℕ) → AreBytes bytes → is_too_large bytes hs ≡ false
+    → IsSizedMessage (record { bytes = bytes; handles = entries_at w p hs })
 message_sized w p bytes hs are fits = by (nat_lt 65536 (length bytes)) refl (nat_lt 64 (length hs)) refl fits
   where
-    by : (b : Bool) → nat_lt 65536 (length bytes) ≡ b → (c : Bool) → nat_lt 64 (length hs) ≡ c → b || c ≡ false → IsSizedMessage (record { bytes = bytes; handles = entries_at w p hs })
+    by : (b : Bool) → nat_lt 65536 (length bytes) ≡ b → (c : Bool) → nat_lt 64 (length hs) ≡ c → b || c ≡ false
+        → IsSizedMessage (record { bytes = bytes; handles = entries_at w p hs })
     by true is c at e = cc
     by false is true at e = cc
-    by false is false at e = record { few_bytes = grind (arith, nat_tests); bytes = are; few_handles = let le = entries_few w p hs in let most : length hs ≤ 64 = grind (arith, nat_tests) in omega arith }
+    by false is false at e = record {
+      few_bytes = grind (arith, nat_tests);
+      bytes = are;
+      few_handles = let le = entries_few w p hs in let most : length hs ≤ 64 = grind (arith, nat_tests) in omega arith;
+    }
 
 pub empty_sized : (b : Body) → queue_of b ≡ [] → packets_in (Some b) ≡ [] → IsSizedObject b 0
 empty_sized b queue packets = record { messages = rw queue tt; packets = rw packets tt; signals = omega arith }
@@ -231,7 +253,8 @@ killed_object true o s = by o.body s
 kill_sized : (u : World) (t : ℕ) → IsSized u → IsSized (with_killed u t)
 unfolding with_killed
 kill_sized u t s = record {
-  cpus = each_each IsSizedProcess u.processes s.cpus (λ k q. process_killed (is_within u.objects t k) q) (λ k q fits. killed_process (is_within u.objects t k) q fits);
+  cpus = each_each IsSizedProcess u.processes s.cpus (λ k q. process_killed (is_within u.objects t k) q)
+      (λ k q fits. killed_process (is_within u.objects t k) q fits);
   kept = each_each IsSizedAt u.objects s.kept (λ k o. object_killed (is_within u.objects t k) o) (λ k o fits. killed_object (is_within u.objects t k) o fits);
   waits = s.waits;
 }
@@ -244,30 +267,44 @@ module _ (lib : Library) (w : World) (p : ℕ) (u : World) (s : IsSized u) (vs :
   effect_sized : (r : Request) → IsSizedRequest r → refusal lib w p r ≡ None → IsSized (effect lib w u p r vs)
   unfolding effect listed
   effect_sized (replace h rights) fits passes = fewer_waits u (λ x. not (is_by_handle p h x)) s
-  effect_sized chan_create fits passes = new_object_sized (with_object u (ChannelEnd (w.next_koid + 1) [])) (ChannelEnd w.next_koid []) (empty_sized _ refl refl) (new_object_sized u (ChannelEnd (w.next_koid + 1) []) (empty_sized _ refl refl) s)
+  effect_sized chan_create fits passes =
+      new_object_sized (with_object u (ChannelEnd (w.next_koid + 1) [])) (ChannelEnd w.next_koid []) (empty_sized _ refl refl)
+      (new_object_sized u (ChannelEnd (w.next_koid + 1) []) (empty_sized _ refl refl) s)
   effect_sized (chan_write c bytes hs) fits passes =
-      object_sized u (peer_at w p c) _ (λ o k. message_comes _ (message_sized w p bytes hs fits (test_fails _ status.OutOfRange (listed_none lib w p (chan_write c bytes hs) passes).1.0)) o.body o.raised k) s
+      object_sized u (peer_at w p c) _
+      (λ o k. message_comes _ (message_sized w p bytes hs fits (test_fails _ status.OutOfRange (listed_none lib w p (chan_write c bytes hs) passes).1.0))
+      o.body o.raised k) s
   effect_sized (chan_read_etc c address room places) fits passes = object_sized u (object_at w p c) _ (λ o k. message_goes o.body o.raised k) s
   effect_sized event_create fits passes = new_object_sized u EventBody (empty_sized _ refl refl) s
   effect_sized (signal h clear set) fits passes =
-      object_sized u (object_at w p h) _ (λ o k. signals_changed (body_of w (object_at w p h)) clear set (test_passes _ status.InvalidArgs (listed_none lib w p (signal h clear set) passes).0) o.body o.raised k) s
+      object_sized u (object_at w p h) _
+      (λ o k. signals_changed (body_of w (object_at w p h)) clear set (test_passes _ status.InvalidArgs (listed_none lib w p (signal h clear set) passes).0)
+      o.body o.raised k) s
   effect_sized (signal_peer h clear set) fits passes =
-      object_sized u (peer_at w p h) _ (λ o k. signals_changed (body_of w (object_at w p h)) clear set (test_passes _ status.InvalidArgs (listed_none lib w p (signal_peer h clear set) passes).0) o.body o.raised k) s
+      object_sized u (peer_at w p h) _
+      (λ o k. signals_changed (body_of w (object_at w p h)) clear set
+      (test_passes _ status.InvalidArgs (listed_none lib w p (signal_peer h clear set) passes).0) o.body o.raised k) s
   effect_sized (wait_async h port key mask) fits passes = wait_sized u (wait_of w p h port key mask) (record { key = fits.0; mask = fits.1 }) s
   effect_sized port_create fits passes = new_object_sized u (PortBody []) (empty_sized _ refl refl) s
   effect_sized (port_queue port key value) fits passes =
-      object_sized u (object_at w p port) _ (λ o k. packets_become (λ xs. xs ++ (user_packet key value ∷ [])) (λ xs h. all_behind IsSizedPacket xs _ h (record { kind = omega arith; key = fits.0; trigger = fits.1; observed = omega arith }, tt)) o.body o.raised k) s
+      object_sized u (object_at w p port) _
+      (λ o k. packets_become (λ xs. xs ++ (user_packet key value ∷ []))
+      (λ xs h. all_behind IsSizedPacket xs _ h (record { kind = omega arith; key = fits.0; trigger = fits.1; observed = omega arith }, tt)) o.body o.raised k) s
   effect_sized (port_wait port) fits passes = object_sized u (object_at w p port) _ (λ o k. packets_become (drop 1) first_goes o.body o.raised k) s
   effect_sized (port_poll port) fits passes = object_sized u (object_at w p port) _ (λ o k. packets_become (drop 1) first_goes o.body o.raised k) s
   effect_sized (port_cancel port source key) fits passes =
-      object_sized _ (object_at w p port) _ (λ o k. packets_become (filter (λ x. not (is_from (source_at w p source) key x))) (λ xs h. all_filtered IsSizedPacket _ xs h) o.body o.raised k)
+      object_sized _ (object_at w p port) _
+      (λ o k. packets_become (filter (λ x. not (is_from (source_at w p source) key x))) (λ xs h. all_filtered IsSizedPacket _ xs h) o.body o.raised k)
       (fewer_waits u (λ x. not (is_keyed p source (object_at w p port) key x)) s)
   effect_sized (process_create job program) fits passes =
-      new_process_sized (with_object u (ProcessBody (object_at w p job))) w.next_koid (created_process lib program) (blank_sized (slice_get lib program)) (new_object_sized u (ProcessBody (object_at w p job)) (empty_sized _ refl refl) s)
-  effect_sized (process_start process h word) fits passes = process_sized u (object_at w p process) (started_with vs word) (λ q k. started_sized vs word q.cpu few fits k) s
+      new_process_sized (with_object u (ProcessBody (object_at w p job))) w.next_koid (created_process lib program) (blank_sized (slice_get lib program))
+      (new_object_sized u (ProcessBody (object_at w p job)) (empty_sized _ refl refl) s)
+  effect_sized (process_start process h word) fits passes =
+      process_sized u (object_at w p process) (started_with vs word) (λ q k. started_sized vs word q.cpu few fits k) s
   effect_sized (task_kill task) fits passes = kill_sized u (object_at w p task) s
   effect_sized (job_create j) fits passes = new_object_sized u (job_within (object_at w p j) (body_of w (object_at w p j))) (empty_sized _ refl refl) s
-  effect_sized (job_set_policy j mode condition action) fits passes = object_sized u (object_at w p j) _ (λ o k. policy_set_sized (setting_of mode condition action) o.body o.raised k) s
+  effect_sized (job_set_policy j mode condition action) fits passes =
+      object_sized u (object_at w p j) _ (λ o k. policy_set_sized (setting_of mode condition action) o.body o.raised k) s
   effect_sized _ fits passes = s
 
 -- ---- how it ends
@@ -277,7 +314,8 @@ unfolding replied
 replied_sized w p t answer values few s =
     process_sized w p (λ q. record q { cpu = cpu_answered t answer values q.cpu })
     (λ q k. answered_sized (record q.cpu { registers = written q.cpu.registers t.consumed [] }) t.destinations (status_magnitude answer ∷ values)
-    (record { small = registers_written t.consumed [] q.cpu.registers tt k.small; bytes = k.bytes; narrow = k.narrow }) (let le = status_few answer in omega arith, few)) s
+    (record { small = registers_written t.consumed [] q.cpu.registers tt k.small; bytes = k.bytes; narrow = k.narrow })
+    (let le = status_few answer in omega arith, few)) s
 
 module _ (lib : Library) (w : World) (p : ℕ) (sound : IsSound w) (s : IsSized w) (t : Site) (fits : IsSizedRequest t.request) where
   taken_sized : IsSized (taken w p t)
@@ -298,24 +336,32 @@ module _ (lib : Library) (w : World) (p : ℕ) (sound : IsSound w) (s : IsSized 
     where
       by : (o : Option Process) → get (taken w p t).processes (receiver_of w p t.request) ≡ o → gets_all o (choosing w p t.request) vs ≡ true → AreSmall vs
       by None is e = cc
-      by (Some y) is e = chosen_small y (choosing w p t.request) vs (all_lost_small (taken_handles t.request) w p all_small (receiver_of w p t.request) y is).gone e
+      by (Some y) is e =
+          chosen_small y (choosing w p t.request) vs (all_lost_small (taken_handles t.request) w p all_small (receiver_of w p t.request) y is).gone e
 
   refused_sized : (o : Outcome) → IsSized (after_refusal w p t o)
-  refused_sized (outcome.Answered answer) = replied_sized (taken w p t) p t answer (gives_refused w p t.request answer) (refused_small w p s t.request answer) taken_sized
+  refused_sized (outcome.Answered answer) =
+      replied_sized (taken w p t) p t answer (gives_refused w p t.request answer) (refused_small w p s t.request answer) taken_sized
   refused_sized (outcome.Ended code) = ended_sized w p code s
   refused_sized outcome.Blocked = s
 
   done_sized : refusal lib w p t.request ≡ None → (vs : List ℕ) → AreSmall vs → IsSized (with_effect lib w (taken w p t) p t.request vs)
   done_sized passes vs few =
-      stored_sized (insert_all (effect lib w (taken w p t) p t.request vs) (receiver_of w p t.request) (new_handles w p t.request) (entering_at t.request vs)) p (stored_by w p t.request) (stored_are_bytes w p s t.request)
-      (inserted_sized (effect lib w (taken w p t) p t.request vs) (receiver_of w p t.request) (new_handles w p t.request) (entering_at t.request vs) (effect_sized lib w p (taken w p t) taken_sized vs few t.request fits passes))
+      stored_sized (insert_all (effect lib w (taken w p t) p t.request vs) (receiver_of w p t.request) (new_handles w p t.request) (entering_at t.request vs)) p
+      (stored_by w p t.request) (stored_are_bytes w p s t.request)
+      (inserted_sized (effect lib w (taken w p t) p t.request vs) (receiver_of w p t.request) (new_handles w p t.request) (entering_at t.request vs)
+      (effect_sized lib w p (taken w p t) taken_sized vs few t.request fits passes))
 
-  ok_sized : refusal lib w p t.request ≡ None → (vs : List ℕ) → may_choose w (taken w p t) p t.request vs ≡ true → (o : Outcome) → IsSized (after_ok lib w p t vs o)
-  ok_sized passes vs may (outcome.Answered answer) = replied_sized _ p t status.Ok (gives_ok w p t.request vs) (given_small w p s sound t.request fits vs (values_small vs may)) (done_sized passes vs (values_small vs may))
+  ok_sized : refusal lib w p t.request ≡ None → (vs : List ℕ) → may_choose w (taken w p t) p t.request vs ≡ true → (o : Outcome)
+      → IsSized (after_ok lib w p t vs o)
+  ok_sized passes vs may (outcome.Answered answer) =
+      replied_sized _ p t status.Ok (gives_ok w p t.request vs) (given_small w p s sound t.request fits vs (values_small vs may))
+      (done_sized passes vs (values_small vs may))
   ok_sized passes vs may (outcome.Ended code) = ended_sized _ p code (done_sized passes vs (values_small vs may))
   ok_sized passes vs may outcome.Blocked = waiting_sized w p t.destinations (awaited_by w p t.request) s
 
-  by_choice : (choice : Choice) (r : Option Outcome) → refusal lib w p t.request ≡ r → (answer : Outcome) (w2 : World) → CallBy lib w p t choice r answer w2 → IsSized w2
+  by_choice : (choice : Choice) (r : Option Outcome) → refusal lib w p t.request ≡ r → (answer : Outcome) (w2 : World)
+      → CallBy lib w p t choice r answer w2 → IsSized w2
   by_choice Refused None is answer w2 c = absurd c
   by_choice Refused (Some o) is answer w2 c = rw c.1 (refused_sized o)
   by_choice WantsMemory None is answer w2 c = rw c.2 (refused_sized (outcome.Answered status.NoMemory))

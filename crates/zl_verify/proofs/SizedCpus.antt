@@ -1,5 +1,6 @@
 -- Registers, memories and slot arrays stay sized, whatever a local instruction does.
-use Rattle.std.proofs.Common.{◌≡◌, ℕ, zero, suc, ◌+◌, ◌-◌, ◌<◌, ◌≤◌, Bool, true, false, List, [], ◌∷◌, length, map, take, drop, refl, subst, Option, Some, None, IfSome, arith, slice_set, slice_index}
+use Rattle.std.proofs.Common.{◌≡◌, ℕ, zero, suc, ◌+◌, ◌-◌, ◌<◌, ◌≤◌, Bool, true, false, List, [], ◌∷◌, length, map, take, drop, refl, subst, Option, Some, None}
+use Rattle.std.proofs.Common.{IfSome, arith, slice_set, slice_index}
 use Rattle.std.specs.Prelude.{if◌then◌else◌, nat_lt, slice_get, slice_index_or, replicate, bit_and, ◌^◌}
 use Rattle.std.specs.List.{AllByRecursion}
 use Rattle.std.proofs.lemmas.Option.{get_or_from_slice_get}
@@ -73,7 +74,8 @@ blank_sized None = record { small = each_filled IsSmall 0 32 (omega arith); byte
 blank_sized (Some g) = record {
   small = each_filled IsSmall 0 32 (omega arith);
   bytes = each_filled (λ b. b < 256) 0 g.image.memory (omega arith);
-  narrow = each_made (AtEach IsSmall 0) [] (λ (s : SlotArray). replicate s.length 0) g.image.slots (λ k. omega arith) (λ s. each_filled IsSmall 0 s.length (omega arith));
+  narrow = each_made (AtEach IsSmall 0) [] (λ (s : SlotArray). replicate s.length 0) g.image.slots (λ k. omega arith)
+      (λ s. each_filled IsSmall 0 s.length (omega arith));
 }
 
 set_sized : (n : ℕ) (vs xs : List ℕ) → AreSmall vs → AtEach IsSmall 0 xs → AtEach IsSmall 0 (set_from n vs xs)
@@ -85,7 +87,8 @@ given_sized [] xs few h = h
 given_sized (v ∷ vs) xs (one, more) h = set_sized 2 vs (slice_set xs 0 v) more (register_set xs 0 v one h)
 
 pub started_sized : (vs : List ℕ) (word : ℕ) (c : Cpu) → AreSmall vs → word ≤ ANY → IsSizedCpu c → IsSizedCpu (cpu_given vs word c)
-started_sized vs word c few least h = record { small = register_set (with_handles vs c.registers) 1 word least (given_sized vs c.registers few h.small); bytes = h.bytes; narrow = h.narrow }
+started_sized vs word c few least h =
+    record { small = register_set (with_handles vs c.registers) 1 word least (given_sized vs c.registers few h.small); bytes = h.bytes; narrow = h.narrow }
 
 -- ---- local instructions
 
@@ -104,7 +107,8 @@ module _ (c : Cpu) (h : IsSizedCpu c) where
   stores_sized : (n address v : ℕ) → IfSome (stores c n address v) IsSizedCpu
   stores_sized n address v = by (is_in_memory c address n)
     where
-      by : (b : Bool) → IfSome (if b then Some (record c { memory = overwritten c.memory address (bytes_of n v); counter = c.counter + 1 }) else None) IsSizedCpu
+      by : (b : Bool)
+          → IfSome (if b then Some (record c { memory = overwritten c.memory address (bytes_of n v); counter = c.counter + 1 }) else None) IsSizedCpu
       by true = record { small = h.small; bytes = bytes_over c.memory (bytes_of n v) address h.bytes (all_of n v); narrow = h.narrow }
       by false = tt
 
@@ -118,11 +122,14 @@ module _ (c : Cpu) (h : IsSizedCpu c) where
           all : AtEach IsSmall 0 slots
           all = subst (AtEach IsSmall 0) (get_or_from_slice_get c.slots array slots [] is) (h.narrow array)
 
-          by : (b : Bool) → IfSome (if b then Some (record (sets c a (slice_index slots place)) { slots = slice_set c.slots array (slice_set slots place (reg c a)) }) else None) IsSizedCpu
+          by : (b : Bool)
+              → IfSome (if b then Some (record (sets c a (slice_index slots place)) { slots = slice_set c.slots array (slice_set slots place (reg c a)) })
+              else None) IsSizedCpu
           by true = record {
             small = register_set c.registers a (slice_index slots place) (all place) h.small;
             bytes = h.bytes;
-            narrow = each_set (AtEach IsSmall 0) [] c.slots array (slice_set slots place (reg c a)) (register_set slots place (reg c a) (h.small a) all) h.narrow;
+            narrow =
+                each_set (AtEach IsSmall 0) [] c.slots array (slice_set slots place (reg c a)) (register_set slots place (reg c a) (h.small a) all) h.narrow;
           }
           by false = tt
 
@@ -138,7 +145,11 @@ module _ (c : Cpu) (h : IsSizedCpu c) where
   local_sized (local.Xor a b d) r = sets_sized a _ (xor_few (reg c b) (reg c d) (h.small b) (h.small d))
   local_sized (local.ShiftLeft a b imm) r = sets_sized a _ (up_few (reg c b) imm)
   local_sized (local.ShiftRight a b imm) r = sets_sized a (shifted (reg c b) imm) (let less = down_less (reg c b) imm in let few = h.small b in omega arith)
-  local_sized (local.Take a b) r = record { small = register_set (slice_set c.registers a (reg c b)) b 0 (omega arith) (register_set c.registers a (reg c b) (h.small b) h.small); bytes = h.bytes; narrow = h.narrow }
+  local_sized (local.Take a b) r = record {
+    small = register_set (slice_set c.registers a (reg c b)) b 0 (omega arith) (register_set c.registers a (reg c b) (h.small b) h.small);
+    bytes = h.bytes;
+    narrow = h.narrow;
+  }
   local_sized (local.Swap a b imm) r = swaps_sized a (reg c b) imm
   local_sized (local.LoadByte a b imm) r = loads_sized 1 a (reg c b + imm) (let less = byte_less c.memory (reg c b + imm) h.bytes in omega arith)
   local_sized (local.LoadWord a b imm) r = loads_sized 8 a (reg c b + imm) (word_less c.memory (reg c b + imm) h.bytes)

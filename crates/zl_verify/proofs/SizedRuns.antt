@@ -20,7 +20,8 @@ use Rattle.zl_code.specs.Request.{Site, site_of}
 use Rattle.zl_code.specs.Effects.{with_object, process_with}
 use Rattle.zl_code.specs.Boot.{setting, Boots, may_boot, boot_effect, handles_given, process_with_all, origin}
 use Rattle.zl_code.specs.Starting.{created_process}
-use Rattle.zl_code.specs.Steps.{Next, Moves, AtCall, IsStuck, moves, calls_at, next_of, next_at, next_in, next_for, Acts, Step, pid_of, Runs, single, IsLegalHistory}
+use Rattle.zl_code.specs.Steps.{Next, Moves, AtCall, IsStuck, moves, calls_at, next_of, next_at, next_in, next_for, Acts, Step, pid_of, Runs, single}
+use Rattle.zl_code.specs.Steps.{IsLegalHistory}
 use Rattle.zl_code.specs.Handles.{Throughout}
 use Rattle.zl_code.specs.Sound.{IsSound}
 use Rattle.zl_code.specs.Headline.{word_of, IsSizedBoot}
@@ -60,7 +61,8 @@ next_sized i c range h = by (instr_at i c.counter) (in_range_at i.raw i.code c.c
     by (Some (instr.Call x)) r = called x (site_of x c) refl
     by (Some (instr.Unknown bytes)) r = tt
 
-library_sized : (lib : Library) → AllByRecursion (λ g. IsTrue (is_in_range g.image)) lib → (n : ℕ) (c : Cpu) → IsSizedCpu c → IsSizedNext (next_in (slice_get lib n) c)
+library_sized : (lib : Library) → AllByRecursion (λ g. IsTrue (is_in_range g.image)) lib → (n : ℕ) (c : Cpu) → IsSizedCpu c
+    → IsSizedNext (next_in (slice_get lib n) c)
 library_sized [] range n c h = tt
 library_sized (g ∷ lib) (range, ranges) zero c h = next_sized g.image c range h
 library_sized (g ∷ lib) (range, ranges) (suc n) c h = library_sized lib ranges n c h
@@ -68,7 +70,8 @@ library_sized (g ∷ lib) (range, ranges) (suc n) c h = library_sized lib ranges
 -- ---- steps
 
 module _ (lib : Library) (images : AllByRecursion (λ g. IsTrue (is_in_range g.image)) lib) where
-  act_sized : (w : World) (p : ℕ) (q : Process) → get w.processes p ≡ Some q → IsSound w → IsSized w → (n : Next) → IsSizedNext n → (x : TraceItem) (w2 : World) → Acts lib w p n x w2 → IsSized w2
+  act_sized : (w : World) (p : ℕ) (q : Process) → get w.processes p ≡ Some q → IsSound w → IsSized w → (n : Next) → IsSizedNext n → (x : TraceItem) (w2 : World)
+      → Acts lib w p n x w2 → IsSized w2
   act_sized w p q there sound s (Moves c) fits x w2 a = rw a.1 (process_sized w p (λ (y : Process). record y { cpu = c }) (λ y k. fits) s)
   act_sized w p q there sound s (AtCall call t) fits x w2 (o, e, c) = call_sized lib w p sound s t fits o w2 c
   act_sized w p q there sound s IsStuck fits x w2 a = rw a.1 (ended_sized w p STUCK s)
@@ -76,16 +79,20 @@ module _ (lib : Library) (images : AllByRecursion (λ g. IsTrue (is_in_range g.i
   -- the world right after what the process does
   pub acted_sized : (w : World) (p : ℕ) (x : TraceItem) (after : World) → IsSound w → IsSized w → (step : Step lib w p x after) → IsSized step.acted
   acted_sized w p x after sound s step =
-      act_sized w p step.process step.is_there sound s (next_for lib step.process) (library_sized lib images step.process.program step.process.cpu (s.cpus p step.process step.is_there)) x step.acted step.acts
+      act_sized w p step.process step.is_there sound s (next_for lib step.process)
+      (library_sized lib images step.process.program step.process.cpu (s.cpus p step.process step.is_there)) x step.acted step.acts
 
   pub step_sized : (w : World) (p : ℕ) (x : TraceItem) (after : World) → IsSound w → IsSized w → Step lib w p x after → IsSized after
-  step_sized w p x after sound s step = rw step.ends_awake (wakes_sized step.settled (settled_sized step.acted step.settled step.settles (acted_sized w p x after sound s step)))
+  step_sized w p x after sound s step =
+      rw step.ends_awake (wakes_sized step.settled (settled_sized step.acted step.settled step.settles (acted_sized w p x after sound s step)))
 
   run_sized : (w : World) (items : List TraceItem) (after : World) → IsSound w → IsSized w → Runs lib w items after → IsSized after
   run_sized w [] after sound s e = rw e s
-  run_sized w (x ∷ items) after sound s (mid, step, rest) = run_sized mid items after (step_sound lib w (pid_of x) x mid sound step) (step_sized w (pid_of x) x mid sound s step) rest
+  run_sized w (x ∷ items) after sound s (mid, step, rest) =
+      run_sized mid items after (step_sound lib w (pid_of x) x mid sound step) (step_sized w (pid_of x) x mid sound s step) rest
 
-  throughout_sized : (Q : World → Type 0) → ((w : World) → IsSized w → Q w) → (w : World) (items : List TraceItem) (after : World) → IsSound w → IsSized w → (run : Runs lib w items after) → Throughout Q lib w items after run
+  throughout_sized : (Q : World → Type 0) → ((w : World) → IsSized w → Q w) → (w : World) (items : List TraceItem) (after : World) → IsSound w → IsSized w
+      → (run : Runs lib w items after) → Throughout Q lib w items after run
   throughout_sized Q of w [] after sound s e = of w s
   throughout_sized Q of w (x ∷ items) after sound s (mid, step, rest) =
       (of w s, throughout_sized Q of mid items after (step_sound lib w (pid_of x) x mid sound step) (step_sized w (pid_of x) x mid sound s step) rest)
@@ -97,7 +104,8 @@ holding_sized [] vs q k = k
 holding_sized (e ∷ es) [] q k = k
 holding_sized (e ∷ es) (v ∷ vs) q k = holding_sized es vs (process_with v e q) k
 
-statement_sized : (lib : Library) (w : World) (s : Statement) (vs : List ℕ) → word_of s ≤ ANY → IsTrue (may_boot lib w s vs) → IsSized w → IsSized (boot_effect lib w s vs)
+statement_sized : (lib : Library) (w : World) (s : Statement) (vs : List ℕ) → word_of s ≤ ANY → IsTrue (may_boot lib w s vs) → IsSized w
+    → IsSized (boot_effect lib w s vs)
 unfolding boot_effect
 statement_sized lib w (statement.Process job program word handles) vs few may s =
     new_process_sized (with_object w (ProcessBody job)) w.next_koid _
@@ -106,14 +114,19 @@ statement_sized lib w (statement.Process job program word handles) vs few may s 
     (holding_sized (handles_given w.objects handles) vs (created_process lib program) (blank_sized (slice_get lib program))))
     (new_object_sized w (ProcessBody job) (empty_sized _ refl refl) s)
 statement_sized lib w (statement.Job parent) vs few may s = new_object_sized w (job_within parent (body_of w parent)) (empty_sized _ refl refl) s
-statement_sized lib w (statement.Policy job condition action) vs few may s = object_sized w job _ (λ o k. policy_set_sized (setting condition action) o.body o.raised k) s
+statement_sized lib w (statement.Policy job condition action) vs few may s =
+    object_sized w job _ (λ o k. policy_set_sized (setting condition action) o.body o.raised k) s
 statement_sized lib w statement.Event vs few may s = new_object_sized w EventBody (empty_sized _ refl refl) s
 statement_sized lib w statement.Port vs few may s = new_object_sized w (PortBody []) (empty_sized _ refl refl) s
-statement_sized lib w statement.Channel vs few may s = new_object_sized (with_object w (ChannelEnd (w.next_koid + 1) [])) (ChannelEnd w.next_koid []) (empty_sized _ refl refl) (new_object_sized w (ChannelEnd (w.next_koid + 1) []) (empty_sized _ refl refl) s)
+statement_sized lib w statement.Channel vs few may s =
+    new_object_sized (with_object w (ChannelEnd (w.next_koid + 1) [])) (ChannelEnd w.next_koid []) (empty_sized _ refl refl)
+    (new_object_sized w (ChannelEnd (w.next_koid + 1) []) (empty_sized _ refl refl) s)
 
-boots_sized : (lib : Library) (w : World) (statements : List Statement) (after : World) → AllByRecursion (λ s. word_of s ≤ ANY) statements → IsSized w → Boots lib w statements after → IsSized after
+boots_sized : (lib : Library) (w : World) (statements : List Statement) (after : World) → AllByRecursion (λ s. word_of s ≤ ANY) statements → IsSized w
+    → Boots lib w statements after → IsSized after
 boots_sized lib w [] after few s e = rw e s
-boots_sized lib w (st ∷ statements) after (one, few) s (vs, fine, may, rest) = boots_sized lib (boot_effect lib w st vs) statements after few (statement_sized lib w st vs one may s) rest
+boots_sized lib w (st ∷ statements) after (one, few) s (vs, fine, may, rest) =
+    boots_sized lib (boot_effect lib w st vs) statements after few (statement_sized lib w st vs one may s) rest
 
 origin_sized : IsSized origin
 unfolding get
@@ -136,15 +149,20 @@ boot_sized lib statements w b = settled_sized b.boots.made w b.boots.settles (bo
 -- ---- runs and histories from a boot world
 
 -- the last world of a run
-pub world_sized : (lib : Library) (statements : List Statement) (boot after : World) (items : List TraceItem) → IsSizedBoot lib statements boot → Runs lib boot items after → IsSized after
-world_sized lib statements boot after items b run = run_sized lib b.images boot items after (boot_sound lib statements boot b.boots) (boot_sized lib statements boot b) run
+pub world_sized : (lib : Library) (statements : List Statement) (boot after : World) (items : List TraceItem) → IsSizedBoot lib statements boot
+    → Runs lib boot items after → IsSized after
+world_sized lib statements boot after items b run =
+    run_sized lib b.images boot items after (boot_sound lib statements boot b.boots) (boot_sized lib statements boot b) run
 
-module _ (Q : World → Type 0) (of : (w : World) → IsSized w → Q w) (lib : Library) (statements : List Statement) (boot after : World) (b : IsSizedBoot lib statements boot) where
+module _ (Q : World → Type 0) (of : (w : World) → IsSized w → Q w) (lib : Library) (statements : List Statement) (boot after : World)
+    (b : IsSizedBoot lib statements boot) where
   pub runs_keep : (items : List TraceItem) → Runs lib boot items after → Q after
   runs_keep items run = of after (world_sized lib statements boot after items b run)
 
-  pub histories_keep : (history : List TraceItem) → (legal : IsLegalHistory lib boot history after) → Throughout Q lib boot (flat_map single history) after legal.run × Q after
+  pub histories_keep : (history : List TraceItem) → (legal : IsLegalHistory lib boot history after)
+      → Throughout Q lib boot (flat_map single history) after legal.run × Q after
   histories_keep history legal = (
-    throughout_sized lib b.images Q of boot (flat_map single history) after (boot_sound lib statements boot b.boots) (boot_sized lib statements boot b) legal.run,
+    throughout_sized lib b.images Q of boot (flat_map single history) after (boot_sound lib statements boot b.boots)
+        (boot_sized lib statements boot b) legal.run,
     runs_keep (flat_map single history) legal.run,
   )

@@ -11,9 +11,11 @@ use Rattle.zl_rights.specs.World.{Awaited, SignalOf, PacketAt, Packet, Wait}
 use Rattle.zl_rights.specs.Signals.{active}
 use Rattle.zl_rights.specs.Numbers.{meets}
 use Rattle.zl_rights.specs.Settle.{is_made_by_handle}
-use Rattle.zl_rights.specs.Wakes.{holds, packet_of, body_with_packets, packets_for, made_ready, packet_values, with_body, woken_by_first, woken_by, woken_at_port, woken_from, woken_if_there, woken}
+use Rattle.zl_rights.specs.Wakes.{holds, packet_of, body_with_packets, packets_for, made_ready, packet_values, with_body, woken_by_first, woken_by}
+use Rattle.zl_rights.specs.Wakes.{woken_at_port, woken_from, woken_if_there, woken}
 use Rattle.zl_rights.proofs.MapLaws.{get-update, get-each}
-use Rattle.zl_code.specs.Effects.{on_process, on_object, process_with, process_without, insert_all, remove_all, with_object, with_process, process_ended, ended, storing, waiting}
+use Rattle.zl_code.specs.Effects.{on_process, on_object, process_with, process_without, insert_all, remove_all, with_object, with_process, process_ended, ended}
+use Rattle.zl_code.specs.Effects.{storing, waiting}
 use Rattle.zl_code.specs.Local.{overwritten}
 use Rattle.zl_code.specs.Waiting.{registered}
 use Rattle.zl_code.proofs.MapKept.{Each, each_put, each_where_key}
@@ -39,7 +41,8 @@ module _ {X : Type 0} (P : X → Type 0) where
   all_behind [] ys h more = more
   all_behind (x ∷ xs) ys (one, h) more = (one, all_behind xs ys h more)
 
-all_made : {X Y : Type 0} (P : X → Type 0) (Q : Y → Type 0) (f : X → Y) → ((x : X) → P x → Q (f x)) → (xs : List X) → AllByRecursion P xs → AllByRecursion Q (map f xs)
+all_made : {X Y : Type 0} (P : X → Type 0) (Q : Y → Type 0) (f : X → Y) → ((x : X) → P x → Q (f x)) → (xs : List X) → AllByRecursion P xs
+    → AllByRecursion Q (map f xs)
 all_made P Q f each [] h = tt
 all_made P Q f each (x ∷ xs) (one, more) = (each x one, all_made P Q f each xs more)
 
@@ -77,7 +80,8 @@ active_sized w s k = let few : active w k ≤ 0xffff_ffff = active_few w k (λ o
 
 -- ---- changes of a process
 
-pub process_sized : (w : World) (p : ℕ) (f : Process → Process) → ((q : Process) → IsSizedCpu q.cpu → IsSizedCpu (f q).cpu) → IsSized w → IsSized (on_process w p f)
+pub process_sized : (w : World) (p : ℕ) (f : Process → Process) → ((q : Process) → IsSizedCpu q.cpu → IsSizedCpu (f q).cpu) → IsSized w
+    → IsSized (on_process w p f)
 unfolding on_process
 process_sized w p f keeps s = record { cpus = each_update IsSizedProcess w.processes s.cpus p f keeps; kept = s.kept; waits = s.waits }
 
@@ -122,13 +126,15 @@ waiting_sized w p ds (Some awaited) s = process_sized w p (λ q. record q { stat
 
 -- ---- changes of an object, and of waits
 
-pub object_sized : (w : World) (k : ℕ) (f : Object → Object) → ((o : Object) → IsSizedObject o.body o.raised → IsSizedObject (f o).body (f o).raised) → IsSized w → IsSized (on_object w k f)
+pub object_sized : (w : World) (k : ℕ) (f : Object → Object) → ((o : Object) → IsSizedObject o.body o.raised → IsSizedObject (f o).body (f o).raised)
+    → IsSized w → IsSized (on_object w k f)
 unfolding on_object
 object_sized w k f keeps s = record { cpus = s.cpus; kept = each_update IsSizedAt w.objects s.kept k f keeps; waits = s.waits }
 
 pub new_object_sized : (w : World) (b : Body) → IsSizedObject b 0 → IsSized w → IsSized (with_object w b)
 unfolding with_object
-new_object_sized w b new s = record { cpus = s.cpus; kept = each_put IsSizedAt w.objects s.kept w.next_koid (record { body = b; raised = 0 }) new; waits = s.waits }
+new_object_sized w b new s =
+    record { cpus = s.cpus; kept = each_put IsSizedAt w.objects s.kept w.next_koid (record { body = b; raised = 0 }) new; waits = s.waits }
 
 pub fewer_waits : (w : World) (test : Wait → Bool) → IsSized w → IsSized (record w { waits = filter test w.waits })
 fewer_waits w test s = record { cpus = s.cpus; kept = s.kept; waits = all_filtered IsSizedWait test w.waits s.waits }
@@ -153,31 +159,43 @@ module _ (w : World) (s : IsSized w) where
   packet_sized x fits = record { kind = omega arith; key = fits.key; trigger = fits.mask; observed = active_sized w s x.object }
 
   packets_sized : (k : ℕ) → AllByRecursion IsSizedPacket (packets_for w k)
-  packets_sized k = all_made IsSizedWait IsSizedPacket (packet_of w) packet_sized (filter (λ x. x.port == k && holds w x) w.waits) (all_filtered IsSizedWait (λ x. x.port == k && holds w x) w.waits s.waits)
+  packets_sized k =
+      all_made IsSizedWait IsSizedPacket (packet_of w) packet_sized (filter (λ x. x.port == k && holds w x) w.waits)
+      (all_filtered IsSizedWait (λ x. x.port == k && holds w x) w.waits s.waits)
 
-  more_packets : (more : List Packet) → AllByRecursion IsSizedPacket more → (b : Body) (raised : ℕ) → IsSizedObject b raised → IsSizedObject (body_with_packets more b) raised
-  more_packets more fit (PortBody packets) raised o = record { messages = tt; packets = all_behind IsSizedPacket packets more o.packets fit; signals = o.signals }
+  more_packets : (more : List Packet) → AllByRecursion IsSizedPacket more → (b : Body) (raised : ℕ) → IsSizedObject b raised
+      → IsSizedObject (body_with_packets more b) raised
+  more_packets more fit (PortBody packets) raised o =
+      record { messages = tt; packets = all_behind IsSizedPacket packets more o.packets fit; signals = o.signals }
   more_packets more fit _ raised o = o
 
   pub fired_sized : IsSized (fired w)
   unfolding fired
   fired_sized = record {
     cpus = s.cpus;
-    kept = each_each IsSizedAt w.objects s.kept (λ k o. record o { body = body_with_packets (packets_for w k) o.body }) (λ k o fits. more_packets (packets_for w k) (packets_sized k) o.body o.raised fits);
+    kept = each_each IsSizedAt w.objects s.kept (λ k o. record o { body = body_with_packets (packets_for w k) o.body })
+        (λ k o fits. more_packets (packets_for w k) (packets_sized k) o.body o.raised fits);
     waits = all_filtered IsSizedWait (λ x. not (holds w x)) w.waits s.waits;
   }
 
 ready_sized : (w : World) (p : ℕ) (q : Process) (ds vs : List ℕ) → IsSizedCpu q.cpu → AreSmall vs → IsSized w → IsSized (made_ready w p q ds vs)
 unfolding made_ready
-ready_sized w p q ds vs fits few s = record { cpus = each_put IsSizedProcess w.processes s.cpus p _ (answered_sized q.cpu ds vs fits few); kept = s.kept; waits = s.waits }
+ready_sized w p q ds vs fits few s =
+    record { cpus = each_put IsSizedProcess w.processes s.cpus p _ (answered_sized q.cpu ds vs fits few); kept = s.kept; waits = s.waits }
 
 module _ (w : World) (s : IsSized w) (p : ℕ) where
-  by_packets : (q : Process) → IsSizedCpu q.cpu → (k : ℕ) (ds : List ℕ) (o : Object) (packets : List Packet) → IsSizedObject (PortBody packets) o.raised → IsSized (woken_by_first w p q k ds o packets)
+  by_packets : (q : Process) → IsSizedCpu q.cpu → (k : ℕ) (ds : List ℕ) (o : Object) (packets : List Packet) → IsSizedObject (PortBody packets) o.raised
+      → IsSized (woken_by_first w p q k ds o packets)
   by_packets q fits k ds o [] held = s
   by_packets q fits k ds o (x ∷ rest) held =
       let (first, others) = held.packets in
-      ready_sized (with_body w k o (PortBody rest)) p q ds (0 ∷ packet_values x) fits (omega arith, (first.key, (small first.kind, (first.trigger, (first.observed, tt)))))
-      (record { cpus = s.cpus; kept = each_put IsSizedAt w.objects s.kept k (record o { body = PortBody rest }) (record { messages = tt; packets = others; signals = held.signals }); waits = s.waits })
+      ready_sized (with_body w k o (PortBody rest)) p q ds (0 ∷ packet_values x) fits
+      (omega arith, (first.key, (small first.kind, (first.trigger, (first.observed, tt)))))
+      (record {
+        cpus = s.cpus;
+        kept = each_put IsSizedAt w.objects s.kept k (record o { body = PortBody rest }) (record { messages = tt; packets = others; signals = held.signals });
+        waits = s.waits;
+      })
     where
       small : {n : ℕ} → n ≤ 1 → n ≤ ANY
       small le = omega arith

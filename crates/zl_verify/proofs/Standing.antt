@@ -55,7 +55,8 @@ module _ (i : Image) (s : State) (x : CallInstr) (u : Uses) (r : State) (w : Way
   by_tests true true true true true bs ds es fs h = cc
 
   finished_by : and_then (finished i s r u) (λ t. Ok (if goes_on x.name then passes t else stops)) ≡ Ok w → HasRule i s x u r w
-  finished_by h = by_tests (are_words s u.words) (range_fits i s u.range) (is_declared i u.condition) (are_distinct u.results) (has_one r u.results) refl refl refl refl h
+  finished_by h =
+      by_tests (are_words s u.words) (range_fits i s u.range) (is_declared i u.condition) (are_distinct u.results) (has_one r u.results) refl refl refl refl h
 
 pub has_rule : (i : Image) (s : State) (x : CallInstr) (bounds : List ℕ) (w : Ways) → call_rule bounds i x s ≡ Ok w
     → (r : State) × HasRule i s x (uses_of bounds s x) r w
@@ -98,7 +99,9 @@ module _ {w : World} {p : ℕ} {q : Process} {x : CallInstr} {t : Site} {s : Sta
   reads_own = ap (λ o. get (handles_in o)) k.there
 
   pub passed : Passed w p q.cpu.registers arrays q.cpu.slots r q.cpu.registers [] u.operands
-  passed = operands_from w p q.cpu.registers arrays q.cpu.slots u.operands s r (subst (λ f. Holds f s q.cpu.registers arrays q.cpu.slots) (sym reads_own) k.holds) k.states
+  passed =
+      operands_from w p q.cpu.registers arrays q.cpu.slots u.operands s r
+      (subst (λ f. Holds f s q.cpu.registers arrays q.cpu.slots) (sym reads_own) k.holds) k.states
       (operands_inside x k.in_range bounds s) is_aligned.plain k.operands
 
   -- the table without what was consumed
@@ -125,7 +128,8 @@ module _ {w : World} {p : ℕ} {q : Process} {x : CallInstr} {t : Site} {s : Sta
   zeroed_hold = rw is_aligned.consumed passed.holds
 
   -- what holds after an answer whose values fit
-  pub answer_holds : (st : Status) (values : List ℕ) (c : Cpu) (g : Table) → c.registers ≡ q.cpu.registers → Fits left r zeroed u.results (status_magnitude st ∷ values) g
+  pub answer_holds : (st : Status) (values : List ℕ) (c : Cpu) (g : Table) → c.registers ≡ q.cpu.registers
+      → Fits left r zeroed u.results (status_magnitude st ∷ values) g
       → Holds g (with_all r u.results) (cpu_answered t st values c).registers arrays q.cpu.slots
   unfolding answered
   answer_holds st values c g same fits = rw (same, is_aligned.destinations)

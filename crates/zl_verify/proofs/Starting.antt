@@ -1,5 +1,6 @@
 -- A process that starts properly is as a typing of its image says at instruction 0.
-use Rattle.std.proofs.Common.{◌≡◌, ◌≢◌, ℕ, zero, suc, ◌+◌, ◌<◌, ◌≤◌, Bool, true, false, ◌&&◌, ◌||◌, ◌==◌, List, [], ◌∷◌, map, length, refl, sym, ap, ◌∙◌, subst, Option, Some, None, arith, inl, inr, slice_set, slice_index}
+use Rattle.std.proofs.Common.{◌≡◌, ◌≢◌, ℕ, zero, suc, ◌+◌, ◌<◌, ◌≤◌, Bool, true, false, ◌&&◌, ◌||◌, ◌==◌, List, [], ◌∷◌, map, length, refl, sym, ap, ◌∙◌, subst}
+use Rattle.std.proofs.Common.{Option, Some, None, arith, inl, inr, slice_set, slice_index}
 use Rattle.std.specs.Prelude.{replicate}
 use Rattle.std.specs.List.{sum_by}
 use Rattle.std.specs.Option.{option_to_list}
@@ -57,7 +58,9 @@ nothing_at : (r : ℕ) → slice_index no_values r ≡ 0
 nothing_at = each_filled (λ (x : ℕ). x ≡ 0) 0 register_count refl
 
 empty_at : (arrays : List SlotArray) (n k : ℕ) → place_at (empty_slots arrays) n k ≡ 0
-empty_at arrays = each_made (AtEach (λ (x : ℕ). x ≡ 0) 0) [] (λ (s : SlotArray). replicate s.length 0) arrays (λ k. refl) (λ s. each_filled (λ (x : ℕ). x ≡ 0) 0 s.length refl)
+empty_at arrays =
+    each_made (AtEach (λ (x : ℕ). x ≡ 0) 0) [] (λ (s : SlotArray). replicate s.length 0) arrays (λ k. refl)
+    (λ s. each_filled (λ (x : ℕ). x ≡ 0) 0 s.length refl)
 
 zeros_state : IsState zeros
 zeros_state = record { long = refl; tags = λ r. rw (zero_at r) refl }
@@ -85,7 +88,9 @@ places_none v (suc n) = sum_by-cons (λ x. one_if (is_it v x)) 0 (replicate n 0)
 keepers_none : (v : ℕ) (arrays : List SlotArray) → keepers v (empty_slots arrays) ≡ 0
 unfolding keepers
 keepers_none v [] = refl
-keepers_none v (a ∷ arrays) = sum_by-cons (λ places. sum_by (λ x. one_if (is_it v x)) places) (replicate a.length 0) (empty_slots arrays) ∙ rw (places_none v a.length, keepers_none v arrays) refl
+keepers_none v (a ∷ arrays) =
+    sum_by-cons (λ places. sum_by (λ x. one_if (is_it v x)) places) (replicate a.length 0) (empty_slots arrays)
+    ∙ rw (places_none v a.length, keepers_none v arrays) refl
 
 blank_holds : (arrays : List SlotArray) → Holds (get {X = Entry} []) zeros no_values arrays (empty_slots arrays)
 unfolding get
@@ -190,7 +195,8 @@ set_swap (x ∷ xs) (suc r) (suc k) a b apart = λ i. x ∷ set_swap xs r k a b 
 
 word_first : (n : ℕ) (vs xs : List ℕ) (word : ℕ) → 2 ≤ n → set_from n vs (slice_set xs 1 word) ≡ slice_set (set_from n vs xs) 1 word
 word_first n [] xs word le = refl
-word_first n (v ∷ vs) xs word le = ap (set_from (n + 1) vs) (set_swap xs 1 n word v (λ e. omega arith)) ∙ word_first (n + 1) vs (slice_set xs n v) word (omega arith)
+word_first n (v ∷ vs) xs word le =
+    ap (set_from (n + 1) vs) (set_swap xs 1 n word v (λ e. omega arith)) ∙ word_first (n + 1) vs (slice_set xs n v) word (omega arith)
 
 written_from : (r : ℕ) (ss : List Start) (vs xs : List ℕ) → length vs ≡ length ss → written xs (map (λ x. x.0) (starts_from r ss)) vs ≡ set_from r vs xs
 written_from r [] [] xs same = refl
@@ -207,11 +213,13 @@ as_many (s ∷ ss) (e ∷ es) [] q d may = cc
 as_many (s ∷ ss) (e ∷ es) (v ∷ vs) q d may = ap suc (as_many ss es vs (process_with v e q) (both (is_declared s e) (are_declared ss es) d).1
     (both (may_get q v) (may_get_all (process_with v e q) es vs) may).1)
 
-start_registers : (ss : List Start) (vs xs : List ℕ) (word : ℕ) → length vs ≡ length ss → written xs (map (λ x. x.0) (start_results ss)) (told vs word) ≡ slice_set (with_handles vs xs) 1 word
+start_registers : (ss : List Start) (vs xs : List ℕ) (word : ℕ) → length vs ≡ length ss
+    → written xs (map (λ x. x.0) (start_results ss)) (told vs word) ≡ slice_set (with_handles vs xs) 1 word
 start_registers [] [] xs word same = refl
 start_registers [] (v ∷ vs) xs word same = cc
 start_registers (s ∷ ss) [] xs word same = cc
-start_registers (s ∷ ss) (v ∷ vs) xs word same = written_from 2 ss vs (slice_set (slice_set xs 0 v) 1 word) (omega arith) ∙ word_first 2 vs (slice_set xs 0 v) word (omega arith)
+start_registers (s ∷ ss) (v ∷ vs) xs word same =
+    written_from 2 ss vs (slice_set (slice_set xs 0 v) 1 word) (omega arith) ∙ word_first 2 vs (slice_set xs 0 v) word (omega arith)
 
 same_holding : (es : List Entry) (vs : List ℕ) (q : Process) → getting_all es vs q ≡ process_with_all es vs q
 same_holding [] vs q = refl
@@ -238,9 +246,12 @@ module _ (i : Image) (t : ℕ → Option State) (range : is_in_range i ≡ true)
   start_holds : Holds (get holding.handles) (start_state i) (slice_set (with_handles k.values no_values) 1 k.word) i.slots (empty_slots i.slots)
   unfolding start_state
   start_holds =
-      subst (λ (y : Process). Holds (get y.handles) (with_all zeros (start_results i.starts)) (slice_set (with_handles k.values no_values) 1 k.word) i.slots (empty_slots i.slots)) (same_holding k.handles k.values first)
-      (subst (λ xs. Holds (get (getting_all k.handles k.values first).handles) (with_all zeros (start_results i.starts)) xs i.slots (empty_slots i.slots)) (start_registers i.starts k.values no_values k.word (as_many i.starts k.handles k.values first k.declared k.free))
-      (results (start_results i.starts) (told k.values k.word) (get {X = Entry} []) zeros no_values i.slots (empty_slots i.slots) (get (getting_all k.handles k.values first).handles) (blank_holds i.slots) zeros_state
+      subst (λ (y : Process). Holds (get y.handles) (with_all zeros (start_results i.starts)) (slice_set (with_handles k.values no_values) 1 k.word) i.slots
+      (empty_slots i.slots)) (same_holding k.handles k.values first)
+      (subst (λ xs. Holds (get (getting_all k.handles k.values first).handles) (with_all zeros (start_results i.starts)) xs i.slots (empty_slots i.slots))
+      (start_registers i.starts k.values no_values k.word (as_many i.starts k.handles k.values first k.declared k.free))
+      (results (start_results i.starts) (told k.values k.word) (get {X = Entry} []) zeros no_values i.slots (empty_slots i.slots)
+      (get (getting_all k.handles k.values first).handles) (blank_holds i.slots) zeros_state
       (results_inside i.starts (ranges i range).starts_count) (results_distinct i.starts) (none_held (start_results i.starts))
       (start_fits i.starts k.handles k.values k.word first refl k.small k.declared k.free)))
 

@@ -37,9 +37,11 @@ storing_same (address, []) q = record { handles = refl; registers = refl; counte
 storing_same (address, b ∷ bytes) q = record { handles = refl; registers = refl; counter = refl; slots = refl; state = refl; program = refl }
 
 module _ (i : Image) (q new : Process) (same : new.cpu ≡ q.cpu) (memory : IsMemory i q.cpu.memory) where
-  storing_whole : (address : ℕ) (bytes : List ℕ) → AreBytes bytes → address + length bytes ≤ length q.cpu.memory → IsMemory i (storing_in (address, bytes) new).cpu.memory
+  storing_whole : (address : ℕ) (bytes : List ℕ) → AreBytes bytes → address + length bytes ≤ length q.cpu.memory
+      → IsMemory i (storing_in (address, bytes) new).cpu.memory
   storing_whole address [] are fits = subst (λ c. IsMemory i c.memory) (sym same) memory
-  storing_whole address (b ∷ bytes) are fits = subst (λ c. IsMemory i (overwritten c.memory address (b ∷ bytes))) (sym same) (bytes_stored i q.cpu.memory (b ∷ bytes) address memory are fits)
+  storing_whole address (b ∷ bytes) are fits =
+      subst (λ c. IsMemory i (overwritten c.memory address (b ∷ bytes))) (sym same) (bytes_stored i q.cpu.memory (b ∷ bytes) address memory are fits)
 
   within_memory : (address room most n : ℕ) → nat_le (address + room) most ≡ true → n ≤ room → address + n ≤ most
   within_memory address room most n there fits = grind (arith, nat_tests)

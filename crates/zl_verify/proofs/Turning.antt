@@ -1,5 +1,6 @@
 -- What holds at each turn of the search, and what its end says.
-use Rattle.std.proofs.Common.{◌≡◌, ◌≢◌, ℕ, zero, suc, ◌+◌, ◌<◌, ◌≤◌, Bool, true, false, List, Option, Some, None, refl, sym, ap, ◌∙◌, subst, IsTrue, length, ◌⊎◌, inl, inr, arith}
+use Rattle.std.proofs.Common.{◌≡◌, ◌≢◌, ℕ, zero, suc, ◌+◌, ◌<◌, ◌≤◌, Bool, true, false, List, Option, Some, None, refl, sym, ap, ◌∙◌, subst, IsTrue, length}
+use Rattle.std.proofs.Common.{◌⊎◌, inl, inr, arith}
 use Rattle.std.specs.Prelude.{slice_get, slice_set, replicate, Result, Ok, Err}
 use Rattle.std.proofs.lemmas.Option.{same_Some}
 use Rattle.std.proofs.Math.ListN.{length-set, length-replicate}
@@ -46,11 +47,21 @@ TurnOr i bs t (Some u) = GoesOn i bs t u
 turns : (i : Image) (bs : Blocks) (t : Table) → Goes i bs t → (n : ℕ) → slice_get t.waiting n ≡ Some true → TurnOr i bs t (turned i bs t n)
 turns i bs t g n w = at_state (at t.states n) refl
   where
-    edges : (s : State) (es : List Edge) → at t.states n ≡ Some s → block i bs n s ≡ Ok es → (o : Option Table) → raised_all (cleared t n) es ≡ o → TurnOr i bs t o
+    edges : (s : State) (es : List Edge) → at t.states n ≡ Some s → block i bs n s ≡ Ok es → (o : Option Table) → raised_all (cleared t n) es ≡ o
+        → TurnOr i bs t o
     edges s es e r None k = record { none = none_by_edge i bs g.blocks t g.searching g.long n s es e r k }
     edges s es e r (Some u) k =
         let a = tiring i bs g.range t u n s es g.fine e w r k in
-        record { goes = record { blocks = g.blocks; searching = turned_on i bs g.blocks t u g.searching n s es e r k; fine = a.fine; long = a.long ∙ g.long; range = g.range }; less = a.less }
+        record {
+          goes = record {
+            blocks = g.blocks;
+            searching = turned_on i bs g.blocks t u g.searching n s es e r k;
+            fine = a.fine;
+            long = a.long ∙ g.long;
+            range = g.range;
+          };
+          less = a.less;
+        }
 
     by_rule : (s : State) → at t.states n ≡ Some s → (r : Result (List Edge) Cause) → block i bs n s ≡ r → TurnOr i bs t (turned_over (cleared t n) r)
     by_rule s e (Err c) r = record { none = none_by_rule i bs g.blocks t g.searching n s e c r }
@@ -59,7 +70,10 @@ turns i bs t g n w = at_state (at t.states n) refl
     at_state : (o : Option State) → at t.states n ≡ o → TurnOr i bs t (turned_at i bs (cleared t n) n o)
     at_state None e =
         let a = clearing t n g.fine w in
-        record { goes = record { blocks = g.blocks; searching = cleared_on i bs g.blocks t g.searching n e; fine = a.fine; long = g.long; range = g.range }; less = a.less }
+        record {
+          goes = record { blocks = g.blocks; searching = cleared_on i bs g.blocks t g.searching n e; fine = a.fine; long = g.long; range = g.range };
+          less = a.less;
+        }
     at_state (Some s) e = by_rule s e (block i bs n s) refl
 
 pub turn_goes : (i : Image) (bs : Blocks) (t u : Table) → Goes i bs t → (n : ℕ) → Some true ≡ slice_get t.waiting n → Some u ≡ turned i bs t n → GoesOn i bs t u
@@ -68,7 +82,8 @@ turn_goes i bs t u g n w k = subst (TurnOr i bs t) (sym k) (turns i bs t g n (sy
 pub turn_none : (i : Image) (bs : Blocks) (t : Table) → Goes i bs t → (n : ℕ) → Some true ≡ slice_get t.waiting n → None ≡ turned i bs t n → HasNoTyping i
 turn_none i bs t g n w k = subst (TurnOr i bs t) (sym k) (turns i bs t g n (sym w))
 
-pub goes_on : (i : Image) (bs : Blocks) (t u : Table) → Goes i bs t → (n : ℕ) → n ≡ t.from → t.from < length bs.starts → Some false ≡ slice_get t.waiting n → u ≡ record t { from = t.from + 1 } → GoesOn i bs t u
+pub goes_on : (i : Image) (bs : Blocks) (t u : Table) → Goes i bs t → (n : ℕ) → n ≡ t.from → t.from < length bs.starts → Some false ≡ slice_get t.waiting n
+    → u ≡ record t { from = t.from + 1 } → GoesOn i bs t u
 goes_on i bs t u g n e h w k = rw k (record {
   goes = record {
     blocks = g.blocks;
@@ -126,7 +141,9 @@ begins i bs range a h = record {
     same = (length-set nones 0 (Some start) ∙ long_none) ∙ sym (length-set off 0 true ∙ long_false)
 
     first : (n : ℕ) (s : State) → 0 ≡ n → at (slice_set nones 0 (Some start)) n ≡ Some s → start ≡ s
-    first n s p e = same_Some start s (sym (ap within (get_put nones 0 (Some start) (omega (arith, long_none)))) ∙ subst (λ (x : ℕ). at (slice_set nones 0 (Some start)) x ≡ Some s) (sym p) e)
+    first n s p e =
+        same_Some start s (sym (ap within (get_put nones 0 (Some start) (omega (arith, long_none))))
+        ∙ subst (λ (x : ℕ). at (slice_set nones 0 (Some start)) x ≡ Some s) (sym p) e)
 
     other : (n : ℕ) (s : State) → 0 ≢ n → at (slice_set nones 0 (Some start)) n ≡ Some s → ⊥
     other n s d e = let z : None ≡ Some s = sym (ap within (get_put_other nones 0 n (Some start) d) ∙ nothing (length bs.starts) n) ∙ e in cc
@@ -137,8 +154,11 @@ begins i bs range a h = record {
         let b : Some true ≡ Some false = sym (get_put off 0 true (omega (arith, long_false))) ∙ a in cc
     settled n s e w (inr d) = other n s d e
 
-    lower : (y : ℕ → Option State) → IsTyping i y → (n : ℕ) (s : State) → at (slice_set nones 0 (Some start)) n ≡ Some s → (0 ≡ n) ⊎ (0 ≢ n) → IsAbove (at_starts i bs y n) s
-    lower y k n s e (inl p) = subst (λ (x : ℕ). IsAbove (at_starts i bs y x) s) p (subst (λ (m : ℕ). IsAbove (y m) s) (sym (begins_at i bs a 0 0 a.first)) (subst (λ (x : State). IsAbove (y 0) x) (first n s p e) k.begins))
+    lower : (y : ℕ → Option State) → IsTyping i y → (n : ℕ) (s : State) → at (slice_set nones 0 (Some start)) n ≡ Some s → (0 ≡ n) ⊎ (0 ≢ n)
+        → IsAbove (at_starts i bs y n) s
+    lower y k n s e (inl p) =
+        subst (λ (x : ℕ). IsAbove (at_starts i bs y x) s) p
+        (subst (λ (m : ℕ). IsAbove (y m) s) (sym (begins_at i bs a 0 0 a.first)) (subst (λ (x : State). IsAbove (y 0) x) (first n s p e) k.begins))
     lower y k n s e (inr d) = absurd (other n s d e)
 
     fine : (n : ℕ) (s : State) → at (slice_set nones 0 (Some start)) n ≡ Some s → (0 ≡ n) ⊎ (0 ≢ n) → IsFine s

@@ -1,5 +1,6 @@
 -- A process that was made and isn't started yet is as it was made, and its job allows what its program needs; what a step does keeps this.
-use Rattle.std.proofs.Common.{◌≡◌, ℕ, ◌<◌, ◌⊎◌, Bool, true, false, ◌==◌, List, [], ◌∷◌, refl, sym, ap, ◌∙◌, subst, Option, Some, None, option_map, arith, inl, inr}
+use Rattle.std.proofs.Common.{◌≡◌, ℕ, ◌<◌, ◌⊎◌, Bool, true, false, ◌==◌, List, [], ◌∷◌, refl, sym, ap, ◌∙◌, subst, Option, Some, None, option_map, arith, inl}
+use Rattle.std.proofs.Common.{inr}
 use Rattle.std.specs.Prelude.{ℤ, if◌then◌else◌}
 use Rattle.std.proofs.lemmas.Bool.{cases_Bool, eqb-true}
 use Rattle.std.proofs.lemmas.Bool.Decides.{nat_tests}
@@ -20,9 +21,11 @@ use Rattle.zl_code.specs.Effects.{on_process, on_object, with_object, process_wi
 use Rattle.zl_code.specs.Starting.{is_created, created_process, started_with}
 use Rattle.zl_code.specs.Jobs.{is_within, process_killed, with_killed}
 use Rattle.zl_code.specs.Refusals.{refusal}
-use Rattle.zl_code.specs.CallTable.{Request, process_create, process_start, task_kill, effect, new_handles, receiver_of, entering_at, stored_by, gives_ok, gives_refused, awaited_by, ends_caller}
+use Rattle.zl_code.specs.CallTable.{Request, process_create, process_start, task_kill, effect, new_handles, receiver_of, entering_at, stored_by, gives_ok}
+use Rattle.zl_code.specs.CallTable.{gives_refused, awaited_by, ends_caller}
 use Rattle.zl_code.specs.Request.{Site}
-use Rattle.zl_code.specs.Calls.{Choice, Refused, WantsMemory, Values, CallBy, taken_handles, taken, cpu_answered, replied, with_effect, after_refusal, after_ok, ok_outcome}
+use Rattle.zl_code.specs.Calls.{Choice, Refused, WantsMemory, Values, CallBy, taken_handles, taken, cpu_answered, replied, with_effect, after_refusal, after_ok}
+use Rattle.zl_code.specs.Calls.{ok_outcome}
 use Rattle.zl_code.specs.Steps.{Next, Moves, AtCall, IsStuck, Acts}
 use Rattle.zl_code.proofs.Entering.{left_behind}
 use Rattle.zl_verify.proofs.Giving.{getting_all}
@@ -47,7 +50,8 @@ unmapped vs None = refl
 unmapped vs (Some x) = refl
 
 -- handles enter a table, if there is one
-pub inserted_at : (es : List Entry) (vs : List ℕ) (w : World) (k : ℕ) → get (insert_all w k es vs).processes k ≡ option_map (getting_all es vs) (get w.processes k)
+pub inserted_at : (es : List Entry) (vs : List ℕ) (w : World) (k : ℕ)
+    → get (insert_all w k es vs).processes k ≡ option_map (getting_all es vs) (get w.processes k)
 unfolding insert_all on_process
 inserted_at [] vs w k = sym (unmapped vs (get w.processes k))
 inserted_at (e ∷ es) [] w k = by (get w.processes k)
@@ -55,7 +59,9 @@ inserted_at (e ∷ es) [] w k = by (get w.processes k)
     by : (o : Option Process) → o ≡ option_map (getting_all (e ∷ es) []) o
     by None = refl
     by (Some x) = refl
-inserted_at (e ∷ es) (v ∷ vs) w k = inserted_at es vs (on_process w k (process_with v e)) k ∙ (ap (option_map (getting_all es vs)) (get-update w.processes k (process_with v e) k ∙ rw (itself k) refl) ∙ by (get w.processes k))
+inserted_at (e ∷ es) (v ∷ vs) w k =
+    inserted_at es vs (on_process w k (process_with v e)) k
+    ∙ (ap (option_map (getting_all es vs)) (get-update w.processes k (process_with v e) k ∙ rw (itself k) refl) ∙ by (get w.processes k))
   where
     by : (o : Option Process) → option_map (getting_all es vs) (option_map (process_with v e) o) ≡ option_map (getting_all (e ∷ es) (v ∷ vs)) o
     by None = refl
@@ -108,16 +114,21 @@ module _ (p q : ℕ) (apart : (p == q) ≡ false) (lib : Library) (w u : World) 
 
       by : ((child == q) ≡ true) ⊎ ((child == q) ≡ false) → Origin lib w u q (process_start process h word) y
       by (inl same) =
-          let here : get (insert_all (on_process u child start) child es ws).processes child ≡ Some y = subst (λ k. get (insert_all (on_process u child start) child es ws).processes k ≡ Some y) (sym (eqb-true child q same)) at in
-          absurd (started_here (get u.processes child) (sym (inserted_at es ws (on_process u child start) child ∙ ap (option_map (getting_all es ws)) (changed_at u child start)) ∙ here))
-      by (inr other) = from_before (sym (changed_elsewhere u child start q other) ∙ (sym (inserted_elsewhere es ws (on_process u child start) child q other) ∙ at))
+          let here : get (insert_all (on_process u child start) child es ws).processes child ≡ Some y =
+          subst (λ k. get (insert_all (on_process u child start) child es ws).processes k ≡ Some y) (sym (eqb-true child q same)) at in
+          absurd (started_here (get u.processes child)
+          (sym (inserted_at es ws (on_process u child start) child ∙ ap (option_map (getting_all es ws)) (changed_at u child start)) ∙ here))
+      by (inr other) =
+          from_before (sym (changed_elsewhere u child start q other) ∙ (sym (inserted_elsewhere es ws (on_process u child start) child q other) ∙ at))
   comes (task_kill target) vs ws es at = by (is_within u.objects task q) (get u.processes q) refl stands
     where
       task : ℕ
       task = object_at w p target
 
       stands : option_map (process_killed (is_within u.objects task q)) (get u.processes q) ≡ Some y
-      stands = sym (get-each u.processes (λ k x. process_killed (is_within u.objects task k) x) q) ∙ (sym (inserted_elsewhere es ws (with_killed u task) p q apart) ∙ at)
+      stands =
+          sym (get-each u.processes (λ k x. process_killed (is_within u.objects task k) x) q)
+          ∙ (sym (inserted_elsewhere es ws (with_killed u task) p q apart) ∙ at)
 
       by : (b : Bool) (o : Option Process) → get u.processes q ≡ o → option_map (process_killed b) o ≡ Some y → Origin lib w u q (task_kill target) y
       by b None is e = cc
@@ -138,7 +149,8 @@ one_object : (lib : Library) (w u : World) (p h program : ℕ) (vs : List ℕ) �
 unfolding effect with_object
 one_object lib w u p h program vs objects koids = rw (objects, koids) refl
 
-module _ (lib : Library) (w : World) (p : ℕ) (caller : Process) (there : get w.processes p ≡ Some caller) (ready : caller.state ≡ Ready) (below : (k : ℕ) (x : Process) → get w.processes k ≡ Some x → k < w.next_koid) where
+module _ (lib : Library) (w : World) (p : ℕ) (caller : Process) (there : get w.processes p ≡ Some caller) (ready : caller.state ≡ Ready)
+    (below : (k : ℕ) (x : Process) → get w.processes k ≡ Some x → k < w.next_koid) where
   abbrev lost : Site → Process
   lost t = losing_all (taken_handles t.request) caller
 
@@ -155,14 +167,17 @@ module _ (lib : Library) (w : World) (p : ℕ) (caller : Process) (there : get w
         record { caller = caller; there = there; ready = ready; below = below; passes = passes; objects = kept.objects; koids = kept.next_koid }
 
     -- the caller is ready behind what the call does, or over
-    caller_then : (vs : List ℕ) → (y : Process) × (get (with_effect lib w (taken w p t) p t.request vs).processes p ≡ Some y) × ((y.state ≡ Ready) ⊎ (has_ended y.state ≡ true))
+    caller_then : (vs : List ℕ)
+        → (y : Process) × (get (with_effect lib w (taken w p t) p t.request vs).processes p ≡ Some y) × ((y.state ≡ Ready) ⊎ (has_ended y.state ≡ true))
     caller_then vs = by (ends_caller w p t.request) refl
       where
-        by : (e : Option ℤ) → ends_caller w p t.request ≡ e → (y : Process) × (get (with_effect lib w (taken w p t) p t.request vs).processes p ≡ Some y) × ((y.state ≡ Ready) ⊎ (has_ended y.state ≡ true))
+        by : (e : Option ℤ) → ends_caller w p t.request ≡ e
+            → (y : Process) × (get (with_effect lib w (taken w p t) p t.request vs).processes p ≡ Some y) × ((y.state ≡ Ready) ⊎ (has_ended y.state ≡ true))
         by None goes = (
           _,
           caller_after t.request lib w (taken w p t) p done goes vs (lost t) (lost_there t),
-          inl ((storing_same (stored_by w p t.request) (getting_all (own_handles w p t.request) (entering_at t.request vs) (lost t))).state ∙ ((getting_same (own_handles w p t.request) (entering_at t.request vs) (lost t)).state ∙ lost_ready t)),
+          inl ((storing_same (stored_by w p t.request) (getting_all (own_handles w p t.request) (entering_at t.request vs) (lost t))).state
+              ∙ ((getting_same (own_handles w p t.request) (entering_at t.request vs) (lost t)).state ∙ lost_ready t)),
         )
         by (Some code) is = caller_ending t.request lib w (taken w p t) p code is vs (lost t) (lost_there t) (lost_ready t)
 
@@ -170,11 +185,13 @@ module _ (lib : Library) (w : World) (p : ℕ) (caller : Process) (there : get w
     made_objects : (vs : List ℕ) (h program : ℕ) → t.request ≡ process_create h program
         → (with_effect lib w (taken w p t) p t.request vs).objects ≡ put w.objects w.next_koid (record { body = ProcessBody (object_at w p h); raised = 0 })
     made_objects vs h program is =
-        stored_objects (stored_by w p t.request) _ p ∙ (inserted_objects (new_handles w p t.request) (entering_at t.request vs) (effect lib w (taken w p t) p t.request vs) (receiver_of w p t.request)
+        stored_objects (stored_by w p t.request) _ p
+        ∙ (inserted_objects (new_handles w p t.request) (entering_at t.request vs) (effect lib w (taken w p t) p t.request vs) (receiver_of w p t.request)
         ∙ (ap (λ r. (effect lib w (taken w p t) p r vs).objects) is ∙ one_object lib w (taken w p t) p h program vs done.objects done.koids))
 
     -- behind a call that isn't refused, in a world that differs at p alone
-    comes_so : (vs : List ℕ) (v : World) (q : ℕ) → (p == q) ≡ false → get v.processes q ≡ get (with_effect lib w (taken w p t) p t.request vs).processes q → v.objects ≡ (with_effect lib w (taken w p t) p t.request vs).objects
+    comes_so : (vs : List ℕ) (v : World) (q : ℕ) → (p == q) ≡ false → get v.processes q ≡ get (with_effect lib w (taken w p t) p t.request vs).processes q
+        → v.objects ≡ (with_effect lib w (taken w p t) p t.request vs).objects
         → (y : Process) → get v.processes q ≡ Some y → is_created y.state ≡ true → Comes lib w v p q y
     comes_so vs v q apart same objects y at new =
         by (comes p q apart lib w (taken w p t) y new t.request vs (entering_at t.request vs) (new_handles w p t.request)
@@ -182,7 +199,8 @@ module _ (lib : Library) (w : World) (p : ℕ) (caller : Process) (there : get w
       where
         by : Origin lib w (taken w p t) q t.request y → Comes lib w v p q y
         by (from_before is) = was (sym (left_other p q apart (taken_handles t.request) w) ∙ is)
-        by (from_call h program is fresh blank) = made h program (subst (λ r. refusal lib w p r ≡ None) is passes) fresh blank (objects ∙ made_objects vs h program is)
+        by (from_call h program is fresh blank) =
+            made h program (subst (λ r. refusal lib w p r ≡ None) is passes) fresh blank (objects ∙ made_objects vs h program is)
 
   -- right after the act, each such process comes so, and p is none
   pub record AllCome (u : World) : Type 0 where
@@ -198,21 +216,27 @@ module _ (lib : Library) (w : World) (p : ℕ) (caller : Process) (there : get w
       by _ e = refl
 
   -- p alone changed
-  only_p : (u : World) (f : Process → Process) (y : Process) → ((q : ℕ) → (p == q) ≡ false → get u.processes q ≡ get w.processes q) → get u.processes p ≡ Some (f y) → is_created (f y).state ≡ false → AllCome u
+  only_p : (u : World) (f : Process → Process) (y : Process) → ((q : ℕ) → (p == q) ≡ false → get u.processes q ≡ get w.processes q)
+      → get u.processes p ≡ Some (f y) → is_created (f y).state ≡ false → AllCome u
   only_p u f y same at old = record { others = λ q z apart is new. was (sym (same q apart) ∙ is); own = (f y, at, old) }
 
   when_refused : (t : Site) (o : Outcome) → AllCome (after_refusal w p t o)
   unfolding replied ended
   when_refused t (outcome.Answered answer) =
-      only_p (replied (taken w p t) p t answer (gives_refused w p t.request answer)) (λ y. record y { cpu = cpu_answered t answer (gives_refused w p t.request answer) y.cpu }) (lost t)
+      only_p (replied (taken w p t) p t answer (gives_refused w p t.request answer))
+      (λ y. record y { cpu = cpu_answered t answer (gives_refused w p t.request answer) y.cpu }) (lost t)
       (λ q apart. replied_other p q apart (taken w p t) t answer (gives_refused w p t.request answer) ∙ left_other p q apart (taken_handles t.request) w)
       (changed_here (taken w p t) p _ (lost t) (lost_there t)) (ap is_created (lost_ready t))
-  when_refused t (outcome.Ended code) = only_p (ended w p code) (process_ended code) caller (λ q apart. ended_other p q apart w code) (changed_here w p (process_ended code) caller there) (ended_old code caller)
+  when_refused t (outcome.Ended code) =
+      only_p (ended w p code) (process_ended code) caller (λ q apart. ended_other p q apart w code) (changed_here w p (process_ended code) caller there)
+      (ended_old code caller)
   when_refused t outcome.Blocked = only_p w (λ y. y) caller (λ q apart. refl) there (ap is_created ready)
 
   when_waits : (ds : List ℕ) (o : Option Awaited) → AllCome (waiting w p ds o)
   when_waits ds None = only_p w (λ y. y) caller (λ q apart. refl) there (ap is_created ready)
-  when_waits ds (Some awaited) = only_p (waiting w p ds (Some awaited)) (λ y. record y { state = Blocked awaited ds }) caller (λ q apart. waiting_other p q apart w ds (Some awaited)) (changed_here w p _ caller there) refl
+  when_waits ds (Some awaited) =
+      only_p (waiting w p ds (Some awaited)) (λ y. record y { state = Blocked awaited ds }) caller (λ q apart. waiting_other p q apart w ds (Some awaited))
+      (changed_here w p _ caller there) refl
 
   module _ (t : Site) where
     when_ok : refusal lib w p t.request ≡ None → (vs : List ℕ) (o : Outcome) → AllCome (after_ok lib w p t vs o)
@@ -234,7 +258,8 @@ module _ (lib : Library) (w : World) (p : ℕ) (caller : Process) (there : get w
         }
     when_ok passes vs outcome.Blocked = when_waits t.destinations (awaited_by w p t.request)
 
-    when_called : (choice : Choice) (r : Option Outcome) → refusal lib w p t.request ≡ r → (answer : Outcome) (w2 : World) → CallBy lib w p t choice r answer w2 → AllCome w2
+    when_called : (choice : Choice) (r : Option Outcome) → refusal lib w p t.request ≡ r → (answer : Outcome) (w2 : World)
+        → CallBy lib w p t choice r answer w2 → AllCome w2
     when_called Refused None is answer w2 h = absurd h
     when_called Refused (Some o) is answer w2 h = rw h.1 (when_refused t o)
     when_called WantsMemory None is answer w2 h = rw h.2 (when_refused t (outcome.Answered status.NoMemory))

@@ -1,5 +1,6 @@
 -- In every world of a run from a boot world, a process that isn't started yet is as it was made, and its job allows what its program needs.
-use Rattle.std.proofs.Common.{◌≡◌, ℕ, ◌<◌, ◌⊎◌, Bool, true, false, not, ◌&&◌, ◌||◌, ◌==◌, List, [], ◌∷◌, refl, sym, ap, ◌∙◌, subst, Option, Some, None, option_map, arith, inl, inr}
+use Rattle.std.proofs.Common.{◌≡◌, ℕ, ◌<◌, ◌⊎◌, Bool, true, false, not, ◌&&◌, ◌||◌, ◌==◌, List, [], ◌∷◌, refl, sym, ap, ◌∙◌, subst, Option, Some, None}
+use Rattle.std.proofs.Common.{option_map, arith, inl, inr}
 use Rattle.std.specs.Prelude.{is_some, if◌then◌else◌, slice_get, unwrap_or}
 use Rattle.std.specs.List.{fold, list_any}
 use Rattle.std.proofs.lemmas.Bool.{cases_Bool, eqb-true}
@@ -10,7 +11,8 @@ use Rattle.zl_rights.specs.declared.policy.Action.{Action}
 use Rattle.zl_rights.specs.declared.policy.Action.TheVariants as action
 use Rattle.zl_rights.specs.declared.policy.Condition.{Condition}
 use Rattle.zl_rights.specs.declared.status.Status.TheVariants as status
-use Rattle.zl_rights.specs.Common.{condition_number, answered, get, put, lives, Settles, process_settled, without_others, fired, wakes, World, Process, State as Life, Created, Ready, Blocked, Object, Body, PortBody, ProcessBody}
+use Rattle.zl_rights.specs.Common.{condition_number, answered, get, put, lives, Settles, process_settled, without_others, fired, wakes, World, Process}
+use Rattle.zl_rights.specs.Common.{State as Life, Created, Ready, Blocked, Object, Body, PortBody, ProcessBody}
 use Rattle.zl_rights.specs.World.{SignalOf, PacketAt, Packet}
 use Rattle.zl_rights.specs.Signals.{active}
 use Rattle.zl_rights.specs.Numbers.{meets}
@@ -41,15 +43,19 @@ itself k = grind (arith, nat_tests)
 -- ---- what its job allows
 
 -- an action for a condition goes by its number
-allowing : (w : World) (job : ℕ) (needs : List Condition) (c : Condition) → list_any (λ x. not (is_allowing (action_of w job x))) needs ≡ false → is_among needs c ≡ true → is_allowing (action_of w job c) ≡ true
+allowing : (w : World) (job : ℕ) (needs : List Condition) (c : Condition) → list_any (λ x. not (is_allowing (action_of w job x))) needs ≡ false
+    → is_among needs c ≡ true → is_allowing (action_of w job c) ≡ true
 allowing w job [] c none named = cc
-allowing w job (x ∷ needs) c none named = by (is_allowing (action_of w job x)) refl (condition_number x == condition_number c) refl none named (λ less more. allowing w job needs c less more)
+allowing w job (x ∷ needs) c none named =
+    by (is_allowing (action_of w job x)) refl (condition_number x == condition_number c) refl none named (λ less more. allowing w job needs c less more)
   where
     at : ℕ → Action
     at n = unwrap_or (get (policy_in (body_of w job)) n) action.Allow
 
-    by : (a : Bool) → is_allowing (action_of w job x) ≡ a → (b : Bool) → (condition_number x == condition_number c) ≡ b → not a || list_any (λ x. not (is_allowing (action_of w job x))) needs ≡ false → b || is_among needs c ≡ true
-        → (list_any (λ x. not (is_allowing (action_of w job x))) needs ≡ false → is_among needs c ≡ true → is_allowing (action_of w job c) ≡ true) → is_allowing (action_of w job c) ≡ true
+    by : (a : Bool) → is_allowing (action_of w job x) ≡ a → (b : Bool) → (condition_number x == condition_number c) ≡ b
+        → not a || list_any (λ x. not (is_allowing (action_of w job x))) needs ≡ false → b || is_among needs c ≡ true
+        → (list_any (λ x. not (is_allowing (action_of w job x))) needs ≡ false → is_among needs c ≡ true → is_allowing (action_of w job c) ≡ true)
+        → is_allowing (action_of w job c) ≡ true
     by false is b at_c none named rest = cc
     by true is true at_c none named rest = sym (ap (λ n. is_allowing (at n)) (eqb-true (condition_number x) (condition_number c) at_c)) ∙ is
     by true is false at_c none named rest = rest none named
@@ -58,18 +64,21 @@ allowed_by : (a : Action) → is_allowing a ≡ true → unless_allowed a ≡ No
 allowed_by action.Allow e = refl
 allowed_by _ e = cc
 
-all_allowed : (w : World) (job : ℕ) (o : Option Program) (g : Program) → lacks_need w job o ≡ false → o ≡ Some g → g.checked ≡ true → (c : Condition) → is_among g.image.needs c ≡ true → unless_allowed (action_of w job c) ≡ None
+all_allowed : (w : World) (job : ℕ) (o : Option Program) (g : Program) → lacks_need w job o ≡ false → o ≡ Some g → g.checked ≡ true → (c : Condition)
+    → is_among g.image.needs c ≡ true → unless_allowed (action_of w job c) ≡ None
 all_allowed w job None g lacks is checked c named = cc
 all_allowed w job (Some f) g lacks is checked c named =
     let same : f ≡ g = same_Some f g is in
-    let none : list_any (λ x. not (is_allowing (action_of w job x))) g.image.needs ≡ false = by g.checked checked (subst (λ (h : Program). (h.checked && list_any (λ x. not (is_allowing (action_of w job x))) h.image.needs) ≡ false) same lacks) in
+    let none : list_any (λ x. not (is_allowing (action_of w job x))) g.image.needs ≡ false =
+    by g.checked checked (subst (λ (h : Program). (h.checked && list_any (λ x. not (is_allowing (action_of w job x))) h.image.needs) ≡ false) same lacks) in
     allowed_by (action_of w job c) (allowing w job g.image.needs c none named)
   where
     by : (b : Bool) → b ≡ true → {r : Bool} → (b && r) ≡ false → r ≡ false
     by true e k = k
     by false e k = cc
 
-needs_met : (lib : Library) (w : World) (p h program : ℕ) → refusal lib w p (process_create h program) ≡ None → lacks_need w (object_at w p h) (slice_get lib program) ≡ false
+needs_met : (lib : Library) (w : World) (p h program : ℕ) → refusal lib w p (process_create h program) ≡ None
+    → lacks_need w (object_at w p h) (slice_get lib program) ≡ false
 unfolding listed
 needs_met lib w p h program passes = test_fails _ status.NotSupported (listed_none lib w p (process_create h program) passes).1.1.0
 
@@ -89,11 +98,13 @@ job_below w p h sound some = by (get w.processes p) refl
 -- u has a new process in the job, which has what its program needs
 module _ (lib : Library) (w u : World) (job program : ℕ) (below : job < w.next_koid) (met : lacks_need w job (slice_get lib program) ≡ false)
     (objects : u.objects ≡ put w.objects w.next_koid (record { body = ProcessBody job; raised = 0 })) where
-  pub made_allows : (g : Program) → slice_get lib program ≡ Some g → g.checked ≡ true → (c : Condition) → is_among g.image.needs c ≡ true → creates u w.next_koid c ≡ None
+  pub made_allows : (g : Program) → slice_get lib program ≡ Some g → g.checked ≡ true → (c : Condition) → is_among g.image.needs c ≡ true
+      → creates u w.next_koid c ≡ None
   unfolding creates
   made_allows g is checked c named =
       ap (λ j. unless_allowed (action_of u j c)) above
-      ∙ (ap (λ m. unless_allowed (unwrap_or (get m (condition_number c)) action.Allow)) policy ∙ all_allowed w job (slice_get lib program) g met is checked c named)
+      ∙ (ap (λ m. unless_allowed (unwrap_or (get m (condition_number c)) action.Allow)) policy
+      ∙ all_allowed w job (slice_get lib program) g met is checked c named)
     where
       new : Object
       new = record { body = ProcessBody job; raised = 0 }
@@ -124,11 +135,16 @@ module _ (lib : Library) (w : World) (p : ℕ) (x : TraceItem) (w2 : World) (sou
   unstarted_then : (q : ℕ) (y : Process) → is_created y.state ≡ true → Comes lib w step.acted p q y → IsUnstarted lib step.acted q y
   unstarted_then q y new (was at) =
       let k = all q y at new in
-      record { blank = k.blank; allowed = λ g is checked c named. same_policy w step.acted q y sound at (lives_new y.state new) (left_by_step lib w p x w2 sound step).alike c ∙ k.allowed g is checked c named }
+      record {
+        blank = k.blank;
+        allowed = λ g is checked c named.
+            same_policy w step.acted q y sound at (lives_new y.state new) (left_by_step lib w p x w2 sound step).alike c ∙ k.allowed g is checked c named;
+      }
   unstarted_then q y new (made h program passes fresh blank objects) = record {
     blank = subst (λ (z : Process). z ≡ created_process lib z.program) (sym blank) refl;
     allowed = λ g is checked c named.
-        ap (λ k. creates step.acted k c) fresh ∙ made_allows lib w step.acted (object_at w p h) program (job_below w p h sound some_koid) (needs_met lib w p h program passes) objects g (ap (λ (z : Process). slice_get lib z.program) (sym blank) ∙ is) checked c named;
+        ap (λ k. creates step.acted k c) fresh ∙ made_allows lib w step.acted (object_at w p h) program (job_below w p h sound some_koid)
+        (needs_met lib w p h program passes) objects g (ap (λ (z : Process). slice_get lib z.program) (sym blank) ∙ is) checked c named;
   }
 
   -- right after the act
@@ -147,7 +163,8 @@ module _ (lib : Library) (w : World) (p : ℕ) (x : TraceItem) (w2 : World) (sou
 -- what isn't started after settling was so before
 settled_before : (u v : World) → Settles u v → (k : ℕ) (y : Process) → get v.processes k ≡ Some y → is_created y.state ≡ true → get u.processes k ≡ Some y
 unfolding without_others
-settled_before u v (K, largest, is) k y at new = by (get u.processes k) refl (sym (get-each u.processes (process_settled K) k) ∙ (ap (λ (z : World). get z.processes k) (sym is) ∙ at))
+settled_before u v (K, largest, is) k y at new =
+    by (get u.processes k) refl (sym (get-each u.processes (process_settled K) k) ∙ (ap (λ (z : World). get z.processes k) (sym is) ∙ at))
   where
     by_kept : (b : Bool) (l : Life) → is_created (state_without b l) ≡ true → state_without b l ≡ l
     by_kept true Created e = refl
@@ -223,6 +240,10 @@ module _ (k : ℕ) (y : Process) (new : is_created y.state ≡ true) where
 pub step_unstarted : (lib : Library) (w : World) (p : ℕ) (x : TraceItem) (w2 : World) → (b : IsFitStep lib w p x w2) → IsSound w → AreUnstarted lib w
     → AreUnstarted lib w2
 step_unstarted lib w p x w2 b sound all k y at new =
-    let before = settled_before b.step.acted b.step.settled b.step.settles k y (awake_before k y new b.step.settled (subst (λ v. get v.processes k ≡ Some y) b.step.ends_awake at)) new in
+    let before = settled_before b.step.acted b.step.settled b.step.settles k y
+    (awake_before k y new b.step.settled (subst (λ v. get v.processes k ≡ Some y) b.step.ends_awake at)) new in
     let kept = acted_unstarted lib w p x w2 sound b.step all k y before new in
-    record { blank = kept.blank; allowed = λ g is checked c named. allowed_after lib w p x w2 b k y at (lives_new y.state new) c ∙ kept.allowed g is checked c named }
+    record {
+      blank = kept.blank;
+      allowed = λ g is checked c named. allowed_after lib w p x w2 b k y at (lives_new y.state new) c ∙ kept.allowed g is checked c named;
+    }

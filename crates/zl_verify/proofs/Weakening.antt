@@ -1,5 +1,6 @@
 -- What a state describes, a state above describes too.
-use Rattle.std.proofs.Common.{◌≡◌, ℕ, suc, ◌+◌, ◌≤◌, Bool, true, false, ◌||◌, not, ◌==◌, List, [], ◌∷◌, length, refl, sym, ap, ◌∙◌, subst, IsTrue, Option, Some, None, arith, inl, inr, slice_index}
+use Rattle.std.proofs.Common.{◌≡◌, ℕ, suc, ◌+◌, ◌≤◌, Bool, true, false, ◌||◌, not, ◌==◌, List, [], ◌∷◌, length, refl, sym, ap, ◌∙◌, subst, IsTrue, Option, Some}
+use Rattle.std.proofs.Common.{None, arith, inl, inr, slice_index}
 use Rattle.std.proofs.lemmas.Bool.{eqb-true}
 use Rattle.std.proofs.lemmas.Bool.Decides.{nat_tests}
 use Rattle.zl_rights.specs.declared.entry.Entry.{Entry}
@@ -20,7 +21,8 @@ pub as_below : (k j : Option Kind) (q p : Rights) (o : Option Entry) → kind_be
 as_below k j q p None e g l = l
 as_below k j q p (Some y) e g (kind, rights) = (kind_trans (Some y.kind) k j kind e, within_trans (bits y.rights) (bits q) (bits p) rights g)
 
-pub handle_below : (f : Table) (a b : Bool) (k j : Option Kind) (q p : Rights) (x : ℕ) → (not a || b) ≡ true → kind_below k j ≡ true → within (bits p) (bits q) ≡ true → IsHandle f a k q x → IsHandle f b j p x
+pub handle_below : (f : Table) (a b : Bool) (k j : Option Kind) (q p : Rights) (x : ℕ) → (not a || b) ≡ true → kind_below k j ≡ true
+    → within (bits p) (bits q) ≡ true → IsHandle f a k q x → IsHandle f b j p x
 handle_below f true b k j q p x m e g (inl (_, z)) = inl (m, z)
 handle_below f false b k j q p x m e g (inl (no_zero, z)) = cc
 handle_below f a b k j q p x m e g (inr l) = inr (as_below k j q p (f x) e g l)
@@ -71,7 +73,8 @@ owns-below v (RightsOf r) (KindOf t) x e z = refl
 owns-below v (Word m) (KindOf t) x e z = refl
 owns-below v (Word m) (RightsOf t) x e z = refl
 
-owners-below : (v : ℕ) (s t : State) (xs : List ℕ) → IsTrue (all_below s t) → ((r : ℕ) → IsZeroThere (value_at s r) (slice_index xs r)) → owners v s xs ≡ owners v t xs
+owners-below : (v : ℕ) (s t : State) (xs : List ℕ) → IsTrue (all_below s t) → ((r : ℕ) → IsZeroThere (value_at s r) (slice_index xs r))
+    → owners v s xs ≡ owners v t xs
 unfolding all_below owners
 owners-below v [] [] xs e z = refl
 owners-below v [] (b ∷ t) xs e z = cc
@@ -93,7 +96,8 @@ length_below (a ∷ s) (b ∷ t) e = let k = length_below s t (both (below a b) 
 small_is : (m x : ℕ) → x ≤ m → m ≡ 0 → x ≡ 0
 small_is m x le z = omega arith
 
-pub weaken : {f : Table} {s : State} {xs : List ℕ} {arrays : List SlotArray} {slots : List (List ℕ)} (t : State) → Holds f s xs arrays slots → IsTrue (all_below s t) → Holds f t xs arrays slots
+pub weaken : {f : Table} {s : State} {xs : List ℕ} {arrays : List SlotArray} {slots : List (List ℕ)} (t : State) → Holds f s xs arrays slots
+    → IsTrue (all_below s t) → Holds f t xs arrays slots
 weaken {f} {s} {xs} {arrays} {slots} t h e = record {
   width = h.width ∙ length_below s t e;
   small = h.small;

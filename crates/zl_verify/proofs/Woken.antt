@@ -5,12 +5,14 @@ use Rattle.std.specs.List.{AllByRecursion, fold}
 use Rattle.std.specs.Option.{option_map}
 use Rattle.std.proofs.lemmas.Bool.{cases_Bool, eqb-true}
 use Rattle.std.proofs.lemmas.Option.{same_Some, none-some}
-use Rattle.zl_rights.specs.Common.{condition_number, answered, get, where_key, lives, runs, Koids, Settles, process_settled, without_others, fired, wakes, World, Process, State as Life, Created, Ready, Blocked, Object, Body, JobBody, PortBody, ProcessBody}
+use Rattle.zl_rights.specs.Common.{condition_number, answered, get, where_key, lives, runs, Koids, Settles, process_settled, without_others, fired, wakes}
+use Rattle.zl_rights.specs.Common.{World, Process, State as Life, Created, Ready, Blocked, Object, Body, JobBody, PortBody, ProcessBody}
 use Rattle.zl_rights.specs.World.{Awaited, SignalOf, PacketAt, Packet}
 use Rattle.zl_rights.specs.Signals.{active}
 use Rattle.zl_rights.specs.Numbers.{meets}
 use Rattle.zl_rights.specs.Settle.{state_without}
-use Rattle.zl_rights.specs.Wakes.{body_with_packets, packets_for, made_ready, packet_values, with_body, woken_by_first, woken_by, woken_at_port, woken_from, woken_if_there, woken}
+use Rattle.zl_rights.specs.Wakes.{body_with_packets, packets_for, made_ready, packet_values, with_body, woken_by_first, woken_by, woken_at_port, woken_from}
+use Rattle.zl_rights.specs.Wakes.{woken_if_there, woken}
 use Rattle.zl_rights.specs.declared.policy.Action.TheVariants as action
 use Rattle.zl_rights.specs.declared.policy.Condition.{Condition}
 use Rattle.zl_rights.proofs.MapLaws.{get-put, get-each, get-where_key-in, get-where_key-out}
@@ -51,20 +53,27 @@ same_bare w w2 e = record { same = λ k. ap (λ m. bare (body_in (get m k))) e }
 
 fired_bare : (w : World) → AreBare w (fired w)
 unfolding fired
-fired_bare w = record { same = λ k. ap (λ o. bare (body_in o)) (get-each w.objects (λ j o. record o { body = body_with_packets (packets_for w j) o.body }) k) ∙ by k (get w.objects k) }
+fired_bare w = record {
+  same =
+      λ k. ap (λ o. bare (body_in o)) (get-each w.objects (λ j o. record o { body = body_with_packets (packets_for w j) o.body }) k) ∙ by k (get w.objects k);
+}
   where
     by_body : (more : List Packet) (b : Body) → bare (Some (body_with_packets more b)) ≡ bare (Some b)
     by_body more (PortBody packets) = refl
     by_body more _ = refl
 
-    by : (k : ℕ) (o : Option Object) → bare (body_in (option_map (λ (x : Object). record x { body = body_with_packets (packets_for w k) x.body }) o)) ≡ bare (body_in o)
+    by : (k : ℕ) (o : Option Object)
+        → bare (body_in (option_map (λ (x : Object). record x { body = body_with_packets (packets_for w k) x.body }) o)) ≡ bare (body_in o)
     by k None = refl
     by k (Some o) = by_body (packets_for w k) o.body
 
-put_bare : (w : World) (k : ℕ) (o : Object) (packets rest : List Packet) → get w.objects k ≡ Some o → o.body ≡ PortBody packets → AreBare w (with_body w k o (PortBody rest))
-put_bare w k o packets rest there port = record { same = λ j. ap (λ x. bare (body_in x)) (get-put w.objects k (record o { body = PortBody rest }) j) ∙ by j (cases_Bool (k == j)) }
+put_bare : (w : World) (k : ℕ) (o : Object) (packets rest : List Packet) → get w.objects k ≡ Some o → o.body ≡ PortBody packets
+    → AreBare w (with_body w k o (PortBody rest))
+put_bare w k o packets rest there port =
+    record { same = λ j. ap (λ x. bare (body_in x)) (get-put w.objects k (record o { body = PortBody rest }) j) ∙ by j (cases_Bool (k == j)) }
   where
-    by : (j : ℕ) → ((k == j) ≡ true) ⊎ ((k == j) ≡ false) → bare (body_in (if k == j then Some (record o { body = PortBody rest }) else get w.objects j)) ≡ bare (body_in (get w.objects j))
+    by : (j : ℕ) → ((k == j) ≡ true) ⊎ ((k == j) ≡ false)
+        → bare (body_in (if k == j then Some (record o { body = PortBody rest }) else get w.objects j)) ≡ bare (body_in (get w.objects j))
     by j (inl here) = rw (here, ← eqb-true k j here, there, port) refl
     by j (inr other) = rw other refl
 
@@ -76,9 +85,11 @@ module _ (w : World) (p : ℕ) where
       nothing : AreBare w w
       nothing = same_bare w w refl
 
-      by_packets : (q : Process) (k : ℕ) (ds : List ℕ) (o : Object) (packets : List Packet) → get w.objects k ≡ Some o → o.body ≡ PortBody packets → AreBare w (woken_by_first w p q k ds o packets)
+      by_packets : (q : Process) (k : ℕ) (ds : List ℕ) (o : Object) (packets : List Packet) → get w.objects k ≡ Some o → o.body ≡ PortBody packets
+          → AreBare w (woken_by_first w p q k ds o packets)
       by_packets q k ds o [] there port = nothing
-      by_packets q k ds o (x ∷ rest) there port = bare_then w (with_body w k o (PortBody rest)) _ (put_bare w k o (x ∷ rest) rest there port) (same_bare (with_body w k o (PortBody rest)) _ refl)
+      by_packets q k ds o (x ∷ rest) there port =
+          bare_then w (with_body w k o (PortBody rest)) _ (put_bare w k o (x ∷ rest) rest there port) (same_bare (with_body w k o (PortBody rest)) _ refl)
 
       by_body : (q : Process) (k : ℕ) (ds : List ℕ) (o : Object) (b : Body) → get w.objects k ≡ Some o → o.body ≡ b → AreBare w (woken_by w p q k ds o b)
       by_body q k ds o (PortBody packets) there port = by_packets q k ds o packets there port
@@ -162,7 +173,8 @@ module _ (u w2 : World) (K : Koids) (a : AreBare (without_others u K) w2) where
       above = sym (same_parent (without_others u K) w2 a p) ∙ ap parent_in own.there
 
 -- who lives after settling is allowed as much as before
-pub settled_allowed : (u v : World) → Settles u v → IsSound v → (p : ℕ) (y : Process) → get v.processes p ≡ Some y → lives y.state ≡ true → (c : Condition) → creates v p c ≡ creates u p c
+pub settled_allowed : (u v : World) → Settles u v → IsSound v → (p : ℕ) (y : Process) → get v.processes p ≡ Some y → lives y.state ≡ true → (c : Condition)
+    → creates v p c ≡ creates u p c
 settled_allowed u v (K, largest, is) sound p y there living c =
     let alike : AreBare (without_others u K) v = same_bare (without_others u K) v (ap (λ (z : World). z.objects) is) in
     bare_creates (without_others u K) v alike p c ∙ settled_creates u v K alike p (sound.living p y there living) c
@@ -178,8 +190,10 @@ record HasBecome (i : Image) (t : ℕ → Option State) (p : ℕ) (q : Process) 
 module _ (i : Image) (t : ℕ → Option State) (range : is_in_range i ≡ true) (typing : IsTyping i t) (p : ℕ) (q : Process) (k : IsTyped i t q) where
   module _ (u : World) (s : IsSized u) (h : HasBecome i t p q u) (m : ℕ) where
     -- m gets its answer, in a world with the same processes
-    readied : (v : World) → v.processes ≡ u.processes → (y : Process) → get u.processes m ≡ Some y → (awaited : Awaited) (ds vs : List ℕ) → y.state ≡ Blocked awaited ds
-        → (get u.processes p ≡ Some q → q.state ≡ Blocked awaited ds → IsAwake i t q (record q { state = Ready; cpu = answered q.cpu ds vs })) → HasBecome i t p q (made_ready v m y ds vs)
+    readied : (v : World) → v.processes ≡ u.processes → (y : Process) → get u.processes m ≡ Some y → (awaited : Awaited) (ds vs : List ℕ)
+        → y.state ≡ Blocked awaited ds
+        → (get u.processes p ≡ Some q → q.state ≡ Blocked awaited ds → IsAwake i t q (record q { state = Ready; cpu = answered q.cpu ds vs }))
+        → HasBecome i t p q (made_ready v m y ds vs)
     unfolding made_ready
     readied v same y at awaited ds vs blocked awake = by (cases_Bool (m == p))
       where
@@ -189,14 +203,20 @@ module _ (i : Image) (t : ℕ → Option State) (range : is_in_range i ≡ true)
         ready_blocked : Ready ≡ Blocked awaited ds → ⊥
         ready_blocked e = cc
 
-        own : (m == p) ≡ true → (h.now ≡ q) ⊎ ((awaited : Awaited) × (ds : List ℕ) × (q.state ≡ Blocked awaited ds) × IsAwake i t q h.now) → HasBecome i t p q (made_ready v m y ds vs)
+        own : (m == p) ≡ true → (h.now ≡ q) ⊎ ((awaited : Awaited) × (ds : List ℕ) × (q.state ≡ Blocked awaited ds) × IsAwake i t q h.now)
+            → HasBecome i t p q (made_ready v m y ds vs)
         own e (inl was) =
             let is : y ≡ q = same_Some y h.now (sym (here e) ∙ h.there) ∙ was in
             let waited : q.state ≡ Blocked awaited ds = sym (ap (λ (z : Process). z.state) is) ∙ blocked in
             record {
               now = record y { state = Ready; cpu = answered y.cpu ds vs };
               there = get-put v.processes m (record y { state = Ready; cpu = answered y.cpu ds vs }) p ∙ rw e refl;
-              made = inr (awaited, ds, waited, subst (λ (z : Process). IsAwake i t q (record z { state = Ready; cpu = answered z.cpu ds vs })) (sym is) (awake (here e ∙ ap Some is) waited));
+              made = inr (
+                awaited,
+                ds,
+                waited,
+                subst (λ (z : Process). IsAwake i t q (record z { state = Ready; cpu = answered z.cpu ds vs })) (sym is) (awake (here e ∙ ap Some is) waited),
+              );
             }
         own e (inr (a, d, was, up)) =
             let is : y ≡ h.now = same_Some y h.now (sym (here e) ∙ h.there) in
@@ -204,25 +224,35 @@ module _ (i : Image) (t : ℕ → Option State) (range : is_in_range i ≡ true)
 
         by : ((m == p) ≡ true) ⊎ ((m == p) ≡ false) → HasBecome i t p q (made_ready v m y ds vs)
         by (inl e) = own e h.made
-        by (inr e) = record { now = h.now; there = get-put v.processes m (record y { state = Ready; cpu = answered y.cpu ds vs }) p ∙ rw e (ap (λ ps. get ps p) same ∙ h.there); made = h.made }
+        by (inr e) = record {
+          now = h.now;
+          there = get-put v.processes m (record y { state = Ready; cpu = answered y.cpu ds vs }) p ∙ rw e (ap (λ ps. get ps p) same ∙ h.there);
+          made = h.made;
+        }
 
-    by_packets : (y : Process) → get u.processes m ≡ Some y → (koid : ℕ) (ds : List ℕ) → y.state ≡ Blocked (PacketAt koid) ds → (o : Object) (packets : List Packet) → AllByRecursion IsSizedPacket packets → HasBecome i t p q (woken_by_first u m y koid ds o packets)
+    by_packets : (y : Process) → get u.processes m ≡ Some y → (koid : ℕ) (ds : List ℕ) → y.state ≡ Blocked (PacketAt koid) ds
+        → (o : Object) (packets : List Packet) → AllByRecursion IsSizedPacket packets → HasBecome i t p q (woken_by_first u m y koid ds o packets)
     by_packets y at koid ds blocked o [] sized = h
     by_packets y at koid ds blocked o (x ∷ rest) (sized, more) =
-        readied (with_body u koid o (PortBody rest)) refl y at (PacketAt koid) ds (0 ∷ packet_values x) blocked (λ there waited. packet_wakes i t range typing u p q there k koid ds waited x sized)
+        readied (with_body u koid o (PortBody rest)) refl y at (PacketAt koid) ds (0 ∷ packet_values x) blocked
+        (λ there waited. packet_wakes i t range typing u p q there k koid ds waited x sized)
 
-    by_body : (y : Process) → get u.processes m ≡ Some y → (koid : ℕ) (ds : List ℕ) → y.state ≡ Blocked (PacketAt koid) ds → (o : Object) (b : Body) → IsSizedObject b o.raised → HasBecome i t p q (woken_by u m y koid ds o b)
+    by_body : (y : Process) → get u.processes m ≡ Some y → (koid : ℕ) (ds : List ℕ) → y.state ≡ Blocked (PacketAt koid) ds → (o : Object) (b : Body)
+        → IsSizedObject b o.raised → HasBecome i t p q (woken_by u m y koid ds o b)
     by_body y at koid ds blocked o (PortBody packets) held = by_packets y at koid ds blocked o packets held.packets
     by_body y at koid ds blocked o _ held = h
 
-    by_object : (y : Process) → get u.processes m ≡ Some y → (koid : ℕ) (ds : List ℕ) → y.state ≡ Blocked (PacketAt koid) ds → (o : Option Object) → get u.objects koid ≡ o → HasBecome i t p q (woken_at_port u m y koid ds o)
+    by_object : (y : Process) → get u.processes m ≡ Some y → (koid : ℕ) (ds : List ℕ) → y.state ≡ Blocked (PacketAt koid) ds → (o : Option Object)
+        → get u.objects koid ≡ o → HasBecome i t p q (woken_at_port u m y koid ds o)
     by_object y at koid ds blocked None is = h
     by_object y at koid ds blocked (Some o) is = by_body y at koid ds blocked o o.body (s.kept koid o is)
 
-    by_signal : (y : Process) → get u.processes m ≡ Some y → (koid mask : ℕ) (ds : List ℕ) → y.state ≡ Blocked (SignalOf koid mask) ds → (b : Bool) → HasBecome i t p q (if b then made_ready u m y ds (0 ∷ active u koid ∷ []) else u)
+    by_signal : (y : Process) → get u.processes m ≡ Some y → (koid mask : ℕ) (ds : List ℕ) → y.state ≡ Blocked (SignalOf koid mask) ds → (b : Bool)
+        → HasBecome i t p q (if b then made_ready u m y ds (0 ∷ active u koid ∷ []) else u)
     by_signal y at koid mask ds blocked true =
         readied u refl y at (SignalOf koid mask) ds (0 ∷ active u koid ∷ []) blocked
-        (λ there waited. signal_wakes i t range typing u p q there k koid mask ds waited (active u koid) (active_few u koid (λ o is. (s.kept koid o is).signals)))
+        (λ there waited.
+        signal_wakes i t range typing u p q there k koid mask ds waited (active u koid) (active_few u koid (λ o is. (s.kept koid o is).signals)))
     by_signal y at koid mask ds blocked false = h
 
     by_state : (y : Process) → get u.processes m ≡ Some y → (l : Life) → y.state ≡ l → HasBecome i t p q (woken_from u m y l)
@@ -249,7 +279,9 @@ module _ (i : Image) (t : ℕ → Option State) (range : is_in_range i ≡ true)
 -- a process that runs is as it was after settling
 pub settled_there : (u v : World) → Settles u v → (p : ℕ) (q : Process) → get u.processes p ≡ Some q → runs q.state ≡ true → get v.processes p ≡ Some q
 unfolding without_others
-settled_there u v (K, largest, is) p q there running = rw is (get-each u.processes (process_settled K) p ∙ (ap (option_map (process_settled K p)) there ∙ ap (λ (l : Life). Some (record q { state = l })) (by q.state running)))
+settled_there u v (K, largest, is) p q there running =
+    rw is (get-each u.processes (process_settled K) p
+    ∙ (ap (option_map (process_settled K p)) there ∙ ap (λ (l : Life). Some (record q { state = l })) (by q.state running)))
   where
     by : (l : Life) → runs l ≡ true → state_without (K p) l ≡ l
     by Ready e = refl
@@ -300,19 +332,37 @@ module _ (i : Image) (t : ℕ → Option State) (range : is_in_range i ≡ true)
     still_allowed y at living c named = allowed_after lib w m x w2 b p y at living c ∙ k.allowed c named
 
     become_so : HasBecome i t p q w2
-    become_so = subst (HasBecome i t p q) (sym b.step.ends_awake) (become i t range typing p q (is_typed i t b.step.acted p q k) b.step.settled (settled_so lib w m x w2 b) (settled_there b.step.acted b.step.settled b.step.settles p q there running))
+    become_so =
+        subst (HasBecome i t p q) (sym b.step.ends_awake)
+        (become i t range typing p q (is_typed i t b.step.acted p q k) b.step.settled (settled_so lib w m x w2 b)
+        (settled_there b.step.acted b.step.settled b.step.settles p q there running))
 
-    ends_from : (h : HasBecome i t p q w2) → (h.now ≡ q) ⊎ ((awaited : Awaited) × (ds : List ℕ) × (q.state ≡ Blocked awaited ds) × IsAwake i t q h.now) → EndsStep i t p q w2
+    ends_from : (h : HasBecome i t p q w2) → (h.now ≡ q) ⊎ ((awaited : Awaited) × (ds : List ℕ) × (q.state ≡ Blocked awaited ds) × IsAwake i t q h.now)
+        → EndsStep i t p q w2
     ends_from h (inl was) =
         let at : get w2.processes p ≡ Some q = h.there ∙ ap Some was in
-        stays at (record { state = k.state; stands = k.stands; holds = k.holds; memory = k.memory; allowed = still_allowed q at (lives_then q.state running); waits = k.waits })
+        stays at (record {
+          state = k.state;
+          stands = k.stands;
+          holds = k.holds;
+          memory = k.memory;
+          allowed = still_allowed q at (lives_then q.state running);
+          waits = k.waits;
+        })
     ends_from h (inr (awaited, ds, waited, up)) = is_woken awaited ds waited (record {
       after = h.now;
       there = h.there;
       follows = up.follows;
       ready = up.ready;
       program = up.program;
-      conforms = record { state = up.typed.state; stands = up.typed.stands; holds = up.typed.holds; memory = up.typed.memory; allowed = still_allowed h.now h.there (ap lives up.ready); waits = up.typed.waits };
+      conforms = record {
+        state = up.typed.state;
+        stands = up.typed.stands;
+        holds = up.typed.holds;
+        memory = up.typed.memory;
+        allowed = still_allowed h.now h.there (ap lives up.ready);
+        waits = up.typed.waits;
+      };
     })
 
     pub ends_step : EndsStep i t p q w2

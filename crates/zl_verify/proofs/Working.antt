@@ -83,17 +83,20 @@ within_part : (a b : ℕ) → within (bit_and a b) a ≡ true
 within_part a b = within_is _ _ (let e = and_assoc b a a in let f = and_self a in cc)
 
 -- the first operand is a live handle, as its value says
-named_as : (a : AbsVal) (f : Table) (xs : List ℕ) (x : ℕ) (o : Operand) → o.may_be_zero ≡ false → fault_of o a ≡ None → Describes f xs a x → (asked d : ℕ) (e : Option Entry) → f x ≡ e
+named_as : (a : AbsVal) (f : Table) (xs : List ℕ) (x : ℕ) (o : Operand) → o.may_be_zero ≡ false → fault_of o a ≡ None → Describes f xs a x
+    → (asked d : ℕ) (e : Option Entry) → f x ≡ e
     → is_empty (copy_of e asked) ≡ false → AllAs ((d, narrowed_value a asked) ∷ []) (copy_of e asked)
 named_as (Word m) f xs x o some ok l asked d e is one = cc (rw some at ok)
 named_as (KindOf r) f xs x o some ok l asked d e is one = cc
 named_as (RightsOf r) f xs x o some ok l asked d e is one = cc
 named_as (Has maybe kind rights) f xs x o some ok (inl (m, z)) asked d e is one = cc (rw (m, some) at ok)
 named_as (Has maybe kind rights) f xs x o some ok (inr l) asked d None is one = cc
-named_as (Has maybe kind rights) f xs x o some ok (inr l) asked d (Some y) is one = by (asked == SAME_RIGHTS) (within asked (bits y.rights)) (subst (IsAs kind rights) is l) one
+named_as (Has maybe kind rights) f xs x o some ok (inr l) asked d (Some y) is one =
+    by (asked == SAME_RIGHTS) (within asked (bits y.rights)) (subst (IsAs kind rights) is l) one
   where
     by : (b c : Bool) → IsAs kind rights (Some y) → is_empty (with_rights y (if b then Some y.rights else (if c then Some (rights_of asked) else None))) ≡ false
-        → AllAs ((d, Has true kind (if b then rights else rights_of (bit_and asked KNOWN_RIGHTS))) ∷ []) (with_rights y (if b then Some y.rights else (if c then Some (rights_of asked) else None)))
+        → AllAs ((d, Has true kind (if b then rights else rights_of (bit_and asked KNOWN_RIGHTS))) ∷ [])
+        (with_rights y (if b then Some y.rights else (if c then Some (rights_of asked) else None)))
     by true c (k, r) e = ((k, r), tt)
     by false true (k, r) e = ((k, within_part asked KNOWN_RIGHTS), tt)
     by false false h e = cc
@@ -112,7 +115,8 @@ is_gone q x = ap (λ f. f x) (losing x q) ∙ rw (itself x) refl
     itself x = grind (arith, nat_tests)
 
 -- the value of a handle that is replaced comes back, with other rights
-replaced_as : (a : AbsVal) (f : Table) (xs : List ℕ) (x : ℕ) (o : Operand) → o.may_be_zero ≡ false → fault_of o a ≡ None → Describes f xs a x → (asked d : ℕ) (e : Option Entry) → f x ≡ e → is_empty (copy_of e asked) ≡ false
+replaced_as : (a : AbsVal) (f : Table) (xs : List ℕ) (x : ℕ) (o : Operand) → o.may_be_zero ≡ false → fault_of o a ≡ None → Describes f xs a x
+    → (asked d : ℕ) (e : Option Entry) → f x ≡ e → is_empty (copy_of e asked) ≡ false
     → f 0 ≡ None → x ≤ ANY → (q1 : Process) → get q1.handles x ≡ None → (s : State) (ys : List ℕ)
     → Fits (get q1.handles) s ys ((d, narrowed_value a asked) ∷ []) (x ∷ []) (get (getting_all (copy_of e asked) (x ∷ []) q1).handles)
 replaced_as a f xs x o some ok l asked d e is one none few q1 gone s ys = by a (copy_of e asked) one (named_as a f xs x o some ok l asked d e is one)
@@ -120,7 +124,8 @@ replaced_as a f xs x o some ok l asked d e is one none few q1 gone s ys = by a (
     live : 0 < x
     live = some_value x f e asked none is one
 
-    by : (a : AbsVal) (es : List Entry) → is_empty es ≡ false → AllAs ((d, narrowed_value a asked) ∷ []) es → Fits (get q1.handles) s ys ((d, narrowed_value a asked) ∷ []) (x ∷ []) (get (getting_all es (x ∷ []) q1).handles)
+    by : (a : AbsVal) (es : List Entry) → is_empty es ≡ false → AllAs ((d, narrowed_value a asked) ∷ []) es
+        → Fits (get q1.handles) s ys ((d, narrowed_value a asked) ∷ []) (x ∷ []) (get (getting_all es (x ∷ []) q1).handles)
     by a [] one all = cc
     by (Has maybe kind rights) (y ∷ []) one (fits, more) = (get (process_with x y q1).handles, inr (y, few, live, gone, fits, getting x y q1), refl)
     by (Has maybe kind rights) (y ∷ z ∷ es) one (fits, more) = absurd more
@@ -133,7 +138,11 @@ replaced_as a f xs x o some ok l asked d e is one none few q1 gone s ys = by a (
 pub packets_fit : (bounds : List ℕ) (packets : List Packet) → AllByRecursion IsSizedPacket packets → (f : Table) (s : State) (xs : List ℕ) (d e g h : ℕ)
     → Fits f s xs ((d, Word ANY) ∷ (e, Word (rounded bounds 1)) ∷ (g, Word ANY) ∷ (h, Word ANY) ∷ []) (first_values packets) f
 packets_fit bounds [] x f s xs d e g h = zeros_fit f s xs ((d, Word ANY) ∷ (e, Word (rounded bounds 1)) ∷ (g, Word ANY) ∷ (h, Word ANY) ∷ []) refl
-packets_fit bounds (y ∷ rest) (x, more) f s xs d e g h = (f, (x.key, x.key, refl), (f, (above bounds y.kind 1 x.kind (small x.kind), small x.kind, refl), (f, (x.trigger, x.trigger, refl), (f, (x.observed, x.observed, refl), refl))))
+packets_fit bounds (y ∷ rest) (x, more) f s xs d e g h = (
+  f,
+  (x.key, x.key, refl),
+  (f, (above bounds y.kind 1 x.kind (small x.kind), small x.kind, refl), (f, (x.trigger, x.trigger, refl), (f, (x.observed, x.observed, refl), refl))),
+)
   where
     small : {n : ℕ} → n ≤ 1 → n ≤ ANY
     small le = omega arith
@@ -150,7 +159,8 @@ pub message_fits : (lib : Library) (w : World) (p h address room places : ℕ) �
     → (length (first_bytes (queue_at w p h)) ≤ room) × (length (first_handles (queue_at w p h)) ≤ places)
 unfolding listed
 message_fits lib w p h address room places none =
-    has_places room places (length (first_bytes (queue_at w p h))) (length (first_handles (queue_at w p h))) (test_passes _ status.BufferTooSmall (listed_none lib w p (chan_read_etc h address room places) none).1.1.0)
+    has_places room places (length (first_bytes (queue_at w p h))) (length (first_handles (queue_at w p h)))
+    (test_passes _ status.BufferTooSmall (listed_none lib w p (chan_read_etc h address room places) none).1.1.0)
 
 -- a handle to a new object is as the rule says
 new_as : (koid : ℕ) (k : Kind) → IsAs (Some k) (rights_of (default_rights_of k)) (Some (new_entry koid k))
@@ -169,11 +179,14 @@ own_chosen _ w u p q vs there may = rw there at may
 -- the answer OK of the request gives what fits these uses
 abbrev pub Works : World → ℕ → Process → State → List ℕ → Request → List ℕ → Uses → Type 0
 Works w p q s xs r vs u =
-    Fits (get (losing_all (taken_handles r) q).handles) s xs u.results (0 ∷ gives_ok w p r vs) (get (getting_all (own_handles w p r) (entering_at r vs) (losing_all (taken_handles r) q)).handles)
+    Fits (get (losing_all (taken_handles r) q).handles) s xs u.results (0 ∷ gives_ok w p r vs)
+    (get (getting_all (own_handles w p r) (entering_at r vs) (losing_all (taken_handles r) q)).handles)
 
-module _ (lib : Library) (w : World) (p : ℕ) (q : Process) (sound : IsSound w) (sized : QueuesAreSized w) (free : IsFreeLast q) (none : get q.handles 0 ≡ None) (s : State) (xs : List ℕ) (long : length s ≡ register_count) (wide : length xs ≡ length s) (vs : List ℕ) where
+module _ (lib : Library) (w : World) (p : ℕ) (q : Process) (sound : IsSound w) (sized : QueuesAreSized w) (free : IsFreeLast q) (none : get q.handles 0 ≡ None)
+    (s : State) (xs : List ℕ) (long : length s ≡ register_count) (wide : length xs ≡ length s) (vs : List ℕ) where
   -- a status, and then these
-  told : (f : Table) (a : ℕ) (ds : List (ℕ × AbsVal)) (ys : List ℕ) (g : Table) → Fits f (with_value s a (Word 30)) (slice_set xs a 0) ds ys g → Fits f s xs ((a, Word 30) ∷ ds) (0 ∷ ys) g
+  told : (f : Table) (a : ℕ) (ds : List (ℕ × AbsVal)) (ys : List ℕ) (g : Table) → Fits f (with_value s a (Word 30)) (slice_set xs a 0) ds ys g
+      → Fits f s xs ((a, Word 30) ∷ ds) (0 ∷ ys) g
   told f a ds ys g later = status_fits f s xs a ds 0 ys g (omega arith) later
 
   -- nothing more
@@ -181,8 +194,10 @@ module _ (lib : Library) (w : World) (p : ℕ) (q : Process) (sound : IsSound w)
   alone_told f a ys = told f a [] ys f refl
 
   -- new handles behind it
-  new_told : (a : ℕ) (ds : List (ℕ × AbsVal)) (es : List Entry) → may_get_all q es vs ≡ true → AllAs ds es → Fits (get q.handles) s xs ((a, Word 30) ∷ ds) (0 ∷ vs) (get (getting_all es vs q).handles)
-  new_told a ds es may all = told (get q.handles) a ds vs (get (getting_all es vs q).handles) (handles_fit ds es vs q (with_value s a (Word 30)) (slice_set xs a 0) free may all)
+  new_told : (a : ℕ) (ds : List (ℕ × AbsVal)) (es : List Entry) → may_get_all q es vs ≡ true → AllAs ds es
+      → Fits (get q.handles) s xs ((a, Word 30) ∷ ds) (0 ∷ vs) (get (getting_all es vs q).handles)
+  new_told a ds es may all =
+      told (get q.handles) a ds vs (get (getting_all es vs q).handles) (handles_fit ds es vs q (with_value s a (Word 30)) (slice_set xs a 0) free may all)
 
   -- a handle to a new object in this register
   one_told : (a d : ℕ) (k : Kind) → may_get_all q (new_entry w.next_koid k ∷ []) vs ≡ true
@@ -196,25 +211,30 @@ module _ (lib : Library) (w : World) (p : ℕ) (q : Process) (sound : IsSound w)
       few : {n : ℕ} → n ≤ 0xffff_ffff → n ≤ ANY
       few le = omega arith
 
-  packet_told : (bounds : List ℕ) (f : Table) (h a d e g j : ℕ) → Fits f s xs ((a, Word 30) ∷ (d, Word ANY) ∷ (e, Word (rounded bounds 1)) ∷ (g, Word ANY) ∷ (j, Word ANY) ∷ []) (0 ∷ first_values (packets_at w p h)) f
+  packet_told : (bounds : List ℕ) (f : Table) (h a d e g j : ℕ)
+      → Fits f s xs ((a, Word 30) ∷ (d, Word ANY) ∷ (e, Word (rounded bounds 1)) ∷ (g, Word ANY) ∷ (j, Word ANY) ∷ []) (0 ∷ first_values (packets_at w p h)) f
   packet_told bounds f h a d e g j =
       told f a ((d, Word ANY) ∷ (e, Word (rounded bounds 1)) ∷ (g, Word ANY) ∷ (j, Word ANY) ∷ []) (first_values (packets_at w p h)) f
       (packets_fit bounds (packets_at w p h) (packets_at_sized w sized p h) f (with_value s a (Word 30)) (slice_set xs a 0) d e g j)
 
   -- the sizes of a message, and its handles
-  message_told : (h a d e g n : ℕ) → g + 3 * n ≤ register_count → length (first_handles (queue_at w p h)) ≤ n → may_get_all q (first_handles (queue_at w p h)) vs ≡ true
-      → Fits (get q.handles) s xs ((a, Word 30) ∷ (d, Word 65536) ∷ (e, Word 64) ∷ triple_results g n) (0 ∷ length (first_bytes (queue_at w p h)) ∷ length (first_handles (queue_at w p h)) ∷ told_of (first_handles (queue_at w p h)) vs)
+  message_told : (h a d e g n : ℕ) → g + 3 * n ≤ register_count → length (first_handles (queue_at w p h)) ≤ n
+      → may_get_all q (first_handles (queue_at w p h)) vs ≡ true
+      → Fits (get q.handles) s xs ((a, Word 30) ∷ (d, Word 65536) ∷ (e, Word 64) ∷ triple_results g n)
+      (0 ∷ length (first_bytes (queue_at w p h)) ∷ length (first_handles (queue_at w p h)) ∷ told_of (first_handles (queue_at w p h)) vs)
       (get (getting_all (first_handles (queue_at w p h)) vs q).handles)
   message_told h a d e g n ends fits may =
       let sizes = first_sizes w sized p h in
-      told (get q.handles) a ((d, Word 65536) ∷ (e, Word 64) ∷ triple_results g n) (length (first_bytes (queue_at w p h)) ∷ length (first_handles (queue_at w p h)) ∷ told_of (first_handles (queue_at w p h)) vs)
+      told (get q.handles) a ((d, Word 65536) ∷ (e, Word 64) ∷ triple_results g n)
+      (length (first_bytes (queue_at w p h)) ∷ length (first_handles (queue_at w p h)) ∷ told_of (first_handles (queue_at w p h)) vs)
       (get (getting_all (first_handles (queue_at w p h)) vs q).handles) (
         get q.handles,
         (sizes.0, few sizes.0, refl),
         (
           get q.handles,
           (sizes.1, fewer sizes.1, refl),
-          triples_fit n g (first_handles (queue_at w p h)) vs q s3 xs3 (subst (λ m. g + 3 * n ≤ m) (sym (long3 ∙ long)) ends) (wide3 ∙ (wide ∙ sym long3)) fits none free may (first_rights w sound p h),
+          triples_fit n g (first_handles (queue_at w p h)) vs q s3 xs3 (subst (λ m. g + 3 * n ≤ m) (sym (long3 ∙ long)) ends)
+              (wide3 ∙ (wide ∙ sym long3)) fits none free may (first_rights w sound p h),
         ),
       )
     where
@@ -231,10 +251,14 @@ module _ (lib : Library) (w : World) (p : ℕ) (q : Process) (sound : IsSound w)
       xs3 = slice_set (slice_set (slice_set xs a 0) d (length (first_bytes (queue_at w p h)))) e (length (first_handles (queue_at w p h)))
 
       long3 : length s3 ≡ length s
-      long3 = long_with (with_value (with_value s a (Word 30)) d (Word 65536)) e (Word 64) ∙ (long_with (with_value s a (Word 30)) d (Word 65536) ∙ long_with s a (Word 30))
+      long3 =
+          long_with (with_value (with_value s a (Word 30)) d (Word 65536)) e (Word 64)
+          ∙ (long_with (with_value s a (Word 30)) d (Word 65536) ∙ long_with s a (Word 30))
 
       wide3 : length xs3 ≡ length xs
-      wide3 = length-set (slice_set (slice_set xs a 0) d (length (first_bytes (queue_at w p h)))) e (length (first_handles (queue_at w p h))) ∙ (length-set (slice_set xs a 0) d (length (first_bytes (queue_at w p h))) ∙ length-set xs a 0)
+      wide3 =
+          length-set (slice_set (slice_set xs a 0) d (length (first_bytes (queue_at w p h)))) e (length (first_handles (queue_at w p h)))
+          ∙ (length-set (slice_set xs a 0) d (length (first_bytes (queue_at w p h))) ∙ length-set xs a 0)
 
   module _ (before : State) (arrays : List SlotArray) (bounds : List ℕ) where
     -- the answer OK of the call at the site fits

@@ -1,5 +1,6 @@
 -- One register is written, and the table may change at one value.
-use Rattle.std.proofs.Common.{◌≡◌, ◌≢◌, ℕ, ◌+◌, ◌<◌, ◌≤◌, ◌⊎◌, Bool, true, false, ◌==◌, List, length, refl, sym, ap, ◌∙◌, subst, IsTrue, Option, Some, None, arith, inl, inr, slice_set, slice_index}
+use Rattle.std.proofs.Common.{◌≡◌, ◌≢◌, ℕ, ◌+◌, ◌<◌, ◌≤◌, ◌⊎◌, Bool, true, false, ◌==◌, List, length, refl, sym, ap, ◌∙◌, subst, IsTrue, Option, Some, None}
+use Rattle.std.proofs.Common.{arith, inl, inr, slice_set, slice_index}
 use Rattle.std.specs.Prelude.{is_some}
 use Rattle.std.proofs.lemmas.Bool.{cases_Bool, cases_eq, eqb-false}
 use Rattle.std.proofs.lemmas.Bool.Decides.{nat_tests}
@@ -39,17 +40,26 @@ owns_not : (v : ℕ) → one_if (owns v (Word 0) 0) ≡ 0
 unfolding owns
 owns_not v = refl
 
-module _ {f : Table} {s : State} {xs : List ℕ} {arrays : List SlotArray} {slots : List (List ℕ)} (h : Holds f s xs arrays slots) (states : IsState s) (g : Table) (r : ℕ) (lt : r < length s) (zero-too : g 0 ≡ None)
+module _ {f : Table} {s : State} {xs : List ℕ} {arrays : List SlotArray} {slots : List (List ℕ)} (h : Holds f s xs arrays slots) (states : IsState s)
+    (g : Table) (r : ℕ) (lt : r < length s) (zero-too : g 0 ≡ None)
     (same : (y : ℕ) → 1 ≤ others r s xs slots y → g y ≡ f y) where
-  same_has : (q : ℕ) → q ≢ r → (maybe : Bool) (kind : Option Kind) (rights : Rights) (y : ℕ) → value_at s q ≡ Has maybe kind rights → slice_index xs q ≡ y → IsHandle f maybe kind rights y → g y ≡ f y
+  same_has : (q : ℕ) → q ≢ r → (maybe : Bool) (kind : Option Kind) (rights : Rights) (y : ℕ) → value_at s q ≡ Has maybe kind rights → slice_index xs q ≡ y
+      → IsHandle f maybe kind rights y → g y ≡ f y
   same_has q apart maybe kind rights y is at (inl (m, z)) = rw z (zero-too ∙ sym (nothing_at_0 h))
   same_has q apart maybe kind rights y is at (inr l) =
       let counted = owners-at y q (slice_set s r (Word 0)) (slice_set xs r 0) (length-set xs r 0 ∙ (h.width ∙ sym (length-set s r (Word 0)))) in
       let here : one_if (owns y (value_at (slice_set s r (Word 0)) q) (slice_index (slice_set xs r 0) q)) ≡ 1 =
-      rw (get_or-set_other s r q (Word 0) (Word 0) apart, get_or-set_other xs r q 0 0 apart, is, at, owns_it maybe kind rights y (live_apart f (nothing_at_0 h) kind rights y l)) refl in
+      rw (
+        get_or-set_other s r q (Word 0) (Word 0) apart,
+        get_or-set_other xs r q 0 0 apart,
+        is,
+        at,
+        owns_it maybe kind rights y (live_apart f (nothing_at_0 h) kind rights y l),
+      ) refl in
       same y (omega arith)
 
-  named_same : (t : ℕ) → t ≢ r → (a : AbsVal) → value_at s t ≡ a → can_be_named a ≡ true → Describes f xs a (slice_index xs t) → g (slice_index xs t) ≡ f (slice_index xs t)
+  named_same : (t : ℕ) → t ≢ r → (a : AbsVal) → value_at s t ≡ a → can_be_named a ≡ true → Describes f xs a (slice_index xs t)
+      → g (slice_index xs t) ≡ f (slice_index xs t)
   named_same t apart (Word m) is fine d = let z : slice_index xs t ≡ 0 = grind (arith, nat_tests) in rw z (zero-too ∙ sym (nothing_at_0 h))
   named_same t apart (Has maybe kind rights) is fine d = same_has t apart maybe kind rights (slice_index xs t) is refl d
   named_same t apart (KindOf q) is fine d = cc
@@ -59,10 +69,12 @@ module _ {f : Table} {s : State} {xs : List ℕ} {arrays : List SlotArray} {slot
   tag_same : (t x : ℕ) → t ≢ r → can_be_named (value_at s t) ≡ true → g (slice_index (slice_set xs r x) t) ≡ f (slice_index xs t)
   tag_same t x apart fine = ap g (get_or-set_other xs r t x 0 apart) ∙ named_same t apart (value_at s t) refl fine (h.described t)
 
-  pub other_described : (q x : ℕ) → q ≢ r → (a : AbsVal) → value_at s q ≡ a → IsTrue (is_named_well s a) → Describes f xs a (slice_index xs q) → Describes g (slice_set xs r x) (untagged r a) (slice_index xs q)
+  pub other_described : (q x : ℕ) → q ≢ r → (a : AbsVal) → value_at s q ≡ a → IsTrue (is_named_well s a) → Describes f xs a (slice_index xs q)
+      → Describes g (slice_set xs r x) (untagged r a) (slice_index xs q)
   other_described q x apart (Word m) is fine d = d
   other_described q x apart (Has maybe kind rights) is fine (inl z) = inl z
-  other_described q x apart (Has maybe kind rights) is fine (inr l) = inr (subst (IsAs kind rights) (sym (same_has q apart maybe kind rights (slice_index xs q) is refl (inr l))) l)
+  other_described q x apart (Has maybe kind rights) is fine (inr l) =
+      inr (subst (IsAs kind rights) (sym (same_has q apart maybe kind rights (slice_index xs q) is refl (inr l))) l)
   other_described q x apart (KindOf t) is fine d = by (cases_Bool (t == r))
     where
       by : ((t == r) ≡ true) ⊎ ((t == r) ≡ false) → Describes g (slice_set xs r x) (untagged r (KindOf t)) (slice_index xs q)
@@ -74,7 +86,8 @@ module _ {f : Table} {s : State} {xs : List ℕ} {arrays : List SlotArray} {slot
       by (inl e) = rw e (h.small q)
       by (inr e) = rw e (d ∙ ap rights_in (sym (tag_same t x (eqb-false t r e) fine)))
 
-  kept_same : (n k : ℕ) (kind : Option Kind) (rights : Rights) → IsHandle f true kind rights (place_at slots n k) → IsHandle g true kind rights (place_at slots n k)
+  kept_same : (n k : ℕ) (kind : Option Kind) (rights : Rights) → IsHandle f true kind rights (place_at slots n k)
+      → IsHandle g true kind rights (place_at slots n k)
   kept_same n k kind rights (inl z) = inl z
   kept_same n k kind rights (inr l) =
       let y : ℕ = place_at slots n k in
@@ -105,7 +118,8 @@ module _ {f : Table} {s : State} {xs : List ℕ} {arrays : List SlotArray} {slot
 
       described_at : (q : ℕ) → (q ≡ r) ⊎ (q ≢ r) → Describes g (slice_set xs r x) (value_at (with_value s r a) q) (slice_index (slice_set xs r x) q)
       described_at q (inl e) = rw (e, value_at-here s r a lt, get_or-set_same xs r x 0 inside) new
-      described_at q (inr apart) = rw (value_at-with s r q a apart, get_or-set_other xs r q x 0 apart) (other_described q x apart (value_at s q) refl (states.tags q) (h.described q))
+      described_at q (inr apart) =
+          rw (value_at-with s r q a apart, get_or-set_other xs r q x 0 apart) (other_described q x apart (value_at s q) refl (states.tags q) (h.described q))
 
       once_at : (v : ℕ) → owners v (with_value s r a) (slice_set xs r x) + keepers v slots ≡ one_if (is_some (g v))
       once_at v =
@@ -117,7 +131,8 @@ module _ {f : Table} {s : State} {xs : List ℕ} {arrays : List SlotArray} {slot
 
 -- ---- a register that has no handle, where the table stays
 
-module _ {f : Table} {s : State} {xs : List ℕ} {arrays : List SlotArray} {slots : List (List ℕ)} (h : Holds f s xs arrays slots) (states : IsState s) (r : ℕ) (lt : r < length s) (free : is_has (value_at s r) ≡ false) where
+module _ {f : Table} {s : State} {xs : List ℕ} {arrays : List SlotArray} {slots : List (List ℕ)} (h : Holds f s xs arrays slots) (states : IsState s) (r : ℕ)
+    (lt : r < length s) (free : is_has (value_at s r) ≡ false) where
   free_and : (v : ℕ) → others r s xs slots v ≡ one_if (is_some (f v))
   free_and v =
       let none = owners-set v r s xs (Word 0) 0 h.width lt in
@@ -127,7 +142,8 @@ module _ {f : Table} {s : State} {xs : List ℕ} {arrays : List SlotArray} {slot
       omega arith
 
   -- a owns nothing at x
-  pub write_plain : (a : AbsVal) (x : ℕ) → x ≤ ANY → Describes f (slice_set xs r x) (untagged r a) x → ((v : ℕ) → one_if (owns v a x) ≡ 0) → Holds f (with_value s r a) (slice_set xs r x) arrays slots
+  pub write_plain : (a : AbsVal) (x : ℕ) → x ≤ ANY → Describes f (slice_set xs r x) (untagged r a) x → ((v : ℕ) → one_if (owns v a x) ≡ 0)
+      → Holds f (with_value s r a) (slice_set xs r x) arrays slots
   write_plain a x few new none = write h states f r lt (nothing_at_0 h) (λ y m. refl) a x few new (λ v. let z = none v in let k = free_and v in omega arith)
 
   pub write_word : (n x : ℕ) → x ≤ ANY → x ≤ n → Holds f (with_value s r (Word n)) (slice_set xs r x) arrays slots
@@ -135,9 +151,12 @@ module _ {f : Table} {s : State} {xs : List ℕ} {arrays : List SlotArray} {slot
 
   -- a copy of a word or of a tag
   pub write_copy : (b : ℕ) → is_has (value_at s b) ≡ false → Holds f (with_value s r (value_at s b)) (slice_set xs r (slice_index xs b)) arrays slots
-  write_copy b plain = write_plain (value_at s b) (slice_index xs b) (h.small b) (copied (value_at s b) plain (h.described b)) (λ v. owns_free v (value_at s b) (slice_index xs b) plain)
+  write_copy b plain =
+      write_plain (value_at s b) (slice_index xs b) (h.small b) (copied (value_at s b) plain (h.described b))
+      (λ v. owns_free v (value_at s b) (slice_index xs b) plain)
     where
-      copied : (a : AbsVal) → is_has a ≡ false → Describes f xs a (slice_index xs b) → Describes f (slice_set xs r (slice_index xs b)) (untagged r a) (slice_index xs b)
+      copied : (a : AbsVal) → is_has a ≡ false → Describes f xs a (slice_index xs b)
+          → Describes f (slice_set xs r (slice_index xs b)) (untagged r a) (slice_index xs b)
       copied (Word m) e d = d
       copied (Has maybe kind rights) e d = cc
       copied (KindOf t) e d = by (cases_Bool (t == r))

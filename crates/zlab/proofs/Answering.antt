@@ -1,5 +1,9 @@
 -- From what the parts of the engine do to the answer to a text.
-use Rattle.zlab.proofs.Common.{◌≡◌, ℕ, List, [], ◌++◌, length, Option, Some, None, Result, Ok, Err, refl, sym, ap, ◌∙◌, subst, arith, IfOk, OnOk, IsLegalHistory, Appends, states_of, IsRunOf, IsFirstFault, too_long, IsAnswer, trace, refusal, Answers, BeginsAnswer, nothing, beginning, IsTextOf, AnswersInput, AnswersSome, BeginsInput, BeginsReader, BeginsSome, BeginsFiles, joined_files, Holds, IsBounded, IsStart, IsRun, WritesRun, BeginsRun, no_line, some_lines, turns_of, EndsBy, AppendsBeginning, System, Walks, room_of, history_text, cause_name, refused_line}
+use Rattle.zlab.proofs.Common.{◌≡◌, ℕ, List, [], ◌++◌, length, Option, Some, None, Result, Ok, Err, refl, sym, ap, ◌∙◌, subst, arith, IfOk, OnOk}
+use Rattle.zlab.proofs.Common.{IsLegalHistory, Appends, states_of, IsRunOf, IsFirstFault, too_long, IsAnswer, trace, refusal, Answers, BeginsAnswer, nothing}
+use Rattle.zlab.proofs.Common.{beginning, IsTextOf, AnswersInput, AnswersSome, BeginsInput, BeginsReader, BeginsSome, BeginsFiles, joined_files, Holds}
+use Rattle.zlab.proofs.Common.{IsBounded, IsStart, IsRun, WritesRun, BeginsRun, no_line, some_lines, turns_of, EndsBy, AppendsBeginning, System, Walks, room_of}
+use Rattle.zlab.proofs.Common.{history_text, cause_name, refused_line}
 use Rattle.std.specs.Prelude.{OnErr}
 use Rattle.zl_code.specs.declared.history.TraceItem.{TraceItem}
 use Rattle.zl_scenario.specs.declared.cause.Cause.TheVariants as cause
@@ -74,8 +78,10 @@ module _ (text : List ℕ) (s : System) (pairs : List (ℕ × ℕ)) (start : IsS
 -- ---- a refusal
 
 module _ (text : List ℕ) (fault : LineFault) (first : IsFirstFault text fault) where
-  pub refusal_answers : (v : Verdict) (old new : Option (List ℕ)) → v ≡ verdict.Refused → Appends old new (refused_line fault.line (cause_name fault.cause)) → Answers text v old new
-  refusal_answers v old new is wrote = record { lines = refused_line fault.line (cause_name fault.cause); is_answer = rw is (refusal fault first); written = wrote }
+  pub refusal_answers : (v : Verdict) (old new : Option (List ℕ)) → v ≡ verdict.Refused → Appends old new (refused_line fault.line (cause_name fault.cause))
+      → Answers text v old new
+  refusal_answers v old new is wrote =
+      record { lines = refused_line fault.line (cause_name fault.cause); is_answer = rw is (refusal fault first); written = wrote }
 
   pub refusal_begins : (old new : Option (List ℕ)) → AppendsBeginning old new (refused_line fault.line (cause_name fault.cause)) → BeginsAnswer text old new
   refusal_begins old new begun = beginning verdict.Refused (refused_line fault.line (cause_name fault.cause)) new (refusal fault first) begun
@@ -86,7 +92,8 @@ abbrev TOO_LONG : LineFault
 TOO_LONG = record { line = 0; cause = cause.Limit }
 
 module _ (read : Input) (old new : Option (List ℕ)) where
-  pub long_answers : (v : Verdict) → read ≡ input.TooLong → v ≡ verdict.Refused → Appends old new (refused_line 0 (cause_name cause.Limit)) → AnswersInput read v old new
+  pub long_answers : (v : Verdict) → read ≡ input.TooLong → v ≡ verdict.Refused → Appends old new (refused_line 0 (cause_name cause.Limit))
+      → AnswersInput read v old new
   long_answers v long refused wrote text holds = refusal_answers text TOO_LONG (too_long (rw long at holds)) v old new refused wrote
 
   pub long_begins : read ≡ input.TooLong → AppendsBeginning old new (refused_line 0 (cause_name cause.Limit)) → BeginsInput read old new
@@ -131,7 +138,13 @@ reader_unanswered told old = record { text = text_of told; is_text = is_text_of 
 pub files_unanswered : (told_scenario told_schedule old : Option (List ℕ)) → BeginsFiles told_scenario told_schedule old old
 files_unanswered told_scenario told_schedule old = record {
   text = joined_files (text_of told_scenario) (text_of told_schedule);
-  is_text = record { scenario = text_of told_scenario; schedule = text_of told_schedule; is_scenario = is_text_of told_scenario; is_schedule = is_text_of told_schedule; is_joined = refl };
+  is_text = record {
+    scenario = text_of told_scenario;
+    schedule = text_of told_schedule;
+    is_scenario = is_text_of told_scenario;
+    is_schedule = is_text_of told_schedule;
+    is_joined = refl;
+  };
   begins = nothing;
 }
 

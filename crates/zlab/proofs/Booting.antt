@@ -1,5 +1,7 @@
 -- What the text leads to before the first step.
-use Rattle.zlab.proofs.Common.{◌≡◌, ℕ, ◌<◌, List, [], length, get_or, Some, None, sym, ap, ◌∙◌, subst, arith, slice_get, slice_get-get_or, none-some, IsBoot, FirstFault, at_statement, at_limit, slice_index_or, IsFirstFault, of_statement, of_reading, line_cause, IsStart, FitsInput, Reading, IsRead, Option, IsInOrder, System}
+use Rattle.zlab.proofs.Common.{◌≡◌, ℕ, ◌<◌, List, [], length, get_or, Some, None, sym, ap, ◌∙◌, subst, arith, slice_get, slice_get-get_or, none-some, IsBoot}
+use Rattle.zlab.proofs.Common.{FirstFault, at_statement, at_limit, slice_index_or, IsFirstFault, of_statement, of_reading, line_cause, IsStart, FitsInput}
+use Rattle.zlab.proofs.Common.{Reading, IsRead, Option, IsInOrder, System}
 use Rattle.zl_code.proofs.Common.{World}
 use Rattle.zl_code.specs.Headline.{IsSizedBoot}
 use Rattle.std.proofs.lemmas.Option.{slice_get_within}
@@ -16,9 +18,12 @@ use Rattle.zl_scenario.specs.Reading.{IsScenario}
 other_than_memory : (found : BootCause) (c : Cause) → line_cause found ≡ Some c → found ≡ boot.NoMemory → ⊥
 other_than_memory found c named is = none-some c (sym (ap line_cause is) ∙ named)
 
-module _ (text : List ℕ) (fits : FitsInput text) (scenario : Made) (reading : Reading) (reads : IsRead text reading) (is : IsScenario reading.said scenario) (order : IsInOrder reading) where
+module _ (text : List ℕ) (fits : FitsInput text) (scenario : Made) (reading : Reading) (reads : IsRead text reading) (is : IsScenario reading.said scenario)
+    (order : IsInOrder reading) where
   line_at : (n line : ℕ) → n < length reading.said.statements → line ≡ slice_index_or scenario.lines.items n 0 → slice_get reading.said.lines n ≡ Some line
-  line_at n line some read = slice_get-get_or reading.said.lines n 0 (omega (arith, some, order.placed)) ∙ ap (λ (x : ℕ). Some x) (sym (read ∙ ap (λ (xs : List ℕ). get_or xs n 0) is.lines))
+  line_at n line some read =
+      slice_get-get_or reading.said.lines n 0 (omega (arith, some, order.placed))
+      ∙ ap (λ (x : ℕ). Some x) (sym (read ∙ ap (λ (xs : List ℕ). get_or xs n 0) is.lines))
 
   pub statement_fault : {fault_of : Reading → Option LineFault} (n : ℕ) (found : BootCause) (fault : LineFault)
       → ((found ≡ boot.NoMemory → ⊥) → FirstFault scenario.library scenario.boot.statements.items scenario.boot.limit n found)
@@ -26,15 +31,20 @@ module _ (text : List ℕ) (fits : FitsInput text) (scenario : Made) (reading : 
   statement_fault n found fault first named read =
       let faulty : FirstFault scenario.library reading.said.statements reading.said.limit n found
       = subst (λ (limit : ℕ). FirstFault scenario.library reading.said.statements limit n found) is.limit
-      (subst (λ (ss : List Statement). FirstFault scenario.library ss scenario.boot.limit n found) is.statements (first (other_than_memory found fault.cause named))) in
+      (subst (λ (ss : List Statement). FirstFault scenario.library ss scenario.boot.limit n found) is.statements
+      (first (other_than_memory found fault.cause named))) in
       of_statement reading scenario.library n found fault fits reads is.programs faulty (line_at n fault.line (at_some n found faulty) read) named
     where
-      at_some : (n : ℕ) (found : BootCause) → FirstFault scenario.library reading.said.statements reading.said.limit n found → n < length reading.said.statements
+      at_some : (n : ℕ) (found : BootCause) → FirstFault scenario.library reading.said.statements reading.said.limit n found
+          → n < length reading.said.statements
       at_some _ _ (at_statement made n s c boots at faulty) = slice_get_within reading.said.statements n s at
       at_some _ _ (at_limit made boots above) = absurd (omega (arith, above, order.limit))
 
-  pub reading_fault : (w : World) (fault : LineFault) → IsBoot scenario.library scenario.boot.statements.items w → reading.fault ≡ Some fault → IsFirstFault text fault
-  reading_fault w fault boots faulty = of_reading reading scenario.library w fault fits reads is.programs (subst (λ (ss : List Statement). IsBoot scenario.library ss w) is.statements boots) faulty
+  pub reading_fault : (w : World) (fault : LineFault) → IsBoot scenario.library scenario.boot.statements.items w → reading.fault ≡ Some fault
+      → IsFirstFault text fault
+  reading_fault w fault boots faulty =
+      of_reading reading scenario.library w fault fits reads is.programs
+      (subst (λ (ss : List Statement). IsBoot scenario.library ss w) is.statements boots) faulty
 
   pub is_start : (s : System) (pairs : List (ℕ × ℕ)) → reading.fault ≡ None → s.lab.programs ≡ scenario.library
       → IsSizedBoot scenario.library scenario.boot.statements.items s.lab.world

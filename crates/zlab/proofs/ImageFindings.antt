@@ -1,5 +1,6 @@
 -- What is found in what is read of an image, and is true of all its bytes.
-use Rattle.zlab.proofs.Common.{◌+◌, ◌∷◌, ◌≡◌, ◌≤◌, ℕ, List, length, Option, None, Some, Result, Err, refl, sym, subst, ap, ◌∙◌, inl, inr, ◌⊎◌, arith, length-take, Image, Spells, header_fault, first_fault}
+use Rattle.zlab.proofs.Common.{◌+◌, ◌∷◌, ◌≡◌, ◌≤◌, ℕ, List, length, Option, None, Some, Result, Err, refl, sym, subst, ap, ◌∙◌, inl, inr, ◌⊎◌, arith}
+use Rattle.zlab.proofs.Common.{length-take, Image, Spells, header_fault, first_fault}
 use Rattle.std.specs.Prelude.{MatchResult, ◌≢◌}
 use Rattle.zl_code.proofs.Common.{take_all, leb-true, first_some}
 use Rattle.zl_code.proofs.ImageWhole.{spells_no_fault}
@@ -30,7 +31,8 @@ all_read : (bytes : List ℕ) → length (front_of bytes) ≤ MOST_IMAGE → fro
 all_read bytes short = take_all (MOST_IMAGE + 1) bytes (omega (arith, length-take (MOST_IMAGE + 1) bytes))
 
 -- what is true of an image of the bytes that were read
-pub found_in : (front : List ℕ) (i : Image) (found : Finding) → Spells front i → IsTrueOf i found → (bytes : List ℕ) → front ≡ front_of bytes → Finds bytes found
+pub found_in : (front : List ℕ) (i : Image) (found : Finding) → Spells front i → IsTrueOf i found → (bytes : List ℕ) → front ≡ front_of bytes
+    → Finds bytes found
 found_in front i found spelled is bytes read = by found is
   where
     whole : Spells bytes i

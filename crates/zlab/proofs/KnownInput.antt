@@ -1,12 +1,14 @@
 -- What has been read so far, of a reader that may tell its bytes.
-use Rattle.zlab.proofs.Common.{ℕ, ◌≡◌, ◌+◌, ◌<◌, ◌≤◌, List, ◌++◌, length, take, Option, None, Some, refl, sym, ap, ◌∙◌, arith, append-nil, length-take, Consumes, MOST_INPUT, IsInputOf}
+use Rattle.zlab.proofs.Common.{ℕ, ◌≡◌, ◌+◌, ◌<◌, ◌≤◌, List, ◌++◌, length, take, Option, None, Some, refl, sym, ap, ◌∙◌, arith, append-nil, length-take}
+use Rattle.zlab.proofs.Common.{Consumes, MOST_INPUT, IsInputOf}
 use Rattle.std.specs.Io.KnownBytes.{IsAtEnd}
 use Rattle.zl_code.proofs.Common.{take_all, take_at}
 use Rattle.zlab.specs.Input.{IsFrontOf}
 use Rattle.zlab.specs.declared.input.Input.TheVariants as input
 
 -- where nothing is left, what was read is the front
-pub front_ended : (most : ℕ) (told left : Option (List ℕ)) (taken : List ℕ) → Consumes told left taken → IsAtEnd left → length taken ≤ most → IsFrontOf most told taken
+pub front_ended : (most : ℕ) (told left : Option (List ℕ)) (taken : List ℕ) → Consumes told left taken → IsAtEnd left → length taken ≤ most
+    → IsFrontOf most told taken
 front_ended most None left taken consumed end short = record { bytes = taken; those_told = tt; is_front = sym (take_all most taken short) }
 front_ended most (Some all) None taken consumed end short = absurd consumed
 front_ended most (Some all) (Some rest) taken consumed end short =
@@ -33,4 +35,5 @@ too_long told front is more = record {
 
 -- a front that has no more is all of it
 pub all_read : (told : Option (List ℕ)) (front : List ℕ) (is : IsFrontOf (MOST_INPUT + 1) told front) → length front ≤ MOST_INPUT → front ≡ is.bytes
-all_read told front is short = is.is_front ∙ take_all (MOST_INPUT + 1) is.bytes (omega (arith, short, ap length is.is_front, length-take (MOST_INPUT + 1) is.bytes))
+all_read told front is short =
+    is.is_front ∙ take_all (MOST_INPUT + 1) is.bytes (omega (arith, short, ap length is.is_front, length-take (MOST_INPUT + 1) is.bytes))

@@ -1,5 +1,6 @@
 -- What comes of a scenario and a trace, from what their parts give.
-use Rattle.zlab.proofs.Common.{◌≡◌, ℕ, ◌+◌, ◌<◌, ◌≤◌, List, Option, None, Some, length, take, refl, sym, ap, ◌∙◌, subst, arith, length-take, IsBoot, of_reading, too_long, FitsInput, Reading, IsRead, IsInOrder, MOST_INPUT}
+use Rattle.zlab.proofs.Common.{◌≡◌, ℕ, ◌+◌, ◌<◌, ◌≤◌, List, Option, None, Some, length, take, refl, sym, ap, ◌∙◌, subst, arith, length-take, IsBoot, of_reading}
+use Rattle.zlab.proofs.Common.{too_long, FitsInput, Reading, IsRead, IsInOrder, MOST_INPUT}
 use Rattle.zl_code.proofs.Common.{take_all}
 use Rattle.zl_code.specs.Common.{World}
 use Rattle.zl_code.specs.declared.boot.Statement.{Statement}
@@ -12,32 +13,61 @@ use Rattle.zlab.specs.declared.replaying.Replayed.TheVariants as replayed
 use Rattle.zl_scenario.specs.declared.reading.Scenario.{Scenario as Made}
 use Rattle.zlab.specs.Engine.{IsFirstFaultBy}
 use Rattle.zl_scenario.specs.Reading.{IsScenario}
-use Rattle.zlab.specs.Replay.{AreItems, Boots, Comes, HasItems, IsScenarioOf, IsStatementFault, IsTraceFault, IsTrueOf, MOST_TRACE, fault_alone, trace_front, wrong, too_long as trace_too_long}
+use Rattle.zlab.specs.Replay.{AreItems, Boots, Comes, HasItems, IsScenarioOf, IsStatementFault, IsTraceFault, IsTrueOf, MOST_TRACE, fault_alone, trace_front}
+use Rattle.zlab.specs.Replay.{wrong, too_long as trace_too_long}
 use Rattle.zlab.proofs.Booting.{statement_fault}
 
 -- ---- the scenario
 
-module _ (text : List ℕ) (fits : FitsInput text) (scenario : Made) (reading : Reading) (reads : IsRead text reading) (is : IsScenario reading.said scenario) (order : IsInOrder reading) where
-  pub fault_of_statement : (fault : LineFault) → IsStatementFault scenario.library scenario.boot.statements.items scenario.boot.limit scenario.lines.items fault → IsFirstFaultBy fault_alone text fault
-  fault_of_statement fault faulty = statement_fault text fits scenario reading reads is order faulty.number faulty.found fault (λ _. faulty.first) faulty.named faulty.line
+module _ (text : List ℕ) (fits : FitsInput text) (scenario : Made) (reading : Reading) (reads : IsRead text reading) (is : IsScenario reading.said scenario)
+    (order : IsInOrder reading) where
+  pub fault_of_statement : (fault : LineFault) → IsStatementFault scenario.library scenario.boot.statements.items scenario.boot.limit scenario.lines.items fault
+      → IsFirstFaultBy fault_alone text fault
+  fault_of_statement fault faulty =
+      statement_fault text fits scenario reading reads is order faulty.number faulty.found fault (λ _. faulty.first) faulty.named faulty.line
 
-  pub fault_of_reading : (w : World) (fault : LineFault) → IsBoot scenario.library scenario.boot.statements.items w → fault_alone reading ≡ Some fault → IsFirstFaultBy fault_alone text fault
-  fault_of_reading w fault boots faulty = of_reading reading scenario.library w fault fits reads is.programs (subst (λ (ss : List Statement). IsBoot scenario.library ss w) is.statements boots) faulty
+  pub fault_of_reading : (w : World) (fault : LineFault) → IsBoot scenario.library scenario.boot.statements.items w → fault_alone reading ≡ Some fault
+      → IsFirstFaultBy fault_alone text fault
+  fault_of_reading w fault boots faulty =
+      of_reading reading scenario.library w fault fits reads is.programs
+      (subst (λ (ss : List Statement). IsBoot scenario.library ss w) is.statements boots) faulty
 
   -- reading finds no fault
   module _ (no_fault : fault_alone reading ≡ None) where
     scenario_of : IsScenarioOf text scenario.library scenario.boot.statements.items
-    scenario_of = record { fits = fits; reading = reading; read = reads; no_fault = no_fault; programs = is.programs; accepted = is.accepted; same = is.statements }
+    scenario_of =
+        record { fits = fits; reading = reading; read = reads; no_fault = no_fault; programs = is.programs; accepted = is.accepted; same = is.statements }
 
     pub boots_of : (w : World) → IsBoot scenario.library scenario.boot.statements.items w → Boots text
     boots_of w boots = record { library = scenario.library; statements = scenario.boot.statements.items; scenario = scenario_of; boot = w; boots = boots }
 
     pub comes_of : (trace : List ℕ) (items : List TraceItem) (found : Replayed) → HasItems trace items
         → Comes scenario.library scenario.boot.statements.items scenario.boot.limit scenario.lines.items items found → IsTrueOf text trace found
-    comes_of trace items (replayed.All n) has (count, (boot, last, boots, legal)) =
-        (items, has, count, record { library = scenario.library; statements = scenario.boot.statements.items; scenario = scenario_of; boot = boot; boots = boots; last = last; legal = legal })
-    comes_of trace items (replayed.Differs n) has differs =
-        (items, has, record { library = scenario.library; statements = scenario.boot.statements.items; scenario = scenario_of; limit = scenario.boot.limit; differs = differs })
+    comes_of trace items (replayed.All n) has (count, (boot, last, boots, legal)) = (
+      items,
+      has,
+      count,
+      record {
+        library = scenario.library;
+        statements = scenario.boot.statements.items;
+        scenario = scenario_of;
+        boot = boot;
+        boots = boots;
+        last = last;
+        legal = legal;
+      },
+    )
+    comes_of trace items (replayed.Differs n) has differs = (
+      items,
+      has,
+      record {
+        library = scenario.library;
+        statements = scenario.boot.statements.items;
+        scenario = scenario_of;
+        limit = scenario.boot.limit;
+        differs = differs;
+      },
+    )
     comes_of trace items (replayed.Refused fault) has faulty = fault_of_statement fault faulty
     comes_of trace items (replayed.RefusedTrace fault) has none = absurd none
 

@@ -1,5 +1,6 @@
 -- Scenarios and schedules, joined and read, by computation.
-use Rattle.zlab.proofs.Common.{◌≡◌, ℕ, List, [], ◌∷◌, None, Some, codes, refl, joined_files, is_word, number_of, Scenario, Reading, refused_at, reading_of, reading_from, line_said, statement_said, turns_said, body_named, limit_said, process_said, pair_said, mark_named}
+use Rattle.zlab.proofs.Common.{◌≡◌, ℕ, List, [], ◌∷◌, None, Some, codes, refl, joined_files, is_word, number_of, Scenario, Reading, refused_at, reading_of}
+use Rattle.zlab.proofs.Common.{reading_from, line_said, statement_said, turns_said, body_named, limit_said, process_said, pair_said, mark_named}
 use Rattle.zl_scenario.specs.declared.cause.Cause.TheVariants as cause
 
 -- ---- joined

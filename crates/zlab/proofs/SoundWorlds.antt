@@ -5,5 +5,6 @@ use Rattle.zl_code.specs.declared.boot.Statement.{Statement}
 use Rattle.zl_code.specs.declared.history.TraceItem.{TraceItem}
 use Rattle.zl_code.proofs.SoundRuns.{history_keeps}
 
-pub always_sound : (lib : Library) (statements : List Statement) (boot w : World) (items : List TraceItem) → IsBoot lib statements boot → (legal : IsLegalHistory lib boot items w) → InEachWorld IsSound lib boot items w legal
+pub always_sound : (lib : Library) (statements : List Statement) (boot w : World) (items : List TraceItem) → IsBoot lib statements boot
+    → (legal : IsLegalHistory lib boot items w) → InEachWorld IsSound lib boot items w legal
 always_sound = history_keeps IsSound (λ w sound. sound)

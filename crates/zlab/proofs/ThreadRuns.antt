@@ -1,5 +1,7 @@
 -- What a scenario alone leads to, and the text of a run on threads.
-use Rattle.zlab.proofs.Common.{◌≡◌, ℕ, ◌≤◌, List, Option, None, Some, refl, sym, ◌∙◌, subst, arith, FirstFault, IsBoot, at_limit, at_statement, Appends, AppendsBeginning, FitsInput, Reading, IsRead, IsInOrder, IsTextOf, Library, System, cause_name, line_cause, refused_line, slice_index_or, trace_text}
+use Rattle.zlab.proofs.Common.{◌≡◌, ℕ, ◌≤◌, List, Option, None, Some, refl, sym, ◌∙◌, subst, arith, FirstFault, IsBoot, at_limit, at_statement, Appends}
+use Rattle.zlab.proofs.Common.{AppendsBeginning, FitsInput, Reading, IsRead, IsInOrder, IsTextOf, Library, System, cause_name, line_cause, refused_line}
+use Rattle.zlab.proofs.Common.{slice_index_or, trace_text}
 use Rattle.std.specs.Prelude.{IfSome, IfNone}
 use Rattle.std.specs.Option.{unwrap_or}
 use Rattle.zl_code.proofs.Common.{World}
@@ -20,7 +22,8 @@ use Rattle.zlab.specs.declared.fault.Verdict.{Verdict}
 use Rattle.zlab.specs.declared.fault.Verdict.TheVariants as verdict
 use Rattle.zlab.specs.Engine.{IsFirstFaultBy}
 use Rattle.zlab.specs.Replay.{IsStatementFault, fault_alone}
-use Rattle.zlab.specs.Running.{AnswersRun, BeginsRunAnswer, BeginsThreads, IsOfScenario, IsRunAnswer, IsRunFrom, RestsBy, WritesThreads, begun, end_named, no_trace, not_begun, run_refusal, run_trace, some_trace}
+use Rattle.zlab.specs.Running.{AnswersRun, BeginsRunAnswer, BeginsThreads, IsOfScenario, IsRunAnswer, IsRunFrom, RestsBy, WritesThreads, begun, end_named}
+use Rattle.zlab.specs.Running.{no_trace, not_begun, run_refusal, run_trace, some_trace}
 use Rattle.zlab.proofs.Booting.{statement_fault}
 use Rattle.zlab.proofs.ReplayFound.{fault_of_reading, fault_of_statement}
 use Rattle.zlab.proofs.SoundWorlds.{always_sound}

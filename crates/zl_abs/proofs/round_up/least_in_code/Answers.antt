@@ -5,7 +5,8 @@ use Rattle.zl_abs.proofs.round_up.least_in_code.Goals as goal
 
 pub loop-instr-preserved : goal.loop-instr-preserved
 loop-instr-preserved c =
-    c.loop-instr.invariant ∙ (code_step c.args.number c.loop-instr.best c.args.code.now c.loop-instr.instr-index c.instr-item.result (omega arith) c.instr-item.is
+    c.loop-instr.invariant
+    ∙ (code_step c.args.number c.loop-instr.best c.args.code.now c.loop-instr.instr-index c.instr-item.result (omega arith) c.instr-item.is
     ∙ ap (λ (b : ℕ). least_from c.args.number b (imm_bounds (drop (c.loop-instr.instr-index + 1) c.args.code.now))) (sym c.least_of-best.ensures))
 
 pub returns : goal.returns

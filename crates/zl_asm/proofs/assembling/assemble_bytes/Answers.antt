@@ -3,10 +3,13 @@ use Rattle.zl_asm.proofs.ListingText.{found_by, none_by, only_by}
 use Rattle.zl_asm.proofs.assembling.assemble_bytes.Goals as goal
 
 pub returns-clause-found : goal.returns-clause-found
-returns-clause-found c = found_by c.into_image.result c.args.text.now (held_by c.in_ok-read_lines.field-0) (c.in_ok-read_lines.ensures {u = tt}).read c.into_image.ensures.given c.into_image.ensures.in_range
+returns-clause-found c =
+    found_by c.into_image.result c.args.text.now (held_by c.in_ok-read_lines.field-0) (c.in_ok-read_lines.ensures {u = tt}).read c.into_image.ensures.given
+    c.into_image.ensures.in_range
 
 pub returns-clause-none : goal.returns-clause-none
-returns-clause-none c = none_by c.into_image.result c.args.text.now (held_by c.in_ok-read_lines.field-0) (c.in_ok-read_lines.ensures {u = tt}).read c.into_image.ensures.refused
+returns-clause-none c =
+    none_by c.into_image.result c.args.text.now (held_by c.in_ok-read_lines.field-0) (c.in_ok-read_lines.ensures {u = tt}).read c.into_image.ensures.refused
 
 pub returns-clause-only : goal.returns-clause-only
 returns-clause-only c =

@@ -1,4 +1,5 @@
-use Rattle.zl_asm.proofs.Common.{◌≡◌, ◌<◌, ◌≤◌, ◌++◌, ℕ, List, false, map, get_or, length, string_bytes, append-nil, sym, ap, ◌∙◌, arith, length-map, get_or-map, instr_bytes, drop_all, is_target, code_lines_from, ended, line_text}
+use Rattle.zl_asm.proofs.Common.{◌≡◌, ◌<◌, ◌≤◌, ◌++◌, ℕ, List, false, map, get_or, length, string_bytes, append-nil, sym, ap, ◌∙◌, arith, length-map}
+use Rattle.zl_asm.proofs.Common.{get_or-map, instr_bytes, drop_all, is_target, code_lines_from, ended, line_text}
 use Rattle.zl_asm.proofs.Laid.{line_written}
 use Rattle.zl_asm.proofs.disassembling.push_code.Goals as goal
 
@@ -9,7 +10,8 @@ loop-n-preserved c =
     let bytes = instr_bytes c.index-code-n.result in
     let len : length code ≡ length c.args.code.now = length-map c.args.code.now instr_bytes in
     let within : n < length code = omega (arith, len, c.loop-n-test.true) in
-    let here : get_or code n bytes ≡ bytes = get_or-map instr_bytes c.args.code.now n c.index-code-n.result bytes c.loop-n-test.true ∙ ap instr_bytes (sym c.index-code-n.is) in
+    let here : get_or code n bytes ≡ bytes =
+    get_or-map instr_bytes c.args.code.now n c.index-code-n.result bytes c.loop-n-test.true ∙ ap instr_bytes (sym c.index-code-n.is) in
     let marked : get_or c.args.targets.now n false ≡ is_target code n = c.requires.each n c.loop-n-test.true in
     line_written code n bytes within _ (string_bytes c.loop-n.text) _ c.loop-n.invariant
     ((c.in_ok-push_line.ensures {u = tt}) ∙ (λ i. string_bytes c.loop-n.text ++ line_text (sym len i) n (marked i) (sym here i)))

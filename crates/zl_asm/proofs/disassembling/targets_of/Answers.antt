@@ -8,6 +8,7 @@ loop-instr-preserved c =
     let code = map instr_bytes c.args.code.now in
     let bytes = instr_bytes c.instr-item.result in
     let within : i < length code = omega (arith, length-map c.args.code.now instr_bytes, c.loop-instr-test.true) in
-    let here : get_or code i bytes ≡ bytes = get_or-map instr_bytes c.args.code.now i c.instr-item.result bytes c.loop-instr-test.true ∙ ap instr_bytes (sym c.instr-item.is) in
+    let here : get_or code i bytes ≡ bytes =
+    get_or-map instr_bytes c.args.code.now i c.instr-item.result bytes c.loop-instr-test.true ∙ ap instr_bytes (sym c.instr-item.is) in
     targets_more c.loop-instr.targets.items c.mark.new.targets.items code (length c.args.code.now) i bytes within c.loop-instr.invariant c.mark.ensures.len
     (λ n below. c.mark.ensures.marked n below ∙ ap (λ (b : List ℕ). get_or c.loop-instr.targets.items n false || aims_at n b) (sym here))

@@ -1,4 +1,5 @@
-use Rattle.zl_asm.proofs.Common.{◌≡◌, Option, List, ℕ, ap, sym, ◌∙◌, operands_of, instruction_of, then_with, source_of, source_value, texts, option_map, result_ok}
+use Rattle.zl_asm.proofs.Common.{◌≡◌, Option, List, ℕ, ap, sym, ◌∙◌, operands_of, instruction_of, then_with, source_of, source_value, texts, option_map}
+use Rattle.zl_asm.proofs.Common.{result_ok}
 use Rattle.zl_asm.specs.declared.fault.AsmCause.TheVariants.{NoMemory}
 use Rattle.zl_code.specs.Instructions.{Row, row_value}
 use Rattle.zl_asm.proofs.Answered.{value_if_ok, none_if_err}

@@ -1,4 +1,5 @@
-use Rattle.zl_asm.proofs.Common.{◌≡◌, ℕ, ◌+◌, ◌*◌, ◌<◌, true, Some, length, get_or, take, sym, ap, ◌∙◌, arith, list_all, nat_tests, value_of, is_digit, take_all}
+use Rattle.zl_asm.proofs.Common.{◌≡◌, ℕ, ◌+◌, ◌*◌, ◌<◌, true, Some, length, get_or, take, sym, ap, ◌∙◌, arith, list_all, nat_tests, value_of, is_digit}
+use Rattle.zl_asm.proofs.Common.{take_all}
 use Rattle.zl_asm.proofs.WordsNumber.{none_empty, none_digit, none_longer, some_number, not_digit, one_longer, all_longer}
 use Rattle.zl_asm.proofs.numbers.value_of.Goals as goal
 
@@ -12,7 +13,8 @@ returns-in_default c =
 
 pub returns-in_default-longer : goal.returns-in_default-longer
 returns-in_default-longer c =
-    none_longer c.args.base c.loop-byte.value c.in-Some.digit c.loop-byte.byte-index c.args.digits.now (omega arith) c.loop-byte.invariant.value c.in-Some.ensures.value c.in_default-longer.ensures
+    none_longer c.args.base c.loop-byte.value c.in-Some.digit c.loop-byte.byte-index c.args.digits.now (omega arith) c.loop-byte.invariant.value
+    c.in-Some.ensures.value c.in_default-longer.ensures
 
 pub loop-byte-preserved : goal.loop-byte-preserved
 loop-byte-preserved c =

@@ -10,9 +10,12 @@ returns-in_default c =
 
 pub loop-i-preserved : goal.loop-i-preserved
 loop-i-preserved c = record {
-  so_far = next_register c.args.words.now c.loop-i.i _ c.loop-i.places c.in-Some.register (omega arith) (omega arith) c.in-Some.ensures.value c.loop-i.invariant.so_far;
+  so_far = next_register c.args.words.now c.loop-i.i _ c.loop-i.places c.in-Some.register (omega arith)
+      (omega arith) c.in-Some.ensures.value c.loop-i.invariant.so_far;
   untouched = grind (arith, common_steps, c.loop-i.invariant.untouched);
 }
 
 pub returns : goal.returns
-returns c = last_register c.args.words.now c.loop-i.i c.loop-i.places c.args.places.now (omega arith) (omega arith) c.loop-i.invariant.untouched c.loop-i.invariant.so_far
+returns c =
+    last_register c.args.words.now c.loop-i.i c.loop-i.places c.args.places.now (omega arith) (omega arith) c.loop-i.invariant.untouched
+    c.loop-i.invariant.so_far

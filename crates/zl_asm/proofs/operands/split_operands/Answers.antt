@@ -15,7 +15,8 @@ returns-then-is-clause-err c =
     let said = texts c.loop-rest.operands.items in
     inr (elim c.then-is.branch [
       | then-is-via-then-is w ↦ at_comma whole said c.loop-rest.rest.now _ c.in-len2-up.len_at_least (sym w.if-is.ensures) c.loop-rest.invariant
-      | then-is-via-else-is+then-not-is w ↦ at_words whole said c.loop-rest.rest.now _ c.in-len2-up.len_at_least (sym w.if-is.ensures) (sym w.if-not-is.ensures) c.loop-rest.invariant
+      | then-is-via-else-is+then-not-is w ↦
+          at_words whole said c.loop-rest.rest.now _ c.in-len2-up.len_at_least (sym w.if-is.ensures) (sym w.if-not-is.ensures) c.loop-rest.invariant
     ])
 
 pub loop-rest-preserved : goal.loop-rest-preserved
@@ -34,8 +35,10 @@ returns-in_ok-push-in-len1-clause-ok c =
 
 pub returns-in_default-rest-clause-err : goal.returns-in_default-rest-clause-err
 returns-in_default-rest-clause-err c =
-    inr (at_end (operands_of (texts c.args.words.now)) (texts c.loop-rest.operands.items) c.loop-rest.rest.now c.in_default-rest.len_below c.loop-rest.invariant)
+    inr (at_end (operands_of (texts c.args.words.now)) (texts c.loop-rest.operands.items) c.loop-rest.rest.now c.in_default-rest.len_below
+    c.loop-rest.invariant)
 
 pub returns-in_default-rest-2-clause-err : goal.returns-in_default-rest-2-clause-err
 returns-in_default-rest-2-clause-err c =
-    inr (at_last_comma (operands_of (texts c.args.words.now)) (texts c.loop-rest.operands.items) c.loop-rest.rest.now _ c.in-len1.len_at_least c.in_default.len_below (sym c.if-not-is-2.ensures) c.loop-rest.invariant)
+    inr (at_last_comma (operands_of (texts c.args.words.now))
+    (texts c.loop-rest.operands.items) c.loop-rest.rest.now _ c.in-len1.len_at_least c.in_default.len_below (sym c.if-not-is-2.ensures) c.loop-rest.invariant)

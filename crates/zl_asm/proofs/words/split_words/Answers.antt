@@ -7,7 +7,8 @@ use Rattle.zl_asm.proofs.words.split_words.Goals.{in-32+in_ok-push_word-in-32, i
 pub returns-in-59 : goal.returns-in-59
 returns-in-59 c =
     IfOk-equal c.push_word.result _ _ _ c.push_word.ensures
-    (after_semicolon (map (λ w. w.now) c.loop-i.words.items) (words_of c.args.line.now) c.args.line.now c.loop-i.start c.loop-i.i (omega arith) c.in-59.is c.loop-i.invariant.so_far)
+    (after_semicolon (map (λ w. w.now) c.loop-i.words.items) (words_of c.args.line.now) c.args.line.now c.loop-i.start c.loop-i.i
+    (omega arith) c.in-59.is c.loop-i.invariant.so_far)
 
 pub loop-i-preserved : goal.loop-i-preserved
 loop-i-preserved c =
@@ -41,4 +42,5 @@ loop-i-preserved c =
 pub returns : goal.returns
 returns c =
     IfOk-equal c.push_word-2.result _ _ _ c.push_word-2.ensures
-    (at_line_end (map (λ w. w.now) c.loop-i.words.items) (words_of c.args.line.now) c.args.line.now c.loop-i.start c.loop-i.i (omega arith) c.loop-i.invariant.so_far)
+    (at_line_end (map (λ w. w.now) c.loop-i.words.items) (words_of c.args.line.now) c.args.line.now c.loop-i.start c.loop-i.i
+    (omega arith) c.loop-i.invariant.so_far)

@@ -21,8 +21,11 @@ pub returns-in-Err-clause-err : goal.returns-in-Err-clause-err
 returns-in-Err-clause-err c =
     let statements = c.deref-statement-items.ensures.value in
     rw c.fault_at-in-Err.ensures
-    (first_fault c.args.library.now c.args.boot.now.statements.items c.args.boot.now.limit c.loop-number.number c.statement-item.result c.loop-number.made c.in-Err.cause
-    (rw statements at c.loop-number-test.true) c.loop-number.invariant (subst (λ (s : Statement). IsCauseOf (boot_fault c.args.library.now (seen c.loop-number.made) s) c.in-Err.cause) (c.statement-item.is ∙ ap (λ (ss : List Statement). get_or ss c.loop-number.number c.statement-item.result) statements) (c.in-Err.ensures {u = tt}).err))
+    (first_fault c.args.library.now c.args.boot.now.statements.items c.args.boot.now.limit c.loop-number.number c.statement-item.result c.loop-number.made
+    c.in-Err.cause
+    (rw statements at c.loop-number-test.true) c.loop-number.invariant
+    (subst (λ (s : Statement). IsCauseOf (boot_fault c.args.library.now (seen c.loop-number.made) s) c.in-Err.cause)
+    (c.statement-item.is ∙ ap (λ (ss : List Statement). get_or ss c.loop-number.number c.statement-item.result) statements) (c.in-Err.ensures {u = tt}).err))
 
 pub loop-number-preserved : goal.loop-number-preserved
 loop-number-preserved c =

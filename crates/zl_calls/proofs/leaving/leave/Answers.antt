@@ -8,10 +8,13 @@ loop-place-init c = none_mapped (left_beside c.args.objects.now.objects) c.args.
 
 pub loop-place-preserved : goal.loop-place-preserved
 loop-place-preserved c =
-    let within : c.loop-place.place < length c.loop-place.processes.items = omega (arith, c.loop-place-test.true, c.len-place-end.ensures, c.args.processes.now.ok.0, c.loop-place.invariant.long) in
-    one_mapped (left_beside c.args.objects.now.objects) c.args.processes.now.items c.loop-place.processes.items c.loop-place.place c.index_mut.result.now c.leave_one.new.process c.loop-place.invariant within c.index_mut.ensures.value c.leave_one.ensures
+    let within : c.loop-place.place < length c.loop-place.processes.items =
+    omega (arith, c.loop-place-test.true, c.len-place-end.ensures, c.args.processes.now.ok.0, c.loop-place.invariant.long) in
+    one_mapped (left_beside c.args.objects.now.objects) c.args.processes.now.items c.loop-place.processes.items c.loop-place.place c.index_mut.result.now
+    c.leave_one.new.process c.loop-place.invariant within c.index_mut.ensures.value c.leave_one.ensures
 
 pub returns : goal.returns
 returns c =
-    let all : c.loop-place.place ≡ length c.loop-place.processes.items = omega (arith, c.loop-place-test.false, c.loop-place.auto.place-end, c.len-place-end.ensures, c.args.processes.now.ok.0, c.loop-place.invariant.long) in
+    let all : c.loop-place.place ≡ length c.loop-place.processes.items =
+    omega (arith, c.loop-place-test.false, c.loop-place.auto.place-end, c.len-place-end.ensures, c.args.processes.now.ok.0, c.loop-place.invariant.long) in
     all_mapped (left_beside c.args.objects.now.objects) c.args.processes.now.items c.loop-place.processes.items c.loop-place.place c.loop-place.invariant all

@@ -9,21 +9,25 @@ use Rattle.zl_code.specs.declared.history.TraceItem.TheVariants as item
 use Rattle.zl_calls.proofs.stepping.act_for.Goals as goal
 
 pub call_next-requires-clause-bare : goal.call_next-requires-clause-bare
-call_next-requires-clause-bare c = are_bare c.args.processes.now.items c.args.objects.now c.args.blocked.now.items c.requires.lab.processes_in_order c.requires.sound
+call_next-requires-clause-bare c =
+    are_bare c.args.processes.now.items c.args.objects.now c.args.blocked.now.items c.requires.lab.processes_in_order c.requires.sound
 
 pub call_next-requires-clause-few : goal.call_next-requires-clause-few
 call_next-requires-clause-few c = no_more c.args.processes.now.items c.args.blocked.now.items c.requires.list
 
 pub call_next-requires-clause-ready : goal.call_next-requires-clause-ready
 call_next-requires-clause-ready c =
-    caller_ready c.args.processes.now.items c.args.pid c.in_ok-place.place c.index.result.now (rw c.deref.ensures.value at c.in_ok-place.ensures.first) c.index.ensures (sym c.is_ready.ensures ∙ c.if-not-is_ready.false)
+    caller_ready c.args.processes.now.items c.args.pid c.in_ok-place.place c.index.result.now
+    (rw c.deref.ensures.value at c.in_ok-place.ensures.first) c.index.ensures (sym c.is_ready.ensures ∙ c.if-not-is_ready.false)
 
 called : (c : goal.After-leave) → HasActed c.args.library.now c.args.processes.now.items c.leave.new.processes.items c.args.objects.now
     c.call_next.new.objects c.args.blocked.now.items c.call_next.new.blocked.items
     c.args.pid (item.Call c.args.pid c.in-Some.call c.in-Some.outcome)
 called c = rw c.leave.ensures
-    (called_so c.args.library.now c.args.processes.now.items c.args.objects.now c.requires.lab c.args.blocked.now.items c.requires.list c.requires.sound c.args.pid c.in_ok-place.place c.index.result.now
-    (rw c.deref.ensures.value at c.in_ok-place.ensures.first) c.index.ensures (sym c.is_ready.ensures ∙ c.if-not-is_ready.false) (lab c.call_next.new.processes.items c.call_next.new.objects c.call_next.new.blocked.items) c.in-Some.outcome c.in-Some.call
+    (called_so c.args.library.now c.args.processes.now.items c.args.objects.now c.requires.lab c.args.blocked.now.items c.requires.list c.requires.sound
+    c.args.pid c.in_ok-place.place c.index.result.now
+    (rw c.deref.ensures.value at c.in_ok-place.ensures.first) c.index.ensures (sym c.is_ready.ensures ∙ c.if-not-is_ready.false)
+    (lab c.call_next.new.processes.items c.call_next.new.objects c.call_next.new.blocked.items) c.in-Some.outcome c.in-Some.call
     ((c.in-Some.ensures {u = tt}).calls c.index.result.now (is_there c.args.library.now c.args.processes.now.items c.args.objects.now
     c.args.blocked.now.items c.in_ok-place.place c.index.result.now
     (within c.args.processes.now.items c.args.pid c.in_ok-place.place c.index.result.now (rw c.deref.ensures.value at c.in_ok-place.ensures.first)
@@ -33,18 +37,22 @@ moved : (c : goal.After-processes-1) → HasActed c.args.library.now c.args.proc
     (set c.call_next.new.processes.items c.in_ok-place.place c.run_next.new.process) c.args.objects.now c.call_next.new.objects
     c.args.blocked.now.items c.call_next.new.blocked.items c.args.pid (item.Run c.args.pid 1)
 moved c =
-    (moves_from c.args.library.now c.args.processes.now.items c.args.objects.now c.requires.lab c.args.blocked.now.items c.requires.list c.requires.sound c.args.pid c.in_ok-place.place c.index.result.now
+    (moves_from c.args.library.now c.args.processes.now.items c.args.objects.now c.requires.lab c.args.blocked.now.items c.requires.list c.requires.sound
+    c.args.pid c.in_ok-place.place c.index.result.now
     (rw c.deref.ensures.value at c.in_ok-place.ensures.first) c.index.ensures (sym c.is_ready.ensures ∙ c.if-not-is_ready.false)
-    c.call_next.new.processes.items c.call_next.new.objects c.call_next.new.blocked.items (c.in_default.ensures {u = tt}).same_processes (c.in_default.ensures {u = tt}).same_objects (c.in_default.ensures {u = tt}).same_blocked c.index_mut-process.result.now c.index_mut-process.ensures.value
+    c.call_next.new.processes.items c.call_next.new.objects c.call_next.new.blocked.items (c.in_default.ensures {u = tt}).same_processes
+    (c.in_default.ensures {u = tt}).same_objects (c.in_default.ensures {u = tt}).same_blocked c.index_mut-process.result.now c.index_mut-process.ensures.value
     c.run_next.new.process (c.in-Some-run_next.ensures {u = tt}).runs (c.in-Some-run_next.ensures {u = tt}).cpu)
 
 stopped : (c : goal.After-leave-in-None) → HasActed c.args.library.now c.args.processes.now.items c.leave-in-None.new.processes.items c.args.objects.now
     c.end.new.objects
     c.args.blocked.now.items c.call_next.new.blocked.items c.args.pid (item.Stuck c.args.pid)
 stopped c = rw c.leave-in-None.ensures
-    (stops_from c.args.library.now c.args.processes.now.items c.args.objects.now c.requires.lab c.args.blocked.now.items c.requires.list c.requires.sound c.args.pid c.in_ok-place.place c.index.result.now
+    (stops_from c.args.library.now c.args.processes.now.items c.args.objects.now c.requires.lab c.args.blocked.now.items c.requires.list c.requires.sound
+    c.args.pid c.in_ok-place.place c.index.result.now
     (rw c.deref.ensures.value at c.in_ok-place.ensures.first) c.index.ensures (sym c.is_ready.ensures ∙ c.if-not-is_ready.false)
-    c.call_next.new.processes.items c.call_next.new.objects c.call_next.new.blocked.items (c.in_default.ensures {u = tt}).same_processes (c.in_default.ensures {u = tt}).same_objects (c.in_default.ensures {u = tt}).same_blocked c.index_mut-process.result.now c.index_mut-process.ensures.value
+    c.call_next.new.processes.items c.call_next.new.objects c.call_next.new.blocked.items (c.in_default.ensures {u = tt}).same_processes
+    (c.in_default.ensures {u = tt}).same_objects (c.in_default.ensures {u = tt}).same_blocked c.index_mut-process.result.now c.index_mut-process.ensures.value
     c.end.new.process c.end.new.objects ((c.in_default.ensures {u = tt}).missing c.index.result.now
     (is_there c.args.library.now c.args.processes.now.items c.args.objects.now c.args.blocked.now.items c.in_ok-place.place c.index.result.now
     (within c.args.processes.now.items c.args.pid c.in_ok-place.place c.index.result.now (rw c.deref.ensures.value at c.in_ok-place.ensures.first)
@@ -82,5 +90,6 @@ returns-in-Some-run_next-clause-quiet c local =
     stays_from c.args.library.now c.args.processes.now.items c.args.objects.now c.requires.lab c.args.blocked.now.items c.requires.list c.requires.sound
     c.args.pid c.in_ok-place.place c.index.result.now
     (rw c.deref.ensures.value at c.in_ok-place.ensures.first) c.index.ensures (sym c.is_ready.ensures ∙ c.if-not-is_ready.false)
-    c.call_next.new.processes.items c.call_next.new.objects c.call_next.new.blocked.items (c.in_default.ensures {u = tt}).same_processes (c.in_default.ensures {u = tt}).same_objects (c.in_default.ensures {u = tt}).same_blocked c.index_mut-process.result.now c.index_mut-process.ensures.value
+    c.call_next.new.processes.items c.call_next.new.objects c.call_next.new.blocked.items (c.in_default.ensures {u = tt}).same_processes
+    (c.in_default.ensures {u = tt}).same_objects (c.in_default.ensures {u = tt}).same_blocked c.index_mut-process.result.now c.index_mut-process.ensures.value
     c.run_next.new.process (c.in-Some-run_next.ensures {u = tt}).cpu

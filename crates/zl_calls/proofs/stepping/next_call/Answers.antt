@@ -4,11 +4,13 @@ use Rattle.zl_calls.proofs.stepping.next_call.Goals as goal
 
 pub returns-clause-found : goal.returns-clause-found
 returns-clause-found c =
-    calls_next c.args.library.now (process_value c.args.process.now) (program_value c.in_ok-program.program.now) c.in_ok-program.ensures.found c.call_at.result c.call_at.ensures.found
+    calls_next c.args.library.now (process_value c.args.process.now) (program_value c.in_ok-program.program.now) c.in_ok-program.ensures.found c.call_at.result
+    c.call_at.ensures.found
 
 pub returns-clause-there : goal.returns-clause-there
 returns-clause-there c = has_site (program_value c.in_ok-program.program.now).image c.args.process.now.cpu c.call_at.result c.call_at.ensures.found
 
 pub returns-clause-missing : goal.returns-clause-missing
 returns-clause-missing c =
-    no_call_next c.args.library.now (process_value c.args.process.now) (program_value c.in_ok-program.program.now) c.in_ok-program.ensures.found c.call_at.result c.call_at.ensures.missing
+    no_call_next c.args.library.now (process_value c.args.process.now) (program_value c.in_ok-program.program.now) c.in_ok-program.ensures.found
+    c.call_at.result c.call_at.ensures.missing

@@ -10,12 +10,17 @@ loop-process-init c = record { closing = closing_starts c.args.processes.now c.a
 
 pub loop-process-preserved : goal.loop-process-preserved
 loop-process-preserved c = record {
-  closing = closing_goes_on c.args.processes.now c.args.objects.now c.loop-process.process-index c.loop-process.processes c.loop-process.objects c.loop-process.invariant.closing
-      c.process-item.result c.process-item.result c.close_if_ended.new.process c.close_if_ended.new.objects (omega (arith, c.loop-process-test.true)) (sym c.process-item.is)
-      (subst (λ (p : Process). ClosesEnded p c.loop-process.objects c.close_if_ended.new.process c.close_if_ended.new.objects) (sym c.process-item.is) c.close_if_ended.ensures.closes);
+  closing =
+      closing_goes_on c.args.processes.now c.args.objects.now c.loop-process.process-index c.loop-process.processes c.loop-process.objects
+      c.loop-process.invariant.closing
+      c.process-item.result c.process-item.result c.close_if_ended.new.process c.close_if_ended.new.objects (omega (arith, c.loop-process-test.true))
+      (sym c.process-item.is)
+      (subst (λ (p : Process). ClosesEnded p c.loop-process.objects c.close_if_ended.new.process c.close_if_ended.new.objects)
+      (sym c.process-item.is) c.close_if_ended.ensures.closes);
   listed = listed_then c.args.objects.now c.loop-process.objects c.close_if_ended.new.objects c.loop-process.invariant.listed c.close_if_ended.ensures.listed;
 }
 
 pub returns-clause-closes : goal.returns-clause-closes
 returns-clause-closes c =
-    closing_ends c.args.processes.now c.args.objects.now c.loop-process.process-index c.loop-process.processes c.loop-process.objects c.loop-process.invariant.closing (omega (arith, c.loop-process-test.false))
+    closing_ends c.args.processes.now c.args.objects.now c.loop-process.process-index c.loop-process.processes c.loop-process.objects
+    c.loop-process.invariant.closing (omega (arith, c.loop-process-test.false))

@@ -9,20 +9,28 @@ returns-in_default-clause-refusal c = none_refused c.args.library.now c.args.pro
 
 pub returns-then-not-is_created-clause-refusal : goal.returns-then-not-is_created-clause-refusal
 returns-then-not-is_created-clause-refusal c =
-    started_refused c.args.library.now c.args.processes.now c.args.pid c.args.entry.now c.in-Some.place c.index-processes-place.result c.in-Some.ensures.first c.index-processes-place.is
+    started_refused c.args.library.now c.args.processes.now c.args.pid c.args.entry.now c.in-Some.place c.index-processes-place.result c.in-Some.ensures.first
+    c.index-processes-place.is
     (sym c.is_created.ensures ∙ c.if-not-is_created.true)
 
 pub returns-then-misfits-clause-refusal : goal.returns-then-misfits-clause-refusal
 returns-then-misfits-clause-refusal c =
-    misfit_refused c.args.library.now c.args.processes.now c.args.pid c.args.entry.now c.in-Some.place c.index-processes-place.result c.in-Some.ensures.first c.index-processes-place.is
-    c.index-processes-place-2.result c.index-processes-place-2.is (sym c.is_created.ensures ∙ c.if-not-is_created.false) (subst (λ (q : Process). misfits (slice_get c.args.library.now q.program) (Some c.args.entry.now) ≡ true) (sym c.index-processes-place-2.is) (sym c.misfits.ensures ∙ c.if-misfits.true))
+    misfit_refused c.args.library.now c.args.processes.now c.args.pid c.args.entry.now c.in-Some.place c.index-processes-place.result c.in-Some.ensures.first
+    c.index-processes-place.is
+    c.index-processes-place-2.result c.index-processes-place-2.is (sym c.is_created.ensures ∙ c.if-not-is_created.false)
+    (subst (λ (q : Process). misfits (slice_get c.args.library.now q.program) (Some c.args.entry.now) ≡ true) (sym c.index-processes-place-2.is)
+    (sym c.misfits.ensures ∙ c.if-misfits.true))
 
 pub returns-clause-refusal : goal.returns-clause-refusal
 returns-clause-refusal c =
-    not_refused c.args.library.now c.args.processes.now c.args.pid c.args.entry.now c.in-Some.place c.index-processes-place.result c.in-Some.ensures.first c.index-processes-place.is
-    c.index-processes-place-2.result c.index-processes-place-2.is (sym c.is_created.ensures ∙ c.if-not-is_created.false) (subst (λ (q : Process). misfits (slice_get c.args.library.now q.program) (Some c.args.entry.now) ≡ false) (sym c.index-processes-place-2.is) (sym c.misfits.ensures ∙ c.if-misfits.false))
+    not_refused c.args.library.now c.args.processes.now c.args.pid c.args.entry.now c.in-Some.place c.index-processes-place.result c.in-Some.ensures.first
+    c.index-processes-place.is
+    c.index-processes-place-2.result c.index-processes-place-2.is (sym c.is_created.ensures ∙ c.if-not-is_created.false)
+    (subst (λ (q : Process). misfits (slice_get c.args.library.now q.program) (Some c.args.entry.now) ≡ false) (sym c.index-processes-place-2.is)
+    (sym c.misfits.ensures ∙ c.if-misfits.false))
 
 pub returns-clause-found : goal.returns-clause-found
 returns-clause-found c =
-    is_created_at c.args.library.now c.args.processes.now c.args.pid c.args.entry.now c.in-Some.place c.index-processes-place.result c.in-Some.ensures.first c.index-processes-place.is
+    is_created_at c.args.library.now c.args.processes.now c.args.pid c.args.entry.now c.in-Some.place c.index-processes-place.result c.in-Some.ensures.first
+    c.index-processes-place.is
     (sym c.is_created.ensures ∙ c.if-not-is_created.false)

@@ -5,15 +5,18 @@ use Rattle.zl_calls.proofs.tasks.enter.Goals as goal
 pub index_mut-requires : goal.index_mut-requires
 index_mut-requires c =
     let within : c.in_ok-child.child < length c.args.processes.now.items =
-    child_within c.args.library.now c.args.processes.now.items c.deref.result.now c.deref.ensures.value c.args.place c.in_ok-child.child c.args.process c.args.handle c.in_ok-child.entry c.in_ok-child.ensures.found c.requires.place in
+    child_within c.args.library.now c.args.processes.now.items c.deref.result.now c.deref.ensures.value c.args.place c.in_ok-child.child c.args.process
+    c.args.handle c.in_ok-child.entry c.in_ok-child.ensures.found c.requires.place in
     omega (arith, within, c.args.processes.now.ok.0)
 
 pub insert-requires : goal.insert-requires
 insert-requires c =
-    child_room c.args.library.now c.args.processes.now.items c.deref.result.now c.deref.ensures.value c.args.place c.in_ok-child.child c.args.process c.args.handle c.in_ok-child.entry c.in_ok-child.ensures.found
+    child_room c.args.library.now c.args.processes.now.items c.deref.result.now c.deref.ensures.value c.args.place c.in_ok-child.child c.args.process
+    c.args.handle c.in_ok-child.entry c.in_ok-child.ensures.found
     c.index_mut.result.now c.index_mut.ensures.value c.requires.place c.requires.bare
 
 pub returns-clause-entered : goal.returns-clause-entered
 returns-clause-entered c =
-    enters_so c.args.library.now c.args.processes.now.items c.deref.result.now c.deref.ensures.value c.args.place c.in_ok-child.child c.args.process c.args.handle c.in_ok-child.entry c.in_ok-child.ensures.found
+    enters_so c.args.library.now c.args.processes.now.items c.deref.result.now c.deref.ensures.value c.args.place c.in_ok-child.child c.args.process
+    c.args.handle c.in_ok-child.entry c.in_ok-child.ensures.found
     c.index_mut.result.now c.index_mut.ensures.value c.in_ok-child.ensures.refusal c.insert.new.table c.in_ok-value.value c.in_ok-value.ensures.ok

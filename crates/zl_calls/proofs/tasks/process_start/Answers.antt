@@ -5,39 +5,50 @@ use Rattle.zl_calls.proofs.tasks.process_start.Goals as goal
 pub index_mut-requires : goal.index_mut-requires
 index_mut-requires c =
     let within : c.args.place < length c.enter.new.processes.items =
-    caller_inside c.args.library.now c.args.processes.now.items c.enter.new.processes.items c.args.place c.args.process c.args.handle c.in-Ok.started c.requires.place c.in-Ok.ensures.entered in
+    caller_inside c.args.library.now c.args.processes.now.items c.enter.new.processes.items c.args.place c.args.process c.args.handle c.in-Ok.started
+    c.requires.place c.in-Ok.ensures.entered in
     omega (arith, within, c.enter.new.processes.ok.0)
 
 pub index_mut-requires-in-Ok : goal.index_mut-requires-in-Ok
 index_mut-requires-in-Ok c =
     let within : c.in-Ok.started.place < length c.enter.new.processes.items =
-    started_inside c.args.library.now c.args.processes.now.items c.enter.new.processes.items c.args.place c.args.process c.args.handle c.in-Ok.started c.requires.place c.in-Ok.ensures.entered in
+    started_inside c.args.library.now c.args.processes.now.items c.enter.new.processes.items c.args.place c.args.process c.args.handle c.in-Ok.started
+    c.requires.place c.in-Ok.ensures.entered in
     omega (arith, within, c.enter.new.processes.ok.0)
 
 pub returns-in-Ok-clause-does : goal.returns-in-Ok-clause-does
 returns-in-Ok-clause-does c = λ blocked caller at.
-    starts_so c.args.library.now c.args.processes.now.items c.args.objects.now blocked c.args.place c.args.process c.args.handle c.args.word caller at (c.requires.ready caller at)
-    c.in-Ok.started c.enter.new.processes.items (c.in-Ok.ensures.entered caller at) c.index_mut.result.now c.index_mut.ensures.value c.take_out.new.table c.take_out.ensures.table
+    starts_so c.args.library.now c.args.processes.now.items c.args.objects.now blocked c.args.place c.args.process c.args.handle c.args.word caller at
+    (c.requires.ready caller at)
+    c.in-Ok.started c.enter.new.processes.items (c.in-Ok.ensures.entered caller at) c.index_mut.result.now c.index_mut.ensures.value c.take_out.new.table
+    c.take_out.ensures.table
     c.index_mut-in-Ok.result.now c.begin.new.process c.index_mut-in-Ok.ensures.value c.begin.ensures.process c.begin.new.objects c.begin.ensures.objects
 
 pub returns-in-Err-clause-does : goal.returns-in-Err-clause-does
 returns-in-Err-clause-does c = λ blocked caller at.
-    refused_so c.args.library.now c.args.processes.now.items c.args.objects.now blocked c.args.place c.args.process c.args.handle c.args.word caller at (c.requires.ready caller at)
-    c.in-Err.refused c.enter.new.processes.items c.in-Err.ensures.unchanged (c.in-Err.ensures.err caller at) c.index_mut-in-Err.result.now c.index_mut-in-Err.ensures.value
+    refused_so c.args.library.now c.args.processes.now.items c.args.objects.now blocked c.args.place c.args.process c.args.handle c.args.word caller at
+    (c.requires.ready caller at)
+    c.in-Err.refused c.enter.new.processes.items c.in-Err.ensures.unchanged (c.in-Err.ensures.err caller at) c.index_mut-in-Err.result.now
+    c.index_mut-in-Err.ensures.value
     c.close_each.new.table c.close_each.new.objects c.close_each.ensures
 
 pub returns-in-Ok-clause-caller : goal.returns-in-Ok-clause-caller
 returns-in-Ok-clause-caller c = λ caller at.
-    caller_still c.args.library.now c.args.processes.now.items c.args.objects.now [] c.args.place c.args.process c.args.handle c.args.word caller at (c.requires.ready caller at)
-    c.in-Ok.started c.enter.new.processes.items (c.in-Ok.ensures.entered caller at) c.index_mut.result.now c.index_mut.ensures.value c.take_out.new.table c.take_out.ensures.table
+    caller_still c.args.library.now c.args.processes.now.items c.args.objects.now [] c.args.place c.args.process c.args.handle c.args.word caller at
+    (c.requires.ready caller at)
+    c.in-Ok.started c.enter.new.processes.items (c.in-Ok.ensures.entered caller at) c.index_mut.result.now c.index_mut.ensures.value c.take_out.new.table
+    c.take_out.ensures.table
     c.index_mut-in-Ok.result.now c.begin.new.process c.index_mut-in-Ok.ensures.value c.begin.ensures.process
 
 pub returns-in-Err-clause-caller : goal.returns-in-Err-clause-caller
 returns-in-Err-clause-caller c = λ caller at.
-    refused_still c.args.library.now c.args.processes.now.items c.args.objects.now [] c.args.place c.args.process c.args.handle c.args.word caller at (c.requires.ready caller at)
-    c.in-Err.refused c.enter.new.processes.items c.in-Err.ensures.unchanged (c.in-Err.ensures.err caller at) c.index_mut-in-Err.result.now c.index_mut-in-Err.ensures.value
+    refused_still c.args.library.now c.args.processes.now.items c.args.objects.now [] c.args.place c.args.process c.args.handle c.args.word caller at
+    (c.requires.ready caller at)
+    c.in-Err.refused c.enter.new.processes.items c.in-Err.ensures.unchanged (c.in-Err.ensures.err caller at) c.index_mut-in-Err.result.now
+    c.index_mut-in-Err.ensures.value
     c.close_each.new.table c.close_each.new.objects c.close_each.ensures
 
 pub returns-in-Ok-clause-count : goal.returns-in-Ok-clause-count
 returns-in-Ok-clause-count c =
-    written_twice c.args.library.now c.args.processes.now.items c.enter.new.processes.items c.args.place c.args.process c.args.handle c.in-Ok.started c.requires.place c.in-Ok.ensures.entered _ _ _ _
+    written_twice c.args.library.now c.args.processes.now.items c.enter.new.processes.items c.args.place c.args.process c.args.handle c.in-Ok.started
+    c.requires.place c.in-Ok.ensures.entered _ _ _ _

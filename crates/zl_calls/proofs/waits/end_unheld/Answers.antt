@@ -23,4 +23,5 @@ loop-wait-preserved c =
 
 pub returns : goal.returns
 returns c =
-    unheld_ended c.args.processes.now c.args.objects.now c.requires c.loop-wait.place c.loop-wait.objects c.loop-wait.invariant (sym (c.in_default.ensures {u = tt}).wait)
+    unheld_ended c.args.processes.now c.args.objects.now c.requires c.loop-wait.place c.loop-wait.objects c.loop-wait.invariant
+    (sym (c.in_default.ensures {u = tt}).wait)

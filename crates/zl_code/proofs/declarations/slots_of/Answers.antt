@@ -5,7 +5,8 @@ use Rattle.zl_code.proofs.declarations.slots_of.Goals as goal
 pub returns-in_err-array-clause-fault : goal.returns-in_err-array-clause-fault
 returns-in_err-array-clause-fault c =
     let p = err_from_is_err_and c.from_residual-in_err-array.result c.from_residual-in_err-array.ensures.1 in
-    rw (p.1, p.2) (inr (first_fault_at slot_fault c.args.pieces.now c.loop-piece.piece-index _ _ c.loop-piece-test.true c.loop-piece.invariant.none c.in_err-array.ensures.fault))
+    rw (p.1, p.2) (inr
+    (first_fault_at slot_fault c.args.pieces.now c.loop-piece.piece-index _ _ c.loop-piece-test.true c.loop-piece.invariant.none c.in_err-array.ensures.fault))
 
 pub loop-piece-preserved : goal.loop-piece-preserved
 loop-piece-preserved c =

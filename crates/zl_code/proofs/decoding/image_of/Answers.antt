@@ -1,6 +1,7 @@
 use Rattle.zl_code.proofs.Common.{◌∙◌, ap, sym, map, inl, inr, arith, err_from_is_err_and, first_some, start_fault, slot_fault, instr_fault}
 use Rattle.zl_code.proofs.ImageNeeds.{are_needs-value}
-use Rattle.zl_code.proofs.ImageWhole.{starts_read, slots_read, code_read, spells_read, first_fault-header, first_fault-starts, first_fault-slots, first_fault-code}
+use Rattle.zl_code.proofs.ImageWhole.{starts_read, slots_read, code_read, spells_read, first_fault-header, first_fault-starts, first_fault-slots}
+use Rattle.zl_code.proofs.ImageWhole.{first_fault-code}
 use Rattle.zl_code.proofs.decoding.image_of.Goals as goal
 
 pub returns-in_err-header-clause-first : goal.returns-in_err-header-clause-first

@@ -20,4 +20,5 @@ loop-place-preserved c = record {
 }
 
 pub returns : goal.returns
-returns c = all_placed c.args.used.now c.loop-place.registers c.loop-place.place c.loop-place.invariant.front c.requires (omega arith) c.loop-place.invariant.behind
+returns c =
+    all_placed c.args.used.now c.loop-place.registers c.loop-place.place c.loop-place.invariant.front c.requires (omega arith) c.loop-place.invariant.behind

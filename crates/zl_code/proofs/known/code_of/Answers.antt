@@ -5,7 +5,8 @@ use Rattle.zl_code.proofs.known.code_of.Goals as goal
 pub returns-in_err-instr-clause-fault : goal.returns-in_err-instr-clause-fault
 returns-in_err-instr-clause-fault c =
     let p = err_from_is_err_and c.from_residual-in_err-instr.result c.from_residual-in_err-instr.ensures.1 in
-    rw (p.1, p.2) (inr (first_fault_at (instr_fault c.args.raw) c.args.pieces.now c.loop-piece.piece-index _ _ c.loop-piece-test.true c.loop-piece.invariant.none c.in_err-instr.ensures.fault))
+    rw (p.1, p.2) (inr (first_fault_at (instr_fault c.args.raw) c.args.pieces.now c.loop-piece.piece-index _ _ c.loop-piece-test.true
+    c.loop-piece.invariant.none c.in_err-instr.ensures.fault))
 
 pub loop-piece-preserved : goal.loop-piece-preserved
 loop-piece-preserved c =

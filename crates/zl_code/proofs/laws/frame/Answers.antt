@@ -3,4 +3,5 @@ use Rattle.zl_code.proofs.SoundRuns.{run_sound}
 use Rattle.zl_code.proofs.laws.frame.Goals as goal
 
 pub returns : goal.returns
-returns c = λ lib statements boot w after items p x is_boot run step. step_leaves_others lib w p x after (run_sound lib statements boot w items is_boot run) step
+returns c =
+    λ lib statements boot w after items p x is_boot run step. step_leaves_others lib w p x after (run_sound lib statements boot w items is_boot run) step

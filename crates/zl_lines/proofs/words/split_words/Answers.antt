@@ -6,5 +6,6 @@ use Rattle.zl_lines.proofs.words.split_words.Goals as goal
 
 pub returns : goal.returns
 returns c =
-    let whole = YieldsList-end (YieldsList-from_slice_split _ (λ b. nat_eq b 32) c.args.line.now (cc) (cc) (cc) (λ x b q k. search rules)) c.loop-word.yielded _ c.loop-word.yielded_by _ _ c.in-None.is c.next.ensures.steps in
+    let whole = YieldsList-end (YieldsList-from_slice_split _ (λ b. nat_eq b 32) c.args.line.now (cc) (cc) (cc) (λ x b q k. search rules)) c.loop-word.yielded _
+    c.loop-word.yielded_by _ _ c.in-None.is c.next.ensures.steps in
     c.loop-word.invariant ∙ ap (λ (x : List (List ℕ)). filter (λ w. not (length w == 0)) x) whole.0

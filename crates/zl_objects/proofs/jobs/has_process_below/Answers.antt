@@ -8,5 +8,6 @@ use Rattle.zl_objects.proofs.jobs.has_process_below.Goals as goal
 
 pub returns : goal.returns
 returns c =
-    any_from_yields_List (λ o. is_process_below c.args.job o.body) _ _ _ c.any.ensures.ran (YieldsList-from_rest (values c.args.by_koid.now) c.values.ensures.rest) (λ x b q k. search rules)
+    any_from_yields_List (λ o. is_process_below c.args.job o.body) _ _ _ c.any.ensures.ran
+    (YieldsList-from_rest (values c.args.by_koid.now) c.values.ensures.rest) (λ x b q k. search rules)
     ∙ process_child c.args.by_koid.now.entries c.args.job

@@ -8,5 +8,6 @@ use Rattle.zl_objects.proofs.listing.keep_there.Goals as goal
 
 pub returns : goal.returns
 returns c =
-    let kept : c.retain.new.self.items ≡ filter (λ x. is_there c.args.by_koid.now.entries (wait_value x)) c.args.waits.now.items = filter_same _ _ _ (λ x b f' k. search (rules, by_koid)) _ _ c.retain.ensures.filtered in
+    let kept : c.retain.new.self.items ≡ filter (λ x. is_there c.args.by_koid.now.entries (wait_value x)) c.args.waits.now.items =
+    filter_same _ _ _ (λ x b f' k. search (rules, by_koid)) _ _ c.retain.ensures.filtered in
     ap (λ (xs : List Wait). map wait_value xs) kept ∙ sym (filter_map wait_value (is_there c.args.by_koid.now.entries) c.args.waits.now.items)

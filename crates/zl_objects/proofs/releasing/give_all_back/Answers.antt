@@ -4,14 +4,18 @@ use Rattle.zl_objects.proofs.Ending.{fewer_waits, given_back, none_to_give}
 use Rattle.zl_objects.proofs.releasing.give_all_back.Goals as goal
 
 pub loop-wait-smaller : goal.loop-wait-smaller
-loop-wait-smaller c = fewer_waits c.loop-wait.signals.waits c.take_wait.new.self.waits c.in-Some.wait (sym c.take_wait.ensures.first ∙ c.in-Some.is) (ap (λ (s : SignalState). s.waits) c.take_wait.ensures.rest)
+loop-wait-smaller c =
+    fewer_waits c.loop-wait.signals.waits c.take_wait.new.self.waits c.in-Some.wait (sym c.take_wait.ensures.first ∙ c.in-Some.is)
+    (ap (λ (s : SignalState). s.waits) c.take_wait.ensures.rest)
 
 pub loop-wait-preserved : goal.loop-wait-preserved
 loop-wait-preserved c = record {
   back =
-      given_back c.loop-wait.signals.waits c.take_wait.new.self.waits c.in-Some.wait c.loop-wait.by_koid.entries c.give_back.new.by_koid.entries (sym c.take_wait.ensures.first ∙ c.in-Some.is) (ap (λ (s : SignalState). s.waits) c.take_wait.ensures.rest) c.give_back.ensures
+      given_back c.loop-wait.signals.waits c.take_wait.new.self.waits c.in-Some.wait c.loop-wait.by_koid.entries c.give_back.new.by_koid.entries
+      (sym c.take_wait.ensures.first ∙ c.in-Some.is) (ap (λ (s : SignalState). s.waits) c.take_wait.ensures.rest) c.give_back.ensures
       ∙ c.loop-wait.invariant.back;
 }
 
 pub returns : goal.returns
-returns c = sym (none_to_give c.loop-wait.signals.waits c.loop-wait.by_koid.entries (sym c.take_wait.ensures.first ∙ c.in_default.is)) ∙ c.loop-wait.invariant.back
+returns c =
+    sym (none_to_give c.loop-wait.signals.waits c.loop-wait.by_koid.entries (sym c.take_wait.ensures.first ∙ c.in_default.is)) ∙ c.loop-wait.invariant.back

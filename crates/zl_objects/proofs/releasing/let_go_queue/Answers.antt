@@ -8,8 +8,11 @@ loop-message-preserved c =
     let handles : c.as_slice.result.now ≡ c.in-Some.message.handles = c.as_slice.ensures ∙ ap (λ (x : Message). x.handles) c.message.view_is in
     record {
       cheap = omega (arith, c.let_go_all.ensures.goes.cheap, c.loop-message.invariant.cheap);
-      goes = λ m d later. c.loop-message.invariant.goes m d (message_went c.loop-message.queue c.take.new.self c.in-Some.message c.as_slice.result.now (sym c.take.ensures.first ∙ c.in-Some.is) c.take.ensures.rest handles
-          c.loop-message.by_koid.entries c.let_go_all.new.by_koid.entries m c.loop-message.dying.items c.let_go_all.new.dying.items d c.let_go_all.ensures.goes later);
+      goes =
+          λ m d later. c.loop-message.invariant.goes m d (message_went c.loop-message.queue c.take.new.self c.in-Some.message c.as_slice.result.now
+          (sym c.take.ensures.first ∙ c.in-Some.is) c.take.ensures.rest handles
+          c.loop-message.by_koid.entries c.let_go_all.new.by_koid.entries m c.loop-message.dying.items c.let_go_all.new.dying.items d
+          c.let_go_all.ensures.goes later);
       capacity = c.let_go_all.ensures.capacity ∙ c.loop-message.invariant.capacity;
     }
 
@@ -18,7 +21,10 @@ loop-message-preserved-in-Some c =
     let handles : c.as_slice.result.now ≡ c.in-Some.message.handles = c.as_slice.ensures ∙ ap (λ (x : Message). x.handles) c.message.view_is in
     record {
       cheap = omega (arith, c.let_go_all.ensures.goes.cheap, c.loop-message.invariant.cheap);
-      goes = λ m d later. c.loop-message.invariant.goes m d (message_went c.loop-message.queue c.take.new.self c.in-Some.message c.as_slice.result.now (sym c.take.ensures.first ∙ c.in-Some.is) c.take.ensures.rest handles
-          c.loop-message.by_koid.entries c.let_go_all.new.by_koid.entries m c.loop-message.dying.items c.let_go_all.new.dying.items d c.let_go_all.ensures.goes later);
+      goes =
+          λ m d later. c.loop-message.invariant.goes m d (message_went c.loop-message.queue c.take.new.self c.in-Some.message c.as_slice.result.now
+          (sym c.take.ensures.first ∙ c.in-Some.is) c.take.ensures.rest handles
+          c.loop-message.by_koid.entries c.let_go_all.new.by_koid.entries m c.loop-message.dying.items c.let_go_all.new.dying.items d
+          c.let_go_all.ensures.goes later);
       capacity = c.let_go_all.ensures.capacity ∙ c.loop-message.invariant.capacity;
     }

@@ -8,7 +8,8 @@ use Rattle.zl_objects.proofs.releasing.let_go_queue.Given as goal
 abbrev pub invariant-loop-message : goal.invariant-loop-message
 invariant-loop-message l = record {
   cheap : budget l.by_koid.entries l.dying.items ≤ budget l.initial.by_koid.entries l.initial.dying.items;
-  goes : (m : Map Object) (d : List ℕ) → LetsGo (named_in l.queue) l.by_koid.entries l.dying.items m d → LetsGo (named_in l.initial.queue) l.initial.by_koid.entries l.initial.dying.items m d;
+  goes : (m : Map Object) (d : List ℕ) → LetsGo (named_in l.queue) l.by_koid.entries l.dying.items m d
+      → LetsGo (named_in l.initial.queue) l.initial.by_koid.entries l.initial.dying.items m d;
   capacity : vec_capacity l.dying ≡ vec_capacity l.initial.dying;
 }
 

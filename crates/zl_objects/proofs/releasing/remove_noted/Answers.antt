@@ -5,7 +5,8 @@ use Rattle.zl_objects.specs.Objects.{keeper_in, keeper_of, queue_of}
 use Rattle.zl_objects.specs.Release.{named_in}
 use Rattle.zl_objects.specs.Dying.{unkept_at, LetsGo}
 use Rattle.zl_objects.specs.Waits.{ending_waits}
-use Rattle.zl_objects.proofs.Budget.{IsTaken, fewer_ending, kept_went, less_ending, less_noted, none_left_at, none_taken, none_went, no_queue, one_taken, room_noted, taken, unkept_went}
+use Rattle.zl_objects.proofs.Budget.{IsTaken, fewer_ending, kept_went, less_ending, less_noted, none_left_at, none_taken, none_went, no_queue, one_taken}
+use Rattle.zl_objects.proofs.Budget.{room_noted, taken, unkept_went}
 use Rattle.zl_objects.proofs.Ending.{ended_by}
 use Rattle.zl_objects.proofs.Released.{cascaded_shorter, cascades_of}
 use Rattle.zl_objects.proofs.releasing.remove_noted.Goals as goal
@@ -13,29 +14,49 @@ use Rattle.zl_objects.proofs.releasing.remove_noted.Goals as goal
 pub returns-in_default-clause-goes : goal.returns-in_default-clause-goes
 returns-in_default-clause-goes c =
     let none : unkept_at c.args.by_koid.now.entries c.args.koid ≡ None = sym c.take_unkept.ensures.taken ∙ c.in_default.is in
-    rw (c.take_unkept.ensures.left, none_left_at c.args.by_koid.now.entries c.args.koid none) (kept_went c.args.by_koid.now.entries c.args.dying.now.items c.args.koid (none_taken c.args.by_koid.now.entries c.args.koid none))
+    rw (c.take_unkept.ensures.left, none_left_at c.args.by_koid.now.entries c.args.koid none)
+    (kept_went c.args.by_koid.now.entries c.args.dying.now.items c.args.koid (none_taken c.args.by_koid.now.entries c.args.koid none))
 
 pub returns-in_default-clause-less : goal.returns-in_default-clause-less
 returns-in_default-clause-less c =
     let none : unkept_at c.args.by_koid.now.entries c.args.koid ≡ None = sym c.take_unkept.ensures.taken ∙ c.in_default.is in
-    rw (c.take_unkept.ensures.left, none_left_at c.args.by_koid.now.entries c.args.koid none) (less_noted c.args.by_koid.now.entries c.args.dying.now.items c.args.koid)
+    rw (c.take_unkept.ensures.left, none_left_at c.args.by_koid.now.entries c.args.koid none)
+    (less_noted c.args.by_koid.now.entries c.args.dying.now.items c.args.koid)
 
 pub note_keeper-requires : goal.note_keeper-requires
-note_keeper-requires c = record { room = room_noted c.args.by_koid.now.entries c.args.dying.now.items c.args.koid (vec_capacity c.args.dying.now) c.requires.fits }
+note_keeper-requires c =
+    record { room = room_noted c.args.by_koid.now.entries c.args.dying.now.items c.args.koid (vec_capacity c.args.dying.now) c.requires.fits }
 
 pub let_go_queue-requires : goal.let_go_queue-requires
 let_go_queue-requires c =
-    let was : IsTaken c.args.by_koid.now.entries c.args.koid c.in-Some.gone = taken c.args.by_koid.now.entries c.args.koid c.in-Some.gone (sym c.take_unkept.ensures.taken ∙ c.in-Some.is) in
-    let ended : c.end_waits.new.by_koid.entries ≡ ending_waits c.args.koid c.in-Some.gone (without c.args.by_koid.now.entries c.args.koid) = c.end_waits.ensures ∙ ended_by c.args.by_koid.now.entries c.take_unkept.new.by_koid.entries c.args.koid c.in-Some.gone c.has_reserved-reserved.result was.there (c.take_unkept.ensures.left ∙ was.left) c.has_reserved-reserved.ensures in
-    let noted : c.note_keeper.new.dying.items ≡ c.args.dying.now.items ++ option_to_list (keeper_of c.in-Some.gone.body) = c.note_keeper.ensures.noted ∙ ap (λ (q : Option ℕ). c.args.dying.now.items ++ option_to_list q) (c.keeper_at-keeper.ensures ∙ ap keeper_in was.there) in
-    record { fits = rw (ended, noted) (omega (arith, less_ending c.args.by_koid.now.entries c.args.dying.now.items c.args.koid c.in-Some.gone, c.requires.fits, c.note_keeper.ensures.capacity)) }
+    let was : IsTaken c.args.by_koid.now.entries c.args.koid c.in-Some.gone =
+    taken c.args.by_koid.now.entries c.args.koid c.in-Some.gone (sym c.take_unkept.ensures.taken ∙ c.in-Some.is) in
+    let ended : c.end_waits.new.by_koid.entries ≡ ending_waits c.args.koid c.in-Some.gone (without c.args.by_koid.now.entries c.args.koid) =
+    c.end_waits.ensures ∙ ended_by c.args.by_koid.now.entries c.take_unkept.new.by_koid.entries c.args.koid c.in-Some.gone c.has_reserved-reserved.result
+    was.there (c.take_unkept.ensures.left ∙ was.left) c.has_reserved-reserved.ensures in
+    let noted : c.note_keeper.new.dying.items ≡ c.args.dying.now.items ++ option_to_list (keeper_of c.in-Some.gone.body) =
+    c.note_keeper.ensures.noted ∙ ap (λ (q : Option ℕ). c.args.dying.now.items ++ option_to_list q) (c.keeper_at-keeper.ensures ∙ ap keeper_in was.there) in
+    record {
+      fits = rw (ended, noted) (omega (
+        arith,
+        less_ending c.args.by_koid.now.entries c.args.dying.now.items c.args.koid c.in-Some.gone,
+        c.requires.fits,
+        c.note_keeper.ensures.capacity,
+      ));
+    }
 
 pub returns-in-ChannelEnd-clause-goes : goal.returns-in-ChannelEnd-clause-goes
 returns-in-ChannelEnd-clause-goes c =
-    let was : IsTaken c.args.by_koid.now.entries c.args.koid c.in-Some.gone = taken c.args.by_koid.now.entries c.args.koid c.in-Some.gone (sym c.take_unkept.ensures.taken ∙ c.in-Some.is) in
-    let ended : c.end_waits.new.by_koid.entries ≡ ending_waits c.args.koid c.in-Some.gone (without c.args.by_koid.now.entries c.args.koid) = c.end_waits.ensures ∙ ended_by c.args.by_koid.now.entries c.take_unkept.new.by_koid.entries c.args.koid c.in-Some.gone c.has_reserved-reserved.result was.there (c.take_unkept.ensures.left ∙ was.left) c.has_reserved-reserved.ensures in
-    let noted : c.note_keeper.new.dying.items ≡ c.args.dying.now.items ++ option_to_list (keeper_of c.in-Some.gone.body) = c.note_keeper.ensures.noted ∙ ap (λ (q : Option ℕ). c.args.dying.now.items ++ option_to_list q) (c.keeper_at-keeper.ensures ∙ ap keeper_in was.there) in
-    let went : LetsGo (named_in c.in-ChannelEnd.queue) (ending_waits c.args.koid c.in-Some.gone (without c.args.by_koid.now.entries c.args.koid)) (c.args.dying.now.items ++ option_to_list (keeper_of c.in-Some.gone.body)) c.let_go_queue.new.by_koid.entries c.let_go_queue.new.dying.items = rw (ended, noted) at c.let_go_queue.ensures.goes in
+    let was : IsTaken c.args.by_koid.now.entries c.args.koid c.in-Some.gone =
+    taken c.args.by_koid.now.entries c.args.koid c.in-Some.gone (sym c.take_unkept.ensures.taken ∙ c.in-Some.is) in
+    let ended : c.end_waits.new.by_koid.entries ≡ ending_waits c.args.koid c.in-Some.gone (without c.args.by_koid.now.entries c.args.koid) =
+    c.end_waits.ensures ∙ ended_by c.args.by_koid.now.entries c.take_unkept.new.by_koid.entries c.args.koid c.in-Some.gone c.has_reserved-reserved.result
+    was.there (c.take_unkept.ensures.left ∙ was.left) c.has_reserved-reserved.ensures in
+    let noted : c.note_keeper.new.dying.items ≡ c.args.dying.now.items ++ option_to_list (keeper_of c.in-Some.gone.body) =
+    c.note_keeper.ensures.noted ∙ ap (λ (q : Option ℕ). c.args.dying.now.items ++ option_to_list q) (c.keeper_at-keeper.ensures ∙ ap keeper_in was.there) in
+    let went : LetsGo (named_in c.in-ChannelEnd.queue) (ending_waits c.args.koid c.in-Some.gone (without c.args.by_koid.now.entries c.args.koid))
+    (c.args.dying.now.items ++ option_to_list (keeper_of c.in-Some.gone.body)) c.let_go_queue.new.by_koid.entries c.let_go_queue.new.dying.items =
+    rw (ended, noted) at c.let_go_queue.ensures.goes in
     let once : length (without c.args.by_koid.now.entries c.args.koid) + 1 ≡ length c.args.by_koid.now.entries =
     one_taken c.args.by_koid.now.entries c.args.koid c.take_unkept.new.by_koid.entries c.take_unkept.result c.in-Some.gone
     c.take_unkept.ensures.left was c.in-Some.is c.take_unkept.ensures.count in
@@ -47,23 +68,36 @@ returns-in-ChannelEnd-clause-goes c =
 
 pub returns-in-ChannelEnd-clause-less : goal.returns-in-ChannelEnd-clause-less
 returns-in-ChannelEnd-clause-less c =
-    let was : IsTaken c.args.by_koid.now.entries c.args.koid c.in-Some.gone = taken c.args.by_koid.now.entries c.args.koid c.in-Some.gone (sym c.take_unkept.ensures.taken ∙ c.in-Some.is) in
-    let ended : c.end_waits.new.by_koid.entries ≡ ending_waits c.args.koid c.in-Some.gone (without c.args.by_koid.now.entries c.args.koid) = c.end_waits.ensures ∙ ended_by c.args.by_koid.now.entries c.take_unkept.new.by_koid.entries c.args.koid c.in-Some.gone c.has_reserved-reserved.result was.there (c.take_unkept.ensures.left ∙ was.left) c.has_reserved-reserved.ensures in
-    let noted : c.note_keeper.new.dying.items ≡ c.args.dying.now.items ++ option_to_list (keeper_of c.in-Some.gone.body) = c.note_keeper.ensures.noted ∙ ap (λ (q : Option ℕ). c.args.dying.now.items ++ option_to_list q) (c.keeper_at-keeper.ensures ∙ ap keeper_in was.there) in
-    let went : LetsGo (named_in c.in-ChannelEnd.queue) (ending_waits c.args.koid c.in-Some.gone (without c.args.by_koid.now.entries c.args.koid)) (c.args.dying.now.items ++ option_to_list (keeper_of c.in-Some.gone.body)) c.let_go_queue.new.by_koid.entries c.let_go_queue.new.dying.items = rw (ended, noted) at c.let_go_queue.ensures.goes in
+    let was : IsTaken c.args.by_koid.now.entries c.args.koid c.in-Some.gone =
+    taken c.args.by_koid.now.entries c.args.koid c.in-Some.gone (sym c.take_unkept.ensures.taken ∙ c.in-Some.is) in
+    let ended : c.end_waits.new.by_koid.entries ≡ ending_waits c.args.koid c.in-Some.gone (without c.args.by_koid.now.entries c.args.koid) =
+    c.end_waits.ensures ∙ ended_by c.args.by_koid.now.entries c.take_unkept.new.by_koid.entries c.args.koid c.in-Some.gone c.has_reserved-reserved.result
+    was.there (c.take_unkept.ensures.left ∙ was.left) c.has_reserved-reserved.ensures in
+    let noted : c.note_keeper.new.dying.items ≡ c.args.dying.now.items ++ option_to_list (keeper_of c.in-Some.gone.body) =
+    c.note_keeper.ensures.noted ∙ ap (λ (q : Option ℕ). c.args.dying.now.items ++ option_to_list q) (c.keeper_at-keeper.ensures ∙ ap keeper_in was.there) in
+    let went : LetsGo (named_in c.in-ChannelEnd.queue) (ending_waits c.args.koid c.in-Some.gone (without c.args.by_koid.now.entries c.args.koid))
+    (c.args.dying.now.items ++ option_to_list (keeper_of c.in-Some.gone.body)) c.let_go_queue.new.by_koid.entries c.let_go_queue.new.dying.items =
+    rw (ended, noted) at c.let_go_queue.ensures.goes in
     omega (
       arith,
       less_ending c.args.by_koid.now.entries c.args.dying.now.items c.args.koid c.in-Some.gone,
       went.cheap,
       fewer_ending c.args.by_koid.now.entries c.args.dying.now.items c.args.koid c.in-Some.gone was.there,
-      cascaded_shorter (named_in c.in-ChannelEnd.queue) (ending_waits c.args.koid c.in-Some.gone (without c.args.by_koid.now.entries c.args.koid)) c.let_go_queue.new.by_koid.entries (cascades_of (named_in c.in-ChannelEnd.queue) (ending_waits c.args.koid c.in-Some.gone (without c.args.by_koid.now.entries c.args.koid)) c.let_go_queue.new.by_koid.entries (c.args.dying.now.items ++ option_to_list (keeper_of c.in-Some.gone.body)) c.let_go_queue.new.dying.items went),
+      cascaded_shorter (named_in c.in-ChannelEnd.queue)
+          (ending_waits c.args.koid c.in-Some.gone (without c.args.by_koid.now.entries c.args.koid)) c.let_go_queue.new.by_koid.entries
+          (cascades_of (named_in c.in-ChannelEnd.queue) (ending_waits c.args.koid c.in-Some.gone (without c.args.by_koid.now.entries c.args.koid))
+          c.let_go_queue.new.by_koid.entries (c.args.dying.now.items ++ option_to_list (keeper_of c.in-Some.gone.body)) c.let_go_queue.new.dying.items went),
     )
 
 pub returns : goal.returns
 returns c =
-    let was : IsTaken c.args.by_koid.now.entries c.args.koid c.in-Some.gone = taken c.args.by_koid.now.entries c.args.koid c.in-Some.gone (sym c.take_unkept.ensures.taken ∙ c.in-Some.is) in
-    let ended : c.end_waits.new.by_koid.entries ≡ ending_waits c.args.koid c.in-Some.gone (without c.args.by_koid.now.entries c.args.koid) = c.end_waits.ensures ∙ ended_by c.args.by_koid.now.entries c.take_unkept.new.by_koid.entries c.args.koid c.in-Some.gone c.has_reserved-reserved.result was.there (c.take_unkept.ensures.left ∙ was.left) c.has_reserved-reserved.ensures in
-    let noted : c.note_keeper.new.dying.items ≡ c.args.dying.now.items ++ option_to_list (keeper_of c.in-Some.gone.body) = c.note_keeper.ensures.noted ∙ ap (λ (q : Option ℕ). c.args.dying.now.items ++ option_to_list q) (c.keeper_at-keeper.ensures ∙ ap keeper_in was.there) in
+    let was : IsTaken c.args.by_koid.now.entries c.args.koid c.in-Some.gone =
+    taken c.args.by_koid.now.entries c.args.koid c.in-Some.gone (sym c.take_unkept.ensures.taken ∙ c.in-Some.is) in
+    let ended : c.end_waits.new.by_koid.entries ≡ ending_waits c.args.koid c.in-Some.gone (without c.args.by_koid.now.entries c.args.koid) =
+    c.end_waits.ensures ∙ ended_by c.args.by_koid.now.entries c.take_unkept.new.by_koid.entries c.args.koid c.in-Some.gone c.has_reserved-reserved.result
+    was.there (c.take_unkept.ensures.left ∙ was.left) c.has_reserved-reserved.ensures in
+    let noted : c.note_keeper.new.dying.items ≡ c.args.dying.now.items ++ option_to_list (keeper_of c.in-Some.gone.body) =
+    c.note_keeper.ensures.noted ∙ ap (λ (q : Option ℕ). c.args.dying.now.items ++ option_to_list q) (c.keeper_at-keeper.ensures ∙ ap keeper_in was.there) in
     let once : length (without c.args.by_koid.now.entries c.args.koid) + 1 ≡ length c.args.by_koid.now.entries =
     one_taken c.args.by_koid.now.entries c.args.koid c.take_unkept.new.by_koid.entries c.take_unkept.result c.in-Some.gone
     c.take_unkept.ensures.left was c.in-Some.is c.take_unkept.ensures.count in
@@ -74,6 +108,10 @@ returns c =
           (c.args.dying.now.items ++ option_to_list (keeper_of c.in-Some.gone.body)) was.there was.unkept once
           (rw empty (none_went (ending_waits c.args.koid c.in-Some.gone (without c.args.by_koid.now.entries c.args.koid))
           (c.args.dying.now.items ++ option_to_list (keeper_of c.in-Some.gone.body))));
-      less = omega (arith, less_ending c.args.by_koid.now.entries c.args.dying.now.items c.args.koid c.in-Some.gone, fewer_ending c.args.by_koid.now.entries c.args.dying.now.items c.args.koid c.in-Some.gone was.there);
+      less = omega (
+        arith,
+        less_ending c.args.by_koid.now.entries c.args.dying.now.items c.args.koid c.in-Some.gone,
+        fewer_ending c.args.by_koid.now.entries c.args.dying.now.items c.args.koid c.in-Some.gone was.there,
+      );
       capacity = c.note_keeper.ensures.capacity;
     })

@@ -3,12 +3,24 @@ use Rattle.zl_objects.proofs.Budget.{none_noted, test_fits, test_kept}
 use Rattle.zl_objects.proofs.releasing.remove_unkept.Goals as goal
 
 pub push_reserved-requires : goal.push_reserved-requires
-push_reserved-requires c = omega (arith, none_noted c.args.by_koid.now.entries c.args.koid (vec_capacity c.args.dying.now) c.args.dying.now.items (sym c.is_unkept.ensures ∙ c.if-is_unkept.true) c.requires.none c.requires.room, c.args.dying.now.ok.0)
+push_reserved-requires c = omega (
+  arith,
+  none_noted c.args.by_koid.now.entries c.args.koid (vec_capacity c.args.dying.now) c.args.dying.now.items (sym c.is_unkept.ensures ∙ c.if-is_unkept.true)
+      c.requires.none c.requires.room,
+  c.args.dying.now.ok.0,
+)
 
 pub remove_dying-requires : goal.remove_dying-requires
 remove_dying-requires c =
     let noted : c.push_reserved.new.self.items ≡ c.args.koid ∷ [] = c.push_reserved.ensures.items ∙ rw c.requires.none refl in
-    record { fits = rw noted (omega (arith, test_fits c.args.by_koid.now.entries c.args.koid (sym c.is_unkept.ensures ∙ c.if-is_unkept.true), c.requires.room, c.push_reserved.ensures.capacity)) }
+    record {
+      fits = rw noted (omega (
+        arith,
+        test_fits c.args.by_koid.now.entries c.args.koid (sym c.is_unkept.ensures ∙ c.if-is_unkept.true),
+        c.requires.room,
+        c.push_reserved.ensures.capacity,
+      ));
+    }
 
 pub returns-then-is_unkept-clause-goes : goal.returns-then-is_unkept-clause-goes
 returns-then-is_unkept-clause-goes c =

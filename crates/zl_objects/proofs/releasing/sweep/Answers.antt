@@ -8,19 +8,32 @@ loop-koid-init c = record { sweeps = sweep_begins c.args.by_koid.now.entries; no
 pub remove_unkept-requires : goal.remove_unkept-requires
 remove_unkept-requires c = record {
   none = c.loop-koid.invariant.none;
-  room = omega (arith, swept_shorter c.args.by_koid.now.entries c.loop-koid.by_koid.entries c.loop-koid.from c.loop-koid.invariant.sweeps, c.loop-koid.invariant.capacity, c.requires.room);
+  room = omega (
+    arith,
+    swept_shorter c.args.by_koid.now.entries c.loop-koid.by_koid.entries c.loop-koid.from c.loop-koid.invariant.sweeps,
+    c.loop-koid.invariant.capacity,
+    c.requires.room,
+  );
 }
 
 -- each koid lies below the end
 pub overflow_add-from : goal.overflow_add-from
-overflow_add-from c = omega (arith, c.ranges.end.fits, c.requires.below c.in-Some.koid (swept_there c.args.by_koid.now.entries c.loop-koid.by_koid.entries c.loop-koid.from c.loop-koid.invariant.sweeps c.in-Some.koid (c.in-Some.ensures {u = tt}).next.there))
+overflow_add-from c = omega (
+  arith,
+  c.ranges.end.fits,
+  c.requires.below c.in-Some.koid
+      (swept_there c.args.by_koid.now.entries c.loop-koid.by_koid.entries c.loop-koid.from c.loop-koid.invariant.sweeps c.in-Some.koid
+      (c.in-Some.ensures {u = tt}).next.there),
+)
 
 pub loop-koid-preserved : goal.loop-koid-preserved
 loop-koid-preserved c = record {
-  sweeps = sweep_goes_on c.args.by_koid.now.entries c.loop-koid.by_koid.entries c.remove_unkept.new.by_koid.entries c.loop-koid.from c.in-Some.koid c.loop-koid.invariant.sweeps (c.in-Some.ensures {u = tt}).next c.remove_unkept.ensures.goes;
+  sweeps = sweep_goes_on c.args.by_koid.now.entries c.loop-koid.by_koid.entries c.remove_unkept.new.by_koid.entries c.loop-koid.from c.in-Some.koid
+      c.loop-koid.invariant.sweeps (c.in-Some.ensures {u = tt}).next c.remove_unkept.ensures.goes;
   none = c.remove_unkept.ensures.none;
   capacity = c.remove_unkept.ensures.capacity ∙ c.loop-koid.invariant.capacity;
 }
 
 pub returns-clause-goes : goal.returns-clause-goes
-returns-clause-goes c = sweep_ends c.args.by_koid.now.entries c.loop-koid.by_koid.entries c.loop-koid.from c.loop-koid.invariant.sweeps (c.in_default.ensures {u = tt}).next
+returns-clause-goes c =
+    sweep_ends c.args.by_koid.now.entries c.loop-koid.by_koid.entries c.loop-koid.from c.loop-koid.invariant.sweeps (c.in_default.ensures {u = tt}).next

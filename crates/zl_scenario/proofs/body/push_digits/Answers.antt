@@ -5,7 +5,8 @@ use Rattle.zl_scenario.proofs.body.push_digits.Goals.{then-byte-ne32+in-Some+in_
 
 pub returns-in_default : goal.returns-in_default
 returns-in_default c =
-    sym c.loop-byte.invariant ∙ at_other c.loop-byte.digits c.args.line.now c.loop-byte.byte-index c.loop-byte-test.true c.if-byte-ne32.true c.in_default.ensures
+    sym c.loop-byte.invariant
+    ∙ at_other c.loop-byte.digits c.args.line.now c.loop-byte.byte-index c.loop-byte-test.true c.if-byte-ne32.true c.in_default.ensures
 
 pub loop-byte-preserved : goal.loop-byte-preserved
 loop-byte-preserved c = elim c.if-byte-ne32.branch [
@@ -14,7 +15,8 @@ loop-byte-preserved c = elim c.if-byte-ne32.branch [
       sym (after_digit c.loop-byte.digits c.args.line.now c.loop-byte.byte-index w.in-Some.digit c.loop-byte-test.true w.if-byte-ne32.true w.in-Some.ensures)
       ∙ c.loop-byte.invariant)
   | else-byte-ne32 w ↦
-      rw w.digits-is (sym (after_space c.loop-byte.digits c.args.line.now c.loop-byte.byte-index c.loop-byte-test.true w.if-byte-ne32.false) ∙ c.loop-byte.invariant)
+      rw w.digits-is
+      (sym (after_space c.loop-byte.digits c.args.line.now c.loop-byte.byte-index c.loop-byte-test.true w.if-byte-ne32.false) ∙ c.loop-byte.invariant)
 ]
 
 pub returns : goal.returns

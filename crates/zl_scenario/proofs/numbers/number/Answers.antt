@@ -1,4 +1,5 @@
-use Rattle.zl_scenario.proofs.Common.{◌≡◌, ◌+◌, ◌*◌, ◌-◌, ◌^◌, ◌<◌, true, Some, length, get_or, take, sym, ap, ◌∙◌, arith, list_all, nat_tests, decimal_value, is_decimal_digit}
+use Rattle.zl_scenario.proofs.Common.{◌≡◌, ◌+◌, ◌*◌, ◌-◌, ◌^◌, ◌<◌, true, Some, length, get_or, take, sym, ap, ◌∙◌, arith, list_all, nat_tests, decimal_value}
+use Rattle.zl_scenario.proofs.Common.{is_decimal_digit}
 use Rattle.std.proofs.Common.{take_all}
 use Rattle.zl_scenario.proofs.Decimals.{none_empty, none_digit, none_large, some_number, not_digit, digit_value}
 use Rattle.zl_scenario.proofs.numbers.number.Goals as goal
@@ -7,7 +8,8 @@ pub returns-then-is_empty : goal.returns-then-is_empty
 returns-then-is_empty c = none_empty _ (grind (arith, nat_tests, c.is_empty.ensures))
 
 pub returns-in_default : goal.returns-in_default
-returns-in_default c = none_digit c.args.word.now c.loop-byte.byte-index (omega arith) (not_digit (get_or c.args.word.now c.loop-byte.byte-index 0) c.in_default.ensures)
+returns-in_default c =
+    none_digit c.args.word.now c.loop-byte.byte-index (omega arith) (not_digit (get_or c.args.word.now c.loop-byte.byte-index 0) c.in_default.ensures)
 
 pub returns-in_default-with_digit : goal.returns-in_default-with_digit
 returns-in_default-with_digit c =

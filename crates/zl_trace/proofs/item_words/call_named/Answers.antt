@@ -8,10 +8,12 @@ use Rattle.zl_trace.proofs.item_words.call_named.Goals as goal
 
 pub returns-clause-some : goal.returns-clause-some
 returns-clause-some c =
-    let is = find_from_yields_List {all = calls} (by_name call_name calls c.args.name.now) _ _ _ c.find.ensures.ran (YieldsList-from_slice _ cc) (λ x b q k. search rules) in
+    let is = find_from_yields_List {all = calls} (by_name call_name calls c.args.name.now) _ _ _ c.find.ensures.ran (YieldsList-from_slice _ cc)
+    (λ x b q k. search rules) in
     found call_name calls c.args.name.now c.copied.result (c.copied.ensures ∙ is)
 
 pub returns-clause-none : goal.returns-clause-none
 returns-clause-none c =
-    let is = find_from_yields_List {all = calls} (by_name call_name calls c.args.name.now) _ _ _ c.find.ensures.ran (YieldsList-from_slice _ cc) (λ x b q k. search rules) in
+    let is = find_from_yields_List {all = calls} (by_name call_name calls c.args.name.now) _ _ _ c.find.ensures.ran (YieldsList-from_slice _ cc)
+    (λ x b q k. search rules) in
     missing call_name calls c.args.name.now call_among c.copied.result (c.copied.ensures ∙ is)

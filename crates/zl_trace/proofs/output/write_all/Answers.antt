@@ -11,7 +11,8 @@ loop-done-preserved g c = record {
 
 pub returns-in-Ok-eq0-clause-err : goal.returns-in-Ok-eq0-clause-err
 returns-in-Ok-eq0-clause-err g c =
-    begun_by_front _ _ c.args.bytes.now (c.loop-done.done + c.in-Ok-eq0.field-0) (appended_more _ _ _ c.args.bytes.now c.loop-done.done c.in-Ok-eq0.field-0 c.loop-done.invariant.appended c.in-Ok-eq0.ensures.bytes)
+    begun_by_front _ _ c.args.bytes.now (c.loop-done.done + c.in-Ok-eq0.field-0)
+    (appended_more _ _ _ c.args.bytes.now c.loop-done.done c.in-Ok-eq0.field-0 c.loop-done.invariant.appended c.in-Ok-eq0.ensures.bytes)
 
 pub returns-in-Err-clause-err : goal.returns-in-Err-clause-err
 returns-in-Err-clause-err g c =

@@ -21,14 +21,16 @@ returns-in-End-clause-ok c =
 pub loop-index-preserved-in-Nothing : goal.loop-index-preserved-in-Nothing
 loop-index-preserved-in-Nothing c =
     let says = rw c.in-Nothing.is at (c.in_ok-read_line.ensures {u = tt}) in
-    subst (λ (lines : List (List ℕ)). ReadOn lines c.loop-index.items.items) (sym (map-append (λ x. x.1.now) c.loop-index.yielded ((c.in-Some.index, c.in-Some.line) ∷ [])))
+    subst (λ (lines : List (List ℕ)). ReadOn lines c.loop-index.items.items)
+    (sym (map-append (λ x. x.1.now) c.loop-index.yielded ((c.in-Some.index, c.in-Some.line) ∷ [])))
     (passed (map (λ x. x.1.now) c.loop-index.yielded) c.loop-index.items.items c.loop-index.invariant c.in-Some.line.now says.0 says.1)
 
 pub loop-index-preserved : goal.loop-index-preserved
 loop-index-preserved c =
     let says = rw c.in-Item.is at (c.in_ok-read_line.ensures {u = tt}) in
     let items : c.push.new.self.items ≡ c.loop-index.items.items ++ (c.in-Item.item ∷ []) = search rules in
-    rw items (subst (λ (lines : List (List ℕ)). ReadOn lines (c.loop-index.items.items ++ (c.in-Item.item ∷ []))) (sym (map-append (λ x. x.1.now) c.loop-index.yielded ((c.in-Some.index, c.in-Some.line) ∷ [])))
+    rw items (subst (λ (lines : List (List ℕ)). ReadOn lines (c.loop-index.items.items ++ (c.in-Item.item ∷ [])))
+    (sym (map-append (λ x. x.1.now) c.loop-index.yielded ((c.in-Some.index, c.in-Some.line) ∷ [])))
     (taken (map (λ x. x.1.now) c.loop-index.yielded) c.loop-index.items.items c.loop-index.invariant c.in-Some.line.now c.in-Item.item says.0 says.1 says.2))
 
 pub returns-in-Wrong-clause-syntax : goal.returns-in-Wrong-clause-syntax
@@ -41,11 +43,13 @@ returns-in-Wrong-clause-syntax c line is =
     let says = rw c.in-Wrong.is at (c.in_ok-read_line.ensures {u = tt}) in
     let at_line : length (map (λ x. x.1.now) c.loop-index.yielded) + 1 ≡ line = ap (λ (n : ℕ). n + 1) (sym next.number) ∙ named in
     subst (IsFirstWrong c.args.text.now) at_line
-    (wrong c.args.text.now (map (λ x. x.1.now) c.loop-index.yielded) next.rest c.loop-index.items.items c.in-Some.line.now c.loop-index.invariant next.cut says.0 says.1 says.2)
+    (wrong c.args.text.now (map (λ x. x.1.now) c.loop-index.yielded) next.rest c.loop-index.items.items c.in-Some.line.now c.loop-index.invariant next.cut
+    says.0 says.1 says.2)
 
 pub returns-clause-ok : goal.returns-clause-ok
 returns-clause-ok c =
     let chain = YieldsList-from_enumerate (YieldsList-from_slice_split _ (λ b. nat_eq b 10) c.args.text.now (cc) (cc) (cc) (λ x b q k. search rules)) (cc) in
     let whole = YieldsList-end chain c.loop-index.yielded _ c.loop-index.yielded_by _ _ c.in-None.is c.next.ensures.steps in
-    subst (λ (lines : List (List ℕ)). AreLinesOf (item_lines_from 1 lines) c.loop-index.items.items) (all_yielded (λ l. l.now) (lines_of c.args.text.now) c.loop-index.yielded whole.0)
+    subst (λ (lines : List (List ℕ)). AreLinesOf (item_lines_from 1 lines) c.loop-index.items.items)
+    (all_yielded (λ l. l.now) (lines_of c.args.text.now) c.loop-index.yielded whole.0)
     (all_read (map (λ x. x.1.now) c.loop-index.yielded) c.loop-index.items.items c.loop-index.invariant)

@@ -3,4 +3,5 @@ use Rattle.zl_verify.proofs.LookingAhead.{ahead_more}
 use Rattle.zl_verify.proofs.ahead.targets_ahead.Goals as goal
 
 pub loop-place-preserved : goal.loop-place-preserved
-loop-place-preserved c = ahead_more _ _ _ _ c.loop-place.invariant (omega (arith, c.loop-place.invariant.long, c.len-place-end.ensures.value)) c.targets_at.ensures
+loop-place-preserved c =
+    ahead_more _ _ _ _ c.loop-place.invariant (omega (arith, c.loop-place.invariant.long, c.len-place-end.ensures.value)) c.targets_at.ensures

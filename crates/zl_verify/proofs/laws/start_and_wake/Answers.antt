@@ -11,4 +11,5 @@ returns-clause-wakes c = λ i t lib w p x w2 range typing run q process there ru
     process there running k
 
 pub returns-clause-boots : goal.returns-clause-boots
-returns-clause-boots c = λ lib statements boot p q b there. (is_booted lib statements boot b p q there, proper lib statements boot b p q (is_booted lib statements boot b p q there))
+returns-clause-boots c =
+    λ lib statements boot p q b there. (is_booted lib statements boot b p q there, proper lib statements boot b p q (is_booted lib statements boot b p q there))

@@ -19,7 +19,8 @@ returns-in_err-write_found-clause-err g c =
     let front = c.in_ok-front.ensures.ok in
     let is_true = c.in_ok-found.ensures.ok input.bytes front.bytes input.holds (c.as_slice.ensures.value ∙ front.is_front) in
     on_err c.from_residual-in_err-write_found.result
-    (line_begun input.bytes front.bytes c.in_ok-found.found _ (record { those_told = input.those_told }) (record { those_told = front.those_told }) is_true (c.in_err-write_found.ensures).err)
+    (line_begun input.bytes front.bytes c.in_ok-found.found _ (record { those_told = input.those_told }) (record { those_told = front.those_told }) is_true
+    (c.in_err-write_found.ensures).err)
 
 pub returns-clause-ok : goal.returns-clause-ok
 returns-clause-ok g c =

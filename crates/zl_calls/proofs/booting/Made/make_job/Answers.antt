@@ -6,7 +6,9 @@ pub returns-then-not-is_job-clause-err : goal.returns-then-not-is_job-clause-err
 returns-then-not-is_job-clause-err c = λ lib. no_parent lib c.args.self.now c.requires c.args.parent (sym c.is_job.ensures ∙ c.if-not-is_job.true)
 
 pub returns-in_default-clause-err : goal.returns-in_default-clause-err
-returns-in_default-clause-err c = λ lib. too_deep lib c.args.self.now c.requires c.args.parent (sym c.is_job.ensures ∙ c.if-not-is_job.false) (λ x is. c.in_default.not-Ok x (c.job_below.ensures ∙ is))
+returns-in_default-clause-err c =
+    λ lib. too_deep lib c.args.self.now c.requires c.args.parent (sym c.is_job.ensures ∙ c.if-not-is_job.false)
+    (λ x is. c.in_default.not-Ok x (c.job_below.ensures ∙ is))
 
 pub returns-clause-ok : goal.returns-clause-ok
 returns-clause-ok c = λ lib. job_makes lib c.args.self.now c.requires c.args.parent (sym c.is_job.ensures ∙ c.if-not-is_job.false) c.in-Ok.child

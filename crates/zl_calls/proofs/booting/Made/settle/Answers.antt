@@ -13,19 +13,23 @@ pub loop-koid-preserved : goal.loop-koid-preserved
 loop-koid-preserved c =
     let koid : c.loop-koid.koid ≡ c.loop-koid.koid - 1 + 1 = omega (arith, c.loop-koid-test.true) in
     record {
-      swept = one_swept c.args.self.now.objects c.loop-koid.self.objects c.remove_unheld.new.self (c.loop-koid.koid - 1) (rw koid at c.loop-koid.invariant.swept) c.remove_unheld.ensures.releases c.remove_unheld.ensures.listed;
+      swept = one_swept c.args.self.now.objects c.loop-koid.self.objects c.remove_unheld.new.self (c.loop-koid.koid - 1)
+          (rw koid at c.loop-koid.invariant.swept) c.remove_unheld.ensures.releases c.remove_unheld.ensures.listed;
       processes = c.loop-koid.invariant.processes;
     }
 
 pub returns-clause-settles : goal.returns-clause-settles
 returns-clause-settles c =
     let all : ◌≡◌ {A = ℕ} c.loop-koid.koid 0 = omega (arith, c.loop-koid-test.false) in
-    rw (c.leave.ensures, c.loop-koid.invariant.processes) ((all_swept c.args.self.now.processes.items c.args.self.now.objects c.loop-koid.self.objects c.requires (rw all at c.loop-koid.invariant.swept)).settles)
+    rw (c.leave.ensures, c.loop-koid.invariant.processes)
+    ((all_swept c.args.self.now.processes.items c.args.self.now.objects c.loop-koid.self.objects c.requires (rw all at c.loop-koid.invariant.swept)).settles)
 
 pub returns-clause-lab : goal.returns-clause-lab
 returns-clause-lab c =
     let all : ◌≡◌ {A = ℕ} c.loop-koid.koid 0 = omega (arith, c.loop-koid-test.false) in
-    rw (c.leave.ensures, c.loop-koid.invariant.processes) (left_keeps c.args.self.now.processes.items c.loop-koid.self.objects (all_swept c.args.self.now.processes.items c.args.self.now.objects c.loop-koid.self.objects c.requires (rw all at c.loop-koid.invariant.swept)).lab)
+    rw (c.leave.ensures, c.loop-koid.invariant.processes)
+    (left_keeps c.args.self.now.processes.items c.loop-koid.self.objects
+    (all_swept c.args.self.now.processes.items c.args.self.now.objects c.loop-koid.self.objects c.requires (rw all at c.loop-koid.invariant.swept)).lab)
 
 pub returns-clause-unwatched : goal.returns-clause-unwatched
 returns-clause-unwatched c =

@@ -3,4 +3,5 @@ use Rattle.zl_calls.specs.Registered.{KeepsListed}
 use Rattle.zl_calls.proofs.calls.channel.release_each.Given as goal
 
 abbrev pub invariant-loop-handle : goal.invariant-loop-handle
-invariant-loop-handle l = record { releases : Releases (koids_of (take l.handle-index l.handles)) [] l.initial.objects l.objects; listed : KeepsListed l.initial.objects l.objects }
+invariant-loop-handle l =
+    record { releases : Releases (koids_of (take l.handle-index l.handles)) [] l.initial.objects l.objects; listed : KeepsListed l.initial.objects l.objects }

@@ -8,5 +8,7 @@ loop-value-init c = record { closes = record { table = refl; objects = none_goes
 
 pub loop-value-preserved : goal.loop-value-preserved
 loop-value-preserved c = record {
-  closes = closes_more c.args.values.now c.loop-value.value-index _ c.loop-value-test.true c.args.table.now c.loop-value.table c.close.new.table c.args.objects.now c.loop-value.objects c.close.new.objects c.loop-value.invariant.closes c.close.ensures.table c.close.ensures.objects c.close.ensures.listed;
+  closes =
+      closes_more c.args.values.now c.loop-value.value-index _ c.loop-value-test.true c.args.table.now c.loop-value.table c.close.new.table c.args.objects.now
+      c.loop-value.objects c.close.new.objects c.loop-value.invariant.closes c.close.ensures.table c.close.ensures.objects c.close.ensures.listed;
 }

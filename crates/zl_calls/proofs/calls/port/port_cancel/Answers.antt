@@ -4,18 +4,24 @@ use Rattle.zl_calls.proofs.calls.port.port_cancel.Goals as goal
 
 pub returns-then-cancelled-eq0 : goal.returns-then-cancelled-eq0
 returns-then-cancelled-eq0 c =
-    let same : c.in-Some.value ≡ c.args.source = found_value c.args.source c.in-Some.value c.in-Some.named (get c.args.table.now.entries c.args.source) (c.in-Some.ensures {u = tt}) in
+    let same : c.in-Some.value ≡ c.args.source =
+    found_value c.args.source c.in-Some.value c.in-Some.named (get c.args.table.now.entries c.args.source) (c.in-Some.ensures {u = tt}) in
     none_cancelled c.args.table.now c.args.objects.now c.args.pid c.args.port c.args.source c.args.key c.in_ok-receiver.receiver c.in-Some.named
-    (sym c.look_up.ensures ∙ c.in_ok-receiver.was {u = tt}) (found_entry c.args.source c.in-Some.value c.in-Some.named (get c.args.table.now.entries c.args.source) (c.in-Some.ensures {u = tt}))
-    c.cancel-cancelled.new.self (rw same at (sym c.is_awaited-any.ensures ∙ c.if-not-any.true)) (rw same at (sym c.cancel-cancelled.ensures.count ∙ c.if-cancelled-eq0.true)) (rw same at c.cancel-cancelled.ensures.rest)
+    (sym c.look_up.ensures ∙ c.in_ok-receiver.was {u = tt})
+    (found_entry c.args.source c.in-Some.value c.in-Some.named (get c.args.table.now.entries c.args.source) (c.in-Some.ensures {u = tt}))
+    c.cancel-cancelled.new.self (rw same at (sym c.is_awaited-any.ensures ∙ c.if-not-any.true))
+    (rw same at (sym c.cancel-cancelled.ensures.count ∙ c.if-cancelled-eq0.true)) (rw same at c.cancel-cancelled.ensures.rest)
 
 pub returns : goal.returns
 returns c =
-    let same : c.in-Some.value ≡ c.args.source = found_value c.args.source c.in-Some.value c.in-Some.named (get c.args.table.now.entries c.args.source) (c.in-Some.ensures {u = tt}) in
+    let same : c.in-Some.value ≡ c.args.source =
+    found_value c.args.source c.in-Some.value c.in-Some.named (get c.args.table.now.entries c.args.source) (c.in-Some.ensures {u = tt}) in
     some_cancelled c.args.table.now c.args.objects.now c.args.pid c.args.port c.args.source c.args.key c.in_ok-receiver.receiver c.in-Some.named
-    (sym c.look_up.ensures ∙ c.in_ok-receiver.was {u = tt}) (found_entry c.args.source c.in-Some.value c.in-Some.named (get c.args.table.now.entries c.args.source) (c.in-Some.ensures {u = tt}))
+    (sym c.look_up.ensures ∙ c.in_ok-receiver.was {u = tt})
+    (found_entry c.args.source c.in-Some.value c.in-Some.named (get c.args.table.now.entries c.args.source) (c.in-Some.ensures {u = tt}))
     c.cancel_waits.new.objects
     (found_some c.args.table.now c.args.objects.now c.args.pid c.args.port c.args.source c.args.key c.in_ok-receiver.receiver c.in-Some.named
-    (sym c.look_up.ensures ∙ c.in_ok-receiver.was {u = tt}) (found_entry c.args.source c.in-Some.value c.in-Some.named (get c.args.table.now.entries c.args.source) (c.in-Some.ensures {u = tt}))
+    (sym c.look_up.ensures ∙ c.in_ok-receiver.was {u = tt})
+    (found_entry c.args.source c.in-Some.value c.in-Some.named (get c.args.table.now.entries c.args.source) (c.in-Some.ensures {u = tt}))
     c.is_awaited-any.result c.cancel-cancelled.result (rw same at c.is_awaited-any.ensures) (rw same at c.cancel-cancelled.ensures.count) c.else-not-any.either)
     (rw (same, rw same at c.cancel-cancelled.ensures.rest) at c.cancel_waits.ensures.ended)

@@ -10,8 +10,10 @@ loop-entry-smaller c = drained_is_shorter _ _ _ c.in-Some.ensures.some
 
 pub loop-entry-preserved : goal.loop-entry-preserved
 loop-entry-preserved c = record {
-  closes = λ r2 rest. c.loop-entry.invariant.closes r2 (drained_closes _ _ _ c.loop-entry.objects c.release.new.self r2 c.in-Some.ensures.some c.release.ensures.releases rest);
-  listed = listed_then c.end.new.self c.loop-entry.objects c.release.new.self c.loop-entry.invariant.listed (listed_gone _ [] c.loop-entry.objects c.release.new.self c.release.ensures.releases c.release.ensures.listed);
+  closes = λ r2 rest.
+      c.loop-entry.invariant.closes r2 (drained_closes _ _ _ c.loop-entry.objects c.release.new.self r2 c.in-Some.ensures.some c.release.ensures.releases rest);
+  listed = listed_then c.end.new.self c.loop-entry.objects c.release.new.self c.loop-entry.invariant.listed
+      (listed_gone _ [] c.loop-entry.objects c.release.new.self c.release.ensures.releases c.release.ensures.listed);
 }
 
 pub returns : goal.returns
@@ -22,9 +24,11 @@ returns c = record {
   between = c.end.new.self;
   over = subst (λ (p : Process). ObjectEnds p.pid c.args.objects.now c.end.new.self) c.end-table.ensures.ended c.end.ensures.ends;
   closes =
-      let left : Drained c.loop-entry.table.entries c.loop-entry.objects c.loop-entry.objects = all_closed c.loop-entry.table c.loop-entry.objects (c.in_default.ensures {u = tt}).empty in
+      let left : Drained c.loop-entry.table.entries c.loop-entry.objects c.loop-entry.objects =
+      all_closed c.loop-entry.table c.loop-entry.objects (c.in_default.ensures {u = tt}).empty in
       rw (← c.end-table.ensures.table) (c.loop-entry.invariant.closes c.loop-entry.objects left);
-  listed = listed_then c.args.objects.now c.end.new.self c.loop-entry.objects (listed_over _ c.args.objects.now c.end.new.self c.end.ensures.ends c.end.ensures.listed) c.loop-entry.invariant.listed;
+  listed = listed_then c.args.objects.now c.end.new.self c.loop-entry.objects
+      (listed_over _ c.args.objects.now c.end.new.self c.end.ensures.ends c.end.ensures.listed) c.loop-entry.invariant.listed;
 }
 
 pub loop-entry-init : goal.loop-entry-init

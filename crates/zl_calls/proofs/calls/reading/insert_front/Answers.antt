@@ -27,7 +27,12 @@ returns-in_default-insert-clause-unchanged c = c.take_back.ensures (record {
 pub loop-n-preserved : goal.loop-n-preserved
 loop-n-preserved c = record {
   entered =
-      rw (front_more (queue_in (get c.args.objects.now.objects c.args.front.end)) c.loop-n.n c.in-Some.entry (omega (arith, c.requires.count, c.loop-n-test.true)) (sym c.in-Some.is ∙ c.front_entry.ensures), c.push_reserved.ensures.items)
-      (one_behind c.args.table.now c.loop-n.table c.insert.new.table (take c.loop-n.n (front_handles c.args.objects.now.objects c.args.front.end)) c.loop-n.values.items c.in-Some.entry c.in-Ok.value c.loop-n.invariant.entered c.in-Ok.ensures.ok);
+      rw (
+        front_more (queue_in (get c.args.objects.now.objects c.args.front.end)) c.loop-n.n c.in-Some.entry (omega (arith, c.requires.count, c.loop-n-test.true))
+            (sym c.in-Some.is ∙ c.front_entry.ensures),
+        c.push_reserved.ensures.items,
+      )
+      (one_behind c.args.table.now c.loop-n.table c.insert.new.table (take c.loop-n.n (front_handles c.args.objects.now.objects c.args.front.end))
+      c.loop-n.values.items c.in-Some.entry c.in-Ok.value c.loop-n.invariant.entered c.in-Ok.ensures.ok);
   room = rw c.push_reserved.ensures.capacity c.loop-n.invariant.room;
 }

@@ -5,7 +5,9 @@ use Rattle.zl_calls.proofs.calls.reading.take_back.Goals.{then-n-eq0, else-n-eq0
 
 pub undo-requires : goal.undo-requires
 undo-requires c = record {
-  told = may_tell c.requires.before c.loop-n.table c.args.last c.args.values.now c.loop-n.n (c.loop-n.n - 1) 0 (omega (arith, c.loop-n-test.true)) (omega (arith, c.loop-n.auto)) c.requires.was (c.loop-n.invariant.left c.requires) c.if-n-eq0.told
+  told =
+      may_tell c.requires.before c.loop-n.table c.args.last c.args.values.now c.loop-n.n (c.loop-n.n - 1) 0 (omega (arith, c.loop-n-test.true))
+      (omega (arith, c.loop-n.auto)) c.requires.was (c.loop-n.invariant.left c.requires) c.if-n-eq0.told
       (elim c.if-n-eq0.branch as (λ _. c.if-n-eq0.told ≡ told_at (c.loop-n.n - 1) c.args.last) [
         | then-n-eq0 w ↦ told_first (c.loop-n.n - 1) c.args.last c.if-n-eq0.told w.if-n-eq0.true w.told-is
         | else-n-eq0 w ↦ told_none (c.loop-n.n - 1) c.args.last c.if-n-eq0.told w.if-n-eq0.false w.told-is
@@ -14,7 +16,9 @@ undo-requires c = record {
 
 pub loop-n-preserved : goal.loop-n-preserved
 loop-n-preserved c = record {
-  left = λ from. one_back from.before c.loop-n.table c.args.last c.args.values.now c.loop-n.n (c.loop-n.n - 1) 0 (omega (arith, c.loop-n-test.true)) (omega (arith, c.loop-n.auto)) from.was (c.loop-n.invariant.left from) c.if-n-eq0.told
+  left =
+      λ from. one_back from.before c.loop-n.table c.args.last c.args.values.now c.loop-n.n (c.loop-n.n - 1) 0 (omega (arith, c.loop-n-test.true))
+      (omega (arith, c.loop-n.auto)) from.was (c.loop-n.invariant.left from) c.if-n-eq0.told
       (elim c.if-n-eq0.branch as (λ _. c.if-n-eq0.told ≡ told_at (c.loop-n.n - 1) c.args.last) [
         | then-n-eq0 w ↦ told_first (c.loop-n.n - 1) c.args.last c.if-n-eq0.told w.if-n-eq0.true w.told-is
         | else-n-eq0 w ↦ told_none (c.loop-n.n - 1) c.args.last c.if-n-eq0.told w.if-n-eq0.false w.told-is

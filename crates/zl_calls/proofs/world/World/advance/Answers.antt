@@ -1,4 +1,5 @@
-use Rattle.zl_calls.proofs.Common.{◌≡◌, ◌∙◌, ◌==◌, true, ap, get, map, on_process, position, refl, slice_get, Some, Cpu, is_ready, process_entry, process_value, state_value, world_blocked}
+use Rattle.zl_calls.proofs.Common.{◌≡◌, ◌∙◌, ◌==◌, true, ap, get, map, on_process, position, refl, slice_get, Some, Cpu, is_ready, process_entry, process_value}
+use Rattle.zl_calls.proofs.Common.{state_value, world_blocked}
 use Rattle.std.proofs.lemmas.List.{length-set}
 use Rattle.zl_interp.specs.Bursts.{after_locals}
 use Rattle.zl_calls.specs.Turns.{Stands}

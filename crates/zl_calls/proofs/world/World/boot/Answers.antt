@@ -14,9 +14,13 @@ boots c = booted_boots c.args.library c.args.boot.now.statements.items c.in_ok-p
 pub invariant_of-result : goal.invariant_of-result
 invariant_of-result c = record {
   lab = c.in_ok-processes.ensures.lab;
-  sound = booted_sound c.args.library c.args.boot.now.statements.items c.in_ok-processes.field-0.processes.items c.in_ok-processes.field-0.objects c.in-Ok.blocked.items
+  sound =
+      booted_sound c.args.library c.args.boot.now.statements.items c.in_ok-processes.field-0.processes.items c.in_ok-processes.field-0.objects
+      c.in-Ok.blocked.items
       c.in_ok-processes.ensures.ok c.in_ok-processes.ensures.unwatched ((c.in-Ok.ensures {u = tt}).items);
-  are_blocked = none_blocked c.args.library c.args.boot.now.statements.items c.in_ok-processes.field-0.processes.items c.in_ok-processes.field-0.objects c.in-Ok.blocked.items
+  are_blocked =
+      none_blocked c.args.library c.args.boot.now.statements.items c.in_ok-processes.field-0.processes.items c.in_ok-processes.field-0.objects
+      c.in-Ok.blocked.items
       c.in_ok-processes.ensures.ok ((c.in-Ok.ensures {u = tt}).items);
   awake = boot_awake c.args.library c.args.boot.now.statements.items _ (boots c);
   programs = boot_programs c.args.library c.args.boot.now.statements.items _ (boots c);

@@ -10,12 +10,15 @@ use Rattle.zl_calls.proofs.world.World.step.Goals as goal
 pub returns-in_err-item-clause-not_ready : goal.returns-in_err-item-clause-not_ready
 returns-in_err-item-clause-not_ready c =
     rw (← c.self.view_is)
-    (not_ready_in c.self.inside.library c.self.inside.processes.items c.self.inside.objects c.self.inside.blocked.items c.args.pid c.from_residual.result c.in_err-item.ensures.not_ready)
+    (not_ready_in c.self.inside.library c.self.inside.processes.items c.self.inside.objects c.self.inside.blocked.items c.args.pid c.from_residual.result
+    c.in_err-item.ensures.not_ready)
 
-steps : (c : goal.After-wake) → TakesStep (lab_value c.self.inside.library c.self.inside.processes.items c.self.inside.objects c.self.inside.blocked.items) c.args.pid (lab_value c.self.inside.library c.wake.new.processes.items c.wake.new.objects c.wake.new.blocked.items) c.in_ok-item.item
+steps : (c : goal.After-wake) → TakesStep (lab_value c.self.inside.library c.self.inside.processes.items c.self.inside.objects c.self.inside.blocked.items)
+    c.args.pid (lab_value c.self.inside.library c.wake.new.processes.items c.wake.new.objects c.wake.new.blocked.items) c.in_ok-item.item
 steps c =
     takes_step c.self.inside.library c.self.inside.processes.items c.self.inside.objects c.self.inside.blocked.items c.args.pid
-    c.act_for.new.processes.items c.wake.new.processes.items c.act_for.new.objects c.end_unheld.new.objects c.fire_waits.new.objects c.wake.new.objects _ c.wake.new.blocked.items c.in_ok-item.item
+    c.act_for.new.processes.items c.wake.new.processes.items c.act_for.new.objects c.end_unheld.new.objects c.fire_waits.new.objects c.wake.new.objects _
+    c.wake.new.blocked.items c.in_ok-item.item
     c.in_ok-item.ensures.acts
     (subst (λ (ps : List Process). EndsUnheld ps c.act_for.new.objects c.end_unheld.new.objects) c.deref.ensures.value c.end_unheld.ensures)
     (subst (λ (ps : List Process). FiresWaits ps c.end_unheld.new.objects c.fire_waits.new.objects) c.deref-2.ensures.value c.fire_waits.ensures)
@@ -33,7 +36,8 @@ add_blocked-requires c =
 pub invariant_of-self-2 : goal.invariant_of-self-2
 invariant_of-self-2 c = record {
   lab = c.wake.ensures.lab;
-  sound = stepped_sound c.self.inside.library c.self.inside.processes.items c.wake.new.processes.items c.self.inside.objects c.wake.new.objects c.self.inside.blocked.items c.wake.new.blocked.items c.args.pid c.in_ok-item.item (steps c) c.self.invariant.sound;
+  sound = stepped_sound c.self.inside.library c.self.inside.processes.items c.wake.new.processes.items c.self.inside.objects c.wake.new.objects
+      c.self.inside.blocked.items c.wake.new.blocked.items c.args.pid c.in_ok-item.item (steps c) c.self.invariant.sound;
   are_blocked = c.wake.ensures.list;
   room = omega (arith, c.wake.ensures.count, c.wake.ensures.capacity, c.add_blocked.ensures.capacity, c.act_for.ensures.room);
   awake = stepped_awake c.self.inside.library c.self.inside.processes.items c.wake.new.processes.items c.self.inside.objects c.wake.new.objects

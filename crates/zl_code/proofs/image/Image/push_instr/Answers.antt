@@ -6,4 +6,5 @@ pub invariant_of-self-2 : goal.invariant_of-self-2
 invariant_of-self-2 c =
     let i = c.self.inside in
     rw (c.in_ok-extend_from_slice.ensures {u = tt}).items
-    (code_in_range i.raw i.memory i.budget (needs_value i.needs) i.starts.items i.slots.items i.code.items c.self.invariant c.args.instr (rw (← c.self.view_is) at c.requires.in_range) (rw (← c.self.view_is) at c.requires.room))
+    (code_in_range i.raw i.memory i.budget (needs_value i.needs) i.starts.items i.slots.items i.code.items c.self.invariant c.args.instr
+    (rw (← c.self.view_is) at c.requires.in_range) (rw (← c.self.view_is) at c.requires.room))

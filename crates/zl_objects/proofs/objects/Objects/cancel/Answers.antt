@@ -11,12 +11,21 @@ use Rattle.zl_objects.proofs.objects.Objects.cancel.Goals as goal
 pub invariant_of-self-2 : goal.invariant_of-self-2
 invariant_of-self-2 c =
     let there : Some c.in-Some.object.now ≡ lookup (is_at (nat_cmp c.args.koid)) c.self.inside.by_koid.entries = search rules in
-    let set : (c.get_mut.follows.lender c.cancel.new.self).entries ≡ set_value (is_at (nat_cmp c.args.koid)) c.self.inside.by_koid.entries c.cancel.new.self = search rules in
-    port_kept (λ p. without_packets p (is_from c.args.source c.args.key)) (λ p. refl) c.self.inside.by_koid.entries (c.get_mut.follows.lender c.cancel.new.self).entries c.self.inside.next_koid (vec_capacity c.self.inside.dying) c.args.koid c.self.inside.dying.items c.self.invariant
-    (written c.self.inside.by_koid.entries _ c.args.koid (at_port (λ p. without_packets p (is_from c.args.source c.args.key))) c.in-Some.object.now c.cancel.new.self there c.cancel.ensures.rest set)
+    let set : (c.get_mut.follows.lender c.cancel.new.self).entries ≡ set_value (is_at (nat_cmp c.args.koid)) c.self.inside.by_koid.entries c.cancel.new.self =
+    search rules in
+    port_kept (λ p. without_packets p (is_from c.args.source c.args.key)) (λ p. refl) c.self.inside.by_koid.entries
+    (c.get_mut.follows.lender c.cancel.new.self).entries c.self.inside.next_koid (vec_capacity c.self.inside.dying) c.args.koid c.self.inside.dying.items
+    c.self.invariant
+    (written c.self.inside.by_koid.entries _ c.args.koid (at_port (λ p. without_packets p (is_from c.args.source c.args.key))) c.in-Some.object.now
+    c.cancel.new.self there c.cancel.ensures.rest set)
 
 pub returns-clause-rest : goal.returns-clause-rest
 returns-clause-rest c =
     let there : Some c.in-Some.object.now ≡ lookup (is_at (nat_cmp c.args.koid)) c.self.inside.by_koid.entries = search rules in
-    let set : (c.get_mut.follows.lender c.cancel.new.self).entries ≡ set_value (is_at (nat_cmp c.args.koid)) c.self.inside.by_koid.entries c.cancel.new.self = search rules in
-    rw (written c.self.inside.by_koid.entries _ c.args.koid (at_port (λ p. without_packets p (is_from c.args.source c.args.key))) c.in-Some.object.now c.cancel.new.self there c.cancel.ensures.rest set, ← c.self.view_is) refl
+    let set : (c.get_mut.follows.lender c.cancel.new.self).entries ≡ set_value (is_at (nat_cmp c.args.koid)) c.self.inside.by_koid.entries c.cancel.new.self =
+    search rules in
+    rw (
+      written c.self.inside.by_koid.entries _ c.args.koid (at_port (λ p. without_packets p (is_from c.args.source c.args.key))) c.in-Some.object.now
+          c.cancel.new.self there c.cancel.ensures.rest set,
+      ← c.self.view_is,
+    ) refl

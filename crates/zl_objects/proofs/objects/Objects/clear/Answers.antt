@@ -5,4 +5,6 @@ use Rattle.zl_objects.proofs.Kept.{none_kept}
 use Rattle.zl_objects.proofs.objects.Objects.clear.Goals as goal
 
 pub invariant_of-self : goal.invariant_of-self
-invariant_of-self c = none_kept c.clear.new.self.entries c.self.inside.next_koid (vec_capacity c.self.inside.dying) c.self.inside.dying.items _ c.clear.ensures.empty c.self.invariant.whole.none (ap (λ (xs : List Wait). map wait_value xs) c.clear-2.ensures.items)
+invariant_of-self c =
+    none_kept c.clear.new.self.entries c.self.inside.next_koid (vec_capacity c.self.inside.dying) c.self.inside.dying.items _ c.clear.ensures.empty
+    c.self.invariant.whole.none (ap (λ (xs : List Wait). map wait_value xs) c.clear-2.ensures.items)

@@ -14,25 +14,59 @@ use Rattle.zl_objects.proofs.objects.Objects.kill.Goals as goal
 
 pub invariant_of-self : goal.invariant_of-self
 invariant_of-self c =
-    left_kept [] c.self.inside.by_koid.entries c.sweep.new.by_koid.entries c.self.inside.next_koid (vec_capacity c.self.inside.dying) (vec_capacity c.sweep.new.dying) c.self.inside.dying.items c.sweep.new.dying.items _
-    (cascades_of [] c.self.inside.by_koid.entries c.sweep.new.by_koid.entries (all_koids c.self.inside.by_koid.entries) [] c.sweep.ensures.goes) (c.sweep.ensures.goes.places c.self.invariant.whole.places) c.sweep.ensures.goes.thins c.self.invariant c.sweep.ensures.none c.sweep.ensures.capacity c.keep_there.ensures
+    left_kept [] c.self.inside.by_koid.entries c.sweep.new.by_koid.entries c.self.inside.next_koid (vec_capacity c.self.inside.dying)
+    (vec_capacity c.sweep.new.dying) c.self.inside.dying.items c.sweep.new.dying.items _
+    (cascades_of [] c.self.inside.by_koid.entries c.sweep.new.by_koid.entries (all_koids c.self.inside.by_koid.entries) [] c.sweep.ensures.goes)
+    (c.sweep.ensures.goes.places c.self.invariant.whole.places)
+    c.sweep.ensures.goes.thins c.self.invariant c.sweep.ensures.none c.sweep.ensures.capacity c.keep_there.ensures
 
 pub returns-clause-releases : goal.returns-clause-releases
 returns-clause-releases c =
-    let same : (record { objects = c.self.inside.by_koid.entries; next_koid = c.self.inside.next_koid; waits = map wait_value c.self.inside.waits.items; waits_made = c.self.inside.waits_made }) ≡ killing c.args.self.now c.args.task = c.self.view_is ∙ c.mark_killed.ensures in
-    let koids : all_koids c.self.inside.by_koid.entries ≡ all_koids c.args.self.now.objects = ap (λ (r : Objects). all_koids r.objects) same ∙ killed_koids c.args.self.now.objects c.args.task in
-    subst (λ (r : Objects). Releases [] (all_koids c.args.self.now.objects) r (record { objects = c.sweep.new.by_koid.entries; next_koid = c.self.inside.next_koid; waits = map wait_value c.keep_there.new.waits.items; waits_made = c.self.inside.waits_made })) same
-    (subst (λ (ks : List ℕ). Releases [] ks (record { objects = c.self.inside.by_koid.entries; next_koid = c.self.inside.next_koid; waits = map wait_value c.self.inside.waits.items; waits_made = c.self.inside.waits_made }) (record { objects = c.sweep.new.by_koid.entries; next_koid = c.self.inside.next_koid; waits = map wait_value c.keep_there.new.waits.items; waits_made = c.self.inside.waits_made })) koids
-    (released [] (all_koids c.self.inside.by_koid.entries) c.self.inside.by_koid.entries c.sweep.new.by_koid.entries c.self.inside.next_koid c.self.inside.waits_made (map wait_value c.self.inside.waits.items) (map wait_value c.keep_there.new.waits.items) (all_koids c.self.inside.by_koid.entries) [] c.sweep.ensures.goes refl refl))
+    let same : (record {
+      objects = c.self.inside.by_koid.entries;
+      next_koid = c.self.inside.next_koid;
+      waits = map wait_value c.self.inside.waits.items;
+      waits_made = c.self.inside.waits_made;
+    }) ≡ killing c.args.self.now c.args.task = c.self.view_is ∙ c.mark_killed.ensures in
+    let koids : all_koids c.self.inside.by_koid.entries ≡ all_koids c.args.self.now.objects =
+    ap (λ (r : Objects). all_koids r.objects) same ∙ killed_koids c.args.self.now.objects c.args.task in
+    subst (λ (r : Objects). Releases [] (all_koids c.args.self.now.objects) r (record {
+      objects = c.sweep.new.by_koid.entries;
+      next_koid = c.self.inside.next_koid;
+      waits = map wait_value c.keep_there.new.waits.items;
+      waits_made = c.self.inside.waits_made;
+    })) same
+    (subst (λ (ks : List ℕ). Releases [] ks (record {
+      objects = c.self.inside.by_koid.entries;
+      next_koid = c.self.inside.next_koid;
+      waits = map wait_value c.self.inside.waits.items;
+      waits_made = c.self.inside.waits_made;
+    }) (record {
+      objects = c.sweep.new.by_koid.entries;
+      next_koid = c.self.inside.next_koid;
+      waits = map wait_value c.keep_there.new.waits.items;
+      waits_made = c.self.inside.waits_made;
+    })) koids
+    (released [] (all_koids c.self.inside.by_koid.entries) c.self.inside.by_koid.entries c.sweep.new.by_koid.entries c.self.inside.next_koid
+    c.self.inside.waits_made (map wait_value c.self.inside.waits.items) (map wait_value c.keep_there.new.waits.items) (all_koids c.self.inside.by_koid.entries)
+    [] c.sweep.ensures.goes refl refl))
 
 pub returns-clause-largest : goal.returns-clause-largest
 returns-clause-largest c = leaves_largest [] (all_koids c.args.self.now.objects) (killing c.args.self.now c.args.task) _ (returns-clause-releases c)
 
 pub returns-clause-waits : goal.returns-clause-waits
 returns-clause-waits c =
-    let same : (record { objects = c.self.inside.by_koid.entries; next_koid = c.self.inside.next_koid; waits = map wait_value c.self.inside.waits.items; waits_made = c.self.inside.waits_made }) ≡ killing c.args.self.now c.args.task = c.self.view_is ∙ c.mark_killed.ensures in
-    subst (λ (m : Map Object). (k : ℕ) (o : Object) → get c.sweep.new.by_koid.entries k ≡ Some o → KeepsWaits m c.sweep.new.by_koid.entries k o) (ap (λ (r : Objects). r.objects) same)
-    (waits_left [] c.self.inside.by_koid.entries c.sweep.new.by_koid.entries (cascades_of [] c.self.inside.by_koid.entries c.sweep.new.by_koid.entries (all_koids c.self.inside.by_koid.entries) [] c.sweep.ensures.goes) (c.sweep.ensures.goes.places c.self.invariant.whole.places) c.sweep.ensures.goes.thins)
+    let same : (record {
+      objects = c.self.inside.by_koid.entries;
+      next_koid = c.self.inside.next_koid;
+      waits = map wait_value c.self.inside.waits.items;
+      waits_made = c.self.inside.waits_made;
+    }) ≡ killing c.args.self.now c.args.task = c.self.view_is ∙ c.mark_killed.ensures in
+    subst (λ (m : Map Object). (k : ℕ) (o : Object) → get c.sweep.new.by_koid.entries k ≡ Some o → KeepsWaits m c.sweep.new.by_koid.entries k o)
+    (ap (λ (r : Objects). r.objects) same)
+    (waits_left [] c.self.inside.by_koid.entries c.sweep.new.by_koid.entries
+    (cascades_of [] c.self.inside.by_koid.entries c.sweep.new.by_koid.entries (all_koids c.self.inside.by_koid.entries) [] c.sweep.ensures.goes)
+    (c.sweep.ensures.goes.places c.self.invariant.whole.places) c.sweep.ensures.goes.thins)
 
 pub returns-clause-places : goal.returns-clause-places
 returns-clause-places c = (invariant_of-self c).whole.places

@@ -6,4 +6,6 @@ pub kill_all-requires : goal.kill_all-requires
 kill_all-requires c = record { below = c.self.invariant.whole.below }
 
 pub invariant_of-self : goal.invariant_of-self
-invariant_of-self c = killed_kept c.self.inside.by_koid.entries c.kill_all.new.by_koid.entries c.self.inside.next_koid (vec_capacity c.self.inside.dying) c.args.task c.self.inside.dying.items c.self.invariant c.kill_all.ensures
+invariant_of-self c =
+    killed_kept c.self.inside.by_koid.entries c.kill_all.new.by_koid.entries c.self.inside.next_koid (vec_capacity c.self.inside.dying) c.args.task
+    c.self.inside.dying.items c.self.invariant c.kill_all.ensures

@@ -5,4 +5,6 @@ use Rattle.zl_objects.proofs.Kept.{none_kept}
 use Rattle.zl_objects.proofs.objects.Objects.new.Goals as goal
 
 pub invariant_of-objects : goal.invariant_of-objects
-invariant_of-objects c = none_kept c.new.result.entries 1 (vec_capacity c.new-2.result) c.new-2.result.items _ c.new.ensures.empty c.new-2.ensures.items (ap (λ (xs : List Wait). map wait_value xs) c.new-3.ensures.items)
+invariant_of-objects c =
+    none_kept c.new.result.entries 1 (vec_capacity c.new-2.result) c.new-2.result.items _ c.new.ensures.empty c.new-2.ensures.items
+    (ap (λ (xs : List Wait). map wait_value xs) c.new-3.ensures.items)

@@ -5,4 +5,6 @@ use Rattle.zl_objects.proofs.Kept.{port_kept}
 use Rattle.zl_objects.proofs.objects.Objects.pop.Goals as goal
 
 pub invariant_of-self-2 : goal.invariant_of-self-2
-invariant_of-self-2 c = port_kept without_front (λ p. refl) c.self.inside.by_koid.entries (c.get_mut.follows.lender c.pop.new.self).entries c.self.inside.next_koid (vec_capacity c.self.inside.dying) c.args.koid c.self.inside.dying.items c.self.invariant (search (rules, by_koid))
+invariant_of-self-2 c =
+    port_kept without_front (λ p. refl) c.self.inside.by_koid.entries (c.get_mut.follows.lender c.pop.new.self).entries c.self.inside.next_koid
+    (vec_capacity c.self.inside.dying) c.args.koid c.self.inside.dying.items c.self.invariant (search (rules, by_koid))

@@ -12,12 +12,20 @@ use Rattle.zl_objects.proofs.objects.Objects.queue_user.Goals as goal
 pub invariant_of-self-2 : goal.invariant_of-self-2
 invariant_of-self-2 c =
     let there : Some c.in-Some.object.now ≡ lookup (is_at (nat_cmp c.args.koid)) c.self.inside.by_koid.entries = search rules in
-    let set : (c.get_mut.follows.lender c.queue_user.new.self).entries ≡ set_value (is_at (nat_cmp c.args.koid)) c.self.inside.by_koid.entries c.queue_user.new.self = search rules in
-    port_or_same_kept (λ p. with_packet p (user_packet c.args.key c.args.value)) (λ p. refl) c.self.inside.by_koid.entries (c.get_mut.follows.lender c.queue_user.new.self).entries c.self.inside.next_koid (vec_capacity c.self.inside.dying) c.args.koid c.self.inside.dying.items c.in-Some.object.now c.queue_user.new.self c.queue_user.result c.self.invariant c.queue_user.ensures.ok c.queue_user.ensures.unchanged there set
+    let set : (c.get_mut.follows.lender c.queue_user.new.self).entries
+    ≡ set_value (is_at (nat_cmp c.args.koid)) c.self.inside.by_koid.entries c.queue_user.new.self = search rules in
+    port_or_same_kept (λ p. with_packet p (user_packet c.args.key c.args.value)) (λ p. refl) c.self.inside.by_koid.entries
+    (c.get_mut.follows.lender c.queue_user.new.self).entries c.self.inside.next_koid (vec_capacity c.self.inside.dying) c.args.koid c.self.inside.dying.items
+    c.in-Some.object.now c.queue_user.new.self c.queue_user.result c.self.invariant c.queue_user.ensures.ok c.queue_user.ensures.unchanged there set
 
 pub returns-clause-ok : goal.returns-clause-ok
 returns-clause-ok c =
     let there : Some c.in-Some.object.now ≡ lookup (is_at (nat_cmp c.args.koid)) c.self.inside.by_koid.entries = search rules in
-    let set : (c.get_mut.follows.lender c.queue_user.new.self).entries ≡ set_value (is_at (nat_cmp c.args.koid)) c.self.inside.by_koid.entries c.queue_user.new.self = search rules in
+    let set : (c.get_mut.follows.lender c.queue_user.new.self).entries
+    ≡ set_value (is_at (nat_cmp c.args.koid)) c.self.inside.by_koid.entries c.queue_user.new.self = search rules in
     when_ok (c.queue_user.new.self ≡ at_port (λ p. with_packet p (user_packet c.args.key c.args.value)) c.in-Some.object.now) _ c.queue_user.result
-    (λ is. rw (written c.self.inside.by_koid.entries _ c.args.koid (at_port (λ p. with_packet p (user_packet c.args.key c.args.value))) c.in-Some.object.now c.queue_user.new.self there is set, ← c.self.view_is) refl) c.queue_user.ensures.ok
+    (λ is. rw (
+      written c.self.inside.by_koid.entries _ c.args.koid (at_port (λ p. with_packet p (user_packet c.args.key c.args.value))) c.in-Some.object.now
+          c.queue_user.new.self there is set,
+      ← c.self.view_is,
+    ) refl) c.queue_user.ensures.ok

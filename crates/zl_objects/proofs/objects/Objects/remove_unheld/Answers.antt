@@ -10,19 +10,26 @@ remove_unkept-requires c = record { none = c.self.invariant.whole.none; room = c
 
 pub invariant_of-self : goal.invariant_of-self
 invariant_of-self c =
-    left_kept [] c.self.inside.by_koid.entries c.remove_unkept.new.by_koid.entries c.self.inside.next_koid (vec_capacity c.self.inside.dying) (vec_capacity c.remove_unkept.new.dying) c.self.inside.dying.items c.remove_unkept.new.dying.items _
-    (cascades_of [] c.self.inside.by_koid.entries c.remove_unkept.new.by_koid.entries (c.args.koid ∷ []) [] c.remove_unkept.ensures.goes) (c.remove_unkept.ensures.goes.places c.self.invariant.whole.places) c.remove_unkept.ensures.goes.thins c.self.invariant c.remove_unkept.ensures.none c.remove_unkept.ensures.capacity c.keep_there.ensures
+    left_kept [] c.self.inside.by_koid.entries c.remove_unkept.new.by_koid.entries c.self.inside.next_koid (vec_capacity c.self.inside.dying)
+    (vec_capacity c.remove_unkept.new.dying) c.self.inside.dying.items c.remove_unkept.new.dying.items _
+    (cascades_of [] c.self.inside.by_koid.entries c.remove_unkept.new.by_koid.entries (c.args.koid ∷ []) [] c.remove_unkept.ensures.goes)
+    (c.remove_unkept.ensures.goes.places c.self.invariant.whole.places)
+    c.remove_unkept.ensures.goes.thins c.self.invariant c.remove_unkept.ensures.none c.remove_unkept.ensures.capacity c.keep_there.ensures
 
 pub returns-clause-releases : goal.returns-clause-releases
 returns-clause-releases c =
-    rw (← c.self.view_is) (released [] (c.args.koid ∷ []) c.self.inside.by_koid.entries c.remove_unkept.new.by_koid.entries c.self.inside.next_koid c.self.inside.waits_made (map wait_value c.self.inside.waits.items) _ (c.args.koid ∷ []) [] c.remove_unkept.ensures.goes refl refl)
+    rw (← c.self.view_is)
+    (released [] (c.args.koid ∷ []) c.self.inside.by_koid.entries c.remove_unkept.new.by_koid.entries c.self.inside.next_koid c.self.inside.waits_made
+    (map wait_value c.self.inside.waits.items) _ (c.args.koid ∷ []) [] c.remove_unkept.ensures.goes refl refl)
 
 pub returns-clause-largest : goal.returns-clause-largest
 returns-clause-largest c = leaves_largest [] (c.args.koid ∷ []) c.args.self.now _ (returns-clause-releases c)
 
 pub returns-clause-waits : goal.returns-clause-waits
 returns-clause-waits c =
-    rw (← c.self.view_is) (waits_left [] c.self.inside.by_koid.entries c.remove_unkept.new.by_koid.entries (cascades_of [] c.self.inside.by_koid.entries c.remove_unkept.new.by_koid.entries (c.args.koid ∷ []) [] c.remove_unkept.ensures.goes) (c.remove_unkept.ensures.goes.places c.self.invariant.whole.places) c.remove_unkept.ensures.goes.thins)
+    rw (← c.self.view_is) (waits_left [] c.self.inside.by_koid.entries c.remove_unkept.new.by_koid.entries
+    (cascades_of [] c.self.inside.by_koid.entries c.remove_unkept.new.by_koid.entries (c.args.koid ∷ []) [] c.remove_unkept.ensures.goes)
+    (c.remove_unkept.ensures.goes.places c.self.invariant.whole.places) c.remove_unkept.ensures.goes.thins)
 
 pub returns-clause-places : goal.returns-clause-places
 returns-clause-places c = (invariant_of-self c).whole.places

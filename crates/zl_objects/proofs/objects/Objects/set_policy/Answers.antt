@@ -8,5 +8,8 @@ use Rattle.zl_objects.proofs.objects.Objects.set_policy.Goals as goal
 pub invariant_of-self-2 : goal.invariant_of-self-2
 invariant_of-self-2 c =
     let there : Some c.in-Some.object.now ≡ lookup (is_at (nat_cmp c.args.job)) c.self.inside.by_koid.entries = search rules in
-    let set : (c.get_mut.follows.lender c.set_policy.new.self).entries ≡ set_value (is_at (nat_cmp c.args.job)) c.self.inside.by_koid.entries c.set_policy.new.self = search rules in
-    policy_or_same_kept c.args.condition c.args.action c.self.inside.by_koid.entries (c.get_mut.follows.lender c.set_policy.new.self).entries c.self.inside.next_koid (vec_capacity c.self.inside.dying) c.args.job c.self.inside.dying.items c.in-Some.object.now c.set_policy.new.self c.set_policy.result c.self.invariant c.set_policy.ensures.ok c.set_policy.ensures.unchanged there set
+    let set : (c.get_mut.follows.lender c.set_policy.new.self).entries
+    ≡ set_value (is_at (nat_cmp c.args.job)) c.self.inside.by_koid.entries c.set_policy.new.self = search rules in
+    policy_or_same_kept c.args.condition c.args.action c.self.inside.by_koid.entries
+    (c.get_mut.follows.lender c.set_policy.new.self).entries c.self.inside.next_koid (vec_capacity c.self.inside.dying) c.args.job c.self.inside.dying.items
+    c.in-Some.object.now c.set_policy.new.self c.set_policy.result c.self.invariant c.set_policy.ensures.ok c.set_policy.ensures.unchanged there set

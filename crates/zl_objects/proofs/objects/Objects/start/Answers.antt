@@ -4,4 +4,6 @@ use Rattle.zl_objects.proofs.Tasks.{started_kept}
 use Rattle.zl_objects.proofs.objects.Objects.start.Goals as goal
 
 pub invariant_of-self-2 : goal.invariant_of-self-2
-invariant_of-self-2 c = started_kept c.self.inside.by_koid.entries (c.get_mut.follows.lender c.start.new.self).entries c.self.inside.next_koid (vec_capacity c.self.inside.dying) c.args.pid c.self.inside.dying.items c.self.invariant (search (rules, by_koid))
+invariant_of-self-2 c =
+    started_kept c.self.inside.by_koid.entries (c.get_mut.follows.lender c.start.new.self).entries c.self.inside.next_koid
+    (vec_capacity c.self.inside.dying) c.args.pid c.self.inside.dying.items c.self.invariant (search (rules, by_koid))

@@ -4,7 +4,14 @@ use Rattle.zl_objects.proofs.Kept.{gone_kept, none_out_kept}
 use Rattle.zl_objects.proofs.objects.Objects.unwatch_handle.Goals as goal
 
 pub invariant_of-self : goal.invariant_of-self
-invariant_of-self c = none_out_kept c.args.koid (λ x. (x.pid == c.args.pid) && (x.value == c.args.value)) c.self.inside.by_koid.entries c.take_handle.new.by_koid.entries c.self.inside.next_koid (vec_capacity c.self.inside.dying) c.self.inside.dying.items _ c.self.invariant c.unlist.ensures c.take_handle.ensures.rest (sym c.take_handle.ensures.earliest ∙ c.in_err-wait.was {u = tt})
+invariant_of-self c =
+    none_out_kept c.args.koid (λ x. (x.pid == c.args.pid) && (x.value == c.args.value)) c.self.inside.by_koid.entries c.take_handle.new.by_koid.entries
+    c.self.inside.next_koid (vec_capacity c.self.inside.dying) c.self.inside.dying.items _ c.self.invariant c.unlist.ensures c.take_handle.ensures.rest
+    (sym c.take_handle.ensures.earliest ∙ c.in_err-wait.was {u = tt})
 
 pub invariant_of-self-2 : goal.invariant_of-self-2
-invariant_of-self-2 c = gone_kept c.args.koid (λ x. (x.pid == c.args.pid) && (x.value == c.args.value)) c.self.inside.by_koid.entries c.take_handle.new.by_koid.entries c.self.inside.next_koid (vec_capacity c.self.inside.dying) c.self.inside.dying.items _ c.self.invariant c.unlist.ensures c.take_handle.ensures.rest c.in_ok-wait.wait (sym c.take_handle.ensures.earliest ∙ c.in_ok-wait.was {u = tt}) without_place (λ p. refl) c.give_back.new.by_koid.entries c.give_back.ensures
+invariant_of-self-2 c =
+    gone_kept c.args.koid
+    (λ x. (x.pid == c.args.pid) && (x.value == c.args.value)) c.self.inside.by_koid.entries c.take_handle.new.by_koid.entries c.self.inside.next_koid
+    (vec_capacity c.self.inside.dying) c.self.inside.dying.items _ c.self.invariant c.unlist.ensures c.take_handle.ensures.rest c.in_ok-wait.wait
+    (sym c.take_handle.ensures.earliest ∙ c.in_ok-wait.was {u = tt}) without_place (λ p. refl) c.give_back.new.by_koid.entries c.give_back.ensures

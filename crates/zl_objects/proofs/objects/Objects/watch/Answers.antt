@@ -11,7 +11,9 @@ use Rattle.zl_objects.proofs.objects.Objects.watch.Goals as goal
 
 pub invariant_of-self-2 : goal.invariant_of-self-2
 invariant_of-self-2 c =
-    let stands : c.stand.new.by_koid.entries ≡ update (update c.self.inside.by_koid.entries c.args.wait.port (at_port with_place)) c.args.wait.object (watched (watch_of c.self.inside.waits_made c.args.wait)) = unless_err c.stand.result _ c.stand.ensures.ok (sym (c.if-is_err.ensures {u = tt}).value) in
-    watched_kept c.self.inside.waits_made c.args.wait c.self.inside.by_koid.entries c.stand.new.by_koid.entries c.self.inside.next_koid (vec_capacity c.self.inside.dying) c.self.inside.dying.items _
+    let stands : c.stand.new.by_koid.entries ≡ update (update c.self.inside.by_koid.entries c.args.wait.port (at_port with_place)) c.args.wait.object
+    (watched (watch_of c.self.inside.waits_made c.args.wait)) = unless_err c.stand.result _ c.stand.ensures.ok (sym (c.if-is_err.ensures {u = tt}).value) in
+    watched_kept c.self.inside.waits_made c.args.wait c.self.inside.by_koid.entries c.stand.new.by_koid.entries c.self.inside.next_koid
+    (vec_capacity c.self.inside.dying) c.self.inside.dying.items _
     (rw (← c.self.view_is) at c.requires.port) (rw (← c.self.view_is) at c.requires.there) c.self.invariant stands
     (ap (λ (xs : List Wait). map wait_value xs) c.in_ok-push_back.ensures.items ∙ map-append wait_value c.self.inside.waits.items (c.args.wait ∷ []))

@@ -11,6 +11,7 @@ use Rattle.zl_policy.proofs.policy.Policy.conflicts.Goals as goal
 pub returns : goal.returns
 unfolding conflicts
 returns c =
-    any_from_yields_List {all = c.stands_for.result.now} (λ x. is_other c.args.action.now (get c.args.self.now (condition_number x))) _ _ _ c.any.ensures.ran (YieldsList-from_slice _ c.iter.ensures.rest) (λ x b q k. search rules)
+    any_from_yields_List {all = c.stands_for.result.now} (λ x. is_other c.args.action.now (get c.args.self.now (condition_number x))) _ _ _ c.any.ensures.ran
+    (YieldsList-from_slice _ c.iter.ensures.rest) (λ x b q k. search rules)
     ∙ (any_numbered condition_number (λ n. is_other c.args.action.now (get c.args.self.now n)) c.stands_for.result.now
     ∙ ap (λ ns. list_any (λ n. is_other c.args.action.now (get c.args.self.now n)) ns) c.stands_for.ensures)

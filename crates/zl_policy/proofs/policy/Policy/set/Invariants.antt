@@ -6,4 +6,5 @@ use Rattle.zl_policy.proofs.policy.Policy.set.Given as goal
 
 -- what the conditions that are left make of the policy is what all of them make of it
 abbrev pub invariant-loop-condition : goal.invariant-loop-condition
-invariant-loop-condition l = policy_set l.fn.self l.fn.condition l.fn.action ≡ fold (with_unset l.action) l.self (map condition_number (drop l.condition-index l.condition-items))
+invariant-loop-condition l =
+    policy_set l.fn.self l.fn.condition l.fn.action ≡ fold (with_unset l.action) l.self (map condition_number (drop l.condition-index l.condition-items))

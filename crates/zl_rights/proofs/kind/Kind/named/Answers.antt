@@ -9,4 +9,6 @@ use Rattle.zl_rights.proofs.kind.Kind.named.Goals as goal
 
 pub returns : goal.returns
 unfolding kind_named
-returns c = rw c.copied.ensures (find_from_yields_List {all = kind.Process ∷ kind.Channel ∷ kind.Event ∷ kind.Port ∷ kind.Job ∷ []} (λ k. pointwise nat_eq (kind_name k) c.args.name.now) _ _ _ c.find.ensures.ran (YieldsList-from_slice _ cc) (λ x b q k. search rules))
+returns c =
+    rw c.copied.ensures (find_from_yields_List {all = kind.Process ∷ kind.Channel ∷ kind.Event ∷ kind.Port ∷ kind.Job ∷ []}
+    (λ k. pointwise nat_eq (kind_name k) c.args.name.now) _ _ _ c.find.ensures.ran (YieldsList-from_slice _ cc) (λ x b q k. search rules))

@@ -9,4 +9,7 @@ use Rattle.zl_rights.proofs.policy.Condition.named.Goals as goal
 
 pub returns : goal.returns
 unfolding condition_named
-returns c = rw c.copied.ensures (find_from_yields_List {all = condition.BadHandle ∷ condition.WrongObject ∷ condition.NewAny ∷ condition.NewChannel ∷ condition.NewEvent ∷ condition.NewPort ∷ condition.NewProcess ∷ []} (λ k. pointwise nat_eq (condition_name k) c.args.name.now) _ _ _ c.find.ensures.ran (YieldsList-from_slice _ cc) (λ x b q k. search rules))
+returns c =
+    rw c.copied.ensures (find_from_yields_List
+    {all = condition.BadHandle ∷ condition.WrongObject ∷ condition.NewAny ∷ condition.NewChannel ∷ condition.NewEvent ∷ condition.NewPort ∷ condition.NewProcess
+    ∷ []} (λ k. pointwise nat_eq (condition_name k) c.args.name.now) _ _ _ c.find.ensures.ran (YieldsList-from_slice _ cc) (λ x b q k. search rules))

@@ -19,4 +19,5 @@ loop-place-preserved c =
     (rw (c.in-Ok-true.is, c.in-Ok-true.field-0-test) at c.step.ensures.told)
 
 pub returns-clause-turned : goal.returns-clause-turned
-returns-clause-turned c = ran_past c.args.blocks.now.numbers c.args.image.now c.loop-place.self c.loop-place.place c.loop-place.state (omega arith) ∙ sym c.loop-place.invariant
+returns-clause-turned c =
+    ran_past c.args.blocks.now.numbers c.args.image.now c.loop-place.self c.loop-place.place c.loop-place.state (omega arith) ∙ sym c.loop-place.invariant

@@ -16,6 +16,8 @@ OPEN = re.compile(r"note: \S+:\d+:\d+: .*?\(`([^`]+)`\)(.*)")
 ERROR = re.compile(r"(?:note: )?(?:\./)?((?:src|specs|proofs)/[^\s:]+):\d+:\d+: error[^:]*: (?:`([^`]+)`)?(.*)")
 # What a proof file says where it names what an edit took away.
 LOST = re.compile(r"has no field|is not in scope|has no `|was not admitted")
+# The files of proofs that answer the goals of a function, in its folder.
+ANSWERS = {"Answers.antt", "Invariants.antt", "Proof.antt"}
 
 
 def place_of(crate, functions, edit):
@@ -95,7 +97,8 @@ def goals_in(output):
             there += [goal for file, named in errors.items() if str(Path(file).parent) == folder for goal in named]
             goals.setdefault(name, list(dict.fromkeys(there)) or [ends + why.partition(",")[0]])
         opened = []
-    return {**goals, **{file: named for file, named in errors.items() if str(Path(file).parent) == "proofs"}}
+    lemmas = {file: named for file, named in errors.items() if file.startswith("proofs/") and Path(file).name not in ANSWERS}
+    return {**goals, **lemmas}
 
 
 def errors_in(output):

@@ -44,8 +44,8 @@ pub use Rattle.zl_table.specs.Table.{Drains, Handles, Inserts, IsTable}
 pub use Rattle.std.proofs.lemmas.List.{length-append, length-take-le}
 pub use Rattle.std.proofs.lemmas.Nat.{and_le_l, and_le_r}
 pub use Rattle.zl_calls.specs.Acted.{Acted, Acts, action_of}
-pub use Rattle.zl_calls.proofs.Plain.{Calls, by_look_up, faults, operand_of}
-unfoldable pub use Rattle.zl_calls.proofs.Plain.{refusal}
+pub use Rattle.zl_calls.proofs.policy.Plain.{Calls, by_look_up, faults, operand_of}
+unfoldable pub use Rattle.zl_calls.proofs.policy.Plain.{refusal}
 pub use Rattle.zl_interp.specs.Common.{StandsNext, call_in, handle_register, program_value, register_set, started_cpu}
 pub use Rattle.zl_calls.specs.Steps.{Performs, StepsTo, TakesStep, takes_memory}
 pub use Rattle.zl_calls.specs.calls.Process.{Drained, Ends}

@@ -101,7 +101,7 @@ pub fn is_keyed(wait: &Wait, pid: Pid, value: HValue, port: Koid, key: u64) -> b
 }
 
 /// Whether the handle of the wait is there, and its object and port.
-#[tactic(auto, using(crate::proofs::Ending::kind_there), unfolding(zl_rights::specs::Settle::is_made_by_handle))]
+#[tactic(auto, using(crate::proofs::waits::Ending::kind_there), unfolding(zl_rights::specs::Settle::is_made_by_handle))]
 fn is_left(processes: &[Process], objects: &Objects, wait: &Wait) -> bool
     requires { IsTrue (is_sorted nat_cmp (map process_entry processes.now)) }
     ensures { result ≡ is_left (world_value processes.now objects.now) (wait_value wait.now) }

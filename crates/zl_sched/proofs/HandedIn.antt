@@ -10,7 +10,7 @@ use Rattle.zl_code.proofs.SoundRuns.{run_sound, step_sound}
 use Rattle.zl_interp.specs.Bursts.{Done}
 use Rattle.zl_calls.specs.World.{World as Lab}
 use Rattle.zl_calls.specs.Turns.{advanced}
-use Rattle.zl_calls.proofs.BlockedLists.{none_filtered}
+use Rattle.zl_calls.proofs.Above.{none_filtered}
 use Rattle.zl_sched.specs.Queueing.{leaves_ready, requeued}
 use Rattle.zl_sched.specs.Ready.{is_in, others_of, queued_after, Listed}
 use Rattle.zl_sched.specs.System.{IsWhole}

@@ -10,7 +10,7 @@ use Rattle.std.proofs.lemmas.List.Filters.{length-filter_both}
 use Rattle.zl_rights.proofs.Common.{nat_tests, false≢true}
 use Rattle.std.proofs.lemmas.Map.Views.{any-filter_same}
 use Rattle.zl_code.proofs.Common.{World, Process, is_some, has_key, eq-eqb, eqb-true, IsSound}
-use Rattle.zl_calls.proofs.BlockedLists.{none_filtered}
+use Rattle.zl_calls.proofs.Above.{none_filtered}
 use Rattle.zl_sched.specs.Ready.{pids_of, ready_by_koid, times, is_in, still_ready, became_ready, itself_ready, queued_after}
 use Rattle.zl_sched.specs.Queueing.{joins, one_if, requeued}
 use Rattle.std.specs.Prelude.{slice_get}

@@ -20,7 +20,7 @@ use Rattle.zl_code.specs.CallTable.{asks, entering_at, process_create, process_s
 use Rattle.zl_code.specs.Effects.{storing}
 use Rattle.zl_code.specs.Starting.{created_process}
 use Rattle.zl_code.proofs.Changes.{times}
-use Rattle.zl_calls.proofs.StepItems.{asked_next}
+use Rattle.zl_calls.proofs.Above.{asked_next}
 use Rattle.zl_sched.specs.Queueing.{leaves_ready, may_start_or_kill}
 
 -- ---- one turn of waking

@@ -2,7 +2,7 @@ use Rattle.zl_calls.proofs.Common.{◌∙◌, ◌≤◌, ap, subst, get_or, List
 use Rattle.zl_code.specs.declared.boot.Statement.{Statement}
 use Rattle.zl_code.specs.Headline.{word_of}
 use Rattle.zl_code.specs.Limits.{most_word}
-use Rattle.zl_calls.proofs.BootRun.{none_made, one_more, all_small, first_fault, limit_fault, none_reached, some_reached}
+use Rattle.zl_calls.proofs.booting.BootRun.{none_made, one_more, all_small, first_fault, limit_fault, none_reached, some_reached}
 use Rattle.zl_calls.proofs.booting.booted.Goals as goal
 
 pub returns-in_default-clause-reached : goal.returns-in_default-clause-reached

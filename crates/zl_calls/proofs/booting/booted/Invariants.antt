@@ -1,5 +1,5 @@
 use Rattle.zl_calls.proofs.Common.{take}
-use Rattle.zl_calls.proofs.BootRun.{IsMadeBy}
+use Rattle.zl_calls.proofs.booting.BootRun.{IsMadeBy}
 use Rattle.zl_calls.proofs.booting.booted.Given as goal
 
 abbrev pub invariant-loop-number : goal.invariant-loop-number

@@ -1,5 +1,5 @@
 use Rattle.zl_calls.proofs.Common.{refl}
-use Rattle.zl_calls.proofs.BootFaults.{past_default}
+use Rattle.zl_calls.proofs.booting.BootFaults.{past_default}
 use Rattle.zl_calls.proofs.booting.rights_given.Goals as goal
 
 pub returns-in_default-try_from : goal.returns-in_default-try_from

@@ -1,5 +1,5 @@
 use Rattle.zl_calls.proofs.Common.{bits}
-use Rattle.zl_calls.proofs.Tables.{empty_refuses}
+use Rattle.zl_calls.proofs.tables.Tables.{empty_refuses}
 use Rattle.zl_calls.proofs.calls.look_up.Goals as goal
 
 pub returns-then-len-eq0 : goal.returns-then-len-eq0

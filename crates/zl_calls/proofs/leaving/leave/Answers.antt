@@ -1,6 +1,6 @@
 use Rattle.zl_calls.proofs.Common.{◌≡◌, ◌<◌, length, arith}
 use Rattle.zl_calls.specs.Leaving.{left_beside}
-use Rattle.zl_calls.proofs.Mapping.{all_mapped, none_mapped, one_mapped}
+use Rattle.zl_calls.proofs.lists.Mapping.{all_mapped, none_mapped, one_mapped}
 use Rattle.zl_calls.proofs.leaving.leave.Goals as goal
 
 pub loop-place-init : goal.loop-place-init

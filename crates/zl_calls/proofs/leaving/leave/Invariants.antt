@@ -1,5 +1,5 @@
 use Rattle.zl_calls.specs.Leaving.{left_beside}
-use Rattle.zl_calls.proofs.Mapping.{IsMapped}
+use Rattle.zl_calls.proofs.lists.Mapping.{IsMapped}
 use Rattle.zl_calls.proofs.leaving.leave.Given as goal
 
 abbrev pub invariant-loop-place : goal.invariant-loop-place

@@ -1,5 +1,5 @@
 use Rattle.zl_calls.proofs.Common.{site_of}
-use Rattle.zl_calls.proofs.Verdicts.{denied_so}
+use Rattle.zl_calls.proofs.policy.Verdicts.{denied_so}
 use Rattle.zl_calls.proofs.policy.by_policy.Goals as goal
 
 pub returns-in-Denied-clause-policed : goal.returns-in-Denied-clause-policed

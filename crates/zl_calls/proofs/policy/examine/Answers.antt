@@ -3,7 +3,7 @@ use Rattle.std.proofs.lemmas.Grind.{common_steps}
 use Rattle.std.specs.Prelude.{slice_index}
 use Rattle.std.specs.Result.{result_err}
 use Rattle.zl_code.specs.Local.{reg}
-use Rattle.zl_calls.proofs.Examining.{one_examined}
+use Rattle.zl_calls.proofs.policy.Examining.{one_examined}
 use Rattle.zl_calls.proofs.policy.examine.Goals as goal
 
 pub loop-n-preserved : goal.loop-n-preserved

@@ -1,8 +1,8 @@
 use Rattle.zl_calls.proofs.Common.{◌≡◌, ◌∙◌, None, Some, ap, site_of, sym}
 use Rattle.zl_calls.specs.Policed.{verdict_on}
 use Rattle.zl_calls.specs.calls.Channel.{fault_of}
-use Rattle.zl_calls.proofs.Examining.{judged}
-use Rattle.zl_calls.proofs.Verdicts.{at_site, unset}
+use Rattle.zl_calls.proofs.policy.Examining.{judged}
+use Rattle.zl_calls.proofs.policy.Verdicts.{at_site, unset}
 use Rattle.zl_calls.proofs.policy.judge.Goals as goal
 
 pub returns-then-not-has_policy : goal.returns-then-not-has_policy

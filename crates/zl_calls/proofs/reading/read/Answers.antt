@@ -1,6 +1,6 @@
 use Rattle.zl_calls.proofs.Common.{arith}
 use Rattle.std.proofs.lemmas.Grind.{common_steps}
-use Rattle.zl_calls.proofs.Told.{at_read, length_same, parts_act}
+use Rattle.zl_calls.proofs.calls.ReaderTold.{at_read, length_same, parts_act}
 use Rattle.zl_calls.proofs.reading.read.Goals as goal
 
 pub returns-in-Ok : goal.returns-in-Ok

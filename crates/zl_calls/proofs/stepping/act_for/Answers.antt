@@ -1,10 +1,10 @@
 use Rattle.zl_calls.proofs.Common.{set, sym, ◌∙◌}
 use Rattle.zl_calls.specs.calls.Task.{lab}
-use Rattle.zl_calls.proofs.BlockedLists.{no_more}
-use Rattle.zl_calls.proofs.CallSteps.{called_so, moves_from, stays_from, stops_from, caller_ready, within}
-use Rattle.zl_calls.proofs.Calling.{is_there}
-use Rattle.zl_calls.proofs.Idle.{are_bare}
-use Rattle.zl_calls.proofs.Performing.{HasActed}
+use Rattle.zl_calls.proofs.waking.BlockedLists.{no_more}
+use Rattle.zl_calls.proofs.stepping.CallSteps.{called_so, moves_from, stays_from, stops_from, caller_ready, within}
+use Rattle.zl_calls.proofs.stepping.Calling.{is_there}
+use Rattle.zl_calls.proofs.processes.Idle.{are_bare}
+use Rattle.zl_calls.proofs.stepping.Performing.{HasActed}
 use Rattle.zl_code.specs.declared.history.TraceItem.TheVariants as item
 use Rattle.zl_calls.proofs.stepping.act_for.Goals as goal
 

@@ -1,4 +1,4 @@
-use Rattle.zl_calls.proofs.Calling.{called_among}
+use Rattle.zl_calls.proofs.stepping.Calling.{called_among}
 use Rattle.zl_calls.proofs.stepping.call_next.Goals as goal
 
 pub returns-clause-calls : goal.returns-clause-calls

@@ -1,6 +1,6 @@
 use Rattle.zl_calls.proofs.Common.{◌≡◌, ◌∙◌, ap, set, slice_get, Some, List}
 use Rattle.zl_calls.specs.declared.process.Process.{Process}
-use Rattle.zl_calls.proofs.Calling.{acted_acts, again_there, policed_acts, reached_acts, same_caller, set_read}
+use Rattle.zl_calls.proofs.stepping.Calling.{acted_acts, again_there, policed_acts, reached_acts, same_caller, set_read}
 use Rattle.zl_calls.proofs.stepping.do_call.Goals as goal
 
 pub returns-in-Some-clause-acts : goal.returns-in-Some-clause-acts

@@ -1,4 +1,4 @@
-use Rattle.zl_calls.proofs.Places.{calls_next, has_site, no_call_next}
+use Rattle.zl_calls.proofs.stepping.Places.{calls_next, has_site, no_call_next}
 use Rattle.zl_calls.proofs.Common.{process_value, program_value}
 use Rattle.zl_calls.proofs.stepping.next_call.Goals as goal
 

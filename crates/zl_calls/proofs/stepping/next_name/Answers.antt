@@ -1,4 +1,4 @@
-use Rattle.zl_calls.proofs.Places.{named_next}
+use Rattle.zl_calls.proofs.stepping.Places.{named_next}
 use Rattle.zl_calls.proofs.Common.{process_value}
 use Rattle.zl_calls.proofs.stepping.next_name.Goals as goal
 

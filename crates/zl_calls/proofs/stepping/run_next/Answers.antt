@@ -1,4 +1,4 @@
-use Rattle.zl_calls.proofs.Places.{moves_at, stuck_at}
+use Rattle.zl_calls.proofs.stepping.Places.{moves_at, stuck_at}
 use Rattle.zl_calls.proofs.Common.{process_value, program_value}
 use Rattle.zl_calls.proofs.stepping.run_next.Goals as goal
 

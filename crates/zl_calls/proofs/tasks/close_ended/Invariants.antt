@@ -1,5 +1,5 @@
 use Rattle.zl_calls.specs.Registered.{KeepsListed}
-use Rattle.zl_calls.proofs.KillParts.{IsClosing}
+use Rattle.zl_calls.proofs.tasks.KillParts.{IsClosing}
 use Rattle.zl_calls.proofs.tasks.close_ended.Given as goal
 
 abbrev pub invariant-loop-process : goal.invariant-loop-process

@@ -1,5 +1,5 @@
 use Rattle.zl_calls.proofs.Common.{arith, ◌<◌, length}
-use Rattle.zl_calls.proofs.StartParts.{child_room, child_within, enters_so}
+use Rattle.zl_calls.proofs.tasks.StartParts.{child_room, child_within, enters_so}
 use Rattle.zl_calls.proofs.tasks.enter.Goals as goal
 
 pub index_mut-requires : goal.index_mut-requires

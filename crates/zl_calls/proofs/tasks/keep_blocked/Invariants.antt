@@ -6,7 +6,7 @@ use Rattle.zl_rights.specs.Map.{get}
 use Rattle.zl_rights.specs.Signals.{state_passes}
 use Rattle.zl_code.specs.Sound.{is_blocked}
 use Rattle.zl_calls.specs.World.{process_entry}
-use Rattle.zl_calls.proofs.Keeping.{IsKeeping}
+use Rattle.zl_calls.proofs.lists.FilterInPlace.{IsKeeping}
 use Rattle.zl_calls.proofs.tasks.keep_blocked.Given as goal
 
 abbrev pub invariant-loop-place : goal.invariant-loop-place

@@ -1,5 +1,5 @@
 use Rattle.zl_calls.proofs.Common.{refl}
-use Rattle.zl_calls.proofs.Creating.{not_made, wants_memory}
+use Rattle.zl_calls.proofs.tasks.Creating.{not_made, wants_memory}
 use Rattle.zl_calls.proofs.tasks.process_create.Goals as goal
 
 pub returns-in_default-clause-does : goal.returns-in_default-clause-does

@@ -6,8 +6,8 @@ use Rattle.zl_code.specs.Local.{reg}
 use Rattle.zl_code.specs.Request.{site_of}
 use Rattle.zl_calls.specs.declared.process.Process.{Process}
 use Rattle.zl_calls.specs.calls.Task.{IsCallerStill, lab}
-use Rattle.zl_calls.proofs.ReachParts.{counter_still, create_reaches, created_still, kill_reaches, start_reaches, still_within}
-use Rattle.zl_calls.proofs.StartParts.{stands_at}
+use Rattle.zl_calls.proofs.tasks.ReachParts.{counter_still, create_reaches, created_still, kill_reaches, start_reaches, still_within}
+use Rattle.zl_calls.proofs.tasks.StartParts.{stands_at}
 use Rattle.zl_calls.proofs.tasks.reach.Goals as goal
 
 pub index_mut-requires : goal.index_mut-requires

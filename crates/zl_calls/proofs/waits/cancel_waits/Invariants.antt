@@ -1,6 +1,6 @@
 use Rattle.std.specs.Prelude.{◌*◌, ◌-◌, length}
 use Rattle.zl_code.specs.Waiting.{is_keyed}
-use Rattle.zl_calls.proofs.Ending.{IsCancelling}
+use Rattle.zl_calls.proofs.waits.Ending.{IsCancelling}
 use Rattle.zl_calls.proofs.waits.cancel_waits.Given as goal
 
 abbrev pub invariant-loop-wait : goal.invariant-loop-wait

@@ -1,6 +1,6 @@
 use Rattle.std.specs.Prelude.{◌*◌, ◌-◌, length}
 use Rattle.zl_code.specs.Waiting.{is_by_handle}
-use Rattle.zl_calls.proofs.Ending.{IsEnding}
+use Rattle.zl_calls.proofs.waits.Ending.{IsEnding}
 use Rattle.zl_calls.proofs.waits.end_handle.Given as goal
 
 abbrev pub invariant-loop-wait : goal.invariant-loop-wait

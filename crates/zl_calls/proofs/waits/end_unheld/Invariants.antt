@@ -1,5 +1,5 @@
 use Rattle.std.specs.Prelude.{◌*◌, ◌-◌, length}
-use Rattle.zl_calls.proofs.Ending.{IsEnding, is_over}
+use Rattle.zl_calls.proofs.waits.Ending.{IsEnding, is_over}
 use Rattle.zl_calls.proofs.waits.end_unheld.Given as goal
 
 abbrev pub invariant-loop-wait : goal.invariant-loop-wait

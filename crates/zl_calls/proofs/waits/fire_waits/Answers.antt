@@ -1,6 +1,6 @@
 use Rattle.zl_calls.proofs.Common.{arith, sym, ◌∙◌}
 use Rattle.zl_objects.specs.Listed.{wait_value}
-use Rattle.zl_calls.proofs.FiringWorlds.{all_fired, fewer_behind, fewer_left, turn_fired, turn_kept}
+use Rattle.zl_calls.proofs.waits.FiringWorlds.{all_fired, fewer_behind, fewer_left, turn_fired, turn_kept}
 use Rattle.zl_calls.proofs.waits.fire_waits.Goals as goal
 
 pub loop-wait-smaller-then-intersects : goal.loop-wait-smaller-then-intersects

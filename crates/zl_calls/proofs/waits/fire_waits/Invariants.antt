@@ -1,5 +1,5 @@
 use Rattle.std.specs.Prelude.{◌-◌, length}
-use Rattle.zl_calls.proofs.FiringWorlds.{IsFiring}
+use Rattle.zl_calls.proofs.waits.FiringWorlds.{IsFiring}
 use Rattle.zl_calls.proofs.waits.fire_waits.Given as goal
 
 abbrev pub invariant-loop-wait : goal.invariant-loop-wait

@@ -1,4 +1,4 @@
-use Rattle.zl_calls.proofs.Ending.{has_at}
+use Rattle.zl_calls.proofs.waits.Ending.{has_at}
 use Rattle.zl_calls.proofs.waits.has_handle.Goals as goal
 
 pub returns-in-Some : goal.returns-in-Some

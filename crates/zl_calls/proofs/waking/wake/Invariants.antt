@@ -1,6 +1,6 @@
 use Rattle.std.specs.Prelude.{◌-◌}
 use Rattle.std.specs.Vec.{vec_capacity, vec_len}
-use Rattle.zl_calls.proofs.WakeLoop.{IsWaking}
+use Rattle.zl_calls.proofs.waking.WakeLoop.{IsWaking}
 use Rattle.zl_calls.proofs.waking.wake.Given as goal
 
 abbrev pub invariant-loop-place : goal.invariant-loop-place

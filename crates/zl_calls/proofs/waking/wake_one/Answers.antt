@@ -1,4 +1,4 @@
-use Rattle.zl_calls.proofs.Woken.{wakes_none, wakes_one}
+use Rattle.zl_calls.proofs.waking.Woken.{wakes_none, wakes_one}
 use Rattle.zl_calls.proofs.waking.wake_one.Goals as goal
 
 pub returns-in-Some : goal.returns-in-Some

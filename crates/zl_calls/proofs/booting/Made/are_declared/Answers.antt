@@ -1,5 +1,5 @@
 use Rattle.zl_calls.proofs.Common.{◌∙◌, sym, seen}
-use Rattle.zl_calls.proofs.BootDeclared.{all_fit, not_as_many, one_misfit, one_more}
+use Rattle.zl_calls.proofs.booting.BootDeclared.{all_fit, not_as_many, one_misfit, one_more}
 use Rattle.zl_calls.proofs.booting.Made.are_declared.Goals as goal
 
 pub returns-then-starts-handles : goal.returns-then-starts-handles

@@ -1,5 +1,5 @@
 use Rattle.zl_calls.proofs.Common.{refl}
-use Rattle.zl_calls.proofs.BootFaults.{handle_seen}
+use Rattle.zl_calls.proofs.booting.BootFaults.{handle_seen}
 use Rattle.zl_calls.proofs.booting.Made.handle.Goals as goal
 
 pub returns-in_err-kind : goal.returns-in_err-kind

@@ -1,6 +1,7 @@
 use Rattle.zl_calls.proofs.Common.{◌≡◌, ◌∙◌, inl, inr, sym, arith, length-map, length, seen, process_entry, program_value}
-use Rattle.zl_calls.proofs.BootFaults.{job_seen, known_seen, fault_no_program, fault_unknown, fault_handles, fault_misfits, fault_needs, fault_limit, no_fault}
-use Rattle.zl_calls.proofs.BootDeclared.{needs_seen}
+use Rattle.zl_calls.proofs.booting.BootFaults.{job_seen, known_seen, fault_no_program, fault_unknown, fault_handles, fault_misfits, fault_needs, fault_limit}
+use Rattle.zl_calls.proofs.booting.BootFaults.{no_fault}
+use Rattle.zl_calls.proofs.booting.BootDeclared.{needs_seen}
 use Rattle.zl_calls.proofs.booting.Made.image_for.Goals as goal
 use Rattle.zl_calls.proofs.booting.Made.image_for.Goals.{then-not-is_job-via-then-not-is_job, then-not-is_job-via-else-not-is_job+then-not-knows}
 use Rattle.zl_calls.proofs.booting.Made.image_for.Goals.{then-handles-gt-MOST-via-then-handles-gt-MOST}

@@ -1,5 +1,5 @@
 use Rattle.zl_calls.proofs.Common.{◌∙◌, sym, boot_fault}
-use Rattle.zl_calls.proofs.BootObjects.{channel_makes, limit_cause, memory_cause}
+use Rattle.zl_calls.proofs.booting.BootObjects.{channel_makes, limit_cause, memory_cause}
 use Rattle.zl_calls.proofs.booting.Made.make_channel.Goals as goal
 
 pub returns-then-lacks_koids-clause-err : goal.returns-then-lacks_koids-clause-err

@@ -1,5 +1,5 @@
 use Rattle.zl_calls.proofs.Common.{◌∙◌, sym}
-use Rattle.zl_calls.proofs.BootJobs.{job_fault, job_makes, no_parent, too_deep}
+use Rattle.zl_calls.proofs.booting.BootJobs.{job_fault, job_makes, no_parent, too_deep}
 use Rattle.zl_calls.proofs.booting.Made.make_job.Goals as goal
 
 pub returns-then-not-is_job-clause-err : goal.returns-then-not-is_job-clause-err

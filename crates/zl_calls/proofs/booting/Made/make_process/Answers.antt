@@ -1,8 +1,8 @@
 use Rattle.zl_calls.proofs.Common.{◌≡◌, ◌∙◌, ap, sym, refl, arith, length, length-map, nat_tests, seen, process_entry, World}
 use Rattle.zl_code.proofs.CanStart.{can_start}
 use Rattle.zl_calls.specs.declared.process.State.TheVariants as state
-use Rattle.zl_calls.proofs.BootFaults.{rights_are}
-use Rattle.zl_calls.proofs.BootMaking.{done, makes}
+use Rattle.zl_calls.proofs.booting.BootFaults.{rights_are}
+use Rattle.zl_calls.proofs.booting.BootMaking.{done, makes}
 use Rattle.zl_calls.proofs.booting.Made.make_process.Goals as goal
 
 pub give-requires-clause-place : goal.give-requires-clause-place

@@ -1,6 +1,6 @@
 use Rattle.zl_calls.proofs.Common.{◌≡◌, ◌+◌, ◌-◌, ℕ, refl, arith}
-use Rattle.zl_calls.proofs.BootLab.{all_swept, none_swept, one_swept}
-use Rattle.zl_calls.proofs.Departed.{left_keeps}
+use Rattle.zl_calls.proofs.booting.BootLab.{all_swept, none_swept, one_swept}
+use Rattle.zl_calls.proofs.processes.Departed.{left_keeps}
 use Rattle.zl_calls.proofs.booting.Made.settle.Goals as goal
 
 pub loop-koid-init : goal.loop-koid-init

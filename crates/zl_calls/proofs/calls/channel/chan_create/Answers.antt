@@ -1,5 +1,5 @@
 use Rattle.zl_calls.proofs.Common.{arith}
-use Rattle.zl_calls.proofs.Taking.{one_longer}
+use Rattle.zl_calls.proofs.tables.Taking.{one_longer}
 use Rattle.zl_calls.proofs.calls.channel.chan_create.Goals as goal
 
 pub insert-requires-2 : goal.insert-requires-2

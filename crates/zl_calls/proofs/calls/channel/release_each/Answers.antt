@@ -1,6 +1,6 @@
 use Rattle.zl_calls.proofs.Common.{[]}
-use Rattle.zl_calls.proofs.KeptLists.{listed_gone, listed_same, listed_then}
-use Rattle.zl_calls.proofs.Taking.{none_goes, released_more}
+use Rattle.zl_calls.proofs.waits.WaitsLost.{listed_gone, listed_same, listed_then}
+use Rattle.zl_calls.proofs.tables.Taking.{none_goes, released_more}
 use Rattle.zl_calls.proofs.calls.channel.release_each.Goals as goal
 
 pub loop-handle-init : goal.loop-handle-init

@@ -1,6 +1,6 @@
 use Rattle.zl_calls.proofs.Common.{get, length}
 use Rattle.zl_code.proofs.Common.{get_or}
-use Rattle.zl_calls.proofs.Taking.{room_left, table_more, taken_then}
+use Rattle.zl_calls.proofs.tables.Taking.{room_left, table_more, taken_then}
 use Rattle.zl_calls.proofs.calls.channel.take_each.Goals as goal
 
 pub loop-value-preserved : goal.loop-value-preserved

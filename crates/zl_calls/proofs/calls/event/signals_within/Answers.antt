@@ -1,5 +1,5 @@
 use Rattle.zl_calls.proofs.Common.{refl}
-use Rattle.zl_calls.proofs.Tables.{too_large}
+use Rattle.zl_calls.proofs.tables.Tables.{too_large}
 use Rattle.zl_calls.proofs.calls.event.signals_within.Goals as goal
 
 pub returns-in_default : goal.returns-in_default

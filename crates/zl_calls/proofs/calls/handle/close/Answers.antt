@@ -1,5 +1,5 @@
 use Rattle.zl_calls.proofs.Common.{[], refl, sym, ◌∙◌}
-use Rattle.zl_calls.proofs.KeptLists.{listed_gone}
+use Rattle.zl_calls.proofs.waits.WaitsLost.{listed_gone}
 use Rattle.zl_calls.proofs.calls.handle.close.Goals as goal
 
 pub returns-in-Some : goal.returns-in-Some

@@ -1,6 +1,6 @@
 use Rattle.zl_calls.proofs.Common.{refl}
-use Rattle.zl_calls.proofs.KeptLists.{listed_same}
-use Rattle.zl_calls.proofs.Taking.{none_goes, closes_more}
+use Rattle.zl_calls.proofs.waits.WaitsLost.{listed_same}
+use Rattle.zl_calls.proofs.tables.Taking.{none_goes, closes_more}
 use Rattle.zl_calls.proofs.calls.handle.close_each.Goals as goal
 
 pub loop-value-init : goal.loop-value-init

@@ -1,5 +1,5 @@
 use Rattle.zl_calls.proofs.Common.{sym, refl, ◌∙◌}
-use Rattle.zl_calls.proofs.Taking.{none_in}
+use Rattle.zl_calls.proofs.tables.Taking.{none_in}
 use Rattle.zl_calls.proofs.calls.handle.live_at.Goals as goal
 
 pub returns-then-len-eq0 : goal.returns-then-len-eq0

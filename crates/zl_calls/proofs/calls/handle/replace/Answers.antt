@@ -1,4 +1,4 @@
-use Rattle.zl_calls.proofs.Taking.{not_live_refused}
+use Rattle.zl_calls.proofs.tables.Taking.{not_live_refused}
 use Rattle.zl_calls.proofs.calls.handle.replace.Goals as goal
 
 pub returns-in_default : goal.returns-in_default

@@ -1,4 +1,4 @@
-use Rattle.zl_calls.proofs.Tables.{empty_has_none}
+use Rattle.zl_calls.proofs.tables.Tables.{empty_has_none}
 use Rattle.zl_calls.proofs.calls.handle.take_out.Goals as goal
 
 pub returns-then-len-eq0-clause-entry : goal.returns-then-len-eq0-clause-entry

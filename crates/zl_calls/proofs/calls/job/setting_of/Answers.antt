@@ -1,4 +1,4 @@
-use Rattle.zl_calls.proofs.Numbered.{no_action, no_condition, no_mode, all_known}
+use Rattle.zl_calls.proofs.calls.Numbered.{no_action, no_condition, no_mode, all_known}
 use Rattle.zl_calls.proofs.calls.job.setting_of.Goals as goal
 
 -- src/calls/job.rt:101:9

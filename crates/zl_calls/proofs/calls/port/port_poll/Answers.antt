@@ -1,5 +1,5 @@
 use Rattle.std.proofs.Common.{sym, ◌∙◌}
-use Rattle.zl_calls.proofs.Polled.{nothing_polled, packet_polled}
+use Rattle.zl_calls.proofs.calls.Polled.{nothing_polled, packet_polled}
 use Rattle.zl_calls.proofs.calls.port.port_poll.Goals as goal
 
 pub returns-in-Some : goal.returns-in-Some

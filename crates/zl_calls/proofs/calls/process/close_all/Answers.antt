@@ -1,6 +1,6 @@
 use Rattle.zl_calls.proofs.Common.{[]}
-use Rattle.zl_calls.proofs.KeptLists.{listed_gone, listed_same, listed_then}
-use Rattle.zl_calls.proofs.Tables.{drained_is_shorter, drained_closes, all_closed}
+use Rattle.zl_calls.proofs.waits.WaitsLost.{listed_gone, listed_same, listed_then}
+use Rattle.zl_calls.proofs.tables.Tables.{drained_is_shorter, drained_closes, all_closed}
 use Rattle.zl_calls.proofs.calls.process.close_all.Goals as goal
 
 pub loop-entry-init : goal.loop-entry-init

@@ -1,8 +1,8 @@
 use Rattle.zl_calls.proofs.Common.{[], subst, rules, Drained}
-use Rattle.zl_calls.proofs.KeptLists.{listed_gone, listed_over, listed_same, listed_then}
+use Rattle.zl_calls.proofs.waits.WaitsLost.{listed_gone, listed_over, listed_same, listed_then}
 use Rattle.zl_objects.specs.Release.{Ends as ObjectEnds}
 use Rattle.zl_calls.specs.declared.process.Process.{Process}
-use Rattle.zl_calls.proofs.Tables.{drained_is_shorter, drained_closes, all_closed}
+use Rattle.zl_calls.proofs.tables.Tables.{drained_is_shorter, drained_closes, all_closed}
 use Rattle.zl_calls.proofs.calls.process.end.Goals as goal
 
 pub loop-entry-smaller : goal.loop-entry-smaller

@@ -4,7 +4,7 @@ use Rattle.std.proofs.lemmas.Iterator.{YieldsList-from_slice}
 use Rattle.zl_code.specs.Image.{can_be_needed, is_among}
 use Rattle.zl_code.specs.Jobs.{is_allowing}
 use Rattle.zl_objects.specs.Jobs.{action_of, job_at}
-use Rattle.zl_calls.proofs.Needs.{any_needed}
+use Rattle.zl_calls.proofs.calls.Needs.{any_needed}
 use Rattle.zl_calls.proofs.calls.process.lacks_need.Goals as goal
 
 pub returns-then-is_checked : goal.returns-then-is_checked

@@ -1,6 +1,6 @@
 use Rattle.zl_calls.proofs.Common.{take}
 use Rattle.zl_calls.specs.calls.Reading.{CameFrom}
-use Rattle.zl_calls.proofs.Entered.{Grown}
+use Rattle.zl_calls.proofs.tables.Entered.{Grown}
 use Rattle.zl_calls.proofs.calls.reading.take_back.Given as goal
 
 abbrev pub invariant-loop-n : goal.invariant-loop-n

@@ -1,5 +1,5 @@
 use Rattle.zl_calls.proofs.Common.{◌≡◌, ◌^◌, true, nat_lt, ◌∙◌, sym, get, rules}
-use Rattle.zl_calls.proofs.Cancelled.{found_value, wait_registered}
+use Rattle.zl_calls.proofs.calls.Cancelled.{found_value, wait_registered}
 use Rattle.zl_calls.proofs.calls.wait.wait_async.Goals as goal
 
 pub returns-in-Ok-watch : goal.returns-in-Ok-watch

@@ -4,9 +4,9 @@ use Rattle.std.proofs.lemmas.List.{length-set}
 use Rattle.zl_interp.specs.Bursts.{after_locals}
 use Rattle.zl_calls.specs.Turns.{Stands}
 use Rattle.zl_calls.specs.declared.process.Process.{Process}
-use Rattle.zl_calls.proofs.Advancing.{advances, advanced_programs, advanced_sound, cpu_stands, program_stands, read_there, ready_there}
-use Rattle.zl_calls.proofs.LocalMoves.{moved_awake, moved_keeps, moved_list, moved_world}
-use Rattle.zl_calls.proofs.StepItems.{lab_value}
+use Rattle.zl_calls.proofs.stepping.Advancing.{advances, advanced_programs, advanced_sound, cpu_stands, program_stands, read_there, ready_there}
+use Rattle.zl_calls.proofs.stepping.LocalMoves.{moved_awake, moved_keeps, moved_list, moved_world}
+use Rattle.zl_calls.proofs.stepping.StepItems.{lab_value}
 use Rattle.zl_calls.proofs.world.World.advance.Goals as goal
 
 module _ (c : goal.After-drop-process-2) where

@@ -2,7 +2,7 @@ use Rattle.zl_code.proofs.AwakeRuns.{boot_awake}
 use Rattle.zl_code.proofs.ProgramsKept.{boot_programs}
 use Rattle.zl_code.specs.Boot.{IsBoot}
 use Rattle.zl_calls.proofs.Common.{arith, world_blocked}
-use Rattle.zl_calls.proofs.BootBlocked.{booted_boots, booted_sound, none_blocked}
+use Rattle.zl_calls.proofs.booting.BootBlocked.{booted_boots, booted_sound, none_blocked}
 use Rattle.zl_calls.proofs.world.World.boot.Goals as goal
 
 boots : (c : goal.After-len-2) → IsBoot c.args.library c.args.boot.now.statements.items

@@ -3,8 +3,8 @@ use Rattle.zl_calls.specs.Acting.{is_local}
 use Rattle.zl_calls.specs.Blocking.{then_blocked}
 use Rattle.zl_calls.specs.Registered.{EndsUnheld, FiresWaits}
 use Rattle.zl_calls.specs.declared.process.Process.{Process}
-use Rattle.zl_calls.proofs.BlockedLists.{no_more}
-use Rattle.zl_calls.proofs.StepItems.{lab_value, local_list, not_ready_in, stepped_awake, stepped_programs, stepped_sound, takes_local, takes_step}
+use Rattle.zl_calls.proofs.waking.BlockedLists.{no_more}
+use Rattle.zl_calls.proofs.stepping.StepItems.{lab_value, local_list, not_ready_in, stepped_awake, stepped_programs, stepped_sound, takes_local, takes_step}
 use Rattle.zl_calls.proofs.world.World.step.Goals as goal
 
 pub returns-in_err-item-clause-not_ready : goal.returns-in_err-item-clause-not_ready

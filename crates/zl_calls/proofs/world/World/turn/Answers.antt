@@ -1,7 +1,7 @@
 use Rattle.zl_calls.proofs.Common.{refl, process_value}
 use Rattle.zl_calls.specs.Turns.{IsTurn}
-use Rattle.zl_calls.proofs.Advancing.{listed_there, made_passes, none_ready, read_there, they_stand}
-use Rattle.zl_calls.proofs.StepItems.{lab_value}
+use Rattle.zl_calls.proofs.stepping.Advancing.{listed_there, made_passes, none_ready, read_there, they_stand}
+use Rattle.zl_calls.proofs.stepping.StepItems.{lab_value}
 use Rattle.zl_calls.proofs.world.World.turn.Goals as goal
 
 pub unreachable-requires : goal.unreachable-requires

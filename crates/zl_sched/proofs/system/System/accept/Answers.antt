@@ -1,6 +1,6 @@
 use Rattle.zl_sched.proofs.Common.{◌≡◌, ◌≤◌, ◌∙◌, ap, arith, length, System}
 use Rattle.std.specs.Prelude.{vec_capacity}
-use Rattle.zl_calls.proofs.BootMaking.{done}
+use Rattle.zl_calls.proofs.Above.{done}
 use Rattle.zl_sched.specs.Queueing.{requeued}
 use Rattle.zl_sched.specs.Ready.{others_of}
 use Rattle.zl_sched.specs.HandIn.{GoesFrom, HasRoom, IsAwaited}

@@ -1,6 +1,6 @@
 use Rattle.zl_sched.proofs.Common.{◌≡◌, ◌≤◌, ◌∙◌, ◌++◌, ◌∷◌, [], false, ℕ, List, ap, arith, length, rules, sym, System}
 use Rattle.std.specs.Prelude.{vec_capacity}
-use Rattle.zl_calls.proofs.BootMaking.{done}
+use Rattle.zl_calls.proofs.Above.{done}
 use Rattle.zl_sched.specs.Queueing.{requeued}
 use Rattle.zl_sched.specs.Ready.{is_in, others_of, queued_after}
 use Rattle.zl_sched.proofs.TurnTold.{limit_told, step_told}

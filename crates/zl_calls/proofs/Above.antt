@@ -1,0 +1,4 @@
+-- What the proofs of the crates above cite of these, passed on from one place. Declares nothing.
+pub use Rattle.zl_calls.proofs.booting.BootMaking.{done}
+pub use Rattle.zl_calls.proofs.waking.BlockedLists.{none_filtered}
+pub use Rattle.zl_calls.proofs.stepping.StepItems.{asked_next}

@@ -1,0 +1,10 @@
+-- What a boot makes, statement by statement.
+pub mod BootFaults
+pub mod BootGiving
+pub mod BootDeclared
+pub mod BootMaking
+pub mod BootObjects
+pub mod BootJobs
+pub mod BootLab
+pub mod BootRun
+pub mod BootBlocked

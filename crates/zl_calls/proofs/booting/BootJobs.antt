@@ -1,0 +1,258 @@
+-- The statements of a boot on jobs: a job is made in another, and a policy is set.
+use Rattle.zl_calls.proofs.Common.{◌≡◌, ◌+◌, ◌||◌, ℕ, Bool, true, false, List, [], ◌∷◌, refl, sym, ap, ◌∙◌, subst, if◌then◌else◌, Option, Some, None, Result}
+use Rattle.zl_calls.proofs.Common.{Ok, Err, ⊤, OnOk, IsTrue, arith, false≢true, then_some, first_some, Map, get, has_key-update, is_sorted-update, is_process}
+use Rattle.zl_calls.proofs.Common.{runs, Library, boot_effect, boot_fault, with_object, on_object, handles_to, body_of, Objects, with_new, is_job_at, is_job_in}
+use Rattle.zl_calls.proofs.Common.{is_job_body, object_value, body_value, world_value, is_in_job, Agrees, AreNamed, IsSound, IsMaking, IsCauseOf, Makes, seen}
+use Rattle.zl_calls.proofs.Common.{World}
+use Rattle.zl_code.proofs.Common.{Object as ObjectValue}
+use Rattle.zl_code.specs.Boot.{is_job, lacks_koids, setting}
+use Rattle.zl_code.specs.Jobs.{has_child, job_within as body_within, policy_changed}
+use Rattle.zl_code.specs.declared.boot.BootCause.{BootCause}
+use Rattle.zl_code.specs.declared.boot.BootCause.TheVariants as cause
+use Rattle.zl_code.specs.declared.boot.Statement.TheVariants as statement
+use Rattle.zl_rights.specs.declared.policy.Action.{Action}
+use Rattle.zl_rights.specs.declared.policy.Condition.{Condition}
+use Rattle.zl_rights.specs.declared.policy.Mode.TheVariants as mode
+use Rattle.zl_rights.specs.declared.status.Status.{Status}
+use Rattle.zl_rights.specs.declared.status.Status.TheVariants as status
+use Rattle.zl_rights.specs.Policies.{conflicts}
+use Rattle.zl_jobs.specs.Jobs.{Job, is_deepest as is_deepest_job, job_within}
+use Rattle.zl_jobs.specs.declared.job.JobFault.{JobFault}
+use Rattle.zl_jobs.specs.declared.job.JobFault.TheVariants as fault
+use Rattle.zl_objects.specs.declared.object.Body.{Body}
+use Rattle.zl_objects.specs.declared.object.Body.TheVariants as body
+use Rattle.zl_objects.specs.declared.object.Object.{Object}
+use Rattle.zl_objects.specs.Jobs.{job_at, new_in, policy_answer, setting_policy, with_policy_body, with_policy_set}
+use Rattle.zl_objects.specs.Objects.{keeper_of, queue_of}
+use Rattle.zl_objects.specs.Seen.{is_above}
+use Rattle.zl_objects.specs.Signals.{ShowStates}
+use Rattle.zl_objects.proofs.Showing.{job_shown, process_shown}
+use Rattle.zl_calls.specs.Makes.{koid_fault}
+use Rattle.zl_calls.specs.Making.{is_killed}
+use Rattle.zl_calls.specs.calls.Job.{has_child_at}
+use Rattle.zl_calls.specs.declared.process.Process.{Process}
+use Rattle.zl_calls.specs.declared.booting.Made.{Made}
+use Rattle.zl_calls.proofs.objects.Active.{shown_all}
+use Rattle.zl_calls.proofs.booting.BootFaults.{job_seen}
+use Rattle.zl_calls.proofs.booting.BootObjects.{object_makes}
+use Rattle.zl_calls.proofs.objects.Counting.{same_tables}
+use Rattle.zl_calls.proofs.calls.JobCalls.{IsJobAt, body_seen, job_found, policy_keeps, policy_named, policy_queues, policy_seen, stands_grown}
+use Rattle.zl_calls.proofs.objects.Rebodied.{in_job_too, named_rebodied}
+use Rattle.zl_calls.proofs.objects.SameBodies.{found_updated, still_agrees, still_named}
+use Rattle.zl_calls.proofs.lists.Updates.{update_seen}
+
+-- the job k, which is there
+job_there : (os : Map Object) (k : ℕ) → is_job_at os k ≡ true → IsJobAt os k
+job_there os k is = by_object (get os k) refl is
+  where
+    by_body : (o : Object) (b : Body) → get os k ≡ Some o → o.body ≡ b → is_job_body b ≡ true → IsJobAt os k
+    by_body o (body.Job job) at same h = record { object = o; there = at; job = job; is = same }
+    by_body o (body.Process job lives) at same h = absurd (false≢true h)
+    by_body o body.Event at same h = absurd (false≢true h)
+    by_body o (body.Port port) at same h = absurd (false≢true h)
+    by_body o (body.ChannelEnd peer queue) at same h = absurd (false≢true h)
+
+    by_object : (o : Option Object) → get os k ≡ o → is_job_in o ≡ true → IsJobAt os k
+    by_object None at h = absurd (false≢true h)
+    by_object (Some o) at h = by_body o o.body at refl h
+
+-- ---- the policy of a job is set
+
+module _ (ps : List Process) (r : Objects) (making : IsMaking ps [] r) (k : ℕ) (c : Condition) (a : Action) where
+  abbrev sound : IsSound ps [] r
+  sound = making.sound
+
+  abbrev changed : Objects
+  changed = setting_policy r k c a
+
+  counts : (j : ℕ) → handles_to (world_value ps changed) j ≡ handles_to (world_value ps r) j
+  counts j = same_tables ps r changed j (policy_queues c a r.objects k j)
+
+  as_before : (j : ℕ) (b : Body) → Agrees (world_value ps r) j b → Agrees (world_value ps changed) j b
+  unfolding is_process
+  as_before j b = still_agrees (world_value ps r) (world_value ps changed) j b (λ test. refl)
+
+  set_sound : IsSound ps [] changed
+  set_sound = record {
+    processes_in_order = sound.processes_in_order;
+    objects_in_order = rw (is_sorted-update r.objects k (with_policy_set c a)) sound.objects_in_order;
+    given_processes = sound.given_processes;
+    given_objects = λ j there. sound.given_objects j (sym (has_key-update r.objects k (with_policy_set c a) j) ∙ there);
+    koids = sound.koids;
+    above_zero = sound.above_zero;
+    no_zero = λ j there. sound.no_zero j (sym (has_key-update r.objects k (with_policy_set c a) j) ∙ there);
+    tables = sound.tables;
+    named = λ j p v e at there. named_rebodied (with_policy_body c a) (policy_keeps c a) r.objects k e (sound.named j p v e at there);
+    queued = λ j q at. found_updated (with_policy_set c a) r.objects k (AreNamed changed.objects (queue_of q.body)) j q at
+        (λ o old here is. subst (λ (x : Object). AreNamed changed.objects (queue_of x.body)) is (policy_named c a r k o.body (sound.queued j o old)))
+        (λ apart old. still_named r.objects changed.objects (named_rebodied (with_policy_body c a) (policy_keeps c a) r.objects k) (queue_of q.body)
+        (sound.queued j q old));
+    counted = λ j q at. found_updated (with_policy_set c a) r.objects k (q.handles ≡ handles_to (world_value ps changed) j + 0) j q at
+        (λ o old here is. let same : o.handles ≡ q.handles = ap (λ (x : Object). x.handles) is in omega (arith, same, sound.counted j o old, counts j))
+        (λ apart old. omega (arith, sound.counted j q old, counts j));
+    agrees = λ j q at. as_before j q.body (found_updated (with_policy_set c a) r.objects k (Agrees (world_value ps r) j q.body) j q at
+        (λ o old here is.
+        subst (λ (x : Object). Agrees (world_value ps r) j x.body) is ((policy_keeps c a).agrees (world_value ps r) j o.body (sound.agrees j o old)))
+        (λ apart old. sound.agrees j q old));
+    in_jobs = λ j q at. found_updated (with_policy_set c a) r.objects k (IsTrue (is_in_job changed.objects q.body)) j q at
+        (λ o old here is. subst (λ (x : Object). IsTrue (is_in_job changed.objects x.body)) is
+        (rw ((policy_keeps c a).in_job changed.objects o.body, in_job_too (with_policy_body c a) (policy_keeps c a) r.objects k o.body)
+        (sound.in_jobs j o old)))
+        (λ apart old. rw (in_job_too (with_policy_body c a) (policy_keeps c a) r.objects k q.body) (sound.in_jobs j q old));
+  }
+
+  killed_too : (b : Body) → is_killed (with_policy_body c a b) ≡ is_killed b
+  killed_too (body.Job job) = refl
+  killed_too _ = refl
+
+  set_making : IsMaking ps [] changed
+  set_making = record {
+    sound = set_sound;
+    few = λ j. omega (arith, making.few j, counts j);
+    unwatched = record { none = making.unwatched.none; none_made = making.unwatched.none_made };
+    alive = λ j q at. found_updated (with_policy_set c a) r.objects k (is_killed q.body ≡ false) j q at
+        (λ o old here is. subst (λ (x : Object). is_killed x.body ≡ false) is (killed_too o.body ∙ making.alive j o old))
+        (λ apart old. making.alive j q old);
+  }
+
+-- ---- the statements
+
+module _ (lib : Library) (before : Made) (making : IsMaking before.processes.items [] before.objects) where
+  abbrev w : World
+  w = seen before
+
+  abbrev ps : List Process
+  ps = before.processes.items
+
+  abbrev r : Objects
+  r = before.objects
+
+  -- the world sees the job where it is
+  is_seen : (k : ℕ) → is_job_at r.objects k ≡ true → is_job w k ≡ true
+  is_seen k there = job_seen ps r k ∙ there
+
+  -- ---- a job in another
+
+  module _ (parent : ℕ) where
+    abbrev new_job : Result Job JobFault
+    new_job = new_in parent (job_at r.objects parent)
+
+    pub no_parent : is_job_at r.objects parent ≡ false → IsCauseOf (boot_fault lib w (statement.Job parent)) cause.Unknown
+    unfolding boot_fault
+    no_parent missing = rw (job_seen ps r parent, missing) refl
+
+    module _ (there : is_job_at r.objects parent ≡ true) where
+      at : IsJobAt r.objects parent
+      at = job_there r.objects parent there
+
+      unkilled : at.job.killed ≡ false
+      unkilled = ap is_killed (sym at.is) ∙ making.alive parent at.object at.there
+
+      new_is : new_job ≡ (if is_deepest_job at.job then Err fault.OutOfRange else Ok (job_within parent at.job))
+      new_is = rw (job_found r.objects parent at, unkilled) refl
+
+      fault_is : boot_fault lib w (statement.Job parent) ≡ then_some (is_deepest_job at.job || lacks_koids w (statement.Job parent)) cause.Limit
+      unfolding boot_fault
+      fault_is = rw (is_seen parent there, body_seen ps r parent at) (alone (is_deepest_job at.job || lacks_koids w (statement.Job parent)))
+        where
+          alone : (b : Bool) → first_some (None ∷ then_some b cause.Limit ∷ []) ≡ then_some b cause.Limit
+          alone true = refl
+          alone false = refl
+
+      -- it would stand too deep
+      pub too_deep : ((x : Job) → new_job ≡ Ok x → ⊥) → IsCauseOf (boot_fault lib w (statement.Job parent)) cause.Limit
+      too_deep none = rw fault_is (by_depth (is_deepest_job at.job) refl)
+        where
+          by_depth : (b : Bool) → is_deepest_job at.job ≡ b → IsCauseOf (then_some (b || lacks_koids w (statement.Job parent)) cause.Limit) cause.Limit
+          by_depth true is = refl
+          by_depth false is = absurd (none (job_within parent at.job) (new_is ∙ rw is refl))
+
+      module _ (child : Job) (made : new_job ≡ Ok child) where
+        by_depth : (b : Bool)
+            → is_deepest_job at.job ≡ b → ◌≡◌ {A = Result Job JobFault} (if b then Err fault.OutOfRange else Ok (job_within parent at.job)) (Ok child)
+            → (is_deepest_job at.job ≡ false) × (child ≡ job_within parent at.job)
+        by_depth true is h = absurd cc
+        by_depth false is h = (is, cc)
+
+        fits : (is_deepest_job at.job ≡ false) × (child ≡ job_within parent at.job)
+        fits = by_depth (is_deepest_job at.job) refl (sym new_is ∙ made)
+
+        -- a koid is all that it may lack
+        pub job_fault : boot_fault lib w (statement.Job parent) ≡ koid_fault before
+        job_fault = fault_is ∙ rw fits.0 refl
+
+        abbrev job : Body
+        job = body.Job child
+
+        stands : IsTrue (is_in_job (with_new r job 0).objects job)
+        stands = subst (λ (o : Option ℕ). IsTrue (is_above (with_new r job 0).objects o)) (ap (λ (x : Job). keeper_of (body.Job x)) (sym fits.1))
+            (stands_grown ps [] r making.sound job 0 parent at)
+
+        body_is : body_value job ≡ body_within parent (body_of w parent)
+        body_is = ap (λ (x : Job). body_value (body.Job x)) fits.1 ∙ ap (body_within parent) (sym (body_seen ps r parent at))
+
+        pub job_makes : (x : Result ⊤ BootCause) (after : Made) → OnOk x (koid_fault before ≡ None)
+            → OnOk x (after ≡ record before { objects = with_new r job 0 }) → OnOk x (Makes lib (statement.Job parent) before after)
+        unfolding boot_effect
+        job_makes = object_makes lib before making (statement.Job parent) job job_fault refl (ap (with_object w) body_is) refl (λ not. not runs) stands
+            (ap (λ (x : Job). x.killed) fits.1)
+
+  -- ---- a policy
+
+  module _ (k : ℕ) (c : Condition) (a : Action) where
+    abbrev answer : Result ⊤ Status
+    answer = policy_answer (job_at r.objects k) c a mode.Absolute
+
+    pub no_such_job : is_job_at r.objects k ≡ false → IsCauseOf (boot_fault lib w (statement.Policy k c a)) cause.Unknown
+    unfolding boot_fault
+    no_such_job missing = rw (job_seen ps r k, missing) refl
+
+    child_is : has_child w k ≡ has_child_at r.objects k
+    child_is = λ i. job_shown w r.objects shows k i || process_shown w r.objects shows k i
+      where
+        shows : ShowStates w r.objects
+        shows = shown_all w r.objects making.sound.objects_in_order making.sound.no_zero making.sound.agrees
+
+    module _ (there : is_job_at r.objects k ≡ true) where
+      job_is : IsJobAt r.objects k
+      job_is = job_there r.objects k there
+
+      abbrev conflict : Bool
+      conflict = conflicts job_is.job.policy c a
+
+      policy_fault : boot_fault lib w (statement.Policy k c a)
+          ≡ first_some (None ∷ then_some (has_child_at r.objects k) cause.BadState ∷ then_some conflict cause.Conflict ∷ [])
+      unfolding boot_fault
+      policy_fault = rw (is_seen k there, child_is, body_seen ps r k job_is) refl
+
+      pub has_one : has_child_at r.objects k ≡ true → IsCauseOf (boot_fault lib w (statement.Policy k c a)) cause.BadState
+      has_one child = rw (policy_fault, child) refl
+
+      answer_is : answer ≡ (if conflict then Err status.AlreadyExists else Ok tt)
+      answer_is = rw (job_found r.objects k job_is) refl
+
+      module _ (childless : has_child_at r.objects k ≡ false) where
+        pub conflicting : (s : Status) → answer ≡ Err s → IsCauseOf (boot_fault lib w (statement.Policy k c a)) cause.Conflict
+        conflicting s refused = rw (policy_fault, childless) (by_test conflict (sym answer_is ∙ refused))
+          where
+            by_test : (b : Bool) → ◌≡◌ {A = Result ⊤ Status} (if b then Err status.AlreadyExists else Ok tt) (Err s)
+                → IsCauseOf (first_some (None ∷ None ∷ then_some b cause.Conflict ∷ [])) cause.Conflict
+            by_test true h = refl
+            by_test false h = absurd cc
+
+        pub policy_makes : answer ≡ Ok tt → (after : Objects) → after ≡ setting_policy r k c a
+            → Makes lib (statement.Policy k c a) before (record before { objects = after })
+        unfolding boot_effect on_object
+        policy_makes done after is = record {
+          no_fault = policy_fault ∙ rw childless (by_test conflict (sym answer_is ∙ done));
+          values = [];
+          chosen = refl;
+          effect = rw is (ap (λ (os : Map ObjectValue). record w { objects = os }) (update_seen object_value r.objects k (with_policy_set c a)
+              (policy_changed (setting c a)) (policy_seen c a (record { mode = mode.Absolute; condition = c; action = a }) refl refl)));
+          making = rw is (set_making ps r making k c a);
+        }
+          where
+            by_test : (b : Bool) → ◌≡◌ {A = Result ⊤ Status} (if b then Err status.AlreadyExists else Ok tt) (Ok tt)
+                → first_some (None ∷ None ∷ then_some b cause.Conflict ∷ []) ≡ None
+            by_test true h = absurd cc
+            by_test false h = refl

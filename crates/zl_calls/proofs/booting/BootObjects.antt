@@ -1,0 +1,123 @@
+-- Objects that a statement makes, and that no handle names yet: an event, a port, the two ends of a channel.
+use Rattle.zl_calls.proofs.Common.{◌≡◌, ◌<◌, ◌≤◌, ◌+◌, ◌^◌, ℕ, Bool, true, false, ◌==◌, List, [], refl, sym, ap, ◌∙◌, subst, None, Result, Ok, Err, ⊤, OnOk}
+use Rattle.zl_calls.proofs.Common.{none-some, cond, may_boot, seen, IsTrue, arith, nat_lt, nat_tests, then_some, Map, is_process, runs, with_object}
+use Rattle.zl_calls.proofs.Common.{boot_effect, boot_fault, Library, World, ChannelEnd, body_value, Objects, with_new, world_value, IsSound, IsMaking, Makes}
+use Rattle.zl_calls.proofs.Common.{IsCauseOf, Agrees, is_in_job, MOST_KOIDS}
+use Rattle.zl_code.proofs.Common.{State as StateValue, Object as ObjectValue}
+use Rattle.zl_code.specs.declared.boot.BootCause.{BootCause}
+use Rattle.zl_code.specs.declared.boot.BootCause.TheVariants as cause
+use Rattle.zl_code.specs.declared.boot.Statement.{Statement}
+use Rattle.zl_code.specs.declared.boot.Statement.TheVariants as statement
+use Rattle.zl_objects.specs.declared.object.Body.{Body}
+use Rattle.zl_objects.specs.declared.object.Body.TheVariants as body
+use Rattle.zl_objects.specs.declared.object.Object.{Object}
+use Rattle.zl_objects.specs.Objects.{queue_of, with_channel}
+use Rattle.zl_calls.specs.declared.process.Process.{Process}
+use Rattle.zl_calls.specs.Makes.{koid_fault}
+use Rattle.zl_calls.specs.Making.{is_killed}
+use Rattle.zl_calls.specs.declared.booting.Made.{Made}
+use Rattle.zl_calls.proofs.objects.Counting.{queues_grown, same_tables}
+use Rattle.zl_calls.proofs.objects.Grown.{found_grown, grown_seen, grown_sound, none_queued}
+
+-- ---- one object more
+
+module _ (ps : List Process) (r : Objects) (making : IsMaking ps [] r) (b : Body) where
+  abbrev sound : IsSound ps [] r
+  sound = making.sound
+
+  abbrev n : ℕ
+  n = r.next_koid
+
+  abbrev grown : Objects
+  grown = with_new r b 0
+
+  -- no message is in it, and it agrees with there being no such process
+  pub grown_making : queue_of b ≡ [] → (((test : StateValue → Bool) → is_process (world_value ps r) test n ≡ false) → Agrees (world_value ps r) n b)
+      → IsTrue (is_in_job grown.objects b) → n < 2 ^ 62 → is_killed b ≡ false → IsMaking ps [] grown
+  grown_making empty quiet in_job koid unkilled = record {
+    sound = grown_sound ps [] r sound b 0 quiet empty in_job koid refl [] (λ j. none (n == j));
+    few = λ k. omega (arith, making.few k, same_tables ps r grown k (queues_grown r b 0 k (none_queued k b empty)));
+    unwatched = record { none = making.unwatched.none; none_made = making.unwatched.none_made };
+    alive = λ j q at. found_grown ps [] r sound b 0 (is_killed q.body ≡ false) j q at
+        (λ here is. subst (λ (x : Object). is_killed x.body ≡ false) is unkilled)
+        (λ apart old. making.alive j q old);
+  }
+    where
+      none : (t : Bool) → 0 ≡ cond t 0 0 + 0
+      none true = refl
+      none false = refl
+
+  -- the world is that of the definitions
+  pub grown_world : world_value ps grown ≡ with_object (world_value ps r) (body_value b)
+  unfolding with_object
+  grown_world = sym (ap (λ (os : Map ObjectValue). record (world_value ps r) { objects = os; next_koid = n + 1 }) (grown_seen r b 0 sound.given_objects))
+
+-- ---- the limit
+
+-- where a statement that takes so many koids has enough of them
+pub enough_koids : (n count : ℕ) → nat_lt (MOST_KOIDS + 1) (n + count) ≡ false → n + count ≤ 1025
+enough_koids n count enough = grind (arith, nat_tests, enough)
+
+-- the cause is that of a statement whose only fault is this test
+pub limit_cause : (test : Bool) → test ≡ true → IsCauseOf (then_some test cause.Limit) cause.Limit
+limit_cause test is = rw is refl
+
+-- or it has no fault
+pub memory_cause : (test : Bool) → test ≡ false → IsCauseOf (then_some test cause.Limit) cause.NoMemory
+memory_cause test is = rw is refl
+
+-- ---- the statements
+
+module _ (lib : Library) (before : Made) (making : IsMaking before.processes.items [] before.objects) where
+  abbrev k : ℕ
+  k = before.objects.next_koid
+
+  abbrev ps2 : List Process
+  ps2 = before.processes.items
+
+  -- one that makes one object, and that lacks at most a koid
+  pub object_makes : (s : Statement) (b : Body) → boot_fault lib (seen before) s ≡ koid_fault before → IsTrue (may_boot lib (seen before) s [])
+      → with_object (seen before) (body_value b) ≡ boot_effect lib (seen before) s []
+      → queue_of b ≡ [] → (((test : StateValue → Bool) → is_process (seen before) test k ≡ false) → Agrees (seen before) k b)
+      → IsTrue (is_in_job (with_new before.objects b 0).objects b) → is_killed b ≡ false
+      → (x : Result ⊤ BootCause) (after : Made) → OnOk x (koid_fault before ≡ None) → OnOk x (after ≡ record before { objects = with_new before.objects b 0 })
+      → OnOk x (Makes lib s before after)
+  object_makes s b faults chosen effect empty quiet in_job unkilled (Err c) after left made = tt
+  object_makes s b faults chosen effect empty quiet in_job unkilled (Ok done) after left made = record {
+    no_fault = faults ∙ left;
+    values = [];
+    chosen = chosen;
+    effect = rw made (grown_world ps2 before.objects making b ∙ effect);
+    making = rw made (grown_making ps2 before.objects making b empty quiet in_job (by_test (nat_lt (MOST_KOIDS + 1) (k + 1)) refl left) unkilled);
+  }
+    where
+      by_test : (t : Bool) → nat_lt (MOST_KOIDS + 1) (k + 1) ≡ t → then_some t cause.Limit ≡ None → k < 2 ^ 62
+      by_test true is h = absurd (none-some _ (sym h))
+      by_test false is h = omega (arith, enough_koids k 1 is)
+
+  pub channel_makes : (after : Objects) → nat_lt (MOST_KOIDS + 1) (k + 2) ≡ false → after ≡ with_channel before.objects 0
+      → Makes lib statement.Channel before (record before { objects = after })
+  unfolding boot_fault boot_effect
+  channel_makes after enough made = record {
+    no_fault = rw enough refl;
+    values = [];
+    chosen = refl;
+    effect = rw made
+        (grown_world ps2 with_first first second_end ∙ ap (λ (w : World). with_object w (ChannelEnd k [])) (grown_world ps2 before.objects making first_end));
+    making = rw made (grown_making ps2 with_first first second_end refl (λ not. not runs) refl (omega (arith, few)) refl);
+  }
+    where
+      first_end : Body
+      first_end = body.ChannelEnd (k + 1) []
+
+      second_end : Body
+      second_end = body.ChannelEnd k []
+
+      with_first : Objects
+      with_first = with_new before.objects first_end 0
+
+      few : k + 2 ≤ 1025
+      few = enough_koids k 2 enough
+
+      first : IsMaking ps2 [] with_first
+      first = grown_making ps2 before.objects making first_end refl (λ not. not runs) refl (omega (arith, few)) refl

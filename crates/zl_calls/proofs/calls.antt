@@ -1,0 +1,26 @@
+-- What a call does by itself, in a file for each kind of object, and how it is answered.
+pub mod Answered
+pub mod Refused
+pub mod DoneCalls
+pub mod AmongWaits
+pub mod MakeCalls
+pub mod TakenCalls
+pub mod HandleCalls
+pub mod EventCalls
+pub mod ChannelCalls
+pub mod WriteCalls
+pub mod ReadCalls
+pub mod ReaderTold
+pub mod WaitCalls
+pub mod AsyncCalls
+pub mod Repacked
+pub mod PortCalls
+pub mod Polled
+pub mod Waited
+pub mod CancelCalls
+pub mod Cancelled
+pub mod JobCalls
+pub mod Numbered
+pub mod ProcessCalls
+pub mod Needs
+pub mod Performed

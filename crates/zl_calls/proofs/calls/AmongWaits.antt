@@ -1,0 +1,91 @@
+-- A call that looks at registered waits: it is done beside them and any blocked processes, or refused with nothing changed.
+use Rattle.zl_calls.proofs.Common.{◌≡◌, ℕ, Bool, List, [], ◌∷◌, refl, sym, ap, ◌∙◌, subst, None, Option, Result, Ok, Err, Library, Site, first_some, by_look_up}
+use Rattle.zl_calls.proofs.Common.{grows, refusal, replied, taken, Handles, Objects, Does, Replies, operand_of, status_of, values_of, world_blocked}
+use Rattle.zl_calls.proofs.Common.{world_value, IsConsistent, World}
+use Rattle.std.specs.Result.{result_err}
+use Rattle.zl_rights.specs.LookUp.{granted}
+use Rattle.zl_rights.specs.World.{Wait}
+use Rattle.zl_rights.specs.declared.entry.Entry.{Entry}
+use Rattle.zl_rights.specs.declared.kind.Kind.{Kind}
+use Rattle.zl_rights.specs.declared.policy.Condition.TheVariants as condition
+use Rattle.zl_rights.specs.declared.status.Status.{Status}
+use Rattle.zl_rights.specs.declared.status.Status.TheVariants as status
+use Rattle.zl_code.specs.declared.history.Outcome.{Outcome}
+use Rattle.zl_code.specs.declared.history.Outcome.TheVariants as outcome
+use Rattle.zl_code.proofs.Waiters.{replied_among, with_waiters}
+use Rattle.zl_calls.specs.declared.process.Process.{Process}
+use Rattle.zl_calls.proofs.calls.Answered.{IsWrite, same_world}
+use Rattle.zl_calls.proofs.calls.DoneCalls.{IsCalledAmong}
+use Rattle.zl_calls.proofs.calls.Refused.{TellsNothing, answers, fault_answers, refused_calls}
+use Rattle.zl_calls.proofs.processes.Written.{refusal_keeps}
+
+-- ---- two look-ups
+
+module _ (w : World) (p : ℕ) where
+  -- a fault of a look-up is answered, as no policy ends the caller for it
+  pub look_up_answers : (x : Result Entry Status) → by_look_up w p x ≡ answers (result_err x)
+  look_up_answers (Ok e) = refl
+  look_up_answers (Err status.BadHandle) = fault_answers w p condition.BadHandle status.BadHandle
+  look_up_answers (Err status.WrongType) = fault_answers w p condition.WrongObject status.WrongType
+  look_up_answers (Err _) = refl
+
+  -- the refusal of a call with two handle operands, where this is left of it when both are found
+  abbrev pub behind_both : Result Entry Status → Result Entry Status → Option Outcome → Option Outcome
+  behind_both x y rest = first_some (answers (result_err x) ∷ answers (result_err y) ∷ rest ∷ [])
+
+  pub both_looked_up : (one two : Option Entry) (kinds others : List Kind) (needed more : ℕ) (rest : List (Option Outcome))
+      → first_some (first_some (operand_of w p kinds needed one ∷ first_some (operand_of w p others more two ∷ None ∷ []) ∷ []) ∷ None ∷ rest)
+      ≡ behind_both (granted one kinds needed) (granted two others more) (first_some rest)
+  both_looked_up one two kinds others needed more rest =
+      (λ i. first_some (first_some (look_up_answers (granted one kinds needed) i ∷ first_some (look_up_answers (granted two others more) i ∷ None ∷ []) ∷ [])
+      ∷ None ∷ rest))
+      ∙ by_both (granted one kinds needed) (granted two others more)
+    where
+      by_rest : (o : Option Outcome) → o ≡ first_some (o ∷ [])
+      by_rest None = refl
+      by_rest _ = refl
+
+      by_both : (x y : Result Entry Status)
+          → first_some (first_some (answers (result_err x) ∷ first_some (answers (result_err y) ∷ None ∷ []) ∷ []) ∷ None ∷ rest)
+          ≡ behind_both x y (first_some rest)
+      by_both (Ok e) (Ok f) = by_rest (first_some rest)
+      by_both (Ok e) (Err s) = refl
+      by_both (Err s) y = refl
+
+-- ---- the call
+
+-- a process of a lab, before and after its call
+module _ (lib : Library) (before after : List Process) (r r2 : Objects) (p p2 : Process) (lab : IsConsistent before r) (write : IsWrite before after p p2)
+    (s : Site) where
+  -- the world afterwards, from the one without waits
+  pub ends_among : (blocked : List ℕ) (middle : World) (waits : List Wait) (made : ℕ) (answer : Status) (values : List ℕ)
+      → world_value after r2 ≡ replied middle p.pid s answer values → r2.waits ≡ waits → r2.waits_made ≡ made
+      → world_blocked after r2 blocked ≡ replied (with_waiters middle waits made blocked) p.pid s answer values
+  ends_among blocked middle waits made answer values ends listed counted =
+      (λ i. with_waiters (ends i) (listed i) (counted i) blocked) ∙ sym (replied_among p.pid waits made blocked middle s answer values)
+
+  module _ {A : Type 0} (values : A → List ℕ) (Done : A → Handles → Objects → Type 0) (wants : Bool) (o : Option Status)
+      (refused : (blocked : List ℕ) → refusal lib (world_blocked before r blocked) p.pid s.request ≡ answers o) (may_want : wants ≡ grows s.request)
+      (takes_none : (blocked : List ℕ) → taken (world_blocked before r blocked) p.pid s ≡ world_blocked before r blocked)
+      (nothing : (blocked : List ℕ) → TellsNothing lib (world_blocked before r blocked) p.pid s)
+      (done : (x : A) → Done x p2.table r2 → Replies s status.Ok (values x) p p2
+      → IsCalledAmong lib before after r r2 p.pid s (outcome.Answered status.Ok)) where
+    by_answer : (answer : Result A Status) → Does Done wants o p.table r answer p2.table r2 → Replies s (status_of answer) (values_of values answer) p p2
+        → IsCalledAmong lib before after r r2 p.pid s (outcome.Answered (status_of answer))
+    by_answer (Ok x) does replies = done x does.ok replies
+    by_answer (Err answer) does replies = record {
+      calls =
+          λ blocked. refused_calls lib (world_blocked before r blocked) p.pid s wants o answer (world_blocked after r2 blocked) (nothing blocked)
+          (refused blocked) may_want does.err
+          (ends_among blocked (world_value before r) r.waits r.waits_made answer []
+          (same_world before after p p2 write r r2 s answer [] does.same_table does.same_objects replies)
+          (ap (λ (x : Objects). x.waits) does.same_objects) (ap (λ (x : Objects). x.waits_made) does.same_objects)
+          ∙ ap (λ (v : World). replied v p.pid s answer []) (sym (takes_none blocked)));
+      keeps = subst (IsConsistent after) (sym does.same_objects)
+          (refusal_keeps before after p p2 write r lab does.same_table (ap (λ (q : Process). q.state) replies));
+    }
+
+    pub answered_among : (ends : Outcome) (answer : Result A Status) → Does Done wants o p.table r answer p2.table r2
+        → Replies s (status_of answer) (values_of values answer) p p2
+        → ends ≡ outcome.Answered (status_of answer) → IsCalledAmong lib before after r r2 p.pid s ends
+    answered_among ends answer does replies is = subst (λ (x : Outcome). IsCalledAmong lib before after r r2 p.pid s x) (sym is) (by_answer answer does replies)

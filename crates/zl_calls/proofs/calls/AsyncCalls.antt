@@ -1,0 +1,120 @@
+-- The call wait_async, from its table and objects to a step beside the registered waits.
+use Rattle.zl_calls.proofs.Common.{◌≡◌, ℕ, Bool, true, false, not, List, [], ◌∷◌, ◌++◌, ◌+◌, refl, sym, ap, ◌∙◌, subst, Option, Some, None, Result, Ok, Err}
+use Rattle.zl_calls.proofs.Common.{IsTrue, get, Ready, Library, Site, site, refusal, handle_operands, examined, operand, any, listed, answer_if, first_some}
+use Rattle.zl_calls.proofs.Common.{then_some, option_or, may_choose, new_handles, insert_all, remove_all, taken_handles, effect, gives_ok, gives_refused}
+use Rattle.zl_calls.proofs.Common.{AtCall, next_for, Values, replied, taken, Objects, IsAnswered, Replies, told_by, no_value, process_value, state_value}
+use Rattle.zl_calls.proofs.Common.{world_blocked, world_value, IsConsistent, World}
+use Rattle.zl_rights.specs.Numbers.{WAIT, WRITE}
+use Rattle.zl_rights.specs.World.{Wait as WaitValue}
+use Rattle.zl_rights.specs.declared.entry.Entry.{Entry}
+use Rattle.zl_rights.specs.declared.kind.Kind.TheVariants as kind
+use Rattle.zl_rights.specs.declared.status.Status.{Status}
+use Rattle.zl_rights.specs.declared.status.Status.TheVariants as status
+use Rattle.zl_code.specs.CallTable.{wait_async}
+use Rattle.zl_code.specs.Waiting.{is_mask, wait_of}
+use Rattle.zl_code.specs.declared.history.CallName.{CallName}
+use Rattle.zl_code.specs.declared.history.Outcome.{Outcome}
+use Rattle.zl_code.specs.declared.history.Outcome.TheVariants as outcome
+use Rattle.zl_objects.specs.Listed.{may_register, wait_value, watching}
+use Rattle.zl_objects.specs.declared.wait.Wait.{Wait}
+use Rattle.zl_calls.specs.declared.process.Process.{Process}
+use Rattle.zl_calls.specs.calls.Async.{RegistersWait, WaitAsyncDoes, async_refusal, async_refusal_of, wait_for}
+use Rattle.zl_calls.specs.calls.Port.{port_at}
+use Rattle.zl_rights.specs.LookUp.{looked_up}
+use Rattle.zl_calls.proofs.calls.AmongWaits.{answered_among, behind_both, both_looked_up, ends_among}
+use Rattle.zl_calls.proofs.calls.Answered.{IsWrite, same_world, table_is}
+use Rattle.zl_calls.proofs.objects.SameButWaits.{beside_lab, beside_world, watching_beside}
+use Rattle.zl_calls.proofs.calls.DoneCalls.{IsCalledAmong}
+use Rattle.zl_calls.proofs.calls.Refused.{answers}
+use Rattle.zl_calls.proofs.calls.WriteCalls.{is_found}
+use Rattle.zl_calls.proofs.processes.Written.{refusal_keeps}
+
+-- a process of a lab, before and after its call
+module _ (lib : Library) (before after : List Process) (r r2 : Objects) (p p2 : Process) (lab : IsConsistent before r) (write : IsWrite before after p p2) where
+  abbrev among : List ℕ → World
+  among blocked = world_blocked before r blocked
+
+  module _ (h port key mask : ℕ) (consumed destinations : List ℕ) where
+    abbrev async_site : Site
+    async_site = site (wait_async h port key mask) consumed destinations
+
+    -- ---- the answer
+
+    by_tests : (fits may : Bool) → first_some (answer_if (not fits) status.InvalidArgs ∷ answer_if (not may) status.NoResources ∷ [])
+        ≡ answers (option_or (then_some (not fits) status.InvalidArgs) (then_some (not may) status.NoResources))
+    by_tests false may = refl
+    by_tests true true = refl
+    by_tests true false = refl
+
+    by_both : (blocked : List ℕ) (x y : Result Entry Status)
+        → behind_both (among blocked) p.pid x y
+        (first_some (answer_if (not (is_mask mask)) status.InvalidArgs ∷ answer_if (not (may_register r)) status.NoResources ∷ []))
+        ≡ answers (async_refusal_of r mask x y)
+    by_both blocked (Ok e) (Ok f) =
+        ap (λ (o : Option Outcome). first_some (o ∷ [])) (by_tests (is_mask mask) (may_register r)) ∙ alone (async_refusal_of r mask (Ok e) (Ok f))
+      where
+        alone : (o : Option Status) → first_some (answers o ∷ []) ≡ answers o
+        alone None = refl
+        alone (Some s) = refl
+    by_both blocked (Ok e) (Err s) = refl
+    by_both blocked (Err s) y = refl
+
+    async_refused : (blocked : List ℕ) → refusal lib (among blocked) p.pid (wait_async h port key mask) ≡ answers (async_refusal p.table.entries r h port mask)
+    unfolding refusal handle_operands examined operand listed
+    async_refused blocked =
+        rw (table_is before after p p2 write r)
+        (both_looked_up (among blocked) p.pid (get p.table.entries h) (get p.table.entries port) any (kind.Port ∷ []) WAIT WRITE
+        (answer_if (not (is_mask mask)) status.InvalidArgs ∷ answer_if (not (may_register r)) status.NoResources ∷ [])
+        ∙ by_both blocked (looked_up p.table.entries h [] WAIT) (port_at p.table.entries port WRITE))
+
+    -- ---- the relation of calls
+
+    async_chosen : (blocked : List ℕ) → IsTrue (may_choose (among blocked) (taken (among blocked) p.pid async_site) p.pid (wait_async h port key mask) [])
+    unfolding may_choose new_handles remove_all taken_handles handle_operands
+    async_chosen blocked = rw write.there refl
+
+    module _ (registers : RegistersWait p.pid p.table r h port key mask p2.table r2) (replies : Replies async_site status.Ok [] p p2) where
+      abbrev wait : Wait
+      wait = wait_for p.pid h key mask registers.watched registers.receiver
+
+      same_wait : (blocked : List ℕ) → wait_of (among blocked) p.pid h port key mask ≡ wait_value wait
+      same_wait blocked =
+          let there : get p.table.entries h ≡ Some registers.watched = is_found (get p.table.entries h) [] WAIT registers.watched registers.is_watched in
+          let receives : get p.table.entries port ≡ Some registers.receiver =
+          is_found (get p.table.entries port) (kind.Port ∷ []) WRITE registers.receiver registers.is_receiver in
+          rw (table_is before after p p2 write r, there, receives) refl
+
+      answered_world : world_value after r2 ≡ replied (world_value before r) p.pid async_site status.Ok []
+      answered_world =
+          ap (world_value after) registers.objects
+          ∙ (beside_world after r (watching r wait) (watching_beside r wait)
+          ∙ same_world before after p p2 write r r async_site status.Ok [] registers.table refl replies)
+
+      async_ends : (blocked : List ℕ) → world_blocked after r2 blocked
+          ≡ replied (record (among blocked) { waits = r.waits ++ (wait_of (among blocked) p.pid h port key mask ∷ []); waits_made = r.waits_made + 1 }) p.pid
+          async_site status.Ok []
+      async_ends blocked =
+          ends_among lib before after r r2 p p2 lab write async_site blocked (world_value before r)
+          (r.waits ++ (wait_of (among blocked) p.pid h port key mask ∷ [])) (r.waits_made + 1) status.Ok []
+          answered_world
+          (ap (λ (x : Objects). x.waits) registers.objects ∙ ap (λ (x : WaitValue). r.waits ++ (x ∷ [])) (sym (same_wait blocked)))
+          (ap (λ (x : Objects). x.waits_made) registers.objects)
+
+      async_done : IsCalledAmong lib before after r r2 p.pid async_site (outcome.Answered status.Ok)
+      unfolding effect gives_ok new_handles insert_all remove_all taken_handles handle_operands
+      async_done = record {
+        calls = λ blocked. (Values [], rw (async_refused blocked, registers.unrefused) (async_chosen blocked, refl, async_ends blocked));
+        keeps = subst (IsConsistent after) (sym registers.objects) (beside_lab after r (watching r wait) (watching_beside r wait)
+            (refusal_keeps before after p p2 write r lab registers.table (ap (λ (q : Process). q.state) replies)));
+      }
+
+    -- ---- the step
+
+    pub async_called : state_value p.state ≡ Ready → (call : CallName) → next_for lib (process_value p) ≡ AtCall call async_site → (o : Outcome)
+        → IsAnswered (told_by no_value) (WaitAsyncDoes p.pid h port key mask) async_site p r o p2 r2 → IsCalledAmong lib before after r r2 p.pid async_site o
+    unfolding taken_handles handle_operands remove_all gives_refused
+    async_called ready call next o acts =
+        answered_among lib before after r r2 p p2 lab write async_site no_value (λ _. RegistersWait p.pid p.table r h port key mask) true
+        (async_refusal p.table.entries r h port mask)
+        async_refused refl (λ blocked. refl) (λ blocked answer. refl) (λ done registers replies. async_done registers replies) o acts.answer acts.acts
+        acts.replied acts.ends

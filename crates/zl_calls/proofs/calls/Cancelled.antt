@@ -1,0 +1,176 @@
+-- What wait_async and port_cancel find: the handles of the caller, whether a wait is listed, and that where no packet passes a test none leaves the port.
+use Rattle.zl_calls.proofs.Common.{◌≡◌, ◌+◌, ℕ, zero, suc, Bool, true, false, not, ◌||◌, ◌==◌, ◌⊎◌, List, [], ◌∷◌, length, list_any, refl, sym, ap, ◌∙◌, inl}
+use Rattle.zl_calls.proofs.Common.{inr, Option, Some, None, Ok, Err, cases_Bool, eqb-true, none-some, same_Some, slice_get, IsTrue, arith, option_map, bits}
+use Rattle.zl_calls.proofs.Common.{Map, get, update, Handles, Objects}
+use Rattle.std.proofs.Math.Nat.{suc-ne-zero}
+use Rattle.std.specs.Prelude.{drop}
+use Rattle.std.specs.List.{filter}
+use Rattle.zl_rights.specs.declared.status.Status.TheVariants as status
+use Rattle.zl_rights.specs.declared.entry.Entry.{Entry}
+use Rattle.zl_rights.specs.declared.signals.Signals.{Signals}
+use Rattle.zl_rights.specs.LookUp.{granted, looked_up}
+use Rattle.zl_rights.specs.Numbers.{WAIT, WRITE}
+use Rattle.zl_rights.specs.World.{Packet}
+use Rattle.zl_port.specs.Packets.{is_from, without_packets}
+use Rattle.zl_code.specs.Waiting.{is_keyed, is_mask}
+use Rattle.zl_objects.specs.declared.object.Body.{Body}
+use Rattle.zl_objects.specs.declared.object.Body.TheVariants as body
+use Rattle.zl_objects.specs.declared.object.Object.{Object}
+use Rattle.zl_objects.specs.Listed.{may_register, watching}
+use Rattle.zl_objects.specs.Ports.{at_port, changed_port, changing_port, packets_in, packets_of}
+use Rattle.zl_calls.specs.Registered.{EndsWaits}
+use Rattle.zl_calls.specs.calls.Async.{PortCancelDoes, WaitAsyncDoes, source_of}
+use Rattle.zl_calls.specs.calls.Port.{port_at}
+use Rattle.zl_calls.proofs.calls.HandleCalls.{no_bits}
+
+-- ---- a list from some place on
+
+module _ {X : Type 0} (test : X → Bool) where
+  -- the element there is the first of the rest
+  any_from : (xs : List X) (n : ℕ) (x : X) → slice_get xs n ≡ Some x → list_any test (drop n xs) ≡ (test x || list_any test (drop (suc n) xs))
+  any_from [] n x is = absurd (none-some x is)
+  any_from (y ∷ xs) zero x is = ap (λ (z : X). test z || list_any test xs) (same_Some y x is)
+  any_from (y ∷ xs) (suc n) x is = any_from xs n x is
+
+  -- so it is one of all, if it passes, where none before it does
+  pub any_there : (xs : List X) (n : ℕ) (x : X) → slice_get xs n ≡ Some x → list_any test xs ≡ list_any test (drop n xs) → test x ≡ true
+      → list_any test xs ≡ true
+  any_there xs n x is before passes = before ∙ (any_from xs n x is ∙ rw passes refl)
+
+  -- else the rest decides
+  pub any_behind : (xs : List X) (n : ℕ) (x : X) → slice_get xs n ≡ Some x → list_any test xs ≡ list_any test (drop n xs) → test x ≡ false
+      → list_any test xs ≡ list_any test (drop (n + 1) xs)
+  any_behind xs n x is before fails =
+      let next : suc n ≡ n + 1 = omega arith in
+      before ∙ (any_from xs n x is ∙ (rw fails refl ∙ ap (λ (m : ℕ). list_any test (drop m xs)) next))
+
+  -- behind the last nothing is left
+  pub none_from : (xs : List X) (n : ℕ) → slice_get xs n ≡ None → list_any test (drop n xs) ≡ false
+  none_from [] zero is = refl
+  none_from [] (suc n) is = refl
+  none_from (y ∷ xs) zero is = absurd (none-some y (sym is))
+  none_from (y ∷ xs) (suc n) is = none_from xs n is
+
+  -- where none is counted, none passes, and a filter takes none away
+  none_counted : (xs : List X) → length (filter test xs) ≡ 0 → (list_any test xs ≡ false) × (filter (λ x. not (test x)) xs ≡ xs)
+  none_counted [] none = (refl, refl)
+  none_counted (x ∷ xs) none = by_test (cases_Bool (test x)) (λ less. none_counted xs less)
+    where
+      by_test : IsTrue (test x) ⊎ ((test x) ≡ false) → (length (filter test xs) ≡ 0 → (list_any test xs ≡ false) × (filter (λ y. not (test y)) xs ≡ xs))
+          → (list_any test (x ∷ xs) ≡ false) × (filter (λ y. not (test y)) (x ∷ xs) ≡ x ∷ xs)
+      by_test (inl passes) more = absurd (suc-ne-zero (length (filter test xs)) (rw passes at none))
+      by_test (inr fails) more =
+          let rest : (list_any test xs ≡ false) × (filter (λ y. not (test y)) xs ≡ xs) = more (rw fails at none) in
+          rw fails (rest.0, ap (λ (ys : List X). x ∷ ys) rest.1)
+
+  -- and one is counted, where one passes
+  one_counted : (xs : List X) → (length (filter test xs) ≡ 0 → ⊥) → list_any test xs ≡ true
+  one_counted [] some = absurd (some refl)
+  one_counted (x ∷ xs) some = by_test (cases_Bool (test x)) (λ less. one_counted xs less)
+    where
+      by_test : IsTrue (test x) ⊎ ((test x) ≡ false) → ((length (filter test xs) ≡ 0 → ⊥) → list_any test xs ≡ true) → list_any test (x ∷ xs) ≡ true
+      by_test (inl passes) more = rw passes refl
+      by_test (inr fails) more = rw fails (more (λ none. some (rw fails none)))
+
+-- the value at which a handle was found
+pub found_value : (h value : ℕ) (e : Entry) (o : Option Entry)
+    → ◌≡◌ {A = Option (ℕ × Entry)} (Some (value, e)) (option_map (λ (entry : Entry). (h, entry)) o) → value ≡ h
+found_value h value e None is = absurd (none-some (value, e) (sym is))
+found_value h value e (Some y) is = ap (λ (z : ℕ × Entry). z.0) (same_Some (value, e) (h, y) is)
+
+-- the handle that was found there, if one was
+pub found_entry : (h value : ℕ) (e : Entry) (o : Option Entry) → ◌≡◌ {A = Option (ℕ × Entry)} (Some (value, e)) (option_map (λ (entry : Entry). (h, entry)) o)
+    → granted o [] 0 ≡ Ok e
+found_entry h value e None is = absurd (none-some (value, e) (sym is))
+found_entry h value e (Some y) is =
+    let same : e ≡ y = ap (λ (z : ℕ × Entry). z.1) (same_Some (value, e) (h, y) is) in
+    rw (no_bits (bits y.rights)) (ap (λ (x : Entry). Ok x) (sym same))
+
+-- ---- wait_async
+
+-- the wait was registered
+pub wait_registered : (t : Handles) (r r2 : Objects) (pid h port key mask : ℕ) (watched receiver : Entry)
+    → looked_up t.entries h [] WAIT ≡ Ok watched → port_at t.entries port WRITE ≡ Ok receiver
+    → (value : ℕ) → value ≡ h → (m : Signals) → m.0 ≡ mask → is_mask mask ≡ true → may_register r ≡ true
+    → r2 ≡ watching r (record { pid = pid; value = value; object = watched.koid; port = receiver.koid; key = key; mask = m })
+    → WaitAsyncDoes pid h port key mask t r (Ok tt) t r2
+wait_registered t r r2 pid h port key mask watched receiver is_watched is_receiver value same m masked is may objects = record {
+  ok = record {
+    unrefused = rw (is_watched, is_receiver, is, may) refl;
+    watched = watched;
+    is_watched = is_watched;
+    receiver = receiver;
+    is_receiver = is_receiver;
+    table = refl;
+    objects = objects
+        ∙ (λ i. watching r (record { pid = pid; value = same i; object = watched.koid; port = receiver.koid; key = key; mask = record { 0 = masked i } }));
+  };
+  err = tt;
+  same_table = tt;
+  same_objects = tt;
+}
+
+-- ---- port_cancel
+
+-- a port that no such packet is at is the same without them
+uncancelled : (m : Map Object) (k : ℕ) (test : Packet → Bool) → length (filter test (packets_in (get m k))) ≡ 0
+    → update m k (at_port (λ p. without_packets p test)) ≡ m
+unfolding get update
+uncancelled [] k test none = refl
+uncancelled (e ∷ m) k test none = elim (cases_Bool (e.0 == k)) as (λ _. update (e ∷ m) k (at_port (λ p. without_packets p test)) ≡ e ∷ m) [
+  | inl here ↦ rw here (λ i. (sym (eqb-true e.0 k here) i, record e.1 { body = by_body e.1.body (rw here at none) i }) ∷ m)
+  | inr apart ↦ rw apart (ap (λ (rest : Map Object). e ∷ rest) (uncancelled m k test (rw apart at none)))
+]
+  where
+    by_body : (b : Body) → length (filter test (packets_of b)) ≡ 0 → changed_port (λ p. without_packets p test) b ≡ b
+    by_body (body.Job own) gone = refl
+    by_body (body.Process job lives) gone = refl
+    by_body body.Event gone = refl
+    by_body (body.ChannelEnd peer queue) gone = refl
+    by_body (body.Port p) gone = ap (λ (xs : List Packet). body.Port (record p { packets = xs })) (none_counted test p.packets gone).1
+
+-- the port and the handle source were found, and the packets counted
+module _ (t : Handles) (r : Objects) (pid port source key : ℕ) (receiver named : Entry) (is_receiver : port_at t.entries port WRITE ≡ Ok receiver)
+    (is_named : looked_up t.entries source [] 0 ≡ Ok named) where
+  abbrev of_source : Packet → Bool
+  of_source = is_from (source_of pid source named) key
+
+  abbrev at_it : List Packet
+  at_it = packets_in (get r.objects receiver.koid)
+
+  abbrev packed : Objects
+  packed = changing_port r receiver.koid (λ p. without_packets p of_source)
+
+  -- neither wait nor packet was there
+  pub none_cancelled : (r2 : Objects) → list_any (is_keyed pid source receiver.koid key) r.waits ≡ false → length (filter of_source at_it) ≡ 0 → r2 ≡ packed
+      → PortCancelDoes pid port source key t r (Err status.NotFound) t r2
+  none_cancelled r2 none gone objects = record {
+    ok = tt;
+    err = rw (is_receiver, is_named, none, (none_counted of_source at_it gone).0) refl;
+    same_table = refl;
+    same_objects = objects ∙ ap (λ (os : Map Object). record r { objects = os }) (uncancelled r.objects receiver.koid of_source gone);
+  }
+
+  -- one was there, and they are gone
+  pub some_cancelled : (r2 : Objects) → (list_any (is_keyed pid source receiver.koid key) r.waits || list_any of_source at_it) ≡ true
+      → EndsWaits (is_keyed pid source receiver.koid key) packed r2 → PortCancelDoes pid port source key t r (Ok tt) t r2
+  some_cancelled r2 some ends = record {
+    ok = record {
+      unrefused = rw (is_receiver, is_named, some) refl;
+      receiver = receiver;
+      is_receiver = is_receiver;
+      named = named;
+      is_named = is_named;
+      table = refl;
+      ends = ends;
+    };
+    err = tt;
+    same_table = tt;
+    same_objects = tt;
+  }
+
+  -- what was found, as the code tells it
+  pub found_some : (any : Bool) (count : ℕ) → any ≡ list_any (is_keyed pid source receiver.koid key) r.waits → count ≡ length (filter of_source at_it)
+      → ((any ≡ false) × (count ≡ 0 → ⊥)) ⊎ (any ≡ true) → (list_any (is_keyed pid source receiver.koid key) r.waits || list_any of_source at_it) ≡ true
+  found_some any count is counted (inl (none, some)) = rw (sym is ∙ none) (one_counted of_source at_it (λ gone. some (counted ∙ gone)))
+  found_some any count is counted (inr one) = rw (sym is ∙ one) refl

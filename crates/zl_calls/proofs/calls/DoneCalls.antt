@@ -1,0 +1,69 @@
+-- That a call is done: it is a step up to where processes wake, and the invariant holds afterwards.
+use Rattle.zl_calls.proofs.Common.{◌≡◌, ℕ, Bool, List, [], ap, sym, ◌∙◌, subst, Option, Result, Ok, Err, Ready, Library, Site, refusal, AtCall, next_for, Calls}
+use Rattle.zl_calls.proofs.Common.{grows, replied, taken, Handles, Objects, Does, Replies, status_of, values_of, process_value, state_value, world_blocked}
+use Rattle.zl_calls.proofs.Common.{world_value, IsConsistent, World, IsActed}
+use Rattle.zl_rights.specs.declared.status.Status.{Status}
+use Rattle.zl_rights.specs.declared.status.Status.TheVariants as status
+use Rattle.zl_code.specs.declared.history.CallName.{CallName}
+use Rattle.zl_code.specs.declared.history.Outcome.{Outcome}
+use Rattle.zl_code.specs.declared.history.Outcome.TheVariants as outcome
+use Rattle.zl_code.specs.declared.history.TraceItem.TheVariants as item
+use Rattle.zl_calls.specs.declared.process.Process.{Process}
+use Rattle.zl_calls.proofs.calls.Answered.{IsWrite, same_world}
+use Rattle.zl_calls.proofs.stepping.Labs.{IsFree, call_settles}
+use Rattle.zl_calls.proofs.processes.Departed.{settled_world}
+use Rattle.zl_calls.proofs.calls.Refused.{TellsNothing, answers, refused_calls}
+use Rattle.zl_calls.proofs.objects.Settled.{still_settles}
+use Rattle.zl_calls.proofs.processes.Written.{refusal_keeps}
+
+-- where no policy has a say, the call is a step up to where processes wake; and the invariant holds afterwards
+pub record IsDone (lib : Library) (before after : List Process) (r r2 : Objects) (pid : ℕ) (call : CallName) (ends : Outcome) : Type 0 where
+  pub step : IsFree lib (world_value before r) pid call → IsActed lib (world_value before r) pid (item.Call pid call ends) (settled_world after r2)
+  pub lab : IsConsistent after r2
+
+-- the call in its world, and the invariant
+pub record IsCalled (lib : Library) (before after : List Process) (r r2 : Objects) (pid : ℕ) (s : Site) (ends : Outcome) : Type 0 where
+  pub calls : Calls lib (world_value before r) pid s ends (world_value after r2)
+  pub keeps : IsConsistent after r2
+
+-- the call beside registered waits and any blocked processes, and the invariant
+pub record IsCalledAmong (lib : Library) (before after : List Process) (r r2 : Objects) (pid : ℕ) (s : Site) (ends : Outcome) : Type 0 where
+  pub calls : (blocked : List ℕ) → Calls lib (world_blocked before r blocked) pid s ends (world_blocked after r2 blocked)
+  pub keeps : IsConsistent after r2
+
+-- a ready process of a lab, at the call
+module _ (lib : Library) (before after : List Process) (r r2 : Objects) (p p2 : Process) (lab : IsConsistent before r) (write : IsWrite before after p p2)
+    (ready : state_value p.state ≡ Ready)
+    (call : CallName) (s : Site) (next : next_for lib (process_value p) ≡ AtCall call s) where
+  abbrev w : World
+  w = world_value before r
+
+  -- a call after which all is held
+  pub called_done : (ends : Outcome) → IsCalled lib before after r r2 p.pid s ends → IsDone lib before after r r2 p.pid call ends
+  called_done ends called = record {
+    step = call_settles lib before after r r2 r2 p call s ends write.there ready next called.calls
+        (still_settles after r2 called.keeps);
+    lab = called.keeps;
+  }
+
+  -- a call that takes no handle and is either done or refused
+  module _ {A : Type 0} (values : A → List ℕ) (Done : A → Handles → Objects → Type 0) (wants : Bool) (o : Option Status)
+      (refused : refusal lib w p.pid s.request ≡ answers o) (may_want : wants ≡ grows s.request) (takes_none : taken w p.pid s ≡ w)
+      (nothing : TellsNothing lib w p.pid s)
+      (done : (x : A) → Done x p2.table r2 → Replies s status.Ok (values x) p p2 → IsCalled lib before after r r2 p.pid s (outcome.Answered status.Ok)) where
+    by_answer : (answer : Result A Status) → Does Done wants o p.table r answer p2.table r2 → Replies s (status_of answer) (values_of values answer) p p2
+        → IsCalled lib before after r r2 p.pid s (outcome.Answered (status_of answer))
+    by_answer (Ok x) does replies = done x does.ok replies
+    by_answer (Err answer) does replies = record {
+      calls = refused_calls lib w p.pid s wants o answer (world_value after r2) nothing refused may_want does.err
+          (same_world before after p p2 write r r2 s answer [] does.same_table does.same_objects replies
+          ∙ ap (λ (v : World). replied v p.pid s answer []) (sym takes_none));
+      keeps = subst (IsConsistent after) (sym does.same_objects)
+          (refusal_keeps before after p p2 write r lab does.same_table (ap (λ (q : Process). q.state) replies));
+    }
+
+    pub answered_done : (ends : Outcome) (answer : Result A Status) → Does Done wants o p.table r answer p2.table r2
+        → Replies s (status_of answer) (values_of values answer) p p2
+        → ends ≡ outcome.Answered (status_of answer) → IsDone lib before after r r2 p.pid call ends
+    answered_done ends answer does replies is =
+        called_done ends (subst (λ (x : Outcome). IsCalled lib before after r r2 p.pid s x) (sym is) (by_answer answer does replies))

@@ -1,0 +1,150 @@
+-- A call that makes one object: how it is refused, and what is left of the world and of the invariant. Each call that makes one goes by it.
+use Rattle.zl_calls.proofs.Common.{subst, Inserts, ◌≡◌, ◌<◌, ◌+◌, ◌^◌, ◌&&◌, ◌==◌, ℕ, Bool, true, false, not, List, [], ◌∷◌, map, length, refl, ap, ◌∙◌, cond}
+use Rattle.zl_calls.proofs.Common.{Some, None, IsTrue, nat_le, nat_tests, arith, none-some, sym, sum_by-cons, then_some, first_some, Map, get, Library, Site}
+use Rattle.zl_calls.proofs.Common.{Ready, AtCall, next_for, Values, refusal, grows, taken, answer_if, with_object, replied, may_get, new_entry, on_process}
+use Rattle.zl_calls.proofs.Common.{process_with, is_process, Objects, new_object, with_new, Replies, IsAnswered, told_by, one_value, has_room_in, process_entry}
+use Rattle.zl_calls.proofs.Common.{process_value, body_value, state_value, world_value, Agrees, is_in_job, IsConsistent, IsNamed, World}
+use Rattle.zl_code.proofs.Common.{Object as ObjectValue, State as StateValue}
+use Rattle.zl_rights.specs.declared.status.Status.TheVariants as status
+use Rattle.zl_rights.specs.declared.entry.Entry.{Entry}
+use Rattle.zl_code.specs.Calls.{CallBy}
+use Rattle.zl_code.specs.declared.history.CallName.{CallName}
+use Rattle.zl_code.specs.declared.history.Outcome.{Outcome}
+use Rattle.zl_code.specs.declared.history.Outcome.TheVariants as outcome
+use Rattle.zl_objects.specs.declared.object.Body.{Body}
+use Rattle.zl_objects.specs.declared.object.Body.TheVariants as body
+use Rattle.zl_objects.specs.declared.object.Object.{Object}
+use Rattle.zl_objects.specs.Objects.{kind_in, queue_of}
+use Rattle.zl_calls.specs.declared.process.Process.{Process}
+use Rattle.zl_calls.specs.calls.Making.{MakeDoes, MakesOne, room_refusal}
+use Rattle.zl_calls.proofs.calls.Answered.{IsWrite, may_get_inserted, replied_inserted}
+use Rattle.zl_calls.proofs.calls.DoneCalls.{IsCalled, IsDone, answered_done}
+use Rattle.zl_calls.proofs.objects.Grown.{IsGrowing, entered, grown_one, grown_seen, growing_none, there_grown}
+use Rattle.zl_calls.proofs.calls.Refused.{TellsNothing, answers}
+use Rattle.zl_calls.proofs.objects.Settled.{sound_of}
+use Rattle.zl_calls.proofs.tables.Tables.{found_inserted, inserted_table}
+use Rattle.zl_calls.proofs.processes.Written.{inserted_counts}
+
+-- ---- the answer
+
+-- where nothing else refuses it
+pub room_refused : (entries : Map Entry) (next_koid : ℕ)
+    → first_some (None ∷ None ∷ answer_if (not (has_room_in entries && nat_le (next_koid + 1) (2 ^ 62))) status.NoResources ∷ [])
+    ≡ answers (room_refusal entries next_koid)
+room_refused entries next_koid = by_test (has_room_in entries && nat_le (next_koid + 1) (2 ^ 62))
+  where
+    by_test : (b : Bool) → first_some (None ∷ None ∷ answer_if (not b) status.NoResources ∷ []) ≡ answers (then_some (not b) status.NoResources)
+    by_test true = refl
+    by_test false = refl
+
+-- where it isn't refused so, there is place in the table, and a koid is left
+pub record HasRoom (entries : Map Entry) (next_koid : ℕ) : Type 0 where
+  pub place : length entries < 1024
+  pub koid : next_koid < 2 ^ 62
+
+pub has_left : (entries : Map Entry) (next_koid : ℕ) → room_refusal entries next_koid ≡ None → HasRoom entries next_koid
+has_left entries next_koid unrefused = by_tests (has_room_in entries) (nat_le (next_koid + 1) (2 ^ 62)) refl refl unrefused
+  where
+    by_tests : (room koid : Bool) → has_room_in entries ≡ room → nat_le (next_koid + 1) (2 ^ 62) ≡ koid
+        → then_some (not (room && koid)) status.NoResources ≡ None → HasRoom entries next_koid
+    by_tests false koid is_room is_koid h = absurd (none-some _ (sym h))
+    by_tests true false is_room is_koid h = absurd (none-some _ (sym h))
+    by_tests true true is_room is_koid h = record { place = grind (arith, nat_tests, is_room); koid = grind (arith, nat_tests, is_koid) }
+
+-- ---- the new object
+
+-- its first handle names it
+pub new_named : (b : Body) (os : Map Object) (k : ℕ) → get os k ≡ Some (new_object b 1) → IsNamed os (new_entry k (kind_in b))
+new_named (body.Job own) os k there = record { object = _; there = there; kind = refl; rights = refl }
+new_named (body.Process job lives) os k there = record { object = _; there = there; kind = refl; rights = refl }
+new_named body.Event os k there = record { object = _; there = there; kind = refl; rights = refl }
+new_named (body.Port port) os k there = record { object = _; there = there; kind = refl; rights = refl }
+new_named (body.ChannelEnd peer queue) os k there = record { object = _; there = there; kind = refl; rights = refl }
+
+-- it has entered the table of a process
+pub first_entered : (before after : List Process) (p p2 : Process) (write : IsWrite before after p p2) → p2.state ≡ p.state
+    → (r : Objects) (b : Body) (made : ℕ) (inserts : Inserts p.table (new_entry r.next_koid (kind_in b)) made p2.table)
+    → length p.table.entries < 1024 → IsGrowing before ((made, new_entry r.next_koid (kind_in b)) ∷ []) (with_new r b 1)
+    → get (with_new r b 1).objects r.next_koid ≡ Some (new_object b 1) → IsConsistent after (with_new r b 1)
+first_entered before after p p2 write state r b made inserts place growing there = entered before after p p2 write state ((made, entry) ∷ []) grown growing
+    (inserted_table p.table entry made p2.table (growing.sound.tables p.pid (process_value p) write.there) place inserts)
+    (λ v e at. found_inserted (IsNamed grown.objects e) p.table entry made p2.table inserts v e at
+    (λ is. subst (λ (x : Entry). IsNamed grown.objects x) is (new_named b grown.objects r.next_koid there))
+    (λ old. growing.sound.named p.pid (process_value p) v e write.there old))
+    (λ j. omega (
+      arith,
+      inserted_counts before after p p2 write entry made inserts grown grown j refl,
+      sum_by-cons (λ (h : ℕ × Entry). cond (h.1.koid == j) 1 0) (made, entry) [],
+    ))
+  where
+    entry : Entry
+    entry = new_entry r.next_koid (kind_in b)
+
+    grown : Objects
+    grown = with_new r b 1
+
+-- ---- a process of a lab, before and after its call
+
+module _ (lib : Library) (before after : List Process) (r r2 : Objects) (p p2 : Process) (lab : IsConsistent before r) (write : IsWrite before after p p2)
+    (s : Site) (b : Body) where
+  abbrev w : World
+  w = world_value before r
+
+  abbrev n : ℕ
+  n = r.next_koid
+
+  abbrev entry : Entry
+  entry = new_entry n (kind_in b)
+
+  abbrev grown : Objects
+  grown = with_new r b 1
+
+  abbrev with_one : World
+  with_one = with_object w (body_value b)
+
+  -- the call does so much to its world, if the new handle may get the value
+  abbrev Makes : ℕ → Type 0
+  Makes made = IsTrue (may_get (process_value p) made)
+      → world_value after r2 ≡ replied (on_process with_one p.pid (process_with made entry)) p.pid s status.Ok (made ∷ [])
+      → CallBy lib w p.pid s (Values (made ∷ [])) None (outcome.Answered status.Ok) (world_value after r2)
+
+  -- what the object is agrees with there being no such process, no message is in it, and it stands in a job that is there
+  module _ (quiet : ((test : StateValue → Bool) → is_process w test n ≡ false) → Agrees w n b) (empty : queue_of b ≡ [])
+      (in_job : IsTrue (is_in_job grown.objects b)) where
+    module _ (made : ℕ) (makes : MakesOne b p.table r made p2.table r2) (replies : Replies s status.Ok (made ∷ []) p p2) where
+      -- ---- the relation of calls
+
+      made_rest : (record with_one { processes = map process_entry after }) ≡ world_value after r2
+      unfolding with_object
+      made_rest = rw makes.objects (ap (λ (os : Map ObjectValue). record w { processes = map process_entry after; objects = os; next_koid = n + 1 })
+          (grown_seen r b 1 lab.given_objects))
+
+      made_ends : world_value after r2 ≡ replied (on_process with_one p.pid (process_with made entry)) p.pid s status.Ok (made ∷ [])
+      unfolding with_object
+      made_ends = replied_inserted before after p p2 write r2 s made entry with_one refl made_rest makes.inserts replies
+
+      -- ---- the invariant
+
+      room : HasRoom p.table.entries n
+      room = has_left p.table.entries n makes.unrefused
+
+      made_keeps : IsConsistent after r2
+      made_keeps = rw makes.objects (first_entered before after p p2 write (ap (λ (q : Process). q.state) replies) r b made makes.inserts room.place
+          (grown_one before [] r (growing_none before r lab) b quiet empty in_job room.koid refl (made, entry) refl)
+          (there_grown before [] r (sound_of before r lab) b 1))
+
+      pub made_called : refusal lib w p.pid s.request ≡ None → Makes made → IsCalled lib before after r r2 p.pid s (outcome.Answered status.Ok)
+      made_called unrefused by = record {
+        calls = (Values (made ∷ []), rw unrefused (by (may_get_inserted p p2 entry made makes.inserts) made_ends));
+        keeps = made_keeps;
+      }
+
+    -- ---- the step of a call that nothing else refuses
+
+    pub made_done : refusal lib w p.pid s.request ≡ answers (room_refusal p.table.entries n) → true ≡ grows s.request → taken w p.pid s ≡ w
+        → TellsNothing lib w p.pid s → ((made : ℕ) → Makes made) → state_value p.state ≡ Ready
+        → (call : CallName) → next_for lib (process_value p) ≡ AtCall call s → (o : Outcome) → IsAnswered (told_by one_value) (MakeDoes b) s p r o p2 r2
+        → IsDone lib before after r r2 p.pid call o
+    made_done refused may_want takes_none nothing by ready call at o acts = answered_done lib before after r r2 p p2 lab write ready call s at
+        one_value (MakesOne b p.table r) true (room_refusal p.table.entries n) refused may_want takes_none nothing
+        (λ made makes replies. made_called made makes replies (refused ∙ ap answers makes.unrefused) (by made)) o acts.answer acts.acts acts.replied acts.ends

@@ -1,0 +1,188 @@
+-- Any call: it blocks, or what it does is a step up to where processes wake; and it leaves its process its pid.
+use Rattle.zl_calls.proofs.Common.{◌≡◌, ◌⊎◌, ℕ, true, false, false≢true, ⊤, inl, inr, List, ap, refl, sym, ◌∙◌, Option, Some, None, Ready, Library, Request}
+use Rattle.zl_calls.proofs.Common.{Site, site, close, dup, chan_write, event_create, signal, process_exit, AtCall, calls_at, next_for, refusal, Handles}
+use Rattle.zl_calls.proofs.Common.{Objects, Action, answers, exits, reaches, process_value, state_value, world_value, IsConsistent, Acted, Acts, action_of}
+use Rattle.zl_code.specs.declared.history.CallName.{CallName}
+use Rattle.zl_code.specs.declared.history.Outcome.{Outcome}
+use Rattle.zl_code.proofs.Common.{chan_create, is_blocked, replace, true≢false}
+use Rattle.zl_code.specs.CallTable.{awaited_by, job_create, job_set_policy, port_cancel, port_create, port_poll, port_queue, port_wait, wait_async, wait_one}
+use Rattle.zl_rights.specs.World.{Awaited}
+use Rattle.zl_calls.specs.calls.Answer.{Blocks, waits}
+use Rattle.zl_code.proofs.StepsBeside.{next_looks}
+use Rattle.zl_code.proofs.Waiters.{is_blocking, looks_at_waits}
+use Rattle.zl_calls.specs.declared.process.Process.{Process}
+use Rattle.zl_calls.proofs.calls.Answered.{IsWrite}
+use Rattle.zl_calls.proofs.calls.DoneCalls.{IsCalledAmong, IsDone}
+use Rattle.zl_calls.proofs.calls.ChannelCalls.{chan_create_done}
+use Rattle.zl_calls.proofs.calls.EventCalls.{event_create_done, signal_done, signal_peer_done}
+use Rattle.zl_calls.proofs.calls.AsyncCalls.{async_called}
+use Rattle.zl_calls.proofs.calls.CancelCalls.{cancel_called}
+use Rattle.zl_calls.proofs.calls.JobCalls.{job_create_done, job_set_policy_done}
+use Rattle.zl_calls.proofs.calls.HandleCalls.{close_done, dup_done, replace_done}
+use Rattle.zl_calls.proofs.calls.PortCalls.{port_create_done, port_passes, port_poll_done, port_queue_done, port_wait_done, port_waits}
+use Rattle.zl_calls.proofs.calls.ProcessCalls.{exit_done}
+use Rattle.zl_calls.proofs.calls.ReadCalls.{read_done}
+use Rattle.zl_code.proofs.Common.{chan_read_etc}
+use Rattle.zl_code.specs.Common.{signal_peer, task_kill, wait_poll}
+use Rattle.zl_calls.proofs.calls.WaitCalls.{one_done, one_passes, one_waits, poll_done}
+use Rattle.zl_calls.proofs.waking.Sleeping.{IsAsleep}
+use Rattle.zl_calls.proofs.calls.WriteCalls.{write_done}
+
+-- ---- whether it blocks
+
+-- the action never blocks
+abbrev NeverBlocks : Action → Type 0
+NeverBlocks (waits A told Does Awaits) = ⊥
+NeverBlocks _ = ⊤
+
+module _ (p p2 : Process) (r r2 : Objects) (o : Outcome) where
+  answered_on : (action : Action) (s : Site) → NeverBlocks action → Acts action s p r o p2 r2 → is_blocking o ≡ false
+  answered_on (answers A told Does) s never acts = ap is_blocking acts.ends
+  answered_on (waits A told Does Awaits) s never acts = absurd never
+  answered_on (exits code) s never acts = ap is_blocking acts.ends
+  answered_on reaches s never acts = absurd acts
+
+  -- a call that blocks, from what the definitions say of it
+  asleep : (lib : Library) (before : List Process) (call : CallName) {Awaits : Handles → Objects → Awaited → Type 0} (s : Site)
+      → next_for lib (process_value p) ≡ AtCall call s → (blocks : Blocks Awaits s p r o p2 r2)
+      → refusal lib (world_value before r) p.pid s.request ≡ None → awaited_by (world_value before r) p.pid s.request ≡ Some blocks.awaited
+      → IsAsleep lib before r r2 p p2 call o
+  asleep lib before call s next blocks passes is_awaited = record {
+    at = s;
+    next = next;
+    awaited = blocks.awaited;
+    passes = passes;
+    is_awaited = is_awaited;
+    ends = blocks.ends;
+    process = blocks.process;
+    state = blocks.state;
+    counter = blocks.counter;
+    objects = blocks.objects;
+  }
+
+-- ---- a step
+
+-- a ready process of a lab, at the call
+module _ (lib : Library) (before after : List Process) (r r2 : Objects) (p p2 : Process) (lab : IsConsistent before r) (write : IsWrite before after p p2)
+    (ready : state_value p.state ≡ Ready) (call : CallName) (o : Outcome) where
+  -- it is answered, or ends its caller
+  module _ (goes : is_blocking o ≡ false) where
+    by_request : (request : Request) (consumed destinations : List ℕ) → looks_at_waits request ≡ false
+        → next_for lib (process_value p) ≡ AtCall call (site request consumed destinations)
+        → Acts (action_of p.pid request) (site request consumed destinations) p r o p2 r2 → IsDone lib before after r r2 p.pid call o
+    by_request (close h) c d plain next acts = close_done lib before after r r2 p p2 lab write h c d ready call next o acts
+    by_request (dup h asked) c d plain next acts = dup_done lib before after r r2 p p2 lab write h asked c d ready call next o acts
+    by_request (replace h asked) c d plain next acts = replace_done lib before after r r2 p p2 lab write h asked c d ready call next o acts
+    by_request chan_create c d plain next acts = chan_create_done lib before after r r2 p p2 lab write c d ready call next o acts
+    by_request (chan_write end bytes hs) c d plain next acts = write_done lib before after r r2 p p2 lab write end bytes hs c d ready call next o acts
+    by_request (chan_read_etc h address room places) c d plain next acts =
+        read_done lib before after r r2 p p2 lab write h address room places c d ready call next o acts
+    by_request event_create c d plain next acts = event_create_done lib before after r r2 p p2 lab write c d ready call next o acts
+    by_request (signal h clear set) c d plain next acts = signal_done lib before after r r2 p p2 lab write h clear set c d ready call next o acts
+    by_request (signal_peer h clear set) c d plain next acts = signal_peer_done lib before after r r2 p p2 lab write h clear set c d ready call next o acts
+    by_request (wait_one h mask) c d plain next (inl answered) = one_done lib before after r r2 p p2 lab write h mask c d ready call next o answered
+    by_request (wait_one h mask) c d plain next (inr blocks) = absurd (false≢true (sym goes ∙ ap is_blocking blocks.ends))
+    by_request (wait_poll h mask) c d plain next acts = poll_done lib before after r r2 p p2 lab write h mask c d ready call next o acts
+    by_request port_create c d plain next acts = port_create_done lib before after r r2 p p2 lab write c d ready call next o acts
+    by_request (port_queue port key value) c d plain next acts = port_queue_done lib before after r r2 p p2 lab write port key value c d ready call next o acts
+    by_request (port_wait port) c d plain next (inl answered) = port_wait_done lib before after r r2 p p2 lab write port c d ready call next o answered
+    by_request (port_wait port) c d plain next (inr blocks) = absurd (false≢true (sym goes ∙ ap is_blocking blocks.ends))
+    by_request (port_poll port) c d plain next acts = port_poll_done lib before after r r2 p p2 lab write port c d ready call next o acts
+    by_request (process_exit code) c d plain next acts = rw acts.ends (exit_done lib before after r r2 p p2 lab write _ acts.over ready code refl c d call next)
+    by_request (job_create j) c d plain next acts = job_create_done lib before after r r2 p p2 lab write j c d ready call next o acts
+    by_request (job_set_policy j mode condition action) c d plain next acts =
+        job_set_policy_done lib before after r r2 p p2 lab write j mode condition action c d ready call next o acts
+    by_request (wait_async h port key mask) c d plain next acts = absurd (true≢false plain)
+    by_request (port_cancel port source key) c d plain next acts = absurd (true≢false plain)
+    by_request _ c d plain next acts = absurd acts
+
+    pub acted_done : (at : Option Site) → next_looks (calls_at call at) ≡ false → next_for lib (process_value p) ≡ calls_at call at → Acted at p r o p2 r2
+        → IsDone lib before after r r2 p.pid call o
+    acted_done None plain next acts = absurd acts
+    acted_done (Some s) plain next acts = by_request s.request s.consumed s.destinations plain next acts
+
+  -- it blocks, or else it doesn't
+  asleep_by : (request : Request) (consumed destinations : List ℕ) → next_for lib (process_value p) ≡ AtCall call (site request consumed destinations)
+      → Acts (action_of p.pid request) (site request consumed destinations) p r o p2 r2 → (is_blocking o ≡ false) ⊎ IsAsleep lib before r r2 p p2 call o
+  asleep_by (wait_one h mask) c d next (inl answered) = inl (ap is_blocking answered.ends)
+  asleep_by (wait_one h mask) c d next (inr blocks) =
+      let x = blocks.awaits.watched in
+      inr (asleep p p2 r r2 o lib before call (site (wait_one h mask) c d) next blocks
+      (one_passes lib before after r r2 p p2 lab write h mask c d x blocks.awaits.seen)
+      (one_waits lib before after r r2 p p2 lab write h mask c d x blocks.awaits.seen blocks.awaits.inactive
+      ∙ ap (λ (a : Awaited). Some a) (sym blocks.awaits.is_awaited)))
+  asleep_by (port_wait port) c d next (inl answered) = inl (ap is_blocking answered.ends)
+  asleep_by (port_wait port) c d next (inr blocks) =
+      let x = blocks.awaits.port in
+      inr (asleep p p2 r r2 o lib before call (site (port_wait port) c d) next blocks
+      (port_passes lib before after r r2 p p2 lab write port c d x blocks.awaits.is_port)
+      (port_waits lib before after r r2 p p2 lab write port c d x blocks.awaits.is_port blocks.awaits.none
+      ∙ ap (λ (a : Awaited). Some a) (sym blocks.awaits.is_awaited)))
+  asleep_by request c d next acts = inl (answered_on p p2 r r2 o (action_of p.pid request) (site request c d) tt acts)
+
+  pub acted_asleep : (at : Option Site) → next_for lib (process_value p) ≡ calls_at call at → Acted at p r o p2 r2
+      → (is_blocking o ≡ false) ⊎ IsAsleep lib before r r2 p p2 call o
+  acted_asleep None next acts = absurd acts
+  acted_asleep (Some s) next acts = asleep_by s.request s.consumed s.destinations next acts
+
+-- ---- a call that looks at waits
+
+-- it is done beside them, and answered
+pub record Looks (lib : Library) (before after : List Process) (r r2 : Objects) (p : Process) (call : CallName) (o : Outcome) : Type 0 where
+  pub at : Site
+  pub next : next_for lib (process_value p) ≡ AtCall call at
+  pub called : IsCalledAmong lib before after r r2 p.pid at o
+  pub goes : is_blocking o ≡ false
+
+module _ (lib : Library) (before after : List Process) (r r2 : Objects) (p p2 : Process) (lab : IsConsistent before r) (write : IsWrite before after p p2)
+    (ready : state_value p.state ≡ Ready) (call : CallName) (o : Outcome) where
+  looks_by : (request : Request) (consumed destinations : List ℕ) → looks_at_waits request ≡ true
+      → next_for lib (process_value p) ≡ AtCall call (site request consumed destinations)
+      → Acts (action_of p.pid request) (site request consumed destinations) p r o p2 r2 → Looks lib before after r r2 p call o
+  looks_by (wait_async h port key mask) c d looks next acts = record {
+    at = site (wait_async h port key mask) c d;
+    next = next;
+    called = async_called lib before after r r2 p p2 lab write h port key mask c d ready call next o acts;
+    goes = ap is_blocking acts.ends;
+  }
+  looks_by (port_cancel port source key) c d looks next acts = record {
+    at = site (port_cancel port source key) c d;
+    next = next;
+    called = cancel_called lib before after r r2 p p2 lab write port source key c d ready call next o acts;
+    goes = ap is_blocking acts.ends;
+  }
+  looks_by (task_kill task) c d looks next acts = absurd acts
+  looks_by _ c d looks next acts = absurd (false≢true looks)
+
+  pub acted_looks : (at : Option Site) → next_looks (calls_at call at) ≡ true → next_for lib (process_value p) ≡ calls_at call at → Acted at p r o p2 r2
+      → Looks lib before after r r2 p call o
+  acted_looks None looks next acts = absurd acts
+  acted_looks (Some s) looks next acts = looks_by s.request s.consumed s.destinations looks next acts
+
+-- ---- the process
+
+module _ (p p2 : Process) (r r2 : Objects) (o : Outcome) where
+  by_action : (action : Action) (s : Site) → Acts action s p r o p2 r2 → p2.pid ≡ p.pid
+  by_action (answers A told Does) s acts = ap (λ (q : Process). q.pid) acts.replied
+  by_action (waits A told Does Awaits) s (inl answered) = ap (λ (q : Process). q.pid) answered.replied
+  by_action (waits A told Does Awaits) s (inr blocks) = ap (λ (q : Process). q.pid) blocks.process
+  by_action (exits code) s acts = ap (λ (q : Process). q.pid) acts.over.process
+  by_action reaches s acts = absurd acts
+
+  pub same_pid : (at : Option Site) → Acted at p r o p2 r2 → p2.pid ≡ p.pid
+  same_pid None acts = absurd acts
+  same_pid (Some s) acts = by_action (action_of p.pid s.request) s acts
+
+  -- a process that was ready still is, or has ended, unless the call blocks
+  state_by : (action : Action) (s : Site) → Acts action s p r o p2 r2 → is_blocking o ≡ false → is_blocked (state_value p.state) ≡ false
+      → is_blocked (state_value p2.state) ≡ false
+  state_by (answers A told Does) s acts goes unblocked = ap (λ (q : Process). is_blocked (state_value q.state)) acts.replied ∙ unblocked
+  state_by (waits A told Does Awaits) s (inl answered) goes unblocked = ap (λ (q : Process). is_blocked (state_value q.state)) answered.replied ∙ unblocked
+  state_by (waits A told Does Awaits) s (inr blocks) goes unblocked = absurd (false≢true (sym goes ∙ ap is_blocking blocks.ends))
+  state_by (exits code) s acts goes unblocked = ap (λ (q : Process). is_blocked (state_value q.state)) acts.over.process
+  state_by reaches s acts goes unblocked = absurd acts
+
+  pub still_unblocked : (at : Option Site) → Acted at p r o p2 r2 → is_blocking o ≡ false → is_blocked (state_value p.state) ≡ false
+      → is_blocked (state_value p2.state) ≡ false
+  still_unblocked None acts goes unblocked = absurd acts
+  still_unblocked (Some s) acts goes unblocked = state_by (action_of p.pid s.request) s acts goes unblocked

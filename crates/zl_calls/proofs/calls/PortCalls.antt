@@ -1,0 +1,237 @@
+-- The calls on ports, port_create, port_queue, port_poll and port_wait, each from its table and objects to a step.
+use Rattle.zl_calls.proofs.Common.{◌≡◌, ℕ, true, false, List, [], ◌∷◌, refl, sym, ap, ◌∙◌, Option, Some, None, Result, Ok, Err, operand_of, on_object, IsTrue}
+use Rattle.zl_calls.proofs.Common.{none-some, slice_get, first_some, same_Some, ◌++◌, is_empty, get, Ready, Library, Site, site, examined, has_room, has_koids}
+use Rattle.zl_calls.proofs.Common.{table_of, refusal, handle_operands, listed, may_choose, new_handles, insert_all, remove_all, taken_handles, effect, gives_ok}
+use Rattle.zl_calls.proofs.Common.{gives_refused, AtCall, next_for, Values, replied, taken, ⊤, body_of, operand, Objects, IsAnswered, told_by, no_value}
+use Rattle.zl_calls.proofs.Common.{one_value, Replies, process_value, state_value, world_value, IsConsistent, runs, World}
+use Rattle.std.specs.Prelude.{drop}
+use Rattle.zl_rights.specs.declared.kind.Kind.TheVariants as kind
+use Rattle.zl_rights.specs.declared.status.Status.TheVariants as status
+use Rattle.zl_rights.specs.declared.entry.Entry.{Entry}
+use Rattle.zl_rights.specs.declared.policy.Condition.TheVariants as condition
+use Rattle.zl_rights.specs.Numbers.{READ, WRITE}
+use Rattle.zl_rights.specs.Wakes.{packet_values}
+use Rattle.zl_rights.specs.World.{Packet, PacketAt}
+use Rattle.zl_port.specs.Packets.{Port, user_packet, with_packet, without_front}
+use Rattle.zl_code.specs.declared.history.CallName.{CallName}
+use Rattle.zl_code.specs.declared.history.Outcome.{Outcome}
+use Rattle.zl_code.specs.declared.history.Outcome.TheVariants as outcome
+use Rattle.zl_code.specs.CallTable.{awaited_by, port_create, port_poll, port_queue, port_wait}
+use Rattle.std.specs.Result.{result_err}
+use Rattle.zl_rights.specs.declared.status.Status.{Status}
+use Rattle.zl_code.specs.Tests.{object_at}
+use Rattle.zl_code.specs.Waiting.{first_values, is_full, packet_awaited, packet_taken, packets_at, packets_in as packets_seen}
+use Rattle.zl_objects.specs.Ports.{new_port, packets_in}
+use Rattle.zl_calls.specs.declared.process.Process.{Process}
+use Rattle.zl_calls.specs.calls.Port.{PortCreateDoes, PortPollDoes, PortQueueDoes, PortWaitDoes, QueuesPacket, TakesPacket, poll_refusal, port_at}
+use Rattle.zl_calls.specs.calls.Port.{queue_refusal, refused_by}
+use Rattle.zl_calls.proofs.calls.Answered.{IsWrite, table_is}
+use Rattle.zl_calls.proofs.calls.DoneCalls.{IsDone, IsCalled, answered_done}
+use Rattle.zl_calls.proofs.calls.MakeCalls.{made_done, room_refused}
+use Rattle.zl_calls.proofs.calls.Refused.{answers, may_create}
+use Rattle.zl_calls.proofs.calls.WriteCalls.{is_found}
+use Rattle.zl_calls.proofs.calls.Repacked.{packets_there, port_ends, port_kept, port_refused}
+
+-- ---- the answers of port_queue, port_poll and port_wait
+
+module _ (lib : Library) (before : List Process) (r : Objects) (lab : IsConsistent before r) (p : ℕ) where
+  abbrev old_world : World
+  old_world = world_value before r
+
+  queue_refused : (port key value : ℕ) → refusal lib old_world p (port_queue port key value) ≡ answers (queue_refusal (table_of old_world p) r.objects port)
+  unfolding refusal handle_operands examined operand listed
+  queue_refused port key value = port_refused before r lab p is_full status.ShouldWait WRITE (get (table_of old_world p) port)
+
+  poll_refused : (port : ℕ) → refusal lib old_world p (port_poll port) ≡ answers (poll_refusal (table_of old_world p) r.objects port)
+  unfolding refusal handle_operands examined operand listed
+  poll_refused port = port_refused before r lab p is_empty status.TimedOut READ (get (table_of old_world p) port)
+
+  -- port_wait is refused as if no packets were too many or too few
+  wait_refused : (port : ℕ) → refusal lib old_world p (port_wait port) ≡ answers (result_err (port_at (table_of old_world p) port READ))
+  unfolding refusal handle_operands examined operand listed
+  wait_refused port =
+      by_look_up_alone (operand_of old_world p (kind.Port ∷ []) READ (get (table_of old_world p) port))
+      ∙ (port_refused before r lab p (λ packets. false) status.TimedOut READ (get (table_of old_world p) port)
+      ∙ by_port (port_at (table_of old_world p) port READ))
+    where
+      by_look_up_alone : (x : Option Outcome) → first_some (first_some (x ∷ None ∷ []) ∷ None ∷ []) ≡ first_some (first_some (x ∷ None ∷ []) ∷ None ∷ None ∷ [])
+      by_look_up_alone None = refl
+      by_look_up_alone (Some o) = refl
+
+      by_port : (x : Result Entry Status) → answers (refused_by r.objects (λ packets. false) status.TimedOut x) ≡ answers (result_err x)
+      by_port (Ok e) = refl
+      by_port (Err s) = refl
+
+-- a process of a lab, before and after its call
+module _ (lib : Library) (before after : List Process) (r r2 : Objects) (p p2 : Process) (lab : IsConsistent before r) (write : IsWrite before after p p2) where
+  abbrev w : World
+  w = world_value before r
+
+  -- ---- port_create
+
+  module _ (consumed destinations : List ℕ) where
+    abbrev create_site : Site
+    create_site = site port_create consumed destinations
+
+    pub port_create_done : state_value p.state ≡ Ready → (call : CallName) → next_for lib (process_value p) ≡ AtCall call create_site → (o : Outcome)
+        → IsAnswered (told_by one_value) PortCreateDoes create_site p r o p2 r2 → IsDone lib before after r r2 p.pid call o
+    unfolding refusal handle_operands examined listed has_room has_koids taken_handles remove_all gives_refused may_choose
+        new_handles effect insert_all gives_ok
+    port_create_done = made_done lib before after r r2 p p2 lab write create_site new_port (λ not. not runs) refl refl
+        (rw (may_create w p.pid condition.NewPort, table_is before after p p2 write r) (room_refused p.table.entries r.next_koid)) refl refl (λ answer. refl)
+        (λ made may ends. (rw (write.there, may) refl, refl, ends))
+
+  -- ---- port_queue
+
+  module _ (port key value : ℕ) (consumed destinations : List ℕ) where
+    abbrev queue_site : Site
+    queue_site = site (port_queue port key value) consumed destinations
+
+    refused_queue : refusal lib w p.pid (port_queue port key value) ≡ answers (queue_refusal p.table.entries r.objects port)
+    refused_queue = queue_refused lib before r lab p.pid port key value ∙ rw (table_is before after p p2 write r) refl
+
+    queue_chosen : IsTrue (may_choose w (taken w p.pid queue_site) p.pid (port_queue port key value) [])
+    unfolding may_choose new_handles remove_all taken_handles handle_operands
+    queue_chosen = rw write.there refl
+
+    queue_called : (done : ⊤) → QueuesPacket p.table r port key value p2.table r2 → Replies queue_site status.Ok [] p p2
+        → IsCalled lib before after r r2 p.pid queue_site (outcome.Answered status.Ok)
+    unfolding effect gives_ok new_handles insert_all remove_all taken_handles handle_operands
+    queue_called done queued replies =
+        let there : get p.table.entries port ≡ Some queued.port = is_found (get p.table.entries port) (kind.Port ∷ []) WRITE queued.port queued.is_port in
+        let more : (x : Port) → (with_packet x (user_packet key value)).packets ≡ x.packets ++ user_packet key value ∷ [] = λ x. refl in
+        record {
+          calls = (
+            Values [],
+            rw (refused_queue, queued.unrefused) (
+              queue_chosen,
+              refl,
+              port_ends before after r r2 p p2 lab write queued.port.koid (λ x. with_packet x (user_packet key value)) (λ xs. xs ++ user_packet key value ∷ [])
+                  more queued.objects queued.table queue_site [] replies ∙ rw (table_is before after p p2 write r, there) refl,
+            ),
+          );
+          keeps = port_kept before after r r2 p p2 lab write queued.port.koid (λ x. with_packet x (user_packet key value))
+              (λ xs. xs ++ user_packet key value ∷ []) more queued.objects queued.table queue_site [] replies;
+        }
+
+    pub port_queue_done : state_value p.state ≡ Ready → (call : CallName) → next_for lib (process_value p) ≡ AtCall call queue_site → (o : Outcome)
+        → IsAnswered (told_by no_value) (PortQueueDoes port key value) queue_site p r o p2 r2 → IsDone lib before after r r2 p.pid call o
+    unfolding taken_handles handle_operands remove_all gives_refused
+    port_queue_done ready call next o acts =
+        answered_done lib before after r r2 p p2 lab write ready call queue_site next no_value (λ _. QueuesPacket p.table r port key value) true
+        (queue_refusal p.table.entries r.objects port)
+        refused_queue refl refl (λ answer. refl) queue_called o acts.answer acts.acts acts.replied acts.ends
+
+  -- ---- the first packet leaves the port
+
+  module _ (port : ℕ) (packet : Packet) (takes_one : TakesPacket p.table r port packet p2.table r2) where
+    abbrev k : ℕ
+    k = takes_one.port.koid
+
+    koid_same : object_at w p.pid port ≡ k
+    koid_same = rw (table_is before after p p2 write r, is_found (get p.table.entries port) (kind.Port ∷ []) READ takes_one.port takes_one.is_port) refl
+
+    packets_same : packets_at w p.pid port ≡ packets_in (get r.objects k)
+    packets_same = ap (λ (j : ℕ). packets_seen (body_of w j)) koid_same ∙ packets_there r.objects k
+
+    first_told : first_values (packets_at w p.pid port) ≡ packet_values packet
+    first_told = ap first_values packets_same ∙ by_packets (packets_in (get r.objects k)) takes_one.first
+      where
+        by_packets : (xs : List Packet) → slice_get xs 0 ≡ Some packet → first_values xs ≡ packet_values packet
+        by_packets [] is = absurd (none-some packet is)
+        by_packets (x ∷ xs) is = ap packet_values (same_Some x packet is)
+
+    -- there is nothing to wait for
+    none_awaited : packet_awaited (object_at w p.pid port) (packets_at w p.pid port) ≡ None
+    none_awaited = ap (packet_awaited (object_at w p.pid port)) packets_same ∙ by_packets (packets_in (get r.objects k)) takes_one.first
+      where
+        by_packets : (xs : List Packet) → slice_get xs 0 ≡ Some packet → packet_awaited (object_at w p.pid port) xs ≡ None
+        by_packets [] is = absurd (none-some packet is)
+        by_packets (x ∷ xs) is = refl
+
+    module _ (s : Site) (replies : Replies s status.Ok (packet_values packet) p p2) where
+      packet_ends : world_value after r2
+          ≡ replied (on_object w (object_at w p.pid port) packet_taken) p.pid s status.Ok (first_values (packets_at w p.pid port))
+      packet_ends =
+          rw (first_told, koid_same)
+          (port_ends before after r r2 p p2 lab write k without_front (drop 1) (λ x. refl) takes_one.objects takes_one.table s (packet_values packet) replies)
+
+      packet_kept : IsConsistent after r2
+      packet_kept =
+          port_kept before after r r2 p p2 lab write k without_front (drop 1) (λ x. refl) takes_one.objects takes_one.table s (packet_values packet) replies
+
+  -- ---- port_poll
+
+  module _ (port : ℕ) (consumed destinations : List ℕ) where
+    abbrev poll_site : Site
+    poll_site = site (port_poll port) consumed destinations
+
+    refused_poll : refusal lib w p.pid (port_poll port) ≡ answers (poll_refusal p.table.entries r.objects port)
+    refused_poll = poll_refused lib before r lab p.pid port ∙ rw (table_is before after p p2 write r) refl
+
+    poll_chosen : IsTrue (may_choose w (taken w p.pid poll_site) p.pid (port_poll port) [])
+    unfolding may_choose new_handles remove_all taken_handles handle_operands
+    poll_chosen = rw write.there refl
+
+    poll_called : (packet : Packet) → TakesPacket p.table r port packet p2.table r2 → Replies poll_site status.Ok (packet_values packet) p p2
+        → IsCalled lib before after r r2 p.pid poll_site (outcome.Answered status.Ok)
+    unfolding effect gives_ok new_handles insert_all remove_all taken_handles handle_operands
+    poll_called packet takes_one replies = record {
+      calls = (Values [], rw (refused_poll, takes_one.unrefused) (poll_chosen, refl, packet_ends port packet takes_one poll_site replies));
+      keeps = packet_kept port packet takes_one poll_site replies;
+    }
+
+    pub port_poll_done : state_value p.state ≡ Ready → (call : CallName) → next_for lib (process_value p) ≡ AtCall call poll_site → (o : Outcome)
+        → IsAnswered (told_by packet_values) (PortPollDoes port) poll_site p r o p2 r2 → IsDone lib before after r r2 p.pid call o
+    unfolding taken_handles handle_operands remove_all gives_refused
+    port_poll_done ready call next o acts =
+        answered_done lib before after r r2 p p2 lab write ready call poll_site next packet_values (TakesPacket p.table r port) false
+        (poll_refusal p.table.entries r.objects port)
+        refused_poll refl refl (λ answer. refl) poll_called o acts.answer acts.acts acts.replied acts.ends
+
+  -- ---- port_wait
+
+  module _ (port : ℕ) (consumed destinations : List ℕ) where
+    abbrev wait_site : Site
+    wait_site = site (port_wait port) consumed destinations
+
+    refused_wait : refusal lib w p.pid (port_wait port) ≡ answers (result_err (port_at p.table.entries port READ))
+    refused_wait = wait_refused lib before r lab p.pid port ∙ rw (table_is before after p p2 write r) refl
+
+    wait_chosen : IsTrue (may_choose w (taken w p.pid wait_site) p.pid (port_wait port) [])
+    unfolding may_choose new_handles remove_all taken_handles handle_operands
+    wait_chosen = rw write.there refl
+
+    wait_called : (packet : Packet) → TakesPacket p.table r port packet p2.table r2 → Replies wait_site status.Ok (packet_values packet) p p2
+        → IsCalled lib before after r r2 p.pid wait_site (outcome.Answered status.Ok)
+    unfolding effect gives_ok new_handles insert_all remove_all taken_handles handle_operands
+    wait_called packet takes_one replies = record {
+      calls = (
+        Values [],
+        rw (refused_wait, takes_one.is_port, none_awaited port packet takes_one) (wait_chosen, refl, packet_ends port packet takes_one wait_site replies),
+      );
+      keeps = packet_kept port packet takes_one wait_site replies;
+    }
+
+    pub port_wait_done : state_value p.state ≡ Ready → (call : CallName) → next_for lib (process_value p) ≡ AtCall call wait_site → (o : Outcome)
+        → IsAnswered (told_by packet_values) (PortWaitDoes port) wait_site p r o p2 r2 → IsDone lib before after r r2 p.pid call o
+    unfolding taken_handles handle_operands remove_all gives_refused
+    port_wait_done ready call next o acts =
+        answered_done lib before after r r2 p p2 lab write ready call wait_site next packet_values (TakesPacket p.table r port) false
+        (result_err (port_at p.table.entries port READ))
+        refused_wait refl refl (λ answer. refl) wait_called o acts.answer acts.acts acts.replied acts.ends
+
+    -- it isn't refused, where the port is there; and where that has no packet, it waits for one
+    module _ (x : Entry) (is_port : port_at p.table.entries port READ ≡ Ok x) where
+      pub port_passes : refusal lib w p.pid (port_wait port) ≡ None
+      port_passes = refused_wait ∙ rw is_port refl
+
+      pub port_waits : slice_get (packets_in (get r.objects x.koid)) 0 ≡ None → awaited_by w p.pid (port_wait port) ≡ Some (PacketAt x.koid)
+      port_waits none = rw (named, packets_there r.objects x.koid) (by_packets (packets_in (get r.objects x.koid)) none)
+        where
+          named : object_at w p.pid port ≡ x.koid
+          named = rw (table_is before after p p2 write r, is_found (get p.table.entries port) (kind.Port ∷ []) READ x is_port) refl
+
+          by_packets : (xs : List Packet) → slice_get xs 0 ≡ None → packet_awaited x.koid xs ≡ Some (PacketAt x.koid)
+          by_packets [] is = refl
+          by_packets (y ∷ ys) is = absurd (none-some y (sym is))

@@ -1,0 +1,105 @@
+-- The calls on processes: the end of a process, by process_exit or because it is stuck, to a step up to where processes wake.
+use Rattle.zl_calls.proofs.Common.{◌≡◌, ◌+◌, ◌==◌, ℕ, ℤ, List, [], refl, ap, ◌∙◌, subst, Some, count_by, arith, false≢true, none-some, STUCK, Map, get, Ready}
+use Rattle.zl_calls.proofs.Common.{Ended, Settles, Library, Site, site, process_exit, refusal, handle_operands, listed, examined, on_process, ended, may_choose}
+use Rattle.zl_calls.proofs.Common.{new_handles, insert_all, remove_all, taken_handles, effect, AtCall, IsStuck, next_for, Calls, Values, signed_word, IsTable}
+use Rattle.zl_calls.proofs.Common.{Objects, Releases, stopping, process_value, state_value, world_value, IsConsistent, IsNamed, World, Ends, IsActed}
+use Rattle.zl_code.proofs.Common.{Process as ProcessValue}
+use Rattle.zl_code.specs.declared.history.CallName.{CallName}
+use Rattle.zl_code.specs.declared.history.Outcome.TheVariants as outcome
+use Rattle.zl_code.specs.declared.history.TraceItem.TheVariants as item
+use Rattle.zl_rights.specs.declared.entry.Entry.{Entry}
+use Rattle.zl_objects.proofs.Released.{releases_then}
+use Rattle.zl_calls.specs.declared.process.State.TheVariants as state
+use Rattle.zl_code.specs.Effects.{process_ended as process_over}
+use Rattle.zl_calls.specs.declared.process.Process.{Process}
+use Rattle.zl_calls.proofs.calls.Answered.{IsWrite}
+use Rattle.zl_calls.proofs.calls.DoneCalls.{IsDone}
+use Rattle.zl_calls.proofs.stepping.Labs.{call_settles}
+use Rattle.zl_calls.proofs.processes.Departed.{settled_world}
+use Rattle.zl_calls.proofs.objects.Settled.{AreGone, IsSettled, drained, settled}
+use Rattle.zl_calls.proofs.processes.Stopped.{IsOver, named_stopped, over, seen_stopped, sound_stopped}
+
+module _ (lib : Library) (before after : List Process) (r r2 : Objects) (p p2 : Process) (lab : IsConsistent before r)
+    (write : IsWrite before after p p2) (code : ℤ)
+    (ends : Ends code p r p2 r2) (ready : state_value p.state ≡ Ready) where
+  abbrev w : World
+  w = world_value before r
+
+  no_table : IsTable p2.table
+  unfolding get
+  no_table = record {
+    sorted = rw (ends.no_handle) refl;
+    few = rw (ends.no_handle) (omega arith);
+    values = λ v has. absurd (false≢true (rw (ends.no_handle) at has));
+  }
+
+  old_table : IsTable p.table
+  old_table = lab.tables p.pid (process_value p) write.there
+
+  ended_state : p2.state ≡ state.Ended code
+  ended_state = ap (λ (q : Process). q.state) ends.process
+
+  none_left : (j : ℕ)
+      → count_by (λ h. h.1.koid == j) p.table.entries ≡ count_by (λ h. h.1.koid == j) p2.table.entries + count_by (λ h. h.1.koid == j) p.table.entries
+  none_left j = rw (ends.no_handle) (omega arith)
+
+  none_named : (v : ℕ) (e : Entry) → get p2.table.entries v ≡ Some e → IsNamed r.objects e
+  unfolding get
+  none_named v e at = absurd (none-some e (rw (ends.no_handle) at at))
+
+  left : IsSettled after (stopping r p.pid) r2
+  left =
+      let out : IsOver p.pid r ends.between = over p.pid r ends.between lab.kept ends.over in
+      let gone : AreGone p.table.entries ends.between r2 = drained p.table.entries ends.between r2 old_table.sorted ends.closes in
+      let all : Releases gone.koids out.loose (stopping r p.pid) r2 =
+      releases_then [] gone.koids out.loose (stopping r p.pid) ends.between r2 out.releases gone.releases in
+      settled after p.table.entries (stopping r p.pid)
+      (sound_stopped before after p p2 write r lab p.table.entries no_table none_left none_named code ended_state)
+      old_table.sorted
+      (λ v e at. named_stopped before after p p2 write r lab p.table.entries no_table none_left none_named e
+      (lab.named p.pid (process_value p) v e write.there at))
+      gone.koids gone.counts r2 all.cascades (all.keeps [] out.kept) all.koids
+
+  pub ends_keeps : IsConsistent after r2
+  ends_keeps = left.lab
+
+  pub settles : Settles (world_value after r) (settled_world after r2)
+  settles =
+      subst (λ (x : World). Settles x (settled_world after r2))
+      (seen_stopped before after p p2 write r lab p.table.entries no_table none_left none_named) left.settles
+
+  -- the world after the effect alone
+  pub ended_is : world_value after r ≡ ended w p.pid code
+  unfolding ended on_process
+  ended_is = ap (λ (ps : Map ProcessValue). record w { processes = ps }) (write.writes (process_over code) is)
+    where
+      is : process_value p2 ≡ process_over code (process_value p)
+      is = ap process_value ends.process ∙ (rw ready (λ i. record (process_value p) { state = Ended code; handles = ends.no_handle i; last = ends.no_last i }))
+
+  -- ---- a stuck process
+
+  pub stuck_steps : code ≡ STUCK → next_for lib (process_value p) ≡ IsStuck → IsActed lib w p.pid (item.Stuck p.pid) (settled_world after r2)
+  stuck_steps is next = record {
+    process = process_value p;
+    is_there = write.there;
+    is_ready = ready;
+    acted = world_value after r;
+    acts = rw next (refl, ended_is ∙ ap (ended w p.pid) is);
+    settles = settles;
+  }
+
+  -- ---- process_exit
+
+  module _ (n : ℕ) (is : code ≡ signed_word n) (consumed destinations : List ℕ) where
+    abbrev s : Site
+    s = site (process_exit n) consumed destinations
+
+    exit_calls : Calls lib w p.pid s (outcome.Ended code) (world_value after r)
+    unfolding refusal handle_operands examined listed may_choose new_handles insert_all remove_all taken_handles effect
+    exit_calls = (Values [], (rw write.there refl, ap outcome.Ended is, ended_is ∙ ap (ended w p.pid) is))
+
+    pub exit_done : (call : CallName) → next_for lib (process_value p) ≡ AtCall call s → IsDone lib before after r r2 p.pid call (outcome.Ended code)
+    exit_done call next = record {
+      step = call_settles lib before after r r r2 p call s (outcome.Ended code) write.there ready next exit_calls settles;
+      lab = ends_keeps;
+    }

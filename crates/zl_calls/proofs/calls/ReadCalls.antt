@@ -1,0 +1,519 @@
+-- The call chan_read_etc, from its table and objects to a step.
+use Rattle.zl_calls.proofs.Common.{◌≡◌, ◌≤◌, ◌+◌, ℕ, Bool, true, false, not, ◌&&◌, ◌==◌, List, [], ◌∷◌, map, length, refl, sym, ap, ◌∙◌, subst, if◌then◌else◌}
+use Rattle.zl_calls.proofs.Common.{Option, Some, None, Result, Ok, Err, IsTrue, arith, nat_tests, is_empty, is_some, count_by, sum_by, sum_by-cons, none-some}
+use Rattle.zl_calls.proofs.Common.{All, All-nil, bits, within, Map, get, has_key, update, Ready, Library, Site, site, refusal, handle_operands, examined}
+use Rattle.zl_calls.proofs.Common.{operand, operand_of, by_look_up, listed, has_room, table_of, answer_if, first_some, may_choose, new_handles, insert_all}
+use Rattle.zl_calls.proofs.Common.{remove_all, taken_handles, effect, with_effect, gives_ok, gives_refused, on_object, on_process, AtCall, next_for, Refused}
+use Rattle.zl_calls.proofs.Common.{WantsMemory, Values, replied, taken, cpu_answered, process_with, process_with_all, slice_get, nat_le, option_map, Objects}
+use Rattle.zl_calls.proofs.Common.{IsAnswered, process_entry, process_value, object_entry, object_value, state_value, world_value, body_value, body_in, body_of}
+use Rattle.zl_calls.proofs.Common.{koid_in, handles_to, queued_to, IsConsistent, IsNamed, AreNamed, World}
+use Rattle.zl_code.proofs.Common.{Object as ObjectValue, Process as ProcessValue, All-head, All-tail, chan_read_etc}
+use Rattle.std.specs.Prelude.{drop}
+use Rattle.std.specs.Result.{result_err}
+use Rattle.zl_rights.specs.declared.kind.Kind.TheVariants as kind
+use Rattle.zl_rights.specs.declared.status.Status.{Status}
+use Rattle.zl_rights.specs.declared.status.Status.TheVariants as status
+use Rattle.zl_rights.specs.declared.entry.Entry.{Entry}
+use Rattle.zl_rights.specs.declared.policy.Condition.TheVariants as condition
+use Rattle.zl_rights.specs.LookUp.{granted, looked_up}
+use Rattle.zl_rights.specs.Numbers.{READ, takes}
+use Rattle.zl_rights.specs.World.{Message}
+use Rattle.zl_code.specs.declared.history.CallName.{CallName}
+use Rattle.zl_code.specs.declared.history.Outcome.{Outcome}
+use Rattle.zl_code.specs.declared.history.Outcome.TheVariants as outcome
+use Rattle.zl_code.specs.Effects.{body_after_read, message_read, storing, told_of}
+use Rattle.zl_code.specs.Tests.{first_handles, has_place_for, object_at, peer_in as peer_seen, queue_at, queue_in as queue_seen_in, sizes_of}
+use Rattle.zl_objects.specs.declared.object.Body.{Body}
+use Rattle.zl_objects.specs.declared.object.Body.TheVariants as body
+use Rattle.zl_objects.specs.declared.object.Object.{Object}
+use Rattle.zl_objects.specs.Objects.{peer_at, queue_in, queue_of, received, received_body, receiving}
+use Rattle.zl_objects.proofs.Law.{get_seen}
+use Rattle.zl_objects.proofs.Sums.{sum_fewer}
+use Rattle.zl_calls.specs.declared.process.Process.{Process}
+use Rattle.zl_calls.specs.declared.calls.reading.Front.{Front}
+use Rattle.zl_calls.specs.declared.calls.reading.Received.{Received}
+use Rattle.zl_calls.specs.declared.calls.reading.ReadFault.{ReadFault}
+use Rattle.zl_calls.specs.declared.calls.reading.ReadFault.TheVariants as fault
+use Rattle.zl_calls.specs.calls.Answer.{IsTold, with_stored}
+use Rattle.zl_calls.specs.calls.Reading.{ChanReadDoes, IsFaultBy, ReadsMessage, front_at, front_by, front_handles, front_in, told_read}
+use Rattle.zl_calls.proofs.calls.Answered.{IsWrite, table_is, replied_with}
+use Rattle.zl_calls.proofs.objects.Counted.{queue_seen}
+use Rattle.zl_calls.proofs.objects.Counting.{counts_written, queues}
+use Rattle.zl_calls.proofs.calls.DoneCalls.{IsDone, IsCalled, called_done}
+use Rattle.zl_calls.proofs.tables.EnteredTables.{all_chosen, all_given, counts_entered, each_entered, tables_entered}
+use Rattle.zl_calls.proofs.objects.Queued.{named_too, requeued, requeued_body, requeued_next}
+use Rattle.zl_calls.proofs.calls.Refused.{answers, fault_answers}
+use Rattle.zl_calls.proofs.objects.SameBodies.{still_named}
+use Rattle.zl_calls.proofs.lists.Updates.{update_itself, update_seen, update_twice}
+use Rattle.zl_calls.proofs.calls.WriteCalls.{is_found, peer_there}
+use Rattle.zl_calls.proofs.processes.Written.{IsNext, keeps, refusal_keeps}
+
+-- ---- the refusal
+
+-- the status of a fault, if there is one
+abbrev why : Result Front ReadFault → Option Status
+why (Ok front) = None
+why (Err (fault.TooSmall bytes handles)) = Some status.BufferTooSmall
+why (Err (fault.Refused s)) = Some s
+
+-- what is to be read is the same for the definitions
+queue_there : (os : Map Object) (k : ℕ) → queue_seen_in (body_in (get (map object_entry os) k)) ≡ queue_in (get os k)
+queue_there os k = rw (get_seen os k) (by_object (get os k))
+  where
+    by_object : (o : Option Object) → queue_seen_in (body_in (option_map object_value o)) ≡ queue_in o
+    by_object None = refl
+    by_object (Some o) = queue_seen o.body
+
+module _ (lib : Library) (before : List Process) (r : Objects) (lab : IsConsistent before r) (p : ℕ) where
+  abbrev old_world : World
+  old_world = world_value before r
+
+  abbrev handles : Map Entry
+  handles = table_of old_world p
+
+  -- the answers of the definitions, where the look-up of the end has this answer, and its queue and its peer are so
+  abbrev with_end : (room places : ℕ) → Option Outcome → List Message → Bool → Option Outcome
+  with_end room places x queue there = first_some (first_some (x ∷ None ∷ []) ∷ None
+      ∷ answer_if (is_empty queue && not there) status.PeerClosed
+      ∷ answer_if (is_empty queue) status.ShouldWait
+      ∷ answer_if (not (has_place_for room places queue)) status.BufferTooSmall
+      ∷ answer_if (not (nat_le (length handles + length (first_handles queue)) 1024)) status.NoResources
+      ∷ [])
+
+  by_queue : (room places k : ℕ) (queue : List Message) (there : Bool)
+      → with_end room places None queue there ≡ answers (why (front_in (length handles) there room places k queue))
+  by_queue room places k [] true = refl
+  by_queue room places k [] false = refl
+  by_queue room places k (m ∷ ms) there = by_tests (has_place_for room places (m ∷ ms)) (nat_le (length handles + length m.handles) 1024)
+    where
+      by_tests : (a b : Bool) → first_some (None ∷ None ∷ None ∷ None ∷ answer_if (not a) status.BufferTooSmall ∷ answer_if (not b) status.NoResources ∷ [])
+          ≡ answers (why (if not a then Err (fault.TooSmall (length m.bytes) (length m.handles))
+          else (if not b then Err (fault.Refused status.NoResources) else Ok (record { end = k; handles = length m.handles }))))
+      by_tests false b = refl
+      by_tests true false = refl
+      by_tests true true = refl
+
+  read_refused : (c address room places : ℕ)
+      → refusal lib old_world p (chan_read_etc c address room places) ≡ answers (why (front_at handles r.objects c room places))
+  unfolding refusal handle_operands examined operand listed has_room
+  read_refused c address room places = by_end (get handles c)
+    where
+      queue_of_end : ℕ → List Message
+      queue_of_end k = queue_seen_in (body_of old_world k)
+
+      has_peer : ℕ → Bool
+      has_peer k = has_key old_world.objects (peer_seen (body_of old_world k))
+
+      passes : (e : Entry) → with_end room places None (queue_of_end e.koid) (has_peer e.koid) ≡ answers (why (front_by handles r.objects room places (Ok e)))
+      passes e =
+          rw (queue_there r.objects e.koid, peer_there r lab.no_zero e.koid)
+          (by_queue room places e.koid (queue_in (get r.objects e.koid)) (is_some (peer_at r.objects e.koid)))
+
+      by_tests : (e : Entry) (a b : Bool) → with_end room places
+          (by_look_up old_world p (if a then (if b then Ok e else Err status.AccessDenied) else Err status.WrongType)) (queue_of_end e.koid) (has_peer e.koid)
+          ≡ answers (why (front_by handles r.objects room places (if a then (if b then Ok e else Err status.AccessDenied) else Err status.WrongType)))
+      by_tests e true true = passes e
+      by_tests e true false = refl
+      by_tests e false b =
+          ap (λ (x : Option Outcome). with_end room places x (queue_of_end e.koid) (has_peer e.koid))
+          (fault_answers old_world p condition.WrongObject status.WrongType)
+
+      by_end : (o : Option Entry) → with_end room places (operand_of old_world p (kind.Channel ∷ []) READ o) (queue_of_end (koid_in o)) (has_peer (koid_in o))
+          ≡ answers (why (front_by handles r.objects room places (granted o (kind.Channel ∷ []) READ)))
+      by_end None =
+          ap (λ (x : Option Outcome). with_end room places x (queue_of_end 0) (has_peer 0)) (fault_answers old_world p condition.BadHandle status.BadHandle)
+      by_end (Some e) = by_tests e (takes (kind.Channel ∷ []) e.kind) (within READ (bits e.rights))
+
+-- ---- what holds of the message
+
+-- the end is named by the caller's handle, and the table has room for the handles of its first message
+record IsFrontOf (entries : Map Entry) (objects : Map Object) (c : ℕ) (front : Front) : Type 0 where
+  pub entry : Entry
+  pub there : get entries c ≡ Some entry
+  pub koid : entry.koid ≡ front.end
+  pub room : length entries + length (front_handles objects front.end) ≤ 1024
+
+front_of : (entries : Map Entry) (objects : Map Object) (c room places : ℕ) (front : Front) → front_at entries objects c room places ≡ Ok front
+    → IsFrontOf entries objects c front
+front_of entries objects c room places front is = by_found (looked_up entries c (kind.Channel ∷ []) READ) refl is
+  where
+    by_found : (found : Result Entry Status) → looked_up entries c (kind.Channel ∷ []) READ ≡ found → front_by entries objects room places found ≡ Ok front
+        → IsFrontOf entries objects c front
+    by_found (Err s) found h = absurd cc
+    by_found (Ok e) found h = by_messages (queue_in (get objects e.koid)) refl h
+      where
+        by_messages : (queue : List Message) → queue_in (get objects e.koid) ≡ queue
+            → front_in (length entries) (is_some (peer_at objects e.koid)) room places e.koid queue ≡ Ok front → IsFrontOf entries objects c front
+        by_messages [] at read = absurd cc
+        by_messages (m ∷ ms) at read = by_tests (has_place_for room places (m ∷ ms)) (nat_le (length entries + length m.handles) 1024) refl read
+          where
+            by_tests : (a b : Bool) → nat_le (length entries + length m.handles) 1024 ≡ b
+                → ◌≡◌ {A = Result Front ReadFault}
+                (if not a then Err (fault.TooSmall (length m.bytes) (length m.handles))
+                else (if not b then Err (fault.Refused status.NoResources) else Ok (record { end = e.koid; handles = length m.handles }))) (Ok front)
+                → IsFrontOf entries objects c front
+            by_tests false b fits read = absurd cc
+            by_tests true false fits read = absurd cc
+            by_tests true true fits read =
+                let same : ◌≡◌ {A = Front} (record { end = e.koid; handles = length m.handles }) front = cc in
+                let koid : e.koid ≡ front.end = ap (λ (f : Front). f.end) same in
+                record {
+                  entry = e;
+                  there = is_found (get entries c) (kind.Channel ∷ []) READ e found;
+                  koid = koid;
+                  room = rw (← koid, at) (grind (arith, nat_tests, fits));
+                }
+
+-- the sizes that are told are those of the first message at the end that the handle names
+record IsTooSmall (entries : Map Entry) (objects : Map Object) (c bytes handles : ℕ) : Type 0 where
+  pub entry : Entry
+  pub there : get entries c ≡ Some entry
+  pub sizes : sizes_of (queue_in (get objects entry.koid)) ≡ bytes ∷ handles ∷ []
+
+too_small : (entries : Map Entry) (objects : Map Object) (c room places bytes handles : ℕ)
+    → front_at entries objects c room places ≡ Err (fault.TooSmall bytes handles) → IsTooSmall entries objects c bytes handles
+too_small entries objects c room places bytes handles is = by_found (looked_up entries c (kind.Channel ∷ []) READ) refl is
+  where
+    by_found : (found : Result Entry Status) → looked_up entries c (kind.Channel ∷ []) READ ≡ found
+        → front_by entries objects room places found ≡ Err (fault.TooSmall bytes handles) → IsTooSmall entries objects c bytes handles
+    by_found (Err s) found h = absurd cc
+    by_found (Ok e) found h = by_messages (queue_in (get objects e.koid)) refl h
+      where
+        by_messages : (queue : List Message) → queue_in (get objects e.koid) ≡ queue
+            → front_in (length entries) (is_some (peer_at objects e.koid)) room places e.koid queue ≡ Err (fault.TooSmall bytes handles)
+            → IsTooSmall entries objects c bytes handles
+        by_messages [] at read = absurd cc
+        by_messages (m ∷ ms) at read = by_tests (has_place_for room places (m ∷ ms)) (nat_le (length entries + length m.handles) 1024) read
+          where
+            by_tests : (a b : Bool)
+                → ◌≡◌ {A = Result Front ReadFault}
+                (if not a then Err (fault.TooSmall (length m.bytes) (length m.handles))
+                else (if not b then Err (fault.Refused status.NoResources) else Ok (record { end = e.koid; handles = length m.handles })))
+                (Err (fault.TooSmall bytes handles))
+                → IsTooSmall entries objects c bytes handles
+            by_tests false b read =
+                let more : ◌≡◌ {A = ℕ} (length m.bytes) bytes = cc in
+                let many : ◌≡◌ {A = ℕ} (length m.handles) handles = cc in
+                record { entry = e; there = is_found (get entries c) (kind.Channel ∷ []) READ e found; sizes = rw at (λ i. more i ∷ many i ∷ []) }
+            by_tests true false read = absurd cc
+            by_tests true true read = absurd cc
+
+same_status : (a s : Status) → ◌≡◌ {A = Result Front ReadFault} (Err (fault.Refused a)) (Err (fault.Refused s)) → a ≡ s
+same_status a s same = cc
+
+-- what is true of each status with which nothing else is told
+each_refused : (Holds : Status → Type 0) → Holds status.BadHandle → Holds status.WrongType → Holds status.AccessDenied → Holds status.PeerClosed
+    → Holds status.ShouldWait → Holds status.NoResources
+    → (entries : Map Entry) (objects : Map Object) (c room places : ℕ) (s : Status) → front_at entries objects c room places ≡ Err (fault.Refused s) → Holds s
+each_refused Holds bad wrong denied closed wait full entries objects c room places s is = by_entry (get entries c) is
+  where
+    by_messages : (e : Entry) (there : Bool) (queue : List Message) → front_in (length entries) there room places e.koid queue ≡ Err (fault.Refused s) → Holds s
+    by_messages e true [] h = subst Holds (same_status status.ShouldWait s h) wait
+    by_messages e false [] h = subst Holds (same_status status.PeerClosed s h) closed
+    by_messages e there (m ∷ ms) h = by_tests (has_place_for room places (m ∷ ms)) (nat_le (length entries + length m.handles) 1024) h
+      where
+        by_tests : (a b : Bool)
+            → ◌≡◌ {A = Result Front ReadFault}
+            (if not a then Err (fault.TooSmall (length m.bytes) (length m.handles))
+            else (if not b then Err (fault.Refused status.NoResources) else Ok (record { end = e.koid; handles = length m.handles }))) (Err (fault.Refused s))
+            → Holds s
+        by_tests false b read = absurd cc
+        by_tests true false read = subst Holds (same_status status.NoResources s read) full
+        by_tests true true read = absurd cc
+
+    by_look_up_of : (e : Entry) (a b : Bool)
+        → front_by entries objects room places (if a then (if b then Ok e else Err status.AccessDenied) else Err status.WrongType) ≡ Err (fault.Refused s)
+        → Holds s
+    by_look_up_of e true true h = by_messages e (is_some (peer_at objects e.koid)) (queue_in (get objects e.koid)) h
+    by_look_up_of e true false h = subst Holds (same_status status.AccessDenied s h) denied
+    by_look_up_of e false b h = subst Holds (same_status status.WrongType s h) wrong
+
+    by_entry : (o : Option Entry) → front_by entries objects room places (granted o (kind.Channel ∷ []) READ) ≡ Err (fault.Refused s) → Holds s
+    by_entry None h = subst Holds (same_status status.BadHandle s h) bad
+    by_entry (Some e) h = by_look_up_of e (takes (kind.Channel ∷ []) e.kind) (within READ (bits e.rights)) h
+
+-- the message is the first at the object k
+record IsFirstAt (objects : Map Object) (k : ℕ) (m : Message) : Type 0 where
+  pub object : Object
+  pub at : get objects k ≡ Some object
+  pub queue : queue_of object.body ≡ m ∷ drop 1 (queue_of object.body)
+
+first_at : (objects : Map Object) (k : ℕ) (m : Message) → slice_get (queue_in (get objects k)) 0 ≡ Some m → IsFirstAt objects k m
+first_at objects k m is = by_object (get objects k) refl is
+  where
+    by_messages : (queue : List Message) → slice_get queue 0 ≡ Some m → queue ≡ m ∷ drop 1 queue
+    by_messages [] read = absurd (none-some m read)
+    by_messages (x ∷ xs) read = let same : x ≡ m = cc in ap (λ (y : Message). y ∷ xs) same
+
+    by_object : (o : Option Object) → get objects k ≡ o → slice_get (queue_in o) 0 ≡ Some m → IsFirstAt objects k m
+    by_object None at read = absurd (none-some m read)
+    by_object (Some o) at read = record { object = o; at = at; queue = by_messages (queue_of o.body) read }
+
+-- ---- a message less in a queue
+
+read_seen : (os : Map Object) (k : ℕ) → map object_entry (update os k received) ≡ update (map object_entry os) k message_read
+read_seen os k = update_seen object_value os k received message_read (λ o. ap (λ b. record (object_value o) { body = b }) (by_body o.body))
+  where
+    by_body : (b : Body) → body_value (received_body b) ≡ body_after_read (body_value b)
+    by_body (body.ChannelEnd peer queue) = refl
+    by_body _ = refl
+
+same_receiving : (r : Objects) (k : ℕ) → receiving r k ≡ record r { objects = update r.objects k (requeued (drop 1)) }
+same_receiving r k = ap (λ (f : Object → Object). record r { objects = update r.objects k f }) (λ i o. same o i)
+  where
+    by_body : (b : Body) → received_body b ≡ requeued_body (drop 1) b
+    by_body (body.ChannelEnd peer queue) = refl
+    by_body _ = refl
+
+    same : (o : Object) → received o ≡ requeued (drop 1) o
+    same o = ap (λ (b : Body). record o { body = b }) (by_body o.body)
+
+module _ (os : Map Object) (k : ℕ) (m : Message) (first : IsFirstAt os k m) where
+  queues_received : (j : ℕ) → queues os j ≡ queues (update os k received) j + count_by (λ (e : Entry). e.koid == j) m.handles
+  queues_received j = rw (read_seen os k)
+      (sum_fewer (λ x. queued_to j x.1.body) (map object_entry os) k (count_by (λ (e : Entry). e.koid == j) m.handles) (object_value first.object) message_read
+      (get_seen os k ∙ rw first.at refl) (by_body first.object.body first.queue))
+    where
+      by_body : (b : Body) → queue_of b ≡ m ∷ drop 1 (queue_of b)
+          → queued_to j (body_value b) ≡ queued_to j (body_after_read (body_value b)) + count_by (λ (e : Entry). e.koid == j) m.handles
+      by_body (body.ChannelEnd peer queue) h =
+          let all = ap (λ (q : List Message). sum_by (λ (x : Message). count_by (λ (e : Entry). e.koid == j) x.handles) q) h in
+          omega (arith, all, sum_by-cons (λ (x : Message). count_by (λ (e : Entry). e.koid == j) x.handles) m (drop 1 queue))
+      by_body _ h = absurd cc
+
+  message_named : (named : (e : Entry) → Type 0) → All (λ (x : Message). All named x.handles) (queue_of first.object.body) → All named m.handles
+  message_named named all =
+      All-head (λ (x : Message). All named x.handles) m (drop 1 (queue_of first.object.body))
+      (subst (λ (q : List Message). All (λ (x : Message). All named x.handles) q) first.queue all)
+
+fewer_queued : (ps : List Process) (r r2 : Objects) (j c : ℕ) → queues r.objects j ≡ queues r2.objects j + c
+    → handles_to (world_value ps r) j ≡ handles_to (world_value ps r2) j + c
+unfolding handles_to
+fewer_queued ps r r2 j c less = omega (arith, less)
+
+-- ---- a world with handles and bytes more
+
+-- the process with these bytes in its memory
+abbrev stored_in : ℕ × List ℕ → ProcessValue → ProcessValue
+stored_in s q = record q { cpu = with_stored s q.cpu }
+
+storing_is : (u : World) (p a : ℕ) (bs : List ℕ) → storing u p (a, bs) ≡ on_process u p (stored_in (a, bs))
+unfolding on_process
+storing_is u p a [] = ap (λ (ps : Map ProcessValue). record u { processes = ps }) (sym (update_itself u.processes p))
+storing_is u p a (b ∷ bs) = refl
+
+inserted_is : (u : World) (p : ℕ) (es : List Entry) (vs : List ℕ) → insert_all u p es vs ≡ on_process u p (process_with_all es vs)
+unfolding insert_all on_process
+inserted_is u p [] vs = ap (λ (ps : Map ProcessValue). record u { processes = ps }) (sym (update_itself u.processes p))
+inserted_is u p (e ∷ es) [] = ap (λ (ps : Map ProcessValue). record u { processes = ps }) (sym (update_itself u.processes p))
+inserted_is u p (e ∷ es) (v ∷ vs) =
+    inserted_is (on_process u p (process_with v e)) p es vs
+    ∙ ap (λ (ps : Map ProcessValue). record u { processes = ps }) (update_twice u.processes p (process_with v e) (process_with_all es vs))
+
+-- ---- the step
+
+-- a process of a lab, before and after its call
+module _ (lib : Library) (before after : List Process) (r r2 : Objects) (p p2 : Process) (lab : IsConsistent before r) (write : IsWrite before after p p2)
+    (c address room places : ℕ) (consumed destinations : List ℕ) where
+  abbrev w : World
+  w = world_value before r
+
+  abbrev read_site : Site
+  read_site = site (chan_read_etc c address room places) consumed destinations
+
+  abbrev front_now : Result Front ReadFault
+  front_now = front_at p.table.entries r.objects c room places
+
+  refused : refusal lib w p.pid (chan_read_etc c address room places) ≡ answers (why front_now)
+  refused = read_refused lib before r lab p.pid c address room places ∙ rw (table_is before after p p2 write r) refl
+
+  -- ---- the message was read
+
+  module _ (message : Received) (reads : ReadsMessage p.table r c room places message p2.table r2)
+      (told : IsTold read_site (told_read address (Ok message)) p p2) where
+    abbrev k : ℕ
+    k = reads.front.end
+
+    abbrev m : Message
+    m = message.message
+
+    abbrev vs : List ℕ
+    vs = message.values.items
+
+    front : IsFrontOf p.table.entries r.objects c reads.front
+    front = front_of p.table.entries r.objects c room places reads.front reads.is_front
+
+    first : IsFirstAt r.objects k m
+    first = first_at r.objects k m reads.first
+
+    koid_same : object_at w p.pid c ≡ k
+    koid_same = rw (table_is before after p p2 write r, front.there) front.koid
+
+    queue_same : queue_at w p.pid c ≡ m ∷ drop 1 (queue_of first.object.body)
+    queue_same = ap (λ (j : ℕ). queue_seen_in (body_of w j)) koid_same ∙ (queue_there r.objects k ∙ (ap queue_in first.at ∙ first.queue))
+
+    state_same : p2.state ≡ p.state
+    state_same = ap (λ (q : Process). q.state) told
+
+    -- ---- the relation of calls
+
+    abbrev stored : ℕ × List ℕ
+    stored = (address, m.bytes)
+
+    abbrev with_read : World
+    with_read = on_object w k message_read
+
+    abbrev middle : World
+    middle = storing (insert_all with_read p.pid m.handles vs) p.pid stored
+
+    abbrev change : ProcessValue → ProcessValue
+    change q = stored_in stored (process_with_all m.handles vs q)
+
+    middle_is : middle ≡ on_process (on_process with_read p.pid (process_with_all m.handles vs)) p.pid (stored_in stored)
+    middle_is =
+        storing_is (insert_all with_read p.pid m.handles vs) p.pid address m.bytes
+        ∙ ap (λ (u : World). on_process u p.pid (stored_in stored)) (inserted_is with_read p.pid m.handles vs)
+
+    so_far : middle.processes ≡ update (map process_entry before) p.pid change
+    unfolding on_process on_object
+    so_far = ap (λ (u : World). u.processes) middle_is ∙ update_twice (map process_entry before) p.pid (process_with_all m.handles vs) (stored_in stored)
+
+    rest : (record middle { processes = map process_entry after }) ≡ world_value after r2
+    unfolding on_process on_object
+    rest = ap (λ (u : World). record u { processes = map process_entry after }) middle_is
+        ∙ (ap (λ (os : Map ObjectValue). record w { processes = map process_entry after; objects = os }) (sym (read_seen r.objects k))
+        ∙ ap (world_value after) (sym reads.objects))
+
+    abbrev values : List ℕ
+    values = length m.bytes ∷ length m.handles ∷ told_of m.handles vs
+
+    is : process_value p2 ≡ record (change (process_value p)) { cpu = cpu_answered read_site status.Ok values (change (process_value p)).cpu }
+    is =
+        ap process_value told ∙ ap (λ (q : ProcessValue). record q { cpu = cpu_answered read_site status.Ok values (with_stored stored q.cpu) })
+        (sym (all_given p.table p2.table m.handles vs (process_value p) reads.inserts))
+
+    read_ends : world_value after r2 ≡ replied (with_effect lib w (taken w p.pid read_site) p.pid (chan_read_etc c address room places) vs) p.pid read_site
+        status.Ok (gives_ok w p.pid (chan_read_etc c address room places) vs)
+    unfolding effect new_handles taken_handles handle_operands remove_all gives_ok
+    read_ends = rw (queue_same, koid_same) (replied_with before after p p2 write r2 read_site status.Ok values change middle so_far rest is)
+
+    read_chosen : IsTrue (may_choose w (taken w p.pid read_site) p.pid (chan_read_etc c address room places) vs)
+    unfolding may_choose new_handles remove_all taken_handles handle_operands
+    read_chosen = rw (queue_same, write.there) (all_chosen p.table p2.table m.handles vs (process_value p) reads.inserts)
+
+    -- ---- the invariant
+
+    read_counts : (j : ℕ) → handles_to (world_value after (receiving r k)) j ≡ handles_to w j
+    read_counts j =
+        let moved : ℕ = count_by (λ (e : Entry). e.koid == j) m.handles in
+        let more : handles_to (world_value after r) j ≡ handles_to w j + moved =
+        counts_written before after p p2 r r j moved write refl (counts_entered j p.table p2.table m.handles vs reads.inserts) in
+        let less : handles_to (world_value after r) j ≡ handles_to (world_value after (receiving r k)) j + moved =
+        fewer_queued after r (receiving r k) j moved (queues_received r.objects k m first j) in
+        omega (arith, more, less)
+
+    abbrev changed : Objects
+    changed = record r { objects = update r.objects k (requeued (drop 1)) }
+
+    named_now : (e : Entry) → IsNamed r.objects e → IsNamed changed.objects e
+    named_now = named_too (drop 1) r.objects k
+
+    later : (queue : List Message) → AreNamed r.objects queue → AreNamed r.objects (drop 1 queue)
+    later [] all = all
+    later (x ∷ xs) all = All-tail (λ (y : Message). All (IsNamed r.objects) y.handles) x xs all
+
+    queue_named : (b : Body) → AreNamed r.objects (queue_of b) → AreNamed changed.objects (queue_of (requeued_body (drop 1) b))
+    queue_named (body.ChannelEnd peer queue) old = still_named r.objects changed.objects named_now (drop 1 queue) (later queue old)
+    queue_named _ old = All-nil (λ (x : Message). All (IsNamed changed.objects) x.handles)
+
+    next : IsNext before after r (receiving r k)
+    next = subst (IsNext before after r) (sym (same_receiving r k))
+        (requeued_next (drop 1) before after r lab k (λ o at. queue_named o.body (lab.queued k o at))
+        (subst (λ (x : Objects). (j : ℕ) → handles_to (world_value after x) j ≡ handles_to w j) (same_receiving r k) read_counts))
+
+    entered_named : (v : ℕ) (e : Entry) → get p2.table.entries v ≡ Some e → IsNamed r.objects e
+    entered_named =
+        each_entered (IsNamed r.objects) p.table p2.table m.handles vs reads.inserts (λ v e at. lab.named p.pid (process_value p) v e write.there at)
+        (message_named r.objects k m first (IsNamed r.objects) (lab.queued k first.object first.at))
+
+    fits : length p.table.entries + length m.handles ≤ 1024
+    fits = rw (first.at, first.queue) at front.room
+
+    read_called : IsCalled lib before after r r2 p.pid read_site (outcome.Answered status.Ok)
+    read_called = record {
+      calls = (Values vs, rw (refused, reads.is_front) (read_chosen, refl, read_ends));
+      keeps = rw reads.objects (keeps before after p p2 write r (receiving r k) lab state_same
+          (tables_entered p.table p2.table m.handles vs (lab.tables p.pid (process_value p) write.there) fits reads.inserts)
+          (λ v e at. next.named e (entered_named v e at)) next);
+    }
+
+  -- ---- no message was read
+
+  module _ (table : p2.table ≡ p.table) (objects : r2 ≡ r) where
+    told_world : (answer : Status) (values : List ℕ) → p2 ≡ record p { cpu = cpu_answered read_site answer values p.cpu; table = p2.table }
+        → world_value after r2 ≡ replied w p.pid read_site answer values
+    unfolding replied on_process
+    told_world answer values told =
+        rw objects
+        (ap (λ (ps : Map ProcessValue). record w { processes = ps }) (write.writes (λ q. record q { cpu = cpu_answered read_site answer values q.cpu }) seen))
+      where
+        seen : process_value p2 ≡ record (process_value p) { cpu = cpu_answered read_site answer values p.cpu }
+        seen = ap process_value told ∙ rw table refl
+
+    kept : p2.state ≡ p.state → IsConsistent after r2
+    kept same = subst (IsConsistent after) (sym objects) (refusal_keeps before after p p2 write r lab table same)
+
+    abbrev Called : ReadFault → Type 0
+    Called f =
+        IsTold read_site (told_read address (Err f)) p p2 → IsCalled lib before after r r2 p.pid read_site (outcome.Answered (told_read address (Err f)).status)
+
+    wanting : (front : Front) → front_now ≡ Ok front → Called (fault.Refused status.NoMemory)
+    unfolding taken_handles handle_operands remove_all gives_refused
+    wanting front is told = record {
+      calls = (WantsMemory, rw (refused, is) (refl, refl, told_world status.NoMemory [] told));
+      keeps = kept (ap (λ (q : Process). q.state) told);
+    }
+
+    sizes_same : (bytes handles : ℕ) → front_now ≡ Err (fault.TooSmall bytes handles) → sizes_of (queue_at w p.pid c) ≡ bytes ∷ handles ∷ []
+    sizes_same bytes handles is =
+        let small : IsTooSmall p.table.entries r.objects c bytes handles = too_small p.table.entries r.objects c room places bytes handles is in
+        let koid : object_at w p.pid c ≡ small.entry.koid = rw (table_is before after p p2 write r, small.there) refl in
+        ap (λ (j : ℕ). sizes_of (queue_seen_in (body_of w j))) koid ∙ (ap sizes_of (queue_there r.objects small.entry.koid) ∙ small.sizes)
+
+    nothing_told : (s : Status) → front_now ≡ Err (fault.Refused s) → gives_refused w p.pid (chan_read_etc c address room places) s ≡ []
+    unfolding gives_refused
+    nothing_told s is =
+        each_refused (λ answer. gives_refused w p.pid (chan_read_etc c address room places) answer ≡ []) refl refl refl refl refl refl p.table.entries r.objects
+        c room places s is
+
+    by_known : (f : ReadFault) → front_now ≡ Err f → Called f
+    unfolding taken_handles handle_operands remove_all gives_refused
+    by_known (fault.TooSmall bytes handles) is told = record {
+      calls = (
+        Refused,
+        rw (refused, is) (
+          refl,
+          told_world status.BufferTooSmall (bytes ∷ handles ∷ []) told
+              ∙ ap (replied w p.pid read_site status.BufferTooSmall) (sym (sizes_same bytes handles is)),
+        ),
+      );
+      keeps = kept (ap (λ (q : Process). q.state) told);
+    }
+    by_known (fault.Refused s) is told = record {
+      calls = (Refused, rw (refused, is) (refl, told_world s [] told ∙ ap (replied w p.pid read_site s) (sym (nothing_told s is))));
+      keeps = kept (ap (λ (q : Process). q.state) told);
+    }
+
+    by_front : (found : Result Front ReadFault) → front_now ≡ found → (f : ReadFault) → IsFaultBy (result_err found) f → Called f
+    by_front (Ok front) is f by = subst Called (sym by) (wanting front is)
+    by_front (Err g) is f by = subst Called (sym by) (by_known g is)
+
+  by_answer : (answer : Result Received ReadFault) → ChanReadDoes c room places p.table r answer p2.table r2 → IsTold read_site (told_read address answer) p p2
+      → IsCalled lib before after r r2 p.pid read_site (outcome.Answered (told_read address answer).status)
+  by_answer (Ok message) does told = read_called message does.ok told
+  by_answer (Err f) does told = by_front does.same_table does.same_objects front_now refl f does.err told
+
+  pub read_done : state_value p.state ≡ Ready → (call : CallName) → next_for lib (process_value p) ≡ AtCall call read_site → (o : Outcome)
+      → IsAnswered (told_read address) (ChanReadDoes c room places) read_site p r o p2 r2 → IsDone lib before after r r2 p.pid call o
+  read_done ready call next o acts = called_done lib before after r r2 p p2 lab write ready call read_site next o
+      (subst (λ (x : Outcome). IsCalled lib before after r r2 p.pid read_site x) (sym acts.ends) (by_answer acts.answer acts.acts acts.replied))

@@ -1,0 +1,114 @@
+-- How many handles name an object, in tables and in queues, after a change of one table or of the objects.
+use Rattle.zl_calls.proofs.Common.{◌≡◌, ◌+◌, ℕ, Bool, true, false, ◌==◌, List, [], ◌∷◌, map, refl, sym, ap, ◌∙◌, cond, None, Some, inl, inr, IsTrue, arith}
+use Rattle.zl_calls.proofs.Common.{nat_lt, sum_by, count_by, sum_by-cons, map-append, cases_Bool, eqb-true, none-some, nat_cmp, is_sorted, same_Some, Map, get}
+use Rattle.zl_calls.proofs.Common.{put, update, without, handles_to, queued_to, Objects, object_entry, process_entry, process_value, body_value, new_object}
+use Rattle.zl_calls.proofs.Common.{with_new, world_value}
+use Rattle.zl_code.proofs.Common.{Process as ProcessValue}
+use Rattle.std.proofs.lemmas.List.Sums.{sum_by-append}
+use Rattle.zl_objects.specs.declared.object.Body.{Body}
+use Rattle.zl_objects.specs.declared.object.Object.{Object}
+use Rattle.zl_objects.proofs.Sums.{sum_fewer, sum_without}
+use Rattle.zl_calls.specs.declared.process.Process.{Process}
+use Rattle.zl_calls.proofs.calls.Answered.{IsWrite}
+
+-- ---- queues
+
+-- how many handles in queues name the object k
+abbrev pub queues : Map Object → ℕ → ℕ
+queues os k = sum_by (λ o. queued_to k o.1.body) (map object_entry os)
+
+-- a change that leaves each body as it is
+pub queues_updated : (f : Object → Object) → ((o : Object) → (f o).body ≡ o.body) → (os : Map Object) (k j : ℕ) → queues (update os k f) j ≡ queues os j
+unfolding update
+queues_updated f same [] k j = refl
+queues_updated f same (e ∷ os) k j = elim (cases_Bool (e.0 == k)) as (λ _. queues (update (e ∷ os) k f) j ≡ queues (e ∷ os) j) [
+  | inl here ↦ rw (here, same e.1) refl
+  | inr apart ↦ rw apart (omega (
+    arith,
+    sum_by-cons (λ o. queued_to j o.1.body) (object_entry e) (map object_entry (update os k f)),
+    sum_by-cons (λ o. queued_to j o.1.body) (object_entry e) (map object_entry os),
+    queues_updated f same os k j,
+  ))
+]
+
+-- an object more, in whose queue nothing is
+pub queues_grown : (r : Objects) (b : Body) (handles j : ℕ) → ◌≡◌ {A = ℕ} (queued_to j (body_value b)) 0
+    → queues (with_new r b handles).objects j ≡ queues r.objects j
+queues_grown r b handles j none =
+    ap (sum_by (λ o. queued_to j o.1.body)) (map-append object_entry r.objects ((r.next_koid, new_object b handles) ∷ []))
+    ∙ omega (
+      arith,
+      none,
+      sum_by-append (λ o. queued_to j o.1.body) (map object_entry r.objects) (object_entry (r.next_koid, new_object b handles) ∷ []),
+      sum_by-cons (λ o. queued_to j o.1.body) (object_entry (r.next_koid, new_object b handles)) [],
+    )
+
+-- ---- tables
+
+module _ {X : Type 0} where
+  pub count_put : (test : ℕ × X → Bool) (m : Map X) (k : ℕ) (v : X) → get m k ≡ None → count_by test (put m k v) ≡ count_by test m + cond (test (k, v)) 1 0
+  unfolding get put
+  count_put test [] k v none = refl
+  count_put test (e ∷ m) k v none = elim (cases_Bool (e.0 == k)) as (λ _. count_by test (put (e ∷ m) k v) ≡ count_by test (e ∷ m) + cond (test (k, v)) 1 0) [
+    | inl here ↦ absurd (none-some e.1 (sym (rw here at none)))
+    | inr apart ↦
+        rw apart (elim (nat_lt k e.0) as (λ b. count_by test (cond b ((k, v) ∷ e ∷ m) (e ∷ put m k v)) ≡ count_by test (e ∷ m) + cond (test (k, v)) 1 0) [
+          | true ↦ omega (arith, sum_by-cons (λ x. cond (test x) 1 0) (k, v) (e ∷ m))
+          | false ↦ omega (
+            arith,
+            sum_by-cons (λ x. cond (test x) 1 0) e (put m k v),
+            sum_by-cons (λ x. cond (test x) 1 0) e m,
+            count_put test m k v (rw apart at none),
+          )
+        ])
+  ]
+
+  -- the entry that leaves counted once
+  pub count_without : (test : ℕ × X → Bool) (m : Map X) (k : ℕ) (x : X) → IsTrue (is_sorted nat_cmp m) → get m k ≡ Some x
+      → count_by test m ≡ count_by test (without m k) + cond (test (k, x)) 1 0
+  count_without test = sum_without (λ e. cond (test e) 1 0)
+
+  pub sum_update : (n : ℕ × X → ℕ) (m : Map X) (k c : ℕ) (x : X) (f : X → X) → get m k ≡ Some x → n (k, f x) ≡ n (k, x) + c
+      → sum_by n (update m k f) ≡ sum_by n m + c
+  unfolding get update
+  sum_update n [] k c x f there more = absurd (none-some x there)
+  sum_update n (e ∷ m) k c x f there more = elim (cases_Bool (e.0 == k)) as (λ _. sum_by n (update (e ∷ m) k f) ≡ sum_by n (e ∷ m) + c) [
+    | inl here ↦
+        let same : e.1 ≡ x = same_Some e.1 x (rw here at there) in
+        let head : n e ≡ n (k, x) = λ i. n (eqb-true e.0 k here i, same i) in
+        let new : n (k, f e.1) ≡ n (k, f x) = λ i. n (k, f (same i)) in
+        rw here (omega (arith, sum_by-cons n (k, f e.1) m, sum_by-cons n e m, head, new, more))
+    | inr apart ↦ rw apart (omega (arith, sum_by-cons n e (update m k f), sum_by-cons n e m, sum_update n m k c x f (rw apart at there) more))
+  ]
+
+-- the handles that name k before a process was written whose table has c fewer of them
+pub counts_fewer : (before after : List Process) (p p2 : Process) (r r2 : Objects) (k c : ℕ) → IsWrite before after p p2
+    → queues r2.objects k ≡ queues r.objects k
+    → count_by (λ h. h.1.koid == k) p.table.entries ≡ count_by (λ h. h.1.koid == k) p2.table.entries + c
+    → handles_to (world_value before r) k ≡ handles_to (world_value after r2) k + c
+unfolding handles_to
+counts_fewer before after p p2 r r2 k c write same fewer =
+    let summed : sum_by (λ q. count_by (λ h. h.1.koid == k) q.1.handles) (map process_entry before)
+    ≡ sum_by (λ (q : ℕ × ProcessValue). count_by (λ h. h.1.koid == k) q.1.handles) (update (map process_entry before) p.pid (λ _. process_value p2)) + c
+    = sum_fewer (λ q. count_by (λ h. h.1.koid == k) q.1.handles) (map process_entry before) p.pid c (process_value p)
+    (λ _. process_value p2) write.there fewer in
+    rw (write.writes (λ _. process_value p2) refl) (omega (arith, summed, same))
+
+-- the handles that name k after a process was written whose table has c more of them
+pub counts_written : (before after : List Process) (p p2 : Process) (r r2 : Objects) (k c : ℕ) → IsWrite before after p p2
+    → queues r2.objects k ≡ queues r.objects k
+    → count_by (λ h. h.1.koid == k) p2.table.entries ≡ count_by (λ h. h.1.koid == k) p.table.entries + c
+    → handles_to (world_value after r2) k ≡ handles_to (world_value before r) k + c
+unfolding handles_to
+counts_written before after p p2 r r2 k c write same more =
+    let summed : sum_by (λ (q : ℕ × ProcessValue). count_by (λ h. h.1.koid == k) q.1.handles) (update (map process_entry before) p.pid (λ _. process_value p2))
+    ≡ sum_by (λ q. count_by (λ h. h.1.koid == k) q.1.handles) (map process_entry before) + c
+    = sum_update (λ q. count_by (λ h. h.1.koid == k) q.1.handles) (map process_entry before) p.pid c (process_value p)
+    (λ _. process_value p2) write.there more in
+    rw (write.writes (λ _. process_value p2) refl) (omega (arith, summed, same))
+
+-- the handles that name k, where the tables stay
+pub same_tables : (ps : List Process) (r r2 : Objects) (k : ℕ) → queues r2.objects k ≡ queues r.objects k
+    → handles_to (world_value ps r2) k ≡ handles_to (world_value ps r) k
+unfolding handles_to
+same_tables ps r r2 k same = rw same refl

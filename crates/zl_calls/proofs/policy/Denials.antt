@@ -1,0 +1,90 @@
+-- What a verdict makes of a call for the definitions: it is answered, or its caller ends.
+use Rattle.zl_code.proofs.Common.{◌≡◌, ℕ, Bool, true, false, [], refl, sym, ap, ◌∙◌, Option, Some, None, none-some, true≢false, get, World, Library, Request}
+use Rattle.zl_code.proofs.Common.{Site, chan_create, chan_read_etc, event_create, handle_operands, refusal, gives_refused, remove_all, taken_handles, replied}
+use Rattle.zl_code.proofs.Common.{ended, Calls, Refused}
+use Rattle.zl_rights.specs.Common.{Map}
+use Rattle.zl_rights.specs.Numbers.{BY_POLICY}
+use Rattle.zl_rights.specs.declared.entry.Entry.{Entry}
+use Rattle.zl_rights.specs.declared.policy.Action.{Action}
+use Rattle.zl_rights.specs.declared.policy.Action.TheVariants as action
+use Rattle.zl_rights.specs.declared.policy.Condition.{Condition}
+use Rattle.zl_rights.specs.declared.policy.Condition.TheVariants as condition
+use Rattle.zl_rights.specs.declared.status.Status.{Status}
+use Rattle.zl_rights.specs.declared.status.Status.TheVariants as status
+use Rattle.zl_code.specs.CallTable.{port_create, process_create, wait_poll}
+use Rattle.zl_code.specs.Refusals.{condition_of}
+use Rattle.zl_code.specs.declared.history.Outcome.TheVariants as outcome
+use Rattle.zl_objects.specs.Jobs.{action_of, job_at}
+use Rattle.zl_objects.specs.Objects.{job_in}
+use Rattle.zl_objects.specs.declared.object.Object.{Object}
+use Rattle.zl_calls.specs.Policed.{on_fault_by, operands_fault, verdict_by, verdict_in, verdict_on}
+use Rattle.zl_calls.specs.declared.policy.Verdict.{Verdict}
+use Rattle.zl_calls.specs.declared.policy.Verdict.TheVariants as verdict
+use Rattle.zl_calls.proofs.policy.Policies.{ending}
+
+-- ---- a verdict
+
+abbrev is_denial : Option Verdict → Bool
+is_denial (Some verdict.Denied) = true
+is_denial _ = false
+
+-- just what makes an object is denied
+denied_makes : (o : Condition → Action) (f : Option Status) (c : Option Condition) → verdict_by o f c ≡ Some verdict.Denied → (x : Condition) × (c ≡ Some x)
+denied_makes o None None is = absurd (none-some _ is)
+denied_makes o None (Some c) is = (c, refl)
+denied_makes o (Some status.BadHandle) c is = absurd (never (o condition.BadHandle) is)
+  where
+    never : (a : Action) → on_fault_by a ≡ Some verdict.Denied → ⊥
+    never action.Allow is = none-some _ is
+    never action.Deny is = none-some _ is
+    never action.Kill is = true≢false (sym (ap is_denial is))
+denied_makes o (Some status.WrongType) c is = absurd (never (o condition.WrongObject) is)
+  where
+    never : (a : Action) → on_fault_by a ≡ Some verdict.Denied → ⊥
+    never action.Allow is = none-some _ is
+    never action.Deny is = none-some _ is
+    never action.Kill is = true≢false (sym (ap is_denial is))
+denied_makes o (Some _) c is = absurd (none-some _ is)
+
+pub denied_object : (entries : Map Entry) (objects : Map Object) (p : ℕ) (request : Request) → verdict_on entries objects p request ≡ Some verdict.Denied
+    → (c : Condition) × (condition_of request ≡ Some c)
+denied_object entries objects p request is = by_job (job_in (get objects p)) is
+  where
+    by_job : (job : Option ℕ) → verdict_in objects job (operands_fault entries [] (handle_operands request)) (condition_of request) ≡ Some verdict.Denied
+        → (c : Condition) × (condition_of request ≡ Some c)
+    by_job None is = absurd (none-some _ is)
+    by_job (Some job) is = denied_makes (action_of (job_at objects job)) (operands_fault entries [] (handle_operands request)) (condition_of request) is
+
+-- a call that makes an object takes no handle
+making_takes_none : (request : Request) (c : Condition) → condition_of request ≡ Some c → taken_handles request ≡ []
+unfolding taken_handles handle_operands
+making_takes_none chan_create c is = refl
+making_takes_none event_create c is = refl
+making_takes_none port_create c is = refl
+making_takes_none (process_create job program) c is = refl
+making_takes_none _ c is = absurd (none-some c is)
+
+-- a denial tells the status alone
+denial_tells_none : (w : World) (p : ℕ) (request : Request) → gives_refused w p request status.AccessDenied ≡ []
+unfolding gives_refused
+denial_tells_none w p (chan_read_etc c address room places) = refl
+denial_tells_none w p (wait_poll h mask) = refl
+denial_tells_none w p _ = refl
+
+module _ (lib : Library) (w : World) (p : ℕ) (s : Site) (w2 : World) where
+  -- a call that is denied is answered, and nothing else changes
+  pub denied_calls : (c : Condition) → condition_of s.request ≡ Some c → refusal lib w p s.request ≡ Some (ending verdict.Denied)
+      → w2 ≡ replied w p s status.AccessDenied [] → Calls lib w p s (outcome.Answered status.AccessDenied) w2
+  unfolding remove_all
+  denied_calls c making is after = (
+    Refused,
+    rw is (
+      refl,
+      after ∙ (λ i. replied (remove_all w p (sym (making_takes_none s.request c making) i)) p s status.AccessDenied
+          (sym (denial_tells_none w p s.request) i)),
+    ),
+  )
+
+  -- a caller that a policy kills ends
+  pub killed_calls : refusal lib w p s.request ≡ Some (ending verdict.Killed) → w2 ≡ ended w p BY_POLICY → Calls lib w p s (outcome.Ended BY_POLICY) w2
+  killed_calls is after = (Refused, rw is (refl, after))

@@ -1,0 +1,49 @@
+-- What the code finds of a policy's verdict: none where nothing is set, and what an answer of the code says of it.
+use Rattle.zl_calls.proofs.Common.{◌≡◌, ℕ, false, not, ◌∷◌, [], sym, ap, ◌∙◌, Option, Some, None, Map, Request, Site, get, is_empty, Objects}
+use Rattle.std.specs.Prelude.{IfSome}
+use Rattle.zl_code.proofs.Common.{true≢false}
+use Rattle.zl_code.specs.declared.history.Outcome.{Outcome}
+use Rattle.zl_code.specs.Refusals.{condition_of, handle_operands}
+use Rattle.zl_jobs.specs.Jobs.{Job}
+use Rattle.zl_rights.specs.Policies.{action_in}
+use Rattle.zl_rights.specs.declared.entry.Entry.{Entry}
+use Rattle.zl_rights.specs.declared.policy.Action.{Action}
+use Rattle.zl_rights.specs.declared.policy.Condition.{Condition}
+use Rattle.zl_rights.specs.declared.status.Status.{Status}
+use Rattle.zl_objects.specs.Jobs.{action_of, has_actions, job_at}
+use Rattle.zl_objects.specs.Objects.{job_in}
+use Rattle.zl_objects.specs.declared.object.Object.{Object}
+use Rattle.zl_calls.specs.Policed.{IsDenied, Policed, operands_fault, verdict_by, verdict_in, verdict_on}
+use Rattle.zl_calls.specs.declared.policy.Verdict.TheVariants as verdict
+use Rattle.zl_calls.specs.declared.process.Process.{Process}
+use Rattle.zl_calls.proofs.policy.Policies.{verdict_allowed}
+
+-- what is true of each site is true of the one that is there
+pub at_site : (at : Option Site) (P : Site → Type 0) → ((s : Site) → P s) → IfSome at P
+at_site None P all = tt
+at_site (Some s) P all = all s
+
+-- where nothing is set in the policy of the job, there is no verdict
+nothing_set : (o : Option Job) → has_actions o ≡ false → (f : Option Status) (c : Option Condition) → verdict_by (action_of o) f c ≡ None
+unfolding get
+nothing_set None bare f c = verdict_allowed f c
+nothing_set (Some job) bare f c = by_actions job.policy bare
+  where
+    by_actions : (m : Map Action) → not (is_empty m) ≡ false → verdict_by (action_in m) f c ≡ None
+    by_actions [] h = verdict_allowed f c
+    by_actions (x ∷ xs) h = absurd (true≢false h)
+
+pub unset : (entries : Map Entry) (objects : Map Object) (pid job : ℕ) (request : Request) → Some job ≡ job_in (get objects pid)
+    → has_actions (job_at objects job) ≡ false → verdict_on entries objects pid request ≡ None
+unset entries objects pid job request is bare =
+    ap (λ (o : Option ℕ). verdict_in objects o (operands_fault entries [] (handle_operands request)) (condition_of request)) (sym is)
+    ∙ nothing_set (job_at objects job) bare (operands_fault entries [] (handle_operands request)) (condition_of request)
+
+-- a call that is denied is answered so by policy
+pub denied_so : (o : Option Outcome) (at : Option Site) (p p2 : Process) (r : Objects)
+    → IfSome o (λ x. (r1 : Objects) → IfSome at (λ s. IsDenied s p r1 x p2 r1))
+    → IfSome at (λ s. Some verdict.Denied ≡ verdict_on p.table.entries r.objects p.pid s.request)
+    → IfSome o (λ x. IfSome at (λ s. Policed s p r x p2 r))
+denied_so None at p p2 r denied judged = tt
+denied_so (Some x) None p p2 r denied judged = tt
+denied_so (Some x) (Some s) p p2 r denied judged = record { verdict = verdict.Denied; is_verdict = sym judged; ends = denied r }

@@ -1,0 +1,224 @@
+-- A process loses handles, or ends: the invariant but for what keeps the objects, and what nothing may keep then.
+use Rattle.zl_calls.proofs.Common.{◌≡◌, ℤ, ◌+◌, ◌<◌, ℕ, Bool, true, false, ◌==◌, List, [], ◌∷◌, map, object_entry, none-some, update, runs, lives, sum_by}
+use Rattle.zl_calls.proofs.Common.{queued_to, job_in, job_of, AreKeptBut, Releases, Agrees, AreNamed, refl, sym, ap, ◌∙◌, subst, Option, Some, None, inl, inr}
+use Rattle.zl_calls.proofs.Common.{IsTrue, eq-eqb, if◌then◌else◌, count_by, option_map, cases_Bool, eqb-true, Map, get, has_key, kind_of, is_process}
+use Rattle.zl_calls.proofs.Common.{handles_to, get-update, IsTable, is_sorted-update, has_key-update, Objects, stopped, stopped_body, stopping, is_job_at}
+use Rattle.zl_calls.proofs.Common.{is_job_in, process_entry, process_value, object_value, body_value, world_value, IsConsistent, IsNamed, is_in_job}
+use Rattle.zl_calls.proofs.Common.{is_job_body, IsSound}
+use Rattle.zl_code.proofs.Common.{Process as ProcessValue, Object as ObjectValue, State as StateValue, Ended}
+use Rattle.zl_rights.specs.Signals.{has_ended}
+use Rattle.zl_rights.specs.declared.entry.Entry.{Entry}
+use Rattle.zl_objects.specs.declared.object.Body.{Body}
+use Rattle.zl_objects.specs.declared.object.Body.TheVariants as body
+use Rattle.zl_objects.specs.declared.object.Object.{Object}
+use Rattle.zl_calls.specs.declared.process.State.TheVariants as state
+use Rattle.zl_calls.specs.declared.process.Process.{Process}
+use Rattle.zl_objects.specs.Objects.{queue_of}
+use Rattle.zl_objects.specs.Release.{Ends as ObjectEnds, Ended as ObjectEnded}
+use Rattle.zl_objects.proofs.Bodies.{same_in_job}
+use Rattle.zl_objects.proofs.Released.{stopped_loose}
+use Rattle.zl_calls.proofs.calls.Answered.{IsWrite}
+use Rattle.zl_calls.proofs.lists.Updates.{update_unseen}
+use Rattle.zl_calls.proofs.objects.Counting.{counts_fewer, queues}
+use Rattle.zl_calls.proofs.objects.SameBodies.{found_updated, still_agrees, still_named}
+use Rattle.zl_calls.proofs.objects.Settled.{unchanged}
+use Rattle.zl_calls.proofs.processes.Written.{after_is, get_after, found_after, same_states}
+
+-- ---- the table of the process has lost the handles m
+
+module _ (before after : List Process) (p p2 : Process) (write : IsWrite before after p p2) (r : Objects) (lab : IsConsistent before r) (m : Map Entry)
+    (table : IsTable p2.table)
+    (fewer : (j : ℕ) → count_by (λ h. h.1.koid == j) p.table.entries ≡ count_by (λ h. h.1.koid == j) p2.table.entries + count_by (λ h. h.1.koid == j) m)
+    (named : (v : ℕ) (e : Entry) → get p2.table.entries v ≡ Some e → IsNamed r.objects e) where
+  pub still_given : (k : ℕ) → IsTrue (has_key (map process_entry after) k) → k < r.next_koid
+  still_given k there =
+      lab.given_processes k (sym (has_key-update (map process_entry before) p.pid (λ _. process_value p2) k) ∙ rw (after_is before after p p2 write) at there)
+
+  pub sound_after : p2.state ≡ p.state → IsSound after m r
+  sound_after same = record {
+    processes_in_order =
+        rw (after_is before after p p2 write, is_sorted-update (map process_entry before) p.pid (λ _. process_value p2)) lab.processes_in_order;
+    objects_in_order = lab.kept.in_order;
+    given_processes = still_given;
+    given_objects = lab.given_objects;
+    koids = lab.koids;
+    above_zero = lab.above_zero;
+    no_zero = lab.no_zero;
+    tables = λ k q at. found_after before after p p2 write (IsTable (record { entries = q.handles; last = q.last })) k q at
+        (λ is. subst (λ (x : ProcessValue). IsTable (record { entries = x.handles; last = x.last })) is table) (lab.tables k q);
+    named = λ k q v e at there. found_after before after p p2 write (IsNamed r.objects e) k q at
+        (λ is. named v e (ap (λ (x : ProcessValue). get x.handles v) is ∙ there)) (λ old. lab.named k q v e old there);
+    queued = lab.queued;
+    counted = λ k o at. lab.counted k o at ∙ counts_fewer before after p p2 r r k (count_by (λ h. h.1.koid == k) m) write refl (fewer k);
+    agrees = λ k o at. still_agrees (world_value before r) (world_value after r) k o.body (same_states before after p p2 write same r r k) (lab.agrees k o at);
+    in_jobs = lab.in_jobs;
+  }
+
+  -- ---- the process has ended too
+
+  abbrev ended : Objects
+  ended = stopping r p.pid
+
+  same_kind : (o : Object) → object_value (stopped o) ≡ object_value o
+  same_kind o = ap (λ b. record (object_value o) { body = b }) (by_body o.body)
+    where
+      by_body : (b : Body) → body_value (stopped_body b) ≡ body_value b
+      by_body (body.Job own) = refl
+      by_body (body.Process job alive) = refl
+      by_body body.Event = refl
+      by_body (body.Port port) = refl
+      by_body (body.ChannelEnd peer queue) = refl
+
+  entries_stopped : map object_entry ended.objects ≡ map object_entry r.objects
+  entries_stopped = update_unseen object_value r.objects p.pid stopped same_kind
+
+  pub seen_stopped : world_value after ended ≡ world_value after r
+  seen_stopped = ap (λ (os : Map ObjectValue). record (world_value after r) { objects = os }) entries_stopped
+
+  same_queues : (j : ℕ) → queues ended.objects j ≡ queues r.objects j
+  same_queues j = ap (λ (os : Map ObjectValue). sum_by (λ o. queued_to j o.1.body) os) entries_stopped
+
+  job_stopped : (j : ℕ) → is_job_at ended.objects j ≡ is_job_at r.objects j
+  job_stopped j =
+      ap is_job_in (get-update r.objects p.pid stopped j) ∙ elim (cases_Bool (p.pid == j))
+      as (λ _. is_job_in (if p.pid == j then option_map stopped (get r.objects j) else get r.objects j) ≡ is_job_in (get r.objects j)) [
+        | inl here ↦ rw here (by_object (get r.objects j))
+        | inr apart ↦ rw apart refl
+      ]
+    where
+      by_body : (b : Body) → is_job_body (stopped_body b) ≡ is_job_body b
+      by_body (body.Job own) = refl
+      by_body (body.Process job alive) = refl
+      by_body body.Event = refl
+      by_body (body.Port port) = refl
+      by_body (body.ChannelEnd peer queue) = refl
+
+      by_object : (o : Option Object) → is_job_in (option_map stopped o) ≡ is_job_in o
+      by_object None = refl
+      by_object (Some o) = by_body o.body
+
+  pub named_stopped : (e : Entry) → IsNamed r.objects e → IsNamed ended.objects e
+  named_stopped e name = elim (cases_Bool (p.pid == e.koid)) as (λ _. IsNamed ended.objects e) [
+    | inl here ↦ record {
+      object = stopped name.object;
+      there = rw (get-update r.objects p.pid stopped e.koid, here, name.there) refl;
+      kind = name.kind ∙ ap (λ (o : ObjectValue). kind_of o.body) (sym (same_kind name.object));
+      rights = name.rights;
+    }
+    | inr apart ↦ record {
+      object = name.object;
+      there = rw (get-update r.objects p.pid stopped e.koid, apart) name.there;
+      kind = name.kind;
+      rights = name.rights;
+    }
+  ]
+
+  in_job_stopped : (b : Body) → IsTrue (is_in_job r.objects b) → IsTrue (is_in_job ended.objects b)
+  in_job_stopped b h = same_in_job r.objects ended.objects job_stopped b ∙ h
+
+  module _ (code : ℤ) (over : p2.state ≡ state.Ended code) where
+    now : (test : StateValue → Bool) → is_process (world_value after ended) test p.pid ≡ test (Ended code)
+    unfolding is_process
+    now test = rw (get_after before after p p2 write p.pid, same p.pid, over) refl
+      where
+        same : (j : ℕ) → (j == j) ≡ true
+        same j = eq-eqb j j refl
+
+    others_now : (j : ℕ) → (p.pid == j) ≡ false → (test : StateValue → Bool)
+        → is_process (world_value after ended) test j ≡ is_process (world_value before r) test j
+    unfolding is_process
+    others_now j apart test = rw (get_after before after p p2 write j, apart) refl
+
+    stopped_agrees : (b : Body) → Agrees (world_value after ended) p.pid (stopped_body b)
+    stopped_agrees (body.Job own) = now runs
+    stopped_agrees (body.Process job alive) = record { running = sym (now runs); living = sym (now lives); over = sym (now has_ended) }
+    stopped_agrees body.Event = now runs
+    stopped_agrees (body.Port port) = now runs
+    stopped_agrees (body.ChannelEnd peer queue) = now runs
+
+    same_queue : (b : Body) → queue_of (stopped_body b) ≡ queue_of b
+    same_queue (body.Job own) = refl
+    same_queue (body.Process job alive) = refl
+    same_queue body.Event = refl
+    same_queue (body.Port port) = refl
+    same_queue (body.ChannelEnd peer queue) = refl
+
+    pub sound_stopped : IsSound after m ended
+    sound_stopped = record {
+      processes_in_order =
+          rw (after_is before after p p2 write, is_sorted-update (map process_entry before) p.pid (λ _. process_value p2)) lab.processes_in_order;
+      objects_in_order = rw (is_sorted-update r.objects p.pid stopped) lab.kept.in_order;
+      given_processes = still_given;
+      given_objects = λ j has. lab.given_objects j (sym (has_key-update r.objects p.pid stopped j) ∙ has);
+      koids = lab.koids;
+      above_zero = lab.above_zero;
+      no_zero = λ j has. lab.no_zero j (sym (has_key-update r.objects p.pid stopped j) ∙ has);
+      tables = λ k q at. found_after before after p p2 write (IsTable (record { entries = q.handles; last = q.last })) k q at
+          (λ is. subst (λ (x : ProcessValue). IsTable (record { entries = x.handles; last = x.last })) is table) (lab.tables k q);
+      named = λ k q v e at there. found_after before after p p2 write (IsNamed ended.objects e) k q at
+          (λ is. named_stopped e (named v e (ap (λ (x : ProcessValue). get x.handles v) is ∙ there))) (λ old. named_stopped e (lab.named k q v e old there));
+      queued = λ j q at. found_updated stopped r.objects p.pid (AreNamed ended.objects (queue_of q.body)) j q at
+          (λ o old here is. subst (λ (x : Object). AreNamed ended.objects (queue_of x.body)) is
+          (rw (same_queue o.body) (still_named r.objects ended.objects named_stopped (queue_of o.body) (lab.queued j o old))))
+          (λ apart old. still_named r.objects ended.objects named_stopped (queue_of q.body) (lab.queued j q old));
+      counted = λ j q at. found_updated stopped r.objects p.pid (q.handles ≡ handles_to (world_value after ended) j + count_by (λ h. h.1.koid == j) m) j q at
+          (λ o old here is. ap (λ (x : Object). x.handles) (sym is)
+          ∙ (lab.counted j o old ∙ counts_fewer before after p p2 r ended j (count_by (λ h. h.1.koid == j) m) write (same_queues j) (fewer j)))
+          (λ apart old. lab.counted j q old ∙ counts_fewer before after p p2 r ended j (count_by (λ h. h.1.koid == j) m) write (same_queues j) (fewer j));
+      agrees = λ j q at. found_updated stopped r.objects p.pid (Agrees (world_value after ended) j q.body) j q at
+          (λ o old here is. subst (λ (i : ℕ). Agrees (world_value after ended) i q.body) (eqb-true p.pid j here)
+          (subst (λ (x : Object). Agrees (world_value after ended) p.pid x.body) is (stopped_agrees o.body)))
+          (λ apart old. still_agrees (world_value before r) (world_value after ended) j q.body (others_now j apart) (lab.agrees j q old));
+      in_jobs = λ j q at. found_updated stopped r.objects p.pid (IsTrue (is_in_job ended.objects q.body)) j q at
+          (λ o old here is. subst (λ (x : Object). IsTrue (is_in_job ended.objects x.body)) is (of_stopped o.body (lab.in_jobs j o old)))
+          (λ apart old. in_job_stopped q.body (lab.in_jobs j q old));
+    }
+      where
+        of_stopped : (b : Body) → IsTrue (is_in_job r.objects b) → IsTrue (is_in_job ended.objects (stopped_body b))
+        of_stopped (body.Process job alive) h = refl
+        of_stopped (body.Job own) h = in_job_stopped (body.Job own) h
+        of_stopped body.Event h = refl
+        of_stopped (body.Port port) h = refl
+        of_stopped (body.ChannelEnd peer queue) h = refl
+
+-- ---- the object of a process that has ended
+
+same_body : (o : Object) (b : Body) → o.body ≡ b → stopped_body b ≡ b → stopped o ≡ o
+same_body o b is stays =
+    ap (λ (x : Body). record o { body = stopped_body x }) is
+    ∙ (ap (λ (x : Body). record o { body = x }) stays ∙ ap (λ (x : Body). record o { body = x }) (sym is))
+
+-- what is no process stays as it is
+not_stopped : (m : Map Object) (k : ℕ) → job_in (get m k) ≡ None → update m k stopped ≡ m
+unfolding get update
+not_stopped [] k none = refl
+not_stopped (e ∷ m) k none = elim (cases_Bool (e.0 == k)) as (λ _. update (e ∷ m) k stopped ≡ e ∷ m) [
+  | inl here ↦ rw here (λ i. (sym (eqb-true e.0 k here) i, by_body e.1 e.1.body refl (rw here at none) i) ∷ m)
+  | inr apart ↦ rw apart (ap (λ (rest : Map Object). e ∷ rest) (not_stopped m k (rw apart at none)))
+]
+  where
+    by_body : (o : Object) (b : Body) → o.body ≡ b → job_of b ≡ None → stopped o ≡ o
+    by_body o (body.Job own) is none = same_body o (body.Job own) is refl
+    by_body o (body.Process job alive) is none = absurd (none-some job (sym none))
+    by_body o body.Event is none = same_body o body.Event is refl
+    by_body o (body.Port port) is none = same_body o (body.Port port) is refl
+    by_body o (body.ChannelEnd peer queue) is none = same_body o (body.ChannelEnd peer queue) is refl
+
+-- what the end of the process k lets go: perhaps its object and its job
+pub record IsOver (k : ℕ) (r r2 : Objects) : Type 0 where
+  pub loose : List ℕ
+  pub kept : AreKeptBut loose (stopping r k).objects
+  pub releases : Releases [] loose (stopping r k) r2
+
+pub over : (k : ℕ) (r r2 : Objects) → AreKeptBut [] r.objects → ObjectEnds k r r2 → IsOver k r r2
+over k r r2 kept ends = by_job (job_in (get r.objects k)) refl ends
+  where
+    by_job : (job : Option ℕ) → job_in (get r.objects k) ≡ job → ObjectEnded k job r r2 → IsOver k r r2
+    by_job (Some job) is releases = record { loose = job ∷ k ∷ []; kept = stopped_loose r k job is kept; releases = releases }
+    by_job None is same =
+        let still : stopping r k ≡ r = ap (λ (m : Map Object). record r { objects = m }) (not_stopped r.objects k is) in
+        record {
+          loose = [];
+          kept = subst (λ (x : Objects). AreKeptBut [] x.objects) (sym still) kept;
+          releases = subst (λ (x : Objects). Releases [] [] x r2) (sym still) (rw same (unchanged r));
+        }

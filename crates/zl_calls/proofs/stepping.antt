@@ -1,0 +1,10 @@
+-- What a process does in the midst of all others, as a step of the definitions.
+pub mod Labs
+pub mod Places
+pub mod Performing
+pub mod Calling
+pub mod CallSteps
+pub mod LocalMoves
+pub mod LocalRuns
+pub mod StepItems
+pub mod Advancing

@@ -1,0 +1,55 @@
+-- What follows from the invariant of the world, and that it makes a call a step up to where processes wake.
+use Rattle.zl_calls.proofs.Common.{◌≡◌, ◌<◌, ◌^◌, ℕ, not, List, map, refl, sym, ◌∙◌, Some, IsTrue, arith, nat_le, nat_tests, get, has_key, Ready, Option, subst}
+use Rattle.zl_calls.proofs.Common.{refusal, Settles, Library, Site, handles_to, AtCall, next_for, Calls, Objects, has_place, process_entry, process_value}
+use Rattle.zl_calls.proofs.Common.{state_value, world_value, IsConsistent, IsNamed, World, IsActed}
+use Rattle.zl_rights.specs.declared.entry.Entry.{Entry}
+use Rattle.zl_code.proofs.Common.{Process as ProcessValue}
+use Rattle.zl_code.specs.Calls.{CallBy, Calls as PolicedCalls}
+use Rattle.zl_code.specs.Refusals.{refusal as policed_refusal}
+use Rattle.zl_code.specs.declared.history.CallName.{CallName}
+use Rattle.zl_code.specs.declared.history.Outcome.{Outcome}
+use Rattle.zl_code.specs.declared.history.TraceItem.TheVariants as item
+use Rattle.zl_objects.proofs.Law.{has_seen}
+use Rattle.zl_calls.proofs.processes.Departed.{settled_world}
+use Rattle.zl_calls.specs.declared.process.Process.{Process}
+
+-- ---- what follows from the invariant
+
+module _ (ps : List Process) (r : Objects) (lab : IsConsistent ps r) where
+  abbrev w : World
+  w = world_value ps r
+
+  pub given : (k : ℕ) → IsTrue (has_key w.objects k) → k < r.next_koid
+  given k there = lab.given_objects k (sym (has_seen r.objects k) ∙ there)
+
+  pub handles_counted : (p : Process) → get w.processes p.pid ≡ Some (process_value p) → (h : ℕ) (e : Entry) → get p.table.entries h ≡ Some e
+      → has_place (get r.objects e.koid) ≡ not (nat_le (2 ^ 62) (handles_to w e.koid))
+  handles_counted p there h e at =
+      let named : IsNamed r.objects e = lab.named p.pid (process_value p) h e there at in
+      rw (named.there, ← lab.counted e.koid named.object named.there) (grind (arith, nat_tests))
+
+-- ---- a call is a step, up to where processes wake
+
+-- at the call no policy has a say
+abbrev pub IsFree : Library → World → ℕ → CallName → Type 0
+IsFree lib w p call =
+    (q : ProcessValue) (s : Site) → get w.processes p ≡ Some q → next_for lib q ≡ AtCall call s → policed_refusal lib w p s.request ≡ refusal lib w p s.request
+
+-- a call of which no policy has a say is one of the definitions
+pub freely : (lib : Library) (w : World) (p : ℕ) (s : Site) (ends : Outcome) (w2 : World) → policed_refusal lib w p s.request ≡ refusal lib w p s.request
+    → Calls lib w p s ends w2 → PolicedCalls lib w p s ends w2
+freely lib w p s ends w2 free calls = (calls.0, subst (λ (o : Option Outcome). CallBy lib w p s calls.0 o ends w2) (sym free) calls.1)
+
+-- a call, and what isn't held any more goes
+pub call_settles : (lib : Library) (before after : List Process) (r acted r2 : Objects) (p : Process) (call : CallName) (s : Site) (ends : Outcome)
+    → get (map process_entry before) p.pid ≡ Some (process_value p) → state_value p.state ≡ Ready → next_for lib (process_value p) ≡ AtCall call s
+    → Calls lib (world_value before r) p.pid s ends (world_value after acted) → Settles (world_value after acted) (settled_world after r2)
+    → IsFree lib (world_value before r) p.pid call → IsActed lib (world_value before r) p.pid (item.Call p.pid call ends) (settled_world after r2)
+call_settles lib before after r acted r2 p call s ends there ready next calls settles free = record {
+  process = process_value p;
+  is_there = there;
+  is_ready = ready;
+  acted = world_value after acted;
+  acts = rw next (ends, refl, freely lib (world_value before r) p.pid s ends (world_value after acted) (free (process_value p) s there next) calls);
+  settles = settles;
+}

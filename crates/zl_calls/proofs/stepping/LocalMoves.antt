@@ -1,0 +1,136 @@
+-- A ready process gets another Cpu: what is held stays held, no wait ends, and nothing becomes due.
+use Rattle.zl_calls.proofs.Common.{◌≡◌, ℕ, suc, Bool, true, false, ◌&&◌, ◌==◌, List, [], ◌∷◌, length, map, get_or, set, refl, sym, ap, ◌∙◌, subst, Option, Some}
+use Rattle.zl_calls.proofs.Common.{None, inl, inr, IsTrue, All, arith, nat_tests, position, and_from, cases_Bool, eqb-true, false≢true, none-some, is_some}
+use Rattle.zl_calls.proofs.Common.{list_any, Map, get, has_key, lives, is_process, is_ready, Settles, wakes, on_process, Library, Objects, process_entry}
+use Rattle.zl_calls.proofs.Common.{process_value, object_entry, state_value, world_blocked, world_value, AreBlocked, IsConsistent, World}
+use Rattle.std.specs.List.{filter}
+use Rattle.std.specs.Prelude.{slice_index_or}
+use Rattle.zl_rights.specs.Settle.{has_handle, is_made_by_handle}
+use Rattle.zl_rights.specs.World.{Wait}
+use Rattle.zl_rights.specs.declared.entry.Entry.{Entry}
+use Rattle.zl_code.proofs.Common.{Object as ObjectValue, Process as ProcessValue, body_in, handles_in, is_blocked, is_port_there, IsSound as IsSoundWorld}
+use Rattle.zl_code.specs.Sound.{IsSoundWait}
+use Rattle.zl_code.proofs.AwakeMoves.{moves_awake}
+use Rattle.zl_code.proofs.StepsWaiting.{settles_waiting, is_left as is_left_at_port}
+use Rattle.zl_calls.specs.Acting.{StaysAwake}
+use Rattle.zl_calls.specs.Registered.{is_left, world_left}
+use Rattle.zl_calls.specs.declared.process.Process.{Process}
+use Rattle.zl_calls.proofs.calls.Answered.{IsWrite}
+use Rattle.zl_calls.proofs.waking.BlockedLists.{still_blocked}
+use Rattle.zl_calls.proofs.processes.Departed.{all_live}
+use Rattle.zl_calls.proofs.waits.LeftWaits.{watched_there}
+use Rattle.zl_calls.proofs.stepping.Performing.{object_there, write_of, key, there, unblocked}
+use Rattle.zl_calls.proofs.objects.Settled.{still_settles}
+use Rattle.zl_calls.proofs.processes.Written.{alike_states, get_after, refusal_keeps}
+
+-- ---- lists
+
+all_kept : {X : Type 0} (p : X → Bool) (xs : List X) → All (λ x. p x ≡ true) xs → filter p xs ≡ xs
+all_kept p [] all = refl
+all_kept p (x ∷ xs) all = rw (all 0 x (omega arith)) (ap (λ ys. x ∷ ys) (all_kept p xs (λ i d inside. all (suc i) d (omega (arith, inside)))))
+
+-- whom no place of the list has isn't among it
+not_among : (p : ℕ) (ps : List ℕ) → length (filter (λ q. q == p) ps) ≡ 0 → list_any (λ q. p == q) ps ≡ false
+not_among p [] none = refl
+not_among p (q ∷ ps) none = elim (cases_Bool (q == p)) as (λ _. list_any (λ x. p == x) (q ∷ ps) ≡ false) [
+  | inl here ↦ let some : suc (length (filter (λ x. x == p) ps)) ≡ 0 = rw here at none in absurd (omega (arith, some))
+  | inr apart ↦ let other : (p == q) ≡ false = grind (arith, nat_tests, apart) in rw other (not_among p ps (rw apart at none))
+]
+
+-- ---- the process p stands at the place, under the pid, and is ready
+
+module _ (lib : Library) (ps : List Process) (r : Objects) (lab : IsConsistent ps r) (blocked : List ℕ) (are : AreBlocked ps blocked)
+    (sound : IsSoundWorld (world_blocked ps r blocked)) (pid place : ℕ) (p : Process)
+    (found : Some place ≡ position (λ q. q.pid == pid) ps) (read : p ≡ get_or ps place p) (is_ready_there : is_ready (state_value p.state) ≡ true) where
+  abbrev before : World
+  before = world_blocked ps r blocked
+
+  pub stands : get (map process_entry ps) pid ≡ Some (process_value p)
+  stands = there lib ps r lab blocked are sound pid place p found read
+
+  none_blocked : list_any (λ q. pid == q) blocked ≡ false
+  none_blocked = not_among pid blocked (are.once pid ∙ rw (stands, unblocked lib ps r lab blocked are sound pid place p found read is_ready_there) refl)
+
+  -- it gets another Cpu, and nothing else changes
+  module _ (p2 : Process) (cpu : p2 ≡ record p { cpu = p2.cpu }) where
+    abbrev pub after : List Process
+    after = set ps place p2
+
+    write : IsWrite ps after p p2
+    write = write_of lib ps r lab blocked are sound pid place p found read p2 (ap (λ (q : Process). q.pid) cpu)
+
+    pub moved_keeps : IsConsistent after r
+    moved_keeps = refusal_keeps ps after p p2 write r lab (ap (λ (q : Process). q.table) cpu) (ap (λ (q : Process). q.state) cpu)
+
+    pub moved_list : AreBlocked after blocked
+    moved_list =
+        let was : is_blocked (state_value p.state) ≡ false = unblocked lib ps r lab blocked are sound pid place p found read is_ready_there in
+        still_blocked ps after p p2 write was (ap (λ (q : Process). is_blocked (state_value q.state)) cpu ∙ was) blocked are
+
+    pub moved_world : world_blocked after r blocked ≡ on_process before pid (λ q. record q { cpu = p2.cpu })
+    unfolding on_process
+    moved_world =
+        ap (λ (m : Map ProcessValue). record before { processes = m })
+        (rw (← key lib ps r lab blocked are sound pid place p found read) (write.writes (λ q. record q { cpu = p2.cpu }) (ap process_value cpu)))
+
+    pub moved_awake : wakes before ≡ before → wakes (world_blocked after r blocked) ≡ world_blocked after r blocked
+    moved_awake awake = subst (λ (w : World). wakes w ≡ w) (sym moved_world) (moves_awake before pid p2.cpu none_blocked awake)
+
+    -- ---- no wait ends
+
+    handles_still : (k v : ℕ) → has_handle (get (map process_entry after) k) v ≡ has_handle (get (map process_entry ps) k) v
+    handles_still k v = elim (cases_Bool (p.pid == k)) as (λ _. has_handle (get (map process_entry after) k) v ≡ has_handle (get (map process_entry ps) k) v) [
+      | inl here ↦ rw (get_after ps after p p2 write k, here, ← eqb-true p.pid k here, write.there) (ap (λ (q : Process). has_key q.table.entries v) cpu)
+      | inr apart ↦ rw (get_after ps after p p2 write k, apart) refl
+    ]
+
+    by_entry : (o : Option ProcessValue) (v : ℕ) (e : Entry) → get (handles_in o) v ≡ Some e → has_handle o v ≡ true
+    unfolding get
+    by_entry None v e at = absurd (none-some e at)
+    by_entry (Some q) v e at = ap is_some at
+
+    by_port : (o : Option ObjectValue) → IsTrue (is_port_there (body_in o)) → is_some o ≡ true
+    by_port None is = absurd (false≢true is)
+    by_port (Some o) is = refl
+
+    made : (x : Wait) → IsSoundWait before x → is_made_by_handle (world_value after r) x ≡ true
+    unfolding is_made_by_handle
+    made x t = handles_still x.pid x.value ∙ by_entry (get (map process_entry ps) x.pid) x.value t.handle.0 t.handle.1
+
+    ported : (x : Wait) → IsSoundWait before x → has_key (map object_entry r.objects) x.port ≡ true
+    ported x t = by_port (get (map object_entry r.objects) x.port) t.port
+
+    all_left : filter (is_left (world_value after r)) r.waits ≡ r.waits
+    all_left = all_kept (is_left (world_value after r)) r.waits (λ i d inside.
+        let x : Wait = slice_index_or r.waits i d in
+        let t : IsSoundWait before x = sound.waits i d inside in
+        and_from (is_made_by_handle (world_value after r) x) (has_key (map object_entry r.objects) x.object && has_key (map object_entry r.objects) x.port)
+        (made x t)
+        (and_from (has_key (map object_entry r.objects) x.object) (has_key (map object_entry r.objects) x.port) (watched_there before sound i d inside)
+        (ported x t)))
+
+    all_left_at_port : filter (is_left_at_port (world_value after r)) r.waits ≡ r.waits
+    all_left_at_port = all_kept (is_left_at_port (world_value after r)) r.waits (λ i d inside.
+        let x : Wait = slice_index_or r.waits i d in
+        let t : IsSoundWait before x = sound.waits i d inside in
+        and_from (is_made_by_handle (world_value after r) x) (has_key (map object_entry r.objects) x.port) (made x t) (ported x t))
+
+    pub moved_left : world_left after r blocked ≡ world_blocked after r blocked
+    moved_left = λ i. record (world_blocked after r blocked) { waits = all_left i }
+
+    pub moved_stays : StaysAwake before (world_left after r blocked) (world_blocked after r blocked)
+    moved_stays awake = ap wakes moved_left ∙ moved_awake awake
+
+    -- ---- all is held
+
+    live : (k : ℕ) (q : ProcessValue) → get (map process_entry after) k ≡ Some q → IsTrue (lives q.state) → IsTrue (has_key r.objects k)
+    unfolding is_process
+    live k q at h = object_there ps r blocked sound k (sym (alike_states ps after p p2 write lives (ap (λ (x : Process). lives (state_value x.state)) cpu) r
+        r k) ∙ rw at h)
+
+    pub moved_rests : Settles (world_blocked after r blocked) (world_blocked after r blocked)
+    moved_rests =
+        let bare : Settles (world_value after r) (world_value after r) =
+        subst (Settles (world_value after r)) (all_live after r moved_keeps.processes_in_order live) (still_settles after r moved_keeps) in
+        subst (λ (ws : List Wait). Settles (world_blocked after r blocked) (record (world_blocked after r blocked) { waits = ws })) all_left_at_port
+        (settles_waiting (world_value after r) (world_value after r) bare r.waits r.waits_made blocked)

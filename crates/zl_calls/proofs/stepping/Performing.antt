@@ -1,0 +1,215 @@
+-- A process of a lab acts by itself: from the list of processes to the relation of steps, up to where processes wake.
+use Rattle.zl_calls.proofs.Common.{◌≡◌, ◌⊎◌, inl, inr, ℕ, true, false, List, map, get_or, set, refl, sym, ap, ◌∙◌, Option, Some, None, IfNone, ◌==◌, position}
+use Rattle.zl_calls.proofs.Common.{false≢true, STUCK, Map, get, Ready, is_ready, on_process, state_passes, Library, Site, cases_Bool, IsStuck, Moves, next_for}
+use Rattle.zl_calls.proofs.Common.{Objects, process_entry, process_value, state_value, world_blocked, world_value, IsConsistent, AreBlocked, DoesNext}
+use Rattle.zl_calls.proofs.Common.{is_process, IsActed, Ends, Settles, lives, has_key, is_some, none-some, subst, IsTrue, AtCall, ProcessBody, body_in}
+use Rattle.zl_calls.proofs.Common.{object_entry, Acted}
+use Rattle.zl_code.proofs.Common.{Object as ObjectValue, Process as ProcessValue, Body, is_blocked, pid_of}
+use Rattle.zl_code.specs.declared.history.CallName.{CallName}
+use Rattle.zl_code.specs.declared.history.Outcome.{Outcome}
+use Rattle.zl_code.specs.declared.history.TraceItem.{TraceItem}
+use Rattle.zl_code.specs.declared.history.TraceItem.TheVariants as item
+use Rattle.zl_calls.specs.declared.process.State.{State}
+use Rattle.zl_calls.specs.declared.process.State.TheVariants as state
+use Rattle.zl_calls.specs.declared.process.Process.{Process}
+use Rattle.zl_calls.proofs.calls.Answered.{IsWrite}
+use Rattle.zl_calls.proofs.waking.BlockedLists.{still_blocked, same_list}
+use Rattle.zl_calls.proofs.waits.LeftWaits.{left_beside, left_looking}
+use Rattle.zl_calls.proofs.waits.WaitsByCall.{acted_lists}
+use Rattle.zl_calls.specs.Registered.{ListsBut, world_left}
+use Rattle.zl_code.specs.Sound.{IsSound as IsSoundWorld}
+use Rattle.zl_calls.proofs.calls.DoneCalls.{IsDone}
+use Rattle.zl_calls.proofs.calls.ProcessCalls.{ends_keeps, stuck_steps}
+use Rattle.zl_code.proofs.StepsBeside.{next_looks, tells_blocking, waits_by}
+use Rattle.zl_calls.proofs.calls.Performed.{Looks, acted_asleep, acted_done, acted_looks, same_pid, still_unblocked}
+use Rattle.zl_calls.proofs.waking.Sleeping.{IsAsleep, asleep_acts, asleep_keeps, asleep_list}
+use Rattle.zl_calls.specs.Blocking.{then_blocked}
+use Rattle.zl_code.proofs.Waiters.{is_blocking}
+use Rattle.zl_calls.proofs.processes.Departed.{all_live, left_all, left_blocked, left_keeps, settled_world}
+use Rattle.zl_calls.proofs.stepping.Labs.{IsFree, freely}
+use Rattle.zl_calls.proofs.objects.Settled.{still_settles}
+use Rattle.zl_objects.proofs.Law.{has_seen}
+use Rattle.zl_calls.proofs.processes.Written.{alike_states, write_at, pid_read, refusal_keeps}
+
+pub ready_state : (s : State) → is_ready (state_value s) ≡ true → state_value s ≡ Ready
+ready_state state.Ready h = refl
+ready_state (state.AwaitsSignal koid mask to) h = absurd (false≢true h)
+ready_state (state.AwaitsPacket port to) h = absurd (false≢true h)
+ready_state (state.Ended code) h = absurd (false≢true h)
+ready_state state.Created h = absurd (false≢true h)
+ready_state state.Gone h = absurd (false≢true h)
+
+-- a number that no process has isn't that of a ready one
+pub absent : {A : Type 0} (ps : List Process) (pid : ℕ) (o : Option A) → get (map process_entry ps) pid ≡ None
+    → IfNone o (state_passes is_ready (get (map process_entry ps) pid) ≡ false)
+absent ps pid None missing = rw missing refl
+absent ps pid (Some x) missing = tt
+
+-- what a step did to the processes and objects, where these block
+pub record HasActed (lib : Library) (before after : List Process) (r r2 : Objects) (blocked blocked2 : List ℕ) (pid : ℕ) (x : TraceItem) : Type 0 where
+  pub lab : IsConsistent after r2
+  pub list : AreBlocked after (then_blocked pid x blocked2)
+  pub acts : DoesNext lib (world_blocked before r blocked) pid x (world_left after r2 (then_blocked pid x blocked2))
+
+-- a step after which processes go with their objects
+abbrev pub HasLeft : Library → List Process → List Process → Objects → Objects → List ℕ → List ℕ → ℕ → TraceItem → Type 0
+HasLeft lib before after r r2 blocked blocked2 pid x = HasActed lib before (left_all after r2) r r2 blocked blocked2 pid x
+
+-- each living process has its object
+pub object_there : (ps : List Process) (r : Objects) (blocked : List ℕ) → IsSoundWorld (world_blocked ps r blocked) → (k : ℕ)
+    → IsTrue (state_passes lives (get (map process_entry ps) k)) → IsTrue (has_key r.objects k)
+object_there ps r blocked sound k living = by_process (get (map process_entry ps) k) refl living
+  where
+    by_object : (o : Option ObjectValue) (b : Body) → body_in o ≡ Some b → IsTrue (is_some o)
+    by_object None b there = absurd (none-some b there)
+    by_object (Some o) b there = refl
+
+    by_process : (o : Option ProcessValue) → get (map process_entry ps) k ≡ o → IsTrue (state_passes lives o) → IsTrue (has_key r.objects k)
+    by_process None is h = absurd (false≢true h)
+    by_process (Some q) is h =
+        let own = sound.living k q is h in
+        sym (has_seen r.objects k) ∙ by_object (get (map object_entry r.objects) k) (ProcessBody own.job) own.there
+
+-- the process p stands at the place, under the pid
+module _ (lib : Library) (ps : List Process) (r : Objects) (lab : IsConsistent ps r) (blocked : List ℕ) (are : AreBlocked ps blocked)
+    (sound : IsSoundWorld (world_blocked ps r blocked)) (pid place : ℕ) (p : Process)
+    (found : Some place ≡ position (λ q. q.pid == pid) ps) (read : p ≡ get_or ps place p) where
+  pub write_of : (p2 : Process) → p2.pid ≡ p.pid → IsWrite ps (set ps place p2) p p2
+  write_of p2 same = write_at ps pid place p p2 found read same
+
+  pub key : p.pid ≡ pid
+  key = pid_read ps pid place p found read
+
+  pub there : get (map process_entry ps) pid ≡ Some (process_value p)
+  there = rw (← key) ((write_of p refl).there)
+
+  pub not_ready : is_ready (state_value p.state) ≡ false → state_passes is_ready (get (map process_entry ps) pid) ≡ false
+  not_ready h = rw there h
+
+  module _ (is_ready_there : is_ready (state_value p.state) ≡ true) where
+    pub ready : state_value p.state ≡ Ready
+    ready = ready_state p.state is_ready_there
+
+    pub unblocked : is_blocked (state_value p.state) ≡ false
+    unblocked = ap is_blocked ready
+
+    -- from a world in which nothing waits to one in which some do
+    pub acted_so : (after : List Process) (p2 : Process) (r2 : Objects) (x : TraceItem) → IsWrite ps after p p2 → is_blocked (state_value p2.state) ≡ false
+        → pid_of x ≡ pid → tells_blocking x ≡ false → next_looks (next_for lib (process_value p)) ≡ false → IsConsistent after r2
+        → IsActed lib (world_value ps r) pid x (settled_world after r2) → ListsBut (waits_by (next_for lib (process_value p)) x r.waits) r.waits_made r2
+        → HasLeft lib ps after r r2 blocked blocked pid x
+    acted_so after p2 r2 x write still same goes looks keeps acts lists = record {
+      lab = left_keeps after r2 keeps;
+      list = rw (same_list pid x blocked goes) (left_blocked after r2 blocked (still_blocked ps after p p2 write unblocked still blocked are));
+      acts = record {
+        pid_is = same;
+        acted = rw (same_list pid x blocked goes)
+            (left_beside lib ps (left_all after r2) r r2 pid x blocked sound (process_value p) there (rw there unblocked) are same goes looks acts lists);
+      };
+    }
+
+    -- a call that blocks
+    blocks_so : (name : CallName) (o : Outcome) (p2 : Process) (r2 : Objects) → IsWrite ps (set ps place p2) p p2 → IsFree lib (world_value ps r) p.pid name
+        → IsAsleep lib ps r r2 p p2 name o → HasLeft lib ps (set ps place p2) r r2 blocked blocked pid (item.Call pid name o)
+    blocks_so name o p2 r2 write free sleeps = rw (sleeps.ends, sleeps.objects, ← key) (record {
+      lab = left_keeps (set ps place p2) r (asleep_keeps lib ps (set ps place p2) r r2 p p2 lab write ready name o sleeps);
+      list = left_blocked (set ps place p2) r _ (asleep_list lib ps (set ps place p2) r r2 p p2 lab write ready name o sleeps blocked are);
+      acts = record { pid_is = refl; acted = asleep_acts lib ps (set ps place p2) r r2 p p2 lab write ready name o sleeps blocked free sound };
+    })
+
+    -- a call that looks at waits
+    looks_so : (name : CallName) (o : Outcome) (p2 : Process) (r2 : Objects) → IsWrite ps (set ps place p2) p p2 → is_blocked (state_value p2.state) ≡ false
+        → IsFree lib (world_blocked ps r blocked) p.pid name → Looks lib ps (set ps place p2) r r2 p name o
+        → HasLeft lib ps (set ps place p2) r r2 blocked blocked pid (item.Call pid name o)
+    looks_so name o p2 r2 write still free looks = rw (← key) (record {
+      lab = left_keeps (set ps place p2) r2 looks.called.keeps;
+      list = rw (same_list p.pid (item.Call p.pid name o) blocked looks.goes)
+          (left_blocked (set ps place p2) r2 blocked (still_blocked ps (set ps place p2) p p2 write unblocked still blocked are));
+      acts = record {
+        pid_is = refl;
+        acted = rw (same_list p.pid (item.Call p.pid name o) blocked looks.goes)
+            (left_looking lib ps (set ps place p2) r r2 p.pid (process_value p) name looks.at o blocked sound write.there ready looks.next
+            (freely lib (world_blocked ps r blocked) p.pid looks.at o (world_blocked (set ps place p2) r2 blocked)
+            (free (process_value p) looks.at write.there looks.next) (looks.called.calls blocked))
+            (still_settles (set ps place p2) r2 looks.called.keeps));
+      };
+    })
+
+    -- a call of which the policy of the process's job says nothing, and which reaches no other process
+    module _ (name : CallName) (o : Outcome) (s : Site) (next : next_for lib (process_value p) ≡ AtCall name s) (p2 : Process) (r2 : Objects)
+        (acted : Acted (Some s) p r o p2 r2)
+        (free : IsFree lib (world_value ps r) p.pid name) (free_beside : IsFree lib (world_blocked ps r blocked) p.pid name) where
+      write_so : IsWrite ps (set ps place p2) p p2
+      write_so = write_of p2 (same_pid p p2 r r2 o (Some s) acted)
+
+      by_outcome : next_looks (AtCall name s) ≡ false → (is_blocking o ≡ false) ⊎ IsAsleep lib ps r r2 p p2 name o
+          → HasLeft lib ps (set ps place p2) r r2 blocked blocked pid (item.Call pid name o)
+      by_outcome plain (inl goes) =
+          let done : IsDone lib ps (set ps place p2) r r2 p.pid name o =
+          acted_done lib ps (set ps place p2) r r2 p p2 lab write_so ready name o goes (Some s) plain next acted in
+          acted_so (set ps place p2) p2 r2 (item.Call pid name o) write_so (still_unblocked p p2 r r2 o (Some s) acted goes unblocked) refl goes
+          (ap next_looks next ∙ plain) done.lab
+          (rw (← key) (done.step free))
+          (rw next (acted_lists p p2 r r2 pid o name (Some s) key plain acted))
+      by_outcome plain (inr sleeps) = blocks_so name o p2 r2 write_so free sleeps
+
+      by_looks : (next_looks (AtCall name s) ≡ true) ⊎ (next_looks (AtCall name s) ≡ false)
+          → HasLeft lib ps (set ps place p2) r r2 blocked blocked pid (item.Call pid name o)
+      by_looks (inl looks) =
+          let is : Looks lib ps (set ps place p2) r r2 p name o =
+          acted_looks lib ps (set ps place p2) r r2 p p2 lab write_so ready name o (Some s) looks next acted in
+          looks_so name o p2 r2 write_so (still_unblocked p p2 r r2 o (Some s) acted is.goes unblocked) free_beside is
+      by_looks (inr plain) = by_outcome plain (acted_asleep lib ps (set ps place p2) r r2 p p2 lab write_so ready name o (Some s) next acted)
+
+      pub alone_so : HasLeft lib ps (set ps place p2) r r2 blocked blocked pid (item.Call pid name o)
+      alone_so = by_looks (cases_Bool (next_looks (AtCall name s)))
+
+    -- one local instruction, which changes the Cpu alone
+    pub moves_so : (p2 : Process) → next_for lib (process_value p) ≡ Moves p2.cpu → p2 ≡ record p { cpu = p2.cpu }
+        → HasActed lib ps (set ps place p2) r r blocked blocked pid (item.Run pid 1)
+    unfolding on_process is_process
+    moves_so p2 next cpu =
+        let write : IsWrite ps (set ps place p2) p p2 = write_of p2 (ap (λ (q : Process). q.pid) cpu) in
+        let keeps : IsConsistent (set ps place p2) r =
+        refusal_keeps ps (set ps place p2) p p2 write r lab (ap (λ (q : Process). q.table) cpu) (ap (λ (q : Process). q.state) cpu) in
+        record {
+          lab = keeps;
+          list = still_blocked ps (set ps place p2) p p2 write unblocked (ap (λ (q : Process). is_blocked (state_value q.state)) cpu ∙ unblocked) blocked are;
+          acts = record {
+            pid_is = refl;
+            acted =
+                left_beside lib ps (set ps place p2) r r pid (item.Run pid 1) blocked sound (process_value p) there (rw there unblocked) are refl refl
+                (ap next_looks next)
+                (record {
+                  process = process_value p;
+                  is_there = there;
+                  is_ready = ready;
+                  acted = world_value (set ps place p2) r;
+                  acts = rw next (
+                    refl,
+                    ap (λ (m : Map ProcessValue). record (world_value ps r) { processes = m })
+                        (rw (← key) (write.writes (λ q. record q { cpu = p2.cpu }) (ap process_value cpu))),
+                  );
+                  settles = subst (Settles (world_value (set ps place p2) r)) (all_live (set ps place p2) r keeps.processes_in_order (live p2 write cpu))
+                      (still_settles (set ps place p2) r keeps);
+                })
+                (rw next (record { waits = λ test there. refl; made = refl }));
+          };
+        }
+      where
+        live : (p2 : Process) → IsWrite ps (set ps place p2) p p2 → p2 ≡ record p { cpu = p2.cpu } → (k : ℕ) (q : ProcessValue)
+            → get (map process_entry (set ps place p2)) k ≡ Some q → IsTrue (lives q.state) → IsTrue (has_key r.objects k)
+        live p2 write cpu k q at h =
+            object_there ps r blocked sound k
+            (sym (alike_states ps (set ps place p2) p p2 write lives (ap (λ (x : Process). lives (state_value x.state)) cpu) r r k) ∙ rw at h)
+
+    -- the end of a stuck process
+    pub stops_so : (p2 : Process) (r2 : Objects) → next_for lib (process_value p) ≡ IsStuck → Ends STUCK p r p2 r2
+        → HasLeft lib ps (set ps place p2) r r2 blocked blocked pid (item.Stuck pid)
+    stops_so p2 r2 next ends =
+        let write : IsWrite ps (set ps place p2) p p2 = write_of p2 (ap (λ (q : Process). q.pid) ends.process) in
+        acted_so (set ps place p2) p2 r2 (item.Stuck pid) write (ap (λ (q : Process). is_blocked (state_value q.state)) ends.process) refl refl
+        (ap next_looks next)
+        (ends_keeps lib ps (set ps place p2) r r2 p p2 lab write STUCK ends ready)
+        (rw (← key) (stuck_steps lib ps (set ps place p2) r r2 p p2 lab write STUCK ends ready refl next))
+        (rw next ends.listed.listed)

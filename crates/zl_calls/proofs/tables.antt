@@ -1,0 +1,5 @@
+-- Handle tables: handles that enter them and leave them.
+pub mod Tables
+pub mod Taking
+pub mod Entered
+pub mod EnteredTables

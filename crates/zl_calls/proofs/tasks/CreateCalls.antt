@@ -1,0 +1,256 @@
+-- The call process_create: how it is refused, and what a process that is made leaves of the world and of the invariant.
+use Rattle.zl_calls.proofs.Common.{IsSound, with_process, ◌≡◌, ◌<◌, ◌+◌, ◌^◌, ◌==◌, ◌&&◌, ℕ, Bool, true, false, not, List, [], ◌∷◌, ◌++◌, map, map-append, refl}
+use Rattle.zl_calls.proofs.Common.{sym, ap, ◌∙◌, subst, cond, if◌then◌else◌, Option, Some, None, Ok, Err, inl, inr, IsTrue, arith, nat_le, eqb-true, cases_Bool}
+use Rattle.zl_calls.proofs.Common.{false≢true, none-some, is_some, option_or, then_some, first_some, slice_get, sum_by-cons, count_by, Map, get, put, update}
+use Rattle.zl_calls.proofs.Common.{Created, lives, runs, state_passes, is_process, Library, Site, site, Inserts, IsTable, examined, has_room, has_koids}
+use Rattle.zl_calls.proofs.Common.{table_of, answer_if, refusal, handle_operands, listed, may_choose, new_handles, insert_all, remove_all, taken_handles}
+use Rattle.zl_calls.proofs.Common.{effect, with_effect, with_object, on_process, process_with, gives_ok, Calls, Values, replied, taken, ProcessBody, bits}
+use Rattle.zl_calls.proofs.Common.{within, operand_of, by_look_up, operand, new_entry, body_of, koid_in, Objects, with_new, Replies, has_room_in, process_entry}
+use Rattle.zl_calls.proofs.Common.{process_value, object_entry, state_value, world_value, Agrees, AreBlocked, IsConsistent, World}
+use Rattle.zl_code.proofs.Common.{Process as ProcessValue, State as StateValue, is_blocked}
+use Rattle.zl_code.specs.CallTable.{process_create}
+use Rattle.zl_code.specs.Image.{Program}
+use Rattle.zl_code.specs.Jobs.{is_dead as is_dead_body, lacks_need}
+use Rattle.zl_code.specs.Starting.{created_process}
+use Rattle.zl_code.specs.Tests.{object_at}
+use Rattle.zl_code.specs.declared.history.Outcome.{Outcome}
+use Rattle.zl_code.specs.declared.history.Outcome.TheVariants as outcome
+use Rattle.zl_rights.specs.LookUp.{granted, looked_up}
+use Rattle.zl_rights.specs.Numbers.{MANAGE_PROCESS, takes}
+use Rattle.zl_rights.specs.Signals.{has_ended}
+use Rattle.zl_rights.specs.declared.entry.Entry.{Entry}
+use Rattle.zl_rights.specs.declared.kind.Kind.TheVariants as kind
+use Rattle.zl_rights.specs.declared.policy.Condition.TheVariants as condition
+use Rattle.zl_rights.specs.declared.status.Status.TheVariants as status
+use Rattle.zl_objects.specs.declared.object.Body.{Body}
+use Rattle.zl_objects.specs.declared.object.Body.TheVariants as body
+use Rattle.zl_objects.specs.declared.object.Life.TheVariants as life
+use Rattle.zl_objects.specs.Jobs.{action_of as action_at_job}
+use Rattle.zl_calls.specs.calls.Task.{create_refusal, create_refusal_of, needs_more}
+use Rattle.zl_calls.specs.declared.process.Process.{Process}
+use Rattle.zl_calls.specs.declared.process.State.{State}
+use Rattle.zl_calls.proofs.calls.Answered.{IsWrite, table_is, may_get_inserted, replied_inserted}
+use Rattle.zl_calls.proofs.objects.Grown.{IsGrowing, grown_seen, kept_grown, there_grown}
+use Rattle.zl_calls.proofs.calls.JobCalls.{AllNamed, IsJobAt, body_seen, is_of_kind, job_found, job_named, stands_grown}
+use Rattle.zl_calls.proofs.calls.MakeCalls.{HasRoom, first_entered}
+use Rattle.zl_calls.proofs.processes.OneProcess.{found_process, get_process, new_is, process_sound, processes_are}
+use Rattle.zl_calls.proofs.waking.BlockedLists.{still_blocked}
+use Rattle.zl_calls.proofs.calls.Refused.{answers, fault_answers, may_create}
+use Rattle.zl_calls.proofs.objects.Settled.{sound_of}
+use Rattle.zl_calls.proofs.calls.WriteCalls.{is_found}
+
+-- ---- lists
+
+-- a change of an entry that isn't the last
+update_before : {X : Type 0} (m : Map X) (k n : ℕ) (f : X → X) (v : X) → (n == k) ≡ false → update (m ++ (n, v) ∷ []) k f ≡ update m k f ++ (n, v) ∷ []
+unfolding update
+update_before [] k n f v apart = rw apart refl
+update_before {X} (e ∷ m) k n f v apart = elim (cases_Bool (e.0 == k)) as (λ _. update ((e ∷ m) ++ (n, v) ∷ []) k f ≡ update (e ∷ m) k f ++ (n, v) ∷ []) [
+  | inl here ↦ rw here refl
+  | inr other ↦ rw other (ap (λ (rest : Map X). e ∷ rest) (update_before m k n f v apart))
+]
+
+-- ---- the answer
+
+module _ (lib : Library) (before : List Process) (r : Objects) (lab_is : IsConsistent before r) (p : ℕ) where
+  abbrev old_world : World
+  old_world = world_value before r
+
+  abbrev handles : Map Entry
+  handles = table_of old_world p
+
+  abbrev create_with : Option Program → Option Outcome → ℕ → Option Outcome
+  create_with g x k = first_some (first_some (x ∷ None ∷ []) ∷ None
+      ∷ answer_if (not (is_some g)) status.InvalidArgs
+      ∷ answer_if (is_dead_body (body_of old_world k)) status.BadState
+      ∷ answer_if (lacks_need old_world k g) status.NotSupported
+      ∷ answer_if (not (has_room_in handles && nat_le (r.next_koid + 1) (2 ^ 62))) status.NoResources ∷ [])
+
+  by_create_tests : (a b c d : Bool) → first_some (None ∷ None ∷ answer_if (not a) status.InvalidArgs ∷ answer_if b status.BadState
+      ∷ answer_if c status.NotSupported ∷ answer_if (not d) status.NoResources ∷ [])
+      ≡ answers (option_or (then_some (not a) status.InvalidArgs)
+      (option_or (then_some b status.BadState) (option_or (then_some c status.NotSupported) (then_some (not d) status.NoResources))))
+  by_create_tests false b c d = refl
+  by_create_tests true true c d = refl
+  by_create_tests true false true d = refl
+  by_create_tests true false false true = refl
+  by_create_tests true false false false = refl
+
+  pub create_refused : (job program : ℕ) → AllNamed before r lab_is p
+      → refusal lib old_world p (process_create job program) ≡ answers (create_refusal lib handles r job program)
+  unfolding refusal handle_operands examined operand listed has_room has_koids
+  create_refused job program named = rw (may_create old_world p condition.NewProcess) (by_entry (get handles job) refl)
+    where
+      g : Option Program
+      g = slice_get lib program
+
+      passes : (e : Entry) → IsJobAt r.objects e.koid → (o : Option Program) → slice_get lib program ≡ o
+          → create_with o None e.koid ≡ answers (create_refusal_of lib handles r program (Ok e))
+      passes e at None is = rw is refl
+      passes e at (Some x) is =
+          rw (is, body_seen before r e.koid at, job_found r.objects e.koid at)
+          (by_create_tests true at.job.killed (needs_more (action_at_job (Some at.job)) (Some x)) (has_room_in handles && nat_le (r.next_koid + 1) (2 ^ 62)))
+
+      by_tests : (e : Entry) → get handles job ≡ Some e → (a b : Bool) → takes (kind.Job ∷ []) e.kind ≡ a
+          → create_with g (by_look_up old_world p (if a then (if b then Ok e else Err status.AccessDenied) else Err status.WrongType)) e.koid
+          ≡ answers (create_refusal_of lib handles r program (if a then (if b then Ok e else Err status.AccessDenied) else Err status.WrongType))
+      by_tests e at true true fits = passes e (job_named r.objects e (named job e at) fits) g refl
+      by_tests e at true false fits = refl
+      by_tests e at false b fits = ap (λ (x : Option Outcome). create_with g x e.koid) (fault_answers old_world p condition.WrongObject status.WrongType)
+
+      by_entry : (o : Option Entry) → get handles job ≡ o → create_with g (operand_of old_world p (kind.Job ∷ []) MANAGE_PROCESS o) (koid_in o)
+          ≡ answers (create_refusal_of lib handles r program (granted o (kind.Job ∷ []) MANAGE_PROCESS))
+      by_entry None at = ap (λ (x : Option Outcome). create_with g x 0) (fault_answers old_world p condition.BadHandle status.BadHandle)
+      by_entry (Some e) at = by_tests e at (takes (kind.Job ∷ []) e.kind) (within MANAGE_PROCESS (bits e.rights)) refl
+
+-- ---- a process is made
+
+-- p has become p2, whose table has the handle to the new process
+module _ (lib : Library) (before mid : List Process) (r : Objects) (lab_is : IsConsistent before r) (p p2 : Process) (write : IsWrite before mid p p2)
+    (state : p2.state ≡ p.state)
+    (job program made : ℕ) (above : Entry) (is_above : looked_up p.table.entries job (kind.Job ∷ []) MANAGE_PROCESS ≡ Ok above)
+    (unrefused : create_refusal lib p.table.entries r job program ≡ None)
+    (inserts : Inserts p.table (new_entry r.next_koid kind.Process) made p2.table) (has : HasRoom p.table.entries r.next_koid)
+    (new : Process) (pid : new.pid ≡ r.next_koid) (created : process_value new ≡ created_process lib program) where
+  abbrev n : ℕ
+  n = r.next_koid
+
+  abbrev b : Body
+  b = body.Process above.koid life.Created
+
+  abbrev grown : Objects
+  grown = with_new r b 1
+
+  abbrev entry : Entry
+  entry = new_entry n kind.Process
+
+  -- the processes with the new one, before the caller has its answer
+  abbrev both : List Process
+  both = before ++ new ∷ []
+
+  abbrev after : List Process
+  after = mid ++ new ∷ []
+
+  abbrev w : World
+  w = world_value before r
+
+  sound : IsSound before [] r
+  sound = sound_of before r lab_is
+
+  above_there : IsJobAt r.objects above.koid
+  above_there = job_named r.objects above (lab_is.named p.pid (process_value p) job above write.there
+      (is_found (get p.table.entries job) (kind.Job ∷ []) MANAGE_PROCESS above is_above))
+      (is_of_kind (get p.table.entries job) (kind.Job ∷ []) MANAGE_PROCESS above is_above)
+
+  -- ---- the caller stands there still
+
+  apart : (n == p.pid) ≡ false
+  apart = elim (cases_Bool (n == p.pid)) as (λ _. (n == p.pid) ≡ false) [
+    | inl here ↦ absurd (omega (arith, eqb-true n p.pid here, lab_is.given_processes p.pid (rw write.there refl)))
+    | inr other ↦ other
+  ]
+
+  write_both : IsWrite both after p p2
+  write_both = record {
+    there = get_process before [] r sound new pid above.koid life.Created 1 p.pid ∙ rw apart write.there;
+    writes = λ f is.
+        map-append process_entry mid (new ∷ []) ∙ ap (λ (m : Map ProcessValue). m ++ process_entry new ∷ []) (write.writes f is)
+        ∙ sym (ap (λ (m : Map ProcessValue). update m p.pid f) (map-append process_entry before (new ∷ []))
+        ∙ update_before (map process_entry before) p.pid new.pid f (process_value new) (rw pid apart));
+  }
+
+  -- ---- the invariant
+
+  agrees_new : Agrees (world_value both grown) n b
+  agrees_new = record { running = sym (is runs); living = sym (is lives); over = sym (is has_ended) }
+    where
+      is : (test : StateValue → Bool) → is_process (world_value both grown) test n ≡ test Created
+      is test = new_is before [] r sound new pid above.koid life.Created 1 test ∙ ap (λ (x : ProcessValue). test x.state) created
+
+  growing : IsGrowing both ((made, entry) ∷ []) grown
+  unfolding get
+  growing = record {
+    sound = process_sound before [] r sound new pid above.koid life.Created 1
+        (subst (λ (x : ProcessValue). IsTable (record { entries = x.handles; last = x.last })) (sym created)
+        (record { sorted = refl; few = omega arith; values = λ value has. absurd (false≢true has) }))
+        (λ v e at. absurd (none-some e (ap (λ (x : ProcessValue). get x.handles v) (sym created) ∙ at)))
+        agrees_new (stands_grown before [] r sound b 1 above.koid above_there) has.koid refl ((made, entry) ∷ [])
+        (λ j. omega (
+          arith,
+          ap (λ (x : ProcessValue). count_by (λ h. h.1.koid == j) x.handles) created,
+          sum_by-cons (λ (h : ℕ × Entry). cond (h.1.koid == j) 1 0) (made, entry) [],
+        ));
+    kept = kept_grown before [] r sound b 1 refl lab_is.kept;
+  }
+
+  pub created_keeps : IsConsistent after grown
+  created_keeps = first_entered both after p p2 write_both state r b made inserts has.place growing (there_grown before [] r sound b 1)
+
+  -- ---- the list of the blocked
+
+  pub created_blocked : is_blocked (state_value p.state) ≡ false → (blocked : List ℕ) → AreBlocked before blocked → AreBlocked after blocked
+  created_blocked unblocked_is blocked are =
+      still_blocked both after p p2 write_both unblocked_is (ap (λ (s : State). is_blocked (state_value s)) state ∙ unblocked_is) blocked (record {
+        once = λ k. are.once k ∙ ap (λ (t : Bool). if t then 1 else 0) (sym (same_there k));
+        counters = λ k q at waits. found_process before [] r sound new pid above.koid life.Created 1 (q.cpu.counter < 2 ^ 32) k q at
+            (λ is. absurd (false≢true (sym (ap (λ (x : ProcessValue). is_blocked x.state) created)
+            ∙ (ap (λ (x : ProcessValue). is_blocked x.state) is ∙ waits))))
+            (λ old. are.counters k q old waits);
+      })
+    where
+      no_new : get (map process_entry before) n ≡ None
+      no_new = by_process (get (map process_entry before) n) refl
+        where
+          by_process : (o : Option ProcessValue) → get (map process_entry before) n ≡ o → o ≡ None
+          by_process None is = refl
+          by_process (Some q) is = absurd (omega (arith, lab_is.given_processes n (rw is refl)))
+
+      same_there : (k : ℕ) → state_passes is_blocked (get (map process_entry both) k) ≡ state_passes is_blocked (get (map process_entry before) k)
+      same_there k = elim (cases_Bool (n == k))
+          as (λ _. state_passes is_blocked (get (map process_entry both) k) ≡ state_passes is_blocked (get (map process_entry before) k)) [
+            | inl here ↦ rw (get_process before [] r sound new pid above.koid life.Created 1 k, here, ← eqb-true n k here, no_new)
+                (ap (λ (x : ProcessValue). is_blocked x.state) created)
+            | inr apart ↦ rw (get_process before [] r sound new pid above.koid life.Created 1 k, apart) refl
+          ]
+
+  -- ---- the relation of calls
+
+  module _ (consumed destinations : List ℕ) (replies : Replies (site (process_create job program) consumed destinations) status.Ok (made ∷ []) p p2) where
+    abbrev create_site : Site
+    create_site = site (process_create job program) consumed destinations
+
+    koid_is : object_at w p.pid job ≡ above.koid
+    koid_is = rw (table_is before mid p p2 write r, is_found (get p.table.entries job) (kind.Job ∷ []) MANAGE_PROCESS above is_above) refl
+
+    abbrev with_one : World
+    with_one = with_process (with_object w (ProcessBody (object_at w p.pid job))) n (created_process lib program)
+
+    with_one_is : world_value both grown ≡ with_one
+    unfolding with_object
+    with_one_is = λ i. record w {
+      processes = (processes_are before [] r sound new pid above.koid life.Created 1 ∙ ap (put (map process_entry before) n) created) i;
+      objects = (sym (grown_seen r b 1 lab_is.given_objects)
+          ∙ ap (λ (k : ℕ). put (map object_entry r.objects) n (record { body = ProcessBody k; raised = 0 })) (sym koid_is)) i;
+      next_koid = n + 1;
+    }
+
+    create_ends : world_value after grown
+        ≡ replied (with_effect lib w (taken w p.pid create_site) p.pid (process_create job program) (made ∷ [])) p.pid create_site status.Ok (made ∷ [])
+    unfolding taken_handles handle_operands remove_all new_handles effect insert_all
+    create_ends =
+        replied_inserted both after p p2 write_both grown create_site made entry (world_value both grown) refl refl inserts replies
+        ∙ ap (λ (x : World). replied (on_process x p.pid (process_with made entry)) p.pid create_site status.Ok (made ∷ [])) with_one_is
+
+    create_chosen : IsTrue (may_choose w (taken w p.pid create_site) p.pid (process_create job program) (made ∷ []))
+    unfolding taken_handles handle_operands remove_all may_choose new_handles
+    create_chosen = rw (write.there, may_get_inserted p p2 (new_entry n kind.Process) made inserts) refl
+
+    named_here : AllNamed before r lab_is p.pid
+    named_here h e at = lab_is.named p.pid (process_value p) h e write.there (rw (table_is before mid p p2 write r) at at)
+
+    refused_create : refusal lib w p.pid (process_create job program) ≡ answers (create_refusal lib p.table.entries r job program)
+    refused_create = create_refused lib before r lab_is p.pid job program named_here ∙ rw (table_is before mid p p2 write r) refl
+
+    pub created_calls : Calls lib w p.pid create_site (outcome.Answered status.Ok) (world_value after grown)
+    unfolding gives_ok
+    created_calls = (Values (made ∷ []), rw (refused_create, unrefused) (create_chosen, refl, create_ends))

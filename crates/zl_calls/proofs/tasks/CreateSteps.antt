@@ -1,0 +1,227 @@
+-- The call process_create in the midst of all processes: from what it did to a step, up to where processes wake.
+use Rattle.zl_calls.proofs.Common.{◌≡◌, ◌==◌, ℕ, zero, suc, true, List, [], ◌∷◌, ◌++◌, refl, sym, ap, ◌∙◌, subst, Some, None, Result, Ok, Err, IsActed}
+use Rattle.zl_calls.proofs.Common.{none-some, same_Some, get_or, slice_get, slice_set, set, position, is_ready, Library, Site, site, refusal, handle_operands}
+use Rattle.zl_calls.proofs.Common.{remove_all, taken_handles, gives_refused, AtCall, next_for, cpu_answered, Objects, with_new, told_by, one_value, Replies}
+use Rattle.zl_calls.proofs.Common.{status_of, process_value, state_value, world_blocked, world_value, AreBlocked, IsConsistent, IsRefusedBy}
+use Rattle.zl_code.specs.Sound.{IsSound as IsSoundWorld}
+use Rattle.zl_code.specs.CallTable.{process_create}
+use Rattle.zl_code.specs.declared.history.CallName.{CallName}
+use Rattle.zl_code.specs.declared.history.Outcome.{Outcome}
+use Rattle.zl_code.specs.declared.history.Outcome.TheVariants as outcome
+use Rattle.zl_code.specs.declared.history.TraceItem.TheVariants as item
+use Rattle.zl_code.proofs.StepsBeside.{next_looks}
+use Rattle.zl_rights.specs.LookUp.{looked_up}
+use Rattle.zl_rights.specs.Numbers.{MANAGE_PROCESS}
+use Rattle.zl_rights.specs.declared.entry.Entry.{Entry}
+use Rattle.zl_rights.specs.declared.kind.Kind.TheVariants as kind
+use Rattle.zl_rights.specs.declared.status.Status.{Status}
+use Rattle.zl_rights.specs.declared.status.Status.TheVariants as status
+use Rattle.std.proofs.lemmas.Option.{get_or_from_slice_get}
+use Rattle.zl_objects.specs.declared.object.Body.TheVariants as body
+use Rattle.zl_objects.specs.declared.object.Life.TheVariants as life
+use Rattle.zl_calls.specs.Reaching.{IsAnsweredIn, IsToldIn}
+use Rattle.zl_calls.specs.Registered.{ListsBut}
+use Rattle.zl_calls.specs.calls.Task.{CreatesProcess, Lab, ProcessCreateDoes, create_refusal, lab}
+use Rattle.zl_calls.specs.calls.Making.{MakesOne}
+use Rattle.zl_calls.specs.declared.process.Process.{Process}
+use Rattle.zl_calls.proofs.calls.Answered.{IsWrite, table_is, same_world}
+use Rattle.zl_calls.proofs.processes.Departed.{left_all, left_blocked, left_keeps, settled_world}
+use Rattle.zl_calls.proofs.calls.DoneCalls.{IsCalled, IsDone, called_done}
+use Rattle.zl_calls.proofs.stepping.Labs.{IsFree, call_settles}
+use Rattle.zl_calls.proofs.waits.LeftWaits.{left_beside}
+use Rattle.zl_calls.proofs.waking.BlockedLists.{same_list}
+use Rattle.zl_calls.proofs.stepping.Performing.{HasLeft, acted_so, key, ready, there, unblocked, write_of}
+use Rattle.zl_calls.proofs.calls.Refused.{answers, refused_calls}
+use Rattle.zl_calls.proofs.objects.Settled.{still_settles}
+use Rattle.zl_calls.proofs.processes.Written.{refusal_keeps}
+use Rattle.zl_calls.proofs.calls.MakeCalls.{has_left}
+use Rattle.zl_calls.proofs.tasks.CreateCalls.{create_refused, created_blocked, created_calls, created_keeps}
+
+-- ---- lists
+
+-- an element that is written twice, before others
+set_again : {X : Type 0} (xs ys : List X) (i : ℕ) (x y c : X) → slice_get xs i ≡ Some c → slice_set (slice_set xs i x ++ ys) i y ≡ slice_set xs i y ++ ys
+set_again [] ys i x y c at = absurd (none-some c at)
+set_again (a ∷ xs) ys zero x y c at = refl
+set_again (a ∷ xs) ys (suc i) x y c at = ap (λ rest. a ∷ rest) (set_again xs ys i x y c at)
+
+get_again : {X : Type 0} (xs ys : List X) (i : ℕ) (x c : X) → slice_get xs i ≡ Some c → slice_get (slice_set xs i x ++ ys) i ≡ Some x
+get_again [] ys i x c at = absurd (none-some c at)
+get_again (a ∷ xs) ys zero x c at = refl
+get_again (a ∷ xs) ys (suc i) x c at = get_again xs ys i x c at
+
+-- ---- the step
+
+-- the process p stands at the place, under the pid, and is at the call
+module _ (lib : Library) (ps : List Process) (r : Objects) (whole : IsConsistent ps r) (blocked : List ℕ) (are : AreBlocked ps blocked)
+    (sound : IsSoundWorld (world_blocked ps r blocked)) (pid place : ℕ) (p : Process)
+    (found : Some place ≡ position (λ q. q.pid == pid) ps) (read : p ≡ get_or ps place p) (is_ready_there : is_ready (state_value p.state) ≡ true)
+    (name : CallName) (free : IsFree lib (world_value ps r) p.pid name) (job program : ℕ) (consumed destinations : List ℕ)
+    (next : next_for lib (process_value p) ≡ AtCall name (site (process_create job program) consumed destinations)) (l2 : Lab) where
+  abbrev s : Site
+  s = site (process_create job program) consumed destinations
+
+  -- the step ends so
+  abbrev Left : Outcome → Type 0
+  Left o = HasLeft lib ps l2.processes r l2.objects blocked l2.blocked pid (item.Call pid name o)
+
+  left_as : (o : Outcome) (after : List Process) (r2 : Objects) → l2.processes ≡ after → l2.objects ≡ r2 → l2.blocked ≡ blocked
+      → HasLeft lib ps after r r2 blocked blocked pid (item.Call pid name o) → Left o
+  left_as o after r2 processes objects list left =
+      subst (λ (qs : List Process). HasLeft lib ps qs r l2.objects blocked l2.blocked pid (item.Call pid name o)) (sym processes)
+      (subst (λ (x : Objects). HasLeft lib ps after r x blocked l2.blocked pid (item.Call pid name o)) (sym objects)
+      (subst (λ (b : List ℕ). HasLeft lib ps after r r2 blocked b pid (item.Call pid name o)) (sym list) left))
+
+  is_caller : (c : Process) → slice_get ps place ≡ Some c → c ≡ p
+  is_caller c at = sym (read ∙ get_or_from_slice_get ps place c p at)
+
+  itself : IsWrite ps (set ps place p) p p
+  itself = write_of lib ps r whole blocked are sound pid place p found read p refl
+
+  refused_here : refusal lib (world_value ps r) p.pid (process_create job program) ≡ answers (create_refusal lib p.table.entries r job program)
+  refused_here =
+      create_refused lib ps r whole p.pid job program
+      (λ h e at. whole.named p.pid (process_value p) h e itself.there (rw (table_is ps (set ps place p) p p itself r) at at))
+      ∙ rw (table_is ps (set ps place p) p p itself r) refl
+
+  -- ---- it is refused
+
+  module _ (answer : Status) (refuses : IsRefusedBy true (create_refusal lib p.table.entries r job program) answer) where
+    abbrev told : Process
+    told = record p { cpu = cpu_answered s answer [] p.cpu }
+
+    abbrev after_it : List Process
+    after_it = set ps place told
+
+    write_told : IsWrite ps after_it p told
+    write_told = write_of lib ps r whole blocked are sound pid place p found read told refl
+
+    refused_called : IsCalled lib ps after_it r r p.pid s (outcome.Answered answer)
+    unfolding taken_handles handle_operands remove_all gives_refused
+    refused_called = record {
+      calls =
+          refused_calls lib (world_value ps r) p.pid s true (create_refusal lib p.table.entries r job program) answer (world_value after_it r)
+          (λ a. refl) refused_here refl refuses
+          (same_world ps after_it p told write_told r r s answer [] refl refl refl);
+      keeps = refusal_keeps ps after_it p told write_told r whole refl refl;
+    }
+
+    refused_so : HasLeft lib ps after_it r r blocked blocked pid (item.Call pid name (outcome.Answered answer))
+    refused_so =
+        let done : IsDone lib ps after_it r r p.pid name (outcome.Answered answer) =
+        called_done lib ps after_it r r p told whole write_told (ready lib ps r whole blocked are sound pid place p found read is_ready_there) name s next
+        (outcome.Answered answer) refused_called in
+        acted_so lib ps r whole blocked are sound pid place p found read is_ready_there after_it told r
+        (item.Call pid name (outcome.Answered answer)) write_told
+        (unblocked lib ps r whole blocked are sound pid place p found read is_ready_there) refl refl (ap next_looks next) done.lab
+        (rw (← key lib ps r whole blocked are sound pid place p found read) (done.step free))
+        (rw next (record { waits = λ test h. refl; made = refl }))
+
+  -- ---- it is done
+
+  left_with : (after : List Process) (r2 : Objects) → IsConsistent after r2 → AreBlocked after blocked
+      → IsActed lib (world_value ps r) p.pid (item.Call p.pid name (outcome.Answered status.Ok)) (settled_world after r2)
+      → ListsBut r.waits r.waits_made r2 → HasLeft lib ps after r r2 blocked blocked pid (item.Call pid name (outcome.Answered status.Ok))
+  left_with after r2 keeps list step lists = record {
+    lab = left_keeps after r2 keeps;
+    list = rw (same_list pid (item.Call pid name (outcome.Answered status.Ok)) blocked refl) (left_blocked after r2 blocked list);
+    acts = record {
+      pid_is = refl;
+      acted = rw (same_list pid (item.Call pid name (outcome.Answered status.Ok)) blocked refl)
+          (left_beside lib ps (left_all after r2) r r2 pid (item.Call pid name (outcome.Answered status.Ok)) blocked sound (process_value p)
+          (there lib ps r whole blocked are sound pid place p found read)
+          (rw (there lib ps r whole blocked are sound pid place p found read)
+          (unblocked lib ps r whole blocked are sound pid place p found read is_ready_there)) are refl refl (ap next_looks next)
+          (rw (← key lib ps r whole blocked are sound pid place p found read) step)
+          (rw next lists));
+    };
+  }
+
+  -- ---- a process is made
+
+  module _ (made : ℕ) (between : Lab) (done : CreatesProcess lib (lab ps r blocked) place job program made between) where
+    handed_is : done.after ≡ record p { table = done.after.table }
+    handed_is = done.is_caller.same ∙ (λ i. record (is_caller done.caller done.is_caller.is_there i) { table = done.after.table })
+
+    abbrev given : Process
+    given = record (done.after) { cpu = cpu_answered s status.Ok (made ∷ []) done.after.cpu }
+
+    abbrev mid : List Process
+    mid = set ps place given
+
+    abbrev above : Entry
+    above = done.above
+
+    found_above : looked_up p.table.entries job (kind.Job ∷ []) MANAGE_PROCESS ≡ Ok above
+    found_above =
+        ap (λ (c : Process). looked_up c.table.entries job (kind.Job ∷ []) MANAGE_PROCESS) (sym (is_caller done.caller done.is_caller.is_there)) ∙ done.is_above
+
+    unrefused : create_refusal lib p.table.entries r job program ≡ None
+    unrefused = ap (λ (c : Process). create_refusal lib c.table.entries r job program) (sym (is_caller done.caller done.is_caller.is_there)) ∙ done.unrefused
+
+    makes : MakesOne (body.Process above.koid life.Created) p.table r made given.table between.objects
+    makes = subst (λ (c : Process). MakesOne (body.Process above.koid life.Created) c.table r made given.table between.objects)
+        (is_caller done.caller done.is_caller.is_there) done.makes
+
+    write_mid : IsWrite ps mid p given
+    write_mid = write_of lib ps r whole blocked are sound pid place p found read given (ap (λ (c : Process). c.pid) handed_is)
+
+    same_state : given.state ≡ p.state
+    same_state = ap (λ (c : Process). c.state) handed_is
+
+    replies : Replies s status.Ok (made ∷ []) p given
+    replies = λ i. record (handed_is i) { cpu = cpu_answered s status.Ok (made ∷ []) (handed_is i).cpu }
+
+    abbrev made_all : List Process
+    made_all = mid ++ done.new ∷ []
+
+    abbrev made_grown : Objects
+    made_grown = with_new r (body.Process above.koid life.Created) 1
+
+    made_keeps : IsConsistent made_all made_grown
+    made_keeps = created_keeps lib ps mid r whole p given write_mid same_state job program made above found_above unrefused makes.inserts
+        (has_left p.table.entries r.next_koid makes.unrefused) done.new done.pid done.created
+
+    made_blocked : AreBlocked made_all blocked
+    made_blocked = created_blocked lib ps mid r whole p given write_mid same_state job program made above found_above unrefused makes.inserts
+        (has_left p.table.entries r.next_koid makes.unrefused) done.new done.pid done.created
+        (unblocked lib ps r whole blocked are sound pid place p found read is_ready_there) blocked are
+
+    made_step : IsActed lib (world_value ps r) p.pid (item.Call p.pid name (outcome.Answered status.Ok)) (settled_world made_all made_grown)
+    made_step =
+        call_settles lib ps made_all r made_grown made_grown p name s (outcome.Answered status.Ok) write_mid.there
+        (ready lib ps r whole blocked are sound pid place p found read is_ready_there) next
+        (created_calls lib ps mid r whole p given write_mid same_state job program made above found_above unrefused makes.inserts
+        (has_left p.table.entries r.next_koid makes.unrefused) done.new done.pid done.created consumed destinations replies)
+        (still_settles made_all made_grown made_keeps) free
+
+    made_so : HasLeft lib ps made_all r made_grown blocked blocked pid (item.Call pid name (outcome.Answered status.Ok))
+    made_so = left_with made_all made_grown made_keeps made_blocked made_step (record { waits = λ test h. refl; made = refl })
+
+  -- ---- either
+
+  by_answer : (answer : Result ℕ Status) (between : Lab) → ProcessCreateDoes lib place job program p (lab ps r blocked) answer between
+      → IsToldIn s place (told_by one_value answer) between l2 → Left (outcome.Answered (status_of answer))
+  by_answer (Err answer) between does is_told =
+      let before : between.processes ≡ ps = ap (λ (l : Lab). l.processes) does.refused in
+      let same : is_told.caller ≡ p = is_caller is_told.caller (ap (λ (qs : List Process). slice_get qs place) (sym before) ∙ is_told.is_there) in
+      left_as (outcome.Answered answer) (set ps place (record p { cpu = cpu_answered s answer [] p.cpu })) r
+      (is_told.processes ∙ (λ i. slice_set (before i) place (record (same i) { cpu = cpu_answered s answer [] (same i).cpu })))
+      (is_told.objects ∙ ap (λ (l : Lab). l.objects) does.refused) (is_told.blocked ∙ ap (λ (l : Lab). l.blocked) does.refused)
+      (refused_so answer does.err)
+  by_answer (Ok made) between does is_told =
+      let done : CreatesProcess lib (lab ps r blocked) place job program made between = does.ok in
+      let same : is_told.caller ≡ done.after =
+      sym (same_Some done.after is_told.caller (sym (get_again ps (done.new ∷ []) place done.after done.caller done.is_caller.is_there)
+      ∙ (ap (λ (qs : List Process). slice_get qs place) (sym done.processes) ∙ is_told.is_there))) in
+      left_as (outcome.Answered status.Ok) (set ps place (record (done.after) { cpu = cpu_answered s status.Ok (made ∷ []) done.after.cpu }) ++ done.new ∷ [])
+      (with_new r (body.Process done.above.koid life.Created) 1)
+      (is_told.processes
+      ∙ ((λ i. slice_set (done.processes i) place (record (same i) { cpu = cpu_answered s status.Ok (made ∷ []) (same i).cpu }))
+      ∙ set_again ps (done.new ∷ []) place done.after (record (done.after) { cpu = cpu_answered s status.Ok (made ∷ []) done.after.cpu }) done.caller
+      done.is_caller.is_there))
+      (is_told.objects ∙ done.makes.objects) (is_told.blocked ∙ done.blocked)
+      (made_so made between done)
+
+  pub create_so : (o : Outcome) → IsAnsweredIn (told_by one_value) (ProcessCreateDoes lib place job program p) s place (lab ps r blocked) o l2 → Left o
+  create_so o does = subst Left (sym does.ends) (by_answer does.answer does.between does.does does.is_told)

@@ -1,0 +1,222 @@
+-- What a kill makes of the list of processes: koids stay, and each process that is over closes its handles in turn.
+use Rattle.zl_rights.proofs.Common.{◌≡◌, ◌<◌, ◌≤◌, ◌+◌, ℕ, Bool, true, false, ◌&&◌, List, [], ◌∷◌, ◌++◌, length, map, take, drop, refl, sym, ap, ◌∙◌, subst}
+use Rattle.zl_rights.proofs.Common.{arith, zero, suc, get_or, IsTrue, nat_cmp, below_all, is_sorted, set, slice_get, state_passes, Option, Some, None, Result}
+use Rattle.zl_rights.proofs.Common.{Ok, filter, has_key, is_some, option_map, Map, get, each, append-nil, take_all, length-map, none-some, same_Some}
+use Rattle.std.specs.Ordering.{is_lt}
+use Rattle.zl_objects.specs.Objects.{Objects}
+use Rattle.zl_calls.specs.World.{process_entry}
+use Rattle.zl_calls.specs.declared.process.Process.{Process}
+use Rattle.zl_calls.specs.calls.Task.{ClosesAllEnded, ClosesEnded, IsCallerStill, TaskKillDoes, ended_if, ended_within, is_over, lab, lives_on, none_left}
+use Rattle.zl_calls.specs.calls.Task.{one_more}
+use Rattle.zl_calls.proofs.lists.FilterInPlace.{drop_here, none_behind}
+use Rattle.std.proofs.lemmas.Option.{get_or_from_slice_get, slice_get-map}
+use Rattle.zl_rights.proofs.MapLaws.{get-each}
+use Rattle.zl_rights.specs.LookUp.{looked_up}
+use Rattle.zl_rights.specs.Numbers.{DESTROY}
+use Rattle.zl_rights.specs.declared.entry.Entry.{Entry}
+use Rattle.zl_rights.specs.declared.kind.Kind.TheVariants as kind
+use Rattle.zl_rights.specs.declared.status.Status.{Status}
+use Rattle.zl_code.specs.Sound.{is_blocked}
+use Rattle.zl_objects.specs.Jobs.{all_killed, is_within, killed_if, killing}
+use Rattle.zl_objects.specs.Listed.{LeavesListed}
+use Rattle.zl_objects.specs.Release.{Releases, all_koids}
+use Rattle.zl_calls.specs.Registered.{KeepsListed}
+use Rattle.zl_calls.proofs.waits.WaitsLost.{listed_gone, listed_then}
+
+-- ---- koids stay
+
+same_pid : (killed : Bool) (p : Process) → (ended_if killed p).pid ≡ p.pid
+same_pid true p = refl
+same_pid false p = refl
+
+module _ (f : Process → Process) (same : (p : Process) → (f p).pid ≡ p.pid) where
+  below_kept : (k : ℕ) (ps : List Process) → below_all nat_cmp k (map process_entry (map f ps)) ≡ below_all nat_cmp k (map process_entry ps)
+  below_kept k [] = refl
+  below_kept k (p ∷ ps) = λ i. is_lt (nat_cmp k (same p i)) && below_kept k ps i
+
+  pub order_kept : (ps : List Process) → is_sorted nat_cmp (map process_entry (map f ps)) ≡ is_sorted nat_cmp (map process_entry ps)
+  order_kept [] = refl
+  order_kept (p ∷ ps) =
+      (λ i. below_all nat_cmp (same p i) (map process_entry (map f ps)) && order_kept ps i)
+      ∙ ap (λ (b : Bool). b && is_sorted nat_cmp (map process_entry ps)) (below_kept p.pid ps)
+
+-- the koids still rise
+pub in_order_ended : (r : Objects) (task : ℕ) (ps : List Process) → IsTrue (is_sorted nat_cmp (map process_entry ps))
+    → IsTrue (is_sorted nat_cmp (map process_entry (map (ended_within r task) ps)))
+in_order_ended r task ps sorted = order_kept (ended_within r task) (λ p. same_pid _ p) ps ∙ sorted
+
+-- ---- a loop over all processes
+
+module _ (first : List Process) (start : Objects) where
+  -- so far the processes before the place have closed their handles: what becomes of the others becomes of all
+  pub record IsClosing (i : ℕ) (ps : List Process) (r : Objects) : Type 0 where
+    pub closes : (ps2 : List Process) (r2 : Objects) → ClosesAllEnded (drop i ps) r ps2 r2 → ClosesAllEnded first start (take i ps ++ ps2) r2
+
+  module _ (i : ℕ) (ps : List Process) (r : Objects) (so_far : IsClosing i ps r) where
+    pub closing_ends : length ps ≤ i → ClosesAllEnded first start ps r
+    closing_ends long =
+        subst (λ (qs : List Process). ClosesAllEnded first start qs r) (whole i ps long)
+        (so_far.closes [] r (subst (λ (qs : List Process). ClosesAllEnded qs r [] r) (sym (none_behind ps i long)) (none_left r)))
+      where
+        whole : (i : ℕ) (ps : List Process) → length ps ≤ i → take i ps ++ [] ≡ ps
+        whole zero [] long = refl
+        whole (suc i) [] long = refl
+        whole zero (p ∷ ps) long = absurd (omega (arith, long))
+        whole (suc i) (p ∷ ps) long = ap (λ (qs : List Process). p ∷ qs) (whole i ps (omega (arith, long)))
+
+    pub closing_goes_on : (d p p2 : Process) (r2 : Objects) → i < length ps → get_or ps i d ≡ p → ClosesEnded p r p2 r2 → IsClosing (i + 1) (set ps i p2) r2
+    closing_goes_on d p p2 r2 within at closes = record {
+      closes = λ qs r3 rest.
+          let one : i + 1 ≡ suc i = omega arith in
+          let behind : drop (i + 1) (set ps i p2) ≡ drop (suc i) ps = (λ j. drop (one j) (set ps i p2)) ∙ drop_set ps i in
+          let stands : drop i ps ≡ p ∷ drop (suc i) ps = drop_here ps i d within ∙ ap (λ (x : Process). x ∷ drop (suc i) ps) at in
+          let all : ClosesAllEnded (drop i ps) r (p2 ∷ qs) r3 =
+          subst (λ (xs : List Process). ClosesAllEnded xs r (p2 ∷ qs) r3) (sym stands)
+          (one_more p p2 (drop (suc i) ps) qs r r2 r3 closes (subst (λ (xs : List Process). ClosesAllEnded xs r2 qs r3) behind rest)) in
+          subst (λ (xs : List Process). ClosesAllEnded first start xs r3) (sym (front ps i qs within one)) (so_far.closes (p2 ∷ qs) r3 all);
+    }
+      where
+        drop_set : (xs : List Process) (i : ℕ) → drop (suc i) (set xs i p2) ≡ drop (suc i) xs
+        drop_set [] i = refl
+        drop_set (x ∷ xs) zero = refl
+        drop_set (x ∷ xs) (suc i) = drop_set xs i
+
+        front : (xs : List Process) (i : ℕ) (qs : List Process) → i < length xs → i + 1 ≡ suc i → take (i + 1) (set xs i p2) ++ qs ≡ take i xs ++ (p2 ∷ qs)
+        front xs i qs within one = (λ j. take (one j) (set xs i p2) ++ qs) ∙ by_place xs i within
+          where
+            by_place : (xs : List Process) (i : ℕ) → i < length xs → take (suc i) (set xs i p2) ++ qs ≡ take i xs ++ (p2 ∷ qs)
+            by_place [] i within = absurd (omega (arith, within))
+            by_place (x ∷ xs) zero within = refl
+            by_place (x ∷ xs) (suc i) within = ap (λ (ys : List Process). x ∷ ys) (by_place xs i (omega (arith, within)))
+
+pub closing_starts : (ps : List Process) (r : Objects) → IsClosing ps r 0 ps r
+closing_starts ps r = record { closes = λ ps2 r2 all. all }
+
+-- ---- the objects
+
+has_kept : {X : Type 0} (f : ℕ → X → X) (m : Map X) (k : ℕ) → has_key (each f m) k ≡ has_key m k
+has_kept {X} f m k = ap (λ (o : Option X). is_some o) (get-each m f k) ∙ by_value (get m k)
+  where
+    by_value : (o : Option X) → is_some (option_map (f k) o) ≡ is_some o
+    by_value None = refl
+    by_value (Some x) = refl
+
+-- nothing is new where a task was killed, and no wait is
+pub listed_killed : (r r2 : Objects) (task : ℕ) → Releases [] (all_koids r.objects) (killing r task) r2 → LeavesListed r r2 → KeepsListed r r2
+unfolding all_killed
+listed_killed r r2 task releases left =
+    let kept : KeepsListed (killing r task) r2 =
+    listed_gone [] (all_koids r.objects) (killing r task) r2 releases (record { waits = left.waits; made = left.made }) in
+    record {
+      shrinks = λ k there. sym (has_kept (λ j. killed_if (is_within r.objects task j)) r.objects k) ∙ kept.shrinks k there;
+      listed = record { waits = kept.listed.waits; made = kept.listed.made };
+    }
+
+-- ---- the whole of it
+
+module _ (ps : List Process) (r : Objects) (blocked : List ℕ) (place task : ℕ) (caller : Process) (is_caller : slice_get ps place ≡ Some caller) (p : Process)
+    (read : p ≡ get_or ps place p) where
+  is_it : p ≡ caller
+  is_it = read ∙ get_or_from_slice_get ps place caller p is_caller
+
+  pub killed_so : (named : Entry) → ◌≡◌ {A = Result Entry Status} (Ok named) (looked_up p.table.entries task (kind.Process ∷ kind.Job ∷ []) DESTROY)
+      → (between r2 : Objects) (ps1 ps2 : List Process) (blocked2 : List ℕ) → ps1 ≡ map (ended_within r named.koid) ps
+      → Releases [] (all_koids r.objects) (killing r named.koid) between → LeavesListed r between → ClosesAllEnded ps1 between ps2 r2 → KeepsListed between r2
+      → blocked2 ≡ filter (λ k. state_passes is_blocked (get (map process_entry ps1) k)) blocked
+      → TaskKillDoes task caller (lab ps r blocked) (Ok tt) (lab ps2 r2 blocked2)
+  killed_so named found between r2 ps1 ps2 blocked2 ended releases left closes kept list = record {
+    ok = record {
+      named = named;
+      is_named = ap (λ (q : Process). looked_up q.table.entries task (kind.Process ∷ kind.Job ∷ []) DESTROY) (sym is_it) ∙ sym found;
+      kills = record {
+        between = between;
+        marks = releases;
+        closes = subst (λ (qs : List Process). ClosesAllEnded qs between ps2 r2) ended closes;
+        blocked = list ∙ ap (λ (qs : List Process). filter (λ k. state_passes is_blocked (get (map process_entry qs) k)) blocked) ended;
+        listed = listed_then r between r2 (listed_killed r between named.koid releases left) kept;
+      };
+    };
+    err = tt;
+    refused = tt;
+  }
+
+-- ---- the same through slices of all processes
+
+-- a slice of all is written back
+back : {X : Type 0} (n : ℕ) (old new : List X) → n ≡ length old → length new ≡ length old → take n (new ++ drop (length new) old) ≡ new
+back n old new long same =
+    ap (λ ys. take n (new ++ ys)) (none_behind old (length new) (omega (arith, same)))
+    ∙ (ap (take n) (append-nil new) ∙ take_all n new (omega (arith, long, same)))
+
+pub ended_back : (f : Process → Process) (n : ℕ) (ps d e : List Process) → n ≡ length ps → d ≡ ps → e ≡ map f d → take n (e ++ drop (length e) ps) ≡ map f ps
+ended_back f n ps d e long same is =
+    let now : e ≡ map f ps = is ∙ ap (map f) same in
+    back n ps e long (ap (λ (xs : List Process). length xs) now ∙ length-map ps f) ∙ now
+
+as_many_closed : (ps ps2 : List Process) (r r2 : Objects) → ClosesAllEnded ps r ps2 r2 → length ps2 ≡ length ps
+as_many_closed _ _ _ _ (none_left r) = refl
+as_many_closed _ _ _ _ (one_more p p2 ps ps2 r mid r2 first rest) = ap suc (as_many_closed ps ps2 mid r2 rest)
+
+still_one : (p p2 : Process) (r r2 : Objects) → ClosesEnded p r p2 r2 → p2.cpu ≡ p.cpu
+still_one _ _ _ _ (lives_on p r lives) = refl
+still_one _ _ _ _ (is_over p p2 r r2 over same none no_last drains) = ap (λ (q : Process). q.cpu) same
+
+still_closed : (ps ps2 : List Process) (r r2 : Objects) → ClosesAllEnded ps r ps2 r2 → (i : ℕ) (p : Process) → slice_get ps i ≡ Some p
+    → IsCallerStill p (slice_get ps2 i)
+still_closed _ _ _ _ (none_left r) i p at = absurd (none-some p at)
+still_closed _ _ _ _ (one_more q q2 ps ps2 r mid r2 first rest) zero p at = still_one q q2 r mid first ∙ ap (λ (x : Process). x.cpu) (same_Some q p at)
+still_closed _ _ _ _ (one_more q q2 ps ps2 r mid r2 first rest) (suc i) p at = still_closed ps ps2 mid r2 rest i p at
+
+same_cpu : (killed : Bool) (p : Process) → (ended_if killed p).cpu ≡ p.cpu
+same_cpu true p = refl
+same_cpu false p = refl
+
+still_too : (p q : Process) → p.cpu ≡ q.cpu → (o : Option Process) → IsCallerStill p o → IsCallerStill q o
+still_too p q same None still = absurd still
+still_too p q same (Some x) still = still ∙ same
+
+module _ (n : ℕ) (ps d e d1 d2 ps2 : List Process) (r : Objects) (koid : ℕ) (long : n ≡ length ps) (same : d ≡ ps) (ended : e ≡ map (ended_within r koid) d)
+    (same1 : d1 ≡ take n (e ++ drop (length e) ps)) (same2 : d2 ≡ take n (e ++ drop (length e) ps)) where
+  all_ended : take n (e ++ drop (length e) ps) ≡ map (ended_within r koid) ps
+  all_ended = ended_back (ended_within r koid) n ps d e long same ended
+
+  pub in_order_back : IsTrue (is_sorted nat_cmp (map process_entry ps)) → IsTrue (is_sorted nat_cmp (map process_entry d1))
+  in_order_back sorted =
+      subst (λ (qs : List Process). IsTrue (is_sorted nat_cmp (map process_entry qs))) (sym (same1 ∙ all_ended)) (in_order_ended r koid ps sorted)
+
+  module _ (between r2 : Objects) (closes : ClosesAllEnded d2 between ps2 r2) where
+    closes_all : ClosesAllEnded (map (ended_within r koid) ps) between ps2 r2
+    closes_all = subst (λ (qs : List Process). ClosesAllEnded qs between ps2 r2) (same2 ∙ all_ended) closes
+
+    as_many : length ps2 ≡ length ps
+    as_many = as_many_closed _ _ between r2 closes_all ∙ length-map ps (ended_within r koid)
+
+    written : take n (ps2 ++ drop (length ps2) (take n (e ++ drop (length e) ps))) ≡ ps2
+    written =
+        let before : length (take n (e ++ drop (length e) ps)) ≡ length ps =
+        ap (λ (qs : List Process). length qs) all_ended ∙ length-map ps (ended_within r koid) in
+        back n (take n (e ++ drop (length e) ps)) ps2 (omega (arith, long, before)) (omega (arith, as_many, before))
+
+    pub still_as_many : length (take n (ps2 ++ drop (length ps2) (take n (e ++ drop (length e) ps)))) ≡ length ps
+    still_as_many = ap (λ (qs : List Process). length qs) written ∙ as_many
+
+    pub still_back : (place : ℕ) (caller : Process) → slice_get ps place ≡ Some caller
+        → IsCallerStill caller (slice_get (take n (ps2 ++ drop (length ps2) (take n (e ++ drop (length e) ps)))) place)
+    still_back place caller at =
+        subst (λ (qs : List Process). IsCallerStill caller (slice_get qs place)) (sym written)
+        (still_too (ended_within r koid caller) caller (same_cpu _ caller) (slice_get ps2 place)
+        (still_closed (map (ended_within r koid) ps) ps2 between r2 closes_all place (ended_within r koid caller)
+        (slice_get-map (ended_within r koid) ps place ∙ ap (λ (o : Option Process). option_map (ended_within r koid) o) at)))
+
+    pub killed_back : (blocked blocked2 : List ℕ) (place task : ℕ) (p : Process) → p ≡ get_or ps place p → (named : Entry) → named.koid ≡ koid
+        → ◌≡◌ {A = Result Entry Status} (Ok named) (looked_up p.table.entries task (kind.Process ∷ kind.Job ∷ []) DESTROY)
+        → Releases [] (all_koids r.objects) (killing r koid) between → LeavesListed r between → KeepsListed between r2
+        → blocked2 ≡ filter (λ k. state_passes is_blocked (get (map process_entry d1) k)) blocked
+        → (caller : Process) → slice_get ps place ≡ Some caller
+        → TaskKillDoes task caller (lab ps r blocked) (Ok tt) (lab (take n (ps2 ++ drop (length ps2) (take n (e ++ drop (length e) ps)))) r2 blocked2)
+    killed_back blocked blocked2 place task p read named is_koid found releases left kept list caller at =
+        subst (λ (qs : List Process). TaskKillDoes task caller (lab ps r blocked) (Ok tt) (lab qs r2 blocked2)) (sym written)
+        (killed_so ps r blocked place task caller at p read named found between r2 (map (ended_within r koid) ps) ps2 blocked2
+        (ap (λ (k : ℕ). map (ended_within r k) ps) (sym is_koid))
+        (subst (λ (k : ℕ). Releases [] (all_koids r.objects) (killing r k) between) (sym is_koid) releases) left closes_all kept
+        (list ∙ ap (λ (qs : List Process). filter (λ k. state_passes is_blocked (get (map process_entry qs) k)) blocked) (same1 ∙ all_ended)))

@@ -1,0 +1,62 @@
+-- A call that reaches other processes: from what it did among them to a step, up to where processes wake.
+use Rattle.zl_calls.proofs.Common.{◌≡◌, ℕ, ℤ, true, ◌==◌, List, get_or, refl, sym, ap, ◌∙◌, subst, Some, None, position, is_ready, Library, Request, Site, site}
+use Rattle.zl_calls.proofs.Common.{AtCall, next_for, Objects, process_value, state_value, world_blocked, world_value, AreBlocked, IsConsistent}
+use Rattle.zl_code.specs.CallTable.{process_create, process_start, task_kill}
+use Rattle.zl_code.specs.Sound.{IsSound as IsSoundWorld}
+use Rattle.zl_code.specs.declared.history.CallName.{CallName}
+use Rattle.zl_code.specs.declared.history.Outcome.{Outcome}
+use Rattle.zl_code.specs.declared.history.TraceItem.TheVariants as item
+use Rattle.zl_calls.specs.Policed.{verdict_on}
+use Rattle.zl_calls.specs.Reaching.{IsAnsweredIn, Reaches, creates, kills, kills_itself, starts}
+use Rattle.zl_calls.specs.calls.Answer.{no_value, one_value, told_by}
+use Rattle.zl_calls.specs.calls.Task.{Lab, ProcessCreateDoes, ProcessStartDoes, TaskKillDoes, lab}
+use Rattle.zl_calls.specs.declared.process.Process.{Process}
+use Rattle.zl_calls.specs.declared.process.State.TheVariants as state
+use Rattle.zl_calls.proofs.policy.Freedom.{is_free}
+use Rattle.zl_calls.proofs.stepping.Labs.{IsFree}
+use Rattle.zl_calls.proofs.stepping.Performing.{HasLeft, write_of}
+use Rattle.zl_calls.proofs.tasks.CreateSteps.{create_so}
+use Rattle.zl_calls.proofs.tasks.StartWorlds.{start_so}
+use Rattle.zl_calls.proofs.tasks.KillSteps.{kill_itself_so, kill_so}
+
+-- the process p stands at the place, under the pid, and is at the call
+module _ (lib : Library) (ps : List Process) (r : Objects) (whole : IsConsistent ps r) (blocked : List ℕ) (are : AreBlocked ps blocked)
+    (sound : IsSoundWorld (world_blocked ps r blocked)) (pid place : ℕ) (p : Process)
+    (found : Some place ≡ position (λ q. q.pid == pid) ps) (read : p ≡ get_or ps place p) (is_ready_there : is_ready (state_value p.state) ≡ true)
+    (name : CallName) (s : Site) (next : next_for lib (process_value p) ≡ AtCall name s)
+    (none : verdict_on p.table.entries r.objects p.pid s.request ≡ None) where
+  free : IsFree lib (world_value ps r) p.pid name
+  free =
+      is_free lib ps r whole blocked sound p ((write_of lib ps r whole blocked are sound pid place p found read p refl).there) is_ready_there name s next none
+      (world_value ps r) refl refl
+
+  free_beside : IsFree lib (world_blocked ps r blocked) p.pid name
+  free_beside =
+      is_free lib ps r whole blocked sound p ((write_of lib ps r whole blocked are sound pid place p found read p refl).there) is_ready_there name s next none
+      (world_blocked ps r blocked) refl refl
+
+  -- the site of the call, by its request
+  site_is : (request : Request) → s.request ≡ request → s ≡ site request s.consumed s.destinations
+  site_is request is = λ i. record s { request = is i }
+
+  pub reaches_so : (o : Outcome) (l2 : Lab) → Reaches lib place p s (lab ps r blocked) o l2
+      → HasLeft lib ps l2.processes r l2.objects blocked l2.blocked pid (item.Call pid name o)
+  reaches_so o l2 (creates job program is does) =
+      create_so lib ps r whole blocked are sound pid place p found read is_ready_there name free job program s.consumed s.destinations
+      (next ∙ ap (AtCall name) (site_is (process_create job program) is)) l2 o
+      (subst (λ (x : Site). IsAnsweredIn (told_by one_value) (ProcessCreateDoes lib place job program p) x place (lab ps r blocked) o l2)
+      (site_is (process_create job program) is) does)
+  reaches_so o l2 (starts process h word is does) =
+      start_so lib ps r whole blocked are sound pid place p found read is_ready_there name free process h word s.consumed s.destinations
+      (next ∙ ap (AtCall name) (site_is (process_start process h word) is)) l2 o
+      (subst (λ (x : Site). IsAnsweredIn (told_by no_value) (ProcessStartDoes lib place process h word p) x place (lab ps r blocked) o l2)
+      (site_is (process_start process h word) is) does)
+  reaches_so o l2 (kills task is does alive) =
+      subst (λ (x : Site). (a : IsAnsweredIn (told_by no_value) (TaskKillDoes task p) x place (lab ps r blocked) o l2)
+      → ((code : ℤ) → a.is_told.caller.state ≡ state.Ended code → ⊥) → HasLeft lib ps l2.processes r l2.objects blocked l2.blocked pid (item.Call pid name o))
+      (sym (site_is (task_kill task) is))
+      (kill_so lib ps r whole blocked are sound pid place p found read is_ready_there name free free_beside task s.consumed s.destinations
+      (next ∙ ap (AtCall name) (site_is (task_kill task) is)) l2 o) does alive
+  reaches_so o l2 (kills_itself task is does) =
+      kill_itself_so lib ps r whole blocked are sound pid place p found read is_ready_there name free free_beside task s.consumed s.destinations
+      (next ∙ ap (AtCall name) (site_is (task_kill task) is)) l2 o does

@@ -1,0 +1,7 @@
+-- Registered waits: which are left, which end, and how they fire.
+pub mod Ending
+pub mod Firing
+pub mod FiringWorlds
+pub mod LeftWaits
+pub mod WaitsLost
+pub mod WaitsByCall

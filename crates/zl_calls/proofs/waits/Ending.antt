@@ -1,0 +1,181 @@
+-- Waits end one after another: the objects stay the same but for waits, and of the list just what isn't to end is left.
+use Rattle.zl_calls.proofs.Common.{◌≡◌, ◌<◌, ◌+◌, ◌*◌, ◌-◌, ℕ, Bool, true, false, not, ◌&&◌, ◌||◌, ◌==◌, or_right, and_parts, eq-eqb, eqb-true, List, length}
+use Rattle.zl_calls.proofs.Common.{map, refl, sym, ap, ◌∙◌, subst, Option, Some, None, is_some, option_map, slice_get, slice_get-get_or, get_or, arith, Map}
+use Rattle.zl_calls.proofs.Common.{get, has_key, list_any, Objects, kind_at, kind_in, object_entry, process_entry, process_value, world_value, IsConsistent}
+use Rattle.zl_calls.proofs.Common.{IsPlaceOf, World}
+use Rattle.std.specs.List.{filter}
+use Rattle.std.proofs.lemmas.Option.{slice_get_within}
+use Rattle.zl_rights.specs.Settle.{has_handle, is_made_by_handle}
+use Rattle.zl_rights.specs.World.{Wait}
+use Rattle.zl_signals.specs.declared.watch.Watch.{Watch}
+use Rattle.zl_objects.specs.declared.object.Object.{Object}
+use Rattle.zl_objects.specs.Listed.{is_keyed_at, unlisting}
+use Rattle.zl_objects.specs.Waits.{unwatching}
+use Rattle.zl_objects.proofs.Law.{has_seen}
+use Rattle.zl_calls.specs.declared.process.Process.{Process}
+use Rattle.zl_calls.specs.Registered.{AreBeside, EndsUnheld, EndsWaits, is_left}
+use Rattle.zl_calls.proofs.objects.SameButWaits.{beside_lab, beside_same, beside_then, beside_world, unwatching_beside}
+use Rattle.zl_calls.proofs.lists.FilterByFirst.{IsSifting, any_there, none_there, one_less, sifting_ends, sifting_starts, sifting_stays, sifting_takes}
+
+-- ---- what is left
+
+-- the kind of an object tells whether it is there
+pub kind_there : (m : Map Object) (k : ℕ) → is_some (kind_at m k) ≡ has_key (map object_entry m) k
+kind_there m k = by_object (get m k) ∙ sym (has_seen m k)
+  where
+    by_object : (o : Option Object) → is_some (option_map (λ (x : Object). kind_in x.body) o) ≡ is_some o
+    by_object None = refl
+    by_object (Some o) = refl
+
+-- the table of the process at this place tells which handles the process has
+pub has_at : (ps : List Process) (pid place value : ℕ) (p : Process) → IsPlaceOf ps pid place → p ≡ get_or ps place p
+    → has_key p.table.entries value ≡ has_handle (get (map process_entry ps) pid) value
+has_at ps pid place value p found is =
+    sym (ap (λ o. has_handle o value)
+    (found.holds ∙ ap (option_map process_value) (slice_get-get_or ps place p found.within ∙ ap (λ (q : Process). Some q) (sym is))))
+
+-- ---- a walk along all waits
+
+-- so far the waits before the place were looked at, and those have ended that pass the test
+pub record IsEnding (test : Wait → Bool) (old : Objects) (place : ℕ) (now : Objects) : Type 0 where
+  pub beside : AreBeside old now
+  pub made : now.waits_made ≡ old.waits_made
+  pub list : IsSifting test old.waits place now.waits
+
+module _ (test : Wait → Bool) (old : Objects) where
+  pub ending_starts : IsEnding test old 0 old
+  ending_starts = record { beside = beside_same old; made = refl; list = sifting_starts test old.waits }
+
+  module _ (place : ℕ) (now : Objects) (so_far : IsEnding test old place now) where
+    pub ends_all : slice_get now.waits place ≡ None → EndsWaits test old now
+    ends_all none = record { beside = so_far.beside; waits = sifting_ends test old.waits place now.waits none so_far.list; made = so_far.made }
+
+    module _ (x : Wait) (at : slice_get now.waits place ≡ Some x) where
+      pub one_stays : test x ≡ false → IsEnding test old (place + 1) now
+      one_stays fail = record { beside = so_far.beside; made = so_far.made; list = sifting_stays test old.waits place now.waits x at fail so_far.list }
+
+      -- the operation takes the earliest out of those that a narrower test asks for
+      module _ (narrow : Wait → Bool) (wider : (y : Wait) → narrow y ≡ true → test y ≡ true) (asked : narrow x ≡ true) (k : ℕ) (watch : Watch → Bool)
+          (after : Objects) (is : after ≡ unwatching (unlisting narrow now) k watch) where
+        still_beside : AreBeside old (unwatching (unlisting narrow now) k watch)
+        still_beside = beside_then old (unlisting narrow now) (unwatching (unlisting narrow now) k watch)
+            (record { objects = so_far.beside.objects; koids = so_far.beside.koids }) (unwatching_beside (unlisting narrow now) k watch)
+
+        pub narrow_ends : IsEnding test old place after
+        narrow_ends = subst (λ (r : Objects). IsEnding test old place r) (sym is) (record {
+          beside = still_beside;
+          made = so_far.made;
+          list = sifting_takes test narrow wider old.waits place now.waits x at asked so_far.list;
+        })
+
+        pub narrow_fewer : length after.waits * 2 - place < length now.waits * 2 - place
+        narrow_fewer =
+            let less : length after.waits ≡ length (unwatching (unlisting narrow now) k watch).waits = ap (λ (r : Objects). length r.waits) is in
+            omega (arith, less, one_less test narrow wider old.waits place now.waits x at asked so_far.list, slice_get_within now.waits place x at)
+
+      -- it asks for the same at the object of the wait
+      module _ (passes : test x ≡ true) (watch : Watch → Bool) (after : Objects)
+          (is : after ≡ unwatching (unlisting (λ y. (y.object == x.object) && test y) now) x.object watch) where
+        here : ((x.object == x.object) && test x) ≡ true
+        here = rw (eq-eqb x.object x.object refl) passes
+
+        there : (y : Wait) → ((y.object == x.object) && test y) ≡ true → test y ≡ true
+        there y both = (and_parts (y.object == x.object) (test y) both).1
+
+        pub one_ends : IsEnding test old place after
+        one_ends = narrow_ends (λ y. (y.object == x.object) && test y) there here x.object watch after is
+
+        pub one_fewer : length after.waits * 2 - place < length now.waits * 2 - place
+        one_fewer = narrow_fewer (λ y. (y.object == x.object) && test y) there here x.object watch after is
+
+-- so far some have ended just where some were there that pass
+pub record IsCancelling (test : Wait → Bool) (old : Objects) (any : Bool) (place : ℕ) (now : Objects) : Type 0 where
+  pub ending : IsEnding test old place now
+  pub found : list_any test old.waits ≡ (any || list_any test now.waits)
+
+module _ (test : Wait → Bool) (old : Objects) where
+  pub cancelling_starts : IsCancelling test old false 0 old
+  cancelling_starts = record { ending = ending_starts test old; found = refl }
+
+  module _ (any : Bool) (place : ℕ) (now : Objects) (so_far : IsCancelling test old any place now) where
+    pub any_ended : slice_get now.waits place ≡ None → any ≡ list_any test old.waits
+    any_ended none = sym (so_far.found ∙ (ap (λ b. any || b) (none_there test old.waits place now.waits none so_far.ending.list) ∙ by any))
+      where
+        by : (b : Bool) → (b || false) ≡ b
+        by true = refl
+        by false = refl
+
+    module _ (x : Wait) (at : slice_get now.waits place ≡ Some x) where
+      pub one_uncancelled : test x ≡ false → IsCancelling test old any (place + 1) now
+      one_uncancelled fail = record { ending = one_stays test old place now so_far.ending x at fail; found = so_far.found }
+
+      pub one_cancelled : test x ≡ true → (watch : Watch → Bool) (after : Objects)
+          → after ≡ unwatching (unlisting (λ y. (y.object == x.object) && test y) now) x.object watch → IsCancelling test old true place after
+      one_cancelled pass watch after is = record {
+        ending = one_ends test old place now so_far.ending x at pass watch after is;
+        found = so_far.found ∙ or_right any _ (any_there test now.waits place x at pass);
+      }
+
+-- ---- the waits whose handle, object or port is gone
+
+module _ (ps : List Process) (old : Objects) where
+  abbrev pub is_over : Wait → Bool
+  is_over x = not (is_left (world_value ps old) x)
+
+  -- what is left is asked of the objects as they are now
+  pub still_left : (now : Objects) → AreBeside old now → (x : Wait) → is_left (world_value ps now) x ≡ is_left (world_value ps old) x
+  still_left now beside x = ap (λ (w : World). is_left w x) (beside_world ps old now beside)
+
+  -- a wait that is the same but for its mask is over as well
+  pub over_too : (x y : Wait) → is_over x ≡ true → is_keyed_at x.object x.pid x.value x.port x.key y ≡ true → is_over y ≡ true
+  unfolding is_made_by_handle
+  over_too x y over same =
+      let at = and_parts (y.object == x.object) _ same in
+      let by = and_parts ((y.pid == x.pid) && (y.value == x.value)) _ at.1 in
+      let who = and_parts (y.pid == x.pid) _ by.0 in
+      let to = and_parts (y.port == x.port) _ by.1 in
+      let object : y.object ≡ x.object = eqb-true y.object x.object at.0 in
+      let pid : y.pid ≡ x.pid = eqb-true y.pid x.pid who.0 in
+      let value : y.value ≡ x.value = eqb-true y.value x.value who.1 in
+      let port : y.port ≡ x.port = eqb-true y.port x.port to.0 in
+      (λ i. is_over (record { pid = pid i; value = value i; object = object i; port = port i; key = y.key; mask = y.mask })) ∙ over
+
+  pub asks_for_itself : (x : Wait) → is_keyed_at x.object x.pid x.value x.port x.key x ≡ true
+  asks_for_itself x =
+      rw (eq-eqb x.object x.object refl, eq-eqb x.pid x.pid refl, eq-eqb x.value x.value refl, eq-eqb x.port x.port refl) (eq-eqb x.key x.key refl)
+
+  module _ (lab : IsConsistent ps old) (place : ℕ) (now : Objects) (so_far : IsEnding is_over old place now) where
+    pub unheld_ended : slice_get now.waits place ≡ None → EndsUnheld ps old now
+    unheld_ended none =
+        let over = ends_all is_over old place now so_far none in
+        record {
+          world = λ blocked.
+              λ i. record (beside_world ps old now so_far.beside i) { waits = (over.waits ∙ left_is) i; waits_made = over.made i; blocked = blocked };
+          lab = beside_lab ps old now so_far.beside lab;
+        }
+      where
+        left_is : filter (λ x. not (is_over x)) old.waits ≡ filter (is_left (world_value ps old)) old.waits
+        left_is = λ i. filter (λ x. twice (is_left (world_value ps old) x) i) old.waits
+          where
+            twice : (b : Bool) → not (not b) ≡ b
+            twice true = refl
+            twice false = refl
+
+    module _ (x : Wait) (at : slice_get now.waits place ≡ Some x) where
+      pub held_stays : is_left (world_value ps now) x ≡ true → IsEnding is_over old (place + 1) now
+      held_stays left = one_stays is_over old place now so_far x at (ap not (sym (still_left now so_far.beside x) ∙ left))
+
+      module _ (gone : is_left (world_value ps now) x ≡ false) (watch : Watch → Bool) (after : Objects)
+          (is : after ≡ unwatching (unlisting (is_keyed_at x.object x.pid x.value x.port x.key) now) x.object watch) where
+        over : is_over x ≡ true
+        over = ap not (sym (still_left now so_far.beside x) ∙ gone)
+
+        pub unheld_ends : IsEnding is_over old place after
+        unheld_ends =
+            narrow_ends is_over old place now so_far x at (is_keyed_at x.object x.pid x.value x.port x.key) (λ y. over_too x y over)
+            (asks_for_itself x) x.object watch after is
+
+        pub unheld_fewer : length after.waits * 2 - place < length now.waits * 2 - place
+        unheld_fewer =
+            narrow_fewer is_over old place now so_far x at (is_keyed_at x.object x.pid x.value x.port x.key) (λ y. over_too x y over)
+            (asks_for_itself x) x.object watch after is

@@ -1,0 +1,419 @@
+-- Registered waits fire one after another, in the order of the list.
+use Rattle.zl_calls.proofs.Common.{◌≡◌, ◌<◌, ◌≤◌, ◌+◌, ℕ, zero, suc, Bool, true, false, ◌&&◌, ◌==◌, ◌++◌, List, [], ◌∷◌, length, take, map, slice_get, refl}
+use Rattle.zl_calls.proofs.Common.{sym, ap, ◌∙◌, subst, cond, inl, inr, Option, Some, None, arith, cases_Bool, eqb-true, eq-eqb, none-some, same_Some}
+use Rattle.zl_calls.proofs.Common.{option_map, list_any, nat_cmp, below_all, is_sorted, length-append, and_from, position_or_len, sum_by-cons, queued_to}
+use Rattle.zl_calls.proofs.Common.{is_process, Map, update, get, handles_to, fired, kind_of, Objects, Agrees, AreNamed, IsConsistent, is_child, stays_alone}
+use Rattle.zl_calls.proofs.Common.{is_job_body, is_in_job, body_value, object_entry, object_value, world_blocked, world_value, World}
+use Rattle.std.specs.List.{find}
+use Rattle.std.specs.Prelude.{◌-◌, drop}
+use Rattle.std.proofs.lemmas.Bool.{or_parts}
+use Rattle.std.proofs.lemmas.Option.{slice_get_within}
+use Rattle.zl_rights.specs.Numbers.{meets}
+use Rattle.zl_rights.specs.Signals.{active, has_child_job, has_child_process}
+use Rattle.zl_rights.specs.Wakes.{holds, packet_of}
+use Rattle.zl_rights.specs.World.{Packet, Wait}
+use Rattle.zl_rights.proofs.MapTests.{list_any-and}
+use Rattle.zl_signals.specs.declared.watch.Watch.{Watch}
+use Rattle.zl_signals.specs.Waits.{holds as holds_there, wait_at, without_first}
+use Rattle.zl_port.specs.Packets.{Port, with_packet, without_place}
+use Rattle.zl_code.proofs.Common.{Object as ObjectValue}
+use Rattle.zl_code.specs.Waiting.{body_packed, repacked}
+use Rattle.zl_objects.specs.declared.object.Body.{Body}
+use Rattle.zl_objects.specs.declared.object.Body.TheVariants as body
+use Rattle.zl_objects.specs.declared.object.Object.{Object}
+use Rattle.zl_objects.specs.Listed.{holds_at, unlisting}
+use Rattle.zl_objects.specs.Objects.{queue_of}
+use Rattle.zl_objects.specs.Ports.{at_port, changed_port, changing_port}
+use Rattle.zl_objects.specs.Signals.{signals_at}
+use Rattle.zl_objects.specs.Waits.{at_port_of, firing, unwatched, unwatching, waits_in, packet_of as packet_given}
+use Rattle.zl_calls.specs.declared.process.Process.{Process}
+use Rattle.zl_calls.specs.Registered.{AreBeside, FiresWaits}
+use Rattle.zl_calls.proofs.objects.Active.{signals_active}
+use Rattle.zl_calls.proofs.objects.SameButWaits.{beside_lab, beside_seen, unwatching_beside}
+use Rattle.zl_calls.proofs.objects.Counting.{queues}
+use Rattle.zl_calls.proofs.waits.Firing.{active_alike, after_one, fired_none, fired_one, one_holds}
+use Rattle.zl_calls.proofs.objects.Rebodied.{KeepsKind, named_rebodied, rebodied_next}
+use Rattle.zl_calls.proofs.objects.SameBodies.{still_named}
+use Rattle.zl_calls.proofs.lists.Updates.{update_seen, update_twice}
+use Rattle.zl_calls.proofs.processes.Written.{IsNext}
+
+-- those before the place in the list don't hold; all fire to the same world as from the objects that were first
+pub record IsFiring (ps : List Process) (first : Objects) (place : ℕ) (r : Objects) : Type 0 where
+  pub lab : IsConsistent ps r
+  pub so_far : (blocked : List ℕ) → fired (world_blocked ps r blocked) ≡ fired (world_blocked ps first blocked)
+  pub before : list_any (holds (world_value ps r)) (take place r.waits) ≡ false
+
+-- ---- an element of a list, where none before it passes
+
+cut_later : {X : Type 0} (n : ℕ) (x : X) (xs : List X) → take (1 + n) (x ∷ xs) ++ drop (1 + n + 1) (x ∷ xs) ≡ x ∷ (take n xs ++ drop (n + 1) xs)
+cut_later n x xs =
+    let one : ◌≡◌ {A = ℕ} (1 + n) (suc n) = omega arith in
+    let two : ◌≡◌ {A = ℕ} (1 + n + 1) (suc (n + 1)) = omega arith in
+    λ i. take (one i) (x ∷ xs) ++ drop (two i) (x ∷ xs)
+
+module _ {X : Type 0} where
+  at_split : (xs : List X) (i : ℕ) (x : X) → slice_get xs i ≡ Some x → xs ≡ take i xs ++ x ∷ drop (suc i) xs
+  at_split [] i x at = absurd (none-some x at)
+  at_split (y ∷ xs) zero x at = ap (λ z. z ∷ xs) (same_Some y x at)
+  at_split (y ∷ xs) (suc i) x at = ap (λ (ys : List X). y ∷ ys) (at_split xs i x at)
+
+  take_again : (xs ys : List X) (i : ℕ) → i ≤ length xs → take i (take i xs ++ ys) ≡ take i xs
+  take_again xs ys zero within = refl
+  take_again [] ys (suc i) within = absurd (omega (arith, within))
+  take_again (x ∷ xs) ys (suc i) within = ap (λ (zs : List X). x ∷ zs) (take_again xs ys i (omega (arith, within)))
+
+  module _ (test : X → Bool) where
+    first_out : (x : X) (xs : List X) → without_first test (x ∷ xs) ≡ cond (test x) xs (x ∷ without_first test xs)
+    first_out x xs = elim (cases_Bool (test x)) as (λ _. without_first test (x ∷ xs) ≡ cond (test x) xs (x ∷ without_first test xs)) [
+      | inl here ↦ rw here refl
+      | inr apart ↦ rw apart (cut_later (position_or_len test xs) x xs)
+    ]
+
+    taken_out : (xs : List X) (i : ℕ) (x : X) → slice_get xs i ≡ Some x → list_any test (take i xs) ≡ false → test x ≡ true
+        → without_first test xs ≡ take i xs ++ drop (suc i) xs
+    taken_out [] i x at none passes = absurd (none-some x at)
+    taken_out (y ∷ xs) zero x at none passes = first_out y xs ∙ rw (ap test (same_Some y x at) ∙ passes) refl
+    taken_out (y ∷ xs) (suc i) x at none passes =
+        let both = or_parts (test y) (list_any test (take i xs)) none in
+        first_out y xs ∙ rw both.0 (ap (λ (ys : List X). y ∷ ys) (taken_out xs i x at both.1 passes))
+
+    found_at : (xs : List X) (i : ℕ) (x : X) → slice_get xs i ≡ Some x → list_any test (take i xs) ≡ false → test x ≡ true → find test xs ≡ Some x
+    found_at [] i x at none passes = absurd (none-some x at)
+    found_at (y ∷ xs) zero x at none passes = rw (ap test (same_Some y x at) ∙ passes) at
+    found_at (y ∷ xs) (suc i) x at none passes =
+        let both = or_parts (test y) (list_any test (take i xs)) none in
+        rw both.0 (found_at xs i x at both.1 passes)
+
+    none_next : (xs : List X) (i : ℕ) (x : X) → slice_get xs i ≡ Some x → list_any test (take i xs) ≡ false → test x ≡ false
+        → list_any test (take (suc i) xs) ≡ false
+    none_next [] i x at none fails = absurd (none-some x at)
+    none_next (y ∷ xs) zero x at none fails = rw (ap test (same_Some y x at) ∙ fails) refl
+    none_next (y ∷ xs) (suc i) x at none fails =
+        let both = or_parts (test y) (list_any test (take i xs)) none in
+        rw both.0 (none_next xs i x at both.1 fails)
+
+    none_at_all : (xs : List X) (i : ℕ) → slice_get xs i ≡ None → list_any test (take i xs) ≡ false → list_any test xs ≡ false
+    none_at_all [] i past none = refl
+    none_at_all (x ∷ xs) zero past none = absurd (none-some x (sym past))
+    none_at_all (x ∷ xs) (suc i) past none =
+        let both = or_parts (test x) (list_any test (take i xs)) none in
+        rw both.0 (none_at_all xs i past both.1)
+
+-- ---- the waits that hold
+
+-- which processes block changes no signal
+module _ (ps : List Process) (r : Objects) (blocked : List ℕ) where
+  active_blocked : (k : ℕ) → active (world_blocked ps r blocked) k ≡ active (world_value ps r) k
+  unfolding active has_child_job has_child_process is_process
+  active_blocked k =
+      active_alike (world_value ps r) (world_blocked ps r blocked) (record { keys = λ j. refl; jobs = λ j. refl; processes = λ j. refl; ended = λ j. refl }) k
+      (get (map object_entry r.objects) k)
+
+  holds_blocked : holds (world_blocked ps r blocked) ≡ holds (world_value ps r)
+  unfolding holds
+  holds_blocked = λ i. λ x. meets (active_blocked x.object i) x.mask
+
+-- those at one object
+at_object : (w : World) (k : ℕ) → holds_at k (active w k) ≡ (λ x. (x.object == k) && holds w x)
+unfolding holds
+at_object w k = λ i. λ (x : Wait). by_key x.object x.mask i
+  where
+    by_key : (j mask : ℕ) → ((j == k) && meets (active w k) mask) ≡ ((j == k) && meets (active w j) mask)
+    by_key j mask = elim (cases_Bool (j == k)) as (λ _. ((j == k) && meets (active w k) mask) ≡ ((j == k) && meets (active w j) mask)) [
+      | inl here ↦ ap (λ (n : ℕ). (j == k) && meets (active w n) mask) (sym (eqb-true j k here))
+      | inr apart ↦ rw apart refl
+    ]
+
+none_at : (w : World) (k : ℕ) (xs : List Wait) → list_any (holds w) xs ≡ false → list_any (holds_at k (active w k)) xs ≡ false
+none_at w k xs none = ap (λ (test : Wait → Bool). list_any test xs) (at_object w k) ∙ list_any-and (holds w) (λ x. x.object == k) xs none
+
+-- ---- a packet more at a port
+
+agrees_beside : (ps : List Process) (r r2 : Objects) (k : ℕ) (b : Body) → Agrees (world_value ps r) k b → Agrees (world_value ps r2) k b
+unfolding is_process
+agrees_beside ps r r2 k (body.Job own) agrees = agrees
+agrees_beside ps r r2 k (body.Process job lives) agrees = record { running = agrees.running; living = agrees.living; over = agrees.over }
+agrees_beside ps r r2 k body.Event agrees = agrees
+agrees_beside ps r r2 k (body.ChannelEnd peer queue) agrees = agrees
+agrees_beside ps r r2 k (body.Port port) agrees = agrees
+
+module _ (f : Port → Port) where
+  port_keeps : KeepsKind (changed_port f)
+  port_keeps = record { kind = kind_kept; living = living_kept; job = job_kept; in_job = in_job_kept; alone = alone_kept; agrees = agrees_kept }
+    where
+      kind_kept : (b : Body) → kind_of (body_value (changed_port f b)) ≡ kind_of (body_value b)
+      kind_kept (body.Port port) = refl
+      kind_kept _ = refl
+
+      living_kept : (j : ℕ) (b : Body) → is_child j (changed_port f b) ≡ is_child j b
+      living_kept j (body.Port port) = refl
+      living_kept j _ = refl
+
+      job_kept : (b : Body) → is_job_body (changed_port f b) ≡ is_job_body b
+      job_kept (body.Port port) = refl
+      job_kept _ = refl
+
+      in_job_kept : (m : Map Object) (b : Body) → is_in_job m (changed_port f b) ≡ is_in_job m b
+      in_job_kept m (body.Port port) = refl
+      in_job_kept m _ = refl
+
+      alone_kept : (m : Map Object) (k : ℕ) (b : Body) → stays_alone m k (changed_port f b) ≡ stays_alone m k b
+      alone_kept m k (body.Port port) = refl
+      alone_kept m k _ = refl
+
+      agrees_kept : (w : World) (k : ℕ) (b : Body) → Agrees w k b → Agrees w k (changed_port f b)
+      agrees_kept w k (body.Port port) agrees = agrees
+      agrees_kept w k _ agrees = agrees
+
+  same_queue : (b : Body) → queue_of (changed_port f b) ≡ queue_of b
+  same_queue (body.Port port) = refl
+  same_queue _ = refl
+
+  queues_kept : (os : Map Object) (k j : ℕ) → queues (update os k (at_port f)) j ≡ queues os j
+  unfolding update
+  queues_kept [] k j = refl
+  queues_kept (e ∷ os) k j = elim (cases_Bool (e.0 == k)) as (λ _. queues (update (e ∷ os) k (at_port f)) j ≡ queues (e ∷ os) j) [
+    | inl here ↦ rw here (omega (
+      arith,
+      sum_by-cons n (object_entry (k, at_port f e.1)) (map object_entry os),
+      sum_by-cons n (object_entry e) (map object_entry os),
+      by_body e.1.body,
+    ))
+    | inr apart ↦ rw apart (omega (
+      arith,
+      sum_by-cons n (object_entry e) (map object_entry (update os k (at_port f))),
+      sum_by-cons n (object_entry e) (map object_entry os),
+      queues_kept os k j,
+    ))
+  ]
+    where
+      n : ℕ × ObjectValue → ℕ
+      n o = queued_to j o.1.body
+
+      by_body : (b : Body) → queued_to j (body_value (changed_port f b)) ≡ queued_to j (body_value b)
+      by_body (body.Port port) = refl
+      by_body _ = refl
+
+  -- a port changes, and no process
+  module _ (ps : List Process) (r : Objects) (lab : IsConsistent ps r) (k : ℕ) where
+    counts_kept : (j : ℕ) → handles_to (world_value ps (changing_port r k f)) j ≡ handles_to (world_value ps r) j
+    unfolding handles_to
+    counts_kept j = omega (arith, queues_kept r.objects k j)
+
+    port_next : IsNext ps ps r (changing_port r k f)
+    port_next = rebodied_next (changed_port f) port_keeps ps ps r lab k
+        (λ o at. subst (AreNamed (changing_port r k f).objects) (sym (same_queue o.body))
+        (still_named r.objects (changing_port r k f).objects (named_rebodied (changed_port f) port_keeps r.objects k) (queue_of o.body) (lab.queued k o at)))
+        counts_kept
+
+    port_lab : IsConsistent ps (changing_port r k f)
+    port_lab = record {
+      processes_in_order = lab.processes_in_order;
+      given_processes = lab.given_processes;
+      given_objects = port_next.given_objects;
+      koids = port_next.koids;
+      above_zero = lab.above_zero;
+      no_zero = port_next.no_zero;
+      tables = lab.tables;
+      named = λ j p v e at there. port_next.named e (lab.named j p v e at there);
+      queued = port_next.queued;
+      counted = port_next.counted;
+      agrees = λ j o at. agrees_beside ps r (changing_port r k f) j o.body (port_next.agrees j o at);
+      in_jobs = port_next.in_jobs;
+      kept = port_next.kept;
+    }
+
+-- ---- the order of keys
+
+below_seen : (k : ℕ) (m : Map Object) → below_all nat_cmp k (map object_entry m) ≡ below_all nat_cmp k m
+below_seen k [] = refl
+below_seen k (e ∷ m) = rw (below_seen k m) refl
+
+sorted_seen : (m : Map Object) → is_sorted nat_cmp (map object_entry m) ≡ is_sorted nat_cmp m
+sorted_seen [] = refl
+sorted_seen (e ∷ m) = rw (below_seen e.0 m, sorted_seen m) refl
+
+-- ---- the loop
+
+module _ (ps : List Process) (first : Objects) (place : ℕ) (r : Objects) (so_far : IsFiring ps first place r) where
+  -- signals of the object k
+  module _ (k a : ℕ) (is : a ≡ signals_at r.objects k) where
+    active_here : a ≡ active (world_value ps r) k
+    active_here = is ∙ signals_active ps r so_far.lab k
+
+    none_first : list_any (holds_at k a) (take place r.waits) ≡ false
+    none_first =
+        subst (λ (n : ℕ). list_any (holds_at k n) (take place r.waits) ≡ false) (sym active_here)
+        (none_at (world_value ps r) k (take place r.waits) so_far.before)
+
+    abbrev fired_here : Objects
+    fired_here = firing (unlisting (holds_at k a) r) k a
+
+    -- the wait at the place is the earliest there that holds
+    module _ (y : Watch) (at : slice_get r.waits place ≡ Some (wait_at k y)) (now : meets a y.mask.0 ≡ true)
+        (earliest : find (holds_there a) (waits_in (get r.objects k)) ≡ Some y) where
+      abbrev before_it : List Wait
+      before_it = take place r.waits
+
+      abbrev behind_it : List Wait
+      behind_it = drop (suc place) r.waits
+
+      waits_are : fired_here.waits ≡ before_it ++ behind_it
+      waits_are = taken_out (holds_at k a) r.waits place (wait_at k y) at none_first (and_from (k == k) (meets a y.mask.0) (eq-eqb k k refl) now)
+
+      -- the place is given back first, and then the packet comes
+      abbrev without_it : Objects
+      without_it = unwatching (unlisting (holds_at k a) r) k (holds_there a)
+
+      abbrev with_it : Port → Port
+      with_it p = with_packet p (packet_given k a y)
+
+      at_port_twice : (o : Object) → at_port with_it (at_port without_place o) ≡ at_port (λ p. with_it (without_place p)) o
+      at_port_twice o = λ i. record o { body = by_body o.body i }
+        where
+          by_body : (b : Body) → changed_port with_it (changed_port without_place b) ≡ changed_port (λ p. with_it (without_place p)) b
+          by_body (body.Port port) = refl
+          by_body (body.Job own) = refl
+          by_body (body.Process job lives) = refl
+          by_body body.Event = refl
+          by_body (body.ChannelEnd peer queue) = refl
+
+      abbrev unwatched_it : Map Object
+      unwatched_it = update r.objects k (unwatched (holds_there a))
+
+      objects_are : fired_here.objects ≡ update without_it.objects y.port (at_port with_it)
+      objects_are = ap (λ (o : Option Watch). at_port_of o (λ x port. with_packet (without_place port) (packet_given k a x)) unwatched_it) earliest
+          ∙ (sym (update_twice unwatched_it y.port (at_port without_place) (at_port with_it) ∙ (λ i. update unwatched_it y.port (λ o. at_port_twice o i)))
+          ∙ ap (λ (o : Option Watch). update (at_port_of o (λ x. without_place) unwatched_it) y.port (at_port with_it)) (sym earliest))
+
+      fired_is : fired_here ≡ changing_port without_it y.port with_it
+      fired_is = λ i. record (unlisting (holds_at k a) r) { objects = objects_are i }
+
+      beside_it : AreBeside r without_it
+      beside_it = record { objects = (unwatching_beside (unlisting (holds_at k a) r) k (holds_there a)).objects; koids = refl }
+
+      fired_lab : IsConsistent ps fired_here
+      fired_lab = subst (IsConsistent ps) (sym fired_is) (port_lab with_it ps without_it (beside_lab ps r without_it beside_it so_far.lab) y.port)
+
+      -- ---- the world after it
+
+      module _ (blocked : List ℕ) where
+        abbrev w : World
+        w = world_blocked ps r blocked
+
+        packet_same : packet_given k a y ≡ packet_of w (wait_at k y)
+        packet_same = λ i. record {
+          kind = 1;
+          key = y.key;
+          trigger = y.mask.0;
+          observed = (active_here ∙ sym (active_blocked ps r blocked k)) i;
+          source = Some (record { pid = y.pid; value = y.value; object = k });
+        }
+
+        port_seen : (o : Object) → object_value (at_port with_it o) ≡ repacked (λ (qs : List Packet). qs ++ packet_given k a y ∷ []) (object_value o)
+        port_seen o = ap (λ b. record { body = b; raised = o.signals.raised }) (by_body o.body)
+          where
+            by_body : (b : Body) → body_value (changed_port with_it b) ≡ body_packed (λ (qs : List Packet). qs ++ packet_given k a y ∷ []) (body_value b)
+            by_body (body.Port port) = refl
+            by_body (body.Job own) = refl
+            by_body (body.Process job lives) = refl
+            by_body body.Event = refl
+            by_body (body.ChannelEnd peer queue) = refl
+
+        seen : map object_entry fired_here.objects
+            ≡ update (map object_entry r.objects) y.port (repacked (λ (qs : List Packet). qs ++ packet_of w (wait_at k y) ∷ []))
+        seen = ap (map object_entry) objects_are
+            ∙ (update_seen object_value without_it.objects y.port (at_port with_it) (repacked (λ (qs : List Packet). qs ++ packet_given k a y ∷ [])) port_seen
+            ∙ (λ i. update (beside_seen ps r without_it beside_it i) y.port (repacked (λ (qs : List Packet). qs ++ packet_same i ∷ []))))
+
+        world_is : world_blocked ps fired_here blocked ≡ after_one w before_it behind_it (wait_at k y)
+        world_is = λ i. record w { objects = seen i; waits = waits_are i }
+
+        now_held : holds w (wait_at k y) ≡ true
+        unfolding holds
+        now_held = ap (λ (n : ℕ). meets n y.mask.0) (active_blocked ps r blocked k ∙ sym active_here) ∙ now
+
+        same_fired : fired (world_blocked ps fired_here blocked) ≡ fired (world_blocked ps first blocked)
+        same_fired = ap fired world_is
+            ∙ (fired_one w before_it behind_it (wait_at k y) (at_split r.waits place (wait_at k y) at)
+            (ap (λ (test : Wait → Bool). list_any test before_it) (holds_blocked ps r blocked) ∙ so_far.before) now_held
+            (sorted_seen r.objects ∙ so_far.lab.kept.in_order)
+            ∙ so_far.so_far blocked)
+
+      same_holds : holds (world_value ps fired_here) ≡ holds (world_value ps r)
+      same_holds =
+          sym (holds_blocked ps fired_here [])
+          ∙ (ap holds (world_is []) ∙ (one_holds (world_blocked ps r []) before_it behind_it (wait_at k y) ∙ holds_blocked ps r []))
+
+      fired_turn : IsFiring ps first place fired_here
+      fired_turn = record {
+        lab = fired_lab;
+        so_far = same_fired;
+        before = (λ i. list_any (same_holds i) (take place (waits_are i)))
+            ∙ (ap (list_any (holds (world_value ps r))) (take_again r.waits behind_it place (omega (arith, slice_get_within r.waits place (wait_at k y) at)))
+            ∙ so_far.before);
+      }
+
+  -- ---- a turn
+
+  -- the wait x stands at the place
+  module _ (x : Wait) (at : slice_get r.waits place ≡ Some x) (a : ℕ) (is : a ≡ signals_at r.objects x.object) where
+    -- it holds, and is taken out
+    module _ (now : meets a x.mask ≡ true) where
+      passes_here : holds_at x.object a x ≡ true
+      passes_here = and_from (x.object == x.object) (meets a x.mask) (eq-eqb x.object x.object refl) now
+
+      pub turn_fired : (taken : Option Watch) → taken ≡ find (holds_there a) (waits_in (get r.objects x.object))
+          → option_map (wait_at x.object) taken ≡ find (holds_at x.object a) r.waits
+          → IsFiring ps first place (firing (unlisting (holds_at x.object a) r) x.object a)
+      turn_fired taken earliest listed =
+          by_taken taken earliest (listed ∙ found_at (holds_at x.object a) r.waits place x at (none_first x.object a is) passes_here)
+        where
+          by_taken : (o : Option Watch) → o ≡ find (holds_there a) (waits_in (get r.objects x.object)) → option_map (wait_at x.object) o ≡ Some x
+              → IsFiring ps first place (firing (unlisting (holds_at x.object a) r) x.object a)
+          by_taken None none some = absurd (none-some x some)
+          by_taken (Some y) earliest some =
+              let same : wait_at x.object y ≡ x = same_Some (wait_at x.object y) x some in
+              fired_turn x.object a is y (at ∙ ap (λ (z : Wait). Some z) (sym same)) (ap (λ (z : Wait). meets a z.mask) same ∙ now) (sym earliest)
+
+      pub fewer_left : length (firing (unlisting (holds_at x.object a) r) x.object a).waits - place < length r.waits - place
+      fewer_left =
+          let out : length (without_first (holds_at x.object a) r.waits) ≡ length (take place r.waits ++ drop (suc place) r.waits)
+          = ap (λ (xs : List Wait). length xs) (taken_out (holds_at x.object a) r.waits place x at (none_first x.object a is) passes_here) in
+          let whole : length r.waits ≡ length (take place r.waits ++ x ∷ drop (suc place) r.waits) =
+          ap (λ (xs : List Wait). length xs) (at_split r.waits place x at) in
+          omega (
+            arith,
+            out,
+            whole,
+            slice_get_within r.waits place x at,
+            length-append (take place r.waits) (drop (suc place) r.waits),
+            length-append (take place r.waits) (x ∷ drop (suc place) r.waits),
+          )
+
+    -- it doesn't hold, and stays
+    pub turn_kept : meets a x.mask ≡ false → IsFiring ps first (place + 1) r
+    unfolding holds
+    turn_kept fails =
+        let next : place + 1 ≡ suc place = omega arith in
+        record {
+          lab = so_far.lab;
+          so_far = so_far.so_far;
+          before = ap (λ (n : ℕ). list_any (holds (world_value ps r)) (take n r.waits)) next
+              ∙ none_next (holds (world_value ps r)) r.waits place x at so_far.before
+              (ap (λ (n : ℕ). meets n x.mask) (sym (active_here x.object a is)) ∙ fails);
+        }
+
+  -- all waits have had their turn
+  pub all_fired : slice_get r.waits place ≡ None → FiresWaits ps first r
+  all_fired past = record {
+    world = λ blocked. sym (fired_none (world_blocked ps r blocked) (ap (λ (test : Wait → Bool). list_any test r.waits) (holds_blocked ps r blocked)
+        ∙ none_at_all (holds (world_value ps r)) r.waits place past so_far.before)) ∙ so_far.so_far blocked;
+    lab = so_far.lab;
+  }
+
+-- ---- the place
+
+module _ (r : Objects) (place : ℕ) (x : Wait) (at : slice_get r.waits place ≡ Some x) where
+  pub fewer_behind : length r.waits - (place + 1) < length r.waits - place
+  fewer_behind = omega (arith, slice_get_within r.waits place x at)

@@ -1,0 +1,150 @@
+-- What a process does beside registered waits and blocked processes: those waits are left whose handle, object and port are.
+use Rattle.zl_calls.proofs.Common.{◌≡◌, ℕ, suc, Bool, true, false, ◌&&◌, List, [], ◌∷◌, map, refl, sym, ap, ◌∙◌, subst, Option, Some, None, inl, inr, IsTrue}
+use Rattle.zl_calls.proofs.Common.{arith, cases_Bool, false≢true, none-some, All, and_from, and_parts, entry_at, get, has_key, state_passes, AtCall, Library}
+use Rattle.zl_calls.proofs.Common.{Ready, Settles, Site, next_for, Objects, process_entry, object_entry, world_blocked, world_value, IsActed, AreBlocked}
+use Rattle.std.specs.List.{filter}
+use Rattle.std.specs.Prelude.{slice_index_or}
+use Rattle.std.proofs.lemmas.List.Elements.{filter_passes}
+use Rattle.zl_rights.specs.Settle.{is_made_by_handle}
+use Rattle.zl_rights.specs.World.{Wait, World}
+use Rattle.zl_rights.specs.declared.entry.Entry.{Entry}
+use Rattle.zl_code.proofs.Common.{Process as ProcessValue, is_blocked, pid_of, names_its_object, IsSound as IsSoundWorld}
+use Rattle.zl_code.specs.Calls.{Calls}
+use Rattle.zl_code.specs.Sound.{IsSoundWait}
+use Rattle.zl_code.specs.declared.history.CallName.{CallName}
+use Rattle.zl_code.specs.declared.history.Outcome.{Outcome}
+use Rattle.zl_code.specs.declared.history.TraceItem.{TraceItem}
+use Rattle.zl_code.specs.declared.history.TraceItem.TheVariants as item
+use Rattle.zl_code.proofs.SoundRuns.{settled_sound}
+use Rattle.zl_code.proofs.StepsBeside.{ActsAndSettles, next_looks, tells_blocking, waits_by}
+use Rattle.zl_code.proofs.StepsWaiting.{settles_waiting, step_waiting, is_left as is_left_at_port}
+use Rattle.zl_code.proofs.Waiters.{with_waiters}
+use Rattle.zl_objects.proofs.Law.{has_seen}
+use Rattle.zl_objects.specs.Listed.{is_there}
+use Rattle.zl_calls.specs.Registered.{ListsBut, is_left, world_left}
+use Rattle.zl_calls.specs.declared.process.Process.{Process}
+use Rattle.zl_calls.proofs.waking.BlockedLists.{same_blocked}
+use Rattle.zl_calls.proofs.processes.Departed.{left_all, settled_world}
+
+-- what passes the stricter test are those that pass the other, where each of these passes it
+agreeing : {X : Type 0} (p q : X → Bool) (xs : List X) → ((x : X) → IsTrue (p x) → IsTrue (q x)) → All (λ x. p x ≡ true) (filter q xs)
+    → filter p xs ≡ filter q xs
+agreeing p q [] within all = refl
+agreeing {X} p q (x ∷ xs) within all = elim (cases_Bool (q x)) as (λ _. filter p (x ∷ xs) ≡ filter q (x ∷ xs)) [
+  | inl there ↦
+      let both : All (λ y. p y ≡ true) (x ∷ filter q xs) = rw there at all in
+      rw (there, both 0 x (omega arith)) (ap (λ (ys : List X). x ∷ ys) (agreeing p q xs within (λ i d inside. both (suc i) d (omega (arith, inside)))))
+  | inr gone ↦ elim (cases_Bool (p x)) as (λ _. filter p (x ∷ xs) ≡ filter q (x ∷ xs)) [
+    | inl passes ↦ absurd (false≢true (sym gone ∙ within x passes))
+    | inr fails ↦ rw (gone, fails) (agreeing p q xs within (rw gone at all))
+  ]
+]
+
+-- in a sound world each wait's object is there
+pub watched_there : (w : World) → IsSoundWorld w → All (λ (x : Wait). IsTrue (has_key w.objects x.object)) w.waits
+unfolding get
+watched_there w sound i d inside = one (slice_index_or w.waits i d) (sound.waits i d inside)
+  where
+    some_object : (e : Entry) → names_its_object w.objects e → IsTrue (has_key w.objects e.koid)
+    some_object e named = rw named.1 refl
+
+    at_process : (o : Option ProcessValue) (x : Wait) (e : Entry) → get w.processes x.pid ≡ o → entry_at w x.pid x.value ≡ Some e
+        → IsTrue (has_key w.objects e.koid)
+    at_process None x e is at = absurd (none_at is at)
+      where
+        none_at : get w.processes x.pid ≡ None → entry_at w x.pid x.value ≡ Some e → ⊥
+        none_at none found = none-some e (rw none at found)
+    at_process (Some q) x e is at = some_object e (sound.named.tables x.pid x.value q e is (rw is at at))
+
+    one : (x : Wait) → IsSoundWait w x → IsTrue (has_key w.objects x.object)
+    one x t = subst (λ (k : ℕ). IsTrue (has_key w.objects k)) t.handle.2 (at_process (get w.processes x.pid) x t.handle.0 refl t.handle.1)
+
+-- the test of handle, object and port asks for more than that of handle and port
+at_port : (w : World) (x : Wait) → IsTrue (is_left w x) → IsTrue (is_left_at_port w x)
+at_port w x left =
+    let parts = and_parts (is_made_by_handle w x) (has_key w.objects x.object && has_key w.objects x.port) left in
+    and_from (is_made_by_handle w x) (has_key w.objects x.port) parts.0 (and_parts (has_key w.objects x.object) (has_key w.objects x.port) parts.1).1
+
+-- of the waits of a sound world all are left by the one test that are by the other
+pub left_alike : (w : World) (ws : List Wait) (n : ℕ) (b : List ℕ) → IsSoundWorld (with_waiters w (filter (is_left_at_port w) ws) n b)
+    → filter (is_left w) ws ≡ filter (is_left_at_port w) ws
+unfolding is_made_by_handle
+left_alike w ws n b sound = agreeing (is_left w) (is_left_at_port w) ws (at_port w) (λ i d inside.
+    passes (slice_index_or (filter (is_left_at_port w) ws) i d) (watched_there (with_waiters w (filter (is_left_at_port w) ws) n b) sound i d inside)
+    (filter_passes (is_left_at_port w) ws i d inside))
+  where
+    passes : (x : Wait) → IsTrue (has_key w.objects x.object) → is_left_at_port w x ≡ true → is_left w x ≡ true
+    passes x there left =
+        let parts = and_parts (is_made_by_handle w x) (has_key w.objects x.port) left in
+        and_from (is_made_by_handle w x) (has_key w.objects x.object && has_key w.objects x.port) parts.0
+        (and_from (has_key w.objects x.object) (has_key w.objects x.port) there parts.1)
+
+-- the list that a call leaves has all that are left
+pub left_in_list : (after : List Process) (r2 : Objects) (ws : List Wait) (made : ℕ) → ListsBut ws made r2
+    → filter (is_left (world_value after r2)) r2.waits ≡ filter (is_left (world_value after r2)) ws
+left_in_list after r2 ws made lists = lists.waits (is_left (world_value after r2)) there
+  where
+    there : (x : Wait) → IsTrue (is_left (world_value after r2) x) → IsTrue (is_there r2.objects x)
+    there x left =
+        let both =
+        (and_parts (is_made_by_handle (world_value after r2) x)
+        (has_key (map object_entry r2.objects) x.object && has_key (map object_entry r2.objects) x.port) left).1 in
+        let parts = and_parts (has_key (map object_entry r2.objects) x.object) (has_key (map object_entry r2.objects) x.port) both in
+        and_from (has_key r2.objects x.object) (has_key r2.objects x.port) (sym (has_seen r2.objects x.object) ∙ parts.0)
+        (sym (has_seen r2.objects x.port) ∙ parts.1)
+
+module _ (lib : Library) (before after : List Process) (r r2 : Objects) (pid : ℕ) (x : TraceItem) (blocked : List ℕ)
+    (sound : IsSoundWorld (world_blocked before r blocked)) where
+  abbrev w2 : World
+  w2 = world_value after r2
+
+  -- a step up to where waits fire, by the waits that settling leaves
+  pub left_by : (ws : List Wait) (made : ℕ) (b : List ℕ)
+      → ActsAndSettles lib (world_blocked before r blocked) pid x (with_waiters w2 (filter (is_left_at_port w2) ws) made b) → ListsBut ws made r2
+      → IsActed lib (world_blocked before r blocked) pid x (world_left after r2 b)
+  left_by ws made b steps lists =
+      let alike : filter (is_left_at_port w2) ws ≡ filter (is_left w2) r2.waits =
+      sym (left_alike w2 ws made b (settled_sound lib (world_blocked before r blocked) pid x _ sound steps)) ∙ sym (left_in_list after r2 ws made lists) in
+      let same : ◌≡◌ {A = World} (with_waiters w2 (filter (is_left_at_port w2) ws) made b) (world_left after r2 b) =
+      (λ i. with_waiters w2 (alike i) (sym lists.made i) b) in
+      let moved : ActsAndSettles lib (world_blocked before r blocked) pid x (world_left after r2 b) =
+      subst (ActsAndSettles lib (world_blocked before r blocked) pid x) same steps in
+      record { process = moved.process; is_there = moved.is_there; is_ready = moved.is_ready; acted = moved.acted; acts = moved.acts; settles = moved.settles }
+
+  -- a process that isn't blocked, doesn't look at waits and doesn't block does the same beside them as where nothing waits
+  pub left_beside : (q : ProcessValue) → get (map process_entry before) pid ≡ Some q → state_passes is_blocked (get (map process_entry before) pid) ≡ false
+      → AreBlocked before blocked → pid_of x ≡ pid → tells_blocking x ≡ false
+      → next_looks (next_for lib q) ≡ false → IsActed lib (world_value before r) pid x w2 → ListsBut (waits_by (next_for lib q) x r.waits) r.waits_made r2
+      → IsActed lib (world_blocked before r blocked) pid x (world_left after r2 blocked)
+  left_beside q there unblocked are same goes looks acted lists =
+      left_by (waits_by (next_for lib q) x r.waits) r.waits_made blocked
+      (subst (λ (b : List ℕ). ActsAndSettles lib
+      (world_blocked before r blocked) pid x (with_waiters w2 (filter (is_left_at_port w2) (waits_by (next_for lib q) x r.waits)) r.waits_made b))
+      (same_blocked pid x blocked same (are.once pid ∙ rw unblocked refl))
+      (step_waiting lib (world_value before r) pid q there looks x goes w2
+      (record {
+        process = acted.process;
+        is_there = acted.is_there;
+        is_ready = acted.is_ready;
+        acted = acted.acted;
+        acts = acted.acts;
+        settles = acted.settles;
+      }) r.waits r.waits_made blocked)) lists
+
+-- a call that looks at waits is done beside them, and nothing goes with it
+pub left_looking : (lib : Library) (before after : List Process) (r r2 : Objects) (pid : ℕ) (q : ProcessValue) (call : CallName) (s : Site) (o : Outcome)
+    (blocked : List ℕ) → IsSoundWorld (world_blocked before r blocked)
+    → get (map process_entry before) pid ≡ Some q → q.state ≡ Ready → next_for lib q ≡ AtCall call s
+    → Calls lib (world_blocked before r blocked) pid s o (world_blocked after r2 blocked) → Settles (world_value after r2) (settled_world after r2)
+    → IsActed lib (world_blocked before r blocked) pid (item.Call pid call o) (world_left (left_all after r2) r2 blocked)
+left_looking lib before after r r2 pid q call s o blocked sound there ready next calls settles =
+    left_by lib before (left_all after r2) r r2 pid (item.Call pid call o) blocked sound r2.waits r2.waits_made blocked
+    (record {
+      process = q;
+      is_there = there;
+      is_ready = ready;
+      acted = world_blocked after r2 blocked;
+      acts = rw next (o, refl, calls);
+      settles = settles_waiting (world_value after r2) (settled_world after r2) settles r2.waits r2.waits_made blocked;
+    })
+    (record { waits = λ test there. refl; made = refl })

@@ -1,0 +1,5 @@
+-- Blocked processes: how they come into the list, and how they wake.
+pub mod BlockedLists
+pub mod Sleeping
+pub mod Woken
+pub mod WakeLoop

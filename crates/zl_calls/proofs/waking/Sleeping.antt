@@ -1,0 +1,86 @@
+-- A call blocks: it is a step up to where processes wake, its process is the last of the blocked, and the invariant holds afterwards.
+use Rattle.zl_calls.proofs.Common.{◌≡◌, ◌<◌, ◌^◌, ℕ, List, [], ◌∷◌, ◌++◌, refl, sym, ap, ◌∙◌, subst, Some, None, Ready, Blocked, Library, Site, refusal}
+use Rattle.zl_calls.proofs.Common.{on_process, runs, lives, Map, AtCall, next_for, Objects, Settles, process_value, state_value, world_blocked, world_value}
+use Rattle.zl_calls.proofs.Common.{AreBlocked, IsActed, IsConsistent, Agrees}
+use Rattle.zl_code.proofs.Common.{Process as ProcessValue, State as StateValue, is_blocked}
+use Rattle.zl_rights.specs.Signals.{has_ended}
+use Rattle.zl_rights.specs.World.{Awaited}
+use Rattle.zl_code.specs.CallTable.{awaited_by}
+use Rattle.zl_code.specs.declared.history.CallName.{CallName}
+use Rattle.zl_code.specs.declared.history.Outcome.{Outcome}
+use Rattle.zl_code.specs.declared.history.Outcome.TheVariants as outcome
+use Rattle.zl_code.specs.declared.history.TraceItem.TheVariants as item
+use Rattle.zl_code.proofs.StepsBeside.{blocked_in}
+use Rattle.zl_code.proofs.StepsWaiting.{block_waiting}
+use Rattle.zl_code.specs.Sound.{IsSound as IsSoundWorld}
+use Rattle.zl_objects.specs.declared.object.Body.{Body}
+use Rattle.zl_calls.specs.declared.process.Process.{Process}
+use Rattle.zl_calls.proofs.calls.Answered.{IsWrite}
+use Rattle.zl_calls.specs.Registered.{world_left}
+use Rattle.zl_calls.proofs.waking.BlockedLists.{one_asleep}
+use Rattle.zl_calls.proofs.waits.LeftWaits.{left_by}
+use Rattle.zl_calls.proofs.objects.SameBodies.{alike_agrees}
+use Rattle.zl_calls.proofs.stepping.Labs.{IsFree}
+use Rattle.zl_calls.proofs.processes.Departed.{left_all, settled_world}
+use Rattle.zl_calls.proofs.objects.Settled.{still_settles}
+use Rattle.zl_calls.proofs.processes.Written.{alike_states, keeps_agreeing, recounted_next, same_counts}
+
+-- p stands at a call that isn't refused, and there is something to wait for; it is then p2, which waits for that
+pub record IsAsleep (lib : Library) (before : List Process) (r r2 : Objects) (p p2 : Process) (name : CallName) (o : Outcome) : Type 0 where
+  pub at : Site
+  pub next : next_for lib (process_value p) ≡ AtCall name at
+  pub awaited : Awaited
+  pub passes : refusal lib (world_value before r) p.pid at.request ≡ None
+  pub is_awaited : awaited_by (world_value before r) p.pid at.request ≡ Some awaited
+  pub ends : o ≡ outcome.Blocked
+  pub process : p2 ≡ record p { state = p2.state }
+  pub state : state_value p2.state ≡ Blocked awaited at.destinations
+  pub counter : p.cpu.counter < 2 ^ 32
+  pub objects : r2 ≡ r
+
+module _ (lib : Library) (before after : List Process) (r r2 : Objects) (p p2 : Process) (lab : IsConsistent before r) (write : IsWrite before after p p2)
+    (ready : state_value p.state ≡ Ready)
+    (name : CallName) (o : Outcome) (sleeps : IsAsleep lib before r r2 p p2 name o) where
+  -- ---- the invariant
+
+  agrees : (k : ℕ) (b : Body) → Agrees (world_value before r) k b → Agrees (world_value after r) k b
+  agrees k b = alike_agrees (world_value before r) (world_value after r) k b
+      (alike_states before after p p2 write runs (ap runs sleeps.state ∙ sym (ap runs ready)) r r k)
+      (alike_states before after p p2 write lives (ap lives sleeps.state ∙ sym (ap lives ready)) r r k)
+      (alike_states before after p p2 write has_ended (ap has_ended sleeps.state ∙ sym (ap has_ended ready)) r r k)
+
+  pub asleep_keeps : IsConsistent after r
+  asleep_keeps =
+      let table : p2.table ≡ p.table = ap (λ (q : Process). q.table) sleeps.process in
+      keeps_agreeing before after p p2 write r r lab agrees
+      (rw table (lab.tables p.pid (process_value p) write.there))
+      (λ v e at. lab.named p.pid (process_value p) v e write.there (rw table at at))
+      (recounted_next before after r lab (λ k. same_counts before after p p2 write r r k refl table))
+
+  -- ---- the list
+
+  pub asleep_list : (blocked : List ℕ) → AreBlocked before blocked → AreBlocked after (blocked ++ (p.pid ∷ []))
+  asleep_list =
+      one_asleep before after p p2 write (ap is_blocked ready) (ap is_blocked sleeps.state)
+      (subst (λ (q : Process). q.cpu.counter < 2 ^ 32) (sym sleeps.process) sleeps.counter)
+
+  -- ---- the step
+
+  asleep_world : blocked_in (world_value before r) p.pid sleeps.awaited sleeps.at.destinations ≡ world_value after r
+  unfolding on_process
+  asleep_world =
+      ap (λ (m : Map ProcessValue). record (world_value before r) { processes = m })
+      (sym (write.writes (λ q. record q { state = Blocked sleeps.awaited sleeps.at.destinations }) is))
+    where
+      is : process_value p2 ≡ record (process_value p) { state = Blocked sleeps.awaited sleeps.at.destinations }
+      is = ap process_value sleeps.process ∙ ap (λ (s : StateValue). record (process_value p) { state = s }) sleeps.state
+
+  -- beside registered waits and other blocked processes
+  pub asleep_acts : (blocked : List ℕ) → IsFree lib (world_value before r) p.pid name → IsSoundWorld (world_blocked before r blocked)
+      → IsActed lib (world_blocked before r blocked) p.pid (item.Call p.pid name outcome.Blocked) (world_left (left_all after r) r (blocked ++ (p.pid ∷ [])))
+  asleep_acts blocked free sound =
+      left_by lib before (left_all after r) r r p.pid (item.Call p.pid name outcome.Blocked) blocked sound r.waits r.waits_made (blocked ++ (p.pid ∷ []))
+      (block_waiting lib (world_value before r) p.pid (process_value p) write.there ready name sleeps.at sleeps.next sleeps.awaited
+      (free (process_value p) sleeps.at write.there sleeps.next ∙ sleeps.passes) sleeps.is_awaited (settled_world after r)
+      (subst (λ u. Settles u (settled_world after r)) (sym asleep_world) (still_settles after r asleep_keeps)) r.waits r.waits_made blocked)
+      (record { waits = λ test there. refl; made = refl })

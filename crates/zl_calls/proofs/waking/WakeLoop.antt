@@ -1,0 +1,141 @@
+-- Blocked processes wake one after another, in the order of the list.
+use Rattle.zl_calls.proofs.Common.{◌≡◌, ◌<◌, ◌≤◌, ◌+◌, ◌^◌, ℕ, zero, suc, Bool, true, false, not, ◌==◌, ◌++◌, List, [], ◌∷◌, length, take, map, get_or, refl}
+use Rattle.zl_calls.proofs.Common.{sym, ap, ◌∙◌, subst, if◌then◌else◌, inl, inr, Some, IsTrue, arith, cases_Bool, eq-eqb, state_passes, get, Objects}
+use Rattle.zl_calls.proofs.Common.{process_entry, world_blocked, IsConsistent, AreBlocked, World}
+use Rattle.std.specs.List.{filter, fold}
+use Rattle.std.specs.Prelude.{drop}
+use Rattle.zl_code.proofs.Common.{Process as ProcessValue, is_blocked, woken}
+use Rattle.zl_code.proofs.Changes.{times}
+use Rattle.zl_calls.specs.declared.process.Process.{Process}
+use Rattle.zl_calls.specs.Waking.{WakesOne}
+use Rattle.zl_calls.proofs.waking.BlockedLists.{none_filtered}
+
+-- those before the place in the list have had their turn; the list was first at the start
+pub record IsWaking (ps0 : List Process) (r0 : Objects) (first : List ℕ) (capacity0 place : ℕ) (ps : List Process) (r : Objects) (blocked : List ℕ)
+    (capacity : ℕ) : Type 0 where
+  pub so_far : fold woken (world_blocked ps r blocked) (drop place blocked) ≡ fold woken (world_blocked ps0 r0 first) first
+  pub lab : IsConsistent ps r
+  pub list : AreBlocked ps blocked
+  pub count : length ps ≡ length ps0
+  pub same_room : capacity ≡ capacity0
+
+-- ---- places of a list
+
+drop_at : (xs : List ℕ) (i d : ℕ) → i < length xs → drop i xs ≡ get_or xs i d ∷ drop (suc i) xs
+drop_at [] i d within = absurd (omega (arith, within))
+drop_at (x ∷ xs) zero d within = refl
+drop_at (x ∷ xs) (suc i) d within = drop_at xs i d (omega (arith, within))
+
+drop_removed : (xs : List ℕ) (i : ℕ) → i < length xs → drop i (take i xs ++ drop (suc i) xs) ≡ drop (suc i) xs
+drop_removed [] i within = absurd (omega (arith, within))
+drop_removed (x ∷ xs) zero within = refl
+drop_removed (x ∷ xs) (suc i) within = drop_removed xs i (omega (arith, within))
+
+drop_end : (xs : List ℕ) (i : ℕ) → length xs ≤ i → drop i xs ≡ []
+drop_end [] zero past = refl
+drop_end [] (suc i) past = refl
+drop_end (x ∷ xs) zero past = absurd (omega (arith, past))
+drop_end (x ∷ xs) (suc i) past = drop_end xs i (omega (arith, past))
+
+times_cons : (p x : ℕ) (xs : List ℕ) → times p (x ∷ xs) ≡ (if x == p then 1 else 0) + times p xs
+times_cons p x xs = by_test (x == p)
+  where
+    by_test : (b : Bool) → length (if b then x ∷ filter (λ q. q == p) xs else filter (λ q. q == p) xs) ≡ (if b then 1 else 0) + times p xs
+    by_test true = omega arith
+    by_test false = omega arith
+
+-- what stands at a place stands in the list
+once_there : (xs : List ℕ) (i d p : ℕ) → i < length xs → get_or xs i d ≡ p → 1 ≤ times p xs
+once_there [] i d p within at = absurd (omega (arith, within))
+once_there (x ∷ xs) zero d p within at =
+    let here : (x == p) ≡ true = eq-eqb x p at in
+    rw (times_cons p x xs, here) (omega arith)
+once_there (x ∷ xs) (suc i) d p within at =
+    let later : 1 ≤ times p xs = once_there xs i d p (omega (arith, within)) at in
+    rw (times_cons p x xs) (omega (arith, later))
+
+-- the one at the place is the only one that is filtered out
+removed_one : (xs : List ℕ) (i d p : ℕ) → i < length xs → get_or xs i d ≡ p → times p xs ≤ 1 → filter (λ q. not (q == p)) xs ≡ take i xs ++ drop (suc i) xs
+removed_one [] i d p within at once = absurd (omega (arith, within))
+removed_one (x ∷ xs) zero d p within at once =
+    let here : (x == p) ≡ true = eq-eqb x p at in
+    let counted : 1 + times p xs ≤ 1 = subst (λ (b : Bool). (if b then 1 else 0) + times p xs ≤ 1) here (subst (λ (n : ℕ). n ≤ 1) (times_cons p x xs) once) in
+    let none : ◌≡◌ {A = ℕ} (times p xs) 0 = omega (arith, counted) in
+    rw here (none_filtered p xs none)
+removed_one (x ∷ xs) (suc i) d p within at once =
+    elim (cases_Bool (x == p)) as (λ _. filter (λ q. not (q == p)) (x ∷ xs) ≡ take (suc i) (x ∷ xs) ++ drop (suc (suc i)) (x ∷ xs)) [
+      | inl here ↦
+          let counted : 1 + times p xs ≤ 1 =
+          subst (λ (b : Bool). (if b then 1 else 0) + times p xs ≤ 1) here (subst (λ (n : ℕ). n ≤ 1) (times_cons p x xs) once) in
+          absurd (omega (arith, counted, once_there xs i d p (omega (arith, within)) at))
+      | inr apart ↦
+          let counted : 0 + times p xs ≤ 1 =
+          subst (λ (b : Bool). (if b then 1 else 0) + times p xs ≤ 1) apart (subst (λ (n : ℕ). n ≤ 1) (times_cons p x xs) once) in
+          rw apart (ap (λ (ys : List ℕ). x ∷ ys) (removed_one xs i d p (omega (arith, within)) at (omega (arith, counted))))
+    ]
+
+-- ---- who stands in the list
+
+module _ (ps : List Process) (blocked : List ℕ) (are : AreBlocked ps blocked) (i d pid : ℕ) (within : i < length blocked) (at : get_or blocked i d ≡ pid) where
+  is_blocked_there : IsTrue (state_passes is_blocked (get (map process_entry ps) pid))
+  is_blocked_there = by_test (state_passes is_blocked (get (map process_entry ps) pid)) (are.once pid)
+    where
+      by_test : (b : Bool) → times pid blocked ≡ (if b then 1 else 0) → IsTrue b
+      by_test true once = refl
+      by_test false once = absurd (omega (arith, once, once_there blocked i d pid within at))
+
+  pub counter_there : (p : ProcessValue) → get (map process_entry ps) pid ≡ Some p → p.cpu.counter < 2 ^ 32
+  counter_there p found = are.counters pid p found (rw found at is_blocked_there)
+
+  at_most_once : times pid blocked ≤ 1
+  at_most_once = by_test (state_passes is_blocked (get (map process_entry ps) pid)) (are.once pid)
+    where
+      by_test : (b : Bool) → times pid blocked ≡ (if b then 1 else 0) → times pid blocked ≤ 1
+      by_test true once = omega (arith, once)
+      by_test false once = omega (arith, once)
+
+  pub removed_is : filter (λ q. not (q == pid)) blocked ≡ take i blocked ++ drop (suc i) blocked
+  removed_is = removed_one blocked i d pid within at at_most_once
+
+-- ---- the loop
+
+module _ (ps0 : List Process) (r0 : Objects) (first : List ℕ) (capacity0 : ℕ) where
+  pub begins : IsConsistent ps0 r0 → AreBlocked ps0 first → IsWaking ps0 r0 first capacity0 0 ps0 r0 first capacity0
+  begins lab are = record { so_far = refl; lab = lab; list = are; count = refl; same_room = refl }
+
+  module _ (i : ℕ) (ps : List Process) (r : Objects) (blocked : List ℕ) (capacity : ℕ) (so_far : IsWaking ps0 r0 first capacity0 i ps r blocked capacity) where
+    module _ (d pid : ℕ) (within : i < length blocked) (at : get_or blocked i d ≡ pid) (ps2 : List Process) (r2 : Objects) where
+      turn_is : fold woken (world_blocked ps r blocked) (drop i blocked) ≡ fold woken (woken (world_blocked ps r blocked) pid) (drop (suc i) blocked)
+      turn_is = ap (fold woken (world_blocked ps r blocked)) (drop_at blocked i d within ∙ ap (λ (x : ℕ). x ∷ drop (suc i) blocked) at)
+
+      -- it woke, and left the list
+      pub turn_awake : WakesOne pid true ps r ps2 r2 → IsWaking ps0 r0 first capacity0 i ps2 r2 (take i blocked ++ drop (suc i) blocked) capacity
+      turn_awake wakes_it =
+          let gone = removed_is ps blocked so_far.list i d pid within at in
+          record {
+            so_far = ap (fold woken (world_blocked ps2 r2 (take i blocked ++ drop (suc i) blocked))) (drop_removed blocked i within)
+                ∙ (ap (λ (w : World). fold woken w (drop (suc i) blocked)) (ap (world_blocked ps2 r2) (sym gone) ∙ wakes_it.world blocked)
+                ∙ (sym turn_is ∙ so_far.so_far));
+            lab = wakes_it.lab;
+            list = subst (AreBlocked ps2) gone (wakes_it.list blocked so_far.list);
+            count = wakes_it.count ∙ so_far.count;
+            same_room = so_far.same_room;
+          }
+
+      -- it stays blocked
+      pub turn_asleep : WakesOne pid false ps r ps2 r2 → IsWaking ps0 r0 first capacity0 (i + 1) ps2 r2 blocked capacity
+      turn_asleep wakes_it = record {
+        so_far = ap (fold woken (world_blocked ps2 r2 blocked)) (ap (λ (n : ℕ). drop n blocked) add_one)
+            ∙ (ap (λ (w : World). fold woken w (drop (suc i) blocked)) (wakes_it.world blocked)
+            ∙ (sym turn_is ∙ so_far.so_far));
+        lab = wakes_it.lab;
+        list = wakes_it.list blocked so_far.list;
+        count = wakes_it.count ∙ so_far.count;
+        same_room = so_far.same_room;
+      }
+        where
+          add_one : i + 1 ≡ suc i
+          add_one = omega arith
+
+    pub all_had_turns : length blocked ≤ i → world_blocked ps r blocked ≡ fold woken (world_blocked ps0 r0 first) first
+    all_had_turns past = ap (fold woken (world_blocked ps r blocked)) (sym (drop_end blocked i past)) ∙ so_far.so_far

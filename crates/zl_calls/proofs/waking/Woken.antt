@@ -1,0 +1,275 @@
+-- A blocked process wakes, or stays blocked: the world afterwards, its invariant, and the list.
+use Rattle.zl_calls.proofs.Common.{◌≡◌, ℕ, Bool, true, false, not, ◌==◌, List, [], ◌∷◌, length, map, get_or, set, refl, sym, ap, ◌∙◌, if◌then◌else◌, Option}
+use Rattle.zl_calls.proofs.Common.{Some, None, is_some, inl, inr, ◌⊎◌, IsTrue, position, cases_Bool, eqb-true, false≢true, option_map, below_all, is_sorted}
+use Rattle.zl_calls.proofs.Common.{nat_cmp, Map, get, put, update, get-put, get-update, is_sorted-update, sorted_put, runs, lives, is_process, Objects}
+use Rattle.zl_calls.proofs.Common.{body_value, object_entry, object_value, process_entry, process_value, state_value, world_blocked, world_value, Agrees}
+use Rattle.zl_calls.proofs.Common.{IsConsistent, PortBody}
+use Rattle.std.specs.Bool.{passes, then_some}
+use Rattle.std.proofs.lemmas.List.{length-set}
+use Rattle.std.specs.List.{filter}
+use Rattle.std.specs.Prelude.{slice_get, drop}
+use Rattle.zl_rights.proofs.Canonical.{same_map}
+use Rattle.zl_code.proofs.Common.{Process as ProcessValue, Body as BodyValue, Object as ObjectValue, State as StateValue, Ready, answered, meets, active}
+use Rattle.zl_code.proofs.Common.{has_child_job, has_child_process, is_blocked, woken, made_ready}
+use Rattle.zl_rights.specs.Signals.{has_ended}
+use Rattle.zl_rights.specs.World.{Packet}
+use Rattle.zl_rights.specs.Wakes.{packet_values, woken_by, woken_from, woken_at_port}
+use Rattle.zl_code.specs.Waiting.{body_packed, packet_taken}
+use Rattle.zl_objects.specs.declared.object.Object.{Object as OwnObject}
+use Rattle.zl_objects.specs.declared.object.Body.{Body}
+use Rattle.zl_objects.specs.declared.object.Body.TheVariants as body
+use Rattle.zl_objects.specs.Ports.{at_port, changed_port, changing_port, packets_in, packets_of}
+use Rattle.zl_objects.specs.Signals.{signals_at}
+use Rattle.zl_objects.proofs.Law.{get_seen}
+use Rattle.zl_port.specs.Packets.{without_front}
+use Rattle.zl_calls.specs.declared.process.State.{State}
+use Rattle.zl_calls.specs.declared.process.State.TheVariants as state
+use Rattle.zl_calls.specs.declared.process.Process.{Process}
+use Rattle.zl_calls.specs.declared.process.SignalRegisters.{SignalRegisters}
+use Rattle.zl_calls.specs.declared.packets.PacketRegisters.{PacketRegisters}
+use Rattle.zl_calls.specs.Waking.{WakesOne, awake, destinations_of, given_awake, without_taken}
+use Rattle.zl_calls.proofs.calls.Answered.{IsWrite}
+use Rattle.zl_calls.proofs.waking.BlockedLists.{one_awake}
+use Rattle.zl_calls.proofs.objects.Active.{signals_active}
+use Rattle.zl_calls.proofs.objects.Packed.{repacked_next}
+use Rattle.zl_calls.proofs.objects.SameBodies.{alike_agrees}
+use Rattle.zl_calls.proofs.lists.Updates.{update_itself, update_seen}
+use Rattle.zl_calls.proofs.processes.Written.{IsNext, after_is, alike_states, keeps_agreeing, pid_read, recounted_next, refusal_keeps, same_counts, write_at}
+
+-- a value that is put in the place of another
+pub put_there : {X : Type 0} (m : Map X) (k : ℕ) (x : X) (f : X → X) → IsTrue (is_sorted nat_cmp m) → get m k ≡ Some x → update m k f ≡ put m k (f x)
+put_there {X} m k x f sorted there =
+    same_map (update m k f) (put m k (f x)) (passes _ (is_sorted-update m k f ∙ sorted)) (passes _ (sorted_put m k (f x) sorted))
+    (λ j. get-update m k f j ∙ (by_key j (cases_Bool (k == j)) ∙ sym (get-put m k (f x) j)))
+  where
+    by_key : (j : ℕ) → IsTrue (k == j) ⊎ ((k == j) ≡ false) → (if k == j then option_map f (get m j) else get m j) ≡ (if k == j then Some (f x) else get m j)
+    by_key j (inl here) = rw (here, ← eqb-true k j here, there) refl
+    by_key j (inr apart) = rw apart refl
+
+-- a change that leaves the one value as it is
+update_fixed : {X : Type 0} (m : Map X) (k : ℕ) (f : X → X) → ((x : X) → get m k ≡ Some x → f x ≡ x) → update m k f ≡ m
+unfolding get update
+update_fixed [] k f fixed = refl
+update_fixed {X} (e ∷ m) k f fixed = elim (cases_Bool (e.0 == k)) as (λ _. update (e ∷ m) k f ≡ e ∷ m) [
+  | inl here ↦ rw here (λ i. (sym (eqb-true e.0 k here) i, fixed e.1 (rw here refl) i) ∷ m)
+  | inr apart ↦ rw apart (ap (λ (rest : Map X). e ∷ rest) (update_fixed m k f (λ x at. fixed x (rw apart at))))
+]
+
+seen_below : (k : ℕ) (m : Map OwnObject) → below_all nat_cmp k (map object_entry m) ≡ below_all nat_cmp k m
+seen_below k [] = refl
+seen_below k (e ∷ m) = rw (seen_below k m) refl
+
+seen_sorted : (m : Map OwnObject) → is_sorted nat_cmp (map object_entry m) ≡ is_sorted nat_cmp m
+seen_sorted [] = refl
+seen_sorted (e ∷ m) = rw (seen_below e.0 m, seen_sorted m) refl
+
+-- what is seen of an object without its first packet
+seen_taken : (o : OwnObject) (b : Body) → o.body ≡ b → object_value (at_port without_front o) ≡ packet_taken (object_value o)
+seen_taken o (body.Port q) is = rw is refl
+seen_taken o (body.Job own) is = rw is refl
+seen_taken o (body.Process job alive) is = rw is refl
+seen_taken o body.Event is = rw is refl
+seen_taken o (body.ChannelEnd peer queue) is = rw is refl
+
+nil-cons : {x : Packet} {xs : List Packet} → [] ≡ x ∷ xs → ⊥
+nil-cons e = cc
+
+-- a state that wakes passes the same tests of life as before
+lives_on : (s : State) → is_blocked (state_value s) ≡ true
+    → (runs (state_value s) ≡ true) × (lives (state_value s) ≡ true) × (has_ended (state_value s) ≡ false)
+lives_on (state.AwaitsSignal koid mask to) h = (refl, refl, refl)
+lives_on (state.AwaitsPacket port to) h = (refl, refl, refl)
+lives_on state.Ready h = absurd (false≢true h)
+lives_on (state.Ended code) h = absurd (false≢true h)
+lives_on state.Created h = absurd (false≢true h)
+lives_on state.Gone h = absurd (false≢true h)
+
+-- the process p stands at the place, under the pid
+module _ (ps : List Process) (r : Objects) (lab : IsConsistent ps r) (pid place : ℕ) (p : Process)
+    (found : Some place ≡ position (λ q. q.pid == pid) ps) (read : p ≡ get_or ps place p) where
+  key : p.pid ≡ pid
+  key = pid_read ps pid place p found read
+
+  there : get (map process_entry ps) pid ≡ Some (process_value p)
+  there = rw (← key) ((write_at ps pid place p p found read refl).there)
+
+  woken_is : (blocked : List ℕ) → woken (world_blocked ps r blocked) pid ≡ woken_from (world_blocked ps r blocked) pid (process_value p) (state_value p.state)
+  unfolding woken
+  woken_is blocked = rw there refl
+
+  same_active : (blocked : List ℕ) (k : ℕ) → active (world_blocked ps r blocked) k ≡ signals_at r.objects k
+  unfolding active is_process has_child_job has_child_process
+  same_active blocked k = sym (signals_active ps r lab k)
+
+  module _ (p2 : Process) (r2 : Objects) (same_pid : p2.pid ≡ p.pid) where
+    abbrev after : List Process
+    after = set ps place p2
+
+    write : IsWrite ps after p p2
+    write = write_at ps pid place p p2 found read same_pid
+
+    same_count : length after ≡ length ps
+    same_count = length-set ps place p2
+
+    -- ---- it stays blocked, or wasn't
+
+    module _ (same : p2 ≡ p) (same_objects : r2 ≡ r) (asleep : (blocked : List ℕ) → woken (world_blocked ps r blocked) pid ≡ world_blocked ps r blocked) where
+      same_entries : map process_entry after ≡ map process_entry ps
+      same_entries = write.writes (λ q. q) (ap process_value same) ∙ update_itself (map process_entry ps) p.pid
+
+      stays_asleep : WakesOne pid false ps r after r2
+      stays_asleep = record {
+        world = λ blocked.
+            rw same_objects (ap (λ (m : Map ProcessValue). record (world_blocked ps r blocked) { processes = m }) same_entries ∙ sym (asleep blocked));
+        list = λ blocked are. record {
+          once = λ k. rw same_entries (are.once k);
+          counters = λ k q at h. are.counters k q (rw same_entries at at) h;
+        };
+        lab = rw same_objects (refusal_keeps ps after p p2 write r lab (ap (λ (q : Process). q.table) same) (ap (λ (q : Process). q.state) same));
+        count = same_count;
+      }
+
+    -- ---- it becomes ready
+
+    module _ (ds values : List ℕ) (is : p2 ≡ record p { state = state.Ready; cpu = answered p.cpu ds (0 ∷ values) })
+        (was : is_blocked (state_value p.state) ≡ true)
+        (next : IsNext ps after r r2) (wakes_so : (blocked : List ℕ)
+        → woken (world_blocked ps r blocked) pid ≡ made_ready (world_blocked ps r2 blocked) pid (process_value p) ds (0 ∷ values)) where
+      ready_entries : map process_entry after ≡ put (map process_entry ps) pid (process_value p2)
+      ready_entries = rw (← key)
+          (after_is ps after p p2 write ∙ put_there (map process_entry ps) p.pid (process_value p) (λ _. process_value p2) lab.processes_in_order write.there)
+
+      tests_alike : (test : StateValue → Bool) → test (state_value p.state) ≡ test Ready → (k : ℕ)
+          → is_process (world_value after r2) test k ≡ is_process (world_value ps r) test k
+      tests_alike test alike k = alike_states ps after p p2 write test (ap (λ (q : Process). test (state_value q.state)) is ∙ sym alike) r r2 k
+
+      agrees_on : (k : ℕ) (b : Body) → Agrees (world_value ps r) k b → Agrees (world_value after r2) k b
+      agrees_on k b = alike_agrees (world_value ps r) (world_value after r2) k b
+          (tests_alike runs ((lives_on p.state was).0) k) (tests_alike lives ((lives_on p.state was).1) k) (tests_alike has_ended ((lives_on p.state was).2) k)
+
+      gets_awake : WakesOne pid true ps r after r2
+      unfolding made_ready
+      gets_awake = record {
+        world = λ blocked. ap (λ (m : Map ProcessValue). record (world_blocked ps r2 (filter (λ q. not (q == pid)) blocked)) { processes = m })
+            (ready_entries ∙ ap (λ (q : Process). put (map process_entry ps) pid (process_value q)) is) ∙ sym (wakes_so blocked);
+        list = λ blocked are. rw (← key) (one_awake ps after p p2 write (ap (λ (q : Process). is_blocked (state_value q.state)) is) blocked are);
+        lab = keeps_agreeing ps after p p2 write r r2 lab agrees_on
+            (rw (ap (λ (q : Process). q.table) is) (lab.tables p.pid (process_value p) write.there))
+            (λ v e at. next.named e (lab.named p.pid (process_value p) v e write.there (rw (ap (λ (q : Process). q.table) is) at at)))
+            next;
+        count = same_count;
+      }
+
+  -- ---- by what it waits for
+
+  module _ (p2 : Process) (r2 : Objects) where
+    by_signal : (koid mask : ℕ) (to : SignalRegisters) → p.state ≡ state.AwaitsSignal koid mask to → (test : Bool)
+        → meets (signals_at r.objects koid) mask ≡ test
+        → p2 ≡ awake (then_some test (signals_at r.objects koid ∷ [])) p → r2 ≡ r
+        → WakesOne pid (is_some (then_some test (signals_at r.objects koid ∷ []))) ps r (set ps place p2) r2
+    by_signal koid mask to in_state true holds is objects =
+        let so : p2 ≡ record p { state = state.Ready; cpu = answered p.cpu (to.status ∷ to.observed ∷ []) (0 ∷ signals_at r.objects koid ∷ []) } =
+        is ∙ ap (λ (s : State). record p { state = state.Ready; cpu = answered p.cpu (destinations_of s) (0 ∷ signals_at r.objects koid ∷ []) }) in_state in
+        rw objects (gets_awake p2 r (ap (λ (q : Process). q.pid) so) (to.status ∷ to.observed ∷ []) (signals_at r.objects koid ∷ []) so
+        (ap (λ (s : State). is_blocked (state_value s)) in_state)
+        (recounted_next ps (set ps place p2) r lab
+        (λ k. same_counts ps (set ps place p2) p p2 (write p2 r (ap (λ (q : Process). q.pid) so)) r r k refl (ap (λ (q : Process). q.table) so)))
+        (λ blocked. woken_is blocked ∙ rw (in_state, same_active blocked koid, holds) refl))
+    by_signal koid mask to in_state false holds is objects =
+        stays_asleep p2 r2 (ap (λ (q : Process). q.pid) is) is objects (λ blocked. woken_is blocked ∙ rw (in_state, same_active blocked koid, holds) refl)
+
+    module _ (port : ℕ) (to : PacketRegisters) (in_state : p.state ≡ state.AwaitsPacket port to) where
+      abbrev ds : List ℕ
+      ds = to.status ∷ to.key ∷ to.kind ∷ to.trigger ∷ to.observed ∷ []
+
+      seen_there : (blocked : List ℕ) (o : Option OwnObject) → get r.objects port ≡ o
+          → woken (world_blocked ps r blocked) pid ≡ woken_at_port (world_blocked ps r blocked) pid (process_value p) port ds (option_map object_value o)
+      seen_there blocked o at = woken_is blocked ∙ rw (in_state, get_seen r.objects port, at) refl
+
+      no_packet : (o : Option OwnObject) → get r.objects port ≡ o → packets_in o ≡ [] → changing_port r port without_front ≡ r
+      no_packet o at none =
+          ap (λ (m : Map OwnObject). record r { objects = m })
+          (update_fixed r.objects port (at_port without_front) (λ x there2. same_object x (ap packets_in (sym there2 ∙ at) ∙ none)))
+        where
+          same_object : (x : OwnObject) → packets_of x.body ≡ [] → at_port without_front x ≡ x
+          same_object x h = ap (λ (b : Body). record x { body = b }) (by_body x.body h)
+            where
+              by_body : (b : Body) → packets_of b ≡ [] → changed_port without_front b ≡ b
+              by_body (body.Port q) h = ap (λ (xs : List Packet). body.Port (record q { packets = xs })) (rw h refl)
+              by_body _ h = refl
+
+      asleep_at : (o : Option OwnObject) → get r.objects port ≡ o → packets_in o ≡ [] → (blocked : List ℕ)
+          → woken (world_blocked ps r blocked) pid ≡ world_blocked ps r blocked
+      asleep_at None at none blocked = seen_there blocked None at
+      asleep_at (Some o) at none blocked = seen_there blocked (Some o) at ∙ by_body o.body none
+        where
+          by_body : (b : Body) → packets_of b ≡ []
+              → woken_by (world_blocked ps r blocked) pid (process_value p) port ds (object_value o) (body_value b) ≡ world_blocked ps r blocked
+          by_body (body.Port q) h = rw h refl
+          by_body (body.Job own) h = refl
+          by_body (body.Process job alive) h = refl
+          by_body body.Event h = refl
+          by_body (body.ChannelEnd peer queue) h = refl
+
+      taken_at : (o : OwnObject) (x : Packet) (rest : List Packet) → get r.objects port ≡ Some o → packets_of o.body ≡ x ∷ rest → (blocked : List ℕ)
+          → woken (world_blocked ps r blocked) pid
+          ≡ made_ready (world_blocked ps (changing_port r port without_front) blocked) pid (process_value p) ds (0 ∷ packet_values x)
+      taken_at o x rest at first blocked = seen_there blocked (Some o) at ∙ by_body o.body refl first
+        where
+          by_body : (b : Body)
+              → o.body ≡ b → packets_of b ≡ x ∷ rest → woken_by (world_blocked ps r blocked) pid (process_value p) port ds (object_value o) (body_value b)
+              ≡ made_ready (world_blocked ps (changing_port r port without_front) blocked) pid (process_value p) ds (0 ∷ packet_values x)
+          by_body (body.Port q) is h = rw h
+              (ap (λ (m : Map ObjectValue). made_ready (record (world_blocked ps r blocked) { objects = m }) pid (process_value p) ds (0 ∷ packet_values x))
+              (sym objects_are))
+            where
+              objects_are : map object_entry (update r.objects port (at_port without_front))
+                  ≡ put (map object_entry r.objects) port (record (object_value o) { body = PortBody rest })
+              objects_are = update_seen object_value r.objects port (at_port without_front) packet_taken (λ y. seen_taken y y.body refl)
+                  ∙ (put_there (map object_entry r.objects) port (object_value o) packet_taken (rw (seen_sorted r.objects) lab.kept.in_order)
+                  (get_seen r.objects port ∙ rw at refl)
+                  ∙ ap (λ (b : BodyValue). put (map object_entry r.objects) port (record (object_value o) { body = b }))
+                  (ap (λ (c : Body). body_packed (drop 1) (body_value c)) is ∙ ap (λ (xs : List Packet). PortBody (drop 1 xs)) h))
+          by_body (body.Job own) is h = absurd (nil-cons h)
+          by_body (body.Process job alive) is h = absurd (nil-cons h)
+          by_body body.Event is h = absurd (nil-cons h)
+          by_body (body.ChannelEnd peer queue) is h = absurd (nil-cons h)
+
+      by_packet : (o : Option OwnObject) → get r.objects port ≡ o → (xs : List Packet) → packets_in o ≡ xs
+          → p2 ≡ awake (option_map packet_values (slice_get xs 0)) p → r2 ≡ changing_port r port without_front
+          → WakesOne pid (is_some (option_map packet_values (slice_get xs 0))) ps r (set ps place p2) r2
+      by_packet o at [] first is objects = stays_asleep p2 r2 (ap (λ (q : Process). q.pid) is) is (objects ∙ no_packet o at first) (asleep_at o at first)
+      by_packet None at (x ∷ rest) first is objects = absurd (nil-cons first)
+      by_packet (Some o) at (x ∷ rest) first is objects =
+          let so : p2 ≡ record p { state = state.Ready; cpu = answered p.cpu ds (0 ∷ packet_values x) } =
+          is ∙ ap (λ (s : State). record p { state = state.Ready; cpu = answered p.cpu (destinations_of s) (0 ∷ packet_values x) }) in_state in
+          rw objects (gets_awake p2 (changing_port r port without_front) (ap (λ (q : Process). q.pid) so) ds (packet_values x) so
+          (ap (λ (s : State). is_blocked (state_value s)) in_state)
+          (repacked_next without_front ps (set ps place p2) p p2 (write p2 r (ap (λ (q : Process). q.pid) so)) (ap (λ (q : Process). q.table) so) r lab port)
+          (taken_at o x rest at first))
+
+    -- whatever it is in
+    by_state : (s : State) → p.state ≡ s → p2 ≡ awake (given_awake s r) p → r2 ≡ without_taken s r
+        → WakesOne pid (is_some (given_awake s r)) ps r (set ps place p2) r2
+    by_state state.Ready in_state is objects = stays_asleep p2 r2 (ap (λ (q : Process). q.pid) is) is objects (λ blocked. woken_is blocked ∙ rw in_state refl)
+    by_state (state.Ended code) in_state is objects =
+        stays_asleep p2 r2 (ap (λ (q : Process). q.pid) is) is objects (λ blocked. woken_is blocked ∙ rw in_state refl)
+    by_state state.Created in_state is objects = stays_asleep p2 r2 (ap (λ (q : Process). q.pid) is) is objects (λ blocked. woken_is blocked ∙ rw in_state refl)
+    by_state state.Gone in_state is objects = stays_asleep p2 r2 (ap (λ (q : Process). q.pid) is) is objects (λ blocked. woken_is blocked ∙ rw in_state refl)
+    by_state (state.AwaitsSignal koid mask to) in_state is objects = by_signal koid mask to in_state (meets (signals_at r.objects koid) mask) refl is objects
+    by_state (state.AwaitsPacket port to) in_state is objects =
+        by_packet port to in_state (get r.objects port) refl (packets_in (get r.objects port)) refl is objects
+
+    pub wakes_one : p2 ≡ awake (given_awake p.state r) p → r2 ≡ without_taken p.state r
+        → WakesOne pid (is_some (given_awake p.state r)) ps r (set ps place p2) r2
+    wakes_one = by_state p.state refl
+
+-- where there is no such process, nothing wakes
+pub wakes_none : (ps : List Process) (r : Objects) (pid : ℕ) → IsConsistent ps r → get (map process_entry ps) pid ≡ None → WakesOne pid false ps r ps r
+unfolding woken
+wakes_none ps r pid lab missing = record {
+  world = λ blocked. rw missing refl;
+  list = λ blocked are. are;
+  lab = lab;
+  count = refl;
+}

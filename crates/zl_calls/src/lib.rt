@@ -7,20 +7,17 @@
 //! follow the source that their type names, where they name none.
 #![tactic(auto)]
 
-mod blocking;
 mod booting;
 mod calls;
 mod leaving;
 mod packets;
 mod policy;
 mod process;
-mod reading;
 mod stepping;
 mod tasks;
 mod waits;
 mod waking;
 mod world;
-mod writing;
 
 pub use world::{Local, World};
 pub use zl_code::{Boot, BootFault, CallName, Outcome, ProcState, TraceItem};

@@ -1,6 +1,7 @@
-//! How blocked processes become ready: after each step, in the order in which they blocked.
+//! The list of the blocked processes: how a process comes into it, and how, after each step, those
+//! become ready whose wait is over, in the order in which they blocked.
 
-ghost use Rattle.std.specs.Prelude.{ℕ, ◌≡◌, ◌<◌, ◌^◌, [], ◌∷◌, Some, length, map, is_some, slice_get, vec_capacity};
+ghost use Rattle.std.specs.Prelude.{ℕ, ◌≡◌, ◌<◌, ◌≤◌, ◌^◌, [], ◌∷◌, Some, length, map, is_some, slice_get, vec_capacity};
 ghost use Rattle.std.specs.List.{fold};
 ghost use Rattle.std.specs.Option.{option_map};
 ghost use Rattle.zl_rights.specs.Map.{get};
@@ -10,6 +11,7 @@ ghost use Rattle.zl_objects.specs.Ports.{changing_port, packets_in};
 ghost use Rattle.zl_objects.specs.Signals.{signals_at};
 ghost use Rattle.zl_port.specs.Packets.{without_front};
 ghost use Rattle.zl_calls.specs.Blocked.{AreBlocked};
+ghost use Rattle.zl_calls.specs.Blocking.{then_blocked};
 ghost use Rattle.zl_calls.specs.Consistent.{IsConsistent};
 ghost use Rattle.zl_calls.specs.Waking.{WakesOne, awake, awake_in, given_awake, seen_active, without_taken};
 ghost use Rattle.zl_rights.specs.World.{Process as ProcessValue};
@@ -19,8 +21,24 @@ use crate::packets::PacketRegisters;
 use crate::process::{Process, SignalRegisters, State};
 use crate::stepping::place_of;
 use bitflags::Flags;
+use zl_code::{Outcome, TraceItem};
 use zl_objects::Objects;
 use zl_rights::{Koid, Pid};
+
+/// The process becomes the last of the blocked, if the item tells of a call that blocked.
+pub fn add_blocked(blocked: &mut Vec<Pid>, pid: Pid, item: &TraceItem)
+    requires room { length (then_blocked pid item.now blocked.old.items)
+        ≤ vec_capacity blocked.old }
+    ensures items { blocked.new.items ≡ then_blocked pid item.now blocked.old.items }
+    ensures capacity { vec_capacity blocked.new ≡ vec_capacity blocked.old }
+{
+    let TraceItem::Call { outcome, .. } = item else {
+        return;
+    };
+    if let Outcome::Blocked = outcome {
+        blocked.push_reserved(pid);
+    }
+}
 
 /// Each blocked process in turn, the longest blocked first: where what it waits for is there, it
 /// gets its answer and leaves the list. It takes no memory.

@@ -13,12 +13,11 @@ ghost use Rattle.zl_calls.specs.Makes.{IsReached};
 ghost use Rattle.zl_calls.specs.Steps.{Performs, StepsTo, TakesStep, local_item, takes_memory};
 ghost use Rattle.zl_calls.specs.Turns.{Fits, IsTurn, advanced, steps_done};
 
-use crate::blocking::add_blocked;
 use crate::booting::{Made, booted};
 use crate::process::Process;
 use crate::stepping::{act_for, is_local, next_name, place_of};
 use crate::waits::{end_unheld, fire_waits};
-use crate::waking::wake;
+use crate::waking::{add_blocked, wake};
 use std::alloc::{AllocError, Global};
 use std::marker::Model;
 use zl_code::{Boot, BootCause, BootFault, CallName, Image, Outcome, ProcState, TraceItem};

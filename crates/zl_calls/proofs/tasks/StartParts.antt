@@ -21,7 +21,7 @@ use Rattle.zl_calls.specs.World.{state_value}
 use Rattle.zl_calls.specs.calls.Answer.{ClosesEach, IsRefusedBy, without_handle}
 use Rattle.zl_calls.specs.declared.process.State.{State}
 use Rattle.zl_calls.specs.declared.process.State.TheVariants as state
-use Rattle.zl_calls.specs.declared.tasks.Started.{Started}
+use Rattle.zl_calls.specs.declared.calls.process.Started.{Started}
 use Rattle.zl_calls.specs.declared.process.Process.{Process}
 use Rattle.zl_table.specs.Table.{Handles, Inserts}
 use Rattle.zl_calls.specs.calls.Task.{AreBare, Enters, IsCallerStill, IsCreatedAt, IsFound, ProcessStartDoes, child_refusal, lab, process_at, start_refusal}

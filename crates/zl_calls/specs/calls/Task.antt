@@ -34,7 +34,7 @@ use Rattle.zl_calls.specs.calls.Process.{Drained}
 use Rattle.zl_calls.specs.declared.process.Process.{Process}
 use Rattle.zl_calls.specs.declared.process.State.{State}
 use Rattle.zl_calls.specs.declared.process.State.TheVariants as state
-use Rattle.zl_calls.specs.declared.tasks.Started.{Started}
+use Rattle.zl_calls.specs.declared.calls.process.Started.{Started}
 
 -- ---- all that such a call can reach
 

@@ -1,20 +1,25 @@
-//! Calls on channels.
+//! Calls on channels, but for the one that reads.
 
-ghost use Rattle.std.specs.Prelude.{◌≡◌, ◌++◌, [], true, length, IsTrue, IfOk, IfErr, OnOk, OnErr};
+ghost use Rattle.std.specs.Prelude.{◌≡◌, ◌<◌, ◌^◌, ◌++◌, [], true, length, IsTrue, IsSome, IfOk, IfErr, OnOk, OnErr};
 ghost use Rattle.std.specs.Option.{option_to_list};
 ghost use Rattle.zl_rights.specs.Map.{get};
 ghost use Rattle.smallvec.specs.SmallVec.{HasRoomFor};
 ghost use Rattle.zl_code.specs.Effects.{new_entry};
+ghost use Rattle.zl_code.specs.Request.{site_of};
+ghost use Rattle.zl_code.specs.declared.history.CallName.TheVariants as name;
 ghost use Rattle.zl_objects.specs.Objects.{is_end_at, sending};
 ghost use Rattle.zl_objects.specs.Release.{Releases, koids_of};
+ghost use Rattle.zl_calls.specs.Acted.{Acted};
 ghost use Rattle.zl_calls.specs.calls.Answer.{IsRefusedBy, taken_from, without_handle, without_handles};
 ghost use Rattle.zl_calls.specs.calls.Channel.{ChanCreateDoes, ChanWriteDoes, IsPeerOf, IsReady, fault_of, list_refusal, write_refusal};
 ghost use Rattle.zl_calls.specs.Registered.{KeepsListed};
 
 use crate::calls::handle::{close_each, take_out};
 use crate::calls::{insert, look_up};
+use crate::process::Process;
 use std::alloc::Global;
 use zl_channel::{ChannelEnd, Handles, Message, PushFault};
+use zl_code::{CallInstr, Outcome};
 use zl_objects::Objects;
 use zl_rights::{Entry, HValue, Kind, Koid, Rights, Status};
 use zl_table::Table;
@@ -72,6 +77,41 @@ pub fn chan_write(
             Err(refused)
         }
     }
+}
+
+/// Does `chan_write` at its registers. Its bytes lie in the memory.
+#[tactic(auto, unfolding(zl_code::specs::Request::site_of))]
+pub fn write(
+    alloc: Global,
+    process: &mut Process,
+    objects: &mut Objects,
+    call: &CallInstr,
+) -> Outcome
+    requires counter { process.old.cpu.counter < 2 ^ 32 }
+    requires name { call.now.name ≡ name.ChanWrite }
+    requires there { IsSome (site_of call.now process.old.cpu) }
+    ensures { Acted (site_of call.now process.old.cpu)
+        process.old objects.old result process.new objects.new }
+{
+    let [status, channel, address, size, ..] = call.registers;
+    let handles = call.handles();
+    let (values, count) = process.cpu.listed(&handles);
+    let address = process.cpu.register(address);
+    let size = process.cpu.register(size);
+    let Some(bytes) = process.cpu.bytes(address, size) else {
+        unreachable!()
+    };
+    let channel = process.cpu.register(channel);
+    let answer = chan_write(
+        alloc,
+        &mut process.table,
+        objects,
+        channel,
+        bytes,
+        &values[..count],
+    );
+    process.cpu.clear(&handles);
+    process.answer(status, answer)
 }
 
 /// A message that is written: the end to whose queue it goes, its bytes, and room for its handles.

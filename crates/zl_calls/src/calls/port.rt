@@ -1,14 +1,20 @@
 //! Calls on ports.
 
-ghost use Rattle.std.specs.Prelude.{◌≡◌};
+ghost use Rattle.std.specs.Prelude.{◌≡◌, ◌<◌, ◌^◌};
 ghost use Rattle.std.specs.List.{list_any};
+ghost use Rattle.zl_code.specs.Request.{site_of};
 ghost use Rattle.zl_code.specs.Waiting.{is_keyed};
+ghost use Rattle.zl_code.specs.declared.history.CallName.TheVariants as name;
+ghost use Rattle.zl_calls.specs.Acted.{Acted};
 ghost use Rattle.zl_calls.specs.calls.Async.{PortCancelDoes};
 ghost use Rattle.zl_calls.specs.calls.Port.{PortCreateDoes, PortPollDoes, PortQueueDoes};
 
 use crate::calls::handle::live_at;
 use crate::calls::{check_room, look_up, make_object};
+use crate::packets::PacketRegisters;
+use crate::process::{Process, State};
 use crate::waits::{cancel_waits, is_keyed};
+use zl_code::{CallInstr, Outcome};
 use zl_objects::Objects;
 use zl_port::{Packet, QueueFault, Source};
 use zl_rights::{HValue, Kind, Koid, Pid, Rights, Status};
@@ -63,6 +69,38 @@ pub fn port_poll(table: &Table, objects: &mut Objects, port: u64) -> Result<Pack
     match objects.pop(entry.koid) {
         Some(packet) => Ok(packet),
         None => Err(Status::TimedOut),
+    }
+}
+
+/// Does `port_wait` at its registers: it is answered with the first packet of the port, which it
+/// takes out, and else the process blocks until one is there.
+///
+/// `BadHandle`, `WrongType` for what is no port, `AccessDenied` without the right to read. It takes
+/// no memory.
+/// Source: the page "zx_port_wait" of the Fuchsia documentation, without a deadline.
+#[tactic(auto, unfolding(zl_code::specs::Request::site_of))]
+pub fn port_wait(process: &mut Process, objects: &mut Objects, call: &CallInstr) -> Outcome
+    requires counter { process.old.cpu.counter < 2 ^ 32 }
+    requires name { call.now.name ≡ name.PortWait }
+    ensures { Acted (site_of call.now process.old.cpu)
+        process.old objects.old result process.new objects.new }
+{
+    let to = PacketRegisters::of(call);
+    let [_, port, ..] = call.registers;
+    let value = process.cpu.register(port);
+    let entry = match look_up(&process.table, value, &[Kind::Port], Rights::READ) {
+        Ok(entry) => entry,
+        Err(refused) => return process.answer_packet(to, Err(refused)),
+    };
+    match objects.pop(entry.koid) {
+        Some(packet) => process.answer_packet(to, Ok(packet)),
+        None => {
+            process.state = State::AwaitsPacket {
+                port: entry.koid,
+                to,
+            };
+            Outcome::Blocked
+        }
     }
 }
 

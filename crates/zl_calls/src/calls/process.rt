@@ -1,25 +1,34 @@
-//! Calls on processes.
+//! Calls on processes: one that ends its caller, one that makes a process, and one that starts it.
 
-ghost use Rattle.std.specs.Prelude.{◌≡◌, [], ◌∷◌, slice_get, Some, IfOk};
+ghost use Rattle.std.specs.Prelude.{ℕ, ◌≡◌, ◌+◌, ◌<◌, ◌≤◌, true, List, [], ◌∷◌, length, map, vec_capacity, Some, slice_get, IsTrue, IfOk, OnOk, IfErr, OnErr};
+ghost use Rattle.std.specs.FinMap.Entries.{is_sorted};
 ghost use Rattle.std.specs.Option.{option_map};
+ghost use Rattle.std.specs.Ordering.{nat_cmp};
 ghost use Rattle.std.specs.Result.{result_err, result_ok};
 ghost use Rattle.zl_code.specs.Effects.{signed_word};
 ghost use Rattle.zl_code.specs.Jobs.{is_allowing, is_declared, is_only_start, misfits};
+ghost use Rattle.zl_code.specs.Starting.{cpu_given};
 ghost use Rattle.zl_rights.specs.LookUp.{looked_up};
 ghost use Rattle.zl_rights.specs.Numbers.{MANAGE_PROCESS};
+ghost use Rattle.zl_rights.specs.Signals.{is_ready};
 ghost use Rattle.zl_objects.specs.Jobs.{action_of, job_at};
-ghost use Rattle.zl_interp.specs.Common.{program_value};
+ghost use Rattle.zl_objects.specs.Objects.{starting};
+ghost use Rattle.zl_interp.specs.Common.{program_value, started_cpu};
 ghost use Rattle.zl_calls.specs.Registered.{KeepsListed};
+ghost use Rattle.zl_calls.specs.World.{process_entry, state_value};
+ghost use Rattle.zl_calls.specs.calls.Answer.{IsRefusedBy};
 ghost use Rattle.zl_calls.specs.calls.Process.{Drained, Ends};
-ghost use Rattle.zl_calls.specs.calls.Task.{create_refusal, needs_more};
+ghost use Rattle.zl_calls.specs.calls.Task.{AreBare, Enters, IsCallerStill, IsCreatedAt, IsFound, ProcessCreateDoes, ProcessStartDoes, child_refusal, create_refusal, lab, needs_more, process_at, start_refusal};
 
-use crate::calls::{check_room, look_up};
-use crate::process::Process;
-use std::alloc::Global;
+use crate::calls::handle::{close_each, take_out};
+use crate::calls::{check_room, insert, look_up, make_object};
+use crate::process::{Process, State};
+use crate::stepping::place_of;
+use std::alloc::{AllocError, Global};
 use zl_code::{Image, Start};
-use zl_interp::{Library, Program};
-use zl_objects::Objects;
-use zl_rights::{Action, Condition, Entry, Kind, Koid, Rights, Status};
+use zl_interp::{Cpu, Library, Program};
+use zl_objects::{Body, Life, Objects};
+use zl_rights::{Action, Condition, Entry, HValue, Kind, Koid, Pid, Rights, Status};
 use zl_table::Table;
 
 /// Ends the process with the code; its handles close, and what isn't held any more is gone.
@@ -43,6 +52,81 @@ pub fn signed_word(value: u64) -> i32
     low.cast_signed()
 }
 
+/// Makes a process of the program with this number in the job of the caller's handle, and gives the
+/// caller a handle with the default rights. It has no handles, and isn't started.
+///
+/// `BadHandle`, `WrongType` for what is no job, `AccessDenied` without the right to manage processes;
+/// `InvalidArgs` for a number that no program has; `BadState` where the job was killed;
+/// `NotSupported` where the program was checked, and declares a need that the policy of that job
+/// doesn't allow; `NoResources` where the table is full or no koid is left; `NoMemory`.
+/// Source: the page "zx_process_create" of the Fuchsia documentation; programs, their needs and the
+/// order are own profile.
+pub fn process_create(
+    alloc: Global,
+    library: &Library,
+    processes: &mut Vec<Process>,
+    objects: &mut Objects,
+    blocked: &mut Vec<Pid>,
+    place: usize,
+    job: u64,
+    program: u64,
+) -> Result<HValue, Status>
+    requires place { place < length processes.old.items }
+    requires few { length blocked.old.items ≤ length processes.old.items }
+    ensures does { (caller : Process) → slice_get processes.old.items place ≡ Some caller
+        → ProcessCreateDoes library.now place job program caller
+        (lab processes.old.items objects.old blocked.old.items) result
+        (lab processes.new.items objects.new blocked.new.items) }
+    ensures room { length processes.old.items ≤ vec_capacity blocked.old
+        → length processes.new.items ≤ vec_capacity blocked.new }
+{
+    let (job, image) = find_job(library, &processes[place].table, objects, job, program)?;
+    let Ok(cpu) = prepare(alloc, image, processes, blocked) else {
+        return Err(Status::NoMemory);
+    };
+    let pid = objects.end_of_koids();
+    let body = Body::Process {
+        job,
+        life: Life::Created,
+    };
+    match make_object(&mut processes[place].table, objects, body) {
+        Ok(made) => {
+            processes.push_reserved(Process {
+                pid,
+                program: program as usize,
+                state: State::Created,
+                cpu,
+                table: Table::new(alloc),
+            });
+            Ok(made)
+        }
+        Err(refused) => Err(refused),
+    }
+}
+
+/// Makes the Cpu of one process more, which runs the image, and room for that process and for each
+/// process in the list of the blocked.
+fn prepare(
+    alloc: Global,
+    image: &Image,
+    processes: &mut Vec<Process>,
+    blocked: &mut Vec<Pid>,
+) -> Result<Cpu, AllocError>
+    requires { length blocked.old.items ≤ length processes.old.items }
+    ensures cpu { IfOk result (λ cpu. cpu ≡ started_cpu image.now 0) }
+    ensures place { OnOk result
+        (length processes.old.items + 1 ≤ vec_capacity processes.new) }
+    ensures room { OnOk result (length processes.old.items + 1 ≤ vec_capacity blocked.new) }
+    ensures kept { length processes.old.items ≤ vec_capacity blocked.old
+        → length processes.old.items ≤ vec_capacity blocked.new }
+    ensures same_processes { processes.new.items ≡ processes.old.items }
+    ensures same_blocked { blocked.new.items ≡ blocked.old.items }
+{
+    processes.reserve(1)?;
+    blocked.reserve(processes.len() + 1 - blocked.len())?;
+    Cpu::new(alloc, image, 0)
+}
+
 /// What a program can declare that its processes make.
 const NEEDS: [Condition; 4] = [
     Condition::NewChannel,
@@ -53,7 +137,7 @@ const NEEDS: [Condition; 4] = [
 
 /// The job in which a process is to be made, and the image that the process is to run; or why none is
 /// made, but for want of memory. `process_create` says when which refusal comes.
-pub fn find_job<'a>(
+fn find_job<'a>(
     library: &'a Library,
     table: &Table,
     objects: &Objects,
@@ -102,8 +186,150 @@ fn allows(objects: &Objects, job: Koid, condition: Condition) -> bool
     matches!(objects.action(job, condition), Action::Allow)
 }
 
+/// Starts the process of the caller's first handle with the second one, which enters its table, and
+/// with the word. However it is answered, the second handle has left the caller's table.
+///
+/// Of the process `BadHandle`, `WrongType` for what is no process, `AccessDenied` without the right to
+/// write; of the handle `BadHandle`, `AccessDenied` without the right to transfer; `BadState` where
+/// the process was started or is over; `InvalidArgs` where its program was checked, and doesn't
+/// declare just one handle of this kind with these rights at most; `NoMemory`.
+/// Source: the page "zx_process_start" of the Fuchsia documentation; what a program declares and the
+/// order are own profile.
+pub fn process_start(
+    library: &Library,
+    processes: &mut Vec<Process>,
+    objects: &mut Objects,
+    place: usize,
+    process: u64,
+    handle: u64,
+    word: u64,
+) -> Result<(), Status>
+    requires place { place < length processes.old.items }
+    requires in_order { IsTrue (is_sorted nat_cmp (map process_entry processes.old.items)) }
+    requires bare { AreBare processes.old.items }
+    requires ready { (caller : Process) → slice_get processes.old.items place ≡ Some caller
+        → is_ready (state_value caller.state) ≡ true }
+    ensures does { (blocked : List ℕ) (caller : Process)
+        → slice_get processes.old.items place ≡ Some caller
+        → ProcessStartDoes library.now place process handle word caller
+        (lab processes.old.items objects.old blocked) result
+        (lab processes.new.items objects.new blocked) }
+    ensures caller { (caller : Process) → slice_get processes.old.items place ≡ Some caller
+        → IsCallerStill caller (slice_get processes.new.items place) }
+    ensures count { length processes.new.items ≡ length processes.old.items }
+{
+    match enter(library, processes, place, process, handle) {
+        Ok(started) => {
+            take_out(&mut processes[place].table, handle);
+            begin(&mut processes[started.place], objects, started.handle, word);
+            Ok(())
+        }
+        Err(refused) => {
+            close_each(&mut processes[place].table, objects, &[handle]);
+            Err(refused)
+        }
+    }
+}
+
+/// The process is ready, and finds the handle and the word in its registers.
+fn begin(process: &mut Process, objects: &mut Objects, handle: HValue, word: u64)
+    ensures process { process.new ≡ record process.old {
+      state = State.Ready;
+      cpu = cpu_given (handle ∷ []) word process.old.cpu;
+    } }
+    ensures objects { objects.new ≡ starting objects.old process.old.pid }
+{
+    process.state = State::Ready;
+    process.cpu.start(handle, word);
+    objects.start(process.pid);
+}
+
+/// A process that starts: its place, and the value at which its handle is in its table.
+#[derive(Clone, Copy)]
+struct Started {
+    place: usize,
+    handle: HValue,
+}
+
+/// The handle enters the table of the process that is to start, and is in the caller's still.
+fn enter(
+    library: &Library,
+    processes: &mut Vec<Process>,
+    place: usize,
+    process: u64,
+    handle: u64,
+) -> Result<Started, Status>
+    requires place { place < length processes.old.items }
+    requires in_order { IsTrue (is_sorted nat_cmp (map process_entry processes.old.items)) }
+    requires bare { AreBare processes.old.items }
+    ensures entered { IfOk result (λ started. (caller : Process)
+        → slice_get processes.old.items place ≡ Some caller
+        → Enters library.now processes.old.items caller process handle started
+        processes.new.items) }
+    ensures err { IfErr result (λ refused. (caller : Process)
+        → slice_get processes.old.items place ≡ Some caller
+        → IsRefusedBy true (start_refusal library.now processes.old.items caller.table.entries
+        process handle) refused) }
+    ensures unchanged { OnErr result (processes.new.items ≡ processes.old.items) }
+{
+    let (child, entry) = find_child(library, processes, place, process, handle)?;
+    let value = insert(&mut processes[child].table, entry)?;
+    Ok(Started {
+        place: child,
+        handle: value,
+    })
+}
+
+/// The place of the process that is to start, and the handle that it gets.
+fn find_child(
+    library: &Library,
+    processes: &[Process],
+    place: usize,
+    process: u64,
+    handle: u64,
+) -> Result<(usize, Entry), Status>
+    requires place { place < length processes.now }
+    requires in_order { IsTrue (is_sorted nat_cmp (map process_entry processes.now)) }
+    ensures refusal { (caller : Process) → slice_get processes.now place ≡ Some caller
+        → result_err result
+        ≡ start_refusal library.now processes.now caller.table.entries process handle }
+    ensures found { IfOk result (λ found. (caller : Process)
+        → slice_get processes.now place ≡ Some caller
+        → IsFound processes.now caller process handle found.0 found.1) }
+{
+    let table = &processes[place].table;
+    let child = look_up(table, process, &[Kind::Process], Rights::WRITE)?;
+    let entry = look_up(table, handle, &[], Rights::TRANSFER)?;
+    let child = created_at(library, processes, child.koid, &entry)?;
+    Ok((child, entry))
+}
+
+/// The place of the process, if it was made and not started, and can start with the handle.
+fn created_at(
+    library: &Library,
+    processes: &[Process],
+    pid: Pid,
+    entry: &Entry,
+) -> Result<usize, Status>
+    requires in_order { IsTrue (is_sorted nat_cmp (map process_entry processes.now)) }
+    ensures refusal { result_err result
+        ≡ child_refusal library.now (process_at processes.now pid) entry.now }
+    ensures found { IfOk result (IsCreatedAt processes.now pid) }
+{
+    let Some(place) = place_of(processes, pid) else {
+        return Err(Status::BadState);
+    };
+    if !processes[place].is_created() {
+        return Err(Status::BadState);
+    }
+    if misfits(library, processes[place].program, entry) {
+        return Err(Status::InvalidArgs);
+    }
+    Ok(place)
+}
+
 /// Whether the program with this number was checked, and declares anything else than this handle.
-pub fn misfits(library: &Library, program: usize, entry: &Entry) -> bool
+fn misfits(library: &Library, program: usize, entry: &Entry) -> bool
     ensures { result ≡ misfits (slice_get library.now program) (Some entry.now) }
 {
     match library.get(program) {

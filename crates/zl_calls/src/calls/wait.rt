@@ -1,12 +1,17 @@
 //! Calls that look at the signals of an object.
 
-ghost use Rattle.std.specs.Prelude.{◌≡◌};
+ghost use Rattle.std.specs.Prelude.{◌≡◌, ◌<◌, ◌^◌};
+ghost use Rattle.zl_code.specs.Request.{site_of};
+ghost use Rattle.zl_code.specs.declared.history.CallName.TheVariants as name;
+ghost use Rattle.zl_calls.specs.Acted.{Acted};
 ghost use Rattle.zl_calls.specs.calls.Async.{WaitAsyncDoes};
 ghost use Rattle.zl_calls.specs.calls.Wait.{polled_at, watched_at};
 
 use crate::calls::handle::live_at;
 use crate::calls::look_up;
+use crate::process::{Process, SignalRegisters, State};
 use bitflags::Flags;
+use zl_code::{CallInstr, Outcome};
 use zl_objects::{Objects, Wait};
 use zl_rights::{Kind, Koid, Pid, Rights, Signals, Status};
 use zl_table::Table;
@@ -69,6 +74,41 @@ pub fn wait_poll(
         }
         Err(refused) => Err(PollFault::Refused(refused)),
     }
+}
+
+/// Does `wait_one` at its registers: it is answered with the active signals, if one of the mask is
+/// among them, and else the process blocks until one is.
+///
+/// `BadHandle`, `AccessDenied` without the right to wait, `InvalidArgs` for a mask of more than 32
+/// bits. It takes no memory.
+/// Source: the page "zx_object_wait_one" of the Fuchsia documentation, without a deadline.
+#[tactic(auto, unfolding(zl_code::specs::Request::site_of))]
+pub fn wait_one(process: &mut Process, objects: &Objects, call: &CallInstr) -> Outcome
+    requires counter { process.old.cpu.counter < 2 ^ 32 }
+    requires name { call.now.name ≡ name.WaitOne }
+    ensures { Acted (site_of call.now process.old.cpu)
+        process.old objects.now result process.new objects.now }
+{
+    let [status, handle, mask, observed, ..] = call.registers;
+    let to = SignalRegisters { status, observed };
+    let value = process.cpu.register(handle);
+    let mask = process.cpu.register(mask);
+    let watched = match watch(&process.table, objects, value, mask) {
+        Ok(watched) => watched,
+        Err(refused) => {
+            let answer = Err(PollFault::Refused(refused));
+            return process.answer_polled(to.status, to.observed, answer);
+        }
+    };
+    if watched.active.intersects(watched.mask) {
+        return process.answer_polled(to.status, to.observed, Ok(watched.active));
+    }
+    process.state = State::AwaitsSignal {
+        koid: watched.koid,
+        mask,
+        to,
+    };
+    Outcome::Blocked
 }
 
 /// Registers a wait at the object of the handle: as soon as a signal of the mask is active there, a

@@ -3,7 +3,7 @@ use Rattle.std.specs.Prelude.{◌*◌, drop}
 use Rattle.zl_rights.specs.World.{written}
 use Rattle.zl_code.specs.Asked.{triples_from}
 use Rattle.zl_code.specs.Effects.{told_of}
-use Rattle.zl_calls.proofs.reading.tell.Given as goal
+use Rattle.zl_calls.proofs.calls.reading.tell.Given as goal
 
 abbrev pub invariant-loop-n : goal.invariant-loop-n
 invariant-loop-n l = record {

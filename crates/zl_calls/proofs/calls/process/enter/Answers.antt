@@ -1,6 +1,6 @@
 use Rattle.zl_calls.proofs.Common.{arith, ◌<◌, length}
 use Rattle.zl_calls.proofs.tasks.StartParts.{child_room, child_within, enters_so}
-use Rattle.zl_calls.proofs.tasks.enter.Goals as goal
+use Rattle.zl_calls.proofs.calls.process.enter.Goals as goal
 
 pub index_mut-requires : goal.index_mut-requires
 index_mut-requires c =

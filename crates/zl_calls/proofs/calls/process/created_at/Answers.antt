@@ -2,7 +2,7 @@ use Rattle.zl_calls.proofs.Common.{◌≡◌, true, false, Some, slice_get, subs
 use Rattle.zl_code.specs.Jobs.{misfits}
 use Rattle.zl_calls.specs.declared.process.Process.{Process}
 use Rattle.zl_calls.proofs.tasks.StartParts.{is_created_at, misfit_refused, none_refused, not_refused, started_refused}
-use Rattle.zl_calls.proofs.tasks.created_at.Goals as goal
+use Rattle.zl_calls.proofs.calls.process.created_at.Goals as goal
 
 pub returns-in_default-clause-refusal : goal.returns-in_default-clause-refusal
 returns-in_default-clause-refusal c = none_refused c.args.library.now c.args.processes.now c.args.pid c.args.entry.now (c.in_default.ensures {u = tt}).first

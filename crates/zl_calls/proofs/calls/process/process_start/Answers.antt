@@ -1,6 +1,6 @@
 use Rattle.zl_calls.proofs.Common.{arith, ◌<◌, [], length}
 use Rattle.zl_calls.proofs.tasks.StartParts.{caller_inside, caller_still, refused_so, refused_still, started_inside, starts_so, written_twice}
-use Rattle.zl_calls.proofs.tasks.process_start.Goals as goal
+use Rattle.zl_calls.proofs.calls.process.process_start.Goals as goal
 
 pub index_mut-requires : goal.index_mut-requires
 index_mut-requires c =

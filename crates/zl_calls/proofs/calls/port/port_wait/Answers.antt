@@ -4,7 +4,7 @@ use Rattle.std.specs.Prelude.{slice_index}
 use Rattle.zl_code.specs.Local.{reg}
 use Rattle.zl_calls.specs.declared.process.State.TheVariants as state
 use Rattle.zl_calls.proofs.calls.Waited.{packet_comes, port_blocks, port_refuses}
-use Rattle.zl_calls.proofs.blocking.port_wait.Goals as goal
+use Rattle.zl_calls.proofs.calls.port.port_wait.Goals as goal
 
 pub returns-in-Err : goal.returns-in-Err
 unfolding site_of

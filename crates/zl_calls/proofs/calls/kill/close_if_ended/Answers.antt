@@ -1,7 +1,7 @@
 use Rattle.zl_calls.proofs.Common.{ap, refl, sym, ◌∙◌}
 use Rattle.zl_table.specs.Table.{Handles}
 use Rattle.zl_calls.specs.calls.Task.{is_over, lives_on}
-use Rattle.zl_calls.proofs.tasks.close_if_ended.Goals as goal
+use Rattle.zl_calls.proofs.calls.kill.close_if_ended.Goals as goal
 
 pub returns-then-lives-clause-closes : goal.returns-then-lives-clause-closes
 returns-then-lives-clause-closes c = lives_on c.args.process.now c.args.objects.now (sym c.lives.ensures ∙ c.if-lives.true)

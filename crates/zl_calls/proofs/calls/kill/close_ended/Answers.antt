@@ -3,7 +3,7 @@ use Rattle.zl_calls.specs.calls.Task.{ClosesEnded}
 use Rattle.zl_calls.specs.declared.process.Process.{Process}
 use Rattle.zl_calls.proofs.waits.WaitsLost.{listed_same, listed_then}
 use Rattle.zl_calls.proofs.tasks.KillParts.{closing_ends, closing_goes_on, closing_starts}
-use Rattle.zl_calls.proofs.tasks.close_ended.Goals as goal
+use Rattle.zl_calls.proofs.calls.kill.close_ended.Goals as goal
 
 pub loop-process-init : goal.loop-process-init
 loop-process-init c = record { closing = closing_starts c.args.processes.now c.args.objects.now; listed = listed_same c.args.objects.now }

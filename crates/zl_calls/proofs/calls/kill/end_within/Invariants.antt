@@ -1,6 +1,6 @@
 use Rattle.std.proofs.Common.{◌≡◌, ◌++◌, take, drop, map}
 use Rattle.zl_calls.specs.calls.Task.{ended_within}
-use Rattle.zl_calls.proofs.tasks.end_within.Given as goal
+use Rattle.zl_calls.proofs.calls.kill.end_within.Given as goal
 
 abbrev pub invariant-loop-process : goal.invariant-loop-process
 invariant-loop-process l =

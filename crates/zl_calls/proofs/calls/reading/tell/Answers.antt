@@ -1,6 +1,6 @@
 use Rattle.zl_calls.proofs.Common.{sym, ◌∙◌}
 use Rattle.zl_calls.proofs.calls.ReaderTold.{one_told, set_keeps}
-use Rattle.zl_calls.proofs.reading.tell.Goals as goal
+use Rattle.zl_calls.proofs.calls.reading.tell.Goals as goal
 
 pub loop-n-preserved : goal.loop-n-preserved
 loop-n-preserved c = record {

@@ -7,7 +7,7 @@ use Rattle.zl_rights.specs.Signals.{state_passes}
 use Rattle.zl_code.specs.Sound.{is_blocked}
 use Rattle.zl_calls.specs.World.{process_entry}
 use Rattle.zl_calls.proofs.lists.FilterInPlace.{IsKeeping}
-use Rattle.zl_calls.proofs.tasks.keep_blocked.Given as goal
+use Rattle.zl_calls.proofs.calls.kill.keep_blocked.Given as goal
 
 abbrev pub invariant-loop-place : goal.invariant-loop-place
 invariant-loop-place l = record {

@@ -1,6 +1,6 @@
 use Rattle.zl_calls.proofs.Common.{refl}
 use Rattle.zl_calls.proofs.tasks.Creating.{not_made, wants_memory}
-use Rattle.zl_calls.proofs.tasks.process_create.Goals as goal
+use Rattle.zl_calls.proofs.calls.process.process_create.Goals as goal
 
 pub returns-in_default-clause-does : goal.returns-in_default-clause-does
 returns-in_default-clause-does c = λ caller there. wants_memory c.args.library.now c.args.processes.now.items c.prepare.new.processes.items

@@ -1,7 +1,7 @@
 use Rattle.zl_calls.proofs.Common.{arith}
 use Rattle.std.proofs.lemmas.Grind.{common_steps}
 use Rattle.zl_calls.proofs.calls.ReaderTold.{at_read, length_same, parts_act}
-use Rattle.zl_calls.proofs.reading.read.Goals as goal
+use Rattle.zl_calls.proofs.calls.reading.read.Goals as goal
 
 pub returns-in-Ok : goal.returns-in-Ok
 returns-in-Ok c = rw (at_read c.args.call.now c.args.process.now.cpu c.requires.name c.requires.there)

@@ -1,6 +1,6 @@
 use Rattle.zl_calls.proofs.Common.{arith, ◌≡◌, [], length, refl}
 use Rattle.zl_calls.proofs.tasks.KillParts.{in_order_back, killed_back, still_back}
-use Rattle.zl_calls.proofs.tasks.task_kill.Goals as goal
+use Rattle.zl_calls.proofs.calls.kill.task_kill.Goals as goal
 
 pub keep_blocked-requires : goal.keep_blocked-requires
 keep_blocked-requires c =

@@ -3,7 +3,7 @@ use Rattle.std.proofs.lemmas.Grind.{common_steps}
 use Rattle.std.specs.Prelude.{slice_index}
 use Rattle.zl_code.specs.Local.{reg}
 use Rattle.zl_rights.specs.World.{SignalOf}
-use Rattle.zl_calls.proofs.blocking.wait_one.Goals as goal
+use Rattle.zl_calls.proofs.calls.wait.wait_one.Goals as goal
 
 pub returns : goal.returns
 unfolding site_of

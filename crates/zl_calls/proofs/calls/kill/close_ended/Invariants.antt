@@ -1,6 +1,6 @@
 use Rattle.zl_calls.specs.Registered.{KeepsListed}
 use Rattle.zl_calls.proofs.tasks.KillParts.{IsClosing}
-use Rattle.zl_calls.proofs.tasks.close_ended.Given as goal
+use Rattle.zl_calls.proofs.calls.kill.close_ended.Given as goal
 
 abbrev pub invariant-loop-process : goal.invariant-loop-process
 invariant-loop-process l = record {

@@ -1,0 +1,131 @@
+//! The call that kills a process, or a job with all that stands below it.
+
+ghost use Rattle.std.specs.Prelude.{◌≡◌, ◌<◌, length, map, vec_capacity, Some, slice_get, IsTrue};
+ghost use Rattle.std.specs.FinMap.Entries.{is_sorted};
+ghost use Rattle.std.specs.List.{filter};
+ghost use Rattle.std.specs.Ordering.{nat_cmp};
+ghost use Rattle.zl_rights.specs.Map.{get};
+ghost use Rattle.zl_rights.specs.Signals.{state_passes};
+ghost use Rattle.zl_code.specs.Sound.{is_blocked};
+ghost use Rattle.zl_calls.specs.Registered.{KeepsListed};
+ghost use Rattle.zl_calls.specs.World.{process_entry};
+ghost use Rattle.zl_calls.specs.calls.Task.{ClosesAllEnded, ClosesEnded, IsCallerStill, TaskKillDoes, ended_within, lab};
+
+use crate::calls::look_up;
+use crate::calls::process::close_all;
+use crate::process::{Process, State};
+use crate::stepping::place_of;
+use std::alloc::Global;
+use zl_objects::Objects;
+use zl_rights::{Kind, Koid, Pid, Rights, Status};
+use zl_table::Table;
+
+/// The code with which a killed process ends (own profile).
+const KILLED: i32 = -1024;
+
+/// Kills the process or the job of the handle, and whatever stands below it. Where that is dead
+/// already it is answered OK, and nothing changes.
+///
+/// `BadHandle`, `WrongType` for what is neither, `AccessDenied` without the right to destroy. It takes
+/// no memory.
+/// Source: the page "zx_task_kill" of the Fuchsia documentation; the code is own profile.
+pub fn task_kill(
+    alloc: Global,
+    processes: &mut Vec<Process>,
+    objects: &mut Objects,
+    blocked: &mut Vec<Pid>,
+    place: usize,
+    task: u64,
+) -> Result<(), Status>
+    requires place { place < length processes.old.items }
+    requires in_order { IsTrue (is_sorted nat_cmp (map process_entry processes.old.items)) }
+    ensures does { (caller : Process) → slice_get processes.old.items place ≡ Some caller
+        → TaskKillDoes task caller (lab processes.old.items objects.old blocked.old.items) result
+        (lab processes.new.items objects.new blocked.new.items) }
+    ensures caller { (caller : Process) → slice_get processes.old.items place ≡ Some caller
+        → IsCallerStill caller (slice_get processes.new.items place) }
+    ensures count { length processes.new.items ≡ length processes.old.items }
+    ensures capacity { vec_capacity blocked.new ≡ vec_capacity blocked.old }
+{
+    let task = look_up(
+        &processes[place].table,
+        task,
+        &[Kind::Process, Kind::Job],
+        Rights::DESTROY,
+    )?;
+    end_within(processes, objects, task.koid);
+    keep_blocked(processes, blocked);
+    objects.kill(task.koid);
+    close_ended(alloc, processes, objects);
+    Ok(())
+}
+
+/// Each process ends that lives and is the task or stands below it. Its handles are left for now, as
+/// what keeps it in its place may be a handle of its own.
+fn end_within(processes: &mut [Process], objects: &Objects, task: Koid)
+    ensures { processes.new ≡ map (ended_within objects.now task) processes.old }
+{
+    for process in processes.iter_mut() {
+        end_if_within(process, objects, task);
+    }
+}
+
+/// One process.
+fn end_if_within(process: &mut Process, objects: &Objects, task: Koid)
+    ensures { process.new ≡ ended_within objects.now task process.old }
+{
+    if process.lives() && objects.is_within(task, process.pid) {
+        process.state = State::Ended(KILLED);
+    }
+}
+
+/// Those of the list are left that are still blocked.
+fn keep_blocked(processes: &[Process], blocked: &mut Vec<Pid>)
+    requires { IsTrue (is_sorted nat_cmp (map process_entry processes.now)) }
+    ensures items { blocked.new.items
+        ≡ filter (λ k. state_passes is_blocked (get (map process_entry processes.now) k))
+        blocked.old.items }
+    ensures capacity { vec_capacity blocked.new ≡ vec_capacity blocked.old }
+{
+    let mut place = 0;
+    while place < blocked.len() {
+        if is_blocked(processes, blocked[place]) {
+            place += 1;
+        } else {
+            blocked.remove(place);
+        }
+    }
+}
+
+/// Whether the process waits within a call.
+fn is_blocked(processes: &[Process], pid: Pid) -> bool
+    requires { IsTrue (is_sorted nat_cmp (map process_entry processes.now)) }
+    ensures { result ≡ state_passes is_blocked (get (map process_entry processes.now) pid) }
+{
+    match place_of(processes, pid) {
+        Some(place) => processes[place].is_blocked(),
+        None => false,
+    }
+}
+
+/// The handles close of each process that is over.
+fn close_ended(alloc: Global, processes: &mut [Process], objects: &mut Objects)
+    ensures closes { ClosesAllEnded processes.old objects.old processes.new objects.new }
+    ensures listed { KeepsListed objects.old objects.new }
+{
+    for process in processes.iter_mut() {
+        close_if_ended(alloc, process, objects);
+    }
+}
+
+/// The handles close of the process, if it is over.
+fn close_if_ended(alloc: Global, process: &mut Process, objects: &mut Objects)
+    ensures closes { ClosesEnded process.old objects.old process.new objects.new }
+    ensures listed { KeepsListed objects.old objects.new }
+{
+    if process.lives() {
+        return;
+    }
+    let table = std::mem::replace(&mut process.table, Table::new(alloc));
+    close_all(objects, table);
+}

@@ -5,6 +5,6 @@ pub mod BootDeclared
 pub mod BootMaking
 pub mod BootObjects
 pub mod BootJobs
-pub mod BootLab
+pub mod BootConsistent
 pub mod BootRun
 pub mod BootBlocked

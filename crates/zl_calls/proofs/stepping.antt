@@ -1,5 +1,5 @@
 -- What a process does in the midst of all others, as a step of the definitions.
-pub mod Labs
+pub mod FromConsistent
 pub mod Places
 pub mod Performing
 pub mod Calling

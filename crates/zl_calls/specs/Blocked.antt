@@ -18,7 +18,7 @@ pub record AreBlocked (processes : List Process) (blocked : List ℕ) : Type 0 w
 
 -- the invariant of the programs, the processes and objects, and of the list of those that are blocked, which has room for all
 pub record IsWhole (lib : Library) (processes : List Process) (r : Objects) (blocked : List ℕ) (capacity : ℕ) : Type 0 where
-  pub lab : IsConsistent processes r
+  pub consistent : IsConsistent processes r
   -- their world is sound
   pub sound : IsSound (world_blocked processes r blocked)
   pub are_blocked : AreBlocked processes blocked

@@ -10,49 +10,49 @@ use Rattle.zl_calls.specs.Acted.{Acted}
 use Rattle.zl_calls.specs.Policed.{Policed, verdict_on}
 use Rattle.zl_calls.specs.World.{CallsNext}
 use Rattle.zl_calls.specs.calls.Answer.{Told, no_value, one_value, told_by}
-use Rattle.zl_calls.specs.calls.Task.{Lab, ProcessCreateDoes, ProcessStartDoes, TaskKillDoes, with_caller}
+use Rattle.zl_calls.specs.calls.Task.{Parts, ProcessCreateDoes, ProcessStartDoes, TaskKillDoes, with_caller}
 use Rattle.zl_calls.specs.declared.process.Process.{Process}
 use Rattle.zl_calls.specs.declared.process.State.TheVariants as state
 
 -- ---- calls that reach other processes
 
 -- the caller has what it is told in the registers of the site, and nothing else has changed
-pub record IsToldIn (s : Site) (place : ℕ) (told : Told) (l l2 : Lab) : Type 0 where
+pub record IsToldIn (s : Site) (place : ℕ) (told : Told) (all all2 : Parts) : Type 0 where
   pub caller : Process
-  pub is_there : slice_get l.processes place ≡ Some caller
-  pub processes : l2.processes ≡ with_caller l.processes place (record caller { cpu = cpu_answered s told.status told.values caller.cpu })
-  pub objects : l2.objects ≡ l.objects
-  pub blocked : l2.blocked ≡ l.blocked
+  pub is_there : slice_get all.processes place ≡ Some caller
+  pub processes : all2.processes ≡ with_caller all.processes place (record caller { cpu = cpu_answered s told.status told.values caller.cpu })
+  pub objects : all2.objects ≡ all.objects
+  pub blocked : all2.blocked ≡ all.blocked
 
 -- the call does so, and its caller is told the answer
-pub record IsAnsweredIn {A : Type 0} (told : A → Told) (Does : Lab → A → Lab → Type 0) (s : Site) (place : ℕ) (l : Lab) (o : Outcome) (l2 : Lab) : Type 0 where
+pub record IsAnsweredIn {A : Type 0} (told : A → Told) (Does : Parts → A → Parts → Type 0) (s : Site) (place : ℕ) (all : Parts) (o : Outcome) (all2 : Parts) : Type 0 where
   pub answer : A
-  pub between : Lab
-  pub does : Does l answer between
+  pub between : Parts
+  pub does : Does all answer between
   pub ends : o ≡ outcome.Answered (told answer).status
-  pub is_told : IsToldIn s place (told answer) between l2
+  pub is_told : IsToldIn s place (told answer) between all2
 
 -- the call did so, and its caller is among those that it ended
-pub record EndsCaller (Does : Lab → Lab → Type 0) (place : ℕ) (l : Lab) (o : Outcome) (l2 : Lab) : Type 0 where
+pub record EndsCaller (Does : Parts → Parts → Type 0) (place : ℕ) (all : Parts) (o : Outcome) (all2 : Parts) : Type 0 where
   pub caller : Process
   pub code : ℤ
-  pub does : Does l l2
-  pub is_there : slice_get l2.processes place ≡ Some caller
+  pub does : Does all all2
+  pub is_there : slice_get all2.processes place ≡ Some caller
   pub is_over : caller.state ≡ state.Ended code
   pub ends : o ≡ outcome.Ended code
 
 -- what a call does that reaches other processes
-pub data Reaches (lib : Library) (place : ℕ) (caller : Process) (s : Site) (l : Lab) (o : Outcome) (l2 : Lab) : Type 0 where
+pub data Reaches (lib : Library) (place : ℕ) (caller : Process) (s : Site) (all : Parts) (o : Outcome) (all2 : Parts) : Type 0 where
   creates : (job program : ℕ) → s.request ≡ process_create job program
-      → IsAnsweredIn (told_by one_value) (ProcessCreateDoes lib place job program caller) s place l o l2 → Reaches lib place caller s l o l2
+      → IsAnsweredIn (told_by one_value) (ProcessCreateDoes lib place job program caller) s place all o all2 → Reaches lib place caller s all o all2
   starts : (process h word : ℕ) → s.request ≡ process_start process h word
-      → IsAnsweredIn (told_by no_value) (ProcessStartDoes lib place process h word caller) s place l o l2 → Reaches lib place caller s l o l2
+      → IsAnsweredIn (told_by no_value) (ProcessStartDoes lib place process h word caller) s place all o all2 → Reaches lib place caller s all o all2
   -- the caller isn't among those that it ended
   kills : (task : ℕ) → s.request ≡ task_kill task
-      → (a : IsAnsweredIn (told_by no_value) (TaskKillDoes task caller) s place l o l2)
-      → ((code : ℤ) → a.is_told.caller.state ≡ state.Ended code → ⊥) → Reaches lib place caller s l o l2
+      → (a : IsAnsweredIn (told_by no_value) (TaskKillDoes task caller) s place all o all2)
+      → ((code : ℤ) → a.is_told.caller.state ≡ state.Ended code → ⊥) → Reaches lib place caller s all o all2
   kills_itself : (task : ℕ) → s.request ≡ task_kill task
-      → EndsCaller (λ a b. TaskKillDoes task caller a (Ok tt) b) place l o l2 → Reaches lib place caller s l o l2
+      → EndsCaller (λ a b. TaskKillDoes task caller a (Ok tt) b) place all o all2 → Reaches lib place caller s all o all2
 
 -- the requests that reach other processes
 abbrev pub is_reaching : Request → Bool
@@ -64,23 +64,23 @@ is_reaching _ = false
 -- ---- any call
 
 -- of the processes the caller alone has changed, and none left the list of the blocked
-pub record IsAlone (l : Lab) (place : ℕ) (p2 : Process) (l2 : Lab) : Type 0 where
-  pub processes : l2.processes ≡ with_caller l.processes place p2
-  pub blocked : l2.blocked ≡ l.blocked
+pub record IsAlone (all : Parts) (place : ℕ) (p2 : Process) (all2 : Parts) : Type 0 where
+  pub processes : all2.processes ≡ with_caller all.processes place p2
+  pub blocked : all2.blocked ≡ all.blocked
 
 -- the call of the site is ended by policy, or else it is done
-pub data CallActs (lib : Library) (place : ℕ) (caller : Process) (s : Site) (l : Lab) (o : Outcome) (l2 : Lab) : Type 0 where
-  policed : (p2 : Process) → IsAlone l place p2 l2 → Policed s caller l.objects o p2 l2.objects → CallActs lib place caller s l o l2
-  reaches : verdict_on caller.table.entries l.objects.objects caller.pid s.request ≡ None
-      → Reaches lib place caller s l o l2 → CallActs lib place caller s l o l2
-  acts : (p2 : Process) → verdict_on caller.table.entries l.objects.objects caller.pid s.request ≡ None
-      → IsAlone l place p2 l2 → Acted (Some s) caller l.objects o p2 l2.objects → CallActs lib place caller s l o l2
+pub data CallActs (lib : Library) (place : ℕ) (caller : Process) (s : Site) (all : Parts) (o : Outcome) (all2 : Parts) : Type 0 where
+  policed : (p2 : Process) → IsAlone all place p2 all2 → Policed s caller all.objects o p2 all2.objects → CallActs lib place caller s all o all2
+  reaches : verdict_on caller.table.entries all.objects.objects caller.pid s.request ≡ None
+      → Reaches lib place caller s all o all2 → CallActs lib place caller s all o all2
+  acts : (p2 : Process) → verdict_on caller.table.entries all.objects.objects caller.pid s.request ≡ None
+      → IsAlone all place p2 all2 → Acted (Some s) caller all.objects o p2 all2.objects → CallActs lib place caller s all o all2
 
 -- the call that stands next for the caller, at this place, is done so, and has this name
-pub record CalledAmong (lib : Library) (place : ℕ) (caller : Process) (l : Lab) (name : CallName) (o : Outcome) (l2 : Lab) : Type 0 where
+pub record CalledAmong (lib : Library) (place : ℕ) (caller : Process) (all : Parts) (name : CallName) (o : Outcome) (all2 : Parts) : Type 0 where
   pub call : CallInstr
   pub next : CallsNext lib caller call
   pub named : name ≡ call.name
   pub site : Site
   pub at_site : site_of call caller.cpu ≡ Some site
-  pub acts : CallActs lib place caller site l o l2
+  pub acts : CallActs lib place caller site all o all2

@@ -49,9 +49,9 @@ pub record EndsWaits (test : Wait → Bool) (r r2 : Objects) : Type 0 where
 -- of the waits those are left whose handle, object and port are, and all else is as it was
 pub record EndsUnheld (ps : List Process) (r r2 : Objects) : Type 0 where
   pub world : (blocked : List ℕ) → world_blocked ps r2 blocked ≡ world_left ps r blocked
-  pub lab : IsConsistent ps r2
+  pub consistent : IsConsistent ps r2
 
 -- each wait that holds has given its packet and is gone, whichever processes block
 pub record FiresWaits (ps : List Process) (r r2 : Objects) : Type 0 where
   pub world : (blocked : List ℕ) → world_blocked ps r2 blocked ≡ fired (world_blocked ps r blocked)
-  pub lab : IsConsistent ps r2
+  pub consistent : IsConsistent ps r2

@@ -6,25 +6,25 @@ use Rattle.zl_code.specs.Starting.{program_of}
 use Rattle.zl_code.specs.declared.history.TraceItem.{TraceItem}
 use Rattle.zl_code.specs.declared.history.TraceItem.TheVariants as item
 use Rattle.zl_interp.specs.Bursts.{Turn, Done}
-use Rattle.zl_calls.specs.World.{World}
+use Rattle.zl_calls.specs.World.{Machine}
 
 -- this program and this Cpu stand here for the process
-pub record Stands (l : World) (pid : ℕ) (program : Program) (cpu : Cpu) : Type 0 where
-  pub program_is : program_of l.programs l.world pid ≡ Some program
-  pub cpu_is : option_map (λ p. p.cpu) (get l.world.processes pid) ≡ Some cpu
+pub record Stands (m : Machine) (pid : ℕ) (program : Program) (cpu : Cpu) : Type 0 where
+  pub program_is : program_of m.programs m.world pid ≡ Some program
+  pub cpu_is : option_map (λ p. p.cpu) (get m.world.processes pid) ≡ Some cpu
 
 -- the turn is one of the process, with its program and its Cpu as they stand
-pub record IsTurn (l : World) (pid : ℕ) (t : Turn) : Type 0 where
+pub record IsTurn (m : Machine) (pid : ℕ) (t : Turn) : Type 0 where
   pub pid_is : t.pid ≡ pid
-  pub stands : Stands l pid t.program t.cpu
+  pub stands : Stands m pid t.program t.cpu
 
 -- what was done began with the program and the Cpu that stand here for its process
-abbrev pub Fits : World → Done → Type 0
-Fits l d = Stands l d.pid d.program d.from
+abbrev pub Fits : Machine → Done → Type 0
+Fits m d = Stands m d.pid d.program d.from
 
 -- the world in which its process has the Cpu with which it ended
-abbrev pub advanced : World → Done → World
-advanced l d = record l { world = on_process l.world d.pid (λ p. record p { cpu = d.to }) }
+abbrev pub advanced : Machine → Done → Machine
+advanced m d = record m { world = on_process m.world d.pid (λ p. record p { cpu = d.to }) }
 
 -- an item for each local instruction that was done
 abbrev pub steps_done : Done → List TraceItem

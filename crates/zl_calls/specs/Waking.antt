@@ -61,5 +61,5 @@ unless_woke woke pid blocked = if woke then filter (λ q. not (q == pid)) blocke
 pub record WakesOne (pid : ℕ) (woke : Bool) (ps : List Process) (r : Objects) (ps2 : List Process) (r2 : Objects) : Type 0 where
   pub world : (blocked : List ℕ) → world_blocked ps2 r2 (unless_woke woke pid blocked) ≡ woken (world_blocked ps r blocked) pid
   pub list : (blocked : List ℕ) → AreBlocked ps blocked → AreBlocked ps2 (unless_woke woke pid blocked)
-  pub lab : IsConsistent ps2 r2
+  pub consistent : IsConsistent ps2 r2
   pub count : length ps2 ≡ length ps

@@ -14,8 +14,8 @@ use Rattle.zl_calls.specs.declared.process.Process.{Process}
 use Rattle.zl_objects.specs.Objects.{Objects}
 use Rattle.zl_objects.specs.Seen.{object_entry}
 
--- the programs of a lab, and its world
-pub record World : Type 0 where
+-- the programs, and the world in which they run
+pub record Machine : Type 0 where
   pub programs : Library
   pub world : WorldValue
 
@@ -82,8 +82,8 @@ pub record IsPlaceOf (processes : List Process) (pid place : ℕ) : Type 0 where
   pub holds : get (map process_entry processes) pid ≡ option_map process_value (slice_get processes place)
 
 -- what a trace tells of the process; a number that was never a process is gone
-abbrev pub state_in : World → ℕ → ProcState
-state_in l pid = seen_of (get l.world.processes pid)
+abbrev pub state_in : Machine → ℕ → ProcState
+state_in m pid = seen_of (get m.world.processes pid)
 
 -- what stands next for the process
 abbrev pub stands_next : Library → Process → Next
@@ -99,9 +99,9 @@ call_of lib None = None
 call_of lib (Some p) = if is_ready p.state then call_in (next_for lib p) else None
 
 -- the call at which the process is, if it is ready and at one
-abbrev pub call_for : World → ℕ → Option CallName
-call_for l pid = call_of l.programs (get l.world.processes pid)
+abbrev pub call_for : Machine → ℕ → Option CallName
+call_for m pid = call_of m.programs (get m.world.processes pid)
 
 -- the process is there and ready
-abbrev pub is_ready_in : World → ℕ → Bool
-is_ready_in l pid = is_process l.world is_ready pid
+abbrev pub is_ready_in : Machine → ℕ → Bool
+is_ready_in m pid = is_process m.world is_ready pid

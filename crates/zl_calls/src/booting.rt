@@ -46,7 +46,7 @@ pub struct Made {
 /// What the statements of a boot make, in their order; `World::boot` says when which fault comes.
 pub fn booted(alloc: Global, library: &Library, boot: &Boot) -> Result<Made, BootFault>
     ensures ok { IfOk result (λ made. IsBoot library.now boot.now.statements.items (seen made)) }
-    ensures lab { IfOk result (λ made. IsConsistent made.processes.items made.objects) }
+    ensures consistent { IfOk result (λ made. IsConsistent made.processes.items made.objects) }
     ensures unwatched { IfOk result (λ made. IsUnwatched made.objects) }
     ensures words { OnOk result
         (AllByRecursion (λ s. word_of s ≤ most_word) boot.now.statements.items) }
@@ -389,7 +389,7 @@ impl Made {
     fn settle(&mut self)
         requires { IsMaking self.old.processes.items [] self.old.objects }
         ensures settles { Settles (seen self.old) (seen self.new) }
-        ensures lab { IsConsistent self.new.processes.items self.new.objects }
+        ensures consistent { IsConsistent self.new.processes.items self.new.objects }
         ensures unwatched { IsUnwatched self.new.objects }
     {
         // What is newer goes first, as a job is older than what is in it.

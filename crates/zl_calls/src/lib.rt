@@ -1,4 +1,4 @@
-//! The world of a running lab: boot, system calls and local instructions.
+//! The running world: boot, system calls and local instructions.
 //!
 //! It stands on `zl_table`, for the handles of a process, on `zl_objects`, for the objects, on
 //! `zl_interp`, for programs and what stands next in them, and on `zl_code`, for images and the

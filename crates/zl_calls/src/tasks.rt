@@ -10,7 +10,7 @@ ghost use Rattle.zl_interp.specs.Common.{register_set};
 ghost use Rattle.zl_calls.specs.Reaching.{Reaches, is_reaching};
 ghost use Rattle.zl_calls.specs.World.{process_entry, state_value};
 ghost use Rattle.zl_calls.specs.calls.Answer.{answered_in, no_value, status_of};
-ghost use Rattle.zl_calls.specs.calls.Task.{AreBare, EndsOrAnswers, IsReachedBy, lab};
+ghost use Rattle.zl_calls.specs.calls.Task.{AreBare, EndsOrAnswers, IsReachedBy, parts};
 
 use crate::calls::kill::task_kill;
 use crate::calls::process::{process_create, process_start};
@@ -44,8 +44,8 @@ pub fn reach(
     ensures reached { IfSome result (λ o. (caller : Process)
         → slice_get processes.old.items place ≡ Some caller
         → IsReachedBy (site_of call.now caller.cpu) (λ s. Reaches library.now place caller s
-        (lab processes.old.items objects.old blocked.old.items) o
-        (lab processes.new.items objects.new blocked.new.items))) }
+        (parts processes.old.items objects.old blocked.old.items) o
+        (parts processes.new.items objects.new blocked.new.items))) }
     ensures missing { IfNone result ((caller : Process)
         → slice_get processes.old.items place ≡ Some caller
         → IfSome (site_of call.now caller.cpu) (λ s. is_reaching s.request ≡ false)) }

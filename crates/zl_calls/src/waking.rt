@@ -44,11 +44,11 @@ pub fn add_blocked(blocked: &mut Vec<Pid>, pid: Pid, item: &TraceItem)
 /// gets its answer and leaves the list. It takes no memory.
 #[inline(always)]
 pub fn wake(processes: &mut Vec<Process>, objects: &mut Objects, blocked: &mut Vec<Pid>)
-    requires lab { IsConsistent processes.old.items objects.old }
+    requires consistent { IsConsistent processes.old.items objects.old }
     requires list { AreBlocked processes.old.items blocked.old.items }
     ensures wakes { world_blocked processes.new.items objects.new blocked.new.items
         ≡ fold woken (world_blocked processes.old.items objects.old blocked.old.items) blocked.old.items }
-    ensures lab { IsConsistent processes.new.items objects.new }
+    ensures consistent { IsConsistent processes.new.items objects.new }
     ensures list { AreBlocked processes.new.items blocked.new.items }
     ensures count { length processes.new.items ≡ length processes.old.items }
     ensures capacity { vec_capacity blocked.new ≡ vec_capacity blocked.old }
@@ -65,7 +65,7 @@ pub fn wake(processes: &mut Vec<Process>, objects: &mut Objects, blocked: &mut V
 
 /// One process, which is blocked; whether it woke.
 fn wake_one(processes: &mut Vec<Process>, objects: &mut Objects, pid: Pid) -> bool
-    requires lab { IsConsistent processes.old.items objects.old }
+    requires consistent { IsConsistent processes.old.items objects.old }
     requires counter { (p : ProcessValue) → get (map process_entry processes.old.items) pid ≡ Some p
         → p.cpu.counter < 2 ^ 32 }
     ensures { WakesOne pid result

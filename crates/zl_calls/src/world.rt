@@ -25,7 +25,7 @@ use zl_interp::{Cpu, Done, Library, Turn};
 use zl_objects::Objects;
 use zl_rights::{Pid, Status};
 
-/// The world of a lab: its programs, every process ever made, and the objects.
+/// The running world: its programs, every process ever made, and the objects.
 ///
 /// Source: the page "Kernel objects" of the Fuchsia documentation; programs, boot, local
 /// instructions and which koid is given next are own profile.
@@ -42,9 +42,9 @@ pub struct World {
 
 impl Model for World {
     ghost use Rattle.std.specs.Prelude.{vec_capacity};
-    ghost use Rattle.zl_calls.specs.World.{World as WorldValue};
+    ghost use Rattle.zl_calls.specs.World.{Machine};
 
-    ghost Value = { WorldValue };
+    ghost Value = { Machine };
 
     ghost use Rattle.zl_calls.specs.World.{world_blocked};
     ghost use Rattle.zl_calls.specs.Blocked.{IsWhole};

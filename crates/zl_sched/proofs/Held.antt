@@ -2,7 +2,7 @@
 use Rattle.zl_sched.proofs.Common.{ℕ, List, System}
 use Rattle.zl_code.specs.declared.boot.Statement.{Statement}
 use Rattle.zl_code.specs.declared.history.TraceItem.{TraceItem}
-use Rattle.zl_calls.specs.World.{World}
+use Rattle.zl_calls.specs.World.{Machine}
 
-abbrev pub held : World → List TraceItem → List Statement → ℕ → List ℕ → List ℕ → System
-held lab items statements limit ready out = record { lab = lab; items = items; statements = statements; limit = limit; ready = ready; out = out }
+abbrev pub held : Machine → List TraceItem → List Statement → ℕ → List ℕ → List ℕ → System
+held machine items statements limit ready out = record { machine = machine; items = items; statements = statements; limit = limit; ready = ready; out = out }

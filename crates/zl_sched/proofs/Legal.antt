@@ -118,6 +118,6 @@ legal_more s p s2 legal runs = rw (runs.adds.programs, runs.adds.items, runs.add
   boot = legal.boot;
   boots = legal.boots;
   sized = legal.sized;
-  history = history_more s.lab.programs legal.boot s.lab.world s2.lab.world s.items p runs.item legal.history runs.step;
+  history = history_more s.machine.programs legal.boot s.machine.world s2.machine.world s.items p runs.item legal.history runs.step;
   room = omega (arith, length-append s.items (runs.item ∷ []), runs.room);
 })

@@ -2,7 +2,7 @@
 use Rattle.zl_sched.proofs.Common.{◌≡◌, ℕ, false, Option, Some, None, IsTrue, refl, get, State, Process, Created, Ready, Blocked, Ended, Gone, is_ready}
 use Rattle.zl_sched.proofs.Common.{is_process, state_passes, state_in, seen_in, seen_of, is_ready_in}
 use Rattle.zl_code.specs.declared.history.ProcState.TheVariants as seen
-use Rattle.zl_calls.specs.World.{World}
+use Rattle.zl_calls.specs.World.{Machine}
 
 ready_state : (s : State) → seen_in s ≡ seen.Ready → IsTrue (is_ready s)
 ready_state Created e = absurd (cc)
@@ -15,9 +15,9 @@ ready_process : (p : Option Process) → seen_of p ≡ seen.Ready → IsTrue (st
 ready_process None e = absurd (cc)
 ready_process (Some p) e = ready_state p.state e
 
-pub ready_by : (l : World) (pid : ℕ) → state_in l pid ≡ seen.Ready → IsTrue (is_ready_in l pid)
+pub ready_by : (m : Machine) (pid : ℕ) → state_in m pid ≡ seen.Ready → IsTrue (is_ready_in m pid)
 unfolding is_process
-ready_by l pid e = ready_process (get l.world.processes pid) e
+ready_by m pid e = ready_process (get m.world.processes pid) e
 
 busy_state : (s : State) → (seen_in s ≡ seen.Ready → ⊥) → is_ready s ≡ false
 busy_state Created e = refl
@@ -30,6 +30,6 @@ busy_process : (p : Option Process) → (seen_of p ≡ seen.Ready → ⊥) → s
 busy_process None e = refl
 busy_process (Some p) e = busy_state p.state e
 
-pub busy_by : (l : World) (pid : ℕ) → (state_in l pid ≡ seen.Ready → ⊥) → is_ready_in l pid ≡ false
+pub busy_by : (m : Machine) (pid : ℕ) → (state_in m pid ≡ seen.Ready → ⊥) → is_ready_in m pid ≡ false
 unfolding is_process
-busy_by l pid e = busy_process (get l.world.processes pid) e
+busy_by m pid e = busy_process (get m.world.processes pid) e

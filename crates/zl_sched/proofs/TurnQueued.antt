@@ -5,7 +5,7 @@ use Rattle.std.specs.List.{filter}
 use Rattle.zl_code.specs.declared.history.TraceItem.{TraceItem}
 use Rattle.zl_code.proofs.Common.{IsSound}
 use Rattle.zl_code.proofs.SoundRuns.{run_sound, step_sound}
-use Rattle.zl_calls.specs.World.{World}
+use Rattle.zl_calls.specs.World.{Machine}
 use Rattle.zl_calls.specs.Steps.{TakesStep}
 use Rattle.zl_sched.specs.Queueing.{leaves_ready, requeued}
 use Rattle.zl_sched.specs.Ready.{times, is_in, queued_after}
@@ -18,46 +18,47 @@ use Rattle.zl_sched.proofs.MarksMoved.{OthersStay, all_left, step_stays, before,
 use Rattle.zl_sched.proofs.Queued.{Before, moved_is, requeued_is}
 use Rattle.zl_sched.proofs.TurnTold.{step_told}
 
-module _ (s : System) (whole : IsWhole s) (pid : ℕ) (unmarked : is_in pid s.out ≡ false) (l2 : World) (x : TraceItem) (taken : TakesStep s.lab pid l2 x) where
-  sound : IsSound s.lab.world
-  sound = run_sound s.lab.programs s.statements whole.legal.boot s.lab.world _ whole.legal.boots.boots whole.legal.history.run
+module _ (s : System) (whole : IsWhole s) (pid : ℕ) (unmarked : is_in pid s.out ≡ false) (m2 : Machine) (x : TraceItem)
+    (taken : TakesStep s.machine pid m2 x) where
+  sound : IsSound s.machine.world
+  sound = run_sound s.machine.programs s.statements whole.legal.boot s.machine.world _ whole.legal.boots.boots whole.legal.history.run
 
-  step : Step s.lab.programs s.lab.world pid x l2.world
+  step : Step s.machine.programs s.machine.world pid x m2.world
   step = rw taken.pid_is at taken.steps.step
 
-  after_sound : IsSound l2.world
-  after_sound = step_sound s.lab.programs s.lab.world pid x l2.world sound step
+  after_sound : IsSound m2.world
+  after_sound = step_sound s.machine.programs s.machine.world pid x m2.world sound step
 
-  others : OthersStay s.lab.world pid l2.world
-  others = step_stays s.lab.programs s.lab.world pid x l2.world sound step
+  others : OthersStay s.machine.world pid m2.world
+  others = step_stays s.machine.programs s.machine.world pid x m2.world sound step
 
-  so : Before s.lab.world l2.world pid s.ready s.out
-  so = before s.lab.world l2.world pid s.ready s.out s.out whole.listed taken.ready (all_left pid s.out unmarked) others
+  so : Before s.machine.world m2.world pid s.ready s.out
+  so = before s.machine.world m2.world pid s.ready s.out s.out whole.listed taken.ready (all_left pid s.out unmarked) others
 
   pub once : times pid s.ready ≡ 1
   once = omega (arith, whole.listed.once pid taken.ready, no_mark pid s.out unmarked)
 
-  pub queue_room : length (queued_after s.lab.world pid l2.world s.ready) + length s.out ≤ length s.lab.world.processes
-  queue_room = after_room s.lab.world l2.world pid s.ready s.out s.out whole.listed taken.ready (all_left pid s.out unmarked) others after_sound
-      (λ q free. made_not_ready s.lab.programs s.lab.world pid x l2.world step q free)
+  pub queue_room : length (queued_after s.machine.world pid m2.world s.ready) + length s.out ≤ length s.machine.world.processes
+  queue_room = after_room s.machine.world m2.world pid s.ready s.out s.out whole.listed taken.ready (all_left pid s.out unmarked) others after_sound
+      (λ q free. made_not_ready s.machine.programs s.machine.world pid x m2.world step q free)
 
-  pub places : length (requeued l2.world pid s.out s.ready) ≤ length s.lab.world.processes
-  places = subst (λ (ys : List ℕ). length ys ≤ length s.lab.world.processes) (sym (requeued_is s.lab.world l2.world pid s.ready s.out so))
+  pub places : length (requeued m2.world pid s.out s.ready) ≤ length s.machine.world.processes
+  places = subst (λ (ys : List ℕ). length ys ≤ length s.machine.world.processes) (sym (requeued_is s.machine.world m2.world pid s.ready s.out so))
       (omega (arith, queue_room))
 
-  pub by_requeue : (ready2 : List ℕ) → ready2 ≡ requeued l2.world pid s.out s.ready → ready2 ≡ queued_after s.lab.world pid l2.world s.ready
-  by_requeue ready2 is = is ∙ requeued_is s.lab.world l2.world pid s.ready s.out so
+  pub by_requeue : (ready2 : List ℕ) → ready2 ≡ requeued m2.world pid s.out s.ready → ready2 ≡ queued_after s.machine.world pid m2.world s.ready
+  by_requeue ready2 is = is ∙ requeued_is s.machine.world m2.world pid s.ready s.out so
 
-  pub by_move : leaves_ready x ≡ true → length l2.world.blocked ≡ length s.lab.world.blocked → (ready2 : List ℕ)
-      → ready2 ≡ filter (λ q. not (q == pid)) s.ready ++ (pid ∷ []) → ready2 ≡ queued_after s.lab.world pid l2.world s.ready
+  pub by_move : leaves_ready x ≡ true → length m2.world.blocked ≡ length s.machine.world.blocked → (ready2 : List ℕ)
+      → ready2 ≡ filter (λ q. not (q == pid)) s.ready ++ (pid ∷ []) → ready2 ≡ queued_after s.machine.world pid m2.world s.ready
   by_move leaves as_long ready2 is =
-      is ∙ moved_is s.lab.world l2.world pid s.ready s.out so (ready_as_before s.lab.programs s.lab.world pid x l2.world sound step leaves as_long)
+      is ∙ moved_is s.machine.world m2.world pid s.ready s.out so (ready_as_before s.machine.programs s.machine.world pid x m2.world sound step leaves as_long)
 
   pub still_whole : (items2 : _) (ready2 : List ℕ) → items2 ≡ s.items ++ (x ∷ []) → length s.items < s.limit
-      → ready2 ≡ queued_after s.lab.world pid l2.world s.ready
-      → IsWhole (record s { lab = l2; items = items2; ready = ready2 })
+      → ready2 ≡ queued_after s.machine.world pid m2.world s.ready
+      → IsWhole (record s { machine = m2; items = items2; ready = ready2 })
   still_whole items2 ready2 added room is = record {
-    legal = legal_more s pid (record s { lab = l2; items = items2; ready = ready2 }) whole.legal
-        (step_told s pid unmarked l2 items2 ready2 x taken added room is);
-    listed = rw is (after_listed s.lab.world l2.world pid s.ready s.out s.out whole.listed taken.ready (all_left pid s.out unmarked) others after_sound);
+    legal = legal_more s pid (record s { machine = m2; items = items2; ready = ready2 }) whole.legal
+        (step_told s pid unmarked m2 items2 ready2 x taken added room is);
+    listed = rw is (after_listed s.machine.world m2.world pid s.ready s.out s.out whole.listed taken.ready (all_left pid s.out unmarked) others after_sound);
   }

@@ -2,7 +2,7 @@
 use Rattle.zl_sched.proofs.Common.{IsTrue, false, ap, ◌≡◌, ◌∷◌, ◌++◌, List, [], ◌<◌, ◌≤◌, ℕ, Bool, inl, inr, refl, length, if◌then◌else◌, cases_Bool}
 use Rattle.zl_sched.proofs.Common.{is_ready_in, Runs, System, Turns}
 use Rattle.zl_code.specs.declared.history.TraceItem.{TraceItem}
-use Rattle.zl_calls.specs.World.{World}
+use Rattle.zl_calls.specs.World.{Machine}
 use Rattle.zl_sched.specs.Ready.{is_in, queued_after}
 use Rattle.zl_sched.specs.System.{may_step}
 use Rattle.std.specs.Prelude.{not}
@@ -30,12 +30,12 @@ module _ (s : System) (pid : ℕ) where
 
   -- who is out may not step
   pub out_told : IsTrue (is_in pid s.out) → Turns s pid stepped.NotReady s
-  out_told out = (refl, and_right (is_ready_in s.lab pid) (not (is_in pid s.out)) (ap not out))
+  out_told out = (refl, and_right (is_ready_in s.machine pid) (not (is_in pid s.out)) (ap not out))
 
-  pub step_told : is_in pid s.out ≡ false → (l2 : World) (items2 : List TraceItem) (ready2 : List ℕ) (x : TraceItem) → TakesStep s.lab pid l2 x
+  pub step_told : is_in pid s.out ≡ false → (m2 : Machine) (items2 : List TraceItem) (ready2 : List ℕ) (x : TraceItem) → TakesStep s.machine pid m2 x
       → items2 ≡ s.items ++ (x ∷ []) → length s.items < s.limit
-      → ready2 ≡ queued_after s.lab.world pid l2.world s.ready → Runs s pid (record s { lab = l2; items = items2; ready = ready2 })
-  step_told hand l2 items2 ready2 x taken added room queue = record {
+      → ready2 ≡ queued_after s.machine.world pid m2.world s.ready → Runs s pid (record s { machine = m2; items = items2; ready = ready2 })
+  step_told hand m2 items2 ready2 x taken added room queue = record {
     item = x;
     adds = record { programs = taken.steps.programs; items = added; statements = refl; limit = refl; out = refl };
     step = rw taken.pid_is at taken.steps.step;

@@ -28,8 +28,8 @@ follows_skipping lib w p (suc n) not_ready = skips w w p (replicate n p) [] not_
 -- ---- walks
 
 -- where nobody is out, who is ready may step
-pub none_out : (s : System) (p : ℕ) → s.out ≡ [] → may_step s p ≡ is_ready_in s.lab p
-none_out s p none = rw none (by_test (is_ready_in s.lab p))
+pub none_out : (s : System) (p : ℕ) → s.out ≡ [] → may_step s p ≡ is_ready_in s.machine p
+none_out s p none = rw none (by_test (is_ready_in s.machine p))
   where
     by_test : (b : Bool) → (b && true) ≡ b
     by_test true = refl
@@ -48,55 +48,56 @@ adds_both s mid s2 xs ys first second = record {
 }
 
 pub walks_nowhere : (s : System) → Walks s [] end.Schedule s
-walks_nowhere s = record { more = []; adds = adds_nothing s; room = omega arith; ends = ends s.lab.world }
+walks_nowhere s = record { more = []; adds = adds_nothing s; room = omega arith; ends = ends s.machine.world }
 
 pub ran_walks : (s : System) (p : ℕ) (s2 : System) → Runs s p s2 → Walks s (p ∷ []) end.Schedule s2
 ran_walks s p s2 runs = record {
   more = runs.item ∷ [];
   adds = runs.adds;
   room = omega (arith, runs.room);
-  ends = goes s.lab.world s2.lab.world s2.lab.world p runs.item [] [] (and_parts (is_ready_in s.lab p) _ runs.ready).0 runs.step (ends s2.lab.world);
+  ends = goes s.machine.world s2.machine.world s2.machine.world p runs.item [] [] (and_parts (is_ready_in s.machine p) _ runs.ready).0 runs.step
+      (ends s2.machine.world);
 }
 
-pub skipped_walks : (s : System) (p n : ℕ) → is_ready_in s.lab p ≡ false → Walks s (replicate n p) end.Schedule s
+pub skipped_walks : (s : System) (p n : ℕ) → is_ready_in s.machine p ≡ false → Walks s (replicate n p) end.Schedule s
 skipped_walks s p n not_ready = record {
   more = [];
   adds = adds_nothing s;
   room = omega arith;
-  ends = follows_skipping s.lab.programs s.lab.world p n not_ready;
+  ends = follows_skipping s.machine.programs s.machine.world p n not_ready;
 }
 
-stops_here : (s : System) (p : ℕ) (us : List ℕ) → IsTrue (is_ready_in s.lab p) → StopsBefore s.lab.programs s.lab.world (p ∷ us) [] s.lab.world
-stops_here s p us ready = record { taken = []; next = p; left = us; are_all = refl; follows = ends s.lab.world; is_ready = ready }
+stops_here : (s : System) (p : ℕ) (us : List ℕ) → IsTrue (is_ready_in s.machine p) → StopsBefore s.machine.programs s.machine.world (p ∷ us) [] s.machine.world
+stops_here s p us ready = record { taken = []; next = p; left = us; are_all = refl; follows = ends s.machine.world; is_ready = ready }
 
-pub limited_walks : (s : System) (p : ℕ) (us : List ℕ) → IsTrue (is_ready_in s.lab p) → s.limit ≤ length s.items → Walks s (p ∷ us) end.Limit s
+pub limited_walks : (s : System) (p : ℕ) (us : List ℕ) → IsTrue (is_ready_in s.machine p) → s.limit ≤ length s.items → Walks s (p ∷ us) end.Limit s
 limited_walks s p us ready full = record { more = []; adds = adds_nothing s; room = omega arith; ends = (stops_here s p us ready, omega (arith, full)) }
 
-pub wanting_walks : (s : System) (p : ℕ) (us : List ℕ) → IsTrue (is_ready_in s.lab p) → length s.items < s.limit → Walks s (p ∷ us) end.Memory s
+pub wanting_walks : (s : System) (p : ℕ) (us : List ℕ) → IsTrue (is_ready_in s.machine p) → length s.items < s.limit → Walks s (p ∷ us) end.Memory s
 wanting_walks s p us ready room = record { more = []; adds = adds_nothing s; room = omega arith; ends = (stops_here s p us ready, omega (arith, room)) }
 
 -- ---- one walk after another
 
 module _ (s mid s2 : System) (ts us : List ℕ) (first : Walks s ts end.Schedule mid) where
-  stops_then : (ys : List TraceItem) (w2 : World) → StopsBefore mid.lab.programs mid.lab.world us ys w2
-      → StopsBefore s.lab.programs s.lab.world (ts ++ us) (first.more ++ ys) w2
+  stops_then : (ys : List TraceItem) (w2 : World) → StopsBefore mid.machine.programs mid.machine.world us ys w2
+      → StopsBefore s.machine.programs s.machine.world (ts ++ us) (first.more ++ ys) w2
   stops_then ys w2 stops = record {
     taken = ts ++ stops.taken;
     next = stops.next;
     left = stops.left;
     are_all = ap (λ (rest : List ℕ). ts ++ rest) stops.are_all ∙ sym (append_assoc ts stops.taken (stops.next ∷ stops.left));
-    follows = follows_then s.lab.programs s.lab.world mid.lab.world w2 ts stops.taken first.more ys first.ends
-        (subst (λ (lib : Library). Follows lib mid.lab.world stops.taken ys w2) first.adds.programs stops.follows);
+    follows = follows_then s.machine.programs s.machine.world mid.machine.world w2 ts stops.taken first.more ys first.ends
+        (subst (λ (lib : Library). Follows lib mid.machine.world stops.taken ys w2) first.adds.programs stops.follows);
     is_ready = stops.is_ready;
   }
 
   counts : length mid.items ≡ length s.items + length first.more
   counts = ap length first.adds.items ∙ length-append s.items first.more
 
-  ends_then : (e : End) (ys : List TraceItem) (w2 : World) → EndsBy mid.lab.programs mid.lab.world us (room_of mid) ys w2 e
-      → EndsBy s.lab.programs s.lab.world (ts ++ us) (room_of s) (first.more ++ ys) w2 e
-  ends_then end.Schedule ys w2 follows = follows_then s.lab.programs s.lab.world mid.lab.world w2 ts us first.more ys first.ends
-      (subst (λ (lib : Library). Follows lib mid.lab.world us ys w2) first.adds.programs follows)
+  ends_then : (e : End) (ys : List TraceItem) (w2 : World) → EndsBy mid.machine.programs mid.machine.world us (room_of mid) ys w2 e
+      → EndsBy s.machine.programs s.machine.world (ts ++ us) (room_of s) (first.more ++ ys) w2 e
+  ends_then end.Schedule ys w2 follows = follows_then s.machine.programs s.machine.world mid.machine.world w2 ts us first.more ys first.ends
+      (subst (λ (lib : Library). Follows lib mid.machine.world us ys w2) first.adds.programs follows)
   ends_then end.Limit ys w2 stops = (stops_then ys w2 stops.0, omega (arith, stops.1, counts, first.adds.limit, first.room, length-append first.more ys))
   ends_then end.Memory ys w2 stops = (stops_then ys w2 stops.0, omega (arith, stops.1, counts, first.adds.limit, first.room, length-append first.more ys))
   ends_then end.Quiet ys w2 never = absurd never
@@ -106,7 +107,7 @@ module _ (s mid s2 : System) (ts us : List ℕ) (first : Walks s ts end.Schedule
     more = first.more ++ second.more;
     adds = adds_both s mid s2 first.more second.more first.adds second.adds;
     room = omega (arith, first.room, second.room, counts, first.adds.limit, length-append first.more second.more);
-    ends = ends_then e second.more s2.lab.world second.ends;
+    ends = ends_then e second.more s2.machine.world second.ends;
   }
 
 -- ---- turns of one process
@@ -119,18 +120,18 @@ module _ (s mid s2 : System) (p n count : ℕ) (first : Walks s (replicate n p) 
   turns_left : n < count → replicate n p ++ (p ∷ replicate (count - (n + 1)) p) ≡ replicate count p
   turns_left some = replicate-append-replicate n (suc (count - (n + 1))) p ∙ ap (λ (k : ℕ). replicate k p) (omega (arith, some))
 
-  pub no_more : n < count → (mid ≡ s2) → is_ready_in mid.lab p ≡ false → Walks s (replicate count p) end.Schedule s2
+  pub no_more : n < count → (mid ≡ s2) → is_ready_in mid.machine p ≡ false → Walks s (replicate count p) end.Schedule s2
   no_more some same busy = subst (λ (x : System). Walks s (replicate count p) end.Schedule x) same
       (subst (λ (turns : List ℕ). Walks s turns end.Schedule mid) (turns_left some)
       (walks_then s mid mid (replicate n p) (p ∷ replicate (count - (n + 1)) p) first end.Schedule (skipped_walks mid p (suc (count - (n + 1))) busy)))
 
-  pub no_room : n < count → (mid ≡ s2) → IsTrue (is_ready_in mid.lab p) → mid.limit ≤ length mid.items → Walks s (replicate count p) end.Limit s2
+  pub no_room : n < count → (mid ≡ s2) → IsTrue (is_ready_in mid.machine p) → mid.limit ≤ length mid.items → Walks s (replicate count p) end.Limit s2
   no_room some same ready full = subst (λ (x : System). Walks s (replicate count p) end.Limit x) same
       (subst (λ (turns : List ℕ). Walks s turns end.Limit mid) (turns_left some)
       (walks_then s mid mid (replicate n p) (p ∷ replicate (count - (n + 1)) p) first end.Limit
       (limited_walks mid p (replicate (count - (n + 1)) p) ready full)))
 
-  pub no_memory : n < count → (mid ≡ s2) → IsTrue (is_ready_in mid.lab p) → length mid.items < mid.limit → Walks s (replicate count p) end.Memory s2
+  pub no_memory : n < count → (mid ≡ s2) → IsTrue (is_ready_in mid.machine p) → length mid.items < mid.limit → Walks s (replicate count p) end.Memory s2
   no_memory some same ready room = subst (λ (x : System). Walks s (replicate count p) end.Memory x) same
       (subst (λ (turns : List ℕ). Walks s turns end.Memory mid) (turns_left some)
       (walks_then s mid mid (replicate n p) (p ∷ replicate (count - (n + 1)) p) first end.Memory
@@ -176,13 +177,14 @@ module _ (s mid s2 : System) (schedule : List (ℕ × ℕ)) (n : ℕ) (default :
         more = so_far.more;
         adds = so_far.adds;
         room = so_far.room;
-        ends = subst (λ (turns : List ℕ). EndsBy s.lab.programs s.lab.world turns (room_of s) so_far.more s2.lab.world e) whole
-            (by_end e early (turns_of (take n schedule) ++ replicate pair.1 pair.0) (turns_of (drop (n + 1) schedule)) so_far.more s2.lab.world so_far.ends);
+        ends = subst (λ (turns : List ℕ). EndsBy s.machine.programs s.machine.world turns (room_of s) so_far.more s2.machine.world e) whole
+            (by_end e early (turns_of (take n schedule) ++ replicate pair.1 pair.0) (turns_of (drop (n + 1) schedule)) so_far.more
+                s2.machine.world so_far.ends);
       }
     where
       by_end : (e : End) → (e ≡ end.Schedule → ⊥) → (ts us : List ℕ) (xs : List TraceItem) (w2 : World)
-          → EndsBy s.lab.programs s.lab.world ts (room_of s) xs w2 e → EndsBy s.lab.programs s.lab.world (ts ++ us) (room_of s) xs w2 e
+          → EndsBy s.machine.programs s.machine.world ts (room_of s) xs w2 e → EndsBy s.machine.programs s.machine.world (ts ++ us) (room_of s) xs w2 e
       by_end end.Schedule early ts us xs w2 stops = absurd (early refl)
-      by_end end.Limit early ts us xs w2 stops = (stops_more s.lab.programs s.lab.world w2 ts us xs stops.0, stops.1)
-      by_end end.Memory early ts us xs w2 stops = (stops_more s.lab.programs s.lab.world w2 ts us xs stops.0, stops.1)
+      by_end end.Limit early ts us xs w2 stops = (stops_more s.machine.programs s.machine.world w2 ts us xs stops.0, stops.1)
+      by_end end.Memory early ts us xs w2 stops = (stops_more s.machine.programs s.machine.world w2 ts us xs stops.0, stops.1)
       by_end end.Quiet early ts us xs w2 never = absurd never

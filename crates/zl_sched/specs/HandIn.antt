@@ -8,7 +8,7 @@ use Rattle.zl_code.specs.declared.history.TraceItem.TheVariants as item
 use Rattle.zl_interp.specs.Bursts.{Turn, Done}
 use Rattle.zl_interp.specs.declared.bursts.Stop.{Stop}
 use Rattle.zl_interp.specs.declared.bursts.Stop.TheVariants as stop
-use Rattle.zl_calls.specs.World.{World, is_ready_in}
+use Rattle.zl_calls.specs.World.{Machine, is_ready_in}
 use Rattle.zl_calls.specs.Steps.{TakesStep}
 use Rattle.zl_calls.specs.Turns.{IsTurn, Fits, advanced, steps_done}
 use Rattle.zl_sched.specs.declared.hand_in.HandIn.{HandIn}
@@ -25,7 +25,7 @@ use Rattle.zl_sched.specs.System.{System}
 pub record TakesOne (s : System) (t : Turn) (s2 : System) : Type 0 where
   pub rest : List ℕ
   pub first : s.ready ≡ t.pid ∷ rest
-  pub turn : IsTurn s.lab t.pid t
+  pub turn : IsTurn s.machine t.pid t
   pub after : s2 ≡ record s { ready = rest; out = s.out ++ (t.pid ∷ []) }
 
 -- the list is empty
@@ -52,17 +52,17 @@ abbrev pub run_items : ℕ → ℕ → List TraceItem
 run_items p n = if n == 0 then [] else (item.Run p n ∷ [])
 
 -- what comes behind them: nothing, or one step of the process, with its item
-abbrev pub Ends : Bool → World → ℕ → List TraceItem → World → Type 0
-Ends true l p last l2 = (last ≡ []) × (l2 ≡ l)
-Ends false l p last l2 = (x : TraceItem) × (last ≡ x ∷ []) × TakesStep l p l2 x
+abbrev pub Ends : Bool → Machine → ℕ → List TraceItem → Machine → Type 0
+Ends true m p last m2 = (last ≡ []) × (m2 ≡ m)
+Ends false m p last m2 = (x : TraceItem) × (last ≡ x ∷ []) × TakesStep m p m2 x
 
 -- ---- handed in
 
 -- out and ready, and it stands here with the program and the Cpu with which it began
 pub record IsAwaited (s : System) (d : Done) : Type 0 where
   pub out : is_in d.pid s.out ≡ true
-  pub ready : IsTrue (is_ready_in s.lab d.pid)
-  pub fits : Fits s.lab d
+  pub ready : IsTrue (is_ready_in s.machine d.pid)
+  pub fits : Fits s.machine d
 
 abbrev pub HasRoom : System → Done → Type 0
 HasRoom s d = length s.items + items_of d ≤ s.limit
@@ -72,11 +72,11 @@ LacksRoom s d = s.limit < length s.items + items_of d
 
 -- out, and it lives no more
 abbrev pub IsGone : System → Done → Type 0
-IsGone s d = (is_in d.pid s.out ≡ true) × (is_process s.lab.world lives d.pid ≡ false)
+IsGone s d = (is_in d.pid s.out ≡ true) × (is_process s.machine.world lives d.pid ≡ false)
 
 -- out and ready, and it stands here with another program or Cpu
 abbrev pub IsOther : System → Done → Type 0
-IsOther s d = (is_in d.pid s.out ≡ true) × IsTrue (is_ready_in s.lab d.pid) × (Fits s.lab d → ⊥)
+IsOther s d = (is_in d.pid s.out ≡ true) × IsTrue (is_ready_in s.machine d.pid) × (Fits s.machine d → ⊥)
 
 -- the process isn't out any more
 abbrev pub unmarked : System → ℕ → System
@@ -91,13 +91,13 @@ put_back s p = record s { ready = s.ready ++ (p ∷ []); out = others_of p s.out
 pub record Accepts (s : System) (d : Done) (s2 : System) : Type 0 where
   pub awaited : IsAwaited s d
   pub room : HasRoom s d
-  pub steps : Runs s.lab.programs s.lab.world (steps_done d) (advanced s.lab d).world
+  pub steps : Runs s.machine.programs s.machine.world (steps_done d) (advanced s.machine d).world
   pub last : List TraceItem
-  pub ends : Ends (is_more d.stop) (advanced s.lab d) d.pid last s2.lab
+  pub ends : Ends (is_more d.stop) (advanced s.machine d) d.pid last s2.machine
   pub after : s2 ≡ record s {
-    lab = s2.lab;
+    machine = s2.machine;
     items = s.items ++ (run_items d.pid d.ran ++ last);
-    ready = queued_after s.lab.world d.pid s2.lab.world s.ready;
+    ready = queued_after s.machine.world d.pid s2.machine.world s.ready;
     out = others_of d.pid s.out;
   }
 
@@ -120,20 +120,20 @@ Judges s d judged.Full = IsAwaited s d × LacksRoom s d
 Judges s d judged.Fits = IsAwaited s d × HasRoom s d
 
 -- by these items, and with as many blocked, all are as ready as before
-abbrev pub LeavesAll : World → List TraceItem → World → Type 0
-LeavesAll l last l2 = IsTrue (list_all leaves_ready last) × (length l2.world.blocked ≡ length l.world.blocked)
+abbrev pub LeavesAll : Machine → List TraceItem → Machine → Type 0
+LeavesAll m last m2 = IsTrue (list_all leaves_ready last) × (length m2.world.blocked ≡ length m.world.blocked)
 
 -- what comes behind the local instructions, with the trace, and whether all are as ready as before
-pub record EndsFrom (more : Bool) (l : World) (items : List TraceItem) (p : ℕ) (same : Bool) (l2 : World) (items2 : List TraceItem) : Type 0 where
+pub record EndsFrom (more : Bool) (m : Machine) (items : List TraceItem) (p : ℕ) (same : Bool) (m2 : Machine) (items2 : List TraceItem) : Type 0 where
   pub last : List TraceItem
   pub items_are : items2 ≡ items ++ last
-  pub ends : Ends more l p last l2
-  pub leaves : same ≡ true → LeavesAll l last l2
+  pub ends : Ends more m p last m2
+  pub leaves : same ≡ true → LeavesAll m last m2
 
 -- the same with the local instructions before it
-pub record GoesFrom (l : World) (items : List TraceItem) (d : Done) (same : Bool) (l2 : World) (items2 : List TraceItem) : Type 0 where
-  pub steps : Runs l.programs l.world (steps_done d) (advanced l d).world
+pub record GoesFrom (m : Machine) (items : List TraceItem) (d : Done) (same : Bool) (m2 : Machine) (items2 : List TraceItem) : Type 0 where
+  pub steps : Runs m.programs m.world (steps_done d) (advanced m d).world
   pub last : List TraceItem
   pub items_are : items2 ≡ items ++ (run_items d.pid d.ran ++ last)
-  pub ends : Ends (is_more d.stop) (advanced l d) d.pid last l2
-  pub leaves : same ≡ true → LeavesAll (advanced l d) last l2
+  pub ends : Ends (is_more d.stop) (advanced m d) d.pid last m2
+  pub leaves : same ≡ true → LeavesAll (advanced m d) last m2

@@ -13,7 +13,7 @@ pub record Opening : Type 0 where
   pub items : List TraceItem
 
 abbrev pub opening_of : System → Opening
-opening_of s = record { programs = s.lab.programs; statements = s.statements; limit = s.limit; items = s.items }
+opening_of s = record { programs = s.machine.programs; statements = s.statements; limit = s.limit; items = s.items }
 
 -- the items begin with the first ones
 abbrev pub Begins : List TraceItem → List TraceItem → Type 0
@@ -21,7 +21,7 @@ Begins first items = (rest : List TraceItem) × (items ≡ first ++ rest)
 
 -- it was booted from the same, and its trace begins with those items
 pub record GoesOn (o : Opening) (s : System) : Type 0 where
-  pub programs : s.lab.programs ≡ o.programs
+  pub programs : s.machine.programs ≡ o.programs
   pub statements : s.statements ≡ o.statements
   pub limit : s.limit ≡ o.limit
   pub items : Begins o.items s.items

@@ -144,7 +144,7 @@ impl System {
 
     /// A process that lives no more isn't out any more.
     fn forget(&mut self, pid: Pid)
-        requires { is_process self.old.lab.world lives pid ≡ false }
+        requires { is_process self.old.machine.world lives pid ≡ false }
         ensures { self.new ≡ unmarked self.old pid }
     {
         unmark(&mut self.out, pid);
@@ -153,7 +153,7 @@ impl System {
     /// A ready process that is out isn't out any more, and is last in the list.
     fn put_back(&mut self, pid: Pid)
         requires out { is_in pid self.old.out ≡ true }
-        requires ready { IsTrue (is_ready_in self.old.lab pid) }
+        requires ready { IsTrue (is_ready_in self.old.machine pid) }
         ensures { self.new ≡ put_back self.old pid }
     {
         unmark(&mut self.out, pid);

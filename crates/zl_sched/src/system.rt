@@ -71,7 +71,7 @@ impl Model for System {
     ghost Value = { SystemValue };
 
     ghost view = { λ s. record {
-      lab = s.world;
+      machine = s.world;
       items = s.items.items;
       statements = s.boot.statements.items;
       limit = s.boot.limit;
@@ -80,7 +80,7 @@ impl Model for System {
     } };
 
     ghost invariant = { λ s. IsWhole (record {
-      lab = s.world;
+      machine = s.world;
       items = s.items.items;
       statements = s.boot.statements.items;
       limit = s.boot.limit;
@@ -126,7 +126,7 @@ impl System {
 
     /// The world as it stands.
     pub fn world(&self) -> &World
-        ensures { result.now ≡ self.now.lab }
+        ensures { result.now ≡ self.now.machine }
     {
         &self.world
     }
@@ -135,7 +135,7 @@ impl System {
     pub fn idle(&self) -> bool
         ensures idle { IsTrue result ↔ IsIdle self.now }
         // What is public of the list and the marks: callers learn it here of any system.
-        ensures listed { Listed self.now.lab.world self.now.ready self.now.out }
+        ensures listed { Listed self.now.machine.world self.now.ready self.now.out }
     {
         self.ready.is_empty() && self.out.is_empty()
     }
@@ -149,7 +149,7 @@ impl System {
 
     /// The world alone; the trace is gone.
     pub fn into_world(self) -> World
-        ensures { result ≡ self.lab }
+        ensures { result ≡ self.machine }
     {
         self.world
     }

@@ -35,7 +35,7 @@ module _ (s : System) (e : End) (block : List ℕ) where
   items_text = flat_map item_line s.items
 
   abbrev states_text : List ℕ
-  states_text = flat_map line_of (states_of s.lab.world)
+  states_text = flat_map line_of (states_of s.machine.world)
 
   abbrev whole : List ℕ
   whole = block ++ trace_text s e

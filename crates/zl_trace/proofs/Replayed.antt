@@ -11,7 +11,7 @@ use Rattle.zl_code.specs.declared.boot.Statement.{Statement}
 use Rattle.zl_code.specs.declared.history.TraceItem.{TraceItem}
 use Rattle.zl_code.specs.declared.history.TraceItem.TheVariants as item
 use Rattle.zl_calls.specs.Steps.{StepsTo, TakesStep}
-use Rattle.zl_calls.specs.World.{World}
+use Rattle.zl_calls.specs.World.{Machine}
 use Rattle.zl_trace.specs.Replaying.{Differs, DiffersAt, IsReplayed, Repeats, StepDiffers, another, at_step}
 
 -- ---- runs
@@ -25,12 +25,13 @@ runs_joined lib w (x ∷ xs) mid ys w2 (first, step, rest) more = (first, step, 
 -- ---- one item
 
 -- an item that stands for one step
-pub repeats_one : (l : World) (x : TraceItem) (l2 : World) → single x ≡ x ∷ [] → has_count x ≡ true → StepsTo l x l2 → Repeats l x l2
-repeats_one l x l2 one count steps = record { programs = steps.programs; count = count; runs = rw one (l2.world, steps.step, refl) }
+pub repeats_one : (m : Machine) (x : TraceItem) (m2 : Machine) → single x ≡ x ∷ [] → has_count x ≡ true → StepsTo m x m2 → Repeats m x m2
+repeats_one m x m2 one count steps = record { programs = steps.programs; count = count; runs = rw one (m2.world, steps.step, refl) }
 
-pub differs_by : (l : World) (pid : ℕ) (x own : TraceItem) (l2 : World) → pid_of x ≡ pid → TakesStep l pid l2 own → own ≢ x → StepDiffers l.programs l.world x
-differs_by l pid x own l2 is taken other =
-    another own l2.world (subst (λ p. Step l.programs l.world p own l2.world) (taken.pid_is ∙ sym is) taken.steps.step) other
+pub differs_by : (m : Machine) (pid : ℕ) (x own : TraceItem) (m2 : Machine) → pid_of x ≡ pid → TakesStep m pid m2 own → own ≢ x
+    → StepDiffers m.programs m.world x
+differs_by m pid x own m2 is taken other =
+    another own m2.world (subst (λ p. Step m.programs m.world p own m2.world) (taken.pid_is ∙ sym is) taken.steps.step) other
 
 pub differs_one : (lib : Library) (w : WorldValue) (x : TraceItem) → single x ≡ x ∷ [] → StepDiffers lib w x → Differs lib w x
 differs_one lib w x one differs = at_step [] w x [] one refl differs
@@ -38,12 +39,12 @@ differs_one lib w x one differs = at_step [] w x [] one refl differs
 -- ---- local instructions in a row
 
 -- so many were done
-pub record RanOn (pid : ℕ) (l : World) (n : ℕ) (l2 : World) : Type 0 where
-  pub programs : l2.programs ≡ l.programs
-  pub runs : Runs l.programs l.world (replicate n (item.Run pid 1)) l2.world
+pub record RanOn (pid : ℕ) (m : Machine) (n : ℕ) (m2 : Machine) : Type 0 where
+  pub programs : m2.programs ≡ m.programs
+  pub runs : Runs m.programs m.world (replicate n (item.Run pid 1)) m2.world
 
-pub none_ran : (pid : ℕ) (l : World) → RanOn pid l 0 l
-none_ran pid l = record { programs = refl; runs = refl }
+pub none_ran : (pid : ℕ) (m : Machine) → RanOn pid m 0 m
+none_ran pid m = record { programs = refl; runs = refl }
 
 one_longer : {X : Type 0} (n : ℕ) (x : X) → replicate n x ++ (x ∷ []) ≡ replicate (n + 1) x
 one_longer zero x = refl
@@ -56,78 +57,79 @@ cut_before (suc n) zero x below = let e : suc n - 1 ≡ n = omega arith in rw e 
 cut_before (suc n) (suc k) x below =
     let e : suc n - (suc k + 1) ≡ n - (k + 1) = omega arith in rw e (ap (λ (l : List _). x ∷ l) (cut_before n k x (omega arith)))
 
-pub one_more_ran : (pid : ℕ) (l : World) (n : ℕ) (l2 l3 : World) → RanOn pid l n l2 → StepsTo l2 (item.Run pid 1) l3 → RanOn pid l (n + 1) l3
-one_more_ran pid l n l2 l3 ran steps = record {
+pub one_more_ran : (pid : ℕ) (m : Machine) (n : ℕ) (m2 m3 : Machine) → RanOn pid m n m2 → StepsTo m2 (item.Run pid 1) m3 → RanOn pid m (n + 1) m3
+one_more_ran pid m n m2 m3 ran steps = record {
   programs = steps.programs ∙ ran.programs;
-  runs = subst (λ (items : List TraceItem). Runs l.programs l.world items l3.world) (one_longer n (item.Run pid 1))
-      (runs_joined l.programs l.world (replicate n (item.Run pid 1)) l2.world (item.Run pid 1 ∷ []) l3.world ran.runs
-      (l3.world, subst (λ lib. Step lib l2.world pid (item.Run pid 1) l3.world) ran.programs steps.step, refl));
+  runs = subst (λ (items : List TraceItem). Runs m.programs m.world items m3.world) (one_longer n (item.Run pid 1))
+      (runs_joined m.programs m.world (replicate n (item.Run pid 1)) m2.world (item.Run pid 1 ∷ []) m3.world ran.runs
+      (m3.world, subst (λ lib. Step lib m2.world pid (item.Run pid 1) m3.world) ran.programs steps.step, refl));
 }
 
-pub differs_after : (pid : ℕ) (l : World) (n count : ℕ) (l2 : World) → n < count → RanOn pid l n l2 → StepDiffers l2.programs l2.world (item.Run pid 1)
-    → Differs l.programs l.world (item.Run pid count)
-differs_after pid l n count l2 below ran differs =
-    at_step (replicate n (item.Run pid 1)) l2.world (item.Run pid 1) (replicate (count - (n + 1)) (item.Run pid 1))
+pub differs_after : (pid : ℕ) (m : Machine) (n count : ℕ) (m2 : Machine) → n < count → RanOn pid m n m2 → StepDiffers m2.programs m2.world (item.Run pid 1)
+    → Differs m.programs m.world (item.Run pid count)
+differs_after pid m n count m2 below ran differs =
+    at_step (replicate n (item.Run pid 1)) m2.world (item.Run pid 1) (replicate (count - (n + 1)) (item.Run pid 1))
     (cut_before count n (item.Run pid 1) below) ran.runs
-    (subst (λ lib. StepDiffers lib l2.world (item.Run pid 1)) ran.programs differs)
+    (subst (λ lib. StepDiffers lib m2.world (item.Run pid 1)) ran.programs differs)
 
-pub all_ran : (pid : ℕ) (l : World) (count : ℕ) (l2 : World) → has_count (item.Run pid count) ≡ true → RanOn pid l count l2 → Repeats l (item.Run pid count) l2
-all_ran pid l count l2 some ran = record { programs = ran.programs; count = some; runs = ran.runs }
+pub all_ran : (pid : ℕ) (m : Machine) (count : ℕ) (m2 : Machine) → has_count (item.Run pid count) ≡ true → RanOn pid m count m2
+    → Repeats m (item.Run pid count) m2
+all_ran pid m count m2 some ran = record { programs = ran.programs; count = some; runs = ran.runs }
 
 -- ---- many items
 
 module _ (lib : Library) (statements : List Statement) (limit : ℕ) where
-  pub one_more : (items : List TraceItem) (l : World) (x : TraceItem) (l2 : World) → IsReplayed lib statements limit items l → Repeats l x l2
-      → IsReplayed lib statements limit (items ++ (x ∷ [])) l2
-  one_more items l x l2 replayed repeats =
+  pub one_more : (items : List TraceItem) (m : Machine) (x : TraceItem) (m2 : Machine) → IsReplayed lib statements limit items m → Repeats m x m2
+      → IsReplayed lib statements limit (items ++ (x ∷ [])) m2
+  one_more items m x m2 replayed repeats =
       let steps : flat_map single items ++ single x ≡ flat_map single (items ++ (x ∷ [])) =
       ap (λ (more : List TraceItem). flat_map single items ++ more) (sym (append-nil (single x))) ∙ sym (flat_map-append single items (x ∷ [])) in
-      let more : Runs lib l.world (single x) l2.world = subst (λ v. Runs v l.world (single x) l2.world) replayed.programs repeats.runs in
+      let more : Runs lib m.world (single x) m2.world = subst (λ v. Runs v m.world (single x) m2.world) replayed.programs repeats.runs in
       record {
         programs = repeats.programs ∙ replayed.programs;
         boot = replayed.boot;
         boots = replayed.boots;
         legal = record {
           counts = rw (list_all-append has_count items (x ∷ []), replayed.legal.counts, repeats.count) refl;
-          run = subst (λ (run : List TraceItem). Runs lib replayed.boot run l2.world) steps
-              (runs_joined lib replayed.boot (flat_map single items) l.world (single x) l2.world replayed.legal.run more);
+          run = subst (λ (run : List TraceItem). Runs lib replayed.boot run m2.world) steps
+              (runs_joined lib replayed.boot (flat_map single items) m.world (single x) m2.world replayed.legal.run more);
         };
       }
 
   -- an item differs, or there are too many
-  pub differs_here : (all before after : List TraceItem) (x : TraceItem) (l : World) → all ≡ before ++ (x ∷ after) → IsReplayed lib statements limit before l
-      → Differs l.programs l.world x ⊎ (length before ≡ MOST_ITEMS) → DiffersAt lib statements limit all (length before + 1)
-  differs_here all before after x l cut replayed why = record {
+  pub differs_here : (all before after : List TraceItem) (x : TraceItem) (m : Machine) → all ≡ before ++ (x ∷ after) → IsReplayed lib statements limit before m
+      → Differs m.programs m.world x ⊎ (length before ≡ MOST_ITEMS) → DiffersAt lib statements limit all (length before + 1)
+  differs_here all before after x m cut replayed why = record {
     before = before;
     item = x;
     after = after;
     are_all = cut;
     number = refl;
-    lab = l;
+    machine = m;
     replayed = replayed;
     differs = elim why [
-      | inl differs ↦ inl (subst (λ v. Differs v l.world x) replayed.programs differs)
+      | inl differs ↦ inl (subst (λ v. Differs v m.world x) replayed.programs differs)
       | inr many ↦ inr many
     ];
   }
 
   -- the item at this place comes next
-  pub next_replayed : (items : List TraceItem) (n : ℕ) (d : TraceItem) (l l2 : World) → n < length items → IsReplayed lib statements limit (take n items) l
-      → Repeats l (get_or items n d) l2
-      → IsReplayed lib statements limit (take (n + 1) items) l2
-  next_replayed items n d l l2 within replayed repeats =
-      subst (λ front. IsReplayed lib statements limit front l2) (sym (take_more items n d within))
-      (one_more (take n items) l (get_or items n d) l2 replayed repeats)
+  pub next_replayed : (items : List TraceItem) (n : ℕ) (d : TraceItem) (m m2 : Machine) → n < length items → IsReplayed lib statements limit (take n items) m
+      → Repeats m (get_or items n d) m2
+      → IsReplayed lib statements limit (take (n + 1) items) m2
+  next_replayed items n d m m2 within replayed repeats =
+      subst (λ front. IsReplayed lib statements limit front m2) (sym (take_more items n d within))
+      (one_more (take n items) m (get_or items n d) m2 replayed repeats)
 
-  pub differs_at : (items : List TraceItem) (n : ℕ) (d : TraceItem) (l : World) → n < length items → IsReplayed lib statements limit (take n items) l
-      → Differs l.programs l.world (get_or items n d) ⊎ (n ≡ MOST_ITEMS) → DiffersAt lib statements limit items (n + 1)
-  differs_at items n d l within replayed why =
+  pub differs_at : (items : List TraceItem) (n : ℕ) (d : TraceItem) (m : Machine) → n < length items → IsReplayed lib statements limit (take n items) m
+      → Differs m.programs m.world (get_or items n d) ⊎ (n ≡ MOST_ITEMS) → DiffersAt lib statements limit items (n + 1)
+  differs_at items n d m within replayed why =
       let next : drop n items ≡ get_or items n d ∷ drop (n + 1) items = at_drop_more (λ (l : List TraceItem). l) items n d within in
       let cut : items ≡ take n items ++ (get_or items n d ∷ drop (n + 1) items) =
       sym (take-append-drop n items) ∙ ap (λ (rest : List TraceItem). take n items ++ rest) next in
       let long : length (take n items) ≡ n = length-take-le n items (omega arith) in
       subst (λ k. DiffersAt lib statements limit items (k + 1)) long
-      (differs_here items (take n items) (drop (n + 1) items) (get_or items n d) l cut replayed (elim why [
+      (differs_here items (take n items) (drop (n + 1) items) (get_or items n d) m cut replayed (elim why [
         | inl differs ↦ inl differs
         | inr many ↦ inr (long ∙ many)
       ]))

@@ -7,7 +7,7 @@ use Rattle.zl_code.proofs.Common.{option_map, take_all}
 use Rattle.std.specs.Ordering.{is_lt}
 use Rattle.std.proofs.lemmas.Option.{slice_get-map, slice_get_within, get_or_from_slice_get}
 use Rattle.zl_code.specs.declared.history.ProcState.{ProcState}
-use Rattle.zl_calls.specs.World.{World}
+use Rattle.zl_calls.specs.World.{Machine}
 use Rattle.zl_trace.proofs.KnownOutput.{gathers_line, begun_line}
 
 module _ {X : Type 0} where
@@ -39,48 +39,48 @@ abbrev pub line_of : ℕ × ProcState → List ℕ
 line_of p = state_line p.0 p.1
 
 -- the n-th process, with what it is in
-record IsState (l : World) (n pid : ℕ) (st : ProcState) : Type 0 where
-  within : n < length (states_of l.world)
-  read : get_or (states_of l.world) n (pid, st) ≡ (pid, st)
+record IsState (m : Machine) (n pid : ℕ) (st : ProcState) : Type 0 where
+  within : n < length (states_of m.world)
+  read : get_or (states_of m.world) n (pid, st) ≡ (pid, st)
 
-state_at : (l : World) (n pid : ℕ) (st : ProcState) → IsTrue (is_sorted nat_cmp l.world.processes) → Some pid ≡ slice_get (map (λ p. p.0) l.world.processes) n
-    → st ≡ state_in l pid → IsState l n pid st
-state_at l n pid st sorted at is = by_entry (slice_get l.world.processes n) refl
+state_at : (m : Machine) (n pid : ℕ) (st : ProcState) → IsTrue (is_sorted nat_cmp m.world.processes) → Some pid ≡ slice_get (map (λ p. p.0) m.world.processes) n
+    → st ≡ state_in m pid → IsState m n pid st
+state_at m n pid st sorted at is = by_entry (slice_get m.world.processes n) refl
   where
-    by_entry : (o : Option (ℕ × Process)) → slice_get l.world.processes n ≡ o → IsState l n pid st
+    by_entry : (o : Option (ℕ × Process)) → slice_get m.world.processes n ≡ o → IsState m n pid st
     by_entry None none =
-        absurd (none-some pid (sym (at ∙ (slice_get-map (λ (p : ℕ × Process). p.0) l.world.processes n ∙ ap (option_map (λ (p : ℕ × Process). p.0)) none))))
+        absurd (none-some pid (sym (at ∙ (slice_get-map (λ (p : ℕ × Process). p.0) m.world.processes n ∙ ap (option_map (λ (p : ℕ × Process). p.0)) none))))
     by_entry (Some e) some =
         let key : pid ≡ e.0 =
-        same_Some pid e.0 (at ∙ (slice_get-map (λ (p : ℕ × Process). p.0) l.world.processes n ∙ ap (option_map (λ (p : ℕ × Process). p.0)) some)) in
+        same_Some pid e.0 (at ∙ (slice_get-map (λ (p : ℕ × Process). p.0) m.world.processes n ∙ ap (option_map (λ (p : ℕ × Process). p.0)) some)) in
         let state : st ≡ seen_in e.1.state =
-        is ∙ (ap (λ (k : ℕ). seen_of (get l.world.processes k)) key ∙ ap seen_of (get_at l.world.processes n e sorted some)) in
-        let there : slice_get (states_of l.world) n ≡ Some (e.0, seen_in e.1.state) =
-        slice_get-map (λ (p : ℕ × Process). (p.0, seen_in p.1.state)) l.world.processes n
+        is ∙ (ap (λ (k : ℕ). seen_of (get m.world.processes k)) key ∙ ap seen_of (get_at m.world.processes n e sorted some)) in
+        let there : slice_get (states_of m.world) n ≡ Some (e.0, seen_in e.1.state) =
+        slice_get-map (λ (p : ℕ × Process). (p.0, seen_in p.1.state)) m.world.processes n
         ∙ ap (option_map (λ (p : ℕ × Process). (p.0, seen_in p.1.state))) some in
         record {
-          within = slice_get_within (states_of l.world) n (e.0, seen_in e.1.state) there;
-          read = get_or_from_slice_get (states_of l.world) n (e.0, seen_in e.1.state) (pid, st) there ∙ (λ i. (sym key i, sym state i));
+          within = slice_get_within (states_of m.world) n (e.0, seen_in e.1.state) there;
+          read = get_or_from_slice_get (states_of m.world) n (e.0, seen_in e.1.state) (pid, st) there ∙ (λ i. (sym key i, sym state i));
         }
 
-module _ (l : World) (n pid : ℕ) (st : ProcState) (sorted : IsTrue (is_sorted nat_cmp l.world.processes))
-    (at : Some pid ≡ slice_get (map (λ p. p.0) l.world.processes) n) (is : st ≡ state_in l pid)
-    (a c e : Option (List ℕ)) (b d : List ℕ) (so_far : Gathers a b c d (flat_map line_of (take n (states_of l.world)))) where
-  here : IsState l n pid st
-  here = state_at l n pid st sorted at is
+module _ (m : Machine) (n pid : ℕ) (st : ProcState) (sorted : IsTrue (is_sorted nat_cmp m.world.processes))
+    (at : Some pid ≡ slice_get (map (λ p. p.0) m.world.processes) n) (is : st ≡ state_in m pid)
+    (a c e : Option (List ℕ)) (b d : List ℕ) (so_far : Gathers a b c d (flat_map line_of (take n (states_of m.world)))) where
+  here : IsState m n pid st
+  here = state_at m n pid st sorted at is
 
-  pub one_more_state : (after : List ℕ) → Gathers c d e after (state_line pid st) → Gathers a b e after (flat_map line_of (take (n + 1) (states_of l.world)))
+  pub one_more_state : (after : List ℕ) → Gathers c d e after (state_line pid st) → Gathers a b e after (flat_map line_of (take (n + 1) (states_of m.world)))
   one_more_state after g =
-      gathers_line line_of (states_of l.world) n (pid, st) a c e b d after here.within so_far
+      gathers_line line_of (states_of m.world) n (pid, st) a c e b d after here.within so_far
       (subst (λ (p : ℕ × ProcState). Gathers c d e after (line_of p)) (sym here.read) g)
 
-  pub begun_state : AppendsBeginning c e (d ++ state_line pid st) → AppendsBeginning a e (b ++ flat_map line_of (states_of l.world))
+  pub begun_state : AppendsBeginning c e (d ++ state_line pid st) → AppendsBeginning a e (b ++ flat_map line_of (states_of m.world))
   begun_state g =
-      begun_line line_of (states_of l.world) n (pid, st) a c e b d here.within so_far
+      begun_line line_of (states_of m.world) n (pid, st) a c e b d here.within so_far
       (subst (λ (p : ℕ × ProcState). AppendsBeginning c e (d ++ line_of p)) (sym here.read) g)
 
-module _ (l : World) (n : ℕ) (a c : Option (List ℕ)) (b d : List ℕ) (so_far : Gathers a b c d (flat_map line_of (take n (states_of l.world)))) where
-  pub all_states : length l.world.processes ≤ n → Gathers a b c d (flat_map line_of (states_of l.world))
+module _ (m : Machine) (n : ℕ) (a c : Option (List ℕ)) (b d : List ℕ) (so_far : Gathers a b c d (flat_map line_of (take n (states_of m.world)))) where
+  pub all_states : length m.world.processes ≤ n → Gathers a b c d (flat_map line_of (states_of m.world))
   all_states past =
       subst (λ (xs : List (ℕ × ProcState)). Gathers a b c d (flat_map line_of xs))
-      (take_all n (states_of l.world) (omega (arith, past, length-map {B = ℕ × ProcState} l.world.processes (λ p. (p.0, seen_in p.1.state))))) so_far
+      (take_all n (states_of m.world) (omega (arith, past, length-map {B = ℕ × ProcState} m.world.processes (λ p. (p.0, seen_in p.1.state))))) so_far

@@ -5,22 +5,22 @@ use Rattle.zl_code.specs.Boot.{IsBooted}
 use Rattle.zl_code.specs.Steps.{Runs, has_count}
 use Rattle.zl_code.specs.declared.boot.Statement.{Statement}
 use Rattle.zl_code.specs.declared.history.TraceItem.{TraceItem}
-use Rattle.zl_calls.specs.World.{World}
+use Rattle.zl_calls.specs.World.{Machine}
 
--- the items are a legal history from a boot world of the statements to the world of this lab
-pub record IsReplayed (lib : Library) (statements : List Statement) (limit : ℕ) (items : List TraceItem) (l : World) : Type 0 where
-  pub programs : l.programs ≡ lib
+-- the items are a legal history from a boot world of the statements to the world of this machine
+pub record IsReplayed (lib : Library) (statements : List Statement) (limit : ℕ) (items : List TraceItem) (m : Machine) : Type 0 where
+  pub programs : m.programs ≡ lib
   pub boot : WorldValue
   pub boots : IsBooted lib statements limit boot
-  pub legal : IsLegalHistory lib boot items l.world
+  pub legal : IsLegalHistory lib boot items m.world
 
 -- ---- one item
 
--- the steps for which the item stands lead from one lab to the other
-pub record Repeats (l : World) (x : TraceItem) (l2 : World) : Type 0 where
-  pub programs : l2.programs ≡ l.programs
+-- the steps for which the item stands lead from one machine to the other
+pub record Repeats (m : Machine) (x : TraceItem) (m2 : Machine) : Type 0 where
+  pub programs : m2.programs ≡ m.programs
   pub count : has_count x ≡ true
-  pub runs : Runs l.programs l.world (single x) l2.world
+  pub runs : Runs m.programs m.world (single x) m2.world
 
 -- where a step of this item is to come, the process isn't ready, or some step of it has another item; a further step may have this one
 pub data StepDiffers (lib : Library) (w : WorldValue) (x : TraceItem) : Type 0 where
@@ -42,6 +42,6 @@ pub record DiffersAt (lib : Library) (statements : List Statement) (limit : ℕ)
   pub after : List TraceItem
   pub are_all : items ≡ before ++ (item ∷ after)
   pub number : n ≡ length before + 1
-  pub lab : World
-  pub replayed : IsReplayed lib statements limit before lab
-  pub differs : Differs lib lab.world item ⊎ (length before ≡ MOST_ITEMS)
+  pub machine : Machine
+  pub replayed : IsReplayed lib statements limit before machine
+  pub differs : Differs lib machine.world item ⊎ (length before ≡ MOST_ITEMS)

@@ -53,4 +53,4 @@ states_of w = map (λ p. (p.0, seen_in p.1.state)) w.processes
 
 -- the text of a system's trace, where its run ended so
 abbrev pub trace_text : System → End → List ℕ
-trace_text s e = history_text s.items (states_of s.lab.world) e
+trace_text s e = history_text s.items (states_of s.machine.world) e

@@ -37,27 +37,29 @@ module _ {A E : Type 0} where
 -- ---- a run
 
 module _ (text : List ℕ) (s : System) (pairs : List (ℕ × ℕ)) (start : IsStart text s pairs) where
-  run_of : (e : End) (last : System) (walks : Walks s (turns_of pairs) e last) → IsRunOf text walks.more last.lab.world e
+  run_of : (e : End) (last : System) (walks : Walks s (turns_of pairs) e last) → IsRunOf text walks.more last.machine.world e
   run_of e last walks = record {
     fits = start.fits;
     said = start.said;
     read = start.read;
-    library = s.lab.programs;
+    library = s.machine.programs;
     programs = start.programs;
     accepted = start.accepted;
-    boot = s.lab.world;
+    boot = s.machine.world;
     boots = start.boots;
     legal = legal;
-    sound = always_sound s.lab.programs start.said.statements s.lab.world last.lab.world walks.more start.boots.boots legal;
-    covered = covered_go_well s.lab.programs start.said.statements s.lab.world (are_verified s.lab.programs start.boots.images start.accepted) start.boots
+    sound = always_sound s.machine.programs start.said.statements s.machine.world last.machine.world walks.more start.boots.boots legal;
+    covered = covered_go_well s.machine.programs start.said.statements s.machine.world
+        (are_verified s.machine.programs start.boots.images start.accepted) start.boots
         walks.more;
     room = omega (arith, walks.room, start.limit, ap length start.items);
-    ends = subst (λ (turns : List (ℕ × ℕ)). EndsBy s.lab.programs s.lab.world (turns_of turns) start.said.limit walks.more last.lab.world e) start.schedule
-        (subst (λ (limit : ℕ). EndsBy s.lab.programs s.lab.world (turns_of pairs) limit walks.more last.lab.world e) room walks.ends);
+    ends = subst (λ (turns : List (ℕ × ℕ)). EndsBy s.machine.programs s.machine.world (turns_of turns) start.said.limit walks.more
+        last.machine.world e) start.schedule
+        (subst (λ (limit : ℕ). EndsBy s.machine.programs s.machine.world (turns_of pairs) limit walks.more last.machine.world e) room walks.ends);
   }
     where
-      legal : IsLegalHistory s.lab.programs s.lab.world walks.more last.lab.world
-      legal = ends_legal s.lab.programs s.lab.world (turns_of pairs) (room_of s) walks.more last.lab.world e walks.ends
+      legal : IsLegalHistory s.machine.programs s.machine.world walks.more last.machine.world
+      legal = ends_legal s.machine.programs s.machine.world (turns_of pairs) (room_of s) walks.more last.machine.world e walks.ends
 
       room : room_of s ≡ start.said.limit
       room = omega (arith, start.limit, ap length start.items)
@@ -65,8 +67,8 @@ module _ (text : List ℕ) (s : System) (pairs : List (ℕ × ℕ)) (start : IsS
   answer_of : (lines : List ℕ) → IsRun s pairs lines → IsAnswer text verdict.Done lines
   answer_of lines run =
       let items : run.walks.more ≡ run.last.items = sym (run.walks.adds.items ∙ ap (λ (xs : List TraceItem). xs ++ run.walks.more) start.items) in
-      subst (IsAnswer text verdict.Done) (ap (λ (xs : List TraceItem). history_text xs (states_of run.last.lab.world) run.end) items ∙ sym run.lines_are)
-      (trace run.walks.more run.last.lab.world run.end (run_of run.end run.last run.walks))
+      subst (IsAnswer text verdict.Done) (ap (λ (xs : List TraceItem). history_text xs (states_of run.last.machine.world) run.end) items ∙ sym run.lines_are)
+      (trace run.walks.more run.last.machine.world run.end (run_of run.end run.last run.walks))
 
   pub run_answers : (v : Verdict) (old new : Option (List ℕ)) → v ≡ verdict.Done → WritesRun s pairs old new → Answers text v old new
   run_answers v old new is wrote = record { lines = wrote.lines; is_answer = rw is (answer_of wrote.lines wrote.is_run); written = wrote.written }

@@ -46,8 +46,8 @@ module _ (text : List ℕ) (fits : FitsInput text) (scenario : Made) (reading : 
       of_reading reading scenario.library w fault fits reads is.programs
       (subst (λ (ss : List Statement). IsBoot scenario.library ss w) is.statements boots) faulty
 
-  pub is_start : (s : System) (pairs : List (ℕ × ℕ)) → reading.fault ≡ None → s.lab.programs ≡ scenario.library
-      → IsSizedBoot scenario.library scenario.boot.statements.items s.lab.world
+  pub is_start : (s : System) (pairs : List (ℕ × ℕ)) → reading.fault ≡ None → s.machine.programs ≡ scenario.library
+      → IsSizedBoot scenario.library scenario.boot.statements.items s.machine.world
       → s.items ≡ [] → s.out ≡ [] → s.limit ≡ scenario.boot.limit → pairs ≡ scenario.schedule.items → IsStart text s pairs
   is_start s pairs no_fault programs boots items out limit schedule = record {
     fits = fits;
@@ -55,7 +55,7 @@ module _ (text : List ℕ) (fits : FitsInput text) (scenario : Made) (reading : 
     read = subst (λ (f : Option LineFault). IsRead text (record { said = reading.said; fault = f })) no_fault reads;
     programs = rw programs is.programs;
     accepted = rw programs is.accepted;
-    boots = rw programs (subst (λ (ss : List Statement). IsSizedBoot scenario.library ss s.lab.world) is.statements boots);
+    boots = rw programs (subst (λ (ss : List Statement). IsSizedBoot scenario.library ss s.machine.world) is.statements boots);
     items = items;
     out = out;
     limit = limit ∙ is.limit;

@@ -52,7 +52,7 @@ module _ (text : List ℕ) (fits : FitsInput text) (scenario : Made) (reading : 
     first_of_statements n found fault first named line = statement_fault text fits scenario reading reads is order n found fault
         (λ other. with_limit scenario.library scenario.boot.statements.items limit scenario.boot.limit n found within (first other)) named line
 
-    pub of_scenario : (s : System) → fault_alone reading ≡ None → s.lab.programs ≡ scenario.library → s.statements ≡ scenario.boot.statements.items
+    pub of_scenario : (s : System) → fault_alone reading ≡ None → s.machine.programs ≡ scenario.library → s.statements ≡ scenario.boot.statements.items
         → s.limit ≡ limit → IsOfScenario text limit s
     of_scenario s no_fault programs statements limit_is = record {
       scenario = record {
@@ -74,7 +74,7 @@ some_is a b e = cc
 
 -- each end is one where a run rests so
 rests : (o : Opening) (ended : RunEnd) (e : End) (last : System) → EndsRun o ended last → end_named ended ≡ Some e
-    → GoesOn o last × RestsBy last.limit last.items last.lab.world e
+    → GoesOn o last × RestsBy last.limit last.items last.machine.world e
 rests o run.Quiet e last (on, idle) is = rw (sym (some_is _ _ is)) (on, idle.none_ready)
 rests o run.Limit e last (on, room) is = rw (sym (some_is _ _ is)) (on, room)
 rests o run.NoMemory e last on is = rw (sym (some_is _ _ is)) (on, tt)
@@ -99,18 +99,18 @@ module _ (s last : System) (ended : RunEnd) (e : End) (ends : EndsRun (opening_o
 module _ (told : Option (List ℕ)) (text : List ℕ) (is_text : IsTextOf told text) (limit : ℕ) where
   module _ (s : System) (of : IsOfScenario text limit s) where
     answer_of : (lines : List ℕ) → IsRunFrom s lines → IsRunAnswer text limit verdict.Done lines
-    answer_of lines ran = subst (IsRunAnswer text limit verdict.Done) (sym ran.lines_are) (run_trace ran.last.items ran.last.lab.world ran.end (record {
-      library = ran.last.lab.programs;
+    answer_of lines ran = subst (IsRunAnswer text limit verdict.Done) (sym ran.lines_are) (run_trace ran.last.items ran.last.machine.world ran.end (record {
+      library = ran.last.machine.programs;
       statements = ran.last.statements;
       scenario = rw (ran.goes_on.programs, ran.goes_on.statements) of.scenario;
       boot = ran.safe.legal.boot;
       boots = ran.safe.legal.sized;
       legal = ran.safe.legal.history;
       covered = ran.safe.covered;
-      sound = always_sound ran.last.lab.programs ran.last.statements ran.safe.legal.boot ran.last.lab.world ran.last.items ran.safe.legal.boots.boots
+      sound = always_sound ran.last.machine.programs ran.last.statements ran.safe.legal.boot ran.last.machine.world ran.last.items ran.safe.legal.boots.boots
           ran.safe.legal.history;
       room = omega (arith, ran.safe.legal.room, ran.goes_on.limit, of.limit_is);
-      rests = subst (λ (most : ℕ). RestsBy most ran.last.items ran.last.lab.world ran.end) (ran.goes_on.limit ∙ of.limit_is) ran.rests;
+      rests = subst (λ (most : ℕ). RestsBy most ran.last.items ran.last.machine.world ran.end) (ran.goes_on.limit ∙ of.limit_is) ran.rests;
     }))
 
     pub run_answers : (v : Verdict) (old new : Option (List ℕ)) → v ≡ verdict.Done → WritesThreads s old new → AnswersRun told limit v old new

@@ -143,9 +143,9 @@ pub record IsStart (text : List ℕ) (s : System) (pairs : List (ℕ × ℕ)) : 
   pub fits : FitsInput text
   pub said : Scenario
   pub read : IsRead text (record { said = said; fault = None })
-  pub programs : Lists said.programs s.lab.programs
-  pub accepted : AreAccepted s.lab.programs
-  pub boots : IsSizedBoot s.lab.programs said.statements s.lab.world
+  pub programs : Lists said.programs s.machine.programs
+  pub accepted : AreAccepted s.machine.programs
+  pub boots : IsSizedBoot s.machine.programs said.statements s.machine.world
   pub items : s.items ≡ []
   pub out : s.out ≡ []
   pub limit : s.limit ≡ said.limit
@@ -161,7 +161,7 @@ pub record IsRun (s : System) (schedule : List (ℕ × ℕ)) (lines : List ℕ) 
   pub last : System
   pub end : End
   pub walks : Walks s (turns_of schedule) end last
-  pub lines_are : lines ≡ history_text last.items (states_of last.lab.world) end
+  pub lines_are : lines ≡ history_text last.items (states_of last.machine.world) end
 
 -- the writer got the trace of a run along the schedule
 pub record WritesRun (s : System) (schedule : List (ℕ × ℕ)) (old new : Option (List ℕ)) : Type 0 where

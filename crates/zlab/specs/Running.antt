@@ -77,7 +77,7 @@ pub data BeginsRunAnswer (told : Option (List ℕ)) (limit : ℕ) (old : Option 
 
 -- the system is one of the scenario alone, with this limit
 pub record IsOfScenario (text : List ℕ) (limit : ℕ) (s : System) : Type 0 where
-  pub scenario : IsScenarioOf text s.lab.programs s.statements
+  pub scenario : IsScenarioOf text s.machine.programs s.statements
   pub limit_is : s.limit ≡ limit
 
 -- what the text leads to, before the first step
@@ -98,7 +98,7 @@ pub record IsRunFrom (s : System) (lines : List ℕ) : Type 0 where
   pub end : End
   pub goes_on : GoesOn (opening_of s) last
   pub safe : AreSafe last
-  pub rests : RestsBy last.limit last.items last.lab.world end
+  pub rests : RestsBy last.limit last.items last.machine.world end
   pub lines_are : lines ≡ trace_text last end
 
 -- the writer got the trace of such a system

@@ -54,8 +54,9 @@ module _ (w : World) (p : ℕ) where
 
 -- ---- the call
 
--- a process of a lab, before and after its call
-module _ (lib : Library) (before after : List Process) (r r2 : Objects) (p p2 : Process) (lab : IsConsistent before r) (write : IsWrite before after p p2)
+-- a process of the world, before and after its call
+module _ (lib : Library) (before after : List Process) (r r2 : Objects) (p p2 : Process) (consistent : IsConsistent before r)
+    (write : IsWrite before after p p2)
     (s : Site) where
   -- the world afterwards, from the one without waits
   pub ends_among : (blocked : List ℕ) (middle : World) (waits : List Wait) (made : ℕ) (answer : Status) (values : List ℕ)
@@ -82,7 +83,7 @@ module _ (lib : Library) (before after : List Process) (r r2 : Objects) (p p2 : 
           (ap (λ (x : Objects). x.waits) does.same_objects) (ap (λ (x : Objects). x.waits_made) does.same_objects)
           ∙ ap (λ (v : World). replied v p.pid s answer []) (sym (takes_none blocked)));
       keeps = subst (IsConsistent after) (sym does.same_objects)
-          (refusal_keeps before after p p2 write r lab does.same_table (ap (λ (q : Process). q.state) replies));
+          (refusal_keeps before after p p2 write r consistent does.same_table (ap (λ (q : Process). q.state) replies));
     }
 
     pub answered_among : (ends : Outcome) (answer : Result A Status) → Does Done wants o p.table r answer p2.table r2

@@ -23,14 +23,15 @@ use Rattle.zl_calls.specs.calls.Port.{port_at}
 use Rattle.zl_rights.specs.LookUp.{looked_up}
 use Rattle.zl_calls.proofs.calls.AmongWaits.{answered_among, behind_both, both_looked_up, ends_among}
 use Rattle.zl_calls.proofs.calls.Answered.{IsWrite, same_world, table_is}
-use Rattle.zl_calls.proofs.objects.SameButWaits.{beside_lab, beside_world, watching_beside}
+use Rattle.zl_calls.proofs.objects.SameButWaits.{beside_consistent, beside_world, watching_beside}
 use Rattle.zl_calls.proofs.calls.DoneCalls.{IsCalledAmong}
 use Rattle.zl_calls.proofs.calls.Refused.{answers}
 use Rattle.zl_calls.proofs.calls.WriteCalls.{is_found}
 use Rattle.zl_calls.proofs.processes.Written.{refusal_keeps}
 
--- a process of a lab, before and after its call
-module _ (lib : Library) (before after : List Process) (r r2 : Objects) (p p2 : Process) (lab : IsConsistent before r) (write : IsWrite before after p p2) where
+-- a process of the world, before and after its call
+module _ (lib : Library) (before after : List Process) (r r2 : Objects) (p p2 : Process) (consistent : IsConsistent before r)
+    (write : IsWrite before after p p2) where
   abbrev among : List ℕ → World
   among blocked = world_blocked before r blocked
 
@@ -94,7 +95,7 @@ module _ (lib : Library) (before after : List Process) (r r2 : Objects) (p p2 : 
           ≡ replied (record (among blocked) { waits = r.waits ++ (wait_of (among blocked) p.pid h port key mask ∷ []); waits_made = r.waits_made + 1 }) p.pid
           async_site status.Ok []
       async_ends blocked =
-          ends_among lib before after r r2 p p2 lab write async_site blocked (world_value before r)
+          ends_among lib before after r r2 p p2 consistent write async_site blocked (world_value before r)
           (r.waits ++ (wait_of (among blocked) p.pid h port key mask ∷ [])) (r.waits_made + 1) status.Ok []
           answered_world
           (ap (λ (x : Objects). x.waits) registers.objects ∙ ap (λ (x : WaitValue). r.waits ++ (x ∷ [])) (sym (same_wait blocked)))
@@ -104,8 +105,8 @@ module _ (lib : Library) (before after : List Process) (r r2 : Objects) (p p2 : 
       unfolding effect gives_ok new_handles insert_all remove_all taken_handles handle_operands
       async_done = record {
         calls = λ blocked. (Values [], rw (async_refused blocked, registers.unrefused) (async_chosen blocked, refl, async_ends blocked));
-        keeps = subst (IsConsistent after) (sym registers.objects) (beside_lab after r (watching r wait) (watching_beside r wait)
-            (refusal_keeps before after p p2 write r lab registers.table (ap (λ (q : Process). q.state) replies)));
+        keeps = subst (IsConsistent after) (sym registers.objects) (beside_consistent after r (watching r wait) (watching_beside r wait)
+            (refusal_keeps before after p p2 write r consistent registers.table (ap (λ (q : Process). q.state) replies)));
       }
 
     -- ---- the step
@@ -114,7 +115,7 @@ module _ (lib : Library) (before after : List Process) (r r2 : Objects) (p p2 : 
         → IsAnswered (told_by no_value) (WaitAsyncDoes p.pid h port key mask) async_site p r o p2 r2 → IsCalledAmong lib before after r r2 p.pid async_site o
     unfolding taken_handles handle_operands remove_all gives_refused
     async_called ready call next o acts =
-        answered_among lib before after r r2 p p2 lab write async_site no_value (λ _. RegistersWait p.pid p.table r h port key mask) true
+        answered_among lib before after r r2 p p2 consistent write async_site no_value (λ _. RegistersWait p.pid p.table r h port key mask) true
         (async_refusal p.table.entries r h port mask)
         async_refused refl (λ blocked. refl) (λ blocked answer. refl) (λ done registers replies. async_done registers replies) o acts.answer acts.acts
         acts.replied acts.ends

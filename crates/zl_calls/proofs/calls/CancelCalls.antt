@@ -25,14 +25,15 @@ use Rattle.zl_calls.specs.calls.Async.{Cancels, PortCancelDoes, cancel_refusal, 
 use Rattle.zl_calls.specs.calls.Port.{port_at}
 use Rattle.zl_calls.proofs.calls.AmongWaits.{answered_among, behind_both, both_looked_up, ends_among}
 use Rattle.zl_calls.proofs.calls.Answered.{IsWrite, table_is}
-use Rattle.zl_calls.proofs.objects.SameButWaits.{beside_lab, beside_world}
+use Rattle.zl_calls.proofs.objects.SameButWaits.{beside_consistent, beside_world}
 use Rattle.zl_calls.proofs.calls.DoneCalls.{IsCalledAmong}
 use Rattle.zl_calls.proofs.calls.Refused.{answers}
 use Rattle.zl_calls.proofs.calls.Repacked.{packets_there, port_ends, port_kept}
 use Rattle.zl_calls.proofs.calls.WriteCalls.{is_found}
 
--- a process of a lab, before and after its call
-module _ (lib : Library) (before after : List Process) (r r2 : Objects) (p p2 : Process) (lab : IsConsistent before r) (write : IsWrite before after p p2) where
+-- a process of the world, before and after its call
+module _ (lib : Library) (before after : List Process) (r r2 : Objects) (p p2 : Process) (consistent : IsConsistent before r)
+    (write : IsWrite before after p p2) where
   abbrev among : List ℕ → World
   among blocked = world_blocked before r blocked
 
@@ -112,18 +113,18 @@ module _ (lib : Library) (before after : List Process) (r r2 : Objects) (p p2 : 
           (packets_cancelled (source_at (among blocked) p.pid source) key)) p.pid cancel_site status.Ok []
       unfolding on_object
       cancel_ends blocked = rw (koid_same blocked, source_same blocked)
-          (ends_among lib before after r r2 p p2 lab write cancel_site blocked (on_object (world_value before r) k (packets_cancelled from key))
+          (ends_among lib before after r r2 p p2 consistent write cancel_site blocked (on_object (world_value before r) k (packets_cancelled from key))
           (filter (λ x. not (is_keyed p.pid source k key x)) r.waits) r.waits_made status.Ok []
           (beside_world after emptied r2 cancels.ends.beside
-          ∙ port_ends before after r emptied p p2 lab write k without_them left (λ x. refl) refl cancels.table cancel_site [] replies)
+          ∙ port_ends before after r emptied p p2 consistent write k without_them left (λ x. refl) refl cancels.table cancel_site [] replies)
           cancels.ends.waits cancels.ends.made)
 
       cancel_done : IsCalledAmong lib before after r r2 p.pid cancel_site (outcome.Answered status.Ok)
       unfolding effect gives_ok new_handles insert_all remove_all taken_handles handle_operands
       cancel_done = record {
         calls = λ blocked. (Values [], rw (cancel_refused blocked, cancels.unrefused) (cancel_chosen blocked, refl, cancel_ends blocked));
-        keeps = beside_lab after emptied r2 cancels.ends.beside
-            (port_kept before after r emptied p p2 lab write k without_them left (λ x. refl) refl cancels.table cancel_site [] replies);
+        keeps = beside_consistent after emptied r2 cancels.ends.beside
+            (port_kept before after r emptied p p2 consistent write k without_them left (λ x. refl) refl cancels.table cancel_site [] replies);
       }
 
     -- ---- the step
@@ -132,7 +133,7 @@ module _ (lib : Library) (before after : List Process) (r r2 : Objects) (p p2 : 
         → IsAnswered (told_by no_value) (PortCancelDoes p.pid port source key) cancel_site p r o p2 r2 → IsCalledAmong lib before after r r2 p.pid cancel_site o
     unfolding taken_handles handle_operands remove_all gives_refused
     cancel_called ready call next o acts =
-        answered_among lib before after r r2 p p2 lab write cancel_site no_value (λ _. Cancels p.pid p.table r port source key) false
+        answered_among lib before after r r2 p p2 consistent write cancel_site no_value (λ _. Cancels p.pid p.table r port source key) false
         (cancel_refusal p.table.entries r p.pid port source key)
         cancel_refused refl (λ blocked. refl) (λ blocked answer. refl) (λ done cancels replies. cancel_done cancels replies) o acts.answer acts.acts
         acts.replied acts.ends

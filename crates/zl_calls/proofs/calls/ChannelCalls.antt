@@ -51,8 +51,9 @@ counted_inserted : (test : ℕ × Entry → Bool) (t : Handles) (e : Entry) (v :
     → count_by test t2.entries ≡ count_by test t.entries + cond (test (v, e)) 1 0
 counted_inserted test t e v t2 inserts = ap (λ (m : Map Entry). count_by test m) inserts.entries ∙ count_put test t.entries v e inserts.unused
 
--- a process of a lab, before and after its call
-module _ (lib : Library) (before after : List Process) (r r2 : Objects) (p p2 : Process) (lab : IsConsistent before r) (write : IsWrite before after p p2)
+-- a process of the world, before and after its call
+module _ (lib : Library) (before after : List Process) (r r2 : Objects) (p p2 : Process) (consistent : IsConsistent before r)
+    (write : IsWrite before after p p2)
     (consumed destinations : List ℕ) where
   abbrev w : World
   w = world_value before r
@@ -90,7 +91,7 @@ module _ (lib : Library) (before after : List Process) (r r2 : Objects) (p p2 : 
     koids = koids_left p.table.entries n creates.unrefused
 
     growing : IsGrowing before ((made.0, first) ∷ []) with_first
-    growing = grown_one before [] r (growing_none before r lab) first_end (λ not. not runs) refl refl (omega (arith, koids)) refl (made.0, first) refl
+    growing = grown_one before [] r (growing_none before r consistent) first_end (λ not. not runs) refl refl (omega (arith, koids)) refl (made.0, first) refl
 
     growing_both : IsGrowing before ((made.1, second) ∷ (made.0, first) ∷ []) with_both
     growing_both =
@@ -110,7 +111,7 @@ module _ (lib : Library) (before after : List Process) (r r2 : Objects) (p p2 : 
     rest : (record with_ends { processes = map process_entry after }) ≡ world_value after r2
     unfolding with_object
     rest = rw creates.objects (ap (λ (os : Map ObjectValue). record w { processes = map process_entry after; objects = os; next_koid = n + 1 + 1 })
-        (ap (λ (os : Map ObjectValue). put os (n + 1) (object_value (new_object second_end 1))) (grown_seen r first_end 1 lab.given_objects)
+        (ap (λ (os : Map ObjectValue). put os (n + 1) (object_value (new_object second_end 1))) (grown_seen r first_end 1 consistent.given_objects)
         ∙ grown_seen with_first second_end 1 growing.sound.given_objects))
 
     chosen : IsTrue (may_choose w (taken w p.pid create_site) p.pid chan_create (two_values made))
@@ -128,11 +129,11 @@ module _ (lib : Library) (before after : List Process) (r r2 : Objects) (p p2 : 
 
     still : (e : Entry) → IsNamed r.objects e → IsNamed with_both.objects e
     still e named = grown_named before ((made.0, first) ∷ []) with_first growing.sound second_end 1 e
-        (grown_named before [] r (sound_of before r lab) first_end 1 e named)
+        (grown_named before [] r (sound_of before r consistent) first_end 1 e named)
 
     first_named : IsNamed with_both.objects first
     first_named = grown_named before ((made.0, first) ∷ []) with_first growing.sound second_end 1 first
-        (record { object = new_object first_end 1; there = there_grown before [] r (sound_of before r lab) first_end 1; kind = refl; rights = refl })
+        (record { object = new_object first_end 1; there = there_grown before [] r (sound_of before r consistent) first_end 1; kind = refl; rights = refl })
 
     second_named : IsNamed with_both.objects second
     second_named =
@@ -148,11 +149,12 @@ module _ (lib : Library) (before after : List Process) (r r2 : Objects) (p p2 : 
         (λ is. subst (λ (x : Entry). IsNamed with_both.objects x) is second_named)
         (λ early. found_inserted (IsNamed with_both.objects e) p.table first made.0 creates.between creates.first v e early
         (λ is. subst (λ (x : Entry). IsNamed with_both.objects x) is first_named)
-        (λ old. still e (lab.named p.pid (process_value p) v e write.there old)))
+        (λ old. still e (consistent.named p.pid (process_value p) v e write.there old)))
 
     table : IsTable p2.table
     table = inserted_table creates.between second made.1 p2.table
-        (inserted_table p.table first made.0 creates.between (lab.tables p.pid (process_value p) write.there) (omega (arith, creates.room)) creates.first)
+        (inserted_table p.table first made.0 creates.between (consistent.tables p.pid (process_value p) write.there)
+            (omega (arith, creates.room)) creates.first)
         (omega (arith, creates.room, one_longer p.table first made.0 creates.between creates.first)) creates.second
 
     counts : (j : ℕ) → handles_to (world_value after with_both) j
@@ -180,6 +182,6 @@ module _ (lib : Library) (before after : List Process) (r r2 : Objects) (p p2 : 
       → IsAnswered (told_by two_values) ChanCreateDoes create_site p r o p2 r2 → IsDone lib before after r r2 p.pid call o
   unfolding taken_handles handle_operands remove_all gives_refused
   chan_create_done ready call next o acts =
-      answered_done lib before after r r2 p p2 lab write ready call create_site next two_values (CreatesChannel p.table r) true
+      answered_done lib before after r r2 p p2 consistent write ready call create_site next two_values (CreatesChannel p.table r) true
       (channel_refusal p.table.entries r.next_koid)
       refused refl refl (λ answer. refl) chan_create_called o acts.answer acts.acts acts.replied acts.ends

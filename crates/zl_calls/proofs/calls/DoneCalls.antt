@@ -10,7 +10,7 @@ use Rattle.zl_code.specs.declared.history.Outcome.TheVariants as outcome
 use Rattle.zl_code.specs.declared.history.TraceItem.TheVariants as item
 use Rattle.zl_calls.specs.declared.process.Process.{Process}
 use Rattle.zl_calls.proofs.calls.Answered.{IsWrite, same_world}
-use Rattle.zl_calls.proofs.stepping.Labs.{IsFree, call_settles}
+use Rattle.zl_calls.proofs.stepping.FromConsistent.{IsFree, call_settles}
 use Rattle.zl_calls.proofs.processes.Departed.{settled_world}
 use Rattle.zl_calls.proofs.calls.Refused.{TellsNothing, answers, refused_calls}
 use Rattle.zl_calls.proofs.objects.Settled.{still_settles}
@@ -19,7 +19,7 @@ use Rattle.zl_calls.proofs.processes.Written.{refusal_keeps}
 -- where no policy has a say, the call is a step up to where processes wake; and the invariant holds afterwards
 pub record IsDone (lib : Library) (before after : List Process) (r r2 : Objects) (pid : ℕ) (call : CallName) (ends : Outcome) : Type 0 where
   pub step : IsFree lib (world_value before r) pid call → IsActed lib (world_value before r) pid (item.Call pid call ends) (settled_world after r2)
-  pub lab : IsConsistent after r2
+  pub consistent : IsConsistent after r2
 
 -- the call in its world, and the invariant
 pub record IsCalled (lib : Library) (before after : List Process) (r r2 : Objects) (pid : ℕ) (s : Site) (ends : Outcome) : Type 0 where
@@ -31,8 +31,9 @@ pub record IsCalledAmong (lib : Library) (before after : List Process) (r r2 : O
   pub calls : (blocked : List ℕ) → Calls lib (world_blocked before r blocked) pid s ends (world_blocked after r2 blocked)
   pub keeps : IsConsistent after r2
 
--- a ready process of a lab, at the call
-module _ (lib : Library) (before after : List Process) (r r2 : Objects) (p p2 : Process) (lab : IsConsistent before r) (write : IsWrite before after p p2)
+-- a ready process of the world, at the call
+module _ (lib : Library) (before after : List Process) (r r2 : Objects) (p p2 : Process) (consistent : IsConsistent before r)
+    (write : IsWrite before after p p2)
     (ready : state_value p.state ≡ Ready)
     (call : CallName) (s : Site) (next : next_for lib (process_value p) ≡ AtCall call s) where
   abbrev w : World
@@ -43,7 +44,7 @@ module _ (lib : Library) (before after : List Process) (r r2 : Objects) (p p2 : 
   called_done ends called = record {
     step = call_settles lib before after r r2 r2 p call s ends write.there ready next called.calls
         (still_settles after r2 called.keeps);
-    lab = called.keeps;
+    consistent = called.keeps;
   }
 
   -- a call that takes no handle and is either done or refused
@@ -59,7 +60,7 @@ module _ (lib : Library) (before after : List Process) (r r2 : Objects) (p p2 : 
           (same_world before after p p2 write r r2 s answer [] does.same_table does.same_objects replies
           ∙ ap (λ (v : World). replied v p.pid s answer []) (sym takes_none));
       keeps = subst (IsConsistent after) (sym does.same_objects)
-          (refusal_keeps before after p p2 write r lab does.same_table (ap (λ (q : Process). q.state) replies));
+          (refusal_keeps before after p p2 write r consistent does.same_table (ap (λ (q : Process). q.state) replies));
     }
 
     pub answered_done : (ends : Outcome) (answer : Result A Status) → Does Done wants o p.table r answer p2.table r2

@@ -76,7 +76,7 @@ module _ (lib : Library) (w : World) (p : ℕ) where
 
 -- ---- the answer of signal_peer
 
-module _ (lib : Library) (before : List Process) (r : Objects) (lab : IsConsistent before r) (p : ℕ) where
+module _ (lib : Library) (before : List Process) (r : Objects) (consistent : IsConsistent before r) (p : ℕ) where
   abbrev old_world : World
   old_world = world_value before r
 
@@ -105,7 +105,8 @@ module _ (lib : Library) (before : List Process) (r : Objects) (lab : IsConsiste
 
       passes : (e : Entry) → get handles h ≡ Some e
           → peer_with None (may e.koid) (has_peer e.koid) ≡ answers (peer_signal_refusal_of r.objects clear set (Ok e))
-      passes e at = rw (settable e at, peer_there r lab.no_zero e.koid) (both_tests (may_change_at e.kind clear set) (is_some (peer_at r.objects e.koid)))
+      passes e at = rw (settable e at, peer_there r consistent.no_zero e.koid)
+          (both_tests (may_change_at e.kind clear set) (is_some (peer_at r.objects e.koid)))
 
       by_found : (e : Entry) → get handles h ≡ Some e → (a b : Bool) → peer_with
           (by_look_up old_world p (if a then (if b then Ok e else Err status.AccessDenied) else Err status.WrongType)) (may e.koid) (has_peer e.koid)
@@ -121,8 +122,9 @@ module _ (lib : Library) (before : List Process) (r : Objects) (lab : IsConsiste
       by_end None at = ap (λ (x : Option Outcome). peer_with x (may 0) (has_peer 0)) (fault_answers old_world p condition.BadHandle status.BadHandle)
       by_end (Some e) at = by_found e at (takes (kind.Channel ∷ []) e.kind) (within SIGNAL_PEER (bits e.rights))
 
--- a process of a lab, before and after its call
-module _ (lib : Library) (before after : List Process) (r r2 : Objects) (p p2 : Process) (lab : IsConsistent before r) (write : IsWrite before after p p2) where
+-- a process of the world, before and after its call
+module _ (lib : Library) (before after : List Process) (r r2 : Objects) (p p2 : Process) (consistent : IsConsistent before r)
+    (write : IsWrite before after p p2) where
   abbrev w : World
   w = world_value before r
 
@@ -136,7 +138,7 @@ module _ (lib : Library) (before after : List Process) (r r2 : Objects) (p p2 : 
         → IsAnswered (told_by one_value) EventCreateDoes create_site p r o p2 r2 → IsDone lib before after r r2 p.pid call o
     unfolding refusal handle_operands examined listed has_room has_koids taken_handles remove_all gives_refused may_choose
         new_handles effect insert_all gives_ok
-    event_create_done = made_done lib before after r r2 p p2 lab write create_site body.Event (λ not. not runs) refl refl
+    event_create_done = made_done lib before after r r2 p p2 consistent write create_site body.Event (λ not. not runs) refl refl
         (rw (may_create w p.pid condition.NewEvent, table_is before after p p2 write r) (room_refused p.table.entries r.next_koid)) refl refl (λ answer. refl)
         (λ made may ends. (rw (write.there, may) refl, refl, ends))
 
@@ -170,17 +172,17 @@ module _ (lib : Library) (before after : List Process) (r r2 : Objects) (p p2 : 
     signal_counts j = same_counts before after p p2 write r (changing r k clear set) j (queues_updated change same_body r.objects k j) table
 
     next : IsNext before after r (changing r k clear set)
-    next = updated_next before after r lab k change same_body
-        (λ j o old here. lab.counted j o old ∙ sym (signal_counts j))
-        (λ j o old apart. lab.counted j o old ∙ sym (signal_counts j))
-        (λ j o old here. rw (alone_updated change same_body r.objects k j o.body) (kept_all r.objects lab.kept j o old))
+    next = updated_next before after r consistent k change same_body
+        (λ j o old here. consistent.counted j o old ∙ sym (signal_counts j))
+        (λ j o old apart. consistent.counted j o old ∙ sym (signal_counts j))
+        (λ j o old here. rw (alone_updated change same_body r.objects k j o.body) (kept_all r.objects consistent.kept j o old))
 
     signal_keeps : IsConsistent after r2
-    signal_keeps = rw objects (keeps_table before after p p2 write r (changing r k clear set) lab (ap (λ (q : Process). q.state) replies) table next)
+    signal_keeps = rw objects (keeps_table before after p p2 write r (changing r k clear set) consistent (ap (λ (q : Process). q.state) replies) table next)
 
   -- what may be changed at the object of a handle of the caller
   settable_here : (h : ℕ) (e : Entry) → get (table_of w p.pid) h ≡ Some e → settable_of (body_of w e.koid) ≡ settable_at e.kind
-  settable_here h e at = settable_named r.objects e (lab.named p.pid (process_value p) h e write.there (rw (table_is before after p p2 write r) at at))
+  settable_here h e at = settable_named r.objects e (consistent.named p.pid (process_value p) h e write.there (rw (table_is before after p p2 write r) at at))
 
   -- ---- signal and signal_peer
 
@@ -215,7 +217,7 @@ module _ (lib : Library) (before after : List Process) (r r2 : Objects) (p p2 : 
         → IsAnswered (told_by no_value) (SignalDoes h clear set) signal_site p r o p2 r2 → IsDone lib before after r r2 p.pid call o
     unfolding taken_handles handle_operands remove_all gives_refused
     signal_done ready call next o acts =
-        answered_done lib before after r r2 p p2 lab write ready call signal_site next no_value (λ _. SignalsObject p.table r h clear set) false
+        answered_done lib before after r r2 p p2 consistent write ready call signal_site next no_value (λ _. SignalsObject p.table r h clear set) false
         (signal_refusal p.table.entries h clear set)
         refused_signal refl refl (λ answer. refl) signal_called o acts.answer acts.acts acts.replied acts.ends
 
@@ -223,7 +225,7 @@ module _ (lib : Library) (before after : List Process) (r r2 : Objects) (p p2 : 
     peer_site = site (signal_peer h clear set) consumed destinations
 
     refused_peer : refusal lib w p.pid (signal_peer h clear set) ≡ answers (peer_signal_refusal p.table.entries r.objects h clear set)
-    refused_peer = peer_signal_refused lib before r lab p.pid h clear set (settable_here h) ∙ rw (table_is before after p p2 write r) refl
+    refused_peer = peer_signal_refused lib before r consistent p.pid h clear set (settable_here h) ∙ rw (table_is before after p p2 write r) refl
 
     peer_chosen : IsTrue (may_choose w (taken w p.pid peer_site) p.pid (signal_peer h clear set) [])
     unfolding may_choose new_handles remove_all taken_handles handle_operands
@@ -232,7 +234,7 @@ module _ (lib : Library) (before after : List Process) (r r2 : Objects) (p p2 : 
     peer_same : (signals : SignalsPeer p.table r h clear set p2.table r2) → peer_named w p.pid h ≡ signals.peer
     peer_same signals =
         rw (table_is before after p p2 write r, is_found (get p.table.entries h) (kind.Channel ∷ []) SIGNAL_PEER signals.end signals.is_end)
-        (peer_is r lab.no_zero signals.end.koid signals.peer signals.is_peer)
+        (peer_is r consistent.no_zero signals.end.koid signals.peer signals.is_peer)
 
     peer_called : (done : ⊤) → SignalsPeer p.table r h clear set p2.table r2 → Replies peer_site status.Ok [] p p2
         → IsCalled lib before after r r2 p.pid peer_site (outcome.Answered status.Ok)
@@ -254,6 +256,6 @@ module _ (lib : Library) (before after : List Process) (r r2 : Objects) (p p2 : 
         → IsAnswered (told_by no_value) (SignalPeerDoes h clear set) peer_site p r o p2 r2 → IsDone lib before after r r2 p.pid call o
     unfolding taken_handles handle_operands remove_all gives_refused
     signal_peer_done ready call next o acts =
-        answered_done lib before after r r2 p p2 lab write ready call peer_site next no_value (λ _. SignalsPeer p.table r h clear set) false
+        answered_done lib before after r r2 p p2 consistent write ready call peer_site next no_value (λ _. SignalsPeer p.table r h clear set) false
         (peer_signal_refusal p.table.entries r.objects h clear set)
         refused_peer refl refl (λ answer. refl) peer_called o acts.answer acts.acts acts.replied acts.ends

@@ -22,10 +22,10 @@ use Rattle.zl_calls.specs.declared.process.Process.{Process}
 use Rattle.zl_calls.specs.calls.Answer.{without_handle}
 use Rattle.zl_calls.specs.calls.Handle.{CloseDoes, Closes, close_answer, Dups, DupDoes, dup_refusal, dup_refusal_of, Replaces, ReplaceDoes, replace_refusal}
 use Rattle.zl_calls.specs.calls.Handle.{replace_refusal_of}
-use Rattle.zl_calls.proofs.objects.SameButWaits.{beside_lab, beside_world}
+use Rattle.zl_calls.proofs.objects.SameButWaits.{beside_consistent, beside_world}
 use Rattle.zl_calls.proofs.calls.Answered.{IsWrite, table_is, replies_none, replied_with, may_get_inserted, replied_inserted}
 use Rattle.zl_calls.proofs.calls.DoneCalls.{IsDone, IsCalled, answered_done}
-use Rattle.zl_calls.proofs.stepping.Labs.{call_settles, handles_counted}
+use Rattle.zl_calls.proofs.stepping.FromConsistent.{call_settles, handles_counted}
 use Rattle.zl_calls.proofs.objects.Counting.{count_without, counts_written, queues_updated, sum_update}
 use Rattle.zl_calls.proofs.calls.Refused.{fault_answers, answers}
 use Rattle.zl_calls.proofs.processes.Stopped.{sound_after}
@@ -132,8 +132,9 @@ object_held : (o : Object) → object_value (held_once_more o) ≡ object_value 
 object_held o =
     elim (nat_lt o.handles (2 ^ 62)) as (λ b. object_value (cond b (record o { handles = o.handles + 1 }) o) ≡ object_value o) [ true ↦ refl | false ↦ refl ]
 
--- a process of a lab, before and after its call
-module _ (lib : Library) (before after : List Process) (r r2 : Objects) (p p2 : Process) (lab : IsConsistent before r) (write : IsWrite before after p p2) where
+-- a process of the world, before and after its call
+module _ (lib : Library) (before after : List Process) (r r2 : Objects) (p p2 : Process) (consistent : IsConsistent before r)
+    (write : IsWrite before after p p2) where
   abbrev w : World
   w = world_value before r
 
@@ -193,17 +194,17 @@ module _ (lib : Library) (before after : List Process) (r r2 : Objects) (p p2 : 
     state_same = ap (λ (q : Process). q.state) replies
 
     closes_none : get p.table.entries h ≡ None → IsSettled after r r
-    closes_none missing = record { lab = kept; settles = still_settles after r kept }
+    closes_none missing = record { consistent = kept; settles = still_settles after r kept }
       where
         kept : IsConsistent after r
-        kept = refusal_keeps before after p p2 write r lab (table ∙ rw missing refl) state_same
+        kept = refusal_keeps before after p p2 write r consistent (table ∙ rw missing refl) state_same
 
     module _ (e : Entry) (there : get p.table.entries h ≡ Some e) where
       entries_are : p2.table.entries ≡ without p.table.entries h
       entries_are = ap (λ (t : Handles). t.entries) table ∙ rw there refl
 
       old_table : IsTable p.table
-      old_table = lab.tables p.pid (process_value p) write.there
+      old_table = consistent.tables p.pid (process_value p) write.there
 
       left_there : (v : ℕ) (q : Entry) → get p2.table.entries v ≡ Some q → get p.table.entries v ≡ Some q
       left_there v q at = by_key (cases_Bool (h == v)) (sym (get-without p.table.entries h v) ∙ (ap (λ (m : Map Entry). get m v) (sym entries_are) ∙ at))
@@ -233,13 +234,13 @@ module _ (lib : Library) (before after : List Process) (r r2 : Objects) (p p2 : 
       unfolding get
       closes_one releases =
           settled after ((h, e) ∷ []) r
-          (sound_after before after p p2 write r lab ((h, e) ∷ []) new_table fewer
-          (λ v q at. lab.named p.pid (process_value p) v q write.there (left_there v q at)) state_same)
-          refl named_left (e.koid ∷ []) (λ k. refl) r2 releases.cascades (releases.keeps [] lab.kept) releases.koids
+          (sound_after before after p p2 write r consistent ((h, e) ∷ []) new_table fewer
+          (λ v q at. consistent.named p.pid (process_value p) v q write.there (left_there v q at)) state_same)
+          refl named_left (e.koid ∷ []) (λ k. refl) r2 releases.cascades (releases.keeps [] consistent.kept) releases.koids
         where
           named_left : (v : ℕ) (q : Entry) → get ((h, e) ∷ []) v ≡ Some q → IsNamed r.objects q
           named_left v q at = elim (cases_Bool (h == v)) as (λ _. IsNamed r.objects q) [
-            | inl here ↦ subst (IsNamed r.objects) (same_Some e q (rw here at at)) (lab.named p.pid (process_value p) h e write.there there)
+            | inl here ↦ subst (IsNamed r.objects) (same_Some e q (rw here at at)) (consistent.named p.pid (process_value p) h e write.there there)
             | inr apart ↦ absurd (none-some q (rw apart at at))
           ]
 
@@ -254,7 +255,7 @@ module _ (lib : Library) (before after : List Process) (r r2 : Objects) (p p2 : 
         → IsDone lib before after r r2 p.pid call (outcome.Answered answer)
     close_answered ready call next = record {
       step = call_settles lib before after r r r2 p call close_site (outcome.Answered answer) write.there ready next calls closes.settles;
-      lab = closes.lab;
+      consistent = closes.consistent;
     }
 
   pub close_done : (h : ℕ) (consumed destinations : List ℕ)
@@ -273,7 +274,8 @@ module _ (lib : Library) (before after : List Process) (r r2 : Objects) (p p2 : 
 
     refused : refusal lib w p.pid (dup h asked) ≡ answers (dup_refusal p.table.entries r.objects h asked)
     refused =
-        dup_refused lib w p.pid r.objects (λ v e at. handles_counted before r lab p write.there v e (rw (table_is before after p p2 write r) at at)) h asked
+        dup_refused lib w p.pid r.objects (λ v e at. handles_counted before r consistent p write.there v e
+            (rw (table_is before after p p2 write r) at at)) h asked
         ∙ rw (table_is before after p p2 write r) refl
 
     module _ (made : ℕ) (dups : Dups p.table r h asked made p2.table r2) (replies : Replies dup_site status.Ok (made ∷ []) p p2) where
@@ -305,7 +307,7 @@ module _ (lib : Library) (before after : List Process) (r r2 : Objects) (p p2 : 
       -- ---- the invariant
 
       named : IsNamed r.objects dups.original
-      named = lab.named p.pid (process_value p) h dups.original write.there dups.was
+      named = consistent.named p.pid (process_value p) h dups.original write.there dups.was
 
       copy_named : IsNamed r.objects copy
       copy_named = record {
@@ -326,16 +328,16 @@ module _ (lib : Library) (before after : List Process) (r r2 : Objects) (p p2 : 
           rw place refl
 
       next : IsNext before after r (holding r k)
-      next = updated_next before after r lab k held_once_more body_held
-          (λ j o old here. one_more j o old here ∙ (ap (λ (n : ℕ). n + 1) (lab.counted j o old) ∙ sym (counts j ∙ rw here refl)))
-          (λ j o old apart. lab.counted j o old ∙ sym (counts j ∙ rw apart (omega arith)))
+      next = updated_next before after r consistent k held_once_more body_held
+          (λ j o old here. one_more j o old here ∙ (ap (λ (n : ℕ). n + 1) (consistent.counted j o old) ∙ sym (counts j ∙ rw here refl)))
+          (λ j o old apart. consistent.counted j o old ∙ sym (counts j ∙ rw apart (omega arith)))
           (λ j o old here. or_left (nat_lt 0 (held_once_more o).handles) _ (rw (one_more j o old here) (grind (arith, nat_tests))))
 
       dup_called : IsCalled lib before after r r2 p.pid dup_site (outcome.Answered status.Ok)
       unfolding gives_ok
       dup_called = record {
         calls = (Values (made ∷ []), rw (refused, dups.unrefused) (dup_chosen, refl, dup_ends));
-        keeps = rw dups.objects (keeps_inserted before after p p2 write copy made dups.inserts r (holding r k) lab
+        keeps = rw dups.objects (keeps_inserted before after p p2 write copy made dups.inserts r (holding r k) consistent
             (ap (λ (q : Process). q.state) replies) dups.room (next.named copy copy_named) next);
       }
 
@@ -345,7 +347,7 @@ module _ (lib : Library) (before after : List Process) (r r2 : Objects) (p p2 : 
         → IsAnswered (told_by one_value) (DupDoes h asked) dup_site p r o p2 r2 → IsDone lib before after r r2 p.pid call o
     unfolding taken_handles handle_operands remove_all gives_refused
     dup_done ready call next o acts =
-        answered_done lib before after r r2 p p2 lab write ready call dup_site next one_value (Dups p.table r h asked) true
+        answered_done lib before after r r2 p p2 consistent write ready call dup_site next one_value (Dups p.table r h asked) true
         (dup_refusal p.table.entries r.objects h asked)
         refused refl refl (λ answer. refl) dup_called o acts.answer acts.acts acts.replied acts.ends
 
@@ -366,7 +368,7 @@ module _ (lib : Library) (before after : List Process) (r r2 : Objects) (p p2 : 
       replacement = narrower replaces.original
 
       before_it : IsTable p.table
-      before_it = lab.tables p.pid (process_value p) write.there
+      before_it = consistent.tables p.pid (process_value p) write.there
 
       -- ---- the relation of calls
 
@@ -422,7 +424,7 @@ module _ (lib : Library) (before after : List Process) (r r2 : Objects) (p p2 : 
           by_key (cases_Bool (h == v)) (sym (get-update p.table.entries h narrower v) ∙ (ap (λ (m : Map Entry). get m v) (sym replaces.entries) ∙ at))
         where
           old : (x : ℕ) (q : Entry) → get p.table.entries x ≡ Some q → IsNamed r.objects q
-          old x q was = lab.named p.pid (process_value p) x q write.there was
+          old x q was = consistent.named p.pid (process_value p) x q write.there was
 
           by_key : IsTrue (h == v) ⊎ ((h == v) ≡ false) → (if h == v then option_map narrower (get p.table.entries v) else get p.table.entries v) ≡ Some e
               → IsNamed r.objects e
@@ -448,9 +450,9 @@ module _ (lib : Library) (before after : List Process) (r r2 : Objects) (p p2 : 
       unfolding gives_ok
       replace_called = record {
         calls = (Values [], rw (replace_refused_here, replaces.unrefused) (replace_chosen, refl, replace_ends));
-        keeps = beside_lab after r r2 replaces.ends.beside
-            (keeps before after p p2 write r r lab (ap (λ (q : Process). q.state) replies) table_again still_named
-            (recounted_next before after r lab recounted));
+        keeps = beside_consistent after r r2 replaces.ends.beside
+            (keeps before after p p2 write r r consistent (ap (λ (q : Process). q.state) replies) table_again still_named
+            (recounted_next before after r consistent recounted));
       }
 
     -- ---- the step
@@ -459,6 +461,6 @@ module _ (lib : Library) (before after : List Process) (r r2 : Objects) (p p2 : 
         → IsAnswered (told_by one_value) (ReplaceDoes p.pid h asked) replace_site p r o p2 r2 → IsDone lib before after r r2 p.pid call o
     unfolding taken_handles handle_operands gives_refused
     replace_done ready call next o acts =
-        taking_done lib before after r r2 p p2 lab write ready call replace_site next (h ∷ []) refl one_value (Replaces p.pid p.table r h asked) false
+        taking_done lib before after r r2 p p2 consistent write ready call replace_site next (h ∷ []) refl one_value (Replaces p.pid p.table r h asked) false
         (replace_refusal p.table.entries h asked)
         replace_refused_here refl (λ answer. refl) replace_called o acts.answer acts.acts acts.replied acts.ends

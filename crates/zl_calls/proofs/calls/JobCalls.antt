@@ -106,7 +106,7 @@ is_of_kind (Some x) kinds needed e found = by_tests (takes kinds x.kind) (within
 
 -- ---- answers
 
-module _ (before : List Process) (r : Objects) (lab : IsConsistent before r) (p : ℕ) where
+module _ (before : List Process) (r : Objects) (consistent : IsConsistent before r) (p : ℕ) where
   abbrev old_world : World
   old_world = world_value before r
 
@@ -119,7 +119,8 @@ module _ (before : List Process) (r : Objects) (lab : IsConsistent before r) (p 
 
   -- a living child stands below the job where the objects say so
   pub child_seen : (k : ℕ) → has_child old_world k ≡ has_child_at r.objects k
-  child_seen k = λ i. job_shown old_world r.objects (states_shown before r lab) k i || process_shown old_world r.objects (states_shown before r lab) k i
+  child_seen k = λ i. job_shown old_world r.objects (states_shown before r consistent) k i || process_shown old_world r.objects
+      (states_shown before r consistent) k i
 
   -- ---- job_create
 
@@ -278,19 +279,20 @@ module _ (c : Condition) (a : Action) where
   policy_named r k (body.ChannelEnd peer queue) old =
       still_named r.objects (setting_policy r k c a).objects (named_rebodied (with_policy_body c a) policy_keeps r.objects k) queue old
 
--- ---- a process of a lab, before and after its call
+-- ---- a process of the world, before and after its call
 
-module _ (lib : Library) (before after : List Process) (r r2 : Objects) (p p2 : Process) (lab : IsConsistent before r) (write : IsWrite before after p p2) where
+module _ (lib : Library) (before after : List Process) (r r2 : Objects) (p p2 : Process) (consistent : IsConsistent before r)
+    (write : IsWrite before after p p2) where
   abbrev w : World
   w = world_value before r
 
-  named_here : AllNamed before r lab p.pid
-  named_here h e at = lab.named p.pid (process_value p) h e write.there (rw (table_is before after p p2 write r) at at)
+  named_here : AllNamed before r consistent p.pid
+  named_here h e at = consistent.named p.pid (process_value p) h e write.there (rw (table_is before after p p2 write r) at at)
 
   -- the job that a handle of the caller names
   job_here : (h needed : ℕ) (e : Entry) → looked_up p.table.entries h (kind.Job ∷ []) needed ≡ Ok e → IsJobAt r.objects e.koid
   job_here h needed e found =
-      job_named r.objects e (lab.named p.pid (process_value p) h e write.there (is_found (get p.table.entries h) (kind.Job ∷ []) needed e found))
+      job_named r.objects e (consistent.named p.pid (process_value p) h e write.there (is_found (get p.table.entries h) (kind.Job ∷ []) needed e found))
       (is_of_kind (get p.table.entries h) (kind.Job ∷ []) needed e found)
 
   named_koid : (h needed : ℕ) (e : Entry) → looked_up p.table.entries h (kind.Job ∷ []) needed ≡ Ok e → object_at w p.pid h ≡ e.koid
@@ -303,7 +305,7 @@ module _ (lib : Library) (before after : List Process) (r r2 : Objects) (p p2 : 
     create_site = site (job_create j) consumed destinations
 
     refused_create : refusal lib w p.pid (job_create j) ≡ answers (job_refusal p.table.entries r j)
-    refused_create = create_refused before r lab p.pid lib j named_here ∙ rw (table_is before after p p2 write r) refl
+    refused_create = create_refused before r consistent p.pid lib j named_here ∙ rw (table_is before after p p2 write r) refl
 
     module _ (made : ℕ) (creates : CreatesJob p.table r j made p2.table r2) (replies : Replies create_site status.Ok (made ∷ []) p p2) where
       abbrev k : ℕ
@@ -334,11 +336,11 @@ module _ (lib : Library) (before after : List Process) (r r2 : Objects) (p p2 : 
       -- the job above is there still
       stands : IsTrue (is_in_job (with_new r job 1).objects job)
       stands = subst (λ (o : Option ℕ). IsTrue (is_above (with_new r job 1).objects o)) (ap (λ (x : Job). keeper_of (body.Job x)) (sym child_is))
-          (stands_grown before [] r (sound_of before r lab) job 1 k above)
+          (stands_grown before [] r (sound_of before r consistent) job 1 k above)
 
       create_called : IsCalled lib before after r r2 p.pid create_site (outcome.Answered status.Ok)
       unfolding taken_handles handle_operands remove_all may_choose new_handles effect insert_all gives_ok
-      create_called = made_called lib before after r r2 p p2 lab write create_site job (λ not. not runs) refl stands made creates.makes replies
+      create_called = made_called lib before after r r2 p p2 consistent write create_site job (λ not. not runs) refl stands made creates.makes replies
           (refused_create ∙ ap answers creates.unrefused) (λ may ends. (rw (write.there, may) refl, refl, ends ∙ ap with_child body_is))
         where
           with_child : BodyValue → World
@@ -349,7 +351,8 @@ module _ (lib : Library) (before after : List Process) (r r2 : Objects) (p p2 : 
         → IsAnswered (told_by one_value) (JobCreateDoes j) create_site p r o p2 r2 → IsDone lib before after r r2 p.pid call o
     unfolding taken_handles handle_operands remove_all gives_refused
     job_create_done ready call next o acts =
-        answered_done lib before after r r2 p p2 lab write ready call create_site next one_value (CreatesJob p.table r j) true (job_refusal p.table.entries r j)
+        answered_done lib before after r r2 p p2 consistent write ready call create_site next one_value (CreatesJob p.table r j) true
+            (job_refusal p.table.entries r j)
         refused_create refl refl (λ answer. refl) create_called o acts.answer acts.acts acts.replied acts.ends
 
   -- ---- job_set_policy
@@ -359,7 +362,7 @@ module _ (lib : Library) (before after : List Process) (r r2 : Objects) (p p2 : 
     set_site = site (job_set_policy j mode condition action) consumed destinations
 
     refused_set : refusal lib w p.pid (job_set_policy j mode condition action) ≡ answers (policy_refusal p.table.entries r.objects j mode condition action)
-    refused_set = set_refused before r lab p.pid lib j mode condition action named_here ∙ rw (table_is before after p p2 write r) refl
+    refused_set = set_refused before r consistent p.pid lib j mode condition action named_here ∙ rw (table_is before after p p2 write r) refl
 
     set_chosen : IsTrue (may_choose w (taken w p.pid set_site) p.pid (job_set_policy j mode condition action) [])
     unfolding may_choose new_handles remove_all taken_handles handle_operands
@@ -397,8 +400,8 @@ module _ (lib : Library) (before after : List Process) (r r2 : Objects) (p p2 : 
 
       set_next : IsNext before after r (setting_policy r job_koid c a)
       set_next =
-          rebodied_next (with_policy_body c a) (policy_keeps c a) before after r lab job_koid
-          (λ o at. policy_named c a r job_koid o.body (lab.queued job_koid o at)) set_counts
+          rebodied_next (with_policy_body c a) (policy_keeps c a) before after r consistent job_koid
+          (λ o at. policy_named c a r job_koid o.body (consistent.queued job_koid o at)) set_counts
 
       set_called : IsCalled lib before after r r2 p.pid set_site (outcome.Answered status.Ok)
       unfolding effect gives_ok new_handles insert_all remove_all taken_handles handle_operands
@@ -413,13 +416,13 @@ module _ (lib : Library) (before after : List Process) (r r2 : Objects) (p p2 : 
           ),
         );
         keeps = rw sets.objects
-            (keeps_table before after p p2 write r (setting_policy r job_koid c a) lab (ap (λ (q : Process). q.state) replies) sets.table set_next);
+            (keeps_table before after p p2 write r (setting_policy r job_koid c a) consistent (ap (λ (q : Process). q.state) replies) sets.table set_next);
       }
 
     pub job_set_policy_done : state_value p.state ≡ Ready → (call : CallName) → next_for lib (process_value p) ≡ AtCall call set_site → (o : Outcome)
         → IsAnswered (told_by no_value) (JobSetPolicyDoes j mode condition action) set_site p r o p2 r2 → IsDone lib before after r r2 p.pid call o
     unfolding taken_handles handle_operands remove_all gives_refused
     job_set_policy_done ready call next o acts =
-        answered_done lib before after r r2 p p2 lab write ready call set_site next no_value (λ _. SetsPolicy p.table r j mode condition action) false
+        answered_done lib before after r r2 p p2 consistent write ready call set_site next no_value (λ _. SetsPolicy p.table r j mode condition action) false
         (policy_refusal p.table.entries r.objects j mode condition action)
         refused_set refl refl (λ answer. refl) (λ done. set_called) o acts.answer acts.acts acts.replied acts.ends

@@ -83,9 +83,10 @@ first_entered before after p p2 write state r b made inserts place growing there
     grown : Objects
     grown = with_new r b 1
 
--- ---- a process of a lab, before and after its call
+-- ---- a process of the world, before and after its call
 
-module _ (lib : Library) (before after : List Process) (r r2 : Objects) (p p2 : Process) (lab : IsConsistent before r) (write : IsWrite before after p p2)
+module _ (lib : Library) (before after : List Process) (r r2 : Objects) (p p2 : Process) (consistent : IsConsistent before r)
+    (write : IsWrite before after p p2)
     (s : Site) (b : Body) where
   abbrev w : World
   w = world_value before r
@@ -117,7 +118,7 @@ module _ (lib : Library) (before after : List Process) (r r2 : Objects) (p p2 : 
       made_rest : (record with_one { processes = map process_entry after }) ≡ world_value after r2
       unfolding with_object
       made_rest = rw makes.objects (ap (λ (os : Map ObjectValue). record w { processes = map process_entry after; objects = os; next_koid = n + 1 })
-          (grown_seen r b 1 lab.given_objects))
+          (grown_seen r b 1 consistent.given_objects))
 
       made_ends : world_value after r2 ≡ replied (on_process with_one p.pid (process_with made entry)) p.pid s status.Ok (made ∷ [])
       unfolding with_object
@@ -130,8 +131,8 @@ module _ (lib : Library) (before after : List Process) (r r2 : Objects) (p p2 : 
 
       made_keeps : IsConsistent after r2
       made_keeps = rw makes.objects (first_entered before after p p2 write (ap (λ (q : Process). q.state) replies) r b made makes.inserts room.place
-          (grown_one before [] r (growing_none before r lab) b quiet empty in_job room.koid refl (made, entry) refl)
-          (there_grown before [] r (sound_of before r lab) b 1))
+          (grown_one before [] r (growing_none before r consistent) b quiet empty in_job room.koid refl (made, entry) refl)
+          (there_grown before [] r (sound_of before r consistent) b 1))
 
       pub made_called : refusal lib w p.pid s.request ≡ None → Makes made → IsCalled lib before after r r2 p.pid s (outcome.Answered status.Ok)
       made_called unrefused by = record {
@@ -145,6 +146,6 @@ module _ (lib : Library) (before after : List Process) (r r2 : Objects) (p p2 : 
         → TellsNothing lib w p.pid s → ((made : ℕ) → Makes made) → state_value p.state ≡ Ready
         → (call : CallName) → next_for lib (process_value p) ≡ AtCall call s → (o : Outcome) → IsAnswered (told_by one_value) (MakeDoes b) s p r o p2 r2
         → IsDone lib before after r r2 p.pid call o
-    made_done refused may_want takes_none nothing by ready call at o acts = answered_done lib before after r r2 p p2 lab write ready call s at
+    made_done refused may_want takes_none nothing by ready call at o acts = answered_done lib before after r r2 p p2 consistent write ready call s at
         one_value (MakesOne b p.table r) true (room_refusal p.table.entries n) refused may_want takes_none nothing
         (λ made makes replies. made_called made makes replies (refused ∙ ap answers makes.unrefused) (by made)) o acts.answer acts.acts acts.replied acts.ends

@@ -34,24 +34,24 @@ use Rattle.zl_calls.proofs.calls.Repacked.{packets_there, port_ends, port_kept, 
 
 -- ---- the answers of port_queue, port_poll and port_wait
 
-module _ (lib : Library) (before : List Process) (r : Objects) (lab : IsConsistent before r) (p : ℕ) where
+module _ (lib : Library) (before : List Process) (r : Objects) (consistent : IsConsistent before r) (p : ℕ) where
   abbrev old_world : World
   old_world = world_value before r
 
   queue_refused : (port key value : ℕ) → refusal lib old_world p (port_queue port key value) ≡ answers (queue_refusal (table_of old_world p) r.objects port)
   unfolding refusal handle_operands examined operand listed
-  queue_refused port key value = port_refused before r lab p is_full status.ShouldWait WRITE (get (table_of old_world p) port)
+  queue_refused port key value = port_refused before r consistent p is_full status.ShouldWait WRITE (get (table_of old_world p) port)
 
   poll_refused : (port : ℕ) → refusal lib old_world p (port_poll port) ≡ answers (poll_refusal (table_of old_world p) r.objects port)
   unfolding refusal handle_operands examined operand listed
-  poll_refused port = port_refused before r lab p is_empty status.TimedOut READ (get (table_of old_world p) port)
+  poll_refused port = port_refused before r consistent p is_empty status.TimedOut READ (get (table_of old_world p) port)
 
   -- port_wait is refused as if no packets were too many or too few
   wait_refused : (port : ℕ) → refusal lib old_world p (port_wait port) ≡ answers (result_err (port_at (table_of old_world p) port READ))
   unfolding refusal handle_operands examined operand listed
   wait_refused port =
       by_look_up_alone (operand_of old_world p (kind.Port ∷ []) READ (get (table_of old_world p) port))
-      ∙ (port_refused before r lab p (λ packets. false) status.TimedOut READ (get (table_of old_world p) port)
+      ∙ (port_refused before r consistent p (λ packets. false) status.TimedOut READ (get (table_of old_world p) port)
       ∙ by_port (port_at (table_of old_world p) port READ))
     where
       by_look_up_alone : (x : Option Outcome) → first_some (first_some (x ∷ None ∷ []) ∷ None ∷ []) ≡ first_some (first_some (x ∷ None ∷ []) ∷ None ∷ None ∷ [])
@@ -62,8 +62,9 @@ module _ (lib : Library) (before : List Process) (r : Objects) (lab : IsConsiste
       by_port (Ok e) = refl
       by_port (Err s) = refl
 
--- a process of a lab, before and after its call
-module _ (lib : Library) (before after : List Process) (r r2 : Objects) (p p2 : Process) (lab : IsConsistent before r) (write : IsWrite before after p p2) where
+-- a process of the world, before and after its call
+module _ (lib : Library) (before after : List Process) (r r2 : Objects) (p p2 : Process) (consistent : IsConsistent before r)
+    (write : IsWrite before after p p2) where
   abbrev w : World
   w = world_value before r
 
@@ -77,7 +78,7 @@ module _ (lib : Library) (before after : List Process) (r r2 : Objects) (p p2 : 
         → IsAnswered (told_by one_value) PortCreateDoes create_site p r o p2 r2 → IsDone lib before after r r2 p.pid call o
     unfolding refusal handle_operands examined listed has_room has_koids taken_handles remove_all gives_refused may_choose
         new_handles effect insert_all gives_ok
-    port_create_done = made_done lib before after r r2 p p2 lab write create_site new_port (λ not. not runs) refl refl
+    port_create_done = made_done lib before after r r2 p p2 consistent write create_site new_port (λ not. not runs) refl refl
         (rw (may_create w p.pid condition.NewPort, table_is before after p p2 write r) (room_refused p.table.entries r.next_koid)) refl refl (λ answer. refl)
         (λ made may ends. (rw (write.there, may) refl, refl, ends))
 
@@ -88,7 +89,7 @@ module _ (lib : Library) (before after : List Process) (r r2 : Objects) (p p2 : 
     queue_site = site (port_queue port key value) consumed destinations
 
     refused_queue : refusal lib w p.pid (port_queue port key value) ≡ answers (queue_refusal p.table.entries r.objects port)
-    refused_queue = queue_refused lib before r lab p.pid port key value ∙ rw (table_is before after p p2 write r) refl
+    refused_queue = queue_refused lib before r consistent p.pid port key value ∙ rw (table_is before after p p2 write r) refl
 
     queue_chosen : IsTrue (may_choose w (taken w p.pid queue_site) p.pid (port_queue port key value) [])
     unfolding may_choose new_handles remove_all taken_handles handle_operands
@@ -106,11 +107,12 @@ module _ (lib : Library) (before after : List Process) (r r2 : Objects) (p p2 : 
             rw (refused_queue, queued.unrefused) (
               queue_chosen,
               refl,
-              port_ends before after r r2 p p2 lab write queued.port.koid (λ x. with_packet x (user_packet key value)) (λ xs. xs ++ user_packet key value ∷ [])
+              port_ends before after r r2 p p2 consistent write queued.port.koid (λ x. with_packet x (user_packet key value))
+                  (λ xs. xs ++ user_packet key value ∷ [])
                   more queued.objects queued.table queue_site [] replies ∙ rw (table_is before after p p2 write r, there) refl,
             ),
           );
-          keeps = port_kept before after r r2 p p2 lab write queued.port.koid (λ x. with_packet x (user_packet key value))
+          keeps = port_kept before after r r2 p p2 consistent write queued.port.koid (λ x. with_packet x (user_packet key value))
               (λ xs. xs ++ user_packet key value ∷ []) more queued.objects queued.table queue_site [] replies;
         }
 
@@ -118,7 +120,7 @@ module _ (lib : Library) (before after : List Process) (r r2 : Objects) (p p2 : 
         → IsAnswered (told_by no_value) (PortQueueDoes port key value) queue_site p r o p2 r2 → IsDone lib before after r r2 p.pid call o
     unfolding taken_handles handle_operands remove_all gives_refused
     port_queue_done ready call next o acts =
-        answered_done lib before after r r2 p p2 lab write ready call queue_site next no_value (λ _. QueuesPacket p.table r port key value) true
+        answered_done lib before after r r2 p p2 consistent write ready call queue_site next no_value (λ _. QueuesPacket p.table r port key value) true
         (queue_refusal p.table.entries r.objects port)
         refused_queue refl refl (λ answer. refl) queue_called o acts.answer acts.acts acts.replied acts.ends
 
@@ -154,11 +156,13 @@ module _ (lib : Library) (before after : List Process) (r r2 : Objects) (p p2 : 
           ≡ replied (on_object w (object_at w p.pid port) packet_taken) p.pid s status.Ok (first_values (packets_at w p.pid port))
       packet_ends =
           rw (first_told, koid_same)
-          (port_ends before after r r2 p p2 lab write k without_front (drop 1) (λ x. refl) takes_one.objects takes_one.table s (packet_values packet) replies)
+          (port_ends before after r r2 p p2 consistent write k without_front (drop 1) (λ x. refl) takes_one.objects takes_one.table s
+              (packet_values packet) replies)
 
       packet_kept : IsConsistent after r2
       packet_kept =
-          port_kept before after r r2 p p2 lab write k without_front (drop 1) (λ x. refl) takes_one.objects takes_one.table s (packet_values packet) replies
+          port_kept before after r r2 p p2 consistent write k without_front (drop 1) (λ x. refl) takes_one.objects takes_one.table s
+              (packet_values packet) replies
 
   -- ---- port_poll
 
@@ -167,7 +171,7 @@ module _ (lib : Library) (before after : List Process) (r r2 : Objects) (p p2 : 
     poll_site = site (port_poll port) consumed destinations
 
     refused_poll : refusal lib w p.pid (port_poll port) ≡ answers (poll_refusal p.table.entries r.objects port)
-    refused_poll = poll_refused lib before r lab p.pid port ∙ rw (table_is before after p p2 write r) refl
+    refused_poll = poll_refused lib before r consistent p.pid port ∙ rw (table_is before after p p2 write r) refl
 
     poll_chosen : IsTrue (may_choose w (taken w p.pid poll_site) p.pid (port_poll port) [])
     unfolding may_choose new_handles remove_all taken_handles handle_operands
@@ -185,7 +189,7 @@ module _ (lib : Library) (before after : List Process) (r r2 : Objects) (p p2 : 
         → IsAnswered (told_by packet_values) (PortPollDoes port) poll_site p r o p2 r2 → IsDone lib before after r r2 p.pid call o
     unfolding taken_handles handle_operands remove_all gives_refused
     port_poll_done ready call next o acts =
-        answered_done lib before after r r2 p p2 lab write ready call poll_site next packet_values (TakesPacket p.table r port) false
+        answered_done lib before after r r2 p p2 consistent write ready call poll_site next packet_values (TakesPacket p.table r port) false
         (poll_refusal p.table.entries r.objects port)
         refused_poll refl refl (λ answer. refl) poll_called o acts.answer acts.acts acts.replied acts.ends
 
@@ -196,7 +200,7 @@ module _ (lib : Library) (before after : List Process) (r r2 : Objects) (p p2 : 
     wait_site = site (port_wait port) consumed destinations
 
     refused_wait : refusal lib w p.pid (port_wait port) ≡ answers (result_err (port_at p.table.entries port READ))
-    refused_wait = wait_refused lib before r lab p.pid port ∙ rw (table_is before after p p2 write r) refl
+    refused_wait = wait_refused lib before r consistent p.pid port ∙ rw (table_is before after p p2 write r) refl
 
     wait_chosen : IsTrue (may_choose w (taken w p.pid wait_site) p.pid (port_wait port) [])
     unfolding may_choose new_handles remove_all taken_handles handle_operands
@@ -217,7 +221,7 @@ module _ (lib : Library) (before after : List Process) (r r2 : Objects) (p p2 : 
         → IsAnswered (told_by packet_values) (PortWaitDoes port) wait_site p r o p2 r2 → IsDone lib before after r r2 p.pid call o
     unfolding taken_handles handle_operands remove_all gives_refused
     port_wait_done ready call next o acts =
-        answered_done lib before after r r2 p p2 lab write ready call wait_site next packet_values (TakesPacket p.table r port) false
+        answered_done lib before after r r2 p p2 consistent write ready call wait_site next packet_values (TakesPacket p.table r port) false
         (result_err (port_at p.table.entries port READ))
         refused_wait refl refl (λ answer. refl) wait_called o acts.answer acts.acts acts.replied acts.ends
 

@@ -14,12 +14,12 @@ use Rattle.zl_code.specs.Effects.{process_ended as process_over}
 use Rattle.zl_calls.specs.declared.process.Process.{Process}
 use Rattle.zl_calls.proofs.calls.Answered.{IsWrite}
 use Rattle.zl_calls.proofs.calls.DoneCalls.{IsDone}
-use Rattle.zl_calls.proofs.stepping.Labs.{call_settles}
+use Rattle.zl_calls.proofs.stepping.FromConsistent.{call_settles}
 use Rattle.zl_calls.proofs.processes.Departed.{settled_world}
 use Rattle.zl_calls.proofs.objects.Settled.{AreGone, IsSettled, drained, settled}
 use Rattle.zl_calls.proofs.processes.Stopped.{IsOver, named_stopped, over, seen_stopped, sound_stopped}
 
-module _ (lib : Library) (before after : List Process) (r r2 : Objects) (p p2 : Process) (lab : IsConsistent before r)
+module _ (lib : Library) (before after : List Process) (r r2 : Objects) (p p2 : Process) (consistent : IsConsistent before r)
     (write : IsWrite before after p p2) (code : ℤ)
     (ends : Ends code p r p2 r2) (ready : state_value p.state ≡ Ready) where
   abbrev w : World
@@ -34,7 +34,7 @@ module _ (lib : Library) (before after : List Process) (r r2 : Objects) (p p2 : 
   }
 
   old_table : IsTable p.table
-  old_table = lab.tables p.pid (process_value p) write.there
+  old_table = consistent.tables p.pid (process_value p) write.there
 
   ended_state : p2.state ≡ state.Ended code
   ended_state = ap (λ (q : Process). q.state) ends.process
@@ -49,24 +49,24 @@ module _ (lib : Library) (before after : List Process) (r r2 : Objects) (p p2 : 
 
   left : IsSettled after (stopping r p.pid) r2
   left =
-      let out : IsOver p.pid r ends.between = over p.pid r ends.between lab.kept ends.over in
+      let out : IsOver p.pid r ends.between = over p.pid r ends.between consistent.kept ends.over in
       let gone : AreGone p.table.entries ends.between r2 = drained p.table.entries ends.between r2 old_table.sorted ends.closes in
       let all : Releases gone.koids out.loose (stopping r p.pid) r2 =
       releases_then [] gone.koids out.loose (stopping r p.pid) ends.between r2 out.releases gone.releases in
       settled after p.table.entries (stopping r p.pid)
-      (sound_stopped before after p p2 write r lab p.table.entries no_table none_left none_named code ended_state)
+      (sound_stopped before after p p2 write r consistent p.table.entries no_table none_left none_named code ended_state)
       old_table.sorted
-      (λ v e at. named_stopped before after p p2 write r lab p.table.entries no_table none_left none_named e
-      (lab.named p.pid (process_value p) v e write.there at))
+      (λ v e at. named_stopped before after p p2 write r consistent p.table.entries no_table none_left none_named e
+      (consistent.named p.pid (process_value p) v e write.there at))
       gone.koids gone.counts r2 all.cascades (all.keeps [] out.kept) all.koids
 
   pub ends_keeps : IsConsistent after r2
-  ends_keeps = left.lab
+  ends_keeps = left.consistent
 
   pub settles : Settles (world_value after r) (settled_world after r2)
   settles =
       subst (λ (x : World). Settles x (settled_world after r2))
-      (seen_stopped before after p p2 write r lab p.table.entries no_table none_left none_named) left.settles
+      (seen_stopped before after p p2 write r consistent p.table.entries no_table none_left none_named) left.settles
 
   -- the world after the effect alone
   pub ended_is : world_value after r ≡ ended w p.pid code
@@ -101,5 +101,5 @@ module _ (lib : Library) (before after : List Process) (r r2 : Objects) (p p2 : 
     pub exit_done : (call : CallName) → next_for lib (process_value p) ≡ AtCall call s → IsDone lib before after r r2 p.pid call (outcome.Ended code)
     exit_done call next = record {
       step = call_settles lib before after r r r2 p call s (outcome.Ended code) write.there ready next exit_calls settles;
-      lab = ends_keeps;
+      consistent = ends_keeps;
     }

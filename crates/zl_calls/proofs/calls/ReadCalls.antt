@@ -64,7 +64,7 @@ queue_there os k = rw (get_seen os k) (by_object (get os k))
     by_object None = refl
     by_object (Some o) = queue_seen o.body
 
-module _ (lib : Library) (before : List Process) (r : Objects) (lab : IsConsistent before r) (p : ℕ) where
+module _ (lib : Library) (before : List Process) (r : Objects) (consistent : IsConsistent before r) (p : ℕ) where
   abbrev old_world : World
   old_world = world_value before r
 
@@ -106,7 +106,7 @@ module _ (lib : Library) (before : List Process) (r : Objects) (lab : IsConsiste
 
       passes : (e : Entry) → with_end room places None (queue_of_end e.koid) (has_peer e.koid) ≡ answers (why (front_by handles r.objects room places (Ok e)))
       passes e =
-          rw (queue_there r.objects e.koid, peer_there r lab.no_zero e.koid)
+          rw (queue_there r.objects e.koid, peer_there r consistent.no_zero e.koid)
           (by_queue room places e.koid (queue_in (get r.objects e.koid)) (is_some (peer_at r.objects e.koid)))
 
       by_tests : (e : Entry) (a b : Bool) → with_end room places
@@ -312,8 +312,9 @@ inserted_is u p (e ∷ es) (v ∷ vs) =
 
 -- ---- the step
 
--- a process of a lab, before and after its call
-module _ (lib : Library) (before after : List Process) (r r2 : Objects) (p p2 : Process) (lab : IsConsistent before r) (write : IsWrite before after p p2)
+-- a process of the world, before and after its call
+module _ (lib : Library) (before after : List Process) (r r2 : Objects) (p p2 : Process) (consistent : IsConsistent before r)
+    (write : IsWrite before after p p2)
     (c address room places : ℕ) (consumed destinations : List ℕ) where
   abbrev w : World
   w = world_value before r
@@ -325,7 +326,7 @@ module _ (lib : Library) (before after : List Process) (r r2 : Objects) (p p2 : 
   front_now = front_at p.table.entries r.objects c room places
 
   refused : refusal lib w p.pid (chan_read_etc c address room places) ≡ answers (why front_now)
-  refused = read_refused lib before r lab p.pid c address room places ∙ rw (table_is before after p p2 write r) refl
+  refused = read_refused lib before r consistent p.pid c address room places ∙ rw (table_is before after p p2 write r) refl
 
   -- ---- the message was read
 
@@ -428,13 +429,13 @@ module _ (lib : Library) (before after : List Process) (r r2 : Objects) (p p2 : 
 
     next : IsNext before after r (receiving r k)
     next = subst (IsNext before after r) (sym (same_receiving r k))
-        (requeued_next (drop 1) before after r lab k (λ o at. queue_named o.body (lab.queued k o at))
+        (requeued_next (drop 1) before after r consistent k (λ o at. queue_named o.body (consistent.queued k o at))
         (subst (λ (x : Objects). (j : ℕ) → handles_to (world_value after x) j ≡ handles_to w j) (same_receiving r k) read_counts))
 
     entered_named : (v : ℕ) (e : Entry) → get p2.table.entries v ≡ Some e → IsNamed r.objects e
     entered_named =
-        each_entered (IsNamed r.objects) p.table p2.table m.handles vs reads.inserts (λ v e at. lab.named p.pid (process_value p) v e write.there at)
-        (message_named r.objects k m first (IsNamed r.objects) (lab.queued k first.object first.at))
+        each_entered (IsNamed r.objects) p.table p2.table m.handles vs reads.inserts (λ v e at. consistent.named p.pid (process_value p) v e write.there at)
+        (message_named r.objects k m first (IsNamed r.objects) (consistent.queued k first.object first.at))
 
     fits : length p.table.entries + length m.handles ≤ 1024
     fits = rw (first.at, first.queue) at front.room
@@ -442,8 +443,8 @@ module _ (lib : Library) (before after : List Process) (r r2 : Objects) (p p2 : 
     read_called : IsCalled lib before after r r2 p.pid read_site (outcome.Answered status.Ok)
     read_called = record {
       calls = (Values vs, rw (refused, reads.is_front) (read_chosen, refl, read_ends));
-      keeps = rw reads.objects (keeps before after p p2 write r (receiving r k) lab state_same
-          (tables_entered p.table p2.table m.handles vs (lab.tables p.pid (process_value p) write.there) fits reads.inserts)
+      keeps = rw reads.objects (keeps before after p p2 write r (receiving r k) consistent state_same
+          (tables_entered p.table p2.table m.handles vs (consistent.tables p.pid (process_value p) write.there) fits reads.inserts)
           (λ v e at. next.named e (entered_named v e at)) next);
     }
 
@@ -461,7 +462,7 @@ module _ (lib : Library) (before after : List Process) (r r2 : Objects) (p p2 : 
         seen = ap process_value told ∙ rw table refl
 
     kept : p2.state ≡ p.state → IsConsistent after r2
-    kept same = subst (IsConsistent after) (sym objects) (refusal_keeps before after p p2 write r lab table same)
+    kept same = subst (IsConsistent after) (sym objects) (refusal_keeps before after p p2 write r consistent table same)
 
     abbrev Called : ReadFault → Type 0
     Called f =
@@ -515,5 +516,5 @@ module _ (lib : Library) (before after : List Process) (r r2 : Objects) (p p2 : 
 
   pub read_done : state_value p.state ≡ Ready → (call : CallName) → next_for lib (process_value p) ≡ AtCall call read_site → (o : Outcome)
       → IsAnswered (told_read address) (ChanReadDoes c room places) read_site p r o p2 r2 → IsDone lib before after r r2 p.pid call o
-  read_done ready call next o acts = called_done lib before after r r2 p p2 lab write ready call read_site next o
+  read_done ready call next o acts = called_done lib before after r r2 p p2 consistent write ready call read_site next o
       (subst (λ (x : Outcome). IsCalled lib before after r r2 p.pid read_site x) (sym acts.ends) (by_answer acts.answer acts.acts acts.replied))

@@ -46,7 +46,7 @@ packets_there os k = rw (get_seen os k) (by_object (get os k))
     by_object None = refl
     by_object (Some o) = by_body o.body
 
-module _ (before : List Process) (r : Objects) (lab : IsConsistent before r) (p : ℕ) where
+module _ (before : List Process) (r : Objects) (consistent : IsConsistent before r) (p : ℕ) where
   abbrev old_world : World
   old_world = world_value before r
 
@@ -127,8 +127,8 @@ module _ (f : Port → Port) where
       by_body (body.Port port) = refl
       by_body _ = refl
 
--- a process of a lab, before and after its call
-module _ (before after : List Process) (r r2 : Objects) (p p2 : Process) (lab : IsConsistent before r) (write : IsWrite before after p p2) where
+-- a process of the world, before and after its call
+module _ (before after : List Process) (r r2 : Objects) (p p2 : Process) (consistent : IsConsistent before r) (write : IsWrite before after p p2) where
   abbrev w : World
   w = world_value before r
 
@@ -175,8 +175,8 @@ module _ (before after : List Process) (r r2 : Objects) (p p2 : Process) (lab : 
         still_named r.objects (changing_port r k f).objects (named_rebodied (changed_port f) (port_keeps f) r.objects k) queue old
 
     port_next : IsNext before after r (changing_port r k f)
-    port_next = rebodied_next (changed_port f) (port_keeps f) before after r lab k (λ o at. port_queues o.body (lab.queued k o at)) port_counts
+    port_next = rebodied_next (changed_port f) (port_keeps f) before after r consistent k (λ o at. port_queues o.body (consistent.queued k o at)) port_counts
 
     -- the invariant
     pub port_kept : IsConsistent after r2
-    port_kept = rw objects (keeps_table before after p p2 write r (changing_port r k f) lab (ap (λ (q : Process). q.state) replies) table port_next)
+    port_kept = rw objects (keeps_table before after p p2 write r (changing_port r k f) consistent (ap (λ (q : Process). q.state) replies) table port_next)

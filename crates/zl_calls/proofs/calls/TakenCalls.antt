@@ -18,7 +18,7 @@ use Rattle.zl_calls.specs.calls.Answer.{DoesTaking, taken_from, without_handle, 
 use Rattle.zl_calls.proofs.calls.Answered.{IsWrite, replied_with}
 use Rattle.zl_calls.proofs.objects.Counting.{count_put, count_without}
 use Rattle.zl_calls.proofs.calls.DoneCalls.{IsDone, IsCalled, called_done}
-use Rattle.zl_calls.proofs.stepping.Labs.{call_settles}
+use Rattle.zl_calls.proofs.stepping.FromConsistent.{call_settles}
 use Rattle.zl_calls.proofs.calls.Refused.{TellsNothing, answers, refused_calls}
 use Rattle.zl_calls.proofs.objects.Settled.{IsSettled, settled}
 use Rattle.zl_calls.proofs.processes.Stopped.{sound_after}
@@ -215,9 +215,9 @@ module _ (before after : List Process) (p p2 : Process) (write : IsWrite before 
           ≡ record (process_without_all hs (process_value p)) { cpu = cpu_answered s answer values (process_without_all hs (process_value p)).cpu }
       is = ap process_value replies ∙ (rw (table, left) refl)
 
-  module _ (r : Objects) (lab : IsConsistent before r) (same_state : p2.state ≡ p.state) where
+  module _ (r : Objects) (consistent : IsConsistent before r) (same_state : p2.state ≡ p.state) where
     old_table : IsTable p.table
-    old_table = lab.tables p.pid (process_value p) write.there
+    old_table = consistent.tables p.pid (process_value p) write.there
 
     pub new_table : IsTable p2.table
     new_table = rw table (tables_left hs p.table old_table)
@@ -227,7 +227,7 @@ module _ (before after : List Process) (p p2 : Process) (write : IsWrite before 
     was_there v e at = left_there hs p.table v e (ap (λ (t : Handles). get t.entries v) (sym table) ∙ at)
 
     pub named_before : (v : ℕ) (e : Entry) → get p.table.entries v ≡ Some e → IsNamed r.objects e
-    named_before v e at = lab.named p.pid (process_value p) v e write.there at
+    named_before v e at = consistent.named p.pid (process_value p) v e write.there at
 
     pub fewer : (j : ℕ) → count_by (λ x. x.1.koid == j) p.table.entries
         ≡ count_by (λ x. x.1.koid == j) p2.table.entries + count_by (λ (x : ℕ × Entry). x.1.koid == j) (taken_map p.table hs)
@@ -237,14 +237,15 @@ module _ (before after : List Process) (p p2 : Process) (write : IsWrite before 
     pub closed : (r2 : Objects) → Releases (koids_of (taken_from p.table hs)) [] r r2 → IsSettled after r r2
     closed r2 releases =
         settled after (taken_map p.table hs) r
-        (sound_after before after p p2 write r lab (taken_map p.table hs) new_table fewer (λ v e at. named_before v e (was_there v e at)) same_state)
+        (sound_after before after p p2 write r consistent (taken_map p.table hs) new_table fewer (λ v e at. named_before v e (was_there v e at)) same_state)
         (sorted_taken hs p.table) (λ v e at. named_before v e (taken_there hs p.table v e at))
-        (koids_of (taken_from p.table hs)) (λ k. same_koids k hs p.table) r2 releases.cascades (releases.keeps [] lab.kept) releases.koids
+        (koids_of (taken_from p.table hs)) (λ k. same_koids k hs p.table) r2 releases.cascades (releases.keeps [] consistent.kept) releases.koids
 
 -- ---- the step
 
--- a ready process of a lab, at a call that takes the handles at hs and is either done or refused
-module _ (lib : Library) (before after : List Process) (r r2 : Objects) (p p2 : Process) (lab : IsConsistent before r) (write : IsWrite before after p p2)
+-- a ready process of the world, at a call that takes the handles at hs and is either done or refused
+module _ (lib : Library) (before after : List Process) (r r2 : Objects) (p p2 : Process) (consistent : IsConsistent before r)
+    (write : IsWrite before after p p2)
     (ready : state_value p.state ≡ Ready)
     (call : CallName) (s : Site) (next : next_for lib (process_value p) ≡ AtCall call s) (hs : List ℕ) (takes : taken_handles s.request ≡ hs) where
   abbrev w : World
@@ -258,11 +259,11 @@ module _ (lib : Library) (before after : List Process) (r r2 : Objects) (p p2 : 
     unfolding on_process
     refused_done answer does replies =
         let left : IsSettled after r r2 =
-        closed before after p p2 write hs does.closed.table r lab (ap (λ (q : Process). q.state) replies) r2 does.closed.objects in
+        closed before after p p2 write hs does.closed.table r consistent (ap (λ (q : Process). q.state) replies) r2 does.closed.objects in
         record {
           step = call_settles lib before after r r r2 p call s (outcome.Answered answer) write.there ready next
               (refused_calls lib w p.pid s wants o answer (world_value after r) nothing refused may_want does.err answered) left.settles;
-          lab = left.lab;
+          consistent = left.consistent;
         }
       where
         rest : (record (remove_all w p.pid hs) { processes = map process_entry after }) ≡ world_value after r
@@ -274,7 +275,8 @@ module _ (lib : Library) (before after : List Process) (r r2 : Objects) (p p2 : 
     by_answer : (answer : Result A Status) → DoesTaking Done wants o hs p.table r answer p2.table r2
         → Replies s (status_of answer) (values_of values answer) p p2
         → IsDone lib before after r r2 p.pid call (outcome.Answered (status_of answer))
-    by_answer (Ok x) does replies = called_done lib before after r r2 p p2 lab write ready call s next (outcome.Answered status.Ok) (done x does.ok replies)
+    by_answer (Ok x) does replies = called_done lib before after r r2 p p2 consistent write ready call s next (outcome.Answered status.Ok)
+        (done x does.ok replies)
     by_answer (Err answer) does replies = refused_done answer does replies
 
     pub taking_done : (ends : Outcome) (answer : Result A Status) → DoesTaking Done wants o hs p.table r answer p2.table r2

@@ -85,7 +85,7 @@ why (Ok seen) = None
 why (Err (fault.TimedOut seen)) = Some status.TimedOut
 why (Err (fault.Refused s)) = Some s
 
-module _ (lib : Library) (before : List Process) (r : Objects) (lab : IsConsistent before r) (p : ℕ) where
+module _ (lib : Library) (before : List Process) (r : Objects) (consistent : IsConsistent before r) (p : ℕ) where
   abbrev old_world : World
   old_world = world_value before r
 
@@ -145,7 +145,8 @@ module _ (lib : Library) (before : List Process) (r : Objects) (lab : IsConsiste
       by_seen : (x : Result Watched Status) → watched_at handles r.objects h mask ≡ x → behind met x ≡ answers (why (polled_by x))
       by_seen (Ok x) is =
           let found : IsWatched handles r.objects h mask x = watched_is handles r.objects h mask x is in
-          rw (found.koid_is, found.mask_is, ← signals_active before r lab (koid_in (get handles h)), found.active_is) (by_met x.active (meets x.active.0 mask))
+          rw (found.koid_is, found.mask_is, ← signals_active before r consistent (koid_in (get handles h)), found.active_is)
+              (by_met x.active (meets x.active.0 mask))
       by_seen (Err s) is = refl
 
 -- ---- what is told
@@ -199,8 +200,9 @@ module _ (entries : Map Entry) (objects : Map Object) (h mask : ℕ) where
 
 -- ---- the step
 
--- a process of a lab, before and after its call, which changes nothing but registers, or blocks
-module _ (lib : Library) (before after : List Process) (r r2 : Objects) (p p2 : Process) (lab : IsConsistent before r) (write : IsWrite before after p p2)
+-- a process of the world, before and after its call, which changes nothing but registers, or blocks
+module _ (lib : Library) (before after : List Process) (r r2 : Objects) (p p2 : Process) (consistent : IsConsistent before r)
+    (write : IsWrite before after p p2)
     (h mask : ℕ) (consumed destinations : List ℕ) where
   abbrev w : World
   w = world_value before r
@@ -211,7 +213,7 @@ module _ (lib : Library) (before after : List Process) (r r2 : Objects) (p p2 : 
   one_site = site (wait_one h mask) consumed destinations
 
   refused_one : refusal lib w p.pid (wait_one h mask) ≡ answers (result_err (watched_at p.table.entries r.objects h mask))
-  refused_one = one_refused lib before r lab p.pid h mask ∙ rw (table_is before after p p2 write r) refl
+  refused_one = one_refused lib before r consistent p.pid h mask ∙ rw (table_is before after p p2 write r) refl
 
   one_chosen : IsTrue (may_choose w (taken w p.pid one_site) p.pid (wait_one h mask) [])
   unfolding may_choose new_handles remove_all taken_handles handle_operands
@@ -224,7 +226,7 @@ module _ (lib : Library) (before after : List Process) (r r2 : Objects) (p p2 : 
     active_seen : active_at w p.pid h ≡ x.active.0
     active_seen =
         rw (table_is before after p p2 write r)
-        (sym (signals_active before r lab (koid_in (get p.table.entries h))) ∙ (watched_is p.table.entries r.objects h mask x seen).active_is)
+        (sym (signals_active before r consistent (koid_in (get p.table.entries h))) ∙ (watched_is p.table.entries r.objects h mask x seen).active_is)
 
     met_so : is_seen x ≡ is_active_at w p.pid h mask
     met_so = rw (active_seen, (watched_is p.table.entries r.objects h mask x seen).mask_is) refl
@@ -250,14 +252,14 @@ module _ (lib : Library) (before after : List Process) (r r2 : Objects) (p p2 : 
               ∙ ap (λ (y : ℕ). replied w p.pid one_site status.Ok (y ∷ [])) (sym active_seen),
         ),
       );
-      keeps = subst (IsConsistent after) (sym objects) (refusal_keeps before after p p2 write r lab table (ap (λ (q : Process). q.state) replies));
+      keeps = subst (IsConsistent after) (sym objects) (refusal_keeps before after p p2 write r consistent table (ap (λ (q : Process). q.state) replies));
     }
 
   pub one_done : state_value p.state ≡ Ready → (call : CallName) → next_for lib (process_value p) ≡ AtCall call one_site → (o : Outcome)
       → IsAnswered (told_by watched_values) (WaitOneDoes h mask) one_site p r o p2 r2 → IsDone lib before after r r2 p.pid call o
   unfolding taken_handles handle_operands remove_all gives_refused
   one_done ready call next o acts =
-      answered_done lib before after r r2 p p2 lab write ready call one_site next watched_values (SeesActive p.table r h mask) false
+      answered_done lib before after r r2 p p2 consistent write ready call one_site next watched_values (SeesActive p.table r h mask) false
       (result_err (watched_at p.table.entries r.objects h mask))
       refused_one refl refl (λ answer. refl) (λ x sees replies. one_called x sees.seen sees.active sees.table sees.objects replies) o acts.answer acts.acts
       acts.replied acts.ends
@@ -271,12 +273,12 @@ module _ (lib : Library) (before after : List Process) (r r2 : Objects) (p p2 : 
   polled = polled_at p.table.entries r.objects h mask
 
   refused_now : refusal lib w p.pid (wait_poll h mask) ≡ answers (why polled)
-  refused_now = poll_refused lib before r lab p.pid h mask ∙ rw (table_is before after p p2 write r) refl
+  refused_now = poll_refused lib before r consistent p.pid h mask ∙ rw (table_is before after p p2 write r) refl
 
   active_now : (seen : Signals) → told polled ≡ Some seen → active_at w p.pid h ≡ seen.0
   active_now seen is =
       rw (table_is before after p p2 write r)
-      (sym (signals_active before r lab (koid_in (get p.table.entries h))) ∙ told_seen p.table.entries r.objects h mask seen is)
+      (sym (signals_active before r consistent (koid_in (get p.table.entries h))) ∙ told_seen p.table.entries r.objects h mask seen is)
 
   nothing_told : (s : Status) → polled ≡ Err (fault.Refused s) → gives_refused w p.pid (wait_poll h mask) s ≡ []
   unfolding gives_refused
@@ -289,7 +291,7 @@ module _ (lib : Library) (before after : List Process) (r r2 : Objects) (p p2 : 
 
   module _ (table : p2.table ≡ p.table) (objects : r2 ≡ r) where
     keeps : p2.state ≡ p.state → IsConsistent after r2
-    keeps same = subst (IsConsistent after) (sym objects) (refusal_keeps before after p p2 write r lab table same)
+    keeps same = subst (IsConsistent after) (sym objects) (refusal_keeps before after p p2 write r consistent table same)
 
     by_polled : (answer : Result Signals PollFault) → polled ≡ answer → IsTold poll_site (told_polled answer) p p2
         → IsCalled lib before after r r2 p.pid poll_site (outcome.Answered (polled_status answer))
@@ -331,6 +333,6 @@ module _ (lib : Library) (before after : List Process) (r r2 : Objects) (p p2 : 
 
   pub poll_done : state_value p.state ≡ Ready → (call : CallName) → next_for lib (process_value p) ≡ AtCall call poll_site → (o : Outcome)
       → IsAnswered told_polled (WaitPollDoes h mask) poll_site p r o p2 r2 → IsDone lib before after r r2 p.pid call o
-  poll_done ready call next o acts = called_done lib before after r r2 p p2 lab write ready call poll_site next o
+  poll_done ready call next o acts = called_done lib before after r r2 p p2 consistent write ready call poll_site next o
       (subst (λ (x : Outcome). IsCalled lib before after r r2 p.pid poll_site x) (sym acts.ends)
       (by_polled acts.acts.table acts.acts.objects acts.answer (sym acts.acts.answered) acts.replied))

@@ -154,7 +154,7 @@ module _ (r : Objects) (no_zero : (k : ℕ) → IsTrue (has_key r.objects k) →
       by_object None read = absurd (none-some n read)
       by_object (Some o) read = by_body o.body read
 
-module _ (lib : Library) (before : List Process) (r : Objects) (lab : IsConsistent before r) (p : ℕ) where
+module _ (lib : Library) (before : List Process) (r : Objects) (consistent : IsConsistent before r) (p : ℕ) where
   abbrev old_world : World
   old_world = world_value before r
 
@@ -180,7 +180,7 @@ module _ (lib : Library) (before : List Process) (r : Objects) (lab : IsConsiste
       passes : (e : Entry)
           → with_end c bytes hs None (has_key old_world.objects (peer_seen (body_of old_world e.koid))) ≡ answers (refusal_with c bytes hs (Ok e))
       passes e = rw (
-        peer_there r lab.no_zero e.koid,
+        peer_there r consistent.no_zero e.koid,
         list_refused old_world p [] [] hs (λ v. refl),
         if_answered (contains hs c) status.NotSupported,
         if_answered (is_too_large bytes hs) status.OutOfRange,
@@ -329,8 +329,9 @@ count_koids j (e ∷ es) =
 
 -- ---- the step
 
--- a process of a lab, before and after its call
-module _ (lib : Library) (before after : List Process) (r r2 : Objects) (p p2 : Process) (lab : IsConsistent before r) (write : IsWrite before after p p2)
+-- a process of the world, before and after its call
+module _ (lib : Library) (before after : List Process) (r r2 : Objects) (p p2 : Process) (consistent : IsConsistent before r)
+    (write : IsWrite before after p p2)
     (c : ℕ) (bytes hs consumed destinations : List ℕ) where
   abbrev w : World
   w = world_value before r
@@ -342,7 +343,7 @@ module _ (lib : Library) (before after : List Process) (r r2 : Objects) (p p2 : 
   refused_by = write_refusal p.table.entries r.objects c (length bytes) hs
 
   refused : refusal lib w p.pid (chan_write c bytes hs) ≡ answers refused_by
-  refused = write_refused lib before r lab p.pid c bytes hs ∙ rw (table_is before after p p2 write r) refl
+  refused = write_refused lib before r consistent p.pid c bytes hs ∙ rw (table_is before after p p2 write r) refl
 
   module _ (writes : WritesMessage p.table r c bytes hs p2.table r2) (replies : Replies write_site status.Ok [] p p2) where
     abbrev message : Message
@@ -356,7 +357,7 @@ module _ (lib : Library) (before after : List Process) (r r2 : Objects) (p p2 : 
     peer_same : peer_named w p.pid c ≡ writes.peer
     peer_same =
         rw (table_is before after p p2 write r, is_found (get p.table.entries c) (kind.Channel ∷ []) WRITE writes.end writes.is_end)
-        (peer_is r lab.no_zero writes.end.koid writes.peer writes.is_peer)
+        (peer_is r consistent.no_zero writes.end.koid writes.peer writes.is_peer)
 
     handles_same : entries_at w p.pid hs ≡ taken_from p.table hs
     handles_same =
@@ -397,7 +398,7 @@ module _ (lib : Library) (before after : List Process) (r r2 : Objects) (p p2 : 
         counts_moved before after p p2 write r (sending r writes.peer message) j (count_by (λ (x : ℕ × Entry). x.1.koid == j) (taken_map p.table hs))
         (queues_sent message r.objects writes.peer j writes.there
         ∙ ap (λ n. queues r.objects j + n) (count_koids j (taken_from p.table hs) ∙ same_koids j hs p.table))
-        (fewer before after p p2 write hs writes.table r lab state_same j)
+        (fewer before after p p2 write hs writes.table r consistent state_same j)
 
     abbrev changed : Objects
     changed = record r { objects = update r.objects writes.peer (requeued (sent_last message)) }
@@ -409,23 +410,24 @@ module _ (lib : Library) (before after : List Process) (r r2 : Objects) (p p2 : 
     queue_named (body.ChannelEnd peer queue) old =
         All-append (λ (x : Message). All (IsNamed changed.objects) x.handles) queue (message ∷ []) (still_named r.objects changed.objects named_now queue old)
         (All-cons (λ (x : Message). All (IsNamed changed.objects) x.handles) message []
-        (all_taken (IsNamed changed.objects) hs p.table (λ v e at. named_now e (named_before before after p p2 write hs writes.table r lab state_same v e at)))
+        (all_taken (IsNamed changed.objects) hs p.table (λ v e at. named_now e
+            (named_before before after p p2 write hs writes.table r consistent state_same v e at)))
         (All-nil (λ (x : Message). All (IsNamed changed.objects) x.handles)))
     queue_named _ old = All-nil (λ (x : Message). All (IsNamed changed.objects) x.handles)
 
     next : IsNext before after r (sending r writes.peer message)
     next = subst (IsNext before after r) (sym (same_sending message r writes.peer))
-        (requeued_next (sent_last message) before after r lab writes.peer (λ o at. queue_named o.body (lab.queued writes.peer o at))
+        (requeued_next (sent_last message) before after r consistent writes.peer (λ o at. queue_named o.body (consistent.queued writes.peer o at))
         (subst (λ (x : Objects). (j : ℕ) → handles_to (world_value after x) j ≡ handles_to w j) (same_sending message r writes.peer) write_counts))
 
     write_called : IsCalled lib before after r r2 p.pid write_site (outcome.Answered status.Ok)
     unfolding gives_ok
     write_called = record {
       calls = (Values [], rw (refused, writes.unrefused) (write_chosen, refl, write_ends));
-      keeps = rw writes.objects (keeps before after p p2 write r (sending r writes.peer message) lab state_same
-          (new_table before after p p2 write hs writes.table r lab state_same)
-          (λ v e at. next.named e (named_before before after p p2 write hs writes.table r lab state_same v e
-          (was_there before after p p2 write hs writes.table r lab state_same v e at)))
+      keeps = rw writes.objects (keeps before after p p2 write r (sending r writes.peer message) consistent state_same
+          (new_table before after p p2 write hs writes.table r consistent state_same)
+          (λ v e at. next.named e (named_before before after p p2 write hs writes.table r consistent state_same v e
+          (was_there before after p p2 write hs writes.table r consistent state_same v e at)))
           next);
     }
 
@@ -433,6 +435,6 @@ module _ (lib : Library) (before after : List Process) (r r2 : Objects) (p p2 : 
       → IsAnswered (told_by no_value) (ChanWriteDoes c bytes hs) write_site p r o p2 r2 → IsDone lib before after r r2 p.pid call o
   unfolding gives_refused
   write_done ready call next o acts =
-      taking_done lib before after r r2 p p2 lab write ready call write_site next hs (takes_listed c bytes hs) no_value
+      taking_done lib before after r r2 p p2 consistent write ready call write_site next hs (takes_listed c bytes hs) no_value
       (λ _. WritesMessage p.table r c bytes hs) true refused_by
       refused refl (λ answer. refl) (λ _. write_called) o acts.answer acts.acts acts.replied acts.ends

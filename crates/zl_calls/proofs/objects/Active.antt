@@ -1,4 +1,4 @@
--- What is active at an object of a lab: the objects tell it, without the processes.
+-- What is active at an object: the objects tell it, without the processes.
 use Rattle.zl_calls.proofs.Common.{◌≡◌, ◌<◌, ℕ, List, Some, IsTrue, nat_cmp, is_sorted, Map, get, has_key, Objects, Agrees, world_value, IsConsistent, World}
 use Rattle.zl_rights.specs.Signals.{active}
 use Rattle.zl_objects.specs.declared.object.Body.{Body}
@@ -21,10 +21,10 @@ pub shown_all : (w : World) (m : Map Object) → IsTrue (is_sorted nat_cmp m) �
     → ((k : ℕ) (o : Object) → get m k ≡ Some o → Agrees w k o.body) → ShowStates w m
 shown_all w m in_order no_zero agrees = record { in_order = in_order; no_zero = no_zero; shown = λ j o at. shown w j o.body (agrees j o at) }
 
--- those of a lab do
+-- those of a consistent world do
 pub states_shown : (ps : List Process) (r : Objects) → IsConsistent ps r → ShowStates (world_value ps r) r.objects
-states_shown ps r lab = shown_all (world_value ps r) r.objects lab.kept.in_order lab.no_zero lab.agrees
+states_shown ps r consistent = shown_all (world_value ps r) r.objects consistent.kept.in_order consistent.no_zero consistent.agrees
 
 -- the signals of the object k, by the objects alone, are those that are active there
 pub signals_active : (ps : List Process) (r : Objects) → IsConsistent ps r → (k : ℕ) → signals_at r.objects k ≡ active (world_value ps r) k
-signals_active ps r lab k = are_active r.objects k (world_value ps r) (states_shown ps r lab)
+signals_active ps r consistent k = are_active r.objects k (world_value ps r) (states_shown ps r consistent)

@@ -53,7 +53,7 @@ pub record IsGrowing (ps : List Process) (m : Map Entry) (r : Objects) : Type 0 
   pub kept : AreKeptBut [] r.objects
 
 pub growing_none : (ps : List Process) (r : Objects) → IsConsistent ps r → IsGrowing ps [] r
-growing_none ps r lab = record { sound = sound_of ps r lab; kept = lab.kept }
+growing_none ps r consistent = record { sound = sound_of ps r consistent; kept = consistent.kept }
 
 module _ (ps : List Process) (m : Map Entry) (r : Objects) (sound : IsSound ps m r) where
   given_key : (k : ℕ) (o : Object) → get r.objects k ≡ Some o → k < r.next_koid

@@ -57,14 +57,14 @@ module _ (h : List Message → List Message) where
   named_too = named_rebodied (requeued_body h) queue_keeps
 
   -- where the handles in the queue are named, and the counts stay
-  module _ (before after : List Process) (r : Objects) (lab : IsConsistent before r) (k : ℕ) where
+  module _ (before after : List Process) (r : Objects) (consistent : IsConsistent before r) (k : ℕ) where
     abbrev changed : Objects
     changed = record r { objects = update r.objects k (requeued h) }
 
     pub requeued_next : ((o : Object) → get r.objects k ≡ Some o → AreNamed changed.objects (queue_of (requeued_body h o.body)))
         → ((j : ℕ) → handles_to (world_value after changed) j ≡ handles_to (world_value before r) j)
         → IsNext before after r changed
-    requeued_next = rebodied_next (requeued_body h) queue_keeps before after r lab k
+    requeued_next = rebodied_next (requeued_body h) queue_keeps before after r consistent k
 
 -- ---- counts
 

@@ -81,7 +81,7 @@ module _ (g : Body → Body) (same : KeepsKind g) where
 
   -- ---- the invariant
 
-  module _ (before after : List Process) (r : Objects) (lab : IsConsistent before r) (k : ℕ) where
+  module _ (before after : List Process) (r : Objects) (consistent : IsConsistent before r) (k : ℕ) where
     abbrev changed : Objects
     changed = record r { objects = update r.objects k (rebodied g) }
 
@@ -91,29 +91,29 @@ module _ (g : Body → Body) (same : KeepsKind g) where
         → IsNext before after r changed
     rebodied_next queue counts = record {
       next_koid = omega arith;
-      given_objects = λ j there. lab.given_objects j (sym (has_key-update r.objects k (rebodied g) j) ∙ there);
-      koids = lab.koids;
-      no_zero = λ j there. lab.no_zero j (sym (has_key-update r.objects k (rebodied g) j) ∙ there);
+      given_objects = λ j there. consistent.given_objects j (sym (has_key-update r.objects k (rebodied g) j) ∙ there);
+      koids = consistent.koids;
+      no_zero = λ j there. consistent.no_zero j (sym (has_key-update r.objects k (rebodied g) j) ∙ there);
       named = named_rebodied r.objects k;
       queued = λ j q at. found_updated (rebodied g) r.objects k (AreNamed changed.objects (queue_of q.body)) j q at
           (λ o old here is. subst (λ (x : Object). AreNamed changed.objects (queue_of x.body)) is
           (queue o (subst (λ (i : ℕ). get r.objects i ≡ Some o) (sym (eqb-true k j here)) old)))
-          (λ apart old. still_named r.objects changed.objects (named_rebodied r.objects k) (queue_of q.body) (lab.queued j q old));
+          (λ apart old. still_named r.objects changed.objects (named_rebodied r.objects k) (queue_of q.body) (consistent.queued j q old));
       counted = λ j q at. found_updated (rebodied g) r.objects k (q.handles ≡ handles_to (world_value after changed) j) j q at
-          (λ o old here is. ap (λ (x : Object). x.handles) (sym is) ∙ (lab.counted j o old ∙ sym (counts j)))
-          (λ apart old. lab.counted j q old ∙ sym (counts j));
+          (λ o old here is. ap (λ (x : Object). x.handles) (sym is) ∙ (consistent.counted j o old ∙ sym (counts j)))
+          (λ apart old. consistent.counted j q old ∙ sym (counts j));
       agrees = λ j q at. found_updated (rebodied g) r.objects k (Agrees (world_value before r) j q.body) j q at
           (λ o old here is.
-          subst (λ (x : Object). Agrees (world_value before r) j x.body) is (same.agrees (world_value before r) j o.body (lab.agrees j o old)))
-          (λ apart old. lab.agrees j q old);
+          subst (λ (x : Object). Agrees (world_value before r) j x.body) is (same.agrees (world_value before r) j o.body (consistent.agrees j o old)))
+          (λ apart old. consistent.agrees j q old);
       in_jobs = λ j q at. found_updated (rebodied g) r.objects k (IsTrue (is_in_job changed.objects q.body)) j q at
           (λ o old here is. subst (λ (x : Object). IsTrue (is_in_job changed.objects x.body)) is
-          (rw (same.in_job changed.objects o.body, in_job_too r.objects k o.body) (lab.in_jobs j o old)))
-          (λ apart old. rw (in_job_too r.objects k q.body) (lab.in_jobs j q old));
+          (rw (same.in_job changed.objects o.body, in_job_too r.objects k o.body) (consistent.in_jobs j o old)))
+          (λ apart old. rw (in_job_too r.objects k q.body) (consistent.in_jobs j q old));
       kept =
-          kept_each changed.objects (rw (is_sorted-update r.objects k (rebodied g)) lab.kept.in_order)
+          kept_each changed.objects (rw (is_sorted-update r.objects k (rebodied g)) consistent.kept.in_order)
           (λ j q at. found_updated (rebodied g) r.objects k (IsTrue (is_kept changed.objects j q)) j q at
           (λ o old here is. subst (λ (x : Object). IsTrue (is_kept changed.objects j x)) is
-          (rw (same.alone changed.objects j o.body, alone_too r.objects k j o.body) (kept_all r.objects lab.kept j o old)))
-          (λ apart old. rw (alone_too r.objects k j q.body) (kept_all r.objects lab.kept j q old)));
+          (rw (same.alone changed.objects j o.body, alone_too r.objects k j o.body) (kept_all r.objects consistent.kept j o old)))
+          (λ apart old. rw (alone_too r.objects k j q.body) (kept_all r.objects consistent.kept j q old)));
     }

@@ -30,7 +30,7 @@ module _ (ps : List Process) (r r2 : Objects) (beside : AreBeside r r2) where
   pub beside_world : world_value ps r2 ≡ world_value ps r
   beside_world = λ i. record (world_value ps r) { objects = beside_seen i; next_koid = beside.koids i }
 
-  module _ (lab : IsConsistent ps r) where
+  module _ (consistent : IsConsistent ps r) where
     was : (k : ℕ) (o : Object) → get r2.objects k ≡ Some o → IsAlike r.objects k o
     was = alike r.objects r2.objects beside.objects
 
@@ -53,31 +53,31 @@ module _ (ps : List Process) (r r2 : Objects) (beside : AreBeside r r2) where
           rights = names.rights;
         }
 
-    pub beside_lab : IsConsistent ps r2
-    beside_lab = record {
-      processes_in_order = lab.processes_in_order;
-      given_processes = λ k there. rw beside.koids (lab.given_processes k there);
-      given_objects = λ k there. rw beside.koids (lab.given_objects k (sym (has_same r.objects r2.objects beside.objects k) ∙ there));
-      koids = rw beside.koids lab.koids;
-      above_zero = rw beside.koids lab.above_zero;
-      no_zero = λ k there. lab.no_zero k (sym (has_same r.objects r2.objects beside.objects k) ∙ there);
-      tables = lab.tables;
-      named = λ k p v e at there. named e (lab.named k p v e at there);
+    pub beside_consistent : IsConsistent ps r2
+    beside_consistent = record {
+      processes_in_order = consistent.processes_in_order;
+      given_processes = λ k there. rw beside.koids (consistent.given_processes k there);
+      given_objects = λ k there. rw beside.koids (consistent.given_objects k (sym (has_same r.objects r2.objects beside.objects k) ∙ there));
+      koids = rw beside.koids consistent.koids;
+      above_zero = rw beside.koids consistent.above_zero;
+      no_zero = λ k there. consistent.no_zero k (sym (has_same r.objects r2.objects beside.objects k) ∙ there);
+      tables = consistent.tables;
+      named = λ k p v e at there. named e (consistent.named k p v e at there);
       queued = λ k o at.
           let old : IsAlike r.objects k o = was k o at in
           subst (AreNamed r2.objects) (sym (of_body queue_of (λ packets reserved. refl) o.body old.before.body old.body))
-          (still_named r.objects r2.objects named (queue_of old.before.body) (lab.queued k old.before old.there));
+          (still_named r.objects r2.objects named (queue_of old.before.body) (consistent.queued k old.before old.there));
       counted = λ k o at.
           let old : IsAlike r.objects k o = was k o at in
-          old.handles ∙ (lab.counted k old.before old.there ∙ ap (λ (w : World). handles_to w k) (sym beside_world));
+          old.handles ∙ (consistent.counted k old.before old.there ∙ ap (λ (w : World). handles_to w k) (sym beside_world));
       agrees = λ k o at.
           let old : IsAlike r.objects k o = was k o at in
           subst (λ (w : World). Agrees w k o.body) (sym beside_world)
-          (agrees_same (world_value ps r) k o.body old.before.body old.body (lab.agrees k old.before old.there));
+          (agrees_same (world_value ps r) k o.body old.before.body old.body (consistent.agrees k old.before old.there));
       in_jobs = λ k o at.
           let old : IsAlike r.objects k o = was k o at in
-          in_job_same r.objects r2.objects beside.objects o.body old.before.body old.body ∙ lab.in_jobs k old.before old.there;
-      kept = still_kept r.objects r2.objects beside.objects [] lab.kept;
+          in_job_same r.objects r2.objects beside.objects o.body old.before.body old.body ∙ consistent.in_jobs k old.before old.there;
+      kept = still_kept r.objects r2.objects beside.objects [] consistent.kept;
     }
 
 pub beside_same : (r : Objects) → AreBeside r r

@@ -24,7 +24,7 @@ use Rattle.zl_calls.proofs.objects.SameBodies.{still_agrees}
 
 -- the world with these objects meets the invariant, and settling leaves it, but for processes that go with their objects
 pub record IsSettled (ps : List Process) (r r2 : Objects) : Type 0 where
-  pub lab : IsConsistent ps r2
+  pub consistent : IsConsistent ps r2
   pub settles : Settles (world_value ps r) (settled_world ps r2)
 
 any_place : {X : Type 0} (test : X → Bool) (xs : List X) (n : ℕ) (d : X) → n < length xs → IsTrue (test (slice_index_or xs n d)) → IsTrue (list_any test xs)
@@ -134,7 +134,7 @@ module _ (ps : List Process) (m : Map Entry) (r : Objects) (sound : IsSound ps m
     pub settled : IsSettled ps r r2
     unfolding is_process
     settled = record {
-      lab = record {
+      consistent = record {
         processes_in_order = sound.processes_in_order;
         given_processes = λ k there. rw koids (sound.given_processes k there);
         given_objects = λ k there. rw koids (sound.given_objects k (was_there k there));
@@ -155,27 +155,27 @@ module _ (ps : List Process) (m : Map Entry) (r : Objects) (sound : IsSound ps m
 -- ---- no handle goes
 
 pub sound_of : (ps : List Process) (r : Objects) → IsConsistent ps r → IsSound ps [] r
-sound_of ps r lab = record {
-  processes_in_order = lab.processes_in_order;
-  objects_in_order = lab.kept.in_order;
-  given_processes = lab.given_processes;
-  given_objects = lab.given_objects;
-  koids = lab.koids;
-  above_zero = lab.above_zero;
-  no_zero = lab.no_zero;
-  tables = lab.tables;
-  named = lab.named;
-  queued = lab.queued;
-  counted = λ k o at. omega (arith, lab.counted k o at);
-  agrees = lab.agrees;
-  in_jobs = lab.in_jobs;
+sound_of ps r consistent = record {
+  processes_in_order = consistent.processes_in_order;
+  objects_in_order = consistent.kept.in_order;
+  given_processes = consistent.given_processes;
+  given_objects = consistent.given_objects;
+  koids = consistent.koids;
+  above_zero = consistent.above_zero;
+  no_zero = consistent.no_zero;
+  tables = consistent.tables;
+  named = consistent.named;
+  queued = consistent.queued;
+  counted = λ k o at. omega (arith, consistent.counted k o at);
+  agrees = consistent.agrees;
+  in_jobs = consistent.in_jobs;
 }
 
 -- where all is held, settling leaves the objects
 pub still_settles : (ps : List Process) (r : Objects) → IsConsistent ps r → Settles (world_value ps r) (settled_world ps r)
 unfolding get
-still_settles ps r lab =
-    (settled ps [] r (sound_of ps r lab) refl (λ v e at. absurd (none-some e at)) [] (λ k. refl) r (none_left r.objects) lab.kept refl).settles
+still_settles ps r consistent =
+    (settled ps [] r (sound_of ps r consistent) refl (λ v e at. absurd (none-some e at)) [] (λ k. refl) r (none_left r.objects) consistent.kept refl).settles
 
 -- ---- the handles of a table go
 

@@ -19,7 +19,7 @@ use Rattle.zl_calls.specs.Policed.{operands_fault, verdict_on}
 use Rattle.zl_calls.specs.declared.process.State.{State}
 use Rattle.zl_calls.specs.declared.process.State.TheVariants as state
 use Rattle.zl_calls.specs.declared.process.Process.{Process}
-use Rattle.zl_calls.proofs.stepping.Labs.{IsFree}
+use Rattle.zl_calls.proofs.stepping.FromConsistent.{IsFree}
 use Rattle.zl_calls.proofs.policy.Plain.{bare}
 use Rattle.zl_calls.proofs.policy.Policies.{IsSeen, answers, by_verdict, decides, ending, examined_fault, plain_refusal, policy_making, unpoliced}
 use Rattle.zl_calls.proofs.policy.Policies.{verdict_allowed}
@@ -66,7 +66,7 @@ ready_lives (state.AwaitsSignal koid mask to) h = absurd (false≢true h)
 ready_lives (state.AwaitsPacket port to) h = absurd (false≢true h)
 ready_lives (state.Ended code) h = absurd (false≢true h)
 
-module _ (lib : Library) (ps : List Process) (r : Objects) (lab : IsConsistent ps r) (blocked : List ℕ)
+module _ (lib : Library) (ps : List Process) (r : Objects) (consistent : IsConsistent ps r) (blocked : List ℕ)
     (sound : IsSoundWorld (world_blocked ps r blocked)) (p : Process)
     (there : get (map process_entry ps) p.pid ≡ Some (process_value p)) (ready : is_ready (state_value p.state) ≡ true) where
   -- its object is no job
@@ -80,7 +80,7 @@ module _ (lib : Library) (ps : List Process) (r : Objects) (lab : IsConsistent p
     where
       by_object : (o : Option Object) → get r.objects 0 ≡ o → o ≡ None
       by_object None is = refl
-      by_object (Some o) is = absurd (omega (arith, lab.no_zero 0 (rw is refl)))
+      by_object (Some o) is = absurd (omega (arith, consistent.no_zero 0 (rw is refl)))
 
   pub is_seen : (w : World) → w.processes ≡ map process_entry ps → w.objects ≡ map object_entry r.objects → IsSeen w p.pid p.table.entries r.objects
   is_seen w processes objects = record {

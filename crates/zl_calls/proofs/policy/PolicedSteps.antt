@@ -9,7 +9,7 @@ use Rattle.zl_code.specs.declared.history.TraceItem.TheVariants as item
 use Rattle.zl_code.proofs.Waiters.{is_blocking}
 use Rattle.zl_calls.specs.Policed.{EndsBy, Policed}
 use Rattle.zl_calls.specs.Reaching.{IsAlone}
-use Rattle.zl_calls.specs.calls.Task.{Lab, lab}
+use Rattle.zl_calls.specs.calls.Task.{Parts, parts}
 use Rattle.zl_calls.specs.declared.policy.Verdict.{Verdict}
 use Rattle.zl_calls.specs.declared.policy.Verdict.TheVariants as verdict
 use Rattle.zl_calls.specs.declared.process.Process.{Process}
@@ -47,7 +47,7 @@ module _ (lib : Library) (ps : List Process) (r : Objects) (whole : IsConsistent
       let writes : IsWrite ps (set ps place p2) p p2 = write p2 (same_pid s p p2 r r2 o judged) in
       let goes : is_blocking o ≡ false = policed_goes lib ps (set ps place p2) r r2 p p2 whole writes ready s o judged in
       rw (← same) (record {
-        lab = left_keeps (set ps place p2) r2 (policed_keeps lib ps (set ps place p2) r r2 p p2 whole writes ready s o judged);
+        consistent = left_keeps (set ps place p2) r2 (policed_keeps lib ps (set ps place p2) r r2 p p2 whole writes ready s o judged);
         list = rw (same_list p.pid (item.Call p.pid name o) blocked goes)
             (left_blocked (set ps place p2) r2 blocked (still_blocked ps (set ps place p2) p p2 writes (ap is_blocked ready)
             (policed_unblocked lib ps (set ps place p2) r r2 p p2 whole writes ready s o judged) blocked are));
@@ -59,9 +59,9 @@ module _ (lib : Library) (ps : List Process) (r : Objects) (whole : IsConsistent
       })
 
   -- a policy ends it
-  pub policed_so : (o : Outcome) (p2 : Process) (l2 : Lab) → IsAlone (lab ps r blocked) place p2 l2 → Policed s p r o p2 l2.objects
-      → HasLeft lib ps l2.processes r l2.objects blocked l2.blocked pid (item.Call pid name o)
-  policed_so o p2 l2 alone judged =
-      subst (λ (b : List ℕ). HasLeft lib ps l2.processes r l2.objects blocked b pid (item.Call pid name o)) (sym alone.blocked)
-      (subst (λ (qs : List Process). HasLeft lib ps qs r l2.objects blocked blocked pid (item.Call pid name o)) (sym alone.processes)
-      (ended_by o p2 l2.objects judged))
+  pub policed_so : (o : Outcome) (p2 : Process) (all2 : Parts) → IsAlone (parts ps r blocked) place p2 all2 → Policed s p r o p2 all2.objects
+      → HasLeft lib ps all2.processes r all2.objects blocked all2.blocked pid (item.Call pid name o)
+  policed_so o p2 all2 alone judged =
+      subst (λ (b : List ℕ). HasLeft lib ps all2.processes r all2.objects blocked b pid (item.Call pid name o)) (sym alone.blocked)
+      (subst (λ (qs : List Process). HasLeft lib ps qs r all2.objects blocked blocked pid (item.Call pid name o)) (sym alone.processes)
+      (ended_by o p2 all2.objects judged))

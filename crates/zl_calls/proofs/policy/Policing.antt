@@ -32,7 +32,8 @@ use Rattle.zl_calls.proofs.processes.Written.{refusal_keeps}
 
 -- ---- the step
 
-module _ (lib : Library) (before after : List Process) (r r2 : Objects) (p p2 : Process) (lab : IsConsistent before r) (write : IsWrite before after p p2)
+module _ (lib : Library) (before after : List Process) (r r2 : Objects) (p p2 : Process) (consistent : IsConsistent before r)
+    (write : IsWrite before after p p2)
     (ready : state_value p.state ≡ Ready) (s : Site) (o : Outcome) where
   abbrev Judged : Verdict → Type 0
   Judged v = verdict_on p.table.entries r.objects p.pid s.request ≡ Some v
@@ -43,8 +44,8 @@ module _ (lib : Library) (before after : List Process) (r r2 : Objects) (p p2 : 
   -- what it leaves of the process and the objects
   keeps_by : (v : Verdict) → EndsBy v s p r o p2 r2 → IsConsistent after r2
   keeps_by verdict.Denied ends =
-      subst (IsConsistent after) (sym ends.objects) (refusal_keeps before after p p2 write r lab ends.table (ap (λ (q : Process). q.state) ends.replied))
-  keeps_by verdict.Killed ends = ends_keeps lib before after r r2 p p2 lab write BY_POLICY ends.over ready
+      subst (IsConsistent after) (sym ends.objects) (refusal_keeps before after p p2 write r consistent ends.table (ap (λ (q : Process). q.state) ends.replied))
+  keeps_by verdict.Killed ends = ends_keeps lib before after r r2 p p2 consistent write BY_POLICY ends.over ready
 
   pub policed_keeps : Policed s p r o p2 r2 → IsConsistent after r2
   policed_keeps policed = keeps_by policed.verdict policed.ends
@@ -76,7 +77,8 @@ module _ (lib : Library) (before after : List Process) (r r2 : Objects) (p p2 : 
 
     refused : (v : Verdict) → Judged v → policed_refusal lib W p.pid s.request ≡ Some (ending v)
     refused v is =
-        policed lib W p.pid p.table.entries r.objects (is_seen lib before r lab blocked sound p write.there (ap is_ready ready) W refl refl) s.request v is
+        policed lib W p.pid p.table.entries r.objects (is_seen lib before r consistent blocked sound p write.there (ap is_ready ready) W
+            refl refl) s.request v is
 
     denied_acts : IsDenied s p r o p2 r2 → Judged verdict.Denied → Acts
     denied_acts denied is =
@@ -108,7 +110,7 @@ module _ (lib : Library) (before after : List Process) (r r2 : Objects) (p p2 : 
     killed_acts exits is =
         let others : List ℕ = filter (λ q. not (q == p.pid)) blocked in
         let acted : with_waiters (world_value after r) r.waits r.waits_made others ≡ ended W p.pid BY_POLICY =
-        ap (λ (w : World). with_waiters w r.waits r.waits_made others) (ended_is lib before after r r2 p p2 lab write BY_POLICY exits.over ready)
+        ap (λ (w : World). with_waiters w r.waits r.waits_made others) (ended_is lib before after r r2 p p2 consistent write BY_POLICY exits.over ready)
         ∙ sym (ended_among p.pid r.waits r.waits_made blocked (world_value before r) BY_POLICY) in
         left_by lib before (left_all after r2) r r2 p.pid (item.Call p.pid call o) blocked sound r.waits r.waits_made blocked
         (subst (λ (b : List ℕ). ActsAndSettles lib W p.pid (item.Call p.pid call o)
@@ -125,7 +127,8 @@ module _ (lib : Library) (before after : List Process) (r r2 : Objects) (p p2 : 
             subst (λ (x : Outcome). Calls lib W p.pid s x (with_waiters (world_value after r) r.waits r.waits_made others)) (sym exits.ends)
                 (killed_calls lib W p.pid s (with_waiters (world_value after r) r.waits r.waits_made others) (refused verdict.Killed is) acted),
           );
-          settles = settles_waiting (world_value after r) (settled_world after r2) (settles lib before after r r2 p p2 lab write BY_POLICY exits.over ready)
+          settles = settles_waiting (world_value after r) (settled_world after r2)
+              (settles lib before after r r2 p p2 consistent write BY_POLICY exits.over ready)
               r.waits r.waits_made others;
         }))
         exits.over.listed.listed

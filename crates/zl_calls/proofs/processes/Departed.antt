@@ -128,22 +128,23 @@ module _ (ps : List Process) (r : Objects) where
 
   pub left_keeps : IsConsistent ps r → IsConsistent (left_all ps r) r
   unfolding is_process
-  left_keeps lab = record {
+  left_keeps consistent = record {
     processes_in_order = subst (λ (m : Map ProcessValue). IsTrue (is_sorted nat_cmp m)) (seen_left r ps)
-        (in_order-each (map process_entry ps) (process_settled K) ∙ lab.processes_in_order);
-    given_processes = λ k there. lab.given_processes k (sym (has_left k) ∙ there);
-    given_objects = lab.given_objects;
-    koids = lab.koids;
-    above_zero = lab.above_zero;
-    no_zero = lab.no_zero;
+        (in_order-each (map process_entry ps) (process_settled K) ∙ consistent.processes_in_order);
+    given_processes = λ k there. consistent.given_processes k (sym (has_left k) ∙ there);
+    given_objects = consistent.given_objects;
+    koids = consistent.koids;
+    above_zero = consistent.above_zero;
+    no_zero = consistent.no_zero;
     tables = λ k p at. let (old, was, is) = found_left k p at in
-        subst (λ (x : ProcessValue). IsTable (record { entries = x.handles; last = x.last })) is (lab.tables k old was);
-    named = λ k p v e at there. let (old, was, is) = found_left k p at in lab.named k old v e was (ap (λ (x : ProcessValue). get x.handles v) is ∙ there);
-    queued = lab.queued;
-    counted = λ k o at. lab.counted k o at ∙ sym (same_counts k);
-    agrees = λ k o at. still_agrees (world_value ps r) (settled_world ps r) k o.body (λ test. there_left k (rw at refl) test) (lab.agrees k o at);
-    in_jobs = lab.in_jobs;
-    kept = lab.kept;
+        subst (λ (x : ProcessValue). IsTable (record { entries = x.handles; last = x.last })) is (consistent.tables k old was);
+    named = λ k p v e at there. let (old, was, is) = found_left k p at in consistent.named k old v e
+        was (ap (λ (x : ProcessValue). get x.handles v) is ∙ there);
+    queued = consistent.queued;
+    counted = λ k o at. consistent.counted k o at ∙ sym (same_counts k);
+    agrees = λ k o at. still_agrees (world_value ps r) (settled_world ps r) k o.body (λ test. there_left k (rw at refl) test) (consistent.agrees k o at);
+    in_jobs = consistent.in_jobs;
+    kept = consistent.kept;
   }
 
   -- ---- the list of the blocked

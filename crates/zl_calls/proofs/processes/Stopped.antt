@@ -26,32 +26,34 @@ use Rattle.zl_calls.proofs.processes.Written.{after_is, get_after, found_after, 
 
 -- ---- the table of the process has lost the handles m
 
-module _ (before after : List Process) (p p2 : Process) (write : IsWrite before after p p2) (r : Objects) (lab : IsConsistent before r) (m : Map Entry)
+module _ (before after : List Process) (p p2 : Process) (write : IsWrite before after p p2) (r : Objects) (consistent : IsConsistent before r) (m : Map Entry)
     (table : IsTable p2.table)
     (fewer : (j : ℕ) → count_by (λ h. h.1.koid == j) p.table.entries ≡ count_by (λ h. h.1.koid == j) p2.table.entries + count_by (λ h. h.1.koid == j) m)
     (named : (v : ℕ) (e : Entry) → get p2.table.entries v ≡ Some e → IsNamed r.objects e) where
   pub still_given : (k : ℕ) → IsTrue (has_key (map process_entry after) k) → k < r.next_koid
   still_given k there =
-      lab.given_processes k (sym (has_key-update (map process_entry before) p.pid (λ _. process_value p2) k) ∙ rw (after_is before after p p2 write) at there)
+      consistent.given_processes k (sym (has_key-update (map process_entry before) p.pid (λ _. process_value p2) k)
+          ∙ rw (after_is before after p p2 write) at there)
 
   pub sound_after : p2.state ≡ p.state → IsSound after m r
   sound_after same = record {
     processes_in_order =
-        rw (after_is before after p p2 write, is_sorted-update (map process_entry before) p.pid (λ _. process_value p2)) lab.processes_in_order;
-    objects_in_order = lab.kept.in_order;
+        rw (after_is before after p p2 write, is_sorted-update (map process_entry before) p.pid (λ _. process_value p2)) consistent.processes_in_order;
+    objects_in_order = consistent.kept.in_order;
     given_processes = still_given;
-    given_objects = lab.given_objects;
-    koids = lab.koids;
-    above_zero = lab.above_zero;
-    no_zero = lab.no_zero;
+    given_objects = consistent.given_objects;
+    koids = consistent.koids;
+    above_zero = consistent.above_zero;
+    no_zero = consistent.no_zero;
     tables = λ k q at. found_after before after p p2 write (IsTable (record { entries = q.handles; last = q.last })) k q at
-        (λ is. subst (λ (x : ProcessValue). IsTable (record { entries = x.handles; last = x.last })) is table) (lab.tables k q);
+        (λ is. subst (λ (x : ProcessValue). IsTable (record { entries = x.handles; last = x.last })) is table) (consistent.tables k q);
     named = λ k q v e at there. found_after before after p p2 write (IsNamed r.objects e) k q at
-        (λ is. named v e (ap (λ (x : ProcessValue). get x.handles v) is ∙ there)) (λ old. lab.named k q v e old there);
-    queued = lab.queued;
-    counted = λ k o at. lab.counted k o at ∙ counts_fewer before after p p2 r r k (count_by (λ h. h.1.koid == k) m) write refl (fewer k);
-    agrees = λ k o at. still_agrees (world_value before r) (world_value after r) k o.body (same_states before after p p2 write same r r k) (lab.agrees k o at);
-    in_jobs = lab.in_jobs;
+        (λ is. named v e (ap (λ (x : ProcessValue). get x.handles v) is ∙ there)) (λ old. consistent.named k q v e old there);
+    queued = consistent.queued;
+    counted = λ k o at. consistent.counted k o at ∙ counts_fewer before after p p2 r r k (count_by (λ h. h.1.koid == k) m) write refl (fewer k);
+    agrees = λ k o at. still_agrees (world_value before r) (world_value after r) k o.body (same_states before after p p2 write same r r k)
+        (consistent.agrees k o at);
+    in_jobs = consistent.in_jobs;
   }
 
   -- ---- the process has ended too
@@ -146,32 +148,34 @@ module _ (before after : List Process) (p p2 : Process) (write : IsWrite before 
     pub sound_stopped : IsSound after m ended
     sound_stopped = record {
       processes_in_order =
-          rw (after_is before after p p2 write, is_sorted-update (map process_entry before) p.pid (λ _. process_value p2)) lab.processes_in_order;
-      objects_in_order = rw (is_sorted-update r.objects p.pid stopped) lab.kept.in_order;
+          rw (after_is before after p p2 write, is_sorted-update (map process_entry before) p.pid (λ _. process_value p2)) consistent.processes_in_order;
+      objects_in_order = rw (is_sorted-update r.objects p.pid stopped) consistent.kept.in_order;
       given_processes = still_given;
-      given_objects = λ j has. lab.given_objects j (sym (has_key-update r.objects p.pid stopped j) ∙ has);
-      koids = lab.koids;
-      above_zero = lab.above_zero;
-      no_zero = λ j has. lab.no_zero j (sym (has_key-update r.objects p.pid stopped j) ∙ has);
+      given_objects = λ j has. consistent.given_objects j (sym (has_key-update r.objects p.pid stopped j) ∙ has);
+      koids = consistent.koids;
+      above_zero = consistent.above_zero;
+      no_zero = λ j has. consistent.no_zero j (sym (has_key-update r.objects p.pid stopped j) ∙ has);
       tables = λ k q at. found_after before after p p2 write (IsTable (record { entries = q.handles; last = q.last })) k q at
-          (λ is. subst (λ (x : ProcessValue). IsTable (record { entries = x.handles; last = x.last })) is table) (lab.tables k q);
+          (λ is. subst (λ (x : ProcessValue). IsTable (record { entries = x.handles; last = x.last })) is table) (consistent.tables k q);
       named = λ k q v e at there. found_after before after p p2 write (IsNamed ended.objects e) k q at
-          (λ is. named_stopped e (named v e (ap (λ (x : ProcessValue). get x.handles v) is ∙ there))) (λ old. named_stopped e (lab.named k q v e old there));
+          (λ is. named_stopped e (named v e (ap (λ (x : ProcessValue). get x.handles v) is ∙ there)))
+              (λ old. named_stopped e (consistent.named k q v e old there));
       queued = λ j q at. found_updated stopped r.objects p.pid (AreNamed ended.objects (queue_of q.body)) j q at
           (λ o old here is. subst (λ (x : Object). AreNamed ended.objects (queue_of x.body)) is
-          (rw (same_queue o.body) (still_named r.objects ended.objects named_stopped (queue_of o.body) (lab.queued j o old))))
-          (λ apart old. still_named r.objects ended.objects named_stopped (queue_of q.body) (lab.queued j q old));
+          (rw (same_queue o.body) (still_named r.objects ended.objects named_stopped (queue_of o.body) (consistent.queued j o old))))
+          (λ apart old. still_named r.objects ended.objects named_stopped (queue_of q.body) (consistent.queued j q old));
       counted = λ j q at. found_updated stopped r.objects p.pid (q.handles ≡ handles_to (world_value after ended) j + count_by (λ h. h.1.koid == j) m) j q at
           (λ o old here is. ap (λ (x : Object). x.handles) (sym is)
-          ∙ (lab.counted j o old ∙ counts_fewer before after p p2 r ended j (count_by (λ h. h.1.koid == j) m) write (same_queues j) (fewer j)))
-          (λ apart old. lab.counted j q old ∙ counts_fewer before after p p2 r ended j (count_by (λ h. h.1.koid == j) m) write (same_queues j) (fewer j));
+          ∙ (consistent.counted j o old ∙ counts_fewer before after p p2 r ended j (count_by (λ h. h.1.koid == j) m) write (same_queues j) (fewer j)))
+          (λ apart old. consistent.counted j q old ∙ counts_fewer before after p p2 r ended j (count_by (λ h. h.1.koid == j) m) write
+              (same_queues j) (fewer j));
       agrees = λ j q at. found_updated stopped r.objects p.pid (Agrees (world_value after ended) j q.body) j q at
           (λ o old here is. subst (λ (i : ℕ). Agrees (world_value after ended) i q.body) (eqb-true p.pid j here)
           (subst (λ (x : Object). Agrees (world_value after ended) p.pid x.body) is (stopped_agrees o.body)))
-          (λ apart old. still_agrees (world_value before r) (world_value after ended) j q.body (others_now j apart) (lab.agrees j q old));
+          (λ apart old. still_agrees (world_value before r) (world_value after ended) j q.body (others_now j apart) (consistent.agrees j q old));
       in_jobs = λ j q at. found_updated stopped r.objects p.pid (IsTrue (is_in_job ended.objects q.body)) j q at
-          (λ o old here is. subst (λ (x : Object). IsTrue (is_in_job ended.objects x.body)) is (of_stopped o.body (lab.in_jobs j o old)))
-          (λ apart old. in_job_stopped q.body (lab.in_jobs j q old));
+          (λ o old here is. subst (λ (x : Object). IsTrue (is_in_job ended.objects x.body)) is (of_stopped o.body (consistent.in_jobs j o old)))
+          (λ apart old. in_job_stopped q.body (consistent.in_jobs j q old));
     }
       where
         of_stopped : (b : Body) → IsTrue (is_in_job r.objects b) → IsTrue (is_in_job ended.objects (stopped_body b))

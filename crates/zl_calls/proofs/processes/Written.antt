@@ -66,17 +66,17 @@ pub record IsNext (before after : List Process) (r r2 : Objects) : Type 0 where
 -- the objects stay, and as many handles name each as before
 pub recounted_next : (before after : List Process) (r : Objects) → IsConsistent before r
     → ((k : ℕ) → handles_to (world_value after r) k ≡ handles_to (world_value before r) k) → IsNext before after r r
-recounted_next before after r lab counts = record {
+recounted_next before after r consistent counts = record {
   next_koid = omega arith;
-  given_objects = lab.given_objects;
-  koids = lab.koids;
-  no_zero = lab.no_zero;
+  given_objects = consistent.given_objects;
+  koids = consistent.koids;
+  no_zero = consistent.no_zero;
   named = λ e named. named;
-  queued = lab.queued;
-  counted = λ k o at. lab.counted k o at ∙ sym (counts k);
-  agrees = lab.agrees;
-  in_jobs = lab.in_jobs;
-  kept = lab.kept;
+  queued = consistent.queued;
+  counted = λ k o at. consistent.counted k o at ∙ sym (counts k);
+  agrees = consistent.agrees;
+  in_jobs = consistent.in_jobs;
+  kept = consistent.kept;
 }
 
 -- ---- what is found afterwards
@@ -124,21 +124,21 @@ module _ (before after : List Process) (p p2 : Process) (write : IsWrite before 
       → ((v : ℕ) (e : Entry) → get p2.table.entries v ≡ Some e → IsNamed r2.objects e)
       → IsNext before after r r2
       → IsConsistent after r2
-  keeps_agreeing r r2 lab agree table named next = record {
-    processes_in_order = rw (after_is, is_sorted-update (map process_entry before) p.pid (λ _. process_value p2)) lab.processes_in_order;
+  keeps_agreeing r r2 consistent agree table named next = record {
+    processes_in_order = rw (after_is, is_sorted-update (map process_entry before) p.pid (λ _. process_value p2)) consistent.processes_in_order;
     given_processes = λ k there. omega (
       arith,
       next.next_koid,
-      lab.given_processes k (sym (has_key-update (map process_entry before) p.pid (λ _. process_value p2) k) ∙ (rw after_is at there)),
+      consistent.given_processes k (sym (has_key-update (map process_entry before) p.pid (λ _. process_value p2) k) ∙ (rw after_is at there)),
     );
     given_objects = next.given_objects;
     koids = next.koids;
-    above_zero = omega (arith, next.next_koid, lab.above_zero);
+    above_zero = omega (arith, next.next_koid, consistent.above_zero);
     no_zero = next.no_zero;
     tables = λ k q at. found_after (IsTable (record { entries = q.handles; last = q.last })) k q at
-        (λ is. subst (λ (x : ProcessValue). IsTable (record { entries = x.handles; last = x.last })) is table) (lab.tables k q);
+        (λ is. subst (λ (x : ProcessValue). IsTable (record { entries = x.handles; last = x.last })) is table) (consistent.tables k q);
     named = λ k q v e at there. found_after (IsNamed r2.objects e) k q at (λ is. named v e (ap (λ (x : ProcessValue). get x.handles v) is ∙ there))
-        (λ old. next.named e (lab.named k q v e old there));
+        (λ old. next.named e (consistent.named k q v e old there));
     queued = next.queued;
     counted = next.counted;
     agrees = λ k o at. agree k o.body (next.agrees k o at);
@@ -151,13 +151,14 @@ module _ (before after : List Process) (p p2 : Process) (write : IsWrite before 
       → ((v : ℕ) (e : Entry) → get p2.table.entries v ≡ Some e → IsNamed r2.objects e)
       → IsNext before after r r2
       → IsConsistent after r2
-  keeps r r2 lab state = keeps_agreeing r r2 lab (λ k b. still_agrees (world_value before r) (world_value after r2) k b (same_states state r r2 k))
+  keeps r r2 consistent state = keeps_agreeing r r2 consistent
+      (λ k b. still_agrees (world_value before r) (world_value after r2) k b (same_states state r r2 k))
 
   -- the same where the table stays
   pub keeps_table : (r r2 : Objects) → IsConsistent before r → p2.state ≡ p.state → p2.table ≡ p.table → IsNext before after r r2 → IsConsistent after r2
-  keeps_table r r2 lab state table next = keeps r r2 lab state
-      (rw table (lab.tables p.pid (process_value p) write.there))
-      (λ v e at. next.named e (lab.named p.pid (process_value p) v e write.there (rw table at at)))
+  keeps_table r r2 consistent state table next = keeps r r2 consistent state
+      (rw table (consistent.tables p.pid (process_value p) write.there))
+      (λ v e at. next.named e (consistent.named p.pid (process_value p) v e write.there (rw table at at)))
       next
 
   pub same_counts : (r r2 : Objects) (k : ℕ) → queues r2.objects k ≡ queues r.objects k → p2.table ≡ p.table
@@ -168,17 +169,17 @@ module _ (before after : List Process) (p p2 : Process) (write : IsWrite before 
 
   -- the same where nothing but registers and the counter changes
   pub refusal_keeps : (r : Objects) → IsConsistent before r → p2.table ≡ p.table → p2.state ≡ p.state → IsConsistent after r
-  refusal_keeps r lab table state = keeps_table r r lab state table (recounted_next before after r lab (λ k. same_counts r r k refl table))
+  refusal_keeps r consistent table state = keeps_table r r consistent state table (recounted_next before after r consistent (λ k. same_counts r r k refl table))
 
   -- the same where a handle enters the table
   module _ (e : Entry) (made : ℕ) (inserts : Inserts p.table e made p2.table) where
     pub keeps_inserted : (r r2 : Objects) → IsConsistent before r → p2.state ≡ p.state → length p.table.entries < 1024 → IsNamed r2.objects e
         → IsNext before after r r2 → IsConsistent after r2
-    keeps_inserted r r2 lab state room named next = keeps r r2 lab state
-        (inserted_table p.table e made p2.table (lab.tables p.pid (process_value p) write.there) room inserts)
+    keeps_inserted r r2 consistent state room named next = keeps r r2 consistent state
+        (inserted_table p.table e made p2.table (consistent.tables p.pid (process_value p) write.there) room inserts)
         (λ v x at. found_inserted (IsNamed r2.objects x) p.table e made p2.table inserts v x at
         (λ is. subst (λ (y : Entry). IsNamed r2.objects y) is named)
-        (λ old. next.named x (lab.named p.pid (process_value p) v x write.there old)))
+        (λ old. next.named x (consistent.named p.pid (process_value p) v x write.there old)))
         next
 
     pub inserted_counts : (r r2 : Objects) (j : ℕ) → queues r2.objects j ≡ queues r.objects j
@@ -188,7 +189,7 @@ module _ (before after : List Process) (p p2 : Process) (write : IsWrite before 
 
 -- ---- one object changes, but not what it is
 
-module _ (before after : List Process) (r : Objects) (lab : IsConsistent before r) (k : ℕ) (f : Object → Object)
+module _ (before after : List Process) (r : Objects) (consistent : IsConsistent before r) (k : ℕ) (f : Object → Object)
     (same : (o : Object) → (f o).body ≡ o.body) where
   abbrev updated : Objects
   updated = record r { objects = update r.objects k f }
@@ -199,24 +200,25 @@ module _ (before after : List Process) (r : Objects) (lab : IsConsistent before 
       → IsNext before after r updated
   updated_next counted others kept = record {
     next_koid = omega arith;
-    given_objects = λ j there. lab.given_objects j (sym (has_key-update r.objects k f j) ∙ there);
-    koids = lab.koids;
-    no_zero = λ j there. lab.no_zero j (sym (has_key-update r.objects k f j) ∙ there);
+    given_objects = λ j there. consistent.given_objects j (sym (has_key-update r.objects k f j) ∙ there);
+    koids = consistent.koids;
+    no_zero = λ j there. consistent.no_zero j (sym (has_key-update r.objects k f j) ∙ there);
     named = named_updated f same r.objects k;
-    queued = queued_updated f same r.objects k lab.queued;
+    queued = queued_updated f same r.objects k consistent.queued;
     counted = λ j q at. found_updated f r.objects k (q.handles ≡ handles_to (world_value after updated) j) j q at
         (λ o old here is. ap (λ (x : Object). x.handles) (sym is) ∙ counted j o old here)
         (λ apart old. others j q old apart);
     agrees = λ j q at. found_updated f r.objects k (Agrees (world_value before r) j q.body) j q at
-        (λ o old here is. subst (λ (x : Object). Agrees (world_value before r) j x.body) is (rw (same o) (lab.agrees j o old)))
-        (λ apart old. lab.agrees j q old);
+        (λ o old here is. subst (λ (x : Object). Agrees (world_value before r) j x.body) is (rw (same o) (consistent.agrees j o old)))
+        (λ apart old. consistent.agrees j q old);
     in_jobs = λ j q at. found_updated f r.objects k (IsTrue (is_in_job updated.objects q.body)) j q at
         (λ o old here is.
-        subst (λ (x : Object). IsTrue (is_in_job updated.objects x.body)) is (rw (same o, in_job_updated f same r.objects k o.body) (lab.in_jobs j o old)))
-        (λ apart old. rw (in_job_updated f same r.objects k q.body) (lab.in_jobs j q old));
+        subst (λ (x : Object). IsTrue (is_in_job updated.objects x.body)) is
+            (rw (same o, in_job_updated f same r.objects k o.body) (consistent.in_jobs j o old)))
+        (λ apart old. rw (in_job_updated f same r.objects k q.body) (consistent.in_jobs j q old));
     kept =
-        kept_each updated.objects (rw (is_sorted-update r.objects k f) lab.kept.in_order)
+        kept_each updated.objects (rw (is_sorted-update r.objects k f) consistent.kept.in_order)
         (λ j q at. found_updated f r.objects k (IsTrue (is_kept updated.objects j q)) j q at
         (λ o old here is. subst (λ (x : Object). IsTrue (is_kept updated.objects j x)) is (kept j o old here))
-        (λ apart old. rw (alone_updated f same r.objects k j q.body) (kept_all r.objects lab.kept j q old)));
+        (λ apart old. rw (alone_updated f same r.objects k j q.body) (kept_all r.objects consistent.kept j q old)));
   }

@@ -15,7 +15,7 @@ use Rattle.zl_calls.specs.declared.process.Process.{Process}
 use Rattle.zl_calls.proofs.stepping.LocalMoves.{stands, moved_awake, moved_rests, moved_world}
 use Rattle.zl_calls.proofs.stepping.LocalRuns.{along, locals_run}
 use Rattle.zl_calls.proofs.stepping.Performing.{ready}
-use Rattle.zl_calls.proofs.stepping.StepItems.{lab_value}
+use Rattle.zl_calls.proofs.stepping.StepItems.{machine_value}
 
 -- ---- what stands there
 
@@ -26,26 +26,26 @@ read_there ps pid place p at read = at.holds ∙ ap (option_map process_value) (
 
 module _ (lib : Library) (ps : List Process) (r : Objects) (blocked : List ℕ) (pid : ℕ) where
   -- nothing stands there for a process that isn't there
-  pub none_stands : get (map process_entry ps) pid ≡ None → (g : Program) (c : Cpu) → Stands (lab_value lib ps r blocked) pid g c → ⊥
+  pub none_stands : get (map process_entry ps) pid ≡ None → (g : Program) (c : Cpu) → Stands (machine_value lib ps r blocked) pid g c → ⊥
   none_stands gone g c h = none-some c (rw gone at h.cpu_is)
 
   -- nor is it ready
-  pub none_ready : get (map process_entry ps) pid ≡ None → IsTrue (is_ready_in (lab_value lib ps r blocked) pid) → ⊥
+  pub none_ready : get (map process_entry ps) pid ≡ None → IsTrue (is_ready_in (machine_value lib ps r blocked) pid) → ⊥
   unfolding is_process
   none_ready gone ready = false≢true (rw gone at ready)
 
   module _ (p : Process) (there : get (map process_entry ps) pid ≡ Some (process_value p)) where
-    pub program_stands : (g : Program) (c : Cpu) → Stands (lab_value lib ps r blocked) pid g c → slice_get lib p.program ≡ Some g
+    pub program_stands : (g : Program) (c : Cpu) → Stands (machine_value lib ps r blocked) pid g c → slice_get lib p.program ≡ Some g
     program_stands g c h = rw there at h.program_is
 
-    pub cpu_stands : (g : Program) (c : Cpu) → Stands (lab_value lib ps r blocked) pid g c → p.cpu ≡ c
+    pub cpu_stands : (g : Program) (c : Cpu) → Stands (machine_value lib ps r blocked) pid g c → p.cpu ≡ c
     cpu_stands g c h = same_Some p.cpu c (rw there at h.cpu_is)
 
-    pub ready_there : IsTrue (is_ready_in (lab_value lib ps r blocked) pid) → is_ready (state_value p.state) ≡ true
+    pub ready_there : IsTrue (is_ready_in (machine_value lib ps r blocked) pid) → is_ready (state_value p.state) ≡ true
     unfolding is_process
     ready_there ready = rw there at ready
 
-    pub they_stand : (g : Program) (c : Cpu) → slice_get lib p.program ≡ Some g → p.cpu ≡ c → Stands (lab_value lib ps r blocked) pid g c
+    pub they_stand : (g : Program) (c : Cpu) → slice_get lib p.program ≡ Some g → p.cpu ≡ c → Stands (machine_value lib ps r blocked) pid g c
     they_stand g c program cpu = record { program_is = rw there program; cpu_is = rw there (ap (λ (x : Cpu). Some x) cpu) }
 
 -- a program of the library isn't missing there
@@ -64,7 +64,7 @@ made_passes P x (Err e) is passes = tt
 -- ---- the steps
 
 -- the process p stands at the place, under the pid, is ready and runs this program
-module _ (lib : Library) (ps : List Process) (r : Objects) (lab : IsConsistent ps r) (blocked : List ℕ) (are : AreBlocked ps blocked)
+module _ (lib : Library) (ps : List Process) (r : Objects) (consistent : IsConsistent ps r) (blocked : List ℕ) (are : AreBlocked ps blocked)
     (sound : IsSoundWorld (world_blocked ps r blocked)) (pid place : ℕ) (p : Process)
     (found : Some place ≡ position (λ q. q.pid == pid) ps) (read : p ≡ get_or ps place p) (is_ready_there : is_ready (state_value p.state) ≡ true)
     (quiet : wakes (world_blocked ps r blocked) ≡ world_blocked ps r blocked) (g : Program) (runs : slice_get lib p.program ≡ Some g) where
@@ -72,20 +72,22 @@ module _ (lib : Library) (ps : List Process) (r : Objects) (lab : IsConsistent p
   before = world_blocked ps r blocked
 
   at_rest : (c : Cpu) → Settles (on_process before pid (λ q. record q { cpu = c })) (on_process before pid (λ q. record q { cpu = c }))
-  at_rest c = subst (λ (w : World). Settles w w) (moved_world lib ps r lab blocked are sound pid place p found read is_ready_there (record p { cpu = c }) refl)
-      (moved_rests lib ps r lab blocked are sound pid place p found read is_ready_there (record p { cpu = c }) refl)
+  at_rest c = subst (λ (w : World). Settles w w) (moved_world lib ps r consistent blocked are sound pid place p found read is_ready_there
+      (record p { cpu = c }) refl)
+      (moved_rests lib ps r consistent blocked are sound pid place p found read is_ready_there (record p { cpu = c }) refl)
 
   awake : (c : Cpu) → wakes (on_process before pid (λ q. record q { cpu = c })) ≡ on_process before pid (λ q. record q { cpu = c })
-  awake c = subst (λ (w : World). wakes w ≡ w) (moved_world lib ps r lab blocked are sound pid place p found read is_ready_there (record p { cpu = c }) refl)
-      (moved_awake lib ps r lab blocked are sound pid place p found read is_ready_there (record p { cpu = c }) refl quiet)
+  awake c = subst (λ (w : World). wakes w ≡ w) (moved_world lib ps r consistent blocked are sound pid place p found read is_ready_there
+      (record p { cpu = c }) refl)
+      (moved_awake lib ps r consistent blocked are sound pid place p found read is_ready_there (record p { cpu = c }) refl quiet)
 
   module _ (n : ℕ) (p2 : Process) (cpu : p2 ≡ record p { cpu = p2.cpu }) (follows : after_locals g.image n p.cpu ≡ Some p2.cpu) where
     -- as many steps as were done lead to the world with the new Cpu
     pub advances : Runs lib before (replicate n (item.Run pid 1)) (world_blocked (set ps place p2) r blocked)
     advances = subst (Runs lib before (replicate n (item.Run pid 1)))
-        (sym (moved_world lib ps r lab blocked are sound pid place p found read is_ready_there p2 cpu))
-        (locals_run lib before pid (process_value p) (stands lib ps r lab blocked are sound pid place p found read is_ready_there)
-        (ready lib ps r lab blocked are sound pid place p found read is_ready_there) g runs at_rest awake n p2.cpu follows)
+        (sym (moved_world lib ps r consistent blocked are sound pid place p found read is_ready_there p2 cpu))
+        (locals_run lib before pid (process_value p) (stands lib ps r consistent blocked are sound pid place p found read is_ready_there)
+        (ready lib ps r consistent blocked are sound pid place p found read is_ready_there) g runs at_rest awake n p2.cpu follows)
 
     pub advanced_sound : IsSoundWorld (world_blocked (set ps place p2) r blocked)
     advanced_sound = along lib IsSoundWorld (λ w k x w2 s step. step_sound lib w k x w2 s step) before (replicate n (item.Run pid 1))

@@ -9,7 +9,7 @@ use Rattle.zl_code.specs.declared.history.TraceItem.TheVariants as item
 use Rattle.zl_calls.specs.Acting.{StaysAwake}
 use Rattle.zl_calls.specs.Registered.{world_left}
 use Rattle.zl_calls.specs.Reaching.{CallActs, CalledAmong, acts, policed, reaches}
-use Rattle.zl_calls.specs.calls.Task.{Lab, lab}
+use Rattle.zl_calls.specs.calls.Task.{Parts, parts}
 use Rattle.zl_calls.specs.declared.process.Process.{Process}
 use Rattle.zl_calls.proofs.stepping.LocalMoves.{moved_stays}
 use Rattle.zl_calls.proofs.stepping.Performing.{HasActed, HasLeft, alone_so, moves_so, stops_so, write_of}
@@ -21,23 +21,25 @@ use Rattle.zl_calls.proofs.policy.Freedom.{is_free}
 -- the process p stands at the place, under the pid, and is at the call
 module _ (lib : Library) (ps : List Process) (r : Objects) (whole : IsConsistent ps r) (blocked : List ℕ) (are : AreBlocked ps blocked)
     (sound : IsSoundWorld (world_blocked ps r blocked)) (pid place : ℕ) (p : Process)
-    (found : Some place ≡ position (λ q. q.pid == pid) ps) (read : p ≡ get_or ps place p) (is_ready_there : is_ready (state_value p.state) ≡ true) (l2 : Lab)
+    (found : Some place ≡ position (λ q. q.pid == pid) ps) (read : p ≡ get_or ps place p)
+        (is_ready_there : is_ready (state_value p.state) ≡ true) (all2 : Parts)
     (o : Outcome) where
-  by_acts : (name : CallName) (s : Site) → next_for lib (process_value p) ≡ AtCall name s → CallActs lib place p s (lab ps r blocked) o l2
-      → HasLeft lib ps l2.processes r l2.objects blocked l2.blocked pid (item.Call pid name o)
-  by_acts name s next (policed p2 alone ends) = policed_so lib ps r whole blocked are sound pid place p found read is_ready_there name s next o p2 l2 alone ends
-  by_acts name s next (reaches none does) = reaches_so lib ps r whole blocked are sound pid place p found read is_ready_there name s next none o l2 does
+  by_acts : (name : CallName) (s : Site) → next_for lib (process_value p) ≡ AtCall name s → CallActs lib place p s (parts ps r blocked) o all2
+      → HasLeft lib ps all2.processes r all2.objects blocked all2.blocked pid (item.Call pid name o)
+  by_acts name s next (policed p2 alone ends) = policed_so lib ps r whole blocked are sound pid place p found read is_ready_there name s
+      next o p2 all2 alone ends
+  by_acts name s next (reaches none does) = reaches_so lib ps r whole blocked are sound pid place p found read is_ready_there name s next none o all2 does
   by_acts name s next (acts p2 none alone acted) =
-      subst (λ (b : List ℕ). HasLeft lib ps l2.processes r l2.objects blocked b pid (item.Call pid name o)) (sym alone.blocked)
-      (subst (λ (qs : List Process). HasLeft lib ps qs r l2.objects blocked blocked pid (item.Call pid name o)) (sym alone.processes)
-      (alone_so lib ps r whole blocked are sound pid place p found read is_ready_there name o s next p2 l2.objects acted
+      subst (λ (b : List ℕ). HasLeft lib ps all2.processes r all2.objects blocked b pid (item.Call pid name o)) (sym alone.blocked)
+      (subst (λ (qs : List Process). HasLeft lib ps qs r all2.objects blocked blocked pid (item.Call pid name o)) (sym alone.processes)
+      (alone_so lib ps r whole blocked are sound pid place p found read is_ready_there name o s next p2 all2.objects acted
       (is_free lib ps r whole blocked sound p ((write_of lib ps r whole blocked are sound pid place p found read p refl).there) is_ready_there name s next none
       (world_value ps r) refl refl)
       (is_free lib ps r whole blocked sound p ((write_of lib ps r whole blocked are sound pid place p found read p refl).there) is_ready_there name s next none
       (world_blocked ps r blocked) refl refl)))
 
-  pub called_so : (name : CallName) → CalledAmong lib place p (lab ps r blocked) name o l2
-      → HasLeft lib ps l2.processes r l2.objects blocked l2.blocked pid (item.Call pid name o)
+  pub called_so : (name : CallName) → CalledAmong lib place p (parts ps r blocked) name o all2
+      → HasLeft lib ps all2.processes r all2.objects blocked all2.blocked pid (item.Call pid name o)
   called_so name called = rw called.named (by_acts called.call.name called.site (called.next ∙ ap (calls_at called.call.name) called.at_site) called.acts)
 
 -- ---- a step that is no call, behind a look at what stands next that changed nothing

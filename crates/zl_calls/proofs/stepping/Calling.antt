@@ -6,7 +6,7 @@ use Rattle.zl_code.specs.declared.instr.CallInstr.{CallInstr}
 use Rattle.zl_calls.specs.Policed.{Policed, verdict_on}
 use Rattle.zl_calls.specs.Reaching.{CallActs, CalledAmong, Reaches, acts, policed, reaches}
 use Rattle.zl_calls.specs.World.{CallsNext}
-use Rattle.zl_calls.specs.calls.Task.{IsReachedBy, Lab, lab}
+use Rattle.zl_calls.specs.calls.Task.{IsReachedBy, Parts, parts}
 use Rattle.zl_calls.specs.declared.process.Process.{Process}
 
 pub set_read : {X : Type 0} (xs : List X) (n : ℕ) (x : X) → x ≡ get_or xs n x → set xs n x ≡ xs
@@ -33,53 +33,55 @@ module _ (lib : Library) (ps : List Process) (r : Objects) (b : List ℕ) (place
   of_caller P here caller at = subst P (same_Some p caller (sym is_there ∙ at)) here
 
   module _ (call : CallInstr) (has_site : (caller : Process) → slice_get ps place ≡ Some caller → IsSome (site_of call caller.cpu)) where
-    abbrev Done : Outcome → Lab → Process → Type 0
-    Done o l2 q = IsReachedBy (site_of call q.cpu) (λ s. CallActs lib place q s (lab ps r b) o l2)
+    abbrev Done : Outcome → Parts → Process → Type 0
+    Done o all2 q = IsReachedBy (site_of call q.cpu) (λ s. CallActs lib place q s (parts ps r b) o all2)
 
     pub policed_acts : (o : Outcome) (p2 : Process) (r2 : Objects) → IfSome (site_of call p.cpu) (λ s. Policed s p r o p2 r2) → (caller : Process)
-        → slice_get ps place ≡ Some caller → Done o (lab (set ps place p2) r2 b) caller
-    policed_acts o p2 r2 ends = of_caller (Done o (lab (set ps place p2) r2 b)) (by_site (site_of call p.cpu) (has_site p is_there) ends)
+        → slice_get ps place ≡ Some caller → Done o (parts (set ps place p2) r2 b) caller
+    policed_acts o p2 r2 ends = of_caller (Done o (parts (set ps place p2) r2 b)) (by_site (site_of call p.cpu) (has_site p is_there) ends)
       where
         by_site : (at : Option Site) → IsSome at → IfSome at (λ s. Policed s p r o p2 r2)
-            → IsReachedBy at (λ s. CallActs lib place p s (lab ps r b) o (lab (set ps place p2) r2 b))
+            → IsReachedBy at (λ s. CallActs lib place p s (parts ps r b) o (parts (set ps place p2) r2 b))
         by_site None none ends = absurd (elim (false≢true none) [ ])
         by_site (Some s) there ends = policed p2 (record { processes = refl; blocked = refl }) ends
 
     -- the policy says nothing
     module _ (none : IfSome (site_of call p.cpu) (λ s. verdict_on p.table.entries r.objects p.pid s.request ≡ None)) where
-      pub reached_acts : (ps1 : List Process) (r1 : Objects) → ps1 ≡ ps → r1 ≡ r → (o : Outcome) (l2 : Lab)
+      pub reached_acts : (ps1 : List Process) (r1 : Objects) → ps1 ≡ ps → r1 ≡ r → (o : Outcome) (all2 : Parts)
           → ((caller : Process) → slice_get ps1 place ≡ Some caller
-          → IsReachedBy (site_of call caller.cpu) (λ s. Reaches lib place caller s (lab ps1 r1 b) o l2))
-          → (caller : Process) → slice_get ps place ≡ Some caller → Done o l2 caller
-      reached_acts ps1 r1 same_list same_objects o l2 reached =
+          → IsReachedBy (site_of call caller.cpu) (λ s. Reaches lib place caller s (parts ps1 r1 b) o all2))
+          → (caller : Process) → slice_get ps place ≡ Some caller → Done o all2 caller
+      reached_acts ps1 r1 same_list same_objects o all2 reached =
           let here = reached p (ap (λ (xs : List Process). slice_get xs place) same_list ∙ is_there) in
-          of_caller (Done o l2) (by_site (site_of call p.cpu) none
-          (subst (λ (x : Objects). IsReachedBy (site_of call p.cpu) (λ s. Reaches lib place p s (lab ps x b) o l2)) same_objects
-          (subst (λ (xs : List Process). IsReachedBy (site_of call p.cpu) (λ s. Reaches lib place p s (lab xs r1 b) o l2)) same_list here)))
+          of_caller (Done o all2) (by_site (site_of call p.cpu) none
+          (subst (λ (x : Objects). IsReachedBy (site_of call p.cpu) (λ s. Reaches lib place p s (parts ps x b) o all2)) same_objects
+          (subst (λ (xs : List Process). IsReachedBy (site_of call p.cpu) (λ s. Reaches lib place p s (parts xs r1 b) o all2)) same_list here)))
         where
           by_site : (at : Option Site) → IfSome at (λ s. verdict_on p.table.entries r.objects p.pid s.request ≡ None)
-              → IsReachedBy at (λ s. Reaches lib place p s (lab ps r b) o l2) → IsReachedBy at (λ s. CallActs lib place p s (lab ps r b) o l2)
+              → IsReachedBy at (λ s. Reaches lib place p s (parts ps r b) o all2) → IsReachedBy at (λ s. CallActs lib place p s (parts ps r b) o all2)
           by_site None none reached = reached
           by_site (Some s) none reached = reaches none reached
 
       pub acted_acts : (ps1 : List Process) (r1 : Objects) (b1 : List ℕ) → ps1 ≡ ps → r1 ≡ r → b1 ≡ b → (q : Process) → q ≡ p
           → (o : Outcome) (p2 : Process) (r2 : Objects)
-          → Acted (site_of call q.cpu) q r1 o p2 r2 → (caller : Process) → slice_get ps place ≡ Some caller → Done o (lab (set ps1 place p2) r2 b1) caller
+          → Acted (site_of call q.cpu) q r1 o p2 r2 → (caller : Process) → slice_get ps place ≡ Some caller → Done o (parts (set ps1 place p2) r2 b1) caller
       acted_acts ps1 r1 b1 same_list same_objects same_blocked q same o p2 r2 acted =
-          rw (same_list, same_blocked) (of_caller (Done o (lab (set ps place p2) r2 b)) (by_site (site_of call p.cpu) none (rw (same, same_objects) at acted)))
+          rw (same_list, same_blocked) (of_caller (Done o (parts (set ps place p2) r2 b))
+              (by_site (site_of call p.cpu) none (rw (same, same_objects) at acted)))
         where
           by_site : (at : Option Site) → IfSome at (λ s. verdict_on p.table.entries r.objects p.pid s.request ≡ None) → Acted at p r o p2 r2
-              → IsReachedBy at (λ s. CallActs lib place p s (lab ps r b) o (lab (set ps place p2) r2 b))
+              → IsReachedBy at (λ s. CallActs lib place p s (parts ps r b) o (parts (set ps place p2) r2 b))
           by_site None none acted = acted
           by_site (Some s) none acted = acts p2 none (record { processes = refl; blocked = refl }) acted
 
   -- the call that stands next is done so
-  pub called_among : (call : CallInstr) (o : Outcome) (l2 : Lab) → CallsNext lib p call
-      → ((caller : Process) → slice_get ps place ≡ Some caller → IsReachedBy (site_of call caller.cpu) (λ s. CallActs lib place caller s (lab ps r b) o l2))
-      → (caller : Process) → slice_get ps place ≡ Some caller → CalledAmong lib place caller (lab ps r b) call.name o l2
-  called_among call o l2 next done = of_caller (λ q. CalledAmong lib place q (lab ps r b) call.name o l2) (by_site (site_of call p.cpu) refl (done p is_there))
+  pub called_among : (call : CallInstr) (o : Outcome) (all2 : Parts) → CallsNext lib p call
+      → ((caller : Process) → slice_get ps place ≡ Some caller → IsReachedBy (site_of call caller.cpu) (λ s. CallActs lib place caller s (parts ps r b) o all2))
+      → (caller : Process) → slice_get ps place ≡ Some caller → CalledAmong lib place caller (parts ps r b) call.name o all2
+  called_among call o all2 next done = of_caller (λ q. CalledAmong lib place q (parts ps r b) call.name o all2)
+      (by_site (site_of call p.cpu) refl (done p is_there))
     where
-      by_site : (at : Option Site) → site_of call p.cpu ≡ at → IsReachedBy at (λ s. CallActs lib place p s (lab ps r b) o l2)
-          → CalledAmong lib place p (lab ps r b) call.name o l2
+      by_site : (at : Option Site) → site_of call p.cpu ≡ at → IsReachedBy at (λ s. CallActs lib place p s (parts ps r b) o all2)
+          → CalledAmong lib place p (parts ps r b) call.name o all2
       by_site None is done = absurd done
       by_site (Some s) is done = record { call = call; next = next; named = refl; site = s; at_site = is; acts = done }

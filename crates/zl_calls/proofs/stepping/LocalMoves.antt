@@ -39,17 +39,17 @@ not_among p (q ∷ ps) none = elim (cases_Bool (q == p)) as (λ _. list_any (λ 
 
 -- ---- the process p stands at the place, under the pid, and is ready
 
-module _ (lib : Library) (ps : List Process) (r : Objects) (lab : IsConsistent ps r) (blocked : List ℕ) (are : AreBlocked ps blocked)
+module _ (lib : Library) (ps : List Process) (r : Objects) (consistent : IsConsistent ps r) (blocked : List ℕ) (are : AreBlocked ps blocked)
     (sound : IsSoundWorld (world_blocked ps r blocked)) (pid place : ℕ) (p : Process)
     (found : Some place ≡ position (λ q. q.pid == pid) ps) (read : p ≡ get_or ps place p) (is_ready_there : is_ready (state_value p.state) ≡ true) where
   abbrev before : World
   before = world_blocked ps r blocked
 
   pub stands : get (map process_entry ps) pid ≡ Some (process_value p)
-  stands = there lib ps r lab blocked are sound pid place p found read
+  stands = there lib ps r consistent blocked are sound pid place p found read
 
   none_blocked : list_any (λ q. pid == q) blocked ≡ false
-  none_blocked = not_among pid blocked (are.once pid ∙ rw (stands, unblocked lib ps r lab blocked are sound pid place p found read is_ready_there) refl)
+  none_blocked = not_among pid blocked (are.once pid ∙ rw (stands, unblocked lib ps r consistent blocked are sound pid place p found read is_ready_there) refl)
 
   -- it gets another Cpu, and nothing else changes
   module _ (p2 : Process) (cpu : p2 ≡ record p { cpu = p2.cpu }) where
@@ -57,21 +57,21 @@ module _ (lib : Library) (ps : List Process) (r : Objects) (lab : IsConsistent p
     after = set ps place p2
 
     write : IsWrite ps after p p2
-    write = write_of lib ps r lab blocked are sound pid place p found read p2 (ap (λ (q : Process). q.pid) cpu)
+    write = write_of lib ps r consistent blocked are sound pid place p found read p2 (ap (λ (q : Process). q.pid) cpu)
 
     pub moved_keeps : IsConsistent after r
-    moved_keeps = refusal_keeps ps after p p2 write r lab (ap (λ (q : Process). q.table) cpu) (ap (λ (q : Process). q.state) cpu)
+    moved_keeps = refusal_keeps ps after p p2 write r consistent (ap (λ (q : Process). q.table) cpu) (ap (λ (q : Process). q.state) cpu)
 
     pub moved_list : AreBlocked after blocked
     moved_list =
-        let was : is_blocked (state_value p.state) ≡ false = unblocked lib ps r lab blocked are sound pid place p found read is_ready_there in
+        let was : is_blocked (state_value p.state) ≡ false = unblocked lib ps r consistent blocked are sound pid place p found read is_ready_there in
         still_blocked ps after p p2 write was (ap (λ (q : Process). is_blocked (state_value q.state)) cpu ∙ was) blocked are
 
     pub moved_world : world_blocked after r blocked ≡ on_process before pid (λ q. record q { cpu = p2.cpu })
     unfolding on_process
     moved_world =
         ap (λ (m : Map ProcessValue). record before { processes = m })
-        (rw (← key lib ps r lab blocked are sound pid place p found read) (write.writes (λ q. record q { cpu = p2.cpu }) (ap process_value cpu)))
+        (rw (← key lib ps r consistent blocked are sound pid place p found read) (write.writes (λ q. record q { cpu = p2.cpu }) (ap process_value cpu)))
 
     pub moved_awake : wakes before ≡ before → wakes (world_blocked after r blocked) ≡ world_blocked after r blocked
     moved_awake awake = subst (λ (w : World). wakes w ≡ w) (sym moved_world) (moves_awake before pid p2.cpu none_blocked awake)

@@ -1,4 +1,4 @@
--- A process of a lab acts by itself: from the list of processes to the relation of steps, up to where processes wake.
+-- A process of the world acts by itself: from the list of processes to the relation of steps, up to where processes wake.
 use Rattle.zl_calls.proofs.Common.{◌≡◌, ◌⊎◌, inl, inr, ℕ, true, false, List, map, get_or, set, refl, sym, ap, ◌∙◌, Option, Some, None, IfNone, ◌==◌, position}
 use Rattle.zl_calls.proofs.Common.{false≢true, STUCK, Map, get, Ready, is_ready, on_process, state_passes, Library, Site, cases_Bool, IsStuck, Moves, next_for}
 use Rattle.zl_calls.proofs.Common.{Objects, process_entry, process_value, state_value, world_blocked, world_value, IsConsistent, AreBlocked, DoesNext}
@@ -26,7 +26,7 @@ use Rattle.zl_calls.proofs.waking.Sleeping.{IsAsleep, asleep_acts, asleep_keeps,
 use Rattle.zl_calls.specs.Blocking.{then_blocked}
 use Rattle.zl_code.proofs.Waiters.{is_blocking}
 use Rattle.zl_calls.proofs.processes.Departed.{all_live, left_all, left_blocked, left_keeps, settled_world}
-use Rattle.zl_calls.proofs.stepping.Labs.{IsFree, freely}
+use Rattle.zl_calls.proofs.stepping.FromConsistent.{IsFree, freely}
 use Rattle.zl_calls.proofs.objects.Settled.{still_settles}
 use Rattle.zl_objects.proofs.Law.{has_seen}
 use Rattle.zl_calls.proofs.processes.Written.{alike_states, write_at, pid_read, refusal_keeps}
@@ -47,7 +47,7 @@ absent ps pid (Some x) missing = tt
 
 -- what a step did to the processes and objects, where these block
 pub record HasActed (lib : Library) (before after : List Process) (r r2 : Objects) (blocked blocked2 : List ℕ) (pid : ℕ) (x : TraceItem) : Type 0 where
-  pub lab : IsConsistent after r2
+  pub consistent : IsConsistent after r2
   pub list : AreBlocked after (then_blocked pid x blocked2)
   pub acts : DoesNext lib (world_blocked before r blocked) pid x (world_left after r2 (then_blocked pid x blocked2))
 
@@ -71,7 +71,7 @@ object_there ps r blocked sound k living = by_process (get (map process_entry ps
         sym (has_seen r.objects k) ∙ by_object (get (map object_entry r.objects) k) (ProcessBody own.job) own.there
 
 -- the process p stands at the place, under the pid
-module _ (lib : Library) (ps : List Process) (r : Objects) (lab : IsConsistent ps r) (blocked : List ℕ) (are : AreBlocked ps blocked)
+module _ (lib : Library) (ps : List Process) (r : Objects) (consistent : IsConsistent ps r) (blocked : List ℕ) (are : AreBlocked ps blocked)
     (sound : IsSoundWorld (world_blocked ps r blocked)) (pid place : ℕ) (p : Process)
     (found : Some place ≡ position (λ q. q.pid == pid) ps) (read : p ≡ get_or ps place p) where
   pub write_of : (p2 : Process) → p2.pid ≡ p.pid → IsWrite ps (set ps place p2) p p2
@@ -99,7 +99,7 @@ module _ (lib : Library) (ps : List Process) (r : Objects) (lab : IsConsistent p
         → IsActed lib (world_value ps r) pid x (settled_world after r2) → ListsBut (waits_by (next_for lib (process_value p)) x r.waits) r.waits_made r2
         → HasLeft lib ps after r r2 blocked blocked pid x
     acted_so after p2 r2 x write still same goes looks keeps acts lists = record {
-      lab = left_keeps after r2 keeps;
+      consistent = left_keeps after r2 keeps;
       list = rw (same_list pid x blocked goes) (left_blocked after r2 blocked (still_blocked ps after p p2 write unblocked still blocked are));
       acts = record {
         pid_is = same;
@@ -112,9 +112,9 @@ module _ (lib : Library) (ps : List Process) (r : Objects) (lab : IsConsistent p
     blocks_so : (name : CallName) (o : Outcome) (p2 : Process) (r2 : Objects) → IsWrite ps (set ps place p2) p p2 → IsFree lib (world_value ps r) p.pid name
         → IsAsleep lib ps r r2 p p2 name o → HasLeft lib ps (set ps place p2) r r2 blocked blocked pid (item.Call pid name o)
     blocks_so name o p2 r2 write free sleeps = rw (sleeps.ends, sleeps.objects, ← key) (record {
-      lab = left_keeps (set ps place p2) r (asleep_keeps lib ps (set ps place p2) r r2 p p2 lab write ready name o sleeps);
-      list = left_blocked (set ps place p2) r _ (asleep_list lib ps (set ps place p2) r r2 p p2 lab write ready name o sleeps blocked are);
-      acts = record { pid_is = refl; acted = asleep_acts lib ps (set ps place p2) r r2 p p2 lab write ready name o sleeps blocked free sound };
+      consistent = left_keeps (set ps place p2) r (asleep_keeps lib ps (set ps place p2) r r2 p p2 consistent write ready name o sleeps);
+      list = left_blocked (set ps place p2) r _ (asleep_list lib ps (set ps place p2) r r2 p p2 consistent write ready name o sleeps blocked are);
+      acts = record { pid_is = refl; acted = asleep_acts lib ps (set ps place p2) r r2 p p2 consistent write ready name o sleeps blocked free sound };
     })
 
     -- a call that looks at waits
@@ -122,7 +122,7 @@ module _ (lib : Library) (ps : List Process) (r : Objects) (lab : IsConsistent p
         → IsFree lib (world_blocked ps r blocked) p.pid name → Looks lib ps (set ps place p2) r r2 p name o
         → HasLeft lib ps (set ps place p2) r r2 blocked blocked pid (item.Call pid name o)
     looks_so name o p2 r2 write still free looks = rw (← key) (record {
-      lab = left_keeps (set ps place p2) r2 looks.called.keeps;
+      consistent = left_keeps (set ps place p2) r2 looks.called.keeps;
       list = rw (same_list p.pid (item.Call p.pid name o) blocked looks.goes)
           (left_blocked (set ps place p2) r2 blocked (still_blocked ps (set ps place p2) p p2 write unblocked still blocked are));
       acts = record {
@@ -146,9 +146,9 @@ module _ (lib : Library) (ps : List Process) (r : Objects) (lab : IsConsistent p
           → HasLeft lib ps (set ps place p2) r r2 blocked blocked pid (item.Call pid name o)
       by_outcome plain (inl goes) =
           let done : IsDone lib ps (set ps place p2) r r2 p.pid name o =
-          acted_done lib ps (set ps place p2) r r2 p p2 lab write_so ready name o goes (Some s) plain next acted in
+          acted_done lib ps (set ps place p2) r r2 p p2 consistent write_so ready name o goes (Some s) plain next acted in
           acted_so (set ps place p2) p2 r2 (item.Call pid name o) write_so (still_unblocked p p2 r r2 o (Some s) acted goes unblocked) refl goes
-          (ap next_looks next ∙ plain) done.lab
+          (ap next_looks next ∙ plain) done.consistent
           (rw (← key) (done.step free))
           (rw next (acted_lists p p2 r r2 pid o name (Some s) key plain acted))
       by_outcome plain (inr sleeps) = blocks_so name o p2 r2 write_so free sleeps
@@ -157,9 +157,9 @@ module _ (lib : Library) (ps : List Process) (r : Objects) (lab : IsConsistent p
           → HasLeft lib ps (set ps place p2) r r2 blocked blocked pid (item.Call pid name o)
       by_looks (inl looks) =
           let is : Looks lib ps (set ps place p2) r r2 p name o =
-          acted_looks lib ps (set ps place p2) r r2 p p2 lab write_so ready name o (Some s) looks next acted in
+          acted_looks lib ps (set ps place p2) r r2 p p2 consistent write_so ready name o (Some s) looks next acted in
           looks_so name o p2 r2 write_so (still_unblocked p p2 r r2 o (Some s) acted is.goes unblocked) free_beside is
-      by_looks (inr plain) = by_outcome plain (acted_asleep lib ps (set ps place p2) r r2 p p2 lab write_so ready name o (Some s) next acted)
+      by_looks (inr plain) = by_outcome plain (acted_asleep lib ps (set ps place p2) r r2 p p2 consistent write_so ready name o (Some s) next acted)
 
       pub alone_so : HasLeft lib ps (set ps place p2) r r2 blocked blocked pid (item.Call pid name o)
       alone_so = by_looks (cases_Bool (next_looks (AtCall name s)))
@@ -171,9 +171,9 @@ module _ (lib : Library) (ps : List Process) (r : Objects) (lab : IsConsistent p
     moves_so p2 next cpu =
         let write : IsWrite ps (set ps place p2) p p2 = write_of p2 (ap (λ (q : Process). q.pid) cpu) in
         let keeps : IsConsistent (set ps place p2) r =
-        refusal_keeps ps (set ps place p2) p p2 write r lab (ap (λ (q : Process). q.table) cpu) (ap (λ (q : Process). q.state) cpu) in
+        refusal_keeps ps (set ps place p2) p p2 write r consistent (ap (λ (q : Process). q.table) cpu) (ap (λ (q : Process). q.state) cpu) in
         record {
-          lab = keeps;
+          consistent = keeps;
           list = still_blocked ps (set ps place p2) p p2 write unblocked (ap (λ (q : Process). is_blocked (state_value q.state)) cpu ∙ unblocked) blocked are;
           acts = record {
             pid_is = refl;
@@ -210,6 +210,6 @@ module _ (lib : Library) (ps : List Process) (r : Objects) (lab : IsConsistent p
         let write : IsWrite ps (set ps place p2) p p2 = write_of p2 (ap (λ (q : Process). q.pid) ends.process) in
         acted_so (set ps place p2) p2 r2 (item.Stuck pid) write (ap (λ (q : Process). is_blocked (state_value q.state)) ends.process) refl refl
         (ap next_looks next)
-        (ends_keeps lib ps (set ps place p2) r r2 p p2 lab write STUCK ends ready)
-        (rw (← key) (stuck_steps lib ps (set ps place p2) r r2 p p2 lab write STUCK ends ready refl next))
+        (ends_keeps lib ps (set ps place p2) r r2 p p2 consistent write STUCK ends ready)
+        (rw (← key) (stuck_steps lib ps (set ps place p2) r r2 p p2 consistent write STUCK ends ready refl next))
         (rw next ends.listed.listed)

@@ -30,7 +30,7 @@ use Rattle.zl_calls.specs.Acting.{is_local}
 use Rattle.zl_calls.specs.Blocking.{then_blocked}
 use Rattle.zl_code.specs.Sound.{IsSound}
 use Rattle.zl_calls.specs.Registered.{EndsUnheld, FiresWaits, world_left}
-use Rattle.zl_calls.specs.World.{World, call_of}
+use Rattle.zl_calls.specs.World.{Machine, call_of}
 use Rattle.std.specs.List.{fold}
 use Rattle.zl_rights.specs.Wakes.{fired, woken}
 
@@ -87,62 +87,62 @@ takes_where_wanting lib w w2 pid q name s there next step =
     subst (λ (x : CallName). IsTrue (call_row x).grows) (asked_next q.cpu name s (slice_get lib q.program) next)
     (wanting_step lib w pid q name s w2 there next step)
 
--- ---- a step from one lab to another
+-- ---- a step from one machine to another
 
-module _ (l l2 : World) (pid at : ℕ) where
-  stands : (x : TraceItem) (step : Step l.programs l.world at x l2.world) → call_for l at ≡ call_in (next_for l.programs step.process)
+module _ (m m2 : Machine) (pid at : ℕ) where
+  stands : (x : TraceItem) (step : Step m.programs m.world at x m2.world) → call_for m at ≡ call_in (next_for m.programs step.process)
   stands x step = rw (step.is_there, step.is_ready) refl
 
-  call_is : (name : CallName) (o : Outcome) → TakesStep l pid l2 (item.Call at name o) → call_for l pid ≡ Some name
+  call_is : (name : CallName) (o : Outcome) → TakesStep m pid m2 (item.Call at name o) → call_for m pid ≡ Some name
   call_is name o takes =
       let step = takes.steps.step in
-      subst (λ (k : ℕ). call_for l k ≡ Some name) takes.pid_is
-      (stands (item.Call at name o) step ∙ called l.programs l.world step.acted at at name o (next_for l.programs step.process) step.acts)
+      subst (λ (k : ℕ). call_for m k ≡ Some name) takes.pid_is
+      (stands (item.Call at name o) step ∙ called m.programs m.world step.acted at at name o (next_for m.programs step.process) step.acts)
 
-  pub performs : (name : CallName) (o : Outcome) → TakesStep l pid l2 (item.Call at name o) → Performs l pid o l2
+  pub performs : (name : CallName) (o : Outcome) → TakesStep m pid m2 (item.Call at name o) → Performs m pid o m2
   performs name o takes = record {
     call = name;
     at_call = call_is name o takes;
-    steps = subst (λ (k : ℕ). StepsTo l (item.Call k name o) l2) takes.pid_is takes.steps;
+    steps = subst (λ (k : ℕ). StepsTo m (item.Call k name o) m2) takes.pid_is takes.steps;
   }
 
-  pub runs_no_call : (n : ℕ) → TakesStep l pid l2 (item.Run at n) → call_for l pid ≡ None
+  pub runs_no_call : (n : ℕ) → TakesStep m pid m2 (item.Run at n) → call_for m pid ≡ None
   runs_no_call n takes =
       let step = takes.steps.step in
-      subst (λ (k : ℕ). call_for l k ≡ None) takes.pid_is
-      (stands (item.Run at n) step ∙ ran_no_call l.programs l.world step.acted at at n (next_for l.programs step.process) step.acts)
+      subst (λ (k : ℕ). call_for m k ≡ None) takes.pid_is
+      (stands (item.Run at n) step ∙ ran_no_call m.programs m.world step.acted at at n (next_for m.programs step.process) step.acts)
 
-  pub stuck_at_no_call : TakesStep l pid l2 (item.Stuck at) → call_for l pid ≡ None
+  pub stuck_at_no_call : TakesStep m pid m2 (item.Stuck at) → call_for m pid ≡ None
   stuck_at_no_call takes =
       let step = takes.steps.step in
-      subst (λ (k : ℕ). call_for l k ≡ None) takes.pid_is
-      (stands (item.Stuck at) step ∙ stuck_no_call l.programs l.world step.acted at at (next_for l.programs step.process) step.acts)
+      subst (λ (k : ℕ). call_for m k ≡ None) takes.pid_is
+      (stands (item.Stuck at) step ∙ stuck_no_call m.programs m.world step.acted at at (next_for m.programs step.process) step.acts)
 
-  pub runs_one : (n : ℕ) → TakesStep l pid l2 (item.Run at n) → StepsTo l (item.Run pid 1) l2
+  pub runs_one : (n : ℕ) → TakesStep m pid m2 (item.Run at n) → StepsTo m (item.Run pid 1) m2
   runs_one n takes =
       let step = takes.steps.step in
-      subst (λ (x : TraceItem). StepsTo l x l2)
-      (ran_one l.programs l.world step.acted at at n (next_for l.programs step.process) step.acts ∙ ap (λ (k : ℕ). item.Run k 1) takes.pid_is) takes.steps
+      subst (λ (x : TraceItem). StepsTo m x m2)
+      (ran_one m.programs m.world step.acted at at n (next_for m.programs step.process) step.acts ∙ ap (λ (k : ℕ). item.Run k 1) takes.pid_is) takes.steps
 
-  pub is_stuck : TakesStep l pid l2 (item.Stuck at) → StepsTo l (item.Stuck pid) l2
-  is_stuck takes = subst (λ (x : TraceItem). StepsTo l x l2) (ap item.Stuck takes.pid_is) takes.steps
+  pub is_stuck : TakesStep m pid m2 (item.Stuck at) → StepsTo m (item.Stuck pid) m2
+  is_stuck takes = subst (λ (x : TraceItem). StepsTo m x m2) (ap item.Stuck takes.pid_is) takes.steps
 
-  pub wants_memory : (name : CallName) (o : Outcome) → TakesStep l pid l2 (item.Call at name o) → o ≡ outcome.Answered status.NoMemory
-      → IfSome (call_for l pid) (λ call. IsTrue (takes_memory call))
+  pub wants_memory : (name : CallName) (o : Outcome) → TakesStep m pid m2 (item.Call at name o) → o ≡ outcome.Answered status.NoMemory
+      → IfSome (call_for m pid) (λ call. IsTrue (takes_memory call))
   wants_memory name o takes wants =
-      let step = subst (λ (x : Outcome). Step l.programs l.world at (item.Call at name x) l2.world) wants takes.steps.step in
-      rw (call_is name o takes) (by_next step (next_for l.programs step.process) refl step.acts)
+      let step = subst (λ (x : Outcome). Step m.programs m.world at (item.Call at name x) m2.world) wants takes.steps.step in
+      rw (call_is name o takes) (by_next step (next_for m.programs step.process) refl step.acts)
     where
-      by_next : (step : Step l.programs l.world at (item.Call at name (outcome.Answered status.NoMemory)) l2.world) (next : Next)
-          → next_for l.programs step.process ≡ next
-          → Acts l.programs l.world at next (item.Call at name (outcome.Answered status.NoMemory)) step.acted → IsTrue (takes_memory name)
+      by_next : (step : Step m.programs m.world at (item.Call at name (outcome.Answered status.NoMemory)) m2.world) (next : Next)
+          → next_for m.programs step.process ≡ next
+          → Acts m.programs m.world at next (item.Call at name (outcome.Answered status.NoMemory)) step.acted → IsTrue (takes_memory name)
       by_next step (Moves c) is (same, moved) = absurd (called_moves c same)
         where
           called_moves : (c : Cpu) → item.Call at name (outcome.Answered status.NoMemory) ≡ item.Run at 1 → ⊥
           called_moves c e = cc
       by_next step (AtCall call s) is (o2, same, calls) =
           let same_name : name ≡ call = cc in
-          takes_where_wanting l.programs l.world l2.world at step.process name s step.is_there (is ∙ ap (λ (x : CallName). AtCall x s) (sym same_name)) step
+          takes_where_wanting m.programs m.world m2.world at step.process name s step.is_there (is ∙ ap (λ (x : CallName). AtCall x s) (sym same_name)) step
       by_next step IsStuck is (same, over) = absurd (called_stuck same)
         where
           called_stuck : item.Call at name (outcome.Answered status.NoMemory) ≡ item.Stuck at → ⊥
@@ -156,12 +156,12 @@ local_list pid (item.Run at count) blocked local = refl
 local_list pid (item.Call at call o) blocked local = absurd (false≢true local)
 local_list pid (item.Stuck at) blocked local = absurd (false≢true local)
 
-abbrev pub lab_value : Library → List Process → Objects → List ℕ → World
-lab_value lib ps r blocked = record { programs = lib; world = world_blocked ps r blocked }
+abbrev pub machine_value : Library → List Process → Objects → List ℕ → Machine
+machine_value lib ps r blocked = record { programs = lib; world = world_blocked ps r blocked }
 
 module _ (lib : Library) (ps : List Process) (r : Objects) (blocked : List ℕ) (pid : ℕ) where
   pub not_ready_in : {A : Type 0} (o : Option A) → state_passes is_ready (get (map process_entry ps) pid) ≡ false
-      → IfNone o (is_ready_in (lab_value lib ps r blocked) pid ≡ false)
+      → IfNone o (is_ready_in (machine_value lib ps r blocked) pid ≡ false)
   unfolding is_process
   not_ready_in None unready = unready
   not_ready_in (Some x) unready = tt
@@ -170,7 +170,7 @@ module _ (lib : Library) (ps : List Process) (r : Objects) (blocked : List ℕ) 
       → DoesNext lib (world_blocked ps r blocked) pid x (world_left ps2 r2 blocked2)
       → EndsUnheld ps2 r2 left → FiresWaits ps2 left fires
       → world_blocked ps3 r3 blocked3 ≡ fold woken (world_blocked ps2 fires blocked2) blocked2
-      → TakesStep (lab_value lib ps r blocked) pid (lab_value lib ps3 r3 blocked3) x
+      → TakesStep (machine_value lib ps r blocked) pid (machine_value lib ps3 r3 blocked3) x
   unfolding is_process wakes fired
   takes_step ps2 ps3 r2 left fires r3 blocked2 blocked3 x does unheld fired_so awake = record {
     pid_is = does.pid_is;
@@ -193,7 +193,8 @@ module _ (lib : Library) (ps : List Process) (r : Objects) (blocked : List ℕ) 
   -- the same of a local instruction, behind which nothing is due
   pub takes_local : (ps2 : List Process) (r2 : Objects) (blocked2 : List ℕ) (x : TraceItem) → is_local x ≡ true
       → DoesNext lib (world_blocked ps r blocked) pid x (world_left ps2 r2 (then_blocked pid x blocked2))
-      → wakes (world_left ps2 r2 blocked2) ≡ world_blocked ps2 r2 blocked2 → TakesStep (lab_value lib ps r blocked) pid (lab_value lib ps2 r2 blocked2) x
+      → wakes (world_left ps2 r2 blocked2) ≡ world_blocked ps2 r2 blocked2
+          → TakesStep (machine_value lib ps r blocked) pid (machine_value lib ps2 r2 blocked2) x
   unfolding is_process
   takes_local ps2 r2 blocked2 x local does quiet = record {
     pid_is = does.pid_is;
@@ -215,30 +216,30 @@ module _ (lib : Library) (ps : List Process) (r : Objects) (blocked : List ℕ) 
 
 -- behind such a step nothing is due
 pub stepped_awake : (lib : Library) (ps ps2 : List Process) (r r2 : Objects) (blocked blocked2 : List ℕ) (pid : ℕ) (x : TraceItem)
-    → TakesStep (lab_value lib ps r blocked) pid (lab_value lib ps2 r2 blocked2) x
+    → TakesStep (machine_value lib ps r blocked) pid (machine_value lib ps2 r2 blocked2) x
     → wakes (world_blocked ps2 r2 blocked2) ≡ world_blocked ps2 r2 blocked2
 stepped_awake lib ps ps2 r r2 blocked blocked2 pid x takes =
     step_awake lib (world_blocked ps r blocked) (pid_of x) x (world_blocked ps2 r2 blocked2) takes.steps.step
 
 -- it leaves each process a program of the library
 pub stepped_programs : (lib : Library) (ps ps2 : List Process) (r r2 : Objects) (blocked blocked2 : List ℕ) (pid : ℕ) (x : TraceItem)
-    → TakesStep (lab_value lib ps r blocked) pid (lab_value lib ps2 r2 blocked2) x
+    → TakesStep (machine_value lib ps r blocked) pid (machine_value lib ps2 r2 blocked2) x
     → HavePrograms lib (world_blocked ps r blocked) → HavePrograms lib (world_blocked ps2 r2 blocked2)
 stepped_programs lib ps ps2 r r2 blocked blocked2 pid x takes all =
     step_programs lib (world_blocked ps r blocked) (pid_of x) x (world_blocked ps2 r2 blocked2) all takes.steps.step
 
 -- such a step leads from a sound world to a sound one
 pub stepped_sound : (lib : Library) (ps ps2 : List Process) (r r2 : Objects) (blocked blocked2 : List ℕ) (pid : ℕ) (x : TraceItem)
-    → TakesStep (lab_value lib ps r blocked) pid (lab_value lib ps2 r2 blocked2) x
+    → TakesStep (machine_value lib ps r blocked) pid (machine_value lib ps2 r2 blocked2) x
     → IsSound (world_blocked ps r blocked) → IsSound (world_blocked ps2 r2 blocked2)
 stepped_sound lib ps ps2 r r2 blocked blocked2 pid x takes sound =
     step_sound lib (world_blocked ps r blocked) (pid_of x) x (world_blocked ps2 r2 blocked2) sound takes.steps.step
 
 -- one that isn't ready is at no call
-pub unready_no_call : (l : World) (pid : ℕ) → is_ready_in l pid ≡ false → call_for l pid ≡ None
+pub unready_no_call : (m : Machine) (pid : ℕ) → is_ready_in m pid ≡ false → call_for m pid ≡ None
 unfolding is_process
-unready_no_call l pid unready = by_process (get l.world.processes pid) unready
+unready_no_call m pid unready = by_process (get m.world.processes pid) unready
   where
-    by_process : (o : Option ProcessValue) → state_passes is_ready o ≡ false → call_of l.programs o ≡ None
+    by_process : (o : Option ProcessValue) → state_passes is_ready o ≡ false → call_of m.programs o ≡ None
     by_process None unready = refl
     by_process (Some p) unready = rw unready refl

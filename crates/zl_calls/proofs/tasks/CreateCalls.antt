@@ -52,7 +52,7 @@ update_before {X} (e ∷ m) k n f v apart = elim (cases_Bool (e.0 == k)) as (λ 
 
 -- ---- the answer
 
-module _ (lib : Library) (before : List Process) (r : Objects) (lab_is : IsConsistent before r) (p : ℕ) where
+module _ (lib : Library) (before : List Process) (r : Objects) (consistent : IsConsistent before r) (p : ℕ) where
   abbrev old_world : World
   old_world = world_value before r
 
@@ -76,7 +76,7 @@ module _ (lib : Library) (before : List Process) (r : Objects) (lab_is : IsConsi
   by_create_tests true false false true = refl
   by_create_tests true false false false = refl
 
-  pub create_refused : (job program : ℕ) → AllNamed before r lab_is p
+  pub create_refused : (job program : ℕ) → AllNamed before r consistent p
       → refusal lib old_world p (process_create job program) ≡ answers (create_refusal lib handles r job program)
   unfolding refusal handle_operands examined operand listed has_room has_koids
   create_refused job program named = rw (may_create old_world p condition.NewProcess) (by_entry (get handles job) refl)
@@ -106,7 +106,7 @@ module _ (lib : Library) (before : List Process) (r : Objects) (lab_is : IsConsi
 -- ---- a process is made
 
 -- p has become p2, whose table has the handle to the new process
-module _ (lib : Library) (before mid : List Process) (r : Objects) (lab_is : IsConsistent before r) (p p2 : Process) (write : IsWrite before mid p p2)
+module _ (lib : Library) (before mid : List Process) (r : Objects) (consistent : IsConsistent before r) (p p2 : Process) (write : IsWrite before mid p p2)
     (state : p2.state ≡ p.state)
     (job program made : ℕ) (above : Entry) (is_above : looked_up p.table.entries job (kind.Job ∷ []) MANAGE_PROCESS ≡ Ok above)
     (unrefused : create_refusal lib p.table.entries r job program ≡ None)
@@ -135,10 +135,10 @@ module _ (lib : Library) (before mid : List Process) (r : Objects) (lab_is : IsC
   w = world_value before r
 
   sound : IsSound before [] r
-  sound = sound_of before r lab_is
+  sound = sound_of before r consistent
 
   above_there : IsJobAt r.objects above.koid
-  above_there = job_named r.objects above (lab_is.named p.pid (process_value p) job above write.there
+  above_there = job_named r.objects above (consistent.named p.pid (process_value p) job above write.there
       (is_found (get p.table.entries job) (kind.Job ∷ []) MANAGE_PROCESS above is_above))
       (is_of_kind (get p.table.entries job) (kind.Job ∷ []) MANAGE_PROCESS above is_above)
 
@@ -146,7 +146,7 @@ module _ (lib : Library) (before mid : List Process) (r : Objects) (lab_is : IsC
 
   apart : (n == p.pid) ≡ false
   apart = elim (cases_Bool (n == p.pid)) as (λ _. (n == p.pid) ≡ false) [
-    | inl here ↦ absurd (omega (arith, eqb-true n p.pid here, lab_is.given_processes p.pid (rw write.there refl)))
+    | inl here ↦ absurd (omega (arith, eqb-true n p.pid here, consistent.given_processes p.pid (rw write.there refl)))
     | inr other ↦ other
   ]
 
@@ -180,7 +180,7 @@ module _ (lib : Library) (before mid : List Process) (r : Objects) (lab_is : IsC
           ap (λ (x : ProcessValue). count_by (λ h. h.1.koid == j) x.handles) created,
           sum_by-cons (λ (h : ℕ × Entry). cond (h.1.koid == j) 1 0) (made, entry) [],
         ));
-    kept = kept_grown before [] r sound b 1 refl lab_is.kept;
+    kept = kept_grown before [] r sound b 1 refl consistent.kept;
   }
 
   pub created_keeps : IsConsistent after grown
@@ -203,7 +203,7 @@ module _ (lib : Library) (before mid : List Process) (r : Objects) (lab_is : IsC
         where
           by_process : (o : Option ProcessValue) → get (map process_entry before) n ≡ o → o ≡ None
           by_process None is = refl
-          by_process (Some q) is = absurd (omega (arith, lab_is.given_processes n (rw is refl)))
+          by_process (Some q) is = absurd (omega (arith, consistent.given_processes n (rw is refl)))
 
       same_there : (k : ℕ) → state_passes is_blocked (get (map process_entry both) k) ≡ state_passes is_blocked (get (map process_entry before) k)
       same_there k = elim (cases_Bool (n == k))
@@ -229,7 +229,7 @@ module _ (lib : Library) (before mid : List Process) (r : Objects) (lab_is : IsC
     unfolding with_object
     with_one_is = λ i. record w {
       processes = (processes_are before [] r sound new pid above.koid life.Created 1 ∙ ap (put (map process_entry before) n) created) i;
-      objects = (sym (grown_seen r b 1 lab_is.given_objects)
+      objects = (sym (grown_seen r b 1 consistent.given_objects)
           ∙ ap (λ (k : ℕ). put (map object_entry r.objects) n (record { body = ProcessBody k; raised = 0 })) (sym koid_is)) i;
       next_koid = n + 1;
     }
@@ -245,11 +245,11 @@ module _ (lib : Library) (before mid : List Process) (r : Objects) (lab_is : IsC
     unfolding taken_handles handle_operands remove_all may_choose new_handles
     create_chosen = rw (write.there, may_get_inserted p p2 (new_entry n kind.Process) made inserts) refl
 
-    named_here : AllNamed before r lab_is p.pid
-    named_here h e at = lab_is.named p.pid (process_value p) h e write.there (rw (table_is before mid p p2 write r) at at)
+    named_here : AllNamed before r consistent p.pid
+    named_here h e at = consistent.named p.pid (process_value p) h e write.there (rw (table_is before mid p p2 write r) at at)
 
     refused_create : refusal lib w p.pid (process_create job program) ≡ answers (create_refusal lib p.table.entries r job program)
-    refused_create = create_refused lib before r lab_is p.pid job program named_here ∙ rw (table_is before mid p p2 write r) refl
+    refused_create = create_refused lib before r consistent p.pid job program named_here ∙ rw (table_is before mid p p2 write r) refl
 
     pub created_calls : Calls lib w p.pid create_site (outcome.Answered status.Ok) (world_value after grown)
     unfolding gives_ok

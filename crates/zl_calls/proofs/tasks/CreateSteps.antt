@@ -21,13 +21,13 @@ use Rattle.zl_objects.specs.declared.object.Body.TheVariants as body
 use Rattle.zl_objects.specs.declared.object.Life.TheVariants as life
 use Rattle.zl_calls.specs.Reaching.{IsAnsweredIn, IsToldIn}
 use Rattle.zl_calls.specs.Registered.{ListsBut}
-use Rattle.zl_calls.specs.calls.Task.{CreatesProcess, Lab, ProcessCreateDoes, create_refusal, lab}
+use Rattle.zl_calls.specs.calls.Task.{CreatesProcess, Parts, ProcessCreateDoes, create_refusal, parts}
 use Rattle.zl_calls.specs.calls.Making.{MakesOne}
 use Rattle.zl_calls.specs.declared.process.Process.{Process}
 use Rattle.zl_calls.proofs.calls.Answered.{IsWrite, table_is, same_world}
 use Rattle.zl_calls.proofs.processes.Departed.{left_all, left_blocked, left_keeps, settled_world}
 use Rattle.zl_calls.proofs.calls.DoneCalls.{IsCalled, IsDone, called_done}
-use Rattle.zl_calls.proofs.stepping.Labs.{IsFree, call_settles}
+use Rattle.zl_calls.proofs.stepping.FromConsistent.{IsFree, call_settles}
 use Rattle.zl_calls.proofs.waits.LeftWaits.{left_beside}
 use Rattle.zl_calls.proofs.waking.BlockedLists.{same_list}
 use Rattle.zl_calls.proofs.stepping.Performing.{HasLeft, acted_so, key, ready, there, unblocked, write_of}
@@ -57,19 +57,19 @@ module _ (lib : Library) (ps : List Process) (r : Objects) (whole : IsConsistent
     (sound : IsSoundWorld (world_blocked ps r blocked)) (pid place : ℕ) (p : Process)
     (found : Some place ≡ position (λ q. q.pid == pid) ps) (read : p ≡ get_or ps place p) (is_ready_there : is_ready (state_value p.state) ≡ true)
     (name : CallName) (free : IsFree lib (world_value ps r) p.pid name) (job program : ℕ) (consumed destinations : List ℕ)
-    (next : next_for lib (process_value p) ≡ AtCall name (site (process_create job program) consumed destinations)) (l2 : Lab) where
+    (next : next_for lib (process_value p) ≡ AtCall name (site (process_create job program) consumed destinations)) (all2 : Parts) where
   abbrev s : Site
   s = site (process_create job program) consumed destinations
 
   -- the step ends so
   abbrev Left : Outcome → Type 0
-  Left o = HasLeft lib ps l2.processes r l2.objects blocked l2.blocked pid (item.Call pid name o)
+  Left o = HasLeft lib ps all2.processes r all2.objects blocked all2.blocked pid (item.Call pid name o)
 
-  left_as : (o : Outcome) (after : List Process) (r2 : Objects) → l2.processes ≡ after → l2.objects ≡ r2 → l2.blocked ≡ blocked
+  left_as : (o : Outcome) (after : List Process) (r2 : Objects) → all2.processes ≡ after → all2.objects ≡ r2 → all2.blocked ≡ blocked
       → HasLeft lib ps after r r2 blocked blocked pid (item.Call pid name o) → Left o
   left_as o after r2 processes objects list left =
-      subst (λ (qs : List Process). HasLeft lib ps qs r l2.objects blocked l2.blocked pid (item.Call pid name o)) (sym processes)
-      (subst (λ (x : Objects). HasLeft lib ps after r x blocked l2.blocked pid (item.Call pid name o)) (sym objects)
+      subst (λ (qs : List Process). HasLeft lib ps qs r all2.objects blocked all2.blocked pid (item.Call pid name o)) (sym processes)
+      (subst (λ (x : Objects). HasLeft lib ps after r x blocked all2.blocked pid (item.Call pid name o)) (sym objects)
       (subst (λ (b : List ℕ). HasLeft lib ps after r r2 blocked b pid (item.Call pid name o)) (sym list) left))
 
   is_caller : (c : Process) → slice_get ps place ≡ Some c → c ≡ p
@@ -113,7 +113,7 @@ module _ (lib : Library) (ps : List Process) (r : Objects) (whole : IsConsistent
         (outcome.Answered answer) refused_called in
         acted_so lib ps r whole blocked are sound pid place p found read is_ready_there after_it told r
         (item.Call pid name (outcome.Answered answer)) write_told
-        (unblocked lib ps r whole blocked are sound pid place p found read is_ready_there) refl refl (ap next_looks next) done.lab
+        (unblocked lib ps r whole blocked are sound pid place p found read is_ready_there) refl refl (ap next_looks next) done.consistent
         (rw (← key lib ps r whole blocked are sound pid place p found read) (done.step free))
         (rw next (record { waits = λ test h. refl; made = refl }))
 
@@ -123,7 +123,7 @@ module _ (lib : Library) (ps : List Process) (r : Objects) (whole : IsConsistent
       → IsActed lib (world_value ps r) p.pid (item.Call p.pid name (outcome.Answered status.Ok)) (settled_world after r2)
       → ListsBut r.waits r.waits_made r2 → HasLeft lib ps after r r2 blocked blocked pid (item.Call pid name (outcome.Answered status.Ok))
   left_with after r2 keeps list step lists = record {
-    lab = left_keeps after r2 keeps;
+    consistent = left_keeps after r2 keeps;
     list = rw (same_list pid (item.Call pid name (outcome.Answered status.Ok)) blocked refl) (left_blocked after r2 blocked list);
     acts = record {
       pid_is = refl;
@@ -139,7 +139,7 @@ module _ (lib : Library) (ps : List Process) (r : Objects) (whole : IsConsistent
 
   -- ---- a process is made
 
-  module _ (made : ℕ) (between : Lab) (done : CreatesProcess lib (lab ps r blocked) place job program made between) where
+  module _ (made : ℕ) (between : Parts) (done : CreatesProcess lib (parts ps r blocked) place job program made between) where
     handed_is : done.after ≡ record p { table = done.after.table }
     handed_is = done.is_caller.same ∙ (λ i. record (is_caller done.caller done.is_caller.is_there i) { table = done.after.table })
 
@@ -200,17 +200,17 @@ module _ (lib : Library) (ps : List Process) (r : Objects) (whole : IsConsistent
 
   -- ---- either
 
-  by_answer : (answer : Result ℕ Status) (between : Lab) → ProcessCreateDoes lib place job program p (lab ps r blocked) answer between
-      → IsToldIn s place (told_by one_value answer) between l2 → Left (outcome.Answered (status_of answer))
+  by_answer : (answer : Result ℕ Status) (between : Parts) → ProcessCreateDoes lib place job program p (parts ps r blocked) answer between
+      → IsToldIn s place (told_by one_value answer) between all2 → Left (outcome.Answered (status_of answer))
   by_answer (Err answer) between does is_told =
-      let before : between.processes ≡ ps = ap (λ (l : Lab). l.processes) does.refused in
+      let before : between.processes ≡ ps = ap (λ (all : Parts). all.processes) does.refused in
       let same : is_told.caller ≡ p = is_caller is_told.caller (ap (λ (qs : List Process). slice_get qs place) (sym before) ∙ is_told.is_there) in
       left_as (outcome.Answered answer) (set ps place (record p { cpu = cpu_answered s answer [] p.cpu })) r
       (is_told.processes ∙ (λ i. slice_set (before i) place (record (same i) { cpu = cpu_answered s answer [] (same i).cpu })))
-      (is_told.objects ∙ ap (λ (l : Lab). l.objects) does.refused) (is_told.blocked ∙ ap (λ (l : Lab). l.blocked) does.refused)
+      (is_told.objects ∙ ap (λ (all : Parts). all.objects) does.refused) (is_told.blocked ∙ ap (λ (all : Parts). all.blocked) does.refused)
       (refused_so answer does.err)
   by_answer (Ok made) between does is_told =
-      let done : CreatesProcess lib (lab ps r blocked) place job program made between = does.ok in
+      let done : CreatesProcess lib (parts ps r blocked) place job program made between = does.ok in
       let same : is_told.caller ≡ done.after =
       sym (same_Some done.after is_told.caller (sym (get_again ps (done.new ∷ []) place done.after done.caller done.is_caller.is_there)
       ∙ (ap (λ (qs : List Process). slice_get qs place) (sym done.processes) ∙ is_told.is_there))) in
@@ -223,5 +223,5 @@ module _ (lib : Library) (ps : List Process) (r : Objects) (whole : IsConsistent
       (is_told.objects ∙ done.makes.objects) (is_told.blocked ∙ done.blocked)
       (made_so made between done)
 
-  pub create_so : (o : Outcome) → IsAnsweredIn (told_by one_value) (ProcessCreateDoes lib place job program p) s place (lab ps r blocked) o l2 → Left o
+  pub create_so : (o : Outcome) → IsAnsweredIn (told_by one_value) (ProcessCreateDoes lib place job program p) s place (parts ps r blocked) o all2 → Left o
   create_so o does = subst Left (sym does.ends) (by_answer does.answer does.between does.does does.is_told)

@@ -11,7 +11,7 @@ use Rattle.zl_rights.specs.declared.kind.Kind.TheVariants as kind
 use Rattle.zl_objects.specs.declared.object.Body.{Body}
 use Rattle.zl_objects.specs.Jobs.{action_of, is_dead, job_at}
 use Rattle.zl_calls.specs.calls.Making.{MakeDoes, room_refusal}
-use Rattle.zl_calls.specs.calls.Task.{ProcessCreateDoes, create_refusal, create_refusal_of, lab, needs_more}
+use Rattle.zl_calls.specs.calls.Task.{ProcessCreateDoes, create_refusal, create_refusal_of, needs_more, parts}
 use Rattle.zl_calls.specs.declared.process.Process.{Process}
 
 -- what is written back as it was read changes nothing
@@ -49,20 +49,20 @@ module _ (lib : Library) (ps ps2 : List Process) (r : Objects) (blocked blocked2
 
   -- memory is wanted, and nothing has changed
   pub wants_memory : (r2 : Objects) → r2 ≡ r → (ps3 : List Process) → ps3 ≡ ps2
-      → ProcessCreateDoes lib place job program caller (lab ps r blocked) (Err status.NoMemory) (lab ps3 r2 blocked2)
+      → ProcessCreateDoes lib place job program caller (parts ps r blocked) (Err status.NoMemory) (parts ps3 r2 blocked2)
   wants_memory r2 same_objects ps3 same = record {
     ok = tt;
     err = subst (λ (o : Option Status). IsRefusedBy true o status.NoMemory) (sym unrefused) refl;
-    refused = λ i. lab ((same ∙ same_ps) i) (same_objects i) (same_blocked i);
+    refused = λ i. parts ((same ∙ same_ps) i) (same_objects i) (same_blocked i);
   }
 
   -- the object or its handle wants memory
   pub not_made : (written : Process) → written ≡ get_or ps2 place written → (b : Body) (table : Handles) (r2 : Objects) (s : Status)
       → MakeDoes b written.table r (Err s) table r2
-      → ProcessCreateDoes lib place job program caller (lab ps r blocked) (Err s) (lab (slice_set ps2 place (record written { table = table })) r2 blocked2)
+      → ProcessCreateDoes lib place job program caller (parts ps r blocked) (Err s) (parts (slice_set ps2 place (record written { table = table })) r2 blocked2)
   not_made written is_written b table r2 s does =
-      subst (λ (x : Status). ProcessCreateDoes lib place job program caller (lab ps r blocked) (Err x)
-      (lab (slice_set ps2 place (record written { table = table })) r2 blocked2)) (sym is)
+      subst (λ (x : Status). ProcessCreateDoes lib place job program caller (parts ps r blocked) (Err x)
+      (parts (slice_set ps2 place (record written { table = table })) r2 blocked2)) (sym is)
       (wants_memory r2 does.same_objects (slice_set ps2 place (record written { table = table }))
       (ap (λ (t : Handles). slice_set ps2 place (record written { table = t })) does.same_table ∙ set_itself ps2 place written is_written))
     where

@@ -36,8 +36,9 @@ use Rattle.zl_calls.specs.Registered.{ListsBut}
 use Rattle.zl_calls.specs.declared.process.Process.{Process}
 use Rattle.zl_calls.specs.declared.process.State.{State}
 use Rattle.zl_calls.specs.declared.process.State.TheVariants as state
-use Rattle.zl_calls.specs.calls.Task.{ClosesAllEnded, ClosesEnded, lives_on, is_over, none_left, one_more, Lab, KillsTask, ended_if, ended_within, kill_refusal}
-use Rattle.zl_calls.specs.calls.Task.{lab}
+use Rattle.zl_calls.specs.calls.Task.{ClosesAllEnded, ClosesEnded, lives_on, is_over, none_left}
+use Rattle.zl_calls.specs.calls.Task.{one_more, Parts, KillsTask, ended_if, ended_within, kill_refusal}
+use Rattle.zl_calls.specs.calls.Task.{parts}
 use Rattle.zl_calls.proofs.calls.AmongWaits.{look_up_answers}
 use Rattle.zl_code.specs.declared.history.TraceItem.TheVariants as item
 use Rattle.zl_calls.proofs.waking.BlockedLists.{same_list, still_blocked}
@@ -108,12 +109,12 @@ module _ (ps : List Process) (r : Objects) (whole : IsConsistent ps r) (blocked 
   abbrev within : ℕ → Bool
   within = is_within r.objects t
 
-  module _ (l2 : Lab) (kills : KillsTask (lab ps r blocked) t l2) where
+  module _ (all2 : Parts) (kills : KillsTask (parts ps r blocked) t all2) where
     abbrev ps2 : List Process
-    ps2 = l2.processes
+    ps2 = all2.processes
 
     abbrev r2 : Objects
-    r2 = l2.objects
+    r2 = all2.objects
 
     -- what the definitions see of the processes
     pub seen_killed : map process_entry ps2 ≡ each (λ k. process_killed (is_within_value (map object_entry r.objects) t k)) (map process_entry ps)
@@ -143,11 +144,11 @@ module _ (ps : List Process) (r : Objects) (whole : IsConsistent ps r) (blocked 
 
     -- the whole world after the kill
     pub killed_world : AreBlocked ps blocked
-        → ◌≡◌ {A = World} (with_waiters (world_value ps2 (killing r t)) r.waits r.waits_made l2.blocked) (with_killed (world_blocked ps r blocked) t)
+        → ◌≡◌ {A = World} (with_waiters (world_value ps2 (killing r t)) r.waits r.waits_made all2.blocked) (with_killed (world_blocked ps r blocked) t)
     unfolding with_killed
     killed_world are = λ i. record (world_blocked ps r blocked) { processes = seen_killed i; objects = objects_killed r.objects t some i; blocked = list_is i }
       where
-        list_is : l2.blocked ≡ filter (λ k. not (is_within_value (map object_entry r.objects) t k)) blocked
+        list_is : all2.blocked ≡ filter (λ k. not (is_within_value (map object_entry r.objects) t k)) blocked
         list_is =
             kills.blocked
             ∙ ((λ i. filter (λ k. states_stay (map (ended_within r t) ps) ps2 kills.between r2 kills.closes is_blocked k i) blocked)
@@ -176,7 +177,7 @@ module _ (lib : Library) (ps : List Process) (r : Objects) (blocked : List ℕ) 
       → ListsBut r.waits r.waits_made r2
       → HasLeft lib ps after r r2 blocked blocked2 p.pid (item.Call p.pid name o)
   leaves_so after r1 r2 blocked2 o goes left list calls lists = record {
-    lab = left_keeps after r2 left.lab;
+    consistent = left_keeps after r2 left.consistent;
     list = rw (same_list p.pid (item.Call p.pid name o) blocked2 goes) (left_blocked after r2 blocked2 list);
     acts = record {
       pid_is = refl;
@@ -288,8 +289,8 @@ module _ (lib : Library) (ps : List Process) (r : Objects) (whole : IsConsistent
   abbrev kill_site : Site
   kill_site = site (task_kill task) consumed destinations
 
-  module _ (l2 : Lab) (named : Entry) (is_named : looked_up p.table.entries task (kind.Process ∷ kind.Job ∷ []) DESTROY ≡ Ok named)
-      (kills : KillsTask (lab ps r blocked) named.koid l2) where
+  module _ (all2 : Parts) (named : Entry) (is_named : looked_up p.table.entries task (kind.Process ∷ kind.Job ∷ []) DESTROY ≡ Ok named)
+      (kills : KillsTask (parts ps r blocked) named.koid all2) where
     abbrev t : ℕ
     t = named.koid
 
@@ -307,32 +308,32 @@ module _ (lib : Library) (ps : List Process) (r : Objects) (whole : IsConsistent
     names_it : object_at w p.pid task ≡ t
     names_it = rw (there, is_found (get p.table.entries task) (kind.Process ∷ kind.Job ∷ []) DESTROY named is_named) refl
 
-    after_it : ◌≡◌ {A = World} (with_waiters (world_value l2.processes (killing r t)) r.waits r.waits_made l2.blocked) (with_killed w t)
-    after_it = killed_world ps r whole blocked sound t given l2 kills are
+    after_it : ◌≡◌ {A = World} (with_waiters (world_value all2.processes (killing r t)) r.waits r.waits_made all2.blocked) (with_killed w t)
+    after_it = killed_world ps r whole blocked sound t given all2 kills are
 
-    blocked_after : AreBlocked l2.processes l2.blocked
+    blocked_after : AreBlocked all2.processes all2.blocked
     blocked_after = record {
       once =
           λ k. ap (times k) (kills.blocked
-          ∙ (λ i. filter (λ j. states_stay (map (ended_within r t) ps) l2.processes kills.between l2.objects kills.closes is_blocked j i) blocked))
-          ∙ (times_kept (λ j. state_passes is_blocked (get (map process_entry l2.processes) j)) k blocked
+          ∙ (λ i. filter (λ j. states_stay (map (ended_within r t) ps) all2.processes kills.between all2.objects kills.closes is_blocked j i) blocked))
+          ∙ (times_kept (λ j. state_passes is_blocked (get (map process_entry all2.processes) j)) k blocked
           ∙ by_state k (get (map process_entry ps) k) refl);
-      counters = λ k q at h. by_process k (get (map process_entry ps) k) refl q (sym (got_killed ps r whole blocked sound t given l2 kills k) ∙ at) h;
+      counters = λ k q at h. by_process k (get (map process_entry ps) k) refl q (sym (got_killed ps r whole blocked sound t given all2 kills k) ∙ at) h;
     }
       where
         by_state : (k : ℕ) (o : Option ProcessValue) → get (map process_entry ps) k ≡ o
-            → (if state_passes is_blocked (get (map process_entry l2.processes) k) then times k blocked else 0)
-            ≡ (if state_passes is_blocked (get (map process_entry l2.processes) k) then 1 else 0)
-        by_state k None at = rw (got_killed ps r whole blocked sound t given l2 kills k, at) refl
+            → (if state_passes is_blocked (get (map process_entry all2.processes) k) then times k blocked else 0)
+            ≡ (if state_passes is_blocked (get (map process_entry all2.processes) k) then 1 else 0)
+        by_state k None at = rw (got_killed ps r whole blocked sound t given all2 kills k, at) refl
         by_state k (Some q) at =
             elim (cases_Bool (is_blocked (process_killed (is_within r.objects t k) q).state))
-            as (λ _. (if state_passes is_blocked (get (map process_entry l2.processes) k) then times k blocked else 0)
-            ≡ (if state_passes is_blocked (get (map process_entry l2.processes) k) then 1 else 0)) [
+            as (λ _. (if state_passes is_blocked (get (map process_entry all2.processes) k) then times k blocked else 0)
+            ≡ (if state_passes is_blocked (get (map process_entry all2.processes) k) then 1 else 0)) [
               | inl waits ↦
                   let still : is_blocked q.state ≡ true =
                   ap (λ (x : ProcessValue). is_blocked x.state) (sym (was_blocked (is_within r.objects t k) q waits)) ∙ waits in
-                  rw (got_killed ps r whole blocked sound t given l2 kills k, at, waits) (are.once k ∙ rw (at, still) refl)
-              | inr goes ↦ rw (got_killed ps r whole blocked sound t given l2 kills k, at, goes) refl
+                  rw (got_killed ps r whole blocked sound t given all2 kills k, at, waits) (are.once k ∙ rw (at, still) refl)
+              | inr goes ↦ rw (got_killed ps r whole blocked sound t given all2 kills k, at, goes) refl
             ]
 
         by_process : (k : ℕ) (o : Option ProcessValue) → get (map process_entry ps) k ≡ o → (q : ProcessValue)
@@ -343,30 +344,30 @@ module _ (lib : Library) (ps : List Process) (r : Objects) (whole : IsConsistent
             let same : x ≡ q = sym (was_blocked (is_within r.objects t k) x (ap (λ (y : ProcessValue). is_blocked y.state) became ∙ h)) ∙ became in
             are.counters k q (at ∙ ap Some same) h
 
-    lists : ListsBut r.waits r.waits_made l2.objects
+    lists : ListsBut r.waits r.waits_made all2.objects
     lists = kills.listed.listed
 
     -- the caller is among the killed, or it isn't
     abbrev dies : Bool
     dies = is_within r.objects t p.pid
 
-    stands : get (map process_entry l2.processes) p.pid ≡ Some (process_killed dies (process_value p))
-    stands = got_killed ps r whole blocked sound t given l2 kills p.pid ∙ rw there refl
+    stands : get (map process_entry all2.processes) p.pid ≡ Some (process_killed dies (process_value p))
+    stands = got_killed ps r whole blocked sound t given all2 kills p.pid ∙ rw there refl
 
     abbrev within_value : ℕ → Bool
     within_value k = is_within_value (map object_entry r.objects) t k
 
     -- what is seen of the process at the place
-    at_place : (c : Process) → slice_get l2.processes place ≡ Some c → (c.pid ≡ p.pid) × (process_value c ≡ process_killed dies (process_value p))
+    at_place : (c : Process) → slice_get all2.processes place ≡ Some c → (c.pid ≡ p.pid) × (process_value c ≡ process_killed dies (process_value p))
     at_place c at =
         let same : c.pid ≡ p.pid =
         place_stays (ended_within r t) (λ x. ends_pid (lives (state_value x.state) && is_within r.objects t x.pid) x) ps
-        (map (ended_within r t) ps) l2.processes kills.between l2.objects refl kills.closes place p c here at in
-        let write : IsWrite l2.processes (slice_set l2.processes place c) c c =
-        writes_at l2.processes place c c (still_sorted ps r whole blocked sound t given l2 kills) at refl in (
+        (map (ended_within r t) ps) all2.processes kills.between all2.objects refl kills.closes place p c here at in
+        let write : IsWrite all2.processes (slice_set all2.processes place c) c c =
+        writes_at all2.processes place c c (still_sorted ps r whole blocked sound t given all2 kills) at refl in (
           same,
           same_Some (process_value c) (process_killed dies (process_value p))
-              (sym (subst (λ (k : ℕ). get (map process_entry l2.processes) k ≡ Some (process_value c)) same write.there) ∙ stands),
+              (sym (subst (λ (k : ℕ). get (map process_entry all2.processes) k ≡ Some (process_value c)) same write.there) ∙ stands),
         )
 
     kill_chosen : IsTrue (may_choose w (taken w p.pid kill_site) p.pid (task_kill task) [])
@@ -396,14 +397,14 @@ module _ (lib : Library) (ps : List Process) (r : Objects) (whole : IsConsistent
             subst (λ (y : ProcessValue). process_ended KILLED y ≡ y) became (rw ready refl)
 
     killed_calls : dies ≡ true
-        → PolicedCalls lib w p.pid kill_site (outcome.Ended KILLED) (with_waiters (world_value l2.processes (killing r t)) r.waits r.waits_made l2.blocked)
+        → PolicedCalls lib w p.pid kill_site (outcome.Ended KILLED) (with_waiters (world_value all2.processes (killing r t)) r.waits r.waits_made all2.blocked)
     unfolding effect gives_ok new_handles taken_handles handle_operands remove_all insert_all
     killed_calls among = (Values [], rw passes (kill_chosen, killed_ends among, after_it ∙ (sym (ended_still among) ∙ rw (← killed_ends among, names_it) refl)))
 
     -- all has settled, though one goes on computing with another Cpu
     killed_got : (cpus : ℕ → ProcessValue → Cpu) (k : ℕ) → ((q : ProcessValue) → get (map process_entry ps) k ≡ Some q → cpus k q ≡ q.cpu)
-        → get (map process_entry l2.processes) k ≡ option_map (killed_with (is_within r.objects t) cpus k) (get (map process_entry ps) k)
-    killed_got cpus k same = got_killed ps r whole blocked sound t given l2 kills k ∙ by_process (get (map process_entry ps) k) refl
+        → get (map process_entry all2.processes) k ≡ option_map (killed_with (is_within r.objects t) cpus k) (get (map process_entry ps) k)
+    killed_got cpus k same = got_killed ps r whole blocked sound t given all2 kills k ∙ by_process (get (map process_entry ps) k) refl
       where
         by_process : (o : Option ProcessValue) → get (map process_entry ps) k ≡ o
             → option_map (process_killed (is_within r.objects t k)) o ≡ option_map (killed_with (is_within r.objects t) cpus k) o
@@ -411,17 +412,18 @@ module _ (lib : Library) (ps : List Process) (r : Objects) (whole : IsConsistent
         by_process (Some q) at =
             ap Some (cpu_stays (is_within r.objects t k) q ∙ (λ i. record (process_killed (is_within r.objects t k) q) { cpu = sym (same q at) i }))
 
-    pub dies_so : (c : Process) (code : ℤ) → slice_get l2.processes place ≡ Some c → c.state ≡ state.Ended code
-        → HasLeft lib ps l2.processes r l2.objects blocked l2.blocked p.pid (item.Call p.pid name (outcome.Ended code))
+    pub dies_so : (c : Process) (code : ℤ) → slice_get all2.processes place ≡ Some c → c.state ≡ state.Ended code
+        → HasLeft lib ps all2.processes r all2.objects blocked all2.blocked p.pid (item.Call p.pid name (outcome.Ended code))
     unfolding is_ended code_in
     dies_so c code at over =
-        elim (cases_Bool dies) as (λ _. HasLeft lib ps l2.processes r l2.objects blocked l2.blocked p.pid (item.Call p.pid name (outcome.Ended code))) [
+        elim (cases_Bool dies) as (λ _. HasLeft lib ps all2.processes r all2.objects blocked all2.blocked p.pid (item.Call p.pid name (outcome.Ended code))) [
           | inl among ↦
               let is : code ≡ KILLED = the_code among in
-              subst (λ (x : ℤ). HasLeft lib ps l2.processes r l2.objects blocked l2.blocked p.pid (item.Call p.pid name (outcome.Ended x))) (sym is)
-              (leaves_so lib ps r blocked sound p there ready name kill_site next l2.processes (killing r t) l2.objects l2.blocked (outcome.Ended KILLED) refl
-              (ends_settled ps r whole blocked sound t given l2 kills l2.processes (λ k q. q.cpu) (λ k. killed_got (λ j q. q.cpu) k (λ q there_too. refl))
-              (λ k. refl) (still_sorted ps r whole blocked sound t given l2 kills))
+              subst (λ (x : ℤ). HasLeft lib ps all2.processes r all2.objects blocked all2.blocked p.pid (item.Call p.pid name (outcome.Ended x))) (sym is)
+              (leaves_so lib ps r blocked sound p there ready name kill_site next all2.processes (killing r t) all2.objects all2.blocked
+                  (outcome.Ended KILLED) refl
+              (ends_settled ps r whole blocked sound t given all2 kills all2.processes (λ k q. q.cpu) (λ k. killed_got (λ j q. q.cpu) k (λ q there_too. refl))
+              (λ k. refl) (still_sorted ps r whole blocked sound t given all2 kills))
               blocked_after (killed_calls among) lists)
           | inr apart ↦ absurd (not_over apart)
         ]
@@ -439,12 +441,12 @@ module _ (lib : Library) (ps : List Process) (r : Objects) (whole : IsConsistent
             false≢true (ap is_ended (sym ready ∙ (ap (λ (b : Bool). (process_killed b (process_value p)).state) (sym apart)
             ∙ (ap (λ (x : ProcessValue). x.state) (sym (at_place c at).1) ∙ state_is))))
 
-    module _ (c : Process) (at : slice_get l2.processes place ≡ Some c) (apart : dies ≡ false) where
+    module _ (c : Process) (at : slice_get all2.processes place ≡ Some c) (apart : dies ≡ false) where
       abbrev answered_caller : Process
       answered_caller = record c { cpu = cpu_answered kill_site status.Ok [] c.cpu }
 
       abbrev after : List Process
-      after = slice_set l2.processes place answered_caller
+      after = slice_set all2.processes place answered_caller
 
       same_pid : c.pid ≡ p.pid
       same_pid = (at_place c at).0
@@ -455,62 +457,64 @@ module _ (lib : Library) (ps : List Process) (r : Objects) (whole : IsConsistent
       abbrev with_answer : ProcessValue → ProcessValue
       with_answer q = record q { cpu = cpu_answered kill_site status.Ok [] q.cpu }
 
-      write : IsWrite l2.processes after c answered_caller
-      write = writes_at l2.processes place c answered_caller (still_sorted ps r whole blocked sound t given l2 kills) at refl
+      write : IsWrite all2.processes after c answered_caller
+      write = writes_at all2.processes place c answered_caller (still_sorted ps r whole blocked sound t given all2 kills) at refl
 
-      written : map process_entry after ≡ update (map process_entry l2.processes) p.pid with_answer
-      written = write.writes with_answer refl ∙ ap (λ (k : ℕ). update (map process_entry l2.processes) k with_answer) same_pid
+      written : map process_entry after ≡ update (map process_entry all2.processes) p.pid with_answer
+      written = write.writes with_answer refl ∙ ap (λ (k : ℕ). update (map process_entry all2.processes) k with_answer) same_pid
 
       abbrev cpus : ℕ → ProcessValue → Cpu
       cpus k q = if p.pid == k then cpu_answered kill_site status.Ok [] q.cpu else q.cpu
 
       after_got : (k : ℕ) → get (map process_entry after) k ≡ option_map (killed_with (is_within r.objects t) cpus k) (get (map process_entry ps) k)
-      after_got k = ap (λ m. get m k) written ∙ (get-update (map process_entry l2.processes) p.pid with_answer k ∙ by_key (cases_Bool (p.pid == k)))
+      after_got k = ap (λ m. get m k) written ∙ (get-update (map process_entry all2.processes) p.pid with_answer k ∙ by_key (cases_Bool (p.pid == k)))
         where
           by_key : (IsTrue (p.pid == k)) ⊎ ((p.pid == k) ≡ false)
-              → (if p.pid == k then option_map with_answer (get (map process_entry l2.processes) k) else get (map process_entry l2.processes) k)
+              → (if p.pid == k then option_map with_answer (get (map process_entry all2.processes) k) else get (map process_entry all2.processes) k)
               ≡ option_map (killed_with (is_within r.objects t) cpus k) (get (map process_entry ps) k)
           by_key (inl here_too) = rw (here_too, ← eqb-true p.pid k here_too, stands, there, apart, eq-eqb p.pid p.pid refl) refl
           by_key (inr other) =
-              (λ i. if other i then option_map with_answer (get (map process_entry l2.processes) k) else get (map process_entry l2.processes) k)
+              (λ i. if other i then option_map with_answer (get (map process_entry all2.processes) k) else get (map process_entry all2.processes) k)
               ∙ killed_got cpus k (λ q found. rw other refl)
 
-      after_tables : (k : ℕ) → in_tables k after ≡ in_tables k l2.processes
+      after_tables : (k : ℕ) → in_tables k after ≡ in_tables k all2.processes
       after_tables k =
           let n : ℕ × ProcessValue → ℕ = λ q. count_by (λ (h : ℕ × Entry). h.1.koid == k) q.1.handles in
-          let kept : sum_by n (update (map process_entry l2.processes) p.pid with_answer) ≡ sum_by n (map process_entry l2.processes) + 0 =
-          sum_update n (map process_entry l2.processes) p.pid 0 (process_killed dies (process_value p)) with_answer stands (omega arith) in
+          let kept : sum_by n (update (map process_entry all2.processes) p.pid with_answer) ≡ sum_by n (map process_entry all2.processes) + 0 =
+          sum_update n (map process_entry all2.processes) p.pid 0 (process_killed dies (process_value p)) with_answer stands (omega arith) in
           ap (sum_by n) written ∙ omega (arith, kept)
 
       after_sorted : IsTrue (is_sorted nat_cmp (map process_entry after))
-      after_sorted = rw (written, is_sorted-update (map process_entry l2.processes) p.pid with_answer) (still_sorted ps r whole blocked sound t given l2 kills)
+      after_sorted = rw (written, is_sorted-update (map process_entry all2.processes) p.pid with_answer)
+          (still_sorted ps r whole blocked sound t given all2 kills)
 
       answered_calls : PolicedCalls lib w p.pid kill_site (outcome.Answered status.Ok)
-          (with_waiters (world_value after (killing r t)) r.waits r.waits_made l2.blocked)
+          (with_waiters (world_value after (killing r t)) r.waits r.waits_made all2.blocked)
       unfolding effect gives_ok new_handles taken_handles handle_operands remove_all insert_all replied on_process
       answered_calls = (Values [], rw passes (kill_chosen, killed_lives apart, answered_world ∙ rw (← killed_lives apart, names_it) refl))
         where
-          answered_world : ◌≡◌ {A = World} (with_waiters (world_value after (killing r t)) r.waits r.waits_made l2.blocked)
+          answered_world : ◌≡◌ {A = World} (with_waiters (world_value after (killing r t)) r.waits r.waits_made all2.blocked)
               (replied (with_killed w t) p.pid kill_site status.Ok [])
           answered_world =
-              (λ i. record (with_waiters (world_value l2.processes (killing r t)) r.waits r.waits_made l2.blocked) { processes = written i })
+              (λ i. record (with_waiters (world_value all2.processes (killing r t)) r.waits r.waits_made all2.blocked) { processes = written i })
               ∙ ap (λ (x : World). replied x p.pid kill_site status.Ok []) after_it
 
       not_blocked : is_blocked (state_value c.state) ≡ false
       not_blocked = ap (λ (x : ProcessValue). is_blocked x.state) same_value ∙ rw ready refl
 
-      pub answered_so : HasLeft lib ps after r l2.objects blocked l2.blocked p.pid (item.Call p.pid name (outcome.Answered status.Ok))
+      pub answered_so : HasLeft lib ps after r all2.objects blocked all2.blocked p.pid (item.Call p.pid name (outcome.Answered status.Ok))
       answered_so =
-          leaves_so lib ps r blocked sound p there ready name kill_site next after (killing r t) l2.objects l2.blocked (outcome.Answered status.Ok) refl
-          (ends_settled ps r whole blocked sound t given l2 kills after cpus after_got after_tables after_sorted)
-          (still_blocked l2.processes after c answered_caller write not_blocked not_blocked l2.blocked blocked_after) answered_calls lists
+          leaves_so lib ps r blocked sound p there ready name kill_site next after (killing r t) all2.objects all2.blocked (outcome.Answered status.Ok) refl
+          (ends_settled ps r whole blocked sound t given all2 kills after cpus after_got after_tables after_sorted)
+          (still_blocked all2.processes after c answered_caller write not_blocked not_blocked all2.blocked blocked_after) answered_calls lists
 
-    pub lives_so : (c : Process) → slice_get l2.processes place ≡ Some c → ((code : ℤ) → c.state ≡ state.Ended code → ⊥)
-        → HasLeft lib ps (slice_set l2.processes place (record c { cpu = cpu_answered kill_site status.Ok [] c.cpu })) r l2.objects blocked l2.blocked p.pid
+    pub lives_so : (c : Process) → slice_get all2.processes place ≡ Some c → ((code : ℤ) → c.state ≡ state.Ended code → ⊥)
+        → HasLeft lib ps (slice_set all2.processes place (record c { cpu = cpu_answered kill_site status.Ok [] c.cpu })) r all2.objects
+            blocked all2.blocked p.pid
         (item.Call p.pid name (outcome.Answered status.Ok))
     lives_so c at alive =
-        elim (cases_Bool dies) as (λ _. HasLeft lib ps (slice_set l2.processes place (record c { cpu = cpu_answered kill_site status.Ok [] c.cpu })) r
-        l2.objects blocked l2.blocked p.pid (item.Call p.pid name (outcome.Answered status.Ok))) [
+        elim (cases_Bool dies) as (λ _. HasLeft lib ps (slice_set all2.processes place (record c { cpu = cpu_answered kill_site status.Ok [] c.cpu })) r
+        all2.objects blocked all2.blocked p.pid (item.Call p.pid name (outcome.Answered status.Ok))) [
           | inl among ↦ absurd (alive KILLED (over_so c.state KILLED (ap (λ (x : ProcessValue). x.state) (at_place c at).1 ∙ rw (among, ready) refl)))
           | inr apart ↦ answered_so c at apart
         ]

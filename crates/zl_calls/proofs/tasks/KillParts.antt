@@ -6,7 +6,7 @@ use Rattle.std.specs.Ordering.{is_lt}
 use Rattle.zl_objects.specs.Objects.{Objects}
 use Rattle.zl_calls.specs.World.{process_entry}
 use Rattle.zl_calls.specs.declared.process.Process.{Process}
-use Rattle.zl_calls.specs.calls.Task.{ClosesAllEnded, ClosesEnded, IsCallerStill, TaskKillDoes, ended_if, ended_within, is_over, lab, lives_on, none_left}
+use Rattle.zl_calls.specs.calls.Task.{ClosesAllEnded, ClosesEnded, IsCallerStill, TaskKillDoes, ended_if, ended_within, is_over, lives_on, none_left, parts}
 use Rattle.zl_calls.specs.calls.Task.{one_more}
 use Rattle.zl_calls.proofs.lists.FilterInPlace.{drop_here, none_behind}
 use Rattle.std.proofs.lemmas.Option.{get_or_from_slice_get, slice_get-map}
@@ -123,7 +123,7 @@ module _ (ps : List Process) (r : Objects) (blocked : List ℕ) (place task : �
       → (between r2 : Objects) (ps1 ps2 : List Process) (blocked2 : List ℕ) → ps1 ≡ map (ended_within r named.koid) ps
       → Releases [] (all_koids r.objects) (killing r named.koid) between → LeavesListed r between → ClosesAllEnded ps1 between ps2 r2 → KeepsListed between r2
       → blocked2 ≡ filter (λ k. state_passes is_blocked (get (map process_entry ps1) k)) blocked
-      → TaskKillDoes task caller (lab ps r blocked) (Ok tt) (lab ps2 r2 blocked2)
+      → TaskKillDoes task caller (parts ps r blocked) (Ok tt) (parts ps2 r2 blocked2)
   killed_so named found between r2 ps1 ps2 blocked2 ended releases left closes kept list = record {
     ok = record {
       named = named;
@@ -213,9 +213,9 @@ module _ (n : ℕ) (ps d e d1 d2 ps2 : List Process) (r : Objects) (koid : ℕ) 
         → Releases [] (all_koids r.objects) (killing r koid) between → LeavesListed r between → KeepsListed between r2
         → blocked2 ≡ filter (λ k. state_passes is_blocked (get (map process_entry d1) k)) blocked
         → (caller : Process) → slice_get ps place ≡ Some caller
-        → TaskKillDoes task caller (lab ps r blocked) (Ok tt) (lab (take n (ps2 ++ drop (length ps2) (take n (e ++ drop (length e) ps)))) r2 blocked2)
+        → TaskKillDoes task caller (parts ps r blocked) (Ok tt) (parts (take n (ps2 ++ drop (length ps2) (take n (e ++ drop (length e) ps)))) r2 blocked2)
     killed_back blocked blocked2 place task p read named is_koid found releases left kept list caller at =
-        subst (λ (qs : List Process). TaskKillDoes task caller (lab ps r blocked) (Ok tt) (lab qs r2 blocked2)) (sym written)
+        subst (λ (qs : List Process). TaskKillDoes task caller (parts ps r blocked) (Ok tt) (parts qs r2 blocked2)) (sym written)
         (killed_so ps r blocked place task caller at p read named found between r2 (map (ended_within r koid) ps) ps2 blocked2
         (ap (λ (k : ℕ). map (ended_within r k) ps) (sym is_koid))
         (subst (λ (k : ℕ). Releases [] (all_koids r.objects) (killing r k) between) (sym is_koid) releases) left closes_all kept

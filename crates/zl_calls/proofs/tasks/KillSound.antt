@@ -348,7 +348,7 @@ all_noted m t sorted = record {
 abbrev pub killed_with : (ℕ → Bool) → (ℕ → ProcessValue → Cpu) → ℕ → ProcessValue → ProcessValue
 killed_with f cpus k q = record (process_killed (f k) q) { cpu = cpus k q }
 
-module _ (ps ps3 : List Process) (r : Objects) (lab : IsConsistent ps r) (t : ℕ) (cpus : ℕ → ProcessValue → Cpu)
+module _ (ps ps3 : List Process) (r : Objects) (consistent : IsConsistent ps r) (t : ℕ) (cpus : ℕ → ProcessValue → Cpu)
     (got : (k : ℕ) → get (map process_entry ps3) k ≡ option_map (killed_with (is_within r.objects t) cpus k) (get (map process_entry ps) k)) (gone : List Entry)
     (fewer : (k : ℕ) → in_tables k ps ≡ in_tables k ps3 + naming k gone) where
   abbrev within : ℕ → Bool
@@ -474,31 +474,32 @@ module _ (ps ps3 : List Process) (r : Objects) (lab : IsConsistent ps r) (t : �
   unfolding handles_to
   killed_sound sorted = record {
     processes_in_order = sorted;
-    objects_in_order = rw (killed_order r.objects t) lab.kept.in_order;
-    given_processes = λ k there. lab.given_processes k (was_process k (get (map process_entry ps) k) (sym (ap is_some (got k)) ∙ there));
-    given_objects = λ k there. lab.given_objects k (was_object k (get r.objects k) (sym (ap is_some (kill_in t r.objects k)) ∙ there));
-    koids = lab.koids;
-    above_zero = lab.above_zero;
-    no_zero = λ k there. lab.no_zero k (was_object k (get r.objects k) (sym (ap is_some (kill_in t r.objects k)) ∙ there));
+    objects_in_order = rw (killed_order r.objects t) consistent.kept.in_order;
+    given_processes = λ k there. consistent.given_processes k (was_process k (get (map process_entry ps) k) (sym (ap is_some (got k)) ∙ there));
+    given_objects = λ k there. consistent.given_objects k (was_object k (get r.objects k) (sym (ap is_some (kill_in t r.objects k)) ∙ there));
+    koids = consistent.koids;
+    above_zero = consistent.above_zero;
+    no_zero = λ k there. consistent.no_zero k (was_object k (get r.objects k) (sym (ap is_some (kill_in t r.objects k)) ∙ there));
     tables = λ k q at. let w = was_here k q at in
         subst (λ (x : ProcessValue). IsTable (record { entries = x.handles; last = x.last })) (sym w.became)
-        (table_killed (λ m l. IsTable (record { entries = m; last = l })) bare_table (within k) w.before (lab.tables k w.before w.there));
+        (table_killed (λ m l. IsTable (record { entries = m; last = l })) bare_table (within k) w.before (consistent.tables k w.before w.there));
     named = λ k q v e at there. let w = was_here k q at in
         table_killed (λ m l. get m v ≡ Some e → IsNamed (all_killed r.objects t) e) (λ found. absurd (none_in v e found)) (within k) w.before
-        (λ found. named_killed r.objects t e (lab.named k w.before v e w.there found)) (subst (λ (x : ProcessValue). get x.handles v ≡ Some e) w.became there);
+        (λ found. named_killed r.objects t e (consistent.named k w.before v e w.there found))
+            (subst (λ (x : ProcessValue). get x.handles v ≡ Some e) w.became there);
     queued = λ k o at. let w = was_there r.objects t k o at in
         subst (λ (x : Object). AreNamed (all_killed r.objects t) (queue_of x.body)) (sym w.is)
         (rw (killed_queue (within k) w.before)
-        (still_named r.objects (all_killed r.objects t) (named_killed r.objects t) (queue_of w.before.body) (lab.queued k w.before w.there)));
+        (still_named r.objects (all_killed r.objects t) (named_killed r.objects t) (queue_of w.before.body) (consistent.queued k w.before w.there)));
     counted = λ k o at. let w = was_there r.objects t k o at in
         let same : o.handles ≡ w.before.handles = ap (λ (x : Object). x.handles) w.is ∙ killed_handles (within k) w.before in
-        omega (arith, same, lab.counted k w.before w.there, fewer k, queues_all_killed r.objects t k, numbered_naming k 0 gone);
+        omega (arith, same, consistent.counted k w.before w.there, fewer k, queues_all_killed r.objects t k, numbered_naming k 0 gone);
     agrees = λ k o at. let w = was_there r.objects t k o at in
         subst (λ (c : Body). Agrees (world_value ps3 (killing r t)) k c) (sym (ap (λ (x : Object). x.body) w.is ∙ body_if (within k) w.before))
-        (agrees_body k (within k) refl w.before.body (lab.agrees k w.before w.there));
+        (agrees_body k (within k) refl w.before.body (consistent.agrees k w.before w.there));
     in_jobs = λ k o at. let w = was_there r.objects t k o at in
         subst (λ (c : Body). IsTrue (is_in_job (all_killed r.objects t) c)) (sym (ap (λ (x : Object). x.body) w.is ∙ body_if (within k) w.before))
-        (in_job_body (within k) w.before.body (lab.in_jobs k w.before w.there));
+        (in_job_body (within k) w.before.body (consistent.in_jobs k w.before w.there));
   }
     where
       was_process : (k : ℕ) (o : Option ProcessValue) → IsTrue (is_some (option_map (killed_with within cpus k) o)) → IsTrue (is_some o)

@@ -17,11 +17,11 @@ use Rattle.zl_code.specs.Calls.{Calls as PolicedCalls}
 use Rattle.zl_code.specs.Refusals.{refusal as policed_refusal}
 use Rattle.zl_calls.specs.Reaching.{EndsCaller, IsAnsweredIn, IsToldIn}
 use Rattle.zl_calls.specs.calls.Answer.{no_value, told_by}
-use Rattle.zl_calls.specs.calls.Task.{KillsNamed, Lab, TaskKillDoes, kill_refusal, lab}
+use Rattle.zl_calls.specs.calls.Task.{KillsNamed, Parts, TaskKillDoes, kill_refusal, parts}
 use Rattle.zl_calls.specs.declared.process.Process.{Process}
 use Rattle.zl_calls.specs.declared.process.State.TheVariants as state
 use Rattle.zl_calls.proofs.tasks.KillCalls.{dies_so, kill_refused, leaves_so, lives_so}
-use Rattle.zl_calls.proofs.stepping.Labs.{IsFree, freely}
+use Rattle.zl_calls.proofs.stepping.FromConsistent.{IsFree, freely}
 use Rattle.zl_calls.proofs.calls.Answered.{IsWrite, table_is, same_world}
 use Rattle.zl_calls.proofs.calls.AmongWaits.{ends_among}
 use Rattle.zl_calls.proofs.waking.BlockedLists.{still_blocked}
@@ -37,19 +37,19 @@ module _ (lib : Library) (ps : List Process) (r : Objects) (whole : IsConsistent
     (found : Some place ≡ position (λ q. q.pid == pid) ps) (read : p ≡ get_or ps place p) (is_ready_there : is_ready (state_value p.state) ≡ true)
     (name : CallName) (free : IsFree lib (world_value ps r) p.pid name) (free_beside : IsFree lib (world_blocked ps r blocked) p.pid name) (task : ℕ)
     (consumed destinations : List ℕ)
-    (next : next_for lib (process_value p) ≡ AtCall name (site (task_kill task) consumed destinations)) (l2 : Lab) where
+    (next : next_for lib (process_value p) ≡ AtCall name (site (task_kill task) consumed destinations)) (all2 : Parts) where
   abbrev s : Site
   s = site (task_kill task) consumed destinations
 
   -- the step ends so
   abbrev Left : Outcome → Type 0
-  Left o = HasLeft lib ps l2.processes r l2.objects blocked l2.blocked pid (item.Call pid name o)
+  Left o = HasLeft lib ps all2.processes r all2.objects blocked all2.blocked pid (item.Call pid name o)
 
-  left_as : (o : Outcome) (after : List Process) (r2 : Objects) (blocked2 : List ℕ) → l2.processes ≡ after → l2.objects ≡ r2 → l2.blocked ≡ blocked2
+  left_as : (o : Outcome) (after : List Process) (r2 : Objects) (blocked2 : List ℕ) → all2.processes ≡ after → all2.objects ≡ r2 → all2.blocked ≡ blocked2
       → HasLeft lib ps after r r2 blocked blocked2 pid (item.Call pid name o) → Left o
   left_as o after r2 blocked2 processes objects list left =
-      subst (λ (qs : List Process). HasLeft lib ps qs r l2.objects blocked l2.blocked pid (item.Call pid name o)) (sym processes)
-      (subst (λ (x : Objects). HasLeft lib ps after r x blocked l2.blocked pid (item.Call pid name o)) (sym objects)
+      subst (λ (qs : List Process). HasLeft lib ps qs r all2.objects blocked all2.blocked pid (item.Call pid name o)) (sym processes)
+      (subst (λ (x : Objects). HasLeft lib ps after r x blocked all2.blocked pid (item.Call pid name o)) (sym objects)
       (subst (λ (b : List ℕ). HasLeft lib ps after r r2 blocked b pid (item.Call pid name o)) (sym list) left))
 
   is_caller : (c : Process) → slice_get ps place ≡ Some c → c ≡ p
@@ -103,23 +103,23 @@ module _ (lib : Library) (ps : List Process) (r : Objects) (whole : IsConsistent
         let still : is_blocked (state_value p.state) ≡ false = unblocked lib ps r whole blocked are sound pid place p found read is_ready_there in
         under_pid (outcome.Answered answer) after_it r blocked
         (leaves_so lib ps r blocked sound p itself.there is_ready_process name s next after_it r r blocked (outcome.Answered answer) refl
-        (record { lab = keeps; settles = still_settles after_it r keeps }) (still_blocked ps after_it p told write_told still still blocked are)
+        (record { consistent = keeps; settles = still_settles after_it r keeps }) (still_blocked ps after_it p told write_told still still blocked are)
         refused_calls_so (record { waits = λ test h. refl; made = refl }))
 
   -- ---- it is done
 
-  by_answer : (answer : Result ⊤ Status) (between : Lab) → TaskKillDoes task p (lab ps r blocked) answer between
-      → (is_told : IsToldIn s place (told_by no_value answer) between l2)
+  by_answer : (answer : Result ⊤ Status) (between : Parts) → TaskKillDoes task p (parts ps r blocked) answer between
+      → (is_told : IsToldIn s place (told_by no_value answer) between all2)
       → ((code : ℤ) → is_told.caller.state ≡ state.Ended code → ⊥) → Left (outcome.Answered (status_of answer))
   by_answer (Err answer) between does is_told alive =
-      let before : between.processes ≡ ps = ap (λ (l : Lab). l.processes) does.refused in
+      let before : between.processes ≡ ps = ap (λ (all : Parts). all.processes) does.refused in
       let same : is_told.caller ≡ p = is_caller is_told.caller (ap (λ (qs : List Process). slice_get qs place) (sym before) ∙ is_told.is_there) in
       left_as (outcome.Answered answer) (set ps place (record p { cpu = cpu_answered s answer [] p.cpu })) r blocked
       (is_told.processes ∙ (λ i. slice_set (before i) place (record (same i) { cpu = cpu_answered s answer [] (same i).cpu })))
-      (is_told.objects ∙ ap (λ (l : Lab). l.objects) does.refused) (is_told.blocked ∙ ap (λ (l : Lab). l.blocked) does.refused)
+      (is_told.objects ∙ ap (λ (all : Parts). all.objects) does.refused) (is_told.blocked ∙ ap (λ (all : Parts). all.blocked) does.refused)
       (refused_so answer does.err)
   by_answer (Ok tt) between does is_told alive =
-      let done : KillsNamed (lab ps r blocked) p task between = does.ok in
+      let done : KillsNamed (parts ps r blocked) p task between = does.ok in
       left_as (outcome.Answered status.Ok)
       (slice_set between.processes place (record (is_told.caller) { cpu = cpu_answered s status.Ok [] is_told.caller.cpu })) between.objects between.blocked
       is_told.processes is_told.objects is_told.blocked
@@ -128,13 +128,13 @@ module _ (lib : Library) (ps : List Process) (r : Objects) (whole : IsConsistent
       (lives_so lib ps r whole blocked are sound place p here itself.there is_ready_process name task consumed destinations next free_there between done.named
       done.is_named done.kills is_told.caller is_told.is_there alive))
 
-  pub kill_so : (o : Outcome) → (a : IsAnsweredIn (told_by no_value) (TaskKillDoes task p) s place (lab ps r blocked) o l2)
+  pub kill_so : (o : Outcome) → (a : IsAnsweredIn (told_by no_value) (TaskKillDoes task p) s place (parts ps r blocked) o all2)
       → ((code : ℤ) → a.is_told.caller.state ≡ state.Ended code → ⊥) → Left o
   kill_so o a alive = subst Left (sym a.ends) (by_answer a.answer a.between a.does a.is_told alive)
 
-  pub kill_itself_so : (o : Outcome) → EndsCaller (λ a b. TaskKillDoes task p a (Ok tt) b) place (lab ps r blocked) o l2 → Left o
+  pub kill_itself_so : (o : Outcome) → EndsCaller (λ a b. TaskKillDoes task p a (Ok tt) b) place (parts ps r blocked) o all2 → Left o
   kill_itself_so o e =
-      let done : KillsNamed (lab ps r blocked) p task l2 = e.does.ok in
-      subst Left (sym e.ends) (under_pid (outcome.Ended e.code) l2.processes l2.objects l2.blocked
-      (dies_so lib ps r whole blocked are sound place p here itself.there is_ready_process name task consumed destinations next free_there l2 done.named
+      let done : KillsNamed (parts ps r blocked) p task all2 = e.does.ok in
+      subst Left (sym e.ends) (under_pid (outcome.Ended e.code) all2.processes all2.objects all2.blocked
+      (dies_so lib ps r whole blocked are sound place p here itself.there is_ready_process name task consumed destinations next free_there all2 done.named
       done.is_named done.kills e.caller e.code e.is_there e.is_over))

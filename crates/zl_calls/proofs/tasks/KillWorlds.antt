@@ -1,4 +1,4 @@
--- What a kill makes of the world of a lab: the definitions see the same of its processes, objects and list of the blocked.
+-- What a kill makes of the world: the definitions see the same of its processes, objects and list of the blocked.
 use Rattle.zl_calls.proofs.Common.{◌≡◌, ℕ, zero, suc, Bool, true, false, not, ◌&&◌, ◌||◌, ◌==◌, List, [], ◌∷◌, map, refl, sym, ap, ◌∙◌, subst, Option, Some}
 use Rattle.zl_calls.proofs.Common.{None, inl, inr, IsTrue, arith, cases_Bool, option_map, Map, get, each, lives, runs, length, ◌<◌, state_passes, eqb-true}
 use Rattle.zl_calls.proofs.Common.{below_all, AreBlocked, none-some, eq-eqb, ne_eqb, false≢true, object_entry, object_value, body_value, process_entry}

@@ -11,7 +11,7 @@ use Rattle.zl_code.specs.declared.history.Outcome.TheVariants as outcome
 use Rattle.zl_interp.specs.Common.{register_set}
 use Rattle.zl_calls.specs.Reaching.{IsAnsweredIn, Reaches, creates, kills, kills_itself, starts}
 use Rattle.zl_calls.specs.calls.Answer.{answered_in}
-use Rattle.zl_calls.specs.calls.Task.{CreatesProcess, EndsOrAnswers, IsCallerStill, Lab, ProcessCreateDoes, ProcessStartDoes, TaskKillDoes, ending_of, lab}
+use Rattle.zl_calls.specs.calls.Task.{CreatesProcess, EndsOrAnswers, IsCallerStill, Parts, ProcessCreateDoes, ProcessStartDoes, TaskKillDoes, ending_of, parts}
 use Rattle.zl_calls.specs.calls.Task.{told_unless_over}
 use Rattle.zl_calls.specs.declared.process.Process.{Process}
 use Rattle.zl_calls.specs.declared.process.State.{State}
@@ -41,18 +41,18 @@ front [] ys i x at = absurd (none-some x at)
 front (y ∷ xs) ys zero x at = at
 front (y ∷ xs) ys (suc i) x at = front xs ys i x at
 
-pub created_still : (lib : Library) (place job program : ℕ) (caller : Process) (l l2 : Lab) (answer : Result ℕ Status)
-    → slice_get l.processes place ≡ Some caller
-    → ProcessCreateDoes lib place job program caller l answer l2 → IsCallerStill caller (slice_get l2.processes place)
-created_still lib place job program caller l l2 (Ok made) at does =
-    let it : CreatesProcess lib l place job program made l2 = does.ok in
+pub created_still : (lib : Library) (place job program : ℕ) (caller : Process) (all all2 : Parts) (answer : Result ℕ Status)
+    → slice_get all.processes place ≡ Some caller
+    → ProcessCreateDoes lib place job program caller all answer all2 → IsCallerStill caller (slice_get all2.processes place)
+created_still lib place job program caller all all2 (Ok made) at does =
+    let it : CreatesProcess lib all place job program made all2 = does.ok in
     let same : it.caller ≡ caller = same_Some it.caller caller (sym it.is_caller.is_there ∙ at) in
-    let there : slice_get l2.processes place ≡ Some it.after =
+    let there : slice_get all2.processes place ≡ Some it.after =
     ap (λ (ps : List Process). slice_get ps place) it.processes
-    ∙ front (slice_set l.processes place it.after) (it.new ∷ []) place it.after (get_set l.processes place it.caller it.after it.is_caller.is_there) in
+    ∙ front (slice_set all.processes place it.after) (it.new ∷ []) place it.after (get_set all.processes place it.caller it.after it.is_caller.is_there) in
     subst (λ (o : Option Process). IsCallerStill caller o) (sym there) (ap (λ (p : Process). p.cpu) it.is_caller.same ∙ ap (λ (p : Process). p.cpu) same)
-created_still lib place job program caller l l2 (Err refused) at does =
-    subst (λ (o : Option Process). IsCallerStill caller o) (sym (ap (λ (x : Lab). slice_get x.processes place) does.refused ∙ at)) refl
+created_still lib place job program caller all all2 (Err refused) at does =
+    subst (λ (o : Option Process). IsCallerStill caller o) (sym (ap (λ (x : Parts). slice_get x.processes place) does.refused ∙ at)) refl
 
 -- what stands at a place is written there again
 set_same : (xs : List Process) (i : ℕ) (x : Process) → slice_get xs i ≡ Some x → slice_set xs i x ≡ xs
@@ -62,11 +62,12 @@ set_same (y ∷ xs) (suc i) x at = ap (λ (ys : List Process). y ∷ ys) (set_sa
 
 -- ---- the answer
 
-module _ {A : Type 0} (values : A → List ℕ) (Does : Lab → Result A Status → Lab → Type 0) (s : Site) (place : ℕ) (l between : Lab) (answer : Result A Status)
-    (does : Does l answer between) (p : Process) (at : slice_get between.processes place ≡ Some p) where
+module _ {A : Type 0} (values : A → List ℕ) (Does : Parts → Result A Status → Parts → Type 0) (s : Site) (place : ℕ) (all between : Parts)
+    (answer : Result A Status)
+    (does : Does all answer between) (p : Process) (at : slice_get between.processes place ≡ Some p) where
   pub answered_so : (o : Outcome) → o ≡ outcome.Answered (status_of answer) → (p2 : Process)
       → p2 ≡ record p { cpu = cpu_answered s (status_of answer) (values_of values answer) p.cpu }
-      → IsAnsweredIn (told_by values) Does s place l o (lab (slice_set between.processes place p2) between.objects between.blocked)
+      → IsAnsweredIn (told_by values) Does s place all o (parts (slice_set between.processes place p2) between.objects between.blocked)
   answered_so o ends p2 told = record {
     answer = answer;
     between = between;
@@ -94,60 +95,61 @@ module _ (lib : Library) (ps ps1 : List Process) (r r1 : Objects) (blocked block
   there = read_at ps1 place p (still_within ps1 place caller still) read
 
   pub start_reaches : (process h word taken_in status_in : ℕ) (answer : Result ⊤ Status)
-      → ProcessStartDoes lib place process h word caller (lab ps r blocked) answer (lab ps1 r1 blocked)
+      → ProcessStartDoes lib place process h word caller (parts ps r blocked) answer (parts ps1 r1 blocked)
       → (o : Outcome) → o ≡ outcome.Answered (status_of answer) → (p2 : Process)
       → p2 ≡ answered_in (record p { cpu = register_set p.cpu taken_in 0 }) (status_in ∷ []) no_value answer
-      → Reaches lib place caller (site (process_start process h word) (taken_in ∷ []) (status_in ∷ [])) (lab ps r blocked) o
-      (lab (slice_set ps1 place p2) r1 blocked)
+      → Reaches lib place caller (site (process_start process h word) (taken_in ∷ []) (status_in ∷ [])) (parts ps r blocked) o
+      (parts (slice_set ps1 place p2) r1 blocked)
   start_reaches process h word taken_in status_in answer does o ends p2 told =
       starts process h word refl
       (answered_so no_value (ProcessStartDoes lib place process h word caller) (site (process_start process h word) (taken_in ∷ []) (status_in ∷ [])) place
-      (lab ps r blocked) (lab ps1 r1 blocked) answer does p there o ends p2 told)
+      (parts ps r blocked) (parts ps1 r1 blocked) answer does p there o ends p2 told)
 
   pub create_reaches : (job program status_in made_in : ℕ) (answer : Result ℕ Status)
-      → ProcessCreateDoes lib place job program caller (lab ps r blocked) answer (lab ps1 r1 blocked1)
+      → ProcessCreateDoes lib place job program caller (parts ps r blocked) answer (parts ps1 r1 blocked1)
       → (o : Outcome) → o ≡ outcome.Answered (status_of answer) → (p2 : Process) → p2 ≡ answered_in p (status_in ∷ made_in ∷ []) one_value answer
-      → Reaches lib place caller (site (process_create job program) [] (status_in ∷ made_in ∷ [])) (lab ps r blocked) o
-      (lab (slice_set ps1 place p2) r1 blocked1)
+      → Reaches lib place caller (site (process_create job program) [] (status_in ∷ made_in ∷ [])) (parts ps r blocked) o
+      (parts (slice_set ps1 place p2) r1 blocked1)
   create_reaches job program status_in made_in answer does o ends p2 told =
       creates job program refl
       (answered_so one_value (ProcessCreateDoes lib place job program caller) (site (process_create job program) [] (status_in ∷ made_in ∷ [])) place
-      (lab ps r blocked) (lab ps1 r1 blocked1) answer does p there o ends p2 told)
+      (parts ps r blocked) (parts ps1 r1 blocked1) answer does p there o ends p2 told)
 
   module _ (task status_in : ℕ) (ready : is_ready (state_value caller.state) ≡ true) where
     abbrev kill_site : Site
     kill_site = site (task_kill task) [] (status_in ∷ [])
 
-    kill_answered : (answer : Result ⊤ Status) → TaskKillDoes task caller (lab ps r blocked) answer (lab ps1 r1 blocked1) → (o : Outcome)
+    kill_answered : (answer : Result ⊤ Status) → TaskKillDoes task caller (parts ps r blocked) answer (parts ps1 r1 blocked1) → (o : Outcome)
         → o ≡ outcome.Answered (status_of answer) → (p2 : Process) → p2 ≡ answered_in p (status_in ∷ []) no_value answer
-        → has_ended p.state ≡ false → Reaches lib place caller kill_site (lab ps r blocked) o (lab (slice_set ps1 place p2) r1 blocked1)
+        → has_ended p.state ≡ false → Reaches lib place caller kill_site (parts ps r blocked) o (parts (slice_set ps1 place p2) r1 blocked1)
     unfolding has_ended answered_so
     kill_answered answer does o ends p2 told alive =
         kills task refl
-        (answered_so no_value (TaskKillDoes task caller) kill_site place (lab ps r blocked) (lab ps1 r1 blocked1) answer does p there o ends p2 told)
+        (answered_so no_value (TaskKillDoes task caller) kill_site place (parts ps r blocked) (parts ps1 r1 blocked1) answer does p there o ends p2 told)
         (λ code over. false≢true (sym alive ∙ ap has_ended over))
 
     -- a caller that ended wasn't refused
-    kill_ended : (answer : Result ⊤ Status) → TaskKillDoes task caller (lab ps r blocked) answer (lab ps1 r1 blocked1) → (code : ℤ) → p.state ≡ state.Ended code
+    kill_ended : (answer : Result ⊤ Status) → TaskKillDoes task caller (parts ps r blocked) answer (parts ps1 r1 blocked1) → (code : ℤ)
+        → p.state ≡ state.Ended code
         → (o : Outcome) → o ≡ outcome.Ended code → (p2 : Process) → p2 ≡ p
-        → Reaches lib place caller kill_site (lab ps r blocked) o (lab (slice_set ps1 place p2) r1 blocked1)
+        → Reaches lib place caller kill_site (parts ps r blocked) o (parts (slice_set ps1 place p2) r1 blocked1)
     kill_ended (Ok tt) does code is o ends p2 same =
-        subst (λ (qs : List Process). Reaches lib place caller kill_site (lab ps r blocked) o (lab qs r1 blocked1))
+        subst (λ (qs : List Process). Reaches lib place caller kill_site (parts ps r blocked) o (parts qs r1 blocked1))
         (sym (ap (λ (q : Process). slice_set ps1 place q) same ∙ set_same ps1 place p there))
         (kills_itself task refl (record { caller = p; code = code; does = does; is_there = there; is_over = is; ends = ends }))
     kill_ended (Err refused) does code is o ends p2 same =
-        let stays : slice_get ps1 place ≡ Some caller = ap (λ (x : Lab). slice_get x.processes place) does.refused ∙ is_caller in
+        let stays : slice_get ps1 place ≡ Some caller = ap (λ (x : Parts). slice_get x.processes place) does.refused ∙ is_caller in
         let one : p ≡ caller = same_Some p caller (sym there ∙ stays) in
         absurd (false≢true (ap (λ (x : State). is_ready (state_value x)) (sym is) ∙ (ap (λ (q : Process). is_ready (state_value q.state)) one ∙ ready)))
 
-    pub kill_reaches : (answer : Result ⊤ Status) → TaskKillDoes task caller (lab ps r blocked) answer (lab ps1 r1 blocked1) → (o : Outcome) (p2 : Process)
+    pub kill_reaches : (answer : Result ⊤ Status) → TaskKillDoes task caller (parts ps r blocked) answer (parts ps1 r1 blocked1) → (o : Outcome) (p2 : Process)
         → EndsOrAnswers status_in answer p o p2
-        → Reaches lib place caller kill_site (lab ps r blocked) o (lab (slice_set ps1 place p2) r1 blocked1)
+        → Reaches lib place caller kill_site (parts ps r blocked) o (parts (slice_set ps1 place p2) r1 blocked1)
     unfolding has_ended
     kill_reaches answer does o p2 how = by_state p.state refl how.ends how.told
       where
         by_state : (x : State) → p.state ≡ x → o ≡ ending_of (status_of answer) x → p2 ≡ told_unless_over status_in answer x p
-            → Reaches lib place caller kill_site (lab ps r blocked) o (lab (slice_set ps1 place p2) r1 blocked1)
+            → Reaches lib place caller kill_site (parts ps r blocked) o (parts (slice_set ps1 place p2) r1 blocked1)
         by_state state.Created is ends told = kill_answered answer does o ends p2 told (ap has_ended is)
         by_state state.Ready is ends told = kill_answered answer does o ends p2 told (ap has_ended is)
         by_state (state.AwaitsSignal koid mask to) is ends told = kill_answered answer does o ends p2 told (ap has_ended is)

@@ -9,11 +9,11 @@ use Rattle.zl_code.specs.declared.history.TraceItem.TheVariants as item
 use Rattle.zl_calls.specs.Policed.{verdict_on}
 use Rattle.zl_calls.specs.Reaching.{IsAnsweredIn, Reaches, creates, kills, kills_itself, starts}
 use Rattle.zl_calls.specs.calls.Answer.{no_value, one_value, told_by}
-use Rattle.zl_calls.specs.calls.Task.{Lab, ProcessCreateDoes, ProcessStartDoes, TaskKillDoes, lab}
+use Rattle.zl_calls.specs.calls.Task.{Parts, ProcessCreateDoes, ProcessStartDoes, TaskKillDoes, parts}
 use Rattle.zl_calls.specs.declared.process.Process.{Process}
 use Rattle.zl_calls.specs.declared.process.State.TheVariants as state
 use Rattle.zl_calls.proofs.policy.Freedom.{is_free}
-use Rattle.zl_calls.proofs.stepping.Labs.{IsFree}
+use Rattle.zl_calls.proofs.stepping.FromConsistent.{IsFree}
 use Rattle.zl_calls.proofs.stepping.Performing.{HasLeft, write_of}
 use Rattle.zl_calls.proofs.tasks.CreateSteps.{create_so}
 use Rattle.zl_calls.proofs.tasks.StartWorlds.{start_so}
@@ -39,24 +39,25 @@ module _ (lib : Library) (ps : List Process) (r : Objects) (whole : IsConsistent
   site_is : (request : Request) → s.request ≡ request → s ≡ site request s.consumed s.destinations
   site_is request is = λ i. record s { request = is i }
 
-  pub reaches_so : (o : Outcome) (l2 : Lab) → Reaches lib place p s (lab ps r blocked) o l2
-      → HasLeft lib ps l2.processes r l2.objects blocked l2.blocked pid (item.Call pid name o)
-  reaches_so o l2 (creates job program is does) =
+  pub reaches_so : (o : Outcome) (all2 : Parts) → Reaches lib place p s (parts ps r blocked) o all2
+      → HasLeft lib ps all2.processes r all2.objects blocked all2.blocked pid (item.Call pid name o)
+  reaches_so o all2 (creates job program is does) =
       create_so lib ps r whole blocked are sound pid place p found read is_ready_there name free job program s.consumed s.destinations
-      (next ∙ ap (AtCall name) (site_is (process_create job program) is)) l2 o
-      (subst (λ (x : Site). IsAnsweredIn (told_by one_value) (ProcessCreateDoes lib place job program p) x place (lab ps r blocked) o l2)
+      (next ∙ ap (AtCall name) (site_is (process_create job program) is)) all2 o
+      (subst (λ (x : Site). IsAnsweredIn (told_by one_value) (ProcessCreateDoes lib place job program p) x place (parts ps r blocked) o all2)
       (site_is (process_create job program) is) does)
-  reaches_so o l2 (starts process h word is does) =
+  reaches_so o all2 (starts process h word is does) =
       start_so lib ps r whole blocked are sound pid place p found read is_ready_there name free process h word s.consumed s.destinations
-      (next ∙ ap (AtCall name) (site_is (process_start process h word) is)) l2 o
-      (subst (λ (x : Site). IsAnsweredIn (told_by no_value) (ProcessStartDoes lib place process h word p) x place (lab ps r blocked) o l2)
+      (next ∙ ap (AtCall name) (site_is (process_start process h word) is)) all2 o
+      (subst (λ (x : Site). IsAnsweredIn (told_by no_value) (ProcessStartDoes lib place process h word p) x place (parts ps r blocked) o all2)
       (site_is (process_start process h word) is) does)
-  reaches_so o l2 (kills task is does alive) =
-      subst (λ (x : Site). (a : IsAnsweredIn (told_by no_value) (TaskKillDoes task p) x place (lab ps r blocked) o l2)
-      → ((code : ℤ) → a.is_told.caller.state ≡ state.Ended code → ⊥) → HasLeft lib ps l2.processes r l2.objects blocked l2.blocked pid (item.Call pid name o))
+  reaches_so o all2 (kills task is does alive) =
+      subst (λ (x : Site). (a : IsAnsweredIn (told_by no_value) (TaskKillDoes task p) x place (parts ps r blocked) o all2)
+      → ((code : ℤ) → a.is_told.caller.state ≡ state.Ended code → ⊥)
+          → HasLeft lib ps all2.processes r all2.objects blocked all2.blocked pid (item.Call pid name o))
       (sym (site_is (task_kill task) is))
       (kill_so lib ps r whole blocked are sound pid place p found read is_ready_there name free free_beside task s.consumed s.destinations
-      (next ∙ ap (AtCall name) (site_is (task_kill task) is)) l2 o) does alive
-  reaches_so o l2 (kills_itself task is does) =
+      (next ∙ ap (AtCall name) (site_is (task_kill task) is)) all2 o) does alive
+  reaches_so o all2 (kills_itself task is does) =
       kill_itself_so lib ps r whole blocked are sound pid place p found read is_ready_there name free free_beside task s.consumed s.destinations
-      (next ∙ ap (AtCall name) (site_is (task_kill task) is)) l2 o does
+      (next ∙ ap (AtCall name) (site_is (task_kill task) is)) all2 o does

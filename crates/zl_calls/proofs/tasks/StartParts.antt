@@ -24,7 +24,7 @@ use Rattle.zl_calls.specs.declared.process.State.TheVariants as state
 use Rattle.zl_calls.specs.declared.calls.process.Started.{Started}
 use Rattle.zl_calls.specs.declared.process.Process.{Process}
 use Rattle.zl_table.specs.Table.{Handles, Inserts}
-use Rattle.zl_calls.specs.calls.Task.{AreBare, Enters, IsCallerStill, IsCreatedAt, IsFound, ProcessStartDoes, child_refusal, lab, process_at, start_refusal}
+use Rattle.zl_calls.specs.calls.Task.{AreBare, Enters, IsCallerStill, IsCreatedAt, IsFound, ProcessStartDoes, child_refusal, parts, process_at, start_refusal}
 
 -- ---- the process that is found
 
@@ -258,7 +258,7 @@ module _ (lib : Library) (ps : List Process) (r : Objects) (blocked : List ℕ) 
             (ap (λ (x : Process). x.cpu) is_it)
 
         pub starts_so : (r2 : Objects) → r2 ≡ starting r q.pid
-            → ProcessStartDoes lib place process h word caller (lab ps r blocked) (Ok tt) (lab (slice_set ps2 started.place q2) r2 blocked)
+            → ProcessStartDoes lib place process h word caller (parts ps r blocked) (Ok tt) (parts (slice_set ps2 started.place q2) r2 blocked)
         starts_so r2 begun = record {
           ok = record {
             caller = caller;
@@ -297,8 +297,8 @@ module _ (lib : Library) (ps : List Process) (r : Objects) (blocked : List ℕ) 
         (sym (get_set ps1 place caller (record p { table = t }) (ap (λ (xs : List Process). slice_get xs place) same ∙ is_caller)))
         (ap (λ (x : Process). x.cpu) (read ∙ (ap (λ (xs : List Process). get_or xs place p) same ∙ get_or_from_slice_get ps place caller p is_caller)))
 
-    pub refused_so : ProcessStartDoes lib place process h word caller (lab ps r blocked) (Err refused)
-        (lab (slice_set ps1 place (record p { table = t })) r2 blocked)
+    pub refused_so : ProcessStartDoes lib place process h word caller (parts ps r blocked) (Err refused)
+        (parts (slice_set ps1 place (record p { table = t })) r2 blocked)
     refused_so =
         let is_it : p ≡ caller = read ∙ (ap (λ (xs : List Process). get_or xs place p) same ∙ get_or_from_slice_get ps place caller p is_caller) in
         record {

@@ -150,7 +150,7 @@ created_state state.Gone h = absurd (false≢true h)
 
 -- the process child begins with a handle that leaves the process p
 module _ (ps mid after : List Process) (child begins p p2 : Process) (one : IsWrite ps mid child begins) (two : IsWrite mid after p p2)
-    (there : get (map process_entry ps) p.pid ≡ Some (process_value p)) (r : Objects) (lab : IsConsistent ps r)
+    (there : get (map process_entry ps) p.pid ≡ Some (process_value p)) (r : Objects) (consistent : IsConsistent ps r)
     (named : Entry) (is_named : IsNamed r.objects named) (task : named.kind ≡ kind.Process) (pid : child.pid ≡ named.koid)
     (created : state_value child.state ≡ Created) (bare : child.table.entries ≡ []) (ready : state_value begins.state ≡ Ready) (state_is : p2.state ≡ p.state)
     (h value : ℕ) (e : Entry) (given : get p.table.entries h ≡ Some e) (inserts : Inserts child.table e value begins.table)
@@ -164,13 +164,13 @@ module _ (ps mid after : List Process) (child begins p p2 : Process) (one : IsWr
   -- ---- tables
 
   child_table : IsTable child.table
-  child_table = lab.tables child.pid (process_value child) one.there
+  child_table = consistent.tables child.pid (process_value child) one.there
 
   begins_table : IsTable begins.table
   begins_table = inserted_table child.table e value begins.table child_table (rw bare (omega arith)) inserts
 
   old_table : IsTable p.table
-  old_table = lab.tables p.pid (process_value p) there
+  old_table = consistent.tables p.pid (process_value p) there
 
   p2_table : IsTable p2.table
   p2_table = rw table (tables_left (h ∷ []) p.table old_table)
@@ -181,7 +181,7 @@ module _ (ps mid after : List Process) (child begins p p2 : Process) (one : IsWr
   tables_now : (j : ℕ) (q : ProcessValue) → get (map process_entry after) j ≡ Some q → IsTableOf q
   tables_now j q at = found_after mid after p p2 two (IsTableOf q) j q at
       (λ is. subst IsTableOf is p2_table)
-      (λ old. found_after ps mid child begins one (IsTableOf q) j q old (λ is. subst IsTableOf is begins_table) (λ older. lab.tables j q older))
+      (λ old. found_after ps mid child begins one (IsTableOf q) j q old (λ is. subst IsTableOf is begins_table) (λ older. consistent.tables j q older))
 
   -- ---- names
 
@@ -189,7 +189,7 @@ module _ (ps mid after : List Process) (child begins p p2 : Process) (one : IsWr
   still = named_begun r.objects k
 
   in_caller : (v : ℕ) (x : Entry) → get p.table.entries v ≡ Some x → IsNamed r2.objects x
-  in_caller v x at = still x (lab.named p.pid (process_value p) v x there at)
+  in_caller v x at = still x (consistent.named p.pid (process_value p) v x there at)
 
   in_p2 : (v : ℕ) (x : Entry) → get p2.table.entries v ≡ Some x → IsNamed r2.objects x
   in_p2 v x at = in_caller v x (left_there (h ∷ []) p.table v x (ap (λ t. get t.entries v) (sym table) ∙ at))
@@ -197,14 +197,14 @@ module _ (ps mid after : List Process) (child begins p p2 : Process) (one : IsWr
   in_begins : (v : ℕ) (x : Entry) → get begins.table.entries v ≡ Some x → IsNamed r2.objects x
   in_begins v x at = found_inserted (IsNamed r2.objects x) child.table e value begins.table inserts v x at
       (λ is. subst (λ (y : Entry). IsNamed r2.objects y) is (in_caller h e given))
-      (λ old. still x (lab.named child.pid (process_value child) v x one.there old))
+      (λ old. still x (consistent.named child.pid (process_value child) v x one.there old))
 
   named_now : (j : ℕ) (q : ProcessValue) (v : ℕ) (x : Entry) → get (map process_entry after) j ≡ Some q → get q.handles v ≡ Some x → IsNamed r2.objects x
   named_now j q v x at inside = found_after mid after p p2 two (IsNamed r2.objects x) j q at
       (λ is. in_p2 v x (ap (λ (y : ProcessValue). get y.handles v) is ∙ inside))
       (λ old. found_after ps mid child begins one (IsNamed r2.objects x) j q old
       (λ is. in_begins v x (ap (λ (y : ProcessValue). get y.handles v) is ∙ inside))
-      (λ older. still x (lab.named j q v x older inside)))
+      (λ older. still x (consistent.named j q v x older inside)))
 
   -- ---- counts
 
@@ -269,41 +269,41 @@ module _ (ps mid after : List Process) (child begins p p2 : Process) (one : IsWr
       is_sorted-update (map process_entry mid) p.pid (λ _. process_value p2),
       after_is ps mid child begins one,
       is_sorted-update (map process_entry ps) child.pid (λ _. process_value begins),
-    ) lab.processes_in_order;
-    given_processes = λ j has. lab.given_processes j
+    ) consistent.processes_in_order;
+    given_processes = λ j has. consistent.given_processes j
         (sym (has_key-update (map process_entry ps) child.pid (λ _. process_value begins) j)
         ∙ (ap (λ (m : Map ProcessValue). has_key m j) (sym (after_is ps mid child begins one))
         ∙ (sym (has_key-update (map process_entry mid) p.pid (λ _. process_value p2) j)
         ∙ (ap (λ (m : Map ProcessValue). has_key m j) (sym (after_is mid after p p2 two)) ∙ has))));
-    given_objects = λ j has. lab.given_objects j (sym (has_key-update r.objects k started j) ∙ has);
-    koids = lab.koids;
-    above_zero = lab.above_zero;
-    no_zero = λ j has. lab.no_zero j (sym (has_key-update r.objects k started j) ∙ has);
+    given_objects = λ j has. consistent.given_objects j (sym (has_key-update r.objects k started j) ∙ has);
+    koids = consistent.koids;
+    above_zero = consistent.above_zero;
+    no_zero = λ j has. consistent.no_zero j (sym (has_key-update r.objects k started j) ∙ has);
     tables = tables_now;
     named = named_now;
     queued = λ j q at. found_updated started r.objects k (AreNamed r2.objects (queue_of q.body)) j q at
         (λ o old here is. subst (λ (x : Object). AreNamed r2.objects (queue_of x.body)) is
-        (rw (started_queue o.body) (still_named r.objects r2.objects still (queue_of o.body) (lab.queued j o old))))
-        (λ apart old. still_named r.objects r2.objects still (queue_of q.body) (lab.queued j q old));
+        (rw (started_queue o.body) (still_named r.objects r2.objects still (queue_of o.body) (consistent.queued j o old))))
+        (λ apart old. still_named r.objects r2.objects still (queue_of q.body) (consistent.queued j q old));
     counted = λ j q at. found_updated started r.objects k (q.handles ≡ handles_to (world_value after r2) j) j q at
-        (λ o old here is. ap (λ (x : Object). x.handles) (sym is) ∙ (lab.counted j o old ∙ sym (counts j)))
-        (λ apart old. lab.counted j q old ∙ sym (counts j));
+        (λ o old here is. ap (λ (x : Object). x.handles) (sym is) ∙ (consistent.counted j o old ∙ sym (counts j)))
+        (λ apart old. consistent.counted j q old ∙ sym (counts j));
     agrees = λ j q at. still_agrees (world_value mid r2) (world_value after r2) j q.body (same_after j)
         (found_updated started r.objects k (Agrees (world_value mid r2) j q.body) j q at
         (λ o old here is.
         let same : k ≡ j = eqb-true k j here in
         let at_k : get r.objects k ≡ Some o = ap (get r.objects) same ∙ old in
         subst (λ (i : ℕ). Agrees (world_value mid r2) i q.body) same
-        (subst (λ (x : Object). Agrees (world_value mid r2) k x.body) is (agrees_now o.body (is_its o at_k) (lab.agrees k o at_k))))
-        (λ apart old. still_agrees (world_value ps r) (world_value mid r2) j q.body (others j apart) (lab.agrees j q old)));
+        (subst (λ (x : Object). Agrees (world_value mid r2) k x.body) is (agrees_now o.body (is_its o at_k) (consistent.agrees k o at_k))))
+        (λ apart old. still_agrees (world_value ps r) (world_value mid r2) j q.body (others j apart) (consistent.agrees j q old)));
     in_jobs = λ j q at. found_updated started r.objects k (IsTrue (is_in_job r2.objects q.body)) j q at
-        (λ o old here is. subst (λ (x : Object). IsTrue (is_in_job r2.objects x.body)) is (in_job_started r.objects k o.body (lab.in_jobs j o old)))
-        (λ apart old. in_job_begun r.objects k q.body (lab.in_jobs j q old));
+        (λ o old here is. subst (λ (x : Object). IsTrue (is_in_job r2.objects x.body)) is (in_job_started r.objects k o.body (consistent.in_jobs j o old)))
+        (λ apart old. in_job_begun r.objects k q.body (consistent.in_jobs j q old));
     kept =
-        kept_each r2.objects (rw (is_sorted-update r.objects k started) lab.kept.in_order)
+        kept_each r2.objects (rw (is_sorted-update r.objects k started) consistent.kept.in_order)
         (λ j q at. found_updated started r.objects k (IsTrue (is_kept r2.objects j q)) j q at
-        (λ o old here is. subst (λ (x : Object). IsTrue (is_kept r2.objects j x)) is (kept_started j o (kept_all r.objects lab.kept j o old)))
-        (λ apart old. rw (alone_begun r.objects k j q.body) (kept_all r.objects lab.kept j q old)));
+        (λ o old here is. subst (λ (x : Object). IsTrue (is_kept r2.objects j x)) is (kept_started j o (kept_all r.objects consistent.kept j o old)))
+        (λ apart old. rw (alone_begun r.objects k j q.body) (kept_all r.objects consistent.kept j q old)));
   }
     where
       kept_started : (j : ℕ) (o : Object) → IsTrue (is_kept r.objects j o) → IsTrue (is_kept r2.objects j (started o))

@@ -13,7 +13,7 @@ use Rattle.zl_code.specs.Starting.{is_created, started_with}
 use Rattle.zl_code.specs.declared.history.Outcome.TheVariants as outcome
 use Rattle.zl_calls.specs.Reaching.{IsToldIn}
 use Rattle.zl_calls.specs.calls.Answer.{Told, without_handle}
-use Rattle.zl_calls.specs.calls.Task.{Lab, StartsProcess, lab, start_refusal}
+use Rattle.zl_calls.specs.calls.Task.{Parts, StartsProcess, parts, start_refusal}
 use Rattle.zl_calls.specs.declared.process.Process.{Process}
 use Rattle.zl_calls.proofs.calls.Answered.{IsWrite}
 use Rattle.zl_calls.proofs.tasks.StartCalls.{caller_is, child_is, start_calls, writes_at}
@@ -21,9 +21,9 @@ use Rattle.zl_calls.proofs.tasks.StartParts.{get_apart, get_set, not_both, set_a
 
 module _ (lib : Library) (ps : List Process) (r : Objects) (blocked : List ℕ) (place process h word : ℕ) (p : Process) (is_caller : slice_get ps place ≡ Some p)
     (ready : is_ready (state_value p.state) ≡ true) (sorted : IsTrue (is_sorted nat_cmp (map process_entry ps)))
-    (l1 l2 : Lab) (does : StartsProcess lib (lab ps r blocked) place process h word l1) (consumed destinations : List ℕ) (told : Told)
+    (all1 all2 : Parts) (does : StartsProcess lib (parts ps r blocked) place process h word all1) (consumed destinations : List ℕ) (told : Told)
     (ok : told.status ≡ status.Ok) (no_values : told.values ≡ [])
-    (tells : IsToldIn (site (process_start process h word) consumed destinations) place told l1 l2) where
+    (tells : IsToldIn (site (process_start process h word) consumed destinations) place told all1 all2) where
   abbrev s : Site
   s = site (process_start process h word) consumed destinations
 
@@ -43,7 +43,7 @@ module _ (lib : Library) (ps : List Process) (r : Objects) (blocked : List ℕ) 
   after_is : does.after ≡ record p { table = without_handle p.table h }
   after_is = does.is_caller.same ∙ (λ i. record (same_caller i) { table = (does.table ∙ ap (λ (q : Process). without_handle q.table h) same_caller) i })
 
-  caller_there : slice_get l1.processes place ≡ Some does.after
+  caller_there : slice_get all1.processes place ≡ Some does.after
   caller_there =
       ap (λ (qs : List Process). slice_get qs place) does.processes
       ∙ (get_apart (slice_set ps place does.after) does.at_place place does.started apart ∙ get_set ps place does.caller does.after does.is_caller.is_there)
@@ -54,7 +54,7 @@ module _ (lib : Library) (ps : List Process) (r : Objects) (blocked : List ℕ) 
       same_Some tells.caller does.after (sym tells.is_there ∙ caller_there) ∙ after_is in
       λ i. record (one i) { cpu = cpu_answered s (ok i) (no_values i) (one i).cpu }
 
-  pub all_is : l2.processes ≡ slice_set (slice_set ps does.at_place does.started) place p2
+  pub all_is : all2.processes ≡ slice_set (slice_set ps does.at_place does.started) place p2
   all_is =
       tells.processes
       ∙ ((λ i. slice_set (does.processes i) place (told_is i))
@@ -111,7 +111,7 @@ module _ (lib : Library) (ps : List Process) (r : Objects) (blocked : List ℕ) 
       child_is lib ps r p caller_held process h word consumed destinations does.named does.given is_named is_given other_pid does.child does.started child_held
       does.value does.inserts does.starts
 
-  processes_are : map process_entry l2.processes ≡ update (update (map process_entry ps) does.named.koid child_now) p.pid caller_now
+  processes_are : map process_entry all2.processes ≡ update (update (map process_entry ps) does.named.koid child_now) p.pid caller_now
   processes_are =
       ap (λ (qs : List Process). map process_entry qs) all_is
       ∙ (caller_write.writes caller_now caller_seen
@@ -119,11 +119,11 @@ module _ (lib : Library) (ps : List Process) (r : Objects) (blocked : List ℕ) 
       (child_write.writes child_now child_seen ∙ ap (λ (k : ℕ). update (map process_entry ps) k child_now) does.pid))
 
   -- the call of the definitions
-  pub start_relates : Calls lib (world_value ps r) p.pid s (outcome.Answered status.Ok) (world_value l2.processes l2.objects)
+  pub start_relates : Calls lib (world_value ps r) p.pid s (outcome.Answered status.Ok) (world_value all2.processes all2.objects)
   start_relates =
-      subst (λ (x : Objects). Calls lib (world_value ps r) p.pid s (outcome.Answered status.Ok) (world_value l2.processes x))
+      subst (λ (x : Objects). Calls lib (world_value ps r) p.pid s (outcome.Answered status.Ok) (world_value all2.processes x))
       (sym (tells.objects ∙ does.objects))
       (start_calls lib ps r p caller_held process h word consumed destinations does.named does.given is_named is_given other_pid does.child does.started
       child_held does.value does.inserts
       (subst (λ (q : Process). start_refusal lib ps q.table.entries process h ≡ None) same_caller does.unrefused)
-      l2.processes does.child.pid processes_are)
+      all2.processes does.child.pid processes_are)

@@ -20,7 +20,7 @@ use Rattle.std.proofs.lemmas.Option.{get_or_from_slice_get}
 use Rattle.zl_objects.specs.Objects.{starting}
 use Rattle.zl_calls.specs.Reaching.{IsAnsweredIn, IsToldIn}
 use Rattle.zl_calls.specs.calls.Answer.{ClosesEach, without_handle}
-use Rattle.zl_calls.specs.calls.Task.{ClosesHandle, Lab, ProcessStartDoes, StartsProcess, lab, start_refusal}
+use Rattle.zl_calls.specs.calls.Task.{ClosesHandle, Parts, ProcessStartDoes, StartsProcess, parts, start_refusal}
 use Rattle.zl_calls.specs.declared.process.Process.{Process}
 use Rattle.zl_calls.specs.declared.process.State.TheVariants as state
 use Rattle.zl_calls.proofs.calls.Answered.{IsWrite}
@@ -29,7 +29,7 @@ use Rattle.zl_calls.proofs.processes.Departed.{left_all, left_blocked, left_keep
 use Rattle.zl_calls.proofs.calls.DoneCalls.{IsDone}
 use Rattle.zl_calls.proofs.processes.Idle.{are_bare}
 use Rattle.zl_calls.proofs.calls.JobCalls.{is_of_kind}
-use Rattle.zl_calls.proofs.stepping.Labs.{IsFree, call_settles}
+use Rattle.zl_calls.proofs.stepping.FromConsistent.{IsFree, call_settles}
 use Rattle.zl_calls.proofs.waits.LeftWaits.{left_beside}
 use Rattle.zl_calls.proofs.stepping.Performing.{HasLeft, acted_so, key, ready, there, unblocked, write_of}
 use Rattle.zl_calls.proofs.objects.Settled.{still_settles}
@@ -53,19 +53,19 @@ module _ (lib : Library) (ps : List Process) (r : Objects) (whole : IsConsistent
     (sound : IsSoundWorld (world_blocked ps r blocked)) (pid place : ℕ) (p : Process)
     (found : Some place ≡ position (λ q. q.pid == pid) ps) (read : p ≡ get_or ps place p) (is_ready_there : is_ready (state_value p.state) ≡ true)
     (name : CallName) (free : IsFree lib (world_value ps r) p.pid name) (process h word : ℕ) (consumed destinations : List ℕ)
-    (next : next_for lib (process_value p) ≡ AtCall name (site (process_start process h word) consumed destinations)) (l2 : Lab) where
+    (next : next_for lib (process_value p) ≡ AtCall name (site (process_start process h word) consumed destinations)) (all2 : Parts) where
   abbrev s : Site
   s = site (process_start process h word) consumed destinations
 
   -- the step ends so
   abbrev Left : Outcome → Type 0
-  Left o = HasLeft lib ps l2.processes r l2.objects blocked l2.blocked pid (item.Call pid name o)
+  Left o = HasLeft lib ps all2.processes r all2.objects blocked all2.blocked pid (item.Call pid name o)
 
-  left_as : (o : Outcome) (after : List Process) (r2 : Objects) → l2.processes ≡ after → l2.objects ≡ r2 → l2.blocked ≡ blocked
+  left_as : (o : Outcome) (after : List Process) (r2 : Objects) → all2.processes ≡ after → all2.objects ≡ r2 → all2.blocked ≡ blocked
       → HasLeft lib ps after r r2 blocked blocked pid (item.Call pid name o) → Left o
   left_as o after r2 processes objects list left =
-      subst (λ (qs : List Process). HasLeft lib ps qs r l2.objects blocked l2.blocked pid (item.Call pid name o)) (sym processes)
-      (subst (λ (x : Objects). HasLeft lib ps after r x blocked l2.blocked pid (item.Call pid name o)) (sym objects)
+      subst (λ (qs : List Process). HasLeft lib ps qs r all2.objects blocked all2.blocked pid (item.Call pid name o)) (sym processes)
+      (subst (λ (x : Objects). HasLeft lib ps after r x blocked all2.blocked pid (item.Call pid name o)) (sym objects)
       (subst (λ (b : List ℕ). HasLeft lib ps after r r2 blocked b pid (item.Call pid name o)) (sym list) left))
 
   is_caller : (c : Process) → slice_get ps place ≡ Some c → c ≡ p
@@ -100,14 +100,14 @@ module _ (lib : Library) (ps : List Process) (r : Objects) (whole : IsConsistent
     refused_so =
         acted_so lib ps r whole blocked are sound pid place p found read is_ready_there after_it told r2
         (item.Call pid name (outcome.Answered answer)) write_told
-        (unblocked lib ps r whole blocked are sound pid place p found read is_ready_there) refl refl (ap next_looks next) refused_done.lab
+        (unblocked lib ps r whole blocked are sound pid place p found read is_ready_there) refl refl (ap next_looks next) refused_done.consistent
         (rw (← key lib ps r whole blocked are sound pid place p found read) (refused_done.step free))
         (rw next closes.listed.listed)
 
   -- ---- it is done
 
-  module _ (between : Lab) (does : StartsProcess lib (lab ps r blocked) place process h word between)
-      (tells : IsToldIn s place (told_by no_value (Ok tt)) between l2) where
+  module _ (between : Parts) (does : StartsProcess lib (parts ps r blocked) place process h word between)
+      (tells : IsToldIn s place (told_by no_value (Ok tt)) between all2) where
     at_place : slice_get ps place ≡ Some p
     at_place = does.is_caller.is_there ∙ ap Some (is_caller does.caller does.is_caller.is_there)
 
@@ -126,22 +126,22 @@ module _ (lib : Library) (ps : List Process) (r : Objects) (whole : IsConsistent
 
     write_child : IsWrite ps mid does.child does.started
     write_child =
-        child_write lib ps r blocked place process h word p at_place is_ready_there whole.processes_in_order between l2 does consumed destinations
+        child_write lib ps r blocked place process h word p at_place is_ready_there whole.processes_in_order between all2 does consumed destinations
         (told_by no_value (Ok tt)) refl refl tells
 
     write_caller : IsWrite mid after p answered
     write_caller =
-        caller_write lib ps r blocked place process h word p at_place is_ready_there whole.processes_in_order between l2 does consumed destinations
+        caller_write lib ps r blocked place process h word p at_place is_ready_there whole.processes_in_order between all2 does consumed destinations
         (told_by no_value (Ok tt)) refl refl tells
 
     named_is : looked_up p.table.entries process (kind.Process ∷ []) WRITE ≡ Ok does.named
     named_is =
-        is_named lib ps r blocked place process h word p at_place is_ready_there whole.processes_in_order between l2 does consumed destinations
+        is_named lib ps r blocked place process h word p at_place is_ready_there whole.processes_in_order between all2 does consumed destinations
         (told_by no_value (Ok tt)) refl refl tells
 
     given_is : looked_up p.table.entries h [] TRANSFER ≡ Ok does.given
     given_is =
-        is_given lib ps r blocked place process h word p at_place is_ready_there whole.processes_in_order between l2 does consumed destinations
+        is_given lib ps r blocked place process h word p at_place is_ready_there whole.processes_in_order between all2 does consumed destinations
         (told_by no_value (Ok tt)) refl refl tells
 
     names_it : IsNamed r.objects does.named
@@ -169,17 +169,17 @@ module _ (lib : Library) (ps : List Process) (r : Objects) (whole : IsConsistent
         (is_found (get p.table.entries h) [] TRANSFER does.given given_is) does.inserts refl
         (unblocked lib ps r whole blocked are sound pid place p found read is_ready_there) blocked are
 
-    processes_are : l2.processes ≡ after
+    processes_are : all2.processes ≡ after
     processes_are =
-        all_is lib ps r blocked place process h word p at_place is_ready_there whole.processes_in_order between l2 does consumed destinations
+        all_is lib ps r blocked place process h word p at_place is_ready_there whole.processes_in_order between all2 does consumed destinations
         (told_by no_value (Ok tt)) refl refl tells
 
-    objects_are : l2.objects ≡ begun
+    objects_are : all2.objects ≡ begun
     objects_are = tells.objects ∙ does.objects
 
     relates : Calls lib (world_value ps r) p.pid s (outcome.Answered status.Ok) (world_value after begun)
     relates = subst (λ (w : World). Calls lib (world_value ps r) p.pid s (outcome.Answered status.Ok) w) (λ i. world_value (processes_are i) (objects_are i))
-        (start_relates lib ps r blocked place process h word p at_place is_ready_there whole.processes_in_order between l2 does consumed destinations
+        (start_relates lib ps r blocked place process h word p at_place is_ready_there whole.processes_in_order between all2 does consumed destinations
         (told_by no_value (Ok tt)) refl refl tells)
 
     step : IsActed lib (world_value ps r) p.pid (item.Call p.pid name (outcome.Answered status.Ok)) (settled_world after begun)
@@ -190,7 +190,7 @@ module _ (lib : Library) (ps : List Process) (r : Objects) (whole : IsConsistent
 
     begun_so : HasLeft lib ps after r begun blocked blocked pid (item.Call pid name (outcome.Answered status.Ok))
     begun_so = record {
-      lab = left_keeps after begun keeps;
+      consistent = left_keeps after begun keeps;
       list = rw (same_list pid (item.Call pid name (outcome.Answered status.Ok)) blocked refl) (left_blocked after begun blocked list);
       acts = record {
         pid_is = refl;
@@ -206,10 +206,10 @@ module _ (lib : Library) (ps : List Process) (r : Objects) (whole : IsConsistent
 
   -- ---- either
 
-  by_answer : (answer : Result ⊤ Status) (between : Lab) → ProcessStartDoes lib place process h word p (lab ps r blocked) answer between
-      → IsToldIn s place (told_by no_value answer) between l2 → Left (outcome.Answered (status_of answer))
+  by_answer : (answer : Result ⊤ Status) (between : Parts) → ProcessStartDoes lib place process h word p (parts ps r blocked) answer between
+      → IsToldIn s place (told_by no_value answer) between all2 → Left (outcome.Answered (status_of answer))
   by_answer (Err answer) between does tells =
-      let it : ClosesHandle (lab ps r blocked) place h between = does.refused in
+      let it : ClosesHandle (parts ps r blocked) place h between = does.refused in
       let one : it.caller ≡ p = is_caller it.caller it.is_caller.is_there in
       let there_now : slice_get between.processes place ≡ Some it.after =
       ap (λ (qs : List Process). slice_get qs place) it.processes ∙ get_set ps place it.caller it.after it.is_caller.is_there in
@@ -223,10 +223,10 @@ module _ (lib : Library) (ps : List Process) (r : Objects) (whole : IsConsistent
       (refused_so answer does.err it.after.table between.objects
       (subst (λ (q : Process). ClosesEach (h ∷ []) q.table r it.after.table between.objects) one it.closes))
   by_answer (Ok tt) between does tells =
-      let it : StartsProcess lib (lab ps r blocked) place process h word between = does.ok in
+      let it : StartsProcess lib (parts ps r blocked) place process h word between = does.ok in
       left_as (outcome.Answered status.Ok) (after between it tells) (begun between it tells) (processes_are between it tells) (objects_are between it tells)
       (tells.blocked ∙ it.blocked)
       (begun_so between it tells)
 
-  pub start_so : (o : Outcome) → IsAnsweredIn (told_by no_value) (ProcessStartDoes lib place process h word p) s place (lab ps r blocked) o l2 → Left o
+  pub start_so : (o : Outcome) → IsAnsweredIn (told_by no_value) (ProcessStartDoes lib place process h word p) s place (parts ps r blocked) o all2 → Left o
   start_so o does = subst Left (sym does.ends) (by_answer does.answer does.between does.does does.is_told)

@@ -14,7 +14,7 @@ use Rattle.zl_objects.specs.Waits.{unwatching}
 use Rattle.zl_objects.proofs.Law.{has_seen}
 use Rattle.zl_calls.specs.declared.process.Process.{Process}
 use Rattle.zl_calls.specs.Registered.{AreBeside, EndsUnheld, EndsWaits, is_left}
-use Rattle.zl_calls.proofs.objects.SameButWaits.{beside_lab, beside_same, beside_then, beside_world, unwatching_beside}
+use Rattle.zl_calls.proofs.objects.SameButWaits.{beside_consistent, beside_same, beside_then, beside_world, unwatching_beside}
 use Rattle.zl_calls.proofs.lists.FilterByFirst.{IsSifting, any_there, none_there, one_less, sifting_ends, sifting_starts, sifting_stays, sifting_takes}
 
 -- ---- what is left
@@ -144,14 +144,14 @@ module _ (ps : List Process) (old : Objects) where
   asks_for_itself x =
       rw (eq-eqb x.object x.object refl, eq-eqb x.pid x.pid refl, eq-eqb x.value x.value refl, eq-eqb x.port x.port refl) (eq-eqb x.key x.key refl)
 
-  module _ (lab : IsConsistent ps old) (place : ℕ) (now : Objects) (so_far : IsEnding is_over old place now) where
+  module _ (consistent : IsConsistent ps old) (place : ℕ) (now : Objects) (so_far : IsEnding is_over old place now) where
     pub unheld_ended : slice_get now.waits place ≡ None → EndsUnheld ps old now
     unheld_ended none =
         let over = ends_all is_over old place now so_far none in
         record {
           world = λ blocked.
               λ i. record (beside_world ps old now so_far.beside i) { waits = (over.waits ∙ left_is) i; waits_made = over.made i; blocked = blocked };
-          lab = beside_lab ps old now so_far.beside lab;
+          consistent = beside_consistent ps old now so_far.beside consistent;
         }
       where
         left_is : filter (λ x. not (is_over x)) old.waits ≡ filter (is_left (world_value ps old)) old.waits

@@ -29,7 +29,7 @@ use Rattle.zl_objects.specs.Waits.{at_port_of, firing, unwatched, unwatching, wa
 use Rattle.zl_calls.specs.declared.process.Process.{Process}
 use Rattle.zl_calls.specs.Registered.{AreBeside, FiresWaits}
 use Rattle.zl_calls.proofs.objects.Active.{signals_active}
-use Rattle.zl_calls.proofs.objects.SameButWaits.{beside_lab, beside_seen, unwatching_beside}
+use Rattle.zl_calls.proofs.objects.SameButWaits.{beside_consistent, beside_seen, unwatching_beside}
 use Rattle.zl_calls.proofs.objects.Counting.{queues}
 use Rattle.zl_calls.proofs.waits.Firing.{active_alike, after_one, fired_none, fired_one, one_holds}
 use Rattle.zl_calls.proofs.objects.Rebodied.{KeepsKind, named_rebodied, rebodied_next}
@@ -39,7 +39,7 @@ use Rattle.zl_calls.proofs.processes.Written.{IsNext}
 
 -- those before the place in the list don't hold; all fire to the same world as from the objects that were first
 pub record IsFiring (ps : List Process) (first : Objects) (place : ℕ) (r : Objects) : Type 0 where
-  pub lab : IsConsistent ps r
+  pub consistent : IsConsistent ps r
   pub so_far : (blocked : List ℕ) → fired (world_blocked ps r blocked) ≡ fired (world_blocked ps first blocked)
   pub before : list_any (holds (world_value ps r)) (take place r.waits) ≡ false
 
@@ -195,27 +195,28 @@ module _ (f : Port → Port) where
       by_body _ = refl
 
   -- a port changes, and no process
-  module _ (ps : List Process) (r : Objects) (lab : IsConsistent ps r) (k : ℕ) where
+  module _ (ps : List Process) (r : Objects) (consistent : IsConsistent ps r) (k : ℕ) where
     counts_kept : (j : ℕ) → handles_to (world_value ps (changing_port r k f)) j ≡ handles_to (world_value ps r) j
     unfolding handles_to
     counts_kept j = omega (arith, queues_kept r.objects k j)
 
     port_next : IsNext ps ps r (changing_port r k f)
-    port_next = rebodied_next (changed_port f) port_keeps ps ps r lab k
+    port_next = rebodied_next (changed_port f) port_keeps ps ps r consistent k
         (λ o at. subst (AreNamed (changing_port r k f).objects) (sym (same_queue o.body))
-        (still_named r.objects (changing_port r k f).objects (named_rebodied (changed_port f) port_keeps r.objects k) (queue_of o.body) (lab.queued k o at)))
+        (still_named r.objects (changing_port r k f).objects (named_rebodied (changed_port f) port_keeps r.objects k) (queue_of o.body)
+            (consistent.queued k o at)))
         counts_kept
 
-    port_lab : IsConsistent ps (changing_port r k f)
-    port_lab = record {
-      processes_in_order = lab.processes_in_order;
-      given_processes = lab.given_processes;
+    port_consistent : IsConsistent ps (changing_port r k f)
+    port_consistent = record {
+      processes_in_order = consistent.processes_in_order;
+      given_processes = consistent.given_processes;
       given_objects = port_next.given_objects;
       koids = port_next.koids;
-      above_zero = lab.above_zero;
+      above_zero = consistent.above_zero;
       no_zero = port_next.no_zero;
-      tables = lab.tables;
-      named = λ j p v e at there. port_next.named e (lab.named j p v e at there);
+      tables = consistent.tables;
+      named = λ j p v e at there. port_next.named e (consistent.named j p v e at there);
       queued = port_next.queued;
       counted = port_next.counted;
       agrees = λ j o at. agrees_beside ps r (changing_port r k f) j o.body (port_next.agrees j o at);
@@ -239,7 +240,7 @@ module _ (ps : List Process) (first : Objects) (place : ℕ) (r : Objects) (so_f
   -- signals of the object k
   module _ (k a : ℕ) (is : a ≡ signals_at r.objects k) where
     active_here : a ≡ active (world_value ps r) k
-    active_here = is ∙ signals_active ps r so_far.lab k
+    active_here = is ∙ signals_active ps r so_far.consistent k
 
     none_first : list_any (holds_at k a) (take place r.waits) ≡ false
     none_first =
@@ -292,8 +293,9 @@ module _ (ps : List Process) (first : Objects) (place : ℕ) (r : Objects) (so_f
       beside_it : AreBeside r without_it
       beside_it = record { objects = (unwatching_beside (unlisting (holds_at k a) r) k (holds_there a)).objects; koids = refl }
 
-      fired_lab : IsConsistent ps fired_here
-      fired_lab = subst (IsConsistent ps) (sym fired_is) (port_lab with_it ps without_it (beside_lab ps r without_it beside_it so_far.lab) y.port)
+      fired_consistent : IsConsistent ps fired_here
+      fired_consistent = subst (IsConsistent ps) (sym fired_is)
+          (port_consistent with_it ps without_it (beside_consistent ps r without_it beside_it so_far.consistent) y.port)
 
       -- ---- the world after it
 
@@ -337,7 +339,7 @@ module _ (ps : List Process) (first : Objects) (place : ℕ) (r : Objects) (so_f
         same_fired = ap fired world_is
             ∙ (fired_one w before_it behind_it (wait_at k y) (at_split r.waits place (wait_at k y) at)
             (ap (λ (test : Wait → Bool). list_any test before_it) (holds_blocked ps r blocked) ∙ so_far.before) now_held
-            (sorted_seen r.objects ∙ so_far.lab.kept.in_order)
+            (sorted_seen r.objects ∙ so_far.consistent.kept.in_order)
             ∙ so_far.so_far blocked)
 
       same_holds : holds (world_value ps fired_here) ≡ holds (world_value ps r)
@@ -347,7 +349,7 @@ module _ (ps : List Process) (first : Objects) (place : ℕ) (r : Objects) (so_f
 
       fired_turn : IsFiring ps first place fired_here
       fired_turn = record {
-        lab = fired_lab;
+        consistent = fired_consistent;
         so_far = same_fired;
         before = (λ i. list_any (same_holds i) (take place (waits_are i)))
             ∙ (ap (list_any (holds (world_value ps r))) (take_again r.waits behind_it place (omega (arith, slice_get_within r.waits place (wait_at k y) at)))
@@ -397,7 +399,7 @@ module _ (ps : List Process) (first : Objects) (place : ℕ) (r : Objects) (so_f
     turn_kept fails =
         let next : place + 1 ≡ suc place = omega arith in
         record {
-          lab = so_far.lab;
+          consistent = so_far.consistent;
           so_far = so_far.so_far;
           before = ap (λ (n : ℕ). list_any (holds (world_value ps r)) (take n r.waits)) next
               ∙ none_next (holds (world_value ps r)) r.waits place x at so_far.before
@@ -409,7 +411,7 @@ module _ (ps : List Process) (first : Objects) (place : ℕ) (r : Objects) (so_f
   all_fired past = record {
     world = λ blocked. sym (fired_none (world_blocked ps r blocked) (ap (λ (test : Wait → Bool). list_any test r.waits) (holds_blocked ps r blocked)
         ∙ none_at_all (holds (world_value ps r)) r.waits place past so_far.before)) ∙ so_far.so_far blocked;
-    lab = so_far.lab;
+    consistent = so_far.consistent;
   }
 
 -- ---- the place

@@ -20,7 +20,7 @@ use Rattle.zl_calls.specs.Registered.{world_left}
 use Rattle.zl_calls.proofs.waking.BlockedLists.{one_asleep}
 use Rattle.zl_calls.proofs.waits.LeftWaits.{left_by}
 use Rattle.zl_calls.proofs.objects.SameBodies.{alike_agrees}
-use Rattle.zl_calls.proofs.stepping.Labs.{IsFree}
+use Rattle.zl_calls.proofs.stepping.FromConsistent.{IsFree}
 use Rattle.zl_calls.proofs.processes.Departed.{left_all, settled_world}
 use Rattle.zl_calls.proofs.objects.Settled.{still_settles}
 use Rattle.zl_calls.proofs.processes.Written.{alike_states, keeps_agreeing, recounted_next, same_counts}
@@ -38,7 +38,8 @@ pub record IsAsleep (lib : Library) (before : List Process) (r r2 : Objects) (p 
   pub counter : p.cpu.counter < 2 ^ 32
   pub objects : r2 ≡ r
 
-module _ (lib : Library) (before after : List Process) (r r2 : Objects) (p p2 : Process) (lab : IsConsistent before r) (write : IsWrite before after p p2)
+module _ (lib : Library) (before after : List Process) (r r2 : Objects) (p p2 : Process) (consistent : IsConsistent before r)
+    (write : IsWrite before after p p2)
     (ready : state_value p.state ≡ Ready)
     (name : CallName) (o : Outcome) (sleeps : IsAsleep lib before r r2 p p2 name o) where
   -- ---- the invariant
@@ -52,10 +53,10 @@ module _ (lib : Library) (before after : List Process) (r r2 : Objects) (p p2 : 
   pub asleep_keeps : IsConsistent after r
   asleep_keeps =
       let table : p2.table ≡ p.table = ap (λ (q : Process). q.table) sleeps.process in
-      keeps_agreeing before after p p2 write r r lab agrees
-      (rw table (lab.tables p.pid (process_value p) write.there))
-      (λ v e at. lab.named p.pid (process_value p) v e write.there (rw table at at))
-      (recounted_next before after r lab (λ k. same_counts before after p p2 write r r k refl table))
+      keeps_agreeing before after p p2 write r r consistent agrees
+      (rw table (consistent.tables p.pid (process_value p) write.there))
+      (λ v e at. consistent.named p.pid (process_value p) v e write.there (rw table at at))
+      (recounted_next before after r consistent (λ k. same_counts before after p p2 write r r k refl table))
 
   -- ---- the list
 

@@ -14,7 +14,7 @@ use Rattle.zl_calls.proofs.waking.BlockedLists.{none_filtered}
 pub record IsWaking (ps0 : List Process) (r0 : Objects) (first : List ℕ) (capacity0 place : ℕ) (ps : List Process) (r : Objects) (blocked : List ℕ)
     (capacity : ℕ) : Type 0 where
   pub so_far : fold woken (world_blocked ps r blocked) (drop place blocked) ≡ fold woken (world_blocked ps0 r0 first) first
-  pub lab : IsConsistent ps r
+  pub consistent : IsConsistent ps r
   pub list : AreBlocked ps blocked
   pub count : length ps ≡ length ps0
   pub same_room : capacity ≡ capacity0
@@ -101,7 +101,7 @@ module _ (ps : List Process) (blocked : List ℕ) (are : AreBlocked ps blocked) 
 
 module _ (ps0 : List Process) (r0 : Objects) (first : List ℕ) (capacity0 : ℕ) where
   pub begins : IsConsistent ps0 r0 → AreBlocked ps0 first → IsWaking ps0 r0 first capacity0 0 ps0 r0 first capacity0
-  begins lab are = record { so_far = refl; lab = lab; list = are; count = refl; same_room = refl }
+  begins consistent are = record { so_far = refl; consistent = consistent; list = are; count = refl; same_room = refl }
 
   module _ (i : ℕ) (ps : List Process) (r : Objects) (blocked : List ℕ) (capacity : ℕ) (so_far : IsWaking ps0 r0 first capacity0 i ps r blocked capacity) where
     module _ (d pid : ℕ) (within : i < length blocked) (at : get_or blocked i d ≡ pid) (ps2 : List Process) (r2 : Objects) where
@@ -116,7 +116,7 @@ module _ (ps0 : List Process) (r0 : Objects) (first : List ℕ) (capacity0 : ℕ
             so_far = ap (fold woken (world_blocked ps2 r2 (take i blocked ++ drop (suc i) blocked))) (drop_removed blocked i within)
                 ∙ (ap (λ (w : World). fold woken w (drop (suc i) blocked)) (ap (world_blocked ps2 r2) (sym gone) ∙ wakes_it.world blocked)
                 ∙ (sym turn_is ∙ so_far.so_far));
-            lab = wakes_it.lab;
+            consistent = wakes_it.consistent;
             list = subst (AreBlocked ps2) gone (wakes_it.list blocked so_far.list);
             count = wakes_it.count ∙ so_far.count;
             same_room = so_far.same_room;
@@ -128,7 +128,7 @@ module _ (ps0 : List Process) (r0 : Objects) (first : List ℕ) (capacity0 : ℕ
         so_far = ap (fold woken (world_blocked ps2 r2 blocked)) (ap (λ (n : ℕ). drop n blocked) add_one)
             ∙ (ap (λ (w : World). fold woken w (drop (suc i) blocked)) (wakes_it.world blocked)
             ∙ (sym turn_is ∙ so_far.so_far));
-        lab = wakes_it.lab;
+        consistent = wakes_it.consistent;
         list = wakes_it.list blocked so_far.list;
         count = wakes_it.count ∙ so_far.count;
         same_room = so_far.same_room;

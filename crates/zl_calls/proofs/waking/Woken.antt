@@ -85,7 +85,7 @@ lives_on state.Created h = absurd (false≢true h)
 lives_on state.Gone h = absurd (false≢true h)
 
 -- the process p stands at the place, under the pid
-module _ (ps : List Process) (r : Objects) (lab : IsConsistent ps r) (pid place : ℕ) (p : Process)
+module _ (ps : List Process) (r : Objects) (consistent : IsConsistent ps r) (pid place : ℕ) (p : Process)
     (found : Some place ≡ position (λ q. q.pid == pid) ps) (read : p ≡ get_or ps place p) where
   key : p.pid ≡ pid
   key = pid_read ps pid place p found read
@@ -99,7 +99,7 @@ module _ (ps : List Process) (r : Objects) (lab : IsConsistent ps r) (pid place 
 
   same_active : (blocked : List ℕ) (k : ℕ) → active (world_blocked ps r blocked) k ≡ signals_at r.objects k
   unfolding active is_process has_child_job has_child_process
-  same_active blocked k = sym (signals_active ps r lab k)
+  same_active blocked k = sym (signals_active ps r consistent k)
 
   module _ (p2 : Process) (r2 : Objects) (same_pid : p2.pid ≡ p.pid) where
     abbrev after : List Process
@@ -125,7 +125,7 @@ module _ (ps : List Process) (r : Objects) (lab : IsConsistent ps r) (pid place 
           once = λ k. rw same_entries (are.once k);
           counters = λ k q at h. are.counters k q (rw same_entries at at) h;
         };
-        lab = rw same_objects (refusal_keeps ps after p p2 write r lab (ap (λ (q : Process). q.table) same) (ap (λ (q : Process). q.state) same));
+        consistent = rw same_objects (refusal_keeps ps after p p2 write r consistent (ap (λ (q : Process). q.table) same) (ap (λ (q : Process). q.state) same));
         count = same_count;
       }
 
@@ -137,7 +137,8 @@ module _ (ps : List Process) (r : Objects) (lab : IsConsistent ps r) (pid place 
         → woken (world_blocked ps r blocked) pid ≡ made_ready (world_blocked ps r2 blocked) pid (process_value p) ds (0 ∷ values)) where
       ready_entries : map process_entry after ≡ put (map process_entry ps) pid (process_value p2)
       ready_entries = rw (← key)
-          (after_is ps after p p2 write ∙ put_there (map process_entry ps) p.pid (process_value p) (λ _. process_value p2) lab.processes_in_order write.there)
+          (after_is ps after p p2 write ∙ put_there (map process_entry ps) p.pid (process_value p) (λ _. process_value p2)
+              consistent.processes_in_order write.there)
 
       tests_alike : (test : StateValue → Bool) → test (state_value p.state) ≡ test Ready → (k : ℕ)
           → is_process (world_value after r2) test k ≡ is_process (world_value ps r) test k
@@ -153,9 +154,9 @@ module _ (ps : List Process) (r : Objects) (lab : IsConsistent ps r) (pid place 
         world = λ blocked. ap (λ (m : Map ProcessValue). record (world_blocked ps r2 (filter (λ q. not (q == pid)) blocked)) { processes = m })
             (ready_entries ∙ ap (λ (q : Process). put (map process_entry ps) pid (process_value q)) is) ∙ sym (wakes_so blocked);
         list = λ blocked are. rw (← key) (one_awake ps after p p2 write (ap (λ (q : Process). is_blocked (state_value q.state)) is) blocked are);
-        lab = keeps_agreeing ps after p p2 write r r2 lab agrees_on
-            (rw (ap (λ (q : Process). q.table) is) (lab.tables p.pid (process_value p) write.there))
-            (λ v e at. next.named e (lab.named p.pid (process_value p) v e write.there (rw (ap (λ (q : Process). q.table) is) at at)))
+        consistent = keeps_agreeing ps after p p2 write r r2 consistent agrees_on
+            (rw (ap (λ (q : Process). q.table) is) (consistent.tables p.pid (process_value p) write.there))
+            (λ v e at. next.named e (consistent.named p.pid (process_value p) v e write.there (rw (ap (λ (q : Process). q.table) is) at at)))
             next;
         count = same_count;
       }
@@ -172,7 +173,7 @@ module _ (ps : List Process) (r : Objects) (lab : IsConsistent ps r) (pid place 
         is ∙ ap (λ (s : State). record p { state = state.Ready; cpu = answered p.cpu (destinations_of s) (0 ∷ signals_at r.objects koid ∷ []) }) in_state in
         rw objects (gets_awake p2 r (ap (λ (q : Process). q.pid) so) (to.status ∷ to.observed ∷ []) (signals_at r.objects koid ∷ []) so
         (ap (λ (s : State). is_blocked (state_value s)) in_state)
-        (recounted_next ps (set ps place p2) r lab
+        (recounted_next ps (set ps place p2) r consistent
         (λ k. same_counts ps (set ps place p2) p p2 (write p2 r (ap (λ (q : Process). q.pid) so)) r r k refl (ap (λ (q : Process). q.table) so)))
         (λ blocked. woken_is blocked ∙ rw (in_state, same_active blocked koid, holds) refl))
     by_signal koid mask to in_state false holds is objects =
@@ -226,7 +227,7 @@ module _ (ps : List Process) (r : Objects) (lab : IsConsistent ps r) (pid place 
               objects_are : map object_entry (update r.objects port (at_port without_front))
                   ≡ put (map object_entry r.objects) port (record (object_value o) { body = PortBody rest })
               objects_are = update_seen object_value r.objects port (at_port without_front) packet_taken (λ y. seen_taken y y.body refl)
-                  ∙ (put_there (map object_entry r.objects) port (object_value o) packet_taken (rw (seen_sorted r.objects) lab.kept.in_order)
+                  ∙ (put_there (map object_entry r.objects) port (object_value o) packet_taken (rw (seen_sorted r.objects) consistent.kept.in_order)
                   (get_seen r.objects port ∙ rw at refl)
                   ∙ ap (λ (b : BodyValue). put (map object_entry r.objects) port (record (object_value o) { body = b }))
                   (ap (λ (c : Body). body_packed (drop 1) (body_value c)) is ∙ ap (λ (xs : List Packet). PortBody (drop 1 xs)) h))
@@ -245,7 +246,8 @@ module _ (ps : List Process) (r : Objects) (lab : IsConsistent ps r) (pid place 
           is ∙ ap (λ (s : State). record p { state = state.Ready; cpu = answered p.cpu (destinations_of s) (0 ∷ packet_values x) }) in_state in
           rw objects (gets_awake p2 (changing_port r port without_front) (ap (λ (q : Process). q.pid) so) ds (packet_values x) so
           (ap (λ (s : State). is_blocked (state_value s)) in_state)
-          (repacked_next without_front ps (set ps place p2) p p2 (write p2 r (ap (λ (q : Process). q.pid) so)) (ap (λ (q : Process). q.table) so) r lab port)
+          (repacked_next without_front ps (set ps place p2) p p2 (write p2 r (ap (λ (q : Process). q.pid) so))
+              (ap (λ (q : Process). q.table) so) r consistent port)
           (taken_at o x rest at first))
 
     -- whatever it is in
@@ -267,9 +269,9 @@ module _ (ps : List Process) (r : Objects) (lab : IsConsistent ps r) (pid place 
 -- where there is no such process, nothing wakes
 pub wakes_none : (ps : List Process) (r : Objects) (pid : ℕ) → IsConsistent ps r → get (map process_entry ps) pid ≡ None → WakesOne pid false ps r ps r
 unfolding woken
-wakes_none ps r pid lab missing = record {
+wakes_none ps r pid consistent missing = record {
   world = λ blocked. rw missing refl;
   list = λ blocked are. are;
-  lab = lab;
+  consistent = consistent;
   count = refl;
 }

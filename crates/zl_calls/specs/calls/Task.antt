@@ -39,14 +39,14 @@ use Rattle.zl_calls.specs.declared.calls.process.Started.{Started}
 -- ---- all that such a call can reach
 
 -- the processes of a world with its objects, and the list of those that are blocked
-pub record Lab : Type 0 where
+pub record Parts : Type 0 where
   pub processes : List Process
   pub objects : Objects
   pub blocked : List ℕ
 
 -- the same, by its parts
-abbrev pub lab : List Process → Objects → List ℕ → Lab
-lab processes objects blocked = record { processes = processes; objects = objects; blocked = blocked }
+abbrev pub parts : List Process → Objects → List ℕ → Parts
+parts processes objects blocked = record { processes = processes; objects = objects; blocked = blocked }
 
 -- there is such a call, and this is true of its site
 abbrev pub IsReachedBy : Option Site → (Site → Type 0) → Type 0
@@ -58,8 +58,8 @@ abbrev pub with_caller : List Process → ℕ → Process → List Process
 with_caller processes place p = slice_set processes place p
 
 -- the process at the place, the caller, is this one; all of it but its table stays
-pub record IsCaller (l : Lab) (place : ℕ) (caller after : Process) : Type 0 where
-  pub is_there : slice_get l.processes place ≡ Some caller
+pub record IsCaller (all : Parts) (place : ℕ) (caller after : Process) : Type 0 where
+  pub is_there : slice_get all.processes place ≡ Some caller
   pub same : after ≡ record caller { table = after.table }
 
 -- the caller is there still, at the same place with the same Cpu
@@ -83,10 +83,10 @@ pub record EndsOrAnswers (status : ℕ) (answer : Result ⊤ Status) (p : Proces
   pub told : p2 ≡ told_unless_over status answer p.state p
 
 -- such a call was done, or else it was refused
-pub record Tries {A : Type 0} (Done : A → Lab → Type 0) (Refuses : Lab → Type 0) (wants : Bool) (refusal : Option Status) (answer : Result A Status) (l2 : Lab) : Type 0 where
-  pub ok : IfOk answer (λ x. Done x l2)
+pub record Tries {A : Type 0} (Done : A → Parts → Type 0) (Refuses : Parts → Type 0) (wants : Bool) (refusal : Option Status) (answer : Result A Status) (all2 : Parts) : Type 0 where
+  pub ok : IfOk answer (λ x. Done x all2)
   pub err : IfErr answer (IsRefusedBy wants refusal)
-  pub refused : OnErr answer (Refuses l2)
+  pub refused : OnErr answer (Refuses all2)
 
 -- ---- process_create
 
@@ -109,25 +109,25 @@ abbrev pub create_refusal : Library → Map Entry → Objects → (job program :
 create_refusal lib entries r job program = create_refusal_of lib entries r program (looked_up entries job (kind.Job ∷ []) MANAGE_PROCESS)
 
 -- a process that runs the program was made in the job of the handle, and the caller's handle to it gets the value made
-pub record CreatesProcess (lib : Library) (l : Lab) (place job program made : ℕ) (l2 : Lab) : Type 0 where
+pub record CreatesProcess (lib : Library) (all : Parts) (place job program made : ℕ) (all2 : Parts) : Type 0 where
   pub caller : Process
   pub after : Process
-  pub is_caller : IsCaller l place caller after
-  pub unrefused : create_refusal lib caller.table.entries l.objects job program ≡ None
+  pub is_caller : IsCaller all place caller after
+  pub unrefused : create_refusal lib caller.table.entries all.objects job program ≡ None
   pub above : Entry
   pub is_above : looked_up caller.table.entries job (kind.Job ∷ []) MANAGE_PROCESS ≡ Ok above
-  pub makes : MakesOne (body.Process above.koid life.Created) caller.table l.objects made after.table l2.objects
+  pub makes : MakesOne (body.Process above.koid life.Created) caller.table all.objects made after.table all2.objects
   -- the new process
   pub new : Process
-  pub pid : new.pid ≡ l.objects.next_koid
+  pub pid : new.pid ≡ all.objects.next_koid
   pub created : process_value new ≡ created_process lib program
-  pub processes : l2.processes ≡ with_caller l.processes place after ++ (new ∷ [])
-  pub blocked : l2.blocked ≡ l.blocked
+  pub processes : all2.processes ≡ with_caller all.processes place after ++ (new ∷ [])
+  pub blocked : all2.blocked ≡ all.blocked
 
 -- process_create by the process at the place; where it is refused nothing changes
-abbrev pub ProcessCreateDoes : Library → (place job program : ℕ) → (caller : Process) → Lab → Result ℕ Status → Lab → Type 0
-ProcessCreateDoes lib place job program caller l =
-    Tries (CreatesProcess lib l place job program) (λ l2. l2 ≡ l) true (create_refusal lib caller.table.entries l.objects job program)
+abbrev pub ProcessCreateDoes : Library → (place job program : ℕ) → (caller : Process) → Parts → Result ℕ Status → Parts → Type 0
+ProcessCreateDoes lib place job program caller all =
+    Tries (CreatesProcess lib all place job program) (λ all2. all2 ≡ all) true (create_refusal lib caller.table.entries all.objects job program)
 
 -- ---- process_start
 
@@ -182,11 +182,11 @@ pub record Enters (lib : Library) (processes : List Process) (caller : Process) 
   pub entered : processes2 ≡ with_caller processes started.place child
 
 -- the process of the first handle is ready, with the second handle in its table, at a value that it finds in register 0, and with the word in register 1
-pub record StartsProcess (lib : Library) (l : Lab) (place process h word : ℕ) (l2 : Lab) : Type 0 where
+pub record StartsProcess (lib : Library) (all : Parts) (place process h word : ℕ) (all2 : Parts) : Type 0 where
   pub caller : Process
   pub after : Process
-  pub is_caller : IsCaller l place caller after
-  pub unrefused : start_refusal lib l.processes caller.table.entries process h ≡ None
+  pub is_caller : IsCaller all place caller after
+  pub unrefused : start_refusal lib all.processes caller.table.entries process h ≡ None
   pub given : Entry
   pub is_given : looked_up caller.table.entries h [] TRANSFER ≡ Ok given
   pub table : after.table ≡ without_handle caller.table h
@@ -194,7 +194,7 @@ pub record StartsProcess (lib : Library) (l : Lab) (place process h word : ℕ) 
   pub child : Process
   pub started : Process
   pub at_place : ℕ
-  pub is_child : slice_get l.processes at_place ≡ Some child
+  pub is_child : slice_get all.processes at_place ≡ Some child
   pub is_created : is_created (state_value child.state) ≡ true
   pub named : Entry
   pub is_named : looked_up caller.table.entries process (kind.Process ∷ []) WRITE ≡ Ok named
@@ -202,23 +202,23 @@ pub record StartsProcess (lib : Library) (l : Lab) (place process h word : ℕ) 
   pub value : ℕ
   pub inserts : Inserts child.table given value started.table
   pub starts : started ≡ record child { state = state.Ready; cpu = cpu_given (value ∷ []) word child.cpu; table = started.table }
-  pub processes : l2.processes ≡ with_caller (with_caller l.processes place after) at_place started
-  pub objects : l2.objects ≡ starting l.objects child.pid
-  pub blocked : l2.blocked ≡ l.blocked
+  pub processes : all2.processes ≡ with_caller (with_caller all.processes place after) at_place started
+  pub objects : all2.objects ≡ starting all.objects child.pid
+  pub blocked : all2.blocked ≡ all.blocked
 
 -- the handle of the process at the place closed, if there was one, and nothing else changed
-pub record ClosesHandle (l : Lab) (place h : ℕ) (l2 : Lab) : Type 0 where
+pub record ClosesHandle (all : Parts) (place h : ℕ) (all2 : Parts) : Type 0 where
   pub caller : Process
   pub after : Process
-  pub is_caller : IsCaller l place caller after
-  pub closes : ClosesEach (h ∷ []) caller.table l.objects after.table l2.objects
-  pub processes : l2.processes ≡ with_caller l.processes place after
-  pub blocked : l2.blocked ≡ l.blocked
+  pub is_caller : IsCaller all place caller after
+  pub closes : ClosesEach (h ∷ []) caller.table all.objects after.table all2.objects
+  pub processes : all2.processes ≡ with_caller all.processes place after
+  pub blocked : all2.blocked ≡ all.blocked
 
 -- process_start by the process at the place; where it is refused the handle closes
-abbrev pub ProcessStartDoes : Library → (place process h word : ℕ) → (caller : Process) → Lab → Result ⊤ Status → Lab → Type 0
-ProcessStartDoes lib place process h word caller l =
-    Tries (λ _. StartsProcess lib l place process h word) (ClosesHandle l place h) true (start_refusal lib l.processes caller.table.entries process h)
+abbrev pub ProcessStartDoes : Library → (place process h word : ℕ) → (caller : Process) → Parts → Result ⊤ Status → Parts → Type 0
+ProcessStartDoes lib place process h word caller all =
+    Tries (λ _. StartsProcess lib all place process h word) (ClosesHandle all place h) true (start_refusal lib all.processes caller.table.entries process h)
 
 -- ---- task_kill
 
@@ -248,21 +248,21 @@ pub data ClosesAllEnded : List Process → Objects → List Process → Objects 
       → ClosesEnded p r p2 mid → ClosesAllEnded ps mid ps2 r2 → ClosesAllEnded (p ∷ ps) r (p2 ∷ ps2) r2
 
 -- the task was killed, and all that stands below it: jobs are dead, processes have ended, and their handles closed
-pub record KillsTask (l : Lab) (task : ℕ) (l2 : Lab) : Type 0 where
+pub record KillsTask (all : Parts) (task : ℕ) (all2 : Parts) : Type 0 where
   -- the objects, before handles close
   pub between : Objects
-  pub marks : Releases [] (all_koids l.objects.objects) (killing l.objects task) between
-  pub closes : ClosesAllEnded (map (ended_within l.objects task) l.processes) between l2.processes l2.objects
+  pub marks : Releases [] (all_koids all.objects.objects) (killing all.objects task) between
+  pub closes : ClosesAllEnded (map (ended_within all.objects task) all.processes) between all2.processes all2.objects
   -- those are left that are still blocked
-  pub blocked : l2.blocked ≡ filter (λ k. state_passes is_blocked (get (map process_entry (map (ended_within l.objects task) l.processes)) k)) l.blocked
-  pub listed : KeepsListed l.objects l2.objects
+  pub blocked : all2.blocked ≡ filter (λ k. state_passes is_blocked (get (map process_entry (map (ended_within all.objects task) all.processes)) k)) all.blocked
+  pub listed : KeepsListed all.objects all2.objects
 
 -- the task that the handle names was killed so
-pub record KillsNamed (l : Lab) (caller : Process) (task : ℕ) (l2 : Lab) : Type 0 where
+pub record KillsNamed (all : Parts) (caller : Process) (task : ℕ) (all2 : Parts) : Type 0 where
   pub named : Entry
   pub is_named : looked_up caller.table.entries task (kind.Process ∷ kind.Job ∷ []) DESTROY ≡ Ok named
-  pub kills : KillsTask l named.koid l2
+  pub kills : KillsTask all named.koid all2
 
 -- task_kill by the caller; it never wants memory, and where it is refused nothing changes
-abbrev pub TaskKillDoes : (task : ℕ) → (caller : Process) → Lab → Result ⊤ Status → Lab → Type 0
-TaskKillDoes task caller l = Tries (λ _. KillsNamed l caller task) (λ l2. l2 ≡ l) false (kill_refusal caller.table.entries task)
+abbrev pub TaskKillDoes : (task : ℕ) → (caller : Process) → Parts → Result ⊤ Status → Parts → Type 0
+TaskKillDoes task caller all = Tries (λ _. KillsNamed all caller task) (λ all2. all2 ≡ all) false (kill_refusal caller.table.entries task)

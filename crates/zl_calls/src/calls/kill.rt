@@ -9,7 +9,7 @@ ghost use Rattle.zl_rights.specs.Signals.{state_passes};
 ghost use Rattle.zl_code.specs.Sound.{is_blocked};
 ghost use Rattle.zl_calls.specs.Registered.{KeepsListed};
 ghost use Rattle.zl_calls.specs.World.{process_entry};
-ghost use Rattle.zl_calls.specs.calls.Task.{ClosesAllEnded, ClosesEnded, IsCallerStill, TaskKillDoes, ended_within, lab};
+ghost use Rattle.zl_calls.specs.calls.Task.{ClosesAllEnded, ClosesEnded, IsCallerStill, TaskKillDoes, ended_within, parts};
 
 use crate::calls::look_up;
 use crate::calls::process::close_all;
@@ -40,8 +40,8 @@ pub fn task_kill(
     requires place { place < length processes.old.items }
     requires in_order { IsTrue (is_sorted nat_cmp (map process_entry processes.old.items)) }
     ensures does { (caller : Process) → slice_get processes.old.items place ≡ Some caller
-        → TaskKillDoes task caller (lab processes.old.items objects.old blocked.old.items) result
-        (lab processes.new.items objects.new blocked.new.items) }
+        → TaskKillDoes task caller (parts processes.old.items objects.old blocked.old.items) result
+        (parts processes.new.items objects.new blocked.new.items) }
     ensures caller { (caller : Process) → slice_get processes.old.items place ≡ Some caller
         → IsCallerStill caller (slice_get processes.new.items place) }
     ensures count { length processes.new.items ≡ length processes.old.items }

@@ -18,7 +18,7 @@ ghost use Rattle.zl_calls.specs.Registered.{KeepsListed};
 ghost use Rattle.zl_calls.specs.World.{process_entry, state_value};
 ghost use Rattle.zl_calls.specs.calls.Answer.{IsRefusedBy};
 ghost use Rattle.zl_calls.specs.calls.Process.{Drained, Ends};
-ghost use Rattle.zl_calls.specs.calls.Task.{AreBare, Enters, IsCallerStill, IsCreatedAt, IsFound, ProcessCreateDoes, ProcessStartDoes, child_refusal, create_refusal, lab, needs_more, process_at, start_refusal};
+ghost use Rattle.zl_calls.specs.calls.Task.{AreBare, Enters, IsCallerStill, IsCreatedAt, IsFound, ProcessCreateDoes, ProcessStartDoes, child_refusal, create_refusal, needs_more, parts, process_at, start_refusal};
 
 use crate::calls::handle::{close_each, take_out};
 use crate::calls::{check_room, insert, look_up, make_object};
@@ -75,8 +75,8 @@ pub fn process_create(
     requires few { length blocked.old.items ≤ length processes.old.items }
     ensures does { (caller : Process) → slice_get processes.old.items place ≡ Some caller
         → ProcessCreateDoes library.now place job program caller
-        (lab processes.old.items objects.old blocked.old.items) result
-        (lab processes.new.items objects.new blocked.new.items) }
+        (parts processes.old.items objects.old blocked.old.items) result
+        (parts processes.new.items objects.new blocked.new.items) }
     ensures room { length processes.old.items ≤ vec_capacity blocked.old
         → length processes.new.items ≤ vec_capacity blocked.new }
 {
@@ -212,8 +212,8 @@ pub fn process_start(
     ensures does { (blocked : List ℕ) (caller : Process)
         → slice_get processes.old.items place ≡ Some caller
         → ProcessStartDoes library.now place process handle word caller
-        (lab processes.old.items objects.old blocked) result
-        (lab processes.new.items objects.new blocked) }
+        (parts processes.old.items objects.old blocked) result
+        (parts processes.new.items objects.new blocked) }
     ensures caller { (caller : Process) → slice_get processes.old.items place ≡ Some caller
         → IsCallerStill caller (slice_get processes.new.items place) }
     ensures count { length processes.new.items ≡ length processes.old.items }

@@ -1,5 +1,5 @@
 use Rattle.zl_calls.proofs.Common.{set, sym, ◌∙◌}
-use Rattle.zl_calls.specs.calls.Task.{lab}
+use Rattle.zl_calls.specs.calls.Task.{parts}
 use Rattle.zl_calls.proofs.waking.BlockedLists.{no_more}
 use Rattle.zl_calls.proofs.stepping.CallSteps.{called_so, moves_from, stays_from, stops_from, caller_ready, within}
 use Rattle.zl_calls.proofs.stepping.Calling.{is_there}
@@ -10,7 +10,7 @@ use Rattle.zl_calls.proofs.stepping.act_for.Goals as goal
 
 pub call_next-requires-clause-bare : goal.call_next-requires-clause-bare
 call_next-requires-clause-bare c =
-    are_bare c.args.processes.now.items c.args.objects.now c.args.blocked.now.items c.requires.lab.processes_in_order c.requires.sound
+    are_bare c.args.processes.now.items c.args.objects.now c.args.blocked.now.items c.requires.consistent.processes_in_order c.requires.sound
 
 pub call_next-requires-clause-few : goal.call_next-requires-clause-few
 call_next-requires-clause-few c = no_more c.args.processes.now.items c.args.blocked.now.items c.requires.list
@@ -24,10 +24,10 @@ called : (c : goal.After-leave) → HasActed c.args.library.now c.args.processes
     c.call_next.new.objects c.args.blocked.now.items c.call_next.new.blocked.items
     c.args.pid (item.Call c.args.pid c.in-Some.call c.in-Some.outcome)
 called c = rw c.leave.ensures
-    (called_so c.args.library.now c.args.processes.now.items c.args.objects.now c.requires.lab c.args.blocked.now.items c.requires.list c.requires.sound
+    (called_so c.args.library.now c.args.processes.now.items c.args.objects.now c.requires.consistent c.args.blocked.now.items c.requires.list c.requires.sound
     c.args.pid c.in_ok-place.place c.index.result.now
     (rw c.deref.ensures.value at c.in_ok-place.ensures.first) c.index.ensures (sym c.is_ready.ensures ∙ c.if-not-is_ready.false)
-    (lab c.call_next.new.processes.items c.call_next.new.objects c.call_next.new.blocked.items) c.in-Some.outcome c.in-Some.call
+    (parts c.call_next.new.processes.items c.call_next.new.objects c.call_next.new.blocked.items) c.in-Some.outcome c.in-Some.call
     ((c.in-Some.ensures {u = tt}).calls c.index.result.now (is_there c.args.library.now c.args.processes.now.items c.args.objects.now
     c.args.blocked.now.items c.in_ok-place.place c.index.result.now
     (within c.args.processes.now.items c.args.pid c.in_ok-place.place c.index.result.now (rw c.deref.ensures.value at c.in_ok-place.ensures.first)
@@ -37,7 +37,7 @@ moved : (c : goal.After-processes-1) → HasActed c.args.library.now c.args.proc
     (set c.call_next.new.processes.items c.in_ok-place.place c.run_next.new.process) c.args.objects.now c.call_next.new.objects
     c.args.blocked.now.items c.call_next.new.blocked.items c.args.pid (item.Run c.args.pid 1)
 moved c =
-    (moves_from c.args.library.now c.args.processes.now.items c.args.objects.now c.requires.lab c.args.blocked.now.items c.requires.list c.requires.sound
+    (moves_from c.args.library.now c.args.processes.now.items c.args.objects.now c.requires.consistent c.args.blocked.now.items c.requires.list c.requires.sound
     c.args.pid c.in_ok-place.place c.index.result.now
     (rw c.deref.ensures.value at c.in_ok-place.ensures.first) c.index.ensures (sym c.is_ready.ensures ∙ c.if-not-is_ready.false)
     c.call_next.new.processes.items c.call_next.new.objects c.call_next.new.blocked.items (c.in_default.ensures {u = tt}).same_processes
@@ -48,7 +48,7 @@ stopped : (c : goal.After-leave-in-None) → HasActed c.args.library.now c.args.
     c.end.new.objects
     c.args.blocked.now.items c.call_next.new.blocked.items c.args.pid (item.Stuck c.args.pid)
 stopped c = rw c.leave-in-None.ensures
-    (stops_from c.args.library.now c.args.processes.now.items c.args.objects.now c.requires.lab c.args.blocked.now.items c.requires.list c.requires.sound
+    (stops_from c.args.library.now c.args.processes.now.items c.args.objects.now c.requires.consistent c.args.blocked.now.items c.requires.list c.requires.sound
     c.args.pid c.in_ok-place.place c.index.result.now
     (rw c.deref.ensures.value at c.in_ok-place.ensures.first) c.index.ensures (sym c.is_ready.ensures ∙ c.if-not-is_ready.false)
     c.call_next.new.processes.items c.call_next.new.objects c.call_next.new.blocked.items (c.in_default.ensures {u = tt}).same_processes
@@ -76,18 +76,18 @@ returns-in-Some-run_next-clause-list c = (moved c).list
 pub returns-in-None-clause-list : goal.returns-in-None-clause-list
 returns-in-None-clause-list c = (stopped c).list
 
-pub returns-in-Some-clause-lab : goal.returns-in-Some-clause-lab
-returns-in-Some-clause-lab c = (called c).lab
+pub returns-in-Some-clause-consistent : goal.returns-in-Some-clause-consistent
+returns-in-Some-clause-consistent c = (called c).consistent
 
-pub returns-in-Some-run_next-clause-lab : goal.returns-in-Some-run_next-clause-lab
-returns-in-Some-run_next-clause-lab c = (moved c).lab
+pub returns-in-Some-run_next-clause-consistent : goal.returns-in-Some-run_next-clause-consistent
+returns-in-Some-run_next-clause-consistent c = (moved c).consistent
 
-pub returns-in-None-clause-lab : goal.returns-in-None-clause-lab
-returns-in-None-clause-lab c = (stopped c).lab
+pub returns-in-None-clause-consistent : goal.returns-in-None-clause-consistent
+returns-in-None-clause-consistent c = (stopped c).consistent
 
 pub returns-in-Some-run_next-clause-quiet : goal.returns-in-Some-run_next-clause-quiet
 returns-in-Some-run_next-clause-quiet c local =
-    stays_from c.args.library.now c.args.processes.now.items c.args.objects.now c.requires.lab c.args.blocked.now.items c.requires.list c.requires.sound
+    stays_from c.args.library.now c.args.processes.now.items c.args.objects.now c.requires.consistent c.args.blocked.now.items c.requires.list c.requires.sound
     c.args.pid c.in_ok-place.place c.index.result.now
     (rw c.deref.ensures.value at c.in_ok-place.ensures.first) c.index.ensures (sym c.is_ready.ensures ∙ c.if-not-is_ready.false)
     c.call_next.new.processes.items c.call_next.new.objects c.call_next.new.blocked.items (c.in_default.ensures {u = tt}).same_processes

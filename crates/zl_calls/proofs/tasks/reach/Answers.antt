@@ -5,7 +5,7 @@ use Rattle.std.specs.Prelude.{slice_index}
 use Rattle.zl_code.specs.Local.{reg}
 use Rattle.zl_code.specs.Request.{site_of}
 use Rattle.zl_calls.specs.declared.process.Process.{Process}
-use Rattle.zl_calls.specs.calls.Task.{IsCallerStill, lab}
+use Rattle.zl_calls.specs.calls.Task.{IsCallerStill, parts}
 use Rattle.zl_calls.proofs.tasks.ReachParts.{counter_still, create_reaches, created_still, kill_reaches, start_reaches, still_within}
 use Rattle.zl_calls.proofs.tasks.StartParts.{stands_at}
 use Rattle.zl_calls.proofs.tasks.reach.Goals as goal
@@ -15,8 +15,8 @@ index_mut-requires c =
     let there : (x : Process) × (slice_get c.args.processes.now.items c.args.place ≡ Some x) =
     stands_at c.args.processes.now.items c.args.place c.requires.place in
     let still : IsCallerStill there.0 (slice_get c.process_create-made.new.processes.items c.args.place) =
-    created_still c.args.library.now c.args.place _ _ there.0 (lab c.args.processes.now.items c.args.objects.now c.args.blocked.now.items)
-    (lab c.process_create-made.new.processes.items c.process_create-made.new.objects c.process_create-made.new.blocked.items) c.process_create-made.result
+    created_still c.args.library.now c.args.place _ _ there.0 (parts c.args.processes.now.items c.args.objects.now c.args.blocked.now.items)
+    (parts c.process_create-made.new.processes.items c.process_create-made.new.objects c.process_create-made.new.blocked.items) c.process_create-made.result
     there.1 (c.process_create-made.ensures.does there.0 there.1) in
     omega (arith, still_within c.process_create-made.new.processes.items c.args.place there.0 still, c.process_create-made.new.processes.ok.0)
 
@@ -25,8 +25,8 @@ answer_made-requires c =
     let there : (x : Process) × (slice_get c.args.processes.now.items c.args.place ≡ Some x) =
     stands_at c.args.processes.now.items c.args.place c.requires.place in
     counter_still c.process_create-made.new.processes.items c.args.place there.0 c.index_mut.result.now
-    (created_still c.args.library.now c.args.place _ _ there.0 (lab c.args.processes.now.items c.args.objects.now c.args.blocked.now.items)
-    (lab c.process_create-made.new.processes.items c.process_create-made.new.objects c.process_create-made.new.blocked.items) c.process_create-made.result
+    (created_still c.args.library.now c.args.place _ _ there.0 (parts c.args.processes.now.items c.args.objects.now c.args.blocked.now.items)
+    (parts c.process_create-made.new.processes.items c.process_create-made.new.objects c.process_create-made.new.blocked.items) c.process_create-made.result
     there.1 (c.process_create-made.ensures.does there.0 there.1))
     c.index_mut.ensures.value (c.requires.counter there.0 there.1)
 
@@ -54,8 +54,8 @@ returns-in-ProcessCreate-clause-reached c = λ caller at.
     let program : c.register-program.result ≡ reg caller.cpu (slice_index c.args.call.now.registers 2) = grind (arith, common_steps) in
     rw (c.in-ProcessCreate.is, ← job, ← program)
     (create_reaches _ _ _ _ _ _ _ _ _ at _ c.index_mut.ensures.value
-    (created_still c.args.library.now c.args.place _ _ caller (lab c.args.processes.now.items c.args.objects.now c.args.blocked.now.items)
-    (lab c.process_create-made.new.processes.items c.process_create-made.new.objects c.process_create-made.new.blocked.items) c.process_create-made.result at
+    (created_still c.args.library.now c.args.place _ _ caller (parts c.args.processes.now.items c.args.objects.now c.args.blocked.now.items)
+    (parts c.process_create-made.new.processes.items c.process_create-made.new.objects c.process_create-made.new.blocked.items) c.process_create-made.result at
     (c.process_create-made.ensures.does caller at))
     _ _ _ _ _ (c.process_create-made.ensures.does caller at) _ c.answer_made.ensures.ends _ (grind (arith, common_steps)))
 

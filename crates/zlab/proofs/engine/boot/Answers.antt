@@ -22,7 +22,7 @@ returns-clause-ok c =
     let booted = (c.in-Ok.ensures {u = tt}).ok in
     elim c.match-fault.branch as (λ _. Starts c.args.text.now c.match-fault.result) [
       | in-Some w ↦ rw w.result-is (reading_fault c.args.text.now c.requires.fits made.scenario (reading_value made) read.read read.scenario order
-          c.in-Ok.system.lab.world w.in-Some.fault booted.boots.boots w.in-Some.is)
+          c.in-Ok.system.machine.world w.in-Some.fault booted.boots.boots w.in-Some.is)
       | in-None w ↦ rw w.result-is
           (is_start c.args.text.now c.requires.fits made.scenario (reading_value made) read.read read.scenario order c.in-Ok.system made.scenario.schedule.items
           w.in-None.is booted.programs booted.sized booted.items booted.out booted.limit_is refl)

@@ -1,5 +1,5 @@
 use Rattle.zl_calls.proofs.Common.{◌≡◌, ◌+◌, ◌-◌, ℕ, refl, arith}
-use Rattle.zl_calls.proofs.booting.BootLab.{all_swept, none_swept, one_swept}
+use Rattle.zl_calls.proofs.booting.BootConsistent.{all_swept, none_swept, one_swept}
 use Rattle.zl_calls.proofs.processes.Departed.{left_keeps}
 use Rattle.zl_calls.proofs.booting.Made.settle.Goals as goal
 
@@ -24,12 +24,12 @@ returns-clause-settles c =
     rw (c.leave.ensures, c.loop-koid.invariant.processes)
     ((all_swept c.args.self.now.processes.items c.args.self.now.objects c.loop-koid.self.objects c.requires (rw all at c.loop-koid.invariant.swept)).settles)
 
-pub returns-clause-lab : goal.returns-clause-lab
-returns-clause-lab c =
+pub returns-clause-consistent : goal.returns-clause-consistent
+returns-clause-consistent c =
     let all : ◌≡◌ {A = ℕ} c.loop-koid.koid 0 = omega (arith, c.loop-koid-test.false) in
     rw (c.leave.ensures, c.loop-koid.invariant.processes)
     (left_keeps c.args.self.now.processes.items c.loop-koid.self.objects
-    (all_swept c.args.self.now.processes.items c.args.self.now.objects c.loop-koid.self.objects c.requires (rw all at c.loop-koid.invariant.swept)).lab)
+    (all_swept c.args.self.now.processes.items c.args.self.now.objects c.loop-koid.self.objects c.requires (rw all at c.loop-koid.invariant.swept)).consistent)
 
 pub returns-clause-unwatched : goal.returns-clause-unwatched
 returns-clause-unwatched c =

@@ -1,5 +1,5 @@
 use Rattle.zl_calls.proofs.Common.{◌≡◌}
-use Rattle.zl_calls.proofs.booting.BootLab.{IsSwept}
+use Rattle.zl_calls.proofs.booting.BootConsistent.{IsSwept}
 use Rattle.zl_calls.proofs.booting.Made.settle.Given as goal
 
 abbrev pub invariant-loop-koid : goal.invariant-loop-koid

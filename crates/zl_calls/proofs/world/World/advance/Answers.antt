@@ -6,7 +6,7 @@ use Rattle.zl_calls.specs.Turns.{Stands}
 use Rattle.zl_calls.specs.declared.process.Process.{Process}
 use Rattle.zl_calls.proofs.stepping.Advancing.{advances, advanced_programs, advanced_sound, cpu_stands, program_stands, read_there, ready_there}
 use Rattle.zl_calls.proofs.stepping.LocalMoves.{moved_awake, moved_keeps, moved_list, moved_world}
-use Rattle.zl_calls.proofs.stepping.StepItems.{lab_value}
+use Rattle.zl_calls.proofs.stepping.StepItems.{machine_value}
 use Rattle.zl_calls.proofs.world.World.advance.Goals as goal
 
 module _ (c : goal.After-drop-process-2) where
@@ -23,7 +23,7 @@ module _ (c : goal.After-drop-process-2) where
   found = read_there c.self.inside.processes.items c.args.done.pid c.in-Some.place p
       (rw (c.deref.ensures.value, c.pid.ensures) at (c.in-Some.ensures {u = tt}).found) c.index_mut-process.ensures.value
 
-  stands : Stands (lab_value c.self.inside.library c.self.inside.processes.items c.self.inside.objects c.self.inside.blocked.items) c.args.done.pid
+  stands : Stands (machine_value c.self.inside.library c.self.inside.processes.items c.self.inside.objects c.self.inside.blocked.items) c.args.done.pid
       c.args.done.program c.args.done.from
   stands = rw (← c.self.view_is) at c.requires.fits
 
@@ -46,17 +46,20 @@ pub invariant_of-self : goal.invariant_of-self
 invariant_of-self c =
     let i = c.self.invariant in
     record {
-      lab = moved_keeps c.self.inside.library c.self.inside.processes.items c.self.inside.objects i.lab c.self.inside.blocked.items i.are_blocked i.sound
+      consistent = moved_keeps c.self.inside.library c.self.inside.processes.items c.self.inside.objects i.consistent
+          c.self.inside.blocked.items i.are_blocked i.sound
           c.args.done.pid c.in-Some.place (p c) (first c) c.index_mut-process.ensures.value (ready c) (p2 c) refl;
-      sound = advanced_sound c.self.inside.library c.self.inside.processes.items c.self.inside.objects i.lab c.self.inside.blocked.items i.are_blocked
+      sound = advanced_sound c.self.inside.library c.self.inside.processes.items c.self.inside.objects i.consistent c.self.inside.blocked.items i.are_blocked
           i.sound c.args.done.pid c.in-Some.place (p c) (first c) c.index_mut-process.ensures.value (ready c) i.awake c.args.done.program (program c)
           c.args.done.ran (p2 c) refl (follows c);
-      are_blocked = moved_list c.self.inside.library c.self.inside.processes.items c.self.inside.objects i.lab c.self.inside.blocked.items i.are_blocked
+      are_blocked = moved_list c.self.inside.library c.self.inside.processes.items c.self.inside.objects i.consistent c.self.inside.blocked.items i.are_blocked
           i.sound c.args.done.pid c.in-Some.place (p c) (first c) c.index_mut-process.ensures.value (ready c) (p2 c) refl;
       room = rw (length-set c.self.inside.processes.items c.in-Some.place (p2 c)) i.room;
-      awake = moved_awake c.self.inside.library c.self.inside.processes.items c.self.inside.objects i.lab c.self.inside.blocked.items i.are_blocked i.sound
+      awake = moved_awake c.self.inside.library c.self.inside.processes.items c.self.inside.objects i.consistent
+          c.self.inside.blocked.items i.are_blocked i.sound
           c.args.done.pid c.in-Some.place (p c) (first c) c.index_mut-process.ensures.value (ready c) (p2 c) refl i.awake;
-      programs = advanced_programs c.self.inside.library c.self.inside.processes.items c.self.inside.objects i.lab c.self.inside.blocked.items i.are_blocked
+      programs = advanced_programs c.self.inside.library c.self.inside.processes.items c.self.inside.objects i.consistent
+          c.self.inside.blocked.items i.are_blocked
           i.sound c.args.done.pid c.in-Some.place (p c) (first c) c.index_mut-process.ensures.value (ready c) i.awake c.args.done.program (program c)
           c.args.done.ran (p2 c) refl (follows c) i.programs;
     }
@@ -65,7 +68,7 @@ pub returns-clause-cpu : goal.returns-clause-cpu
 returns-clause-cpu c =
     let i = c.self.invariant in
     rw (← c.self.view_is) (ap (λ w. record { programs = c.self.inside.library; world = w })
-    (moved_world c.self.inside.library c.self.inside.processes.items c.self.inside.objects i.lab c.self.inside.blocked.items i.are_blocked i.sound
+    (moved_world c.self.inside.library c.self.inside.processes.items c.self.inside.objects i.consistent c.self.inside.blocked.items i.are_blocked i.sound
     c.args.done.pid c.in-Some.place (p c) (first c) c.index_mut-process.ensures.value (ready c) (p2 c) refl
     ∙ ap (λ (d : Cpu). on_process (world_blocked c.self.inside.processes.items c.self.inside.objects c.self.inside.blocked.items) c.args.done.pid
     (λ q. record q { cpu = d })) c.into_cpu.ensures))
@@ -74,6 +77,6 @@ pub returns-clause-steps : goal.returns-clause-steps
 returns-clause-steps c =
     let i = c.self.invariant in
     rw (← c.self.view_is)
-    (advances c.self.inside.library c.self.inside.processes.items c.self.inside.objects i.lab c.self.inside.blocked.items i.are_blocked i.sound
+    (advances c.self.inside.library c.self.inside.processes.items c.self.inside.objects i.consistent c.self.inside.blocked.items i.are_blocked i.sound
     c.args.done.pid c.in-Some.place (p c) (first c) c.index_mut-process.ensures.value (ready c) i.awake c.args.done.program (program c) c.args.done.ran
     (p2 c) refl (follows c))

@@ -13,7 +13,7 @@ boots c = booted_boots c.args.library c.args.boot.now.statements.items c.in_ok-p
 
 pub invariant_of-result : goal.invariant_of-result
 invariant_of-result c = record {
-  lab = c.in_ok-processes.ensures.lab;
+  consistent = c.in_ok-processes.ensures.consistent;
   sound =
       booted_sound c.args.library c.args.boot.now.statements.items c.in_ok-processes.field-0.processes.items c.in_ok-processes.field-0.objects
       c.in-Ok.blocked.items

@@ -4,7 +4,7 @@ use Rattle.zl_calls.specs.Blocking.{then_blocked}
 use Rattle.zl_calls.specs.Registered.{EndsUnheld, FiresWaits}
 use Rattle.zl_calls.specs.declared.process.Process.{Process}
 use Rattle.zl_calls.proofs.waking.BlockedLists.{no_more}
-use Rattle.zl_calls.proofs.stepping.StepItems.{lab_value, local_list, not_ready_in, stepped_awake, stepped_programs, stepped_sound, takes_local, takes_step}
+use Rattle.zl_calls.proofs.stepping.StepItems.{machine_value, local_list, not_ready_in, stepped_awake, stepped_programs, stepped_sound, takes_local, takes_step}
 use Rattle.zl_calls.proofs.world.World.step.Goals as goal
 
 pub returns-in_err-item-clause-not_ready : goal.returns-in_err-item-clause-not_ready
@@ -13,8 +13,8 @@ returns-in_err-item-clause-not_ready c =
     (not_ready_in c.self.inside.library c.self.inside.processes.items c.self.inside.objects c.self.inside.blocked.items c.args.pid c.from_residual.result
     c.in_err-item.ensures.not_ready)
 
-steps : (c : goal.After-wake) → TakesStep (lab_value c.self.inside.library c.self.inside.processes.items c.self.inside.objects c.self.inside.blocked.items)
-    c.args.pid (lab_value c.self.inside.library c.wake.new.processes.items c.wake.new.objects c.wake.new.blocked.items) c.in_ok-item.item
+steps : (c : goal.After-wake) → TakesStep (machine_value c.self.inside.library c.self.inside.processes.items c.self.inside.objects c.self.inside.blocked.items)
+    c.args.pid (machine_value c.self.inside.library c.wake.new.processes.items c.wake.new.objects c.wake.new.blocked.items) c.in_ok-item.item
 steps c =
     takes_step c.self.inside.library c.self.inside.processes.items c.self.inside.objects c.self.inside.blocked.items c.args.pid
     c.act_for.new.processes.items c.wake.new.processes.items c.act_for.new.objects c.end_unheld.new.objects c.fire_waits.new.objects c.wake.new.objects _
@@ -35,7 +35,7 @@ add_blocked-requires c =
 
 pub invariant_of-self-2 : goal.invariant_of-self-2
 invariant_of-self-2 c = record {
-  lab = c.wake.ensures.lab;
+  consistent = c.wake.ensures.consistent;
   sound = stepped_sound c.self.inside.library c.self.inside.processes.items c.wake.new.processes.items c.self.inside.objects c.wake.new.objects
       c.self.inside.blocked.items c.wake.new.blocked.items c.args.pid c.in_ok-item.item (steps c) c.self.invariant.sound;
   are_blocked = c.wake.ensures.list;
@@ -59,13 +59,13 @@ returns-then-is_local-clause-ran c =
 pub invariant_of-self-then-is_local : goal.invariant_of-self-then-is_local
 invariant_of-self-then-is_local c =
     let local : is_local c.in_ok-item.item ≡ true = sym c.is_local.ensures ∙ c.if-is_local.true in
-    let taken : TakesStep (lab_value c.self.inside.library c.self.inside.processes.items c.self.inside.objects c.self.inside.blocked.items) c.args.pid
-    (lab_value c.self.inside.library c.act_for.new.processes.items c.act_for.new.objects c.act_for.new.blocked.items) c.in_ok-item.item
+    let taken : TakesStep (machine_value c.self.inside.library c.self.inside.processes.items c.self.inside.objects c.self.inside.blocked.items) c.args.pid
+    (machine_value c.self.inside.library c.act_for.new.processes.items c.act_for.new.objects c.act_for.new.blocked.items) c.in_ok-item.item
     = takes_local c.self.inside.library c.self.inside.processes.items c.self.inside.objects c.self.inside.blocked.items c.args.pid
     c.act_for.new.processes.items c.act_for.new.objects c.act_for.new.blocked.items c.in_ok-item.item local
     c.in_ok-item.ensures.acts (c.in_ok-item.ensures.quiet local c.self.invariant.awake) in
     record {
-      lab = c.act_for.ensures.lab;
+      consistent = c.act_for.ensures.consistent;
       sound = stepped_sound c.self.inside.library c.self.inside.processes.items c.act_for.new.processes.items c.self.inside.objects c.act_for.new.objects
           c.self.inside.blocked.items c.act_for.new.blocked.items c.args.pid c.in_ok-item.item taken c.self.invariant.sound;
       are_blocked = subst (λ (ks : List ℕ). AreBlocked c.act_for.new.processes.items ks)

@@ -1,7 +1,7 @@
 use Rattle.zl_calls.proofs.Common.{refl, process_value}
 use Rattle.zl_calls.specs.Turns.{IsTurn}
 use Rattle.zl_calls.proofs.stepping.Advancing.{listed_there, made_passes, none_ready, read_there, they_stand}
-use Rattle.zl_calls.proofs.stepping.StepItems.{lab_value}
+use Rattle.zl_calls.proofs.stepping.StepItems.{machine_value}
 use Rattle.zl_calls.proofs.world.World.turn.Goals as goal
 
 pub unreachable-requires : goal.unreachable-requires
@@ -19,7 +19,7 @@ unreachable-requires-in_default-shared c =
 pub returns : goal.returns
 returns c =
     rw (← c.self.view_is)
-    (made_passes (IsTurn (lab_value c.self.inside.library c.self.inside.processes.items c.self.inside.objects c.self.inside.blocked.items) c.args.pid) _
+    (made_passes (IsTurn (machine_value c.self.inside.library c.self.inside.processes.items c.self.inside.objects c.self.inside.blocked.items) c.args.pid) _
     c.new.result c.new.ensures (record {
       pid_is = refl;
       stands = they_stand c.self.inside.library c.self.inside.processes.items c.self.inside.objects c.self.inside.blocked.items c.args.pid

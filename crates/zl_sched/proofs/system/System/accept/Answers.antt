@@ -13,7 +13,7 @@ queue-requires-clause-same c is =
     let before : System = held c.self.inside.world c.self.inside.items.items c.self.inside.boot.statements.items c.self.inside.boot.limit
     c.self.inside.ready.items c.self.inside.out.items in
     let awaited : IsAwaited before c.args.done = rw (← c.self.view_is) at c.requires.awaited in
-    let went : GoesFrom before.lab before.items c.args.done c.go-is_same.result c.go-is_same.new.world
+    let went : GoesFrom before.machine before.items c.args.done c.go-is_same.result c.go-is_same.new.world
     c.go-is_same.new.items.items = rw c.reserve.ensures.items at c.go-is_same.ensures in
     let left : c.deref.result.now ≡ others_of c.args.done.pid before.out = c.deref.ensures.value ∙ rw c.pid-pid.ensures at c.unmark.ensures.items in
     rw (c.pid-pid.ensures, left, c.make_room.ensures.items)
@@ -24,10 +24,10 @@ queue-requires-clause-room c =
     let before : System = held c.self.inside.world c.self.inside.items.items c.self.inside.boot.statements.items c.self.inside.boot.limit
     c.self.inside.ready.items c.self.inside.out.items in
     let awaited : IsAwaited before c.args.done = rw (← c.self.view_is) at c.requires.awaited in
-    let went : GoesFrom before.lab before.items c.args.done c.go-is_same.result c.go-is_same.new.world
+    let went : GoesFrom before.machine before.items c.args.done c.go-is_same.result c.go-is_same.new.world
     c.go-is_same.new.items.items = rw c.reserve.ensures.items at c.go-is_same.ensures in
     let left : c.deref.result.now ≡ others_of c.args.done.pid before.out = c.deref.ensures.value ∙ rw c.pid-pid.ensures at c.unmark.ensures.items in
-    let places : length before.lab.world.processes ≤ vec_capacity c.make_room.new.ready = done _ _
+    let places : length before.machine.world.processes ≤ vec_capacity c.make_room.new.ready = done _ _
     (c.if-is_err-2.ensures {u = tt}).value c.make_room.ensures.room in
     let room = requeued_room before c.self.invariant.0 c.args.done awaited c.go-is_same.result c.go-is_same.new.world c.go-is_same.new.items.items went in
     rw (c.pid-pid.ensures, left, c.make_room.ensures.items) (omega (arith, room, places))
@@ -38,13 +38,13 @@ invariant_of-self-2 c =
     c.self.inside.ready.items c.self.inside.out.items in
     let awaited : IsAwaited before c.args.done = rw (← c.self.view_is) at c.requires.awaited in
     let room : HasRoom before c.args.done = rw (← c.self.view_is) at c.requires.room in
-    let went : GoesFrom before.lab before.items c.args.done c.go-is_same.result c.go-is_same.new.world
+    let went : GoesFrom before.machine before.items c.args.done c.go-is_same.result c.go-is_same.new.world
     c.go-is_same.new.items.items = rw c.reserve.ensures.items at c.go-is_same.ensures in
     let out : c.unmark.new.out.items ≡ others_of c.args.done.pid before.out = rw c.pid-pid.ensures at c.unmark.ensures.items in
     let left : c.deref.result.now ≡ others_of c.args.done.pid before.out = c.deref.ensures.value ∙ out in
     let queue : c.queue.new.ready.items ≡ requeued c.go-is_same.new.world.world c.args.done.pid (others_of c.args.done.pid before.out) before.ready
     = rw (c.pid-pid.ensures, left, c.make_room.ensures.items) at c.queue.ensures.items in
-    let places : length before.lab.world.processes ≤ vec_capacity c.make_room.new.ready = done _ _
+    let places : length before.machine.world.processes ≤ vec_capacity c.make_room.new.ready = done _ _
     (c.if-is_err-2.ensures {u = tt}).value c.make_room.ensures.room in
     let fits = accepted_room before c.self.invariant.0 c.args.done awaited c.go-is_same.result c.go-is_same.new.world c.go-is_same.new.items.items went in
     let is = queue ∙ requeued_so before c.self.invariant.0 c.args.done awaited c.go-is_same.result c.go-is_same.new.world c.go-is_same.new.items.items went in (
@@ -59,7 +59,7 @@ returns c =
     c.self.inside.ready.items c.self.inside.out.items in
     let awaited : IsAwaited before c.args.done = rw (← c.self.view_is) at c.requires.awaited in
     let room : HasRoom before c.args.done = rw (← c.self.view_is) at c.requires.room in
-    let went : GoesFrom before.lab before.items c.args.done c.go-is_same.result c.go-is_same.new.world
+    let went : GoesFrom before.machine before.items c.args.done c.go-is_same.result c.go-is_same.new.world
     c.go-is_same.new.items.items = rw c.reserve.ensures.items at c.go-is_same.ensures in
     let out : c.unmark.new.out.items ≡ others_of c.args.done.pid before.out = rw c.pid-pid.ensures at c.unmark.ensures.items in
     let left : c.deref.result.now ≡ others_of c.args.done.pid before.out = c.deref.ensures.value ∙ out in

@@ -10,11 +10,11 @@ push_reserved-requires c =
     let before : System = held c.self.inside.world c.self.inside.items.items c.self.inside.boot.statements.items c.self.inside.boot.limit
     c.self.inside.ready.items c.self.inside.out.items in
     let marked : is_in c.args.pid before.out ≡ true = rw (← c.self.view_is) at c.requires.out in
-    let is : is_process before.lab.world is_ready c.args.pid ≡ true = rw (← c.self.view_is) at c.requires.ready in
+    let is : is_process before.machine.world is_ready c.args.pid ≡ true = rw (← c.self.view_is) at c.requires.ready in
     omega (
       arith,
       c.self.invariant.1,
-      out_shorter before.lab.world before.ready before.out c.self.invariant.0.listed c.args.pid marked is,
+      out_shorter before.machine.world before.ready before.out c.self.invariant.0.listed c.args.pid marked is,
       c.self.inside.ready.ok.0,
     )
 
@@ -23,12 +23,12 @@ invariant_of-self c =
     let before : System = held c.self.inside.world c.self.inside.items.items c.self.inside.boot.statements.items c.self.inside.boot.limit
     c.self.inside.ready.items c.self.inside.out.items in
     let marked : is_in c.args.pid before.out ≡ true = rw (← c.self.view_is) at c.requires.out in
-    let is : is_process before.lab.world is_ready c.args.pid ≡ true = rw (← c.self.view_is) at c.requires.ready in (
+    let is : is_process before.machine.world is_ready c.args.pid ≡ true = rw (← c.self.view_is) at c.requires.ready in (
       rw (c.push_reserved.ensures.items, c.unmark.ensures.items) (puts_back_whole before c.self.invariant.0 c.args.pid marked is),
       omega (
         arith,
         c.self.invariant.1,
-        put_back_room before.lab.world before.ready before.out c.self.invariant.0.listed c.args.pid marked is,
+        put_back_room before.machine.world before.ready before.out c.self.invariant.0.listed c.args.pid marked is,
         ap length c.unmark.ensures.items,
         ap length c.push_reserved.ensures.items,
         c.push_reserved.ensures.capacity,

@@ -27,14 +27,14 @@ invariant_of-self-then-blocked_count-blocked c =
     let before : System = held c.self.inside.world c.self.inside.items.items c.self.inside.boot.statements.items c.self.inside.boot.limit
     c.self.inside.ready.items c.self.inside.out.items in
     let unmarked : is_in c.args.pid before.out ≡ false = rw c.deref.ensures.value at (sym (c.if-is_out.ensures {u = tt})) in
-    let as_long : length c.step.new.self.world.blocked ≡ length before.lab.world.blocked = sym c.blocked_count.ensures
+    let as_long : length c.step.new.self.world.blocked ≡ length before.machine.world.blocked = sym c.blocked_count.ensures
     ∙ (c.if-blocked_count-blocked.true ∙ c.blocked_count-blocked.ensures) in
     let taken = (c.in-Some.ensures {u = tt}).ran in
-    let queue : c.move_last.new.ready.items ≡ queued_after before.lab.world c.args.pid c.step.new.self.world before.ready
+    let queue : c.move_last.new.ready.items ≡ queued_after before.machine.world c.args.pid c.step.new.self.world before.ready
     = by_move before c.self.invariant.0 c.args.pid unmarked c.step.new.self c.in-Some.item taken
     (sym (c.if-leaves_ready.ensures {u = tt})) as_long c.move_last.new.ready.items
     (c.move_last.ensures.items ∙ ap (λ (ys : List ℕ). others_of c.args.pid ys ++ (c.args.pid ∷ [])) c.make_room.ensures.items) in
-    let room : length before.lab.world.processes ≤ vec_capacity c.make_room.new.ready = done _ _
+    let room : length before.machine.world.processes ≤ vec_capacity c.make_room.new.ready = done _ _
     (c.if-is_err-2.ensures {u = tt}).value c.make_room.ensures.room in
     let fits = queue_room before c.self.invariant.0 c.args.pid unmarked c.step.new.self c.in-Some.item taken in (
       still_whole before c.self.invariant.0 c.args.pid unmarked c.step.new.self c.in-Some.item taken c.push.new.self.items c.move_last.new.ready.items
@@ -47,9 +47,9 @@ returns-then-blocked_count-blocked c =
     let before : System = held c.self.inside.world c.self.inside.items.items c.self.inside.boot.statements.items c.self.inside.boot.limit
     c.self.inside.ready.items c.self.inside.out.items in
     let unmarked : is_in c.args.pid before.out ≡ false = rw c.deref.ensures.value at (sym (c.if-is_out.ensures {u = tt})) in
-    let as_long : length c.step.new.self.world.blocked ≡ length before.lab.world.blocked = sym c.blocked_count.ensures
+    let as_long : length c.step.new.self.world.blocked ≡ length before.machine.world.blocked = sym c.blocked_count.ensures
     ∙ (c.if-blocked_count-blocked.true ∙ c.blocked_count-blocked.ensures) in
-    let queue : c.move_last.new.ready.items ≡ queued_after before.lab.world c.args.pid c.step.new.self.world before.ready
+    let queue : c.move_last.new.ready.items ≡ queued_after before.machine.world c.args.pid c.step.new.self.world before.ready
     = by_move before c.self.invariant.0 c.args.pid unmarked c.step.new.self c.in-Some.item (c.in-Some.ensures {u = tt}).ran
     (sym (c.if-leaves_ready.ensures {u = tt})) as_long c.move_last.new.ready.items
     (c.move_last.ensures.items ∙ ap (λ (ys : List ℕ). others_of c.args.pid ys ++ (c.args.pid ∷ [])) c.make_room.ensures.items) in
@@ -64,7 +64,7 @@ requeue-requires c =
     let before : System = held c.self.inside.world c.self.inside.items.items c.self.inside.boot.statements.items c.self.inside.boot.limit
     c.self.inside.ready.items c.self.inside.out.items in
     let unmarked : is_in c.args.pid before.out ≡ false = rw c.deref.ensures.value at (sym (c.if-is_out.ensures {u = tt})) in
-    let room : length before.lab.world.processes ≤ vec_capacity c.make_room.new.ready = done _ _
+    let room : length before.machine.world.processes ≤ vec_capacity c.make_room.new.ready = done _ _
     (c.if-is_err-2.ensures {u = tt}).value c.make_room.ensures.room in
     let fits = places before c.self.invariant.0 c.args.pid unmarked c.step.new.self c.in-Some.item (c.in-Some.ensures {u = tt}).ran in
     record { room = rw (c.deref-else-leaves_ready.ensures.value, c.make_room.ensures.items) (omega (arith, room, fits)) }
@@ -79,9 +79,9 @@ invariant_of-self-else-leaves_ready c =
       c.deref-else-leaves_ready.ensures.value,
       c.make_room.ensures.items,
     ) at c.requeue.ensures.items in
-    let queue : c.requeue.new.ready.items ≡ queued_after before.lab.world c.args.pid c.step.new.self.world before.ready
+    let queue : c.requeue.new.ready.items ≡ queued_after before.machine.world c.args.pid c.step.new.self.world before.ready
     = by_requeue before c.self.invariant.0 c.args.pid unmarked c.step.new.self c.in-Some.item taken c.requeue.new.ready.items is in
-    let room : length before.lab.world.processes ≤ vec_capacity c.make_room.new.ready = done _ _
+    let room : length before.machine.world.processes ≤ vec_capacity c.make_room.new.ready = done _ _
     (c.if-is_err-2.ensures {u = tt}).value c.make_room.ensures.room in
     let fits = queue_room before c.self.invariant.0 c.args.pid unmarked c.step.new.self c.in-Some.item taken in (
       still_whole before c.self.invariant.0 c.args.pid unmarked c.step.new.self c.in-Some.item taken c.push.new.self.items c.requeue.new.ready.items
@@ -98,7 +98,7 @@ returns-else-leaves_ready c =
       c.deref-else-leaves_ready.ensures.value,
       c.make_room.ensures.items,
     ) at c.requeue.ensures.items in
-    let queue : c.requeue.new.ready.items ≡ queued_after before.lab.world c.args.pid c.step.new.self.world before.ready
+    let queue : c.requeue.new.ready.items ≡ queued_after before.machine.world c.args.pid c.step.new.self.world before.ready
     = by_requeue before c.self.invariant.0 c.args.pid unmarked c.step.new.self c.in-Some.item (c.in-Some.ensures {u = tt}).ran c.requeue.new.ready.items is in
     rw (← c.self.view_is)
     (step_told before c.args.pid unmarked c.step.new.self c.push.new.self.items c.requeue.new.ready.items c.in-Some.item (c.in-Some.ensures {u = tt}).ran

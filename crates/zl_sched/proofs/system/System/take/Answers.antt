@@ -14,7 +14,7 @@ invariant_of-self-2 c =
       omega (
         arith,
         c.self.invariant.1,
-        taken_room before.lab.world before.ready before.out c.self.invariant.0.listed c.index-pid.result.now c.remove.new.self.items first,
+        taken_room before.machine.world before.ready before.out c.self.invariant.0.listed c.index-pid.result.now c.remove.new.self.items first,
         ap length out,
         c.remove.ensures.capacity,
       ),

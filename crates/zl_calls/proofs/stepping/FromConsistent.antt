@@ -15,18 +15,18 @@ use Rattle.zl_calls.specs.declared.process.Process.{Process}
 
 -- ---- what follows from the invariant
 
-module _ (ps : List Process) (r : Objects) (lab : IsConsistent ps r) where
+module _ (ps : List Process) (r : Objects) (consistent : IsConsistent ps r) where
   abbrev w : World
   w = world_value ps r
 
   pub given : (k : ℕ) → IsTrue (has_key w.objects k) → k < r.next_koid
-  given k there = lab.given_objects k (sym (has_seen r.objects k) ∙ there)
+  given k there = consistent.given_objects k (sym (has_seen r.objects k) ∙ there)
 
   pub handles_counted : (p : Process) → get w.processes p.pid ≡ Some (process_value p) → (h : ℕ) (e : Entry) → get p.table.entries h ≡ Some e
       → has_place (get r.objects e.koid) ≡ not (nat_le (2 ^ 62) (handles_to w e.koid))
   handles_counted p there h e at =
-      let named : IsNamed r.objects e = lab.named p.pid (process_value p) h e there at in
-      rw (named.there, ← lab.counted e.koid named.object named.there) (grind (arith, nat_tests))
+      let named : IsNamed r.objects e = consistent.named p.pid (process_value p) h e there at in
+      rw (named.there, ← consistent.counted e.koid named.object named.there) (grind (arith, nat_tests))
 
 -- ---- a call is a step, up to where processes wake
 

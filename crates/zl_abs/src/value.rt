@@ -1,5 +1,6 @@
-ghost use Rattle.std.specs.Prelude.{◌≡◌, ◌==◌};
+ghost use Rattle.std.specs.Prelude.{◌≡◌, ◌==◌, true, Some, None, if◌then◌else◌};
 ghost use Rattle.zl_rights.specs.Numbers.{same_kind};
+ghost use Rattle.zl_abs.specs.declared.value.AbsVal.TheVariants.{Has};
 ghost use Rattle.zl_abs.specs.Values.{below, joined, is_has, bound_of, kind_below, kind_joined, untagged, retagged};
 ghost use Rattle.zl_abs.specs.Tags.{is_tag};
 
@@ -59,6 +60,21 @@ fn common_kind(kind: Option<Kind>, other: Option<Kind>) -> Option<Kind>
     }
 }
 
+/// The least value above a word of at most `most` and a handle; nothing where the word may be another
+/// than 0.
+fn zero_or_handle(most: u64, kind: Option<Kind>, rights: Rights) -> Option<AbsVal>
+    ensures { result ≡ (if most == 0 then Some (Has true kind rights) else None) }
+{
+    if most != 0 {
+        return None;
+    }
+    Some(AbsVal::Has {
+        maybe: true,
+        kind,
+        rights,
+    })
+}
+
 /// Whether it is the same register.
 pub(crate) fn is_register(register: Register, other: Register) -> bool
     ensures { result ≡ (register == other) }
@@ -114,17 +130,7 @@ impl AbsVal {
         match self {
             AbsVal::Word(most) => match other {
                 AbsVal::Word(other) => Some(AbsVal::Word(if most <= other { other } else { most })),
-                AbsVal::Has { kind, rights, .. } => {
-                    if most == 0 {
-                        Some(AbsVal::Has {
-                            maybe: true,
-                            kind,
-                            rights,
-                        })
-                    } else {
-                        None
-                    }
-                }
+                AbsVal::Has { kind, rights, .. } => zero_or_handle(most, kind, rights),
                 _ => Some(AbsVal::Word(u64::MAX)),
             },
             AbsVal::Has {
@@ -132,17 +138,7 @@ impl AbsVal {
                 kind,
                 rights,
             } => match other {
-                AbsVal::Word(most) => {
-                    if most == 0 {
-                        Some(AbsVal::Has {
-                            maybe: true,
-                            kind,
-                            rights,
-                        })
-                    } else {
-                        None
-                    }
-                }
+                AbsVal::Word(most) => zero_or_handle(most, kind, rights),
                 AbsVal::Has {
                     maybe: other_maybe,
                     kind: other_kind,
@@ -156,20 +152,12 @@ impl AbsVal {
             },
             AbsVal::KindOf(register) => match other {
                 AbsVal::Has { .. } => None,
-                AbsVal::KindOf(other) => Some(if is_register(register, other) {
-                    self
-                } else {
-                    AbsVal::Word(u64::MAX)
-                }),
+                AbsVal::KindOf(other) if is_register(register, other) => Some(self),
                 _ => Some(AbsVal::Word(u64::MAX)),
             },
             AbsVal::RightsOf(register) => match other {
                 AbsVal::Has { .. } => None,
-                AbsVal::RightsOf(other) => Some(if is_register(register, other) {
-                    self
-                } else {
-                    AbsVal::Word(u64::MAX)
-                }),
+                AbsVal::RightsOf(other) if is_register(register, other) => Some(self),
                 _ => Some(AbsVal::Word(u64::MAX)),
             },
         }

@@ -1,6 +1,6 @@
 -- What holds of the 16 bytes of an instruction in range, and of 16 bytes without a fault.
-use Rattle.zl_code.proofs.Common.{◌≡◌, ℕ, zero, suc, ◌<◌, ◌%◌, Bool, true, false, List, [], ◌∷◌, ◌++◌, length, replicate, Some, None, ◌==◌, ◌&&◌, ◌||◌, not}
-use Rattle.zl_code.proofs.Common.{nat_lt, refl, sym, ap, ◌∙◌, inl, inr, arith, slice_index, is_some, list_all, and_parts, eqb-true, ltb-true, cases_Bool}
+use Rattle.zl_code.proofs.Common.{◌≡◌, ℕ, zero, suc, ◌<◌, ◌%◌, Bool, true, false, List, [], ◌∷◌, ◌++◌, length, replicate, Some, None, ◌==◌, ◌&&◌, not}
+use Rattle.zl_code.proofs.Common.{nat_lt, refl, sym, ap, ◌∙◌, arith, slice_index, is_some, list_all, and_parts, ltb-true}
 use Rattle.zl_code.proofs.Common.{then_some, first_some, Layout, layout_of, local_parts, seven, bytes_of, are_registers, is_instr_in_range, instr_bytes}
 use Rattle.zl_code.proofs.Common.{instr_fault, reading_of, row_bytes, is_32_bits, is_local_in_range, is_call_in_range, fault_by, names_registers}
 use Rattle.zl_code.proofs.Common.{is_unused_zero}
@@ -53,13 +53,6 @@ IsBytes-all test small (b ∷ bytes) h =
 
 small_register : (b : ℕ) → nat_lt b 32 ≡ true → b < 256
 small_register b h = let lt : b < 32 = ltb-true b 32 h in omega arith
-
-small_place : (b : ℕ) → nat_lt b 32 || (b == 0xff) ≡ true → b < 256
-small_place b h =
-    elim (cases_Bool (nat_lt b 32)) as (λ _. b < 256) [
-      | inl lt ↦ small_register b lt
-      | inr apart ↦ let e : b ≡ 255 = eqb-true b 255 (sym (ap (λ (r : Bool). r || (b == 0xff)) apart) ∙ h) in omega arith
-    ]
 
 IsBytes-registers : (rs : List ℕ) → are_registers rs ≡ true → IsBytes rs
 IsBytes-registers rs h = IsBytes-all (λ r. nat_lt r 32) small_register rs h

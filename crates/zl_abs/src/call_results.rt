@@ -4,8 +4,9 @@ ghost use Rattle.std.specs.Prelude.{◌≡◌, ◌+◌, ◌*◌, ◌≤◌, ◌<
 ghost use Rattle.zl_rights.specs.Numbers.{bits, KNOWN_RIGHTS};
 ghost use Rattle.zl_code.specs.Asked.{those, is_written};
 ghost use Rattle.zl_code.specs.Instructions.{call_row, field_of};
-ghost use Rattle.zl_code.specs.Limits.{most_handles, most_registers, register_count};
+ghost use Rattle.zl_code.specs.Limits.{most_registers, register_count};
 ghost use Rattle.zl_code.specs.Spells.{call_reading, names_registers};
+ghost use Rattle.zl_code.specs.declared.layout.Ending.TheVariants as ending;
 ghost use Rattle.zl_abs.specs.declared.value.AbsVal.TheVariants.{Word};
 ghost use Rattle.zl_abs.specs.Found.{bounds_in};
 ghost use Rattle.zl_abs.specs.Values.{ANY};
@@ -16,7 +17,7 @@ use crate::state::AbsState;
 use crate::value::AbsVal;
 use bitflags::Flags;
 use std::marker::Model;
-use zl_code::{CallInstr, CallName, Columns, Ending, Field, HandleList, InstrBytes, Register};
+use zl_code::{CallInstr, CallName, Field, HandleList, InstrBytes, Register};
 use zl_rights::{Kind, Rights};
 
 /// What a status register gets: the largest magnitude of a status is 30.
@@ -117,17 +118,21 @@ pub(crate) fn values_of(
     }
 }
 
-/// The most destinations of a call: its registers, and three for each handle that is received.
-const MOST_RESULTS: usize = InstrBytes::REGISTERS + 3 * HandleList::MOST;
+/// The most destinations among the registers of a call.
+pub(crate) const MOST_WRITTEN: usize = InstrBytes::REGISTERS;
 
-/// Destinations with what they get.
+/// The most destinations of a call that receives handles: three more for each of them.
+const MOST_RECEIVED: usize = MOST_WRITTEN + 3 * HandleList::MOST;
+
+/// Destinations with what they get, at most `MOST`. Hardly a call receives handles, and all others
+/// need only a few places.
 #[derive(Drop)]
-pub(crate) struct Results {
-    pairs: [(Register, AbsVal); MOST_RESULTS],
+pub(crate) struct Results<const MOST: usize> {
+    pairs: [(Register, AbsVal); MOST],
     count: usize,
 }
 
-impl Model for Results {
+impl<const MOST: usize> Model for Results<MOST> {
     ghost use Rattle.std.specs.Prelude.{◌≡◌, ◌≤◌, ℕ, List, length, take};
     ghost use Rattle.zl_abs.specs.declared.value.AbsVal.{AbsVal as V};
 
@@ -135,10 +140,10 @@ impl Model for Results {
 
     ghost view = { λ r. take r.count r.pairs };
 
-    ghost invariant = { λ r. (r.count ≤ 31) × (length r.pairs ≡ 31) };
+    ghost invariant = { λ r. (r.count ≤ MOST) × (length r.pairs ≡ MOST) };
 }
 
-impl Results {
+impl<const MOST: usize> Results<MOST> {
     /// All of them, in their order.
     pub fn all(&self) -> &[(Register, AbsVal)]
         ensures { result.now ≡ self.now }
@@ -148,7 +153,7 @@ impl Results {
 
     /// One more.
     fn push(&mut self, register: Register, value: AbsVal)
-        requires { length self.old < 31 }
+        requires { length self.old < MOST }
         ensures { self.new ≡ self.old ++ (register, value) ∷ [] }
     {
         self.pairs[self.count] = (register, value);
@@ -157,8 +162,7 @@ impl Results {
 
     /// The registers of handles that are received, each with those of its kind and its rights.
     fn receive(&mut self, first: Register, places: u32)
-        requires room { length self.old ≤ most_registers }
-        requires few { places ≤ most_handles }
+        requires room { length self.old + 3 * places ≤ MOST }
         requires fit { first + 3 * places ≤ register_count }
         ensures { self.new ≡ self.old ++ triple_results first places }
     {
@@ -196,7 +200,12 @@ fn is_written(field: &Field) -> bool
 
 /// The destinations among the registers, each with its value.
 #[inline(always)]
-fn written(fields: &[Field], registers: &[Register], values: &[AbsVal]) -> Results
+pub(crate) fn written<const MOST: usize>(
+    fields: &[Field],
+    registers: &[Register],
+    values: &[AbsVal],
+) -> Results<MOST>
+    requires wide { most_registers ≤ MOST }
     requires few { length fields.now ≤ most_registers }
     requires registers { length registers.now ≡ most_registers }
     requires values { length values.now ≡ most_registers }
@@ -205,7 +214,7 @@ fn written(fields: &[Field], registers: &[Register], values: &[AbsVal]) -> Resul
     ensures few { length result ≤ most_registers }
 {
     let mut results = Results {
-        pairs: [(registers[0], STATUS); MOST_RESULTS],
+        pairs: [(registers[0], STATUS); MOST],
         count: 0,
     };
     for (place, field) in fields.iter().enumerate() {
@@ -218,20 +227,21 @@ fn written(fields: &[Field], registers: &[Register], values: &[AbsVal]) -> Resul
     results
 }
 
-/// The destinations of a call with what they get: those among the registers their values, and
-/// behind them handles that are received.
-#[inline(always)]
-pub(crate) fn results_of(columns: &Columns, instr: &CallInstr, values: &[AbsVal]) -> Results
-    requires few { length columns.now.fields.now ≤ most_registers }
-    requires room { IsTrue (names_registers columns.now.ending (call_reading instr.now)) }
+/// The destinations of a call that receives handles: those among the registers, each with its
+/// value, and behind them the registers of the handles.
+pub(crate) fn with_received(
+    fields: &[Field],
+    instr: &CallInstr,
+    values: &[AbsVal],
+) -> Results<MOST_RECEIVED>
+    requires few { length fields.now ≤ most_registers }
+    requires room { IsTrue (names_registers ending.Room (call_reading instr.now)) }
     requires values { length values.now ≡ most_registers }
-    ensures { result ≡ zip
-        (those is_written (map field_of columns.now.fields.now) 0 instr.now.registers) values.now
-        ++ received_in columns.now.ending instr.now }
+    ensures { result
+        ≡ zip (those is_written (map field_of fields.now) 0 instr.now.registers) values.now
+        ++ received_in ending.Room instr.now }
 {
-    let mut results = written(columns.fields, &instr.registers, values);
-    if let Ending::Room = columns.ending {
-        results.receive(instr.registers[6], instr.number());
-    }
+    let mut results: Results<MOST_RECEIVED> = written(fields, &instr.registers, values);
+    results.receive(instr.registers[6], instr.number());
     results
 }

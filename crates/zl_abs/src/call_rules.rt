@@ -1,24 +1,25 @@
 //! The rule of the system calls, by the rows of the table of instructions.
 
-ghost use Rattle.std.specs.Prelude.{◌≡◌, ◌≤◌, ◌∷◌, ◌++◌, [], Ok, Some, IsTrue, if◌then◌else◌, length, map};
+ghost use Rattle.std.specs.Prelude.{◌≡◌, ◌≤◌, ◌∷◌, ◌++◌, [], Ok, Some, IsTrue, if◌then◌else◌, length, map, zip};
 ghost use Rattle.std.specs.Option.{option_map};
-ghost use Rattle.zl_code.specs.Asked.{listed_in, used};
+ghost use Rattle.zl_code.specs.Asked.{is_written, listed_in, those, used};
 ghost use Rattle.zl_code.specs.Instructions.{field_of};
 ghost use Rattle.zl_code.specs.Limits.{most_registers};
 ghost use Rattle.zl_code.specs.Refusals.{operands_by};
-ghost use Rattle.zl_code.specs.Spells.{is_call_in_range};
+ghost use Rattle.zl_code.specs.Spells.{call_reading, is_call_in_range, names_registers};
 ghost use Rattle.zl_abs.specs.Found.{bounds_in};
-ghost use Rattle.zl_abs.specs.CallRules.{call_rule, examined_all, goes_on, operands_at, operands_listed, stops};
+ghost use Rattle.zl_abs.specs.CallRules.{call_rule, examined_all, finished, goes_on, is_word, operands_at, operands_listed, range_in, received_in, stops, uses};
 ghost use Rattle.zl_abs.specs.Changes.{left_by, ways_told};
 ghost use Rattle.zl_abs.specs.Rule.{and_then, passes};
 
-use crate::call_results::{results_of, values_of};
+use crate::call_results::{MOST_WRITTEN, Results, values_of, with_received, written};
 use crate::call_tests::finish;
 use crate::cause::Cause;
 use crate::change::Change;
 use crate::operand::Operand;
 use crate::round_up::Rounding;
 use crate::state::AbsState;
+use crate::value::AbsVal;
 use crate::ways::Changes;
 use zl_code::{CallInstr, CallName, Columns, Ending, Field, HandleList, Image, Register};
 
@@ -93,6 +94,33 @@ fn examine_all(after: &mut AbsState, columns: &Columns, instr: &CallInstr) -> Op
     }
 }
 
+/// Ends a call whose operands passed, and left `after` of the state. Its destinations among the
+/// registers get these values. Why it can't be answered, if it can't.
+fn finish_with(
+    image: &Image,
+    state: &AbsState,
+    after: &mut AbsState,
+    columns: &Columns,
+    instr: &CallInstr,
+    values: &[AbsVal],
+) -> Option<Cause>
+    requires few { length columns.now.fields.now ≤ most_registers }
+    requires room { IsTrue (names_registers columns.now.ending (call_reading instr.now)) }
+    requires values { length values.now ≡ most_registers }
+    ensures { left_by after.new result ≡ finished image.now state.now after.old
+        (uses [] (those is_word (map field_of columns.now.fields.now) 0 instr.now.registers)
+        (range_in columns.now.ending instr.now.registers) columns.now.condition
+        (zip (those is_written (map field_of columns.now.fields.now) 0 instr.now.registers) values.now
+        ++ received_in columns.now.ending instr.now)) }
+{
+    if let Ending::Room = columns.ending {
+        let results = with_received(columns.fields, instr, values);
+        return finish(image, state, after, columns, instr, results.all());
+    }
+    let results: Results<MOST_WRITTEN> = written(columns.fields, &instr.registers, values);
+    finish(image, state, after, columns, instr, results.all())
+}
+
 /// The edges that are followed from the call of this name that left this state, if nothing is at
 /// fault.
 fn ended(after: &AbsState, name: CallName, fault: Option<Cause>) -> Result<Changes, Cause>
@@ -126,7 +154,6 @@ pub(crate) fn call_rule(
         return Err(cause);
     }
     let values = values_of(bounds, state, &instr);
-    let results = results_of(columns, &instr, &values);
-    let fault = finish(image, state, after, columns, &instr, results.all());
+    let fault = finish_with(image, state, after, columns, &instr, &values);
     ended(after, instr.name, fault)
 }

@@ -11,8 +11,8 @@ returns-in-Some c =
     stopped (bounds_in c.args.bounds) c.args.image.now c.args.state.now c.args.instr (row_value c.row.result) c.row.ensures.row _
     (rw c.requires.same at (c.in-Some.ensures {u = tt}))
 
-pub results_of-results-requires-clause-room : goal.results_of-results-requires-clause-room
-results_of-results-requires-clause-room c =
+pub finish_with-fault-requires-clause-room : goal.finish_with-fault-requires-clause-room
+finish_with-fault-requires-clause-room c =
     subst (λ (r : Row). names_registers r.ending (call_reading c.args.instr) ≡ true) (sym c.row.ensures.row) (whole c.args.instr c.requires.in_range).named
 
 pub returns : goal.returns
@@ -21,4 +21,4 @@ returns c =
     ∙ ended (bounds_in c.args.bounds) c.args.image.now c.args.state.now c.args.instr (row_value c.row.result) c.row.ensures.row
     c.values_of-values.result c.values_of-values.ensures _ _
     (rw c.requires.same at (c.in_default.ensures {u = tt}))
-    (rw (c.all.ensures, c.results_of-results.ensures) at c.finish-fault.ensures)
+    c.finish_with-fault.ensures

@@ -1,7 +1,8 @@
 -- The rows of the table, by opcode and by name.
 use Rattle.zl_code.proofs.Common.{◌≡◌, ◌≢◌, ℕ, ◌+◌, ◌<◌, ◌≤◌, Bool, true, false, ◌==◌, ◌&&◌, not, nat_lt, List, [], ◌∷◌, Option, Some, None, refl, ap, sym}
-use Rattle.zl_code.proofs.Common.{subst, ◌∙◌, inl, inr, arith, find, list_all, option_map, cases_Bool, and_parts, and_from, eqb-true, ltb-true, Row, row_of}
+use Rattle.zl_code.proofs.Common.{subst, ◌∙◌, inl, inr, arith, find, list_all, option_map, cases_Bool, and_parts, eqb-true, ltb-true, Row, row_of}
 use Rattle.zl_code.proofs.Common.{row_named, rows, row_among, eq-eqb, same_Some, length, length-map}
+use Rattle.zl_code.proofs.Named.{passes, same_names, same_refl}
 use Rattle.zl_code.specs.Instructions.{layout, field_of, row_value}
 use Rattle.zl_code.specs.declared.layout.Row.{Row as RowInCode}
 use Rattle.std.specs.Cmp.Lexicographic.{pointwise}
@@ -71,30 +72,10 @@ row_again test (x ∷ rs) r h e =
           rw differs (row_again test rs r p.1 rest)
     ]
 
-same_refl : (xs : List ℕ) → pointwise ◌==◌ xs xs ≡ true
-same_refl [] = refl
-same_refl (x ∷ xs) = and_from (x == x) (pointwise ◌==◌ xs xs) (eq-eqb x x refl) (same_refl xs)
-
 -- the row of an opcode is the row of its name
 pub row_named-of : (opcode : ℕ) (r : Row) → row_of opcode ≡ Some r → row_named r.name ≡ Some r
 unfolding row_of row_named
 row_named-of opcode r e = found_among (λ x y. pointwise ◌==◌ x.name y.name) rows opcode r (λ x. same_refl x.name) refl e
-
-same_names : (xs ys : List ℕ) → pointwise ◌==◌ xs ys ≡ true → xs ≡ ys
-same_names [] [] h = refl
-same_names [] (y ∷ ys) h = absurd cc
-same_names (x ∷ xs) [] h = absurd cc
-same_names (x ∷ xs) (y ∷ ys) h =
-    let p = and_parts (x == y) (pointwise ◌==◌ xs ys) h in
-    λ i. eqb-true x y p.0 i ∷ same_names xs ys p.1 i
-
-passes : (test : Row → Bool) (rs : List Row) (r : Row) → find test rs ≡ Some r → test r ≡ true
-passes test [] r e = absurd cc
-passes test (x ∷ rs) r e =
-    elim (cases_Bool (test x)) as (λ _. test r ≡ true) [
-      | inl here ↦ let same : x ≡ r = cc in subst (λ y. test y ≡ true) same here
-      | inr other ↦ passes test rs r cc
-    ]
 
 -- the row of a name is the row of its opcode, and has the name
 pub row_of-named : (name : List ℕ) (r : Row) → row_named name ≡ Some r → (row_of r.opcode ≡ Some r) × (r.name ≡ name)

@@ -1,9 +1,10 @@
 //! The table of instructions: the row of each opcode, and of each name.
 
-ghost use Rattle.std.specs.Prelude.{◌≡◌, ◌<◌, ◌≤◌, None, Some, IfSome, IfNone, IsTrue, ◌↔◌, length};
+ghost use Rattle.std.specs.Prelude.{◌≡◌, ◌≢◌, ◌<◌, ◌≤◌, None, Some, IfSome, IfNone, IsTrue, ◌↔◌, length};
 ghost use Rattle.std.specs.Option.{option_map};
 ghost use Rattle.zl_code.specs.Limits.{first_call, most_registers};
-ghost use Rattle.zl_code.specs.Instructions.{call_name, call_row, layout as layout_with, layout_of, row_of, row_named, row_value};
+ghost use Rattle.zl_code.specs.declared.history.CallName.{CallName as CallValue};
+ghost use Rattle.zl_code.specs.Instructions.{call_name, call_row, calls, layout as layout_with, layout_of, row_of, row_named, row_value};
 
 use crate::columns;
 use crate::history::CallName;
@@ -59,6 +60,37 @@ fn local_row(opcode: u8) -> Option<Row>
 }
 
 impl CallName {
+    /// All calls, in the order of their opcodes.
+    pub fn all() -> &'static [CallName]
+        ensures { result.now ≡ calls }
+    {
+        &[
+            CallName::Close,
+            CallName::Dup,
+            CallName::Replace,
+            CallName::ChanCreate,
+            CallName::ChanWrite,
+            CallName::ChanReadEtc,
+            CallName::EventCreate,
+            CallName::Signal,
+            CallName::SignalPeer,
+            CallName::WaitOne,
+            CallName::WaitPoll,
+            CallName::WaitAsync,
+            CallName::PortCreate,
+            CallName::PortQueue,
+            CallName::PortWait,
+            CallName::PortPoll,
+            CallName::PortCancel,
+            CallName::ProcessCreate,
+            CallName::ProcessStart,
+            CallName::ProcessExit,
+            CallName::TaskKill,
+            CallName::JobCreate,
+            CallName::JobSetPolicy,
+        ]
+    }
+
     /// The row of the call.
     pub fn row(self) -> Row
         ensures row { row_value result ≡ call_row self }
@@ -97,40 +129,25 @@ impl CallName {
     }
 
     /// The call with this opcode, from 64 on; nothing where it is unknown.
-    #[tactic(auto, unfolding(crate::specs::Instructions::row_of))]
     pub(crate) fn of_opcode(opcode: u8) -> Option<CallName>
         requires { first_call ≤ opcode }
         ensures found { IfSome result (λ call. row_of opcode ≡ Some (call_row call)) }
         ensures opcode { IfSome result (λ call. (call_row call).opcode ≡ opcode) }
         ensures missing { IfNone result (row_of opcode ≡ None) }
     {
-        let call = match opcode {
-            64 => CallName::Close,
-            65 => CallName::Dup,
-            66 => CallName::Replace,
-            67 => CallName::ChanCreate,
-            68 => CallName::ChanWrite,
-            69 => CallName::ChanReadEtc,
-            70 => CallName::EventCreate,
-            71 => CallName::Signal,
-            72 => CallName::SignalPeer,
-            73 => CallName::WaitOne,
-            74 => CallName::WaitPoll,
-            75 => CallName::WaitAsync,
-            76 => CallName::PortCreate,
-            77 => CallName::PortQueue,
-            78 => CallName::PortWait,
-            79 => CallName::PortPoll,
-            80 => CallName::PortCancel,
-            81 => CallName::ProcessCreate,
-            82 => CallName::ProcessStart,
-            83 => CallName::ProcessExit,
-            84 => CallName::TaskKill,
-            85 => CallName::JobCreate,
-            86 => CallName::JobSetPolicy,
-            _ => return None,
-        };
-        Some(call)
+        let place = usize::from(opcode - FIRST_CALL);
+        CallName::all().get(place).copied()
+    }
+
+    /// The call with this name; nothing where no call has it.
+    pub fn named(name: &[u8]) -> Option<CallName>
+        ensures some { IfSome result (λ call. name.now ≡ call_name call) }
+        ensures none { IfNone result ((call : CallValue) → name.now ≢ call_name call) }
+    {
+        CallName::all()
+            .iter()
+            .find(|call| call.name().as_bytes() == name)
+            .copied()
     }
 
     /// The name of the call, as programs and traces have it (own profile).

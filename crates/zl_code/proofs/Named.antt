@@ -1,0 +1,52 @@
+-- What is found in a list by its name, and that nothing has the name where nothing is found.
+use Rattle.zl_code.proofs.Common.{◌≡◌, ◌≢◌, ◌==◌, ℕ, Bool, true, List, [], ◌∷◌, Option, None, Some, IfSome, IfNone, slice_get, find, zero, suc, refl, sym}
+use Rattle.zl_code.proofs.Common.{subst, eq-eqb, eqb-true, and_parts, cases_Bool, inl, inr}
+use Rattle.std.specs.Cmp.Lexicographic.{pointwise}
+
+pub same_names : (xs ys : List ℕ) → pointwise ◌==◌ xs ys ≡ true → xs ≡ ys
+same_names [] [] h = refl
+same_names [] (y ∷ ys) h = absurd cc
+same_names (x ∷ xs) [] h = absurd cc
+same_names (x ∷ xs) (y ∷ ys) h =
+    let p = and_parts (x == y) (pointwise ◌==◌ xs ys) h in
+    λ i. eqb-true x y p.0 i ∷ same_names xs ys p.1 i
+
+pub same_refl : (xs : List ℕ) → pointwise ◌==◌ xs xs ≡ true
+same_refl [] = refl
+same_refl (x ∷ xs) = rw (eq-eqb x x refl, same_refl xs) refl
+
+pub passes : {X : Type 0} (test : X → Bool) (xs : List X) (x : X) → find test xs ≡ Some x → test x ≡ true
+passes test [] x e = absurd cc
+passes test (y ∷ xs) x e =
+    elim (cases_Bool (test y)) as (λ _. test x ≡ true) [
+      | inl here ↦ let same : y ≡ x = cc in subst (λ z. test z ≡ true) same here
+      | inr other ↦ passes test xs x cc
+    ]
+
+-- nothing passes, where nothing is found
+none_at : {X : Type 0} (test : X → Bool) (xs : List X) (i : ℕ) (x : X) → find test xs ≡ None → slice_get xs i ≡ Some x → test x ≡ true → ⊥
+none_at test [] i x e here passed = absurd (cc)
+none_at test (y ∷ xs) zero x e here passed =
+    let same : y ≡ x = cc in
+    let first : test y ≡ true = subst (λ z. test z ≡ true) (sym same) passed in
+    absurd (cc)
+none_at test (y ∷ xs) (suc i) x e here passed =
+    elim (cases_Bool (test y)) as (λ _. ⊥) [
+      | inl first ↦ absurd (cc)
+      | inr other ↦ none_at test xs i x (cc) here passed
+    ]
+
+module _ {X : Type 0} (name_of : X → List ℕ) (all : List X) (name : List ℕ) where
+  abbrev pub by_name : X → Bool
+  by_name x = pointwise ◌==◌ (name_of x) name
+
+  -- what is found has the name
+  pub found : (r : Option X) → r ≡ find by_name all → IfSome r (λ x. name ≡ name_of x)
+  found None e = tt
+  found (Some x) e = sym (same_names (name_of x) name (passes by_name all x (sym e)))
+
+  -- where nothing is found, nothing has it
+  pub missing : ((x : X) → (i : ℕ) × (slice_get all i ≡ Some x)) → (r : Option X) → r ≡ find by_name all → IfNone r ((x : X) → name ≢ name_of x)
+  missing among None e =
+      λ x same. none_at by_name all (among x).0 x (sym e) (among x).1 (subst (λ n. pointwise ◌==◌ (name_of x) n ≡ true) (sym same) (same_refl (name_of x)))
+  missing among (Some x) e = tt

@@ -1,68 +1,13 @@
--- A status or a system call that is found by its name.
-use Rattle.zl_trace.proofs.Common.{◌≡◌, ◌==◌, ℕ, Bool, true, List, [], ◌∷◌, Option, None, Some, slice_get, zero, suc, refl, sym, subst, eq-eqb, eqb-true}
-use Rattle.zl_trace.proofs.Common.{and_parts, cases_Bool, inl, inr}
-use Rattle.std.specs.Prelude.{IfSome, IfNone, ◌≢◌, ◌-◌}
-use Rattle.std.specs.List.{find}
-use Rattle.std.specs.Cmp.Lexicographic.{pointwise}
+-- All statuses, among which one is found by its name.
+use Rattle.zl_trace.proofs.Common.{◌≡◌, ℕ, List, [], ◌∷◌, Some, slice_get, refl}
 use Rattle.zl_rights.specs.declared.status.Status.{Status}
 use Rattle.zl_rights.specs.declared.status.Status.TheVariants as status
-use Rattle.zl_code.specs.declared.history.CallName.{CallName}
-use Rattle.zl_code.specs.declared.history.CallName.TheVariants as call
-use Rattle.zl_code.specs.Instructions.{call_row, calls}
 
 -- all statuses
 abbrev pub statuses : List Status
 statuses = status.Ok ∷ status.NotSupported ∷ status.NoResources ∷ status.NoMemory ∷ status.InvalidArgs ∷ status.BadHandle
     ∷ status.WrongType ∷ status.OutOfRange ∷ status.BufferTooSmall ∷ status.BadState ∷ status.TimedOut ∷ status.ShouldWait
     ∷ status.PeerClosed ∷ status.NotFound ∷ status.AlreadyExists ∷ status.AccessDenied ∷ []
-
-same_to : (xs ys : List ℕ) → pointwise ◌==◌ xs ys ≡ true → xs ≡ ys
-same_to [] [] h = refl
-same_to [] (y ∷ ys) h = absurd cc
-same_to (x ∷ xs) [] h = absurd cc
-same_to (x ∷ xs) (y ∷ ys) h =
-    let p = and_parts (x == y) (pointwise ◌==◌ xs ys) h in
-    λ i. eqb-true x y p.0 i ∷ same_to xs ys p.1 i
-
-same_refl : (xs : List ℕ) → pointwise ◌==◌ xs xs ≡ true
-same_refl [] = refl
-same_refl (x ∷ xs) = rw (eq-eqb x x refl, same_refl xs) refl
-
-passes : {X : Type 0} (test : X → Bool) (xs : List X) (x : X) → find test xs ≡ Some x → test x ≡ true
-passes test [] x e = absurd cc
-passes test (y ∷ xs) x e =
-    elim (cases_Bool (test y)) as (λ _. test x ≡ true) [
-      | inl here ↦ let same : y ≡ x = cc in subst (λ z. test z ≡ true) same here
-      | inr other ↦ passes test xs x cc
-    ]
-
--- nothing passes, where nothing is found
-none_at : {X : Type 0} (test : X → Bool) (xs : List X) (i : ℕ) (x : X) → find test xs ≡ None → slice_get xs i ≡ Some x → test x ≡ true → ⊥
-none_at test [] i x e here passed = absurd (cc)
-none_at test (y ∷ xs) zero x e here passed =
-    let same : y ≡ x = cc in
-    let first : test y ≡ true = subst (λ z. test z ≡ true) (sym same) passed in
-    absurd (cc)
-none_at test (y ∷ xs) (suc i) x e here passed =
-    elim (cases_Bool (test y)) as (λ _. ⊥) [
-      | inl first ↦ absurd (cc)
-      | inr other ↦ none_at test xs i x (cc) here passed
-    ]
-
-module _ {X : Type 0} (name_of : X → List ℕ) (all : List X) (name : List ℕ) where
-  abbrev pub by_name : X → Bool
-  by_name x = pointwise ◌==◌ (name_of x) name
-
-  -- what is found has the name
-  pub found : (r : Option X) → r ≡ find by_name all → IfSome r (λ x. name ≡ name_of x)
-  found None e = tt
-  found (Some x) e = sym (same_to (name_of x) name (passes by_name all x (sym e)))
-
-  -- where nothing is found, nothing has it
-  pub missing : ((x : X) → (i : ℕ) × (slice_get all i ≡ Some x)) → (r : Option X) → r ≡ find by_name all → IfNone r ((x : X) → name ≢ name_of x)
-  missing among None e =
-      λ x same. none_at by_name all (among x).0 x (sym e) (among x).1 (subst (λ n. pointwise ◌==◌ (name_of x) n ≡ true) (sym same) (same_refl (name_of x)))
-  missing among (Some x) e = tt
 
 pub status_among : (s : Status) → (i : ℕ) × (slice_get statuses i ≡ Some s)
 status_among status.Ok = (0, refl)
@@ -81,10 +26,3 @@ status_among status.PeerClosed = (12, refl)
 status_among status.NotFound = (13, refl)
 status_among status.AlreadyExists = (14, refl)
 status_among status.AccessDenied = (15, refl)
-
-call_at : (c : CallName) → slice_get calls ((call_row c).opcode - 64) ≡ Some c
-call_at call.Close = refl
-call_at _ = refl
-
-pub call_among : (c : CallName) → (i : ℕ) × (slice_get calls i ≡ Some c)
-call_among c = ((call_row c).opcode - 64, call_at c)

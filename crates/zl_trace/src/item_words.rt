@@ -4,9 +4,7 @@ ghost use Rattle.std.specs.Int.{w32};
 ghost use Rattle.std.specs.Fmt.{decimal, signed_decimal};
 ghost use Rattle.zl_rights.specs.Names.{status_name};
 ghost use Rattle.zl_rights.specs.declared.status.Status.{Status as StatusValue};
-ghost use Rattle.zl_code.specs.Common.{call_name};
 ghost use Rattle.zl_code.specs.Steps.{pid_of};
-ghost use Rattle.zl_code.specs.declared.history.CallName.{CallName as CallValue};
 ghost use Rattle.zl_code.specs.declared.history.Outcome.{Outcome as OutcomeValue};
 ghost use Rattle.zl_code.specs.declared.history.TraceItem.{TraceItem as ItemValue};
 ghost use Rattle.zl_trace.specs.Reading.{HasCode, HasLine, Tells, TellsNothing, doing_words, outcome_words};
@@ -41,7 +39,7 @@ fn item_doing(pid: Pid, words: &[&[u8]]) -> Option<TraceItem>
         }),
         [name, outcome @ ..] => Some(TraceItem::Call {
             pid,
-            call: call_named(name)?,
+            call: CallName::named(name)?,
             outcome: outcome_of(outcome)?,
         }),
         [] => None,
@@ -111,42 +109,6 @@ fn code_of(word: &[u8]) -> Option<i32>
     } else {
         None
     }
-}
-
-/// The system call of this name, if there is one.
-fn call_named(name: &[u8]) -> Option<CallName>
-    ensures some { IfSome result (λ call. name.now ≡ call_name call) }
-    ensures none { IfNone result ((c : CallValue) → name.now ≢ call_name c) }
-{
-    let calls: &[CallName] = &[
-        CallName::Close,
-        CallName::Dup,
-        CallName::Replace,
-        CallName::ChanCreate,
-        CallName::ChanWrite,
-        CallName::ChanReadEtc,
-        CallName::EventCreate,
-        CallName::Signal,
-        CallName::SignalPeer,
-        CallName::WaitOne,
-        CallName::WaitPoll,
-        CallName::WaitAsync,
-        CallName::PortCreate,
-        CallName::PortQueue,
-        CallName::PortWait,
-        CallName::PortPoll,
-        CallName::PortCancel,
-        CallName::ProcessCreate,
-        CallName::ProcessStart,
-        CallName::ProcessExit,
-        CallName::TaskKill,
-        CallName::JobCreate,
-        CallName::JobSetPolicy,
-    ];
-    calls
-        .iter()
-        .find(|call| call.name().as_bytes() == name)
-        .copied()
 }
 
 /// The status of this name, if there is one.

@@ -4,7 +4,7 @@ use std::alloc::{AllocError, Global};
 use zl_asm::hints::Value::Number;
 use zl_asm::hints::{Value, line_at, push_nearest, push_text, words_of};
 use zl_calls::World;
-use zl_code::{ProcState, TraceItem};
+use zl_code::{CallName, ProcState, TraceItem};
 use zl_hints::{is_among, push_page};
 use zl_lines::{is_comment, split_words};
 use zl_rights::Pid;
@@ -13,35 +13,6 @@ use zl_trace::{push_item, read_bytes, replay};
 
 /// The most items of a trace.
 const MOST_ITEMS: usize = 1_000_000;
-
-/// What a process does, as an item says it.
-const DOINGS: [&str; 25] = [
-    "run",
-    "stuck",
-    "close",
-    "dup",
-    "replace",
-    "chan_create",
-    "chan_write",
-    "chan_read_etc",
-    "event_create",
-    "signal",
-    "signal_peer",
-    "wait_one",
-    "wait_poll",
-    "wait_async",
-    "port_create",
-    "port_queue",
-    "port_wait",
-    "port_poll",
-    "port_cancel",
-    "process_create",
-    "process_start",
-    "process_exit",
-    "task_kill",
-    "job_create",
-    "job_set_policy",
-];
 
 /// How a call ends, as an item says it.
 const OUTCOMES: [&str; 18] = [
@@ -215,11 +186,22 @@ fn push_line(
 /// Adds which name was meant by the first word that isn't one, if one is near.
 fn push_meant(hints: &mut String, alloc: Global, line: &[u8]) -> Result<(), AllocError> {
     let words = words_of(alloc, line)?;
+    let doings = doings(alloc)?;
+    let doings = doings.as_slice();
     match words.as_slice() {
-        [_, doing, ..] if !is_among(doing, &DOINGS) => push_nearest(hints, alloc, doing, &DOINGS),
+        [_, doing, ..] if !is_among(doing, doings) => push_nearest(hints, alloc, doing, doings),
         [_, _, outcome, ..] if is_among(outcome, &OUTCOMES) => Ok(()),
         [_, _, outcome, ..] if outcome.starts_with(b"OK") => hints.push_str("; did you mean OK?"),
         [_, _, outcome, ..] => push_nearest(hints, alloc, outcome, &OUTCOMES),
         _ => Ok(()),
     }
+}
+
+/// What a process does, as an item says it: it runs, it is stuck, or it makes a call.
+fn doings(alloc: Global) -> Result<Vec<&'static str>, AllocError> {
+    let mut doings = vec![in alloc; "run", "stuck"]?;
+    for call in CallName::all() {
+        doings.push(call.name())?;
+    }
+    Ok(doings)
 }

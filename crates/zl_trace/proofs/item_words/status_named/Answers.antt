@@ -2,7 +2,8 @@ use Rattle.zl_trace.proofs.Common.{rules, ◌∙◌}
 use Rattle.std.proofs.lemmas.Iterator.Search.{find_from_yields_List}
 use Rattle.std.proofs.lemmas.Iterator.{YieldsList-from_slice}
 use Rattle.zl_rights.specs.Names.{status_name}
-use Rattle.zl_trace.proofs.Named.{statuses, status_among, by_name, found, missing}
+use Rattle.zl_code.proofs.Named.{by_name, found, missing}
+use Rattle.zl_trace.proofs.Named.{statuses, status_among}
 use Rattle.zl_trace.proofs.item_words.status_named.Goals as goal
 
 pub returns-clause-some : goal.returns-clause-some

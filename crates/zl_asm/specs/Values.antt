@@ -1,4 +1,4 @@
--- What the words and the lines that were read stand for. No public clause cites this module.
+-- What the words and the lines that were read stand for. Of these, public clauses cite only `texts`.
 use Rattle.std.specs.Prelude.{ℕ, List, map}
 use Rattle.std.specs.Option.{option_map}
 use denote.Ref.{Bor}

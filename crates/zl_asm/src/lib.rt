@@ -1,12 +1,13 @@
-//! The assembler: the text of a program to its image, and back; and what a person is told of a text
-//! that is refused.
+//! The assembler: the text of a program to its image, and back.
 //!
-//! It stands on `zl_code`, `zl_rights`, `bitflags`, `indexmap` and `strsim`. It promises that `assemble` and
+//! It stands on `zl_code`, `zl_rights`, `bitflags` and `indexmap`. It promises that `assemble` and
 //! `disassemble` are exact against the grammar of the text; `laws` proves of the definitions that no
-//! text denotes two images, and that the text of each image denotes it.
+//! text denotes two images, and that the text of each image denotes it. How a line is cut into words, and
+//! what a word spells, is public too (`words`, `numbers`), for those who tell a person what is wrong with a
+//! text.
 //!
-//! Each public type says where its rule comes from, and so do `assemble` and `disassemble`; methods
-//! follow their type.
+//! Each public type says where its rule comes from, and so do `assemble`, `disassemble`, `words` and
+//! `numbers`; methods follow their type.
 #![tactic(auto)]
 
 mod assembling;
@@ -14,14 +15,13 @@ mod directive;
 mod disassembling;
 mod draft;
 mod fault;
-pub mod hints;
 mod label_map;
 pub mod laws;
 mod line;
-mod numbers;
+pub mod numbers;
 mod operands;
 mod resolving;
-mod words;
+pub mod words;
 
 pub use assembling::{assemble, assemble_bytes};
 pub use disassembling::disassemble;

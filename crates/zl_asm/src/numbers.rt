@@ -1,4 +1,4 @@
-//! Numbers, registers, names and hexadecimal digits.
+//! Numbers, registers, names and hexadecimal digits, as words spell them. Own profile.
 ghost use Rattle.std.specs.Prelude.{◌≡◌, ◌+◌, ◌*◌, ◌^◌, ◌<◌, ◌==◌, [], ◌∷◌, length, Some, IfSome, SomeIff};
 ghost use Rattle.std.specs.Option.{option_map};
 ghost use Rattle.std.specs.List.{list_all};
@@ -50,7 +50,8 @@ fn value_of(base: u32, digits: &[u8]) -> Option<u32>
     Some(value)
 }
 
-/// The number of 32 bits that the word spells: decimal, or hexadecimal behind `0x`.
+/// The number of 32 bits that the word spells: decimal, or hexadecimal behind `0x`. None where there is
+/// no digit, or a byte that isn't one, and from 2^32 on.
 #[tactic(auto, unfolding(crate::specs::Words::number_of))]
 pub fn number(word: &[u8]) -> Option<u32>
     ensures { result ≡ number_of word.now }
@@ -62,7 +63,7 @@ pub fn number(word: &[u8]) -> Option<u32>
     }
 }
 
-/// The register of the word, `r0` to `r31`.
+/// The register of the word, `r0` to `r31`; none of any other word.
 #[tactic(auto, unfolding(crate::specs::Words::register_of))]
 pub fn register(word: &[u8]) -> Option<u8>
     ensures value { result ≡ register_of word.now }
@@ -99,7 +100,8 @@ fn are_of_name(bytes: &[u8]) -> bool
     bytes.iter().all(|byte| byte.is_ascii_lowercase() || byte.is_ascii_digit() || *byte == b'_')
 }
 
-/// The 16 bytes that the hexadecimal digits spell, two digits a byte, if they spell so many.
+/// The 16 bytes that the hexadecimal digits spell, two digits a byte, if they spell so many. None where
+/// there are more digits or fewer than 32, or a byte that isn't one.
 pub fn sixteen_bytes(digits: &[u8]) -> Option<[u8; Instr::LEN]>
     ensures { result ≡
         if_fits (λ bytes. length bytes == instruction_length) (hex_bytes digits.now) }

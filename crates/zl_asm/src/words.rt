@@ -1,4 +1,4 @@
-//! Lines cut into words.
+//! Lines cut into words. Own profile.
 ghost use Rattle.std.specs.Prelude.{◌≡◌, ◌++◌, [], OnOk};
 ghost use Rattle.zl_asm.specs.Values.{texts};
 ghost use Rattle.zl_asm.specs.Words.{is_ascii, is_word, word_before, words_of};
@@ -21,7 +21,8 @@ pub fn is(word: &[u8], bytes: &[u8]) -> bool
 }
 
 /// Puts the words of the line into `words`, in place of what it held. Spaces part words, a comma
-/// is a word of its own, and a semicolon ends the line.
+/// is a word of its own, and a semicolon ends the line. Where memory is refused, only the first of them
+/// stand there.
 pub fn split_words<'a>(words: &mut Vec<&'a [u8]>, line: &'a [u8]) -> Result<(), AllocError>
     ensures { OnOk result (texts words.new.items ≡ words_of line.now) }
 {

@@ -3,7 +3,8 @@
 use crate::numbers::decimal;
 use crate::source::Source;
 use std::alloc::{AllocError, Global};
-use zl_asm::hints::{Line, is, is_opening, words_of};
+use zl_asm::words::is;
+use zl_program_hints::{Line, is_opening, words_of};
 use zl_rights::Kind;
 
 /// What a line belongs to.

@@ -2,8 +2,8 @@
 
 use crate::refusal::push_reason;
 use std::alloc::{AllocError, Global};
-use zl_asm::hints::Value::Number;
-use zl_asm::hints::{Line, block_of, push_head, push_text};
+use zl_program_hints::Value::Number;
+use zl_program_hints::{Line, block_of, push_head, push_text};
 use zl_scenario::{Body, Form};
 use zl_verify::{Refusal, check};
 

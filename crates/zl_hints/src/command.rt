@@ -2,7 +2,7 @@
 
 use std::alloc::{AllocError, Global};
 use std::convert::AsStr;
-use zl_asm::hints::{Value, Word, push_nearest, push_text};
+use zl_program_hints::{Value, Word, push_nearest, push_text};
 
 const COMMANDS: [&str; 6] = ["asm", "check", "step", "replay", "run", "help"];
 

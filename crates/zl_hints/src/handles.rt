@@ -5,8 +5,9 @@ use crate::numbers::{decimal, is_digits, push_meant, push_no_number};
 use crate::starts::push_wrong_start;
 use bitflags::Flags;
 use std::alloc::{AllocError, Global};
-use zl_asm::hints::{Line, Word, is, push_right_beyond};
+use zl_asm::words::is;
 use zl_code::Grants;
+use zl_program_hints::{Line, Word, push_right_beyond};
 use zl_rights::{Kind, Rights};
 
 /// A handle of a line, cut at its first colon.

@@ -3,7 +3,7 @@
 use crate::above::Above;
 use crate::numbers::{decimal, push_no_number};
 use std::alloc::{AllocError, Global};
-use zl_asm::hints::{Word, push_nearest};
+use zl_program_hints::{Word, push_nearest};
 use zl_rights::{Condition, Kind};
 
 /// The conditions that a policy knows.

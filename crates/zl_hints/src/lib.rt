@@ -1,9 +1,9 @@
 //! What a person is told on standard error of scenarios, refused images, command lines and files: where
 //! the fault is, what is wrong, and what was wanted.
 //!
-//! It stands on `zl_scenario` for how a scenario is read, on `zl_asm`, whose hints say what is told of texts
-//! and images, on `zl_verify` and `zl_abs` for what the verifier knows where it refuses, on `zl_code` and
-//! `zl_rights`, and on `bitflags`.
+//! It stands on `zl_scenario` for how a scenario is read, on `zl_program_hints` for what is told of texts and
+//! images and for the words that hints are made of, on `zl_asm`, which compares words, on `zl_verify` and
+//! `zl_abs` for what the verifier knows where it refuses, on `zl_code` and `zl_rights`, and on `bitflags`.
 //!
 //! Texts for people have no contract: each function is safe and returns, whatever it is given, and no
 //! more is promised. Where memory is refused there is no hint. Of an input nothing is called before it is

@@ -2,7 +2,7 @@
 
 use bitflags::Flags;
 use std::alloc::AllocError;
-use zl_asm::hints::{Value, push_text};
+use zl_program_hints::{Value, push_text};
 use zl_rights::Rights;
 
 /// The number that decimal digits spell, if it is below 2^64.

@@ -1,8 +1,8 @@
 //! The page that helps with what is refused.
 
 use std::alloc::AllocError;
-use zl_asm::hints::Value::Name;
-use zl_asm::hints::push_text;
+use zl_program_hints::Value::Name;
+use zl_program_hints::push_text;
 
 /// What is refused, or the cause that its answer has, and the heading in `docs` that helps.
 const PAGES: [(&str, &str); 11] = [

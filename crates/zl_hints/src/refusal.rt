@@ -17,8 +17,8 @@ use register::push_register;
 use std::alloc::{AllocError, Global};
 use ways::{push_long_way, push_meeting};
 use zl_abs::Cause;
-use zl_asm::hints::push_instr_text;
 use zl_code::{Image, InstrBytes};
+use zl_program_hints::push_instr_text;
 use zl_verify::{RefusalCause, seen_in};
 
 /// Adds a line that says why the image is refused at the instruction of this number.

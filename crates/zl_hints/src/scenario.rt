@@ -8,8 +8,9 @@ use crate::numbers::{decimal, push_first_no_number, push_no_number};
 use crate::page::push_page;
 use crate::source::Source;
 use std::alloc::{AllocError, Global};
-use zl_asm::hints::{
-    Line, Value, Word, is, is_opening, numbered_lines, place_of_blank, place_outside_ascii, plural,
+use zl_asm::words::is;
+use zl_program_hints::{
+    Line, Value, Word, is_opening, numbered_lines, place_of_blank, place_outside_ascii, plural,
     push_block_fault, push_head, push_nearest, push_odd_byte, push_text, words_of,
 };
 use zl_rights::Kind;

@@ -1,8 +1,8 @@
 //! Where an input comes from, and how its lines are named.
 
 use std::alloc::AllocError;
-use zl_asm::hints::Value::Number;
-use zl_asm::hints::{Line, push_text};
+use zl_program_hints::Value::Number;
+use zl_program_hints::{Line, push_text};
 
 /// Where an input comes from.
 #[derive(Clone, Copy)]

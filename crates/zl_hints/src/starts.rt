@@ -6,9 +6,9 @@ use crate::numbers::push_rights;
 use crate::scenario::form_of;
 use bitflags::Flags;
 use std::alloc::{AllocError, Global};
-use zl_asm::hints::Value::{Name, Number, Word};
-use zl_asm::hints::{Line, block_of, plural, push_text, words_of};
 use zl_code::{Image, Start};
+use zl_program_hints::Value::{Name, Number, Word};
+use zl_program_hints::{Line, block_of, plural, push_text, words_of};
 use zl_rights::Kind;
 use zl_scenario::Body;
 

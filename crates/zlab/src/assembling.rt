@@ -12,10 +12,10 @@ use crate::input::{Input, read_input};
 use crate::text::push_refusal;
 use std::alloc::Global;
 use std::io::{Read, Write};
-use zl_asm::hints::explain_program;
 use zl_asm::{AsmCause, AsmFault, assemble_bytes};
 use zl_code::encode;
 use zl_hints::add_page;
+use zl_program_hints::explain_program;
 use zl_trace::write_all;
 
 /// What a text leads to.

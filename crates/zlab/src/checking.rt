@@ -9,9 +9,9 @@ use crate::input::read_front;
 use crate::text::push_refusal;
 use std::alloc::{AllocError, Global};
 use std::io::{Read, Write};
-use zl_asm::hints::explain_image;
 use zl_code::{DecodeFault, Image, decode};
 use zl_hints::{add_page, explain_refusal};
+use zl_program_hints::explain_image;
 use zl_trace::write_all;
 use zl_verify::{RefusalCause, check};
 

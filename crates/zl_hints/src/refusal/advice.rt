@@ -6,9 +6,9 @@ use crate::refusal::register::missing_at;
 use bitflags::Flags;
 use std::alloc::AllocError;
 use zl_abs::{AbsVal, Cause};
-use zl_asm::hints::Value::{Name, Number};
-use zl_asm::hints::{Value, push_text};
 use zl_code::{InstrBytes, Register, Start};
+use zl_program_hints::Value::{Name, Number};
+use zl_program_hints::{Value, push_text};
 use zl_rights::{Kind, Rights};
 
 /// Adds what to do about the register in the place, where something is known.

@@ -3,9 +3,9 @@
 use crate::refusal::known::{numbered, push_state};
 use crate::refusal::places::{MOST_PLACES, Site, is_among, place_at};
 use std::alloc::AllocError;
-use zl_asm::hints::Value::{Name, Number};
-use zl_asm::hints::push_text;
 use zl_code::{InstrBytes, LocalInstr, Register};
+use zl_program_hints::Value::{Name, Number};
+use zl_program_hints::push_text;
 
 /// Adds why there is no such instruction.
 pub fn push_illegal(hint: &mut String, site: &Site) -> Result<(), AllocError> {

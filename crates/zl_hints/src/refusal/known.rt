@@ -3,9 +3,9 @@
 use bitflags::Flags;
 use std::alloc::AllocError;
 use zl_abs::{AbsState, AbsVal};
-use zl_asm::hints::Value::{Name, Number};
-use zl_asm::hints::{Value, push_text};
 use zl_code::Register;
+use zl_program_hints::Value::{Name, Number};
+use zl_program_hints::{Value, push_text};
 use zl_rights::{Kind, Rights};
 
 /// How many registers there are.

@@ -2,9 +2,9 @@
 
 use crate::refusal::places::Site;
 use std::alloc::AllocError;
-use zl_asm::hints::Value::{Name, Number};
-use zl_asm::hints::{Value, push_text};
 use zl_code::{Image, Instr, InstrBytes, LocalInstr, Register};
+use zl_program_hints::Value::{Name, Number};
+use zl_program_hints::{Value, push_text};
 
 /// Adds how far the instruction may go, and how far it can.
 pub fn push_range(hint: &mut String, site: &Site) -> Result<(), AllocError> {

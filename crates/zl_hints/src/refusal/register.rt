@@ -8,8 +8,8 @@ use crate::refusal::places::{
 use bitflags::Flags;
 use std::alloc::AllocError;
 use zl_abs::{AbsVal, Cause};
-use zl_asm::hints::Value::{Name, Number};
-use zl_asm::hints::push_text;
+use zl_program_hints::Value::{Name, Number};
+use zl_program_hints::push_text;
 use zl_rights::Rights;
 
 /// Adds which register is at fault for the cause, what it has, and what to do, if one is.

@@ -2,9 +2,9 @@
 
 use crate::refusal::known::{REGISTERS, numbered, push_value};
 use std::alloc::{AllocError, Global};
-use zl_asm::hints::Value::Number;
-use zl_asm::hints::push_text;
 use zl_code::{Image, Register};
+use zl_program_hints::Value::Number;
+use zl_program_hints::push_text;
 use zl_verify::{Seen, Way, seen_in, way_from};
 
 /// How many instructions are told of the beginning of a long way, and of its end.

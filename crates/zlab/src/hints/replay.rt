@@ -1,12 +1,12 @@
 //! Why a trace isn't replayed.
 
 use std::alloc::{AllocError, Global};
-use zl_asm::hints::Value::Number;
-use zl_asm::hints::{Value, line_at, push_nearest, push_text, words_of};
 use zl_calls::World;
 use zl_code::{CallName, ProcState, TraceItem};
 use zl_hints::{is_among, push_page};
 use zl_lines::{is_comment, split_words};
+use zl_program_hints::Value::Number;
+use zl_program_hints::{Value, line_at, push_nearest, push_text, words_of};
 use zl_rights::Pid;
 use zl_scenario::{Reading, Scenario, read_scenario};
 use zl_trace::{push_item, read_bytes, replay};

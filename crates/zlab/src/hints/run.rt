@@ -1,11 +1,12 @@
 //! What standard error says of a run.
 
 use std::alloc::{AllocError, Global};
-use zl_asm::hints::Value::{Name, Number};
-use zl_asm::hints::{Line, Stuck, explain_stuck, is, numbered_lines, push_text, words_of};
+use zl_asm::words::is;
 use zl_calls::World;
 use zl_code::{Boot, CallName, ProcState, TraceItem};
 use zl_hints::Source;
+use zl_program_hints::Value::{Name, Number};
+use zl_program_hints::{Line, Stuck, explain_stuck, numbered_lines, push_text, words_of};
 use zl_rights::Pid;
 use zl_sched::{End, System};
 

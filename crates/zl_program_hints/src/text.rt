@@ -1,6 +1,6 @@
 //! Texts for people: a literal with a `#` for each value, and one function that writes both.
 
-use crate::hints::word;
+use crate::word;
 use std::alloc::AllocError;
 
 /// What stands in the place of a `#`.

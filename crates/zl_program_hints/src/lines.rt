@@ -1,7 +1,7 @@
 //! Lines, and bytes that no line has.
 
-use crate::hints::text::Value::Number;
-use crate::hints::text::push_text;
+use crate::text::Value::Number;
+use crate::text::push_text;
 use std::alloc::{AllocError, Global};
 
 /// A line of an input.

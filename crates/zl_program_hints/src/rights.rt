@@ -1,7 +1,7 @@
 //! Rights that no new object of a kind gives.
 
-use crate::hints::text::Value::{Name, Number, Word};
-use crate::hints::text::push_text;
+use crate::text::Value::{Name, Number, Word};
+use crate::text::push_text;
 use bitflags::Flags;
 use std::alloc::AllocError;
 use zl_rights::{Kind, Rights};

@@ -1,14 +1,14 @@
 //! The faults of the block of a program, whose answer names the line that opens it.
 
-use crate::assembling::assemble_bytes;
-use crate::hints::image::{Source, push_image_fault};
-use crate::hints::lines::{Line, place_outside_ascii, push_head, push_odd_byte};
-use crate::hints::meant::{push_meant_in_hex, slip_of};
-use crate::hints::program::push_program_fault;
-use crate::hints::text::Value::{Name, Number, Word};
-use crate::hints::text::push_text;
-use crate::words::{is, split_words};
+use crate::image::{Source, push_image_fault};
+use crate::lines::{Line, place_outside_ascii, push_head, push_odd_byte};
+use crate::meant::{push_meant_in_hex, slip_of};
+use crate::program::push_program_fault;
+use crate::text::Value::{Name, Number, Word};
+use crate::text::push_text;
 use std::alloc::{AllocError, Global};
+use zl_asm::assemble_bytes;
+use zl_asm::words::{is, split_words};
 use zl_code::decode;
 
 /// Whether the words open a block.

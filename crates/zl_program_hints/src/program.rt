@@ -1,17 +1,15 @@
 //! The faults of the assembler's text.
 
-use crate::fault::{AsmCause, AsmFault};
-use crate::hints::directive::{
-    push_directive_limit, push_directive_operand, push_directive_unknown,
-};
-use crate::hints::instruction::{push_instruction_operand, push_instruction_unknown};
-use crate::hints::lines::{Line, numbered_lines, place_outside_ascii, push_head, push_odd_byte};
-use crate::hints::meant::push_meant;
-use crate::hints::nearest::Nearest;
-use crate::hints::text::Value::{Number, Word};
-use crate::hints::text::push_text;
-use crate::words::{is, split_words};
+use crate::directive::{push_directive_limit, push_directive_operand, push_directive_unknown};
+use crate::instruction::{push_instruction_operand, push_instruction_unknown};
+use crate::lines::{Line, numbered_lines, place_outside_ascii, push_head, push_odd_byte};
+use crate::meant::push_meant;
+use crate::nearest::Nearest;
+use crate::text::Value::{Number, Word};
+use crate::text::push_text;
 use std::alloc::{AllocError, Global};
+use zl_asm::words::{is, split_words};
+use zl_asm::{AsmCause, AsmFault};
 
 /// Adds a line that says why the text denotes no image.
 pub fn explain_program(hint: &mut String, alloc: Global, text: &[u8], fault: AsmFault) {

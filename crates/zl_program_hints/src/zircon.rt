@@ -1,7 +1,7 @@
 //! Zircon's names of the calls.
 
-use crate::hints::text::Value::Name;
-use crate::hints::text::push_text;
+use crate::text::Value::Name;
+use crate::text::push_text;
 use std::alloc::AllocError;
 
 /// Zircon's names without `zx_`, each with what the call is here.

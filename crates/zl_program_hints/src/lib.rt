@@ -1,12 +1,16 @@
-//! What a person is told on standard error of a text that denotes no image, of a block of a scenario
-//! that is no program, of bytes that are no image, and of a stuck process; and the words that the
-//! other hints are made of. Own profile.
+//! What a person is told on standard error of a text that denotes no image, of a block of a scenario that
+//! is no program, of bytes that are no image, and of a stuck process: where the fault is, what is wrong, and
+//! what was wanted; and the words that the other hints are made of. Own profile.
+//!
+//! It stands on `zl_asm` for how a text is read and an instruction is written, on `zl_code` and `zl_rights`
+//! for what an image has, on `bitflags`, and on `strsim` for the name that was meant.
 //!
 //! Texts for people have no contract: each function is safe and returns, whatever it is given, and no
 //! more is promised. A function that adds to a hint answers with `AllocError` where memory is refused,
 //! and a beginning of what it adds may stand there then; `explain_program`, `explain_image` and
 //! `explain_stuck` leave the hint empty. Nothing is called before an input is refused, so what is found
 //! here is found anew, line by line, from the input and the cause that the answer has.
+#![tactic(auto)]
 
 mod block;
 mod directive;
@@ -25,7 +29,6 @@ mod text;
 mod word;
 mod zircon;
 
-pub use crate::words::is;
 pub use block::{Block, End, block_of, is_opening, push_block_fault};
 pub use image::explain_image;
 pub use instr_text::push_instr_text;

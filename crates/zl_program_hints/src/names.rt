@@ -1,7 +1,7 @@
 //! The numbers of names that the pages have, and no text of a program.
 
-use crate::hints::text::Value::{Name, Number, Word};
-use crate::hints::text::push_text;
+use crate::text::Value::{Name, Number, Word};
+use crate::text::push_text;
 use bitflags::Flags;
 use std::alloc::AllocError;
 use zl_rights::{Condition, Kind, Rights, Signals, Status};

@@ -1,15 +1,15 @@
 //! The faults of a directive of the assembler's text.
 
-use crate::hints::lines::Line;
-use crate::hints::names::push_number_named;
-use crate::hints::nearest::push_nearest;
-use crate::hints::rights::push_right_of_none;
-use crate::hints::text::Value::{Name, Number, Word};
-use crate::hints::text::push_text;
-use crate::hints::word::plural;
-use crate::numbers::{number, sixteen_bytes};
-use crate::words::{is, split_words};
+use crate::lines::Line;
+use crate::names::push_number_named;
+use crate::nearest::push_nearest;
+use crate::rights::push_right_of_none;
+use crate::text::Value::{Name, Number, Word};
+use crate::text::push_text;
+use crate::word::plural;
 use std::alloc::{AllocError, Global};
+use zl_asm::numbers::{number, sixteen_bytes};
+use zl_asm::words::{is, split_words};
 use zl_code::{Image, Row};
 use zl_rights::{Condition, Kind};
 

@@ -1,10 +1,10 @@
 //! The faults of the bytes of an image.
 
-use crate::hints::guess::push_guess;
-use crate::hints::lines::{Line, push_head};
-use crate::hints::text::Value::{Name, Number};
-use crate::hints::text::{Value, push_text};
-use crate::hints::word::plural;
+use crate::guess::push_guess;
+use crate::lines::{Line, push_head};
+use crate::text::Value::{Name, Number};
+use crate::text::{Value, push_text};
+use crate::word::plural;
 use bitflags::Flags;
 use std::alloc::AllocError;
 use zl_code::{DecodeFault, Ending, HandleList, Instr, Row};

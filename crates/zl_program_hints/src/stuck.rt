@@ -1,8 +1,8 @@
 //! Why a process is stuck.
 
-use crate::hints::instr_text::push_instr_text;
-use crate::hints::text::Value::Number;
-use crate::hints::text::push_text;
+use crate::instr_text::push_instr_text;
+use crate::text::Value::Number;
+use crate::text::push_text;
 use std::alloc::{AllocError, Global};
 use zl_code::{CallName, Image, Instr, InstrBytes, LocalInstr};
 

@@ -1,15 +1,15 @@
 //! The faults of an instruction of the assembler's text.
 
-use crate::hints::meant::push_slip;
-use crate::hints::names::push_number_named;
-use crate::hints::nearest::Nearest;
-use crate::hints::text::Value::{Name, Number, Word};
-use crate::hints::text::push_text;
-use crate::hints::word::plural;
-use crate::hints::zircon::push_name_here;
-use crate::numbers::{is_name, number, register};
-use crate::words::is;
+use crate::meant::push_slip;
+use crate::names::push_number_named;
+use crate::nearest::Nearest;
+use crate::text::Value::{Name, Number, Word};
+use crate::text::push_text;
+use crate::word::plural;
+use crate::zircon::push_name_here;
 use std::alloc::{AllocError, Global};
+use zl_asm::numbers::{is_name, number, register};
+use zl_asm::words::is;
 use zl_code::{Ending, HandleList, Row};
 
 /// Adds which instruction was meant by the first of these words, a name that none has, or what the line

@@ -1,10 +1,10 @@
 //! What was meant by a line that stands in no text.
 
-use crate::hints::names::push_number_named;
-use crate::hints::text::Value::{Name, Word};
-use crate::hints::text::push_text;
-use crate::words::split_words;
+use crate::names::push_number_named;
+use crate::text::Value::{Name, Word};
+use crate::text::push_text;
 use std::alloc::{AllocError, Global};
+use zl_asm::words::split_words;
 use zl_code::Row;
 
 /// The first words of the lines of a scenario that stand in no block.

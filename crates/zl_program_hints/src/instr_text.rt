@@ -1,7 +1,7 @@
 //! The text of one instruction.
 
-use crate::disassembling::disassemble;
 use std::alloc::{AllocError, Global};
+use zl_asm::disassemble;
 use zl_code::Image;
 
 /// Adds the text of the instruction of this number.

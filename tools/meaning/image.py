@@ -117,7 +117,7 @@ def instruction_in(content, raw):
     registers = tuple(content[1:1 + used])
     number, target, handles = number_at(content, 8), number_at(content, 12), content[8:16]
     listed = handles[:handles.index(NO_REGISTER)] if NO_REGISTER in handles else handles
-    if has_bad_register(row, registers, number, handles):
+    if has_bad_register(row, content[1:8], registers, number, handles):
         raise ImageFault("BadRegister")
     if any(content[1 + used:8]) or has_unused(row, number, target, handles, len(listed)):
         raise ImageFault("UnusedField")
@@ -126,8 +126,9 @@ def instruction_in(content, raw):
     return Instruction(row, bytes(content), registers, number, target)
 
 
-def has_bad_register(row, registers, number, handles):
-    if any(register > 31 for register in registers):
+def has_bad_register(row, given, registers, number, handles):
+    # also one that the instruction does not use
+    if any(register > 31 for register in given):
         return True
     if row.ending == "l":
         return any(31 < register != NO_REGISTER for register in handles)

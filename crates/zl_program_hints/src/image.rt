@@ -363,13 +363,13 @@ fn is_unused(row: &Row, bytes: &[u8], place: usize) -> bool {
     }
 }
 
-/// Whether a register should stand in this place, and doesn't.
+/// Whether the byte in this place is beyond all registers, where only a register or 0 may stand.
 fn is_no_register(row: &Row, bytes: &[u8], place: usize) -> bool {
     let byte = byte_at(bytes, place);
-    if place <= row.registers() {
+    if place < 8 {
         byte > 31
     } else {
         let is_list = matches!(row.columns.ending, Ending::Handles);
-        place >= 8 && is_list && byte > 31 && byte != HandleList::NONE
+        is_list && byte > 31 && byte != HandleList::NONE
     }
 }

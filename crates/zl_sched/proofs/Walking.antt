@@ -179,7 +179,7 @@ module _ (s mid s2 : System) (schedule : List (ℕ × ℕ)) (n : ℕ) (default :
         room = so_far.room;
         ends = subst (λ (turns : List ℕ). EndsBy s.machine.programs s.machine.world turns (room_of s) so_far.more s2.machine.world e) whole
             (by_end e early (turns_of (take n schedule) ++ replicate pair.1 pair.0) (turns_of (drop (n + 1) schedule)) so_far.more
-                s2.machine.world so_far.ends);
+            s2.machine.world so_far.ends);
       }
     where
       by_end : (e : End) → (e ≡ end.Schedule → ⊥) → (ts us : List ℕ) (xs : List TraceItem) (w2 : World)

@@ -154,7 +154,7 @@ module _ (lib : Library) (before after : List Process) (r r2 : Objects) (p p2 : 
     table : IsTable p2.table
     table = inserted_table creates.between second made.1 p2.table
         (inserted_table p.table first made.0 creates.between (consistent.tables p.pid (process_value p) write.there)
-            (omega (arith, creates.room)) creates.first)
+        (omega (arith, creates.room)) creates.first)
         (omega (arith, creates.room, one_longer p.table first made.0 creates.between creates.first)) creates.second
 
     counts : (j : ℕ) → handles_to (world_value after with_both) j

@@ -275,7 +275,7 @@ module _ (lib : Library) (before after : List Process) (r r2 : Objects) (p p2 : 
     refused : refusal lib w p.pid (dup h asked) ≡ answers (dup_refusal p.table.entries r.objects h asked)
     refused =
         dup_refused lib w p.pid r.objects (λ v e at. handles_counted before r consistent p write.there v e
-            (rw (table_is before after p p2 write r) at at)) h asked
+        (rw (table_is before after p p2 write r) at at)) h asked
         ∙ rw (table_is before after p p2 write r) refl
 
     module _ (made : ℕ) (dups : Dups p.table r h asked made p2.table r2) (replies : Replies dup_site status.Ok (made ∷ []) p p2) where

@@ -352,7 +352,7 @@ module _ (lib : Library) (before after : List Process) (r r2 : Objects) (p p2 : 
     unfolding taken_handles handle_operands remove_all gives_refused
     job_create_done ready call next o acts =
         answered_done lib before after r r2 p p2 consistent write ready call create_site next one_value (CreatesJob p.table r j) true
-            (job_refusal p.table.entries r j)
+        (job_refusal p.table.entries r j)
         refused_create refl refl (λ answer. refl) create_called o acts.answer acts.acts acts.replied acts.ends
 
   -- ---- job_set_policy

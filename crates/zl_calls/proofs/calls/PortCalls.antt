@@ -157,12 +157,12 @@ module _ (lib : Library) (before after : List Process) (r r2 : Objects) (p p2 : 
       packet_ends =
           rw (first_told, koid_same)
           (port_ends before after r r2 p p2 consistent write k without_front (drop 1) (λ x. refl) takes_one.objects takes_one.table s
-              (packet_values packet) replies)
+          (packet_values packet) replies)
 
       packet_kept : IsConsistent after r2
       packet_kept =
           port_kept before after r r2 p p2 consistent write k without_front (drop 1) (λ x. refl) takes_one.objects takes_one.table s
-              (packet_values packet) replies
+          (packet_values packet) replies
 
   -- ---- port_poll
 

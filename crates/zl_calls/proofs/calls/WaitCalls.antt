@@ -146,7 +146,7 @@ module _ (lib : Library) (before : List Process) (r : Objects) (consistent : IsC
       by_seen (Ok x) is =
           let found : IsWatched handles r.objects h mask x = watched_is handles r.objects h mask x is in
           rw (found.koid_is, found.mask_is, ← signals_active before r consistent (koid_in (get handles h)), found.active_is)
-              (by_met x.active (meets x.active.0 mask))
+          (by_met x.active (meets x.active.0 mask))
       by_seen (Err s) is = refl
 
 -- ---- what is told

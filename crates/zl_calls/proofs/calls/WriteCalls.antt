@@ -411,7 +411,7 @@ module _ (lib : Library) (before after : List Process) (r r2 : Objects) (p p2 : 
         All-append (λ (x : Message). All (IsNamed changed.objects) x.handles) queue (message ∷ []) (still_named r.objects changed.objects named_now queue old)
         (All-cons (λ (x : Message). All (IsNamed changed.objects) x.handles) message []
         (all_taken (IsNamed changed.objects) hs p.table (λ v e at. named_now e
-            (named_before before after p p2 write hs writes.table r consistent state_same v e at)))
+        (named_before before after p p2 write hs writes.table r consistent state_same v e at)))
         (All-nil (λ (x : Message). All (IsNamed changed.objects) x.handles)))
     queue_named _ old = All-nil (λ (x : Message). All (IsNamed changed.objects) x.handles)
 

@@ -146,7 +146,7 @@ module _ (f : Port → Port) where
           (λ apart old. consistent.counted j q old ∙ sym (counts j));
       agrees = λ j q at. found_updated (at_port f) r.objects k (Agrees (world_value before r) j q.body) j q at
           (λ o old here is. subst (λ (x : Object). Agrees (world_value before r) j x.body) is
-              (agrees_too (world_value before r) j o.body (consistent.agrees j o old)))
+          (agrees_too (world_value before r) j o.body (consistent.agrees j o old)))
           (λ apart old. consistent.agrees j q old);
       in_jobs = λ j q at. found_updated (at_port f) r.objects k (IsTrue (is_in_job changed.objects q.body)) j q at
           (λ o old here is. subst (λ (x : Object). IsTrue (is_in_job changed.objects x.body)) is

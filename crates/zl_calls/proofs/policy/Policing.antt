@@ -78,7 +78,7 @@ module _ (lib : Library) (before after : List Process) (r r2 : Objects) (p p2 : 
     refused : (v : Verdict) → Judged v → policed_refusal lib W p.pid s.request ≡ Some (ending v)
     refused v is =
         policed lib W p.pid p.table.entries r.objects (is_seen lib before r consistent blocked sound p write.there (ap is_ready ready) W
-            refl refl) s.request v is
+        refl refl) s.request v is
 
     denied_acts : IsDenied s p r o p2 r2 → Judged verdict.Denied → Acts
     denied_acts denied is =

@@ -33,7 +33,7 @@ module _ (before after : List Process) (p p2 : Process) (write : IsWrite before 
   pub still_given : (k : ℕ) → IsTrue (has_key (map process_entry after) k) → k < r.next_koid
   still_given k there =
       consistent.given_processes k (sym (has_key-update (map process_entry before) p.pid (λ _. process_value p2) k)
-          ∙ rw (after_is before after p p2 write) at there)
+      ∙ rw (after_is before after p p2 write) at there)
 
   pub sound_after : p2.state ≡ p.state → IsSound after m r
   sound_after same = record {
@@ -159,7 +159,7 @@ module _ (before after : List Process) (p p2 : Process) (write : IsWrite before 
           (λ is. subst (λ (x : ProcessValue). IsTable (record { entries = x.handles; last = x.last })) is table) (consistent.tables k q);
       named = λ k q v e at there. found_after before after p p2 write (IsNamed ended.objects e) k q at
           (λ is. named_stopped e (named v e (ap (λ (x : ProcessValue). get x.handles v) is ∙ there)))
-              (λ old. named_stopped e (consistent.named k q v e old there));
+          (λ old. named_stopped e (consistent.named k q v e old there));
       queued = λ j q at. found_updated stopped r.objects p.pid (AreNamed ended.objects (queue_of q.body)) j q at
           (λ o old here is. subst (λ (x : Object). AreNamed ended.objects (queue_of x.body)) is
           (rw (same_queue o.body) (still_named r.objects ended.objects named_stopped (queue_of o.body) (consistent.queued j o old))))
@@ -168,7 +168,7 @@ module _ (before after : List Process) (p p2 : Process) (write : IsWrite before 
           (λ o old here is. ap (λ (x : Object). x.handles) (sym is)
           ∙ (consistent.counted j o old ∙ counts_fewer before after p p2 r ended j (count_by (λ h. h.1.koid == j) m) write (same_queues j) (fewer j)))
           (λ apart old. consistent.counted j q old ∙ counts_fewer before after p p2 r ended j (count_by (λ h. h.1.koid == j) m) write
-              (same_queues j) (fewer j));
+          (same_queues j) (fewer j));
       agrees = λ j q at. found_updated stopped r.objects p.pid (Agrees (world_value after ended) j q.body) j q at
           (λ o old here is. subst (λ (i : ℕ). Agrees (world_value after ended) i q.body) (eqb-true p.pid j here)
           (subst (λ (x : Object). Agrees (world_value after ended) p.pid x.body) is (stopped_agrees o.body)))

@@ -214,7 +214,7 @@ module _ (before after : List Process) (r : Objects) (consistent : IsConsistent 
     in_jobs = λ j q at. found_updated f r.objects k (IsTrue (is_in_job updated.objects q.body)) j q at
         (λ o old here is.
         subst (λ (x : Object). IsTrue (is_in_job updated.objects x.body)) is
-            (rw (same o, in_job_updated f same r.objects k o.body) (consistent.in_jobs j o old)))
+        (rw (same o, in_job_updated f same r.objects k o.body) (consistent.in_jobs j o old)))
         (λ apart old. rw (in_job_updated f same r.objects k q.body) (consistent.in_jobs j q old));
     kept =
         kept_each updated.objects (rw (is_sorted-update r.objects k f) consistent.kept.in_order)

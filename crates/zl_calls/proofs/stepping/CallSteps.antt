@@ -22,7 +22,7 @@ use Rattle.zl_calls.proofs.policy.Freedom.{is_free}
 module _ (lib : Library) (ps : List Process) (r : Objects) (whole : IsConsistent ps r) (blocked : List ℕ) (are : AreBlocked ps blocked)
     (sound : IsSoundWorld (world_blocked ps r blocked)) (pid place : ℕ) (p : Process)
     (found : Some place ≡ position (λ q. q.pid == pid) ps) (read : p ≡ get_or ps place p)
-        (is_ready_there : is_ready (state_value p.state) ≡ true) (all2 : Parts)
+    (is_ready_there : is_ready (state_value p.state) ≡ true) (all2 : Parts)
     (o : Outcome) where
   by_acts : (name : CallName) (s : Site) → next_for lib (process_value p) ≡ AtCall name s → CallActs lib place p s (parts ps r blocked) o all2
       → HasLeft lib ps all2.processes r all2.objects blocked all2.blocked pid (item.Call pid name o)

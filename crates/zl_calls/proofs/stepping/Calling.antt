@@ -67,7 +67,7 @@ module _ (lib : Library) (ps : List Process) (r : Objects) (b : List ℕ) (place
           → Acted (site_of call q.cpu) q r1 o p2 r2 → (caller : Process) → slice_get ps place ≡ Some caller → Done o (parts (set ps1 place p2) r2 b1) caller
       acted_acts ps1 r1 b1 same_list same_objects same_blocked q same o p2 r2 acted =
           rw (same_list, same_blocked) (of_caller (Done o (parts (set ps place p2) r2 b))
-              (by_site (site_of call p.cpu) none (rw (same, same_objects) at acted)))
+          (by_site (site_of call p.cpu) none (rw (same, same_objects) at acted)))
         where
           by_site : (at : Option Site) → IfSome at (λ s. verdict_on p.table.entries r.objects p.pid s.request ≡ None) → Acted at p r o p2 r2
               → IsReachedBy at (λ s. CallActs lib place p s (parts ps r b) o (parts (set ps place p2) r2 b))

@@ -194,7 +194,7 @@ module _ (lib : Library) (ps : List Process) (r : Objects) (blocked : List ℕ) 
   pub takes_local : (ps2 : List Process) (r2 : Objects) (blocked2 : List ℕ) (x : TraceItem) → is_local x ≡ true
       → DoesNext lib (world_blocked ps r blocked) pid x (world_left ps2 r2 (then_blocked pid x blocked2))
       → wakes (world_left ps2 r2 blocked2) ≡ world_blocked ps2 r2 blocked2
-          → TakesStep (machine_value lib ps r blocked) pid (machine_value lib ps2 r2 blocked2) x
+      → TakesStep (machine_value lib ps r blocked) pid (machine_value lib ps2 r2 blocked2) x
   unfolding is_process
   takes_local ps2 r2 blocked2 x local does quiet = record {
     pid_is = does.pid_is;

@@ -421,7 +421,7 @@ module _ (lib : Library) (ps : List Process) (r : Objects) (whole : IsConsistent
               let is : code ≡ KILLED = the_code among in
               subst (λ (x : ℤ). HasLeft lib ps all2.processes r all2.objects blocked all2.blocked p.pid (item.Call p.pid name (outcome.Ended x))) (sym is)
               (leaves_so lib ps r blocked sound p there ready name kill_site next all2.processes (killing r t) all2.objects all2.blocked
-                  (outcome.Ended KILLED) refl
+              (outcome.Ended KILLED) refl
               (ends_settled ps r whole blocked sound t given all2 kills all2.processes (λ k q. q.cpu) (λ k. killed_got (λ j q. q.cpu) k (λ q there_too. refl))
               (λ k. refl) (still_sorted ps r whole blocked sound t given all2 kills))
               blocked_after (killed_calls among) lists)
@@ -510,7 +510,7 @@ module _ (lib : Library) (ps : List Process) (r : Objects) (whole : IsConsistent
 
     pub lives_so : (c : Process) → slice_get all2.processes place ≡ Some c → ((code : ℤ) → c.state ≡ state.Ended code → ⊥)
         → HasLeft lib ps (slice_set all2.processes place (record c { cpu = cpu_answered kill_site status.Ok [] c.cpu })) r all2.objects
-            blocked all2.blocked p.pid
+        blocked all2.blocked p.pid
         (item.Call p.pid name (outcome.Answered status.Ok))
     lives_so c at alive =
         elim (cases_Bool dies) as (λ _. HasLeft lib ps (slice_set all2.processes place (record c { cpu = cpu_answered kill_site status.Ok [] c.cpu })) r

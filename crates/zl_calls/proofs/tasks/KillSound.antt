@@ -486,7 +486,7 @@ module _ (ps ps3 : List Process) (r : Objects) (consistent : IsConsistent ps r) 
     named = λ k q v e at there. let w = was_here k q at in
         table_killed (λ m l. get m v ≡ Some e → IsNamed (all_killed r.objects t) e) (λ found. absurd (none_in v e found)) (within k) w.before
         (λ found. named_killed r.objects t e (consistent.named k w.before v e w.there found))
-            (subst (λ (x : ProcessValue). get x.handles v ≡ Some e) w.became there);
+        (subst (λ (x : ProcessValue). get x.handles v ≡ Some e) w.became there);
     queued = λ k o at. let w = was_there r.objects t k o at in
         subst (λ (x : Object). AreNamed (all_killed r.objects t) (queue_of x.body)) (sym w.is)
         (rw (killed_queue (within k) w.before)

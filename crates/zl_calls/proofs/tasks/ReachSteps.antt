@@ -54,7 +54,7 @@ module _ (lib : Library) (ps : List Process) (r : Objects) (whole : IsConsistent
   reaches_so o all2 (kills task is does alive) =
       subst (λ (x : Site). (a : IsAnsweredIn (told_by no_value) (TaskKillDoes task p) x place (parts ps r blocked) o all2)
       → ((code : ℤ) → a.is_told.caller.state ≡ state.Ended code → ⊥)
-          → HasLeft lib ps all2.processes r all2.objects blocked all2.blocked pid (item.Call pid name o))
+      → HasLeft lib ps all2.processes r all2.objects blocked all2.blocked pid (item.Call pid name o))
       (sym (site_is (task_kill task) is))
       (kill_so lib ps r whole blocked are sound pid place p found read is_ready_there name free free_beside task s.consumed s.destinations
       (next ∙ ap (AtCall name) (site_is (task_kill task) is)) all2 o) does alive

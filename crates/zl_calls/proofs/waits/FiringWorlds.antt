@@ -204,7 +204,7 @@ module _ (f : Port → Port) where
     port_next = rebodied_next (changed_port f) port_keeps ps ps r consistent k
         (λ o at. subst (AreNamed (changing_port r k f).objects) (sym (same_queue o.body))
         (still_named r.objects (changing_port r k f).objects (named_rebodied (changed_port f) port_keeps r.objects k) (queue_of o.body)
-            (consistent.queued k o at)))
+        (consistent.queued k o at)))
         counts_kept
 
     port_consistent : IsConsistent ps (changing_port r k f)

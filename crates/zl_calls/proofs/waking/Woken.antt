@@ -138,7 +138,7 @@ module _ (ps : List Process) (r : Objects) (consistent : IsConsistent ps r) (pid
       ready_entries : map process_entry after ≡ put (map process_entry ps) pid (process_value p2)
       ready_entries = rw (← key)
           (after_is ps after p p2 write ∙ put_there (map process_entry ps) p.pid (process_value p) (λ _. process_value p2)
-              consistent.processes_in_order write.there)
+          consistent.processes_in_order write.there)
 
       tests_alike : (test : StateValue → Bool) → test (state_value p.state) ≡ test Ready → (k : ℕ)
           → is_process (world_value after r2) test k ≡ is_process (world_value ps r) test k
@@ -247,7 +247,7 @@ module _ (ps : List Process) (r : Objects) (consistent : IsConsistent ps r) (pid
           rw objects (gets_awake p2 (changing_port r port without_front) (ap (λ (q : Process). q.pid) so) ds (packet_values x) so
           (ap (λ (s : State). is_blocked (state_value s)) in_state)
           (repacked_next without_front ps (set ps place p2) p p2 (write p2 r (ap (λ (q : Process). q.pid) so))
-              (ap (λ (q : Process). q.table) so) r consistent port)
+          (ap (λ (q : Process). q.table) so) r consistent port)
           (taken_at o x rest at first))
 
     -- whatever it is in

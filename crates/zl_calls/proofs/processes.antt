@@ -4,3 +4,4 @@ pub mod OneProcess
 pub mod Stopped
 pub mod Departed
 pub mod Idle
+pub mod Answering

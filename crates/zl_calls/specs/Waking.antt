@@ -6,14 +6,14 @@ use Rattle.std.specs.Option.{option_map}
 use Rattle.zl_code.specs.Common.{answered, get}
 use Rattle.zl_rights.specs.Numbers.{meets}
 use Rattle.zl_rights.specs.Wakes.{packet_values, woken}
+use Rattle.zl_rights.specs.World.{State, Blocked, SignalOf, PacketAt}
 use Rattle.zl_objects.specs.Objects.{Objects}
 use Rattle.zl_objects.specs.Ports.{changing_port, packets_in}
 use Rattle.zl_objects.specs.Signals.{signals_at}
 use Rattle.zl_port.specs.Packets.{without_front}
-use Rattle.zl_calls.specs.declared.process.State.{State}
 use Rattle.zl_calls.specs.declared.process.State.TheVariants as state
 use Rattle.zl_calls.specs.declared.process.Process.{Process}
-use Rattle.zl_calls.specs.World.{world_blocked}
+use Rattle.zl_calls.specs.World.{state_value, world_blocked}
 use Rattle.zl_calls.specs.Consistent.{IsConsistent}
 use Rattle.zl_calls.specs.Blocked.{AreBlocked}
 
@@ -25,16 +25,13 @@ seen_active signals mask = then_some (meets signals mask) (signals ∷ [])
 
 -- what the answer of a blocked process gives behind the status, if what it waits for is there
 abbrev pub given_awake : State → Objects → Option (List ℕ)
-given_awake (state.AwaitsSignal koid mask to) r = seen_active (signals_at r.objects koid) mask
-given_awake (state.AwaitsPacket port to) r =
-    option_map packet_values (slice_get (packets_in (get r.objects port)) 0)
+given_awake (Blocked (SignalOf koid mask) destinations) r = seen_active (signals_at r.objects koid) mask
+given_awake (Blocked (PacketAt port) destinations) r = option_map packet_values (slice_get (packets_in (get r.objects port)) 0)
 given_awake _ r = None
 
 -- the registers of its answer, the status first
 abbrev pub destinations_of : State → List ℕ
-destinations_of (state.AwaitsSignal koid mask to) = to.status ∷ to.observed ∷ []
-destinations_of (state.AwaitsPacket port to) =
-    to.status ∷ to.key ∷ to.kind ∷ to.trigger ∷ to.observed ∷ []
+destinations_of (Blocked awaited destinations) = destinations
 destinations_of _ = []
 
 -- the process with this answer in these registers, if there is one, ready
@@ -44,11 +41,11 @@ awake_in destinations (Some values) p = record p { state = state.Ready; cpu = an
 
 -- the same, in the registers of its wait
 abbrev pub awake : Option (List ℕ) → Process → Process
-awake given p = awake_in (destinations_of p.state) given p
+awake given p = awake_in (destinations_of (state_value p.state)) given p
 
 -- the objects without the packet that the process takes, if there is one
 abbrev pub without_taken : State → Objects → Objects
-without_taken (state.AwaitsPacket port to) r = changing_port r port without_front
+without_taken (Blocked (PacketAt port) destinations) r = changing_port r port without_front
 without_taken _ r = r
 
 -- ---- the list

@@ -1,13 +1,15 @@
 -- What the definitions see of the world of this crate.
-use Rattle.std.specs.Prelude.{ℕ, ◌≡◌, ◌<◌, Bool, length, slice_get, List, [], ◌∷◌, map, Option, Some, None, if◌then◌else◌}
+use Rattle.std.specs.Prelude.{ℕ, ◌≡◌, ◌<◌, Bool, length, slice_get, slice_index, List, [], ◌∷◌, map, Option, Some, None, if◌then◌else◌}
 use Rattle.std.specs.Option.{option_map}
 use Rattle.zl_code.specs.Common.{get, World as WorldValue, Process as ProcessValue, State as StateValue, Created, Ready, Blocked, Ended, Gone, is_ready, is_process, Library, site_of, Next, calls_at, next_for}
 use Rattle.zl_code.specs.declared.history.CallName.{CallName}
 use Rattle.zl_code.specs.declared.history.ProcState.{ProcState}
 use Rattle.zl_code.specs.declared.history.ProcState.TheVariants as seen
 use Rattle.zl_code.specs.declared.instr.CallInstr.{CallInstr}
-use Rattle.zl_rights.specs.World.{SignalOf, PacketAt}
+use Rattle.zl_rights.specs.World.{Awaited as AwaitedValue, SignalOf, PacketAt}
 use Rattle.zl_interp.specs.Common.{call_in}
+use Rattle.zl_calls.specs.declared.process.Awaited.{Awaited}
+use Rattle.zl_calls.specs.declared.process.Awaited.TheVariants as awaits
 use Rattle.zl_calls.specs.declared.process.State.{State}
 use Rattle.zl_calls.specs.declared.process.State.TheVariants as state
 use Rattle.zl_calls.specs.declared.process.Process.{Process}
@@ -21,14 +23,31 @@ pub record Machine : Type 0 where
 
 -- ---- views
 
+-- the registers of a call that get the active signals, the status first
+abbrev pub signal_registers : List ℕ → List ℕ
+signal_registers registers = slice_index registers 0 ∷ slice_index registers 3 ∷ []
+
+-- the registers of a call that get a packet, the status first
+abbrev pub packet_registers : List ℕ → List ℕ
+packet_registers registers =
+    slice_index registers 0 ∷ slice_index registers 2 ∷ slice_index registers 3 ∷ slice_index registers 4 ∷ slice_index registers 5 ∷ []
+
+-- what a blocked process waits for
+abbrev pub awaited_value : Awaited → AwaitedValue
+awaited_value (awaits.SignalOf koid mask) = SignalOf koid mask
+awaited_value (awaits.PacketAt port) = PacketAt port
+
+-- the registers of its answer, of those of its wait
+abbrev pub destinations_in : Awaited → List ℕ → List ℕ
+destinations_in (awaits.SignalOf koid mask) registers = signal_registers registers
+destinations_in (awaits.PacketAt port) registers = packet_registers registers
+
 -- the state of a process
 abbrev pub state_value : State → StateValue
 state_value state.Created = Created
 state_value state.Gone = Gone
 state_value state.Ready = Ready
-state_value (state.AwaitsSignal koid mask to) = Blocked (SignalOf koid mask) (to.status ∷ to.observed ∷ [])
-state_value (state.AwaitsPacket port to) =
-    Blocked (PacketAt port) (to.status ∷ to.key ∷ to.kind ∷ to.trigger ∷ to.observed ∷ [])
+state_value (state.Blocked awaited registers) = Blocked (awaited_value awaited) (destinations_in awaited registers)
 state_value (state.Ended code) = Ended code
 
 -- a process; of its table just the live handles and the value removed last are seen

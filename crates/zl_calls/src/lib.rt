@@ -10,7 +10,6 @@
 mod booting;
 mod calls;
 mod leaving;
-mod packets;
 mod policy;
 mod process;
 mod stepping;

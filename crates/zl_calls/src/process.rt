@@ -1,47 +1,46 @@
-ghost use Rattle.std.specs.Prelude.{◌≡◌, ◌<◌, ◌^◌, [], ◌∷◌, None};
+ghost use Rattle.std.specs.Prelude.{◌≡◌, ◌<◌, ◌^◌, [], ◌∷◌, None, slice_index};
 ghost use Rattle.zl_rights.specs.Signals.{is_ready, lives};
+ghost use Rattle.zl_rights.specs.Wakes.{packet_values};
 ghost use Rattle.zl_code.specs.Sound.{is_blocked};
 ghost use Rattle.zl_code.specs.Starting.{is_created};
-ghost use Rattle.zl_calls.specs.World.{state_value, seen_in};
+ghost use Rattle.zl_calls.specs.World.{packet_registers, seen_in, signal_registers, state_value};
 ghost use Rattle.zl_code.specs.Common.{answered};
 ghost use Rattle.zl_rights.specs.Numbers.{status_magnitude};
 ghost use Rattle.zl_calls.specs.calls.Answer.{status_of, no_value, one_value, two_values, answered_in};
 ghost use Rattle.zl_calls.specs.calls.Wait.{polled_status, polled_values};
 
 use crate::calls::wait::PollFault;
-use crate::packets::PacketRegisters;
 use bitflags::Flags;
 use std::alloc::Global;
-use zl_code::{Outcome, ProcState, Register};
+use zl_code::{InstrBytes, Outcome, ProcState, Register};
 use zl_interp::Cpu;
+use zl_port::Packet;
 use zl_rights::{HValue, Koid, Pid, Signals, Status};
 use zl_table::Table;
 
-/// The registers that get the active signals of an object, the status first.
+/// The registers of a call.
+pub type Registers = [Register; InstrBytes::REGISTERS];
+
+/// What a blocked process waits for.
 #[derive(Clone, Copy)]
-pub struct SignalRegisters {
-    pub status: Register,
-    pub observed: Register,
+pub enum Awaited {
+    /// A signal of the mask at the object.
+    SignalOf { koid: Koid, mask: u64 },
+    /// A packet at the port.
+    PacketAt(Koid),
 }
 
 /// What a process is in. Those that are made at boot are ready at once.
-///
-/// A blocked one is still at its wait, and has the registers of its answer here.
 #[derive(Clone, Copy)]
 pub enum State {
     /// Made by a call, and not started yet.
     Created,
     Ready,
-    /// Blocked until a signal of the mask is active at the object.
-    AwaitsSignal {
-        koid: Koid,
-        mask: u64,
-        to: SignalRegisters,
-    },
-    /// Blocked until a packet is at the port.
-    AwaitsPacket {
-        port: Koid,
-        to: PacketRegisters,
+    /// Still at its wait, whose registers these are. What it waits for says which of them get the
+    /// answer.
+    Blocked {
+        awaited: Awaited,
+        registers: Registers,
     },
     Ended(i32),
     /// Never started, and its object is gone.
@@ -66,8 +65,7 @@ impl Process {
         match self.state {
             State::Created => ProcState::Created,
             State::Ready => ProcState::Ready,
-            State::AwaitsSignal { .. } => ProcState::Blocked,
-            State::AwaitsPacket { .. } => ProcState::Blocked,
+            State::Blocked { .. } => ProcState::Blocked,
             State::Ended(code) => ProcState::Ended(code),
             State::Gone => ProcState::Gone,
         }
@@ -98,32 +96,40 @@ impl Process {
     pub fn is_blocked(&self) -> bool
         ensures { result ≡ is_blocked (state_value self.now.state) }
     {
-        matches!(
-            self.state,
-            State::AwaitsSignal { .. } | State::AwaitsPacket { .. }
-        )
+        matches!(self.state, State::Blocked { .. })
     }
 
-    /// The call is answered: its status register holds the answer, and the next instruction stands
-    /// next.
+    /// The call is answered: its destinations get the status and the values, and 0 where there is
+    /// none, and the next instruction stands next. Where two are one register, it has the later value.
+    #[inline(always)]
     #[tactic(auto, unfolding(zl_rights::specs::World::answered))]
+    pub fn answered(&mut self, status: Status, destinations: &[Register], values: &[u64]) -> Outcome
+        requires { self.old.cpu.counter < 2 ^ 32 }
+        ensures ends { result ≡ Outcome.Answered status }
+        ensures process { self.new ≡ record self.old {
+          cpu = answered self.old.cpu destinations.now (status_magnitude status ∷ values.now);
+        } }
+    {
+        self.cpu.advance();
+        for n in 0..destinations.len() {
+            self.cpu.set(destinations[n], value_at(n, status, values));
+        }
+        Outcome::Answered(status)
+    }
+
+    /// The answer of a call that gives no value.
     pub fn answer(&mut self, status: Register, answer: Result<(), Status>) -> Outcome
         requires { self.old.cpu.counter < 2 ^ 32 }
         ensures ends { result ≡ Outcome.Answered (status_of answer) }
         ensures process { self.new ≡ answered_in self.old (status ∷ []) no_value answer }
     {
-        let answer = match answer {
-            Ok(()) => Status::Ok,
-            Err(refused) => refused,
-        };
-        self.cpu.set(status, u64::from(answer.magnitude()));
-        self.cpu.advance();
-        Outcome::Answered(answer)
+        match answer {
+            Ok(()) => self.answered(Status::Ok, &[status], &[]),
+            Err(refused) => self.answered(refused, &[status], &[]),
+        }
     }
 
-    /// The call that makes a handle is answered: after the status its register gets the handle's
-    /// value, or 0 where there is none.
-    #[tactic(auto, unfolding(zl_rights::specs::World::answered))]
+    /// The answer of a call that makes a handle: the handle's value.
     pub fn answer_made(
         &mut self,
         status: Register,
@@ -135,20 +141,14 @@ impl Process {
         ensures process { self.new
             ≡ answered_in self.old (status ∷ destination ∷ []) one_value answer }
     {
-        let (answer, made) = match answer {
-            Ok(made) => (Status::Ok, u64::from(made)),
-            Err(refused) => (refused, 0),
-        };
-        let number = u64::from(answer.magnitude());
-        self.cpu.set(status, number);
-        self.cpu.set(destination, made);
-        self.cpu.advance();
-        Outcome::Answered(answer)
+        let to = [status, destination];
+        match answer {
+            Ok(made) => self.answered(Status::Ok, &to, &[u64::from(made)]),
+            Err(refused) => self.answered(refused, &to, &[]),
+        }
     }
 
-    /// The call that makes two handles is answered: after the status its registers get their
-    /// values, or 0 where there are none. Where both are one register, it has the second.
-    #[tactic(auto, unfolding(zl_rights::specs::World::answered))]
+    /// The answer of a call that makes two handles: their values.
     pub fn answer_made_two(
         &mut self,
         status: Register,
@@ -161,42 +161,58 @@ impl Process {
         ensures process { self.new
             ≡ answered_in self.old (status ∷ first ∷ second ∷ []) two_values answer }
     {
-        let (answer, made) = match answer {
-            Ok((one, other)) => (Status::Ok, (u64::from(one), u64::from(other))),
-            Err(refused) => (refused, (0, 0)),
-        };
-        self.cpu.set(status, u64::from(answer.magnitude()));
-        self.cpu.set(first, made.0);
-        self.cpu.set(second, made.1);
-        self.cpu.advance();
-        Outcome::Answered(answer)
+        let to = [status, first, second];
+        match answer {
+            Ok((one, other)) => self.answered(Status::Ok, &to, &[u64::from(one), u64::from(other)]),
+            Err(refused) => self.answered(refused, &to, &[]),
+        }
     }
 
-    /// The call that looks at signals is answered: after the status its register gets the active
-    /// signals, also where it timed out, or 0 where it was refused.
-    #[tactic(auto, unfolding(zl_rights::specs::World::answered))]
+    /// The answer of a call that looks at signals: those that are active, also where it timed out.
     pub fn answer_polled(
         &mut self,
-        status: Register,
-        destination: Register,
+        registers: Registers,
         answer: Result<Signals, PollFault>,
     ) -> Outcome
         requires { self.old.cpu.counter < 2 ^ 32 }
         ensures ends { result ≡ Outcome.Answered (polled_status answer) }
         ensures process { self.new ≡ record self.old {
-          cpu = answered self.old.cpu (status ∷ destination ∷ [])
+          cpu = answered self.old.cpu (signal_registers registers)
               (status_magnitude (polled_status answer) ∷ polled_values answer);
         } }
     {
-        let (answer, active) = match answer {
-            Ok(active) => (Status::Ok, active),
-            Err(PollFault::TimedOut(active)) => (Status::TimedOut, active),
-            Err(PollFault::Refused(refused)) => (refused, Signals::empty()),
-        };
-        self.cpu.set(status, u64::from(answer.magnitude()));
-        self.cpu.set(destination, u64::from(active.bits()));
-        self.cpu.advance();
-        Outcome::Answered(answer)
+        let [status, _, _, observed, ..] = registers;
+        let to = [status, observed];
+        match answer {
+            Ok(active) => self.answered(Status::Ok, &to, &[u64::from(active.bits())]),
+            Err(PollFault::TimedOut(active)) => {
+                self.answered(Status::TimedOut, &to, &[u64::from(active.bits())])
+            }
+            Err(PollFault::Refused(refused)) => self.answered(refused, &to, &[]),
+        }
+    }
+
+    /// The answer of a call that takes a packet: what the packet gives.
+    pub fn answer_packet(&mut self, registers: Registers, answer: Result<Packet, Status>) -> Outcome
+        requires { self.old.cpu.counter < 2 ^ 32 }
+        ensures ends { result ≡ Outcome.Answered (status_of answer) }
+        ensures process { self.new
+            ≡ answered_in self.old (packet_registers registers) packet_values answer }
+    {
+        let [status, _, key, kind, trigger, observed, _] = registers;
+        let to = [status, key, kind, trigger, observed];
+        match answer {
+            Ok(packet) => {
+                let values = [
+                    packet.key,
+                    packet.kind.number(),
+                    packet.trigger,
+                    packet.observed,
+                ];
+                self.answered(Status::Ok, &to, &values)
+            }
+            Err(refused) => self.answered(refused, &to, &[]),
+        }
     }
 
     /// The process ends with the code, with an empty table; the old one is the result.
@@ -211,5 +227,19 @@ impl Process {
     {
         self.state = State::Ended(code);
         std::mem::replace(&mut self.table, Table::new(alloc))
+    }
+}
+
+/// What the destination at this place gets: the status, then the values, and 0 behind them.
+#[inline(always)]
+fn value_at(place: usize, status: Status, values: &[u64]) -> u64
+    ensures { result ≡ slice_index (status_magnitude status ∷ values.now) place }
+{
+    if place == 0 {
+        u64::from(status.magnitude())
+    } else if place <= values.len() {
+        values[place - 1]
+    } else {
+        0
     }
 }

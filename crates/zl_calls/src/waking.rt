@@ -1,7 +1,7 @@
 //! The list of the blocked processes: how a process comes into it, and how, after each step, those
 //! become ready whose wait is over, in the order in which they blocked.
 
-ghost use Rattle.std.specs.Prelude.{ℕ, ◌≡◌, ◌<◌, ◌≤◌, ◌^◌, [], ◌∷◌, Some, length, map, is_some, slice_get, vec_capacity};
+ghost use Rattle.std.specs.Prelude.{ℕ, ◌≡◌, ◌<◌, ◌≤◌, ◌^◌, Some, length, map, is_some, slice_get, vec_capacity};
 ghost use Rattle.std.specs.List.{fold};
 ghost use Rattle.std.specs.Option.{option_map};
 ghost use Rattle.zl_rights.specs.Map.{get};
@@ -15,10 +15,9 @@ ghost use Rattle.zl_calls.specs.Blocking.{then_blocked};
 ghost use Rattle.zl_calls.specs.Consistent.{IsConsistent};
 ghost use Rattle.zl_calls.specs.Waking.{WakesOne, awake, awake_in, given_awake, seen_active, without_taken};
 ghost use Rattle.zl_rights.specs.World.{Process as ProcessValue};
-ghost use Rattle.zl_calls.specs.World.{process_entry, world_blocked};
+ghost use Rattle.zl_calls.specs.World.{packet_registers, process_entry, signal_registers, state_value, world_blocked};
 
-use crate::packets::PacketRegisters;
-use crate::process::{Process, SignalRegisters, State};
+use crate::process::{Awaited, Process, Registers, State};
 use crate::stepping::place_of;
 use bitflags::Flags;
 use zl_code::{Outcome, TraceItem};
@@ -80,14 +79,21 @@ fn wake_one(processes: &mut Vec<Process>, objects: &mut Objects, pid: Pid) -> bo
 /// The process becomes ready, if what it waits for is there; whether it did. A packet goes to it.
 fn wake_process(process: &mut Process, objects: &mut Objects) -> bool
     requires { process.old.cpu.counter < 2 ^ 32 }
-    ensures woke { result ≡ is_some (given_awake process.old.state objects.old) }
+    ensures woke { result
+        ≡ is_some (given_awake (state_value process.old.state) objects.old) }
     ensures process { process.new
-        ≡ awake (given_awake process.old.state objects.old) process.old }
-    ensures objects { objects.new ≡ without_taken process.old.state objects.old }
+        ≡ awake (given_awake (state_value process.old.state) objects.old) process.old }
+    ensures objects { objects.new ≡ without_taken (state_value process.old.state) objects.old }
 {
     match process.state {
-        State::AwaitsSignal { koid, mask, to } => wake_by_signal(process, objects, koid, mask, to),
-        State::AwaitsPacket { port, to } => wake_by_packet(process, objects, port, to),
+        State::Blocked {
+            awaited: Awaited::SignalOf { koid, mask },
+            registers,
+        } => wake_by_signal(process, objects, koid, mask, registers),
+        State::Blocked {
+            awaited: Awaited::PacketAt(port),
+            registers,
+        } => wake_by_packet(process, objects, port, registers),
         State::Created => false,
         State::Ready => false,
         State::Ended(_) => false,
@@ -96,42 +102,37 @@ fn wake_process(process: &mut Process, objects: &mut Objects) -> bool
 }
 
 /// The process becomes ready, if a signal of the mask is active at the object; whether it did.
-#[tactic(auto, unfolding(zl_rights::specs::World::answered))]
 fn wake_by_signal(
     process: &mut Process,
     objects: &Objects,
     koid: Koid,
     mask: u64,
-    to: SignalRegisters,
+    registers: Registers,
 ) -> bool
     requires { process.old.cpu.counter < 2 ^ 32 }
     ensures woke { result ≡ meets (signals_at objects.now.objects koid) mask }
-    ensures process { process.new ≡ awake_in (to.status ∷ to.observed ∷ [])
+    ensures process { process.new ≡ awake_in (signal_registers registers)
         (seen_active (signals_at objects.now.objects koid) mask) process.old }
 {
-    let active = u64::from(objects.signals_of(koid).bits());
-    if active & mask == 0 {
+    let active = objects.signals_of(koid);
+    if u64::from(active.bits()) & mask == 0 {
         return false;
     }
-    process.cpu.set(to.status, 0);
-    process.cpu.set(to.observed, active);
-    process.cpu.advance();
+    process.answer_polled(registers, Ok(active));
     process.state = State::Ready;
     true
 }
 
 /// The process becomes ready, if there is a packet at the port, which it takes; whether it did.
-#[tactic(auto, unfolding(zl_rights::specs::World::answered))]
 fn wake_by_packet(
     process: &mut Process,
     objects: &mut Objects,
     port: Koid,
-    to: PacketRegisters,
+    registers: Registers,
 ) -> bool
     requires { process.old.cpu.counter < 2 ^ 32 }
     ensures woke { result ≡ is_some (slice_get (packets_in (get objects.old.objects port)) 0) }
-    ensures process { process.new
-        ≡ awake_in (to.status ∷ to.key ∷ to.kind ∷ to.trigger ∷ to.observed ∷ [])
+    ensures process { process.new ≡ awake_in (packet_registers registers)
         (option_map packet_values (slice_get (packets_in (get objects.old.objects port)) 0))
         process.old }
     ensures objects { objects.new ≡ changing_port objects.old port without_front }
@@ -139,7 +140,7 @@ fn wake_by_packet(
     let Some(packet) = objects.pop(port) else {
         return false;
     };
-    process.answer_packet(to, Ok(packet));
+    process.answer_packet(registers, Ok(packet));
     process.state = State::Ready;
     true
 }

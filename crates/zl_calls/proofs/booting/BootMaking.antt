@@ -72,19 +72,13 @@ module _ (ps : List Process) (p : Process) (r : Objects) (making : IsMaking ps p
 
       alive : (s : OwnState) → runs (state_value s) ≡ true → lives (state_value s) ≡ true
       alive state.Ready h = refl
-      alive (state.AwaitsSignal koid mask to) h = refl
-      alive (state.AwaitsPacket port to) h = refl
-      alive (state.Ended code) h = absurd (false≢true h)
-      alive state.Created h = absurd (false≢true h)
-      alive state.Gone h = absurd (false≢true h)
+      alive (state.Blocked awaited registers) h = refl
+      alive _ h = absurd (false≢true h)
 
       not_over : (s : OwnState) → runs (state_value s) ≡ true → has_ended (state_value s) ≡ false
       not_over state.Ready h = refl
-      not_over (state.AwaitsSignal koid mask to) h = refl
-      not_over (state.AwaitsPacket port to) h = refl
-      not_over (state.Ended code) h = absurd (false≢true h)
-      not_over state.Created h = absurd (false≢true h)
-      not_over state.Gone h = absurd (false≢true h)
+      not_over (state.Blocked awaited registers) h = refl
+      not_over _ h = absurd (false≢true h)
 
   grown_sound : IsSound after [] grown
   grown_sound = process_sound ps p.table.entries r sound p pid job life.Running 0 table names agrees_new

@@ -60,11 +60,7 @@ job_seen (Some o) = by_body o.body
 
 ready_lives : (s : State) → is_ready (state_value s) ≡ true → lives (state_value s) ≡ true
 ready_lives state.Ready h = refl
-ready_lives state.Created h = absurd (false≢true h)
-ready_lives state.Gone h = absurd (false≢true h)
-ready_lives (state.AwaitsSignal koid mask to) h = absurd (false≢true h)
-ready_lives (state.AwaitsPacket port to) h = absurd (false≢true h)
-ready_lives (state.Ended code) h = absurd (false≢true h)
+ready_lives _ h = absurd (false≢true h)
 
 module _ (lib : Library) (ps : List Process) (r : Objects) (consistent : IsConsistent ps r) (blocked : List ℕ)
     (sound : IsSoundWorld (world_blocked ps r blocked)) (p : Process)

@@ -29,11 +29,7 @@ settled_world ps r = world_value (left_all ps r) r
 state_left : (b : Bool) (s : State) → state_without b (state_value s) ≡ state_value (left_state b s)
 state_left true state.Created = refl
 state_left false state.Created = refl
-state_left b state.Ready = refl
-state_left b (state.AwaitsSignal koid mask to) = refl
-state_left b (state.AwaitsPacket port to) = refl
-state_left b (state.Ended code) = refl
-state_left b state.Gone = refl
+state_left b _ = refl
 
 -- for the definitions each process is settled
 pub seen_left : (r : Objects) (ps : List Process)

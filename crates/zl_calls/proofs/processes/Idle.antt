@@ -35,11 +35,7 @@ get_placed (p ∷ ps) sorted (suc n) q at =
 
 not_running : (s : State) → is_created (state_value s) ≡ true → runs (state_value s) ≡ false
 not_running state.Created h = refl
-not_running state.Ready h = absurd (false≢true h)
-not_running (state.AwaitsSignal koid mask to) h = absurd (false≢true h)
-not_running (state.AwaitsPacket port to) h = absurd (false≢true h)
-not_running (state.Ended code) h = absurd (false≢true h)
-not_running state.Gone h = absurd (false≢true h)
+not_running _ h = absurd (false≢true h)
 
 pub are_bare : (ps : List Process) (r : Objects) (blocked : List ℕ) → IsTrue (is_sorted nat_cmp (map process_entry ps))
     → IsSoundWorld (world_blocked ps r blocked) → AreBare ps

@@ -33,11 +33,7 @@ use Rattle.zl_calls.proofs.processes.Written.{alike_states, write_at, pid_read, 
 
 pub ready_state : (s : State) → is_ready (state_value s) ≡ true → state_value s ≡ Ready
 ready_state state.Ready h = refl
-ready_state (state.AwaitsSignal koid mask to) h = absurd (false≢true h)
-ready_state (state.AwaitsPacket port to) h = absurd (false≢true h)
-ready_state (state.Ended code) h = absurd (false≢true h)
-ready_state state.Created h = absurd (false≢true h)
-ready_state state.Gone h = absurd (false≢true h)
+ready_state _ h = absurd (false≢true h)
 
 -- a number that no process has isn't that of a ready one
 pub absent : {A : Type 0} (ps : List Process) (pid : ℕ) (o : Option A) → get (map process_entry ps) pid ≡ None

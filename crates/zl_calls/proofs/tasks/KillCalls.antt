@@ -262,11 +262,7 @@ code_in _ = KILLED
 over_so : (x : State) (code : ℤ) → state_value x ≡ Ended code → x ≡ state.Ended code
 unfolding is_ended code_in
 over_so (state.Ended c) code is = ap (λ (s : StateValue). state.Ended (code_in s)) is
-over_so state.Created code is = absurd (false≢true (ap is_ended is))
-over_so state.Ready code is = absurd (false≢true (ap is_ended is))
-over_so state.Gone code is = absurd (false≢true (ap is_ended is))
-over_so (state.AwaitsSignal koid mask to) code is = absurd (false≢true (ap is_ended is))
-over_so (state.AwaitsPacket port to) code is = absurd (false≢true (ap is_ended is))
+over_so _ code is = absurd (false≢true (ap is_ended is))
 
 -- who is blocked after a kill was blocked before
 was_blocked : (within : Bool) (q : ProcessValue) → IsTrue (is_blocked (process_killed within q).state) → process_killed within q ≡ q

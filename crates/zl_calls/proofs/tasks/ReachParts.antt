@@ -150,9 +150,5 @@ module _ (lib : Library) (ps ps1 : List Process) (r r1 : Objects) (blocked block
       where
         by_state : (x : State) → p.state ≡ x → o ≡ ending_of (status_of answer) x → p2 ≡ told_unless_over status_in answer x p
             → Reaches lib place caller kill_site (parts ps r blocked) o (parts (slice_set ps1 place p2) r1 blocked1)
-        by_state state.Created is ends told = kill_answered answer does o ends p2 told (ap has_ended is)
-        by_state state.Ready is ends told = kill_answered answer does o ends p2 told (ap has_ended is)
-        by_state (state.AwaitsSignal koid mask to) is ends told = kill_answered answer does o ends p2 told (ap has_ended is)
-        by_state (state.AwaitsPacket port to) is ends told = kill_answered answer does o ends p2 told (ap has_ended is)
         by_state (state.Ended code) is ends told = kill_ended answer does code is o ends p2 told
-        by_state state.Gone is ends told = kill_answered answer does o ends p2 told (ap has_ended is)
+        by_state _ is ends told = kill_answered answer does o ends p2 told (ap has_ended is)

@@ -190,11 +190,7 @@ module _ (lib : Library) (ps ps1 : List Process) (place process h : ℕ) (starte
 
 pub not_both : (s : State) → is_created (state_value s) ≡ true → is_ready (state_value s) ≡ true → ⊥
 not_both state.Created created ready = false≢true ready
-not_both state.Gone created ready = false≢true created
-not_both state.Ready created ready = false≢true created
-not_both (state.AwaitsSignal koid mask to) created ready = false≢true created
-not_both (state.AwaitsPacket port to) created ready = false≢true created
-not_both (state.Ended code) created ready = false≢true created
+not_both _ created ready = false≢true created
 
 module _ (lib : Library) (ps : List Process) (r : Objects) (blocked : List ℕ) (place process h word : ℕ) (caller : Process)
     (is_caller : slice_get ps place ≡ Some caller) (ready : is_ready (state_value caller.state) ≡ true) where

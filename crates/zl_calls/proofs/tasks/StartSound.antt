@@ -140,11 +140,7 @@ is_task _ = false
 
 pub created_state : (s : State) → is_created (state_value s) ≡ true → state_value s ≡ Created
 created_state state.Created h = refl
-created_state state.Ready h = absurd (false≢true h)
-created_state (state.AwaitsSignal koid mask to) h = absurd (false≢true h)
-created_state (state.AwaitsPacket port to) h = absurd (false≢true h)
-created_state (state.Ended code) h = absurd (false≢true h)
-created_state state.Gone h = absurd (false≢true h)
+created_state _ h = absurd (false≢true h)
 
 -- ---- the invariant
 

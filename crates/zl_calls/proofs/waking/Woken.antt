@@ -9,10 +9,11 @@ use Rattle.std.proofs.lemmas.List.{length-set}
 use Rattle.std.specs.List.{filter}
 use Rattle.std.specs.Prelude.{slice_get, drop}
 use Rattle.zl_rights.proofs.Canonical.{same_map}
-use Rattle.zl_code.proofs.Common.{Process as ProcessValue, Body as BodyValue, Object as ObjectValue, State as StateValue, Ready, answered, meets, active}
+use Rattle.zl_code.proofs.Common.{Process as ProcessValue, Body as BodyValue, Object as ObjectValue, State as StateValue, Blocked, Ready, answered, meets}
+use Rattle.zl_code.proofs.Common.{active}
 use Rattle.zl_code.proofs.Common.{has_child_job, has_child_process, is_blocked, woken, made_ready}
 use Rattle.zl_rights.specs.Signals.{has_ended}
-use Rattle.zl_rights.specs.World.{Packet}
+use Rattle.zl_rights.specs.World.{Packet, PacketAt, SignalOf}
 use Rattle.zl_rights.specs.Wakes.{packet_values, woken_by, woken_from, woken_at_port}
 use Rattle.zl_code.specs.Waiting.{body_packed, packet_taken}
 use Rattle.zl_objects.specs.declared.object.Object.{Object as OwnObject}
@@ -22,11 +23,8 @@ use Rattle.zl_objects.specs.Ports.{at_port, changed_port, changing_port, packets
 use Rattle.zl_objects.specs.Signals.{signals_at}
 use Rattle.zl_objects.proofs.Law.{get_seen}
 use Rattle.zl_port.specs.Packets.{without_front}
-use Rattle.zl_calls.specs.declared.process.State.{State}
 use Rattle.zl_calls.specs.declared.process.State.TheVariants as state
 use Rattle.zl_calls.specs.declared.process.Process.{Process}
-use Rattle.zl_calls.specs.declared.process.SignalRegisters.{SignalRegisters}
-use Rattle.zl_calls.specs.declared.packets.PacketRegisters.{PacketRegisters}
 use Rattle.zl_calls.specs.Waking.{WakesOne, awake, destinations_of, given_awake, without_taken}
 use Rattle.zl_calls.proofs.calls.Answered.{IsWrite}
 use Rattle.zl_calls.proofs.waking.BlockedLists.{one_awake}
@@ -75,14 +73,9 @@ nil-cons : {x : Packet} {xs : List Packet} → [] ≡ x ∷ xs → ⊥
 nil-cons e = cc
 
 -- a state that wakes passes the same tests of life as before
-lives_on : (s : State) → is_blocked (state_value s) ≡ true
-    → (runs (state_value s) ≡ true) × (lives (state_value s) ≡ true) × (has_ended (state_value s) ≡ false)
-lives_on (state.AwaitsSignal koid mask to) h = (refl, refl, refl)
-lives_on (state.AwaitsPacket port to) h = (refl, refl, refl)
-lives_on state.Ready h = absurd (false≢true h)
-lives_on (state.Ended code) h = absurd (false≢true h)
-lives_on state.Created h = absurd (false≢true h)
-lives_on state.Gone h = absurd (false≢true h)
+lives_on : (s : StateValue) → is_blocked s ≡ true → (runs s ≡ true) × (lives s ≡ true) × (has_ended s ≡ false)
+lives_on (Blocked awaited ds) h = (refl, refl, refl)
+lives_on _ h = absurd (false≢true h)
 
 -- the process p stands at the place, under the pid
 module _ (ps : List Process) (r : Objects) (consistent : IsConsistent ps r) (pid place : ℕ) (p : Process)
@@ -146,7 +139,7 @@ module _ (ps : List Process) (r : Objects) (consistent : IsConsistent ps r) (pid
 
       agrees_on : (k : ℕ) (b : Body) → Agrees (world_value ps r) k b → Agrees (world_value after r2) k b
       agrees_on k b = alike_agrees (world_value ps r) (world_value after r2) k b
-          (tests_alike runs ((lives_on p.state was).0) k) (tests_alike lives ((lives_on p.state was).1) k) (tests_alike has_ended ((lives_on p.state was).2) k)
+          (tests_alike runs ((lives_on (state_value p.state) was).0) k) (tests_alike lives ((lives_on (state_value p.state) was).1) k) (tests_alike has_ended ((lives_on (state_value p.state) was).2) k)
 
       gets_awake : WakesOne pid true ps r after r2
       unfolding made_ready
@@ -164,25 +157,21 @@ module _ (ps : List Process) (r : Objects) (consistent : IsConsistent ps r) (pid
   -- ---- by what it waits for
 
   module _ (p2 : Process) (r2 : Objects) where
-    by_signal : (koid mask : ℕ) (to : SignalRegisters) → p.state ≡ state.AwaitsSignal koid mask to → (test : Bool)
+    by_signal : (koid mask : ℕ) (ds : List ℕ) → state_value p.state ≡ Blocked (SignalOf koid mask) ds → (test : Bool)
         → meets (signals_at r.objects koid) mask ≡ test
         → p2 ≡ awake (then_some test (signals_at r.objects koid ∷ [])) p → r2 ≡ r
         → WakesOne pid (is_some (then_some test (signals_at r.objects koid ∷ []))) ps r (set ps place p2) r2
-    by_signal koid mask to in_state true holds is objects =
-        let so : p2 ≡ record p { state = state.Ready; cpu = answered p.cpu (to.status ∷ to.observed ∷ []) (0 ∷ signals_at r.objects koid ∷ []) } =
-        is ∙ ap (λ (s : State). record p { state = state.Ready; cpu = answered p.cpu (destinations_of s) (0 ∷ signals_at r.objects koid ∷ []) }) in_state in
-        rw objects (gets_awake p2 r (ap (λ (q : Process). q.pid) so) (to.status ∷ to.observed ∷ []) (signals_at r.objects koid ∷ []) so
-        (ap (λ (s : State). is_blocked (state_value s)) in_state)
+    by_signal koid mask ds in_state true holds is objects =
+        let so : p2 ≡ record p { state = state.Ready; cpu = answered p.cpu ds (0 ∷ signals_at r.objects koid ∷ []) } =
+        is ∙ ap (λ (s : StateValue). record p { state = state.Ready; cpu = answered p.cpu (destinations_of s) (0 ∷ signals_at r.objects koid ∷ []) }) in_state in
+        rw objects (gets_awake p2 r (ap (λ (q : Process). q.pid) so) ds (signals_at r.objects koid ∷ []) so (ap is_blocked in_state)
         (recounted_next ps (set ps place p2) r consistent
         (λ k. same_counts ps (set ps place p2) p p2 (write p2 r (ap (λ (q : Process). q.pid) so)) r r k refl (ap (λ (q : Process). q.table) so)))
         (λ blocked. woken_is blocked ∙ rw (in_state, same_active blocked koid, holds) refl))
-    by_signal koid mask to in_state false holds is objects =
+    by_signal koid mask ds in_state false holds is objects =
         stays_asleep p2 r2 (ap (λ (q : Process). q.pid) is) is objects (λ blocked. woken_is blocked ∙ rw (in_state, same_active blocked koid, holds) refl)
 
-    module _ (port : ℕ) (to : PacketRegisters) (in_state : p.state ≡ state.AwaitsPacket port to) where
-      abbrev ds : List ℕ
-      ds = to.status ∷ to.key ∷ to.kind ∷ to.trigger ∷ to.observed ∷ []
-
+    module _ (port : ℕ) (ds : List ℕ) (in_state : state_value p.state ≡ Blocked (PacketAt port) ds) where
       seen_there : (blocked : List ℕ) (o : Option OwnObject) → get r.objects port ≡ o
           → woken (world_blocked ps r blocked) pid ≡ woken_at_port (world_blocked ps r blocked) pid (process_value p) port ds (option_map object_value o)
       seen_there blocked o at = woken_is blocked ∙ rw (in_state, get_seen r.objects port, at) refl
@@ -243,28 +232,23 @@ module _ (ps : List Process) (r : Objects) (consistent : IsConsistent ps r) (pid
       by_packet None at (x ∷ rest) first is objects = absurd (nil-cons first)
       by_packet (Some o) at (x ∷ rest) first is objects =
           let so : p2 ≡ record p { state = state.Ready; cpu = answered p.cpu ds (0 ∷ packet_values x) } =
-          is ∙ ap (λ (s : State). record p { state = state.Ready; cpu = answered p.cpu (destinations_of s) (0 ∷ packet_values x) }) in_state in
-          rw objects (gets_awake p2 (changing_port r port without_front) (ap (λ (q : Process). q.pid) so) ds (packet_values x) so
-          (ap (λ (s : State). is_blocked (state_value s)) in_state)
+          is ∙ ap (λ (s : StateValue). record p { state = state.Ready; cpu = answered p.cpu (destinations_of s) (0 ∷ packet_values x) }) in_state in
+          rw objects (gets_awake p2 (changing_port r port without_front) (ap (λ (q : Process). q.pid) so) ds (packet_values x) so (ap is_blocked in_state)
           (repacked_next without_front ps (set ps place p2) p p2 (write p2 r (ap (λ (q : Process). q.pid) so))
           (ap (λ (q : Process). q.table) so) r consistent port)
           (taken_at o x rest at first))
 
     -- whatever it is in
-    by_state : (s : State) → p.state ≡ s → p2 ≡ awake (given_awake s r) p → r2 ≡ without_taken s r
+    by_state : (s : StateValue) → state_value p.state ≡ s → p2 ≡ awake (given_awake s r) p → r2 ≡ without_taken s r
         → WakesOne pid (is_some (given_awake s r)) ps r (set ps place p2) r2
-    by_state state.Ready in_state is objects = stays_asleep p2 r2 (ap (λ (q : Process). q.pid) is) is objects (λ blocked. woken_is blocked ∙ rw in_state refl)
-    by_state (state.Ended code) in_state is objects =
-        stays_asleep p2 r2 (ap (λ (q : Process). q.pid) is) is objects (λ blocked. woken_is blocked ∙ rw in_state refl)
-    by_state state.Created in_state is objects = stays_asleep p2 r2 (ap (λ (q : Process). q.pid) is) is objects (λ blocked. woken_is blocked ∙ rw in_state refl)
-    by_state state.Gone in_state is objects = stays_asleep p2 r2 (ap (λ (q : Process). q.pid) is) is objects (λ blocked. woken_is blocked ∙ rw in_state refl)
-    by_state (state.AwaitsSignal koid mask to) in_state is objects = by_signal koid mask to in_state (meets (signals_at r.objects koid) mask) refl is objects
-    by_state (state.AwaitsPacket port to) in_state is objects =
-        by_packet port to in_state (get r.objects port) refl (packets_in (get r.objects port)) refl is objects
+    by_state (Blocked (SignalOf koid mask) ds) in_state is objects = by_signal koid mask ds in_state (meets (signals_at r.objects koid) mask) refl is objects
+    by_state (Blocked (PacketAt port) ds) in_state is objects =
+        by_packet port ds in_state (get r.objects port) refl (packets_in (get r.objects port)) refl is objects
+    by_state _ in_state is objects = stays_asleep p2 r2 (ap (λ (q : Process). q.pid) is) is objects (λ blocked. woken_is blocked ∙ rw in_state refl)
 
-    pub wakes_one : p2 ≡ awake (given_awake p.state r) p → r2 ≡ without_taken p.state r
-        → WakesOne pid (is_some (given_awake p.state r)) ps r (set ps place p2) r2
-    wakes_one = by_state p.state refl
+    pub wakes_one : p2 ≡ awake (given_awake (state_value p.state) r) p → r2 ≡ without_taken (state_value p.state) r
+        → WakesOne pid (is_some (given_awake (state_value p.state) r)) ps r (set ps place p2) r2
+    wakes_one = by_state (state_value p.state) refl
 
 -- where there is no such process, nothing wakes
 pub wakes_none : (ps : List Process) (r : Objects) (pid : ℕ) → IsConsistent ps r → get (map process_entry ps) pid ≡ None → WakesOne pid false ps r ps r

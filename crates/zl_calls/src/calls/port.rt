@@ -11,8 +11,7 @@ ghost use Rattle.zl_calls.specs.calls.Port.{PortCreateDoes, PortPollDoes, PortQu
 
 use crate::calls::handle::live_at;
 use crate::calls::{check_room, look_up, make_object};
-use crate::packets::PacketRegisters;
-use crate::process::{Process, State};
+use crate::process::{Awaited, Process, State};
 use crate::waits::{cancel_waits, is_keyed};
 use zl_code::{CallInstr, Outcome};
 use zl_objects::Objects;
@@ -85,20 +84,18 @@ pub fn port_wait(process: &mut Process, objects: &mut Objects, call: &CallInstr)
     ensures { Acted (site_of call.now process.old.cpu)
         process.old objects.old result process.new objects.new }
 {
-    let to = PacketRegisters::of(call);
-    let [_, port, ..] = call.registers;
+    let registers = call.registers;
+    let [_, port, ..] = registers;
     let value = process.cpu.register(port);
     let entry = match look_up(&process.table, value, &[Kind::Port], Rights::READ) {
         Ok(entry) => entry,
-        Err(refused) => return process.answer_packet(to, Err(refused)),
+        Err(refused) => return process.answer_packet(registers, Err(refused)),
     };
     match objects.pop(entry.koid) {
-        Some(packet) => process.answer_packet(to, Ok(packet)),
+        Some(packet) => process.answer_packet(registers, Ok(packet)),
         None => {
-            process.state = State::AwaitsPacket {
-                port: entry.koid,
-                to,
-            };
+            let awaited = Awaited::PacketAt(entry.koid);
+            process.state = State::Blocked { awaited, registers };
             Outcome::Blocked
         }
     }

@@ -9,7 +9,7 @@ ghost use Rattle.zl_calls.specs.calls.Wait.{polled_at, watched_at};
 
 use crate::calls::handle::live_at;
 use crate::calls::look_up;
-use crate::process::{Process, SignalRegisters, State};
+use crate::process::{Awaited, Process, State};
 use bitflags::Flags;
 use zl_code::{CallInstr, Outcome};
 use zl_objects::{Objects, Wait};
@@ -89,25 +89,25 @@ pub fn wait_one(process: &mut Process, objects: &Objects, call: &CallInstr) -> O
     ensures { Acted (site_of call.now process.old.cpu)
         process.old objects.now result process.new objects.now }
 {
-    let [status, handle, mask, observed, ..] = call.registers;
-    let to = SignalRegisters { status, observed };
+    let registers = call.registers;
+    let [_, handle, mask, ..] = registers;
     let value = process.cpu.register(handle);
     let mask = process.cpu.register(mask);
     let watched = match watch(&process.table, objects, value, mask) {
         Ok(watched) => watched,
         Err(refused) => {
             let answer = Err(PollFault::Refused(refused));
-            return process.answer_polled(to.status, to.observed, answer);
+            return process.answer_polled(registers, answer);
         }
     };
     if watched.active.intersects(watched.mask) {
-        return process.answer_polled(to.status, to.observed, Ok(watched.active));
+        return process.answer_polled(registers, Ok(watched.active));
     }
-    process.state = State::AwaitsSignal {
+    let awaited = Awaited::SignalOf {
         koid: watched.koid,
         mask,
-        to,
     };
+    process.state = State::Blocked { awaited, registers };
     Outcome::Blocked
 }
 

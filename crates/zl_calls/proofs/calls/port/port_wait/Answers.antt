@@ -2,6 +2,7 @@ use Rattle.zl_calls.proofs.Common.{◌≡◌, arith, refl, sym, ◌∙◌, site_
 use Rattle.std.proofs.lemmas.Grind.{common_steps}
 use Rattle.std.specs.Prelude.{slice_index}
 use Rattle.zl_code.specs.Local.{reg}
+use Rattle.zl_calls.specs.declared.process.Awaited.TheVariants as awaits
 use Rattle.zl_calls.specs.declared.process.State.TheVariants as state
 use Rattle.zl_calls.proofs.calls.Waited.{packet_comes, port_blocks, port_refuses}
 use Rattle.zl_calls.proofs.calls.port.port_wait.Goals as goal
@@ -12,7 +13,7 @@ returns-in-Err c =
     let port : c.register-value.result ≡ reg c.args.process.now.cpu (slice_index c.args.call.now.registers 1) = grind (arith, common_steps) in
     rw c.requires.name
     (port_refuses _ _ c.args.process.now c.args.objects.now c.in-Err.refused (rw port at (sym c.look_up.ensures ∙ c.in-Err.is)) _ _ c.answer_packet.ensures.ends
-    (rw c.of-to.ensures at c.answer_packet.ensures.process))
+    c.answer_packet.ensures.process)
 
 pub returns-in-Some : goal.returns-in-Some
 unfolding site_of
@@ -21,7 +22,7 @@ returns-in-Some c =
     rw c.requires.name
     (packet_comes _ _ c.args.process.now c.args.objects.now c.pop.new.self c.in-Ok.entry (rw port at (sym c.look_up.ensures ∙ c.in-Ok.is)) c.pop.ensures.rest
     c.in-Some.packet (sym c.pop.ensures.first ∙ c.in-Some.is) _ _ c.answer_packet-in-Some.ensures.ends
-    (rw c.of-to.ensures at c.answer_packet-in-Some.ensures.process))
+    c.answer_packet-in-Some.ensures.process)
 
 pub returns-in-None : goal.returns-in-None
 unfolding site_of
@@ -29,4 +30,4 @@ returns-in-None c =
     let port : c.register-value.result ≡ reg c.args.process.now.cpu (slice_index c.args.call.now.registers 1) = grind (arith, common_steps) in
     rw c.requires.name
     (port_blocks _ _ c.args.process.now c.args.objects.now c.pop.new.self c.in-Ok.entry (rw port at (sym c.look_up.ensures ∙ c.in-Ok.is)) c.pop.ensures.rest
-    (sym c.pop.ensures.first ∙ c.in-None.is) c.requires.counter (state.AwaitsPacket c.in-Ok.entry.koid c.of-to.result) (rw c.of-to.ensures refl))
+    (sym c.pop.ensures.first ∙ c.in-None.is) c.requires.counter (state.Blocked (awaits.PacketAt c.in-Ok.entry.koid) c.args.call.now.registers) refl)

@@ -3,7 +3,7 @@ import re
 from pathlib import Path
 
 TOP = Path(__file__).resolve().parent.parent
-HEAD = re.compile(r"^(?:(?:abbrev|unfoldable) (?:pub )?|pub (?:record |data )?)(?!use\b|mod\b)(\w+)", re.MULTILINE)
+HEAD = re.compile(r"^(?:(?:(?:pattern )?abbrev|unfoldable) (?:pub )?|pub (?:record |data )?)(?!use\b|mod\b)(\w+)", re.MULTILINE)
 TAKEN = re.compile(r"^(?:unfoldable )?(?:pub )?use Rattle\.([\w.]+)\.\{([^}]*)\}", re.MULTILINE)
 RENAMED = re.compile(r"^use Rattle\.([\w.]+?)(?:\.TheVariants)? as (\w+)", re.MULTILINE)
 

@@ -5,7 +5,7 @@ use Rattle.std.proofs.lemmas.List.{drop_all, take_all, length-drop}
 use Rattle.zl_code.specs.Instructions.{Field, field_of}
 use Rattle.zl_code.specs.declared.layout.Field.{Field as FieldInCode}
 use Rattle.zl_code.specs.Operands.{Operand}
-use Rattle.zl_code.specs.Refusals.{operands_by}
+use Rattle.zl_code.specs.Refusals.{operand_by}
 use Rattle.zl_abs.specs.declared.value.AbsVal.{AbsVal}
 use Rattle.zl_abs.specs.declared.cause.Cause.{Cause}
 use Rattle.zl_abs.specs.Rule.{and_then}
@@ -68,9 +68,9 @@ examined_from fs rs s i = examined_all s (operands_at (map field_of (drop i fs))
 
 module _ (fs : List FieldInCode) (rs : List ℕ) (i : ℕ) (all : Result State Cause) (s : State) (so_far : all ≡ examined_from fs rs s i) where
   module _ (r : ℕ) (d : FieldInCode) (t : State) (fault : Option Cause) (b : Bool) (h : i < length fs) (k : length fs ≤ length rs) (q : Stands rs i r)
-      (left : left_by t fault ≡ examined_all s (operands_by (field_of (get_or fs i d) ∷ []) (r ∷ []))) (is : b ≡ is_some fault) where
+      (left : left_by t fault ≡ examined_all s (operand_by (field_of (get_or fs i d)) r)) (is : b ≡ is_some fault) where
     here : operands_at (map field_of (drop i fs)) i rs
-        ≡ operands_by (field_of (get_or fs i d) ∷ []) (r ∷ []) ++ operands_at (map field_of (drop (i + 1) fs)) (i + 1) rs
+        ≡ operand_by (field_of (get_or fs i d)) r ++ operands_at (map field_of (drop (i + 1) fs)) (i + 1) rs
     here = rw (add-one, drop-cons fs i d h, register_at rs i r (omega (arith, h, k)) q) refl
 
     pub fields_stop : b ≡ true → left_by t fault ≡ all

@@ -8,7 +8,7 @@ use Rattle.zl_rights.specs.Numbers.{bits, rights_of}
 use Rattle.zl_rights.specs.declared.rights.Rights.{Rights}
 use Rattle.zl_code.specs.Instructions.{Field}
 use Rattle.zl_code.specs.Asked.{used}
-use Rattle.zl_code.specs.Refusals.{operands_by}
+use Rattle.zl_code.specs.Refusals.{operand_by}
 use Rattle.zl_code.specs.Spells.{register_in}
 use Rattle.zl_abs.specs.declared.value.AbsVal.{AbsVal}
 use Rattle.zl_abs.specs.declared.value.AbsVal.TheVariants.{Has, KindOf, RightsOf}
@@ -33,8 +33,8 @@ used_here (b ∷ bs) (suc i) r h = used_here bs i r h
 
 module _ (f : Field) (places : List ℕ) (i : ℕ) (all : Result State Cause) (s : State) (so_far : all ≡ listed f s (drop i places)) where
   module _ (r : ℕ) (t : State) (fault : Option Cause) (b : Bool) (here : Some r ≡ register_in (slice_get places i))
-      (left : left_by t fault ≡ examined_all s (operands_by (f ∷ []) (r ∷ []))) (is : b ≡ is_some fault) where
-    from_here : all ≡ examined_all s (operands_by (f ∷ []) (r ∷ []) ++ operands_listed (Some f) (used (drop (i + 1) places)))
+      (left : left_by t fault ≡ examined_all s (operand_by f r)) (is : b ≡ is_some fault) where
+    from_here : all ≡ examined_all s (operand_by f r ++ operands_listed (Some f) (used (drop (i + 1) places)))
     from_here = so_far ∙ rw (add-one) (ap (λ rs. examined_all s (operands_listed (Some f) rs)) (used_here places i r here))
 
     pub listed_stop : b ≡ true → left_by t fault ≡ all

@@ -16,7 +16,7 @@ use Rattle.zl_code.specs.Instructions.{Field, reads, Row, call_row}
 use Rattle.zl_code.specs.Spells.{number_at}
 use Rattle.zl_code.specs.Asked.{those, is_written, listed_in}
 use Rattle.zl_code.specs.Operands.{Operand}
-use Rattle.zl_code.specs.Refusals.{operands_by}
+use Rattle.zl_code.specs.Refusals.{operand_by}
 pub use Rattle.zl_code.specs.Refusals.{operands_listed}
 use Rattle.zl_abs.specs.declared.value.AbsVal.{AbsVal}
 use Rattle.zl_abs.specs.declared.value.AbsVal.TheVariants.{Word, Has, KindOf, RightsOf}
@@ -141,7 +141,7 @@ state_after i s u = and_then (examined_all s u.operands) (λ t. finished i s t u
 -- the handle operands among fields, where the first field is that of the n-th register
 abbrev pub operands_at : List Field → (n : ℕ) → List ℕ → List Operand
 operands_at [] n rs = []
-operands_at (f ∷ fs) n rs = operands_by (f ∷ []) (slice_index rs n ∷ []) ++ operands_at fs (suc n) rs
+operands_at (f ∷ fs) n rs = operand_by f (slice_index rs n) ++ operands_at fs (suc n) rs
 
 -- the call reads a word there
 abbrev pub is_word : Field → Bool

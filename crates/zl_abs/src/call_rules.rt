@@ -5,7 +5,7 @@ ghost use Rattle.std.specs.Option.{option_map};
 ghost use Rattle.zl_code.specs.Asked.{is_written, listed_in, those, used};
 ghost use Rattle.zl_code.specs.Instructions.{field_of};
 ghost use Rattle.zl_code.specs.Limits.{most_registers};
-ghost use Rattle.zl_code.specs.Refusals.{operands_by};
+ghost use Rattle.zl_code.specs.Refusals.{operand_by};
 ghost use Rattle.zl_code.specs.Spells.{call_reading, is_call_in_range, names_registers};
 ghost use Rattle.zl_abs.specs.Found.{bounds_in};
 ghost use Rattle.zl_abs.specs.CallRules.{call_rule, examined_all, finished, goes_on, is_word, operands_at, operands_listed, range_in, received_in, stops, uses};
@@ -28,7 +28,7 @@ use zl_code::{CallInstr, CallName, Columns, Ending, Field, HandleList, Image, Re
 #[tactic(auto, unfolding(crate::specs::CallRules::examined_all), using(crate::proofs::CallSteps::one_examined))]
 fn examine(after: &mut AbsState, field: Field, register: Register) -> Option<Cause>
     ensures { left_by after.new result
-        ≡ examined_all after.old (operands_by (field_of field ∷ []) (register ∷ [])) }
+        ≡ examined_all after.old (operand_by (field_of field) register) }
 {
     match field {
         Field::Names(kinds, rights) => Operand::used(register, kinds, rights).examine(after),

@@ -16,6 +16,8 @@ use Rattle.zl_code.specs.declared.history.CallName.TheVariants as name
 use Rattle.zl_code.specs.declared.history.Outcome.{Outcome}
 use Rattle.zl_code.specs.declared.history.Outcome.TheVariants as outcome
 use Rattle.zl_code.specs.Image.{Library}
+use Rattle.zl_code.specs.Instructions.{call_row}
+use Rattle.zl_code.specs.Asked.{Operands, Given, operand_fields}
 use Rattle.zl_code.specs.Tests.{answer_if, entry_at, object_at, body_of, may_change, has_room, has_koids, copy_of, is_too_large, has_place_for, peer_at, policy_in, queue_at, first_bytes, first_handles, sizes_of, entries_at}
 use Rattle.zl_code.specs.Operands.{contains}
 use Rattle.zl_code.specs.Effects.{on_object, on_process, with_object, with_process, new_entry, object_changed, message_sent, message_read, told_of, without_waits, signed_word}
@@ -25,96 +27,86 @@ use Rattle.zl_code.specs.Waiting.{is_mask, active_at, is_active_at, signal_await
 
 -- ---- what it asks for
 
--- a call with the values of its operands; h is the value of a handle
+-- a call by its name, with the values of its operands and what its last eight bytes give
 pub data Request : Type 0 where
-  close : (h : ℕ) → Request
-  dup : (h rights : ℕ) → Request
-  replace : (h rights : ℕ) → Request
-  chan_create : Request
-  -- the bytes are those in the memory, hs the handles of the list
-  chan_write : (c : ℕ) (bytes hs : List ℕ) → Request
-  -- the bytes go to the address, and there is room for so many bytes and handles
-  chan_read_etc : (c address room places : ℕ) → Request
-  event_create : Request
-  signal : (h clear set : ℕ) → Request
-  signal_peer : (h clear set : ℕ) → Request
-  wait_one : (h mask : ℕ) → Request
-  wait_poll : (h mask : ℕ) → Request
-  wait_async : (h port key mask : ℕ) → Request
-  port_create : Request
-  port_queue : (port key value : ℕ) → Request
-  port_wait : (port : ℕ) → Request
-  port_poll : (port : ℕ) → Request
-  -- the packets are those that came by the handle source
-  port_cancel : (port source key : ℕ) → Request
-  -- a process in the job that is to run the program with this number
-  process_create : (job program : ℕ) → Request
-  -- h goes to the process, and so does the word
-  process_start : (process h word : ℕ) → Request
-  process_exit : (code : ℕ) → Request
-  -- the task is a process or a job
-  task_kill : (task : ℕ) → Request
-  job_create : (j : ℕ) → Request
-  -- mode, condition and action by their numbers
-  job_set_policy : (j mode condition action : ℕ) → Request
+  ask : (n : CallName) → Operands (operand_fields (call_row n)) → Given (call_row n).ending → Request
 
--- the request of a call, from the values of its operands, the number in the instruction, and the bytes and the handles that a message is to have
-abbrev pub request_of : CallName → List ℕ → ℕ → (bytes hs : List ℕ) → Option Request
-request_of name.Close (h ∷ []) number bytes hs = Some (close h)
-request_of name.Dup (h ∷ []) number bytes hs = Some (dup h number)
-request_of name.Replace (h ∷ []) number bytes hs = Some (replace h number)
-request_of name.ChanCreate [] number bytes hs = Some chan_create
-request_of name.ChanWrite (c ∷ address ∷ size ∷ []) number bytes hs = Some (chan_write c bytes hs)
-request_of name.ChanReadEtc (c ∷ address ∷ room ∷ []) number bytes hs = Some (chan_read_etc c address room number)
-request_of name.EventCreate [] number bytes hs = Some event_create
-request_of name.Signal (h ∷ clear ∷ set ∷ []) number bytes hs = Some (signal h clear set)
-request_of name.SignalPeer (h ∷ clear ∷ set ∷ []) number bytes hs = Some (signal_peer h clear set)
-request_of name.WaitOne (h ∷ mask ∷ []) number bytes hs = Some (wait_one h mask)
-request_of name.WaitPoll (h ∷ mask ∷ []) number bytes hs = Some (wait_poll h mask)
-request_of name.WaitAsync (h ∷ port ∷ key ∷ mask ∷ []) number bytes hs = Some (wait_async h port key mask)
-request_of name.PortCreate [] number bytes hs = Some port_create
-request_of name.PortQueue (port ∷ key ∷ value ∷ []) number bytes hs = Some (port_queue port key value)
-request_of name.PortWait (port ∷ []) number bytes hs = Some (port_wait port)
-request_of name.PortPoll (port ∷ []) number bytes hs = Some (port_poll port)
-request_of name.PortCancel (port ∷ source ∷ key ∷ []) number bytes hs = Some (port_cancel port source key)
-request_of name.ProcessCreate (job ∷ program ∷ []) number bytes hs = Some (process_create job program)
-request_of name.ProcessStart (process ∷ h ∷ word ∷ []) number bytes hs = Some (process_start process h word)
-request_of name.ProcessExit (code ∷ []) number bytes hs = Some (process_exit code)
-request_of name.TaskKill (task ∷ []) number bytes hs = Some (task_kill task)
-request_of name.JobCreate (j ∷ []) number bytes hs = Some (job_create j)
-request_of name.JobSetPolicy (j ∷ mode ∷ condition ∷ action ∷ []) number bytes hs = Some (job_set_policy j mode condition action)
-request_of _ operands number bytes hs = None
+-- its name
+abbrev pub name_of : Request → CallName
+name_of (ask n operands given) = n
 
--- the name of a request, and the values of its handle operands from left to right, without those of a list
-abbrev pub asks : Request → CallName × List ℕ
-asks (close h) = (name.Close, h ∷ [])
-asks (dup h rights) = (name.Dup, h ∷ [])
-asks (replace h rights) = (name.Replace, h ∷ [])
-asks chan_create = (name.ChanCreate, [])
-asks (chan_write c bytes hs) = (name.ChanWrite, c ∷ [])
-asks (chan_read_etc c address room places) = (name.ChanReadEtc, c ∷ [])
-asks event_create = (name.EventCreate, [])
-asks (signal h clear set) = (name.Signal, h ∷ [])
-asks (signal_peer h clear set) = (name.SignalPeer, h ∷ [])
-asks (wait_one h mask) = (name.WaitOne, h ∷ [])
-asks (wait_poll h mask) = (name.WaitPoll, h ∷ [])
-asks (wait_async h port key mask) = (name.WaitAsync, h ∷ port ∷ [])
-asks port_create = (name.PortCreate, [])
-asks (port_queue port key value) = (name.PortQueue, port ∷ [])
-asks (port_wait port) = (name.PortWait, port ∷ [])
-asks (port_poll port) = (name.PortPoll, port ∷ [])
-asks (port_cancel port source key) = (name.PortCancel, port ∷ source ∷ [])
-asks (process_create job program) = (name.ProcessCreate, job ∷ [])
-asks (process_start process h word) = (name.ProcessStart, process ∷ h ∷ [])
-asks (process_exit code) = (name.ProcessExit, [])
-asks (task_kill task) = (name.TaskKill, task ∷ [])
-asks (job_create j) = (name.JobCreate, j ∷ [])
-asks (job_set_policy j mode condition action) = (name.JobSetPolicy, j ∷ [])
+-- Each call by the values of its operands; h is the value of a handle. A message has bytes of the memory and the handles hs of a list;
+-- what is read goes to the address, and has room for so many bytes and handles. A packet that is cancelled came by the handle source.
+-- A new process is to run the program with this number in the job; it starts with h and the word. A task is a process or a job.
+-- Modes, conditions and actions are numbers.
+pattern abbrev pub close : (h : ℕ) → Request
+close h = ask name.Close (h, tt) tt
 
--- the values of the handles in its list, where it has one
-abbrev pub lists : Request → List ℕ
-lists (chan_write c bytes hs) = hs
-lists request = []
+pattern abbrev pub dup : (h rights : ℕ) → Request
+dup h rights = ask name.Dup (h, tt) rights
+
+pattern abbrev pub replace : (h rights : ℕ) → Request
+replace h rights = ask name.Replace (h, tt) rights
+
+pattern abbrev pub chan_create : Request
+chan_create = ask name.ChanCreate tt tt
+
+pattern abbrev pub chan_write : (c : ℕ) (bytes hs : List ℕ) → Request
+chan_write c bytes hs = ask name.ChanWrite (c, tt) (bytes, hs)
+
+pattern abbrev pub chan_read_etc : (c address room places : ℕ) → Request
+chan_read_etc c address room places = ask name.ChanReadEtc (c, (address, (room, tt))) places
+
+pattern abbrev pub event_create : Request
+event_create = ask name.EventCreate tt tt
+
+pattern abbrev pub signal : (h clear set : ℕ) → Request
+signal h clear set = ask name.Signal (h, (clear, (set, tt))) tt
+
+pattern abbrev pub signal_peer : (h clear set : ℕ) → Request
+signal_peer h clear set = ask name.SignalPeer (h, (clear, (set, tt))) tt
+
+pattern abbrev pub wait_one : (h mask : ℕ) → Request
+wait_one h mask = ask name.WaitOne (h, (mask, tt)) tt
+
+pattern abbrev pub wait_poll : (h mask : ℕ) → Request
+wait_poll h mask = ask name.WaitPoll (h, (mask, tt)) tt
+
+pattern abbrev pub wait_async : (h port key mask : ℕ) → Request
+wait_async h port key mask = ask name.WaitAsync (h, (port, (key, (mask, tt)))) tt
+
+pattern abbrev pub port_create : Request
+port_create = ask name.PortCreate tt tt
+
+pattern abbrev pub port_queue : (port key value : ℕ) → Request
+port_queue port key value = ask name.PortQueue (port, (key, (value, tt))) tt
+
+pattern abbrev pub port_wait : (port : ℕ) → Request
+port_wait port = ask name.PortWait (port, tt) tt
+
+pattern abbrev pub port_poll : (port : ℕ) → Request
+port_poll port = ask name.PortPoll (port, tt) tt
+
+pattern abbrev pub port_cancel : (port source key : ℕ) → Request
+port_cancel port source key = ask name.PortCancel (port, (source, (key, tt))) tt
+
+pattern abbrev pub process_create : (job program : ℕ) → Request
+process_create job program = ask name.ProcessCreate (job, (program, tt)) tt
+
+pattern abbrev pub process_start : (process h word : ℕ) → Request
+process_start process h word = ask name.ProcessStart (process, (h, (word, tt))) tt
+
+pattern abbrev pub process_exit : (code : ℕ) → Request
+process_exit code = ask name.ProcessExit (code, tt) tt
+
+pattern abbrev pub task_kill : (task : ℕ) → Request
+task_kill task = ask name.TaskKill (task, tt) tt
+
+pattern abbrev pub job_create : (j : ℕ) → Request
+job_create j = ask name.JobCreate (j, tt) tt
+
+pattern abbrev pub job_set_policy : (j mode condition action : ℕ) → Request
+job_set_policy j mode condition action = ask name.JobSetPolicy (j, (mode, (condition, (action, tt)))) tt
 
 -- ---- how it is refused
 

@@ -16,7 +16,7 @@ use Rattle.zl_rights.specs.declared.status.Status.TheVariants as status
 use Rattle.zl_code.specs.declared.history.Outcome.{Outcome}
 use Rattle.zl_code.specs.declared.history.Outcome.TheVariants as outcome
 use Rattle.zl_code.specs.declared.history.TraceItem.{TraceItem}
-use Rattle.zl_code.specs.CallTable.{asks, entering_at, process_create, process_start, receiver_of, stored_by, task_kill}
+use Rattle.zl_code.specs.CallTable.{entering_at, name_of, process_create, process_start, receiver_of, stored_by, task_kill}
 use Rattle.zl_code.specs.Effects.{storing}
 use Rattle.zl_code.specs.Starting.{created_process}
 use Rattle.zl_code.proofs.Changes.{times}
@@ -206,7 +206,7 @@ module _ (lib : Library) (w : World) (p : ℕ) (free : get w.processes w.next_ko
 -- ---- which call it is
 
 -- a request whose name neither starts nor kills
-spares_so : (r : Request) → may_start_or_kill (asks r).0 ≡ false → spares r ≡ true
+spares_so : (r : Request) → may_start_or_kill (name_of r) ≡ false → spares r ≡ true
 spares_so (process_start process h word) spared = absurd (false≢true (sym spared))
 spares_so (task_kill task) spared = absurd (false≢true (sym spared))
 spares_so _ spared = refl

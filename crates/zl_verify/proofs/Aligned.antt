@@ -18,7 +18,7 @@ use Rattle.zl_code.specs.Spells.{number_at, names_registers, call_reading, is_ca
 use Rattle.zl_code.specs.Asked.{used, those, is_written, listed_in, triples_from}
 use Rattle.zl_code.specs.Request.{Site, site_of}
 use Rattle.zl_code.specs.Operands.{Operand, any}
-use Rattle.zl_code.specs.Refusals.{needs, taking, operands_by, handle_operands, condition_of}
+use Rattle.zl_code.specs.Refusals.{needs, taking, operand_by, handle_operands, condition_of}
 use Rattle.zl_code.proofs.ImageCalls.{whole}
 use Rattle.zl_abs.specs.declared.value.AbsVal.{AbsVal}
 use Rattle.zl_abs.specs.declared.value.AbsVal.TheVariants.{Word}
@@ -58,7 +58,7 @@ received_are : (n r : ℕ) → r + 3 * n ≤ register_count → AreInside (tripl
 received_are zero r h = tt
 received_are (suc n) r h = (omega arith, (omega arith, (omega arith, received_are n (r + 3) (omega arith))))
 
-one_operand : (f : Field) (r : ℕ) (os : List Operand) → r < register_count → AreOperands os → AreOperands (operands_by (f ∷ []) (r ∷ []) ++ os)
+one_operand : (f : Field) (r : ℕ) (os : List Operand) → r < register_count → AreOperands os → AreOperands (operand_by f r ++ os)
 one_operand (names kinds rights) r os h more = (h, more)
 one_operand (consumes kinds rights) r os h more = (h, more)
 one_operand closes r os h more = (h, more)

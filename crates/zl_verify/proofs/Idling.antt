@@ -25,7 +25,7 @@ use Rattle.zl_code.specs.Effects.{on_process, on_object, with_object, insert_all
 use Rattle.zl_code.specs.Starting.{is_created, created_process, started_with}
 use Rattle.zl_code.specs.Jobs.{is_within, process_killed, with_killed}
 use Rattle.zl_code.specs.Refusals.{refusal}
-use Rattle.zl_code.specs.CallTable.{Request, process_start, process_create, task_kill, asks, effect, new_handles, receiver_of, entering_at, stored_by, gives_ok}
+use Rattle.zl_code.specs.CallTable.{Request, process_start, process_create, task_kill, name_of, effect, new_handles, receiver_of, entering_at, stored_by, gives_ok}
 use Rattle.zl_code.specs.CallTable.{gives_refused, awaited_by}
 use Rattle.zl_code.specs.Request.{Site}
 use Rattle.zl_code.specs.Calls.{Choice, Refused, WantsMemory, Values, CallBy, taken_handles, taken, replied, with_effect, after_refusal, after_ok, ok_outcome}
@@ -259,7 +259,7 @@ module _ (lib : Library) (w : World) (p : ℕ) (x : TraceItem) (w2 : World) (ste
             × (is_process w is_created q ≡ true) × (o ≡ outcome.Answered status.Ok)) → IsKept
         by (inl i) = inl i
         by (inr (process, k, word, asked, child, created, is)) = inr (starting called t (ap (λ y. next_in y step.process.cpu) at ∙ next)
-            (sym there.named ∙ (sym (asks_again there.call step.process.cpu t there.site) ∙ ap (λ r. (asks r).0) asked)) process k word asked child
+            (sym there.named ∙ (sym (asks_again there.call step.process.cpu t there.site) ∙ ap name_of asked)) process k word asked child
             created o told is)
 
     kept : IsKept

@@ -24,7 +24,7 @@ use Rattle.zl_code.specs.Effects.{signed_word, on_process, waiting}
 use Rattle.zl_code.specs.Tests.{object_at}
 use Rattle.zl_code.specs.Operands.{creates, by_policy, examined}
 use Rattle.zl_code.specs.Waiting.{is_active_at, packet_awaited, packets_at}
-use Rattle.zl_code.specs.CallTable.{Request, asks, process_exit, task_kill, listed, entering_at, stored_by, gives_ok, gives_refused, awaited_by, ends_caller}
+use Rattle.zl_code.specs.CallTable.{Request, name_of, process_exit, task_kill, listed, entering_at, stored_by, gives_ok, gives_refused, awaited_by, ends_caller}
 use Rattle.zl_code.specs.CallTable.{outcome_of}
 use Rattle.zl_code.specs.Jobs.{is_within}
 use Rattle.zl_code.specs.Refusals.{condition_of, handle_operands, refusal}
@@ -61,13 +61,13 @@ use Rattle.zl_verify.proofs.Storing.{storing_same, still_whole}
 -- ---- how a call can end
 
 -- behind an answer the call goes on, or it is process_exit
-answers_or_exits : (r : Request) → (goes_on (asks r).0 ≡ true) ⊎ ((code : ℕ) × (r ≡ process_exit code))
+answers_or_exits : (r : Request) → (goes_on (name_of r) ≡ true) ⊎ ((code : ℕ) × (r ≡ process_exit code))
 answers_or_exits (process_exit code) = inr (code, refl)
 answers_or_exits _ = inl refl
 
 -- a call that ends its caller is process_exit, or task_kill
 ends_so : (r : Request) (consumed destinations : List ℕ) (w : World) (p : ℕ) (code : ℤ) → ends_caller w p r ≡ Some code
-    → IsOwnEnd w p (asks r).0 (site r consumed destinations) code
+    → IsOwnEnd w p (name_of r) (site r consumed destinations) code
 ends_so (process_exit number) cs ds w p code is = exits number refl refl (sym (same_Some (signed_word number) code is))
 ends_so (task_kill task) cs ds w p code is = by (is_within w.objects (object_at w p task) p) refl is
   where
@@ -135,7 +135,7 @@ module _ (i : Image) (t : ℕ → Option State) (w : World) (p : ℕ) (q : Proce
   uses = uses_of (bounds_of i.code) k.conforms.state ruled.at.call
 
   -- the request has the name of the call
-  asked : (asks s.request).0 ≡ called
+  asked : name_of s.request ≡ called
   asked = asks_again ruled.at.call q.cpu s ruled.at.site ∙ ruled.at.named
 
   over : IsOver (left ruled.before) ruled.left (zeroed ruled.before)
@@ -307,7 +307,7 @@ module _ (i : Image) (t : ℕ → Option State) (w : World) (p : ℕ) (q : Proce
   promised_exiting number same answer w2 h =
       let calls : Calls lib w p (site (process_exit number) s.consumed s.destinations) answer w2 =
       subst (λ r. Calls lib w p (site r s.consumed s.destinations) answer w2) same h in
-      rw (only_exits lib w p number s.consumed s.destinations answer w2 calls) (exits number (sym asked ∙ ap (λ r. (asks r).0) same) same refl)
+      rw (only_exits lib w p number s.consumed s.destinations answer w2 calls) (exits number (sym asked ∙ ap name_of same) same refl)
 
 -- however the call ends, it ends as is promised
 pub promised : (i : Image) (t : ℕ → Option State) (w : World) (p : ℕ) (q : Process) (called : CallName) (s : Site) → StandsAtCall i t w p q called s
@@ -318,7 +318,7 @@ promised i t w p q called s k lib answer w2 h = by (is_ruled i t w p q called s 
     by : IsRuled i t w p q called s k.conforms.state → Promised i t w p q called s answer w2
     by ruled = either (answers_or_exits s.request)
       where
-        either : (goes_on (asks s.request).0 ≡ true) ⊎ ((number : ℕ) × (s.request ≡ process_exit number)) → Promised i t w p q called s answer w2
+        either : (goes_on (name_of s.request) ≡ true) ⊎ ((number : ℕ) × (s.request ≡ process_exit number)) → Promised i t w p q called s answer w2
         either (inl x) =
             promised_answering i t w p q called s k ruled lib (subst (λ n. goes_on n ≡ true) (asks_again ruled.at.call q.cpu s ruled.at.site) x) answer w2 h
         either (inr (number, same)) = promised_exiting i t w p q called s k ruled lib number same answer w2 h

@@ -30,7 +30,7 @@ use Rattle.zl_code.specs.declared.history.Outcome.{Outcome}
 use Rattle.zl_code.specs.declared.history.Outcome.TheVariants as outcome
 use Rattle.zl_code.specs.Effects.{body_with_message, message_sent}
 use Rattle.zl_code.specs.Instructions.{consumes}
-use Rattle.zl_code.specs.Refusals.{operands_by}
+use Rattle.zl_code.specs.Refusals.{operand_by}
 use Rattle.zl_code.specs.Tests.{entries_at, is_too_large, peer_at as peer_named, peer_in as peer_seen}
 use Rattle.zl_code.specs.Operands.{Operand, contains}
 use Rattle.zl_objects.specs.declared.object.Body.{Body}
@@ -78,7 +78,7 @@ if_answered false s = refl
 
 -- the handles of a list, as the definitions examine them
 abbrev list_of : List ℕ → List Operand
-list_of hs = flat_map (λ h. operands_by (consumes any TRANSFER ∷ []) (h ∷ [])) hs
+list_of hs = flat_map (operand_by (consumes any TRANSFER)) hs
 
 module _ (w : World) (p : ℕ) where
   pub looked : (found : Result Entry Status) → by_look_up w p found ≡ answers (fault_of found)

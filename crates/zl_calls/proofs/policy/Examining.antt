@@ -8,7 +8,9 @@ use Rattle.std.proofs.Math.Bool.{or_comm}
 use Rattle.std.proofs.lemmas.List.Recursion.{or_push}
 use Rattle.zl_code.specs.Asked.{used}
 use Rattle.zl_code.specs.Local.{reg}
-use Rattle.zl_code.specs.Refusals.{condition_of, operands_by}
+use Rattle.zl_code.specs.Refusals.{condition_of, operand_by}
+use Rattle.zl_code.specs.Request.{site_at}
+use Rattle.zl_code.proofs.CallRows.{site_named}
 use Rattle.zl_code.specs.declared.instr.CallInstr.{CallInstr}
 use Rattle.zl_code.specs.declared.history.CallName.{CallName}
 use Rattle.zl_code.specs.declared.history.CallName.TheVariants as name
@@ -42,7 +44,7 @@ same_fault (Err s) = refl
 module _ (entries : Map Entry) where
   -- each handle of a list, where the values that were seen are those before it
   list_fault : (seen before hs : List ℕ) → ((v : ℕ) → contains seen v ≡ contains before v)
-      → list_refusal entries before hs ≡ operands_fault entries seen (flat_map (λ h. operands_by (consumes [] TRANSFER ∷ []) (h ∷ [])) hs)
+      → list_refusal entries before hs ≡ operands_fault entries seen (flat_map (operand_by (consumes [] TRANSFER)) hs)
   unfolding operands_fault
   list_fault seen before [] same = refl
   list_fault seen before (h ∷ hs) same =
@@ -73,19 +75,17 @@ module _ (entries : Map Entry) where
   -- what is true of those by the row of the call is true of those of its site
   by_name : (n : CallName) (rs last : List ℕ) (c : Cpu) (P : Option Condition → Option Status → Type 0)
       → (let i : CallInstr = record { name = n; registers = rs; last = last } in
-      P (call_row n).condition (row_fault (call_row n) i c) → IfSome (site_of i c) (AtSite P))
-  unfolding site_of handle_operands operands_fault
-  by_name name.Close rs last c P holds = holds
+      P (call_row n).condition (row_fault (call_row n) i c) → AtSite P (site_at n i c))
+  unfolding handle_operands operands_fault
   by_name name.ChanWrite rs last c P holds =
-      if_there _ _ (AtSite P)
-      (subst (λ f. P None (option_or (result_err (looked_up entries (reg c (slice_index rs 1)) (kind.Channel ∷ []) WRITE)) f))
-      (list_fault [] [] (map (reg c) (used last)) (λ v. refl)) holds)
-  by_name name.ChanReadEtc rs last c P holds = if_there _ _ (AtSite P) holds
+      subst (λ f. P None (option_or (result_err (looked_up entries (reg c (slice_index rs 1)) (kind.Channel ∷ []) WRITE)) f))
+      (list_fault [] [] (map (reg c) (used last)) (λ v. refl)) holds
   by_name _ rs last c P holds = holds
 
   at_row : (i : CallInstr) (c : Cpu) (P : Option Condition → Option Status → Type 0) → P (call_row i.name).condition (row_fault (call_row i.name) i c)
       → IfSome (site_of i c) (AtSite P)
-  at_row i = by_name i.name i.registers i.last
+  at_row i c P holds =
+      subst (λ s. IfSome s (AtSite P)) (sym (site_named i c)) (if_there _ (site_at i.name i c) (AtSite P) (by_name i.name i.registers i.last c P holds))
 
   -- what the policy of the process's job says by the row of a call, it says of its site
   pub judged : (objects : Map Object) (pid job : ℕ) (i : CallInstr) (c : Cpu) (r : Row) (says : Option Verdict) (f : Option Status)

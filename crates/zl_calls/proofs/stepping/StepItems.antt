@@ -13,7 +13,7 @@ use Rattle.zl_code.specs.declared.history.TraceItem.TheVariants as item
 use Rattle.zl_code.specs.declared.instr.Instr.{Instr}
 use Rattle.zl_code.specs.declared.instr.Instr.TheVariants as instr
 use Rattle.zl_code.specs.declared.instr.CallInstr.{CallInstr}
-use Rattle.zl_code.specs.CallTable.{asks}
+use Rattle.zl_code.specs.CallTable.{name_of}
 use Rattle.zl_code.specs.Image.{instr_at}
 use Rattle.zl_code.specs.Local.{local_effect}
 use Rattle.zl_code.specs.Steps.{moves, next_of, next_in}
@@ -60,21 +60,21 @@ module _ (lib : Library) (w w2 : WorldValue) (pid at : ℕ) where
 -- ---- the call that stands next has the name of its request
 
 module _ (c : Cpu) (name : CallName) (s : Site) where
-  by_site : (i : CallInstr) (found : Option Site) → site_of i c ≡ found → calls_at i.name found ≡ AtCall name s → (asks s.request).0 ≡ name
+  by_site : (i : CallInstr) (found : Option Site) → site_of i c ≡ found → calls_at i.name found ≡ AtCall name s → name_of s.request ≡ name
   by_site i None is e = cc
-  by_site i (Some t) is e = let again : (asks t.request).0 ≡ i.name = asks_again i c t is in cc
+  by_site i (Some t) is e = let again : name_of t.request ≡ i.name = asks_again i c t is in cc
 
-  by_effect : (o : Option Cpu) → moves o ≡ AtCall name s → (asks s.request).0 ≡ name
+  by_effect : (o : Option Cpu) → moves o ≡ AtCall name s → name_of s.request ≡ name
   by_effect None e = cc
   by_effect (Some to) e = cc
 
-  by_instr : (o : Option Instr) → next_of o c ≡ AtCall name s → (asks s.request).0 ≡ name
+  by_instr : (o : Option Instr) → next_of o c ≡ AtCall name s → name_of s.request ≡ name
   by_instr None e = cc
   by_instr (Some (instr.Local i)) e = by_effect (local_effect i c) e
   by_instr (Some (instr.Call i)) e = by_site i (site_of i c) refl e
   by_instr (Some (instr.Unknown bytes)) e = cc
 
-  pub asked_next : (o : Option Program) → next_in o c ≡ AtCall name s → (asks s.request).0 ≡ name
+  pub asked_next : (o : Option Program) → next_in o c ≡ AtCall name s → name_of s.request ≡ name
   unfolding next_at
   asked_next None e = cc
   asked_next (Some g) e = by_instr (instr_at g.image c.counter) e

@@ -12,9 +12,9 @@ pub use Rattle.zl_code.proofs.Common.{origin, position, process_exit, process_se
 pub use Rattle.zl_code.proofs.Common.{rules, runs, same_Some, set, signal, site, slice_get, slice_get-get_or, slice_set, state_passes, subst, suc, sum_by}
 pub use Rattle.zl_code.proofs.Common.{sum_by-cons, sym, table_of, take, take_all, take_more, taken, then_some, true, with_effect, with_rights, within, zero, ℕ}
 pub use Rattle.zl_code.proofs.Common.{ℤ, ⊤, ◌&&◌, ◌*◌, ◌++◌, ◌+◌, ◌-◌, ◌<◌, ◌==◌, ◌^◌, ◌||◌, ◌∙◌, ◌∷◌, ◌≡◌, ◌≢◌, ◌≤◌, ◌⊎◌}
-unfoldable pub use Rattle.zl_code.proofs.Common.{boot_effect, boot_fault, each, effect, ended, examined, fired, get, gives_ok, gives_refused, handle_operands}
+unfoldable pub use Rattle.zl_code.proofs.Common.{boot_effect, boot_fault, each, effect, ended, fired, get, gives_ok, gives_refused, handle_operands}
 unfoldable pub use Rattle.zl_code.proofs.Common.{handles_to, has_koids, has_room, in_queue, in_table, insert_all, is_held, is_process, listed, local_effect}
-unfoldable pub use Rattle.zl_code.proofs.Common.{may_choose, new_handles, on_process, operand, put, remove_all, replied, site_of, taken_handles, update, wakes}
+unfoldable pub use Rattle.zl_code.proofs.Common.{may_choose, new_handles, on_process, put, remove_all, replied, site_of, taken_handles, update, wakes}
 unfoldable pub use Rattle.zl_code.proofs.Common.{where_key, with_object, without, without_others}
 pub use Rattle.std.specs.List.{list_all, position_or_len}
 pub use Rattle.zl_calls.specs.Consistent.{AreNamed, IsConsistent, IsNamed}
@@ -36,7 +36,7 @@ pub use Rattle.zl_code.specs.Effects.{may_get_all, new_entry, object_changed, si
 unfoldable pub use Rattle.zl_code.specs.Effects.{on_object}
 pub use Rattle.zl_code.specs.Tests.{koid_in, may_change, parent_of, policy_in, settable_of}
 pub use Rattle.zl_rights.specs.Counts.{queued_to}
-unfoldable pub use Rattle.zl_code.specs.Operands.{creates}
+unfoldable pub use Rattle.zl_calls.specs.Policed.{operands_fault}
 pub use Rattle.zl_rights.proofs.MapLaws.{get-put, get-update}
 pub use Rattle.zl_table.proofs.MapEdits.{get-without, has_key-update, is_sorted-update, length-put_new, length-without, put_key, sorted_parts, sorted_put}
 pub use Rattle.zl_table.proofs.MapEdits.{sorted_without, update_missing, without_lower}
@@ -44,7 +44,7 @@ pub use Rattle.zl_table.specs.Table.{Drains, Handles, Inserts, IsTable}
 pub use Rattle.std.proofs.lemmas.List.{length-append, length-take-le}
 pub use Rattle.std.proofs.lemmas.Nat.{and_le_l, and_le_r}
 pub use Rattle.zl_calls.specs.Acted.{Acted, Acts, action_of}
-pub use Rattle.zl_calls.proofs.policy.Plain.{Calls, by_look_up, faults, operand_of}
+pub use Rattle.zl_calls.proofs.policy.Plain.{Calls}
 unfoldable pub use Rattle.zl_calls.proofs.policy.Plain.{refusal}
 pub use Rattle.zl_interp.specs.Common.{StandsNext, call_in, handle_register, program_value, register_set, started_cpu}
 pub use Rattle.zl_calls.specs.Steps.{Performs, StepsTo, TakesStep, takes_memory}

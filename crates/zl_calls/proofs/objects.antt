@@ -5,6 +5,7 @@ pub mod SameBodies
 pub mod Rebodied
 pub mod Queued
 pub mod Packed
+pub mod Held
 pub mod Grown
 pub mod Counting
 pub mod Counted

@@ -28,11 +28,8 @@ pub of_body : {X : Type 0} (f : Body → X)
 of_body f port b c same = sym (bare_body b) ∙ (ap f same ∙ bare_body c)
   where
     bare_body : (b : Body) → f (unreserved b) ≡ f b
-    bare_body (body.Job own) = refl
-    bare_body (body.Process job lives) = refl
-    bare_body body.Event = refl
-    bare_body (body.ChannelEnd peer queue) = refl
     bare_body (body.Port p) = port p.packets p.reserved
+    bare_body _ = refl
 
 -- a process runs as much
 pub agrees_same : (w : World) (k : ℕ) (b c : Body) → unreserved b ≡ unreserved c → Agrees w k c → Agrees w k b
@@ -40,17 +37,11 @@ agrees_same w k b c same agrees = back b (subst (Agrees w k) (sym same) (there c
   where
     there : (b : Body) → Agrees w k b → Agrees w k (unreserved b)
     there (body.Job own) h = h
-    there (body.Process job lives) h = h
-    there body.Event h = h
-    there (body.ChannelEnd peer queue) h = h
-    there (body.Port p) h = h
+    there _ h = h
 
     back : (b : Body) → Agrees w k (unreserved b) → Agrees w k b
     back (body.Job own) h = h
-    back (body.Process job lives) h = h
-    back body.Event h = h
-    back (body.ChannelEnd peer queue) h = h
-    back (body.Port p) h = h
+    back _ h = h
 
 -- ---- what the objects without waits and reserved places give as well
 
@@ -61,10 +52,7 @@ seen_bare (e ∷ m) = λ i. (e.0, record { body = by_body e.1.body i; raised = e
   where
     by_body : (b : Body) → body_value (unreserved b) ≡ body_value b
     by_body (body.Job own) = refl
-    by_body (body.Process job lives) = refl
-    by_body body.Event = refl
-    by_body (body.ChannelEnd peer queue) = refl
-    by_body (body.Port p) = refl
+    by_body _ = refl
 
 below_bare : (k : ℕ) (m : Map Object) → below_all nat_cmp k (all_bare m) ≡ below_all nat_cmp k m
 unfolding each
@@ -93,10 +81,7 @@ child_bare m k = list_any-each (λ e. is_child k e.1.body) (λ j. bare) (λ j o.
   where
     by_body : (b : Body) → is_child k (unreserved b) ≡ is_child k b
     by_body (body.Job own) = refl
-    by_body (body.Process job lives) = refl
-    by_body body.Event = refl
-    by_body (body.ChannelEnd peer queue) = refl
-    by_body (body.Port p) = refl
+    by_body _ = refl
 
 has_bare : (m : Map Object) (k : ℕ) → has_key (all_bare m) k ≡ has_key m k
 has_bare m k = ap (λ (o : Option Object). is_some o) (get-each m (λ j. bare) k) ∙ by_object (get m k)
@@ -110,10 +95,7 @@ job_bare m k = ap is_job_in (get-each m (λ j. bare) k) ∙ by_object (get m k)
   where
     by_body : (b : Body) → is_job_body (unreserved b) ≡ is_job_body b
     by_body (body.Job own) = refl
-    by_body (body.Process job lives) = refl
-    by_body body.Event = refl
-    by_body (body.ChannelEnd peer queue) = refl
-    by_body (body.Port p) = refl
+    by_body _ = refl
 
     by_object : (o : Option Object) → is_job_in (option_map bare o) ≡ is_job_in o
     by_object None = refl
@@ -153,10 +135,7 @@ module _ (m m2 : Map Object) (same : AreSameButWaits m m2) where
     where
       by_body : (b : Body) → stays_alone m2 k b ≡ stays_alone m k b
       by_body (body.Job own) = carried (λ n. has_living_child n k) (λ n. child_bare n k)
-      by_body (body.Process job lives) = refl
-      by_body body.Event = refl
-      by_body (body.ChannelEnd peer queue) = refl
-      by_body (body.Port p) = refl
+      by_body _ = refl
 
   pub in_job_same : (b c : Body) → unreserved b ≡ unreserved c → is_in_job m2 b ≡ is_in_job m c
   in_job_same b c is =

@@ -8,7 +8,7 @@ use Rattle.zl_table.proofs.MapEdits.{get-without, sorted_parts, without_lower}
 use Rattle.zl_objects.specs.declared.object.Body.{Body}
 use Rattle.zl_objects.specs.declared.object.Body.TheVariants as body
 use Rattle.zl_objects.specs.declared.object.Object.{Object}
-use Rattle.zl_objects.specs.Objects.{has_living_child, is_child, is_job_at, is_job_in, keeper_of, stays_alone}
+use Rattle.zl_objects.specs.Objects.{has_living_child, is_child, is_job_at, is_job_body, is_job_in, keeper_of, stays_alone}
 use Rattle.zl_objects.specs.Seen.{is_above, is_in_job}
 
 -- ---- one object was changed
@@ -32,22 +32,40 @@ changed f m k j q at = by_object (get m j) refl (sym (get-update m k f j) ∙ at
       | inr apart ↦ record { before = o; there = is; is = rw apart (sym (same_Some o q (rw (apart, is) at h))) }
     ]
 
-module _ (f : Object → Object) (same : (o : Object) → (f o).body ≡ o.body) where
-  child_updated : (m : Map Object) (k job : ℕ) → has_living_child (update m k f) job ≡ has_living_child m job
+module _ (f : Object → Object) where
+  -- where it stays as much a child, jobs have their living children still
+  child_changed : ((j : ℕ) (o : Object) → is_child j (f o).body ≡ is_child j o.body) → (m : Map Object) (k job : ℕ)
+      → has_living_child (update m k f) job ≡ has_living_child m job
   unfolding update has_living_child
-  child_updated [] k job = refl
-  child_updated (e ∷ m) k job =
+  child_changed same [] k job = refl
+  child_changed same (e ∷ m) k job =
       elim (cases_Bool (e.0 == k)) as (λ _. list_any (λ x. is_child job x.1.body) (update (e ∷ m) k f) ≡ list_any (λ x. is_child job x.1.body) (e ∷ m)) [
-        | inl here ↦ rw (here, same e.1) refl
-        | inr apart ↦ rw apart (ap (λ b. is_child job e.1.body || b) (child_updated m k job))
+        | inl here ↦ rw (here, same job e.1) refl
+        | inr apart ↦ rw apart (ap (λ b. is_child job e.1.body || b) (child_changed same m k job))
       ]
 
+  pub alone_changed : ((j : ℕ) (o : Object) → is_child j (f o).body ≡ is_child j o.body) → (m : Map Object) (k j : ℕ) (b : Body)
+      → stays_alone (update m k f) j b ≡ stays_alone m j b
+  alone_changed same m k j (body.Job own) = child_changed same m k j
+  alone_changed same m k j _ = refl
+
+  -- where it stays a job, or none, the jobs are the same
+  pub job_changed : ((o : Object) → is_job_body (f o).body ≡ is_job_body o.body) → (m : Map Object) (k j : ℕ) → is_job_at (update m k f) j ≡ is_job_at m j
+  job_changed same m k j =
+      ap is_job_in (get-update m k f j)
+      ∙ elim (cases_Bool (k == j)) as (λ _. is_job_in (if k == j then option_map f (get m j) else get m j) ≡ is_job_in (get m j)) [
+        | inl here ↦ rw here (by_object (get m j))
+        | inr apart ↦ rw apart refl
+      ]
+    where
+      by_object : (o : Option Object) → is_job_in (option_map f o) ≡ is_job_in o
+      by_object None = refl
+      by_object (Some o) = same o
+
+-- its body stays
+module _ (f : Object → Object) (same : (o : Object) → (f o).body ≡ o.body) where
   pub alone_updated : (m : Map Object) (k j : ℕ) (b : Body) → stays_alone (update m k f) j b ≡ stays_alone m j b
-  alone_updated m k j (body.Job own) = child_updated m k j
-  alone_updated m k j (body.Process job lives) = refl
-  alone_updated m k j body.Event = refl
-  alone_updated m k j (body.Port port) = refl
-  alone_updated m k j (body.ChannelEnd p queue) = refl
+  alone_updated = alone_changed f (λ j o. ap (is_child j) (same o))
 
 -- ---- one object has gone
 
@@ -89,10 +107,7 @@ module _ (m : Map Object) (sorted : IsTrue (is_sorted nat_cmp m)) (k : ℕ) (o :
 
   pub alone_left : (b : Body) → stays_alone (without m k) j b ≡ stays_alone m j b
   alone_left (body.Job own) = child_left
-  alone_left (body.Process job life) = refl
-  alone_left body.Event = refl
-  alone_left (body.Port port) = refl
-  alone_left (body.ChannelEnd p queue) = refl
+  alone_left _ = refl
 
 -- ---- jobs and bodies
 
@@ -122,17 +137,5 @@ module _ (f : Object → Object) (same : (o : Object) → (f o).body ≡ o.body)
       ap (λ (x : Object). x.body) c.is
       ∙ elim (k == j) as (λ b. (if b then f c.before else c.before).body ≡ c.before.body) [ true ↦ same c.before | false ↦ refl ]
 
-  job_updated : (m : Map Object) (k j : ℕ) → is_job_at (update m k f) j ≡ is_job_at m j
-  job_updated m k j =
-      ap is_job_in (get-update m k f j)
-      ∙ elim (cases_Bool (k == j)) as (λ _. is_job_in (if k == j then option_map f (get m j) else get m j) ≡ is_job_in (get m j)) [
-        | inl here ↦ rw here (by_object (get m j))
-        | inr apart ↦ rw apart refl
-      ]
-    where
-      by_object : (o : Option Object) → is_job_in (option_map f o) ≡ is_job_in o
-      by_object None = refl
-      by_object (Some o) = rw (same o) refl
-
   pub in_job_updated : (m : Map Object) (k : ℕ) (b : Body) → is_in_job (update m k f) b ≡ is_in_job m b
-  in_job_updated m k b = same_in_job m (update m k f) (job_updated m k) b
+  in_job_updated m k b = same_in_job m (update m k f) (job_changed f (λ o. ap is_job_body (same o)) m k) b

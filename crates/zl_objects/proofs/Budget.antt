@@ -362,8 +362,5 @@ first_shorter (x ∷ q) q2 first there rest = let left : q2 ≡ q = rest in rw l
 
 -- an object without a queue
 pub no_queue : (b : Body) → ((peer : ℕ) (queue : List Message) → b ≡ body.ChannelEnd peer queue → ⊥) → queue_of b ≡ []
-no_queue (body.Job own) none = refl
-no_queue (body.Process job lives) none = refl
-no_queue body.Event none = refl
-no_queue (body.Port port) none = refl
 no_queue (body.ChannelEnd peer queue) none = absurd (none peer queue refl)
+no_queue _ none = refl

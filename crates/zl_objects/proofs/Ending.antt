@@ -45,10 +45,7 @@ port_bare o = ap (λ (b : Body). record (bare o) { body = b }) (by_body o.body)
   where
     by_body : (b : Body) → unreserved (changed_port without_place b) ≡ unreserved b
     by_body (body.Job own) = refl
-    by_body (body.Process job lives) = refl
-    by_body body.Event = refl
-    by_body (body.ChannelEnd peer queue) = refl
-    by_body (body.Port p) = refl
+    by_body _ = refl
 
 update_bare : (m : Map Object) (k : ℕ) → AreSameButWaits m (update m k (at_port without_place))
 unfolding each update
@@ -162,10 +159,7 @@ reserved_back m p j =
   where
     by_body : (b : Body) → reserved_of (changed_port without_place b) ≡ reserved_of b - 1
     by_body (body.Job own) = refl
-    by_body (body.Process job lives) = refl
-    by_body body.Event = refl
-    by_body (body.ChannelEnd peer queue) = refl
-    by_body (body.Port port) = refl
+    by_body _ = refl
 
     by_object : (o : Option Object) → reserved_in (option_map (at_port without_place) o) ≡ reserved_in o - 1
     by_object None = refl

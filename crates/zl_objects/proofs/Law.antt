@@ -2,9 +2,9 @@
 use Rattle.zl_rights.proofs.Common.{◌≡◌, ◌+◌, ◌<◌, ℕ, Bool, true, false, not, ◌&&◌, ◌||◌, ◌==◌, List, [], ◌∷◌, ◌++◌, map, refl, sym, ap, ◌∙◌, subst, cond}
 use Rattle.zl_rights.proofs.Common.{if◌then◌else◌, Option, Some, None, inl, inr, ◌⊎◌, IsTrue, arith, eq-eqb, nat_lt, is_some, list_any, count_by, sum_by}
 use Rattle.zl_rights.proofs.Common.{option_map, sum_by-cons, cases_Bool, eqb-true, false≢true, or_left, or_right, and_parts, and_from, nat_tests, Map, get}
-use Rattle.zl_rights.proofs.Common.{has_key, update, without, World, State, Created, Ready, Blocked, Ended, Gone, Process, is_process, runs, lives}
+use Rattle.zl_rights.proofs.Common.{has_key, update, without, World, State, Ready, Blocked, Process, is_process, runs, lives}
 use Rattle.zl_rights.proofs.Common.{state_passes, Koids, Settles, is_held, in_table, in_queue, has_living_child as living_child, queue_of as queue_value}
-use Rattle.zl_rights.proofs.Common.{ChannelEnd, EventBody, PortBody, JobBody, ProcessBody}
+use Rattle.zl_rights.proofs.Common.{ChannelEnd, EventBody}
 use Rattle.std.proofs.lemmas.List.Sums.{sum_by-append}
 use Rattle.std.proofs.lemmas.List.Concat.{flat_map-cons}
 use Rattle.std.proofs.lemmas.Bool.{or_cases, or_parts}
@@ -72,9 +72,7 @@ pub queue_named : (k : ℕ) (b : BodyValue) → IsTrue (names k (queue_value b))
 queue_named k (ChannelEnd peer queue) h =
     any_summed (λ m. count_by (λ h. h.koid == k) m.handles) (λ m. list_any (λ h. h.koid == k) m.handles) (λ m. any_counted (λ h. h.koid == k) m.handles) queue h
 queue_named k EventBody h = absurd (false≢true h)
-queue_named k (PortBody packets) h = absurd (false≢true h)
-queue_named k (JobBody parent depth policy killed) h = absurd (false≢true h)
-queue_named k (ProcessBody job) h = absurd (false≢true h)
+queue_named k _ h = absurd (false≢true h)
 
 -- and back
 pub named_queue : (k : ℕ) (b : BodyValue) → names k (queue_value b) ≡ false → ◌≡◌ {A = ℕ} (queued_to k b) 0
@@ -93,9 +91,7 @@ named_queue k (ChannelEnd peer queue) h = no_sum queue h
         let both = or_parts (list_any (λ h. h.koid == k) m.handles) (names k ms) h in
         omega (arith, sum_by-cons (λ m. count_by (λ h. h.koid == k) m.handles) m ms, no_count m.handles both.0, no_sum ms both.1)
 named_queue k EventBody h = refl
-named_queue k (PortBody packets) h = refl
-named_queue k (JobBody parent depth policy killed) h = refl
-named_queue k (ProcessBody job) h = refl
+named_queue k _ h = refl
 
 queue_counts : (k : ℕ) (es : List Entry) → count_by (λ j. j == k) (koids_of es) ≡ count_by (λ (h : Entry). h.koid == k) es
 queue_counts k [] = refl
@@ -114,11 +110,8 @@ one_queue k (m ∷ ms) = rw (flat_map-cons (λ (x : Message). koids_of x.handles
 
 -- what the queue of an object counts, once its handles have left
 queue_moved : (k : ℕ) (b : Body) → queued_to k (body_value b) ≡ count_by (λ j. j == k) (named_in (queue_of b))
-queue_moved k (body.Job own) = refl
-queue_moved k (body.Process job life) = refl
-queue_moved k body.Event = refl
-queue_moved k (body.Port port) = refl
 queue_moved k (body.ChannelEnd peer queue) = one_queue k queue
+queue_moved k _ = refl
 
 -- ---- children
 
@@ -152,8 +145,7 @@ seen_child w k j (body.Process job life) agrees = ap (λ b. (job == k) && b) (sy
     by_state true = always (job == k)
     by_state false = never (job == k)
 seen_child w k j body.Event agrees = refl
-seen_child w k j (body.Port port) agrees = refl
-seen_child w k j (body.ChannelEnd p queue) agrees = refl
+seen_child w k j _ agrees = refl
 
 -- ---- the law, after each change
 
@@ -235,10 +227,7 @@ module _ (w : World) (ks : List ℕ) (m : Map Object) (exact : IsExact w ks m) w
 
         by_body : (b : Body) → stays_alone m k b ≡ false → IsTrue (is_job_body b) → ⊥
         by_body (body.Job own) off h = false≢true (sym off ∙ child)
-        by_body (body.Process own life) off h = false≢true h
-        by_body body.Event off h = false≢true h
-        by_body (body.Port port) off h = false≢true h
-        by_body (body.ChannelEnd p queue) off h = false≢true h
+        by_body _ off h = false≢true h
 
         by_keeper : (o2 : Option ℕ) → IsTrue (is_above m o2) → IsTrue (is_koid k o2) → ⊥
         by_keeper None above here = false≢true here
@@ -327,9 +316,7 @@ module _ (w : World) (ks : List ℕ) (m : Map Object) (exact : IsExact w ks m) w
         by_body : (b : Body) → stays_alone m k b ≡ false → Agrees w k b → is_process w runs k ≡ false
         by_body (body.Job own) off agrees = agrees
         by_body (body.Process job life) off agrees = sym agrees.running ∙ off
-        by_body body.Event off agrees = agrees
-        by_body (body.Port port) off agrees = agrees
-        by_body (body.ChannelEnd p queue) off agrees = agrees
+        by_body _ off agrees = agrees
 
     no_child : living_child (with_objects w m) (has_key (map object_entry m)) k ≡ false
     unfolding living_child is_process
@@ -394,9 +381,7 @@ runs_lives w k running = by_process (get w.processes k) running
     by_state : (s : State) → IsTrue (runs s) → lives s ≡ true
     by_state Ready h = refl
     by_state (Blocked awaited destinations) h = refl
-    by_state Created h = absurd (false≢true h)
-    by_state Gone h = absurd (false≢true h)
-    by_state (Ended code) h = absurd (false≢true h)
+    by_state _ h = absurd (false≢true h)
 
     by_process : (p : Option Process) → IsTrue (state_passes runs p) → state_passes lives p ≡ true
     by_process None h = absurd (false≢true h)
@@ -447,8 +432,7 @@ module _ (w : World) (m : Map Object) (exact : IsExact w [] m) (kept : (k : ℕ)
               let agrees : Agrees w k (body.Process job life) = subst (Agrees w k) is (exact.agrees k o there) in
               or_left _ _ (or_right _ _ (sym agrees.running ∙ stays))
           alone body.Event is stays = absurd (false≢true stays)
-          alone (body.Port port) is stays = absurd (false≢true stays)
-          alone (body.ChannelEnd p queue) is stays = absurd (false≢true stays)
+          alone _ is stays = absurd (false≢true stays)
 
           by_reason : IsTrue (nat_lt 0 o.handles) ⊎ IsTrue (stays_alone m k o.body) → IsHeldBy k
           by_reason (inl some) =

@@ -110,11 +110,8 @@ places_used f less x m have j =
     ]
   where
     by_body : (b : Body) → reserved_of (changed_port f b) ≡ reserved_of b - 1
-    by_body (body.Job own) = refl
-    by_body (body.Process job lives) = refl
-    by_body body.Event = refl
-    by_body (body.ChannelEnd peer queue) = refl
     by_body (body.Port port) = less port
+    by_body _ = refl
 
     by_object : (o : Option Object) → reserved_in (option_map (at_port f) o) ≡ reserved_in o - 1
     by_object None = refl
@@ -141,11 +138,8 @@ places_made x m port have j = elim (cases_Bool (x.port == j))
     by_object (Some o) h = by_body o.body h
       where
         by_body : (b : Body) → IsTrue (is_port_in (Some (record o { body = b }))) → reserved_of (changed_port with_place b) ≡ reserved_of b + 1
-        by_body (body.Job own) no_port = absurd (false≢true no_port)
-        by_body (body.Process job lives) no_port = absurd (false≢true no_port)
-        by_body body.Event no_port = absurd (false≢true no_port)
-        by_body (body.ChannelEnd peer queue) no_port = absurd (false≢true no_port)
         by_body (body.Port p) is_port = refl
+        by_body _ no_port = absurd (false≢true no_port)
 
 -- it is registered, in its place
 pub places_taken : (x : Watch) (m : Map Object) (k : ℕ) → IsTrue (has_key m k) → HavePlacesWith (Some x) m → HavePlaces (update m k (watched x))
@@ -176,15 +170,12 @@ place_there x m have = by_object (get m x.port) refl
         here = eq-eqb x.port x.port refl
 
         by_body : (b : Body) → o.body ≡ b → IsTrue (has_place_in (Some (record o { body = b })))
-        by_body (body.Job own) same = refl
-        by_body (body.Process job lives) same = refl
-        by_body body.Event same = refl
-        by_body (body.ChannelEnd peer queue) same = refl
         by_body (body.Port p) same =
             let one : ◌≡◌ {A = ℕ} (cond (x.port == x.port) 1 0) 1 = rw here refl in
             let reserved : reserved_in (get m x.port) ≡ p.reserved = ap reserved_in is ∙ ap reserved_of same in
             let some : 0 < p.reserved = omega (arith, have x.port, one, reserved) in
             grind (arith, nat_tests, some)
+        by_body _ same = refl
 
 -- the place is given back, as there was no memory for the wait
 pub place_back : (m : Map Object) (p : ℕ) → update (update m p (at_port with_place)) p (at_port without_place) ≡ m
@@ -196,13 +187,10 @@ place_back (e ∷ m) p = elim (cases_Bool (e.0 == p)) as (λ _. update (update (
 ]
   where
     same_body : (b : Body) → changed_port without_place (changed_port with_place b) ≡ b
-    same_body (body.Job own) = refl
-    same_body (body.Process job lives) = refl
-    same_body body.Event = refl
-    same_body (body.ChannelEnd peer queue) = refl
     same_body (body.Port q) =
         let reserved : ◌≡◌ {A = ℕ} (q.reserved + 1 - 1) q.reserved = omega arith in
         ap (λ (n : ℕ). body.Port (record q { reserved = n })) reserved
+    same_body _ = refl
 
     same_object : (o : Object) → at_port without_place (at_port with_place o) ≡ o
     same_object o = ap (λ (b : Body). record o { body = b }) (same_body o.body)

@@ -112,11 +112,8 @@ whole_left ks m m2 next room room2 d d2 cascades places whole none same = record
         rw is (of_body is_end_body (λ packets reserved. refl) o.body old.before.body old.body ∙ (rw old.there at was_end))
 
     by_body : (b : Body) → HasPeer m next b → HasPeer m2 next b
-    by_body (body.Job own) has = has
-    by_body (body.Process job lives) has = has
-    by_body body.Event has = has
-    by_body (body.Port port) has = has
     by_body (body.ChannelEnd p queue) has = (has.0, λ there. end_left p (get m2 p) refl has.1 there)
+    by_body _ has = has
 
     peers : (k : ℕ) (o : Object) → get m2 k ≡ Some o → HasPeer m2 next o.body
     peers k o at =
@@ -125,17 +122,11 @@ whole_left ks m m2 next room room2 d d2 cascades places whole none same = record
       where
         to_bare : (b : Body) → HasPeer m2 next b → HasPeer m2 next (unreserved b)
         to_bare (body.Job own) h = h
-        to_bare (body.Process job lives) h = h
-        to_bare body.Event h = h
-        to_bare (body.Port port) h = h
-        to_bare (body.ChannelEnd p queue) h = h
+        to_bare _ h = h
 
         from_bare : (b : Body) → HasPeer m2 next (unreserved b) → HasPeer m2 next b
         from_bare (body.Job own) h = h
-        from_bare (body.Process job lives) h = h
-        from_bare body.Event h = h
-        from_bare (body.Port port) h = h
-        from_bare (body.ChannelEnd p queue) h = h
+        from_bare _ h = h
 
 -- ---- all of it
 
@@ -222,8 +213,7 @@ module _ (r : Objects) (pid job : ℕ) (of : job_in (get r.objects pid) ≡ Some
       by_body (body.Process j life) h =
           elim (is_alive life) as (λ b. false ≡ is_koid k (if b then Some j else None)) [ true ↦ rw (same_Some j job h, apart) refl | false ↦ refl ]
       by_body body.Event h = refl
-      by_body (body.Port port) h = refl
-      by_body (body.ChannelEnd p queue) h = refl
+      by_body _ h = refl
 
   pub stopped_loose : AreKeptBut [] r.objects → AreKeptBut (job ∷ pid ∷ []) (stopping r pid).objects
   stopped_loose kept = record {
@@ -233,10 +223,7 @@ module _ (r : Objects) (pid job : ℕ) (of : job_in (get r.objects pid) ≡ Some
     where
       alone : (k : ℕ) (b : Body) → (job == k) ≡ false → stays_alone (update r.objects pid stopped) k b ≡ stays_alone r.objects k b
       alone k (body.Job own) apart = other_child k apart r.objects of
-      alone k (body.Process j lives) apart = refl
-      alone k body.Event apart = refl
-      alone k (body.Port port) apart = refl
-      alone k (body.ChannelEnd p queue) apart = refl
+      alone k _ apart = refl
 
       by_key : (k : ℕ) (o : Object) → Changed stopped r.objects pid k o → is_kept (update r.objects pid stopped) k o ≡ false
           → IsTrue (job == k) ⊎ ((job == k) ≡ false) → IsTrue (pid == k) ⊎ ((pid == k) ≡ false) → IsTrue (list_any (λ x. x == k) (job ∷ pid ∷ []))

@@ -27,10 +27,7 @@ module _ (w : World) (m : Map Object) (shows : ShowStates w m) (k : ℕ) where
     where
       by_body : (b : Body) → is_job_of k (body_value b) ≡ is_job_below k b
       by_body (body.Job own) = refl
-      by_body (body.Process job life) = refl
-      by_body body.Event = refl
-      by_body (body.Port port) = refl
-      by_body (body.ChannelEnd peer queue) = refl
+      by_body _ = refl
 
       each_same : (n : Map Object) → list_any (λ e. is_job_of k (body_value e.1.body)) n ≡ list_any (λ e. is_job_below k e.1.body) n
       each_same [] = refl
@@ -53,8 +50,7 @@ module _ (w : World) (m : Map Object) (shows : ShowStates w m) (k : ℕ) where
           let shown : Shows w j (body.Process job life) = subst (Shows w j) is (shows.shown j o at) in
           ap (λ b. (job == k) && b) (sym shown.living)
       same j o body.Event is at = refl
-      same j o (body.Port port) is at = refl
-      same j o (body.ChannelEnd peer queue) is at = refl
+      same j o _ is at = refl
 
       there : IsTrue (list_any seen m) → IsTrue (list_any below m)
       there some =
@@ -73,9 +69,8 @@ module _ (w : World) (m : Map Object) (shows : ShowStates w m) (k : ℕ) where
   implied_shown o (body.Process job life) is at =
       let shown : Shows w k (body.Process job life) = subst (Shows w k) is (shows.shown k o at) in
       ap (signal_if TERMINATED) shown.over
-  implied_shown o body.Event is at = refl
-  implied_shown o (body.Port port) is at = refl
   implied_shown o (body.ChannelEnd peer queue) is at = rw (has_seen m peer) refl
+  implied_shown o _ is at = refl
 
   shown_at : (q : Option Object) → get m k ≡ q → signals_in m k q ≡ active (with_objects w m) k
   unfolding active

@@ -13,42 +13,27 @@ use Rattle.zl_objects.specs.declared.object.Body.TheVariants as body
 use Rattle.zl_objects.specs.declared.object.Object.{Object}
 use Rattle.zl_objects.specs.Dying.{HasPeer, IsKept, IsWhole}
 use Rattle.zl_objects.specs.Jobs.{all_killed, is_within, killed_body, killed_if, with_policy_body, with_policy_set}
-use Rattle.zl_objects.specs.Objects.{is_end_at, is_end_body, is_end_in, started, started_body}
-use Rattle.zl_objects.specs.Ports.{reserved_in, reserved_of}
+use Rattle.zl_objects.specs.Objects.{is_end_at, is_end_in, started, started_body}
+use Rattle.zl_objects.specs.Ports.{reserved_in}
 use Rattle.zl_objects.specs.Waits.{HavePlaces, waits_at, waits_for, waits_in}
 use Rattle.zl_objects.proofs.ByKoid.{written, written_back}
 use Rattle.zl_objects.proofs.Listed.{same_listed, updated_listed, updated_or_listed}
-use Rattle.zl_objects.proofs.Whole.{roomy_whole, updated_whole}
+use Rattle.zl_objects.proofs.Whole.{Stays, rebodied_whole, roomy_whole, stays_same}
 
--- what a change of jobs and processes keeps of each body
-record Stays (b c : Body) : Type 0 where
-  ends : is_end_body c ≡ is_end_body b
-  reserved : reserved_of c ≡ reserved_of b
-  peer : (m : Map Object) (next : ℕ) → HasPeer m next b → HasPeer m next c
-
-stays_same : (b : Body) → Stays b b
-stays_same b = record { ends = refl; reserved = refl; peer = λ m next has. has }
+-- ---- bodies
 
 started_stays : (b : Body) → Stays b (started_body b)
 started_stays (body.Process job life) = record { ends = refl; reserved = refl; peer = λ m next has. has }
-started_stays (body.Job own) = stays_same (body.Job own)
-started_stays body.Event = stays_same body.Event
-started_stays (body.Port port) = stays_same (body.Port port)
-started_stays (body.ChannelEnd p queue) = stays_same (body.ChannelEnd p queue)
+started_stays b = stays_same b
 
 policy_stays : (c : Condition) (a : Action) (b : Body) → Stays b (with_policy_body c a b)
 policy_stays c a (body.Job own) = record { ends = refl; reserved = refl; peer = λ m next has. has }
-policy_stays c a (body.Process job life) = stays_same (body.Process job life)
-policy_stays c a body.Event = stays_same body.Event
-policy_stays c a (body.Port port) = stays_same (body.Port port)
-policy_stays c a (body.ChannelEnd p queue) = stays_same (body.ChannelEnd p queue)
+policy_stays c a b = stays_same b
 
 killed_stays : (b : Body) → Stays b (killed_body b)
 killed_stays (body.Job own) = record { ends = refl; reserved = refl; peer = λ m next has. has }
 killed_stays (body.Process job life) = record { ends = refl; reserved = refl; peer = λ m next has. has }
-killed_stays body.Event = stays_same body.Event
-killed_stays (body.Port port) = stays_same (body.Port port)
-killed_stays (body.ChannelEnd p queue) = stays_same (body.ChannelEnd p queue)
+killed_stays b = stays_same b
 
 -- ---- one of them
 
@@ -56,8 +41,7 @@ module _ {waits : List WaitValue} where
   pub started_kept : (m n : Map Object) (next room k : ℕ) (d : List ℕ) → IsKept None m next d room waits → n ≡ update m k started
       → IsKept None n next d room waits
   started_kept m n next room k d kept is = record {
-    whole = updated_whole started (λ o. (started_stays o.body).ends) (λ m next o. (started_stays o.body).peer m next) (λ o. refl)
-        (λ o. (started_stays o.body).reserved) m n next room k d kept.whole is;
+    whole = rebodied_whole started_body started_stays m n next room k d kept.whole is;
     listed = updated_listed started (λ o. refl) waits m n k kept.listed is;
   }
 
@@ -72,8 +56,7 @@ module _ {waits : List WaitValue} where
     where
       by_result : {A B : Type 0} (r : Result A B) → OnOk r (w ≡ with_policy_set c a v) → OnErr r (w ≡ v) → IsWhole None n next d room
       by_result (Ok x) is other =
-          updated_whole (with_policy_set c a) (λ o. (policy_stays c a o.body).ends) (λ m next o. (policy_stays c a o.body).peer m next) (λ o. refl)
-          (λ o. (policy_stays c a o.body).reserved) m n next room k d kept.whole (written m n k (with_policy_set c a) v w there is set)
+          rebodied_whole (with_policy_body c a) (policy_stays c a) m n next room k d kept.whole (written m n k (with_policy_set c a) v w there is set)
       by_result (Err e) is other = roomy_whole m n next room room d d kept.whole (written_back m n k v w there other set) refl (omega arith)
 
 -- ---- all of them
@@ -125,10 +108,7 @@ module _ (kills : ℕ → Bool) where
 
   still : (m : Map Object) (next : ℕ) (b : Body) → HasPeer m next b → HasPeer (each f m) next b
   still m next (body.ChannelEnd p queue) has = (has.0, λ there. end_each m p ∙ has.1 (sym (has_each m p) ∙ there))
-  still m next (body.Job own) has = has
-  still m next (body.Process job life) has = has
-  still m next body.Event has = has
-  still m next (body.Port port) has = has
+  still m next _ has = has
 
   each_whole : (m : Map Object) (next room : ℕ) (d : List ℕ) → IsWhole None m next d room → IsWhole None (each f m) next d room
   each_whole m next room d whole = record {

@@ -159,10 +159,7 @@ same_within m task from k =
   where
     killed_stays : (b : Body) → parent_of (killed_body b) ≡ parent_of b
     killed_stays (body.Job own) = refl
-    killed_stays (body.Process job life) = refl
-    killed_stays body.Event = refl
-    killed_stays (body.Port port) = refl
-    killed_stays (body.ChannelEnd p queue) = refl
+    killed_stays _ = refl
 
     if_stays : (wanted : Bool) (o : Object) → parent_of (killed_if wanted o).body ≡ parent_of o.body
     if_stays true o = killed_stays o.body

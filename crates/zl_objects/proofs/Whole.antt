@@ -17,7 +17,7 @@ use Rattle.zl_table.proofs.MapEdits.{put_key, has_key-update, length-update}
 use Rattle.zl_objects.specs.declared.object.Body.{Body}
 use Rattle.zl_objects.specs.declared.object.Body.TheVariants as body
 use Rattle.zl_objects.specs.declared.object.Object.{Object}
-use Rattle.zl_objects.specs.Objects.{held_once_more, is_end_at, is_end_in, is_end_body, raised_changed, sent, received, stopped, new_object}
+use Rattle.zl_objects.specs.Objects.{held_once_more, is_end_at, is_end_in, is_end_body, raised_changed, received, received_body, sent, sent_body, stopped, stopped_body, new_object}
 use Rattle.zl_objects.specs.Dying.{HasPeer, IsWhole}
 use Rattle.zl_objects.specs.Ports.{at_port, changed_port, is_port_at, reserved_in, reserved_of}
 use Rattle.zl_objects.specs.Waits.{HavePlaces, HavePlacesWith, waits_at, waits_for, waits_in, watched, unwatched}
@@ -47,10 +47,7 @@ module _ (f : Object → Object) (ends : (o : Object) → is_end_body (f o).body
 
   still : (m : Map Object) (k next : ℕ) (b : Body) → HasPeer m next b → HasPeer (update m k f) next b
   still m k next (body.ChannelEnd p queue) has = (has.0, λ there. end_updated m k p ∙ has.1 (sym (has_key-update m k f p) ∙ there))
-  still m k next (body.Job own) has = has
-  still m k next (body.Process job lives) has = has
-  still m k next body.Event has = has
-  still m k next (body.Port port) has = has
+  still m k next _ has = has
 
   -- the places are those that the wait needs
   pub placed_whole : (x y : Option Watch) (m n : Map Object) (next room k : ℕ) (d : List ℕ) → IsWhole x m next d room → n ≡ update m k f
@@ -113,17 +110,11 @@ changed_whole m n next room k clear set d whole is =
 
 same_end : (g : Port → Port) (b : Body) → is_end_body (changed_port g b) ≡ is_end_body b
 same_end g (body.Job own) = refl
-same_end g (body.Process job lives) = refl
-same_end g body.Event = refl
-same_end g (body.Port port) = refl
-same_end g (body.ChannelEnd p queue) = refl
+same_end g _ = refl
 
 same_other : (g : Port → Port) (m : Map Object) (next : ℕ) (b : Body) → HasPeer m next b → HasPeer m next (changed_port g b)
 same_other g m next (body.Job own) has = has
-same_other g m next (body.Process job lives) has = has
-same_other g m next body.Event has = has
-same_other g m next (body.Port port) has = has
-same_other g m next (body.ChannelEnd p queue) has = has
+same_other g m next _ has = has
 
 at_port_whole : (g : Port → Port) (x y : Option Watch) (m n : Map Object) (next room k : ℕ) (d : List ℕ) → IsWhole x m next d room → n ≡ update m k (at_port g)
     → HavePlacesWith y (update m k (at_port g)) → IsWhole y n next d room
@@ -136,11 +127,9 @@ port_whole g same m n next room k d whole is =
     at_port_whole g None None m n next room k d whole is (places_updated (at_port g) (λ j o. refl) (λ o. by_body o.body) None m k whole.places)
   where
     by_body : (b : Body) → reserved_of (changed_port g b) ≡ reserved_of b
-    by_body (body.Job own) = refl
-    by_body (body.Process job lives) = refl
-    by_body body.Event = refl
     by_body (body.Port port) = same port
     by_body (body.ChannelEnd p queue) = refl
+    by_body _ = refl
 
 -- a place is reserved for the wait
 pub made_whole : (x : Watch) (m n : Map Object) (next room : ℕ) (d : List ℕ) → IsTrue (is_port_at m x.port) → IsWhole None m next d room
@@ -165,99 +154,58 @@ pub used_whole : (g : Port → Port) → ((p : Port) → (g p).reserved ≡ p.re
     → IsWhole (Some x) m next d room → n ≡ update m x.port (at_port g) → IsWhole None n next d room
 used_whole g less x m n next room d whole is = at_port_whole g (Some x) None m n next room x.port d whole is (places_used g less x m whole.places)
 
+-- ---- what an object is changes
+
+-- a body that is as much an end, with the same peer, and at which as many places are reserved
+pub record Stays (b c : Body) : Type 0 where
+  pub ends : is_end_body c ≡ is_end_body b
+  pub reserved : reserved_of c ≡ reserved_of b
+  pub peer : (m : Map Object) (next : ℕ) → HasPeer m next b → HasPeer m next c
+
+pub stays_same : (b : Body) → Stays b b
+stays_same b = record { ends = refl; reserved = refl; peer = λ m next has. has }
+
+pub rebodied_whole : (g : Body → Body) → ((b : Body) → Stays b (g b)) → (m n : Map Object) (next room k : ℕ) (d : List ℕ) → IsWhole None m next d room
+    → n ≡ update m k (λ o. record o { body = g o.body }) → IsWhole None n next d room
+rebodied_whole g same =
+    updated_whole (λ o. record o { body = g o.body }) (λ o. (same o.body).ends) (λ m next o. (same o.body).peer m next) (λ o. refl)
+    (λ o. (same o.body).reserved)
+
 -- the end of a process
 pub stopped_whole : (m n : Map Object) (next room k : ℕ) (d : List ℕ) → IsWhole None m next d room → n ≡ update m k stopped → IsWhole None n next d room
-stopped_whole = updated_whole stopped (λ o. ends o.body) (λ m next o. peer m next o.body) (λ o. refl) (λ o. same o.body)
+stopped_whole = rebodied_whole stopped_body by_body
   where
-    ends : (b : Body) → is_end_body (stopped (record { body = b; signals = record { raised = 0; waits = [] }; handles = 0 })).body ≡ is_end_body b
-    ends (body.Job own) = refl
-    ends (body.Process job lives) = refl
-    ends body.Event = refl
-    ends (body.Port port) = refl
-    ends (body.ChannelEnd p queue) = refl
-
-    same : (b : Body) → reserved_of (stopped (record { body = b; signals = record { raised = 0; waits = [] }; handles = 0 })).body ≡ reserved_of b
-    same (body.Job own) = refl
-    same (body.Process job lives) = refl
-    same body.Event = refl
-    same (body.Port port) = refl
-    same (body.ChannelEnd p queue) = refl
-
-    peer : (m : Map Object) (next : ℕ) (b : Body) → HasPeer m next b
-        → HasPeer m next (stopped (record { body = b; signals = record { raised = 0; waits = [] }; handles = 0 })).body
-    peer m next (body.Job own) has = has
-    peer m next (body.Process job lives) has = has
-    peer m next body.Event has = has
-    peer m next (body.Port port) has = has
-    peer m next (body.ChannelEnd p queue) has = has
+    by_body : (b : Body) → Stays b (stopped_body b)
+    by_body (body.Process job l) = record { ends = refl; reserved = refl; peer = λ m next has. has }
+    by_body b = stays_same b
 
 -- one message more
 pub sent_whole : (m n : Map Object) (next room k : ℕ) (d : List ℕ) (message : Message) → IsWhole None m next d room → n ≡ update m k (sent message)
     → IsWhole None n next d room
-sent_whole m n next room k d message =
-    updated_whole (sent message) (λ o. ends o.body) (λ m next o. peer m next o.body) (λ o. refl) (λ o. same o.body) m n next room k d
+sent_whole m n next room k d message = rebodied_whole (sent_body message) by_body m n next room k d
   where
-    ends : (b : Body) → is_end_body (sent message (record { body = b; signals = record { raised = 0; waits = [] }; handles = 0 })).body ≡ is_end_body b
-    ends (body.Job own) = refl
-    ends (body.Process job lives) = refl
-    ends body.Event = refl
-    ends (body.Port port) = refl
-    ends (body.ChannelEnd p queue) = refl
-
-    same : (b : Body) → reserved_of (sent message (record { body = b; signals = record { raised = 0; waits = [] }; handles = 0 })).body ≡ reserved_of b
-    same (body.Job own) = refl
-    same (body.Process job lives) = refl
-    same body.Event = refl
-    same (body.Port port) = refl
-    same (body.ChannelEnd p queue) = refl
-
-    peer : (m : Map Object) (next : ℕ) (b : Body) → HasPeer m next b
-        → HasPeer m next (sent message (record { body = b; signals = record { raised = 0; waits = [] }; handles = 0 })).body
-    peer m next (body.Job own) has = has
-    peer m next (body.Process job lives) has = has
-    peer m next body.Event has = has
-    peer m next (body.Port port) has = has
-    peer m next (body.ChannelEnd p queue) has = has
+    by_body : (b : Body) → Stays b (sent_body message b)
+    by_body (body.ChannelEnd peer queue) = record { ends = refl; reserved = refl; peer = λ m next has. has }
+    by_body b = stays_same b
 
 -- one message less
 pub received_whole : (m n : Map Object) (next room k : ℕ) (d : List ℕ) → IsWhole None m next d room → n ≡ update m k received → IsWhole None n next d room
-received_whole = updated_whole received (λ o. ends o.body) (λ m next o. peer m next o.body) (λ o. refl) (λ o. same o.body)
+received_whole = rebodied_whole received_body by_body
   where
-    ends : (b : Body) → is_end_body (received (record { body = b; signals = record { raised = 0; waits = [] }; handles = 0 })).body ≡ is_end_body b
-    ends (body.Job own) = refl
-    ends (body.Process job lives) = refl
-    ends body.Event = refl
-    ends (body.Port port) = refl
-    ends (body.ChannelEnd p queue) = refl
-
-    same : (b : Body) → reserved_of (received (record { body = b; signals = record { raised = 0; waits = [] }; handles = 0 })).body ≡ reserved_of b
-    same (body.Job own) = refl
-    same (body.Process job lives) = refl
-    same body.Event = refl
-    same (body.Port port) = refl
-    same (body.ChannelEnd p queue) = refl
-
-    peer : (m : Map Object) (next : ℕ) (b : Body) → HasPeer m next b
-        → HasPeer m next (received (record { body = b; signals = record { raised = 0; waits = [] }; handles = 0 })).body
-    peer m next (body.Job own) has = has
-    peer m next (body.Process job lives) has = has
-    peer m next body.Event has = has
-    peer m next (body.Port port) has = has
-    peer m next (body.ChannelEnd p queue) has = has
+    by_body : (b : Body) → Stays b (received_body b)
+    by_body (body.ChannelEnd peer queue) = record { ends = refl; reserved = refl; peer = λ m next has. has }
+    by_body b = stays_same b
 
 -- ---- one object more
 
 later_peer : (m : Map Object) (next : ℕ) (o : Object) (b : Body) → ((j : ℕ) → IsTrue (has_key m j) → j < next) → HasPeer m next b
     → HasPeer (put m next o) (next + 1) b
-later_peer m next o (body.Job own) below has = has
-later_peer m next o (body.Process job lives) below has = has
-later_peer m next o body.Event below has = has
-later_peer m next o (body.Port port) below has = has
 later_peer m next o (body.ChannelEnd p queue) below has =
     (omega (arith, has.0), λ there. rw (get-put m next o p, apart) (has.1 (rw (get-put m next o p, apart) at there)))
   where
     apart : (next == p) ≡ false
     apart = grind (arith, nat_tests, has.0)
+later_peer m next o _ below has = has
 
 -- the new object has the next koid, and is no end; no place is reserved at it
 pub inserted_whole : (m n : Map Object) (next room room2 : ℕ) (d d2 : List ℕ) (o : Object) → IsWhole None m next d room → is_end_body o.body ≡ false
@@ -275,11 +223,8 @@ inserted_whole m n next room room2 d d2 o whole alone empty fresh same more into
 }
   where
     no_end : (b : Body) → is_end_body b ≡ false → HasPeer (put m next o) (next + 1) b
-    no_end (body.Job own) h = tt
-    no_end (body.Process job lives) h = tt
-    no_end body.Event h = tt
-    no_end (body.Port port) h = tt
     no_end (body.ChannelEnd p queue) h = absurd (false≢true (sym h))
+    no_end _ h = tt
 
     by_key : (k : ℕ) (q : Object) → IsTrue (next == k) ⊎ ((next == k) ≡ false) → (if next == k then Some o else get m k) ≡ Some q
         → HasPeer (put m next o) (next + 1) q.body
@@ -506,11 +451,8 @@ popped_whole m n next koid room d (Some p) whole newest alone unreserved unwatch
     end_left q (Some o) is end at = rw is (rw (was q o is) at (end (rw (was q o is) refl)))
 
     by_body : (b : Body) → HasPeer m.entries next b → HasPeer n.entries koid b
-    by_body (body.Job own) has = has
-    by_body (body.Process job lives) has = has
-    by_body body.Event has = has
-    by_body (body.Port port) has = has
     by_body (body.ChannelEnd q queue) has = (not_newest q has.0 has.1, λ at. end_left q (get n.entries q) refl has.1 at)
+    by_body _ has = has
 
     peers : (j : ℕ) (o : Object) → get n.entries j ≡ Some o → HasPeer n.entries koid o.body
     peers j o at = by_body o.body (whole.peers j o (was j o at))

@@ -35,10 +35,7 @@ job_seen ps r k = rw (get_seen r.objects k) (by_object (get r.objects k))
       where
         by_body : (b : Body) → is_job_body (Some (body_value b)) ≡ is_job_here b
         by_body (body.Job own) = refl
-        by_body (body.Process job lives) = refl
-        by_body body.Event = refl
-        by_body (body.Port port) = refl
-        by_body (body.ChannelEnd peer queue) = refl
+        by_body _ = refl
 
 -- ---- handles
 
@@ -74,10 +71,7 @@ module _ (objects : Map Object) where
 
       kind_is : (b : Body) → kind_of (body_value b) ≡ kind_in b
       kind_is (body.Job own) = refl
-      kind_is (body.Process job lives) = refl
-      kind_is body.Event = refl
-      kind_is (body.Port port) = refl
-      kind_is (body.ChannelEnd peer queue) = refl
+      kind_is _ = refl
 
       by_object : (o : Option Object)
           → if_default (handle_given g (body_in (option_map object_value o))) ≡ with_kind g (option_map (λ (x : Object). kind_in x.body) o)
@@ -95,10 +89,7 @@ past_default rights k large = elim (cases_Bool (within rights (default_rights_of
   where
     small : (j : Kind) → default_rights_of j < 2 ^ 32
     small kind.Process = omega arith
-    small kind.Channel = omega arith
-    small kind.Event = omega arith
-    small kind.Port = omega arith
-    small kind.Job = omega arith
+    small _ = omega arith
 
 -- where all objects are there, the handles that may be given are those with default rights
 pub rights_are : (objects : Map ObjectValue) (gs : List Grant) → IsTrue (all_known objects gs)

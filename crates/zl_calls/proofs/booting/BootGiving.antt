@@ -1,10 +1,10 @@
 -- The handles of a statement enter the table of its process, one after another.
 use Rattle.zl_calls.proofs.Common.{◌≡◌, ◌<◌, ◌≤◌, ◌+◌, ◌^◌, ◌==◌, ℕ, zero, suc, Bool, true, false, List, [], ◌∷◌, ◌++◌, map, length, get_or, take, take_more}
-use Rattle.zl_calls.proofs.Common.{take_all, refl, sym, ap, ◌∙◌, subst, cond, Option, Some, None, IsTrue, arith, nat_lt, is_some, count_by, slice_set, eqb-true}
-use Rattle.zl_calls.proofs.Common.{false≢true, none-some, same_Some, and_parts, and_from, nat_tests, Map, get, put, Cpu, is_process, handles_to, body_in}
-use Rattle.zl_calls.proofs.Common.{has_default_rights, may_get, process_with, list_all, may_get_all, Handles, IsTable, Inserts, is_sorted-update}
-use Rattle.zl_calls.proofs.Common.{has_key-update, length-put_new, Objects, held_once_more, holding, process_value, object_entry, object_value, body_value}
-use Rattle.zl_calls.proofs.Common.{world_value, IsNamed, Agrees, is_in_job, IsSound, IsMaking, seen, allowed, if_default, IsBare, process_given, Gives, World}
+use Rattle.zl_calls.proofs.Common.{take_all, refl, sym, ap, ◌∙◌, subst, Option, Some, None, IsTrue, arith, is_some, count_by, slice_set}
+use Rattle.zl_calls.proofs.Common.{false≢true, none-some, same_Some, and_parts, and_from, nat_tests, Map, get, Cpu, body_in}
+use Rattle.zl_calls.proofs.Common.{has_default_rights, may_get, process_with, list_all, may_get_all, Handles, IsTable, Inserts}
+use Rattle.zl_calls.proofs.Common.{length-put_new, Objects, held_once_more, holding, process_value, object_entry, object_value, body_value}
+use Rattle.zl_calls.proofs.Common.{IsNamed, IsMaking, seen, allowed, if_default, IsBare, process_given, Gives, World}
 use Rattle.zl_calls.proofs.Common.{length-append, length-take-le, handle_given, handles_given, process_with_all, register_set, handle_register, option_map}
 use Rattle.zl_calls.proofs.Common.{then_some}
 use Rattle.zl_code.proofs.Common.{Process as ProcessValue, Object as ObjectValue}
@@ -18,72 +18,13 @@ use Rattle.zl_calls.specs.declared.booting.Made.{Made}
 use Rattle.zl_objects.specs.declared.object.Object.{Object}
 use Rattle.zl_calls.specs.declared.process.Process.{Process}
 use Rattle.zl_calls.proofs.calls.Answered.{may_get_inserted}
-use Rattle.zl_objects.proofs.Bodies.{in_job_updated}
 use Rattle.zl_objects.proofs.Law.{get_seen}
-use Rattle.zl_calls.proofs.objects.Counting.{count_put, queues_updated, same_tables}
-use Rattle.zl_calls.proofs.objects.SameBodies.{found_updated, named_updated, queued_updated, still_agrees}
+use Rattle.zl_calls.proofs.objects.SameBodies.{found_updated, named_updated}
 use Rattle.zl_calls.proofs.tables.Tables.{inserted_table, found_inserted}
 use Rattle.zl_calls.proofs.lists.Updates.{update_unseen}
+use Rattle.zl_calls.proofs.objects.Held.{held_body, held_value, holding_sound, more_handles}
 
 -- ---- one handle more names the object k
-
-held_body : (o : Object) → (held_once_more o).body ≡ o.body
-held_body o = elim (nat_lt o.handles (2 ^ 62)) as (λ b. (cond b (record o { handles = o.handles + 1 }) o).body ≡ o.body) [ true ↦ refl | false ↦ refl ]
-
-held_value : (o : Object) → object_value (held_once_more o) ≡ object_value o
-held_value o =
-    elim (nat_lt o.handles (2 ^ 62)) as (λ b. object_value (cond b (record o { handles = o.handles + 1 }) o) ≡ object_value o) [ true ↦ refl | false ↦ refl ]
-
-held_more : (o : Object) → o.handles < 2 ^ 62 → (held_once_more o).handles ≡ o.handles + 1
-held_more o room = let has : nat_lt o.handles (2 ^ 62) ≡ true = grind (arith, nat_tests, room) in rw has refl
-
-module _ (ps : List Process) (m : Map Entry) (r : Objects) (sound : IsSound ps m r) (v : ℕ) (e : Entry) (free : get m v ≡ None)
-    (room : (o : Object) → get r.objects e.koid ≡ Some o → o.handles < 2 ^ 62) where
-  abbrev k : ℕ
-  k = e.koid
-
-  abbrev more : Objects
-  more = holding r k
-
-  counts : (j : ℕ) → count_by (λ h. h.1.koid == j) (put m v e) ≡ count_by (λ h. h.1.koid == j) m + cond (k == j) 1 0
-  counts j = count_put (λ h. h.1.koid == j) m v e free
-
-  more_tables : (j : ℕ) → handles_to (world_value ps more) j ≡ handles_to (world_value ps r) j
-  more_tables j = same_tables ps r more j (queues_updated held_once_more held_body r.objects k j)
-
-  holding_sound : IsSound ps (put m v e) more
-  unfolding is_process
-  holding_sound = record {
-    processes_in_order = sound.processes_in_order;
-    objects_in_order = rw (is_sorted-update r.objects k held_once_more) sound.objects_in_order;
-    given_processes = sound.given_processes;
-    given_objects = λ j has. sound.given_objects j (sym (has_key-update r.objects k held_once_more j) ∙ has);
-    koids = sound.koids;
-    above_zero = sound.above_zero;
-    no_zero = λ j has. sound.no_zero j (sym (has_key-update r.objects k held_once_more j) ∙ has);
-    tables = sound.tables;
-    named = λ j p value q here in_it. named_updated held_once_more held_body r.objects k q (sound.named j p value q here in_it);
-    queued = queued_updated held_once_more held_body r.objects k sound.queued;
-    counted =
-        λ j q at. found_updated held_once_more r.objects k (q.handles ≡ handles_to (world_value ps more) j + count_by (λ h. h.1.koid == j) (put m v e)) j q at
-        (λ o old here is.
-        let one : ◌≡◌ {A = ℕ} (cond (k == j) 1 0) 1 = rw here refl in
-        let there : get r.objects k ≡ Some o = ap (get r.objects) (eqb-true k j here) ∙ old in
-        let more_is : q.handles ≡ o.handles + 1 = ap (λ (x : Object). x.handles) (sym is) ∙ held_more o (room o there) in
-        omega (arith, more_is, sound.counted j o old, counts j, one, more_tables j))
-        (λ apart old.
-        let none : ◌≡◌ {A = ℕ} (cond (k == j) 1 0) 0 = rw apart refl in
-        omega (arith, sound.counted j q old, counts j, none, more_tables j));
-    agrees =
-        λ j q at. still_agrees (world_value ps r) (world_value ps more) j q.body (λ test. refl)
-        (found_updated held_once_more r.objects k (Agrees (world_value ps r) j q.body) j q at
-        (λ o old here is. subst (λ (x : Object). Agrees (world_value ps r) j x.body) is (rw (held_body o) (sound.agrees j o old)))
-        (λ apart old. sound.agrees j q old));
-    in_jobs = λ j q at. found_updated held_once_more r.objects k (IsTrue (is_in_job more.objects q.body)) j q at
-        (λ o old here is. subst (λ (x : Object). IsTrue (is_in_job more.objects x.body)) is
-        (rw (held_body o, in_job_updated held_once_more held_body r.objects k o.body) (sound.in_jobs j o old)))
-        (λ apart old. rw (in_job_updated held_once_more held_body r.objects k q.body) (sound.in_jobs j q old));
-  }
 
 -- ---- what the handle that is given names
 
@@ -260,8 +201,8 @@ module _ (gs : List Grant) (old new : Made) (p p2 : Process) (so_far : Gives gs 
     named = λ v x at. named_updated held_once_more held_body r.objects e.koid x
         (found_inserted (IsNamed r.objects x) p2.table e value t inserts v x at (λ is. subst (IsNamed r.objects) is is_allowed.named) (so_far.named v x));
     making = record {
-      sound = rw inserts.entries (holding_sound ps p2.table.entries r so_far.making.sound value e inserts.unused room);
-      few = λ k. omega (arith, so_far.making.few k, same_tables ps r r3 k (queues_updated held_once_more held_body r.objects e.koid k));
+      sound = rw inserts.entries (holding_sound ps p2.table.entries r value e so_far.making.sound inserts.unused room);
+      few = λ k. omega (arith, so_far.making.few k, more_handles ps p2.table.entries r value e k);
       unwatched = record { none = so_far.making.unwatched.none; none_made = so_far.making.unwatched.none_made };
       alive = λ j x at. found_updated held_once_more r.objects e.koid (is_killed x.body ≡ false) j x at
           (λ o before here is. subst (λ (y : Object). is_killed y.body ≡ false) is (rw (held_body o) (so_far.making.alive j o before)))

@@ -1,8 +1,8 @@
 -- The statements of a boot on jobs: a job is made in another, and a policy is set.
-use Rattle.zl_calls.proofs.Common.{◌≡◌, ◌+◌, ◌||◌, ℕ, Bool, true, false, List, [], ◌∷◌, refl, sym, ap, ◌∙◌, subst, if◌then◌else◌, Option, Some, None, Result}
-use Rattle.zl_calls.proofs.Common.{Ok, Err, ⊤, OnOk, IsTrue, arith, false≢true, then_some, first_some, Map, get, has_key-update, is_sorted-update, is_process}
-use Rattle.zl_calls.proofs.Common.{runs, Library, boot_effect, boot_fault, with_object, on_object, handles_to, body_of, Objects, with_new, is_job_at, is_job_in}
-use Rattle.zl_calls.proofs.Common.{is_job_body, object_value, body_value, world_value, is_in_job, Agrees, AreNamed, IsSound, IsMaking, IsCauseOf, Makes, seen}
+use Rattle.zl_calls.proofs.Common.{◌≡◌, ◌||◌, ℕ, Bool, true, false, List, [], ◌∷◌, refl, sym, ap, ◌∙◌, subst, if◌then◌else◌, Option, Some, None, Result}
+use Rattle.zl_calls.proofs.Common.{Ok, Err, ⊤, OnOk, IsTrue, arith, false≢true, then_some, first_some, Map, get}
+use Rattle.zl_calls.proofs.Common.{runs, Library, boot_effect, boot_fault, with_object, on_object, body_of, Objects, with_new, is_job_at, is_job_in}
+use Rattle.zl_calls.proofs.Common.{is_job_body, object_value, body_value, is_in_job, IsMaking, IsCauseOf, Makes, seen}
 use Rattle.zl_calls.proofs.Common.{World}
 use Rattle.zl_code.proofs.Common.{Object as ObjectValue}
 use Rattle.zl_code.specs.Boot.{is_job, lacks_koids, setting}
@@ -23,7 +23,7 @@ use Rattle.zl_objects.specs.declared.object.Body.{Body}
 use Rattle.zl_objects.specs.declared.object.Body.TheVariants as body
 use Rattle.zl_objects.specs.declared.object.Object.{Object}
 use Rattle.zl_objects.specs.Jobs.{job_at, new_in, policy_answer, setting_policy, with_policy_body, with_policy_set}
-use Rattle.zl_objects.specs.Objects.{keeper_of, queue_of}
+use Rattle.zl_objects.specs.Objects.{keeper_of}
 use Rattle.zl_objects.specs.Seen.{is_above}
 use Rattle.zl_objects.specs.Signals.{ShowStates}
 use Rattle.zl_objects.proofs.Showing.{job_shown, process_shown}
@@ -35,10 +35,9 @@ use Rattle.zl_calls.specs.declared.booting.Made.{Made}
 use Rattle.zl_calls.proofs.objects.Active.{shown_all}
 use Rattle.zl_calls.proofs.booting.BootFaults.{job_seen}
 use Rattle.zl_calls.proofs.booting.BootObjects.{object_makes}
-use Rattle.zl_calls.proofs.objects.Counting.{same_tables}
-use Rattle.zl_calls.proofs.calls.JobCalls.{IsJobAt, body_seen, job_found, policy_keeps, policy_named, policy_queues, policy_seen, stands_grown}
-use Rattle.zl_calls.proofs.objects.Rebodied.{in_job_too, named_rebodied}
-use Rattle.zl_calls.proofs.objects.SameBodies.{found_updated, still_agrees, still_named}
+use Rattle.zl_calls.proofs.calls.JobCalls.{IsJobAt, body_seen, job_found, policy_keeps, policy_quiet, policy_seen, stands_grown}
+use Rattle.zl_calls.proofs.objects.Rebodied.{quiet_sound, same_handles}
+use Rattle.zl_calls.proofs.objects.SameBodies.{each_updated}
 use Rattle.zl_calls.proofs.lists.Updates.{update_seen}
 
 -- the job k, which is there
@@ -47,10 +46,7 @@ job_there os k is = by_object (get os k) refl is
   where
     by_body : (o : Object) (b : Body) → get os k ≡ Some o → o.body ≡ b → is_job_body b ≡ true → IsJobAt os k
     by_body o (body.Job job) at same h = record { object = o; there = at; job = job; is = same }
-    by_body o (body.Process job lives) at same h = absurd (false≢true h)
-    by_body o body.Event at same h = absurd (false≢true h)
-    by_body o (body.Port port) at same h = absurd (false≢true h)
-    by_body o (body.ChannelEnd peer queue) at same h = absurd (false≢true h)
+    by_body o _ at same h = absurd (false≢true h)
 
     by_object : (o : Option Object) → get os k ≡ o → is_job_in o ≡ true → IsJobAt os k
     by_object None at h = absurd (false≢true h)
@@ -59,47 +55,8 @@ job_there os k is = by_object (get os k) refl is
 -- ---- the policy of a job is set
 
 module _ (ps : List Process) (r : Objects) (making : IsMaking ps [] r) (k : ℕ) (c : Condition) (a : Action) where
-  abbrev sound : IsSound ps [] r
-  sound = making.sound
-
   abbrev changed : Objects
   changed = setting_policy r k c a
-
-  counts : (j : ℕ) → handles_to (world_value ps changed) j ≡ handles_to (world_value ps r) j
-  counts j = same_tables ps r changed j (policy_queues c a r.objects k j)
-
-  as_before : (j : ℕ) (b : Body) → Agrees (world_value ps r) j b → Agrees (world_value ps changed) j b
-  unfolding is_process
-  as_before j b = still_agrees (world_value ps r) (world_value ps changed) j b (λ test. refl)
-
-  set_sound : IsSound ps [] changed
-  set_sound = record {
-    processes_in_order = sound.processes_in_order;
-    objects_in_order = rw (is_sorted-update r.objects k (with_policy_set c a)) sound.objects_in_order;
-    given_processes = sound.given_processes;
-    given_objects = λ j there. sound.given_objects j (sym (has_key-update r.objects k (with_policy_set c a) j) ∙ there);
-    koids = sound.koids;
-    above_zero = sound.above_zero;
-    no_zero = λ j there. sound.no_zero j (sym (has_key-update r.objects k (with_policy_set c a) j) ∙ there);
-    tables = sound.tables;
-    named = λ j p v e at there. named_rebodied (with_policy_body c a) (policy_keeps c a) r.objects k e (sound.named j p v e at there);
-    queued = λ j q at. found_updated (with_policy_set c a) r.objects k (AreNamed changed.objects (queue_of q.body)) j q at
-        (λ o old here is. subst (λ (x : Object). AreNamed changed.objects (queue_of x.body)) is (policy_named c a r k o.body (sound.queued j o old)))
-        (λ apart old. still_named r.objects changed.objects (named_rebodied (with_policy_body c a) (policy_keeps c a) r.objects k) (queue_of q.body)
-        (sound.queued j q old));
-    counted = λ j q at. found_updated (with_policy_set c a) r.objects k (q.handles ≡ handles_to (world_value ps changed) j + 0) j q at
-        (λ o old here is. let same : o.handles ≡ q.handles = ap (λ (x : Object). x.handles) is in omega (arith, same, sound.counted j o old, counts j))
-        (λ apart old. omega (arith, sound.counted j q old, counts j));
-    agrees = λ j q at. as_before j q.body (found_updated (with_policy_set c a) r.objects k (Agrees (world_value ps r) j q.body) j q at
-        (λ o old here is.
-        subst (λ (x : Object). Agrees (world_value ps r) j x.body) is ((policy_keeps c a).agrees (world_value ps r) j o.body (sound.agrees j o old)))
-        (λ apart old. sound.agrees j q old));
-    in_jobs = λ j q at. found_updated (with_policy_set c a) r.objects k (IsTrue (is_in_job changed.objects q.body)) j q at
-        (λ o old here is. subst (λ (x : Object). IsTrue (is_in_job changed.objects x.body)) is
-        (rw ((policy_keeps c a).in_job changed.objects o.body, in_job_too (with_policy_body c a) (policy_keeps c a) r.objects k o.body)
-        (sound.in_jobs j o old)))
-        (λ apart old. rw (in_job_too (with_policy_body c a) (policy_keeps c a) r.objects k q.body) (sound.in_jobs j q old));
-  }
 
   killed_too : (b : Body) → is_killed (with_policy_body c a b) ≡ is_killed b
   killed_too (body.Job job) = refl
@@ -107,12 +64,11 @@ module _ (ps : List Process) (r : Objects) (making : IsMaking ps [] r) (k : ℕ)
 
   set_making : IsMaking ps [] changed
   set_making = record {
-    sound = set_sound;
-    few = λ j. omega (arith, making.few j, counts j);
+    sound = quiet_sound (with_policy_set c a) (policy_keeps c a) (policy_quiet c a) ps r k (λ o. refl) [] making.sound;
+    few = λ j. omega (arith, making.few j, same_handles (with_policy_set c a) (policy_keeps c a) (policy_quiet c a) ps r k j);
     unwatched = record { none = making.unwatched.none; none_made = making.unwatched.none_made };
-    alive = λ j q at. found_updated (with_policy_set c a) r.objects k (is_killed q.body ≡ false) j q at
-        (λ o old here is. subst (λ (x : Object). is_killed x.body ≡ false) is (killed_too o.body ∙ making.alive j o old))
-        (λ apart old. making.alive j q old);
+    alive = each_updated (λ j q. is_killed q.body ≡ false) (with_policy_set c a) r.objects k (λ o old. killed_too o.body ∙ making.alive k o old)
+        (λ j q apart old. making.alive j q old);
   }
 
 -- ---- the statements

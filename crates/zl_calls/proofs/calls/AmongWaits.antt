@@ -1,6 +1,6 @@
 -- A call that looks at registered waits: it is done beside them and any blocked processes, or refused with nothing changed.
-use Rattle.zl_calls.proofs.Common.{◌≡◌, ℕ, Bool, List, [], ◌∷◌, refl, sym, ap, ◌∙◌, subst, None, Option, Result, Ok, Err, Library, Site, first_some, by_look_up}
-use Rattle.zl_calls.proofs.Common.{grows, refusal, replied, taken, Handles, Objects, Does, Replies, operand_of, status_of, values_of, world_blocked}
+use Rattle.zl_calls.proofs.Common.{◌≡◌, ℕ, Bool, List, [], ◌∷◌, refl, sym, ap, ◌∙◌, subst, None, Option, Result, Ok, Err, Library, Site, first_some}
+use Rattle.zl_calls.proofs.Common.{grows, refusal, replied, taken, Handles, Objects, Does, Replies, status_of, values_of, world_blocked}
 use Rattle.zl_calls.proofs.Common.{world_value, IsConsistent, World}
 use Rattle.std.specs.Result.{result_err}
 use Rattle.zl_rights.specs.LookUp.{granted}
@@ -16,43 +16,8 @@ use Rattle.zl_code.proofs.Waiters.{replied_among, with_waiters}
 use Rattle.zl_calls.specs.declared.process.Process.{Process}
 use Rattle.zl_calls.proofs.calls.Answered.{IsWrite, same_world}
 use Rattle.zl_calls.proofs.calls.DoneCalls.{IsCalledAmong}
-use Rattle.zl_calls.proofs.calls.Refused.{TellsNothing, answers, fault_answers, refused_calls}
+use Rattle.zl_calls.proofs.calls.Refused.{TellsNothing, answers, refused_calls}
 use Rattle.zl_calls.proofs.processes.Written.{refusal_keeps}
-
--- ---- two look-ups
-
-module _ (w : World) (p : ℕ) where
-  -- a fault of a look-up is answered, as no policy ends the caller for it
-  pub look_up_answers : (x : Result Entry Status) → by_look_up w p x ≡ answers (result_err x)
-  look_up_answers (Ok e) = refl
-  look_up_answers (Err status.BadHandle) = fault_answers w p condition.BadHandle status.BadHandle
-  look_up_answers (Err status.WrongType) = fault_answers w p condition.WrongObject status.WrongType
-  look_up_answers (Err _) = refl
-
-  -- the refusal of a call with two handle operands, where this is left of it when both are found
-  abbrev pub behind_both : Result Entry Status → Result Entry Status → Option Outcome → Option Outcome
-  behind_both x y rest = first_some (answers (result_err x) ∷ answers (result_err y) ∷ rest ∷ [])
-
-  pub both_looked_up : (one two : Option Entry) (kinds others : List Kind) (needed more : ℕ) (rest : List (Option Outcome))
-      → first_some (first_some (operand_of w p kinds needed one ∷ first_some (operand_of w p others more two ∷ None ∷ []) ∷ []) ∷ None ∷ rest)
-      ≡ behind_both (granted one kinds needed) (granted two others more) (first_some rest)
-  both_looked_up one two kinds others needed more rest =
-      (λ i. first_some (first_some (look_up_answers (granted one kinds needed) i ∷ first_some (look_up_answers (granted two others more) i ∷ None ∷ []) ∷ [])
-      ∷ None ∷ rest))
-      ∙ by_both (granted one kinds needed) (granted two others more)
-    where
-      by_rest : (o : Option Outcome) → o ≡ first_some (o ∷ [])
-      by_rest None = refl
-      by_rest _ = refl
-
-      by_both : (x y : Result Entry Status)
-          → first_some (first_some (answers (result_err x) ∷ first_some (answers (result_err y) ∷ None ∷ []) ∷ []) ∷ None ∷ rest)
-          ≡ behind_both x y (first_some rest)
-      by_both (Ok e) (Ok f) = by_rest (first_some rest)
-      by_both (Ok e) (Err s) = refl
-      by_both (Err s) y = refl
-
--- ---- the call
 
 -- a process of the world, before and after its call
 module _ (lib : Library) (before after : List Process) (r r2 : Objects) (p p2 : Process) (consistent : IsConsistent before r)

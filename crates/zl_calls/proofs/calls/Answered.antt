@@ -2,13 +2,14 @@
 use Rattle.zl_calls.proofs.Common.{◌≡◌, ℕ, List, [], ◌∷◌, refl, sym, ap, ◌∙◌, Option, Some, None, Result, Ok, Err, IsTrue, map, eq-eqb, arith, ⊤, IfSome}
 use Rattle.zl_calls.proofs.Common.{nat_tests, subst, true, and_from, Map, get, put, update, may_get_all, Handles, Site, table_of, on_process, process_with}
 use Rattle.zl_calls.proofs.Common.{may_get, replied, cpu_answered, Inserts, Objects, Replies, status_of, values_of, no_value, process_entry, process_value}
-use Rattle.zl_calls.proofs.Common.{world_value, World}
-use Rattle.zl_code.proofs.Common.{Process as ProcessValue}
+use Rattle.zl_calls.proofs.Common.{world_value, World, object_value, on_object}
+use Rattle.zl_code.proofs.Common.{Object as ObjectValue, Process as ProcessValue}
+use Rattle.zl_objects.specs.declared.object.Object.{Object}
 use Rattle.zl_rights.specs.declared.status.Status.{Status}
 use Rattle.zl_rights.specs.declared.status.Status.TheVariants as status
 use Rattle.zl_rights.specs.declared.entry.Entry.{Entry}
 use Rattle.zl_calls.specs.declared.process.Process.{Process}
-use Rattle.zl_calls.proofs.lists.Updates.{update_twice}
+use Rattle.zl_calls.proofs.lists.Updates.{update_itself, update_seen, update_twice}
 
 -- an answer that is a status alone
 pub replies_none : (s : Site) (p p2 : Process) (answer : Result ⊤ Status) → Replies s (status_of answer) (values_of no_value answer) p p2
@@ -99,6 +100,18 @@ module _ (before after : List Process) (p p2 : Process) (write : IsWrite before 
     where
       entries_are : p2.table.entries ≡ put (put p.table.entries one first) two second
       entries_are = then_enters.entries ∙ ap (λ (m : Map Entry). put m two second) enters.entries
+
+  -- the registers and one object change
+  pub replied_changed : (r r2 : Objects) (k : ℕ) (f : Object → Object) (g : ObjectValue → ObjectValue)
+      → ((o : Object) → object_value (f o) ≡ g (object_value o))
+      → r2 ≡ record r { objects = update r.objects k f } → p2.table ≡ p.table → (s : Site) (values : List ℕ) → Replies s status.Ok values p p2
+      → world_value after r2 ≡ replied (on_object (world_value before r) k g) p.pid s status.Ok values
+  unfolding on_object
+  replied_changed r r2 k f g seen objects table s values replies =
+      replied_with r2 s status.Ok values (λ q. q) (on_object (world_value before r) k g) (sym (update_itself (map process_entry before) p.pid))
+      (ap (λ (os : Map ObjectValue). record (world_value before r) { processes = map process_entry after; objects = os })
+      (sym (update_seen object_value r.objects k f g seen)) ∙ ap (world_value after) (sym objects))
+      (ap process_value replies ∙ rw table refl)
 
   -- the registers alone change
   pub same_world : (r r2 : Objects) (s : Site) (answer : Status) (values : List ℕ) → p2.table ≡ p.table → r2 ≡ r → Replies s answer values p p2

@@ -1,9 +1,9 @@
 -- The call wait_async, from its table and objects to a step beside the registered waits.
 use Rattle.zl_calls.proofs.Common.{◌≡◌, ℕ, Bool, true, false, not, List, [], ◌∷◌, ◌++◌, ◌+◌, refl, sym, ap, ◌∙◌, subst, Option, Some, None, Result, Ok, Err}
-use Rattle.zl_calls.proofs.Common.{IsTrue, get, Ready, Library, Site, site, refusal, handle_operands, examined, operand, any, listed, answer_if, first_some}
+use Rattle.zl_calls.proofs.Common.{IsTrue, get, Ready, Library, Site, site, refusal, handle_operands, any, listed, answer_if, first_some}
 use Rattle.zl_calls.proofs.Common.{then_some, option_or, may_choose, new_handles, insert_all, remove_all, taken_handles, effect, gives_ok, gives_refused}
 use Rattle.zl_calls.proofs.Common.{AtCall, next_for, Values, replied, taken, Objects, IsAnswered, Replies, told_by, no_value, process_value, state_value}
-use Rattle.zl_calls.proofs.Common.{world_blocked, world_value, IsConsistent, World}
+use Rattle.zl_calls.proofs.Common.{world_blocked, world_value, IsConsistent, World, operands_fault}
 use Rattle.zl_rights.specs.Numbers.{WAIT, WRITE}
 use Rattle.zl_rights.specs.World.{Wait as WaitValue}
 use Rattle.zl_rights.specs.declared.entry.Entry.{Entry}
@@ -21,12 +21,11 @@ use Rattle.zl_calls.specs.declared.process.Process.{Process}
 use Rattle.zl_calls.specs.calls.Async.{RegistersWait, WaitAsyncDoes, async_refusal, async_refusal_of, wait_for}
 use Rattle.zl_calls.specs.calls.Port.{port_at}
 use Rattle.zl_rights.specs.LookUp.{looked_up}
-use Rattle.zl_calls.proofs.calls.AmongWaits.{answered_among, behind_both, both_looked_up, ends_among}
+use Rattle.zl_calls.proofs.calls.AmongWaits.{answered_among, ends_among}
 use Rattle.zl_calls.proofs.calls.Answered.{IsWrite, same_world, table_is}
 use Rattle.zl_calls.proofs.objects.SameButWaits.{beside_consistent, beside_world, watching_beside}
 use Rattle.zl_calls.proofs.calls.DoneCalls.{IsCalledAmong}
-use Rattle.zl_calls.proofs.calls.Refused.{answers}
-use Rattle.zl_calls.proofs.calls.WriteCalls.{is_found}
+use Rattle.zl_calls.proofs.calls.Refused.{answers, is_found, both_looked_up, two_tests}
 use Rattle.zl_calls.proofs.processes.Written.{refusal_keeps}
 
 -- a process of the world, before and after its call
@@ -41,38 +40,14 @@ module _ (lib : Library) (before after : List Process) (r r2 : Objects) (p p2 : 
 
     -- ---- the answer
 
-    by_tests : (fits may : Bool) → first_some (answer_if (not fits) status.InvalidArgs ∷ answer_if (not may) status.NoResources ∷ [])
-        ≡ answers (option_or (then_some (not fits) status.InvalidArgs) (then_some (not may) status.NoResources))
-    by_tests false may = refl
-    by_tests true true = refl
-    by_tests true false = refl
-
-    by_both : (blocked : List ℕ) (x y : Result Entry Status)
-        → behind_both (among blocked) p.pid x y
-        (first_some (answer_if (not (is_mask mask)) status.InvalidArgs ∷ answer_if (not (may_register r)) status.NoResources ∷ []))
-        ≡ answers (async_refusal_of r mask x y)
-    by_both blocked (Ok e) (Ok f) =
-        ap (λ (o : Option Outcome). first_some (o ∷ [])) (by_tests (is_mask mask) (may_register r)) ∙ alone (async_refusal_of r mask (Ok e) (Ok f))
-      where
-        alone : (o : Option Status) → first_some (answers o ∷ []) ≡ answers o
-        alone None = refl
-        alone (Some s) = refl
-    by_both blocked (Ok e) (Err s) = refl
-    by_both blocked (Err s) y = refl
-
     async_refused : (blocked : List ℕ) → refusal lib (among blocked) p.pid (wait_async h port key mask) ≡ answers (async_refusal p.table.entries r h port mask)
-    unfolding refusal handle_operands examined operand listed
+    unfolding handle_operands operands_fault listed
     async_refused blocked =
-        rw (table_is before after p p2 write r)
-        (both_looked_up (among blocked) p.pid (get p.table.entries h) (get p.table.entries port) any (kind.Port ∷ []) WAIT WRITE
-        (answer_if (not (is_mask mask)) status.InvalidArgs ∷ answer_if (not (may_register r)) status.NoResources ∷ [])
-        ∙ by_both blocked (looked_up p.table.entries h [] WAIT) (port_at p.table.entries port WRITE))
+        both_looked_up lib (among blocked) p.pid p.table.entries (table_is before after p p2 write r) async_site.request
+        (async_refusal p.table.entries r h port mask) h port any (kind.Port ∷ []) WAIT WRITE refl (λ s is. rw is refl) (λ e s is fails. rw (is, fails) refl)
+        (λ e f is are at also. rw (is, are) (two_tests (not (is_mask mask)) (not (may_register r)) status.InvalidArgs status.NoResources))
 
     -- ---- the relation of calls
-
-    async_chosen : (blocked : List ℕ) → IsTrue (may_choose (among blocked) (taken (among blocked) p.pid async_site) p.pid (wait_async h port key mask) [])
-    unfolding may_choose new_handles remove_all taken_handles handle_operands
-    async_chosen blocked = rw write.there refl
 
     module _ (registers : RegistersWait p.pid p.table r h port key mask p2.table r2) (replies : Replies async_site status.Ok [] p p2) where
       abbrev wait : Wait
@@ -102,9 +77,9 @@ module _ (lib : Library) (before after : List Process) (r r2 : Objects) (p p2 : 
           (ap (λ (x : Objects). x.waits_made) registers.objects)
 
       async_done : IsCalledAmong lib before after r r2 p.pid async_site (outcome.Answered status.Ok)
-      unfolding effect gives_ok new_handles insert_all remove_all taken_handles handle_operands
+      unfolding may_choose effect gives_ok new_handles insert_all remove_all taken_handles handle_operands
       async_done = record {
-        calls = λ blocked. (Values [], rw (async_refused blocked, registers.unrefused) (async_chosen blocked, refl, async_ends blocked));
+        calls = λ blocked. (Values [], rw (async_refused blocked, registers.unrefused) (rw write.there refl, refl, async_ends blocked));
         keeps = subst (IsConsistent after) (sym registers.objects) (beside_consistent after r (watching r wait) (watching_beside r wait)
             (refusal_keeps before after p p2 write r consistent registers.table (ap (λ (q : Process). q.state) replies)));
       }

@@ -1,9 +1,9 @@
 -- The call port_cancel, from its table and objects to a step beside the registered waits.
 use Rattle.zl_calls.proofs.Common.{◌≡◌, ℕ, Bool, true, false, not, ◌||◌, List, [], ◌∷◌, refl, ◌∙◌, Option, Result, Ok, Err, IsTrue, list_any, get, Ready}
-use Rattle.zl_calls.proofs.Common.{Library, Site, site, refusal, handle_operands, examined, operand, any, listed, answer_if, first_some, then_some, may_choose}
+use Rattle.zl_calls.proofs.Common.{Library, Site, site, refusal, handle_operands, any, listed, answer_if, first_some, then_some, may_choose}
 use Rattle.zl_calls.proofs.Common.{new_handles, insert_all, remove_all, taken_handles, effect, on_object, gives_ok, gives_refused, AtCall, next_for, Values}
 use Rattle.zl_calls.proofs.Common.{replied, taken, koid_in, body_of, Objects, IsAnswered, Replies, told_by, no_value, process_value, state_value, world_blocked}
-use Rattle.zl_calls.proofs.Common.{world_value, IsConsistent, World}
+use Rattle.zl_calls.proofs.Common.{world_value, IsConsistent, World, operands_fault}
 use Rattle.std.specs.List.{filter}
 use Rattle.zl_rights.specs.LookUp.{granted, looked_up}
 use Rattle.zl_rights.specs.Numbers.{WRITE}
@@ -23,13 +23,12 @@ use Rattle.zl_objects.specs.Ports.{changing_port, packets_in}
 use Rattle.zl_calls.specs.declared.process.Process.{Process}
 use Rattle.zl_calls.specs.calls.Async.{Cancels, PortCancelDoes, cancel_refusal, cancel_refusal_of, source_of}
 use Rattle.zl_calls.specs.calls.Port.{port_at}
-use Rattle.zl_calls.proofs.calls.AmongWaits.{answered_among, behind_both, both_looked_up, ends_among}
+use Rattle.zl_calls.proofs.calls.AmongWaits.{answered_among, ends_among}
 use Rattle.zl_calls.proofs.calls.Answered.{IsWrite, table_is}
 use Rattle.zl_calls.proofs.objects.SameButWaits.{beside_consistent, beside_world}
 use Rattle.zl_calls.proofs.calls.DoneCalls.{IsCalledAmong}
-use Rattle.zl_calls.proofs.calls.Refused.{answers}
+use Rattle.zl_calls.proofs.calls.Refused.{answers, is_found, both_looked_up, one_test}
 use Rattle.zl_calls.proofs.calls.Repacked.{packets_there, port_ends, port_kept}
-use Rattle.zl_calls.proofs.calls.WriteCalls.{is_found}
 
 -- a process of the world, before and after its call
 module _ (lib : Library) (before after : List Process) (r r2 : Objects) (p p2 : Process) (consistent : IsConsistent before r)
@@ -43,44 +42,18 @@ module _ (lib : Library) (before after : List Process) (r r2 : Objects) (p p2 : 
 
     -- ---- the answer
 
-    -- the source of the waits that the process makes by its handle source to the object k
-    abbrev source_to : ℕ → Source
-    source_to k = record { pid = p.pid; value = source; object = k }
-
-    -- such a wait gives its packet to the port k, or such a packet is among these
-    abbrev is_any : (k object : ℕ) → List Packet → Bool
-    is_any k object packets = list_any (is_keyed p.pid source k key) r.waits || list_any (is_from (source_to object) key) packets
-
-    by_both : (blocked : List ℕ) (one two : Option Entry) (x y : Result Entry Status) → granted one (kind.Port ∷ []) WRITE ≡ x → granted two [] 0 ≡ y
-        → behind_both (among blocked) p.pid x y
-        (first_some (answer_if (not (is_any (koid_in one) (koid_in two) (packets_seen (body_of (among blocked) (koid_in one))))) status.NotFound ∷ []))
-        ≡ answers (cancel_refusal_of r p.pid source key x y)
-    by_both blocked one two (Ok e) (Ok f) is_e is_f =
-        rw (is_found one (kind.Port ∷ []) WRITE e is_e, is_found two [] 0 f is_f, packets_there r.objects e.koid)
-        (by_test (is_any e.koid f.koid (packets_in (get r.objects e.koid))))
-      where
-        by_test : (b : Bool) → first_some (first_some (answer_if (not b) status.NotFound ∷ []) ∷ []) ≡ answers (then_some (not b) status.NotFound)
-        by_test true = refl
-        by_test false = refl
-    by_both blocked one two (Ok e) (Err s) is_e is_f = refl
-    by_both blocked one two (Err s) y is_e is_f = refl
-
     cancel_refused : (blocked : List ℕ)
         → refusal lib (among blocked) p.pid (port_cancel port source key) ≡ answers (cancel_refusal p.table.entries r p.pid port source key)
-    unfolding refusal handle_operands examined operand listed
+    unfolding handle_operands operands_fault listed
     cancel_refused blocked =
-        rw (table_is before after p p2 write r)
-        (both_looked_up (among blocked) p.pid (get p.table.entries port) (get p.table.entries source) (kind.Port ∷ []) any WRITE 0
-        (answer_if (not (is_any (koid_in (get p.table.entries port)) (koid_in (get p.table.entries source))
-        (packets_seen (body_of (among blocked) (koid_in (get p.table.entries port)))))) status.NotFound ∷ [])
-        ∙ by_both blocked (get p.table.entries port) (get p.table.entries source) (port_at p.table.entries port WRITE)
-        (looked_up p.table.entries source [] 0) refl refl)
+        both_looked_up lib (among blocked) p.pid p.table.entries (table_is before after p p2 write r) cancel_site.request
+        (cancel_refusal p.table.entries r p.pid port source key) port source (kind.Port ∷ []) any WRITE 0 refl (λ s is. rw is refl)
+        (λ e s is fails. rw (is, fails) refl)
+        (λ e f is are at also. rw (is, are, table_is before after p p2 write r, at, also, packets_there r.objects e.koid)
+        (one_test (not (list_any (is_keyed p.pid source e.koid key) r.waits
+        || list_any (is_from (source_of p.pid source f) key) (packets_in (get r.objects e.koid)))) status.NotFound))
 
     -- ---- the relation of calls
-
-    cancel_chosen : (blocked : List ℕ) → IsTrue (may_choose (among blocked) (taken (among blocked) p.pid cancel_site) p.pid (port_cancel port source key) [])
-    unfolding may_choose new_handles remove_all taken_handles handle_operands
-    cancel_chosen blocked = rw write.there refl
 
     module _ (cancels : Cancels p.pid p.table r port source key p2.table r2) (replies : Replies cancel_site status.Ok [] p p2) where
       abbrev k : ℕ
@@ -120,9 +93,9 @@ module _ (lib : Library) (before after : List Process) (r r2 : Objects) (p p2 : 
           cancels.ends.waits cancels.ends.made)
 
       cancel_done : IsCalledAmong lib before after r r2 p.pid cancel_site (outcome.Answered status.Ok)
-      unfolding effect gives_ok new_handles insert_all remove_all taken_handles handle_operands
+      unfolding may_choose effect gives_ok new_handles insert_all remove_all taken_handles handle_operands
       cancel_done = record {
-        calls = λ blocked. (Values [], rw (cancel_refused blocked, cancels.unrefused) (cancel_chosen blocked, refl, cancel_ends blocked));
+        calls = λ blocked. (Values [], rw (cancel_refused blocked, cancels.unrefused) (rw write.there refl, refl, cancel_ends blocked));
         keeps = beside_consistent after emptied r2 cancels.ends.beside
             (port_kept before after r emptied p p2 consistent write k without_them left (λ x. refl) refl cancels.table cancel_site [] replies);
       }

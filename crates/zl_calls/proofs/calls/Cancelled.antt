@@ -123,11 +123,8 @@ uncancelled (e ∷ m) k test none = elim (cases_Bool (e.0 == k)) as (λ _. updat
 ]
   where
     by_body : (b : Body) → length (filter test (packets_of b)) ≡ 0 → changed_port (λ p. without_packets p test) b ≡ b
-    by_body (body.Job own) gone = refl
-    by_body (body.Process job lives) gone = refl
-    by_body body.Event gone = refl
-    by_body (body.ChannelEnd peer queue) gone = refl
     by_body (body.Port p) gone = ap (λ (xs : List Packet). body.Port (record p { packets = xs })) (none_counted test p.packets gone).1
+    by_body _ gone = refl
 
 -- the port and the handle source were found, and the packets counted
 module _ (t : Handles) (r : Objects) (pid port source key : ℕ) (receiver named : Entry) (is_receiver : port_at t.entries port WRITE ≡ Ok receiver)

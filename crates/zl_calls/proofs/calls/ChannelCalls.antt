@@ -1,18 +1,15 @@
 -- The calls on channels: chan_create, from its table and objects to a step.
 use Rattle.zl_calls.proofs.Common.{◌≡◌, ◌≤◌, ◌+◌, ◌^◌, ℕ, Bool, true, false, not, ◌&&◌, ◌==◌, List, [], ◌∷◌, map, length, refl, sym, ap, ◌∙◌, subst, cond, None}
-use Rattle.zl_calls.proofs.Common.{IsTrue, arith, nat_le, nat_tests, ne_eqb, Some, none-some, and_parts, count_by, sum_by-cons, then_some, first_some, Map, get}
-use Rattle.zl_calls.proofs.Common.{put, Ready, ChannelEnd, Library, Site, site, examined, has_room, has_koids, handles_to, table_of, answer_if, refusal}
+use Rattle.zl_calls.proofs.Common.{IsTrue, arith, nat_le, nat_tests, ne_eqb, Some, none-some, and_parts, count_by, sum_by-cons, then_some, Map, get}
+use Rattle.zl_calls.proofs.Common.{put, ChannelEnd, Library, Site, site, has_room, has_koids, handles_to, refusal}
 use Rattle.zl_calls.proofs.Common.{handle_operands, listed, may_choose, new_handles, insert_all, remove_all, taken_handles, effect, with_effect, with_object}
-use Rattle.zl_calls.proofs.Common.{gives_ok, gives_refused, AtCall, next_for, Values, replied, taken, new_entry, IsTable, Inserts, Handles, Objects, new_object}
-use Rattle.zl_calls.proofs.Common.{with_new, IsAnswered, told_by, Replies, process_entry, process_value, state_value, world_value, object_value, IsConsistent}
-use Rattle.zl_calls.proofs.Common.{IsNamed, runs, World}
+use Rattle.zl_calls.proofs.Common.{gives_ok, gives_refused, Values, replied, taken, new_entry, IsTable, Inserts, Handles, Objects, new_object}
+use Rattle.zl_calls.proofs.Common.{with_new, told_by, Replies, process_entry, process_value, world_value, object_value, IsConsistent}
+use Rattle.zl_calls.proofs.Common.{IsNamed, runs, World, operands_fault}
 use Rattle.zl_code.proofs.Common.{Object as ObjectValue, chan_create}
 use Rattle.zl_rights.specs.declared.kind.Kind.TheVariants as kind
 use Rattle.zl_rights.specs.declared.status.Status.TheVariants as status
 use Rattle.zl_rights.specs.declared.entry.Entry.{Entry}
-use Rattle.zl_rights.specs.declared.policy.Condition.TheVariants as condition
-use Rattle.zl_code.specs.declared.history.CallName.{CallName}
-use Rattle.zl_code.specs.declared.history.Outcome.{Outcome}
 use Rattle.zl_code.specs.declared.history.Outcome.TheVariants as outcome
 use Rattle.zl_objects.specs.declared.object.Body.{Body}
 use Rattle.zl_objects.specs.declared.object.Body.TheVariants as body
@@ -21,22 +18,13 @@ use Rattle.zl_calls.specs.calls.Answer.{two_values}
 use Rattle.zl_calls.specs.calls.Channel.{ChanCreateDoes, CreatesChannel, channel_refusal}
 use Rattle.zl_calls.proofs.calls.Answered.{IsWrite, table_is, may_get_both, replied_inserted_two}
 use Rattle.zl_calls.proofs.objects.Counting.{count_put, counts_written}
-use Rattle.zl_calls.proofs.calls.DoneCalls.{IsDone, IsCalled, answered_done}
-use Rattle.zl_calls.proofs.objects.Grown.{IsGrowing, entered, grown_named, grown_one, grown_seen, growing_none, there_grown}
+use Rattle.zl_calls.proofs.calls.DoneCalls.{IsDoneBy, IsCalled, answered_done}
+use Rattle.zl_calls.proofs.objects.Grown.{IsGrowing, grown_named, grown_one, grown_seen, growing_none, there_grown}
 use Rattle.zl_calls.proofs.objects.Settled.{sound_of}
-use Rattle.zl_calls.proofs.calls.Refused.{answers, may_create}
+use Rattle.zl_calls.proofs.calls.Refused.{answers, one_test}
 use Rattle.zl_calls.proofs.tables.Tables.{inserted_table, found_inserted}
 use Rattle.zl_calls.proofs.tables.Taking.{one_longer}
-
--- ---- the answer of chan_create
-
-chan_create_refused : (lib : Library) (w : World) (p : ℕ) → refusal lib w p chan_create ≡ answers (channel_refusal (table_of w p) w.next_koid)
-unfolding refusal handle_operands examined listed has_room has_koids
-chan_create_refused lib w p = rw (may_create w p condition.NewChannel) (by_test (nat_le (length (table_of w p) + 2) 1024 && nat_le (w.next_koid + 2) (2 ^ 62)))
-  where
-    by_test : (b : Bool) → first_some (None ∷ None ∷ answer_if (not b) status.NoResources ∷ []) ≡ answers (then_some (not b) status.NoResources)
-    by_test true = refl
-    by_test false = refl
+use Rattle.zl_calls.proofs.processes.Written.{entered, same_agrees}
 
 koids_left : (entries : Map Entry) (n : ℕ) → channel_refusal entries n ≡ None → n + 2 ≤ 2 ^ 62
 koids_left entries n unrefused = by_test (nat_le (length entries + 2) 1024 && nat_le (n + 2) (2 ^ 62)) refl unrefused
@@ -62,7 +50,10 @@ module _ (lib : Library) (before after : List Process) (r r2 : Objects) (p p2 : 
   create_site = site chan_create consumed destinations
 
   refused : refusal lib w p.pid chan_create ≡ answers (channel_refusal p.table.entries r.next_koid)
-  refused = chan_create_refused lib w p.pid ∙ rw (table_is before after p p2 write r) refl
+  unfolding refusal handle_operands operands_fault listed has_room has_koids
+  refused =
+      rw (table_is before after p p2 write r)
+      (one_test (not (nat_le (length p.table.entries + 2) 1024 && nat_le (r.next_koid + 2) (2 ^ 62))) status.NoResources)
 
   module _ (made : ℕ × ℕ) (creates : CreatesChannel p.table r made p2.table r2) (replies : Replies create_site status.Ok (two_values made) p p2) where
     abbrev n : ℕ
@@ -172,16 +163,14 @@ module _ (lib : Library) (before after : List Process) (r r2 : Objects) (p p2 : 
     unfolding gives_ok
     chan_create_called = record {
       calls = (Values (two_values made), rw (refused, creates.unrefused) (chosen, refl, ends));
-      keeps = rw creates.objects (entered before after p p2 write (ap (λ (q : Process). q.state) replies) ((made.1, second) ∷ (made.0, first) ∷ []) with_both
-          growing_both table named counts);
+      keeps = rw creates.objects (entered before after p p2 write ((made.1, second) ∷ (made.0, first) ∷ []) with_both growing_both.sound growing_both.kept
+          (same_agrees before after p p2 write (ap (λ (q : Process). q.state) replies) with_both) table named counts);
     }
 
   -- ---- the step
 
-  pub chan_create_done : state_value p.state ≡ Ready → (call : CallName) → next_for lib (process_value p) ≡ AtCall call create_site → (o : Outcome)
-      → IsAnswered (told_by two_values) ChanCreateDoes create_site p r o p2 r2 → IsDone lib before after r r2 p.pid call o
+  pub chan_create_done : IsDoneBy lib before after r r2 p p2 create_site (told_by two_values) ChanCreateDoes
   unfolding taken_handles handle_operands remove_all gives_refused
-  chan_create_done ready call next o acts =
-      answered_done lib before after r r2 p p2 consistent write ready call create_site next two_values (CreatesChannel p.table r) true
-      (channel_refusal p.table.entries r.next_koid)
-      refused refl refl (λ answer. refl) chan_create_called o acts.answer acts.acts acts.replied acts.ends
+  chan_create_done =
+      answered_done lib before after r r2 p p2 consistent write create_site two_values ChanCreateDoes (CreatesChannel p.table r) true
+      (channel_refusal p.table.entries r.next_koid) (λ answer acts. acts) refused refl refl (λ answer. refl) chan_create_called

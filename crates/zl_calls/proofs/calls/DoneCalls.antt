@@ -1,13 +1,14 @@
 -- That a call is done: it is a step up to where processes wake, and the invariant holds afterwards.
 use Rattle.zl_calls.proofs.Common.{◌≡◌, ℕ, Bool, List, [], ap, sym, ◌∙◌, subst, Option, Result, Ok, Err, Ready, Library, Site, refusal, AtCall, next_for, Calls}
 use Rattle.zl_calls.proofs.Common.{grows, replied, taken, Handles, Objects, Does, Replies, status_of, values_of, process_value, state_value, world_blocked}
-use Rattle.zl_calls.proofs.Common.{world_value, IsConsistent, World, IsActed}
+use Rattle.zl_calls.proofs.Common.{world_value, IsConsistent, World, IsActed, IsAnswered, told_by}
 use Rattle.zl_rights.specs.declared.status.Status.{Status}
 use Rattle.zl_rights.specs.declared.status.Status.TheVariants as status
 use Rattle.zl_code.specs.declared.history.CallName.{CallName}
 use Rattle.zl_code.specs.declared.history.Outcome.{Outcome}
 use Rattle.zl_code.specs.declared.history.Outcome.TheVariants as outcome
 use Rattle.zl_code.specs.declared.history.TraceItem.TheVariants as item
+use Rattle.zl_calls.specs.calls.Answer.{Told}
 use Rattle.zl_calls.specs.declared.process.Process.{Process}
 use Rattle.zl_calls.proofs.calls.Answered.{IsWrite, same_world}
 use Rattle.zl_calls.proofs.stepping.FromConsistent.{IsFree, call_settles}
@@ -31,24 +32,32 @@ pub record IsCalledAmong (lib : Library) (before after : List Process) (r r2 : O
   pub calls : (blocked : List ℕ) → Calls lib (world_blocked before r blocked) pid s ends (world_blocked after r2 blocked)
   pub keeps : IsConsistent after r2
 
--- a ready process of the world, at the call
+-- a ready process at the call of the site that is answered so has done it
+abbrev pub IsDoneBy : {A : Type 0} → Library → (before after : List Process) (r r2 : Objects) (p p2 : Process) → Site → (A → Told)
+    → (Handles → Objects → A → Handles → Objects → Type 0) → Type 0
+IsDoneBy lib before after r r2 p p2 s told Acts =
+    state_value p.state ≡ Ready → (call : CallName) → next_for lib (process_value p) ≡ AtCall call s → (o : Outcome) → IsAnswered told Acts s p r o p2 r2
+    → IsDone lib before after r r2 p.pid call o
+
+-- a process of the world, before and after its call
 module _ (lib : Library) (before after : List Process) (r r2 : Objects) (p p2 : Process) (consistent : IsConsistent before r)
-    (write : IsWrite before after p p2)
-    (ready : state_value p.state ≡ Ready)
-    (call : CallName) (s : Site) (next : next_for lib (process_value p) ≡ AtCall call s) where
+    (write : IsWrite before after p p2) where
   abbrev w : World
   w = world_value before r
 
   -- a call after which all is held
-  pub called_done : (ends : Outcome) → IsCalled lib before after r r2 p.pid s ends → IsDone lib before after r r2 p.pid call ends
-  called_done ends called = record {
+  pub called_done : state_value p.state ≡ Ready → (call : CallName) (s : Site) → next_for lib (process_value p) ≡ AtCall call s → (ends : Outcome)
+      → IsCalled lib before after r r2 p.pid s ends → IsDone lib before after r r2 p.pid call ends
+  called_done ready call s next ends called = record {
     step = call_settles lib before after r r2 r2 p call s ends write.there ready next called.calls
         (still_settles after r2 called.keeps);
     consistent = called.keeps;
   }
 
   -- a call that takes no handle and is either done or refused
-  module _ {A : Type 0} (values : A → List ℕ) (Done : A → Handles → Objects → Type 0) (wants : Bool) (o : Option Status)
+  module _ {A : Type 0} (s : Site) (values : A → List ℕ) (Acts : Handles → Objects → Result A Status → Handles → Objects → Type 0)
+      (Done : A → Handles → Objects → Type 0) (wants : Bool) (o : Option Status)
+      (does : (answer : Result A Status) → Acts p.table r answer p2.table r2 → Does Done wants o p.table r answer p2.table r2)
       (refused : refusal lib w p.pid s.request ≡ answers o) (may_want : wants ≡ grows s.request) (takes_none : taken w p.pid s ≡ w)
       (nothing : TellsNothing lib w p.pid s)
       (done : (x : A) → Done x p2.table r2 → Replies s status.Ok (values x) p p2 → IsCalled lib before after r r2 p.pid s (outcome.Answered status.Ok)) where
@@ -63,8 +72,7 @@ module _ (lib : Library) (before after : List Process) (r r2 : Objects) (p p2 : 
           (refusal_keeps before after p p2 write r consistent does.same_table (ap (λ (q : Process). q.state) replies));
     }
 
-    pub answered_done : (ends : Outcome) (answer : Result A Status) → Does Done wants o p.table r answer p2.table r2
-        → Replies s (status_of answer) (values_of values answer) p p2
-        → ends ≡ outcome.Answered (status_of answer) → IsDone lib before after r r2 p.pid call ends
-    answered_done ends answer does replies is =
-        called_done ends (subst (λ (x : Outcome). IsCalled lib before after r r2 p.pid s x) (sym is) (by_answer answer does replies))
+    pub answered_done : IsDoneBy lib before after r r2 p p2 s (told_by values) Acts
+    answered_done ready call next ends acts =
+        called_done ready call s next ends (subst (λ (x : Outcome). IsCalled lib before after r r2 p.pid s x) (sym acts.ends)
+        (by_answer acts.answer (does acts.answer acts.acts) acts.replied))

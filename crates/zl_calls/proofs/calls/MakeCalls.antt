@@ -1,15 +1,13 @@
 -- A call that makes one object: how it is refused, and what is left of the world and of the invariant. Each call that makes one goes by it.
-use Rattle.zl_calls.proofs.Common.{subst, Inserts, ◌≡◌, ◌<◌, ◌+◌, ◌^◌, ◌&&◌, ◌==◌, ℕ, Bool, true, false, not, List, [], ◌∷◌, map, length, refl, ap, ◌∙◌, cond}
-use Rattle.zl_calls.proofs.Common.{Some, None, IsTrue, nat_le, nat_tests, arith, none-some, sym, sum_by-cons, then_some, first_some, Map, get, Library, Site}
-use Rattle.zl_calls.proofs.Common.{Ready, AtCall, next_for, Values, refusal, grows, taken, answer_if, with_object, replied, may_get, new_entry, on_process}
-use Rattle.zl_calls.proofs.Common.{process_with, is_process, Objects, new_object, with_new, Replies, IsAnswered, told_by, one_value, has_room_in, process_entry}
-use Rattle.zl_calls.proofs.Common.{process_value, body_value, state_value, world_value, Agrees, is_in_job, IsConsistent, IsNamed, World}
+use Rattle.zl_calls.proofs.Common.{Inserts, ◌≡◌, ◌<◌, ◌+◌, ◌^◌, ◌&&◌, ℕ, Bool, true, false, not, List, [], ◌∷◌, map, length, refl, ap, ◌∙◌}
+use Rattle.zl_calls.proofs.Common.{Some, None, IsTrue, nat_le, nat_tests, arith, none-some, sym, then_some, first_some, Map, get, Library, Site}
+use Rattle.zl_calls.proofs.Common.{Values, refusal, grows, taken, answer_if, with_object, replied, may_get, new_entry, on_process}
+use Rattle.zl_calls.proofs.Common.{process_with, is_process, Objects, new_object, with_new, Replies, told_by, one_value, has_room_in, process_entry}
+use Rattle.zl_calls.proofs.Common.{process_value, body_value, world_value, Agrees, is_in_job, IsConsistent, IsNamed, World}
 use Rattle.zl_code.proofs.Common.{Object as ObjectValue, State as StateValue}
 use Rattle.zl_rights.specs.declared.status.Status.TheVariants as status
 use Rattle.zl_rights.specs.declared.entry.Entry.{Entry}
 use Rattle.zl_code.specs.Calls.{CallBy}
-use Rattle.zl_code.specs.declared.history.CallName.{CallName}
-use Rattle.zl_code.specs.declared.history.Outcome.{Outcome}
 use Rattle.zl_code.specs.declared.history.Outcome.TheVariants as outcome
 use Rattle.zl_objects.specs.declared.object.Body.{Body}
 use Rattle.zl_objects.specs.declared.object.Body.TheVariants as body
@@ -18,24 +16,18 @@ use Rattle.zl_objects.specs.Objects.{kind_in, queue_of}
 use Rattle.zl_calls.specs.declared.process.Process.{Process}
 use Rattle.zl_calls.specs.calls.Making.{MakeDoes, MakesOne, room_refusal}
 use Rattle.zl_calls.proofs.calls.Answered.{IsWrite, may_get_inserted, replied_inserted}
-use Rattle.zl_calls.proofs.calls.DoneCalls.{IsCalled, IsDone, answered_done}
-use Rattle.zl_calls.proofs.objects.Grown.{IsGrowing, entered, grown_one, grown_seen, growing_none, there_grown}
-use Rattle.zl_calls.proofs.calls.Refused.{TellsNothing, answers}
+use Rattle.zl_calls.proofs.calls.DoneCalls.{IsCalled, IsDoneBy, answered_done}
+use Rattle.zl_calls.proofs.objects.Grown.{IsGrowing, grown_one, grown_seen, growing_none, there_grown}
+use Rattle.zl_calls.proofs.calls.Refused.{TellsNothing, answers, one_test}
 use Rattle.zl_calls.proofs.objects.Settled.{sound_of}
-use Rattle.zl_calls.proofs.tables.Tables.{found_inserted, inserted_table}
-use Rattle.zl_calls.proofs.processes.Written.{inserted_counts}
+use Rattle.zl_calls.proofs.processes.Written.{one_entered}
 
 -- ---- the answer
 
 -- where nothing else refuses it
 pub room_refused : (entries : Map Entry) (next_koid : ℕ)
-    → first_some (None ∷ None ∷ answer_if (not (has_room_in entries && nat_le (next_koid + 1) (2 ^ 62))) status.NoResources ∷ [])
-    ≡ answers (room_refusal entries next_koid)
-room_refused entries next_koid = by_test (has_room_in entries && nat_le (next_koid + 1) (2 ^ 62))
-  where
-    by_test : (b : Bool) → first_some (None ∷ None ∷ answer_if (not b) status.NoResources ∷ []) ≡ answers (then_some (not b) status.NoResources)
-    by_test true = refl
-    by_test false = refl
+    → first_some (answer_if (not (has_room_in entries && nat_le (next_koid + 1) (2 ^ 62))) status.NoResources ∷ []) ≡ answers (room_refusal entries next_koid)
+room_refused entries next_koid = one_test (not (has_room_in entries && nat_le (next_koid + 1) (2 ^ 62))) status.NoResources
 
 -- where it isn't refused so, there is place in the table, and a koid is left
 pub record HasRoom (entries : Map Entry) (next_koid : ℕ) : Type 0 where
@@ -56,32 +48,16 @@ has_left entries next_koid unrefused = by_tests (has_room_in entries) (nat_le (n
 -- its first handle names it
 pub new_named : (b : Body) (os : Map Object) (k : ℕ) → get os k ≡ Some (new_object b 1) → IsNamed os (new_entry k (kind_in b))
 new_named (body.Job own) os k there = record { object = _; there = there; kind = refl; rights = refl }
-new_named (body.Process job lives) os k there = record { object = _; there = there; kind = refl; rights = refl }
-new_named body.Event os k there = record { object = _; there = there; kind = refl; rights = refl }
-new_named (body.Port port) os k there = record { object = _; there = there; kind = refl; rights = refl }
-new_named (body.ChannelEnd peer queue) os k there = record { object = _; there = there; kind = refl; rights = refl }
+new_named _ os k there = record { object = _; there = there; kind = refl; rights = refl }
 
 -- it has entered the table of a process
 pub first_entered : (before after : List Process) (p p2 : Process) (write : IsWrite before after p p2) → p2.state ≡ p.state
     → (r : Objects) (b : Body) (made : ℕ) (inserts : Inserts p.table (new_entry r.next_koid (kind_in b)) made p2.table)
     → length p.table.entries < 1024 → IsGrowing before ((made, new_entry r.next_koid (kind_in b)) ∷ []) (with_new r b 1)
     → get (with_new r b 1).objects r.next_koid ≡ Some (new_object b 1) → IsConsistent after (with_new r b 1)
-first_entered before after p p2 write state r b made inserts place growing there = entered before after p p2 write state ((made, entry) ∷ []) grown growing
-    (inserted_table p.table entry made p2.table (growing.sound.tables p.pid (process_value p) write.there) place inserts)
-    (λ v e at. found_inserted (IsNamed grown.objects e) p.table entry made p2.table inserts v e at
-    (λ is. subst (λ (x : Entry). IsNamed grown.objects x) is (new_named b grown.objects r.next_koid there))
-    (λ old. growing.sound.named p.pid (process_value p) v e write.there old))
-    (λ j. omega (
-      arith,
-      inserted_counts before after p p2 write entry made inserts grown grown j refl,
-      sum_by-cons (λ (h : ℕ × Entry). cond (h.1.koid == j) 1 0) (made, entry) [],
-    ))
-  where
-    entry : Entry
-    entry = new_entry r.next_koid (kind_in b)
-
-    grown : Objects
-    grown = with_new r b 1
+first_entered before after p p2 write state r b made inserts place growing there =
+    one_entered before after p p2 write (new_entry r.next_koid (kind_in b)) made inserts (with_new r b 1) growing.sound growing.kept state place
+    (new_named b (with_new r b 1).objects r.next_koid there)
 
 -- ---- a process of the world, before and after its call
 
@@ -143,9 +119,8 @@ module _ (lib : Library) (before after : List Process) (r r2 : Objects) (p p2 : 
     -- ---- the step of a call that nothing else refuses
 
     pub made_done : refusal lib w p.pid s.request ≡ answers (room_refusal p.table.entries n) → true ≡ grows s.request → taken w p.pid s ≡ w
-        → TellsNothing lib w p.pid s → ((made : ℕ) → Makes made) → state_value p.state ≡ Ready
-        → (call : CallName) → next_for lib (process_value p) ≡ AtCall call s → (o : Outcome) → IsAnswered (told_by one_value) (MakeDoes b) s p r o p2 r2
-        → IsDone lib before after r r2 p.pid call o
-    made_done refused may_want takes_none nothing by ready call at o acts = answered_done lib before after r r2 p p2 consistent write ready call s at
-        one_value (MakesOne b p.table r) true (room_refusal p.table.entries n) refused may_want takes_none nothing
-        (λ made makes replies. made_called made makes replies (refused ∙ ap answers makes.unrefused) (by made)) o acts.answer acts.acts acts.replied acts.ends
+        → TellsNothing lib w p.pid s → ((made : ℕ) → Makes made) → IsDoneBy lib before after r r2 p p2 s (told_by one_value) (MakeDoes b)
+    made_done refused may_want takes_none nothing by =
+        answered_done lib before after r r2 p p2 consistent write s one_value (MakeDoes b) (MakesOne b p.table r) true (room_refusal p.table.entries n)
+        (λ answer acts. acts) refused may_want takes_none nothing
+        (λ made makes replies. made_called made makes replies (refused ∙ ap answers makes.unrefused) (by made))

@@ -19,12 +19,7 @@ mode_found n None found missing = rw (ne_eqb 0 n (missing mode.Relative), ne_eqb
 
 condition_again : (c : Condition) → Some c ≡ condition_numbered (condition_number c)
 condition_again condition.BadHandle = refl
-condition_again condition.WrongObject = refl
-condition_again condition.NewAny = refl
-condition_again condition.NewChannel = refl
-condition_again condition.NewEvent = refl
-condition_again condition.NewPort = refl
-condition_again condition.NewProcess = refl
+condition_again _ = refl
 
 pub condition_found : (n : ℕ) (o : Option Condition) → IfSome o (λ c. condition_number c ≡ n) → IfNone o ((c : Condition) → condition_number c ≢ n)
     → o ≡ condition_numbered n
@@ -42,8 +37,7 @@ condition_found n None found missing =
 
 action_again : (a : Action) → Some a ≡ action_numbered (action_number a)
 action_again action.Allow = refl
-action_again action.Deny = refl
-action_again action.Kill = refl
+action_again _ = refl
 
 pub action_found : (n : ℕ) (o : Option Action) → IfSome o (λ a. action_number a ≡ n) → IfNone o ((a : Action) → action_number a ≢ n) → o ≡ action_numbered n
 action_found n (Some a) found missing = rw (sym found) (action_again a)

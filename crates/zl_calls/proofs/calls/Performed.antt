@@ -14,10 +14,10 @@ use Rattle.zl_calls.specs.declared.process.Process.{Process}
 use Rattle.zl_calls.proofs.calls.Answered.{IsWrite}
 use Rattle.zl_calls.proofs.calls.DoneCalls.{IsCalledAmong, IsDone}
 use Rattle.zl_calls.proofs.calls.ChannelCalls.{chan_create_done}
-use Rattle.zl_calls.proofs.calls.EventCalls.{event_create_done, signal_done, signal_peer_done}
+use Rattle.zl_calls.proofs.calls.EventCalls.{event_done, signal_done, peer_done}
 use Rattle.zl_calls.proofs.calls.AsyncCalls.{async_called}
 use Rattle.zl_calls.proofs.calls.CancelCalls.{cancel_called}
-use Rattle.zl_calls.proofs.calls.JobCalls.{job_create_done, job_set_policy_done}
+use Rattle.zl_calls.proofs.calls.JobCalls.{job_done, job_set_policy_done}
 use Rattle.zl_calls.proofs.calls.HandleCalls.{close_done, dup_done, replace_done}
 use Rattle.zl_calls.proofs.calls.PortCalls.{port_create_done, port_passes, port_poll_done, port_queue_done, port_wait_done, port_waits}
 use Rattle.zl_calls.proofs.calls.ProcessCalls.{exit_done}
@@ -78,9 +78,9 @@ module _ (lib : Library) (before after : List Process) (r r2 : Objects) (p p2 : 
     by_request (chan_write end bytes hs) c d plain next acts = write_done lib before after r r2 p p2 consistent write end bytes hs c d ready call next o acts
     by_request (chan_read_etc h address room places) c d plain next acts =
         read_done lib before after r r2 p p2 consistent write h address room places c d ready call next o acts
-    by_request event_create c d plain next acts = event_create_done lib before after r r2 p p2 consistent write c d ready call next o acts
+    by_request event_create c d plain next acts = event_done lib before after r r2 p p2 consistent write c d ready call next o acts
     by_request (signal h clear set) c d plain next acts = signal_done lib before after r r2 p p2 consistent write h clear set c d ready call next o acts
-    by_request (signal_peer h clear set) c d plain next acts = signal_peer_done lib before after r r2 p p2 consistent write h clear set c
+    by_request (signal_peer h clear set) c d plain next acts = peer_done lib before after r r2 p p2 consistent write h clear set c
         d ready call next o acts
     by_request (wait_one h mask) c d plain next (inl answered) = one_done lib before after r r2 p p2 consistent write h mask c d ready call next o answered
     by_request (wait_one h mask) c d plain next (inr blocks) = absurd (false≢true (sym goes ∙ ap is_blocking blocks.ends))
@@ -93,7 +93,7 @@ module _ (lib : Library) (before after : List Process) (r r2 : Objects) (p p2 : 
     by_request (port_poll port) c d plain next acts = port_poll_done lib before after r r2 p p2 consistent write port c d ready call next o acts
     by_request (process_exit code) c d plain next acts = rw acts.ends
         (exit_done lib before after r r2 p p2 consistent write _ acts.over ready code refl c d call next)
-    by_request (job_create j) c d plain next acts = job_create_done lib before after r r2 p p2 consistent write j c d ready call next o acts
+    by_request (job_create j) c d plain next acts = job_done lib before after r r2 p p2 consistent write j c d ready call next o acts
     by_request (job_set_policy j mode condition action) c d plain next acts =
         job_set_policy_done lib before after r r2 p p2 consistent write j mode condition action c d ready call next o acts
     by_request (wait_async h port key mask) c d plain next acts = absurd (true≢false plain)

@@ -1,9 +1,9 @@
 -- The calls on ports, port_create, port_queue, port_poll and port_wait, each from its table and objects to a step.
-use Rattle.zl_calls.proofs.Common.{◌≡◌, ℕ, true, false, List, [], ◌∷◌, refl, sym, ap, ◌∙◌, Option, Some, None, Result, Ok, Err, operand_of, on_object, IsTrue}
-use Rattle.zl_calls.proofs.Common.{none-some, slice_get, first_some, same_Some, ◌++◌, is_empty, get, Ready, Library, Site, site, examined, has_room, has_koids}
+use Rattle.zl_calls.proofs.Common.{◌≡◌, ℕ, true, false, List, [], ◌∷◌, refl, sym, ap, ◌∙◌, Option, Some, None, Result, Ok, Err, on_object, IsTrue}
+use Rattle.zl_calls.proofs.Common.{none-some, slice_get, first_some, same_Some, ◌++◌, is_empty, get, Ready, Library, Site, site, has_room, has_koids}
 use Rattle.zl_calls.proofs.Common.{table_of, refusal, handle_operands, listed, may_choose, new_handles, insert_all, remove_all, taken_handles, effect, gives_ok}
-use Rattle.zl_calls.proofs.Common.{gives_refused, AtCall, next_for, Values, replied, taken, ⊤, body_of, operand, Objects, IsAnswered, told_by, no_value}
-use Rattle.zl_calls.proofs.Common.{one_value, Replies, process_value, state_value, world_value, IsConsistent, runs, World}
+use Rattle.zl_calls.proofs.Common.{gives_refused, AtCall, next_for, Values, replied, taken, ⊤, body_of, Objects, IsAnswered, told_by, no_value}
+use Rattle.zl_calls.proofs.Common.{one_value, Replies, process_value, state_value, world_value, IsConsistent, runs, World, operands_fault}
 use Rattle.std.specs.Prelude.{drop}
 use Rattle.zl_rights.specs.declared.kind.Kind.TheVariants as kind
 use Rattle.zl_rights.specs.declared.status.Status.TheVariants as status
@@ -26,41 +26,10 @@ use Rattle.zl_calls.specs.declared.process.Process.{Process}
 use Rattle.zl_calls.specs.calls.Port.{PortCreateDoes, PortPollDoes, PortQueueDoes, PortWaitDoes, QueuesPacket, TakesPacket, poll_refusal, port_at}
 use Rattle.zl_calls.specs.calls.Port.{queue_refusal, refused_by}
 use Rattle.zl_calls.proofs.calls.Answered.{IsWrite, table_is}
-use Rattle.zl_calls.proofs.calls.DoneCalls.{IsDone, IsCalled, answered_done}
+use Rattle.zl_calls.proofs.calls.DoneCalls.{IsDone, IsDoneBy, IsCalled, answered_done}
 use Rattle.zl_calls.proofs.calls.MakeCalls.{made_done, room_refused}
-use Rattle.zl_calls.proofs.calls.Refused.{answers, may_create}
-use Rattle.zl_calls.proofs.calls.WriteCalls.{is_found}
-use Rattle.zl_calls.proofs.calls.Repacked.{packets_there, port_ends, port_kept, port_refused}
-
--- ---- the answers of port_queue, port_poll and port_wait
-
-module _ (lib : Library) (before : List Process) (r : Objects) (consistent : IsConsistent before r) (p : ℕ) where
-  abbrev old_world : World
-  old_world = world_value before r
-
-  queue_refused : (port key value : ℕ) → refusal lib old_world p (port_queue port key value) ≡ answers (queue_refusal (table_of old_world p) r.objects port)
-  unfolding refusal handle_operands examined operand listed
-  queue_refused port key value = port_refused before r consistent p is_full status.ShouldWait WRITE (get (table_of old_world p) port)
-
-  poll_refused : (port : ℕ) → refusal lib old_world p (port_poll port) ≡ answers (poll_refusal (table_of old_world p) r.objects port)
-  unfolding refusal handle_operands examined operand listed
-  poll_refused port = port_refused before r consistent p is_empty status.TimedOut READ (get (table_of old_world p) port)
-
-  -- port_wait is refused as if no packets were too many or too few
-  wait_refused : (port : ℕ) → refusal lib old_world p (port_wait port) ≡ answers (result_err (port_at (table_of old_world p) port READ))
-  unfolding refusal handle_operands examined operand listed
-  wait_refused port =
-      by_look_up_alone (operand_of old_world p (kind.Port ∷ []) READ (get (table_of old_world p) port))
-      ∙ (port_refused before r consistent p (λ packets. false) status.TimedOut READ (get (table_of old_world p) port)
-      ∙ by_port (port_at (table_of old_world p) port READ))
-    where
-      by_look_up_alone : (x : Option Outcome) → first_some (first_some (x ∷ None ∷ []) ∷ None ∷ []) ≡ first_some (first_some (x ∷ None ∷ []) ∷ None ∷ None ∷ [])
-      by_look_up_alone None = refl
-      by_look_up_alone (Some o) = refl
-
-      by_port : (x : Result Entry Status) → answers (refused_by r.objects (λ packets. false) status.TimedOut x) ≡ answers (result_err x)
-      by_port (Ok e) = refl
-      by_port (Err s) = refl
+use Rattle.zl_calls.proofs.calls.Refused.{answers, is_found, first_looked_up, one_test}
+use Rattle.zl_calls.proofs.calls.Repacked.{packets_there, port_ends, port_kept}
 
 -- a process of the world, before and after its call
 module _ (lib : Library) (before after : List Process) (r r2 : Objects) (p p2 : Process) (consistent : IsConsistent before r)
@@ -74,12 +43,11 @@ module _ (lib : Library) (before after : List Process) (r r2 : Objects) (p p2 : 
     abbrev create_site : Site
     create_site = site port_create consumed destinations
 
-    pub port_create_done : state_value p.state ≡ Ready → (call : CallName) → next_for lib (process_value p) ≡ AtCall call create_site → (o : Outcome)
-        → IsAnswered (told_by one_value) PortCreateDoes create_site p r o p2 r2 → IsDone lib before after r r2 p.pid call o
-    unfolding refusal handle_operands examined listed has_room has_koids taken_handles remove_all gives_refused may_choose
+    pub port_create_done : IsDoneBy lib before after r r2 p p2 create_site (told_by one_value) PortCreateDoes
+    unfolding refusal handle_operands operands_fault listed has_room has_koids taken_handles remove_all gives_refused may_choose
         new_handles effect insert_all gives_ok
     port_create_done = made_done lib before after r r2 p p2 consistent write create_site new_port (λ not. not runs) refl refl
-        (rw (may_create w p.pid condition.NewPort, table_is before after p p2 write r) (room_refused p.table.entries r.next_koid)) refl refl (λ answer. refl)
+        (rw (table_is before after p p2 write r) (room_refused p.table.entries r.next_koid)) refl refl (λ answer. refl)
         (λ made may ends. (rw (write.there, may) refl, refl, ends))
 
   -- ---- port_queue
@@ -88,16 +56,17 @@ module _ (lib : Library) (before after : List Process) (r r2 : Objects) (p p2 : 
     abbrev queue_site : Site
     queue_site = site (port_queue port key value) consumed destinations
 
-    refused_queue : refusal lib w p.pid (port_queue port key value) ≡ answers (queue_refusal p.table.entries r.objects port)
-    refused_queue = queue_refused lib before r consistent p.pid port key value ∙ rw (table_is before after p p2 write r) refl
-
-    queue_chosen : IsTrue (may_choose w (taken w p.pid queue_site) p.pid (port_queue port key value) [])
-    unfolding may_choose new_handles remove_all taken_handles handle_operands
-    queue_chosen = rw write.there refl
+    refused_queue : refusal lib w p.pid queue_site.request ≡ answers (queue_refusal p.table.entries r.objects port)
+    unfolding handle_operands operands_fault listed
+    refused_queue =
+        first_looked_up lib w p.pid p.table.entries (table_is before after p p2 write r) queue_site.request
+        (queue_refusal p.table.entries r.objects port) port (kind.Port ∷ []) WRITE None refl (λ s is. rw is refl)
+        (λ e is at. rw (is, table_is before after p p2 write r, at, packets_there r.objects e.koid)
+        (one_test (is_full (packets_in (get r.objects e.koid))) status.ShouldWait))
 
     queue_called : (done : ⊤) → QueuesPacket p.table r port key value p2.table r2 → Replies queue_site status.Ok [] p p2
         → IsCalled lib before after r r2 p.pid queue_site (outcome.Answered status.Ok)
-    unfolding effect gives_ok new_handles insert_all remove_all taken_handles handle_operands
+    unfolding may_choose effect gives_ok new_handles insert_all remove_all taken_handles handle_operands
     queue_called done queued replies =
         let there : get p.table.entries port ≡ Some queued.port = is_found (get p.table.entries port) (kind.Port ∷ []) WRITE queued.port queued.is_port in
         let more : (x : Port) → (with_packet x (user_packet key value)).packets ≡ x.packets ++ user_packet key value ∷ [] = λ x. refl in
@@ -105,7 +74,7 @@ module _ (lib : Library) (before after : List Process) (r r2 : Objects) (p p2 : 
           calls = (
             Values [],
             rw (refused_queue, queued.unrefused) (
-              queue_chosen,
+              rw write.there refl,
               refl,
               port_ends before after r r2 p p2 consistent write queued.port.koid (λ x. with_packet x (user_packet key value))
                   (λ xs. xs ++ user_packet key value ∷ [])
@@ -116,13 +85,12 @@ module _ (lib : Library) (before after : List Process) (r r2 : Objects) (p p2 : 
               (λ xs. xs ++ user_packet key value ∷ []) more queued.objects queued.table queue_site [] replies;
         }
 
-    pub port_queue_done : state_value p.state ≡ Ready → (call : CallName) → next_for lib (process_value p) ≡ AtCall call queue_site → (o : Outcome)
-        → IsAnswered (told_by no_value) (PortQueueDoes port key value) queue_site p r o p2 r2 → IsDone lib before after r r2 p.pid call o
+    pub port_queue_done : IsDoneBy lib before after r r2 p p2 queue_site (told_by no_value) (PortQueueDoes port key value)
     unfolding taken_handles handle_operands remove_all gives_refused
-    port_queue_done ready call next o acts =
-        answered_done lib before after r r2 p p2 consistent write ready call queue_site next no_value (λ _. QueuesPacket p.table r port key value) true
-        (queue_refusal p.table.entries r.objects port)
-        refused_queue refl refl (λ answer. refl) queue_called o acts.answer acts.acts acts.replied acts.ends
+    port_queue_done =
+        answered_done lib before after r r2 p p2 consistent write queue_site no_value (PortQueueDoes port key value)
+        (λ _. QueuesPacket p.table r port key value) true
+        (queue_refusal p.table.entries r.objects port) (λ answer acts. acts) refused_queue refl refl (λ answer. refl) queue_called
 
   -- ---- the first packet leaves the port
 
@@ -170,28 +138,27 @@ module _ (lib : Library) (before after : List Process) (r r2 : Objects) (p p2 : 
     abbrev poll_site : Site
     poll_site = site (port_poll port) consumed destinations
 
-    refused_poll : refusal lib w p.pid (port_poll port) ≡ answers (poll_refusal p.table.entries r.objects port)
-    refused_poll = poll_refused lib before r consistent p.pid port ∙ rw (table_is before after p p2 write r) refl
-
-    poll_chosen : IsTrue (may_choose w (taken w p.pid poll_site) p.pid (port_poll port) [])
-    unfolding may_choose new_handles remove_all taken_handles handle_operands
-    poll_chosen = rw write.there refl
+    refused_poll : refusal lib w p.pid poll_site.request ≡ answers (poll_refusal p.table.entries r.objects port)
+    unfolding handle_operands operands_fault listed
+    refused_poll =
+        first_looked_up lib w p.pid p.table.entries (table_is before after p p2 write r) poll_site.request (poll_refusal p.table.entries r.objects port)
+        port (kind.Port ∷ []) READ None refl (λ s is. rw is refl)
+        (λ e is at. rw (is, table_is before after p p2 write r, at, packets_there r.objects e.koid)
+        (one_test (is_empty (packets_in (get r.objects e.koid))) status.TimedOut))
 
     poll_called : (packet : Packet) → TakesPacket p.table r port packet p2.table r2 → Replies poll_site status.Ok (packet_values packet) p p2
         → IsCalled lib before after r r2 p.pid poll_site (outcome.Answered status.Ok)
-    unfolding effect gives_ok new_handles insert_all remove_all taken_handles handle_operands
+    unfolding may_choose effect gives_ok new_handles insert_all remove_all taken_handles handle_operands
     poll_called packet takes_one replies = record {
-      calls = (Values [], rw (refused_poll, takes_one.unrefused) (poll_chosen, refl, packet_ends port packet takes_one poll_site replies));
+      calls = (Values [], rw (refused_poll, takes_one.unrefused) (rw write.there refl, refl, packet_ends port packet takes_one poll_site replies));
       keeps = packet_kept port packet takes_one poll_site replies;
     }
 
-    pub port_poll_done : state_value p.state ≡ Ready → (call : CallName) → next_for lib (process_value p) ≡ AtCall call poll_site → (o : Outcome)
-        → IsAnswered (told_by packet_values) (PortPollDoes port) poll_site p r o p2 r2 → IsDone lib before after r r2 p.pid call o
+    pub port_poll_done : IsDoneBy lib before after r r2 p p2 poll_site (told_by packet_values) (PortPollDoes port)
     unfolding taken_handles handle_operands remove_all gives_refused
-    port_poll_done ready call next o acts =
-        answered_done lib before after r r2 p p2 consistent write ready call poll_site next packet_values (TakesPacket p.table r port) false
-        (poll_refusal p.table.entries r.objects port)
-        refused_poll refl refl (λ answer. refl) poll_called o acts.answer acts.acts acts.replied acts.ends
+    port_poll_done =
+        answered_done lib before after r r2 p p2 consistent write poll_site packet_values (PortPollDoes port) (TakesPacket p.table r port) false
+        (poll_refusal p.table.entries r.objects port) (λ answer acts. acts) refused_poll refl refl (λ answer. refl) poll_called
 
   -- ---- port_wait
 
@@ -199,35 +166,33 @@ module _ (lib : Library) (before after : List Process) (r r2 : Objects) (p p2 : 
     abbrev wait_site : Site
     wait_site = site (port_wait port) consumed destinations
 
-    refused_wait : refusal lib w p.pid (port_wait port) ≡ answers (result_err (port_at p.table.entries port READ))
-    refused_wait = wait_refused lib before r consistent p.pid port ∙ rw (table_is before after p p2 write r) refl
-
-    wait_chosen : IsTrue (may_choose w (taken w p.pid wait_site) p.pid (port_wait port) [])
-    unfolding may_choose new_handles remove_all taken_handles handle_operands
-    wait_chosen = rw write.there refl
+    refused_wait : refusal lib w p.pid wait_site.request ≡ answers (result_err (port_at p.table.entries port READ))
+    unfolding handle_operands operands_fault listed
+    refused_wait =
+        first_looked_up lib w p.pid p.table.entries (table_is before after p p2 write r) wait_site.request (result_err (port_at p.table.entries port READ))
+        port (kind.Port ∷ []) READ None refl (λ s is. rw is refl) (λ e is at. rw is refl)
 
     wait_called : (packet : Packet) → TakesPacket p.table r port packet p2.table r2 → Replies wait_site status.Ok (packet_values packet) p p2
         → IsCalled lib before after r r2 p.pid wait_site (outcome.Answered status.Ok)
-    unfolding effect gives_ok new_handles insert_all remove_all taken_handles handle_operands
+    unfolding may_choose effect gives_ok new_handles insert_all remove_all taken_handles handle_operands
     wait_called packet takes_one replies = record {
       calls = (
         Values [],
-        rw (refused_wait, takes_one.is_port, none_awaited port packet takes_one) (wait_chosen, refl, packet_ends port packet takes_one wait_site replies),
+        rw (refused_wait, takes_one.is_port, none_awaited port packet takes_one)
+            (rw write.there refl, refl, packet_ends port packet takes_one wait_site replies),
       );
       keeps = packet_kept port packet takes_one wait_site replies;
     }
 
-    pub port_wait_done : state_value p.state ≡ Ready → (call : CallName) → next_for lib (process_value p) ≡ AtCall call wait_site → (o : Outcome)
-        → IsAnswered (told_by packet_values) (PortWaitDoes port) wait_site p r o p2 r2 → IsDone lib before after r r2 p.pid call o
+    pub port_wait_done : IsDoneBy lib before after r r2 p p2 wait_site (told_by packet_values) (PortWaitDoes port)
     unfolding taken_handles handle_operands remove_all gives_refused
-    port_wait_done ready call next o acts =
-        answered_done lib before after r r2 p p2 consistent write ready call wait_site next packet_values (TakesPacket p.table r port) false
-        (result_err (port_at p.table.entries port READ))
-        refused_wait refl refl (λ answer. refl) wait_called o acts.answer acts.acts acts.replied acts.ends
+    port_wait_done =
+        answered_done lib before after r r2 p p2 consistent write wait_site packet_values (PortWaitDoes port) (TakesPacket p.table r port) false
+        (result_err (port_at p.table.entries port READ)) (λ answer acts. acts) refused_wait refl refl (λ answer. refl) wait_called
 
     -- it isn't refused, where the port is there; and where that has no packet, it waits for one
     module _ (x : Entry) (is_port : port_at p.table.entries port READ ≡ Ok x) where
-      pub port_passes : refusal lib w p.pid (port_wait port) ≡ None
+      pub port_passes : refusal lib w p.pid wait_site.request ≡ None
       port_passes = refused_wait ∙ rw is_port refl
 
       pub port_waits : slice_get (packets_in (get r.objects x.koid)) 0 ≡ None → awaited_by w p.pid (port_wait port) ≡ Some (PacketAt x.koid)

@@ -1,8 +1,8 @@
 -- The calls on processes: the end of a process, by process_exit or because it is stuck, to a step up to where processes wake.
 use Rattle.zl_calls.proofs.Common.{◌≡◌, ◌+◌, ◌==◌, ℕ, ℤ, List, [], refl, ap, ◌∙◌, subst, Some, count_by, arith, false≢true, none-some, STUCK, Map, get, Ready}
-use Rattle.zl_calls.proofs.Common.{Ended, Settles, Library, Site, site, process_exit, refusal, handle_operands, listed, examined, on_process, ended, may_choose}
+use Rattle.zl_calls.proofs.Common.{Ended, Settles, Library, Site, site, process_exit, refusal, handle_operands, listed, on_process, ended, may_choose}
 use Rattle.zl_calls.proofs.Common.{new_handles, insert_all, remove_all, taken_handles, effect, AtCall, IsStuck, next_for, Calls, Values, signed_word, IsTable}
-use Rattle.zl_calls.proofs.Common.{Objects, Releases, stopping, process_value, state_value, world_value, IsConsistent, IsNamed, World, Ends, IsActed}
+use Rattle.zl_calls.proofs.Common.{Objects, Releases, stopping, process_value, state_value, world_value, IsConsistent, IsNamed, World, Ends, IsActed, operands_fault}
 use Rattle.zl_code.proofs.Common.{Process as ProcessValue}
 use Rattle.zl_code.specs.declared.history.CallName.{CallName}
 use Rattle.zl_code.specs.declared.history.Outcome.TheVariants as outcome
@@ -95,7 +95,7 @@ module _ (lib : Library) (before after : List Process) (r r2 : Objects) (p p2 : 
     s = site (process_exit n) consumed destinations
 
     exit_calls : Calls lib w p.pid s (outcome.Ended code) (world_value after r)
-    unfolding refusal handle_operands examined listed may_choose new_handles insert_all remove_all taken_handles effect
+    unfolding refusal handle_operands operands_fault listed may_choose new_handles insert_all remove_all taken_handles effect
     exit_calls = (Values [], (rw write.there refl, ap outcome.Ended is, ended_is ∙ ap (ended w p.pid) is))
 
     pub exit_done : (call : CallName) → next_for lib (process_value p) ≡ AtCall call s → IsDone lib before after r r2 p.pid call (outcome.Ended code)

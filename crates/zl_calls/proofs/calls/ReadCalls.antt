@@ -1,12 +1,12 @@
 -- The call chan_read_etc, from its table and objects to a step.
 use Rattle.zl_calls.proofs.Common.{◌≡◌, ◌≤◌, ◌+◌, ℕ, Bool, true, false, not, ◌&&◌, ◌==◌, List, [], ◌∷◌, map, length, refl, sym, ap, ◌∙◌, subst, if◌then◌else◌}
 use Rattle.zl_calls.proofs.Common.{Option, Some, None, Result, Ok, Err, IsTrue, arith, nat_tests, is_empty, is_some, count_by, sum_by, sum_by-cons, none-some}
-use Rattle.zl_calls.proofs.Common.{All, All-nil, bits, within, Map, get, has_key, update, Ready, Library, Site, site, refusal, handle_operands, examined}
-use Rattle.zl_calls.proofs.Common.{operand, operand_of, by_look_up, listed, has_room, table_of, answer_if, first_some, may_choose, new_handles, insert_all}
-use Rattle.zl_calls.proofs.Common.{remove_all, taken_handles, effect, with_effect, gives_ok, gives_refused, on_object, on_process, AtCall, next_for, Refused}
+use Rattle.zl_calls.proofs.Common.{All, All-nil, bits, within, Map, get, update, Library, Site, site, refusal, handle_operands}
+use Rattle.zl_calls.proofs.Common.{listed, has_room, answer_if, first_some, may_choose, new_handles, insert_all}
+use Rattle.zl_calls.proofs.Common.{remove_all, taken_handles, effect, with_effect, gives_ok, gives_refused, on_object, on_process, Refused}
 use Rattle.zl_calls.proofs.Common.{WantsMemory, Values, replied, taken, cpu_answered, process_with, process_with_all, slice_get, nat_le, option_map, Objects}
-use Rattle.zl_calls.proofs.Common.{IsAnswered, process_entry, process_value, object_entry, object_value, state_value, world_value, body_value, body_in, body_of}
-use Rattle.zl_calls.proofs.Common.{koid_in, handles_to, queued_to, IsConsistent, IsNamed, AreNamed, World}
+use Rattle.zl_calls.proofs.Common.{process_entry, process_value, object_entry, object_value, world_value, body_value, body_in, body_of}
+use Rattle.zl_calls.proofs.Common.{handles_to, queued_to, IsConsistent, IsNamed, AreNamed, World, operands_fault, false≢true, IsSound}
 use Rattle.zl_code.proofs.Common.{Object as ObjectValue, Process as ProcessValue, All-head, All-tail, chan_read_etc}
 use Rattle.std.specs.Prelude.{drop}
 use Rattle.std.specs.Result.{result_err}
@@ -14,15 +14,13 @@ use Rattle.zl_rights.specs.declared.kind.Kind.TheVariants as kind
 use Rattle.zl_rights.specs.declared.status.Status.{Status}
 use Rattle.zl_rights.specs.declared.status.Status.TheVariants as status
 use Rattle.zl_rights.specs.declared.entry.Entry.{Entry}
-use Rattle.zl_rights.specs.declared.policy.Condition.TheVariants as condition
-use Rattle.zl_rights.specs.LookUp.{granted, looked_up}
+use Rattle.zl_rights.specs.LookUp.{granted}
 use Rattle.zl_rights.specs.Numbers.{READ, takes}
 use Rattle.zl_rights.specs.World.{Message}
-use Rattle.zl_code.specs.declared.history.CallName.{CallName}
 use Rattle.zl_code.specs.declared.history.Outcome.{Outcome}
 use Rattle.zl_code.specs.declared.history.Outcome.TheVariants as outcome
 use Rattle.zl_code.specs.Effects.{body_after_read, message_read, storing, told_of}
-use Rattle.zl_code.specs.Tests.{first_handles, has_place_for, object_at, peer_in as peer_seen, queue_at, queue_in as queue_seen_in, sizes_of}
+use Rattle.zl_code.specs.Tests.{first_handles, has_place_for, object_at, queue_at, queue_in as queue_seen_in, sizes_of}
 use Rattle.zl_objects.specs.declared.object.Body.{Body}
 use Rattle.zl_objects.specs.declared.object.Body.TheVariants as body
 use Rattle.zl_objects.specs.declared.object.Object.{Object}
@@ -38,15 +36,16 @@ use Rattle.zl_calls.specs.calls.Answer.{IsTold, with_stored}
 use Rattle.zl_calls.specs.calls.Reading.{ChanReadDoes, IsFaultBy, ReadsMessage, front_at, front_by, front_handles, front_in, told_read}
 use Rattle.zl_calls.proofs.calls.Answered.{IsWrite, table_is, replied_with}
 use Rattle.zl_calls.proofs.objects.Counted.{queue_seen}
-use Rattle.zl_calls.proofs.objects.Counting.{counts_written, queues}
-use Rattle.zl_calls.proofs.calls.DoneCalls.{IsDone, IsCalled, called_done}
+use Rattle.zl_calls.proofs.objects.Counting.{counts_written, queues, naming, numbered, numbered_naming}
+use Rattle.zl_calls.proofs.calls.DoneCalls.{IsCalled, called_done, IsDoneBy}
 use Rattle.zl_calls.proofs.tables.EnteredTables.{all_chosen, all_given, counts_entered, each_entered, tables_entered}
-use Rattle.zl_calls.proofs.objects.Queued.{named_too, requeued, requeued_body, requeued_next}
-use Rattle.zl_calls.proofs.calls.Refused.{answers, fault_answers}
+use Rattle.zl_calls.proofs.objects.Queued.{requeued, requeued_body, more_queued, requeued_kept, requeued_named, requeued_sound}
+use Rattle.zl_calls.proofs.calls.Refused.{answers, first_looked_up}
 use Rattle.zl_calls.proofs.objects.SameBodies.{still_named}
 use Rattle.zl_calls.proofs.lists.Updates.{update_itself, update_seen, update_twice}
-use Rattle.zl_calls.proofs.calls.WriteCalls.{is_found, peer_there}
-use Rattle.zl_calls.proofs.processes.Written.{IsNext, keeps, refusal_keeps}
+use Rattle.zl_calls.proofs.calls.WriteCalls.{peer_there}
+use Rattle.zl_calls.proofs.processes.Written.{refusal_keeps, entered, same_agrees}
+use Rattle.zl_calls.proofs.objects.Settled.{sound_of}
 
 -- ---- the refusal
 
@@ -64,65 +63,22 @@ queue_there os k = rw (get_seen os k) (by_object (get os k))
     by_object None = refl
     by_object (Some o) = queue_seen o.body
 
-module _ (lib : Library) (before : List Process) (r : Objects) (consistent : IsConsistent before r) (p : ℕ) where
-  abbrev old_world : World
-  old_world = world_value before r
-
-  abbrev handles : Map Entry
-  handles = table_of old_world p
-
-  -- the answers of the definitions, where the look-up of the end has this answer, and its queue and its peer are so
-  abbrev with_end : (room places : ℕ) → Option Outcome → List Message → Bool → Option Outcome
-  with_end room places x queue there = first_some (first_some (x ∷ None ∷ []) ∷ None
-      ∷ answer_if (is_empty queue && not there) status.PeerClosed
-      ∷ answer_if (is_empty queue) status.ShouldWait
-      ∷ answer_if (not (has_place_for room places queue)) status.BufferTooSmall
-      ∷ answer_if (not (nat_le (length handles + length (first_handles queue)) 1024)) status.NoResources
-      ∷ [])
-
-  by_queue : (room places k : ℕ) (queue : List Message) (there : Bool)
-      → with_end room places None queue there ≡ answers (why (front_in (length handles) there room places k queue))
-  by_queue room places k [] true = refl
-  by_queue room places k [] false = refl
-  by_queue room places k (m ∷ ms) there = by_tests (has_place_for room places (m ∷ ms)) (nat_le (length handles + length m.handles) 1024)
-    where
-      by_tests : (a b : Bool) → first_some (None ∷ None ∷ None ∷ None ∷ answer_if (not a) status.BufferTooSmall ∷ answer_if (not b) status.NoResources ∷ [])
-          ≡ answers (why (if not a then Err (fault.TooSmall (length m.bytes) (length m.handles))
-          else (if not b then Err (fault.Refused status.NoResources) else Ok (record { end = k; handles = length m.handles }))))
-      by_tests false b = refl
-      by_tests true false = refl
-      by_tests true true = refl
-
-  read_refused : (c address room places : ℕ)
-      → refusal lib old_world p (chan_read_etc c address room places) ≡ answers (why (front_at handles r.objects c room places))
-  unfolding refusal handle_operands examined operand listed has_room
-  read_refused c address room places = by_end (get handles c)
-    where
-      queue_of_end : ℕ → List Message
-      queue_of_end k = queue_seen_in (body_of old_world k)
-
-      has_peer : ℕ → Bool
-      has_peer k = has_key old_world.objects (peer_seen (body_of old_world k))
-
-      passes : (e : Entry) → with_end room places None (queue_of_end e.koid) (has_peer e.koid) ≡ answers (why (front_by handles r.objects room places (Ok e)))
-      passes e =
-          rw (queue_there r.objects e.koid, peer_there r consistent.no_zero e.koid)
-          (by_queue room places e.koid (queue_in (get r.objects e.koid)) (is_some (peer_at r.objects e.koid)))
-
-      by_tests : (e : Entry) (a b : Bool) → with_end room places
-          (by_look_up old_world p (if a then (if b then Ok e else Err status.AccessDenied) else Err status.WrongType)) (queue_of_end e.koid) (has_peer e.koid)
-          ≡ answers (why (front_by handles r.objects room places (if a then (if b then Ok e else Err status.AccessDenied) else Err status.WrongType)))
-      by_tests e true true = passes e
-      by_tests e true false = refl
-      by_tests e false b =
-          ap (λ (x : Option Outcome). with_end room places x (queue_of_end e.koid) (has_peer e.koid))
-          (fault_answers old_world p condition.WrongObject status.WrongType)
-
-      by_end : (o : Option Entry) → with_end room places (operand_of old_world p (kind.Channel ∷ []) READ o) (queue_of_end (koid_in o)) (has_peer (koid_in o))
-          ≡ answers (why (front_by handles r.objects room places (granted o (kind.Channel ∷ []) READ)))
-      by_end None =
-          ap (λ (x : Option Outcome). with_end room places x (queue_of_end 0) (has_peer 0)) (fault_answers old_world p condition.BadHandle status.BadHandle)
-      by_end (Some e) = by_tests e (takes (kind.Channel ∷ []) e.kind) (within READ (bits e.rights))
+by_queue : (count room places k : ℕ) (there : Bool) (queue : List Message)
+    → first_some (answer_if (is_empty queue && not there) status.PeerClosed
+    ∷ answer_if (is_empty queue) status.ShouldWait
+    ∷ answer_if (not (has_place_for room places queue)) status.BufferTooSmall
+    ∷ answer_if (not (nat_le (count + length (first_handles queue)) 1024)) status.NoResources
+    ∷ []) ≡ answers (why (front_in count there room places k queue))
+by_queue count room places k true [] = refl
+by_queue count room places k false [] = refl
+by_queue count room places k there (m ∷ ms) = by_tests (has_place_for room places (m ∷ ms)) (nat_le (count + length m.handles) 1024)
+  where
+    by_tests : (a b : Bool) → first_some (answer_if (not a) status.BufferTooSmall ∷ answer_if (not b) status.NoResources ∷ [])
+        ≡ answers (why (if not a then Err (fault.TooSmall (length m.bytes) (length m.handles))
+        else (if not b then Err (fault.Refused status.NoResources) else Ok (record { end = k; handles = length m.handles }))))
+    by_tests false b = refl
+    by_tests true false = refl
+    by_tests true true = refl
 
 -- ---- what holds of the message
 
@@ -133,104 +89,50 @@ record IsFrontOf (entries : Map Entry) (objects : Map Object) (c : ℕ) (front :
   pub koid : entry.koid ≡ front.end
   pub room : length entries + length (front_handles objects front.end) ≤ 1024
 
-front_of : (entries : Map Entry) (objects : Map Object) (c room places : ℕ) (front : Front) → front_at entries objects c room places ≡ Ok front
-    → IsFrontOf entries objects c front
-front_of entries objects c room places front is = by_found (looked_up entries c (kind.Channel ∷ []) READ) refl is
-  where
-    by_found : (found : Result Entry Status) → looked_up entries c (kind.Channel ∷ []) READ ≡ found → front_by entries objects room places found ≡ Ok front
-        → IsFrontOf entries objects c front
-    by_found (Err s) found h = absurd cc
-    by_found (Ok e) found h = by_messages (queue_in (get objects e.koid)) refl h
-      where
-        by_messages : (queue : List Message) → queue_in (get objects e.koid) ≡ queue
-            → front_in (length entries) (is_some (peer_at objects e.koid)) room places e.koid queue ≡ Ok front → IsFrontOf entries objects c front
-        by_messages [] at read = absurd cc
-        by_messages (m ∷ ms) at read = by_tests (has_place_for room places (m ∷ ms)) (nat_le (length entries + length m.handles) 1024) refl read
-          where
-            by_tests : (a b : Bool) → nat_le (length entries + length m.handles) 1024 ≡ b
-                → ◌≡◌ {A = Result Front ReadFault}
-                (if not a then Err (fault.TooSmall (length m.bytes) (length m.handles))
-                else (if not b then Err (fault.Refused status.NoResources) else Ok (record { end = e.koid; handles = length m.handles }))) (Ok front)
-                → IsFrontOf entries objects c front
-            by_tests false b fits read = absurd cc
-            by_tests true false fits read = absurd cc
-            by_tests true true fits read =
-                let same : ◌≡◌ {A = Front} (record { end = e.koid; handles = length m.handles }) front = cc in
-                let koid : e.koid ≡ front.end = ap (λ (f : Front). f.end) same in
-                record {
-                  entry = e;
-                  there = is_found (get entries c) (kind.Channel ∷ []) READ e found;
-                  koid = koid;
-                  room = rw (← koid, at) (grind (arith, nat_tests, fits));
-                }
-
 -- the sizes that are told are those of the first message at the end that the handle names
 record IsTooSmall (entries : Map Entry) (objects : Map Object) (c bytes handles : ℕ) : Type 0 where
   pub entry : Entry
   pub there : get entries c ≡ Some entry
   pub sizes : sizes_of (queue_in (get objects entry.koid)) ≡ bytes ∷ handles ∷ []
 
-too_small : (entries : Map Entry) (objects : Map Object) (c room places bytes handles : ℕ)
-    → front_at entries objects c room places ≡ Err (fault.TooSmall bytes handles) → IsTooSmall entries objects c bytes handles
-too_small entries objects c room places bytes handles is = by_found (looked_up entries c (kind.Channel ∷ []) READ) refl is
+-- with this status the sizes of a message are told
+abbrev tells_sizes : Status → Bool
+tells_sizes status.BufferTooSmall = true
+tells_sizes _ = false
+
+-- what is known of the message by what was found
+abbrev IsKnown : Map Entry → Map Object → ℕ → Result Front ReadFault → Type 0
+IsKnown entries objects c (Ok front) = IsFrontOf entries objects c front
+IsKnown entries objects c (Err (fault.TooSmall bytes handles)) = IsTooSmall entries objects c bytes handles
+IsKnown entries objects c (Err (fault.Refused s)) = tells_sizes s ≡ false
+
+front_known : (entries : Map Entry) (objects : Map Object) (c room places : ℕ) → IsKnown entries objects c (front_at entries objects c room places)
+front_known entries objects c room places = by_entry (get entries c) refl
   where
-    by_found : (found : Result Entry Status) → looked_up entries c (kind.Channel ∷ []) READ ≡ found
-        → front_by entries objects room places found ≡ Err (fault.TooSmall bytes handles) → IsTooSmall entries objects c bytes handles
-    by_found (Err s) found h = absurd cc
-    by_found (Ok e) found h = by_messages (queue_in (get objects e.koid)) refl h
-      where
-        by_messages : (queue : List Message) → queue_in (get objects e.koid) ≡ queue
-            → front_in (length entries) (is_some (peer_at objects e.koid)) room places e.koid queue ≡ Err (fault.TooSmall bytes handles)
-            → IsTooSmall entries objects c bytes handles
-        by_messages [] at read = absurd cc
-        by_messages (m ∷ ms) at read = by_tests (has_place_for room places (m ∷ ms)) (nat_le (length entries + length m.handles) 1024) read
-          where
-            by_tests : (a b : Bool)
-                → ◌≡◌ {A = Result Front ReadFault}
-                (if not a then Err (fault.TooSmall (length m.bytes) (length m.handles))
-                else (if not b then Err (fault.Refused status.NoResources) else Ok (record { end = e.koid; handles = length m.handles })))
-                (Err (fault.TooSmall bytes handles))
-                → IsTooSmall entries objects c bytes handles
-            by_tests false b read =
-                let more : ◌≡◌ {A = ℕ} (length m.bytes) bytes = cc in
-                let many : ◌≡◌ {A = ℕ} (length m.handles) handles = cc in
-                record { entry = e; there = is_found (get entries c) (kind.Channel ∷ []) READ e found; sizes = rw at (λ i. more i ∷ many i ∷ []) }
-            by_tests true false read = absurd cc
-            by_tests true true read = absurd cc
+    by_tests : (e : Entry) (m : Message) (ms : List Message) → get entries c ≡ Some e → queue_in (get objects e.koid) ≡ m ∷ ms
+        → (a b : Bool) → nat_le (length entries + length m.handles) 1024 ≡ b
+        → IsKnown entries objects c (if not a then Err (fault.TooSmall (length m.bytes) (length m.handles))
+        else (if not b then Err (fault.Refused status.NoResources) else Ok (record { end = e.koid; handles = length m.handles })))
+    by_tests e m ms there at false b fits = record { entry = e; there = there; sizes = rw at refl }
+    by_tests e m ms there at true false fits = refl
+    by_tests e m ms there at true true fits = record { entry = e; there = there; koid = refl; room = rw at (grind (arith, nat_tests, fits)) }
 
-same_status : (a s : Status) → ◌≡◌ {A = Result Front ReadFault} (Err (fault.Refused a)) (Err (fault.Refused s)) → a ≡ s
-same_status a s same = cc
+    by_messages : (e : Entry) → get entries c ≡ Some e → (peer : Bool) (queue : List Message) → queue_in (get objects e.koid) ≡ queue
+        → IsKnown entries objects c (front_in (length entries) peer room places e.koid queue)
+    by_messages e there true [] at = refl
+    by_messages e there false [] at = refl
+    by_messages e there peer (m ∷ ms) at =
+        by_tests e m ms there at (has_place_for room places (m ∷ ms)) (nat_le (length entries + length m.handles) 1024) refl
 
--- what is true of each status with which nothing else is told
-each_refused : (Holds : Status → Type 0) → Holds status.BadHandle → Holds status.WrongType → Holds status.AccessDenied → Holds status.PeerClosed
-    → Holds status.ShouldWait → Holds status.NoResources
-    → (entries : Map Entry) (objects : Map Object) (c room places : ℕ) (s : Status) → front_at entries objects c room places ≡ Err (fault.Refused s) → Holds s
-each_refused Holds bad wrong denied closed wait full entries objects c room places s is = by_entry (get entries c) is
-  where
-    by_messages : (e : Entry) (there : Bool) (queue : List Message) → front_in (length entries) there room places e.koid queue ≡ Err (fault.Refused s) → Holds s
-    by_messages e true [] h = subst Holds (same_status status.ShouldWait s h) wait
-    by_messages e false [] h = subst Holds (same_status status.PeerClosed s h) closed
-    by_messages e there (m ∷ ms) h = by_tests (has_place_for room places (m ∷ ms)) (nat_le (length entries + length m.handles) 1024) h
-      where
-        by_tests : (a b : Bool)
-            → ◌≡◌ {A = Result Front ReadFault}
-            (if not a then Err (fault.TooSmall (length m.bytes) (length m.handles))
-            else (if not b then Err (fault.Refused status.NoResources) else Ok (record { end = e.koid; handles = length m.handles }))) (Err (fault.Refused s))
-            → Holds s
-        by_tests false b read = absurd cc
-        by_tests true false read = subst Holds (same_status status.NoResources s read) full
-        by_tests true true read = absurd cc
+    by_rights : (e : Entry) → get entries c ≡ Some e → (a b : Bool)
+        → IsKnown entries objects c (front_by entries objects room places (if a then (if b then Ok e else Err status.AccessDenied) else Err status.WrongType))
+    by_rights e there true true = by_messages e there (is_some (peer_at objects e.koid)) (queue_in (get objects e.koid)) refl
+    by_rights e there true false = refl
+    by_rights e there false b = refl
 
-    by_look_up_of : (e : Entry) (a b : Bool)
-        → front_by entries objects room places (if a then (if b then Ok e else Err status.AccessDenied) else Err status.WrongType) ≡ Err (fault.Refused s)
-        → Holds s
-    by_look_up_of e true true h = by_messages e (is_some (peer_at objects e.koid)) (queue_in (get objects e.koid)) h
-    by_look_up_of e true false h = subst Holds (same_status status.AccessDenied s h) denied
-    by_look_up_of e false b h = subst Holds (same_status status.WrongType s h) wrong
-
-    by_entry : (o : Option Entry) → front_by entries objects room places (granted o (kind.Channel ∷ []) READ) ≡ Err (fault.Refused s) → Holds s
-    by_entry None h = subst Holds (same_status status.BadHandle s h) bad
-    by_entry (Some e) h = by_look_up_of e (takes (kind.Channel ∷ []) e.kind) (within READ (bits e.rights)) h
+    by_entry : (o : Option Entry) → get entries c ≡ o → IsKnown entries objects c (front_by entries objects room places (granted o (kind.Channel ∷ []) READ))
+    by_entry None there = refl
+    by_entry (Some e) there = by_rights e there (takes (kind.Channel ∷ []) e.kind) (within READ (bits e.rights))
 
 -- the message is the first at the object k
 record IsFirstAt (objects : Map Object) (k : ℕ) (m : Message) : Type 0 where
@@ -286,11 +188,6 @@ module _ (os : Map Object) (k : ℕ) (m : Message) (first : IsFirstAt os k m) wh
       All-head (λ (x : Message). All named x.handles) m (drop 1 (queue_of first.object.body))
       (subst (λ (q : List Message). All (λ (x : Message). All named x.handles) q) first.queue all)
 
-fewer_queued : (ps : List Process) (r r2 : Objects) (j c : ℕ) → queues r.objects j ≡ queues r2.objects j + c
-    → handles_to (world_value ps r) j ≡ handles_to (world_value ps r2) j + c
-unfolding handles_to
-fewer_queued ps r r2 j c less = omega (arith, less)
-
 -- ---- a world with handles and bytes more
 
 -- the process with these bytes in its memory
@@ -325,8 +222,16 @@ module _ (lib : Library) (before after : List Process) (r r2 : Objects) (p p2 : 
   abbrev front_now : Result Front ReadFault
   front_now = front_at p.table.entries r.objects c room places
 
+  known : (found : Result Front ReadFault) → front_now ≡ found → IsKnown p.table.entries r.objects c found
+  known found is = subst (IsKnown p.table.entries r.objects c) is (front_known p.table.entries r.objects c room places)
+
   refused : refusal lib w p.pid (chan_read_etc c address room places) ≡ answers (why front_now)
-  refused = read_refused lib before r consistent p.pid c address room places ∙ rw (table_is before after p p2 write r) refl
+  unfolding handle_operands operands_fault listed has_room
+  refused =
+      first_looked_up lib w p.pid p.table.entries (table_is before after p p2 write r) (chan_read_etc c address room places) (why front_now)
+      c (kind.Channel ∷ []) READ None refl (λ s is. rw is refl)
+      (λ e is at. rw (is, table_is before after p p2 write r, at, queue_there r.objects e.koid, peer_there r consistent.no_zero e.koid)
+      (by_queue (length p.table.entries) room places e.koid (is_some (peer_at r.objects e.koid)) (queue_in (get r.objects e.koid))))
 
   -- ---- the message was read
 
@@ -342,7 +247,7 @@ module _ (lib : Library) (before after : List Process) (r r2 : Objects) (p p2 : 
     vs = message.values.items
 
     front : IsFrontOf p.table.entries r.objects c reads.front
-    front = front_of p.table.entries r.objects c room places reads.front reads.is_front
+    front = known (Ok reads.front) reads.is_front
 
     first : IsFirstAt r.objects k m
     first = first_at r.objects k m reads.first
@@ -404,20 +309,11 @@ module _ (lib : Library) (before after : List Process) (r r2 : Objects) (p p2 : 
 
     -- ---- the invariant
 
-    read_counts : (j : ℕ) → handles_to (world_value after (receiving r k)) j ≡ handles_to w j
-    read_counts j =
-        let moved : ℕ = count_by (λ (e : Entry). e.koid == j) m.handles in
-        let more : handles_to (world_value after r) j ≡ handles_to w j + moved =
-        counts_written before after p p2 r r j moved write refl (counts_entered j p.table p2.table m.handles vs reads.inserts) in
-        let less : handles_to (world_value after r) j ≡ handles_to (world_value after (receiving r k)) j + moved =
-        fewer_queued after r (receiving r k) j moved (queues_received r.objects k m first j) in
-        omega (arith, more, less)
-
     abbrev changed : Objects
     changed = record r { objects = update r.objects k (requeued (drop 1)) }
 
     named_now : (e : Entry) → IsNamed r.objects e → IsNamed changed.objects e
-    named_now = named_too (drop 1) r.objects k
+    named_now = requeued_named (drop 1) r.objects k
 
     later : (queue : List Message) → AreNamed r.objects queue → AreNamed r.objects (drop 1 queue)
     later [] all = all
@@ -427,10 +323,20 @@ module _ (lib : Library) (before after : List Process) (r r2 : Objects) (p p2 : 
     queue_named (body.ChannelEnd peer queue) old = still_named r.objects changed.objects named_now (drop 1 queue) (later queue old)
     queue_named _ old = All-nil (λ (x : Message). All (IsNamed changed.objects) x.handles)
 
-    next : IsNext before after r (receiving r k)
-    next = subst (IsNext before after r) (sym (same_receiving r k))
-        (requeued_next (drop 1) before after r consistent k (λ o at. queue_named o.body (consistent.queued k o at))
-        (subst (λ (x : Objects). (j : ℕ) → handles_to (world_value after x) j ≡ handles_to w j) (same_receiving r k) read_counts))
+    -- the handles of the message, which are in no table yet
+    abbrev moved : Map Entry
+    moved = numbered 0 m.handles
+
+    read_counts : (j : ℕ) → handles_to (world_value before changed) j + count_by (λ h. h.1.koid == j) moved
+        ≡ handles_to w j + count_by (λ (h : ℕ × Entry). h.1.koid == j) []
+    read_counts j =
+        let less : handles_to w j ≡ handles_to (world_value before (receiving r k)) j + naming j m.handles =
+        more_queued before (receiving r k) r j (naming j m.handles) (queues_received r.objects k m first j) in
+        omega (arith, less, ap (λ (x : Objects). handles_to (world_value before x) j) (same_receiving r k), numbered_naming j 0 m.handles)
+
+    sound_changed : IsSound before moved changed
+    sound_changed = requeued_sound (drop 1) before r k [] moved (sound_of before r consistent)
+        (λ o at. queue_named o.body (consistent.queued k o at)) read_counts
 
     entered_named : (v : ℕ) (e : Entry) → get p2.table.entries v ≡ Some e → IsNamed r.objects e
     entered_named =
@@ -443,9 +349,16 @@ module _ (lib : Library) (before after : List Process) (r r2 : Objects) (p p2 : 
     read_called : IsCalled lib before after r r2 p.pid read_site (outcome.Answered status.Ok)
     read_called = record {
       calls = (Values vs, rw (refused, reads.is_front) (read_chosen, refl, read_ends));
-      keeps = rw reads.objects (keeps before after p p2 write r (receiving r k) consistent state_same
+      keeps = rw (reads.objects, same_receiving r k) (entered before after p p2 write moved changed sound_changed
+          (requeued_kept (drop 1) before r k consistent.kept)
+          (same_agrees before after p p2 write state_same changed)
           (tables_entered p.table p2.table m.handles vs (consistent.tables p.pid (process_value p) write.there) fits reads.inserts)
-          (λ v e at. next.named e (entered_named v e at)) next);
+          (λ v e at. named_now e (entered_named v e at))
+          (λ j. omega (
+            arith,
+            counts_written before after p p2 changed changed j (naming j m.handles) write refl (counts_entered j p.table p2.table m.handles vs reads.inserts),
+            numbered_naming j 0 m.handles,
+          )));
     }
 
   -- ---- no message was read
@@ -477,15 +390,17 @@ module _ (lib : Library) (before after : List Process) (r r2 : Objects) (p p2 : 
 
     sizes_same : (bytes handles : ℕ) → front_now ≡ Err (fault.TooSmall bytes handles) → sizes_of (queue_at w p.pid c) ≡ bytes ∷ handles ∷ []
     sizes_same bytes handles is =
-        let small : IsTooSmall p.table.entries r.objects c bytes handles = too_small p.table.entries r.objects c room places bytes handles is in
+        let small : IsTooSmall p.table.entries r.objects c bytes handles = known (Err (fault.TooSmall bytes handles)) is in
         let koid : object_at w p.pid c ≡ small.entry.koid = rw (table_is before after p p2 write r, small.there) refl in
         ap (λ (j : ℕ). sizes_of (queue_seen_in (body_of w j))) koid ∙ (ap sizes_of (queue_there r.objects small.entry.koid) ∙ small.sizes)
 
     nothing_told : (s : Status) → front_now ≡ Err (fault.Refused s) → gives_refused w p.pid (chan_read_etc c address room places) s ≡ []
     unfolding gives_refused
-    nothing_told s is =
-        each_refused (λ answer. gives_refused w p.pid (chan_read_etc c address room places) answer ≡ []) refl refl refl refl refl refl p.table.entries r.objects
-        c room places s is
+    nothing_told s is = by_status s (known (Err (fault.Refused s)) is)
+      where
+        by_status : (x : Status) → tells_sizes x ≡ false → gives_refused w p.pid (chan_read_etc c address room places) x ≡ []
+        by_status status.BufferTooSmall untold = absurd (false≢true (sym untold))
+        by_status _ untold = refl
 
     by_known : (f : ReadFault) → front_now ≡ Err f → Called f
     unfolding taken_handles handle_operands remove_all gives_refused
@@ -514,7 +429,6 @@ module _ (lib : Library) (before after : List Process) (r r2 : Objects) (p p2 : 
   by_answer (Ok message) does told = read_called message does.ok told
   by_answer (Err f) does told = by_front does.same_table does.same_objects front_now refl f does.err told
 
-  pub read_done : state_value p.state ≡ Ready → (call : CallName) → next_for lib (process_value p) ≡ AtCall call read_site → (o : Outcome)
-      → IsAnswered (told_read address) (ChanReadDoes c room places) read_site p r o p2 r2 → IsDone lib before after r r2 p.pid call o
+  pub read_done : IsDoneBy lib before after r r2 p p2 read_site (told_read address) (ChanReadDoes c room places)
   read_done ready call next o acts = called_done lib before after r r2 p p2 consistent write ready call read_site next o
       (subst (λ (x : Outcome). IsCalled lib before after r r2 p.pid read_site x) (sym acts.ends) (by_answer acts.answer acts.acts acts.replied))

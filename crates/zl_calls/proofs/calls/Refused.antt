@@ -1,29 +1,115 @@
 -- The answers other than OK, where no policy has a say: they follow from the caller's table and from counts.
-use Rattle.zl_calls.proofs.Common.{◌≡◌, ℕ, Bool, true, false, [], refl, sym, ap, ◌∙◌, Option, Some, None, get, Library, Site, refusal, gives_refused, Calls}
-use Rattle.zl_calls.proofs.Common.{WantsMemory, Refused, grows, replied, taken, faults, creates, IsRefusedBy, World}
-use Rattle.zl_calls.proofs.policy.Plain.{bare}
+use Rattle.zl_calls.proofs.Common.{◌≡◌, ℕ, Bool, true, false, not, List, [], ◌∷◌, refl, sym, ap, ◌∙◌, subst, if◌then◌else◌, Option, Some, None, Result, Ok, Err}
+use Rattle.zl_calls.proofs.Common.{option_or, then_some, bits, within, Map, get, Library, Request, Site, handle_operands, listed, table_of, answer_if, first_some}
+use Rattle.zl_calls.proofs.Common.{operands_fault, refusal, gives_refused, Calls, WantsMemory, Refused, grows, replied, taken, IsRefusedBy, World}
+use Rattle.std.specs.Result.{result_err}
+use Rattle.zl_rights.specs.LookUp.{granted, looked_up}
+use Rattle.zl_rights.specs.Numbers.{takes}
+use Rattle.zl_rights.specs.declared.entry.Entry.{Entry}
+use Rattle.zl_rights.specs.declared.kind.Kind.{Kind}
 use Rattle.zl_rights.specs.declared.status.Status.{Status}
 use Rattle.zl_rights.specs.declared.status.Status.TheVariants as status
-use Rattle.zl_rights.specs.declared.policy.Condition.{Condition}
 use Rattle.zl_code.specs.declared.history.Outcome.{Outcome}
 use Rattle.zl_code.specs.declared.history.Outcome.TheVariants as outcome
+pub use Rattle.zl_calls.proofs.policy.Plain.{answers}
 
--- ---- policy
+-- ---- handles that were looked up
 
-module _ (w : World) (p : ℕ) where
-  pub fault_answers : (c : Condition) (s : Status) → faults w p c s ≡ Some (outcome.Answered s)
-  unfolding get
-  fault_answers c s = refl
+-- one that was found is there, and of one of the kinds
+found_of_kind : (o : Option Entry) (kinds : List Kind) (needed : ℕ) (e : Entry) → granted o kinds needed ≡ Ok e → (o ≡ Some e) × (takes kinds e.kind ≡ true)
+found_of_kind None kinds needed e found = absurd cc
+found_of_kind (Some x) kinds needed e found = by_tests (takes kinds x.kind) (within needed (bits x.rights)) refl found
+  where
+    by_tests : (a b : Bool) → takes kinds x.kind ≡ a
+        → ◌≡◌ {A = Result Entry Status} (if a then (if b then Ok x else Err status.AccessDenied) else Err status.WrongType) (Ok e)
+        → (Some x ≡ Some e) × (takes kinds e.kind ≡ true)
+    by_tests true true is h =
+        let same : x ≡ e = cc in
+        (ap (λ (y : Entry). Some y) same, subst (λ (y : Entry). takes kinds y.kind ≡ true) same is)
+    by_tests true false is h = absurd cc
+    by_tests false b is h = absurd cc
 
-  pub may_create : (c : Condition) → creates (bare w) p c ≡ None
-  unfolding creates get
-  may_create c = refl
+pub is_found : (o : Option Entry) (kinds : List Kind) (needed : ℕ) (e : Entry) → granted o kinds needed ≡ Ok e → o ≡ Some e
+is_found o kinds needed e found = (found_of_kind o kinds needed e found).0
+
+pub is_of_kind : (o : Option Entry) (kinds : List Kind) (needed : ℕ) (e : Entry) → granted o kinds needed ≡ Ok e → takes kinds e.kind ≡ true
+is_of_kind o kinds needed e found = (found_of_kind o kinds needed e found).1
+
+-- ---- tests in their order
+
+pub one_test : (a : Bool) (s : Status) → first_some (answer_if a s ∷ []) ≡ answers (then_some a s)
+one_test true s = refl
+one_test false s = refl
+
+pub two_tests : (a b : Bool) (s t : Status) → first_some (answer_if a s ∷ answer_if b t ∷ []) ≡ answers (option_or (then_some a s) (then_some b t))
+two_tests true b s t = refl
+two_tests false b s t = one_test b t
+
+pub three_tests : (a b c : Bool) (s t u : Status)
+    → first_some (answer_if a s ∷ answer_if b t ∷ answer_if c u ∷ []) ≡ answers (option_or (then_some a s) (option_or (then_some b t) (then_some c u)))
+three_tests true b c s t u = refl
+three_tests false b c s t u = two_tests b c t u
+
+-- ---- handle operands, and the tests behind them
+
+-- a look-up comes before others, and before the tests
+behind_look_up : (x : Result Entry Status) (others o : Option Status) (tests : List (Option Outcome)) → ((s : Status) → x ≡ Err s → o ≡ Some s)
+    → ((e : Entry) → x ≡ Ok e → first_some (answers others ∷ tests) ≡ answers o) → first_some (answers (option_or (result_err x) others) ∷ tests) ≡ answers o
+behind_look_up (Ok e) others o tests fails found = found e refl
+behind_look_up (Err s) others o tests fails found = ap answers (sym (fails s refl))
+
+-- the process has these handles; o is the answer other than OK
+module _ (lib : Library) (w : World) (p : ℕ) (entries : Map Entry) (table : table_of w p ≡ entries) (request : Request) (o : Option Status) where
+  -- a call that looks a handle up, and behind it others
+  pub first_looked_up : (h : ℕ) (kinds : List Kind) (needed : ℕ) (others : Option Status)
+      → operands_fault entries [] (handle_operands request) ≡ option_or (result_err (looked_up entries h kinds needed)) others
+      → ((s : Status) → looked_up entries h kinds needed ≡ Err s → o ≡ Some s)
+      → ((e : Entry) → looked_up entries h kinds needed ≡ Ok e → get entries h ≡ Some e → first_some (answers others ∷ listed lib w p request) ≡ answers o)
+      → refusal lib w p request ≡ answers o
+  unfolding refusal
+  first_looked_up h kinds needed others fault fails found =
+      (λ i. first_some (answers (operands_fault (table i) [] (handle_operands request)) ∷ listed lib w p request))
+      ∙ (ap (λ (f : Option Status). first_some (answers f ∷ listed lib w p request)) fault
+      ∙ behind_look_up (looked_up entries h kinds needed) others o (listed lib w p request) fails
+      (λ e is. found e is (is_found (get entries h) kinds needed e is)))
+
+  -- one handle of any kind, where just its rights are tested
+  pub any_looked_up : (h needed : ℕ) → operands_fault entries [] (handle_operands request) ≡ option_or (result_err (looked_up entries h [] needed)) None
+      → (get entries h ≡ None → o ≡ Some status.BadHandle)
+      → ((e : Entry) → get entries h ≡ Some e
+      → first_some (answer_if (not (within needed (bits e.rights))) status.AccessDenied ∷ listed lib w p request) ≡ answers o)
+      → refusal lib w p request ≡ answers o
+  unfolding refusal
+  any_looked_up h needed fault none found =
+      (λ i. first_some (answers (operands_fault (table i) [] (handle_operands request)) ∷ listed lib w p request))
+      ∙ (ap (λ (f : Option Status). first_some (answers f ∷ listed lib w p request)) fault ∙ by_entry (get entries h) refl)
+    where
+      by_rights : (b : Bool) (e : Entry)
+          → first_some (answers (option_or (result_err (if b then Ok e else Err status.AccessDenied)) None) ∷ listed lib w p request)
+          ≡ first_some (answer_if (not b) status.AccessDenied ∷ listed lib w p request)
+      by_rights true e = refl
+      by_rights false e = refl
+
+      by_entry : (x : Option Entry) → get entries h ≡ x
+          → first_some (answers (option_or (result_err (granted x [] needed)) None) ∷ listed lib w p request) ≡ answers o
+      by_entry None is = ap answers (sym (none is))
+      by_entry (Some e) is = by_rights (within needed (bits e.rights)) e ∙ found e is
+
+  -- a call that looks two handles up
+  pub both_looked_up : (h j : ℕ) (kinds others : List Kind) (needed more : ℕ)
+      → operands_fault entries [] (handle_operands request)
+      ≡ option_or (result_err (looked_up entries h kinds needed)) (option_or (result_err (looked_up entries j others more)) None)
+      → ((s : Status) → looked_up entries h kinds needed ≡ Err s → o ≡ Some s)
+      → ((e : Entry) (s : Status) → looked_up entries h kinds needed ≡ Ok e → looked_up entries j others more ≡ Err s → o ≡ Some s)
+      → ((e f : Entry) → looked_up entries h kinds needed ≡ Ok e → looked_up entries j others more ≡ Ok f → get entries h ≡ Some e → get entries j ≡ Some f
+      → first_some (listed lib w p request) ≡ answers o)
+      → refusal lib w p request ≡ answers o
+  both_looked_up h j kinds others needed more fault fails also found =
+      first_looked_up h kinds needed (option_or (result_err (looked_up entries j others more)) None) fault fails
+      (λ e is there. behind_look_up (looked_up entries j others more) None o (listed lib w p request) (λ s. also e s is)
+      (λ f are. found e f is are there (is_found (get entries j) others more f are)))
 
 -- ---- an answer that refuses the call, or wants memory
-
-abbrev pub answers : Option Status → Option Outcome
-answers None = None
-answers (Some s) = Some (outcome.Answered s)
 
 module _ (lib : Library) (w : World) (p : ℕ) (s : Site) where
   -- where a refusal tells no more than the status

@@ -4,7 +4,7 @@ use Rattle.zl_calls.proofs.Common.{None, Result, Ok, Err, inl, inr, ◌⊎◌, I
 use Rattle.zl_calls.proofs.Common.{false≢true, none-some, nat_cmp, is_sorted, Map, get, put, has_key, update, without, Ready, Library, Site, refusal, grows}
 use Rattle.zl_calls.proofs.Common.{taken_handles, remove_all, on_process, process_without, replied, cpu_answered, AtCall, next_for, get-put, get-without}
 use Rattle.zl_calls.proofs.Common.{sorted_put, sorted_without, length-without, Handles, IsTable, Objects, Releases, koids_of, Replies, status_of, values_of}
-use Rattle.zl_calls.proofs.Common.{process_entry, process_value, state_value, world_value, IsConsistent, IsNamed, World}
+use Rattle.zl_calls.proofs.Common.{process_entry, process_value, state_value, world_value, IsConsistent, IsNamed, World, IsSound}
 use Rattle.zl_code.proofs.Common.{Process as ProcessValue}
 use Rattle.std.specs.Option.{option_to_list}
 use Rattle.zl_rights.specs.declared.entry.Entry.{Entry}
@@ -233,12 +233,15 @@ module _ (before after : List Process) (p p2 : Process) (write : IsWrite before 
         ≡ count_by (λ x. x.1.koid == j) p2.table.entries + count_by (λ (x : ℕ × Entry). x.1.koid == j) (taken_map p.table hs)
     fewer j = fewer_left (λ x. x.1.koid == j) hs p.table old_table ∙ rw table refl
 
+    -- they have left the table, and count still
+    pub taken_sound : IsSound after (taken_map p.table hs) r
+    taken_sound = sound_after before after p p2 write r consistent (taken_map p.table hs) new_table fewer
+        (λ v e at. named_before v e (was_there v e at)) same_state
+
     -- the handles close
     pub closed : (r2 : Objects) → Releases (koids_of (taken_from p.table hs)) [] r r2 → IsSettled after r r2
     closed r2 releases =
-        settled after (taken_map p.table hs) r
-        (sound_after before after p p2 write r consistent (taken_map p.table hs) new_table fewer (λ v e at. named_before v e (was_there v e at)) same_state)
-        (sorted_taken hs p.table) (λ v e at. named_before v e (taken_there hs p.table v e at))
+        settled after (taken_map p.table hs) r taken_sound (sorted_taken hs p.table) (λ v e at. named_before v e (taken_there hs p.table v e at))
         (koids_of (taken_from p.table hs)) (λ k. same_koids k hs p.table) r2 releases.cascades (releases.keeps [] consistent.kept) releases.koids
 
 -- ---- the step

@@ -1,13 +1,13 @@
 -- The call chan_write, from its table and objects to a step.
-use Rattle.zl_calls.proofs.Common.{◌≡◌, ◌<◌, ◌+◌, ℕ, Bool, true, false, not, ◌||◌, ◌==◌, List, [], ◌∷◌, ◌++◌, map, length, refl, sym, ap, ◌∙◌, subst, cond}
-use Rattle.zl_calls.proofs.Common.{if◌then◌else◌, Option, Some, None, Result, Ok, Err, inl, inr, ◌⊎◌, IsTrue, arith, eq-eqb, is_some, count_by, sum_by-cons}
-use Rattle.zl_calls.proofs.Common.{then_some, option_or, option_map, cases_Bool, false≢true, none-some, same_Some, All, All-nil, bits, within, Map, get}
-use Rattle.zl_calls.proofs.Common.{has_key, update, without, Ready, Library, Site, site, chan_write, refusal, handle_operands, examined, operand, operand_of}
-use Rattle.zl_calls.proofs.Common.{by_look_up, any, listed, table_of, answer_if, first_some, may_choose, new_handles, insert_all, remove_all, taken_handles}
-use Rattle.zl_calls.proofs.Common.{effect, with_effect, gives_ok, gives_refused, on_object, on_process, AtCall, next_for, Values, replied, taken, get-update}
-use Rattle.zl_calls.proofs.Common.{get-without, Handles, Objects, IsAnswered, told_by, no_value, Replies, process_entry, process_value, object_entry}
-use Rattle.zl_calls.proofs.Common.{object_value, state_value, world_value, body_value, body_in, body_of, koid_in, koids_of, handles_to, faults, IsConsistent}
-use Rattle.zl_calls.proofs.Common.{IsNamed, AreNamed, World}
+use Rattle.zl_calls.proofs.Common.{◌≡◌, ◌<◌, ◌+◌, ℕ, Bool, true, false, not, ◌||◌, ◌==◌, List, [], ◌∷◌, ◌++◌, map, length, refl, sym, ap, ◌∙◌, cond}
+use Rattle.zl_calls.proofs.Common.{if◌then◌else◌, Option, Some, None, inl, inr, ◌⊎◌, IsTrue, arith, eq-eqb, is_some, count_by, sum_by-cons}
+use Rattle.zl_calls.proofs.Common.{then_some, option_or, option_map, cases_Bool, false≢true, none-some, same_Some, All, All-nil, Map, get}
+use Rattle.zl_calls.proofs.Common.{has_key, update, without, Library, Site, site, chan_write, refusal, handle_operands}
+use Rattle.zl_calls.proofs.Common.{any, listed, answer_if, first_some, may_choose, new_handles, insert_all, remove_all, taken_handles}
+use Rattle.zl_calls.proofs.Common.{effect, with_effect, gives_ok, gives_refused, on_object, on_process, Values, replied, taken, get-update}
+use Rattle.zl_calls.proofs.Common.{get-without, Handles, Objects, told_by, no_value, Replies, process_entry, object_entry}
+use Rattle.zl_calls.proofs.Common.{object_value, world_value, body_value, body_in, koids_of, handles_to, IsConsistent}
+use Rattle.zl_calls.proofs.Common.{IsNamed, AreNamed, World, operands_fault, IsSound}
 use Rattle.zl_code.proofs.Common.{Object as ObjectValue, All-cons}
 use Rattle.std.proofs.lemmas.Bool.{or_parts}
 use Rattle.std.proofs.lemmas.List.Elements.{All-append}
@@ -15,18 +15,15 @@ use Rattle.std.proofs.lemmas.List.Folds.{list_any-append}
 use Rattle.std.proofs.lemmas.List.Sums.{sum_by-append}
 use Rattle.std.specs.List.{filter, flat_map}
 use Rattle.std.specs.Option.{option_to_list}
-use Rattle.zl_rights.specs.declared.kind.Kind.{Kind}
+use Rattle.std.specs.Result.{result_err}
 use Rattle.zl_rights.specs.declared.kind.Kind.TheVariants as kind
 use Rattle.zl_rights.specs.declared.status.Status.{Status}
 use Rattle.zl_rights.specs.declared.status.Status.TheVariants as status
 use Rattle.zl_rights.specs.declared.entry.Entry.{Entry}
-use Rattle.zl_rights.specs.declared.policy.Condition.TheVariants as condition
 use Rattle.zl_rights.specs.Counts.{queued_to}
-use Rattle.zl_rights.specs.LookUp.{granted, looked_up}
-use Rattle.zl_rights.specs.Numbers.{TRANSFER, WRITE, takes}
+use Rattle.zl_rights.specs.LookUp.{looked_up}
+use Rattle.zl_rights.specs.Numbers.{TRANSFER, WRITE}
 use Rattle.zl_rights.specs.World.{Message}
-use Rattle.zl_code.specs.declared.history.CallName.{CallName}
-use Rattle.zl_code.specs.declared.history.Outcome.{Outcome}
 use Rattle.zl_code.specs.declared.history.Outcome.TheVariants as outcome
 use Rattle.zl_code.specs.Effects.{body_with_message, message_sent}
 use Rattle.zl_code.specs.Instructions.{consumes}
@@ -40,79 +37,20 @@ use Rattle.zl_objects.specs.Objects.{if_there, is_end_body, is_end_in, peer_at, 
 use Rattle.zl_objects.proofs.Law.{get_seen, has_seen}
 use Rattle.zl_calls.specs.declared.process.Process.{Process}
 use Rattle.zl_calls.specs.calls.Answer.{taken_from, without_handle}
-use Rattle.zl_calls.specs.calls.Channel.{ChanWriteDoes, WritesMessage, fault_of, list_refusal, peer_refusal, write_refusal}
+use Rattle.zl_calls.specs.calls.Channel.{ChanWriteDoes, WritesMessage, fault_of, list_refusal, write_refusal}
 use Rattle.zl_calls.proofs.calls.Answered.{IsWrite, table_is}
 use Rattle.zl_calls.proofs.objects.Counting.{queues, sum_update}
-use Rattle.zl_calls.proofs.calls.DoneCalls.{IsDone, IsCalled}
-use Rattle.zl_calls.proofs.objects.Queued.{counts_moved, named_too, requeued, requeued_body, requeued_next}
-use Rattle.zl_calls.proofs.policy.Plain.{bare}
-use Rattle.zl_calls.proofs.calls.Refused.{answers, fault_answers}
-use Rattle.zl_calls.proofs.calls.TakenCalls.{fewer, left_one, named_before, new_table, process_without_all, removed, replied_taking, taken_map, taking_done}
-use Rattle.zl_calls.proofs.calls.TakenCalls.{was_there, same_koids}
+use Rattle.zl_calls.proofs.calls.DoneCalls.{IsCalled, IsDoneBy}
+use Rattle.zl_calls.proofs.objects.Queued.{requeued, requeued_body, more_queued, requeued_kept, requeued_named, requeued_sound}
+use Rattle.zl_calls.proofs.policy.Examining.{list_fault}
+use Rattle.zl_calls.proofs.calls.Refused.{answers, first_looked_up, is_found, three_tests}
+use Rattle.zl_calls.proofs.calls.TakenCalls.{left_one, named_before, process_without_all, removed, replied_taking, taken_map, taking_done}
+use Rattle.zl_calls.proofs.calls.TakenCalls.{same_koids, taken_sound}
 use Rattle.zl_calls.proofs.objects.SameBodies.{still_named}
 use Rattle.zl_calls.proofs.lists.Updates.{update_seen}
-use Rattle.zl_calls.proofs.processes.Written.{IsNext, keeps}
+use Rattle.zl_calls.proofs.objects.Settled.{consistent_of}
 
--- ---- answers in their order
-
--- the first of two
-both : (a b : Option Status) → first_some (answers a ∷ answers b ∷ []) ≡ answers (option_or a b)
-both None None = refl
-both None (Some s) = refl
-both (Some s) b = refl
-
--- those of the list, and those behind it
-behind : (l n t q : Option Status)
-    → first_some (first_some (None ∷ answers l ∷ []) ∷ None ∷ answers n ∷ answers t ∷ answers q ∷ []) ≡ answers (option_or l (option_or n (option_or t q)))
-behind (Some s) n t q = refl
-behind None (Some s) t q = refl
-behind None None (Some s) q = refl
-behind None None None (Some s) = refl
-behind None None None None = refl
-
-if_answered : (b : Bool) (s : Status) → answer_if b s ≡ answers (then_some b s)
-if_answered true s = refl
-if_answered false s = refl
-
--- ---- the refusal
-
--- the handles of a list, as the definitions examine them
-abbrev list_of : List ℕ → List Operand
-list_of hs = flat_map (operand_by (consumes any TRANSFER)) hs
-
-module _ (w : World) (p : ℕ) where
-  pub looked : (found : Result Entry Status) → by_look_up w p found ≡ answers (fault_of found)
-  looked (Ok e) = refl
-  looked (Err status.BadHandle) = fault_answers w p condition.BadHandle status.BadHandle
-  looked (Err status.WrongType) = fault_answers w p condition.WrongObject status.WrongType
-  looked (Err _) = refl
-
-  -- each handle of the list, where the values that were seen are those before it
-  list_refused : (seen before hs : List ℕ) → ((v : ℕ) → contains seen v ≡ contains before v)
-      → examined (bare w) p seen (list_of hs) ≡ answers (list_refusal (table_of w p) before hs)
-  unfolding examined operand
-  list_refused seen before [] same = refl
-  list_refused seen before (h ∷ hs) same =
-      ap (λ (x : Option Outcome). first_some (x ∷ examined (bare w) p (h ∷ seen) (list_of hs) ∷ [])) (rw (same h) (first (contains before h)))
-      ∙ (ap (λ (x : Option Outcome).
-      first_some (answers (if contains before h then Some status.BadHandle else fault_of (looked_up (table_of w p) h [] TRANSFER)) ∷ x ∷ []))
-      (list_refused (h ∷ seen) (before ++ h ∷ []) hs more)
-      ∙ both (if contains before h then Some status.BadHandle else fault_of (looked_up (table_of w p) h [] TRANSFER))
-      (list_refusal (table_of w p) (before ++ h ∷ []) hs))
-    where
-      first : (b : Bool) → (if b then faults w p condition.BadHandle status.BadHandle else operand_of w p any TRANSFER (get (table_of w p) h))
-          ≡ answers (if b then Some status.BadHandle else fault_of (looked_up (table_of w p) h [] TRANSFER))
-      first true = fault_answers w p condition.BadHandle status.BadHandle
-      first false = looked (granted (get (table_of w p) h) [] TRANSFER)
-
-      swapped : (a b : Bool) → (a || b) ≡ (b || (a || false))
-      swapped true true = refl
-      swapped true false = refl
-      swapped false true = refl
-      swapped false false = refl
-
-      more : (v : ℕ) → contains (h ∷ seen) v ≡ contains (before ++ h ∷ []) v
-      more v = ap (λ b. (h == v) || b) (same v) ∙ (swapped (h == v) (contains before v) ∙ sym (list_any-append (λ y. y == v) before (h ∷ [])))
+-- ---- the peer of an end
 
 module _ (r : Objects) (no_zero : (k : ℕ) → IsTrue (has_key r.objects k) → 0 < k) where
   no_object : has_key r.objects 0 ≡ false
@@ -154,59 +92,6 @@ module _ (r : Objects) (no_zero : (k : ℕ) → IsTrue (has_key r.objects k) →
       by_object None read = absurd (none-some n read)
       by_object (Some o) read = by_body o.body read
 
-module _ (lib : Library) (before : List Process) (r : Objects) (consistent : IsConsistent before r) (p : ℕ) where
-  abbrev old_world : World
-  old_world = world_value before r
-
-  abbrev handles : Map Entry
-  handles = table_of old_world p
-
-  -- the answers of the definitions, where the look-up of the end has this answer, and its peer is there or not
-  abbrev with_end : ℕ → List ℕ → List ℕ → Option Outcome → Bool → Option Outcome
-  with_end c bytes hs x there =
-      first_some (first_some (x ∷ examined (bare old_world) p [] (list_of hs) ∷ []) ∷ None ∷ answer_if (contains hs c) status.NotSupported
-      ∷ answer_if (is_too_large bytes hs) status.OutOfRange ∷ answer_if (not there) status.PeerClosed ∷ [])
-
-  -- the answer of the call, where the look-up of the end comes to this
-  abbrev refusal_with : ℕ → List ℕ → List ℕ → Result Entry Status → Option Status
-  refusal_with c bytes hs found =
-      option_or (fault_of found) (option_or (list_refusal handles [] hs) (option_or (then_some (contains hs c) status.NotSupported)
-      (option_or (then_some (is_too_large bytes hs) status.OutOfRange) (peer_refusal r.objects found))))
-
-  write_refused : (c : ℕ) (bytes hs : List ℕ) → refusal lib old_world p (chan_write c bytes hs) ≡ answers (write_refusal handles r.objects c (length bytes) hs)
-  unfolding refusal handle_operands examined operand listed
-  write_refused c bytes hs = by_end (get handles c)
-    where
-      passes : (e : Entry)
-          → with_end c bytes hs None (has_key old_world.objects (peer_seen (body_of old_world e.koid))) ≡ answers (refusal_with c bytes hs (Ok e))
-      passes e = rw (
-        peer_there r consistent.no_zero e.koid,
-        list_refused old_world p [] [] hs (λ v. refl),
-        if_answered (contains hs c) status.NotSupported,
-        if_answered (is_too_large bytes hs) status.OutOfRange,
-        if_answered (not (is_some (peer_at r.objects e.koid))) status.PeerClosed,
-      )
-          (behind (list_refusal handles [] hs) (then_some (contains hs c) status.NotSupported) (then_some (is_too_large bytes hs) status.OutOfRange)
-          (then_some (not (is_some (peer_at r.objects e.koid))) status.PeerClosed))
-
-      by_tests : (e : Entry) (a b : Bool)
-          → with_end c bytes hs (by_look_up old_world p (if a then (if b then Ok e else Err status.AccessDenied) else Err status.WrongType))
-          (has_key old_world.objects (peer_seen (body_of old_world e.koid)))
-          ≡ answers (refusal_with c bytes hs (if a then (if b then Ok e else Err status.AccessDenied) else Err status.WrongType))
-      by_tests e true true = passes e
-      by_tests e true false = refl
-      by_tests e false b =
-          ap (λ (x : Option Outcome). with_end c bytes hs x (has_key old_world.objects (peer_seen (body_of old_world e.koid))))
-          (fault_answers old_world p condition.WrongObject status.WrongType)
-
-      by_end : (o : Option Entry)
-          → with_end c bytes hs (operand_of old_world p (kind.Channel ∷ []) WRITE o) (has_key old_world.objects (peer_seen (body_of old_world (koid_in o))))
-          ≡ answers (refusal_with c bytes hs (granted o (kind.Channel ∷ []) WRITE))
-      by_end None =
-          ap (λ (x : Option Outcome). with_end c bytes hs x (has_key old_world.objects (peer_seen (body_of old_world 0))))
-          (fault_answers old_world p condition.BadHandle status.BadHandle)
-      by_end (Some e) = by_tests e (takes (kind.Channel ∷ []) e.kind) (within WRITE (bits e.rights))
-
 -- ---- what holds where it isn't refused
 
 none_first : (a b : Option Status) → option_or a b ≡ None → a ≡ None
@@ -216,17 +101,6 @@ none_first (Some s) b h = h
 none_then : (a b : Option Status) → option_or a b ≡ None → b ≡ None
 none_then None b h = h
 none_then (Some s) b h = absurd (none-some s (sym h))
-
--- a handle that was looked up is there
-pub is_found : (o : Option Entry) (kinds : List Kind) (needed : ℕ) (e : Entry) → granted o kinds needed ≡ Ok e → o ≡ Some e
-is_found None kinds needed e found = absurd cc
-is_found (Some x) kinds needed e found = by_tests (takes kinds x.kind) (within needed (bits x.rights)) found
-  where
-    by_tests : (a b : Bool) → ◌≡◌ {A = Result Entry Status} (if a then (if b then Ok x else Err status.AccessDenied) else Err status.WrongType) (Ok e)
-        → Some x ≡ Some e
-    by_tests true true h = let same : x ≡ e = cc in ap (λ (y : Entry). Some y) same
-    by_tests true false h = absurd cc
-    by_tests false b h = absurd cc
 
 other_one : (t : Handles) (h v : ℕ) → (h == v) ≡ false → get (without_handle t h).entries v ≡ get t.entries v
 other_one t h v apart = by_live (has_key t.entries h)
@@ -273,7 +147,8 @@ takes_listed : (c : ℕ) (bytes hs : List ℕ) → taken_handles (chan_write c b
 unfolding taken_handles handle_operands
 takes_listed c bytes hs = of_list hs
   where
-    of_list : (xs : List ℕ) → map (λ (o : Operand). o.value) (filter (λ (o : Operand). o.is_taken) (list_of xs)) ≡ xs
+    of_list : (xs : List ℕ) → map (λ (o : Operand). o.value) (filter (λ (o : Operand). o.is_taken)
+        (flat_map (operand_by (consumes any TRANSFER)) xs)) ≡ xs
     of_list [] = refl
     of_list (x ∷ xs) = ap (λ (rest : List ℕ). x ∷ rest) (of_list xs)
 
@@ -343,7 +218,22 @@ module _ (lib : Library) (before after : List Process) (r r2 : Objects) (p p2 : 
   refused_by = write_refusal p.table.entries r.objects c (length bytes) hs
 
   refused : refusal lib w p.pid (chan_write c bytes hs) ≡ answers refused_by
-  refused = write_refused lib before r consistent p.pid c bytes hs ∙ rw (table_is before after p p2 write r) refl
+  unfolding handle_operands operands_fault listed
+  refused =
+      first_looked_up lib w p.pid p.table.entries (table_is before after p p2 write r) (chan_write c bytes hs) refused_by
+      c (kind.Channel ∷ []) WRITE (list_refusal p.table.entries [] hs)
+      (ap (option_or (result_err (looked_up p.table.entries c (kind.Channel ∷ []) WRITE))) (sym (list_fault p.table.entries [] [] hs (λ v. refl))))
+      (λ s is. rw is refl)
+      (λ e is at. rw (is, table_is before after p p2 write r, at, peer_there r consistent.no_zero e.koid)
+      (by_tests (list_refusal p.table.entries [] hs) (not (is_some (peer_at r.objects e.koid)))))
+    where
+      by_tests : (o : Option Status) (closed : Bool)
+          → first_some (answers o ∷ answer_if (contains hs c) status.NotSupported ∷ answer_if (is_too_large bytes hs) status.OutOfRange
+          ∷ answer_if closed status.PeerClosed ∷ [])
+          ≡ answers (option_or o (option_or (then_some (contains hs c) status.NotSupported) (option_or (then_some (is_too_large bytes hs) status.OutOfRange)
+          (then_some closed status.PeerClosed))))
+      by_tests None closed = three_tests (contains hs c) (is_too_large bytes hs) closed status.NotSupported status.OutOfRange status.PeerClosed
+      by_tests (Some s) closed = refl
 
   module _ (writes : WritesMessage p.table r c bytes hs p2.table r2) (replies : Replies write_site status.Ok [] p p2) where
     abbrev message : Message
@@ -386,25 +276,16 @@ module _ (lib : Library) (before after : List Process) (r r2 : Objects) (p p2 : 
 
     write_chosen : IsTrue (may_choose w (taken w p.pid write_site) p.pid (chan_write c bytes hs) [])
     unfolding may_choose new_handles on_process
-    write_chosen = rw (takes_listed c bytes hs, removed hs w p.pid, get-update w.processes p.pid (process_without_all hs) p.pid, same p.pid, write.there) refl
-      where
-        same : (j : ℕ) → (j == j) ≡ true
-        same j = eq-eqb j j refl
+    write_chosen =
+        rw (takes_listed c bytes hs, removed hs w p.pid, get-update w.processes p.pid (process_without_all hs) p.pid, eq-eqb p.pid p.pid refl, write.there) refl
 
     -- ---- the invariant
-
-    write_counts : (j : ℕ) → handles_to (world_value after (sending r writes.peer message)) j ≡ handles_to w j
-    write_counts j =
-        counts_moved before after p p2 write r (sending r writes.peer message) j (count_by (λ (x : ℕ × Entry). x.1.koid == j) (taken_map p.table hs))
-        (queues_sent message r.objects writes.peer j writes.there
-        ∙ ap (λ n. queues r.objects j + n) (count_koids j (taken_from p.table hs) ∙ same_koids j hs p.table))
-        (fewer before after p p2 write hs writes.table r consistent state_same j)
 
     abbrev changed : Objects
     changed = record r { objects = update r.objects writes.peer (requeued (sent_last message)) }
 
     named_now : (e : Entry) → IsNamed r.objects e → IsNamed changed.objects e
-    named_now = named_too (sent_last message) r.objects writes.peer
+    named_now = requeued_named (sent_last message) r.objects writes.peer
 
     queue_named : (b : Body) → AreNamed r.objects (queue_of b) → AreNamed changed.objects (queue_of (requeued_body (sent_last message) b))
     queue_named (body.ChannelEnd peer queue) old =
@@ -415,24 +296,33 @@ module _ (lib : Library) (before after : List Process) (r r2 : Objects) (p p2 : 
         (All-nil (λ (x : Message). All (IsNamed changed.objects) x.handles)))
     queue_named _ old = All-nil (λ (x : Message). All (IsNamed changed.objects) x.handles)
 
-    next : IsNext before after r (sending r writes.peer message)
-    next = subst (IsNext before after r) (sym (same_sending message r writes.peer))
-        (requeued_next (sent_last message) before after r consistent writes.peer (λ o at. queue_named o.body (consistent.queued writes.peer o at))
-        (subst (λ (x : Objects). (j : ℕ) → handles_to (world_value after x) j ≡ handles_to w j) (same_sending message r writes.peer) write_counts))
+    -- the handles have left the table, and count still; then they are in the queue
+    left : IsSound after (taken_map p.table hs) r
+    left = taken_sound before after p p2 write hs writes.table r consistent state_same
+
+    write_counts : (j : ℕ) → handles_to (world_value after changed) j + count_by (λ (h : ℕ × Entry). h.1.koid == j) []
+        ≡ handles_to (world_value after r) j + count_by (λ h. h.1.koid == j) (taken_map p.table hs)
+    write_counts j =
+        let more : handles_to (world_value after (sending r writes.peer message)) j
+        ≡ handles_to (world_value after r) j + count_by (λ (x : ℕ × Entry). x.1.koid == j) (taken_map p.table hs)
+        = more_queued after r (sending r writes.peer message) j _ (queues_sent message r.objects writes.peer j writes.there
+        ∙ ap (λ n. queues r.objects j + n) (count_koids j (taken_from p.table hs) ∙ same_koids j hs p.table)) in
+        omega (arith, more, ap (λ (x : Objects). handles_to (world_value after x) j) (same_sending message r writes.peer))
+
+    write_kept : IsConsistent after changed
+    write_kept = consistent_of after changed
+        (requeued_sound (sent_last message) after r writes.peer (taken_map p.table hs) [] left
+        (λ o at. queue_named o.body (left.queued writes.peer o at)) write_counts)
+        (requeued_kept (sent_last message) after r writes.peer consistent.kept)
 
     write_called : IsCalled lib before after r r2 p.pid write_site (outcome.Answered status.Ok)
     unfolding gives_ok
     write_called = record {
       calls = (Values [], rw (refused, writes.unrefused) (write_chosen, refl, write_ends));
-      keeps = rw writes.objects (keeps before after p p2 write r (sending r writes.peer message) consistent state_same
-          (new_table before after p p2 write hs writes.table r consistent state_same)
-          (λ v e at. next.named e (named_before before after p p2 write hs writes.table r consistent state_same v e
-          (was_there before after p p2 write hs writes.table r consistent state_same v e at)))
-          next);
+      keeps = rw (writes.objects, same_sending message r writes.peer) write_kept;
     }
 
-  pub write_done : state_value p.state ≡ Ready → (call : CallName) → next_for lib (process_value p) ≡ AtCall call write_site → (o : Outcome)
-      → IsAnswered (told_by no_value) (ChanWriteDoes c bytes hs) write_site p r o p2 r2 → IsDone lib before after r r2 p.pid call o
+  pub write_done : IsDoneBy lib before after r r2 p p2 write_site (told_by no_value) (ChanWriteDoes c bytes hs)
   unfolding gives_refused
   write_done ready call next o acts =
       taking_done lib before after r r2 p p2 consistent write ready call write_site next hs (takes_listed c bytes hs) no_value

@@ -1,5 +1,7 @@
--- Changes of one value of a map: two after another, none, and as they are seen from outside.
-use Rattle.zl_calls.proofs.Common.{◌≡◌, ℕ, true, ◌==◌, [], ◌∷◌, refl, sym, ap, ◌∙◌, inl, inr, map, eq-eqb, cases_Bool, eqb-true, Map, update}
+-- Changes of one value of a map: two after another, none, and as they are seen from outside. Maps in order: what is found, and seen.
+use Rattle.zl_calls.proofs.Common.{◌≡◌, ◌<◌, ℕ, true, false, ◌==◌, [], ◌∷◌, refl, sym, ap, ◌∙◌, subst, inl, inr, map, eq-eqb, cases_Bool, eqb-true, Map}
+use Rattle.zl_calls.proofs.Common.{update, Some, IsTrue, arith, below_all, get, is_sorted, nat_cmp, nat_tests, none-some, sorted_parts}
+use Rattle.zl_table.proofs.MapEdits.{below_parts}
 
 pub update_twice : {X : Type 0} (m : Map X) (k : ℕ) (f g : X → X) → update (update m k f) k g ≡ update m k (λ x. g (f x))
 unfolding update
@@ -33,3 +35,33 @@ module _ {X Y : Type 0} (seen : X → Y) where
   -- a change that what is seen doesn't tell
   pub update_unseen : (m : Map X) (k : ℕ) (f : X → X) → ((x : X) → seen (f x) ≡ seen x) → map seen_entry (update m k f) ≡ map seen_entry m
   update_unseen m k f same = update_seen m k f (λ y. y) same ∙ update_itself (map seen_entry m) k
+
+  -- what is seen of a map in order is in order
+  below_seen : (k : ℕ) (m : Map X) → below_all nat_cmp k (map seen_entry m) ≡ below_all nat_cmp k m
+  below_seen k [] = refl
+  below_seen k (e ∷ m) = rw (below_seen k m) refl
+
+  pub sorted_seen : (m : Map X) → is_sorted nat_cmp (map seen_entry m) ≡ is_sorted nat_cmp m
+  sorted_seen [] = refl
+  sorted_seen (e ∷ m) = rw (below_seen e.0 m, sorted_seen m) refl
+
+-- ---- a map in order
+
+module _ {X : Type 0} where
+  above : (k : ℕ) (m : Map X) → IsTrue (below_all nat_cmp k m) → (j : ℕ) (x : X) → get m j ≡ Some x → k < j
+  unfolding get
+  above k [] below j x at = absurd (none-some x at)
+  above k (e ∷ m) below j x at =
+      let parts = below_parts k e m below in
+      elim (cases_Bool (e.0 == j)) as (λ _. k < j) [
+        | inl here ↦ subst (λ (i : ℕ). k < i) (eqb-true e.0 j here) parts.0
+        | inr apart ↦ above k m parts.1 j x (rw apart at at)
+      ]
+
+  -- what is found behind the first entry is found
+  pub found_behind : (e : ℕ × X) (m : Map X) → IsTrue (is_sorted nat_cmp (e ∷ m)) → (k : ℕ) (x : X) → get m k ≡ Some x → get (e ∷ m) k ≡ Some x
+  unfolding get
+  found_behind e m sorted k x at =
+      let less : e.0 < k = above e.0 m (sorted_parts e m sorted).0 k x at in
+      let apart : (e.0 == k) ≡ false = grind (arith, nat_tests, less) in
+      rw apart at

@@ -12,9 +12,7 @@ use Rattle.zl_calls.specs.declared.process.Process.{Process}
 shown : (w : World) (k : ℕ) (b : Body) → Agrees w k b → Shows w k b
 shown w k (body.Job own) agrees = tt
 shown w k (body.Process job alive) agrees = record { living = agrees.living; over = agrees.over }
-shown w k body.Event agrees = tt
-shown w k (body.Port port) agrees = tt
-shown w k (body.ChannelEnd peer queue) agrees = tt
+shown w k _ agrees = tt
 
 -- objects that agree with their processes show what those are in
 pub shown_all : (w : World) (m : Map Object) → IsTrue (is_sorted nat_cmp m) → ((k : ℕ) → IsTrue (has_key m k) → 0 < k)

@@ -26,10 +26,7 @@ all_any P test C found (x ∷ xs) all some = elim (or_cases (test x) (list_any t
 
 pub queue_seen : (b : Body) → queue_value (body_value b) ≡ queue_of b
 queue_seen (body.Job own) = refl
-queue_seen (body.Process job alive) = refl
-queue_seen body.Event = refl
-queue_seen (body.Port port) = refl
-queue_seen (body.ChannelEnd peer queue) = refl
+queue_seen _ = refl
 
 module _ (ps : List Process) (m : Map Entry) (r : Objects) (sound : IsSound ps m r) (k : ℕ) where
   abbrev IsThere : Type 0

@@ -2,7 +2,7 @@
 use Rattle.zl_calls.proofs.Common.{◌≡◌, ◌+◌, ℕ, Bool, true, false, ◌==◌, List, [], ◌∷◌, map, refl, sym, ap, ◌∙◌, cond, None, Some, inl, inr, IsTrue, arith}
 use Rattle.zl_calls.proofs.Common.{nat_lt, sum_by, count_by, sum_by-cons, map-append, cases_Bool, eqb-true, none-some, nat_cmp, is_sorted, same_Some, Map, get}
 use Rattle.zl_calls.proofs.Common.{put, update, without, handles_to, queued_to, Objects, object_entry, process_entry, process_value, body_value, new_object}
-use Rattle.zl_calls.proofs.Common.{with_new, world_value}
+use Rattle.zl_calls.proofs.Common.{with_new, world_value, suc}
 use Rattle.zl_code.proofs.Common.{Process as ProcessValue}
 use Rattle.std.proofs.lemmas.List.Sums.{sum_by-append}
 use Rattle.zl_objects.specs.declared.object.Body.{Body}
@@ -10,6 +10,7 @@ use Rattle.zl_objects.specs.declared.object.Object.{Object}
 use Rattle.zl_objects.proofs.Sums.{sum_fewer, sum_without}
 use Rattle.zl_calls.specs.declared.process.Process.{Process}
 use Rattle.zl_calls.proofs.calls.Answered.{IsWrite}
+use Rattle.zl_rights.specs.declared.entry.Entry.{Entry}
 
 -- ---- queues
 
@@ -17,19 +18,29 @@ use Rattle.zl_calls.proofs.calls.Answered.{IsWrite}
 abbrev pub queues : Map Object → ℕ → ℕ
 queues os k = sum_by (λ o. queued_to k o.1.body) (map object_entry os)
 
--- a change that leaves each body as it is
-pub queues_updated : (f : Object → Object) → ((o : Object) → (f o).body ≡ o.body) → (os : Map Object) (k j : ℕ) → queues (update os k f) j ≡ queues os j
+-- a change that leaves as many handles in each queue
+pub queues_kept : (f : Object → Object) (j : ℕ) → ((o : Object) → queued_to j (body_value (f o).body) ≡ queued_to j (body_value o.body))
+    → (os : Map Object) (k : ℕ) → queues (update os k f) j ≡ queues os j
 unfolding update
-queues_updated f same [] k j = refl
-queues_updated f same (e ∷ os) k j = elim (cases_Bool (e.0 == k)) as (λ _. queues (update (e ∷ os) k f) j ≡ queues (e ∷ os) j) [
-  | inl here ↦ rw (here, same e.1) refl
+queues_kept f j same [] k = refl
+queues_kept f j same (e ∷ os) k = elim (cases_Bool (e.0 == k)) as (λ _. queues (update (e ∷ os) k f) j ≡ queues (e ∷ os) j) [
+  | inl here ↦ rw here (omega (
+    arith,
+    sum_by-cons (λ o. queued_to j o.1.body) (object_entry (k, f e.1)) (map object_entry os),
+    sum_by-cons (λ o. queued_to j o.1.body) (object_entry e) (map object_entry os),
+    same e.1,
+  ))
   | inr apart ↦ rw apart (omega (
     arith,
     sum_by-cons (λ o. queued_to j o.1.body) (object_entry e) (map object_entry (update os k f)),
     sum_by-cons (λ o. queued_to j o.1.body) (object_entry e) (map object_entry os),
-    queues_updated f same os k j,
+    queues_kept f j same os k,
   ))
 ]
+
+-- one that leaves each body as it is
+pub queues_updated : (f : Object → Object) → ((o : Object) → (f o).body ≡ o.body) → (os : Map Object) (k j : ℕ) → queues (update os k f) j ≡ queues os j
+queues_updated f same os k j = queues_kept f j (λ o. ap (λ (b : Body). queued_to j (body_value b)) (same o)) os k
 
 -- an object more, in whose queue nothing is
 pub queues_grown : (r : Objects) (b : Body) (handles j : ℕ) → ◌≡◌ {A = ℕ} (queued_to j (body_value b)) 0
@@ -112,3 +123,22 @@ pub same_tables : (ps : List Process) (r r2 : Objects) (k : ℕ) → queues r2.o
     → handles_to (world_value ps r2) k ≡ handles_to (world_value ps r) k
 unfolding handles_to
 same_tables ps r r2 k same = rw same refl
+
+-- ---- entries in a list
+
+-- how many of them name k
+abbrev pub naming : ℕ → List Entry → ℕ
+naming k es = count_by (λ (e : Entry). e.koid == k) es
+
+pub naming_cons : (k : ℕ) (e : Entry) (es : List Entry) → naming k (e ∷ es) ≡ cond (e.koid == k) 1 0 + naming k es
+naming_cons k e es = sum_by-cons (λ (x : Entry). cond (x.koid == k) 1 0) e es
+
+-- the entries under the numbers from n on
+abbrev pub numbered : ℕ → List Entry → Map Entry
+numbered n [] = []
+numbered n (e ∷ es) = (n, e) ∷ numbered (suc n) es
+
+pub numbered_naming : (k n : ℕ) (es : List Entry) → count_by (λ (h : ℕ × Entry). h.1.koid == k) (numbered n es) ≡ naming k es
+numbered_naming k n [] = refl
+numbered_naming k n (e ∷ es) =
+    omega (arith, naming_cons k e es, sum_by-cons (λ (x : ℕ × Entry). cond (x.1.koid == k) 1 0) (n, e) (numbered (suc n) es), numbered_naming k (suc n) es)

@@ -1,5 +1,5 @@
 -- One object more, with the handles that name it and are to enter a table: what the invariant says of both.
-use Rattle.zl_calls.proofs.Common.{IsTable, is_sorted-update, has_key-update, process_value, ◌≡◌, ◌<◌, ◌+◌, ◌^◌, ℕ, Bool, nat_cmp, is_sorted, nat_lt, true}
+use Rattle.zl_calls.proofs.Common.{◌≡◌, ◌<◌, ◌+◌, ◌^◌, ℕ, Bool, nat_cmp, is_sorted, nat_lt, true}
 use Rattle.zl_calls.proofs.Common.{false, ◌||◌, ◌==◌, List, [], ◌∷◌, ◌++◌, map, refl, sym, ap, ◌∙◌, subst, cond, Option, Some, None, inl, inr, IsTrue, arith}
 use Rattle.zl_calls.proofs.Common.{eq-eqb, if◌then◌else◌, is_some, list_any, count_by, sum_by-cons, cases_Bool, eqb-true, false≢true, same_Some, Map, get, put}
 use Rattle.zl_calls.proofs.Common.{has_key, is_process, map-append, state_passes, All, All-nil, has_living_child, handles_to, get-put, sorted_put, put_key}
@@ -16,12 +16,10 @@ use Rattle.zl_objects.specs.Objects.{queue_of}
 use Rattle.zl_objects.proofs.Bodies.{more_in_job}
 use Rattle.zl_objects.proofs.ByKoid.{put_last}
 use Rattle.zl_objects.proofs.Law.{has_seen, kept_all}
-use Rattle.zl_calls.proofs.calls.Answered.{IsWrite}
 use Rattle.zl_calls.proofs.objects.Counted.{never_named}
 use Rattle.zl_calls.proofs.objects.Counting.{queues_grown, same_tables}
 use Rattle.zl_calls.proofs.objects.SameBodies.{kept_each, still_agrees, still_named}
 use Rattle.zl_calls.proofs.objects.Settled.{sound_of}
-use Rattle.zl_calls.proofs.processes.Written.{after_is, found_after, same_states}
 
 any_more : {X : Type 0} (test : X → Bool) (xs : List X) (x : X) → IsTrue (list_any test xs) → IsTrue (list_any test (xs ++ x ∷ []))
 any_more test [] x some = absurd (false≢true some)
@@ -41,11 +39,8 @@ grown_seen r b handles given =
 
 -- where no message is, no handle is
 pub none_queued : (j : ℕ) (b : Body) → queue_of b ≡ [] → ◌≡◌ {A = ℕ} (queued_to j (body_value b)) 0
-none_queued j (body.Job own) empty = refl
-none_queued j (body.Process job lives) empty = refl
-none_queued j body.Event empty = refl
-none_queued j (body.Port port) empty = refl
 none_queued j (body.ChannelEnd peer queue) empty = rw empty refl
+none_queued j _ empty = refl
 
 -- the invariant, where the handles m count and are to enter a table
 pub record IsGrowing (ps : List Process) (m : Map Entry) (r : Objects) : Type 0 where
@@ -135,10 +130,7 @@ module _ (ps : List Process) (m : Map Entry) (r : Objects) (sound : IsSound ps m
     still_alone : (j : ℕ) (c : Body) → IsTrue (stays_alone r.objects j c) → IsTrue (stays_alone grown.objects j c)
     unfolding has_living_child
     still_alone j (body.Job own) alone = any_more (λ e. is_child j e.1.body) r.objects (n, fresh) alone
-    still_alone j (body.Process job lives) alone = alone
-    still_alone j body.Event alone = alone
-    still_alone j (body.Port port) alone = alone
-    still_alone j (body.ChannelEnd peer queue) alone = alone
+    still_alone j _ alone = alone
 
     -- what was kept before is kept
     pub still_kept : (j : ℕ) (q : Object) → IsTrue (is_kept r.objects j q) → IsTrue (is_kept grown.objects j q)
@@ -215,29 +207,4 @@ grown_one ps m r growing b quiet empty in_job koid apart_from x names = record {
   sound = grown_sound ps m r growing.sound b 1 quiet empty in_job koid apart_from (x ∷ m)
       (λ j. sum_by-cons (λ h. cond (h.1.koid == j) 1 0) x m ∙ rw names refl);
   kept = kept_grown ps m r growing.sound b 1 refl growing.kept;
-}
-
--- the handles m have entered the table of a process
-pub entered : (before after : List Process) (p p2 : Process) (write : IsWrite before after p p2) → p2.state ≡ p.state → (m : Map Entry) (r : Objects)
-    → IsGrowing before m r → IsTable p2.table → ((v : ℕ) (e : Entry) → get p2.table.entries v ≡ Some e → IsNamed r.objects e)
-    → ((j : ℕ) → handles_to (world_value after r) j ≡ handles_to (world_value before r) j + count_by (λ h. h.1.koid == j) m) → IsConsistent after r
-entered before after p p2 write state m r growing table named counts = record {
-  processes_in_order = rw (after_is before after p p2 write, is_sorted-update (map process_entry before) p.pid (λ _. process_value p2))
-      growing.sound.processes_in_order;
-  given_processes = λ k there. growing.sound.given_processes k
-      (sym (has_key-update (map process_entry before) p.pid (λ _. process_value p2) k) ∙ (rw (after_is before after p p2 write) at there));
-  given_objects = growing.sound.given_objects;
-  koids = growing.sound.koids;
-  above_zero = growing.sound.above_zero;
-  no_zero = growing.sound.no_zero;
-  tables = λ k q at. found_after before after p p2 write (IsTable (record { entries = q.handles; last = q.last })) k q at
-      (λ is. subst (λ (x : ProcessValue). IsTable (record { entries = x.handles; last = x.last })) is table) (growing.sound.tables k q);
-  named = λ k q v e at there. found_after before after p p2 write (IsNamed r.objects e) k q at
-      (λ is. named v e (ap (λ (x : ProcessValue). get x.handles v) is ∙ there)) (λ old. growing.sound.named k q v e old there);
-  queued = growing.sound.queued;
-  counted = λ j q at. growing.sound.counted j q at ∙ sym (counts j);
-  agrees = λ j q at. still_agrees (world_value before r) (world_value after r) j q.body (same_states before after p p2 write state r r j)
-      (growing.sound.agrees j q at);
-  in_jobs = growing.sound.in_jobs;
-  kept = growing.kept;
 }

@@ -1,119 +1,142 @@
--- What one object is changes, but neither its kind nor what keeps it: what the invariant says of the objects.
-use Rattle.zl_calls.proofs.Common.{◌≡◌, ℕ, ◌||◌, ◌==◌, [], ◌∷◌, refl, sym, ap, ◌∙◌, subst, Option, Some, None, inl, inr, IsTrue, arith, if◌then◌else◌, list_any}
-use Rattle.zl_calls.proofs.Common.{option_map, cases_Bool, eqb-true, List, Map, get, update, kind_of, handles_to, get-update, has_key-update, is_sorted-update}
-use Rattle.zl_calls.proofs.Common.{Objects, has_living_child, is_job_at, is_job_body, is_job_in, is_kept, is_child, stays_alone, body_value, is_in_job}
-use Rattle.zl_calls.proofs.Common.{world_value, Agrees, AreNamed, IsConsistent, IsNamed, World}
+-- One object becomes another that is of its kind and is kept as it was: what the invariant says of the objects.
+use Rattle.zl_calls.proofs.Common.{◌≡◌, ◌+◌, ℕ, false, ◌==◌, List, [], refl, sym, ap, ◌∙◌, subst, Some, inl, inr, IsTrue, nat_lt, or_left, or_right, count_by}
+use Rattle.zl_calls.proofs.Common.{sum_by, Map, get, update, kind_of, handles_to, queued_to, is_process, has_key-update, is_sorted-update, Objects, AreKeptBut}
+use Rattle.zl_calls.proofs.Common.{is_kept, is_child, stays_alone, is_in_job, body_value, world_value, Agrees, AreNamed, IsConsistent, IsNamed, IsSound, World}
+use Rattle.std.proofs.lemmas.Bool.{or_cases}
 use Rattle.zl_rights.specs.declared.entry.Entry.{Entry}
+use Rattle.zl_rights.specs.World.{Message}
 use Rattle.zl_objects.specs.declared.object.Body.{Body}
 use Rattle.zl_objects.specs.declared.object.Body.TheVariants as body
 use Rattle.zl_objects.specs.declared.object.Object.{Object}
 use Rattle.zl_objects.specs.Objects.{queue_of}
-use Rattle.zl_objects.proofs.Bodies.{same_in_job}
+use Rattle.zl_objects.proofs.Bodies.{alone_changed, same_in_job}
 use Rattle.zl_objects.proofs.Law.{kept_all}
 use Rattle.zl_calls.specs.declared.process.Process.{Process}
-use Rattle.zl_calls.proofs.objects.SameBodies.{found_updated, kept_each, still_named}
-use Rattle.zl_calls.proofs.processes.Written.{IsNext}
+use Rattle.zl_calls.proofs.objects.Counting.{queues_kept, same_tables}
+use Rattle.zl_calls.proofs.objects.SameBodies.{each_updated, jobs_kept, kept_each, named_kept, still_agrees, still_named}
+use Rattle.zl_calls.proofs.objects.Settled.{consistent_of, sound_of}
 
--- a change of bodies after which each is of its kind, and as much a job and a living process as before
-pub record KeepsKind (g : Body → Body) : Type 0 where
-  pub kind : (b : Body) → kind_of (body_value (g b)) ≡ kind_of (body_value b)
-  pub living : (j : ℕ) (b : Body) → is_child j (g b) ≡ is_child j b
-  pub job : (b : Body) → is_job_body (g b) ≡ is_job_body b
-  pub in_job : (m : Map Object) (b : Body) → is_in_job m (g b) ≡ is_in_job m b
-  pub alone : (m : Map Object) (k : ℕ) (b : Body) → stays_alone m k (g b) ≡ stays_alone m k b
-  pub agrees : (w : World) (k : ℕ) (b : Body) → Agrees w k b → Agrees w k (g b)
+-- a body that is of the kind of another, and as much a job and a living process
+pub record IsAlike (b c : Body) : Type 0 where
+  pub kind : kind_of (body_value c) ≡ kind_of (body_value b)
+  pub living : (j : ℕ) → is_child j c ≡ is_child j b
+  pub in_job : (m : Map Object) → is_in_job m c ≡ is_in_job m b
+  pub alone : (m : Map Object) (k : ℕ) → stays_alone m k c ≡ stays_alone m k b
+  pub agrees : (w : World) (k : ℕ) → Agrees w k b → Agrees w k c
 
--- the object with what it is changed so
-abbrev pub rebodied : (Body → Body) → Object → Object
-rebodied g o = record o { body = g o.body }
+pub alike_itself : (b : Body) → IsAlike b b
+alike_itself b = record { kind = refl; living = λ j. refl; in_job = λ m. refl; alone = λ m k. refl; agrees = λ w k same. same }
 
-module _ (g : Body → Body) (same : KeepsKind g) where
+-- a change that leaves the body of each object alike
+abbrev pub KeepsKind : (Object → Object) → Type 0
+KeepsKind f = (o : Object) → IsAlike o.body (f o).body
+
+-- so does one that leaves it as it is
+pub same_kind : (f : Object → Object) → ((o : Object) → (f o).body ≡ o.body) → KeepsKind f
+same_kind f same o = subst (IsAlike o.body) (sym (same o)) (alike_itself o.body)
+
+-- handles in queues are counted by what queue a body has
+queued_in : (j : ℕ) (b : Body) → queued_to j (body_value b) ≡ sum_by (λ m. count_by (λ h. h.koid == j) m.handles) (queue_of b)
+queued_in j (body.ChannelEnd peer queue) = refl
+queued_in j _ = refl
+
+module _ (f : Object → Object) (same : KeepsKind f) where
   -- ---- among the others
 
   module _ (m : Map Object) (k : ℕ) where
-    abbrev after_it : Map Object
-    after_it = update m k (rebodied g)
+    in_job_too : (b : Body) → is_in_job (update m k f) b ≡ is_in_job m b
+    in_job_too b = same_in_job m (update m k f) (jobs_kept f (λ o. (same o).kind) m k) b
 
-    job_too : (j : ℕ) → is_job_at after_it j ≡ is_job_at m j
-    job_too j =
-        ap is_job_in (get-update m k (rebodied g) j)
-        ∙ elim (cases_Bool (k == j)) as (λ _. is_job_in (if k == j then option_map (rebodied g) (get m j) else get m j) ≡ is_job_in (get m j)) [
-          | inl here ↦ rw here (by_object (get m j))
-          | inr apart ↦ rw apart refl
-        ]
+    pub named_still : (e : Entry) → IsNamed m e → IsNamed (update m k f) e
+    named_still = named_kept f (λ o. (same o).kind) m k
+
+    -- what kept it keeps it still, where a handle that held it does
+    pub kept_still : ((o : Object) → IsTrue (nat_lt 0 o.handles) → IsTrue (nat_lt 0 (f o).handles)) → AreKeptBut [] m → AreKeptBut [] (update m k f)
+    kept_still held kept = kept_each (update m k f) (rw (is_sorted-update m k f) kept.in_order)
+        (each_updated (λ j q. IsTrue (is_kept (update m k f) j q)) f m k
+        (λ o old. still o (kept_all m kept k o old)) (λ j q apart old. rw (alone_too j q.body) (kept_all m kept j q old)))
       where
-        by_object : (o : Option Object) → is_job_in (option_map (rebodied g) o) ≡ is_job_in o
-        by_object None = refl
-        by_object (Some o) = same.job o.body
+        alone_too : (j : ℕ) (b : Body) → stays_alone (update m k f) j b ≡ stays_alone m j b
+        alone_too = alone_changed f (λ j o. (same o).living j) m k
 
-    pub in_job_too : (b : Body) → is_in_job after_it b ≡ is_in_job m b
-    in_job_too b = same_in_job m after_it job_too b
-
-    pub named_rebodied : (e : Entry) → IsNamed m e → IsNamed after_it e
-    named_rebodied e named = elim (cases_Bool (k == e.koid)) as (λ _. IsNamed after_it e) [
-      | inl here ↦ record {
-        object = rebodied g named.object;
-        there = rw (get-update m k (rebodied g) e.koid, here, named.there) refl;
-        kind = named.kind ∙ sym (same.kind named.object.body);
-        rights = named.rights;
-      }
-      | inr apart ↦ record {
-        object = named.object;
-        there = rw (get-update m k (rebodied g) e.koid, apart) named.there;
-        kind = named.kind;
-        rights = named.rights;
-      }
-    ]
-
-  child_too : (m : Map Object) (k job : ℕ) → has_living_child (update m k (rebodied g)) job ≡ has_living_child m job
-  unfolding update has_living_child
-  child_too [] k job = refl
-  child_too (e ∷ m) k job =
-      elim (cases_Bool (e.0 == k))
-      as (λ _. list_any (λ x. is_child job x.1.body) (update (e ∷ m) k (rebodied g)) ≡ list_any (λ x. is_child job x.1.body) (e ∷ m)) [
-        | inl here ↦ rw (here, same.living job e.1.body) refl
-        | inr apart ↦ rw apart (ap (λ b. is_child job e.1.body || b) (child_too m k job))
-      ]
-
-  alone_too : (m : Map Object) (k j : ℕ) (b : Body) → stays_alone (update m k (rebodied g)) j b ≡ stays_alone m j b
-  alone_too m k j (body.Job own) = child_too m k j
-  alone_too m k j _ = refl
+        still : (o : Object) → IsTrue (is_kept m k o) → IsTrue (is_kept (update m k f) k (f o))
+        still o kept = elim (or_cases (nat_lt 0 o.handles) (stays_alone m k o.body) kept) as (λ _. IsTrue (is_kept (update m k f) k (f o))) [
+          | inl holds ↦ or_left (nat_lt 0 (f o).handles) (stays_alone (update m k f) k (f o).body) (held o holds)
+          | inr alone ↦ or_right (nat_lt 0 (f o).handles) (stays_alone (update m k f) k (f o).body)
+              (rw ((same o).alone (update m k f) k, alone_too k o.body) alone)
+        ]
 
   -- ---- the invariant
 
-  module _ (before after : List Process) (r : Objects) (consistent : IsConsistent before r) (k : ℕ) where
+  module _ (ps : List Process) (r : Objects) (k : ℕ) where
     abbrev changed : Objects
-    changed = record r { objects = update r.objects k (rebodied g) }
+    changed = record r { objects = update r.objects k f }
 
-    -- where the handles in its queue are named, and the counts stay
-    pub rebodied_next : ((o : Object) → get r.objects k ≡ Some o → AreNamed changed.objects (queue_of (g o.body)))
-        → ((j : ℕ) → handles_to (world_value after changed) j ≡ handles_to (world_value before r) j)
-        → IsNext before after r changed
-    rebodied_next queue counts = record {
-      next_koid = omega arith;
-      given_objects = λ j there. consistent.given_objects j (sym (has_key-update r.objects k (rebodied g) j) ∙ there);
-      koids = consistent.koids;
-      no_zero = λ j there. consistent.no_zero j (sym (has_key-update r.objects k (rebodied g) j) ∙ there);
-      named = named_rebodied r.objects k;
-      queued = λ j q at. found_updated (rebodied g) r.objects k (AreNamed changed.objects (queue_of q.body)) j q at
-          (λ o old here is. subst (λ (x : Object). AreNamed changed.objects (queue_of x.body)) is
-          (queue o (subst (λ (i : ℕ). get r.objects i ≡ Some o) (sym (eqb-true k j here)) old)))
-          (λ apart old. still_named r.objects changed.objects (named_rebodied r.objects k) (queue_of q.body) (consistent.queued j q old));
-      counted = λ j q at. found_updated (rebodied g) r.objects k (q.handles ≡ handles_to (world_value after changed) j) j q at
-          (λ o old here is. ap (λ (x : Object). x.handles) (sym is) ∙ (consistent.counted j o old ∙ sym (counts j)))
-          (λ apart old. consistent.counted j q old ∙ sym (counts j));
-      agrees = λ j q at. found_updated (rebodied g) r.objects k (Agrees (world_value before r) j q.body) j q at
-          (λ o old here is.
-          subst (λ (x : Object). Agrees (world_value before r) j x.body) is (same.agrees (world_value before r) j o.body (consistent.agrees j o old)))
-          (λ apart old. consistent.agrees j q old);
-      in_jobs = λ j q at. found_updated (rebodied g) r.objects k (IsTrue (is_in_job changed.objects q.body)) j q at
-          (λ o old here is. subst (λ (x : Object). IsTrue (is_in_job changed.objects x.body)) is
-          (rw (same.in_job changed.objects o.body, in_job_too r.objects k o.body) (consistent.in_jobs j o old)))
-          (λ apart old. rw (in_job_too r.objects k q.body) (consistent.in_jobs j q old));
-      kept =
-          kept_each changed.objects (rw (is_sorted-update r.objects k (rebodied g)) consistent.kept.in_order)
-          (λ j q at. found_updated (rebodied g) r.objects k (IsTrue (is_kept changed.objects j q)) j q at
-          (λ o old here is. subst (λ (x : Object). IsTrue (is_kept changed.objects j x)) is
-          (rw (same.alone changed.objects j o.body, alone_too r.objects k j o.body) (kept_all r.objects consistent.kept j o old)))
-          (λ apart old. rw (alone_too r.objects k j q.body) (kept_all r.objects consistent.kept j q old)));
+    -- the handles m counted beside those in tables and queues, and m2 do now
+    pub changed_sound : (m m2 : Map Entry) → IsSound ps m r
+        → ((o : Object) → get r.objects k ≡ Some o → AreNamed (update r.objects k f) (queue_of (f o).body))
+        → ((o : Object) → get r.objects k ≡ Some o
+        → (f o).handles ≡ handles_to (world_value ps (record r { objects = update r.objects k f })) k + count_by (λ h. h.1.koid == k) m2)
+        → ((j : ℕ) (o : Object) → (k == j) ≡ false → get r.objects j ≡ Some o
+        → o.handles ≡ handles_to (world_value ps (record r { objects = update r.objects k f })) j + count_by (λ h. h.1.koid == j) m2)
+        → IsSound ps m2 (record r { objects = update r.objects k f })
+    unfolding is_process
+    changed_sound m m2 sound queue own others = record {
+      processes_in_order = sound.processes_in_order;
+      objects_in_order = rw (is_sorted-update r.objects k f) sound.objects_in_order;
+      given_processes = sound.given_processes;
+      given_objects = λ j there. sound.given_objects j (sym (has_key-update r.objects k f j) ∙ there);
+      koids = sound.koids;
+      above_zero = sound.above_zero;
+      no_zero = λ j there. sound.no_zero j (sym (has_key-update r.objects k f j) ∙ there);
+      tables = sound.tables;
+      named = λ j p v e at there. named_still r.objects k e (sound.named j p v e at there);
+      queued = each_updated (λ j q. AreNamed changed.objects (queue_of q.body)) f r.objects k queue
+          (λ j q apart old. still_named r.objects changed.objects (named_still r.objects k) (queue_of q.body) (sound.queued j q old));
+      counted = each_updated (λ j q. q.handles ≡ handles_to (world_value ps changed) j + count_by (λ h. h.1.koid == j) m2) f r.objects k own others;
+      agrees = λ j q at. still_agrees (world_value ps r) (world_value ps changed) j q.body (λ test. refl)
+          (each_updated (λ i x. Agrees (world_value ps r) i x.body) f r.objects k
+          (λ o old. (same o).agrees (world_value ps r) k (sound.agrees k o old)) (λ i x apart old. sound.agrees i x old) j q at);
+      in_jobs = each_updated (λ j q. IsTrue (is_in_job changed.objects q.body)) f r.objects k
+          (λ o old. rw ((same o).in_job changed.objects, in_job_too r.objects k o.body) (sound.in_jobs k o old))
+          (λ j q apart old. rw (in_job_too r.objects k q.body) (sound.in_jobs j q old));
     }
+
+    module _ (handles : (o : Object) → (f o).handles ≡ o.handles) where
+      -- where the object is held as often as before
+      pub recounted_sound : (m m2 : Map Entry) → IsSound ps m r
+          → ((o : Object) → get r.objects k ≡ Some o → AreNamed (update r.objects k f) (queue_of (f o).body))
+          → ((j : ℕ) → handles_to (world_value ps (record r { objects = update r.objects k f })) j + count_by (λ h. h.1.koid == j) m2
+          ≡ handles_to (world_value ps r) j + count_by (λ h. h.1.koid == j) m)
+          → IsSound ps m2 (record r { objects = update r.objects k f })
+      recounted_sound m m2 sound queue counts = changed_sound m m2 sound queue
+          (λ o old. handles o ∙ (sound.counted k o old ∙ sym (counts k)))
+          (λ j o apart old. sound.counted j o old ∙ sym (counts j))
+
+      pub recounted_kept : AreKeptBut [] r.objects → AreKeptBut [] (update r.objects k f)
+      recounted_kept = kept_still r.objects k (λ o held. rw (handles o) held)
+
+  -- ---- where its queue stays too
+
+  module _ (quiet : (o : Object) → queue_of (f o).body ≡ queue_of o.body) (ps : List Process) (r : Objects) (k : ℕ) where
+    pub same_handles : (j : ℕ) → handles_to (world_value ps (record r { objects = update r.objects k f })) j ≡ handles_to (world_value ps r) j
+    same_handles j = same_tables ps r (record r { objects = update r.objects k f }) j (queues_kept f j as_queued r.objects k)
+      where
+        as_queued : (o : Object) → queued_to j (body_value (f o).body) ≡ queued_to j (body_value o.body)
+        as_queued o = queued_in j (f o).body
+            ∙ (ap (λ (q : List Message). sum_by (λ m. count_by (λ h. h.koid == j) m.handles) q) (quiet o) ∙ sym (queued_in j o.body))
+
+    pub quiet_named : ((j : ℕ) (o : Object) → get r.objects j ≡ Some o → AreNamed r.objects (queue_of o.body)) → (o : Object)
+        → get r.objects k ≡ Some o → AreNamed (update r.objects k f) (queue_of (f o).body)
+    quiet_named queued o at = subst (AreNamed (update r.objects k f)) (sym (quiet o))
+        (still_named r.objects (update r.objects k f) (named_still r.objects k) (queue_of o.body) (queued k o at))
+
+    module _ (handles : (o : Object) → (f o).handles ≡ o.handles) where
+      pub quiet_sound : (m : Map Entry) → IsSound ps m r → IsSound ps m (record r { objects = update r.objects k f })
+      quiet_sound m sound = recounted_sound ps r k handles m m sound (quiet_named sound.queued)
+          (λ j. ap (λ (n : ℕ). n + count_by (λ (h : ℕ × Entry). h.1.koid == j) m) (same_handles j))
+
+      pub quiet_consistent : IsConsistent ps r → IsConsistent ps (record r { objects = update r.objects k f })
+      quiet_consistent consistent =
+          consistent_of ps (record r { objects = update r.objects k f }) (quiet_sound [] (sound_of ps r consistent))
+          (recounted_kept ps r k handles consistent.kept)

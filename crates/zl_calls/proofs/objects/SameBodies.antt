@@ -1,10 +1,12 @@
--- A change of one object that leaves its body as it is: what the invariant says of bodies stays.
-use Rattle.zl_calls.proofs.Common.{◌≡◌, ℕ, Bool, false, ◌==◌, List, refl, sym, ◌∙◌, subst, Option, Some, None, inl, inr, IsTrue, if◌then◌else◌, option_map}
+-- A change of one object that leaves its kind or its body as it is: what the invariant says of those stays.
+use Rattle.zl_calls.proofs.Common.{◌≡◌, ℕ, Bool, true, false, ◌==◌, List, refl, sym, ◌∙◌, subst, Option, Some, None, inl, inr, IsTrue, if◌then◌else◌, option_map}
 use Rattle.zl_calls.proofs.Common.{cases_Bool, none-some, same_Some, Map, get, update, get-update, false≢true, [], nat_cmp, is_sorted, is_kept, AreKeptBut}
-use Rattle.zl_calls.proofs.Common.{is_process, runs, lives, Agrees, AreNamed, IsNamed, World}
+use Rattle.zl_calls.proofs.Common.{is_process, runs, lives, Agrees, AreNamed, IsNamed, World, ap, kind_of, body_value, is_job_at, is_job_body, is_job_in, eqb-true}
 use Rattle.zl_code.proofs.Common.{State as StateValue, slice_index_or}
 use Rattle.zl_rights.specs.declared.entry.Entry.{Entry}
 use Rattle.zl_rights.specs.Signals.{has_ended}
+use Rattle.zl_rights.specs.declared.kind.Kind.{Kind}
+use Rattle.zl_rights.specs.declared.kind.Kind.TheVariants as kind
 use Rattle.zl_rights.specs.World.{Message}
 use Rattle.zl_objects.specs.declared.object.Body.{Body}
 use Rattle.zl_objects.specs.declared.object.Body.TheVariants as body
@@ -25,6 +27,14 @@ found_updated f os k A j q at changed same =
     by_object None is here read = absurd (none-some q read)
     by_object (Some o) is here read = changed o is here (same_Some (f o) q read)
 
+-- so what is true of the changed object, and of each other, is true of all
+pub each_updated : (P : ℕ → Object → Type 0) (f : Object → Object) (os : Map Object) (k : ℕ) → ((o : Object) → get os k ≡ Some o → P k (f o))
+    → ((j : ℕ) (q : Object) → (k == j) ≡ false → get os j ≡ Some q → P j q) → (j : ℕ) (q : Object) → get (update os k f) j ≡ Some q → P j q
+each_updated P f os k one others j q at = found_updated f os k (P j q) j q at
+    (λ o old here is. subst (P j) is (subst (λ (i : ℕ). P i (f o)) (eqb-true k j here)
+    (one o (subst (λ (i : ℕ). get os i ≡ Some o) (sym (eqb-true k j here)) old))))
+    (λ apart old. others j q apart old)
+
 -- where something keeps each object
 pub kept_each : (m : Map Object) → IsTrue (is_sorted nat_cmp m) → ((k : ℕ) (o : Object) → get m k ≡ Some o → IsTrue (is_kept m k o)) → AreKeptBut [] m
 kept_each m in_order each = record { in_order = in_order; noted = λ k o at unkept. absurd (false≢true (sym unkept ∙ each k o at)) }
@@ -35,8 +45,7 @@ still_agrees w w2 k (body.Job own) same agrees = same runs ∙ agrees
 still_agrees w w2 k (body.Process job alive) same agrees =
     record { running = agrees.running ∙ sym (same runs); living = agrees.living ∙ sym (same lives); over = agrees.over ∙ sym (same has_ended) }
 still_agrees w w2 k body.Event same agrees = same runs ∙ agrees
-still_agrees w w2 k (body.Port port) same agrees = same runs ∙ agrees
-still_agrees w w2 k (body.ChannelEnd peer queue) same agrees = same runs ∙ agrees
+still_agrees w w2 k _ same agrees = same runs ∙ agrees
 
 -- the same where it runs, lives and has ended as before
 pub alike_agrees : (w w2 : World) (k : ℕ) (b : Body) → is_process w2 runs k ≡ is_process w runs k → is_process w2 lives k ≡ is_process w lives k
@@ -45,20 +54,42 @@ alike_agrees w w2 k (body.Job own) runs_on lives_on over_on agrees = runs_on ∙
 alike_agrees w w2 k (body.Process job alive) runs_on lives_on over_on agrees =
     record { running = agrees.running ∙ sym runs_on; living = agrees.living ∙ sym lives_on; over = agrees.over ∙ sym over_on }
 alike_agrees w w2 k body.Event runs_on lives_on over_on agrees = runs_on ∙ agrees
-alike_agrees w w2 k (body.Port port) runs_on lives_on over_on agrees = runs_on ∙ agrees
-alike_agrees w w2 k (body.ChannelEnd peer queue) runs_on lives_on over_on agrees = runs_on ∙ agrees
+alike_agrees w w2 k _ runs_on lives_on over_on agrees = runs_on ∙ agrees
 
 -- what names objects before, names them after
 pub still_named : (os os2 : Map Object) → ((e : Entry) → IsNamed os e → IsNamed os2 e) → (queue : List Message) → AreNamed os queue → AreNamed os2 queue
 still_named os os2 keep queue all = λ n m within i e inside. keep (slice_index_or (slice_index_or queue n m).handles i e) (all n m within i e inside)
 
-module _ (f : Object → Object) (same : (o : Object) → (f o).body ≡ o.body) (os : Map Object) (k : ℕ) where
-  pub named_updated : (e : Entry) → IsNamed os e → IsNamed (update os k f) e
-  named_updated e named = elim (cases_Bool (k == e.koid)) as (λ _. IsNamed (update os k f) e) [
+-- ---- one object changes, and stays of its kind
+
+abbrev is_job_kind : Kind → Bool
+is_job_kind kind.Job = true
+is_job_kind _ = false
+
+-- its kind says whether it is a job
+job_by_kind : (b : Body) → is_job_body b ≡ is_job_kind (kind_of (body_value b))
+job_by_kind (body.Job own) = refl
+job_by_kind _ = refl
+
+module _ (f : Object → Object) (same : (o : Object) → kind_of (body_value (f o).body) ≡ kind_of (body_value o.body)) (os : Map Object) (k : ℕ) where
+  pub jobs_kept : (j : ℕ) → is_job_at (update os k f) j ≡ is_job_at os j
+  jobs_kept j =
+      ap is_job_in (get-update os k f j)
+      ∙ elim (cases_Bool (k == j)) as (λ _. is_job_in (if k == j then option_map f (get os j) else get os j) ≡ is_job_in (get os j)) [
+        | inl here ↦ rw here (by_object (get os j))
+        | inr apart ↦ rw apart refl
+      ]
+    where
+      by_object : (o : Option Object) → is_job_in (option_map f o) ≡ is_job_in o
+      by_object None = refl
+      by_object (Some o) = job_by_kind (f o).body ∙ (ap is_job_kind (same o) ∙ sym (job_by_kind o.body))
+
+  pub named_kept : (e : Entry) → IsNamed os e → IsNamed (update os k f) e
+  named_kept e named = elim (cases_Bool (k == e.koid)) as (λ _. IsNamed (update os k f) e) [
     | inl here ↦ record {
       object = f named.object;
       there = rw (get-update os k f e.koid, here, named.there) refl;
-      kind = rw (same named.object) named.kind;
+      kind = named.kind ∙ sym (same named.object);
       rights = named.rights;
     }
     | inr apart ↦ record {
@@ -69,10 +100,15 @@ module _ (f : Object → Object) (same : (o : Object) → (f o).body ≡ o.body)
     }
   ]
 
+-- ---- one object changes, but not its body
+
+module _ (f : Object → Object) (same : (o : Object) → (f o).body ≡ o.body) (os : Map Object) (k : ℕ) where
+  pub named_updated : (e : Entry) → IsNamed os e → IsNamed (update os k f) e
+  named_updated = named_kept f (λ o. ap (λ (b : Body). kind_of (body_value b)) (same o)) os k
+
   -- the same of the handles in queues
   pub queued_updated : ((j : ℕ) (o : Object) → get os j ≡ Some o → AreNamed os (queue_of o.body)) → (j : ℕ) (q : Object) → get (update os k f) j ≡ Some q
       → AreNamed (update os k f) (queue_of q.body)
-  queued_updated queued j q at = found_updated f os k (AreNamed (update os k f) (queue_of q.body)) j q at
-      (λ o old here is. subst (λ (x : Object). AreNamed (update os k f) (queue_of x.body)) is
-      (rw (same o) (still_named os (update os k f) named_updated (queue_of o.body) (queued j o old))))
-      (λ apart old. still_named os (update os k f) named_updated (queue_of q.body) (queued j q old))
+  queued_updated queued = each_updated (λ j q. AreNamed (update os k f) (queue_of q.body)) f os k
+      (λ o old. rw (same o) (still_named os (update os k f) named_updated (queue_of o.body) (queued k o old)))
+      (λ j q apart old. still_named os (update os k f) named_updated (queue_of q.body) (queued j q old))

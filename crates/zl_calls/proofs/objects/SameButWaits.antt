@@ -103,11 +103,8 @@ place_bare : (f : Port → Port) → ((p : Port) → (f p).packets ≡ p.packets
 place_bare f same o = λ i. record { body = by_body o.body i; signals = record { raised = o.signals.raised; waits = [] }; handles = o.handles }
   where
     by_body : (b : Body) → unreserved (changed_port f b) ≡ unreserved b
-    by_body (body.Job own) = refl
-    by_body (body.Process job lives) = refl
-    by_body body.Event = refl
-    by_body (body.ChannelEnd peer queue) = refl
     by_body (body.Port p) = λ i. body.Port (record { packets = same p i; reserved = 0 })
+    by_body _ = refl
 
 pub ported_beside : (r : Objects) (k : ℕ) (f : Port → Port) → ((p : Port) → (f p).packets ≡ p.packets)
     → AreBeside r (record r { objects = update r.objects k (at_port f) })

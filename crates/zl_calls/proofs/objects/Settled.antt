@@ -171,11 +171,16 @@ sound_of ps r consistent = record {
   in_jobs = consistent.in_jobs;
 }
 
--- where all is held, settling leaves the objects
-pub still_settles : (ps : List Process) (r : Objects) → IsConsistent ps r → Settles (world_value ps r) (settled_world ps r)
+-- where all is held, the invariant holds, and settling leaves the objects
+all_held : (ps : List Process) (r : Objects) → IsSound ps [] r → AreKeptBut [] r.objects → IsSettled ps r r
 unfolding get
-still_settles ps r consistent =
-    (settled ps [] r (sound_of ps r consistent) refl (λ v e at. absurd (none-some e at)) [] (λ k. refl) r (none_left r.objects) consistent.kept refl).settles
+all_held ps r sound kept = settled ps [] r sound refl (λ v e at. absurd (none-some e at)) [] (λ k. refl) r (none_left r.objects) kept refl
+
+pub consistent_of : (ps : List Process) (r : Objects) → IsSound ps [] r → AreKeptBut [] r.objects → IsConsistent ps r
+consistent_of ps r sound kept = (all_held ps r sound kept).consistent
+
+pub still_settles : (ps : List Process) (r : Objects) → IsConsistent ps r → Settles (world_value ps r) (settled_world ps r)
+still_settles ps r consistent = (all_held ps r (sound_of ps r consistent) consistent.kept).settles
 
 -- ---- the handles of a table go
 

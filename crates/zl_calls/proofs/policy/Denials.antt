@@ -1,6 +1,6 @@
 -- What a verdict makes of a call for the definitions: it is answered, or its caller ends.
 use Rattle.zl_code.proofs.Common.{◌≡◌, ℕ, Bool, true, false, [], refl, sym, ap, ◌∙◌, Option, Some, None, none-some, true≢false, get, World, Library, Request}
-use Rattle.zl_code.proofs.Common.{Site, chan_create, chan_read_etc, event_create, handle_operands, refusal, gives_refused, remove_all, taken_handles, replied}
+use Rattle.zl_code.proofs.Common.{Site, is_some, if◌then◌else◌, chan_create, chan_read_etc, handle_operands, refusal, gives_refused, remove_all, taken_handles, replied}
 use Rattle.zl_code.proofs.Common.{ended, Calls, Refused}
 use Rattle.zl_rights.specs.Common.{Map}
 use Rattle.zl_rights.specs.Numbers.{BY_POLICY}
@@ -11,7 +11,7 @@ use Rattle.zl_rights.specs.declared.policy.Condition.{Condition}
 use Rattle.zl_rights.specs.declared.policy.Condition.TheVariants as condition
 use Rattle.zl_rights.specs.declared.status.Status.{Status}
 use Rattle.zl_rights.specs.declared.status.Status.TheVariants as status
-use Rattle.zl_code.specs.CallTable.{port_create, process_create, wait_poll}
+use Rattle.zl_code.specs.CallTable.{wait_poll}
 use Rattle.zl_code.specs.Refusals.{condition_of}
 use Rattle.zl_code.specs.declared.history.Outcome.TheVariants as outcome
 use Rattle.zl_objects.specs.Jobs.{action_of, job_at}
@@ -56,13 +56,14 @@ denied_object entries objects p request is = by_job (job_in (get objects p)) is
     by_job (Some job) is = denied_makes (action_of (job_at objects job)) (operands_fault entries [] (handle_operands request)) (condition_of request) is
 
 -- a call that makes an object takes no handle
-making_takes_none : (request : Request) (c : Condition) → condition_of request ≡ Some c → taken_handles request ≡ []
+taken_if_making : (request : Request) → (if is_some (condition_of request) then taken_handles request else []) ≡ []
 unfolding taken_handles handle_operands
-making_takes_none chan_create c is = refl
-making_takes_none event_create c is = refl
-making_takes_none port_create c is = refl
-making_takes_none (process_create job program) c is = refl
-making_takes_none _ c is = absurd (none-some c is)
+taken_if_making chan_create = refl
+taken_if_making _ = refl
+
+making_takes_none : (request : Request) (c : Condition) → condition_of request ≡ Some c → taken_handles request ≡ []
+making_takes_none request c is =
+    ap (λ (o : Option Condition). if is_some o then taken_handles request else []) (sym is) ∙ taken_if_making request
 
 -- a denial tells the status alone
 denial_tells_none : (w : World) (p : ℕ) (request : Request) → gives_refused w p request status.AccessDenied ≡ []

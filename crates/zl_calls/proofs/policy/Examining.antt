@@ -43,7 +43,7 @@ same_fault (Err s) = refl
 
 module _ (entries : Map Entry) where
   -- each handle of a list, where the values that were seen are those before it
-  list_fault : (seen before hs : List ℕ) → ((v : ℕ) → contains seen v ≡ contains before v)
+  pub list_fault : (seen before hs : List ℕ) → ((v : ℕ) → contains seen v ≡ contains before v)
       → list_refusal entries before hs ≡ operands_fault entries seen (flat_map (operand_by (consumes [] TRANSFER)) hs)
   unfolding operands_fault
   list_fault seen before [] same = refl

@@ -1,38 +1,24 @@
 -- Where the policy of a process's job has no verdict on its call, no policy has a say at all.
-use Rattle.zl_calls.proofs.Common.{◌≡◌, ℕ, true, false, List, [], ◌∷◌, map, refl, sym, ap, ◌∙◌, Option, Some, None, arith, false≢true, same_Some, subst}
-use Rattle.zl_calls.proofs.Common.{first_some, option_map, option_or, is_ready, lives, Library, Site, AtCall, next_for, handle_operands, listed, refusal}
-use Rattle.zl_calls.proofs.Common.{table_of, get, Objects, body_in, body_value, is_job_at, is_job_body, is_job_in, object_entry, object_value, process_entry}
+use Rattle.zl_calls.proofs.Common.{◌≡◌, ℕ, true, false, List, map, refl, sym, ap, ◌∙◌, Option, Some, None, arith, false≢true, same_Some, subst}
+use Rattle.zl_calls.proofs.Common.{option_map, is_ready, lives, Library, Site, AtCall, next_for, refusal}
+use Rattle.zl_calls.proofs.Common.{get, Objects, body_in, body_value, is_job_at, is_job_body, is_job_in, object_entry, object_value, process_entry}
 use Rattle.zl_calls.proofs.Common.{process_value, state_value, world_blocked, IsConsistent, World}
 use Rattle.zl_code.proofs.Common.{Body as BodyValue, JobBody, Next, Process as ProcessValue}
 use Rattle.std.specs.Prelude.{Bool}
-use Rattle.zl_code.specs.CallTable.{Request}
-use Rattle.zl_code.specs.Refusals.{condition_of, refusal as policed_refusal}
+use Rattle.zl_code.specs.Refusals.{refusal as policed_refusal}
 use Rattle.zl_code.specs.Sound.{IsSound as IsSoundWorld}
 use Rattle.zl_code.specs.declared.history.CallName.{CallName}
 use Rattle.zl_rights.specs.Map.{Map}
-use Rattle.zl_rights.specs.declared.status.Status.{Status}
 use Rattle.zl_objects.proofs.Law.{get_seen}
 use Rattle.zl_objects.specs.declared.object.Body.{Body}
 use Rattle.zl_objects.specs.declared.object.Body.TheVariants as body
 use Rattle.zl_objects.specs.declared.object.Object.{Object}
-use Rattle.zl_calls.specs.Policed.{operands_fault, verdict_on}
+use Rattle.zl_calls.specs.Policed.{verdict_on}
 use Rattle.zl_calls.specs.declared.process.State.{State}
 use Rattle.zl_calls.specs.declared.process.State.TheVariants as state
 use Rattle.zl_calls.specs.declared.process.Process.{Process}
 use Rattle.zl_calls.proofs.stepping.FromConsistent.{IsFree}
-use Rattle.zl_calls.proofs.policy.Plain.{bare}
-use Rattle.zl_calls.proofs.policy.Policies.{IsSeen, answers, by_verdict, decides, ending, examined_fault, plain_refusal, policy_making, unpoliced}
-use Rattle.zl_calls.proofs.policy.Policies.{verdict_allowed}
-
--- ---- two forms of the refusal without policies
-
-pub plain_is : (lib : Library) (w : World) (p : ℕ) (request : Request) → refusal lib w p request ≡ plain_refusal lib w p request
-unfolding refusal plain_refusal get
-plain_is lib w p request =
-    let fault : Option Status = operands_fault (table_of w p) [] (handle_operands request) in
-    (λ i. first_some (examined_fault (bare w) p [] (handle_operands request) i ∷ policy_making (bare w) p (condition_of request) i ∷ listed lib w p request))
-    ∙ (by_verdict (decides (bare w) p) fault (condition_of request) (listed lib w p request)
-    ∙ ap (λ v. option_or (option_map ending v) (first_some (answers fault ∷ listed lib w p request))) (verdict_allowed fault (condition_of request)))
+use Rattle.zl_calls.proofs.policy.Policies.{IsSeen, unpoliced}
 
 -- ---- what stands next
 
@@ -53,10 +39,7 @@ job_seen (Some o) = by_body o.body
   where
     by_body : (b : Body) → is_job_body b ≡ is_job_value (Some (body_value b))
     by_body (body.Job job) = refl
-    by_body (body.Process job life) = refl
-    by_body body.Event = refl
-    by_body (body.Port port) = refl
-    by_body (body.ChannelEnd peer queue) = refl
+    by_body _ = refl
 
 ready_lives : (s : State) → is_ready (state_value s) ≡ true → lives (state_value s) ≡ true
 ready_lives state.Ready h = refl
@@ -94,5 +77,5 @@ module _ (lib : Library) (ps : List Process) (r : Objects) (consistent : IsConsi
         let same : process_value p ≡ q = same_Some (process_value p) q (sym there ∙ (ap (λ (m : Map ProcessValue). get m p.pid) (sym processes) ∙ at)) in
         let is_site : s ≡ t = ap (λ n. site_in n s) (sym next ∙ (ap (next_for lib) same ∙ stands)) in
         let free : policed_refusal lib w p.pid s.request ≡ refusal lib w p.pid s.request =
-        unpoliced lib w p.pid p.table.entries r.objects (is_seen w processes objects) s.request none ∙ sym (plain_is lib w p.pid s.request) in
+        unpoliced lib w p.pid p.table.entries r.objects (is_seen w processes objects) s.request none in
         subst (λ (x : Site). policed_refusal lib w p.pid x.request ≡ refusal lib w p.pid x.request) is_site free

@@ -1,4 +1,4 @@
--- The refusal of a call on which no policy decides, and what the verdict of a policy makes of it.
+-- The refusal of a call: the verdict of a policy, and behind it the refusal where no policy decides.
 use Rattle.std.specs.Prelude.{ℕ, ◌≡◌, Bool, true, false, ◌&&◌, ◌==◌, List, [], ◌∷◌, map, Option, Some, None, Result, Ok, Err, if◌then◌else◌, unwrap_or}
 use Rattle.std.specs.Option.{option_map, option_or}
 use Rattle.std.specs.Result.{result_err}
@@ -31,19 +31,9 @@ use Rattle.zl_objects.specs.declared.object.Object.{Object}
 use Rattle.zl_calls.specs.Policed.{fault_after, on_fault_by, on_making, operands_fault, verdict_by, verdict_in, verdict_on}
 use Rattle.zl_calls.specs.declared.policy.Verdict.{Verdict}
 use Rattle.zl_calls.specs.declared.policy.Verdict.TheVariants as verdict
+use Rattle.zl_calls.proofs.policy.Plain.{answers, refusal as plain_refusal}
 
--- ---- without a policy
-
--- the status is answered
-abbrev pub answers : Option Status → Option Outcome
-answers None = None
-answers (Some s) = Some (outcome.Answered s)
-
--- The answer other than OK where no policy decides: the fault of the first handle operand that has one, from left to right, then the listed answers.
-unfoldable pub plain_refusal : Library → World → ℕ → Request → Option Outcome
-plain_refusal lib w p request = first_some (answers (operands_fault (table_of w p) [] (handle_operands request)) ∷ listed lib w p request)
-
--- ---- with one
+-- ---- verdicts
 
 -- how a verdict ends the call
 abbrev pub ending : Verdict → Outcome
@@ -90,20 +80,17 @@ by_verdict decides None (Some c) rest = by_action (decides c)
   where
     by_action : (a : Action) → first_some (None ∷ unless_allowed a ∷ rest) ≡ option_or (option_map ending (on_making a)) (first_some (None ∷ rest))
     by_action action.Allow = refl
-    by_action action.Deny = refl
-    by_action action.Kill = refl
+    by_action _ = refl
 by_verdict decides (Some status.BadHandle) c rest = by_kill (decides condition.BadHandle) status.BadHandle
   where
     by_kill : (a : Action) (s : Status) → Some (ends_if_kill a (outcome.Answered s)) ≡ option_or (option_map ending (on_fault_by a)) (Some (outcome.Answered s))
     by_kill action.Allow s = refl
-    by_kill action.Deny s = refl
-    by_kill action.Kill s = refl
+    by_kill _ s = refl
 by_verdict decides (Some status.WrongType) c rest = by_kill (decides condition.WrongObject) status.WrongType
   where
     by_kill : (a : Action) (s : Status) → Some (ends_if_kill a (outcome.Answered s)) ≡ option_or (option_map ending (on_fault_by a)) (Some (outcome.Answered s))
     by_kill action.Allow s = refl
-    by_kill action.Deny s = refl
-    by_kill action.Kill s = refl
+    by_kill _ s = refl
 by_verdict decides (Some _) c rest = refl
 
 -- ---- what the definitions examine

@@ -1,10 +1,10 @@
 -- A process loses handles, or ends: the invariant but for what keeps the objects, and what nothing may keep then.
 use Rattle.zl_calls.proofs.Common.{◌≡◌, ℤ, ◌+◌, ◌<◌, ℕ, Bool, true, false, ◌==◌, List, [], ◌∷◌, map, object_entry, none-some, update, runs, lives, sum_by}
 use Rattle.zl_calls.proofs.Common.{queued_to, job_in, job_of, AreKeptBut, Releases, Agrees, AreNamed, refl, sym, ap, ◌∙◌, subst, Option, Some, None, inl, inr}
-use Rattle.zl_calls.proofs.Common.{IsTrue, eq-eqb, if◌then◌else◌, count_by, option_map, cases_Bool, eqb-true, Map, get, has_key, kind_of, is_process}
-use Rattle.zl_calls.proofs.Common.{handles_to, get-update, IsTable, is_sorted-update, has_key-update, Objects, stopped, stopped_body, stopping, is_job_at}
-use Rattle.zl_calls.proofs.Common.{is_job_in, process_entry, process_value, object_value, body_value, world_value, IsConsistent, IsNamed, is_in_job}
-use Rattle.zl_calls.proofs.Common.{is_job_body, IsSound}
+use Rattle.zl_calls.proofs.Common.{IsTrue, eq-eqb, count_by, cases_Bool, eqb-true, Map, get, has_key, kind_of, is_process}
+use Rattle.zl_calls.proofs.Common.{handles_to, IsTable, is_sorted-update, has_key-update, Objects, stopped, stopped_body, stopping}
+use Rattle.zl_calls.proofs.Common.{process_entry, process_value, object_value, body_value, world_value, IsConsistent, IsNamed, is_in_job}
+use Rattle.zl_calls.proofs.Common.{IsSound, arith}
 use Rattle.zl_code.proofs.Common.{Process as ProcessValue, Object as ObjectValue, State as StateValue, Ended}
 use Rattle.zl_rights.specs.Signals.{has_ended}
 use Rattle.zl_rights.specs.declared.entry.Entry.{Entry}
@@ -20,9 +20,9 @@ use Rattle.zl_objects.proofs.Released.{stopped_loose}
 use Rattle.zl_calls.proofs.calls.Answered.{IsWrite}
 use Rattle.zl_calls.proofs.lists.Updates.{update_unseen}
 use Rattle.zl_calls.proofs.objects.Counting.{counts_fewer, queues}
-use Rattle.zl_calls.proofs.objects.SameBodies.{found_updated, still_agrees, still_named}
-use Rattle.zl_calls.proofs.objects.Settled.{unchanged}
-use Rattle.zl_calls.proofs.processes.Written.{after_is, get_after, found_after, same_states}
+use Rattle.zl_calls.proofs.objects.SameBodies.{each_updated, still_agrees, still_named, jobs_kept, named_kept}
+use Rattle.zl_calls.proofs.objects.Settled.{sound_of, unchanged}
+use Rattle.zl_calls.proofs.processes.Written.{after_is, get_after, found_after, same_agrees, written_sound}
 
 -- ---- the table of the process has lost the handles m
 
@@ -36,25 +36,8 @@ module _ (before after : List Process) (p p2 : Process) (write : IsWrite before 
       ∙ rw (after_is before after p p2 write) at there)
 
   pub sound_after : p2.state ≡ p.state → IsSound after m r
-  sound_after same = record {
-    processes_in_order =
-        rw (after_is before after p p2 write, is_sorted-update (map process_entry before) p.pid (λ _. process_value p2)) consistent.processes_in_order;
-    objects_in_order = consistent.kept.in_order;
-    given_processes = still_given;
-    given_objects = consistent.given_objects;
-    koids = consistent.koids;
-    above_zero = consistent.above_zero;
-    no_zero = consistent.no_zero;
-    tables = λ k q at. found_after before after p p2 write (IsTable (record { entries = q.handles; last = q.last })) k q at
-        (λ is. subst (λ (x : ProcessValue). IsTable (record { entries = x.handles; last = x.last })) is table) (consistent.tables k q);
-    named = λ k q v e at there. found_after before after p p2 write (IsNamed r.objects e) k q at
-        (λ is. named v e (ap (λ (x : ProcessValue). get x.handles v) is ∙ there)) (λ old. consistent.named k q v e old there);
-    queued = consistent.queued;
-    counted = λ k o at. consistent.counted k o at ∙ counts_fewer before after p p2 r r k (count_by (λ h. h.1.koid == k) m) write refl (fewer k);
-    agrees = λ k o at. still_agrees (world_value before r) (world_value after r) k o.body (same_states before after p p2 write same r r k)
-        (consistent.agrees k o at);
-    in_jobs = consistent.in_jobs;
-  }
+  sound_after same = written_sound before after p p2 write [] m r (sound_of before r consistent) (same_agrees before after p p2 write same r) table named
+      (λ k. omega (arith, counts_fewer before after p p2 r r k (count_by (λ h. h.1.koid == k) m) write refl (fewer k)))
 
   -- ---- the process has ended too
 
@@ -66,10 +49,7 @@ module _ (before after : List Process) (p p2 : Process) (write : IsWrite before 
     where
       by_body : (b : Body) → body_value (stopped_body b) ≡ body_value b
       by_body (body.Job own) = refl
-      by_body (body.Process job alive) = refl
-      by_body body.Event = refl
-      by_body (body.Port port) = refl
-      by_body (body.ChannelEnd peer queue) = refl
+      by_body _ = refl
 
   entries_stopped : map object_entry ended.objects ≡ map object_entry r.objects
   entries_stopped = update_unseen object_value r.objects p.pid stopped same_kind
@@ -80,43 +60,14 @@ module _ (before after : List Process) (p p2 : Process) (write : IsWrite before 
   same_queues : (j : ℕ) → queues ended.objects j ≡ queues r.objects j
   same_queues j = ap (λ (os : Map ObjectValue). sum_by (λ o. queued_to j o.1.body) os) entries_stopped
 
-  job_stopped : (j : ℕ) → is_job_at ended.objects j ≡ is_job_at r.objects j
-  job_stopped j =
-      ap is_job_in (get-update r.objects p.pid stopped j) ∙ elim (cases_Bool (p.pid == j))
-      as (λ _. is_job_in (if p.pid == j then option_map stopped (get r.objects j) else get r.objects j) ≡ is_job_in (get r.objects j)) [
-        | inl here ↦ rw here (by_object (get r.objects j))
-        | inr apart ↦ rw apart refl
-      ]
-    where
-      by_body : (b : Body) → is_job_body (stopped_body b) ≡ is_job_body b
-      by_body (body.Job own) = refl
-      by_body (body.Process job alive) = refl
-      by_body body.Event = refl
-      by_body (body.Port port) = refl
-      by_body (body.ChannelEnd peer queue) = refl
-
-      by_object : (o : Option Object) → is_job_in (option_map stopped o) ≡ is_job_in o
-      by_object None = refl
-      by_object (Some o) = by_body o.body
+  still_kind : (o : Object) → kind_of (body_value (stopped o).body) ≡ kind_of (body_value o.body)
+  still_kind o = ap (λ (x : ObjectValue). kind_of x.body) (same_kind o)
 
   pub named_stopped : (e : Entry) → IsNamed r.objects e → IsNamed ended.objects e
-  named_stopped e name = elim (cases_Bool (p.pid == e.koid)) as (λ _. IsNamed ended.objects e) [
-    | inl here ↦ record {
-      object = stopped name.object;
-      there = rw (get-update r.objects p.pid stopped e.koid, here, name.there) refl;
-      kind = name.kind ∙ ap (λ (o : ObjectValue). kind_of o.body) (sym (same_kind name.object));
-      rights = name.rights;
-    }
-    | inr apart ↦ record {
-      object = name.object;
-      there = rw (get-update r.objects p.pid stopped e.koid, apart) name.there;
-      kind = name.kind;
-      rights = name.rights;
-    }
-  ]
+  named_stopped = named_kept stopped still_kind r.objects p.pid
 
   in_job_stopped : (b : Body) → IsTrue (is_in_job r.objects b) → IsTrue (is_in_job ended.objects b)
-  in_job_stopped b h = same_in_job r.objects ended.objects job_stopped b ∙ h
+  in_job_stopped b h = same_in_job r.objects ended.objects (jobs_kept stopped still_kind r.objects p.pid) b ∙ h
 
   module _ (code : ℤ) (over : p2.state ≡ state.Ended code) where
     now : (test : StateValue → Bool) → is_process (world_value after ended) test p.pid ≡ test (Ended code)
@@ -134,16 +85,11 @@ module _ (before after : List Process) (p p2 : Process) (write : IsWrite before 
     stopped_agrees : (b : Body) → Agrees (world_value after ended) p.pid (stopped_body b)
     stopped_agrees (body.Job own) = now runs
     stopped_agrees (body.Process job alive) = record { running = sym (now runs); living = sym (now lives); over = sym (now has_ended) }
-    stopped_agrees body.Event = now runs
-    stopped_agrees (body.Port port) = now runs
-    stopped_agrees (body.ChannelEnd peer queue) = now runs
+    stopped_agrees _ = now runs
 
     same_queue : (b : Body) → queue_of (stopped_body b) ≡ queue_of b
     same_queue (body.Job own) = refl
-    same_queue (body.Process job alive) = refl
-    same_queue body.Event = refl
-    same_queue (body.Port port) = refl
-    same_queue (body.ChannelEnd peer queue) = refl
+    same_queue _ = refl
 
     pub sound_stopped : IsSound after m ended
     sound_stopped = record {
@@ -160,30 +106,25 @@ module _ (before after : List Process) (p p2 : Process) (write : IsWrite before 
       named = λ k q v e at there. found_after before after p p2 write (IsNamed ended.objects e) k q at
           (λ is. named_stopped e (named v e (ap (λ (x : ProcessValue). get x.handles v) is ∙ there)))
           (λ old. named_stopped e (consistent.named k q v e old there));
-      queued = λ j q at. found_updated stopped r.objects p.pid (AreNamed ended.objects (queue_of q.body)) j q at
-          (λ o old here is. subst (λ (x : Object). AreNamed ended.objects (queue_of x.body)) is
-          (rw (same_queue o.body) (still_named r.objects ended.objects named_stopped (queue_of o.body) (consistent.queued j o old))))
-          (λ apart old. still_named r.objects ended.objects named_stopped (queue_of q.body) (consistent.queued j q old));
-      counted = λ j q at. found_updated stopped r.objects p.pid (q.handles ≡ handles_to (world_value after ended) j + count_by (λ h. h.1.koid == j) m) j q at
-          (λ o old here is. ap (λ (x : Object). x.handles) (sym is)
-          ∙ (consistent.counted j o old ∙ counts_fewer before after p p2 r ended j (count_by (λ h. h.1.koid == j) m) write (same_queues j) (fewer j)))
-          (λ apart old. consistent.counted j q old ∙ counts_fewer before after p p2 r ended j (count_by (λ h. h.1.koid == j) m) write
-          (same_queues j) (fewer j));
-      agrees = λ j q at. found_updated stopped r.objects p.pid (Agrees (world_value after ended) j q.body) j q at
-          (λ o old here is. subst (λ (i : ℕ). Agrees (world_value after ended) i q.body) (eqb-true p.pid j here)
-          (subst (λ (x : Object). Agrees (world_value after ended) p.pid x.body) is (stopped_agrees o.body)))
-          (λ apart old. still_agrees (world_value before r) (world_value after ended) j q.body (others_now j apart) (consistent.agrees j q old));
-      in_jobs = λ j q at. found_updated stopped r.objects p.pid (IsTrue (is_in_job ended.objects q.body)) j q at
-          (λ o old here is. subst (λ (x : Object). IsTrue (is_in_job ended.objects x.body)) is (of_stopped o.body (consistent.in_jobs j o old)))
-          (λ apart old. in_job_stopped q.body (consistent.in_jobs j q old));
+      queued = each_updated (λ j q. AreNamed ended.objects (queue_of q.body)) stopped r.objects p.pid
+          (λ o old. rw (same_queue o.body) (still_named r.objects ended.objects named_stopped (queue_of o.body) (consistent.queued p.pid o old)))
+          (λ j q apart old. still_named r.objects ended.objects named_stopped (queue_of q.body) (consistent.queued j q old));
+      counted = each_updated (λ j q. q.handles ≡ handles_to (world_value after ended) j + count_by (λ h. h.1.koid == j) m) stopped r.objects p.pid
+          (λ o old. recounted p.pid o old) (λ j q apart old. recounted j q old);
+      agrees = each_updated (λ j q. Agrees (world_value after ended) j q.body) stopped r.objects p.pid (λ o old. stopped_agrees o.body)
+          (λ j q apart old. still_agrees (world_value before r) (world_value after ended) j q.body (others_now j apart) (consistent.agrees j q old));
+      in_jobs = each_updated (λ j q. IsTrue (is_in_job ended.objects q.body)) stopped r.objects p.pid
+          (λ o old. of_stopped o.body (consistent.in_jobs p.pid o old)) (λ j q apart old. in_job_stopped q.body (consistent.in_jobs j q old));
     }
       where
+        recounted : (j : ℕ) (o : Object) → get r.objects j ≡ Some o → o.handles ≡ handles_to (world_value after ended) j + count_by (λ h. h.1.koid == j) m
+        recounted j o old =
+            consistent.counted j o old ∙ counts_fewer before after p p2 r ended j (count_by (λ h. h.1.koid == j) m) write (same_queues j) (fewer j)
+
         of_stopped : (b : Body) → IsTrue (is_in_job r.objects b) → IsTrue (is_in_job ended.objects (stopped_body b))
         of_stopped (body.Process job alive) h = refl
         of_stopped (body.Job own) h = in_job_stopped (body.Job own) h
-        of_stopped body.Event h = refl
-        of_stopped (body.Port port) h = refl
-        of_stopped (body.ChannelEnd peer queue) h = refl
+        of_stopped _ h = refl
 
 -- ---- the object of a process that has ended
 

@@ -22,9 +22,9 @@ module _ (ps : List Process) (r : Objects) (consistent : IsConsistent ps r) wher
   pub given : (k : ℕ) → IsTrue (has_key w.objects k) → k < r.next_koid
   given k there = consistent.given_objects k (sym (has_seen r.objects k) ∙ there)
 
-  pub handles_counted : (p : Process) → get w.processes p.pid ≡ Some (process_value p) → (h : ℕ) (e : Entry) → get p.table.entries h ≡ Some e
-      → has_place (get r.objects e.koid) ≡ not (nat_le (2 ^ 62) (handles_to w e.koid))
-  handles_counted p there h e at =
+  pub full_counted : (p : Process) → get w.processes p.pid ≡ Some (process_value p) → (h : ℕ) (e : Entry) → get p.table.entries h ≡ Some e
+      → nat_le (2 ^ 62) (handles_to w e.koid) ≡ not (has_place (get r.objects e.koid))
+  full_counted p there h e at =
       let named : IsNamed r.objects e = consistent.named p.pid (process_value p) h e there at in
       rw (named.there, ← consistent.counted e.koid named.object named.there) (grind (arith, nat_tests))
 

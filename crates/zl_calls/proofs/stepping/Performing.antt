@@ -90,19 +90,27 @@ module _ (lib : Library) (ps : List Process) (r : Objects) (consistent : IsConsi
     unblocked = ap is_blocked ready
 
     -- from a world in which nothing waits to one in which some do
-    pub acted_so : (after : List Process) (p2 : Process) (r2 : Objects) (x : TraceItem) → IsWrite ps after p p2 → is_blocked (state_value p2.state) ≡ false
-        → pid_of x ≡ pid → tells_blocking x ≡ false → next_looks (next_for lib (process_value p)) ≡ false → IsConsistent after r2
+    pub left_with : (after : List Process) (r2 : Objects) (x : TraceItem) → pid_of x ≡ pid → tells_blocking x ≡ false
+        → next_looks (next_for lib (process_value p)) ≡ false → IsConsistent after r2 → AreBlocked after blocked
         → IsActed lib (world_value ps r) pid x (settled_world after r2) → ListsBut (waits_by (next_for lib (process_value p)) x r.waits) r.waits_made r2
         → HasLeft lib ps after r r2 blocked blocked pid x
-    acted_so after p2 r2 x write still same goes looks keeps acts lists = record {
+    left_with after r2 x same goes looks keeps list acts lists = record {
       consistent = left_keeps after r2 keeps;
-      list = rw (same_list pid x blocked goes) (left_blocked after r2 blocked (still_blocked ps after p p2 write unblocked still blocked are));
+      list = rw (same_list pid x blocked goes) (left_blocked after r2 blocked list);
       acts = record {
         pid_is = same;
         acted = rw (same_list pid x blocked goes)
             (left_beside lib ps (left_all after r2) r r2 pid x blocked sound (process_value p) there (rw there unblocked) are same goes looks acts lists);
       };
     }
+
+    -- the same where of the processes only this one is written
+    pub acted_so : (after : List Process) (p2 : Process) (r2 : Objects) (x : TraceItem) → IsWrite ps after p p2 → is_blocked (state_value p2.state) ≡ false
+        → pid_of x ≡ pid → tells_blocking x ≡ false → next_looks (next_for lib (process_value p)) ≡ false → IsConsistent after r2
+        → IsActed lib (world_value ps r) pid x (settled_world after r2) → ListsBut (waits_by (next_for lib (process_value p)) x r.waits) r.waits_made r2
+        → HasLeft lib ps after r r2 blocked blocked pid x
+    acted_so after p2 r2 x write still same goes looks keeps =
+        left_with after r2 x same goes looks keeps (still_blocked ps after p p2 write unblocked still blocked are)
 
     -- a call that blocks
     blocks_so : (name : CallName) (o : Outcome) (p2 : Process) (r2 : Objects) → IsWrite ps (set ps place p2) p p2 → IsFree lib (world_value ps r) p.pid name

@@ -2,11 +2,11 @@
 use Rattle.zl_calls.proofs.Common.{IsSound, with_process, ◌≡◌, ◌<◌, ◌+◌, ◌^◌, ◌==◌, ◌&&◌, ℕ, Bool, true, false, not, List, [], ◌∷◌, ◌++◌, map, map-append, refl}
 use Rattle.zl_calls.proofs.Common.{sym, ap, ◌∙◌, subst, cond, if◌then◌else◌, Option, Some, None, Ok, Err, inl, inr, IsTrue, arith, nat_le, eqb-true, cases_Bool}
 use Rattle.zl_calls.proofs.Common.{false≢true, none-some, is_some, option_or, then_some, first_some, slice_get, sum_by-cons, count_by, Map, get, put, update}
-use Rattle.zl_calls.proofs.Common.{Created, lives, runs, state_passes, is_process, Library, Site, site, Inserts, IsTable, examined, has_room, has_koids}
+use Rattle.zl_calls.proofs.Common.{Created, lives, runs, state_passes, is_process, Library, Site, site, Inserts, IsTable, has_room, has_koids}
 use Rattle.zl_calls.proofs.Common.{table_of, answer_if, refusal, handle_operands, listed, may_choose, new_handles, insert_all, remove_all, taken_handles}
 use Rattle.zl_calls.proofs.Common.{effect, with_effect, with_object, on_process, process_with, gives_ok, Calls, Values, replied, taken, ProcessBody, bits}
-use Rattle.zl_calls.proofs.Common.{within, operand_of, by_look_up, operand, new_entry, body_of, koid_in, Objects, with_new, Replies, has_room_in, process_entry}
-use Rattle.zl_calls.proofs.Common.{process_value, object_entry, state_value, world_value, Agrees, AreBlocked, IsConsistent, World}
+use Rattle.zl_calls.proofs.Common.{within, new_entry, body_of, koid_in, Objects, with_new, Replies, has_room_in, process_entry}
+use Rattle.zl_calls.proofs.Common.{process_value, object_entry, state_value, world_value, Agrees, AreBlocked, IsConsistent, World, operands_fault}
 use Rattle.zl_code.proofs.Common.{Process as ProcessValue, State as StateValue, is_blocked}
 use Rattle.zl_code.specs.CallTable.{process_create}
 use Rattle.zl_code.specs.Image.{Program}
@@ -25,19 +25,18 @@ use Rattle.zl_rights.specs.declared.status.Status.TheVariants as status
 use Rattle.zl_objects.specs.declared.object.Body.{Body}
 use Rattle.zl_objects.specs.declared.object.Body.TheVariants as body
 use Rattle.zl_objects.specs.declared.object.Life.TheVariants as life
-use Rattle.zl_objects.specs.Jobs.{action_of as action_at_job}
+use Rattle.zl_objects.specs.Jobs.{action_of as action_at_job, is_dead, job_at}
 use Rattle.zl_calls.specs.calls.Task.{create_refusal, create_refusal_of, needs_more}
 use Rattle.zl_calls.specs.declared.process.Process.{Process}
 use Rattle.zl_calls.specs.declared.process.State.{State}
 use Rattle.zl_calls.proofs.calls.Answered.{IsWrite, table_is, may_get_inserted, replied_inserted}
 use Rattle.zl_calls.proofs.objects.Grown.{IsGrowing, grown_seen, kept_grown, there_grown}
-use Rattle.zl_calls.proofs.calls.JobCalls.{AllNamed, IsJobAt, body_seen, is_of_kind, job_found, job_named, stands_grown}
+use Rattle.zl_calls.proofs.calls.JobCalls.{IsJobAt, body_seen, job_found, job_looked_up, stands_grown}
 use Rattle.zl_calls.proofs.calls.MakeCalls.{HasRoom, first_entered}
 use Rattle.zl_calls.proofs.processes.OneProcess.{found_process, get_process, new_is, process_sound, processes_are}
 use Rattle.zl_calls.proofs.waking.BlockedLists.{still_blocked}
-use Rattle.zl_calls.proofs.calls.Refused.{answers, fault_answers, may_create}
+use Rattle.zl_calls.proofs.calls.Refused.{answers, is_found, is_of_kind, first_looked_up, three_tests}
 use Rattle.zl_calls.proofs.objects.Settled.{sound_of}
-use Rattle.zl_calls.proofs.calls.WriteCalls.{is_found}
 
 -- ---- lists
 
@@ -52,56 +51,30 @@ update_before {X} (e ∷ m) k n f v apart = elim (cases_Bool (e.0 == k)) as (λ 
 
 -- ---- the answer
 
-module _ (lib : Library) (before : List Process) (r : Objects) (consistent : IsConsistent before r) (p : ℕ) where
+module _ (lib : Library) (before : List Process) (r : Objects) (consistent : IsConsistent before r) (p : Process)
+    (there : get (map process_entry before) p.pid ≡ Some (process_value p)) (job program : ℕ) where
   abbrev old_world : World
   old_world = world_value before r
 
-  abbrev handles : Map Entry
-  handles = table_of old_world p
-
-  abbrev create_with : Option Program → Option Outcome → ℕ → Option Outcome
-  create_with g x k = first_some (first_some (x ∷ None ∷ []) ∷ None
-      ∷ answer_if (not (is_some g)) status.InvalidArgs
-      ∷ answer_if (is_dead_body (body_of old_world k)) status.BadState
-      ∷ answer_if (lacks_need old_world k g) status.NotSupported
-      ∷ answer_if (not (has_room_in handles && nat_le (r.next_koid + 1) (2 ^ 62))) status.NoResources ∷ [])
-
-  by_create_tests : (a b c d : Bool) → first_some (None ∷ None ∷ answer_if (not a) status.InvalidArgs ∷ answer_if b status.BadState
-      ∷ answer_if c status.NotSupported ∷ answer_if (not d) status.NoResources ∷ [])
-      ≡ answers (option_or (then_some (not a) status.InvalidArgs)
-      (option_or (then_some b status.BadState) (option_or (then_some c status.NotSupported) (then_some (not d) status.NoResources))))
-  by_create_tests false b c d = refl
-  by_create_tests true true c d = refl
-  by_create_tests true false true d = refl
-  by_create_tests true false false true = refl
-  by_create_tests true false false false = refl
-
-  pub create_refused : (job program : ℕ) → AllNamed before r consistent p
-      → refusal lib old_world p (process_create job program) ≡ answers (create_refusal lib handles r job program)
-  unfolding refusal handle_operands examined operand listed has_room has_koids
-  create_refused job program named = rw (may_create old_world p condition.NewProcess) (by_entry (get handles job) refl)
+  pub create_refused : refusal lib old_world p.pid (process_create job program) ≡ answers (create_refusal lib p.table.entries r job program)
+  unfolding handle_operands operands_fault listed has_room has_koids
+  create_refused =
+      first_looked_up lib old_world p.pid p.table.entries (rw there refl) (process_create job program) (create_refusal lib p.table.entries r job program)
+      job (kind.Job ∷ []) MANAGE_PROCESS None refl (λ s is. rw is refl)
+      (λ e is at. rw (is, there, at) (passes e (job_looked_up before r consistent p there job MANAGE_PROCESS e is) (slice_get lib program)))
     where
-      g : Option Program
-      g = slice_get lib program
+      room : Bool
+      room = has_room_in p.table.entries && nat_le (r.next_koid + 1) (2 ^ 62)
 
-      passes : (e : Entry) → IsJobAt r.objects e.koid → (o : Option Program) → slice_get lib program ≡ o
-          → create_with o None e.koid ≡ answers (create_refusal_of lib handles r program (Ok e))
-      passes e at None is = rw is refl
-      passes e at (Some x) is =
-          rw (is, body_seen before r e.koid at, job_found r.objects e.koid at)
-          (by_create_tests true at.job.killed (needs_more (action_at_job (Some at.job)) (Some x)) (has_room_in handles && nat_le (r.next_koid + 1) (2 ^ 62)))
-
-      by_tests : (e : Entry) → get handles job ≡ Some e → (a b : Bool) → takes (kind.Job ∷ []) e.kind ≡ a
-          → create_with g (by_look_up old_world p (if a then (if b then Ok e else Err status.AccessDenied) else Err status.WrongType)) e.koid
-          ≡ answers (create_refusal_of lib handles r program (if a then (if b then Ok e else Err status.AccessDenied) else Err status.WrongType))
-      by_tests e at true true fits = passes e (job_named r.objects e (named job e at) fits) g refl
-      by_tests e at true false fits = refl
-      by_tests e at false b fits = ap (λ (x : Option Outcome). create_with g x e.koid) (fault_answers old_world p condition.WrongObject status.WrongType)
-
-      by_entry : (o : Option Entry) → get handles job ≡ o → create_with g (operand_of old_world p (kind.Job ∷ []) MANAGE_PROCESS o) (koid_in o)
-          ≡ answers (create_refusal_of lib handles r program (granted o (kind.Job ∷ []) MANAGE_PROCESS))
-      by_entry None at = ap (λ (x : Option Outcome). create_with g x 0) (fault_answers old_world p condition.BadHandle status.BadHandle)
-      by_entry (Some e) at = by_tests e at (takes (kind.Job ∷ []) e.kind) (within MANAGE_PROCESS (bits e.rights)) refl
+      passes : (e : Entry) → IsJobAt r.objects e.koid → (o : Option Program)
+          → first_some (answer_if (not (is_some o)) status.InvalidArgs ∷ answer_if (is_dead_body (body_of old_world e.koid)) status.BadState
+          ∷ answer_if (lacks_need old_world e.koid o) status.NotSupported ∷ answer_if (not room) status.NoResources ∷ [])
+          ≡ answers (option_or (then_some (not (is_some o)) status.InvalidArgs) (option_or (then_some (is_dead (job_at r.objects e.koid)) status.BadState)
+          (option_or (then_some (needs_more (action_at_job (job_at r.objects e.koid)) o) status.NotSupported) (then_some (not room) status.NoResources))))
+      passes e at None = refl
+      passes e at (Some x) =
+          rw (body_seen before r e.koid at, job_found r.objects e.koid at)
+          (three_tests at.job.killed (needs_more (action_at_job (Some at.job)) (Some x)) (not room) status.BadState status.NotSupported status.NoResources)
 
 -- ---- a process is made
 
@@ -138,9 +111,7 @@ module _ (lib : Library) (before mid : List Process) (r : Objects) (consistent :
   sound = sound_of before r consistent
 
   above_there : IsJobAt r.objects above.koid
-  above_there = job_named r.objects above (consistent.named p.pid (process_value p) job above write.there
-      (is_found (get p.table.entries job) (kind.Job ∷ []) MANAGE_PROCESS above is_above))
-      (is_of_kind (get p.table.entries job) (kind.Job ∷ []) MANAGE_PROCESS above is_above)
+  above_there = job_looked_up before r consistent p write.there job MANAGE_PROCESS above is_above
 
   -- ---- the caller stands there still
 
@@ -245,12 +216,6 @@ module _ (lib : Library) (before mid : List Process) (r : Objects) (consistent :
     unfolding taken_handles handle_operands remove_all may_choose new_handles
     create_chosen = rw (write.there, may_get_inserted p p2 (new_entry n kind.Process) made inserts) refl
 
-    named_here : AllNamed before r consistent p.pid
-    named_here h e at = consistent.named p.pid (process_value p) h e write.there (rw (table_is before mid p p2 write r) at at)
-
-    refused_create : refusal lib w p.pid (process_create job program) ≡ answers (create_refusal lib p.table.entries r job program)
-    refused_create = create_refused lib before r consistent p.pid job program named_here ∙ rw (table_is before mid p p2 write r) refl
-
     pub created_calls : Calls lib w p.pid create_site (outcome.Answered status.Ok) (world_value after grown)
     unfolding gives_ok
-    created_calls = (Values (made ∷ []), rw (refused_create, unrefused) (create_chosen, refl, create_ends))
+    created_calls = (Values (made ∷ []), rw (create_refused lib before r consistent p write.there job program, unrefused) (create_chosen, refl, create_ends))

@@ -20,17 +20,14 @@ use Rattle.std.proofs.lemmas.Option.{get_or_from_slice_get}
 use Rattle.zl_objects.specs.declared.object.Body.TheVariants as body
 use Rattle.zl_objects.specs.declared.object.Life.TheVariants as life
 use Rattle.zl_calls.specs.Reaching.{IsAnsweredIn, IsToldIn}
-use Rattle.zl_calls.specs.Registered.{ListsBut}
 use Rattle.zl_calls.specs.calls.Task.{CreatesProcess, Parts, ProcessCreateDoes, create_refusal, parts}
 use Rattle.zl_calls.specs.calls.Making.{MakesOne}
 use Rattle.zl_calls.specs.declared.process.Process.{Process}
-use Rattle.zl_calls.proofs.calls.Answered.{IsWrite, table_is, same_world}
-use Rattle.zl_calls.proofs.processes.Departed.{left_all, left_blocked, left_keeps, settled_world}
+use Rattle.zl_calls.proofs.calls.Answered.{IsWrite, same_world}
+use Rattle.zl_calls.proofs.processes.Departed.{settled_world}
 use Rattle.zl_calls.proofs.calls.DoneCalls.{IsCalled, IsDone, called_done}
 use Rattle.zl_calls.proofs.stepping.FromConsistent.{IsFree, call_settles}
-use Rattle.zl_calls.proofs.waits.LeftWaits.{left_beside}
-use Rattle.zl_calls.proofs.waking.BlockedLists.{same_list}
-use Rattle.zl_calls.proofs.stepping.Performing.{HasLeft, acted_so, key, ready, there, unblocked, write_of}
+use Rattle.zl_calls.proofs.stepping.Performing.{HasLeft, acted_so, key, left_with, ready, unblocked, write_of}
 use Rattle.zl_calls.proofs.calls.Refused.{answers, refused_calls}
 use Rattle.zl_calls.proofs.objects.Settled.{still_settles}
 use Rattle.zl_calls.proofs.processes.Written.{refusal_keeps}
@@ -79,10 +76,7 @@ module _ (lib : Library) (ps : List Process) (r : Objects) (whole : IsConsistent
   itself = write_of lib ps r whole blocked are sound pid place p found read p refl
 
   refused_here : refusal lib (world_value ps r) p.pid (process_create job program) ≡ answers (create_refusal lib p.table.entries r job program)
-  refused_here =
-      create_refused lib ps r whole p.pid job program
-      (λ h e at. whole.named p.pid (process_value p) h e itself.there (rw (table_is ps (set ps place p) p p itself r) at at))
-      ∙ rw (table_is ps (set ps place p) p p itself r) refl
+  refused_here = create_refused lib ps r whole p itself.there job program
 
   -- ---- it is refused
 
@@ -116,26 +110,6 @@ module _ (lib : Library) (ps : List Process) (r : Objects) (whole : IsConsistent
         (unblocked lib ps r whole blocked are sound pid place p found read is_ready_there) refl refl (ap next_looks next) done.consistent
         (rw (← key lib ps r whole blocked are sound pid place p found read) (done.step free))
         (rw next (record { waits = λ test h. refl; made = refl }))
-
-  -- ---- it is done
-
-  left_with : (after : List Process) (r2 : Objects) → IsConsistent after r2 → AreBlocked after blocked
-      → IsActed lib (world_value ps r) p.pid (item.Call p.pid name (outcome.Answered status.Ok)) (settled_world after r2)
-      → ListsBut r.waits r.waits_made r2 → HasLeft lib ps after r r2 blocked blocked pid (item.Call pid name (outcome.Answered status.Ok))
-  left_with after r2 keeps list step lists = record {
-    consistent = left_keeps after r2 keeps;
-    list = rw (same_list pid (item.Call pid name (outcome.Answered status.Ok)) blocked refl) (left_blocked after r2 blocked list);
-    acts = record {
-      pid_is = refl;
-      acted = rw (same_list pid (item.Call pid name (outcome.Answered status.Ok)) blocked refl)
-          (left_beside lib ps (left_all after r2) r r2 pid (item.Call pid name (outcome.Answered status.Ok)) blocked sound (process_value p)
-          (there lib ps r whole blocked are sound pid place p found read)
-          (rw (there lib ps r whole blocked are sound pid place p found read)
-          (unblocked lib ps r whole blocked are sound pid place p found read is_ready_there)) are refl refl (ap next_looks next)
-          (rw (← key lib ps r whole blocked are sound pid place p found read) step)
-          (rw next lists));
-    };
-  }
 
   -- ---- a process is made
 
@@ -196,7 +170,10 @@ module _ (lib : Library) (ps : List Process) (r : Objects) (whole : IsConsistent
         (still_settles made_all made_grown made_keeps) free
 
     made_so : HasLeft lib ps made_all r made_grown blocked blocked pid (item.Call pid name (outcome.Answered status.Ok))
-    made_so = left_with made_all made_grown made_keeps made_blocked made_step (record { waits = λ test h. refl; made = refl })
+    made_so =
+        left_with lib ps r whole blocked are sound pid place p found read is_ready_there made_all made_grown
+        (item.Call pid name (outcome.Answered status.Ok)) refl refl (ap next_looks next) made_keeps made_blocked
+        (rw (← key lib ps r whole blocked are sound pid place p found read) made_step) (rw next (record { waits = λ test h. refl; made = refl }))
 
   -- ---- either
 

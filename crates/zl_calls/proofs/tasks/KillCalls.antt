@@ -1,18 +1,17 @@
 -- The call task_kill, from what it did among all processes to the relation of steps, up to where processes wake.
 use Rattle.zl_calls.proofs.Common.{◌≡◌, ◌<◌, ◌^◌, ℕ, ℤ, zero, suc, Bool, true, false, not, ◌&&◌, ◌==◌, List, [], ◌∷◌, map, refl, sym, ap, ◌∙◌, subst, Option}
-use Rattle.zl_calls.proofs.Common.{Some, None, Result, Ok, Err, inl, inr, ◌⊎◌, IsTrue, arith, option_map, Map, get, each, update, lives, state_passes}
+use Rattle.zl_calls.proofs.Common.{Some, None, Ok, inl, inr, ◌⊎◌, IsTrue, arith, option_map, Map, get, each, update, lives, state_passes}
 use Rattle.zl_calls.proofs.Common.{none-some, same_Some, slice_get, eq-eqb, false≢true, is_sorted, nat_cmp, nat_tests, object_entry, process_entry}
 use Rattle.zl_calls.proofs.Common.{process_value, state_value, Objects, World, world_value, world_blocked, Library, Site, AtCall, next_for, cpu_answered}
-use Rattle.zl_calls.proofs.Common.{first_some, replied, taken, AreBlocked, IsConsistent, Releases, Ready, if◌then◌else◌, cases_Bool, eqb-true, refusal, site}
-use Rattle.zl_calls.proofs.Common.{slice_set, handle_operands, examined, operand, listed, IsNamed, ◌+◌, table_of, may_choose, sum_by, count_by, get-update}
-use Rattle.zl_calls.proofs.Common.{is_sorted-update, new_handles, taken_handles, remove_all, insert_all, effect, gives_ok, ended, on_process, Values}
+use Rattle.zl_calls.proofs.Common.{replied, taken, AreBlocked, IsConsistent, Releases, Ready, if◌then◌else◌, cases_Bool, eqb-true, refusal, site}
+use Rattle.zl_calls.proofs.Common.{slice_set, handle_operands, listed, IsNamed, ◌+◌, table_of, may_choose, sum_by, count_by, get-update}
+use Rattle.zl_calls.proofs.Common.{is_sorted-update, new_handles, taken_handles, remove_all, insert_all, effect, gives_ok, ended, on_process, Values, operands_fault}
 use Rattle.std.specs.List.{filter}
 use Rattle.std.specs.Result.{result_err}
 use Rattle.zl_rights.specs.LookUp.{looked_up}
 use Rattle.zl_rights.specs.Numbers.{DESTROY, KILLED}
 use Rattle.zl_rights.specs.declared.entry.Entry.{Entry}
 use Rattle.zl_rights.specs.declared.kind.Kind.TheVariants as kind
-use Rattle.zl_rights.specs.declared.status.Status.{Status}
 use Rattle.zl_rights.specs.declared.status.Status.TheVariants as status
 use Rattle.zl_code.proofs.Common.{Process as ProcessValue, State as StateValue, Ended, get-each, Cpu, is_blocked}
 use Rattle.zl_code.proofs.Changes.{times}
@@ -39,34 +38,28 @@ use Rattle.zl_calls.specs.declared.process.State.TheVariants as state
 use Rattle.zl_calls.specs.calls.Task.{ClosesAllEnded, ClosesEnded, lives_on, is_over, none_left}
 use Rattle.zl_calls.specs.calls.Task.{one_more, Parts, KillsTask, ended_if, ended_within, kill_refusal}
 use Rattle.zl_calls.specs.calls.Task.{parts}
-use Rattle.zl_calls.proofs.calls.AmongWaits.{look_up_answers}
 use Rattle.zl_code.specs.declared.history.TraceItem.TheVariants as item
 use Rattle.zl_calls.proofs.waking.BlockedLists.{same_list, still_blocked}
-use Rattle.zl_calls.proofs.objects.Counting.{sum_update}
+use Rattle.zl_calls.proofs.objects.Counting.{sum_update, naming, numbered, numbered_naming}
 use Rattle.zl_calls.proofs.processes.Departed.{left_all, left_blocked, left_keeps, settled_world}
 use Rattle.zl_calls.proofs.waits.LeftWaits.{left_by}
 use Rattle.zl_calls.proofs.stepping.Performing.{HasLeft}
-use Rattle.zl_calls.proofs.tasks.KillSound.{all_noted, tables_from, AllTables, AreAllGone, gone_of, killed_sound, killed_with, numbered, numbered_all}
-use Rattle.zl_calls.proofs.tasks.KillSound.{numbered_naming, numbered_sorted, in_tables, naming, named_killed}
+use Rattle.zl_calls.proofs.tasks.KillSound.{all_noted, tables_from, AllTables, AreAllGone, gone_of, killed_sound, killed_with, numbered_all}
+use Rattle.zl_calls.proofs.tasks.KillSound.{numbered_sorted, in_tables, named_killed}
 use Rattle.zl_calls.proofs.tasks.KillWorlds.{are_idle, blocked_left, objects_killed, processes_killed, same_within}
-use Rattle.zl_calls.proofs.calls.Refused.{answers}
+use Rattle.zl_calls.proofs.calls.Refused.{answers, is_found, first_looked_up}
 use Rattle.zl_calls.proofs.objects.Settled.{IsSettled, settled}
 use Rattle.zl_calls.proofs.tasks.StartCalls.{writes_at}
 use Rattle.zl_calls.proofs.calls.Answered.{IsWrite}
-use Rattle.zl_calls.proofs.calls.WriteCalls.{is_found}
 
 -- ---- the answer
 
 module _ (lib : Library) (w : World) (pid : ℕ) (entries : Map Entry) (table : table_of w pid ≡ entries) (task : ℕ) where
   pub kill_refused : refusal lib w pid (task_kill task) ≡ answers (kill_refusal entries task)
-  unfolding refusal handle_operands examined operand listed
+  unfolding handle_operands operands_fault listed
   kill_refused =
-      rw table ((λ i. first_some (first_some (look_up_answers w pid (looked_up entries task (kind.Process ∷ kind.Job ∷ []) DESTROY) i ∷ None ∷ []) ∷ None ∷ []))
-      ∙ by_result (looked_up entries task (kind.Process ∷ kind.Job ∷ []) DESTROY))
-    where
-      by_result : (x : Result Entry Status) → first_some (first_some (answers (result_err x) ∷ None ∷ []) ∷ None ∷ []) ≡ answers (result_err x)
-      by_result (Ok e) = refl
-      by_result (Err s) = refl
+      first_looked_up lib w pid entries table (task_kill task) (kill_refusal entries task) task (kind.Process ∷ kind.Job ∷ []) DESTROY None refl
+      (λ s is. rw is refl) (λ e is at. rw is refl)
 
 -- ---- what went
 

@@ -1,19 +1,19 @@
 -- A kill: the handles of all who end count still and are in no table, and the invariant holds but for what keeps the objects.
 use Rattle.zl_calls.proofs.Common.{◌≡◌, ℕ, suc, ◌+◌, ◌<◌, Bool, true, false, not, ◌==◌, List, [], ◌∷◌, ◌++◌, map, refl, sym, ap, ◌∙◌, subst, cond, Option, Some}
-use Rattle.zl_calls.proofs.Common.{None, inl, inr, IsTrue, arith, option_map, Map, get, has_key, each, lives, runs, none-some, same_Some, eq-eqb, ne_eqb}
+use Rattle.zl_calls.proofs.Common.{None, inl, inr, IsTrue, arith, option_map, Map, get, has_key, each, lives, runs, none-some, same_Some, eq-eqb}
 use Rattle.zl_calls.proofs.Common.{false≢true, below_all, is_sorted, nat_cmp, is_some, object_entry, body_value, process_entry, process_value, Objects}
 use Rattle.zl_calls.proofs.Common.{world_value, count_by, sum_by, sum_by-cons, queued_to, handles_to, is_process, state_passes, kind_of, is_job_at, is_job_in}
 use Rattle.zl_calls.proofs.Common.{is_in_job, Agrees, AreNamed, IsNamed, IsConsistent, IsTable, Releases, AreKeptBut, if◌then◌else◌, ⊤, list_any, cases_Bool}
-use Rattle.zl_calls.proofs.Common.{eqb-true, and_from, nat_tests, or_left, or_right, ◌||◌}
+use Rattle.zl_calls.proofs.Common.{and_from, nat_tests, or_left, or_right, ◌||◌}
 use Rattle.std.proofs.lemmas.List.Sums.{sum_by-append}
 use Rattle.zl_calls.specs.Making.{IsSound}
-use Rattle.zl_code.proofs.Common.{Process as ProcessValue, State as StateValue, Created, Ready, Blocked, Ended, Gone, get-each, Cpu}
+use Rattle.zl_code.proofs.Common.{Process as ProcessValue, State as StateValue, Ended, Gone, get-each, Cpu}
 use Rattle.zl_code.proofs.MapKept.{in_order-each}
 use Rattle.zl_rights.specs.Numbers.{KILLED}
 use Rattle.zl_rights.specs.Signals.{has_ended}
 use Rattle.zl_rights.specs.declared.entry.Entry.{Entry}
 use Rattle.zl_code.specs.Jobs.{process_killed}
-use Rattle.zl_table.proofs.MapEdits.{below_parts, sorted_parts}
+use Rattle.zl_table.proofs.MapEdits.{sorted_parts}
 use Rattle.zl_objects.specs.declared.object.Body.{Body}
 use Rattle.zl_objects.specs.declared.object.Body.TheVariants as body
 use Rattle.zl_objects.specs.declared.object.Object.{Object}
@@ -24,11 +24,12 @@ use Rattle.zl_objects.specs.Release.{all_koids}
 use Rattle.zl_objects.proofs.Bodies.{same_in_job}
 use Rattle.zl_objects.proofs.Released.{releases_then}
 use Rattle.zl_calls.specs.declared.process.Process.{Process}
+use Rattle.zl_calls.proofs.lists.Updates.{found_behind}
 use Rattle.zl_calls.specs.calls.Task.{ClosesAllEnded, ClosesEnded, ended_if, ended_within, lives_on, is_over, none_left, one_more}
 use Rattle.zl_calls.proofs.objects.SameBodies.{still_named}
 use Rattle.zl_calls.proofs.objects.Settled.{AreGone, drained, unchanged}
 use Rattle.zl_calls.proofs.booting.BootGiving.{bare_table}
-use Rattle.zl_calls.proofs.objects.Counting.{queues}
+use Rattle.zl_calls.proofs.objects.Counting.{queues, naming, naming_cons, numbered, numbered_naming}
 
 -- ---- entries without their values
 
@@ -45,13 +46,6 @@ joined_all P (e ∷ es) fs a b = (a.0, joined_all P es fs a.1 b)
 abbrev pub entries_in : Map Entry → List Entry
 entries_in m = map (λ h. h.1) m
 
--- how many of them name k
-abbrev pub naming : ℕ → List Entry → ℕ
-naming k es = count_by (λ (e : Entry). e.koid == k) es
-
-naming_cons : (k : ℕ) (e : Entry) (es : List Entry) → naming k (e ∷ es) ≡ cond (e.koid == k) 1 0 + naming k es
-naming_cons k e es = sum_by-cons (λ (x : Entry). cond (x.koid == k) 1 0) e es
-
 naming_joined : (k : ℕ) (es fs : List Entry) → naming k (es ++ fs) ≡ naming k es + naming k fs
 naming_joined k [] fs = omega arith
 naming_joined k (e ∷ es) fs = omega (arith, naming_cons k e (es ++ fs), naming_cons k e es, naming_joined k es fs)
@@ -60,29 +54,14 @@ naming_in : (k : ℕ) (m : Map Entry) → naming k (entries_in m) ≡ count_by (
 naming_in k [] = refl
 naming_in k (h ∷ m) = omega (arith, naming_cons k h.1 (entries_in m), sum_by-cons (λ (x : ℕ × Entry). cond (x.1.koid == k) 1 0) h m, naming_in k m)
 
-lower_missing : (k : ℕ) (m : Map Entry) → IsTrue (below_all nat_cmp k m) → get m k ≡ None
-unfolding get
-lower_missing k [] below = refl
-lower_missing k (e ∷ m) below =
-    let parts = below_parts k e m below in
-    rw (ne_eqb e.0 k (λ is. omega (arith, is, parts.0))) (lower_missing k m parts.1)
-
 all_in : (P : Entry → Type 0) (m : Map Entry) → IsTrue (is_sorted nat_cmp m) → ((v : ℕ) (e : Entry) → get m v ≡ Some e → P e) → AllOf P (entries_in m)
 unfolding get
 all_in P [] sorted all = tt
 all_in P (h ∷ m) sorted all =
     let parts = sorted_parts h m sorted in (
       all h.0 h.1 (rw (eq-eqb h.0 h.0 refl) refl),
-      all_in P m parts.1 (λ v e at. all v e (elim (cases_Bool (h.0 == v)) as (λ _. (if h.0 == v then Some h.1 else get m v) ≡ Some e) [
-        | inl here ↦ absurd (none-some e (sym (lower_missing v m (subst (λ (n : ℕ). IsTrue (below_all nat_cmp n m)) (eqb-true h.0 v here) parts.0)) ∙ at))
-        | inr apart ↦ rw apart at
-      ])),
+      all_in P m parts.1 (λ v e at. all v e (found_behind h m sorted v e at)),
     )
-
--- the entries under the numbers from n on
-abbrev pub numbered : ℕ → List Entry → Map Entry
-numbered n [] = []
-numbered n (e ∷ es) = (n, e) ∷ numbered (suc n) es
 
 numbered_above : (k n : ℕ) (es : List Entry) → k < n → IsTrue (below_all nat_cmp k (numbered n es))
 numbered_above k n [] less = refl
@@ -91,11 +70,6 @@ numbered_above k n (e ∷ es) less = grind (arith, nat_tests, less, numbered_abo
 pub numbered_sorted : (n : ℕ) (es : List Entry) → IsTrue (is_sorted nat_cmp (numbered n es))
 numbered_sorted n [] = refl
 numbered_sorted n (e ∷ es) = and_from (below_all nat_cmp n (numbered (suc n) es)) _ (numbered_above n (suc n) es (omega arith)) (numbered_sorted (suc n) es)
-
-pub numbered_naming : (k n : ℕ) (es : List Entry) → count_by (λ (h : ℕ × Entry). h.1.koid == k) (numbered n es) ≡ naming k es
-numbered_naming k n [] = refl
-numbered_naming k n (e ∷ es) =
-    omega (arith, naming_cons k e es, sum_by-cons (λ (x : ℕ × Entry). cond (x.1.koid == k) 1 0) (n, e) (numbered (suc n) es), numbered_naming k (suc n) es)
 
 pub numbered_all : (P : Entry → Type 0) (n : ℕ) (es : List Entry) → AllOf P es → (v : ℕ) (e : Entry) → get (numbered n es) v ≡ Some e → P e
 unfolding get
@@ -114,13 +88,6 @@ in_tables k ps = sum_by (λ (q : ℕ × ProcessValue). count_by (λ h. h.1.koid 
 tables_cons : (k : ℕ) (p : Process) (ps : List Process) → in_tables k (p ∷ ps) ≡ count_by (λ (h : ℕ × Entry). h.1.koid == k) p.table.entries + in_tables k ps
 tables_cons k p ps = sum_by-cons (λ (q : ℕ × ProcessValue). count_by (λ h. h.1.koid == k) q.1.handles) (process_entry p) (map process_entry ps)
 
-no_lower : (k : ℕ) (m : Map ProcessValue) → IsTrue (below_all nat_cmp k m) → get m k ≡ None
-unfolding get
-no_lower k [] below = refl
-no_lower k (e ∷ m) below =
-    let parts = below_parts k e m below in
-    rw (ne_eqb e.0 k (λ is. omega (arith, is, parts.0))) (no_lower k m parts.1)
-
 -- the tables are in order, and what is in them passes
 abbrev pub AllTables : (Entry → Type 0) → List Process → Type 0
 AllTables P [] = ⊤
@@ -135,13 +102,7 @@ tables_from P [] sorted all = tt
 tables_from P (p ∷ ps) sorted all =
     let parts = sorted_parts (process_entry p) (map process_entry ps) sorted in (
       all p.pid (process_value p) (rw (eq-eqb p.pid p.pid refl) refl),
-      tables_from P ps parts.1
-          (λ k q at. all k q (elim (cases_Bool (p.pid == k)) as (λ _. (if p.pid == k then Some (process_value p) else get (map process_entry ps) k) ≡ Some q) [
-            | inl here ↦
-                absurd (none-some q (sym (no_lower k (map process_entry ps)
-                (subst (λ (n : ℕ). IsTrue (below_all nat_cmp n (map process_entry ps))) (eqb-true p.pid k here) parts.0)) ∙ at))
-            | inr apart ↦ rw apart at
-          ])),
+      tables_from P ps parts.1 (λ k q at. all k q (found_behind (process_entry p) (map process_entry ps) sorted k q at)),
     )
 
 -- the handles that have left the tables of ps, which are then those of ps2, and what went with them
@@ -249,10 +210,7 @@ killed_kind true o = by_body o.body
   where
     by_body : (c : Body) → kind_of (body_value (killed_body c)) ≡ kind_of (body_value c)
     by_body (body.Job job) = refl
-    by_body (body.Process job l) = refl
-    by_body body.Event = refl
-    by_body (body.ChannelEnd peer queue) = refl
-    by_body (body.Port port) = refl
+    by_body _ = refl
 
 killed_queue : (b : Bool) (o : Object) → queue_of (killed_if b o).body ≡ queue_of o.body
 killed_queue false o = refl
@@ -260,10 +218,7 @@ killed_queue true o = by_body o.body
   where
     by_body : (c : Body) → queue_of (killed_body c) ≡ queue_of c
     by_body (body.Job job) = refl
-    by_body (body.Process job l) = refl
-    by_body body.Event = refl
-    by_body (body.ChannelEnd peer queue) = refl
-    by_body (body.Port port) = refl
+    by_body _ = refl
 
 killed_handles : (b : Bool) (o : Object) → (killed_if b o).handles ≡ o.handles
 killed_handles false o = refl
@@ -275,10 +230,7 @@ killed_queues j true o = by_body o.body
   where
     by_body : (c : Body) → queued_to j (body_value (killed_body c)) ≡ queued_to j (body_value c)
     by_body (body.Job job) = refl
-    by_body (body.Process job l) = refl
-    by_body body.Event = refl
-    by_body (body.ChannelEnd peer queue) = refl
-    by_body (body.Port port) = refl
+    by_body _ = refl
 
 queues_killed : (f : ℕ → Bool) (m : Map Object) (j : ℕ) → queues (each (λ k. killed_if (f k)) m) j ≡ queues m j
 unfolding each
@@ -301,10 +253,7 @@ jobs_stay m t j = ap is_job_in (kill_in t m j) ∙ by_object (get m j) (is_withi
   where
     by_body : (c : Body) → is_job_body (killed_body c) ≡ is_job_body c
     by_body (body.Job job) = refl
-    by_body (body.Process job l) = refl
-    by_body body.Event = refl
-    by_body (body.ChannelEnd peer queue) = refl
-    by_body (body.Port port) = refl
+    by_body _ = refl
 
     by_object : (o : Option Object) (b : Bool) → is_job_in (option_map (killed_if b) o) ≡ is_job_in o
     by_object None b = refl
@@ -410,15 +359,13 @@ module _ (ps ps3 : List Process) (r : Objects) (consistent : IsConsistent ps r) 
       by_state : (s : StateValue) → q.state ≡ s → (runs (if lives s then record q { state = Ended KILLED; handles = []; last = None } else q).state ≡ false)
           × (lives (if lives s then record q { state = Ended KILLED; handles = []; last = None } else q).state ≡ false)
           × (has_ended (if lives s then record q { state = Ended KILLED; handles = []; last = None } else q).state ≡ true)
-      by_state Created at = (refl, refl, refl)
-      by_state Ready at = (refl, refl, refl)
-      by_state (Blocked awaited ds) at = (refl, refl, refl)
       by_state (Ended code) at = (ap runs at, ap lives at, ap has_ended at)
       by_state Gone at = absurd (neither (is_alive l) (living ∙ ap lives at) (over ∙ ap has_ended at))
         where
           neither : (b : Bool) → b ≡ false → not b ≡ false → ⊥
           neither true a c = false≢true (sym a)
           neither false a c = false≢true (sym c)
+      by_state _ at = (refl, refl, refl)
 
   unchanged_by : (test : StateValue → Bool) (k : ℕ) → within k ≡ false
       → is_process (world_value ps3 (killing r t)) test k ≡ is_process (world_value ps r) test k
@@ -454,9 +401,7 @@ module _ (ps ps3 : List Process) (r : Objects) (consistent : IsConsistent ps r) 
         over = sym (changed_by has_ended k inside ∙ three.2);
       }
   agrees_body k true inside (body.Job job) h = changed_by runs k inside ∙ not_running (get (map process_entry ps) k) true h
-  agrees_body k true inside body.Event h = changed_by runs k inside ∙ not_running (get (map process_entry ps) k) true h
-  agrees_body k true inside (body.ChannelEnd peer queue) h = changed_by runs k inside ∙ not_running (get (map process_entry ps) k) true h
-  agrees_body k true inside (body.Port port) h = changed_by runs k inside ∙ not_running (get (map process_entry ps) k) true h
+  agrees_body k true inside _ h = changed_by runs k inside ∙ not_running (get (map process_entry ps) k) true h
 
   in_job_body : (b : Bool) (c : Body) → IsTrue (is_in_job r.objects c) → IsTrue (is_in_job (all_killed r.objects t) (if b then killed_body c else c))
   in_job_body false c h = same_in_job r.objects (all_killed r.objects t) (jobs_stay r.objects t) c ∙ h

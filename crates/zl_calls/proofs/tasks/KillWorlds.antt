@@ -1,22 +1,23 @@
 -- What a kill makes of the world: the definitions see the same of its processes, objects and list of the blocked.
-use Rattle.zl_calls.proofs.Common.{◌≡◌, ℕ, zero, suc, Bool, true, false, not, ◌&&◌, ◌||◌, ◌==◌, List, [], ◌∷◌, map, refl, sym, ap, ◌∙◌, subst, Option, Some}
-use Rattle.zl_calls.proofs.Common.{None, inl, inr, IsTrue, arith, cases_Bool, option_map, Map, get, each, lives, runs, length, ◌<◌, state_passes, eqb-true}
-use Rattle.zl_calls.proofs.Common.{below_all, AreBlocked, none-some, eq-eqb, ne_eqb, false≢true, object_entry, object_value, body_value, process_entry}
+use Rattle.zl_calls.proofs.Common.{◌≡◌, ℕ, zero, suc, Bool, true, false, not, ◌&&◌, ◌||◌, ◌==◌, List, [], ◌∷◌, map, refl, sym, ap, ◌∙◌, Option, Some}
+use Rattle.zl_calls.proofs.Common.{None, inl, inr, IsTrue, arith, cases_Bool, option_map, Map, get, each, lives, runs, length, ◌<◌, state_passes}
+use Rattle.zl_calls.proofs.Common.{AreBlocked, eq-eqb, false≢true, object_entry, object_value, body_value, process_entry}
 use Rattle.zl_calls.proofs.Common.{process_value, state_value, Objects, world_blocked, is_sorted, nat_cmp, if◌then◌else◌, ⊤}
-use Rattle.zl_code.proofs.Common.{Process as ProcessValue, Object as ObjectValue, State as StateValue, Created, Ready, Blocked, Ended, Gone, is_blocked}
+use Rattle.zl_code.proofs.Common.{Process as ProcessValue, Object as ObjectValue, State as StateValue, Ready, Blocked, Ended, is_blocked}
 use Rattle.zl_code.proofs.Common.{get-each}
 use Rattle.std.specs.List.{filter}
 use Rattle.zl_rights.specs.Numbers.{KILLED}
 use Rattle.zl_code.specs.Jobs.{body_killed, is_under_by, is_within as is_within_value, object_killed, process_killed}
 use Rattle.zl_code.specs.Tests.{body_in, parent_in as parent_in_value}
 use Rattle.zl_code.specs.Sound.{IsSound as IsSoundWorld}
-use Rattle.zl_table.proofs.MapEdits.{below_parts, sorted_parts}
+use Rattle.zl_table.proofs.MapEdits.{sorted_parts}
 use Rattle.zl_objects.specs.declared.object.Body.{Body}
 use Rattle.zl_objects.specs.declared.object.Body.TheVariants as body
 use Rattle.zl_objects.specs.declared.object.Object.{Object}
 use Rattle.zl_objects.specs.Jobs.{all_killed, is_below_by, is_within, killed_body, killed_if, parent_at, parent_of}
 use Rattle.zl_objects.proofs.Law.{get_seen}
 use Rattle.zl_calls.specs.declared.process.Process.{Process}
+use Rattle.zl_calls.proofs.lists.Updates.{found_behind}
 use Rattle.zl_calls.specs.calls.Task.{ClosesAllEnded, ClosesEnded, ended_if, ended_within, lives_on, is_over, none_left, one_more}
 
 -- ---- who stands below
@@ -27,10 +28,7 @@ module _ (m : Map Object) (t : ℕ) where
     where
       by_body : (b : Body) → parent_in_value (Some (body_value b)) ≡ parent_of b
       by_body (body.Job job) = refl
-      by_body (body.Process job life) = refl
-      by_body body.Event = refl
-      by_body (body.ChannelEnd peer queue) = refl
-      by_body (body.Port port) = refl
+      by_body _ = refl
 
       by_object : (o : Option Object) → parent_in_value (body_in (option_map object_value o)) ≡ (elim o as (λ _. ℕ) [ None ↦ 0 | Some x ↦ parent_of x.body ])
       by_object None = refl
@@ -54,10 +52,7 @@ killed_seen true o = ap (λ x. record (object_value o) { body = x }) (by_body o.
   where
     by_body : (b : Body) → body_value (killed_body b) ≡ body_killed (body_value b)
     by_body (body.Job job) = refl
-    by_body (body.Process job life) = refl
-    by_body body.Event = refl
-    by_body (body.ChannelEnd peer queue) = refl
-    by_body (body.Port port) = refl
+    by_body _ = refl
 
 each_seen : (f g : ℕ → Bool) → ((k : ℕ) → f k ≡ g k) → (m : Map Object)
     → map object_entry (each (λ k. killed_if (f k)) m) ≡ each (λ k. object_killed (g k)) (map object_entry m)
@@ -81,13 +76,6 @@ abbrev pub AreIdle : List Process → Type 0
 AreIdle [] = ⊤
 AreIdle (p ∷ ps) = IsIdle p × AreIdle ps
 
-lower_missing : {X : Type 0} (k : ℕ) (m : Map X) → IsTrue (below_all nat_cmp k m) → get m k ≡ None
-unfolding get
-lower_missing k [] below = refl
-lower_missing k (e ∷ m) below =
-    let parts = below_parts k e m below in
-    rw (ne_eqb e.0 k (λ is. omega (arith, is, parts.0))) (lower_missing k m parts.1)
-
 module _ (ps : List Process) (r : Objects) (blocked : List ℕ) (sound : IsSoundWorld (world_blocked ps r blocked)) where
   -- what is true of the process at each koid is true of each
   idle_from : (qs : List Process) → IsTrue (is_sorted nat_cmp (map process_entry qs))
@@ -97,13 +85,7 @@ module _ (ps : List Process) (r : Objects) (blocked : List ℕ) (sound : IsSound
   idle_from (p ∷ qs) sorted all =
       let parts = sorted_parts (process_entry p) (map process_entry qs) sorted in (
         all p.pid (process_value p) (rw (eq-eqb p.pid p.pid refl) refl),
-        idle_from qs parts.1 (λ k q at.
-            all k q (elim (cases_Bool (p.pid == k)) as (λ _. (if p.pid == k then Some (process_value p) else get (map process_entry qs) k) ≡ Some q) [
-              | inl here ↦
-                  absurd (none-some q (sym (lower_missing k (map process_entry qs)
-                  (subst (λ (n : ℕ). IsTrue (below_all nat_cmp n (map process_entry qs))) (eqb-true p.pid k here) parts.0)) ∙ at))
-              | inr apart ↦ rw apart at
-            ])),
+        idle_from qs parts.1 (λ k q at. all k q (found_behind (process_entry p) (map process_entry qs) sorted k q at)),
       )
 
   -- a process that doesn't live has no handle, as the world is sound
@@ -111,11 +93,9 @@ module _ (ps : List Process) (r : Objects) (blocked : List ℕ) (sound : IsSound
   are_idle sorted = idle_from ps sorted (λ k q at dead. (sound.tables k q at).idle (not_running q.state dead))
     where
       not_running : (s : StateValue) → lives s ≡ false → runs s ≡ false
-      not_running Created dead = refl
       not_running Ready dead = absurd (false≢true (sym dead))
       not_running (Blocked awaited ds) dead = absurd (false≢true (sym dead))
-      not_running (Ended code) dead = refl
-      not_running Gone dead = refl
+      not_running _ dead = refl
 
   -- those are left that are still blocked: who isn't among the killed
   pub blocked_left : (t : ℕ) (qs : List Process) → AreBlocked ps blocked
@@ -144,10 +124,7 @@ module _ (ps : List Process) (r : Objects) (blocked : List ℕ) (sound : IsSound
           by_state : (q : ProcessValue) (s : StateValue) → q.state ≡ s → is_blocked s ≡ true
               → is_blocked (if lives s then record q { state = Ended KILLED; handles = []; last = None } else q).state ≡ false
           by_state q (Blocked awaited ds) at h = refl
-          by_state q Created at h = absurd (false≢true h)
-          by_state q Ready at h = absurd (false≢true h)
-          by_state q (Ended code) at h = absurd (false≢true h)
-          by_state q Gone at h = absurd (false≢true h)
+          by_state q _ at h = absurd (false≢true h)
 
           by_process : (o : Option ProcessValue) (b : Bool) → state_passes is_blocked o ≡ true
               → state_passes is_blocked (option_map (process_killed b) o) ≡ not b

@@ -2,10 +2,9 @@
 use Rattle.zl_calls.proofs.Common.{◌≡◌, ◌<◌, ◌++◌, ◌^◌, ℕ, ℤ, zero, suc, Bool, false, List, [], ◌∷◌, length, refl, sym, ap, ◌∙◌, subst, Option, Some, None}
 use Rattle.zl_calls.proofs.Common.{Result, Ok, Err, ⊤, true, false≢true, none-some, same_Some, is_ready, get_or, slice_get, slice_set, Library, Site, site}
 use Rattle.zl_calls.proofs.Common.{cpu_answered, Objects, no_value, one_value, status_of, told_by, values_of, state_value}
-use Rattle.std.proofs.lemmas.Option.{get_or_from_slice_get, slice_get_within}
+use Rattle.std.proofs.lemmas.Option.{slice_get_within}
 use Rattle.zl_rights.specs.declared.status.Status.{Status}
 use Rattle.zl_code.specs.CallTable.{process_create, process_start, task_kill}
-use Rattle.zl_code.specs.Local.{reg}
 use Rattle.zl_code.specs.declared.history.Outcome.{Outcome}
 use Rattle.zl_code.specs.declared.history.Outcome.TheVariants as outcome
 use Rattle.zl_interp.specs.Common.{register_set}

@@ -1,25 +1,22 @@
 -- The call process_start, from all processes and the objects to the relation of calls.
 use Rattle.zl_calls.proofs.Common.{◌≡◌, ◌<◌, ℕ, zero, suc, Bool, true, false, not, ◌==◌, List, [], ◌∷◌, map, refl, sym, ap, ◌∙◌, subst, Option, Some, None}
-use Rattle.zl_calls.proofs.Common.{Result, Ok, Err, inl, inr, IsTrue, arith, cases_Bool, eqb-true, eq-eqb, ne_eqb, option_map, then_some, option_or}
+use Rattle.zl_calls.proofs.Common.{Ok, inl, inr, IsTrue, arith, cases_Bool, eqb-true, eq-eqb, ne_eqb, option_map}
 use Rattle.zl_calls.proofs.Common.{if◌then◌else◌, first_some, answer_if, and_from, same_Some, none-some, nat_cmp, is_sorted, Map, get, has_key, update, without}
-use Rattle.zl_calls.proofs.Common.{slice_get, slice_set, is_process, state_passes, Library, Site, site, refusal, handle_operands, examined, operand, listed}
+use Rattle.zl_calls.proofs.Common.{slice_get, slice_set, is_process, state_passes, Library, Site, site, refusal, handle_operands, listed}
 use Rattle.zl_calls.proofs.Common.{may_choose, may_get, new_handles, insert_all, remove_all, taken_handles, effect, gives_ok, replied, taken, table_of}
 use Rattle.zl_calls.proofs.Common.{on_process, process_with, process_without, cpu_answered, Values, Calls, Ready, get-update, sorted_parts, Inserts, Objects}
-use Rattle.zl_calls.proofs.Common.{process_entry, process_value, object_entry, object_value, body_value, state_value, world_value, World}
+use Rattle.zl_calls.proofs.Common.{process_entry, process_value, object_entry, object_value, body_value, state_value, world_value, World, operands_fault}
 use Rattle.zl_code.proofs.Common.{Process as ProcessValue}
 use Rattle.zl_table.proofs.MapEdits.{below_parts}
 use Rattle.zl_rights.proofs.Common.{below_all}
-use Rattle.zl_rights.specs.LookUp.{granted, looked_up}
+use Rattle.zl_rights.specs.LookUp.{looked_up}
 use Rattle.zl_rights.specs.Numbers.{TRANSFER, WRITE}
 use Rattle.zl_rights.specs.declared.entry.Entry.{Entry}
 use Rattle.zl_rights.specs.declared.kind.Kind.TheVariants as kind
-use Rattle.zl_rights.specs.declared.status.Status.{Status}
 use Rattle.zl_rights.specs.declared.status.Status.TheVariants as status
 use Rattle.zl_code.specs.CallTable.{process_start}
 use Rattle.zl_code.specs.Jobs.{misfits}
-use Rattle.zl_code.specs.Starting.{cpu_given, is_created, program_in, program_of, started_with}
-use Rattle.zl_code.specs.Tests.{koid_in}
-use Rattle.zl_code.specs.declared.history.Outcome.{Outcome}
+use Rattle.zl_code.specs.Starting.{cpu_given, is_created, program_in, started_with}
 use Rattle.zl_code.specs.declared.history.Outcome.TheVariants as outcome
 use Rattle.zl_objects.specs.Objects.{started, started_body, starting}
 use Rattle.zl_objects.specs.declared.object.Body.{Body}
@@ -28,12 +25,10 @@ use Rattle.zl_objects.specs.declared.object.Object.{Object}
 use Rattle.zl_calls.specs.declared.process.Process.{Process}
 use Rattle.zl_calls.specs.declared.process.State.TheVariants as state
 use Rattle.zl_calls.specs.calls.Answer.{without_handle}
-use Rattle.zl_calls.specs.calls.Task.{child_refusal, process_at, start_refusal, start_refusal_of}
-use Rattle.zl_calls.proofs.calls.AmongWaits.{behind_both, both_looked_up}
+use Rattle.zl_calls.specs.calls.Task.{child_refusal, process_at, start_refusal}
 use Rattle.zl_calls.proofs.calls.Answered.{IsWrite, may_get_inserted}
-use Rattle.zl_calls.proofs.calls.Refused.{answers}
+use Rattle.zl_calls.proofs.calls.Refused.{answers, is_found, both_looked_up, two_tests}
 use Rattle.zl_calls.proofs.lists.Updates.{update_twice, update_unseen}
-use Rattle.zl_calls.proofs.calls.WriteCalls.{is_found}
 
 -- ---- processes by their koids
 
@@ -108,51 +103,20 @@ module _ (lib : Library) (ps : List Process) (r : Objects) (p : Process) (there 
   pub table_there : table_of w p.pid ≡ p.table.entries
   table_there = rw there refl
 
-  -- the listed answers, where the values are such handles
-  abbrev rest : Option Entry → Option Entry → List (Option Outcome)
-  rest one two =
-      answer_if (not (is_process w is_created (koid_in one))) status.BadState
-      ∷ answer_if (misfits (program_of lib w (koid_in one)) two) status.InvalidArgs
-      ∷ []
-
   by_child : (o : Option Process) (e : Entry)
       → first_some (answer_if (not (state_passes is_created (option_map process_value o))) status.BadState
       ∷ answer_if (misfits (program_in lib (option_map process_value o)) (Some e)) status.InvalidArgs ∷ [])
       ≡ answers (child_refusal lib o e)
   by_child None e = refl
-  by_child (Some q) e = by_tests (is_created (state_value q.state)) (misfits (slice_get lib q.program) (Some e))
-    where
-      by_tests : (created fails : Bool) → first_some (answer_if (not created) status.BadState ∷ answer_if fails status.InvalidArgs ∷ [])
-          ≡ answers (option_or (then_some (not created) status.BadState) (then_some fails status.InvalidArgs))
-      by_tests false fails = refl
-      by_tests true true = refl
-      by_tests true false = refl
-
-  alone : (o : Option Outcome) → first_some (o ∷ []) ≡ o
-  alone None = refl
-  alone (Some x) = refl
-
-  by_both : (one two : Option Entry) (x y : Result Entry Status) → granted one (kind.Process ∷ []) WRITE ≡ x → granted two [] TRANSFER ≡ y
-      → behind_both w p.pid x y (first_some (rest one two)) ≡ answers (start_refusal_of lib ps x y)
-  unfolding is_process
-  by_both one two (Ok e) (Ok f) is is_too =
-      rw (is_found one (kind.Process ∷ []) WRITE e is, is_found two [] TRANSFER f is_too)
-      (alone (first_some (rest (Some e) (Some f)))
-      ∙ (ap (λ (o : Option ProcessValue).
-      first_some (answer_if (not (state_passes is_created o)) status.BadState ∷ answer_if (misfits (program_in lib o) (Some f)) status.InvalidArgs ∷ []))
-      (process_there ps e.koid)
-      ∙ by_child (process_at ps e.koid) f))
-  by_both one two (Ok e) (Err s) is is_too = refl
-  by_both one two (Err s) y is is_too = refl
+  by_child (Some q) e =
+      two_tests (not (is_created (state_value q.state))) (misfits (slice_get lib q.program) (Some e)) status.BadState status.InvalidArgs
 
   pub start_refused : refusal lib w p.pid (process_start process h word) ≡ answers (start_refusal lib ps p.table.entries process h)
-  unfolding refusal handle_operands examined operand listed
+  unfolding handle_operands operands_fault listed is_process
   start_refused =
-      rw table_there
-      (both_looked_up w p.pid (get p.table.entries process) (get p.table.entries h) (kind.Process ∷ []) [] WRITE TRANSFER
-      (rest (get p.table.entries process) (get p.table.entries h))
-      ∙ by_both (get p.table.entries process) (get p.table.entries h) (looked_up p.table.entries process (kind.Process ∷ []) WRITE)
-      (looked_up p.table.entries h [] TRANSFER) refl refl)
+      both_looked_up lib w p.pid p.table.entries table_there (process_start process h word) (start_refusal lib ps p.table.entries process h)
+      process h (kind.Process ∷ []) [] WRITE TRANSFER refl (λ s is. rw is refl) (λ e s is fails. rw (is, fails) refl)
+      (λ e f is are at also. rw (is, are, table_there, at, also, process_there ps e.koid) (by_child (process_at ps e.koid) f))
 
   -- ---- what it does
 
@@ -210,10 +174,7 @@ module _ (lib : Library) (ps : List Process) (r : Objects) (p : Process) (there 
       where
         by_body : (b : Body) → body_value (started_body b) ≡ body_value b
         by_body (body.Job own) = refl
-        by_body (body.Process job alive) = refl
-        by_body body.Event = refl
-        by_body (body.Port port) = refl
-        by_body (body.ChannelEnd peer queue) = refl
+        by_body _ = refl
 
     pub objects_seen : (k : ℕ) → map object_entry (starting r k).objects ≡ map object_entry r.objects
     objects_seen k = update_unseen object_value r.objects k started same_kind

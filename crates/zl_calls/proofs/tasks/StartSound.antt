@@ -1,9 +1,9 @@
 -- A process was started with a handle of another: the invariant of all processes and of the objects holds afterwards.
-use Rattle.zl_calls.proofs.Common.{◌≡◌, ◌+◌, ◌||◌, ◌==◌, ℕ, Bool, true, false, List, [], ◌∷◌, map, refl, sym, ap, ◌∙◌, subst, cond, Option, Some, None, inl}
-use Rattle.zl_calls.proofs.Common.{inr, IsTrue, arith, if◌then◌else◌, list_any, option_map, eq-eqb, eqb-true, cases_Bool, false≢true, same_Some, count_by}
-use Rattle.zl_calls.proofs.Common.{sum_by, Map, get, update, has_key, kind_of, get-update, has_key-update, is_sorted-update, Created, Ready, lives, runs}
-use Rattle.zl_calls.proofs.Common.{is_process, Inserts, IsTable, handles_to, queued_to, Objects, is_kept, is_child, stays_alone, has_living_child, is_job_at}
-use Rattle.zl_calls.proofs.Common.{is_job_body, is_job_in, process_entry, process_value, object_value, body_value, state_value, world_value, is_in_job, Agrees}
+use Rattle.zl_calls.proofs.Common.{◌≡◌, ◌+◌, ◌||◌, ◌==◌, ℕ, Bool, true, false, List, [], ◌∷◌, map, refl, sym, ap, ◌∙◌, subst, cond, Some, inl}
+use Rattle.zl_calls.proofs.Common.{inr, IsTrue, arith, list_any, eq-eqb, cases_Bool, false≢true, same_Some, count_by}
+use Rattle.zl_calls.proofs.Common.{sum_by, Map, get, update, has_key, kind_of, has_key-update, is_sorted-update, Created, Ready, lives, runs}
+use Rattle.zl_calls.proofs.Common.{is_process, Inserts, IsTable, handles_to, queued_to, Objects, is_kept, is_child, stays_alone, has_living_child}
+use Rattle.zl_calls.proofs.Common.{process_entry, process_value, object_value, body_value, state_value, world_value, is_in_job, Agrees}
 use Rattle.zl_calls.proofs.Common.{AreNamed, AreBlocked, IsConsistent, IsNamed}
 use Rattle.std.proofs.lemmas.Bool.{or_cases}
 use Rattle.zl_code.proofs.Common.{Process as ProcessValue, State as StateValue, is_blocked, or_left, or_right}
@@ -27,7 +27,7 @@ use Rattle.zl_calls.specs.declared.process.State.TheVariants as state
 use Rattle.zl_calls.proofs.calls.Answered.{IsWrite}
 use Rattle.zl_calls.proofs.waking.BlockedLists.{still_blocked}
 use Rattle.zl_calls.proofs.objects.Counting.{count_put, count_without, counts_fewer, counts_written, queues}
-use Rattle.zl_calls.proofs.objects.SameBodies.{found_updated, kept_each, still_agrees, still_named}
+use Rattle.zl_calls.proofs.objects.SameBodies.{each_updated, kept_each, still_agrees, still_named, jobs_kept, named_kept}
 use Rattle.zl_calls.proofs.tables.Tables.{found_inserted, inserted_table}
 use Rattle.zl_calls.proofs.calls.TakenCalls.{left_there, tables_left}
 use Rattle.zl_calls.proofs.lists.Updates.{update_unseen}
@@ -37,24 +37,14 @@ use Rattle.zl_calls.proofs.processes.Written.{after_is, found_after, get_after, 
 
 started_seen : (b : Body) → body_value (started_body b) ≡ body_value b
 started_seen (body.Job own) = refl
-started_seen (body.Process job alive) = refl
-started_seen body.Event = refl
-started_seen (body.Port port) = refl
-started_seen (body.ChannelEnd peer queue) = refl
+started_seen _ = refl
 
 started_queue : (b : Body) → queue_of (started_body b) ≡ queue_of b
 started_queue (body.Job own) = refl
-started_queue (body.Process job alive) = refl
-started_queue body.Event = refl
-started_queue (body.Port port) = refl
-started_queue (body.ChannelEnd peer queue) = refl
+started_queue _ = refl
 
-started_job : (b : Body) → is_job_body (started_body b) ≡ is_job_body b
-started_job (body.Job own) = refl
-started_job (body.Process job alive) = refl
-started_job body.Event = refl
-started_job (body.Port port) = refl
-started_job (body.ChannelEnd peer queue) = refl
+started_kind : (o : Object) → kind_of (body_value (started o).body) ≡ kind_of (body_value o.body)
+started_kind o = ap kind_of (started_seen o.body)
 
 -- it stands in the same job
 started_keeper : (b : Body) → keeper_of (started_body b) ≡ keeper_of b
@@ -62,9 +52,7 @@ started_keeper (body.Job own) = refl
 started_keeper (body.Process job life.Created) = refl
 started_keeper (body.Process job life.Running) = refl
 started_keeper (body.Process job life.Ended) = refl
-started_keeper body.Event = refl
-started_keeper (body.Port port) = refl
-started_keeper (body.ChannelEnd peer queue) = refl
+started_keeper _ = refl
 
 -- ---- among the objects
 
@@ -73,35 +61,10 @@ module _ (m : Map Object) (k : ℕ) where
   begun = update m k started
 
   named_begun : (e : Entry) → IsNamed m e → IsNamed begun e
-  named_begun e named = elim (cases_Bool (k == e.koid)) as (λ _. IsNamed begun e) [
-    | inl here ↦ record {
-      object = started named.object;
-      there = rw (get-update m k started e.koid, here, named.there) refl;
-      kind = named.kind ∙ ap kind_of (sym (started_seen named.object.body));
-      rights = named.rights;
-    }
-    | inr apart ↦ record {
-      object = named.object;
-      there = rw (get-update m k started e.koid, apart) named.there;
-      kind = named.kind;
-      rights = named.rights;
-    }
-  ]
-
-  job_begun : (j : ℕ) → is_job_at begun j ≡ is_job_at m j
-  job_begun j =
-      ap is_job_in (get-update m k started j)
-      ∙ elim (cases_Bool (k == j)) as (λ _. is_job_in (if k == j then option_map started (get m j) else get m j) ≡ is_job_in (get m j)) [
-        | inl here ↦ rw here (by_object (get m j))
-        | inr apart ↦ rw apart refl
-      ]
-    where
-      by_object : (o : Option Object) → is_job_in (option_map started o) ≡ is_job_in o
-      by_object None = refl
-      by_object (Some o) = started_job o.body
+  named_begun = named_kept started started_kind m k
 
   in_job_begun : (b : Body) → IsTrue (is_in_job m b) → IsTrue (is_in_job begun b)
-  in_job_begun b h = same_in_job m begun job_begun b ∙ h
+  in_job_begun b h = same_in_job m begun (jobs_kept started started_kind m k) b ∙ h
 
   in_job_started : (b : Body) → IsTrue (is_in_job m b) → IsTrue (is_in_job begun (started_body b))
   in_job_started b h = ap (is_above begun) (started_keeper b) ∙ in_job_begun b h
@@ -117,20 +80,14 @@ child_begun (e ∷ m) k job =
 
 alone_begun : (m : Map Object) (k j : ℕ) (b : Body) → stays_alone (update m k started) j b ≡ stays_alone m j b
 alone_begun m k j (body.Job own) = child_begun m k j
-alone_begun m k j (body.Process job alive) = refl
-alone_begun m k j body.Event = refl
-alone_begun m k j (body.Port port) = refl
-alone_begun m k j (body.ChannelEnd peer queue) = refl
+alone_begun m k j _ = refl
 
 -- what stays alone does so once it was started
 alone_started : (m : Map Object) (k j : ℕ) (b : Body) → IsTrue (stays_alone m j b) → IsTrue (stays_alone (update m k started) j (started_body b))
 alone_started m k j (body.Job own) h = child_begun m k j ∙ h
 alone_started m k j (body.Process job life.Created) h = refl
 alone_started m k j (body.Process job life.Running) h = refl
-alone_started m k j (body.Process job life.Ended) h = h
-alone_started m k j body.Event h = h
-alone_started m k j (body.Port port) h = h
-alone_started m k j (body.ChannelEnd peer queue) h = h
+alone_started m k j _ h = h
 
 -- ---- states
 
@@ -245,10 +202,7 @@ module _ (ps mid after : List Process) (child begins p p2 : Process) (one : IsWr
   agrees_now (body.Process job life.Created) same agrees = record { running = sym (now runs); living = sym (now lives); over = sym (now has_ended) }
   agrees_now (body.Process job life.Running) same agrees = absurd (false≢true (sym (agrees.running ∙ before runs)))
   agrees_now (body.Process job life.Ended) same agrees = absurd (false≢true (agrees.living ∙ before lives))
-  agrees_now (body.Job own) same agrees = absurd (false≢true (ap is_task same))
-  agrees_now body.Event same agrees = absurd (false≢true (ap is_task same))
-  agrees_now (body.Port port) same agrees = absurd (false≢true (ap is_task same))
-  agrees_now (body.ChannelEnd peer queue) same agrees = absurd (false≢true (ap is_task same))
+  agrees_now _ same agrees = absurd (false≢true (ap is_task same))
 
   -- the object of the child is that of a process
   is_its : (o : Object) → get r.objects k ≡ Some o → kind_of (body_value o.body) ≡ kind.Process
@@ -277,29 +231,22 @@ module _ (ps mid after : List Process) (child begins p p2 : Process) (one : IsWr
     no_zero = λ j has. consistent.no_zero j (sym (has_key-update r.objects k started j) ∙ has);
     tables = tables_now;
     named = named_now;
-    queued = λ j q at. found_updated started r.objects k (AreNamed r2.objects (queue_of q.body)) j q at
-        (λ o old here is. subst (λ (x : Object). AreNamed r2.objects (queue_of x.body)) is
-        (rw (started_queue o.body) (still_named r.objects r2.objects still (queue_of o.body) (consistent.queued j o old))))
-        (λ apart old. still_named r.objects r2.objects still (queue_of q.body) (consistent.queued j q old));
-    counted = λ j q at. found_updated started r.objects k (q.handles ≡ handles_to (world_value after r2) j) j q at
-        (λ o old here is. ap (λ (x : Object). x.handles) (sym is) ∙ (consistent.counted j o old ∙ sym (counts j)))
-        (λ apart old. consistent.counted j q old ∙ sym (counts j));
+    queued = each_updated (λ j q. AreNamed r2.objects (queue_of q.body)) started r.objects k
+        (λ o old. rw (started_queue o.body) (still_named r.objects r2.objects still (queue_of o.body) (consistent.queued k o old)))
+        (λ j q apart old. still_named r.objects r2.objects still (queue_of q.body) (consistent.queued j q old));
+    counted = each_updated (λ j q. q.handles ≡ handles_to (world_value after r2) j) started r.objects k
+        (λ o old. consistent.counted k o old ∙ sym (counts k)) (λ j q apart old. consistent.counted j q old ∙ sym (counts j));
     agrees = λ j q at. still_agrees (world_value mid r2) (world_value after r2) j q.body (same_after j)
-        (found_updated started r.objects k (Agrees (world_value mid r2) j q.body) j q at
-        (λ o old here is.
-        let same : k ≡ j = eqb-true k j here in
-        let at_k : get r.objects k ≡ Some o = ap (get r.objects) same ∙ old in
-        subst (λ (i : ℕ). Agrees (world_value mid r2) i q.body) same
-        (subst (λ (x : Object). Agrees (world_value mid r2) k x.body) is (agrees_now o.body (is_its o at_k) (consistent.agrees k o at_k))))
-        (λ apart old. still_agrees (world_value ps r) (world_value mid r2) j q.body (others j apart) (consistent.agrees j q old)));
-    in_jobs = λ j q at. found_updated started r.objects k (IsTrue (is_in_job r2.objects q.body)) j q at
-        (λ o old here is. subst (λ (x : Object). IsTrue (is_in_job r2.objects x.body)) is (in_job_started r.objects k o.body (consistent.in_jobs j o old)))
-        (λ apart old. in_job_begun r.objects k q.body (consistent.in_jobs j q old));
-    kept =
-        kept_each r2.objects (rw (is_sorted-update r.objects k started) consistent.kept.in_order)
-        (λ j q at. found_updated started r.objects k (IsTrue (is_kept r2.objects j q)) j q at
-        (λ o old here is. subst (λ (x : Object). IsTrue (is_kept r2.objects j x)) is (kept_started j o (kept_all r.objects consistent.kept j o old)))
-        (λ apart old. rw (alone_begun r.objects k j q.body) (kept_all r.objects consistent.kept j q old)));
+        (each_updated (λ i x. Agrees (world_value mid r2) i x.body) started r.objects k
+        (λ o old. agrees_now o.body (is_its o old) (consistent.agrees k o old))
+        (λ i x apart old. still_agrees (world_value ps r) (world_value mid r2) i x.body (others i apart) (consistent.agrees i x old)) j q at);
+    in_jobs = each_updated (λ j q. IsTrue (is_in_job r2.objects q.body)) started r.objects k
+        (λ o old. in_job_started r.objects k o.body (consistent.in_jobs k o old))
+        (λ j q apart old. in_job_begun r.objects k q.body (consistent.in_jobs j q old));
+    kept = kept_each r2.objects (rw (is_sorted-update r.objects k started) consistent.kept.in_order)
+        (each_updated (λ j q. IsTrue (is_kept r2.objects j q)) started r.objects k
+        (λ o old. kept_started k o (kept_all r.objects consistent.kept k o old))
+        (λ j q apart old. rw (alone_begun r.objects k j q.body) (kept_all r.objects consistent.kept j q old)));
   }
     where
       kept_started : (j : ℕ) (o : Object) → IsTrue (is_kept r.objects j o) → IsTrue (is_kept r2.objects j (started o))

@@ -24,29 +24,23 @@ use Rattle.zl_calls.specs.calls.Task.{ClosesHandle, Parts, ProcessStartDoes, Sta
 use Rattle.zl_calls.specs.declared.process.Process.{Process}
 use Rattle.zl_calls.specs.declared.process.State.TheVariants as state
 use Rattle.zl_calls.proofs.calls.Answered.{IsWrite}
-use Rattle.zl_calls.proofs.waking.BlockedLists.{same_list}
-use Rattle.zl_calls.proofs.processes.Departed.{left_all, left_blocked, left_keeps, settled_world}
+use Rattle.zl_calls.proofs.processes.Departed.{settled_world}
 use Rattle.zl_calls.proofs.calls.DoneCalls.{IsDone}
 use Rattle.zl_calls.proofs.processes.Idle.{are_bare}
-use Rattle.zl_calls.proofs.calls.JobCalls.{is_of_kind}
 use Rattle.zl_calls.proofs.stepping.FromConsistent.{IsFree, call_settles}
-use Rattle.zl_calls.proofs.waits.LeftWaits.{left_beside}
-use Rattle.zl_calls.proofs.stepping.Performing.{HasLeft, acted_so, key, ready, there, unblocked, write_of}
+use Rattle.zl_calls.proofs.stepping.Performing.{HasLeft, acted_so, key, left_with, ready, unblocked, write_of}
 use Rattle.zl_calls.proofs.objects.Settled.{still_settles}
 use Rattle.zl_calls.proofs.tasks.StartCalls.{start_refused}
 use Rattle.zl_calls.proofs.tasks.StartParts.{get_set, set_twice}
 use Rattle.zl_calls.proofs.tasks.StartSound.{created_state, start_blocked, start_keeps}
 use Rattle.zl_calls.proofs.tasks.StartSteps.{all_is, caller_write, child_write, is_given, is_named, start_relates}
 use Rattle.zl_calls.proofs.calls.TakenCalls.{taking_done}
-use Rattle.zl_calls.proofs.calls.WriteCalls.{is_found}
+use Rattle.zl_calls.proofs.calls.Refused.{is_found, is_of_kind}
 
 -- a handle that is taken for a process is one
 task_taken : (k : Kind) → takes (kind.Process ∷ []) k ≡ true → k ≡ kind.Process
 task_taken kind.Process h = refl
-task_taken kind.Job h = absurd (false≢true h)
-task_taken kind.Event h = absurd (false≢true h)
-task_taken kind.Port h = absurd (false≢true h)
-task_taken kind.Channel h = absurd (false≢true h)
+task_taken _ h = absurd (false≢true h)
 
 -- the process p stands at the place, under the pid, and is at the call
 module _ (lib : Library) (ps : List Process) (r : Objects) (whole : IsConsistent ps r) (blocked : List ℕ) (are : AreBlocked ps blocked)
@@ -189,20 +183,10 @@ module _ (lib : Library) (ps : List Process) (r : Objects) (whole : IsConsistent
         (still_settles after begun keeps) free
 
     begun_so : HasLeft lib ps after r begun blocked blocked pid (item.Call pid name (outcome.Answered status.Ok))
-    begun_so = record {
-      consistent = left_keeps after begun keeps;
-      list = rw (same_list pid (item.Call pid name (outcome.Answered status.Ok)) blocked refl) (left_blocked after begun blocked list);
-      acts = record {
-        pid_is = refl;
-        acted = rw (same_list pid (item.Call pid name (outcome.Answered status.Ok)) blocked refl)
-            (left_beside lib ps (left_all after begun) r begun pid (item.Call pid name (outcome.Answered status.Ok)) blocked sound (process_value p)
-            (there lib ps r whole blocked are sound pid place p found read)
-            (rw (there lib ps r whole blocked are sound pid place p found read)
-            (unblocked lib ps r whole blocked are sound pid place p found read is_ready_there)) are refl refl (ap next_looks next)
-            (rw (← key lib ps r whole blocked are sound pid place p found read) step)
-            (rw next (record { waits = λ test h. refl; made = refl })));
-      };
-    }
+    begun_so =
+        left_with lib ps r whole blocked are sound pid place p found read is_ready_there after begun (item.Call pid name (outcome.Answered status.Ok)) refl refl
+        (ap next_looks next) keeps list (rw (← key lib ps r whole blocked are sound pid place p found read) step)
+        (rw next (record { waits = λ test h. refl; made = refl }))
 
   -- ---- either
 

@@ -1,9 +1,9 @@
 -- Registered waits fire one after another, in the order of the list.
 use Rattle.zl_calls.proofs.Common.{◌≡◌, ◌<◌, ◌≤◌, ◌+◌, ℕ, zero, suc, Bool, true, false, ◌&&◌, ◌==◌, ◌++◌, List, [], ◌∷◌, length, take, map, slice_get, refl}
 use Rattle.zl_calls.proofs.Common.{sym, ap, ◌∙◌, subst, cond, inl, inr, Option, Some, None, arith, cases_Bool, eqb-true, eq-eqb, none-some, same_Some}
-use Rattle.zl_calls.proofs.Common.{option_map, list_any, nat_cmp, below_all, is_sorted, length-append, and_from, position_or_len, sum_by-cons, queued_to}
-use Rattle.zl_calls.proofs.Common.{is_process, Map, update, get, handles_to, fired, kind_of, Objects, Agrees, AreNamed, IsConsistent, is_child, stays_alone}
-use Rattle.zl_calls.proofs.Common.{is_job_body, is_in_job, body_value, object_entry, object_value, world_blocked, world_value, World}
+use Rattle.zl_calls.proofs.Common.{option_map, list_any, length-append, and_from, position_or_len}
+use Rattle.zl_calls.proofs.Common.{is_process, Map, update, get, fired, Objects, IsConsistent}
+use Rattle.zl_calls.proofs.Common.{object_entry, object_value, world_blocked, world_value, World}
 use Rattle.std.specs.List.{find}
 use Rattle.std.specs.Prelude.{◌-◌, drop}
 use Rattle.std.proofs.lemmas.Bool.{or_parts}
@@ -16,13 +16,11 @@ use Rattle.zl_rights.proofs.MapTests.{list_any-and}
 use Rattle.zl_signals.specs.declared.watch.Watch.{Watch}
 use Rattle.zl_signals.specs.Waits.{holds as holds_there, wait_at, without_first}
 use Rattle.zl_port.specs.Packets.{Port, with_packet, without_place}
-use Rattle.zl_code.proofs.Common.{Object as ObjectValue}
-use Rattle.zl_code.specs.Waiting.{body_packed, repacked}
+use Rattle.zl_code.specs.Waiting.{repacked}
 use Rattle.zl_objects.specs.declared.object.Body.{Body}
 use Rattle.zl_objects.specs.declared.object.Body.TheVariants as body
 use Rattle.zl_objects.specs.declared.object.Object.{Object}
 use Rattle.zl_objects.specs.Listed.{holds_at, unlisting}
-use Rattle.zl_objects.specs.Objects.{queue_of}
 use Rattle.zl_objects.specs.Ports.{at_port, changed_port, changing_port}
 use Rattle.zl_objects.specs.Signals.{signals_at}
 use Rattle.zl_objects.specs.Waits.{at_port_of, firing, unwatched, unwatching, waits_in, packet_of as packet_given}
@@ -30,12 +28,9 @@ use Rattle.zl_calls.specs.declared.process.Process.{Process}
 use Rattle.zl_calls.specs.Registered.{AreBeside, FiresWaits}
 use Rattle.zl_calls.proofs.objects.Active.{signals_active}
 use Rattle.zl_calls.proofs.objects.SameButWaits.{beside_consistent, beside_seen, unwatching_beside}
-use Rattle.zl_calls.proofs.objects.Counting.{queues}
 use Rattle.zl_calls.proofs.waits.Firing.{active_alike, after_one, fired_none, fired_one, one_holds}
-use Rattle.zl_calls.proofs.objects.Rebodied.{KeepsKind, named_rebodied, rebodied_next}
-use Rattle.zl_calls.proofs.objects.SameBodies.{still_named}
-use Rattle.zl_calls.proofs.lists.Updates.{update_seen, update_twice}
-use Rattle.zl_calls.proofs.processes.Written.{IsNext}
+use Rattle.zl_calls.proofs.objects.Packed.{packed_consistent, packed_seen}
+use Rattle.zl_calls.proofs.lists.Updates.{sorted_seen, update_seen, update_twice}
 
 -- those before the place in the list don't hold; all fire to the same world as from the objects that were first
 pub record IsFiring (ps : List Process) (first : Objects) (place : ℕ) (r : Objects) : Type 0 where
@@ -127,113 +122,6 @@ at_object w k = λ i. λ (x : Wait). by_key x.object x.mask i
 none_at : (w : World) (k : ℕ) (xs : List Wait) → list_any (holds w) xs ≡ false → list_any (holds_at k (active w k)) xs ≡ false
 none_at w k xs none = ap (λ (test : Wait → Bool). list_any test xs) (at_object w k) ∙ list_any-and (holds w) (λ x. x.object == k) xs none
 
--- ---- a packet more at a port
-
-agrees_beside : (ps : List Process) (r r2 : Objects) (k : ℕ) (b : Body) → Agrees (world_value ps r) k b → Agrees (world_value ps r2) k b
-unfolding is_process
-agrees_beside ps r r2 k (body.Job own) agrees = agrees
-agrees_beside ps r r2 k (body.Process job lives) agrees = record { running = agrees.running; living = agrees.living; over = agrees.over }
-agrees_beside ps r r2 k body.Event agrees = agrees
-agrees_beside ps r r2 k (body.ChannelEnd peer queue) agrees = agrees
-agrees_beside ps r r2 k (body.Port port) agrees = agrees
-
-module _ (f : Port → Port) where
-  port_keeps : KeepsKind (changed_port f)
-  port_keeps = record { kind = kind_kept; living = living_kept; job = job_kept; in_job = in_job_kept; alone = alone_kept; agrees = agrees_kept }
-    where
-      kind_kept : (b : Body) → kind_of (body_value (changed_port f b)) ≡ kind_of (body_value b)
-      kind_kept (body.Port port) = refl
-      kind_kept _ = refl
-
-      living_kept : (j : ℕ) (b : Body) → is_child j (changed_port f b) ≡ is_child j b
-      living_kept j (body.Port port) = refl
-      living_kept j _ = refl
-
-      job_kept : (b : Body) → is_job_body (changed_port f b) ≡ is_job_body b
-      job_kept (body.Port port) = refl
-      job_kept _ = refl
-
-      in_job_kept : (m : Map Object) (b : Body) → is_in_job m (changed_port f b) ≡ is_in_job m b
-      in_job_kept m (body.Port port) = refl
-      in_job_kept m _ = refl
-
-      alone_kept : (m : Map Object) (k : ℕ) (b : Body) → stays_alone m k (changed_port f b) ≡ stays_alone m k b
-      alone_kept m k (body.Port port) = refl
-      alone_kept m k _ = refl
-
-      agrees_kept : (w : World) (k : ℕ) (b : Body) → Agrees w k b → Agrees w k (changed_port f b)
-      agrees_kept w k (body.Port port) agrees = agrees
-      agrees_kept w k _ agrees = agrees
-
-  same_queue : (b : Body) → queue_of (changed_port f b) ≡ queue_of b
-  same_queue (body.Port port) = refl
-  same_queue _ = refl
-
-  queues_kept : (os : Map Object) (k j : ℕ) → queues (update os k (at_port f)) j ≡ queues os j
-  unfolding update
-  queues_kept [] k j = refl
-  queues_kept (e ∷ os) k j = elim (cases_Bool (e.0 == k)) as (λ _. queues (update (e ∷ os) k (at_port f)) j ≡ queues (e ∷ os) j) [
-    | inl here ↦ rw here (omega (
-      arith,
-      sum_by-cons n (object_entry (k, at_port f e.1)) (map object_entry os),
-      sum_by-cons n (object_entry e) (map object_entry os),
-      by_body e.1.body,
-    ))
-    | inr apart ↦ rw apart (omega (
-      arith,
-      sum_by-cons n (object_entry e) (map object_entry (update os k (at_port f))),
-      sum_by-cons n (object_entry e) (map object_entry os),
-      queues_kept os k j,
-    ))
-  ]
-    where
-      n : ℕ × ObjectValue → ℕ
-      n o = queued_to j o.1.body
-
-      by_body : (b : Body) → queued_to j (body_value (changed_port f b)) ≡ queued_to j (body_value b)
-      by_body (body.Port port) = refl
-      by_body _ = refl
-
-  -- a port changes, and no process
-  module _ (ps : List Process) (r : Objects) (consistent : IsConsistent ps r) (k : ℕ) where
-    counts_kept : (j : ℕ) → handles_to (world_value ps (changing_port r k f)) j ≡ handles_to (world_value ps r) j
-    unfolding handles_to
-    counts_kept j = omega (arith, queues_kept r.objects k j)
-
-    port_next : IsNext ps ps r (changing_port r k f)
-    port_next = rebodied_next (changed_port f) port_keeps ps ps r consistent k
-        (λ o at. subst (AreNamed (changing_port r k f).objects) (sym (same_queue o.body))
-        (still_named r.objects (changing_port r k f).objects (named_rebodied (changed_port f) port_keeps r.objects k) (queue_of o.body)
-        (consistent.queued k o at)))
-        counts_kept
-
-    port_consistent : IsConsistent ps (changing_port r k f)
-    port_consistent = record {
-      processes_in_order = consistent.processes_in_order;
-      given_processes = consistent.given_processes;
-      given_objects = port_next.given_objects;
-      koids = port_next.koids;
-      above_zero = consistent.above_zero;
-      no_zero = port_next.no_zero;
-      tables = consistent.tables;
-      named = λ j p v e at there. port_next.named e (consistent.named j p v e at there);
-      queued = port_next.queued;
-      counted = port_next.counted;
-      agrees = λ j o at. agrees_beside ps r (changing_port r k f) j o.body (port_next.agrees j o at);
-      in_jobs = port_next.in_jobs;
-      kept = port_next.kept;
-    }
-
--- ---- the order of keys
-
-below_seen : (k : ℕ) (m : Map Object) → below_all nat_cmp k (map object_entry m) ≡ below_all nat_cmp k m
-below_seen k [] = refl
-below_seen k (e ∷ m) = rw (below_seen k m) refl
-
-sorted_seen : (m : Map Object) → is_sorted nat_cmp (map object_entry m) ≡ is_sorted nat_cmp m
-sorted_seen [] = refl
-sorted_seen (e ∷ m) = rw (below_seen e.0 m, sorted_seen m) refl
-
 -- ---- the loop
 
 module _ (ps : List Process) (first : Objects) (place : ℕ) (r : Objects) (so_far : IsFiring ps first place r) where
@@ -274,10 +162,7 @@ module _ (ps : List Process) (first : Objects) (place : ℕ) (r : Objects) (so_f
         where
           by_body : (b : Body) → changed_port with_it (changed_port without_place b) ≡ changed_port (λ p. with_it (without_place p)) b
           by_body (body.Port port) = refl
-          by_body (body.Job own) = refl
-          by_body (body.Process job lives) = refl
-          by_body body.Event = refl
-          by_body (body.ChannelEnd peer queue) = refl
+          by_body _ = refl
 
       abbrev unwatched_it : Map Object
       unwatched_it = update r.objects k (unwatched (holds_there a))
@@ -295,7 +180,7 @@ module _ (ps : List Process) (first : Objects) (place : ℕ) (r : Objects) (so_f
 
       fired_consistent : IsConsistent ps fired_here
       fired_consistent = subst (IsConsistent ps) (sym fired_is)
-          (port_consistent with_it ps without_it (beside_consistent ps r without_it beside_it so_far.consistent) y.port)
+          (packed_consistent with_it ps without_it y.port (beside_consistent ps r without_it beside_it so_far.consistent))
 
       -- ---- the world after it
 
@@ -312,20 +197,11 @@ module _ (ps : List Process) (first : Objects) (place : ℕ) (r : Objects) (so_f
           source = Some (record { pid = y.pid; value = y.value; object = k });
         }
 
-        port_seen : (o : Object) → object_value (at_port with_it o) ≡ repacked (λ (qs : List Packet). qs ++ packet_given k a y ∷ []) (object_value o)
-        port_seen o = ap (λ b. record { body = b; raised = o.signals.raised }) (by_body o.body)
-          where
-            by_body : (b : Body) → body_value (changed_port with_it b) ≡ body_packed (λ (qs : List Packet). qs ++ packet_given k a y ∷ []) (body_value b)
-            by_body (body.Port port) = refl
-            by_body (body.Job own) = refl
-            by_body (body.Process job lives) = refl
-            by_body body.Event = refl
-            by_body (body.ChannelEnd peer queue) = refl
-
         seen : map object_entry fired_here.objects
             ≡ update (map object_entry r.objects) y.port (repacked (λ (qs : List Packet). qs ++ packet_of w (wait_at k y) ∷ []))
         seen = ap (map object_entry) objects_are
-            ∙ (update_seen object_value without_it.objects y.port (at_port with_it) (repacked (λ (qs : List Packet). qs ++ packet_given k a y ∷ [])) port_seen
+            ∙ (update_seen object_value without_it.objects y.port (at_port with_it) (repacked (λ (qs : List Packet). qs ++ packet_given k a y ∷ []))
+            (packed_seen with_it (λ qs. qs ++ packet_given k a y ∷ []) (λ x. refl))
             ∙ (λ i. update (beside_seen ps r without_it beside_it i) y.port (repacked (λ (qs : List Packet). qs ++ packet_same i ∷ []))))
 
         world_is : world_blocked ps fired_here blocked ≡ after_one w before_it behind_it (wait_at k y)
@@ -339,7 +215,7 @@ module _ (ps : List Process) (first : Objects) (place : ℕ) (r : Objects) (so_f
         same_fired = ap fired world_is
             ∙ (fired_one w before_it behind_it (wait_at k y) (at_split r.waits place (wait_at k y) at)
             (ap (λ (test : Wait → Bool). list_any test before_it) (holds_blocked ps r blocked) ∙ so_far.before) now_held
-            (sorted_seen r.objects ∙ so_far.consistent.kept.in_order)
+            (sorted_seen object_value r.objects ∙ so_far.consistent.kept.in_order)
             ∙ so_far.so_far blocked)
 
       same_holds : holds (world_value ps fired_here) ≡ holds (world_value ps r)

@@ -103,10 +103,7 @@ no_more ps blocked are =
 -- the list stays, where no call blocked
 pub same_list : (pid : ℕ) (x : TraceItem) (blocked : List ℕ) → tells_blocking x ≡ false → then_blocked pid x blocked ≡ blocked
 same_list pid (item.Call at call outcome.Blocked) blocked goes = absurd (false≢true (sym goes))
-same_list pid (item.Call at call (outcome.Answered answer)) blocked goes = refl
-same_list pid (item.Call at call (outcome.Ended code)) blocked goes = refl
-same_list pid (item.Run at count) blocked goes = refl
-same_list pid (item.Stuck at) blocked goes = refl
+same_list pid _ blocked goes = refl
 
 pub none_filtered : (p : ℕ) (ps : List ℕ) → ◌≡◌ {A = ℕ} (times p ps) 0 → filter (λ q. not (q == p)) ps ≡ ps
 none_filtered p [] none = refl
@@ -120,8 +117,6 @@ none_filtered p (q ∷ ps) none = by_test (q == p) none (λ h. none_filtered p p
 
 -- a step of a process that isn't among the blocked leaves them
 pub same_blocked : (pid : ℕ) (x : TraceItem) (blocked : List ℕ) → pid_of x ≡ pid → ◌≡◌ {A = ℕ} (times pid blocked) 0 → blocked_by x blocked ≡ blocked
-same_blocked pid (item.Run at count) blocked same none = refl
-same_blocked pid (item.Call at call (outcome.Answered answer)) blocked same none = refl
 same_blocked pid (item.Call at call (outcome.Ended code)) blocked same none = rw same (none_filtered pid blocked none)
-same_blocked pid (item.Call at call outcome.Blocked) blocked same none = refl
 same_blocked pid (item.Stuck at) blocked same none = rw same (none_filtered pid blocked none)
+same_blocked pid _ blocked same none = refl

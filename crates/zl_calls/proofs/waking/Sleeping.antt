@@ -23,7 +23,7 @@ use Rattle.zl_calls.proofs.objects.SameBodies.{alike_agrees}
 use Rattle.zl_calls.proofs.stepping.FromConsistent.{IsFree}
 use Rattle.zl_calls.proofs.processes.Departed.{left_all, settled_world}
 use Rattle.zl_calls.proofs.objects.Settled.{still_settles}
-use Rattle.zl_calls.proofs.processes.Written.{alike_states, keeps_agreeing, recounted_next, same_counts}
+use Rattle.zl_calls.proofs.processes.Written.{alike_states, keeps_table}
 
 -- p stands at a call that isn't refused, and there is something to wait for; it is then p2, which waits for that
 pub record IsAsleep (lib : Library) (before : List Process) (r r2 : Objects) (p p2 : Process) (name : CallName) (o : Outcome) : Type 0 where
@@ -51,12 +51,7 @@ module _ (lib : Library) (before after : List Process) (r r2 : Objects) (p p2 : 
       (alike_states before after p p2 write has_ended (ap has_ended sleeps.state ∙ sym (ap has_ended ready)) r r k)
 
   pub asleep_keeps : IsConsistent after r
-  asleep_keeps =
-      let table : p2.table ≡ p.table = ap (λ (q : Process). q.table) sleeps.process in
-      keeps_agreeing before after p p2 write r r consistent agrees
-      (rw table (consistent.tables p.pid (process_value p) write.there))
-      (λ v e at. consistent.named p.pid (process_value p) v e write.there (rw table at at))
-      (recounted_next before after r consistent (λ k. same_counts before after p p2 write r r k refl table))
+  asleep_keeps = keeps_table before after p p2 write r consistent agrees (ap (λ (q : Process). q.table) sleeps.process)
 
   -- ---- the list
 

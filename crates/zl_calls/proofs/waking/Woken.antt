@@ -1,6 +1,6 @@
 -- A blocked process wakes, or stays blocked: the world afterwards, its invariant, and the list.
 use Rattle.zl_calls.proofs.Common.{◌≡◌, ℕ, Bool, true, false, not, ◌==◌, List, [], ◌∷◌, length, map, get_or, set, refl, sym, ap, ◌∙◌, if◌then◌else◌, Option}
-use Rattle.zl_calls.proofs.Common.{Some, None, is_some, inl, inr, ◌⊎◌, IsTrue, position, cases_Bool, eqb-true, false≢true, option_map, below_all, is_sorted}
+use Rattle.zl_calls.proofs.Common.{Some, None, is_some, inl, inr, ◌⊎◌, IsTrue, position, cases_Bool, eqb-true, false≢true, option_map, is_sorted}
 use Rattle.zl_calls.proofs.Common.{nat_cmp, Map, get, put, update, get-put, get-update, is_sorted-update, sorted_put, runs, lives, is_process, Objects}
 use Rattle.zl_calls.proofs.Common.{body_value, object_entry, object_value, process_entry, process_value, state_value, world_blocked, world_value, Agrees}
 use Rattle.zl_calls.proofs.Common.{IsConsistent, PortBody}
@@ -29,10 +29,10 @@ use Rattle.zl_calls.specs.Waking.{WakesOne, awake, destinations_of, given_awake,
 use Rattle.zl_calls.proofs.calls.Answered.{IsWrite}
 use Rattle.zl_calls.proofs.waking.BlockedLists.{one_awake}
 use Rattle.zl_calls.proofs.objects.Active.{signals_active}
-use Rattle.zl_calls.proofs.objects.Packed.{repacked_next}
+use Rattle.zl_calls.proofs.objects.Packed.{packed_consistent}
 use Rattle.zl_calls.proofs.objects.SameBodies.{alike_agrees}
-use Rattle.zl_calls.proofs.lists.Updates.{update_itself, update_seen}
-use Rattle.zl_calls.proofs.processes.Written.{IsNext, after_is, alike_states, keeps_agreeing, pid_read, recounted_next, refusal_keeps, same_counts, write_at}
+use Rattle.zl_calls.proofs.lists.Updates.{sorted_seen, update_itself, update_seen}
+use Rattle.zl_calls.proofs.processes.Written.{after_is, alike_states, keeps_table, pid_read, refusal_keeps, write_at}
 
 -- a value that is put in the place of another
 pub put_there : {X : Type 0} (m : Map X) (k : ℕ) (x : X) (f : X → X) → IsTrue (is_sorted nat_cmp m) → get m k ≡ Some x → update m k f ≡ put m k (f x)
@@ -53,21 +53,10 @@ update_fixed {X} (e ∷ m) k f fixed = elim (cases_Bool (e.0 == k)) as (λ _. up
   | inr apart ↦ rw apart (ap (λ (rest : Map X). e ∷ rest) (update_fixed m k f (λ x at. fixed x (rw apart at))))
 ]
 
-seen_below : (k : ℕ) (m : Map OwnObject) → below_all nat_cmp k (map object_entry m) ≡ below_all nat_cmp k m
-seen_below k [] = refl
-seen_below k (e ∷ m) = rw (seen_below k m) refl
-
-seen_sorted : (m : Map OwnObject) → is_sorted nat_cmp (map object_entry m) ≡ is_sorted nat_cmp m
-seen_sorted [] = refl
-seen_sorted (e ∷ m) = rw (seen_below e.0 m, seen_sorted m) refl
-
 -- what is seen of an object without its first packet
 seen_taken : (o : OwnObject) (b : Body) → o.body ≡ b → object_value (at_port without_front o) ≡ packet_taken (object_value o)
 seen_taken o (body.Port q) is = rw is refl
-seen_taken o (body.Job own) is = rw is refl
-seen_taken o (body.Process job alive) is = rw is refl
-seen_taken o body.Event is = rw is refl
-seen_taken o (body.ChannelEnd peer queue) is = rw is refl
+seen_taken o _ is = rw is refl
 
 nil-cons : {x : Packet} {xs : List Packet} → [] ≡ x ∷ xs → ⊥
 nil-cons e = cc
@@ -126,7 +115,7 @@ module _ (ps : List Process) (r : Objects) (consistent : IsConsistent ps r) (pid
 
     module _ (ds values : List ℕ) (is : p2 ≡ record p { state = state.Ready; cpu = answered p.cpu ds (0 ∷ values) })
         (was : is_blocked (state_value p.state) ≡ true)
-        (next : IsNext ps after r r2) (wakes_so : (blocked : List ℕ)
+        (still : IsConsistent ps r2) (wakes_so : (blocked : List ℕ)
         → woken (world_blocked ps r blocked) pid ≡ made_ready (world_blocked ps r2 blocked) pid (process_value p) ds (0 ∷ values)) where
       ready_entries : map process_entry after ≡ put (map process_entry ps) pid (process_value p2)
       ready_entries = rw (← key)
@@ -134,12 +123,13 @@ module _ (ps : List Process) (r : Objects) (consistent : IsConsistent ps r) (pid
           consistent.processes_in_order write.there)
 
       tests_alike : (test : StateValue → Bool) → test (state_value p.state) ≡ test Ready → (k : ℕ)
-          → is_process (world_value after r2) test k ≡ is_process (world_value ps r) test k
-      tests_alike test alike k = alike_states ps after p p2 write test (ap (λ (q : Process). test (state_value q.state)) is ∙ sym alike) r r2 k
+          → is_process (world_value after r2) test k ≡ is_process (world_value ps r2) test k
+      tests_alike test alike k = alike_states ps after p p2 write test (ap (λ (q : Process). test (state_value q.state)) is ∙ sym alike) r2 r2 k
 
-      agrees_on : (k : ℕ) (b : Body) → Agrees (world_value ps r) k b → Agrees (world_value after r2) k b
-      agrees_on k b = alike_agrees (world_value ps r) (world_value after r2) k b
-          (tests_alike runs ((lives_on (state_value p.state) was).0) k) (tests_alike lives ((lives_on (state_value p.state) was).1) k) (tests_alike has_ended ((lives_on (state_value p.state) was).2) k)
+      agrees_on : (k : ℕ) (b : Body) → Agrees (world_value ps r2) k b → Agrees (world_value after r2) k b
+      agrees_on k b = alike_agrees (world_value ps r2) (world_value after r2) k b
+          (tests_alike runs ((lives_on (state_value p.state) was).0) k) (tests_alike lives ((lives_on (state_value p.state) was).1) k)
+          (tests_alike has_ended ((lives_on (state_value p.state) was).2) k)
 
       gets_awake : WakesOne pid true ps r after r2
       unfolding made_ready
@@ -147,10 +137,7 @@ module _ (ps : List Process) (r : Objects) (consistent : IsConsistent ps r) (pid
         world = λ blocked. ap (λ (m : Map ProcessValue). record (world_blocked ps r2 (filter (λ q. not (q == pid)) blocked)) { processes = m })
             (ready_entries ∙ ap (λ (q : Process). put (map process_entry ps) pid (process_value q)) is) ∙ sym (wakes_so blocked);
         list = λ blocked are. rw (← key) (one_awake ps after p p2 write (ap (λ (q : Process). is_blocked (state_value q.state)) is) blocked are);
-        consistent = keeps_agreeing ps after p p2 write r r2 consistent agrees_on
-            (rw (ap (λ (q : Process). q.table) is) (consistent.tables p.pid (process_value p) write.there))
-            (λ v e at. next.named e (consistent.named p.pid (process_value p) v e write.there (rw (ap (λ (q : Process). q.table) is) at at)))
-            next;
+        consistent = keeps_table ps after p p2 write r2 still agrees_on (ap (λ (q : Process). q.table) is);
         count = same_count;
       }
 
@@ -163,10 +150,10 @@ module _ (ps : List Process) (r : Objects) (consistent : IsConsistent ps r) (pid
         → WakesOne pid (is_some (then_some test (signals_at r.objects koid ∷ []))) ps r (set ps place p2) r2
     by_signal koid mask ds in_state true holds is objects =
         let so : p2 ≡ record p { state = state.Ready; cpu = answered p.cpu ds (0 ∷ signals_at r.objects koid ∷ []) } =
-        is ∙ ap (λ (s : StateValue). record p { state = state.Ready; cpu = answered p.cpu (destinations_of s) (0 ∷ signals_at r.objects koid ∷ []) }) in_state in
+        is
+        ∙ ap (λ (s : StateValue). record p { state = state.Ready; cpu = answered p.cpu (destinations_of s) (0 ∷ signals_at r.objects koid ∷ []) }) in_state in
         rw objects (gets_awake p2 r (ap (λ (q : Process). q.pid) so) ds (signals_at r.objects koid ∷ []) so (ap is_blocked in_state)
-        (recounted_next ps (set ps place p2) r consistent
-        (λ k. same_counts ps (set ps place p2) p p2 (write p2 r (ap (λ (q : Process). q.pid) so)) r r k refl (ap (λ (q : Process). q.table) so)))
+        consistent
         (λ blocked. woken_is blocked ∙ rw (in_state, same_active blocked koid, holds) refl))
     by_signal koid mask ds in_state false holds is objects =
         stays_asleep p2 r2 (ap (λ (q : Process). q.pid) is) is objects (λ blocked. woken_is blocked ∙ rw (in_state, same_active blocked koid, holds) refl)
@@ -196,10 +183,7 @@ module _ (ps : List Process) (r : Objects) (consistent : IsConsistent ps r) (pid
           by_body : (b : Body) → packets_of b ≡ []
               → woken_by (world_blocked ps r blocked) pid (process_value p) port ds (object_value o) (body_value b) ≡ world_blocked ps r blocked
           by_body (body.Port q) h = rw h refl
-          by_body (body.Job own) h = refl
-          by_body (body.Process job alive) h = refl
-          by_body body.Event h = refl
-          by_body (body.ChannelEnd peer queue) h = refl
+          by_body _ h = refl
 
       taken_at : (o : OwnObject) (x : Packet) (rest : List Packet) → get r.objects port ≡ Some o → packets_of o.body ≡ x ∷ rest → (blocked : List ℕ)
           → woken (world_blocked ps r blocked) pid
@@ -216,14 +200,13 @@ module _ (ps : List Process) (r : Objects) (consistent : IsConsistent ps r) (pid
               objects_are : map object_entry (update r.objects port (at_port without_front))
                   ≡ put (map object_entry r.objects) port (record (object_value o) { body = PortBody rest })
               objects_are = update_seen object_value r.objects port (at_port without_front) packet_taken (λ y. seen_taken y y.body refl)
-                  ∙ (put_there (map object_entry r.objects) port (object_value o) packet_taken (rw (seen_sorted r.objects) consistent.kept.in_order)
+                  ∙ (put_there (map object_entry r.objects) port (object_value o) packet_taken
+                  (rw (sorted_seen object_value r.objects) consistent.kept.in_order)
                   (get_seen r.objects port ∙ rw at refl)
                   ∙ ap (λ (b : BodyValue). put (map object_entry r.objects) port (record (object_value o) { body = b }))
                   (ap (λ (c : Body). body_packed (drop 1) (body_value c)) is ∙ ap (λ (xs : List Packet). PortBody (drop 1 xs)) h))
           by_body (body.Job own) is h = absurd (nil-cons h)
-          by_body (body.Process job alive) is h = absurd (nil-cons h)
-          by_body body.Event is h = absurd (nil-cons h)
-          by_body (body.ChannelEnd peer queue) is h = absurd (nil-cons h)
+          by_body _ is h = absurd (nil-cons h)
 
       by_packet : (o : Option OwnObject) → get r.objects port ≡ o → (xs : List Packet) → packets_in o ≡ xs
           → p2 ≡ awake (option_map packet_values (slice_get xs 0)) p → r2 ≡ changing_port r port without_front
@@ -234,8 +217,7 @@ module _ (ps : List Process) (r : Objects) (consistent : IsConsistent ps r) (pid
           let so : p2 ≡ record p { state = state.Ready; cpu = answered p.cpu ds (0 ∷ packet_values x) } =
           is ∙ ap (λ (s : StateValue). record p { state = state.Ready; cpu = answered p.cpu (destinations_of s) (0 ∷ packet_values x) }) in_state in
           rw objects (gets_awake p2 (changing_port r port without_front) (ap (λ (q : Process). q.pid) so) ds (packet_values x) so (ap is_blocked in_state)
-          (repacked_next without_front ps (set ps place p2) p p2 (write p2 r (ap (λ (q : Process). q.pid) so))
-          (ap (λ (q : Process). q.table) so) r consistent port)
+          (packed_consistent without_front ps r port consistent)
           (taken_at o x rest at first))
 
     -- whatever it is in

@@ -54,3 +54,114 @@ pub use Rattle.zl_code.specs.Boot.{MOST_GRANTS, MOST_KOIDS, MOST_PROCESSES, all_
 pub use Rattle.zl_code.specs.Boot.{rights_given, started_process}
 pub use Rattle.zl_rights.specs.Settle.{IsHeld, names, state_without}
 pub use Rattle.zl_rights.specs.Signals.{is_job_below, is_process_of}
+pub use Rattle.std.proofs.lemmas.Bool.{or_cases, or_parts}
+pub use Rattle.std.proofs.lemmas.Grind.{common_steps}
+pub use Rattle.std.proofs.lemmas.List.{length-set}
+pub use Rattle.std.proofs.lemmas.List.Elements.{filter-append}
+pub use Rattle.std.proofs.lemmas.List.Folds.{list_any-append}
+pub use Rattle.std.proofs.lemmas.List.Quantifiers.{position-Some}
+pub use Rattle.std.proofs.lemmas.List.Sums.{count_by-le-length, sum_by-append}
+pub use Rattle.std.proofs.lemmas.Option.{get_or_from_slice_get, slice_get-map, slice_get_within}
+pub use Rattle.std.specs.Bool.{passes}
+pub use Rattle.std.specs.List.{fold}
+pub use Rattle.std.specs.Option.{option_to_list}
+pub use Rattle.std.specs.Result.{result_err}
+pub use Rattle.std.specs.Vec.{vec_capacity, vec_len}
+pub use Rattle.zl_calls.specs.Acting.{StaysAwake, is_local}
+pub use Rattle.zl_calls.specs.Blocking.{then_blocked}
+pub use Rattle.zl_calls.specs.FieldFaults.{fields_fault, last_fault}
+pub use Rattle.zl_calls.specs.Makes.{koid_fault}
+pub use Rattle.zl_calls.specs.Making.{IsUnwatched, is_killed}
+pub use Rattle.zl_calls.specs.Policed.{EndsBy, IsDenied, Policed, on_fault_by, verdict_by, verdict_in, verdict_on}
+pub use Rattle.zl_calls.specs.Reaching.{CallActs, CalledAmong, IsAnsweredIn, IsToldIn, Reaches, acts, kills, kills_itself, starts}
+pub use Rattle.zl_calls.specs.Registered.{AreBeside, EndsUnheld, EndsWaits, FiresWaits, KeepsListed, ListsBut, is_left, world_left}
+pub use Rattle.zl_calls.specs.Turns.{Stands}
+pub use Rattle.zl_calls.specs.Waking.{WakesOne}
+pub use Rattle.zl_calls.specs.calls.Answer.{ClosesEach, DoesTaking, IsTold, Told, answered_in, taken_from, with_stored, without_handle, without_handles}
+pub use Rattle.zl_calls.specs.calls.Async.{PortCancelDoes, WaitAsyncDoes, source_of}
+pub use Rattle.zl_calls.specs.calls.Channel.{fault_of, list_refusal}
+pub use Rattle.zl_calls.specs.calls.Event.{settable_at}
+pub use Rattle.zl_calls.specs.calls.Handle.{Closes, ReplaceDoes, Replaces, replace_refusal}
+pub use Rattle.zl_calls.specs.calls.Job.{has_child_at}
+pub use Rattle.zl_calls.specs.calls.Making.{MakeDoes, MakesOne, room_refusal}
+pub use Rattle.zl_calls.specs.calls.Port.{TakesPacket, poll_refusal, port_at}
+pub use Rattle.zl_calls.specs.calls.Reading.{ChanReadDoes, InsertsEach, front_handles}
+pub use Rattle.zl_calls.specs.calls.Task.{AreBare, ClosesAllEnded, ClosesEnded, CreatesProcess, IsCallerStill, Parts, ProcessCreateDoes, ProcessStartDoes}
+pub use Rattle.zl_calls.specs.calls.Task.{StartsProcess, TaskKillDoes, child_refusal, create_refusal, create_refusal_of, ended_if, ended_within, kill_refusal}
+pub use Rattle.zl_calls.specs.calls.Task.{lives_on, needs_more, parts, process_at, start_refusal}
+pub use Rattle.zl_calls.specs.declared.booting.Made.{Made}
+pub use Rattle.zl_calls.specs.declared.calls.reading.ReadFault.{ReadFault}
+pub use Rattle.zl_calls.specs.declared.calls.reading.Received.{Received}
+pub use Rattle.zl_calls.specs.declared.policy.Verdict.{Verdict}
+pub use Rattle.zl_code.proofs.CanStart.{can_start}
+pub use Rattle.zl_code.proofs.Changes.{times}
+pub use Rattle.zl_code.proofs.Common.{All-head, All-tail, Next, Runs, chan_create, pid_of, replace, true≢false}
+pub use Rattle.zl_code.proofs.MapKept.{in_order-each}
+pub use Rattle.zl_code.proofs.ProgramsKept.{step_programs}
+pub use Rattle.zl_code.proofs.SoundRuns.{step_sound}
+pub use Rattle.zl_code.proofs.StepsBeside.{ActsAndSettles, next_looks, tells_blocking, waits_by}
+pub use Rattle.zl_code.proofs.StepsWaiting.{settles_waiting}
+pub use Rattle.zl_code.proofs.Waiters.{is_blocking, looks_at_waits, replied_among, with_waiters}
+pub use Rattle.zl_code.specs.Asked.{triples_from}
+pub use Rattle.zl_code.specs.Boot.{are_declared}
+pub use Rattle.zl_code.specs.CallTable.{awaited_by, job_create, job_set_policy, port_cancel, port_create, port_poll, port_queue, port_wait, process_create}
+pub use Rattle.zl_code.specs.CallTable.{process_start, wait_async, wait_one}
+pub use Rattle.zl_code.specs.Calls.{CallBy}
+pub use Rattle.zl_code.specs.Common.{signal_peer}
+pub use Rattle.zl_code.specs.Effects.{told_of}
+pub use Rattle.zl_code.specs.Headline.{word_of}
+pub use Rattle.zl_code.specs.Image.{can_be_needed, is_among}
+pub use Rattle.zl_code.specs.Instructions.{field_of}
+pub use Rattle.zl_code.specs.Jobs.{has_child, is_allowing, lacks_need, misfits, object_killed, policy_changed, process_killed}
+pub use Rattle.zl_code.specs.Limits.{most_word}
+pub use Rattle.zl_code.specs.Local.{reg}
+pub use Rattle.zl_code.specs.Operands.{Operand}
+pub use Rattle.zl_code.specs.Programs.{HavePrograms}
+pub use Rattle.zl_code.specs.Refusals.{condition_of, operand_by}
+pub use Rattle.zl_code.specs.Sound.{IsSoundWait}
+pub use Rattle.zl_code.specs.Starting.{cpu_given, created_process, is_created, set_from, started_with, with_handles}
+pub use Rattle.zl_code.specs.Tests.{first_handles, object_at}
+pub use Rattle.zl_code.specs.Waiting.{body_packed, is_by_handle, is_mask, packet_taken, repacked}
+pub use Rattle.zl_code.specs.declared.boot.BootCause.{BootCause}
+pub use Rattle.zl_code.specs.declared.boot.Grant.{Grant}
+pub use Rattle.zl_code.specs.declared.boot.Statement.{Statement}
+pub use Rattle.zl_code.specs.declared.history.CallName.{CallName}
+pub use Rattle.zl_code.specs.declared.history.Outcome.{Outcome}
+pub use Rattle.zl_code.specs.declared.history.TraceItem.{TraceItem}
+pub use Rattle.zl_code.specs.declared.instr.CallInstr.{CallInstr}
+pub use Rattle.zl_interp.specs.Bursts.{after_locals}
+pub use Rattle.zl_jobs.specs.Jobs.{Job, job_within}
+pub use Rattle.zl_jobs.specs.declared.job.JobFault.{JobFault}
+pub use Rattle.zl_objects.proofs.Bodies.{same_in_job}
+pub use Rattle.zl_objects.proofs.ByKoid.{put_last}
+pub use Rattle.zl_objects.proofs.Found.{Found, any_found}
+pub use Rattle.zl_objects.proofs.Law.{get_seen, has_seen, kept_all}
+pub use Rattle.zl_objects.proofs.Released.{Was, cascaded_was, releases_then}
+pub use Rattle.zl_objects.proofs.Showing.{job_shown, process_shown}
+pub use Rattle.zl_objects.proofs.Sums.{counted_any, positive_part, sum_fewer}
+pub use Rattle.zl_objects.specs.Jobs.{is_dead, is_within, job_at, killed_body, killed_if, killing, new_in, setting_policy, with_policy_body, with_policy_set}
+pub use Rattle.zl_objects.specs.Listed.{LeavesListed, may_register, unlisting, wait_value, watching}
+pub use Rattle.zl_objects.specs.Objects.{keeper_of, peer_at, queue_in, started, started_body, starting}
+pub use Rattle.zl_objects.specs.Ports.{at_port, changed_port, changing_port, new_port, packets_in, packets_of}
+pub use Rattle.zl_objects.specs.Release.{all_koids}
+pub use Rattle.zl_objects.specs.Seen.{is_above}
+pub use Rattle.zl_objects.specs.Signals.{ShowStates, signals_at}
+pub use Rattle.zl_objects.specs.Waits.{at_port_of, unwatched, unwatching, waits_in}
+pub use Rattle.zl_objects.specs.declared.object.Life.{Life}
+pub use Rattle.zl_port.specs.Packets.{Port, is_from, with_packet, without_front, without_packets, without_place}
+pub use Rattle.zl_rights.proofs.Canonical.{same_map}
+pub use Rattle.zl_rights.proofs.MapTests.{filter_all, list_any-and}
+pub use Rattle.zl_rights.specs.LookUp.{granted, looked_up}
+pub use Rattle.zl_rights.specs.Numbers.{BY_POLICY, DESTROY, KILLED, MANAGE_PROCESS, READ, TRANSFER, WAIT, WRITE, status_magnitude, takes}
+pub use Rattle.zl_rights.specs.Policies.{Setting, conflicts}
+pub use Rattle.zl_rights.specs.Settle.{has_handle}
+pub use Rattle.zl_rights.specs.Wakes.{packet_of, packet_values}
+pub use Rattle.zl_rights.specs.World.{Awaited, Message, Packet, PacketAt, SignalOf, written}
+pub use Rattle.zl_rights.specs.declared.entry.Entry.{Entry}
+pub use Rattle.zl_rights.specs.declared.kind.Kind.{Kind}
+pub use Rattle.zl_rights.specs.declared.policy.Condition.{Condition}
+pub use Rattle.zl_rights.specs.declared.signals.Signals.{Signals}
+pub use Rattle.zl_rights.specs.declared.status.Status.{Status}
+pub use Rattle.zl_signals.specs.Waits.{without_first}
+pub use Rattle.zl_signals.specs.declared.watch.Watch.{Watch}
+pub use Rattle.zl_table.proofs.MapEdits.{below_parts}

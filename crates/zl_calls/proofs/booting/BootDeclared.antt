@@ -1,19 +1,14 @@
 -- Whether the handles of a statement are those that a checked program declares, and whether its job allows what the program needs.
 use Rattle.zl_calls.proofs.Common.{◌≡◌, ◌≢◌, ◌<◌, ◌≤◌, ◌+◌, ◌&&◌, ℕ, zero, suc, Bool, true, false, not, List, [], ◌∷◌, ◌++◌, length, get_or, refl, sym, ap, ◌∙◌}
 use Rattle.zl_calls.proofs.Common.{false≢true, Option, Some, None, IsTrue, arith, is_some, and_parts, list_all, list_any, Map, get, Program, body_in}
-use Rattle.zl_calls.proofs.Common.{has_default_rights, handle_given, handles_given, allowed, if_default, Objects, world_value}
+use Rattle.zl_calls.proofs.Common.{has_default_rights, handle_given, handles_given, allowed, if_default, Objects, world_value, option_to_list, Entry}
+use Rattle.zl_calls.proofs.Common.{are_declared, is_allowing, lacks_need, Grant, get_seen, job_at, needs_more}
 use Rattle.zl_code.proofs.Common.{Object as ObjectValue}
 use Rattle.std.specs.Prelude.{drop}
-use Rattle.std.specs.Option.{option_to_list}
 use Rattle.std.proofs.lemmas.List.{at_drop_more, drop_all}
-use Rattle.zl_rights.specs.declared.entry.Entry.{Entry}
-use Rattle.zl_code.specs.Boot.{are_declared}
-use Rattle.zl_code.specs.Jobs.{is_allowing, is_declared, is_only_start, lacks_need}
-use Rattle.zl_code.specs.declared.boot.Grant.{Grant}
+use Rattle.zl_code.specs.Jobs.{is_declared, is_only_start}
 use Rattle.zl_code.specs.declared.image.Start.{Start}
-use Rattle.zl_objects.proofs.Law.{get_seen}
-use Rattle.zl_objects.specs.Jobs.{action_of, job_at}
-use Rattle.zl_calls.specs.calls.Task.{needs_more}
+use Rattle.zl_objects.specs.Jobs.{action_of}
 use Rattle.zl_calls.specs.declared.process.Process.{Process}
 use Rattle.zl_calls.proofs.policy.Policies.{seen_action}
 

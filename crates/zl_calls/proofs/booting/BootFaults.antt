@@ -4,25 +4,19 @@ use Rattle.zl_calls.proofs.Common.{false≢true, Option, Some, None, inl, inr, I
 use Rattle.zl_calls.proofs.Common.{option_map, nat_tests, then_some, first_some, Map, get, has_key, Library, Program, body_in, boot_fault, has_default_rights}
 use Rattle.zl_calls.proofs.Common.{within, default_rights_of, rights_of, kind_of, ◌^◌, bit_and, cases_Bool, eqb-true, list_all, Objects, body_value}
 use Rattle.zl_calls.proofs.Common.{object_entry, object_value, world_value, kind_in, kind_at, allowed, if_default, rights_if, World, and_le_l, rights_given}
-use Rattle.zl_calls.proofs.Common.{is_job, all_known, may_start_with, handle_given, handles_given, MOST_PROCESSES, MOST_KOIDS, MOST_GRANTS}
+use Rattle.zl_calls.proofs.Common.{is_job, all_known, may_start_with, handle_given, handles_given, MOST_PROCESSES, MOST_KOIDS, MOST_GRANTS, lacks_need}
+use Rattle.zl_calls.proofs.Common.{option_to_list, Entry, Kind, BootCause, Grant, get_seen}
 use Rattle.zl_code.proofs.Common.{Object as ObjectValue, is_job_body}
 use Rattle.zl_code.specs.Boot.{are_misfits}
-use Rattle.zl_code.specs.Jobs.{lacks_need}
-use Rattle.std.specs.Option.{option_to_list}
 use Rattle.std.proofs.lemmas.Option.{slice_get_past}
-use Rattle.zl_rights.specs.declared.entry.Entry.{Entry}
-use Rattle.zl_rights.specs.declared.kind.Kind.{Kind}
 use Rattle.zl_rights.specs.declared.kind.Kind.TheVariants as kind
-use Rattle.zl_code.specs.declared.boot.BootCause.{BootCause}
 use Rattle.zl_code.specs.declared.boot.BootCause.TheVariants as cause
-use Rattle.zl_code.specs.declared.boot.Grant.{Grant}
 use Rattle.zl_code.specs.declared.boot.Statement.TheVariants as statement
 use Rattle.zl_objects.specs.declared.object.Body.{Body}
 use Rattle.zl_objects.specs.declared.object.Body.TheVariants as body
 use Rattle.zl_objects.specs.declared.object.Object.{Object}
 use Rattle.zl_calls.specs.declared.process.Process.{Process}
 use Rattle.zl_objects.specs.Objects.{is_job_in as is_job_object, is_job_body as is_job_here}
-use Rattle.zl_objects.proofs.Law.{get_seen}
 
 -- ---- jobs
 

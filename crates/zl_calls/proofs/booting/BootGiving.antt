@@ -1,24 +1,15 @@
 -- The handles of a statement enter the table of its process, one after another.
 use Rattle.zl_calls.proofs.Common.{◌≡◌, ◌<◌, ◌≤◌, ◌+◌, ◌^◌, ◌==◌, ℕ, zero, suc, Bool, true, false, List, [], ◌∷◌, ◌++◌, map, length, get_or, take, take_more}
-use Rattle.zl_calls.proofs.Common.{take_all, refl, sym, ap, ◌∙◌, subst, Option, Some, None, IsTrue, arith, is_some, count_by, slice_set}
-use Rattle.zl_calls.proofs.Common.{false≢true, none-some, same_Some, and_parts, and_from, nat_tests, Map, get, Cpu, body_in}
-use Rattle.zl_calls.proofs.Common.{has_default_rights, may_get, process_with, list_all, may_get_all, Handles, IsTable, Inserts}
-use Rattle.zl_calls.proofs.Common.{length-put_new, Objects, held_once_more, holding, process_value, object_entry, object_value, body_value}
-use Rattle.zl_calls.proofs.Common.{IsNamed, IsMaking, seen, allowed, if_default, IsBare, process_given, Gives, World}
-use Rattle.zl_calls.proofs.Common.{length-append, length-take-le, handle_given, handles_given, process_with_all, register_set, handle_register, option_map}
-use Rattle.zl_calls.proofs.Common.{then_some}
+use Rattle.zl_calls.proofs.Common.{take_all, refl, sym, ap, ◌∙◌, subst, Option, Some, None, IsTrue, arith, is_some, count_by, slice_set, false≢true, none-some}
+use Rattle.zl_calls.proofs.Common.{same_Some, and_parts, and_from, nat_tests, Map, get, Cpu, body_in, has_default_rights, may_get, process_with, list_all}
+use Rattle.zl_calls.proofs.Common.{may_get_all, Handles, IsTable, Inserts, length-put_new, Objects, held_once_more, holding, process_value, object_entry}
+use Rattle.zl_calls.proofs.Common.{object_value, body_value, IsNamed, IsMaking, seen, allowed, if_default, IsBare, process_given, Gives, World, length-append}
+use Rattle.zl_calls.proofs.Common.{length-take-le, handle_given, handles_given, process_with_all, register_set, handle_register, option_map, then_some}
+use Rattle.zl_calls.proofs.Common.{option_to_list, count_by-le-length, Entry, Grant, set_from, with_handles, is_killed, Made, get_seen}
 use Rattle.zl_code.proofs.Common.{Process as ProcessValue, Object as ObjectValue}
-use Rattle.std.specs.Option.{option_to_list}
-use Rattle.std.proofs.lemmas.List.Sums.{count_by-le-length}
-use Rattle.zl_rights.specs.declared.entry.Entry.{Entry}
-use Rattle.zl_code.specs.declared.boot.Grant.{Grant}
-use Rattle.zl_code.specs.Starting.{set_from, with_handles}
-use Rattle.zl_calls.specs.Making.{is_killed}
-use Rattle.zl_calls.specs.declared.booting.Made.{Made}
 use Rattle.zl_objects.specs.declared.object.Object.{Object}
 use Rattle.zl_calls.specs.declared.process.Process.{Process}
 use Rattle.zl_calls.proofs.calls.Answered.{may_get_inserted}
-use Rattle.zl_objects.proofs.Law.{get_seen}
 use Rattle.zl_calls.proofs.objects.SameBodies.{found_updated, named_updated}
 use Rattle.zl_calls.proofs.tables.Tables.{inserted_table, found_inserted}
 use Rattle.zl_calls.proofs.lists.Updates.{update_unseen}

@@ -1,37 +1,25 @@
 -- The statements of a boot on jobs: a job is made in another, and a policy is set.
-use Rattle.zl_calls.proofs.Common.{◌≡◌, ◌||◌, ℕ, Bool, true, false, List, [], ◌∷◌, refl, sym, ap, ◌∙◌, subst, if◌then◌else◌, Option, Some, None, Result}
-use Rattle.zl_calls.proofs.Common.{Ok, Err, ⊤, OnOk, IsTrue, arith, false≢true, then_some, first_some, Map, get}
-use Rattle.zl_calls.proofs.Common.{runs, Library, boot_effect, boot_fault, with_object, on_object, body_of, Objects, with_new, is_job_at, is_job_in}
-use Rattle.zl_calls.proofs.Common.{is_job_body, object_value, body_value, is_in_job, IsMaking, IsCauseOf, Makes, seen}
-use Rattle.zl_calls.proofs.Common.{World}
+use Rattle.zl_calls.proofs.Common.{◌≡◌, ◌||◌, ℕ, Bool, true, false, List, [], ◌∷◌, refl, sym, ap, ◌∙◌, subst, if◌then◌else◌, Option, Some, None, Result, Ok}
+use Rattle.zl_calls.proofs.Common.{Err, ⊤, OnOk, IsTrue, arith, false≢true, then_some, first_some, Map, get, runs, Library, boot_effect, boot_fault}
+use Rattle.zl_calls.proofs.Common.{with_object, on_object, body_of, Objects, with_new, is_job_at, is_job_in, is_job_body, object_value, body_value, is_in_job}
+use Rattle.zl_calls.proofs.Common.{IsMaking, IsCauseOf, Makes, seen, World, has_child, policy_changed, BootCause, Condition, Status, conflicts, Job, job_within}
+use Rattle.zl_calls.proofs.Common.{JobFault, job_at, new_in, setting_policy, with_policy_body, with_policy_set, keeper_of, is_above, ShowStates, job_shown}
+use Rattle.zl_calls.proofs.Common.{process_shown, koid_fault, is_killed, has_child_at, Made}
 use Rattle.zl_code.proofs.Common.{Object as ObjectValue}
 use Rattle.zl_code.specs.Boot.{is_job, lacks_koids, setting}
-use Rattle.zl_code.specs.Jobs.{has_child, job_within as body_within, policy_changed}
-use Rattle.zl_code.specs.declared.boot.BootCause.{BootCause}
+use Rattle.zl_code.specs.Jobs.{job_within as body_within}
 use Rattle.zl_code.specs.declared.boot.BootCause.TheVariants as cause
 use Rattle.zl_code.specs.declared.boot.Statement.TheVariants as statement
 use Rattle.zl_rights.specs.declared.policy.Action.{Action}
-use Rattle.zl_rights.specs.declared.policy.Condition.{Condition}
 use Rattle.zl_rights.specs.declared.policy.Mode.TheVariants as mode
-use Rattle.zl_rights.specs.declared.status.Status.{Status}
 use Rattle.zl_rights.specs.declared.status.Status.TheVariants as status
-use Rattle.zl_rights.specs.Policies.{conflicts}
-use Rattle.zl_jobs.specs.Jobs.{Job, is_deepest as is_deepest_job, job_within}
-use Rattle.zl_jobs.specs.declared.job.JobFault.{JobFault}
+use Rattle.zl_jobs.specs.Jobs.{is_deepest as is_deepest_job}
 use Rattle.zl_jobs.specs.declared.job.JobFault.TheVariants as fault
 use Rattle.zl_objects.specs.declared.object.Body.{Body}
 use Rattle.zl_objects.specs.declared.object.Body.TheVariants as body
 use Rattle.zl_objects.specs.declared.object.Object.{Object}
-use Rattle.zl_objects.specs.Jobs.{job_at, new_in, policy_answer, setting_policy, with_policy_body, with_policy_set}
-use Rattle.zl_objects.specs.Objects.{keeper_of}
-use Rattle.zl_objects.specs.Seen.{is_above}
-use Rattle.zl_objects.specs.Signals.{ShowStates}
-use Rattle.zl_objects.proofs.Showing.{job_shown, process_shown}
-use Rattle.zl_calls.specs.Makes.{koid_fault}
-use Rattle.zl_calls.specs.Making.{is_killed}
-use Rattle.zl_calls.specs.calls.Job.{has_child_at}
+use Rattle.zl_objects.specs.Jobs.{policy_answer}
 use Rattle.zl_calls.specs.declared.process.Process.{Process}
-use Rattle.zl_calls.specs.declared.booting.Made.{Made}
 use Rattle.zl_calls.proofs.objects.Active.{shown_all}
 use Rattle.zl_calls.proofs.booting.BootFaults.{job_seen}
 use Rattle.zl_calls.proofs.booting.BootObjects.{object_makes}

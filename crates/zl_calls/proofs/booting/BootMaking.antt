@@ -5,15 +5,13 @@ use Rattle.zl_calls.proofs.Common.{slice_get, slice_set, list_any, count_by, non
 use Rattle.zl_calls.proofs.Common.{Library, Program, option_map, with_object, boot_fault, boot_effect, process_with, body_in, may_get_all, IsTable, Objects}
 use Rattle.zl_calls.proofs.Common.{new_object, with_new, is_job_at, process_entry, process_value, state_value, world_value, IsNamed, Agrees, AreNamed, All}
 use Rattle.zl_calls.proofs.Common.{All-nil, lives, is_in_job, IsSound, IsMaking, root_alone, Makes, seen, IsBare, process_given, Gives, World, length-append}
-use Rattle.zl_calls.proofs.Common.{started_process, process_with_all, handles_given, with_process, started_cpu}
+use Rattle.zl_calls.proofs.Common.{started_process, process_with_all, handles_given, with_process, started_cpu, count_by-le-length, Entry, Grant, set_from}
+use Rattle.zl_calls.proofs.Common.{with_handles, cpu_given, created_process, started_with, can_start, is_killed, Made, Message, Found, any_found, counted_any}
 use Rattle.zl_code.proofs.Common.{Process as ProcessValue, State as StateValue, is_job_body}
 use Rattle.std.specs.Result.{is_err}
-use Rattle.std.proofs.lemmas.List.Sums.{count_by-le-length}
-use Rattle.zl_rights.specs.declared.entry.Entry.{Entry}
-use Rattle.zl_code.specs.declared.boot.Grant.{Grant}
 use Rattle.zl_code.specs.declared.boot.Statement.TheVariants as statement
-use Rattle.zl_code.specs.Starting.{set_from, with_handles, cpu_given, blank_cpu, created_process, started_with}
-use Rattle.zl_code.proofs.CanStart.{CanStart, can_start, started_with_all, started_may_get}
+use Rattle.zl_code.specs.Starting.{blank_cpu}
+use Rattle.zl_code.proofs.CanStart.{CanStart, started_with_all, started_may_get}
 use Rattle.zl_jobs.specs.Jobs.{root_job as job_value}
 use Rattle.zl_objects.specs.declared.object.Body.TheVariants as body
 use Rattle.zl_objects.specs.declared.object.Life.TheVariants as life
@@ -21,14 +19,9 @@ use Rattle.zl_objects.specs.declared.object.Object.{Object}
 use Rattle.zl_calls.specs.declared.process.Process.{Process}
 use Rattle.zl_calls.specs.declared.process.State.{State as OwnState}
 use Rattle.zl_calls.specs.declared.process.State.TheVariants as state
-use Rattle.zl_calls.specs.Making.{is_killed}
-use Rattle.zl_calls.specs.declared.booting.Made.{Made}
 use Rattle.zl_calls.proofs.booting.BootFaults.{job_seen}
 use Rattle.zl_rights.specs.Signals.{has_ended}
-use Rattle.zl_rights.specs.World.{Message}
 use Rattle.zl_objects.specs.Objects.{queue_of}
-use Rattle.zl_objects.proofs.Found.{Found, any_found}
-use Rattle.zl_objects.proofs.Sums.{counted_any}
 use Rattle.zl_calls.proofs.objects.Grown.{found_grown, grown_seen, job_grown}
 use Rattle.zl_calls.proofs.processes.OneProcess.{counts, new_is, process_sound, processes_are}
 

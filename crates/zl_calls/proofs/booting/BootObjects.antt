@@ -2,20 +2,15 @@
 use Rattle.zl_calls.proofs.Common.{◌≡◌, ◌<◌, ◌≤◌, ◌+◌, ◌^◌, ℕ, Bool, true, false, ◌==◌, List, [], refl, sym, ap, ◌∙◌, subst, None, Result, Ok, Err, ⊤, OnOk}
 use Rattle.zl_calls.proofs.Common.{none-some, cond, may_boot, seen, IsTrue, arith, nat_lt, nat_tests, then_some, Map, is_process, runs, with_object}
 use Rattle.zl_calls.proofs.Common.{boot_effect, boot_fault, Library, World, ChannelEnd, body_value, Objects, with_new, world_value, IsSound, IsMaking, Makes}
-use Rattle.zl_calls.proofs.Common.{IsCauseOf, Agrees, is_in_job, MOST_KOIDS}
+use Rattle.zl_calls.proofs.Common.{IsCauseOf, Agrees, is_in_job, MOST_KOIDS, BootCause, Statement, koid_fault, is_killed, Made}
 use Rattle.zl_code.proofs.Common.{State as StateValue, Object as ObjectValue}
-use Rattle.zl_code.specs.declared.boot.BootCause.{BootCause}
 use Rattle.zl_code.specs.declared.boot.BootCause.TheVariants as cause
-use Rattle.zl_code.specs.declared.boot.Statement.{Statement}
 use Rattle.zl_code.specs.declared.boot.Statement.TheVariants as statement
 use Rattle.zl_objects.specs.declared.object.Body.{Body}
 use Rattle.zl_objects.specs.declared.object.Body.TheVariants as body
 use Rattle.zl_objects.specs.declared.object.Object.{Object}
 use Rattle.zl_objects.specs.Objects.{queue_of, with_channel}
 use Rattle.zl_calls.specs.declared.process.Process.{Process}
-use Rattle.zl_calls.specs.Makes.{koid_fault}
-use Rattle.zl_calls.specs.Making.{is_killed}
-use Rattle.zl_calls.specs.declared.booting.Made.{Made}
 use Rattle.zl_calls.proofs.objects.Counting.{queues_grown, same_tables}
 use Rattle.zl_calls.proofs.objects.Grown.{found_grown, grown_seen, grown_sound, none_queued}
 

@@ -1,14 +1,10 @@
 -- One statement after another: what was made is what the definitions make, up to the first fault.
 use Rattle.zl_calls.proofs.Common.{◌≢◌, ◌≡◌, ◌<◌, ◌≤◌, ◌+◌, ℕ, List, [], ◌∷◌, ◌++◌, take, length, refl, sym, ap, ◌∙◌, Option, Some, None, get_or, IsTrue, arith}
 use Rattle.zl_calls.proofs.Common.{take_more, take_all, slice_get-get_or, Library, boot_effect, boot_fault, may_boot, Boots, FirstFault, at_statement, at_limit}
-use Rattle.zl_calls.proofs.Common.{MOST_ITEMS, origin, IsMaking, root_alone, Makes, IsCauseOf, IsReached, seen, World}
+use Rattle.zl_calls.proofs.Common.{MOST_ITEMS, origin, IsMaking, root_alone, Makes, IsCauseOf, IsReached, seen, World, Statement, word_of, most_word, BootCause}
+use Rattle.zl_calls.proofs.Common.{Made}
 use Rattle.std.specs.List.{AllByRecursion}
-use Rattle.zl_code.specs.declared.boot.Statement.{Statement}
-use Rattle.zl_code.specs.Headline.{word_of}
-use Rattle.zl_code.specs.Limits.{most_word}
-use Rattle.zl_code.specs.declared.boot.BootCause.{BootCause}
 use Rattle.zl_code.specs.declared.boot.BootCause.TheVariants as cause
-use Rattle.zl_calls.specs.declared.booting.Made.{Made}
 use Rattle.zl_calls.proofs.booting.BootMaking.{starts_making}
 
 -- the statements made this

@@ -1,18 +1,10 @@
 -- A call that looks at registered waits: it is done beside them and any blocked processes, or refused with nothing changed.
-use Rattle.zl_calls.proofs.Common.{◌≡◌, ℕ, Bool, List, [], ◌∷◌, refl, sym, ap, ◌∙◌, subst, None, Option, Result, Ok, Err, Library, Site, first_some}
-use Rattle.zl_calls.proofs.Common.{grows, refusal, replied, taken, Handles, Objects, Does, Replies, status_of, values_of, world_blocked}
-use Rattle.zl_calls.proofs.Common.{world_value, IsConsistent, World}
-use Rattle.std.specs.Result.{result_err}
-use Rattle.zl_rights.specs.LookUp.{granted}
+use Rattle.zl_calls.proofs.Common.{◌≡◌, ℕ, Bool, List, [], sym, ap, ◌∙◌, subst, Option, Result, Ok, Err, Library, Site, grows}
+use Rattle.zl_calls.proofs.Common.{refusal, replied, taken, Handles, Objects, Does, Replies, status_of, values_of, world_blocked, world_value, IsConsistent}
+use Rattle.zl_calls.proofs.Common.{World, Status, Outcome, replied_among, with_waiters}
 use Rattle.zl_rights.specs.World.{Wait}
-use Rattle.zl_rights.specs.declared.entry.Entry.{Entry}
-use Rattle.zl_rights.specs.declared.kind.Kind.{Kind}
-use Rattle.zl_rights.specs.declared.policy.Condition.TheVariants as condition
-use Rattle.zl_rights.specs.declared.status.Status.{Status}
 use Rattle.zl_rights.specs.declared.status.Status.TheVariants as status
-use Rattle.zl_code.specs.declared.history.Outcome.{Outcome}
 use Rattle.zl_code.specs.declared.history.Outcome.TheVariants as outcome
-use Rattle.zl_code.proofs.Waiters.{replied_among, with_waiters}
 use Rattle.zl_calls.specs.declared.process.Process.{Process}
 use Rattle.zl_calls.proofs.calls.Answered.{IsWrite, same_world}
 use Rattle.zl_calls.proofs.calls.DoneCalls.{IsCalledAmong}

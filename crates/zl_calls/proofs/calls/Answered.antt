@@ -2,12 +2,10 @@
 use Rattle.zl_calls.proofs.Common.{◌≡◌, ℕ, List, [], ◌∷◌, refl, sym, ap, ◌∙◌, Option, Some, None, Result, Ok, Err, IsTrue, map, eq-eqb, arith, ⊤, IfSome}
 use Rattle.zl_calls.proofs.Common.{nat_tests, subst, true, and_from, Map, get, put, update, may_get_all, Handles, Site, table_of, on_process, process_with}
 use Rattle.zl_calls.proofs.Common.{may_get, replied, cpu_answered, Inserts, Objects, Replies, status_of, values_of, no_value, process_entry, process_value}
-use Rattle.zl_calls.proofs.Common.{world_value, World, object_value, on_object}
+use Rattle.zl_calls.proofs.Common.{world_value, World, object_value, on_object, Status, Entry}
 use Rattle.zl_code.proofs.Common.{Object as ObjectValue, Process as ProcessValue}
 use Rattle.zl_objects.specs.declared.object.Object.{Object}
-use Rattle.zl_rights.specs.declared.status.Status.{Status}
 use Rattle.zl_rights.specs.declared.status.Status.TheVariants as status
-use Rattle.zl_rights.specs.declared.entry.Entry.{Entry}
 use Rattle.zl_calls.specs.declared.process.Process.{Process}
 use Rattle.zl_calls.proofs.lists.Updates.{update_itself, update_seen, update_twice}
 

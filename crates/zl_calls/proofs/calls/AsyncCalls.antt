@@ -1,26 +1,18 @@
 -- The call wait_async, from its table and objects to a step beside the registered waits.
-use Rattle.zl_calls.proofs.Common.{◌≡◌, ℕ, Bool, true, false, not, List, [], ◌∷◌, ◌++◌, ◌+◌, refl, sym, ap, ◌∙◌, subst, Option, Some, None, Result, Ok, Err}
-use Rattle.zl_calls.proofs.Common.{IsTrue, get, Ready, Library, Site, site, refusal, handle_operands, any, listed, answer_if, first_some}
-use Rattle.zl_calls.proofs.Common.{then_some, option_or, may_choose, new_handles, insert_all, remove_all, taken_handles, effect, gives_ok, gives_refused}
-use Rattle.zl_calls.proofs.Common.{AtCall, next_for, Values, replied, taken, Objects, IsAnswered, Replies, told_by, no_value, process_value, state_value}
-use Rattle.zl_calls.proofs.Common.{world_blocked, world_value, IsConsistent, World, operands_fault}
-use Rattle.zl_rights.specs.Numbers.{WAIT, WRITE}
+use Rattle.zl_calls.proofs.Common.{◌≡◌, ℕ, true, not, List, [], ◌∷◌, ◌++◌, ◌+◌, refl, sym, ap, ◌∙◌, subst, Some}
+use Rattle.zl_calls.proofs.Common.{get, Ready, Library, Site, site, refusal, handle_operands, any, listed}
+use Rattle.zl_calls.proofs.Common.{may_choose, new_handles, insert_all, remove_all, taken_handles, effect, gives_ok, gives_refused, AtCall, next_for, Values}
+use Rattle.zl_calls.proofs.Common.{replied, Objects, IsAnswered, Replies, told_by, no_value, process_value, state_value, world_blocked, world_value}
+use Rattle.zl_calls.proofs.Common.{IsConsistent, World, operands_fault, WAIT, WRITE, wait_async, is_mask, CallName, Outcome, may_register}
+use Rattle.zl_calls.proofs.Common.{wait_value, watching, WaitAsyncDoes}
 use Rattle.zl_rights.specs.World.{Wait as WaitValue}
-use Rattle.zl_rights.specs.declared.entry.Entry.{Entry}
 use Rattle.zl_rights.specs.declared.kind.Kind.TheVariants as kind
-use Rattle.zl_rights.specs.declared.status.Status.{Status}
 use Rattle.zl_rights.specs.declared.status.Status.TheVariants as status
-use Rattle.zl_code.specs.CallTable.{wait_async}
-use Rattle.zl_code.specs.Waiting.{is_mask, wait_of}
-use Rattle.zl_code.specs.declared.history.CallName.{CallName}
-use Rattle.zl_code.specs.declared.history.Outcome.{Outcome}
+use Rattle.zl_code.specs.Waiting.{wait_of}
 use Rattle.zl_code.specs.declared.history.Outcome.TheVariants as outcome
-use Rattle.zl_objects.specs.Listed.{may_register, wait_value, watching}
 use Rattle.zl_objects.specs.declared.wait.Wait.{Wait}
 use Rattle.zl_calls.specs.declared.process.Process.{Process}
-use Rattle.zl_calls.specs.calls.Async.{RegistersWait, WaitAsyncDoes, async_refusal, async_refusal_of, wait_for}
-use Rattle.zl_calls.specs.calls.Port.{port_at}
-use Rattle.zl_rights.specs.LookUp.{looked_up}
+use Rattle.zl_calls.specs.calls.Async.{RegistersWait, async_refusal, wait_for}
 use Rattle.zl_calls.proofs.calls.AmongWaits.{answered_among, ends_among}
 use Rattle.zl_calls.proofs.calls.Answered.{IsWrite, same_world, table_is}
 use Rattle.zl_calls.proofs.objects.SameButWaits.{beside_consistent, beside_world, watching_beside}

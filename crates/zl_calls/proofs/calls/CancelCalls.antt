@@ -1,28 +1,18 @@
 -- The call port_cancel, from its table and objects to a step beside the registered waits.
-use Rattle.zl_calls.proofs.Common.{◌≡◌, ℕ, Bool, true, false, not, ◌||◌, List, [], ◌∷◌, refl, ◌∙◌, Option, Result, Ok, Err, IsTrue, list_any, get, Ready}
-use Rattle.zl_calls.proofs.Common.{Library, Site, site, refusal, handle_operands, any, listed, answer_if, first_some, then_some, may_choose}
-use Rattle.zl_calls.proofs.Common.{new_handles, insert_all, remove_all, taken_handles, effect, on_object, gives_ok, gives_refused, AtCall, next_for, Values}
-use Rattle.zl_calls.proofs.Common.{replied, taken, koid_in, body_of, Objects, IsAnswered, Replies, told_by, no_value, process_value, state_value, world_blocked}
-use Rattle.zl_calls.proofs.Common.{world_value, IsConsistent, World, operands_fault}
+use Rattle.zl_calls.proofs.Common.{◌≡◌, ℕ, false, not, ◌||◌, List, [], ◌∷◌, refl, ◌∙◌, list_any, get, Ready}
+use Rattle.zl_calls.proofs.Common.{Library, Site, site, refusal, handle_operands, any, listed, may_choose, new_handles}
+use Rattle.zl_calls.proofs.Common.{insert_all, remove_all, taken_handles, effect, on_object, gives_ok, gives_refused, AtCall, next_for, Values, replied}
+use Rattle.zl_calls.proofs.Common.{Objects, IsAnswered, Replies, told_by, no_value, process_value, state_value, world_blocked, world_value}
+use Rattle.zl_calls.proofs.Common.{IsConsistent, World, operands_fault, WRITE, Packet, Port, is_from, without_packets}
+use Rattle.zl_calls.proofs.Common.{port_cancel, object_at, CallName, Outcome, changing_port, packets_in, PortCancelDoes, source_of}
 use Rattle.std.specs.List.{filter}
-use Rattle.zl_rights.specs.LookUp.{granted, looked_up}
-use Rattle.zl_rights.specs.Numbers.{WRITE}
-use Rattle.zl_rights.specs.World.{Packet, Source}
-use Rattle.zl_rights.specs.declared.entry.Entry.{Entry}
+use Rattle.zl_rights.specs.World.{Source}
 use Rattle.zl_rights.specs.declared.kind.Kind.TheVariants as kind
-use Rattle.zl_rights.specs.declared.status.Status.{Status}
 use Rattle.zl_rights.specs.declared.status.Status.TheVariants as status
-use Rattle.zl_port.specs.Packets.{Port, is_from, without_packets}
-use Rattle.zl_code.specs.CallTable.{port_cancel}
-use Rattle.zl_code.specs.Tests.{object_at}
-use Rattle.zl_code.specs.Waiting.{is_keyed, packets_cancelled, packets_in as packets_seen, source_at, without_keyed}
-use Rattle.zl_code.specs.declared.history.CallName.{CallName}
-use Rattle.zl_code.specs.declared.history.Outcome.{Outcome}
+use Rattle.zl_code.specs.Waiting.{is_keyed, packets_cancelled, source_at, without_keyed}
 use Rattle.zl_code.specs.declared.history.Outcome.TheVariants as outcome
-use Rattle.zl_objects.specs.Ports.{changing_port, packets_in}
 use Rattle.zl_calls.specs.declared.process.Process.{Process}
-use Rattle.zl_calls.specs.calls.Async.{Cancels, PortCancelDoes, cancel_refusal, cancel_refusal_of, source_of}
-use Rattle.zl_calls.specs.calls.Port.{port_at}
+use Rattle.zl_calls.specs.calls.Async.{Cancels, cancel_refusal}
 use Rattle.zl_calls.proofs.calls.AmongWaits.{answered_among, ends_among}
 use Rattle.zl_calls.proofs.calls.Answered.{IsWrite, table_is}
 use Rattle.zl_calls.proofs.objects.SameButWaits.{beside_consistent, beside_world}

@@ -1,26 +1,17 @@
 -- What wait_async and port_cancel find: the handles of the caller, whether a wait is listed, and that where no packet passes a test none leaves the port.
 use Rattle.zl_calls.proofs.Common.{◌≡◌, ◌+◌, ℕ, zero, suc, Bool, true, false, not, ◌||◌, ◌==◌, ◌⊎◌, List, [], ◌∷◌, length, list_any, refl, sym, ap, ◌∙◌, inl}
 use Rattle.zl_calls.proofs.Common.{inr, Option, Some, None, Ok, Err, cases_Bool, eqb-true, none-some, same_Some, slice_get, IsTrue, arith, option_map, bits}
-use Rattle.zl_calls.proofs.Common.{Map, get, update, Handles, Objects}
+use Rattle.zl_calls.proofs.Common.{Map, get, update, Handles, Objects, Entry, Signals, granted, looked_up, WAIT, WRITE, Packet, is_from, without_packets}
+use Rattle.zl_calls.proofs.Common.{is_mask, may_register, watching, at_port, changed_port, changing_port, packets_in, packets_of, EndsWaits, PortCancelDoes}
+use Rattle.zl_calls.proofs.Common.{WaitAsyncDoes, source_of, port_at}
 use Rattle.std.proofs.Math.Nat.{suc-ne-zero}
 use Rattle.std.specs.Prelude.{drop}
 use Rattle.std.specs.List.{filter}
 use Rattle.zl_rights.specs.declared.status.Status.TheVariants as status
-use Rattle.zl_rights.specs.declared.entry.Entry.{Entry}
-use Rattle.zl_rights.specs.declared.signals.Signals.{Signals}
-use Rattle.zl_rights.specs.LookUp.{granted, looked_up}
-use Rattle.zl_rights.specs.Numbers.{WAIT, WRITE}
-use Rattle.zl_rights.specs.World.{Packet}
-use Rattle.zl_port.specs.Packets.{is_from, without_packets}
-use Rattle.zl_code.specs.Waiting.{is_keyed, is_mask}
+use Rattle.zl_code.specs.Waiting.{is_keyed}
 use Rattle.zl_objects.specs.declared.object.Body.{Body}
 use Rattle.zl_objects.specs.declared.object.Body.TheVariants as body
 use Rattle.zl_objects.specs.declared.object.Object.{Object}
-use Rattle.zl_objects.specs.Listed.{may_register, watching}
-use Rattle.zl_objects.specs.Ports.{at_port, changed_port, changing_port, packets_in, packets_of}
-use Rattle.zl_calls.specs.Registered.{EndsWaits}
-use Rattle.zl_calls.specs.calls.Async.{PortCancelDoes, WaitAsyncDoes, source_of}
-use Rattle.zl_calls.specs.calls.Port.{port_at}
 use Rattle.zl_calls.proofs.calls.HandleCalls.{no_bits}
 
 -- ---- a list from some place on

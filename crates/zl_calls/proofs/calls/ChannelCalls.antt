@@ -1,15 +1,13 @@
 -- The calls on channels: chan_create, from its table and objects to a step.
 use Rattle.zl_calls.proofs.Common.{◌≡◌, ◌≤◌, ◌+◌, ◌^◌, ℕ, Bool, true, false, not, ◌&&◌, ◌==◌, List, [], ◌∷◌, map, length, refl, sym, ap, ◌∙◌, subst, cond, None}
-use Rattle.zl_calls.proofs.Common.{IsTrue, arith, nat_le, nat_tests, ne_eqb, Some, none-some, and_parts, count_by, sum_by-cons, then_some, Map, get}
-use Rattle.zl_calls.proofs.Common.{put, ChannelEnd, Library, Site, site, has_room, has_koids, handles_to, refusal}
-use Rattle.zl_calls.proofs.Common.{handle_operands, listed, may_choose, new_handles, insert_all, remove_all, taken_handles, effect, with_effect, with_object}
-use Rattle.zl_calls.proofs.Common.{gives_ok, gives_refused, Values, replied, taken, new_entry, IsTable, Inserts, Handles, Objects, new_object}
-use Rattle.zl_calls.proofs.Common.{with_new, told_by, Replies, process_entry, process_value, world_value, object_value, IsConsistent}
-use Rattle.zl_calls.proofs.Common.{IsNamed, runs, World, operands_fault}
-use Rattle.zl_code.proofs.Common.{Object as ObjectValue, chan_create}
+use Rattle.zl_calls.proofs.Common.{IsTrue, arith, nat_le, nat_tests, ne_eqb, Some, none-some, and_parts, count_by, sum_by-cons, then_some, Map, get, put}
+use Rattle.zl_calls.proofs.Common.{ChannelEnd, Library, Site, site, has_room, has_koids, handles_to, refusal, handle_operands, listed, may_choose, new_handles}
+use Rattle.zl_calls.proofs.Common.{insert_all, remove_all, taken_handles, effect, with_effect, with_object, gives_ok, gives_refused, Values, replied, taken}
+use Rattle.zl_calls.proofs.Common.{new_entry, IsTable, Inserts, Handles, Objects, new_object, with_new, told_by, Replies, process_entry, process_value}
+use Rattle.zl_calls.proofs.Common.{world_value, object_value, IsConsistent, IsNamed, runs, World, operands_fault, chan_create, Entry}
+use Rattle.zl_code.proofs.Common.{Object as ObjectValue}
 use Rattle.zl_rights.specs.declared.kind.Kind.TheVariants as kind
 use Rattle.zl_rights.specs.declared.status.Status.TheVariants as status
-use Rattle.zl_rights.specs.declared.entry.Entry.{Entry}
 use Rattle.zl_code.specs.declared.history.Outcome.TheVariants as outcome
 use Rattle.zl_objects.specs.declared.object.Body.{Body}
 use Rattle.zl_objects.specs.declared.object.Body.TheVariants as body

@@ -1,25 +1,21 @@
 -- The call event_create, and those that change signals, signal and signal_peer, each from its table and objects to a step.
-use Rattle.zl_calls.proofs.Common.{◌≡◌, ℕ, false, not, List, [], ◌∷◌, map, refl, sym, ap, ◌∙◌, Some, None}
-use Rattle.zl_calls.proofs.Common.{is_some, Map, get, Library, Site, site, event_create, has_room, has_koids}
-use Rattle.zl_calls.proofs.Common.{refusal, handle_operands, listed, may_choose, new_handles, insert_all, remove_all, taken_handles}
-use Rattle.zl_calls.proofs.Common.{effect, gives_ok, gives_refused, Values, replied, ⊤, bits, within, SIGNAL}
-use Rattle.zl_calls.proofs.Common.{kind_of, signal, body_of, body_in, on_object, object_changed, Objects}
-use Rattle.zl_calls.proofs.Common.{raised_changed, changing, told_by, one_value, Replies, no_value, process_value, object_entry}
-use Rattle.zl_calls.proofs.Common.{world_value, body_value, IsConsistent, IsNamed, runs, settable_of, World, operands_fault}
-use Rattle.zl_code.specs.Common.{signal_peer}
+use Rattle.zl_calls.proofs.Common.{◌≡◌, ℕ, false, not, List, [], ◌∷◌, map, refl, sym, ap, ◌∙◌, Some, None, is_some, Map, get, Library, Site, site, event_create}
+use Rattle.zl_calls.proofs.Common.{has_room, has_koids, refusal, handle_operands, listed, may_choose, new_handles, insert_all, remove_all, taken_handles}
+use Rattle.zl_calls.proofs.Common.{effect, gives_ok, gives_refused, Values, replied, ⊤, bits, within, SIGNAL, kind_of, signal, body_of, body_in, on_object}
+use Rattle.zl_calls.proofs.Common.{object_changed, Objects, raised_changed, changing, told_by, one_value, Replies, no_value, process_value, object_entry}
+use Rattle.zl_calls.proofs.Common.{world_value, body_value, IsConsistent, IsNamed, runs, settable_of, World, operands_fault, signal_peer, Entry, peer_at}
+use Rattle.zl_calls.proofs.Common.{settable_at, get_seen}
 use Rattle.zl_code.specs.Tests.{peer_at as peer_named}
 use Rattle.zl_rights.specs.declared.kind.Kind.TheVariants as kind
 use Rattle.zl_rights.specs.declared.status.Status.TheVariants as status
-use Rattle.zl_rights.specs.declared.entry.Entry.{Entry}
 use Rattle.zl_rights.specs.Numbers.{SIGNAL_PEER}
 use Rattle.zl_code.specs.declared.history.Outcome.TheVariants as outcome
 use Rattle.zl_objects.specs.declared.object.Body.{Body}
 use Rattle.zl_objects.specs.declared.object.Body.TheVariants as body
 use Rattle.zl_objects.specs.declared.object.Object.{Object}
-use Rattle.zl_objects.specs.Objects.{peer_at}
 use Rattle.zl_calls.specs.declared.process.Process.{Process}
 use Rattle.zl_calls.specs.calls.Event.{EventCreateDoes, SignalsObject, SignalDoes, signal_refusal, SignalsPeer, SignalPeerDoes}
-use Rattle.zl_calls.specs.calls.Event.{peer_signal_refusal, settable_at, may_change_at}
+use Rattle.zl_calls.specs.calls.Event.{peer_signal_refusal, may_change_at}
 use Rattle.zl_calls.proofs.calls.Answered.{IsWrite, replied_changed, table_is}
 use Rattle.zl_calls.proofs.calls.DoneCalls.{IsDoneBy, IsCalled, answered_done}
 use Rattle.zl_calls.proofs.calls.MakeCalls.{made_done, room_refused}
@@ -27,7 +23,6 @@ use Rattle.zl_calls.proofs.calls.Refused.{answers, any_looked_up, first_looked_u
 use Rattle.zl_calls.proofs.calls.WriteCalls.{peer_is, peer_there}
 use Rattle.zl_calls.proofs.processes.Written.{refusal_keeps}
 use Rattle.zl_calls.proofs.objects.Rebodied.{alike_itself, quiet_consistent}
-use Rattle.zl_objects.proofs.Law.{get_seen}
 
 -- what may be changed at the object follows from the kind of the handle
 settable_named : (os : Map Object) (e : Entry) → IsNamed os e → settable_of (body_in (get (map object_entry os) e.koid)) ≡ settable_at e.kind

@@ -1,24 +1,20 @@
 -- The calls on handles, close, dup and replace, each from its table and objects to a step.
 use Rattle.zl_calls.proofs.Common.{◌≡◌, ◌<◌, ℕ, Bool, true, false, ◌==◌, List, [], ◌∷◌, refl, sym, ap, ◌∙◌, subst, cond, Option, Some, None, inl, inr, ◌⊎◌}
-use Rattle.zl_calls.proofs.Common.{IsTrue, arith, eq-eqb, bit_and, ◌||◌, if◌then◌else◌, is_some, cases_Bool}
-use Rattle.zl_calls.proofs.Common.{same_Some, first_some, bits, within, Map, get, has_key, without, Ready, Library, Site, site, close, table_of}
-use Rattle.zl_calls.proofs.Common.{any, refusal, handle_operands, listed, on_process, process_without, may_choose, new_handles, remove_all}
-use Rattle.zl_calls.proofs.Common.{taken_handles, insert_all, effect, gives_ok, gives_refused, AtCall, next_for, Calls, Values, Refused, replied, taken}
-use Rattle.zl_calls.proofs.Common.{cpu_answered, ◌^◌, not, map, nat_lt, eqb-true, nat_tests, option_or, narrowed}
-use Rattle.zl_calls.proofs.Common.{default_rights_of, DUPLICATE, is_empty, dup, has_room, handles_to, entry_at, copy_of, with_rights}
-use Rattle.zl_calls.proofs.Common.{with_effect, get-update, IsTable, get-without, sorted_without, Objects, has_place}
-use Rattle.zl_calls.proofs.Common.{held_once_more, holding, told_by, no_value, Replies, status_of, one_value, has_room_in, process_value}
-use Rattle.zl_calls.proofs.Common.{state_value, world_value, process_entry, object_value, IsConsistent, IsNamed, World, and_le_r, put, update}
-use Rattle.zl_calls.proofs.Common.{is_sorted, nat_cmp, sorted_put, get-put, option_map, is_sorted-update, has_key-update, process_with, operands_fault, IsSound}
-use Rattle.zl_code.proofs.Common.{Object as ObjectValue, Process as ProcessValue, on_process, replace}
-use Rattle.zl_rights.specs.declared.status.Status.{Status}
+use Rattle.zl_calls.proofs.Common.{IsTrue, arith, eq-eqb, bit_and, ◌||◌, if◌then◌else◌, is_some, cases_Bool, same_Some, first_some, bits, within, Map, get}
+use Rattle.zl_calls.proofs.Common.{has_key, without, Ready, Library, Site, site, close, table_of, any, refusal, handle_operands, listed, on_process}
+use Rattle.zl_calls.proofs.Common.{process_without, may_choose, new_handles, remove_all, taken_handles, insert_all, effect, gives_ok, gives_refused, AtCall}
+use Rattle.zl_calls.proofs.Common.{next_for, Calls, Values, Refused, replied, taken, cpu_answered, ◌^◌, not, map, nat_lt, eqb-true, nat_tests, option_or}
+use Rattle.zl_calls.proofs.Common.{narrowed, default_rights_of, DUPLICATE, is_empty, dup, has_room, handles_to, entry_at, copy_of, with_rights, with_effect}
+use Rattle.zl_calls.proofs.Common.{get-update, IsTable, get-without, sorted_without, Objects, has_place, held_once_more, holding, told_by, no_value, Replies}
+use Rattle.zl_calls.proofs.Common.{status_of, one_value, has_room_in, process_value, state_value, world_value, process_entry, object_value, IsConsistent}
+use Rattle.zl_calls.proofs.Common.{IsNamed, World, and_le_r, put, update, is_sorted, nat_cmp, sorted_put, get-put, option_map, is_sorted-update, has_key-update}
+use Rattle.zl_calls.proofs.Common.{process_with, operands_fault, IsSound, replace, Status, Entry, CallName, without_handle, Closes, Replaces, ReplaceDoes}
+use Rattle.zl_calls.proofs.Common.{replace_refusal, passes, result_err, granted, same_map}
+use Rattle.zl_code.proofs.Common.{Object as ObjectValue, Process as ProcessValue, on_process}
 use Rattle.zl_rights.specs.declared.status.Status.TheVariants as status
-use Rattle.zl_rights.specs.declared.entry.Entry.{Entry}
-use Rattle.zl_code.specs.declared.history.CallName.{CallName}
 use Rattle.zl_code.specs.declared.history.Outcome.TheVariants as outcome
 use Rattle.zl_calls.specs.declared.process.Process.{Process}
-use Rattle.zl_calls.specs.calls.Answer.{without_handle}
-use Rattle.zl_calls.specs.calls.Handle.{CloseDoes, Closes, close_answer, Dups, DupDoes, dup_refusal, Replaces, ReplaceDoes, replace_refusal}
+use Rattle.zl_calls.specs.calls.Handle.{CloseDoes, close_answer, Dups, DupDoes, dup_refusal}
 use Rattle.zl_calls.proofs.objects.SameButWaits.{beside_consistent, beside_world}
 use Rattle.zl_calls.proofs.calls.Answered.{IsWrite, table_is, replies_none, replied_with, may_get_inserted, replied_inserted}
 use Rattle.zl_calls.proofs.calls.DoneCalls.{IsDone, IsDoneBy, IsCalled, answered_done}
@@ -28,10 +24,6 @@ use Rattle.zl_calls.proofs.calls.Refused.{answers, any_looked_up, one_test, thre
 use Rattle.zl_calls.proofs.calls.TakenCalls.{closed, replied_taking, taking_done}
 use Rattle.zl_calls.proofs.objects.Settled.{IsSettled, still_settles, sound_of}
 use Rattle.zl_calls.proofs.processes.Written.{refusal_keeps, entered, one_entered, same_agrees}
-use Rattle.std.specs.Bool.{passes}
-use Rattle.std.specs.Result.{result_err}
-use Rattle.zl_rights.specs.LookUp.{granted}
-use Rattle.zl_rights.proofs.Canonical.{same_map}
 use Rattle.zl_table.proofs.MapEdits.{length-update}
 use Rattle.zl_rights.proofs.Narrowed.{narrowed_within}
 use Rattle.zl_objects.specs.declared.object.Object.{Object}

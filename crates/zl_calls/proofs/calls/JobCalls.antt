@@ -1,42 +1,30 @@
 -- The calls on jobs, job_create and job_set_policy, each from its table and objects to a step.
 use Rattle.zl_calls.proofs.Common.{◌≡◌, ◌+◌, ◌==◌, ◌^◌, ◌&&◌, ◌||◌, ℕ, Bool, true, false, not, List, [], ◌∷◌, map, refl, sym, ap, ◌∙◌, subst, Option, Some}
-use Rattle.zl_calls.proofs.Common.{None, Result, Ok, Err, ⊤, IsTrue, nat_le, if◌then◌else◌, false≢true, then_some}
-use Rattle.zl_calls.proofs.Common.{first_some, option_or, is_some, Map, get, Library, Site, site, has_room, has_koids}
-use Rattle.zl_calls.proofs.Common.{answer_if, refusal, handle_operands, listed, may_choose, new_handles, insert_all, remove_all, taken_handles}
-use Rattle.zl_calls.proofs.Common.{effect, with_object, gives_ok, gives_refused, Values, replied, kind_of}
-use Rattle.zl_calls.proofs.Common.{body_of, new_entry, on_object, on_process, process_with, runs, Objects, with_new}
-use Rattle.zl_calls.proofs.Common.{told_by, one_value, no_value, Replies, has_room_in, process_entry, process_value, object_value}
-use Rattle.zl_calls.proofs.Common.{body_value, world_value, is_in_job}
-use Rattle.zl_calls.proofs.Common.{IsConsistent, IsNamed, IsSound, World, operands_fault}
+use Rattle.zl_calls.proofs.Common.{None, Result, Ok, Err, ⊤, IsTrue, nat_le, if◌then◌else◌, false≢true, then_some, first_some, option_or, is_some, Map, get}
+use Rattle.zl_calls.proofs.Common.{Library, Site, site, has_room, has_koids, answer_if, refusal, handle_operands, listed, may_choose, new_handles, insert_all}
+use Rattle.zl_calls.proofs.Common.{remove_all, taken_handles, effect, with_object, gives_ok, gives_refused, Values, replied, kind_of, body_of, new_entry}
+use Rattle.zl_calls.proofs.Common.{on_object, on_process, process_with, runs, Objects, with_new, told_by, one_value, no_value, Replies, has_room_in}
+use Rattle.zl_calls.proofs.Common.{process_entry, process_value, object_value, body_value, world_value, is_in_job, IsConsistent, IsNamed, IsSound, World}
+use Rattle.zl_calls.proofs.Common.{operands_fault, result_err, Status, Entry, Condition, looked_up, takes, Setting, conflicts, Job, job_within, JobFault}
+use Rattle.zl_calls.proofs.Common.{job_create, job_set_policy, has_child, policy_changed, object_at, job_at, new_in, setting_policy, with_policy_body}
+use Rattle.zl_calls.proofs.Common.{with_policy_set, keeper_of, is_above, get_seen, job_shown, process_shown, has_child_at}
 use Rattle.zl_code.proofs.Common.{Body as BodyValue, JobBody}
-use Rattle.std.specs.Result.{result_err}
 use Rattle.zl_rights.specs.declared.kind.Kind.TheVariants as kind
-use Rattle.zl_rights.specs.declared.status.Status.{Status}
 use Rattle.zl_rights.specs.declared.status.Status.TheVariants as status
-use Rattle.zl_rights.specs.declared.entry.Entry.{Entry}
 use Rattle.zl_rights.specs.declared.policy.Action.{Action}
-use Rattle.zl_rights.specs.declared.policy.Condition.{Condition}
-use Rattle.zl_rights.specs.LookUp.{looked_up}
-use Rattle.zl_rights.specs.Numbers.{MANAGE_JOB, SET_POLICY, takes}
-use Rattle.zl_rights.specs.Policies.{Setting, conflicts, is_absolute, policy_set, setting_of}
-use Rattle.zl_jobs.specs.Jobs.{Job, is_deepest as is_deepest_job, job_within}
-use Rattle.zl_jobs.specs.declared.job.JobFault.{JobFault}
+use Rattle.zl_rights.specs.Numbers.{MANAGE_JOB, SET_POLICY}
+use Rattle.zl_rights.specs.Policies.{is_absolute, policy_set, setting_of}
+use Rattle.zl_jobs.specs.Jobs.{is_deepest as is_deepest_job}
 use Rattle.zl_jobs.specs.declared.job.JobFault.TheVariants as fault
 use Rattle.zl_code.specs.declared.history.Outcome.TheVariants as outcome
-use Rattle.zl_code.specs.CallTable.{job_create, job_set_policy}
-use Rattle.zl_code.specs.Jobs.{body_with_policy, has_child, is_conflict, is_dead as is_dead_body, is_deepest as is_deepest_body, job_within as body_within}
-use Rattle.zl_code.specs.Jobs.{policy_changed}
-use Rattle.zl_code.specs.Tests.{object_at, policy_in}
+use Rattle.zl_code.specs.Jobs.{body_with_policy, is_conflict, is_dead as is_dead_body, is_deepest as is_deepest_body, job_within as body_within}
+use Rattle.zl_code.specs.Tests.{policy_in}
 use Rattle.zl_objects.specs.declared.object.Body.{Body}
 use Rattle.zl_objects.specs.declared.object.Body.TheVariants as body
 use Rattle.zl_objects.specs.declared.object.Object.{Object}
-use Rattle.zl_objects.specs.Jobs.{job_at, new_in, setting_policy, with_policy_body, with_policy_set}
-use Rattle.zl_objects.specs.Objects.{is_job_at, keeper_of, queue_of}
-use Rattle.zl_objects.specs.Seen.{is_above}
-use Rattle.zl_objects.proofs.Law.{get_seen}
-use Rattle.zl_objects.proofs.Showing.{job_shown, process_shown}
+use Rattle.zl_objects.specs.Objects.{is_job_at, queue_of}
 use Rattle.zl_calls.specs.declared.process.Process.{Process}
-use Rattle.zl_calls.specs.calls.Job.{CreatesJob, JobCreateDoes, JobSetPolicyDoes, SetsPolicy, fault_status, has_child_at, job_refusal, job_refusal_of}
+use Rattle.zl_calls.specs.calls.Job.{CreatesJob, JobCreateDoes, JobSetPolicyDoes, SetsPolicy, fault_status, job_refusal, job_refusal_of}
 use Rattle.zl_calls.specs.calls.Job.{policy_refusal, policy_refusal_of}
 use Rattle.zl_calls.proofs.objects.Active.{states_shown}
 use Rattle.zl_calls.proofs.calls.Answered.{IsWrite, replied_changed, table_is}

@@ -1,20 +1,17 @@
 -- A call that makes one object: how it is refused, and what is left of the world and of the invariant. Each call that makes one goes by it.
-use Rattle.zl_calls.proofs.Common.{Inserts, ◌≡◌, ◌<◌, ◌+◌, ◌^◌, ◌&&◌, ℕ, Bool, true, false, not, List, [], ◌∷◌, map, length, refl, ap, ◌∙◌}
-use Rattle.zl_calls.proofs.Common.{Some, None, IsTrue, nat_le, nat_tests, arith, none-some, sym, then_some, first_some, Map, get, Library, Site}
-use Rattle.zl_calls.proofs.Common.{Values, refusal, grows, taken, answer_if, with_object, replied, may_get, new_entry, on_process}
-use Rattle.zl_calls.proofs.Common.{process_with, is_process, Objects, new_object, with_new, Replies, told_by, one_value, has_room_in, process_entry}
-use Rattle.zl_calls.proofs.Common.{process_value, body_value, world_value, Agrees, is_in_job, IsConsistent, IsNamed, World}
+use Rattle.zl_calls.proofs.Common.{Inserts, ◌≡◌, ◌<◌, ◌+◌, ◌^◌, ◌&&◌, ℕ, Bool, true, false, not, List, [], ◌∷◌, map, length, refl, ap, ◌∙◌, Some, None, IsTrue}
+use Rattle.zl_calls.proofs.Common.{nat_le, nat_tests, arith, none-some, sym, then_some, first_some, Map, get, Library, Site, Values, refusal, grows, taken}
+use Rattle.zl_calls.proofs.Common.{answer_if, with_object, replied, may_get, new_entry, on_process, process_with, is_process, Objects, new_object, with_new}
+use Rattle.zl_calls.proofs.Common.{Replies, told_by, one_value, has_room_in, process_entry, process_value, body_value, world_value, Agrees, is_in_job}
+use Rattle.zl_calls.proofs.Common.{IsConsistent, IsNamed, World, Entry, CallBy, MakeDoes, MakesOne, room_refusal}
 use Rattle.zl_code.proofs.Common.{Object as ObjectValue, State as StateValue}
 use Rattle.zl_rights.specs.declared.status.Status.TheVariants as status
-use Rattle.zl_rights.specs.declared.entry.Entry.{Entry}
-use Rattle.zl_code.specs.Calls.{CallBy}
 use Rattle.zl_code.specs.declared.history.Outcome.TheVariants as outcome
 use Rattle.zl_objects.specs.declared.object.Body.{Body}
 use Rattle.zl_objects.specs.declared.object.Body.TheVariants as body
 use Rattle.zl_objects.specs.declared.object.Object.{Object}
 use Rattle.zl_objects.specs.Objects.{kind_in, queue_of}
 use Rattle.zl_calls.specs.declared.process.Process.{Process}
-use Rattle.zl_calls.specs.calls.Making.{MakeDoes, MakesOne, room_refusal}
 use Rattle.zl_calls.proofs.calls.Answered.{IsWrite, may_get_inserted, replied_inserted}
 use Rattle.zl_calls.proofs.calls.DoneCalls.{IsCalled, IsDoneBy, answered_done}
 use Rattle.zl_calls.proofs.objects.Grown.{IsGrowing, grown_one, grown_seen, growing_none, there_grown}

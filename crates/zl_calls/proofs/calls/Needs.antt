@@ -1,8 +1,6 @@
 -- What a program needs, looked for among all that can be needed.
-use Rattle.zl_calls.proofs.Common.{◌≡◌, ◌&&◌, ◌||◌, Bool, true, false, List, [], ◌∷◌, refl, sym, ap, ◌∙◌, list_any, Image}
+use Rattle.zl_calls.proofs.Common.{◌≡◌, ◌&&◌, ◌||◌, Bool, true, false, List, [], ◌∷◌, refl, sym, ap, ◌∙◌, list_any, Image, Condition, can_be_needed, is_among}
 use Rattle.std.specs.Prelude.{filter}
-use Rattle.zl_rights.specs.declared.policy.Condition.{Condition}
-use Rattle.zl_code.specs.Image.{can_be_needed, is_among}
 use Rattle.zl_code.specs.Spells.{is_in_range}
 use Rattle.zl_code.proofs.ImageNeeds.{needs_named-needs}
 use Rattle.zl_code.proofs.ImageRanges.{ranges}

@@ -2,14 +2,10 @@
 use Rattle.zl_calls.proofs.Common.{◌≡◌, ◌⊎◌, ℕ, true, false, false≢true, ⊤, inl, inr, List, ap, refl, sym, ◌∙◌, Option, Some, None, Ready, Library, Request}
 use Rattle.zl_calls.proofs.Common.{Site, site, close, dup, chan_write, event_create, signal, process_exit, AtCall, calls_at, next_for, refusal, Handles}
 use Rattle.zl_calls.proofs.Common.{Objects, Action, answers, exits, reaches, process_value, state_value, world_value, IsConsistent, Acted, Acts, action_of}
-use Rattle.zl_code.specs.declared.history.CallName.{CallName}
-use Rattle.zl_code.specs.declared.history.Outcome.{Outcome}
-use Rattle.zl_code.proofs.Common.{chan_create, is_blocked, replace, true≢false}
-use Rattle.zl_code.specs.CallTable.{awaited_by, job_create, job_set_policy, port_cancel, port_create, port_poll, port_queue, port_wait, wait_async, wait_one}
-use Rattle.zl_rights.specs.World.{Awaited}
+use Rattle.zl_calls.proofs.Common.{CallName, Outcome, chan_create, replace, true≢false, awaited_by, job_create, job_set_policy, port_cancel, port_create}
+use Rattle.zl_calls.proofs.Common.{port_poll, port_queue, port_wait, wait_async, wait_one, Awaited, next_looks, is_blocking, looks_at_waits, signal_peer}
+use Rattle.zl_code.proofs.Common.{is_blocked}
 use Rattle.zl_calls.specs.calls.Answer.{Blocks, waits}
-use Rattle.zl_code.proofs.StepsBeside.{next_looks}
-use Rattle.zl_code.proofs.Waiters.{is_blocking, looks_at_waits}
 use Rattle.zl_calls.specs.declared.process.Process.{Process}
 use Rattle.zl_calls.proofs.calls.Answered.{IsWrite}
 use Rattle.zl_calls.proofs.calls.DoneCalls.{IsCalledAmong, IsDone}
@@ -23,7 +19,7 @@ use Rattle.zl_calls.proofs.calls.PortCalls.{port_create_done, port_passes, port_
 use Rattle.zl_calls.proofs.calls.ProcessCalls.{exit_done}
 use Rattle.zl_calls.proofs.calls.ReadCalls.{read_done}
 use Rattle.zl_code.proofs.Common.{chan_read_etc}
-use Rattle.zl_code.specs.Common.{signal_peer, task_kill, wait_poll}
+use Rattle.zl_code.specs.Common.{task_kill, wait_poll}
 use Rattle.zl_calls.proofs.calls.WaitCalls.{one_done, one_passes, one_waits, poll_done}
 use Rattle.zl_calls.proofs.waking.Sleeping.{IsAsleep}
 use Rattle.zl_calls.proofs.calls.WriteCalls.{write_done}

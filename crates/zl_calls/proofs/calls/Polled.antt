@@ -1,17 +1,12 @@
 -- What is taken from a port: its first packet, or nothing, and then nothing has changed.
 use Rattle.zl_calls.proofs.Common.{◌≡◌, ℕ, false, ◌==◌, List, [], ◌∷◌, refl, sym, ap, ◌∙◌, inl, inr, Some, None, Ok, Err, cases_Bool, eqb-true, none-some}
-use Rattle.zl_calls.proofs.Common.{slice_get, then_some, is_empty, Map, get, update, Handles, Objects, Does, IsRefusedBy}
+use Rattle.zl_calls.proofs.Common.{slice_get, then_some, is_empty, Map, get, update, Handles, Objects, Does, IsRefusedBy, Entry, READ, Packet, without_front}
+use Rattle.zl_calls.proofs.Common.{at_port, changed_port, changing_port, packets_in, packets_of, TakesPacket, poll_refusal, port_at}
 use Rattle.std.specs.Prelude.{drop}
 use Rattle.zl_rights.specs.declared.status.Status.TheVariants as status
-use Rattle.zl_rights.specs.declared.entry.Entry.{Entry}
-use Rattle.zl_rights.specs.Numbers.{READ}
-use Rattle.zl_rights.specs.World.{Packet}
-use Rattle.zl_port.specs.Packets.{without_front}
 use Rattle.zl_objects.specs.declared.object.Body.{Body}
 use Rattle.zl_objects.specs.declared.object.Body.TheVariants as body
 use Rattle.zl_objects.specs.declared.object.Object.{Object}
-use Rattle.zl_objects.specs.Ports.{at_port, changed_port, changing_port, packets_in, packets_of}
-use Rattle.zl_calls.specs.calls.Port.{TakesPacket, poll_refusal, port_at}
 
 -- where no packet is, none leaves
 none_left_behind : (b : Body) → slice_get (packets_of b) 0 ≡ None → changed_port without_front b ≡ b

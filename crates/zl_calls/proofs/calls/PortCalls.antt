@@ -1,32 +1,22 @@
 -- The calls on ports, port_create, port_queue, port_poll and port_wait, each from its table and objects to a step.
-use Rattle.zl_calls.proofs.Common.{◌≡◌, ℕ, true, false, List, [], ◌∷◌, refl, sym, ap, ◌∙◌, Option, Some, None, Result, Ok, Err, on_object, IsTrue}
-use Rattle.zl_calls.proofs.Common.{none-some, slice_get, first_some, same_Some, ◌++◌, is_empty, get, Ready, Library, Site, site, has_room, has_koids}
-use Rattle.zl_calls.proofs.Common.{table_of, refusal, handle_operands, listed, may_choose, new_handles, insert_all, remove_all, taken_handles, effect, gives_ok}
-use Rattle.zl_calls.proofs.Common.{gives_refused, AtCall, next_for, Values, replied, taken, ⊤, body_of, Objects, IsAnswered, told_by, no_value}
-use Rattle.zl_calls.proofs.Common.{one_value, Replies, process_value, state_value, world_value, IsConsistent, runs, World, operands_fault}
+use Rattle.zl_calls.proofs.Common.{◌≡◌, ℕ, true, false, List, [], ◌∷◌, refl, sym, ap, ◌∙◌, Some, None, Ok, on_object, none-some}
+use Rattle.zl_calls.proofs.Common.{slice_get, same_Some, ◌++◌, is_empty, get, Library, Site, site, has_room, has_koids, refusal}
+use Rattle.zl_calls.proofs.Common.{handle_operands, listed, may_choose, new_handles, insert_all, remove_all, taken_handles, effect, gives_ok, gives_refused}
+use Rattle.zl_calls.proofs.Common.{Values, replied, ⊤, body_of, Objects, told_by, no_value, one_value, Replies}
+use Rattle.zl_calls.proofs.Common.{world_value, IsConsistent, runs, World, operands_fault, Entry, READ, WRITE, packet_values}
+use Rattle.zl_calls.proofs.Common.{Packet, PacketAt, Port, with_packet, without_front, awaited_by, port_create, port_poll, port_queue}
+use Rattle.zl_calls.proofs.Common.{port_wait, result_err, object_at, packet_taken, new_port, packets_in, TakesPacket, poll_refusal, port_at}
 use Rattle.std.specs.Prelude.{drop}
 use Rattle.zl_rights.specs.declared.kind.Kind.TheVariants as kind
 use Rattle.zl_rights.specs.declared.status.Status.TheVariants as status
-use Rattle.zl_rights.specs.declared.entry.Entry.{Entry}
-use Rattle.zl_rights.specs.declared.policy.Condition.TheVariants as condition
-use Rattle.zl_rights.specs.Numbers.{READ, WRITE}
-use Rattle.zl_rights.specs.Wakes.{packet_values}
-use Rattle.zl_rights.specs.World.{Packet, PacketAt}
-use Rattle.zl_port.specs.Packets.{Port, user_packet, with_packet, without_front}
-use Rattle.zl_code.specs.declared.history.CallName.{CallName}
-use Rattle.zl_code.specs.declared.history.Outcome.{Outcome}
+use Rattle.zl_port.specs.Packets.{user_packet}
 use Rattle.zl_code.specs.declared.history.Outcome.TheVariants as outcome
-use Rattle.zl_code.specs.CallTable.{awaited_by, port_create, port_poll, port_queue, port_wait}
-use Rattle.std.specs.Result.{result_err}
-use Rattle.zl_rights.specs.declared.status.Status.{Status}
-use Rattle.zl_code.specs.Tests.{object_at}
-use Rattle.zl_code.specs.Waiting.{first_values, is_full, packet_awaited, packet_taken, packets_at, packets_in as packets_seen}
-use Rattle.zl_objects.specs.Ports.{new_port, packets_in}
+use Rattle.zl_code.specs.Waiting.{first_values, is_full, packet_awaited, packets_at, packets_in as packets_seen}
 use Rattle.zl_calls.specs.declared.process.Process.{Process}
-use Rattle.zl_calls.specs.calls.Port.{PortCreateDoes, PortPollDoes, PortQueueDoes, PortWaitDoes, QueuesPacket, TakesPacket, poll_refusal, port_at}
-use Rattle.zl_calls.specs.calls.Port.{queue_refusal, refused_by}
+use Rattle.zl_calls.specs.calls.Port.{PortCreateDoes, PortPollDoes, PortQueueDoes, PortWaitDoes, QueuesPacket}
+use Rattle.zl_calls.specs.calls.Port.{queue_refusal}
 use Rattle.zl_calls.proofs.calls.Answered.{IsWrite, table_is}
-use Rattle.zl_calls.proofs.calls.DoneCalls.{IsDone, IsDoneBy, IsCalled, answered_done}
+use Rattle.zl_calls.proofs.calls.DoneCalls.{IsDoneBy, IsCalled, answered_done}
 use Rattle.zl_calls.proofs.calls.MakeCalls.{made_done, room_refused}
 use Rattle.zl_calls.proofs.calls.Refused.{answers, is_found, first_looked_up, one_test}
 use Rattle.zl_calls.proofs.calls.Repacked.{packets_there, port_ends, port_kept}

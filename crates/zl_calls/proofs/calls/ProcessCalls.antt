@@ -2,13 +2,11 @@
 use Rattle.zl_calls.proofs.Common.{◌≡◌, ◌+◌, ◌==◌, ℕ, ℤ, List, [], refl, ap, ◌∙◌, subst, Some, count_by, arith, false≢true, none-some, STUCK, Map, get, Ready}
 use Rattle.zl_calls.proofs.Common.{Ended, Settles, Library, Site, site, process_exit, refusal, handle_operands, listed, on_process, ended, may_choose}
 use Rattle.zl_calls.proofs.Common.{new_handles, insert_all, remove_all, taken_handles, effect, AtCall, IsStuck, next_for, Calls, Values, signed_word, IsTable}
-use Rattle.zl_calls.proofs.Common.{Objects, Releases, stopping, process_value, state_value, world_value, IsConsistent, IsNamed, World, Ends, IsActed, operands_fault}
+use Rattle.zl_calls.proofs.Common.{Objects, Releases, stopping, process_value, state_value, world_value, IsConsistent, IsNamed, World, Ends, IsActed}
+use Rattle.zl_calls.proofs.Common.{operands_fault, CallName, Entry, releases_then}
 use Rattle.zl_code.proofs.Common.{Process as ProcessValue}
-use Rattle.zl_code.specs.declared.history.CallName.{CallName}
 use Rattle.zl_code.specs.declared.history.Outcome.TheVariants as outcome
 use Rattle.zl_code.specs.declared.history.TraceItem.TheVariants as item
-use Rattle.zl_rights.specs.declared.entry.Entry.{Entry}
-use Rattle.zl_objects.proofs.Released.{releases_then}
 use Rattle.zl_calls.specs.declared.process.State.TheVariants as state
 use Rattle.zl_code.specs.Effects.{process_ended as process_over}
 use Rattle.zl_calls.specs.declared.process.Process.{Process}

@@ -1,39 +1,28 @@
 -- The call chan_read_etc, from its table and objects to a step.
 use Rattle.zl_calls.proofs.Common.{◌≡◌, ◌≤◌, ◌+◌, ℕ, Bool, true, false, not, ◌&&◌, ◌==◌, List, [], ◌∷◌, map, length, refl, sym, ap, ◌∙◌, subst, if◌then◌else◌}
 use Rattle.zl_calls.proofs.Common.{Option, Some, None, Result, Ok, Err, IsTrue, arith, nat_tests, is_empty, is_some, count_by, sum_by, sum_by-cons, none-some}
-use Rattle.zl_calls.proofs.Common.{All, All-nil, bits, within, Map, get, update, Library, Site, site, refusal, handle_operands}
-use Rattle.zl_calls.proofs.Common.{listed, has_room, answer_if, first_some, may_choose, new_handles, insert_all}
-use Rattle.zl_calls.proofs.Common.{remove_all, taken_handles, effect, with_effect, gives_ok, gives_refused, on_object, on_process, Refused}
-use Rattle.zl_calls.proofs.Common.{WantsMemory, Values, replied, taken, cpu_answered, process_with, process_with_all, slice_get, nat_le, option_map, Objects}
-use Rattle.zl_calls.proofs.Common.{process_entry, process_value, object_entry, object_value, world_value, body_value, body_in, body_of}
-use Rattle.zl_calls.proofs.Common.{handles_to, queued_to, IsConsistent, IsNamed, AreNamed, World, operands_fault, false≢true, IsSound}
-use Rattle.zl_code.proofs.Common.{Object as ObjectValue, Process as ProcessValue, All-head, All-tail, chan_read_etc}
+use Rattle.zl_calls.proofs.Common.{All, All-nil, bits, within, Map, get, update, Library, Site, site, refusal, handle_operands, listed, has_room, answer_if}
+use Rattle.zl_calls.proofs.Common.{first_some, may_choose, new_handles, insert_all, remove_all, taken_handles, effect, with_effect, gives_ok, gives_refused}
+use Rattle.zl_calls.proofs.Common.{on_object, on_process, Refused, WantsMemory, Values, replied, taken, cpu_answered, process_with, process_with_all, slice_get}
+use Rattle.zl_calls.proofs.Common.{nat_le, option_map, Objects, process_entry, process_value, object_entry, object_value, world_value, body_value, body_in}
+use Rattle.zl_calls.proofs.Common.{body_of, handles_to, queued_to, IsConsistent, IsNamed, AreNamed, World, operands_fault, false≢true, IsSound, All-head}
+use Rattle.zl_calls.proofs.Common.{All-tail, result_err, Status, Entry, granted, READ, takes, Message, Outcome, told_of, first_handles, object_at, peer_at}
+use Rattle.zl_calls.proofs.Common.{queue_in, get_seen, sum_fewer, Received, ReadFault, IsTold, with_stored, ChanReadDoes, front_handles}
+use Rattle.zl_code.proofs.Common.{Object as ObjectValue, Process as ProcessValue, chan_read_etc}
 use Rattle.std.specs.Prelude.{drop}
-use Rattle.std.specs.Result.{result_err}
 use Rattle.zl_rights.specs.declared.kind.Kind.TheVariants as kind
-use Rattle.zl_rights.specs.declared.status.Status.{Status}
 use Rattle.zl_rights.specs.declared.status.Status.TheVariants as status
-use Rattle.zl_rights.specs.declared.entry.Entry.{Entry}
-use Rattle.zl_rights.specs.LookUp.{granted}
-use Rattle.zl_rights.specs.Numbers.{READ, takes}
-use Rattle.zl_rights.specs.World.{Message}
-use Rattle.zl_code.specs.declared.history.Outcome.{Outcome}
 use Rattle.zl_code.specs.declared.history.Outcome.TheVariants as outcome
-use Rattle.zl_code.specs.Effects.{body_after_read, message_read, storing, told_of}
-use Rattle.zl_code.specs.Tests.{first_handles, has_place_for, object_at, queue_at, queue_in as queue_seen_in, sizes_of}
+use Rattle.zl_code.specs.Effects.{body_after_read, message_read, storing}
+use Rattle.zl_code.specs.Tests.{has_place_for, queue_at, queue_in as queue_seen_in, sizes_of}
 use Rattle.zl_objects.specs.declared.object.Body.{Body}
 use Rattle.zl_objects.specs.declared.object.Body.TheVariants as body
 use Rattle.zl_objects.specs.declared.object.Object.{Object}
-use Rattle.zl_objects.specs.Objects.{peer_at, queue_in, queue_of, received, received_body, receiving}
-use Rattle.zl_objects.proofs.Law.{get_seen}
-use Rattle.zl_objects.proofs.Sums.{sum_fewer}
+use Rattle.zl_objects.specs.Objects.{queue_of, received, received_body, receiving}
 use Rattle.zl_calls.specs.declared.process.Process.{Process}
 use Rattle.zl_calls.specs.declared.calls.reading.Front.{Front}
-use Rattle.zl_calls.specs.declared.calls.reading.Received.{Received}
-use Rattle.zl_calls.specs.declared.calls.reading.ReadFault.{ReadFault}
 use Rattle.zl_calls.specs.declared.calls.reading.ReadFault.TheVariants as fault
-use Rattle.zl_calls.specs.calls.Answer.{IsTold, with_stored}
-use Rattle.zl_calls.specs.calls.Reading.{ChanReadDoes, IsFaultBy, ReadsMessage, front_at, front_by, front_handles, front_in, told_read}
+use Rattle.zl_calls.specs.calls.Reading.{IsFaultBy, ReadsMessage, front_at, front_by, front_in, told_read}
 use Rattle.zl_calls.proofs.calls.Answered.{IsWrite, table_is, replied_with}
 use Rattle.zl_calls.proofs.objects.Counted.{queue_seen}
 use Rattle.zl_calls.proofs.objects.Counting.{counts_written, queues, naming, numbered, numbered_naming}

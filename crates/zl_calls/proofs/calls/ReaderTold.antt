@@ -1,29 +1,20 @@
 -- What a reader is told, in its registers and its memory.
 use Rattle.zl_calls.proofs.Common.{◌≡◌, ◌<◌, ◌+◌, ℕ, zero, suc, List, [], ◌∷◌, ◌++◌, length, take, refl, sym, ap, ◌∙◌, Option, Some, None, Ok, Bool, true}
-use Rattle.zl_calls.proofs.Common.{false, IsSome, then_some, subst, arith, slice_get, slice_set, Objects, Site, site, site_of, false≢true}
+use Rattle.zl_calls.proofs.Common.{false, IsSome, then_some, subst, arith, slice_get, slice_set, Objects, Site, site, site_of, false≢true, Entry, written}
+use Rattle.zl_calls.proofs.Common.{triples_from, told_of, status_magnitude, reg, Outcome, CallInstr, Received, with_stored, ChanReadDoes}
 use Rattle.std.specs.Prelude.{◌*◌, ◌-◌, drop, slice_index}
 use Rattle.zl_code.proofs.Common.{Cpu, number_at, take-append-drop}
-use Rattle.zl_rights.specs.declared.entry.Entry.{Entry}
-use Rattle.zl_rights.specs.World.{written}
-use Rattle.zl_code.specs.Asked.{triples_from}
-use Rattle.zl_code.specs.Effects.{told_of}
 use Rattle.zl_code.specs.Local.{overwritten}
 use Rattle.zl_rights.specs.World.{answered}
-use Rattle.zl_rights.specs.Numbers.{status_magnitude}
 use Rattle.zl_rights.specs.declared.status.Status.TheVariants as status
-use Rattle.zl_code.specs.Local.{reg}
-use Rattle.zl_code.specs.declared.history.Outcome.{Outcome}
 use Rattle.zl_code.specs.declared.history.Outcome.TheVariants as outcome
-use Rattle.zl_code.specs.declared.instr.CallInstr.{CallInstr}
 use Rattle.zl_code.specs.declared.history.CallName.TheVariants as name
 use Rattle.zl_code.specs.CallTable.{chan_read_etc}
 use Rattle.zl_table.specs.Table.{Handles}
 use Rattle.zl_calls.specs.Acted.{Acted}
 use Rattle.zl_interp.specs.Common.{register_set}
 use Rattle.zl_calls.specs.declared.process.Process.{Process}
-use Rattle.zl_calls.specs.declared.calls.reading.Received.{Received}
-use Rattle.zl_calls.specs.calls.Answer.{with_stored}
-use Rattle.zl_calls.specs.calls.Reading.{ChanReadDoes, read_into, triple_of}
+use Rattle.zl_calls.specs.calls.Reading.{read_into, triple_of}
 
 -- ---- triples
 

@@ -1,15 +1,9 @@
 -- The answers other than OK, where no policy has a say: they follow from the caller's table and from counts.
 use Rattle.zl_calls.proofs.Common.{◌≡◌, ℕ, Bool, true, false, not, List, [], ◌∷◌, refl, sym, ap, ◌∙◌, subst, if◌then◌else◌, Option, Some, None, Result, Ok, Err}
-use Rattle.zl_calls.proofs.Common.{option_or, then_some, bits, within, Map, get, Library, Request, Site, handle_operands, listed, table_of, answer_if, first_some}
-use Rattle.zl_calls.proofs.Common.{operands_fault, refusal, gives_refused, Calls, WantsMemory, Refused, grows, replied, taken, IsRefusedBy, World}
-use Rattle.std.specs.Result.{result_err}
-use Rattle.zl_rights.specs.LookUp.{granted, looked_up}
-use Rattle.zl_rights.specs.Numbers.{takes}
-use Rattle.zl_rights.specs.declared.entry.Entry.{Entry}
-use Rattle.zl_rights.specs.declared.kind.Kind.{Kind}
-use Rattle.zl_rights.specs.declared.status.Status.{Status}
+use Rattle.zl_calls.proofs.Common.{option_or, then_some, bits, within, Map, get, Library, Request, Site, handle_operands, listed, table_of, answer_if}
+use Rattle.zl_calls.proofs.Common.{first_some, operands_fault, refusal, gives_refused, Calls, WantsMemory, Refused, grows, replied, taken, IsRefusedBy, World}
+use Rattle.zl_calls.proofs.Common.{result_err, granted, looked_up, takes, Entry, Kind, Status, Outcome}
 use Rattle.zl_rights.specs.declared.status.Status.TheVariants as status
-use Rattle.zl_code.specs.declared.history.Outcome.{Outcome}
 use Rattle.zl_code.specs.declared.history.Outcome.TheVariants as outcome
 pub use Rattle.zl_calls.proofs.policy.Plain.{answers}
 

@@ -1,18 +1,12 @@
 -- What the calls on a port have in common: what packets are there, and what it means that those of one port change.
-use Rattle.zl_calls.proofs.Common.{◌≡◌, ℕ, List, map, refl, ap, Option, Some, None}
-use Rattle.zl_calls.proofs.Common.{option_map, Map, get, Site}
-use Rattle.zl_calls.proofs.Common.{replied, body_in, on_object, Objects, Replies}
-use Rattle.zl_calls.proofs.Common.{object_entry, object_value, body_value, world_value}
-use Rattle.zl_calls.proofs.Common.{IsConsistent, World}
+use Rattle.zl_calls.proofs.Common.{◌≡◌, ℕ, List, map, refl, ap, Option, Some, None, option_map, Map, get, Site, replied, body_in, on_object, Objects, Replies}
+use Rattle.zl_calls.proofs.Common.{object_entry, object_value, body_value, world_value, IsConsistent, World, Packet, Port, repacked, at_port, changing_port}
+use Rattle.zl_calls.proofs.Common.{packets_in, packets_of, get_seen}
 use Rattle.zl_rights.specs.declared.status.Status.TheVariants as status
-use Rattle.zl_rights.specs.World.{Packet}
-use Rattle.zl_port.specs.Packets.{Port}
-use Rattle.zl_code.specs.Waiting.{packets_in as packets_seen, repacked}
+use Rattle.zl_code.specs.Waiting.{packets_in as packets_seen}
 use Rattle.zl_objects.specs.declared.object.Body.{Body}
 use Rattle.zl_objects.specs.declared.object.Body.TheVariants as body
 use Rattle.zl_objects.specs.declared.object.Object.{Object}
-use Rattle.zl_objects.specs.Ports.{at_port, changing_port, packets_in, packets_of}
-use Rattle.zl_objects.proofs.Law.{get_seen}
 use Rattle.zl_calls.specs.declared.process.Process.{Process}
 use Rattle.zl_calls.proofs.calls.Answered.{IsWrite, replied_changed}
 use Rattle.zl_calls.proofs.objects.Packed.{packed_consistent, packed_seen}

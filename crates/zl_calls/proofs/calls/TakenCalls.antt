@@ -4,17 +4,12 @@ use Rattle.zl_calls.proofs.Common.{None, Result, Ok, Err, inl, inr, ◌⊎◌, I
 use Rattle.zl_calls.proofs.Common.{false≢true, none-some, nat_cmp, is_sorted, Map, get, put, has_key, update, without, Ready, Library, Site, refusal, grows}
 use Rattle.zl_calls.proofs.Common.{taken_handles, remove_all, on_process, process_without, replied, cpu_answered, AtCall, next_for, get-put, get-without}
 use Rattle.zl_calls.proofs.Common.{sorted_put, sorted_without, length-without, Handles, IsTable, Objects, Releases, koids_of, Replies, status_of, values_of}
-use Rattle.zl_calls.proofs.Common.{process_entry, process_value, state_value, world_value, IsConsistent, IsNamed, World, IsSound}
+use Rattle.zl_calls.proofs.Common.{process_entry, process_value, state_value, world_value, IsConsistent, IsNamed, World, IsSound, option_to_list, Entry, Status}
+use Rattle.zl_calls.proofs.Common.{CallName, Outcome, DoesTaking, taken_from, without_handle, without_handles}
 use Rattle.zl_code.proofs.Common.{Process as ProcessValue}
-use Rattle.std.specs.Option.{option_to_list}
-use Rattle.zl_rights.specs.declared.entry.Entry.{Entry}
-use Rattle.zl_rights.specs.declared.status.Status.{Status}
 use Rattle.zl_rights.specs.declared.status.Status.TheVariants as status
-use Rattle.zl_code.specs.declared.history.CallName.{CallName}
-use Rattle.zl_code.specs.declared.history.Outcome.{Outcome}
 use Rattle.zl_code.specs.declared.history.Outcome.TheVariants as outcome
 use Rattle.zl_calls.specs.declared.process.Process.{Process}
-use Rattle.zl_calls.specs.calls.Answer.{DoesTaking, taken_from, without_handle, without_handles}
 use Rattle.zl_calls.proofs.calls.Answered.{IsWrite, replied_with}
 use Rattle.zl_calls.proofs.objects.Counting.{count_put, count_without}
 use Rattle.zl_calls.proofs.calls.DoneCalls.{IsDone, IsCalled, called_done}

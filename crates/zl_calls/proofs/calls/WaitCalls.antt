@@ -1,38 +1,25 @@
 -- The calls wait_one and wait_poll, from their table and objects to a step.
 use Rattle.zl_calls.proofs.Common.{◌≡◌, ℕ, Bool, true, false, not, List, [], ◌∷◌, refl, sym, ap, ◌∙◌, subst, if◌then◌else◌, Option, Some, None, Result, Ok, Err}
-use Rattle.zl_calls.proofs.Common.{IsTrue, none-some, same_Some, bits, within, Map, get, Ready, Library, Site, site, refusal, handle_operands}
-use Rattle.zl_calls.proofs.Common.{any, listed, table_of, answer_if, first_some, may_choose, new_handles, insert_all}
-use Rattle.zl_calls.proofs.Common.{remove_all, taken_handles, effect, gives_ok, gives_refused, AtCall, next_for, Refused, Values, replied, taken, koid_in}
-use Rattle.zl_calls.proofs.Common.{Objects, IsAnswered, Replies, told_by, process_value, state_value, world_value, IsConsistent, World, operands_fault, false≢true}
+use Rattle.zl_calls.proofs.Common.{bits, within, Map, get, Library, Site, site, refusal, handle_operands, any, listed}
+use Rattle.zl_calls.proofs.Common.{answer_if, first_some, may_choose, new_handles, insert_all, remove_all, taken_handles, effect, gives_ok}
+use Rattle.zl_calls.proofs.Common.{gives_refused, Refused, Values, replied, koid_in, Objects, Replies, told_by}
+use Rattle.zl_calls.proofs.Common.{world_value, IsConsistent, World, operands_fault, false≢true, awaited_by, wait_one, object_at}
+use Rattle.zl_calls.proofs.Common.{is_mask, SignalOf, result_err, granted, looked_up, WAIT, Status, Entry, Signals, Outcome, signals_at, IsTold}
 use Rattle.zl_code.specs.Common.{wait_poll}
-use Rattle.zl_code.specs.CallTable.{awaited_by, wait_one}
-use Rattle.zl_code.specs.Tests.{object_at}
-use Rattle.zl_code.specs.Waiting.{active_at, is_active_at, is_mask}
-use Rattle.zl_rights.specs.World.{SignalOf}
-use Rattle.std.specs.Result.{result_err}
-use Rattle.zl_rights.specs.Signals.{active}
-use Rattle.zl_rights.specs.LookUp.{granted, looked_up}
-use Rattle.zl_rights.specs.Numbers.{WAIT, meets}
-use Rattle.zl_rights.specs.declared.status.Status.{Status}
+use Rattle.zl_code.specs.Waiting.{active_at, is_active_at}
+use Rattle.zl_rights.specs.Numbers.{meets}
 use Rattle.zl_rights.specs.declared.status.Status.TheVariants as status
-use Rattle.zl_rights.specs.declared.entry.Entry.{Entry}
-use Rattle.zl_rights.specs.declared.signals.Signals.{Signals}
-use Rattle.zl_rights.specs.declared.policy.Condition.TheVariants as condition
-use Rattle.zl_code.specs.declared.history.CallName.{CallName}
-use Rattle.zl_code.specs.declared.history.Outcome.{Outcome}
 use Rattle.zl_code.specs.declared.history.Outcome.TheVariants as outcome
 use Rattle.zl_objects.specs.declared.object.Object.{Object}
-use Rattle.zl_objects.specs.Signals.{signals_at}
 use Rattle.zl_calls.specs.declared.process.Process.{Process}
 use Rattle.zl_calls.specs.declared.calls.wait.PollFault.{PollFault}
 use Rattle.zl_calls.specs.declared.calls.wait.PollFault.TheVariants as fault
-use Rattle.zl_calls.specs.calls.Answer.{IsTold}
 use Rattle.zl_calls.specs.calls.Wait.{SeesActive, WaitOneDoes, WaitPollDoes, is_seen, polled_at, polled_by, polled_status, told_polled, watched_at, watched_of}
 use Rattle.zl_calls.specs.calls.Wait.{watched_values}
 use Rattle.zl_calls.specs.declared.calls.wait.Watched.{Watched}
 use Rattle.zl_calls.proofs.objects.Active.{signals_active}
 use Rattle.zl_calls.proofs.calls.Answered.{IsWrite, same_world, table_is}
-use Rattle.zl_calls.proofs.calls.DoneCalls.{IsDone, IsDoneBy, IsCalled, answered_done, called_done}
+use Rattle.zl_calls.proofs.calls.DoneCalls.{IsDoneBy, IsCalled, answered_done, called_done}
 use Rattle.zl_calls.proofs.calls.Refused.{answers, first_looked_up, is_found}
 use Rattle.zl_calls.proofs.processes.Written.{refusal_keeps}
 
@@ -240,7 +227,7 @@ module _ (lib : Library) (before after : List Process) (r r2 : Objects) (p p2 : 
         rw (refused_now, is) (
           refl,
           same_world before after p p2 write r r2 poll_site s [] table objects replies
-          ∙ ap (replied w p.pid poll_site s) (sym (nothing_told s (known (Err (fault.Refused s)) is))),
+              ∙ ap (replied w p.pid poll_site s) (sym (nothing_told s (known (Err (fault.Refused s)) is))),
         ),
       );
       keeps = keeps (ap (λ (q : Process). q.state) replies);

@@ -1,19 +1,9 @@
 -- What port_wait does in each of its cases: it is refused, it takes a packet, or it blocks.
 use Rattle.zl_calls.proofs.Common.{◌≡◌, ◌<◌, ◌^◌, ℕ, List, [], refl, sym, ap, ◌∙◌, subst, inl, inr, None, Some, Result, Ok, Err, slice_get, get, Blocked, Site}
-use Rattle.zl_calls.proofs.Common.{site, Objects, Acts, action_of, state_value, told_by}
-use Rattle.zl_code.specs.CallTable.{port_wait}
-use Rattle.zl_code.specs.declared.history.Outcome.{Outcome}
+use Rattle.zl_calls.proofs.Common.{site, Objects, Acts, action_of, state_value, told_by, port_wait, Outcome, READ, packet_values, Packet, PacketAt, Entry}
+use Rattle.zl_calls.proofs.Common.{Status, changing_port, packets_in, without_front, IsTold, answered_in, TakesPacket, port_at}
 use Rattle.zl_code.specs.declared.history.Outcome.TheVariants as outcome
-use Rattle.zl_rights.specs.Numbers.{READ}
-use Rattle.zl_rights.specs.Wakes.{packet_values}
-use Rattle.zl_rights.specs.World.{Packet, PacketAt}
-use Rattle.zl_rights.specs.declared.entry.Entry.{Entry}
-use Rattle.zl_rights.specs.declared.status.Status.{Status}
 use Rattle.zl_rights.specs.declared.status.Status.TheVariants as status
-use Rattle.zl_objects.specs.Ports.{changing_port, packets_in}
-use Rattle.zl_port.specs.Packets.{without_front}
-use Rattle.zl_calls.specs.calls.Answer.{IsTold, answered_in}
-use Rattle.zl_calls.specs.calls.Port.{TakesPacket, port_at}
 use Rattle.zl_calls.specs.declared.process.Process.{Process}
 use Rattle.zl_calls.specs.declared.process.State.{State}
 use Rattle.zl_calls.proofs.calls.Polled.{nothing_polled, packet_polled}

@@ -1,43 +1,30 @@
 -- The call chan_write, from its table and objects to a step.
 use Rattle.zl_calls.proofs.Common.{◌≡◌, ◌<◌, ◌+◌, ℕ, Bool, true, false, not, ◌||◌, ◌==◌, List, [], ◌∷◌, ◌++◌, map, length, refl, sym, ap, ◌∙◌, cond}
-use Rattle.zl_calls.proofs.Common.{if◌then◌else◌, Option, Some, None, inl, inr, ◌⊎◌, IsTrue, arith, eq-eqb, is_some, count_by, sum_by-cons}
-use Rattle.zl_calls.proofs.Common.{then_some, option_or, option_map, cases_Bool, false≢true, none-some, same_Some, All, All-nil, Map, get}
-use Rattle.zl_calls.proofs.Common.{has_key, update, without, Library, Site, site, chan_write, refusal, handle_operands}
-use Rattle.zl_calls.proofs.Common.{any, listed, answer_if, first_some, may_choose, new_handles, insert_all, remove_all, taken_handles}
-use Rattle.zl_calls.proofs.Common.{effect, with_effect, gives_ok, gives_refused, on_object, on_process, Values, replied, taken, get-update}
-use Rattle.zl_calls.proofs.Common.{get-without, Handles, Objects, told_by, no_value, Replies, process_entry, object_entry}
-use Rattle.zl_calls.proofs.Common.{object_value, world_value, body_value, body_in, koids_of, handles_to, IsConsistent}
-use Rattle.zl_calls.proofs.Common.{IsNamed, AreNamed, World, operands_fault, IsSound}
+use Rattle.zl_calls.proofs.Common.{if◌then◌else◌, Option, Some, None, inl, inr, ◌⊎◌, IsTrue, arith, eq-eqb, is_some, count_by, sum_by-cons, then_some}
+use Rattle.zl_calls.proofs.Common.{option_or, option_map, cases_Bool, false≢true, none-some, same_Some, All, All-nil, Map, get, has_key, update, without}
+use Rattle.zl_calls.proofs.Common.{Library, Site, site, chan_write, refusal, handle_operands, any, listed, answer_if, first_some, may_choose, new_handles}
+use Rattle.zl_calls.proofs.Common.{insert_all, remove_all, taken_handles, effect, with_effect, gives_ok, gives_refused, on_object, on_process, Values, replied}
+use Rattle.zl_calls.proofs.Common.{taken, get-update, get-without, Handles, Objects, told_by, no_value, Replies, process_entry, object_entry, object_value}
+use Rattle.zl_calls.proofs.Common.{world_value, body_value, body_in, koids_of, handles_to, IsConsistent, IsNamed, AreNamed, World, operands_fault, IsSound}
+use Rattle.zl_calls.proofs.Common.{or_parts, list_any-append, sum_by-append, option_to_list, result_err, Status, Entry, looked_up, TRANSFER, WRITE, Message}
+use Rattle.zl_calls.proofs.Common.{operand_by, Operand, peer_at, get_seen, has_seen, taken_from, without_handle, fault_of, list_refusal}
 use Rattle.zl_code.proofs.Common.{Object as ObjectValue, All-cons}
-use Rattle.std.proofs.lemmas.Bool.{or_parts}
 use Rattle.std.proofs.lemmas.List.Elements.{All-append}
-use Rattle.std.proofs.lemmas.List.Folds.{list_any-append}
-use Rattle.std.proofs.lemmas.List.Sums.{sum_by-append}
 use Rattle.std.specs.List.{filter, flat_map}
-use Rattle.std.specs.Option.{option_to_list}
-use Rattle.std.specs.Result.{result_err}
 use Rattle.zl_rights.specs.declared.kind.Kind.TheVariants as kind
-use Rattle.zl_rights.specs.declared.status.Status.{Status}
 use Rattle.zl_rights.specs.declared.status.Status.TheVariants as status
-use Rattle.zl_rights.specs.declared.entry.Entry.{Entry}
 use Rattle.zl_rights.specs.Counts.{queued_to}
-use Rattle.zl_rights.specs.LookUp.{looked_up}
-use Rattle.zl_rights.specs.Numbers.{TRANSFER, WRITE}
-use Rattle.zl_rights.specs.World.{Message}
 use Rattle.zl_code.specs.declared.history.Outcome.TheVariants as outcome
 use Rattle.zl_code.specs.Effects.{body_with_message, message_sent}
 use Rattle.zl_code.specs.Instructions.{consumes}
-use Rattle.zl_code.specs.Refusals.{operand_by}
 use Rattle.zl_code.specs.Tests.{entries_at, is_too_large, peer_at as peer_named, peer_in as peer_seen}
-use Rattle.zl_code.specs.Operands.{Operand, contains}
+use Rattle.zl_code.specs.Operands.{contains}
 use Rattle.zl_objects.specs.declared.object.Body.{Body}
 use Rattle.zl_objects.specs.declared.object.Body.TheVariants as body
 use Rattle.zl_objects.specs.declared.object.Object.{Object}
-use Rattle.zl_objects.specs.Objects.{if_there, is_end_body, is_end_in, peer_at, peer_in, peer_of, queue_of, sending, sent, sent_body}
-use Rattle.zl_objects.proofs.Law.{get_seen, has_seen}
+use Rattle.zl_objects.specs.Objects.{if_there, is_end_body, is_end_in, peer_in, peer_of, queue_of, sending, sent, sent_body}
 use Rattle.zl_calls.specs.declared.process.Process.{Process}
-use Rattle.zl_calls.specs.calls.Answer.{taken_from, without_handle}
-use Rattle.zl_calls.specs.calls.Channel.{ChanWriteDoes, WritesMessage, fault_of, list_refusal, write_refusal}
+use Rattle.zl_calls.specs.calls.Channel.{ChanWriteDoes, WritesMessage, write_refusal}
 use Rattle.zl_calls.proofs.calls.Answered.{IsWrite, table_is}
 use Rattle.zl_calls.proofs.objects.Counting.{queues, sum_update}
 use Rattle.zl_calls.proofs.calls.DoneCalls.{IsCalled, IsDoneBy}

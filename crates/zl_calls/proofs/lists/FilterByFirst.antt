@@ -1,16 +1,12 @@
 -- A walk along a list that takes the elements out that pass a test: what is left is what doesn't pass.
 use Rattle.zl_calls.proofs.Common.{◌≡◌, ◌≤◌, ◌+◌, ℕ, Bool, true, false, not, List, [], ◌∷◌, ◌++◌, length, refl, sym, ap, ◌∙◌, subst, Some, None, inl, inr, zero}
 use Rattle.zl_calls.proofs.Common.{suc, same_Some, cases_Bool, false≢true, slice_get, take, take_more, length-take-le, list_any, arith, length-append, take_all}
-use Rattle.zl_calls.proofs.Common.{none-some}
+use Rattle.zl_calls.proofs.Common.{none-some, filter-append, list_any-append, or_parts, get_or_from_slice_get, slice_get_within, filter_all, without_first}
 use Rattle.std.specs.Prelude.{drop}
 use Rattle.std.specs.List.{filter, find, position_or_len}
-use Rattle.std.proofs.lemmas.List.Elements.{filter-append}
-use Rattle.std.proofs.lemmas.List.Folds.{list_any-append}
-use Rattle.std.proofs.lemmas.Bool.{or_left, or_parts, or_right}
-use Rattle.std.proofs.lemmas.Option.{get_or_from_slice_get, slice_get_cases, slice_get_within}
+use Rattle.std.proofs.lemmas.Bool.{or_left, or_right}
+use Rattle.std.proofs.lemmas.Option.{slice_get_cases}
 use Rattle.std.proofs.Math.Seq.{take-append_seam}
-use Rattle.zl_rights.proofs.MapTests.{filter_all}
-use Rattle.zl_signals.specs.Waits.{without_first}
 
 module _ {X : Type 0} where
   -- the list is what stands before the place, the element there and what stands behind it

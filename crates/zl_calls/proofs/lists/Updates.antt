@@ -1,7 +1,6 @@
 -- Changes of one value of a map: two after another, none, and as they are seen from outside. Maps in order: what is found, and seen.
-use Rattle.zl_calls.proofs.Common.{◌≡◌, ◌<◌, ℕ, true, false, ◌==◌, [], ◌∷◌, refl, sym, ap, ◌∙◌, subst, inl, inr, map, eq-eqb, cases_Bool, eqb-true, Map}
-use Rattle.zl_calls.proofs.Common.{update, Some, IsTrue, arith, below_all, get, is_sorted, nat_cmp, nat_tests, none-some, sorted_parts}
-use Rattle.zl_table.proofs.MapEdits.{below_parts}
+use Rattle.zl_calls.proofs.Common.{◌≡◌, ◌<◌, ℕ, true, false, ◌==◌, [], ◌∷◌, refl, sym, ap, ◌∙◌, subst, inl, inr, map, eq-eqb, cases_Bool, eqb-true, Map, update}
+use Rattle.zl_calls.proofs.Common.{Some, IsTrue, arith, below_all, get, is_sorted, nat_cmp, nat_tests, none-some, sorted_parts, below_parts}
 
 pub update_twice : {X : Type 0} (m : Map X) (k : ℕ) (f g : X → X) → update (update m k f) k g ≡ update m k (λ x. g (f x))
 unfolding update

@@ -1,10 +1,11 @@
 -- What is active at an object: the objects tell it, without the processes.
 use Rattle.zl_calls.proofs.Common.{◌≡◌, ◌<◌, ℕ, List, Some, IsTrue, nat_cmp, is_sorted, Map, get, has_key, Objects, Agrees, world_value, IsConsistent, World}
+use Rattle.zl_calls.proofs.Common.{ShowStates, signals_at}
 use Rattle.zl_rights.specs.Signals.{active}
 use Rattle.zl_objects.specs.declared.object.Body.{Body}
 use Rattle.zl_objects.specs.declared.object.Body.TheVariants as body
 use Rattle.zl_objects.specs.declared.object.Object.{Object}
-use Rattle.zl_objects.specs.Signals.{ShowStates, Shows, signals_at}
+use Rattle.zl_objects.specs.Signals.{Shows}
 use Rattle.zl_objects.proofs.Showing.{are_active}
 use Rattle.zl_calls.specs.declared.process.Process.{Process}
 

@@ -2,15 +2,13 @@
 use Rattle.zl_calls.proofs.Common.{◌≡◌, ◌+◌, ℕ, Bool, true, false, ◌==◌, List, [], ◌∷◌, map, refl, sym, ap, ◌∙◌, cond, None, Some, inl, inr, IsTrue, arith}
 use Rattle.zl_calls.proofs.Common.{nat_lt, sum_by, count_by, sum_by-cons, map-append, cases_Bool, eqb-true, none-some, nat_cmp, is_sorted, same_Some, Map, get}
 use Rattle.zl_calls.proofs.Common.{put, update, without, handles_to, queued_to, Objects, object_entry, process_entry, process_value, body_value, new_object}
-use Rattle.zl_calls.proofs.Common.{with_new, world_value, suc}
+use Rattle.zl_calls.proofs.Common.{with_new, world_value, suc, sum_by-append, sum_fewer, Entry}
 use Rattle.zl_code.proofs.Common.{Process as ProcessValue}
-use Rattle.std.proofs.lemmas.List.Sums.{sum_by-append}
 use Rattle.zl_objects.specs.declared.object.Body.{Body}
 use Rattle.zl_objects.specs.declared.object.Object.{Object}
-use Rattle.zl_objects.proofs.Sums.{sum_fewer, sum_without}
+use Rattle.zl_objects.proofs.Sums.{sum_without}
 use Rattle.zl_calls.specs.declared.process.Process.{Process}
 use Rattle.zl_calls.proofs.calls.Answered.{IsWrite}
-use Rattle.zl_rights.specs.declared.entry.Entry.{Entry}
 
 -- ---- queues
 

@@ -1,21 +1,17 @@
 -- One object more, with the handles that name it and are to enter a table: what the invariant says of both.
-use Rattle.zl_calls.proofs.Common.{◌≡◌, ◌<◌, ◌+◌, ◌^◌, ℕ, Bool, nat_cmp, is_sorted, nat_lt, true}
-use Rattle.zl_calls.proofs.Common.{false, ◌||◌, ◌==◌, List, [], ◌∷◌, ◌++◌, map, refl, sym, ap, ◌∙◌, subst, cond, Option, Some, None, inl, inr, IsTrue, arith}
-use Rattle.zl_calls.proofs.Common.{eq-eqb, if◌then◌else◌, is_some, list_any, count_by, sum_by-cons, cases_Bool, eqb-true, false≢true, same_Some, Map, get, put}
-use Rattle.zl_calls.proofs.Common.{has_key, is_process, map-append, state_passes, All, All-nil, has_living_child, handles_to, get-put, sorted_put, put_key}
-use Rattle.zl_calls.proofs.Common.{queued_to, body_value, Objects, AreKeptBut, new_object, with_new, is_kept, stays_alone, is_child, is_job_at, is_job_in}
-use Rattle.zl_calls.proofs.Common.{object_entry, object_value, process_entry, world_value, IsConsistent, IsSound, AreNamed, IsNamed, Agrees, is_in_job}
+use Rattle.zl_calls.proofs.Common.{◌≡◌, ◌<◌, ◌+◌, ◌^◌, ℕ, Bool, nat_cmp, is_sorted, nat_lt, true, false, ◌||◌, ◌==◌, List, [], ◌∷◌, ◌++◌, map, refl, sym, ap}
+use Rattle.zl_calls.proofs.Common.{◌∙◌, subst, cond, Option, Some, None, inl, inr, IsTrue, arith, eq-eqb, if◌then◌else◌, is_some, list_any, count_by}
+use Rattle.zl_calls.proofs.Common.{sum_by-cons, cases_Bool, eqb-true, false≢true, same_Some, Map, get, put, has_key, is_process, map-append, state_passes, All}
+use Rattle.zl_calls.proofs.Common.{All-nil, has_living_child, handles_to, get-put, sorted_put, put_key, queued_to, body_value, Objects, AreKeptBut, new_object}
+use Rattle.zl_calls.proofs.Common.{with_new, is_kept, stays_alone, is_child, is_job_at, is_job_in, object_entry, object_value, process_entry, world_value}
+use Rattle.zl_calls.proofs.Common.{IsConsistent, IsSound, AreNamed, IsNamed, Agrees, is_in_job, Entry, Message, put_last, has_seen, kept_all}
 use Rattle.zl_code.proofs.Common.{Process as ProcessValue, State as StateValue}
-use Rattle.zl_rights.specs.declared.entry.Entry.{Entry}
 use Rattle.zl_objects.specs.declared.object.Body.{Body}
 use Rattle.zl_objects.specs.declared.object.Body.TheVariants as body
 use Rattle.zl_objects.specs.declared.object.Object.{Object}
 use Rattle.zl_calls.specs.declared.process.Process.{Process}
-use Rattle.zl_rights.specs.World.{Message}
 use Rattle.zl_objects.specs.Objects.{queue_of}
 use Rattle.zl_objects.proofs.Bodies.{more_in_job}
-use Rattle.zl_objects.proofs.ByKoid.{put_last}
-use Rattle.zl_objects.proofs.Law.{has_seen, kept_all}
 use Rattle.zl_calls.proofs.objects.Counted.{never_named}
 use Rattle.zl_calls.proofs.objects.Counting.{queues_grown, same_tables}
 use Rattle.zl_calls.proofs.objects.SameBodies.{kept_each, still_agrees, still_named}

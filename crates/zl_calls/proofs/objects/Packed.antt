@@ -1,13 +1,10 @@
 -- The packets of one port change, and nothing else: what is seen of it, and the invariant.
-use Rattle.zl_calls.proofs.Common.{◌≡◌, ℕ, List, refl, ap, PortBody, Objects, object_value, body_value, IsConsistent}
-use Rattle.zl_rights.specs.World.{Packet}
-use Rattle.zl_port.specs.Packets.{Port}
-use Rattle.zl_code.specs.Waiting.{body_packed, repacked}
+use Rattle.zl_calls.proofs.Common.{◌≡◌, ℕ, List, refl, ap, PortBody, Objects, object_value, body_value, IsConsistent, Packet, Port, body_packed, repacked}
+use Rattle.zl_calls.proofs.Common.{at_port, changed_port, changing_port}
 use Rattle.zl_objects.specs.declared.object.Body.{Body}
 use Rattle.zl_objects.specs.declared.object.Body.TheVariants as body
 use Rattle.zl_objects.specs.declared.object.Object.{Object}
 use Rattle.zl_objects.specs.Objects.{queue_of}
-use Rattle.zl_objects.specs.Ports.{at_port, changed_port, changing_port}
 use Rattle.zl_calls.specs.declared.process.Process.{Process}
 use Rattle.zl_calls.proofs.objects.Rebodied.{IsAlike, alike_itself, quiet_consistent}
 

@@ -1,8 +1,6 @@
 -- The queue of one object changes, and nothing else of it: what the invariant says of the objects.
 use Rattle.zl_calls.proofs.Common.{◌≡◌, ◌+◌, ℕ, ◌==◌, List, [], refl, Some, arith, count_by, Map, get, update, handles_to, Objects, AreKeptBut, AreNamed}
-use Rattle.zl_calls.proofs.Common.{IsNamed, IsSound, world_value}
-use Rattle.zl_rights.specs.World.{Message}
-use Rattle.zl_rights.specs.declared.entry.Entry.{Entry}
+use Rattle.zl_calls.proofs.Common.{IsNamed, IsSound, world_value, Message, Entry}
 use Rattle.zl_objects.specs.declared.object.Body.{Body}
 use Rattle.zl_objects.specs.declared.object.Body.TheVariants as body
 use Rattle.zl_objects.specs.declared.object.Object.{Object}

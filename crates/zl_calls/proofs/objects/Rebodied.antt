@@ -2,15 +2,12 @@
 use Rattle.zl_calls.proofs.Common.{◌≡◌, ◌+◌, ℕ, false, ◌==◌, List, [], refl, sym, ap, ◌∙◌, subst, Some, inl, inr, IsTrue, nat_lt, or_left, or_right, count_by}
 use Rattle.zl_calls.proofs.Common.{sum_by, Map, get, update, kind_of, handles_to, queued_to, is_process, has_key-update, is_sorted-update, Objects, AreKeptBut}
 use Rattle.zl_calls.proofs.Common.{is_kept, is_child, stays_alone, is_in_job, body_value, world_value, Agrees, AreNamed, IsConsistent, IsNamed, IsSound, World}
-use Rattle.std.proofs.lemmas.Bool.{or_cases}
-use Rattle.zl_rights.specs.declared.entry.Entry.{Entry}
-use Rattle.zl_rights.specs.World.{Message}
+use Rattle.zl_calls.proofs.Common.{or_cases, Entry, Message, same_in_job, kept_all}
 use Rattle.zl_objects.specs.declared.object.Body.{Body}
 use Rattle.zl_objects.specs.declared.object.Body.TheVariants as body
 use Rattle.zl_objects.specs.declared.object.Object.{Object}
 use Rattle.zl_objects.specs.Objects.{queue_of}
-use Rattle.zl_objects.proofs.Bodies.{alone_changed, same_in_job}
-use Rattle.zl_objects.proofs.Law.{kept_all}
+use Rattle.zl_objects.proofs.Bodies.{alone_changed}
 use Rattle.zl_calls.specs.declared.process.Process.{Process}
 use Rattle.zl_calls.proofs.objects.Counting.{queues_kept, same_tables}
 use Rattle.zl_calls.proofs.objects.SameBodies.{each_updated, jobs_kept, kept_each, named_kept, still_agrees, still_named}

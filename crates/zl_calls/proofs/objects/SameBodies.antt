@@ -1,13 +1,11 @@
 -- A change of one object that leaves its kind or its body as it is: what the invariant says of those stays.
-use Rattle.zl_calls.proofs.Common.{◌≡◌, ℕ, Bool, true, false, ◌==◌, List, refl, sym, ◌∙◌, subst, Option, Some, None, inl, inr, IsTrue, if◌then◌else◌, option_map}
-use Rattle.zl_calls.proofs.Common.{cases_Bool, none-some, same_Some, Map, get, update, get-update, false≢true, [], nat_cmp, is_sorted, is_kept, AreKeptBut}
-use Rattle.zl_calls.proofs.Common.{is_process, runs, lives, Agrees, AreNamed, IsNamed, World, ap, kind_of, body_value, is_job_at, is_job_body, is_job_in, eqb-true}
+use Rattle.zl_calls.proofs.Common.{◌≡◌, ℕ, Bool, true, false, ◌==◌, List, refl, sym, ◌∙◌, subst, Option, Some, None, inl, inr, IsTrue, if◌then◌else◌}
+use Rattle.zl_calls.proofs.Common.{option_map, cases_Bool, none-some, same_Some, Map, get, update, get-update, false≢true, [], nat_cmp, is_sorted, is_kept}
+use Rattle.zl_calls.proofs.Common.{AreKeptBut, is_process, runs, lives, Agrees, AreNamed, IsNamed, World, ap, kind_of, body_value, is_job_at, is_job_body}
+use Rattle.zl_calls.proofs.Common.{is_job_in, eqb-true, Entry, Kind, Message}
 use Rattle.zl_code.proofs.Common.{State as StateValue, slice_index_or}
-use Rattle.zl_rights.specs.declared.entry.Entry.{Entry}
 use Rattle.zl_rights.specs.Signals.{has_ended}
-use Rattle.zl_rights.specs.declared.kind.Kind.{Kind}
 use Rattle.zl_rights.specs.declared.kind.Kind.TheVariants as kind
-use Rattle.zl_rights.specs.World.{Message}
 use Rattle.zl_objects.specs.declared.object.Body.{Body}
 use Rattle.zl_objects.specs.declared.object.Body.TheVariants as body
 use Rattle.zl_objects.specs.declared.object.Object.{Object}

@@ -1,23 +1,21 @@
 -- Objects that are the same but for waits and the places for their packets: the world sees the same, and the invariant holds.
 use Rattle.zl_calls.proofs.Common.{◌≡◌, ℕ, Bool, ◌==◌, List, [], ◌∷◌, map, refl, sym, ap, ◌∙◌, subst, Option, Some, None, inl, inr, IsTrue, cases_Bool}
 use Rattle.zl_calls.proofs.Common.{eqb-true, false≢true, same_Some, is_some, Map, get, has_key, update, kind_of, handles_to, Objects, Agrees, object_entry}
-use Rattle.zl_calls.proofs.Common.{body_value, world_value, AreNamed, IsConsistent, IsNamed, World}
+use Rattle.zl_calls.proofs.Common.{body_value, world_value, AreNamed, IsConsistent, IsNamed, World, Entry, Watch, Port, without_place, watching, at_port}
+use Rattle.zl_calls.proofs.Common.{changed_port, at_port_of, unwatched, unwatching, waits_in, AreBeside}
 use Rattle.zl_code.proofs.Common.{each}
 use Rattle.std.specs.List.{find}
-use Rattle.zl_rights.specs.declared.entry.Entry.{Entry}
-use Rattle.zl_signals.specs.declared.watch.Watch.{Watch}
-use Rattle.zl_port.specs.Packets.{Port, with_place, without_place}
+use Rattle.zl_port.specs.Packets.{with_place}
 use Rattle.zl_objects.specs.declared.object.Body.{Body}
 use Rattle.zl_objects.specs.declared.object.Body.TheVariants as body
 use Rattle.zl_objects.specs.declared.object.Object.{Object}
 use Rattle.zl_objects.specs.declared.wait.Wait.{Wait}
-use Rattle.zl_objects.specs.Listed.{watch_of, watching}
+use Rattle.zl_objects.specs.Listed.{watch_of}
 use Rattle.zl_objects.specs.Objects.{queue_of}
-use Rattle.zl_objects.specs.Ports.{at_port, changed_port, unreserved}
-use Rattle.zl_objects.specs.Waits.{AreSameButWaits, at_port_of, bare, unwatched, unwatching, waits_in, watched}
+use Rattle.zl_objects.specs.Ports.{unreserved}
+use Rattle.zl_objects.specs.Waits.{AreSameButWaits, bare, watched}
 use Rattle.zl_objects.proofs.Bare.{IsAlike, agrees_same, alike, has_same, in_job_same, of_body, same_then, seen_same, still_kept}
 use Rattle.zl_calls.specs.declared.process.Process.{Process}
-use Rattle.zl_calls.specs.Registered.{AreBeside}
 use Rattle.zl_calls.proofs.objects.SameBodies.{still_named}
 
 -- ---- what stays

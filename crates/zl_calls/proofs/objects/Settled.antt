@@ -3,18 +3,17 @@ use Rattle.zl_calls.proofs.Common.{◌≡◌, ◌<◌, ℕ, zero, suc, Bool, tru
 use Rattle.zl_calls.proofs.Common.{inl, inr, ◌⊎◌, IsTrue, arith, eq-eqb, count_by, list_any, sum_by-cons, append-nil, is_some, or_left, or_right, false≢true}
 use Rattle.zl_calls.proofs.Common.{none-some, same_Some, nat_cmp, is_sorted, Map, get, has_key, without, kind_of, Settles, handles_to, queued_to}
 use Rattle.zl_calls.proofs.Common.{sorted_without, Objects, AreKeptBut, Cascades, none_left, Releases, IsExact, body_value, object_value, object_entry}
-use Rattle.zl_calls.proofs.Common.{process_entry, world_value, AreNamed, IsConsistent, IsNamed, IsSound, World, is_process}
+use Rattle.zl_calls.proofs.Common.{process_entry, world_value, AreNamed, IsConsistent, IsNamed, IsSound, World, is_process, Entry, Message, Found, any_found}
+use Rattle.zl_calls.proofs.Common.{get_seen, Was, cascaded_was, releases_then, counted_any, positive_part}
 use Rattle.zl_code.proofs.Common.{Process as ProcessValue, queue_of as queue_value, slice_index_or}
-use Rattle.zl_rights.specs.declared.entry.Entry.{Entry}
 use Rattle.zl_rights.specs.Settle.{names}
-use Rattle.zl_rights.specs.World.{Message}
 use Rattle.zl_objects.specs.declared.object.Object.{Object}
 use Rattle.zl_objects.specs.Objects.{queue_of}
 use Rattle.zl_objects.specs.Seen.{with_objects}
-use Rattle.zl_objects.proofs.Found.{Found, any_found, any_at}
-use Rattle.zl_objects.proofs.Law.{cascaded, get_seen, queue_named, settles_left}
-use Rattle.zl_objects.proofs.Released.{Was, cascaded_was, releases_then, was_queue, was_seen}
-use Rattle.zl_objects.proofs.Sums.{any_counted, any_summed, counted_any, positive_part}
+use Rattle.zl_objects.proofs.Found.{any_at}
+use Rattle.zl_objects.proofs.Law.{cascaded, queue_named, settles_left}
+use Rattle.zl_objects.proofs.Released.{was_queue, was_seen}
+use Rattle.zl_objects.proofs.Sums.{any_counted, any_summed}
 use Rattle.zl_calls.specs.declared.process.Process.{Process}
 use Rattle.zl_calls.specs.calls.Process.{Drained, none_left as none_drained, one_more}
 use Rattle.zl_calls.proofs.objects.Counted.{counted_there, is_there, queue_seen}

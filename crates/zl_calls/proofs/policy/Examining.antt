@@ -1,35 +1,24 @@
 -- What a policy is asked goes by the row of the call: its condition, and the faults of its handle operands from left to right.
+use Rattle.zl_calls.proofs.Common.{result_err, reg, condition_of, operand_by, CallInstr, CallName, looked_up, TRANSFER, WRITE, Entry, Condition, Status}
+use Rattle.zl_calls.proofs.Common.{field_of, fields_fault, last_fault, job_at, verdict_by, verdict_in, verdict_on, Verdict, fault_of, list_refusal}
 use Rattle.zl_code.proofs.Common.{Bool, Cpu, IfSome, List, Map, None, Ok, Err, Option, Result, Row, Site, Some, [], ap, call_row, consumes, contains}
 use Rattle.zl_code.proofs.Common.{flat_map, get, handle_operands, if◌then◌else◌, map, option_or, refl, slice_index, site_of, subst, sym, then_some, true}
 use Rattle.zl_code.proofs.Common.{false, ℕ, ◌++◌, ◌==◌, ◌||◌, ◌∙◌, ◌∷◌, ◌≡◌}
-use Rattle.zl_code.proofs.Common.{arith, drop, get_or, length, zero, suc, ◌+◌, ◌<◌}
-use Rattle.std.specs.Result.{result_err}
+use Rattle.zl_code.proofs.Common.{arith, drop, get_or, length, zero, suc, ◌<◌}
 use Rattle.std.proofs.Math.Bool.{or_comm}
 use Rattle.std.proofs.lemmas.List.Recursion.{or_push}
 use Rattle.zl_code.specs.Asked.{used}
-use Rattle.zl_code.specs.Local.{reg}
-use Rattle.zl_code.specs.Refusals.{condition_of, operand_by}
 use Rattle.zl_code.specs.Request.{site_at}
 use Rattle.zl_code.proofs.CallRows.{site_named}
-use Rattle.zl_code.specs.declared.instr.CallInstr.{CallInstr}
-use Rattle.zl_code.specs.declared.history.CallName.{CallName}
 use Rattle.zl_code.specs.declared.history.CallName.TheVariants as name
-use Rattle.zl_rights.specs.LookUp.{looked_up}
-use Rattle.zl_rights.specs.Numbers.{TRANSFER, WRITE}
-use Rattle.zl_rights.specs.declared.entry.Entry.{Entry}
 use Rattle.zl_rights.specs.declared.kind.Kind.TheVariants as kind
-use Rattle.zl_rights.specs.declared.policy.Condition.{Condition}
-use Rattle.zl_rights.specs.declared.status.Status.{Status}
 use Rattle.zl_rights.specs.declared.status.Status.TheVariants as status
-use Rattle.zl_code.specs.Instructions.{field_of}
 use Rattle.zl_code.specs.declared.layout.Field.{Field}
-use Rattle.zl_calls.specs.FieldFaults.{field_fault, fields_fault, last_fault}
-use Rattle.zl_objects.specs.Jobs.{action_of, job_at}
+use Rattle.zl_calls.specs.FieldFaults.{field_fault}
+use Rattle.zl_objects.specs.Jobs.{action_of}
 use Rattle.zl_objects.specs.Objects.{job_in}
 use Rattle.zl_objects.specs.declared.object.Object.{Object}
-use Rattle.zl_calls.specs.Policed.{operands_fault, verdict_by, verdict_in, verdict_on}
-use Rattle.zl_calls.specs.declared.policy.Verdict.{Verdict}
-use Rattle.zl_calls.specs.calls.Channel.{fault_of, list_refusal}
+use Rattle.zl_calls.specs.Policed.{operands_fault}
 
 -- a site that may not be there
 pub if_there : (there : Bool) (s : Site) (P : Site → Type 0) → P s → IfSome (then_some there s) P

@@ -1,19 +1,16 @@
 -- Where the policy of a process's job has no verdict on its call, no policy has a say at all.
-use Rattle.zl_calls.proofs.Common.{◌≡◌, ℕ, true, false, List, map, refl, sym, ap, ◌∙◌, Option, Some, None, arith, false≢true, same_Some, subst}
-use Rattle.zl_calls.proofs.Common.{option_map, is_ready, lives, Library, Site, AtCall, next_for, refusal}
-use Rattle.zl_calls.proofs.Common.{get, Objects, body_in, body_value, is_job_at, is_job_body, is_job_in, object_entry, object_value, process_entry}
-use Rattle.zl_calls.proofs.Common.{process_value, state_value, world_blocked, IsConsistent, World}
-use Rattle.zl_code.proofs.Common.{Body as BodyValue, JobBody, Next, Process as ProcessValue}
+use Rattle.zl_calls.proofs.Common.{◌≡◌, ℕ, true, false, List, map, refl, sym, ap, ◌∙◌, Option, Some, None, arith, false≢true, same_Some, subst, option_map}
+use Rattle.zl_calls.proofs.Common.{is_ready, lives, Library, Site, AtCall, next_for, refusal, get, Objects, body_in, body_value, is_job_at, is_job_body}
+use Rattle.zl_calls.proofs.Common.{is_job_in, object_entry, object_value, process_entry, process_value, state_value, world_blocked, IsConsistent, World, Next}
+use Rattle.zl_calls.proofs.Common.{CallName, get_seen, verdict_on}
+use Rattle.zl_code.proofs.Common.{Body as BodyValue, JobBody, Process as ProcessValue}
 use Rattle.std.specs.Prelude.{Bool}
 use Rattle.zl_code.specs.Refusals.{refusal as policed_refusal}
 use Rattle.zl_code.specs.Sound.{IsSound as IsSoundWorld}
-use Rattle.zl_code.specs.declared.history.CallName.{CallName}
 use Rattle.zl_rights.specs.Map.{Map}
-use Rattle.zl_objects.proofs.Law.{get_seen}
 use Rattle.zl_objects.specs.declared.object.Body.{Body}
 use Rattle.zl_objects.specs.declared.object.Body.TheVariants as body
 use Rattle.zl_objects.specs.declared.object.Object.{Object}
-use Rattle.zl_calls.specs.Policed.{verdict_on}
 use Rattle.zl_calls.specs.declared.process.State.{State}
 use Rattle.zl_calls.specs.declared.process.State.TheVariants as state
 use Rattle.zl_calls.specs.declared.process.Process.{Process}

@@ -1,16 +1,11 @@
 -- A call in the midst of all processes that the policy of its process's job ends.
 use Rattle.zl_calls.proofs.Common.{◌≡◌, ℕ, true, false, ◌==◌, List, get_or, set, refl, sym, ap, subst, Some, position, is_ready, Ready, Library, Site, AtCall}
-use Rattle.zl_calls.proofs.Common.{next_for, Objects, process_value, state_value, world_blocked, AreBlocked, IsConsistent}
+use Rattle.zl_calls.proofs.Common.{next_for, Objects, process_value, state_value, world_blocked, AreBlocked, IsConsistent, CallName, Outcome, is_blocking}
+use Rattle.zl_calls.proofs.Common.{EndsBy, Policed, Parts, parts, Verdict}
 use Rattle.zl_code.proofs.Common.{is_blocked}
 use Rattle.zl_code.specs.Sound.{IsSound as IsSoundWorld}
-use Rattle.zl_code.specs.declared.history.CallName.{CallName}
-use Rattle.zl_code.specs.declared.history.Outcome.{Outcome}
 use Rattle.zl_code.specs.declared.history.TraceItem.TheVariants as item
-use Rattle.zl_code.proofs.Waiters.{is_blocking}
-use Rattle.zl_calls.specs.Policed.{EndsBy, Policed}
 use Rattle.zl_calls.specs.Reaching.{IsAlone}
-use Rattle.zl_calls.specs.calls.Task.{Parts, parts}
-use Rattle.zl_calls.specs.declared.policy.Verdict.{Verdict}
 use Rattle.zl_calls.specs.declared.policy.Verdict.TheVariants as verdict
 use Rattle.zl_calls.specs.declared.process.Process.{Process}
 use Rattle.zl_calls.proofs.calls.Answered.{IsWrite}

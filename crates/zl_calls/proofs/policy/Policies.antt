@@ -1,35 +1,27 @@
 -- The refusal of a call: the verdict of a policy, and behind it the refusal where no policy decides.
+use Rattle.zl_calls.proofs.Common.{result_err, granted, BY_POLICY, Entry, Condition, Status, true≢false, condition_of, Operand, Outcome, get_seen, job_at}
+use Rattle.zl_calls.proofs.Common.{on_fault_by, verdict_by, verdict_in, verdict_on, Verdict}
 use Rattle.std.specs.Prelude.{ℕ, ◌≡◌, Bool, true, false, ◌&&◌, ◌==◌, List, [], ◌∷◌, map, Option, Some, None, Result, Ok, Err, if◌then◌else◌, unwrap_or}
 use Rattle.std.specs.Option.{option_map, option_or}
-use Rattle.std.specs.Result.{result_err}
 use Rattle.zl_rights.specs.Common.{World, Map, condition_number}
-use Rattle.zl_rights.specs.LookUp.{granted}
-use Rattle.zl_rights.specs.Numbers.{BY_POLICY}
-use Rattle.zl_rights.specs.declared.entry.Entry.{Entry}
 use Rattle.zl_rights.specs.declared.policy.Action.{Action}
 use Rattle.zl_rights.specs.declared.policy.Action.TheVariants as action
-use Rattle.zl_rights.specs.declared.policy.Condition.{Condition}
 use Rattle.zl_rights.specs.declared.policy.Condition.TheVariants as condition
-use Rattle.zl_rights.specs.declared.status.Status.{Status}
 use Rattle.zl_rights.specs.declared.status.Status.TheVariants as status
-use Rattle.zl_code.proofs.Common.{get, refusal, examined, operand, handle_operands, listed, ap, refl, ◌∙◌, true≢false}
+use Rattle.zl_code.proofs.Common.{get, refusal, examined, operand, handle_operands, listed, ap, refl, ◌∙◌}
 use Rattle.zl_code.specs.CallTable.{Request}
 use Rattle.zl_code.specs.First.{first_some}
 use Rattle.zl_code.specs.Image.{Library}
-use Rattle.zl_code.specs.Refusals.{condition_of}
 use Rattle.zl_code.specs.Tests.{action_of, body_in, entry_at, parent_in, parent_of, policy_in, table_of}
-use Rattle.zl_code.specs.Operands.{Operand, by_look_up, by_policy, contains, creates, ends_if_kill, operand_after, seen_after, unless_allowed}
-use Rattle.zl_code.specs.declared.history.Outcome.{Outcome}
+use Rattle.zl_code.specs.Operands.{by_look_up, by_policy, contains, creates, ends_if_kill, operand_after, seen_after, unless_allowed}
 use Rattle.zl_code.specs.declared.history.Outcome.TheVariants as outcome
-use Rattle.zl_objects.proofs.Law.{get_seen}
-use Rattle.zl_objects.specs.Jobs.{action_of as job_action, as_job, as_job_in, job_at}
+use Rattle.zl_objects.specs.Jobs.{action_of as job_action, as_job, as_job_in}
 use Rattle.zl_objects.specs.Objects.{is_job_at, is_job_body, is_job_in, job_in, job_of}
 use Rattle.zl_objects.specs.Seen.{body_value, object_entry, object_value}
 use Rattle.zl_objects.specs.declared.object.Body.{Body}
 use Rattle.zl_objects.specs.declared.object.Body.TheVariants as body
 use Rattle.zl_objects.specs.declared.object.Object.{Object}
-use Rattle.zl_calls.specs.Policed.{fault_after, on_fault_by, on_making, operands_fault, verdict_by, verdict_in, verdict_on}
-use Rattle.zl_calls.specs.declared.policy.Verdict.{Verdict}
+use Rattle.zl_calls.specs.Policed.{fault_after, on_making, operands_fault}
 use Rattle.zl_calls.specs.declared.policy.Verdict.TheVariants as verdict
 use Rattle.zl_calls.proofs.policy.Plain.{answers, refusal as plain_refusal}
 

@@ -1,19 +1,14 @@
 -- What the code finds of a policy's verdict: none where nothing is set, and what an answer of the code says of it.
-use Rattle.zl_calls.proofs.Common.{◌≡◌, ℕ, false, not, ◌∷◌, [], sym, ap, ◌∙◌, Option, Some, None, Map, Request, Site, get, is_empty, Objects}
+use Rattle.zl_calls.proofs.Common.{◌≡◌, ℕ, false, not, ◌∷◌, [], sym, ap, ◌∙◌, Option, Some, None, Map, Request, Site, get, is_empty, Objects, true≢false}
+use Rattle.zl_calls.proofs.Common.{Outcome, condition_of, Job, Entry, Condition, Status, job_at, IsDenied, Policed, verdict_by, verdict_in, verdict_on}
 use Rattle.std.specs.Prelude.{IfSome}
-use Rattle.zl_code.proofs.Common.{true≢false}
-use Rattle.zl_code.specs.declared.history.Outcome.{Outcome}
-use Rattle.zl_code.specs.Refusals.{condition_of, handle_operands}
-use Rattle.zl_jobs.specs.Jobs.{Job}
+use Rattle.zl_code.specs.Refusals.{handle_operands}
 use Rattle.zl_rights.specs.Policies.{action_in}
-use Rattle.zl_rights.specs.declared.entry.Entry.{Entry}
 use Rattle.zl_rights.specs.declared.policy.Action.{Action}
-use Rattle.zl_rights.specs.declared.policy.Condition.{Condition}
-use Rattle.zl_rights.specs.declared.status.Status.{Status}
-use Rattle.zl_objects.specs.Jobs.{action_of, has_actions, job_at}
+use Rattle.zl_objects.specs.Jobs.{action_of, has_actions}
 use Rattle.zl_objects.specs.Objects.{job_in}
 use Rattle.zl_objects.specs.declared.object.Object.{Object}
-use Rattle.zl_calls.specs.Policed.{IsDenied, Policed, operands_fault, verdict_by, verdict_in, verdict_on}
+use Rattle.zl_calls.specs.Policed.{operands_fault}
 use Rattle.zl_calls.specs.declared.policy.Verdict.TheVariants as verdict
 use Rattle.zl_calls.specs.declared.process.Process.{Process}
 use Rattle.zl_calls.proofs.policy.Policies.{verdict_allowed}

@@ -1,7 +1,6 @@
 -- An answer goes into its destinations, one after another.
-use Rattle.zl_calls.proofs.Common.{◌≡◌, ◌<◌, ◌+◌, ℕ, zero, suc, List, [], ◌∷◌, length, get_or, refl, sym, ◌∙◌, arith}
+use Rattle.zl_calls.proofs.Common.{◌≡◌, ◌<◌, ◌+◌, ℕ, zero, suc, List, [], ◌∷◌, length, get_or, refl, sym, ◌∙◌, arith, written}
 use Rattle.std.specs.Prelude.{drop, slice_index, slice_set}
-use Rattle.zl_rights.specs.World.{written}
 
 nothing_left : (n : ℕ) → (drop {A = ℕ} n [] ≡ []) × (slice_index [] n ≡ 0)
 nothing_left zero = (refl, refl)

@@ -3,17 +3,14 @@ use Rattle.zl_calls.proofs.Common.{◌≡◌, ◌+◌, ◌<◌, ◌^◌, ◌==�
 use Rattle.zl_calls.proofs.Common.{ap, ◌∙◌, subst, Option, Some, None, IsTrue, eq-eqb, is_some, none-some, same_Some, cond, if◌then◌else◌, option_map, nat_cmp}
 use Rattle.zl_calls.proofs.Common.{is_sorted, Map, get, has_key, where_key, each, lives, Koids, handles_to, process_settled, Objects, AreBlocked, IsConsistent}
 use Rattle.zl_calls.proofs.Common.{object_entry, process_entry, state_value, world_value, without_others, state_without, state_passes, is_process, Bool, World}
+use Rattle.zl_calls.proofs.Common.{in_order-each, same_map, passes, has_seen}
 use Rattle.zl_code.proofs.Common.{Process as ProcessValue, Object as ObjectValue, State as StateValue, Created, is_blocked}
-use Rattle.zl_code.proofs.MapKept.{in_order-each}
 use Rattle.zl_rights.proofs.MapLaws.{get-each}
-use Rattle.zl_rights.proofs.Canonical.{same_map}
-use Rattle.std.specs.Bool.{passes}
 use Rattle.zl_calls.specs.declared.process.State.{State}
 use Rattle.zl_calls.specs.declared.process.State.TheVariants as state
 use Rattle.zl_calls.specs.declared.process.Process.{Process}
 use Rattle.zl_calls.specs.Leaving.{left_beside, left_state}
 use Rattle.zl_objects.specs.Seen.{with_all}
-use Rattle.zl_objects.proofs.Law.{has_seen}
 use Rattle.zl_calls.proofs.objects.SameBodies.{still_agrees}
 
 -- the processes, of which those that were never started are gone without their objects

@@ -1,9 +1,8 @@
 -- Processes that were made and not started have no handles; and each process stands where its koid is.
 use Rattle.zl_calls.proofs.Common.{◌≡◌, ℕ, zero, suc, true, false, List, [], ◌∷◌, map, refl, Some, IsTrue, eq-eqb, false≢true, none-some, same_Some, nat_cmp}
-use Rattle.zl_calls.proofs.Common.{is_sorted, slice_get, sorted_parts, get, runs, Objects, process_entry, process_value, state_value, world_blocked}
+use Rattle.zl_calls.proofs.Common.{is_sorted, slice_get, sorted_parts, get, runs, Objects, process_entry, process_value, state_value, world_blocked, is_created}
+use Rattle.zl_calls.proofs.Common.{AreBare}
 use Rattle.zl_code.specs.Sound.{IsSound as IsSoundWorld}
-use Rattle.zl_code.specs.Starting.{is_created}
-use Rattle.zl_calls.specs.calls.Task.{AreBare}
 use Rattle.zl_calls.specs.declared.process.State.{State}
 use Rattle.zl_calls.specs.declared.process.State.TheVariants as state
 use Rattle.zl_calls.specs.declared.process.Process.{Process}

@@ -2,17 +2,13 @@
 use Rattle.zl_calls.proofs.Common.{cases_Bool, eqb-true, eq-eqb, ◌==◌, if◌then◌else◌, ◌≡◌, ◌<◌, ◌+◌, ◌^◌, ◌⊎◌, ℕ, Bool, false, List, [], ◌∷◌, ◌++◌, map, refl}
 use Rattle.zl_calls.proofs.Common.{sym, ap, ◌∙◌, subst, cond, Some, inl, inr, IsTrue, arith, sum_by, count_by, sum_by-cons, map-append, same_Some, Map, get}
 use Rattle.zl_calls.proofs.Common.{put, is_process, handles_to, get-put, IsTable, sorted_put, put_key, Objects, new_object, with_new, process_entry}
-use Rattle.zl_calls.proofs.Common.{process_value, state_value, world_value, IsNamed, Agrees, AreNamed, All, All-nil, is_in_job, IsSound}
+use Rattle.zl_calls.proofs.Common.{process_value, state_value, world_value, IsNamed, Agrees, AreNamed, All, All-nil, is_in_job, IsSound, sum_by-append, Entry}
+use Rattle.zl_calls.proofs.Common.{Message, Life, put_last}
 use Rattle.zl_code.proofs.Common.{Process as ProcessValue, State as StateValue}
-use Rattle.std.proofs.lemmas.List.Sums.{sum_by-append}
-use Rattle.zl_rights.specs.declared.entry.Entry.{Entry}
-use Rattle.zl_rights.specs.World.{Message}
 use Rattle.zl_objects.specs.declared.object.Body.{Body}
 use Rattle.zl_objects.specs.declared.object.Body.TheVariants as body
-use Rattle.zl_objects.specs.declared.object.Life.{Life}
 use Rattle.zl_objects.specs.declared.object.Object.{Object}
 use Rattle.zl_objects.specs.Objects.{queue_of}
-use Rattle.zl_objects.proofs.ByKoid.{put_last}
 use Rattle.zl_calls.specs.declared.process.Process.{Process}
 use Rattle.zl_calls.proofs.objects.Counting.{queues_grown}
 use Rattle.zl_calls.proofs.objects.Grown.{found_grown, grown_in_order, grown_named, still_in_job, unnamed}

@@ -2,15 +2,10 @@
 use Rattle.zl_calls.proofs.Common.{◌≡◌, ◌<◌, ◌≤◌, ℕ, IsTrue, false≢true, Result, Ok, Err, arith, is_some, is_process, is_ready_in, List, length, map, get_or}
 use Rattle.zl_calls.proofs.Common.{set, replicate, refl, sym, ap, ◌∙◌, subst, Option, Some, None, none-some, same_Some, option_map, position, ◌==◌, true}
 use Rattle.zl_calls.proofs.Common.{slice_get, slice_get-get_or, get, Cpu, Program, is_ready, Settles, wakes, on_process, Library, Objects, process_entry}
-use Rattle.zl_calls.proofs.Common.{process_value, state_value, world_blocked, AreBlocked, IsConsistent, IsPlaceOf, World}
-use Rattle.std.proofs.lemmas.Option.{slice_get_within}
-use Rattle.zl_code.proofs.Common.{IfOk, Runs, IsSound as IsSoundWorld}
-use Rattle.zl_code.proofs.ProgramsKept.{step_programs}
-use Rattle.zl_code.proofs.SoundRuns.{step_sound}
-use Rattle.zl_code.specs.Programs.{HavePrograms}
+use Rattle.zl_calls.proofs.Common.{process_value, state_value, world_blocked, AreBlocked, IsConsistent, IsPlaceOf, World, slice_get_within, Runs, step_programs}
+use Rattle.zl_calls.proofs.Common.{step_sound, HavePrograms, after_locals, Stands}
+use Rattle.zl_code.proofs.Common.{IfOk, IsSound as IsSoundWorld}
 use Rattle.zl_code.specs.declared.history.TraceItem.TheVariants as item
-use Rattle.zl_interp.specs.Bursts.{after_locals}
-use Rattle.zl_calls.specs.Turns.{Stands}
 use Rattle.zl_calls.specs.declared.process.Process.{Process}
 use Rattle.zl_calls.proofs.stepping.LocalMoves.{stands, moved_awake, moved_rests, moved_world}
 use Rattle.zl_calls.proofs.stepping.LocalRuns.{along, locals_run}

@@ -1,15 +1,11 @@
 -- Any call of a process in the midst of all others: from what was done among them to the relation of steps, up to where processes wake.
 use Rattle.zl_calls.proofs.Common.{◌≡◌, ◌<◌, ℕ, length, slice_get-get_or, Moves, IsStuck, STUCK, Ends, call_in, true, ◌==◌, List, get_or, set, refl, sym, ap}
 use Rattle.zl_calls.proofs.Common.{◌∙◌, subst, Some, None, same_Some, position, slice_get, is_ready, Library, Site, AtCall, next_for, calls_at, Objects}
-use Rattle.zl_calls.proofs.Common.{process_value, state_value, world_blocked, world_value, AreBlocked, IsConsistent}
+use Rattle.zl_calls.proofs.Common.{process_value, state_value, world_blocked, world_value, AreBlocked, IsConsistent, CallName, Outcome, StaysAwake, world_left}
+use Rattle.zl_calls.proofs.Common.{CallActs, CalledAmong, acts, Parts, parts}
 use Rattle.zl_code.specs.Sound.{IsSound as IsSoundWorld}
-use Rattle.zl_code.specs.declared.history.CallName.{CallName}
-use Rattle.zl_code.specs.declared.history.Outcome.{Outcome}
 use Rattle.zl_code.specs.declared.history.TraceItem.TheVariants as item
-use Rattle.zl_calls.specs.Acting.{StaysAwake}
-use Rattle.zl_calls.specs.Registered.{world_left}
-use Rattle.zl_calls.specs.Reaching.{CallActs, CalledAmong, acts, policed, reaches}
-use Rattle.zl_calls.specs.calls.Task.{Parts, parts}
+use Rattle.zl_calls.specs.Reaching.{policed, reaches}
 use Rattle.zl_calls.specs.declared.process.Process.{Process}
 use Rattle.zl_calls.proofs.stepping.LocalMoves.{moved_stays}
 use Rattle.zl_calls.proofs.stepping.Performing.{HasActed, HasLeft, alone_so, moves_so, stops_so, write_of}

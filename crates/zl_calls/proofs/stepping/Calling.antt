@@ -1,12 +1,10 @@
 -- A call in the midst of all processes, step by step: its policy, then what reaches others, then what it does by itself.
 use Rattle.zl_calls.proofs.Common.{◌≡◌, ◌<◌, ℕ, zero, suc, List, [], ◌∷◌, length, get_or, set, refl, sym, ap, ◌∙◌, subst, Option, Some, None, IfSome, IsSome}
-use Rattle.zl_calls.proofs.Common.{false≢true, same_Some, slice_get, slice_get-get_or, site_of, Library, Site, Objects, Acted}
-use Rattle.zl_code.specs.declared.history.Outcome.{Outcome}
-use Rattle.zl_code.specs.declared.instr.CallInstr.{CallInstr}
-use Rattle.zl_calls.specs.Policed.{Policed, verdict_on}
-use Rattle.zl_calls.specs.Reaching.{CallActs, CalledAmong, Reaches, acts, policed, reaches}
+use Rattle.zl_calls.proofs.Common.{false≢true, same_Some, slice_get, slice_get-get_or, site_of, Library, Site, Objects, Acted, Outcome, CallInstr, Policed}
+use Rattle.zl_calls.proofs.Common.{verdict_on, CallActs, CalledAmong, Reaches, acts, Parts, parts}
+use Rattle.zl_calls.specs.Reaching.{policed, reaches}
 use Rattle.zl_calls.specs.World.{CallsNext}
-use Rattle.zl_calls.specs.calls.Task.{IsReachedBy, Parts, parts}
+use Rattle.zl_calls.specs.calls.Task.{IsReachedBy}
 use Rattle.zl_calls.specs.declared.process.Process.{Process}
 
 pub set_read : {X : Type 0} (xs : List X) (n : ℕ) (x : X) → x ≡ get_or xs n x → set xs n x ≡ xs

@@ -1,15 +1,11 @@
 -- What follows from the invariant of the world, and that it makes a call a step up to where processes wake.
 use Rattle.zl_calls.proofs.Common.{◌≡◌, ◌<◌, ◌^◌, ℕ, not, List, map, refl, sym, ◌∙◌, Some, IsTrue, arith, nat_le, nat_tests, get, has_key, Ready, Option, subst}
 use Rattle.zl_calls.proofs.Common.{refusal, Settles, Library, Site, handles_to, AtCall, next_for, Calls, Objects, has_place, process_entry, process_value}
-use Rattle.zl_calls.proofs.Common.{state_value, world_value, IsConsistent, IsNamed, World, IsActed}
-use Rattle.zl_rights.specs.declared.entry.Entry.{Entry}
+use Rattle.zl_calls.proofs.Common.{state_value, world_value, IsConsistent, IsNamed, World, IsActed, Entry, CallBy, CallName, Outcome, has_seen}
 use Rattle.zl_code.proofs.Common.{Process as ProcessValue}
-use Rattle.zl_code.specs.Calls.{CallBy, Calls as PolicedCalls}
+use Rattle.zl_code.specs.Calls.{Calls as PolicedCalls}
 use Rattle.zl_code.specs.Refusals.{refusal as policed_refusal}
-use Rattle.zl_code.specs.declared.history.CallName.{CallName}
-use Rattle.zl_code.specs.declared.history.Outcome.{Outcome}
 use Rattle.zl_code.specs.declared.history.TraceItem.TheVariants as item
-use Rattle.zl_objects.proofs.Law.{has_seen}
 use Rattle.zl_calls.proofs.processes.Departed.{settled_world}
 use Rattle.zl_calls.specs.declared.process.Process.{Process}
 

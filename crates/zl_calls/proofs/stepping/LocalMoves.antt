@@ -2,18 +2,15 @@
 use Rattle.zl_calls.proofs.Common.{◌≡◌, ℕ, suc, Bool, true, false, ◌&&◌, ◌==◌, List, [], ◌∷◌, length, map, get_or, set, refl, sym, ap, ◌∙◌, subst, Option, Some}
 use Rattle.zl_calls.proofs.Common.{None, inl, inr, IsTrue, All, arith, nat_tests, position, and_from, cases_Bool, eqb-true, false≢true, none-some, is_some}
 use Rattle.zl_calls.proofs.Common.{list_any, Map, get, has_key, lives, is_process, is_ready, Settles, wakes, on_process, Library, Objects, process_entry}
-use Rattle.zl_calls.proofs.Common.{process_value, object_entry, state_value, world_blocked, world_value, AreBlocked, IsConsistent, World}
+use Rattle.zl_calls.proofs.Common.{process_value, object_entry, state_value, world_blocked, world_value, AreBlocked, IsConsistent, World, has_handle, Entry}
+use Rattle.zl_calls.proofs.Common.{IsSoundWait, settles_waiting, StaysAwake, is_left, world_left}
 use Rattle.std.specs.List.{filter}
 use Rattle.std.specs.Prelude.{slice_index_or}
-use Rattle.zl_rights.specs.Settle.{has_handle, is_made_by_handle}
+use Rattle.zl_rights.specs.Settle.{is_made_by_handle}
 use Rattle.zl_rights.specs.World.{Wait}
-use Rattle.zl_rights.specs.declared.entry.Entry.{Entry}
 use Rattle.zl_code.proofs.Common.{Object as ObjectValue, Process as ProcessValue, body_in, handles_in, is_blocked, is_port_there, IsSound as IsSoundWorld}
-use Rattle.zl_code.specs.Sound.{IsSoundWait}
 use Rattle.zl_code.proofs.AwakeMoves.{moves_awake}
-use Rattle.zl_code.proofs.StepsWaiting.{settles_waiting, is_left as is_left_at_port}
-use Rattle.zl_calls.specs.Acting.{StaysAwake}
-use Rattle.zl_calls.specs.Registered.{is_left, world_left}
+use Rattle.zl_code.proofs.StepsWaiting.{is_left as is_left_at_port}
 use Rattle.zl_calls.specs.declared.process.Process.{Process}
 use Rattle.zl_calls.proofs.calls.Answered.{IsWrite}
 use Rattle.zl_calls.proofs.waking.BlockedLists.{still_blocked}

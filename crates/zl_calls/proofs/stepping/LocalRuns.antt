@@ -1,11 +1,10 @@
 -- Local instructions in a row are steps, one after another, where what a process computes with neither holds an object nor wakes anybody.
 use Rattle.zl_calls.proofs.Common.{◌≡◌, ℕ, zero, suc, List, [], ◌∷◌, ◌++◌, replicate, refl, sym, ap, ◌∙◌, subst, Option, Some, None, inl, inr, none-some}
 use Rattle.zl_calls.proofs.Common.{same_Some, cases_Bool, eq-eqb, eqb-true, ◌==◌, slice_get, Map, get, update, get-update, Cpu, Program, Ready, Settles, wakes}
-use Rattle.zl_calls.proofs.Common.{on_process, Library, Moves, AtCall, IsStuck, Step, World}
-use Rattle.zl_code.proofs.Common.{Process as ProcessValue, Next, Runs, next_at, pid_of}
-use Rattle.zl_code.specs.declared.history.TraceItem.{TraceItem}
+use Rattle.zl_calls.proofs.Common.{on_process, Library, Moves, AtCall, IsStuck, Step, World, Next, Runs, pid_of, TraceItem, after_locals}
+use Rattle.zl_code.proofs.Common.{Process as ProcessValue, next_at}
 use Rattle.zl_code.specs.declared.history.TraceItem.TheVariants as item
-use Rattle.zl_interp.specs.Bursts.{after_locals, moved_to, then_moved}
+use Rattle.zl_interp.specs.Bursts.{moved_to, then_moved}
 
 -- ---- maps
 

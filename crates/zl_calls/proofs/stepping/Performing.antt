@@ -3,11 +3,9 @@ use Rattle.zl_calls.proofs.Common.{◌≡◌, ◌⊎◌, inl, inr, ℕ, true, fa
 use Rattle.zl_calls.proofs.Common.{false≢true, STUCK, Map, get, Ready, is_ready, on_process, state_passes, Library, Site, cases_Bool, IsStuck, Moves, next_for}
 use Rattle.zl_calls.proofs.Common.{Objects, process_entry, process_value, state_value, world_blocked, world_value, IsConsistent, AreBlocked, DoesNext}
 use Rattle.zl_calls.proofs.Common.{is_process, IsActed, Ends, Settles, lives, has_key, is_some, none-some, subst, IsTrue, AtCall, ProcessBody, body_in}
-use Rattle.zl_calls.proofs.Common.{object_entry, Acted}
-use Rattle.zl_code.proofs.Common.{Object as ObjectValue, Process as ProcessValue, Body, is_blocked, pid_of}
-use Rattle.zl_code.specs.declared.history.CallName.{CallName}
-use Rattle.zl_code.specs.declared.history.Outcome.{Outcome}
-use Rattle.zl_code.specs.declared.history.TraceItem.{TraceItem}
+use Rattle.zl_calls.proofs.Common.{object_entry, Acted, pid_of, CallName, Outcome, TraceItem, ListsBut, world_left, next_looks, tells_blocking, waits_by}
+use Rattle.zl_calls.proofs.Common.{then_blocked, is_blocking, has_seen}
+use Rattle.zl_code.proofs.Common.{Object as ObjectValue, Process as ProcessValue, Body, is_blocked}
 use Rattle.zl_code.specs.declared.history.TraceItem.TheVariants as item
 use Rattle.zl_calls.specs.declared.process.State.{State}
 use Rattle.zl_calls.specs.declared.process.State.TheVariants as state
@@ -16,19 +14,14 @@ use Rattle.zl_calls.proofs.calls.Answered.{IsWrite}
 use Rattle.zl_calls.proofs.waking.BlockedLists.{still_blocked, same_list}
 use Rattle.zl_calls.proofs.waits.LeftWaits.{left_beside, left_looking}
 use Rattle.zl_calls.proofs.waits.WaitsByCall.{acted_lists}
-use Rattle.zl_calls.specs.Registered.{ListsBut, world_left}
 use Rattle.zl_code.specs.Sound.{IsSound as IsSoundWorld}
 use Rattle.zl_calls.proofs.calls.DoneCalls.{IsDone}
 use Rattle.zl_calls.proofs.calls.ProcessCalls.{ends_keeps, stuck_steps}
-use Rattle.zl_code.proofs.StepsBeside.{next_looks, tells_blocking, waits_by}
 use Rattle.zl_calls.proofs.calls.Performed.{Looks, acted_asleep, acted_done, acted_looks, same_pid, still_unblocked}
 use Rattle.zl_calls.proofs.waking.Sleeping.{IsAsleep, asleep_acts, asleep_keeps, asleep_list}
-use Rattle.zl_calls.specs.Blocking.{then_blocked}
-use Rattle.zl_code.proofs.Waiters.{is_blocking}
 use Rattle.zl_calls.proofs.processes.Departed.{all_live, left_all, left_blocked, left_keeps, settled_world}
 use Rattle.zl_calls.proofs.stepping.FromConsistent.{IsFree, freely}
 use Rattle.zl_calls.proofs.objects.Settled.{still_settles}
-use Rattle.zl_objects.proofs.Law.{has_seen}
 use Rattle.zl_calls.proofs.processes.Written.{alike_states, write_at, pid_read, refusal_keeps}
 
 pub ready_state : (s : State) → is_ready (state_value s) ≡ true → state_value s ≡ Ready

@@ -2,17 +2,14 @@
 use Rattle.zl_calls.proofs.Common.{◌≡◌, ℕ, true, false, false≢true, List, ap, refl, sym, ◌∙◌, subst, Option, Some, None, IsTrue, IfSome, get, is_ready}
 use Rattle.zl_calls.proofs.Common.{is_process, state_passes, Library, call_row, Program, Site, site_of, Step, AtCall, IsStuck, Moves, calls_at, next_for}
 use Rattle.zl_calls.proofs.Common.{call_in, call_for, is_ready_in, StepsTo, TakesStep, Performs, takes_memory, map, wakes, Objects, IfNone, process_entry}
-use Rattle.zl_calls.proofs.Common.{world_blocked, DoesNext}
-use Rattle.zl_code.proofs.Common.{Acts, Next, Cpu, World as WorldValue, Process as ProcessValue, next_at}
+use Rattle.zl_calls.proofs.Common.{world_blocked, DoesNext, Next, CallName, Outcome, TraceItem, CallInstr, pid_of, step_programs, step_sound, HavePrograms}
+use Rattle.zl_calls.proofs.Common.{is_local, then_blocked, EndsUnheld, FiresWaits, world_left, fold}
+use Rattle.zl_code.proofs.Common.{Acts, Cpu, World as WorldValue, Process as ProcessValue, next_at}
 use Rattle.zl_rights.specs.declared.status.Status.TheVariants as status
-use Rattle.zl_code.specs.declared.history.CallName.{CallName}
-use Rattle.zl_code.specs.declared.history.Outcome.{Outcome}
 use Rattle.zl_code.specs.declared.history.Outcome.TheVariants as outcome
-use Rattle.zl_code.specs.declared.history.TraceItem.{TraceItem}
 use Rattle.zl_code.specs.declared.history.TraceItem.TheVariants as item
 use Rattle.zl_code.specs.declared.instr.Instr.{Instr}
 use Rattle.zl_code.specs.declared.instr.Instr.TheVariants as instr
-use Rattle.zl_code.specs.declared.instr.CallInstr.{CallInstr}
 use Rattle.zl_code.specs.CallTable.{name_of}
 use Rattle.zl_code.specs.Image.{instr_at}
 use Rattle.zl_code.specs.Local.{local_effect}
@@ -21,17 +18,9 @@ use Rattle.zl_code.proofs.CallRows.{asks_again}
 use Rattle.zl_code.proofs.Stepping.{wanting_step}
 use Rattle.std.specs.Prelude.{slice_get}
 use Rattle.zl_calls.specs.declared.process.Process.{Process}
-use Rattle.zl_code.proofs.Common.{pid_of}
 use Rattle.zl_code.proofs.AwakeRuns.{step_awake}
-use Rattle.zl_code.proofs.ProgramsKept.{step_programs}
-use Rattle.zl_code.proofs.SoundRuns.{step_sound}
-use Rattle.zl_code.specs.Programs.{HavePrograms}
-use Rattle.zl_calls.specs.Acting.{is_local}
-use Rattle.zl_calls.specs.Blocking.{then_blocked}
 use Rattle.zl_code.specs.Sound.{IsSound}
-use Rattle.zl_calls.specs.Registered.{EndsUnheld, FiresWaits, world_left}
 use Rattle.zl_calls.specs.World.{Machine, call_of}
-use Rattle.std.specs.List.{fold}
 use Rattle.zl_rights.specs.Wakes.{fired, woken}
 
 -- ---- the process that acts, and the item

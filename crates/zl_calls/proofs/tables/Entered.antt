@@ -1,13 +1,10 @@
 -- Handles that enter a table one after another, and those that are taken back in reverse.
 use Rattle.zl_calls.proofs.Common.{◌≡◌, ◌<◌, ◌≤◌, ◌+◌, ℕ, zero, suc, Bool, true, false, ◌==◌, List, [], ◌∷◌, ◌++◌, length, take, refl, sym, ap, ◌∙◌, subst}
-use Rattle.zl_calls.proofs.Common.{Option, Some, None, arith, if◌then◌else◌, Handles, Inserts, IfSome, slice_get-get_or, same_Some}
+use Rattle.zl_calls.proofs.Common.{Option, Some, None, arith, if◌then◌else◌, Handles, Inserts, IfSome, slice_get-get_or, same_Some, Entry, Message}
+use Rattle.zl_calls.proofs.Common.{first_handles, InsertsEach}
 use Rattle.zl_code.proofs.Common.{get_or, take_more, is_empty, ne_eqb, eq-eqb, length-take-le}
-use Rattle.zl_rights.specs.declared.entry.Entry.{Entry}
-use Rattle.zl_rights.specs.World.{Message}
 use Rattle.zl_channel.specs.Queue.{front_entry}
-use Rattle.zl_code.specs.Tests.{first_handles}
 use Rattle.zl_table.specs.Table.{TakesBack}
-use Rattle.zl_calls.specs.calls.Reading.{InsertsEach}
 use Rattle.zl_calls.proofs.tables.Taking.{one_longer}
 
 -- ---- one more behind the others

@@ -1,10 +1,8 @@
 -- A table that handles entered one after another: the invariant, the counts, and the same in a process.
 use Rattle.zl_calls.proofs.Common.{◌≡◌, ◌≤◌, ◌+◌, ◌==◌, ℕ, true, List, [], ◌∷◌, length, refl, sym, ap, ◌∙◌, subst, cond, Option, Some, None, IsTrue, IfSome}
 use Rattle.zl_calls.proofs.Common.{arith, nat_tests, eq-eqb, count_by, sum_by-cons, All, Map, get, Handles, IsTable, process_with, process_with_all, may_get}
-use Rattle.zl_calls.proofs.Common.{may_get_all}
-use Rattle.zl_code.proofs.Common.{Process as ProcessValue, All-head, All-tail, may_get_after}
-use Rattle.zl_rights.specs.declared.entry.Entry.{Entry}
-use Rattle.zl_calls.specs.calls.Reading.{InsertsEach}
+use Rattle.zl_calls.proofs.Common.{may_get_all, All-head, All-tail, Entry, InsertsEach}
+use Rattle.zl_code.proofs.Common.{Process as ProcessValue, may_get_after}
 use Rattle.zl_calls.proofs.objects.Counting.{count_put}
 use Rattle.zl_calls.proofs.tables.Tables.{found_inserted, inserted_table}
 use Rattle.zl_calls.proofs.tables.Taking.{one_longer}

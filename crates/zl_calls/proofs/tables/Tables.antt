@@ -1,16 +1,11 @@
 -- Tables that handles enter and leave, and empty ones.
 use Rattle.zl_calls.proofs.Common.{false, ◌^◌, bit_and, ◌≡◌, ◌<◌, ◌≤◌, ℕ, [], ◌∷◌, length, Some, None, Result, Err, List, refl, sym, ap, ◌∙◌, arith, inl, inr}
 use Rattle.zl_calls.proofs.Common.{◌==◌, if◌then◌else◌, cases_Bool, eqb-true, same_Some, Map, get, without, within, get-put, Handles, IsTable, Inserts, Drains}
-use Rattle.zl_calls.proofs.Common.{sorted_put, length-put_new, put_key, Objects, Releases, Drained, and_le_l}
-use Rattle.zl_rights.specs.declared.entry.Entry.{Entry}
-use Rattle.zl_rights.specs.declared.kind.Kind.{Kind}
+use Rattle.zl_calls.proofs.Common.{sorted_put, length-put_new, put_key, Objects, Releases, Drained, and_le_l, Entry, Kind, Status, looked_up, without_handle}
+use Rattle.zl_calls.proofs.Common.{settable_at}
 use Rattle.zl_rights.specs.declared.kind.Kind.TheVariants as kind
-use Rattle.zl_rights.specs.declared.status.Status.{Status}
 use Rattle.zl_rights.specs.declared.status.Status.TheVariants as status
-use Rattle.zl_rights.specs.LookUp.{looked_up}
-use Rattle.zl_calls.specs.calls.Answer.{without_handle}
 use Rattle.zl_calls.specs.calls.Process.{none_left, one_more}
-use Rattle.zl_calls.specs.calls.Event.{settable_at}
 
 length-without : {X : Type 0} (m : Map X) (k : ℕ) → length (without m k) ≤ length m
 unfolding without

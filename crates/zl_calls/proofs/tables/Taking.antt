@@ -1,16 +1,13 @@
 -- Handles that a call takes: they leave the table one after another, and close where the call is refused.
 use Rattle.zl_calls.proofs.Common.{false, koids_of, map-append, take, ◌-◌, ◌≡◌, ◌<◌, ◌≤◌, ◌+◌, ℕ, List, [], ◌∷◌, length, refl, sym, subst, ◌∙◌, ap, Option}
-use Rattle.zl_calls.proofs.Common.{Some, None, arith, ◌++◌, append-nil, Map, get, Objects, none_left, Releases, AreKeptBut, Err}
-use Rattle.zl_rights.specs.declared.entry.Entry.{Entry}
+use Rattle.zl_calls.proofs.Common.{Some, None, arith, ◌++◌, append-nil, Map, get, Objects, none_left, Releases, AreKeptBut, Err, Entry, option_to_list}
+use Rattle.zl_calls.proofs.Common.{releases_then, ClosesEach, DoesTaking, taken_from, without_handle, without_handles, Closes, Replaces, replace_refusal}
+use Rattle.zl_calls.proofs.Common.{KeepsListed}
 use Rattle.zl_table.specs.Table.{Handles, Inserts}
 use Rattle.zl_code.proofs.Common.{append_assoc, length-append, get_or, take_more}
-use Rattle.std.specs.Option.{option_map, option_to_list}
-use Rattle.zl_objects.proofs.Released.{releases_then}
+use Rattle.std.specs.Option.{option_map}
 use Rattle.zl_rights.specs.declared.status.Status.TheVariants as status
-use Rattle.zl_calls.specs.calls.Answer.{ClosesEach, DoesTaking, taken_from, without_handle, without_handles}
-use Rattle.zl_calls.specs.calls.Handle.{Closes, Replaces, replace_refusal}
 use Rattle.zl_code.proofs.Entering.{length_put}
-use Rattle.zl_calls.specs.Registered.{KeepsListed}
 use Rattle.zl_calls.proofs.waits.WaitsLost.{listed_same, listed_then}
 
 -- an empty table has no handle

@@ -1,32 +1,25 @@
 -- The call process_create: how it is refused, and what a process that is made leaves of the world and of the invariant.
-use Rattle.zl_calls.proofs.Common.{IsSound, with_process, ◌≡◌, ◌<◌, ◌+◌, ◌^◌, ◌==◌, ◌&&◌, ℕ, Bool, true, false, not, List, [], ◌∷◌, ◌++◌, map, map-append, refl}
-use Rattle.zl_calls.proofs.Common.{sym, ap, ◌∙◌, subst, cond, if◌then◌else◌, Option, Some, None, Ok, Err, inl, inr, IsTrue, arith, nat_le, eqb-true, cases_Bool}
+use Rattle.zl_calls.proofs.Common.{IsSound, with_process, ◌≡◌, ◌<◌, ◌+◌, ◌^◌, ◌==◌, ◌&&◌, ℕ, Bool, false, not, List, [], ◌∷◌, ◌++◌, map, map-append, refl}
+use Rattle.zl_calls.proofs.Common.{sym, ap, ◌∙◌, subst, cond, if◌then◌else◌, Option, Some, None, Ok, inl, inr, IsTrue, arith, nat_le, eqb-true, cases_Bool}
 use Rattle.zl_calls.proofs.Common.{false≢true, none-some, is_some, option_or, then_some, first_some, slice_get, sum_by-cons, count_by, Map, get, put, update}
 use Rattle.zl_calls.proofs.Common.{Created, lives, runs, state_passes, is_process, Library, Site, site, Inserts, IsTable, has_room, has_koids}
-use Rattle.zl_calls.proofs.Common.{table_of, answer_if, refusal, handle_operands, listed, may_choose, new_handles, insert_all, remove_all, taken_handles}
-use Rattle.zl_calls.proofs.Common.{effect, with_effect, with_object, on_process, process_with, gives_ok, Calls, Values, replied, taken, ProcessBody, bits}
-use Rattle.zl_calls.proofs.Common.{within, new_entry, body_of, koid_in, Objects, with_new, Replies, has_room_in, process_entry}
-use Rattle.zl_calls.proofs.Common.{process_value, object_entry, state_value, world_value, Agrees, AreBlocked, IsConsistent, World, operands_fault}
+use Rattle.zl_calls.proofs.Common.{answer_if, refusal, handle_operands, listed, may_choose, new_handles, insert_all, remove_all, taken_handles, effect}
+use Rattle.zl_calls.proofs.Common.{with_effect, with_object, on_process, process_with, gives_ok, Calls, Values, replied, taken, ProcessBody}
+use Rattle.zl_calls.proofs.Common.{new_entry, body_of, Objects, with_new, Replies, has_room_in, process_entry, process_value, object_entry}
+use Rattle.zl_calls.proofs.Common.{state_value, world_value, Agrees, AreBlocked, IsConsistent, World, operands_fault, process_create, lacks_need}
+use Rattle.zl_calls.proofs.Common.{created_process, object_at, looked_up, MANAGE_PROCESS, Entry, is_dead, job_at, create_refusal}
+use Rattle.zl_calls.proofs.Common.{needs_more}
 use Rattle.zl_code.proofs.Common.{Process as ProcessValue, State as StateValue, is_blocked}
-use Rattle.zl_code.specs.CallTable.{process_create}
 use Rattle.zl_code.specs.Image.{Program}
-use Rattle.zl_code.specs.Jobs.{is_dead as is_dead_body, lacks_need}
-use Rattle.zl_code.specs.Starting.{created_process}
-use Rattle.zl_code.specs.Tests.{object_at}
-use Rattle.zl_code.specs.declared.history.Outcome.{Outcome}
+use Rattle.zl_code.specs.Jobs.{is_dead as is_dead_body}
 use Rattle.zl_code.specs.declared.history.Outcome.TheVariants as outcome
-use Rattle.zl_rights.specs.LookUp.{granted, looked_up}
-use Rattle.zl_rights.specs.Numbers.{MANAGE_PROCESS, takes}
 use Rattle.zl_rights.specs.Signals.{has_ended}
-use Rattle.zl_rights.specs.declared.entry.Entry.{Entry}
 use Rattle.zl_rights.specs.declared.kind.Kind.TheVariants as kind
-use Rattle.zl_rights.specs.declared.policy.Condition.TheVariants as condition
 use Rattle.zl_rights.specs.declared.status.Status.TheVariants as status
 use Rattle.zl_objects.specs.declared.object.Body.{Body}
 use Rattle.zl_objects.specs.declared.object.Body.TheVariants as body
 use Rattle.zl_objects.specs.declared.object.Life.TheVariants as life
-use Rattle.zl_objects.specs.Jobs.{action_of as action_at_job, is_dead, job_at}
-use Rattle.zl_calls.specs.calls.Task.{create_refusal, create_refusal_of, needs_more}
+use Rattle.zl_objects.specs.Jobs.{action_of as action_at_job}
 use Rattle.zl_calls.specs.declared.process.Process.{Process}
 use Rattle.zl_calls.specs.declared.process.State.{State}
 use Rattle.zl_calls.proofs.calls.Answered.{IsWrite, table_is, may_get_inserted, replied_inserted}
@@ -35,7 +28,7 @@ use Rattle.zl_calls.proofs.calls.JobCalls.{IsJobAt, body_seen, job_found, job_lo
 use Rattle.zl_calls.proofs.calls.MakeCalls.{HasRoom, first_entered}
 use Rattle.zl_calls.proofs.processes.OneProcess.{found_process, get_process, new_is, process_sound, processes_are}
 use Rattle.zl_calls.proofs.waking.BlockedLists.{still_blocked}
-use Rattle.zl_calls.proofs.calls.Refused.{answers, is_found, is_of_kind, first_looked_up, three_tests}
+use Rattle.zl_calls.proofs.calls.Refused.{answers, is_found, first_looked_up, three_tests}
 use Rattle.zl_calls.proofs.objects.Settled.{sound_of}
 
 -- ---- lists

@@ -2,26 +2,16 @@
 use Rattle.zl_calls.proofs.Common.{◌≡◌, ◌==◌, ℕ, zero, suc, true, List, [], ◌∷◌, ◌++◌, refl, sym, ap, ◌∙◌, subst, Some, None, Result, Ok, Err, IsActed}
 use Rattle.zl_calls.proofs.Common.{none-some, same_Some, get_or, slice_get, slice_set, set, position, is_ready, Library, Site, site, refusal, handle_operands}
 use Rattle.zl_calls.proofs.Common.{remove_all, taken_handles, gives_refused, AtCall, next_for, cpu_answered, Objects, with_new, told_by, one_value, Replies}
-use Rattle.zl_calls.proofs.Common.{status_of, process_value, state_value, world_blocked, world_value, AreBlocked, IsConsistent, IsRefusedBy}
+use Rattle.zl_calls.proofs.Common.{status_of, process_value, state_value, world_blocked, world_value, AreBlocked, IsConsistent, IsRefusedBy, process_create}
+use Rattle.zl_calls.proofs.Common.{CallName, Outcome, next_looks, looked_up, MANAGE_PROCESS, Entry, Status, get_or_from_slice_get, IsAnsweredIn, IsToldIn}
+use Rattle.zl_calls.proofs.Common.{CreatesProcess, Parts, ProcessCreateDoes, create_refusal, parts, MakesOne}
 use Rattle.zl_code.specs.Sound.{IsSound as IsSoundWorld}
-use Rattle.zl_code.specs.CallTable.{process_create}
-use Rattle.zl_code.specs.declared.history.CallName.{CallName}
-use Rattle.zl_code.specs.declared.history.Outcome.{Outcome}
 use Rattle.zl_code.specs.declared.history.Outcome.TheVariants as outcome
 use Rattle.zl_code.specs.declared.history.TraceItem.TheVariants as item
-use Rattle.zl_code.proofs.StepsBeside.{next_looks}
-use Rattle.zl_rights.specs.LookUp.{looked_up}
-use Rattle.zl_rights.specs.Numbers.{MANAGE_PROCESS}
-use Rattle.zl_rights.specs.declared.entry.Entry.{Entry}
 use Rattle.zl_rights.specs.declared.kind.Kind.TheVariants as kind
-use Rattle.zl_rights.specs.declared.status.Status.{Status}
 use Rattle.zl_rights.specs.declared.status.Status.TheVariants as status
-use Rattle.std.proofs.lemmas.Option.{get_or_from_slice_get}
 use Rattle.zl_objects.specs.declared.object.Body.TheVariants as body
 use Rattle.zl_objects.specs.declared.object.Life.TheVariants as life
-use Rattle.zl_calls.specs.Reaching.{IsAnsweredIn, IsToldIn}
-use Rattle.zl_calls.specs.calls.Task.{CreatesProcess, Parts, ProcessCreateDoes, create_refusal, parts}
-use Rattle.zl_calls.specs.calls.Making.{MakesOne}
 use Rattle.zl_calls.specs.declared.process.Process.{Process}
 use Rattle.zl_calls.proofs.calls.Answered.{IsWrite, same_world}
 use Rattle.zl_calls.proofs.processes.Departed.{settled_world}

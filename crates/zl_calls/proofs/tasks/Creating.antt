@@ -1,17 +1,12 @@
 -- What process_create does where memory is wanted, from what its parts do.
 use Rattle.zl_calls.proofs.Common.{◌≡◌, ℕ, zero, suc, List, [], ◌∷◌, refl, sym, ap, ◌∙◌, subst, Option, Some, None, Result, Ok, Err, none-some, option_or}
 use Rattle.zl_calls.proofs.Common.{then_some, is_some, Map, get_or, slice_get, slice_set, Bool, true, false, not, Handles, IsRefusedBy, Library, Objects}
-use Rattle.std.proofs.lemmas.Option.{get_or_from_slice_get}
-use Rattle.zl_rights.specs.declared.status.Status.{Status}
+use Rattle.zl_calls.proofs.Common.{get_or_from_slice_get, Status, looked_up, MANAGE_PROCESS, Entry, is_dead, job_at, MakeDoes, room_refusal, ProcessCreateDoes}
+use Rattle.zl_calls.proofs.Common.{create_refusal, create_refusal_of, needs_more, parts}
 use Rattle.zl_rights.specs.declared.status.Status.TheVariants as status
-use Rattle.zl_rights.specs.LookUp.{looked_up}
-use Rattle.zl_rights.specs.Numbers.{MANAGE_PROCESS}
-use Rattle.zl_rights.specs.declared.entry.Entry.{Entry}
 use Rattle.zl_rights.specs.declared.kind.Kind.TheVariants as kind
 use Rattle.zl_objects.specs.declared.object.Body.{Body}
-use Rattle.zl_objects.specs.Jobs.{action_of, is_dead, job_at}
-use Rattle.zl_calls.specs.calls.Making.{MakeDoes, room_refusal}
-use Rattle.zl_calls.specs.calls.Task.{ProcessCreateDoes, create_refusal, create_refusal_of, needs_more, parts}
+use Rattle.zl_objects.specs.Jobs.{action_of}
 use Rattle.zl_calls.specs.declared.process.Process.{Process}
 
 -- what is written back as it was read changes nothing

@@ -1,43 +1,31 @@
 -- The call task_kill, from what it did among all processes to the relation of steps, up to where processes wake.
 use Rattle.zl_calls.proofs.Common.{◌≡◌, ◌<◌, ◌^◌, ℕ, ℤ, zero, suc, Bool, true, false, not, ◌&&◌, ◌==◌, List, [], ◌∷◌, map, refl, sym, ap, ◌∙◌, subst, Option}
-use Rattle.zl_calls.proofs.Common.{Some, None, Ok, inl, inr, ◌⊎◌, IsTrue, arith, option_map, Map, get, each, update, lives, state_passes}
-use Rattle.zl_calls.proofs.Common.{none-some, same_Some, slice_get, eq-eqb, false≢true, is_sorted, nat_cmp, nat_tests, object_entry, process_entry}
-use Rattle.zl_calls.proofs.Common.{process_value, state_value, Objects, World, world_value, world_blocked, Library, Site, AtCall, next_for, cpu_answered}
-use Rattle.zl_calls.proofs.Common.{replied, taken, AreBlocked, IsConsistent, Releases, Ready, if◌then◌else◌, cases_Bool, eqb-true, refusal, site}
-use Rattle.zl_calls.proofs.Common.{slice_set, handle_operands, listed, IsNamed, ◌+◌, table_of, may_choose, sum_by, count_by, get-update}
-use Rattle.zl_calls.proofs.Common.{is_sorted-update, new_handles, taken_handles, remove_all, insert_all, effect, gives_ok, ended, on_process, Values, operands_fault}
+use Rattle.zl_calls.proofs.Common.{Some, None, Ok, inl, inr, ◌⊎◌, IsTrue, arith, option_map, Map, get, each, update, lives, state_passes, none-some, same_Some}
+use Rattle.zl_calls.proofs.Common.{slice_get, eq-eqb, false≢true, is_sorted, nat_cmp, nat_tests, object_entry, process_entry, process_value, state_value}
+use Rattle.zl_calls.proofs.Common.{Objects, World, world_value, world_blocked, Library, Site, AtCall, next_for, cpu_answered, replied, taken, AreBlocked}
+use Rattle.zl_calls.proofs.Common.{IsConsistent, Releases, Ready, if◌then◌else◌, cases_Bool, eqb-true, refusal, site, slice_set, handle_operands, listed}
+use Rattle.zl_calls.proofs.Common.{IsNamed, ◌+◌, table_of, may_choose, sum_by, count_by, get-update, is_sorted-update, new_handles, taken_handles, remove_all}
+use Rattle.zl_calls.proofs.Common.{insert_all, effect, gives_ok, ended, on_process, Values, operands_fault, result_err, looked_up, DESTROY, KILLED, Entry}
+use Rattle.zl_calls.proofs.Common.{times, in_order-each, settles_waiting, is_blocking, with_waiters, object_at, object_killed, process_killed, CallName}
+use Rattle.zl_calls.proofs.Common.{Outcome, is_within, killing, all_koids, releases_then, ListsBut, ClosesAllEnded, ClosesEnded, lives_on, Parts, ended_if}
+use Rattle.zl_calls.proofs.Common.{ended_within, kill_refusal, parts}
 use Rattle.std.specs.List.{filter}
-use Rattle.std.specs.Result.{result_err}
-use Rattle.zl_rights.specs.LookUp.{looked_up}
-use Rattle.zl_rights.specs.Numbers.{DESTROY, KILLED}
-use Rattle.zl_rights.specs.declared.entry.Entry.{Entry}
 use Rattle.zl_rights.specs.declared.kind.Kind.TheVariants as kind
 use Rattle.zl_rights.specs.declared.status.Status.TheVariants as status
 use Rattle.zl_code.proofs.Common.{Process as ProcessValue, State as StateValue, Ended, get-each, Cpu, is_blocked}
-use Rattle.zl_code.proofs.Changes.{times}
-use Rattle.zl_code.proofs.MapKept.{in_order-each}
-use Rattle.zl_code.proofs.StepsWaiting.{settles_waiting}
-use Rattle.zl_code.proofs.Waiters.{is_blocking, with_waiters}
 use Rattle.zl_code.specs.CallTable.{task_kill}
 use Rattle.zl_code.specs.Calls.{Calls as PolicedCalls, ok_outcome}
 use Rattle.zl_code.specs.Refusals.{refusal as policed_refusal}
-use Rattle.zl_code.specs.Tests.{object_at}
 use Rattle.zl_code.specs.Effects.{process_ended}
-use Rattle.zl_code.specs.Jobs.{is_within as is_within_value, object_killed, process_killed, with_killed}
+use Rattle.zl_code.specs.Jobs.{is_within as is_within_value, with_killed}
 use Rattle.zl_code.specs.Sound.{IsSound as IsSoundWorld}
-use Rattle.zl_code.specs.declared.history.CallName.{CallName}
-use Rattle.zl_code.specs.declared.history.Outcome.{Outcome}
 use Rattle.zl_code.specs.declared.history.Outcome.TheVariants as outcome
-use Rattle.zl_objects.specs.Jobs.{all_killed, is_within, killing}
-use Rattle.zl_objects.specs.Release.{all_koids}
-use Rattle.zl_objects.proofs.Released.{releases_then}
-use Rattle.zl_calls.specs.Registered.{ListsBut}
+use Rattle.zl_objects.specs.Jobs.{all_killed}
 use Rattle.zl_calls.specs.declared.process.Process.{Process}
 use Rattle.zl_calls.specs.declared.process.State.{State}
 use Rattle.zl_calls.specs.declared.process.State.TheVariants as state
-use Rattle.zl_calls.specs.calls.Task.{ClosesAllEnded, ClosesEnded, lives_on, is_over, none_left}
-use Rattle.zl_calls.specs.calls.Task.{one_more, Parts, KillsTask, ended_if, ended_within, kill_refusal}
-use Rattle.zl_calls.specs.calls.Task.{parts}
+use Rattle.zl_calls.specs.calls.Task.{is_over, none_left}
+use Rattle.zl_calls.specs.calls.Task.{one_more, KillsTask}
 use Rattle.zl_code.specs.declared.history.TraceItem.TheVariants as item
 use Rattle.zl_calls.proofs.waking.BlockedLists.{same_list, still_blocked}
 use Rattle.zl_calls.proofs.objects.Counting.{sum_update, naming, numbered, numbered_naming}

@@ -1,4 +1,6 @@
 -- What a kill makes of the list of processes: koids stay, and each process that is over closes its handles in turn.
+use Rattle.zl_calls.proofs.Common.{ClosesAllEnded, ClosesEnded, IsCallerStill, TaskKillDoes, ended_if, ended_within, lives_on, parts, get_or_from_slice_get}
+use Rattle.zl_calls.proofs.Common.{slice_get-map, looked_up, DESTROY, Entry, Status, is_within, killed_if, killing, LeavesListed, all_koids, KeepsListed}
 use Rattle.zl_rights.proofs.Common.{◌≡◌, ◌<◌, ◌≤◌, ◌+◌, ℕ, Bool, true, false, ◌&&◌, List, [], ◌∷◌, ◌++◌, length, map, take, drop, refl, sym, ap, ◌∙◌, subst}
 use Rattle.zl_rights.proofs.Common.{arith, zero, suc, get_or, IsTrue, nat_cmp, below_all, is_sorted, set, slice_get, state_passes, Option, Some, None, Result}
 use Rattle.zl_rights.proofs.Common.{Ok, filter, has_key, is_some, option_map, Map, get, each, append-nil, take_all, length-map, none-some, same_Some}
@@ -6,21 +8,14 @@ use Rattle.std.specs.Ordering.{is_lt}
 use Rattle.zl_objects.specs.Objects.{Objects}
 use Rattle.zl_calls.specs.World.{process_entry}
 use Rattle.zl_calls.specs.declared.process.Process.{Process}
-use Rattle.zl_calls.specs.calls.Task.{ClosesAllEnded, ClosesEnded, IsCallerStill, TaskKillDoes, ended_if, ended_within, is_over, lives_on, none_left, parts}
+use Rattle.zl_calls.specs.calls.Task.{is_over, none_left}
 use Rattle.zl_calls.specs.calls.Task.{one_more}
 use Rattle.zl_calls.proofs.lists.FilterInPlace.{drop_here, none_behind}
-use Rattle.std.proofs.lemmas.Option.{get_or_from_slice_get, slice_get-map}
 use Rattle.zl_rights.proofs.MapLaws.{get-each}
-use Rattle.zl_rights.specs.LookUp.{looked_up}
-use Rattle.zl_rights.specs.Numbers.{DESTROY}
-use Rattle.zl_rights.specs.declared.entry.Entry.{Entry}
 use Rattle.zl_rights.specs.declared.kind.Kind.TheVariants as kind
-use Rattle.zl_rights.specs.declared.status.Status.{Status}
 use Rattle.zl_code.specs.Sound.{is_blocked}
-use Rattle.zl_objects.specs.Jobs.{all_killed, is_within, killed_if, killing}
-use Rattle.zl_objects.specs.Listed.{LeavesListed}
-use Rattle.zl_objects.specs.Release.{Releases, all_koids}
-use Rattle.zl_calls.specs.Registered.{KeepsListed}
+use Rattle.zl_objects.specs.Jobs.{all_killed}
+use Rattle.zl_objects.specs.Release.{Releases}
 use Rattle.zl_calls.proofs.waits.WaitsLost.{listed_gone, listed_then}
 
 -- ---- koids stay

@@ -2,22 +2,19 @@
 use Rattle.zl_calls.proofs.Common.{◌≡◌, ℕ, ℤ, true, false, ◌==◌, List, [], refl, sym, ap, ◌∙◌, subst, get_or, slice_get, slice_set, set, Some, Result, Ok, Err}
 use Rattle.zl_calls.proofs.Common.{position, is_ready, Library, Site, site, AtCall, next_for, Objects, process_value, state_value, world_blocked, world_value}
 use Rattle.zl_calls.proofs.Common.{AreBlocked, IsConsistent, IsRefusedBy, cpu_answered, handle_operands, remove_all, taken_handles, gives_refused, refusal}
-use Rattle.zl_calls.proofs.Common.{status_of, ⊤, Ready, slice_get-get_or}
-use Rattle.zl_rights.specs.declared.status.Status.{Status}
+use Rattle.zl_calls.proofs.Common.{status_of, ⊤, Ready, slice_get-get_or, Status, CallName, Outcome, get_or_from_slice_get, IsAnsweredIn, IsToldIn, Parts}
+use Rattle.zl_calls.proofs.Common.{TaskKillDoes, kill_refusal, parts}
 use Rattle.zl_rights.specs.declared.status.Status.TheVariants as status
 use Rattle.zl_code.proofs.Common.{is_blocked}
 use Rattle.zl_code.specs.CallTable.{task_kill}
 use Rattle.zl_code.specs.Sound.{IsSound as IsSoundWorld}
-use Rattle.zl_code.specs.declared.history.CallName.{CallName}
-use Rattle.zl_code.specs.declared.history.Outcome.{Outcome}
 use Rattle.zl_code.specs.declared.history.Outcome.TheVariants as outcome
 use Rattle.zl_code.specs.declared.history.TraceItem.TheVariants as item
-use Rattle.std.proofs.lemmas.Option.{get_or_from_slice_get}
 use Rattle.zl_code.specs.Calls.{Calls as PolicedCalls}
 use Rattle.zl_code.specs.Refusals.{refusal as policed_refusal}
-use Rattle.zl_calls.specs.Reaching.{EndsCaller, IsAnsweredIn, IsToldIn}
+use Rattle.zl_calls.specs.Reaching.{EndsCaller}
 use Rattle.zl_calls.specs.calls.Answer.{no_value, told_by}
-use Rattle.zl_calls.specs.calls.Task.{KillsNamed, Parts, TaskKillDoes, kill_refusal, parts}
+use Rattle.zl_calls.specs.calls.Task.{KillsNamed}
 use Rattle.zl_calls.specs.declared.process.Process.{Process}
 use Rattle.zl_calls.specs.declared.process.State.TheVariants as state
 use Rattle.zl_calls.proofs.tasks.KillCalls.{dies_so, kill_refused, leaves_so, lives_so}

@@ -1,16 +1,14 @@
 -- The calls that reach other processes, from what they do to how they are answered.
 use Rattle.zl_calls.proofs.Common.{◌≡◌, ◌<◌, ◌++◌, ◌^◌, ℕ, ℤ, zero, suc, Bool, false, List, [], ◌∷◌, length, refl, sym, ap, ◌∙◌, subst, Option, Some, None}
 use Rattle.zl_calls.proofs.Common.{Result, Ok, Err, ⊤, true, false≢true, none-some, same_Some, is_ready, get_or, slice_get, slice_set, Library, Site, site}
-use Rattle.zl_calls.proofs.Common.{cpu_answered, Objects, no_value, one_value, status_of, told_by, values_of, state_value}
-use Rattle.std.proofs.lemmas.Option.{slice_get_within}
-use Rattle.zl_rights.specs.declared.status.Status.{Status}
-use Rattle.zl_code.specs.CallTable.{process_create, process_start, task_kill}
-use Rattle.zl_code.specs.declared.history.Outcome.{Outcome}
+use Rattle.zl_calls.proofs.Common.{cpu_answered, Objects, no_value, one_value, status_of, told_by, values_of, state_value, slice_get_within, Status}
+use Rattle.zl_calls.proofs.Common.{process_create, process_start, Outcome, IsAnsweredIn, Reaches, kills, kills_itself, starts, answered_in, CreatesProcess}
+use Rattle.zl_calls.proofs.Common.{IsCallerStill, Parts, ProcessCreateDoes, ProcessStartDoes, TaskKillDoes, parts}
+use Rattle.zl_code.specs.CallTable.{task_kill}
 use Rattle.zl_code.specs.declared.history.Outcome.TheVariants as outcome
 use Rattle.zl_interp.specs.Common.{register_set}
-use Rattle.zl_calls.specs.Reaching.{IsAnsweredIn, Reaches, creates, kills, kills_itself, starts}
-use Rattle.zl_calls.specs.calls.Answer.{answered_in}
-use Rattle.zl_calls.specs.calls.Task.{CreatesProcess, EndsOrAnswers, IsCallerStill, Parts, ProcessCreateDoes, ProcessStartDoes, TaskKillDoes, ending_of, parts}
+use Rattle.zl_calls.specs.Reaching.{creates}
+use Rattle.zl_calls.specs.calls.Task.{EndsOrAnswers, ending_of}
 use Rattle.zl_calls.specs.calls.Task.{told_unless_over}
 use Rattle.zl_calls.specs.declared.process.Process.{Process}
 use Rattle.zl_calls.specs.declared.process.State.{State}

@@ -1,15 +1,13 @@
 -- A call that reaches other processes: from what it did among them to a step, up to where processes wake.
 use Rattle.zl_calls.proofs.Common.{◌≡◌, ℕ, ℤ, true, ◌==◌, List, get_or, refl, sym, ap, ◌∙◌, subst, Some, None, position, is_ready, Library, Request, Site, site}
-use Rattle.zl_calls.proofs.Common.{AtCall, next_for, Objects, process_value, state_value, world_blocked, world_value, AreBlocked, IsConsistent}
-use Rattle.zl_code.specs.CallTable.{process_create, process_start, task_kill}
+use Rattle.zl_calls.proofs.Common.{AtCall, next_for, Objects, process_value, state_value, world_blocked, world_value, AreBlocked, IsConsistent, process_create}
+use Rattle.zl_calls.proofs.Common.{process_start, CallName, Outcome, verdict_on, IsAnsweredIn, Reaches, kills, kills_itself, starts, Parts, ProcessCreateDoes}
+use Rattle.zl_calls.proofs.Common.{ProcessStartDoes, TaskKillDoes, parts}
+use Rattle.zl_code.specs.CallTable.{task_kill}
 use Rattle.zl_code.specs.Sound.{IsSound as IsSoundWorld}
-use Rattle.zl_code.specs.declared.history.CallName.{CallName}
-use Rattle.zl_code.specs.declared.history.Outcome.{Outcome}
 use Rattle.zl_code.specs.declared.history.TraceItem.TheVariants as item
-use Rattle.zl_calls.specs.Policed.{verdict_on}
-use Rattle.zl_calls.specs.Reaching.{IsAnsweredIn, Reaches, creates, kills, kills_itself, starts}
+use Rattle.zl_calls.specs.Reaching.{creates}
 use Rattle.zl_calls.specs.calls.Answer.{no_value, one_value, told_by}
-use Rattle.zl_calls.specs.calls.Task.{Parts, ProcessCreateDoes, ProcessStartDoes, TaskKillDoes, parts}
 use Rattle.zl_calls.specs.declared.process.Process.{Process}
 use Rattle.zl_calls.specs.declared.process.State.TheVariants as state
 use Rattle.zl_calls.proofs.policy.Freedom.{is_free}

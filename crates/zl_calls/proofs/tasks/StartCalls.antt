@@ -1,31 +1,24 @@
 -- The call process_start, from all processes and the objects to the relation of calls.
-use Rattle.zl_calls.proofs.Common.{◌≡◌, ◌<◌, ℕ, zero, suc, Bool, true, false, not, ◌==◌, List, [], ◌∷◌, map, refl, sym, ap, ◌∙◌, subst, Option, Some, None}
-use Rattle.zl_calls.proofs.Common.{Ok, inl, inr, IsTrue, arith, cases_Bool, eqb-true, eq-eqb, ne_eqb, option_map}
-use Rattle.zl_calls.proofs.Common.{if◌then◌else◌, first_some, answer_if, and_from, same_Some, none-some, nat_cmp, is_sorted, Map, get, has_key, update, without}
-use Rattle.zl_calls.proofs.Common.{slice_get, slice_set, is_process, state_passes, Library, Site, site, refusal, handle_operands, listed}
-use Rattle.zl_calls.proofs.Common.{may_choose, may_get, new_handles, insert_all, remove_all, taken_handles, effect, gives_ok, replied, taken, table_of}
-use Rattle.zl_calls.proofs.Common.{on_process, process_with, process_without, cpu_answered, Values, Calls, Ready, get-update, sorted_parts, Inserts, Objects}
-use Rattle.zl_calls.proofs.Common.{process_entry, process_value, object_entry, object_value, body_value, state_value, world_value, World, operands_fault}
+use Rattle.zl_calls.proofs.Common.{◌≡◌, ◌<◌, ℕ, zero, suc, Bool, true, false, not, ◌==◌, List, [], ◌∷◌, map, refl, sym, ap, ◌∙◌, subst, Option, Some, None, Ok}
+use Rattle.zl_calls.proofs.Common.{inl, inr, IsTrue, arith, cases_Bool, eqb-true, eq-eqb, ne_eqb, option_map, if◌then◌else◌, first_some, answer_if, and_from}
+use Rattle.zl_calls.proofs.Common.{same_Some, none-some, nat_cmp, is_sorted, Map, get, has_key, update, without, slice_get, slice_set, is_process, state_passes}
+use Rattle.zl_calls.proofs.Common.{Library, Site, site, refusal, handle_operands, listed, may_choose, may_get, new_handles, insert_all, remove_all}
+use Rattle.zl_calls.proofs.Common.{taken_handles, effect, gives_ok, replied, taken, table_of, on_process, process_with, process_without, cpu_answered, Values}
+use Rattle.zl_calls.proofs.Common.{Calls, Ready, get-update, sorted_parts, Inserts, Objects, process_entry, process_value, object_entry, object_value}
+use Rattle.zl_calls.proofs.Common.{body_value, state_value, world_value, World, operands_fault, below_parts, looked_up, TRANSFER, WRITE, Entry, process_start}
+use Rattle.zl_calls.proofs.Common.{misfits, cpu_given, is_created, started_with, started, started_body, starting, without_handle, child_refusal, process_at}
+use Rattle.zl_calls.proofs.Common.{start_refusal}
 use Rattle.zl_code.proofs.Common.{Process as ProcessValue}
-use Rattle.zl_table.proofs.MapEdits.{below_parts}
 use Rattle.zl_rights.proofs.Common.{below_all}
-use Rattle.zl_rights.specs.LookUp.{looked_up}
-use Rattle.zl_rights.specs.Numbers.{TRANSFER, WRITE}
-use Rattle.zl_rights.specs.declared.entry.Entry.{Entry}
 use Rattle.zl_rights.specs.declared.kind.Kind.TheVariants as kind
 use Rattle.zl_rights.specs.declared.status.Status.TheVariants as status
-use Rattle.zl_code.specs.CallTable.{process_start}
-use Rattle.zl_code.specs.Jobs.{misfits}
-use Rattle.zl_code.specs.Starting.{cpu_given, is_created, program_in, started_with}
+use Rattle.zl_code.specs.Starting.{program_in}
 use Rattle.zl_code.specs.declared.history.Outcome.TheVariants as outcome
-use Rattle.zl_objects.specs.Objects.{started, started_body, starting}
 use Rattle.zl_objects.specs.declared.object.Body.{Body}
 use Rattle.zl_objects.specs.declared.object.Body.TheVariants as body
 use Rattle.zl_objects.specs.declared.object.Object.{Object}
 use Rattle.zl_calls.specs.declared.process.Process.{Process}
 use Rattle.zl_calls.specs.declared.process.State.TheVariants as state
-use Rattle.zl_calls.specs.calls.Answer.{without_handle}
-use Rattle.zl_calls.specs.calls.Task.{child_refusal, process_at, start_refusal}
 use Rattle.zl_calls.proofs.calls.Answered.{IsWrite, may_get_inserted}
 use Rattle.zl_calls.proofs.calls.Refused.{answers, is_found, both_looked_up, two_tests}
 use Rattle.zl_calls.proofs.lists.Updates.{update_twice, update_unseen}

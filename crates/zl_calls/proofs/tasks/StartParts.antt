@@ -1,30 +1,24 @@
 -- The process that a call starts: how it is found by its koid, and what becomes of all processes.
+use Rattle.zl_calls.proofs.Common.{length-set, position-Some, get_or_from_slice_get, slice_get_within, misfits, is_created, Entry, Status, cpu_given, starting}
+use Rattle.zl_calls.proofs.Common.{ClosesEach, without_handle, AreBare, IsCallerStill, ProcessStartDoes, child_refusal, parts, process_at, start_refusal}
 use Rattle.zl_rights.proofs.Common.{◌≡◌, ◌≢◌, ◌<◌, ℕ, Bool, true, false, ◌==◌, List, [], ◌∷◌, length, Option, Some, None, Ok, Err, refl, sym, ap, ◌∙◌, subst}
 use Rattle.zl_rights.proofs.Common.{arith, zero, suc, false≢true, same_Some, none-some, position, find, slice_get, slice_set, slice_get-get_or, nat_tests}
 use Rattle.zl_rights.proofs.Common.{eqb-true, get_or}
 use Rattle.std.specs.List.{position_or_len}
-use Rattle.std.proofs.lemmas.List.{length-set}
 use Rattle.std.proofs.lemmas.List.Folds.{find_at}
-use Rattle.std.proofs.lemmas.List.Quantifiers.{position-Some}
-use Rattle.std.proofs.lemmas.Option.{get_or_from_slice_get, slice_get_within}
 use Rattle.zl_signals.proofs.Takes.{none_found}
 use Rattle.zl_code.specs.Common.{Library}
-use Rattle.zl_code.specs.Jobs.{misfits}
-use Rattle.zl_code.specs.Starting.{is_created}
-use Rattle.zl_rights.specs.declared.entry.Entry.{Entry}
-use Rattle.zl_rights.specs.declared.status.Status.{Status}
 use Rattle.zl_rights.specs.declared.status.Status.TheVariants as status
 use Rattle.zl_rights.specs.Signals.{is_ready}
-use Rattle.zl_code.specs.Starting.{cpu_given}
-use Rattle.zl_objects.specs.Objects.{Objects, starting}
+use Rattle.zl_objects.specs.Objects.{Objects}
 use Rattle.zl_calls.specs.World.{state_value}
-use Rattle.zl_calls.specs.calls.Answer.{ClosesEach, IsRefusedBy, without_handle}
+use Rattle.zl_calls.specs.calls.Answer.{IsRefusedBy}
 use Rattle.zl_calls.specs.declared.process.State.{State}
 use Rattle.zl_calls.specs.declared.process.State.TheVariants as state
 use Rattle.zl_calls.specs.declared.calls.process.Started.{Started}
 use Rattle.zl_calls.specs.declared.process.Process.{Process}
 use Rattle.zl_table.specs.Table.{Handles, Inserts}
-use Rattle.zl_calls.specs.calls.Task.{AreBare, Enters, IsCallerStill, IsCreatedAt, IsFound, ProcessStartDoes, child_refusal, parts, process_at, start_refusal}
+use Rattle.zl_calls.specs.calls.Task.{Enters, IsCreatedAt, IsFound}
 
 -- ---- the process that is found
 

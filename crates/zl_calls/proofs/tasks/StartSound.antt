@@ -1,26 +1,18 @@
 -- A process was started with a handle of another: the invariant of all processes and of the objects holds afterwards.
-use Rattle.zl_calls.proofs.Common.{◌≡◌, ◌+◌, ◌||◌, ◌==◌, ℕ, Bool, true, false, List, [], ◌∷◌, map, refl, sym, ap, ◌∙◌, subst, cond, Some, inl}
-use Rattle.zl_calls.proofs.Common.{inr, IsTrue, arith, list_any, eq-eqb, cases_Bool, false≢true, same_Some, count_by}
-use Rattle.zl_calls.proofs.Common.{sum_by, Map, get, update, has_key, kind_of, has_key-update, is_sorted-update, Created, Ready, lives, runs}
-use Rattle.zl_calls.proofs.Common.{is_process, Inserts, IsTable, handles_to, queued_to, Objects, is_kept, is_child, stays_alone, has_living_child}
-use Rattle.zl_calls.proofs.Common.{process_entry, process_value, object_value, body_value, state_value, world_value, is_in_job, Agrees}
-use Rattle.zl_calls.proofs.Common.{AreNamed, AreBlocked, IsConsistent, IsNamed}
-use Rattle.std.proofs.lemmas.Bool.{or_cases}
+use Rattle.zl_calls.proofs.Common.{◌≡◌, ◌+◌, ◌||◌, ◌==◌, ℕ, Bool, true, false, List, [], ◌∷◌, map, refl, sym, ap, ◌∙◌, subst, cond, Some, inl, inr, IsTrue}
+use Rattle.zl_calls.proofs.Common.{arith, list_any, eq-eqb, cases_Bool, false≢true, same_Some, count_by, sum_by, Map, get, update, has_key, kind_of}
+use Rattle.zl_calls.proofs.Common.{has_key-update, is_sorted-update, Created, Ready, lives, runs, is_process, Inserts, IsTable, handles_to, queued_to, Objects}
+use Rattle.zl_calls.proofs.Common.{is_kept, is_child, stays_alone, has_living_child, process_entry, process_value, object_value, body_value, state_value}
+use Rattle.zl_calls.proofs.Common.{world_value, is_in_job, Agrees, AreNamed, AreBlocked, IsConsistent, IsNamed, or_cases, is_created, Entry, Kind, keeper_of}
+use Rattle.zl_calls.proofs.Common.{started, started_body, starting, is_above, same_in_job, kept_all, without_handle}
 use Rattle.zl_code.proofs.Common.{Process as ProcessValue, State as StateValue, is_blocked, or_left, or_right}
-use Rattle.zl_code.specs.Starting.{is_created}
 use Rattle.zl_rights.specs.Signals.{has_ended}
-use Rattle.zl_rights.specs.declared.entry.Entry.{Entry}
-use Rattle.zl_rights.specs.declared.kind.Kind.{Kind}
 use Rattle.zl_rights.specs.declared.kind.Kind.TheVariants as kind
-use Rattle.zl_objects.specs.Objects.{keeper_of, queue_of, started, started_body, starting}
-use Rattle.zl_objects.specs.Seen.{is_above}
+use Rattle.zl_objects.specs.Objects.{queue_of}
 use Rattle.zl_objects.specs.declared.object.Body.{Body}
 use Rattle.zl_objects.specs.declared.object.Body.TheVariants as body
 use Rattle.zl_objects.specs.declared.object.Life.TheVariants as life
 use Rattle.zl_objects.specs.declared.object.Object.{Object}
-use Rattle.zl_objects.proofs.Bodies.{same_in_job}
-use Rattle.zl_objects.proofs.Law.{kept_all}
-use Rattle.zl_calls.specs.calls.Answer.{without_handle}
 use Rattle.zl_calls.specs.declared.process.Process.{Process}
 use Rattle.zl_calls.specs.declared.process.State.{State}
 use Rattle.zl_calls.specs.declared.process.State.TheVariants as state

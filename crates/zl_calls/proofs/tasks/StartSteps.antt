@@ -2,18 +2,12 @@
 use Rattle.zl_calls.proofs.Common.{◌≡◌, ◌≢◌, ℕ, true, false, ◌==◌, List, [], ◌∷◌, map, refl, sym, ap, ◌∙◌, subst, Some, None, Ok, inl, inr, IsTrue, cases_Bool}
 use Rattle.zl_calls.proofs.Common.{eqb-true, same_Some, nat_cmp, is_sorted, Map, get, update, slice_get, slice_set, is_ready, Library, Site, site, Calls}
 use Rattle.zl_calls.proofs.Common.{cpu_answered, process_with, process_without, is_sorted-update, Objects, process_entry, process_value, state_value}
-use Rattle.zl_calls.proofs.Common.{world_value}
+use Rattle.zl_calls.proofs.Common.{world_value, looked_up, TRANSFER, WRITE, process_start, is_created, started_with, IsToldIn, Told, without_handle, Parts}
+use Rattle.zl_calls.proofs.Common.{StartsProcess, parts, start_refusal}
 use Rattle.zl_code.proofs.Common.{Process as ProcessValue, State as StateValue}
-use Rattle.zl_rights.specs.LookUp.{looked_up}
-use Rattle.zl_rights.specs.Numbers.{TRANSFER, WRITE}
 use Rattle.zl_rights.specs.declared.kind.Kind.TheVariants as kind
 use Rattle.zl_rights.specs.declared.status.Status.TheVariants as status
-use Rattle.zl_code.specs.CallTable.{process_start}
-use Rattle.zl_code.specs.Starting.{is_created, started_with}
 use Rattle.zl_code.specs.declared.history.Outcome.TheVariants as outcome
-use Rattle.zl_calls.specs.Reaching.{IsToldIn}
-use Rattle.zl_calls.specs.calls.Answer.{Told, without_handle}
-use Rattle.zl_calls.specs.calls.Task.{Parts, StartsProcess, parts, start_refusal}
 use Rattle.zl_calls.specs.declared.process.Process.{Process}
 use Rattle.zl_calls.proofs.calls.Answered.{IsWrite}
 use Rattle.zl_calls.proofs.tasks.StartCalls.{caller_is, child_is, start_calls, writes_at}

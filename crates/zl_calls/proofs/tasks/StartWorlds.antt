@@ -2,25 +2,15 @@
 use Rattle.zl_calls.proofs.Common.{◌≡◌, ℕ, ◌==◌, true, List, [], ◌∷◌, get_or, refl, sym, ap, ◌∙◌, subst, Some, Result, Ok, Err, ⊤, false≢true, same_Some}
 use Rattle.zl_calls.proofs.Common.{position, slice_get, slice_set, set, get, is_ready, Library, Site, site, Calls, AtCall, next_for, Handles, Objects}
 use Rattle.zl_calls.proofs.Common.{cpu_answered, no_value, told_by, status_of, process_value, state_value, world_blocked, world_value, taken_handles}
-use Rattle.zl_calls.proofs.Common.{handle_operands, gives_refused, AreBlocked, IsActed, IsConsistent, IsNamed, IsRefusedBy, World}
-use Rattle.zl_code.proofs.StepsBeside.{next_looks}
-use Rattle.zl_code.specs.CallTable.{process_start}
+use Rattle.zl_calls.proofs.Common.{handle_operands, gives_refused, AreBlocked, IsActed, IsConsistent, IsNamed, IsRefusedBy, World, next_looks, process_start}
+use Rattle.zl_calls.proofs.Common.{CallName, Outcome, looked_up, TRANSFER, WRITE, takes, Kind, Status, get_or_from_slice_get, starting, IsAnsweredIn, IsToldIn}
+use Rattle.zl_calls.proofs.Common.{ClosesEach, without_handle, Parts, ProcessStartDoes, StartsProcess, parts, start_refusal}
 use Rattle.zl_code.specs.Sound.{IsSound as IsSoundWorld}
-use Rattle.zl_code.specs.declared.history.CallName.{CallName}
-use Rattle.zl_code.specs.declared.history.Outcome.{Outcome}
 use Rattle.zl_code.specs.declared.history.Outcome.TheVariants as outcome
 use Rattle.zl_code.specs.declared.history.TraceItem.TheVariants as item
-use Rattle.zl_rights.specs.LookUp.{looked_up}
-use Rattle.zl_rights.specs.Numbers.{TRANSFER, WRITE, takes}
-use Rattle.zl_rights.specs.declared.kind.Kind.{Kind}
 use Rattle.zl_rights.specs.declared.kind.Kind.TheVariants as kind
-use Rattle.zl_rights.specs.declared.status.Status.{Status}
 use Rattle.zl_rights.specs.declared.status.Status.TheVariants as status
-use Rattle.std.proofs.lemmas.Option.{get_or_from_slice_get}
-use Rattle.zl_objects.specs.Objects.{starting}
-use Rattle.zl_calls.specs.Reaching.{IsAnsweredIn, IsToldIn}
-use Rattle.zl_calls.specs.calls.Answer.{ClosesEach, without_handle}
-use Rattle.zl_calls.specs.calls.Task.{ClosesHandle, Parts, ProcessStartDoes, StartsProcess, parts, start_refusal}
+use Rattle.zl_calls.specs.calls.Task.{ClosesHandle}
 use Rattle.zl_calls.specs.declared.process.Process.{Process}
 use Rattle.zl_calls.specs.declared.process.State.TheVariants as state
 use Rattle.zl_calls.proofs.calls.Answered.{IsWrite}

@@ -2,18 +2,14 @@
 use Rattle.zl_calls.proofs.Common.{◌≡◌, ◌<◌, ◌+◌, ◌*◌, ◌-◌, ℕ, Bool, true, false, not, ◌&&◌, ◌||◌, ◌==◌, or_right, and_parts, eq-eqb, eqb-true, List, length}
 use Rattle.zl_calls.proofs.Common.{map, refl, sym, ap, ◌∙◌, subst, Option, Some, None, is_some, option_map, slice_get, slice_get-get_or, get_or, arith, Map}
 use Rattle.zl_calls.proofs.Common.{get, has_key, list_any, Objects, kind_at, kind_in, object_entry, process_entry, process_value, world_value, IsConsistent}
-use Rattle.zl_calls.proofs.Common.{IsPlaceOf, World}
+use Rattle.zl_calls.proofs.Common.{IsPlaceOf, World, slice_get_within, has_handle, Watch, unlisting, unwatching, has_seen, AreBeside, EndsUnheld, EndsWaits}
+use Rattle.zl_calls.proofs.Common.{is_left}
 use Rattle.std.specs.List.{filter}
-use Rattle.std.proofs.lemmas.Option.{slice_get_within}
-use Rattle.zl_rights.specs.Settle.{has_handle, is_made_by_handle}
+use Rattle.zl_rights.specs.Settle.{is_made_by_handle}
 use Rattle.zl_rights.specs.World.{Wait}
-use Rattle.zl_signals.specs.declared.watch.Watch.{Watch}
 use Rattle.zl_objects.specs.declared.object.Object.{Object}
-use Rattle.zl_objects.specs.Listed.{is_keyed_at, unlisting}
-use Rattle.zl_objects.specs.Waits.{unwatching}
-use Rattle.zl_objects.proofs.Law.{has_seen}
+use Rattle.zl_objects.specs.Listed.{is_keyed_at}
 use Rattle.zl_calls.specs.declared.process.Process.{Process}
-use Rattle.zl_calls.specs.Registered.{AreBeside, EndsUnheld, EndsWaits, is_left}
 use Rattle.zl_calls.proofs.objects.SameButWaits.{beside_consistent, beside_same, beside_then, beside_world, unwatching_beside}
 use Rattle.zl_calls.proofs.lists.FilterByFirst.{IsSifting, any_there, none_there, one_less, sifting_ends, sifting_starts, sifting_stays, sifting_takes}
 

@@ -1,21 +1,18 @@
 -- One registered wait that holds gives its packet before the others do: the world at the end is the same.
 use Rattle.zl_calls.proofs.Common.{◌≡◌, ℕ, Bool, true, false, not, ◌&&◌, ◌||◌, ◌==◌, List, [], ◌∷◌, ◌++◌, map, refl, sym, ap, ◌∙◌, if◌then◌else◌, Option, Some}
 use Rattle.zl_calls.proofs.Common.{None, inl, inr, IsTrue, cases_Bool, eqb-true, option_map, list_any, nat_cmp, below_all, is_sorted, is_sorted-update, Map}
-use Rattle.zl_calls.proofs.Common.{get, has_key-update, update, get-update, PortBody, is_process, lives, fired, each, World}
-use Rattle.std.specs.Bool.{passes}
+use Rattle.zl_calls.proofs.Common.{get, has_key-update, update, get-update, PortBody, is_process, lives, fired, each, World, passes, filter-append, Packet}
+use Rattle.zl_calls.proofs.Common.{packet_of, same_map, filter_all, list_any-and, body_packed, repacked}
 use Rattle.std.specs.List.{filter}
 use Rattle.std.specs.Prelude.{bit_or}
 use Rattle.std.proofs.Common.{append-nil, append_assoc, cond}
-use Rattle.std.proofs.lemmas.List.Elements.{filter-append}
 use Rattle.zl_rights.specs.Numbers.{meets}
-use Rattle.zl_rights.specs.World.{Object, Body, ChannelEnd, JobBody, ProcessBody, Packet, Wait}
+use Rattle.zl_rights.specs.World.{Object, Body, ChannelEnd, JobBody, ProcessBody, Wait}
 use Rattle.zl_rights.specs.Signals.{active, active_of, implied, has_child_job, has_child_process, is_job_below, is_process_of}
-use Rattle.zl_rights.specs.Wakes.{body_with_packets, holds, packet_of, packets_for}
-use Rattle.zl_rights.proofs.Canonical.{same_map}
+use Rattle.zl_rights.specs.Wakes.{body_with_packets, holds, packets_for}
 use Rattle.zl_rights.proofs.MapLaws.{get-each}
-use Rattle.zl_rights.proofs.MapTests.{each_same, filter_all, filter_none, list_any-and}
+use Rattle.zl_rights.proofs.MapTests.{each_same, filter_none}
 use Rattle.zl_rights.proofs.SameSignals.{IsAlike}
-use Rattle.zl_code.specs.Waiting.{body_packed, repacked}
 
 -- ---- changes of a map
 

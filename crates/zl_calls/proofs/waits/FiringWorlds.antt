@@ -1,31 +1,23 @@
 -- Registered waits fire one after another, in the order of the list.
 use Rattle.zl_calls.proofs.Common.{◌≡◌, ◌<◌, ◌≤◌, ◌+◌, ℕ, zero, suc, Bool, true, false, ◌&&◌, ◌==◌, ◌++◌, List, [], ◌∷◌, length, take, map, slice_get, refl}
 use Rattle.zl_calls.proofs.Common.{sym, ap, ◌∙◌, subst, cond, inl, inr, Option, Some, None, arith, cases_Bool, eqb-true, eq-eqb, none-some, same_Some}
-use Rattle.zl_calls.proofs.Common.{option_map, list_any, length-append, and_from, position_or_len}
-use Rattle.zl_calls.proofs.Common.{is_process, Map, update, get, fired, Objects, IsConsistent}
-use Rattle.zl_calls.proofs.Common.{object_entry, object_value, world_blocked, world_value, World}
+use Rattle.zl_calls.proofs.Common.{option_map, list_any, length-append, and_from, position_or_len, is_process, Map, update, get, fired, Objects, IsConsistent}
+use Rattle.zl_calls.proofs.Common.{object_entry, object_value, world_blocked, world_value, World, or_parts, slice_get_within, packet_of, Packet, list_any-and}
+use Rattle.zl_calls.proofs.Common.{Watch, without_first, Port, with_packet, without_place, repacked, unlisting, at_port, changed_port, changing_port}
+use Rattle.zl_calls.proofs.Common.{signals_at, at_port_of, unwatched, unwatching, waits_in, AreBeside, FiresWaits}
 use Rattle.std.specs.List.{find}
 use Rattle.std.specs.Prelude.{◌-◌, drop}
-use Rattle.std.proofs.lemmas.Bool.{or_parts}
-use Rattle.std.proofs.lemmas.Option.{slice_get_within}
 use Rattle.zl_rights.specs.Numbers.{meets}
 use Rattle.zl_rights.specs.Signals.{active, has_child_job, has_child_process}
-use Rattle.zl_rights.specs.Wakes.{holds, packet_of}
-use Rattle.zl_rights.specs.World.{Packet, Wait}
-use Rattle.zl_rights.proofs.MapTests.{list_any-and}
-use Rattle.zl_signals.specs.declared.watch.Watch.{Watch}
-use Rattle.zl_signals.specs.Waits.{holds as holds_there, wait_at, without_first}
-use Rattle.zl_port.specs.Packets.{Port, with_packet, without_place}
-use Rattle.zl_code.specs.Waiting.{repacked}
+use Rattle.zl_rights.specs.Wakes.{holds}
+use Rattle.zl_rights.specs.World.{Wait}
+use Rattle.zl_signals.specs.Waits.{holds as holds_there, wait_at}
 use Rattle.zl_objects.specs.declared.object.Body.{Body}
 use Rattle.zl_objects.specs.declared.object.Body.TheVariants as body
 use Rattle.zl_objects.specs.declared.object.Object.{Object}
-use Rattle.zl_objects.specs.Listed.{holds_at, unlisting}
-use Rattle.zl_objects.specs.Ports.{at_port, changed_port, changing_port}
-use Rattle.zl_objects.specs.Signals.{signals_at}
-use Rattle.zl_objects.specs.Waits.{at_port_of, firing, unwatched, unwatching, waits_in, packet_of as packet_given}
+use Rattle.zl_objects.specs.Listed.{holds_at}
+use Rattle.zl_objects.specs.Waits.{firing, packet_of as packet_given}
 use Rattle.zl_calls.specs.declared.process.Process.{Process}
-use Rattle.zl_calls.specs.Registered.{AreBeside, FiresWaits}
 use Rattle.zl_calls.proofs.objects.Active.{signals_active}
 use Rattle.zl_calls.proofs.objects.SameButWaits.{beside_consistent, beside_seen, unwatching_beside}
 use Rattle.zl_calls.proofs.waits.Firing.{active_alike, after_one, fired_none, fired_one, one_holds}

@@ -1,27 +1,20 @@
 -- What a process does beside registered waits and blocked processes: those waits are left whose handle, object and port are.
 use Rattle.zl_calls.proofs.Common.{◌≡◌, ℕ, suc, Bool, true, false, ◌&&◌, List, [], ◌∷◌, map, refl, sym, ap, ◌∙◌, subst, Option, Some, None, inl, inr, IsTrue}
 use Rattle.zl_calls.proofs.Common.{arith, cases_Bool, false≢true, none-some, All, and_from, and_parts, entry_at, get, has_key, state_passes, AtCall, Library}
-use Rattle.zl_calls.proofs.Common.{Ready, Settles, Site, next_for, Objects, process_entry, object_entry, world_blocked, world_value, IsActed, AreBlocked}
+use Rattle.zl_calls.proofs.Common.{Ready, Settles, Site, next_for, Objects, process_entry, object_entry, world_blocked, world_value, IsActed, AreBlocked, Entry}
+use Rattle.zl_calls.proofs.Common.{pid_of, IsSoundWait, CallName, Outcome, TraceItem, ActsAndSettles, next_looks, tells_blocking, waits_by, settles_waiting}
+use Rattle.zl_calls.proofs.Common.{with_waiters, has_seen, ListsBut, is_left, world_left}
 use Rattle.std.specs.List.{filter}
 use Rattle.std.specs.Prelude.{slice_index_or}
 use Rattle.std.proofs.lemmas.List.Elements.{filter_passes}
 use Rattle.zl_rights.specs.Settle.{is_made_by_handle}
 use Rattle.zl_rights.specs.World.{Wait, World}
-use Rattle.zl_rights.specs.declared.entry.Entry.{Entry}
-use Rattle.zl_code.proofs.Common.{Process as ProcessValue, is_blocked, pid_of, names_its_object, IsSound as IsSoundWorld}
+use Rattle.zl_code.proofs.Common.{Process as ProcessValue, is_blocked, names_its_object, IsSound as IsSoundWorld}
 use Rattle.zl_code.specs.Calls.{Calls}
-use Rattle.zl_code.specs.Sound.{IsSoundWait}
-use Rattle.zl_code.specs.declared.history.CallName.{CallName}
-use Rattle.zl_code.specs.declared.history.Outcome.{Outcome}
-use Rattle.zl_code.specs.declared.history.TraceItem.{TraceItem}
 use Rattle.zl_code.specs.declared.history.TraceItem.TheVariants as item
 use Rattle.zl_code.proofs.SoundRuns.{settled_sound}
-use Rattle.zl_code.proofs.StepsBeside.{ActsAndSettles, next_looks, tells_blocking, waits_by}
-use Rattle.zl_code.proofs.StepsWaiting.{settles_waiting, step_waiting, is_left as is_left_at_port}
-use Rattle.zl_code.proofs.Waiters.{with_waiters}
-use Rattle.zl_objects.proofs.Law.{has_seen}
+use Rattle.zl_code.proofs.StepsWaiting.{step_waiting, is_left as is_left_at_port}
 use Rattle.zl_objects.specs.Listed.{is_there}
-use Rattle.zl_calls.specs.Registered.{ListsBut, is_left, world_left}
 use Rattle.zl_calls.specs.declared.process.Process.{Process}
 use Rattle.zl_calls.proofs.waking.BlockedLists.{same_blocked}
 use Rattle.zl_calls.proofs.processes.Departed.{left_all, settled_world}

@@ -1,30 +1,20 @@
 -- What each call leaves of the list of registered waits: replace ends its own, and others end with objects and ports alone.
 use Rattle.zl_calls.proofs.Common.{◌≡◌, ℕ, Bool, true, false, List, refl, ap, ◌∙◌, Option, Some, None, Result, Ok, Err, inl, inr, get, is_empty, narrowed}
 use Rattle.zl_calls.proofs.Common.{then_some, with_rights, IsRefusedBy, Request, Site, site, close, dup, chan_write, event_create, signal, process_exit}
-use Rattle.zl_calls.proofs.Common.{calls_at, Objects, Does, status_of, Acted, Acts, action_of}
-use Rattle.zl_code.proofs.Common.{chan_create, chan_read_etc, replace}
-use Rattle.zl_code.specs.Common.{signal_peer, wait_poll}
-use Rattle.zl_code.specs.CallTable.{job_create, job_set_policy, port_cancel, port_create, port_poll, port_queue, port_wait, wait_async, wait_one}
-use Rattle.zl_code.specs.declared.history.CallName.{CallName}
-use Rattle.zl_code.specs.declared.history.Outcome.{Outcome}
+use Rattle.zl_calls.proofs.Common.{calls_at, Objects, Does, status_of, Acted, Acts, action_of, chan_create, replace, signal_peer, job_create, job_set_policy}
+use Rattle.zl_calls.proofs.Common.{port_cancel, port_create, port_poll, port_queue, port_wait, wait_async, wait_one, CallName, Outcome, true≢false, next_looks}
+use Rattle.zl_calls.proofs.Common.{waits_by, looks_at_waits, Entry, Status, ListsBut, DoesTaking, ReplaceDoes, ChanReadDoes, Received, ReadFault}
+use Rattle.zl_code.proofs.Common.{chan_read_etc}
+use Rattle.zl_code.specs.Common.{wait_poll}
 use Rattle.zl_code.specs.declared.history.Outcome.TheVariants as outcome
 use Rattle.zl_code.specs.declared.history.TraceItem.TheVariants as item
 use Rattle.std.specs.List.{filter}
-use Rattle.zl_code.proofs.Common.{true≢false}
-use Rattle.zl_code.proofs.StepsBeside.{next_looks, waits_by}
-use Rattle.zl_code.proofs.Waiters.{looks_at_waits, waits_after}
-use Rattle.zl_rights.specs.declared.entry.Entry.{Entry}
+use Rattle.zl_code.proofs.Waiters.{waits_after}
 use Rattle.zl_rights.specs.World.{Wait}
-use Rattle.zl_rights.specs.declared.status.Status.{Status}
 use Rattle.zl_rights.specs.declared.status.Status.TheVariants as status
 use Rattle.zl_table.specs.Table.{Handles}
 use Rattle.zl_calls.specs.declared.process.Process.{Process}
-use Rattle.zl_calls.specs.Registered.{ListsBut}
-use Rattle.zl_calls.specs.calls.Answer.{DoesTaking}
-use Rattle.zl_calls.specs.calls.Handle.{ReplaceDoes, replace_refusal_of}
-use Rattle.zl_calls.specs.calls.Reading.{ChanReadDoes}
-use Rattle.zl_calls.specs.declared.calls.reading.Received.{Received}
-use Rattle.zl_calls.specs.declared.calls.reading.ReadFault.{ReadFault}
+use Rattle.zl_calls.specs.calls.Handle.{replace_refusal_of}
 
 -- ---- one call
 

@@ -1,14 +1,13 @@
 -- The list of registered waits, as handles and objects go: it loses those alone whose object or port is gone.
 use Rattle.zl_calls.proofs.Common.{◌≡◌, ℕ, Bool, List, [], ◌∷◌, refl, sym, ap, ◌∙◌, Option, Some, None, inl, inr, IsTrue, cases_Bool, false≢true, is_some}
-use Rattle.zl_calls.proofs.Common.{if◌then◌else◌, Map, get, has_key, has_key-update, Objects, stopping, stopped, job_in, Releases}
+use Rattle.zl_calls.proofs.Common.{if◌then◌else◌, Map, get, has_key, has_key-update, Objects, stopping, stopped, job_in, Releases, LeavesListed, Was}
+use Rattle.zl_calls.proofs.Common.{cascaded_was, KeepsListed}
 use Rattle.zl_code.proofs.Common.{and_from, and_parts}
 use Rattle.std.specs.List.{filter}
 use Rattle.zl_rights.specs.World.{Wait}
-use Rattle.zl_objects.specs.Listed.{LeavesListed, is_there}
+use Rattle.zl_objects.specs.Listed.{is_there}
 use Rattle.zl_objects.specs.Release.{Ends as ObjectEnds, Ended as ObjectEnded}
 use Rattle.zl_objects.specs.declared.object.Object.{Object}
-use Rattle.zl_objects.proofs.Released.{Was, cascaded_was}
-use Rattle.zl_calls.specs.Registered.{KeepsListed}
 
 -- what passes the one test passes the other, which then takes nothing away that counts
 pub filter_within : {X : Type 0} (p q : X → Bool) (xs : List X) → ((x : X) → IsTrue (p x) → IsTrue (q x)) → filter p (filter q xs) ≡ filter p xs

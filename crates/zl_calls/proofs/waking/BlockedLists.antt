@@ -1,17 +1,15 @@
 -- The list of the blocked processes, as one process changes.
 use Rattle.zl_calls.proofs.Common.{◌≡◌, ◌<◌, ◌≤◌, ◌+◌, ◌^◌, ◌++◌, arith, eq-eqb, length-map, ℕ, Bool, true, false, not, ◌==◌, List, [], ◌∷◌, length, map, refl}
 use Rattle.zl_calls.proofs.Common.{sym, ap, ◌∙◌, subst, if◌then◌else◌, Some, inl, inr, cases_Bool, eqb-true, false≢true, state_passes, Map, get, process_entry}
-use Rattle.zl_calls.proofs.Common.{state_value, AreBlocked}
+use Rattle.zl_calls.proofs.Common.{state_value, AreBlocked, pid_of, TraceItem, times, tells_blocking, then_blocked}
 use Rattle.std.specs.List.{filter}
 use Rattle.std.proofs.lemmas.List.Filters.{length-filter_both}
-use Rattle.zl_code.proofs.Common.{Process as ProcessValue, is_blocked, pid_of}
+use Rattle.zl_code.proofs.Common.{Process as ProcessValue, is_blocked}
 use Rattle.zl_code.specs.declared.history.Outcome.TheVariants as outcome
-use Rattle.zl_code.specs.declared.history.TraceItem.{TraceItem}
 use Rattle.zl_code.specs.declared.history.TraceItem.TheVariants as item
-use Rattle.zl_code.proofs.Changes.{times, times-behind, times-last, times-same, times-other}
-use Rattle.zl_code.proofs.StepsBeside.{blocked_by, tells_blocking}
+use Rattle.zl_code.proofs.Changes.{times-behind, times-last, times-same, times-other}
+use Rattle.zl_code.proofs.StepsBeside.{blocked_by}
 use Rattle.zl_calls.specs.declared.process.Process.{Process}
-use Rattle.zl_calls.specs.Blocking.{then_blocked}
 use Rattle.zl_calls.proofs.calls.Answered.{IsWrite}
 use Rattle.zl_calls.proofs.processes.Written.{found_after, get_after}
 

@@ -1,13 +1,9 @@
 -- A call blocks: it is a step up to where processes wake, its process is the last of the blocked, and the invariant holds afterwards.
 use Rattle.zl_calls.proofs.Common.{◌≡◌, ◌<◌, ◌^◌, ℕ, List, [], ◌∷◌, ◌++◌, refl, sym, ap, ◌∙◌, subst, Some, None, Ready, Blocked, Library, Site, refusal}
 use Rattle.zl_calls.proofs.Common.{on_process, runs, lives, Map, AtCall, next_for, Objects, Settles, process_value, state_value, world_blocked, world_value}
-use Rattle.zl_calls.proofs.Common.{AreBlocked, IsActed, IsConsistent, Agrees}
+use Rattle.zl_calls.proofs.Common.{AreBlocked, IsActed, IsConsistent, Agrees, Awaited, awaited_by, CallName, Outcome, world_left}
 use Rattle.zl_code.proofs.Common.{Process as ProcessValue, State as StateValue, is_blocked}
 use Rattle.zl_rights.specs.Signals.{has_ended}
-use Rattle.zl_rights.specs.World.{Awaited}
-use Rattle.zl_code.specs.CallTable.{awaited_by}
-use Rattle.zl_code.specs.declared.history.CallName.{CallName}
-use Rattle.zl_code.specs.declared.history.Outcome.{Outcome}
 use Rattle.zl_code.specs.declared.history.Outcome.TheVariants as outcome
 use Rattle.zl_code.specs.declared.history.TraceItem.TheVariants as item
 use Rattle.zl_code.proofs.StepsBeside.{blocked_in}
@@ -16,7 +12,6 @@ use Rattle.zl_code.specs.Sound.{IsSound as IsSoundWorld}
 use Rattle.zl_objects.specs.declared.object.Body.{Body}
 use Rattle.zl_calls.specs.declared.process.Process.{Process}
 use Rattle.zl_calls.proofs.calls.Answered.{IsWrite}
-use Rattle.zl_calls.specs.Registered.{world_left}
 use Rattle.zl_calls.proofs.waking.BlockedLists.{one_asleep}
 use Rattle.zl_calls.proofs.waits.LeftWaits.{left_by}
 use Rattle.zl_calls.proofs.objects.SameBodies.{alike_agrees}

@@ -1,13 +1,11 @@
 -- Blocked processes wake one after another, in the order of the list.
 use Rattle.zl_calls.proofs.Common.{◌≡◌, ◌<◌, ◌≤◌, ◌+◌, ◌^◌, ℕ, zero, suc, Bool, true, false, not, ◌==◌, ◌++◌, List, [], ◌∷◌, length, take, map, get_or, refl}
 use Rattle.zl_calls.proofs.Common.{sym, ap, ◌∙◌, subst, if◌then◌else◌, inl, inr, Some, IsTrue, arith, cases_Bool, eq-eqb, state_passes, get, Objects}
-use Rattle.zl_calls.proofs.Common.{process_entry, world_blocked, IsConsistent, AreBlocked, World}
-use Rattle.std.specs.List.{filter, fold}
+use Rattle.zl_calls.proofs.Common.{process_entry, world_blocked, IsConsistent, AreBlocked, World, fold, times, WakesOne}
+use Rattle.std.specs.List.{filter}
 use Rattle.std.specs.Prelude.{drop}
 use Rattle.zl_code.proofs.Common.{Process as ProcessValue, is_blocked, woken}
-use Rattle.zl_code.proofs.Changes.{times}
 use Rattle.zl_calls.specs.declared.process.Process.{Process}
-use Rattle.zl_calls.specs.Waking.{WakesOne}
 use Rattle.zl_calls.proofs.waking.BlockedLists.{none_filtered}
 
 -- those before the place in the list have had their turn; the list was first at the start

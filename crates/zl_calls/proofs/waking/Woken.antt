@@ -1,31 +1,24 @@
 -- A blocked process wakes, or stays blocked: the world afterwards, its invariant, and the list.
 use Rattle.zl_calls.proofs.Common.{◌≡◌, ℕ, Bool, true, false, not, ◌==◌, List, [], ◌∷◌, length, map, get_or, set, refl, sym, ap, ◌∙◌, if◌then◌else◌, Option}
-use Rattle.zl_calls.proofs.Common.{Some, None, is_some, inl, inr, ◌⊎◌, IsTrue, position, cases_Bool, eqb-true, false≢true, option_map, is_sorted}
-use Rattle.zl_calls.proofs.Common.{nat_cmp, Map, get, put, update, get-put, get-update, is_sorted-update, sorted_put, runs, lives, is_process, Objects}
-use Rattle.zl_calls.proofs.Common.{body_value, object_entry, object_value, process_entry, process_value, state_value, world_blocked, world_value, Agrees}
-use Rattle.zl_calls.proofs.Common.{IsConsistent, PortBody}
-use Rattle.std.specs.Bool.{passes, then_some}
-use Rattle.std.proofs.lemmas.List.{length-set}
+use Rattle.zl_calls.proofs.Common.{Some, None, is_some, inl, inr, ◌⊎◌, IsTrue, position, cases_Bool, eqb-true, false≢true, option_map, is_sorted, nat_cmp, Map}
+use Rattle.zl_calls.proofs.Common.{get, put, update, get-put, get-update, is_sorted-update, sorted_put, runs, lives, is_process, Objects, body_value}
+use Rattle.zl_calls.proofs.Common.{object_entry, object_value, process_entry, process_value, state_value, world_blocked, world_value, Agrees, IsConsistent}
+use Rattle.zl_calls.proofs.Common.{PortBody, passes, length-set, same_map, Packet, PacketAt, SignalOf, packet_values, body_packed, packet_taken, at_port}
+use Rattle.zl_calls.proofs.Common.{changed_port, changing_port, packets_in, packets_of, signals_at, get_seen, without_front, WakesOne}
+use Rattle.std.specs.Bool.{then_some}
 use Rattle.std.specs.List.{filter}
 use Rattle.std.specs.Prelude.{slice_get, drop}
-use Rattle.zl_rights.proofs.Canonical.{same_map}
 use Rattle.zl_code.proofs.Common.{Process as ProcessValue, Body as BodyValue, Object as ObjectValue, State as StateValue, Blocked, Ready, answered, meets}
 use Rattle.zl_code.proofs.Common.{active}
 use Rattle.zl_code.proofs.Common.{has_child_job, has_child_process, is_blocked, woken, made_ready}
 use Rattle.zl_rights.specs.Signals.{has_ended}
-use Rattle.zl_rights.specs.World.{Packet, PacketAt, SignalOf}
-use Rattle.zl_rights.specs.Wakes.{packet_values, woken_by, woken_from, woken_at_port}
-use Rattle.zl_code.specs.Waiting.{body_packed, packet_taken}
+use Rattle.zl_rights.specs.Wakes.{woken_by, woken_from, woken_at_port}
 use Rattle.zl_objects.specs.declared.object.Object.{Object as OwnObject}
 use Rattle.zl_objects.specs.declared.object.Body.{Body}
 use Rattle.zl_objects.specs.declared.object.Body.TheVariants as body
-use Rattle.zl_objects.specs.Ports.{at_port, changed_port, changing_port, packets_in, packets_of}
-use Rattle.zl_objects.specs.Signals.{signals_at}
-use Rattle.zl_objects.proofs.Law.{get_seen}
-use Rattle.zl_port.specs.Packets.{without_front}
 use Rattle.zl_calls.specs.declared.process.State.TheVariants as state
 use Rattle.zl_calls.specs.declared.process.Process.{Process}
-use Rattle.zl_calls.specs.Waking.{WakesOne, awake, destinations_of, given_awake, without_taken}
+use Rattle.zl_calls.specs.Waking.{awake, destinations_of, given_awake, without_taken}
 use Rattle.zl_calls.proofs.calls.Answered.{IsWrite}
 use Rattle.zl_calls.proofs.waking.BlockedLists.{one_awake}
 use Rattle.zl_calls.proofs.objects.Active.{signals_active}

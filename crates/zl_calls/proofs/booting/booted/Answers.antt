@@ -1,7 +1,4 @@
-use Rattle.zl_calls.proofs.Common.{◌∙◌, ◌≤◌, ap, subst, get_or, List, boot_fault, Makes, IsCauseOf, seen}
-use Rattle.zl_code.specs.declared.boot.Statement.{Statement}
-use Rattle.zl_code.specs.Headline.{word_of}
-use Rattle.zl_code.specs.Limits.{most_word}
+use Rattle.zl_calls.proofs.Common.{◌∙◌, ◌≤◌, ap, subst, get_or, List, boot_fault, Makes, IsCauseOf, seen, Statement, word_of, most_word}
 use Rattle.zl_calls.proofs.booting.BootRun.{none_made, one_more, all_small, first_fault, limit_fault, none_reached, some_reached}
 use Rattle.zl_calls.proofs.booting.booted.Goals as goal
 

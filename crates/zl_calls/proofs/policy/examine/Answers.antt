@@ -1,8 +1,5 @@
-use Rattle.zl_calls.proofs.Common.{◌≡◌, ◌∙◌, ◌+◌, arith, sym, ap, suc}
-use Rattle.std.proofs.lemmas.Grind.{common_steps}
+use Rattle.zl_calls.proofs.Common.{◌≡◌, ◌∙◌, ◌+◌, arith, sym, ap, suc, common_steps, result_err, reg}
 use Rattle.std.specs.Prelude.{slice_index}
-use Rattle.std.specs.Result.{result_err}
-use Rattle.zl_code.specs.Local.{reg}
 use Rattle.zl_calls.proofs.policy.Examining.{one_examined}
 use Rattle.zl_calls.proofs.policy.examine.Goals as goal
 

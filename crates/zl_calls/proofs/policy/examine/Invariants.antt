@@ -1,7 +1,5 @@
-use Rattle.zl_calls.proofs.Common.{◌≡◌, map}
+use Rattle.zl_calls.proofs.Common.{◌≡◌, map, field_of, fields_fault, last_fault}
 use Rattle.std.specs.Prelude.{drop}
-use Rattle.zl_code.specs.Instructions.{field_of}
-use Rattle.zl_calls.specs.FieldFaults.{fields_fault, last_fault}
 use Rattle.zl_calls.proofs.policy.examine.Given as goal
 
 abbrev pub invariant-loop-n : goal.invariant-loop-n

@@ -1,5 +1,4 @@
-use Rattle.zl_calls.proofs.Common.{set, sym, ◌∙◌}
-use Rattle.zl_calls.specs.calls.Task.{parts}
+use Rattle.zl_calls.proofs.Common.{set, sym, ◌∙◌, parts}
 use Rattle.zl_calls.proofs.waking.BlockedLists.{no_more}
 use Rattle.zl_calls.proofs.stepping.CallSteps.{called_so, moves_from, stays_from, stops_from, caller_ready, within}
 use Rattle.zl_calls.proofs.stepping.Calling.{is_there}

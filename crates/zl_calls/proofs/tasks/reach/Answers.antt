@@ -1,11 +1,7 @@
-use Rattle.zl_calls.proofs.Common.{arith, ◌≡◌, ◌∙◌, Some, slice_get}
-use Rattle.std.proofs.lemmas.Grind.{common_steps}
-use Rattle.std.proofs.lemmas.Option.{get_or_from_slice_get}
+use Rattle.zl_calls.proofs.Common.{arith, ◌≡◌, ◌∙◌, Some, slice_get, common_steps, get_or_from_slice_get, reg, IsCallerStill, parts}
 use Rattle.std.specs.Prelude.{slice_index}
-use Rattle.zl_code.specs.Local.{reg}
 use Rattle.zl_code.specs.Request.{site_of}
 use Rattle.zl_calls.specs.declared.process.Process.{Process}
-use Rattle.zl_calls.specs.calls.Task.{IsCallerStill, parts}
 use Rattle.zl_calls.proofs.tasks.ReachParts.{counter_still, create_reaches, created_still, kill_reaches, start_reaches, still_within}
 use Rattle.zl_calls.proofs.tasks.StartParts.{stands_at}
 use Rattle.zl_calls.proofs.tasks.reach.Goals as goal

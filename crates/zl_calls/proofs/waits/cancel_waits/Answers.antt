@@ -1,5 +1,4 @@
-use Rattle.zl_calls.proofs.Common.{sym, ◌∙◌}
-use Rattle.zl_objects.specs.Listed.{wait_value}
+use Rattle.zl_calls.proofs.Common.{sym, ◌∙◌, wait_value}
 use Rattle.zl_code.specs.Waiting.{is_keyed}
 use Rattle.zl_signals.specs.Waits.{is_keyed as is_asked}
 use Rattle.zl_calls.proofs.waits.Ending.{any_ended, ends_all, one_cancelled, one_fewer, one_uncancelled}

@@ -1,6 +1,4 @@
-use Rattle.zl_calls.proofs.Common.{sym, ◌∙◌}
-use Rattle.zl_code.specs.Waiting.{is_by_handle}
-use Rattle.zl_objects.specs.Listed.{wait_value}
+use Rattle.zl_calls.proofs.Common.{sym, ◌∙◌, is_by_handle, wait_value}
 use Rattle.zl_signals.specs.Waits.{is_by_handle as is_made_by}
 use Rattle.zl_calls.proofs.waits.Ending.{ends_all, one_ends, one_fewer, one_stays}
 use Rattle.zl_calls.proofs.waits.end_handle.Goals as goal

@@ -1,5 +1,5 @@
+use Rattle.zl_calls.proofs.Common.{is_by_handle}
 use Rattle.std.specs.Prelude.{◌*◌, ◌-◌, length}
-use Rattle.zl_code.specs.Waiting.{is_by_handle}
 use Rattle.zl_calls.proofs.waits.Ending.{IsEnding}
 use Rattle.zl_calls.proofs.waits.end_handle.Given as goal
 

@@ -1,5 +1,4 @@
-use Rattle.zl_calls.proofs.Common.{arith, sym, ◌∙◌}
-use Rattle.zl_objects.specs.Listed.{wait_value}
+use Rattle.zl_calls.proofs.Common.{arith, sym, ◌∙◌, wait_value}
 use Rattle.zl_calls.proofs.waits.FiringWorlds.{all_fired, fewer_behind, fewer_left, turn_fired, turn_kept}
 use Rattle.zl_calls.proofs.waits.fire_waits.Goals as goal
 

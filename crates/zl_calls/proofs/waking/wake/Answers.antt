@@ -1,5 +1,4 @@
-use Rattle.std.specs.Vec.{vec_capacity}
-use Rattle.zl_calls.proofs.Common.{arith, sym}
+use Rattle.zl_calls.proofs.Common.{arith, sym, vec_capacity}
 use Rattle.zl_calls.proofs.waking.WakeLoop.{all_had_turns, counter_there, turn_awake}
 use Rattle.zl_calls.proofs.waking.wake.Goals as goal
 

@@ -1,5 +1,5 @@
+use Rattle.zl_calls.proofs.Common.{vec_capacity, vec_len}
 use Rattle.std.specs.Prelude.{◌-◌}
-use Rattle.std.specs.Vec.{vec_capacity, vec_len}
 use Rattle.zl_calls.proofs.waking.WakeLoop.{IsWaking}
 use Rattle.zl_calls.proofs.waking.wake.Given as goal
 

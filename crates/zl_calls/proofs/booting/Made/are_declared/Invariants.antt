@@ -1,5 +1,4 @@
-use Rattle.zl_calls.proofs.Common.{◌≡◌, handles_given, seen}
-use Rattle.zl_code.specs.Boot.{are_declared}
+use Rattle.zl_calls.proofs.Common.{◌≡◌, handles_given, seen, are_declared}
 use Rattle.zl_calls.proofs.booting.BootDeclared.{fit_from}
 use Rattle.zl_calls.proofs.booting.Made.are_declared.Given as goal
 

@@ -1,5 +1,4 @@
-use Rattle.zl_calls.proofs.Common.{◌∙◌, ap, sym, None, get_or, seen, allowed, World}
-use Rattle.zl_code.specs.declared.boot.Grant.{Grant}
+use Rattle.zl_calls.proofs.Common.{◌∙◌, ap, sym, None, get_or, seen, allowed, World, Grant}
 use Rattle.zl_calls.proofs.booting.BootGiving.{none_given, turn_given, all_given, one_allowed}
 use Rattle.zl_calls.proofs.booting.Made.give.Goals as goal
 

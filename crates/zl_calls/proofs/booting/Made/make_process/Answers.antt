@@ -1,5 +1,4 @@
-use Rattle.zl_calls.proofs.Common.{◌≡◌, ◌∙◌, ap, sym, refl, arith, length, length-map, nat_tests, seen, process_entry, World}
-use Rattle.zl_code.proofs.CanStart.{can_start}
+use Rattle.zl_calls.proofs.Common.{◌≡◌, ◌∙◌, ap, sym, refl, arith, length, length-map, nat_tests, seen, process_entry, World, can_start}
 use Rattle.zl_calls.specs.declared.process.State.TheVariants as state
 use Rattle.zl_calls.proofs.booting.BootFaults.{rights_are}
 use Rattle.zl_calls.proofs.booting.BootMaking.{done, makes}

@@ -1,6 +1,5 @@
-use Rattle.zl_calls.proofs.Common.{◌≡◌, [], take}
+use Rattle.zl_calls.proofs.Common.{◌≡◌, [], take, list_refusal}
 use Rattle.zl_code.proofs.Common.{drop}
-use Rattle.zl_calls.specs.calls.Channel.{list_refusal}
 use Rattle.zl_calls.proofs.calls.channel.examine_list.Given as goal
 
 abbrev pub invariant-loop-n : goal.invariant-loop-n

@@ -1,5 +1,4 @@
-use Rattle.zl_calls.proofs.Common.{◌≡◌, ◌≤◌, ◌+◌, ◌-◌, ◌++◌, take, length}
-use Rattle.zl_calls.specs.calls.Answer.{taken_from, without_handles}
+use Rattle.zl_calls.proofs.Common.{◌≡◌, ◌≤◌, ◌+◌, ◌-◌, ◌++◌, take, length, taken_from, without_handles}
 use Rattle.zl_calls.proofs.calls.channel.take_each.Given as goal
 
 abbrev pub invariant-loop-value : goal.invariant-loop-value

@@ -1,5 +1,4 @@
-use Rattle.zl_calls.proofs.Common.{arith, subst, sym}
-use Rattle.zl_calls.specs.calls.Task.{ClosesEnded}
+use Rattle.zl_calls.proofs.Common.{arith, subst, sym, ClosesEnded}
 use Rattle.zl_calls.specs.declared.process.Process.{Process}
 use Rattle.zl_calls.proofs.waits.WaitsLost.{listed_same, listed_then}
 use Rattle.zl_calls.proofs.tasks.KillParts.{closing_ends, closing_goes_on, closing_starts}

@@ -1,4 +1,4 @@
-use Rattle.zl_calls.specs.Registered.{KeepsListed}
+use Rattle.zl_calls.proofs.Common.{KeepsListed}
 use Rattle.zl_calls.proofs.tasks.KillParts.{IsClosing}
 use Rattle.zl_calls.proofs.calls.kill.close_ended.Given as goal
 

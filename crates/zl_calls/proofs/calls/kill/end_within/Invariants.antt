@@ -1,5 +1,5 @@
+use Rattle.zl_calls.proofs.Common.{ended_within}
 use Rattle.std.proofs.Common.{◌≡◌, ◌++◌, take, drop, map}
-use Rattle.zl_calls.specs.calls.Task.{ended_within}
 use Rattle.zl_calls.proofs.calls.kill.end_within.Given as goal
 
 abbrev pub invariant-loop-process : goal.invariant-loop-process

@@ -1,6 +1,6 @@
+use Rattle.zl_calls.proofs.Common.{vec_capacity, vec_len}
 use Rattle.std.proofs.Common.{map}
 use Rattle.std.specs.Prelude.{◌-◌}
-use Rattle.std.specs.Vec.{vec_capacity, vec_len}
 use Rattle.std.proofs.Common.{◌≡◌}
 use Rattle.zl_rights.specs.Map.{get}
 use Rattle.zl_rights.specs.Signals.{state_passes}

@@ -1,7 +1,5 @@
-use Rattle.std.proofs.lemmas.Option.{slice_get_within}
-use Rattle.zl_calls.proofs.Common.{◌∙◌, arith, sym}
+use Rattle.zl_calls.proofs.Common.{◌∙◌, arith, sym, slice_get_within, wait_value}
 use Rattle.zl_code.specs.Waiting.{is_keyed}
-use Rattle.zl_objects.specs.Listed.{wait_value}
 use Rattle.zl_calls.proofs.calls.Cancelled.{any_behind, any_there, none_from}
 use Rattle.zl_calls.proofs.calls.port.is_awaited.Goals as goal
 

@@ -1,5 +1,4 @@
-use Rattle.zl_calls.proofs.Common.{◌≡◌, true, false, Some, slice_get, subst, sym, ◌∙◌}
-use Rattle.zl_code.specs.Jobs.{misfits}
+use Rattle.zl_calls.proofs.Common.{◌≡◌, true, false, Some, slice_get, subst, sym, ◌∙◌, misfits}
 use Rattle.zl_calls.specs.declared.process.Process.{Process}
 use Rattle.zl_calls.proofs.tasks.StartParts.{is_created_at, misfit_refused, none_refused, not_refused, started_refused}
 use Rattle.zl_calls.proofs.calls.process.created_at.Goals as goal

@@ -1,5 +1,4 @@
-use Rattle.zl_calls.proofs.Common.{length, Objects, Drained}
-use Rattle.zl_calls.specs.Registered.{KeepsListed}
+use Rattle.zl_calls.proofs.Common.{length, Objects, Drained, KeepsListed}
 use Rattle.zl_calls.proofs.calls.process.end.Given as goal
 
 abbrev pub invariant-loop-entry : goal.invariant-loop-entry

@@ -1,9 +1,7 @@
-use Rattle.zl_calls.proofs.Common.{rules, ◌&&◌, ◌∙◌, ap, sym, not, list_any, Image}
+use Rattle.zl_calls.proofs.Common.{rules, ◌&&◌, ◌∙◌, ap, sym, not, list_any, Image, can_be_needed, is_among, is_allowing, job_at}
 use Rattle.std.proofs.lemmas.Iterator.Search.{any_from_yields_List}
 use Rattle.std.proofs.lemmas.Iterator.{YieldsList-from_slice}
-use Rattle.zl_code.specs.Image.{can_be_needed, is_among}
-use Rattle.zl_code.specs.Jobs.{is_allowing}
-use Rattle.zl_objects.specs.Jobs.{action_of, job_at}
+use Rattle.zl_objects.specs.Jobs.{action_of}
 use Rattle.zl_calls.proofs.calls.Needs.{any_needed}
 use Rattle.zl_calls.proofs.calls.process.lacks_need.Goals as goal
 

@@ -1,6 +1,4 @@
-use Rattle.zl_calls.proofs.Common.{◌≡◌, ◌∙◌, arith, sym, take, length, get}
-use Rattle.zl_objects.specs.Objects.{queue_in}
-use Rattle.zl_calls.specs.calls.Reading.{front_handles}
+use Rattle.zl_calls.proofs.Common.{◌≡◌, ◌∙◌, arith, sym, take, length, get, queue_in, front_handles}
 use Rattle.zl_calls.proofs.tables.Entered.{front_more, one_behind, places_left, room_for_next}
 use Rattle.zl_calls.proofs.calls.reading.insert_front.Goals as goal
 

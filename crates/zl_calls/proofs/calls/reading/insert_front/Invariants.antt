@@ -1,5 +1,4 @@
-use Rattle.zl_calls.proofs.Common.{◌≤◌, take}
-use Rattle.zl_calls.specs.calls.Reading.{InsertsEach, front_handles}
+use Rattle.zl_calls.proofs.Common.{◌≤◌, take, InsertsEach, front_handles}
 use Rattle.zl_calls.proofs.calls.reading.insert_front.Given as goal
 
 abbrev pub invariant-loop-n : goal.invariant-loop-n

@@ -1,5 +1,4 @@
-use Rattle.zl_calls.proofs.Common.{arith}
-use Rattle.std.proofs.lemmas.Grind.{common_steps}
+use Rattle.zl_calls.proofs.Common.{arith, common_steps}
 use Rattle.zl_calls.proofs.calls.ReaderTold.{at_read, length_same, parts_act}
 use Rattle.zl_calls.proofs.calls.reading.read.Goals as goal
 

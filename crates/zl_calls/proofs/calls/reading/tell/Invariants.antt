@@ -1,8 +1,5 @@
-use Rattle.zl_calls.proofs.Common.{◌≡◌, ◌+◌, ◌-◌}
+use Rattle.zl_calls.proofs.Common.{◌≡◌, ◌+◌, ◌-◌, written, triples_from, told_of}
 use Rattle.std.specs.Prelude.{◌*◌, drop}
-use Rattle.zl_rights.specs.World.{written}
-use Rattle.zl_code.specs.Asked.{triples_from}
-use Rattle.zl_code.specs.Effects.{told_of}
 use Rattle.zl_calls.proofs.calls.reading.tell.Given as goal
 
 abbrev pub invariant-loop-n : goal.invariant-loop-n

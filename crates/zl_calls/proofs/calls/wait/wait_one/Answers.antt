@@ -1,8 +1,5 @@
-use Rattle.zl_calls.proofs.Common.{◌≡◌, arith, refl, sym, ap, ◌∙◌, site_of, inr}
-use Rattle.std.proofs.lemmas.Grind.{common_steps}
+use Rattle.zl_calls.proofs.Common.{◌≡◌, arith, refl, sym, ap, ◌∙◌, site_of, inr, common_steps, reg, SignalOf}
 use Rattle.std.specs.Prelude.{slice_index}
-use Rattle.zl_code.specs.Local.{reg}
-use Rattle.zl_rights.specs.World.{SignalOf}
 use Rattle.zl_calls.proofs.calls.wait.wait_one.Goals as goal
 
 pub returns : goal.returns

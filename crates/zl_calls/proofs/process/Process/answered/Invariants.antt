@@ -1,7 +1,5 @@
-use Rattle.zl_calls.proofs.Common.{◌≡◌, ◌∷◌}
+use Rattle.zl_calls.proofs.Common.{◌≡◌, ◌∷◌, status_magnitude, written}
 use Rattle.std.specs.Prelude.{drop}
-use Rattle.zl_rights.specs.Numbers.{status_magnitude}
-use Rattle.zl_rights.specs.World.{written}
 use Rattle.zl_calls.proofs.process.Process.answered.Given as goal
 
 abbrev pub invariant-loop-n : goal.invariant-loop-n

@@ -1,8 +1,5 @@
 use Rattle.zl_calls.proofs.Common.{◌≡◌, ◌∙◌, ◌==◌, true, ap, get, map, on_process, position, refl, slice_get, Some, Cpu, is_ready, process_entry, process_value}
-use Rattle.zl_calls.proofs.Common.{state_value, world_blocked}
-use Rattle.std.proofs.lemmas.List.{length-set}
-use Rattle.zl_interp.specs.Bursts.{after_locals}
-use Rattle.zl_calls.specs.Turns.{Stands}
+use Rattle.zl_calls.proofs.Common.{state_value, world_blocked, length-set, after_locals, Stands}
 use Rattle.zl_calls.specs.declared.process.Process.{Process}
 use Rattle.zl_calls.proofs.stepping.Advancing.{advances, advanced_programs, advanced_sound, cpu_stands, program_stands, read_there, ready_there}
 use Rattle.zl_calls.proofs.stepping.LocalMoves.{moved_awake, moved_keeps, moved_list, moved_world}

@@ -1,7 +1,5 @@
-use Rattle.zl_calls.proofs.Common.{◌≡◌, ◌≤◌, ◌∙◌, ℕ, true, arith, length, subst, sym, List, AreBlocked, TakesStep}
-use Rattle.zl_calls.specs.Acting.{is_local}
-use Rattle.zl_calls.specs.Blocking.{then_blocked}
-use Rattle.zl_calls.specs.Registered.{EndsUnheld, FiresWaits}
+use Rattle.zl_calls.proofs.Common.{◌≡◌, ◌≤◌, ◌∙◌, ℕ, true, arith, length, subst, sym, List, AreBlocked, TakesStep, is_local, then_blocked, EndsUnheld}
+use Rattle.zl_calls.proofs.Common.{FiresWaits}
 use Rattle.zl_calls.specs.declared.process.Process.{Process}
 use Rattle.zl_calls.proofs.waking.BlockedLists.{no_more}
 use Rattle.zl_calls.proofs.stepping.StepItems.{machine_value, local_list, not_ready_in, stepped_awake, stepped_programs, stepped_sound, takes_local, takes_step}

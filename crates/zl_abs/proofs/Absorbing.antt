@@ -42,16 +42,11 @@ absorbs (Word m) (KindOf _) h = ap (λ (x : ℕ). Some (Word x)) (larger_same m 
 absorbs (Word m) (RightsOf _) h = ap (λ (x : ℕ). Some (Word x)) (larger_same m ANY h)
 absorbs (Has a k r) (Word n) h = let p = both (eqb n 0) a h in rw (p.0, p.1) refl
 absorbs (Has a k r) (Has b j q) h = ap Some (has_same a b k j r q h)
-absorbs (Has a k r) (KindOf _) h = cc
-absorbs (Has a k r) (RightsOf _) h = cc
-absorbs (KindOf r) (Word n) h = cc
-absorbs (KindOf r) (Has _ _ _) h = cc
+absorbs (Has a k r) _ h = cc
 absorbs (KindOf r) (KindOf s) h = let p : eqb r s ≡ true = grind (arith, nat_tests) in rw p refl
-absorbs (KindOf r) (RightsOf s) h = cc
-absorbs (RightsOf r) (Word n) h = cc
-absorbs (RightsOf r) (Has _ _ _) h = cc
+absorbs (KindOf r) _ h = cc
 absorbs (RightsOf r) (RightsOf s) h = let p : eqb r s ≡ true = grind (arith, nat_tests) in rw p refl
-absorbs (RightsOf r) (KindOf s) h = cc
+absorbs (RightsOf r) _ h = cc
 
 pub all_absorb : (s t : State) → IsTrue (all_below t s) → all_joined s t ≡ Some s
 unfolding all_below all_joined
@@ -90,21 +85,13 @@ number_is m n h k = grind (arith, nat_tests)
 pub below_antisymmetric : (a b : AbsVal) → IsTrue (below a b) → IsTrue (below b a) → a ≡ b
 unfolding below
 below_antisymmetric (Word m) (Word n) h k = ap Word (number_is m n h k)
-below_antisymmetric (Word m) (Has _ _ _) h k = cc
-below_antisymmetric (Word m) (KindOf _) h k = cc
-below_antisymmetric (Word m) (RightsOf _) h k = cc
+below_antisymmetric (Word m) _ h k = cc
 below_antisymmetric (Has a i r) (Has b j q) h k = has_is a b i j r q h k
-below_antisymmetric (Has a i r) (Word _) h k = cc
-below_antisymmetric (Has a i r) (KindOf _) h k = cc
-below_antisymmetric (Has a i r) (RightsOf _) h k = cc
+below_antisymmetric (Has a i r) _ h k = cc
 below_antisymmetric (KindOf r) (KindOf s) h k = ap KindOf ((Decides-eqb r s).0 h)
-below_antisymmetric (KindOf r) (Word _) h k = cc
-below_antisymmetric (KindOf r) (Has _ _ _) h k = cc
-below_antisymmetric (KindOf r) (RightsOf _) h k = cc
+below_antisymmetric (KindOf r) _ h k = cc
 below_antisymmetric (RightsOf r) (RightsOf s) h k = ap RightsOf ((Decides-eqb r s).0 h)
-below_antisymmetric (RightsOf r) (Word _) h k = cc
-below_antisymmetric (RightsOf r) (Has _ _ _) h k = cc
-below_antisymmetric (RightsOf r) (KindOf _) h k = cc
+below_antisymmetric (RightsOf r) _ h k = cc
 
 pub all_below_antisymmetric : (s t : State) → IsTrue (all_below s t) → IsTrue (all_below t s) → s ≡ t
 unfolding all_below

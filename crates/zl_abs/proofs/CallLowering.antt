@@ -7,8 +7,6 @@ use Rattle.zl_rights.specs.declared.rights.Rights.{Rights}
 use Rattle.zl_rights.specs.declared.policy.Condition.{Condition}
 use Rattle.zl_rights.specs.Numbers.{bits, rights_of, within, SAME_RIGHTS, KNOWN_RIGHTS}
 use Rattle.zl_code.specs.declared.instr.CallInstr.{CallInstr}
-use Rattle.zl_code.specs.declared.history.CallName.{CallName}
-use Rattle.zl_code.specs.declared.history.CallName.TheVariants as call
 use Rattle.zl_code.specs.Image.{Image}
 use Rattle.zl_code.specs.Asked.{those, is_written}
 use Rattle.zl_code.specs.Instructions.{call_row}
@@ -23,7 +21,7 @@ use Rattle.zl_abs.specs.States.{State, all_below, value_at, bound_at, with_value
 use Rattle.zl_abs.specs.Rule.{passes}
 use Rattle.zl_abs.specs.CallRules.{takes_any, fault_of, taken_from, examined_by, examined, examined_all, are_words, sum_fits, range_fits, is_declared}
 use Rattle.zl_abs.specs.CallRules.{is_result, are_distinct, has_one, uses, answers, finished, state_after, uses_of, narrowed_value, values_by, values_of}
-use Rattle.zl_abs.specs.CallRules.{goes_on, stops, call_rule}
+use Rattle.zl_abs.specs.CallRules.{Gives, gives, copies, goes_on, stops, call_rule}
 use Rattle.zl_abs.proofs.Order.{below_refl, same_kind_is, within_trans, within_refl}
 use Rattle.zl_abs.proofs.StateOrder.{both, and, all_below_refl}
 use Rattle.zl_abs.proofs.Lowering.{Lowers, IsBelow, WaysBelow, lowers_then, lowers_unless, not_kept, value_below, with_below, no_has, leb_le, le_leb}
@@ -89,13 +87,9 @@ fault_below o (Word m) (Word n) h e =
 fault_below o (Word _) (KindOf _) h e = cc
 fault_below o (Word _) (RightsOf _) h e = cc
 fault_below o (KindOf _) (Word n) h e = absurd (tag_there n h ((both o.may_be_zero (eqb n 0) (word_passes (o.may_be_zero && eqb n 0) e)).1))
-fault_below o (KindOf _) (Has _ _ _) h e = cc
-fault_below o (KindOf _) (KindOf _) h e = cc
-fault_below o (KindOf _) (RightsOf _) h e = cc
+fault_below o (KindOf _) _ h e = cc
 fault_below o (RightsOf _) (Word n) h e = absurd (tag_there n h ((both o.may_be_zero (eqb n 0) (word_passes (o.may_be_zero && eqb n 0) e)).1))
-fault_below o (RightsOf _) (Has _ _ _) h e = cc
-fault_below o (RightsOf _) (KindOf _) h e = cc
-fault_below o (RightsOf _) (RightsOf _) h e = cc
+fault_below o (RightsOf _) _ h e = cc
 
 taken_below : (s t : State) (o : Operand) → IsBelow s t → IsBelow (taken_from s o) (taken_from t o)
 taken_below s t o h = by o.is_taken
@@ -149,14 +143,11 @@ bound_below (Word m) (Word n) h = leb_le m n h
 bound_below (Has _ _ _) (Word n) h = cc
 bound_below (KindOf _) (Word n) h = leb_le ANY n h
 bound_below (RightsOf _) (Word n) h = leb_le ANY n h
-bound_below (Word m) (KindOf _) h = cc
-bound_below (Has _ _ _) (KindOf _) h = cc
 bound_below (KindOf _) (KindOf _) h = omega arith
-bound_below (RightsOf _) (KindOf _) h = cc
-bound_below (Word m) (RightsOf _) h = cc
-bound_below (Has _ _ _) (RightsOf _) h = cc
-bound_below (KindOf _) (RightsOf _) h = cc
+bound_below _ (KindOf _) h = cc
+bound_below (Word m) _ h = cc
 bound_below (RightsOf _) (RightsOf _) h = omega arith
+bound_below _ (RightsOf _) h = cc
 
 sum_kept : (most : ℕ) (a b c d : Option ℕ) → BoundBelow a c → BoundBelow b d → sum_fits most c d ≡ true → sum_fits most a b ≡ true
 sum_kept most a b None d h k e = cc
@@ -249,34 +240,23 @@ narrowed_below (Has m k r) (Has m2 k2 r2) asked h = let p = has_parts m m2 k k2 
         → within (bits (if t then r2 else rights_of (bit_and asked KNOWN_RIGHTS))) (bits (if t then r else rights_of (bit_and asked KNOWN_RIGHTS))) ≡ true
     by true e = e
     by false e = within_refl (bit_and asked KNOWN_RIGHTS)
-narrowed_below (Has _ _ _) (Word _) asked h = cc
-narrowed_below (Has _ _ _) (KindOf _) asked h = cc
-narrowed_below (Has _ _ _) (RightsOf _) asked h = cc
-narrowed_below (Word _) (Has _ _ _) asked h = refl
-narrowed_below (Word _) (Word _) asked h = refl
-narrowed_below (Word _) (KindOf _) asked h = cc
-narrowed_below (Word _) (RightsOf _) asked h = cc
+narrowed_below (Has _ _ _) _ asked h = cc
 narrowed_below (KindOf _) (Has _ _ _) asked h = cc
-narrowed_below (KindOf _) (Word _) asked h = refl
-narrowed_below (KindOf _) (KindOf _) asked h = refl
-narrowed_below (KindOf _) (RightsOf _) asked h = cc
 narrowed_below (RightsOf _) (Has _ _ _) asked h = cc
-narrowed_below (RightsOf _) (Word _) asked h = refl
-narrowed_below (RightsOf _) (KindOf _) asked h = cc
-narrowed_below (RightsOf _) (RightsOf _) asked h = refl
+narrowed_below (Word _) (Has _ _ _) asked h = refl
+narrowed_below _ _ asked h = refl
 
 one_below : (v w : AbsVal) → IsTrue (below v w) → IsTrue (all_below (v ∷ []) (w ∷ []))
 unfolding all_below
 one_below v w h = and _ _ h refl
 
-by_name : (bounds : List ℕ) (n : CallName) (v w : AbsVal) (number : ℕ) → IsTrue (below v w)
-    → IsTrue (all_below (values_by bounds n v number) (values_by bounds n w number))
-by_name bounds call.Dup v w number h = one_below _ _ (narrowed_below v w number h)
-by_name bounds call.Replace v w number h = one_below _ _ (narrowed_below v w number h)
-by_name bounds _ v w number h = all_below_refl _
+given_below : (bounds : List ℕ) (g : Gives) (v w : AbsVal) (number : ℕ) → IsTrue (below v w)
+    → IsTrue (all_below (values_by bounds g v number) (values_by bounds g w number))
+given_below bounds copies v w number h = one_below _ _ (narrowed_below v w number h)
+given_below bounds _ v w number h = all_below_refl _
 
 values_below : (bounds : List ℕ) (s t : State) (c : CallInstr) → IsBelow s t → IsTrue (all_below (values_of bounds s c) (values_of bounds t c))
-values_below bounds s t c h = by_name bounds c.name _ _ (number_at c.last 0 4) (value_below s t (slice_index c.registers 1) h)
+values_below bounds s t c h = given_below bounds (gives c.name) _ _ (number_at c.last 0 4) (value_below s t (slice_index c.registers 1) h)
 
 same_below : (xs : List (ℕ × AbsVal)) → ResultsBelow xs xs
 same_below [] = tt

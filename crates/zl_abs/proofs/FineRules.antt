@@ -1,7 +1,7 @@
 -- The rule of each instruction leads from a fine state to fine states.
 use Rattle.std.proofs.Common.{◌≡◌, ℕ, zero, suc, ◌+◌, ◌*◌, ◌<◌, ◌≤◌, Bool, true, false, ◌&&◌, not, List, [], ◌∷◌, ◌++◌, length, Option, Some, None, Result}
 use Rattle.std.proofs.Common.{Ok, Err, IfSome, IfOk, refl, IsTrue, arith, eqb, leb, ltb}
-use Rattle.std.specs.Prelude.{slice_get, if◌then◌else◌, bit_and, slice_index, zip}
+use Rattle.std.specs.Prelude.{slice_get, if◌then◌else◌, bit_and, map, slice_index, zip}
 use Rattle.std.specs.List.{list_all}
 use Rattle.std.proofs.lemmas.Bool.Decides.{nat_tests}
 use Rattle.std.proofs.lemmas.Nat.{and_le_r}
@@ -14,8 +14,6 @@ use Rattle.zl_code.specs.declared.instr.Instr.TheVariants as instr
 use Rattle.zl_code.specs.declared.instr.LocalInstr.{LocalInstr}
 use Rattle.zl_code.specs.declared.instr.LocalInstr.TheVariants as local
 use Rattle.zl_code.specs.declared.instr.CallInstr.{CallInstr}
-use Rattle.zl_code.specs.declared.history.CallName.{CallName}
-use Rattle.zl_code.specs.declared.history.CallName.TheVariants as call
 use Rattle.zl_code.specs.declared.layout.Ending.{Ending}
 use Rattle.zl_code.specs.declared.layout.Ending.TheVariants as ending
 use Rattle.zl_code.specs.Image.{Image, instr_at}
@@ -37,7 +35,7 @@ use Rattle.zl_abs.specs.Rule.{and_then, word_at, writes, passes, Edge, edge_to, 
 use Rattle.zl_abs.specs.LocalRules.{computes, in_memory, loads, stores, may_move, moved, takes, slot_fault, slot_value, swaps_by, swaps_in, unless, local_rule}
 use Rattle.zl_abs.specs.CallRules.{fault_of, taken_from, examined_by, examined, examined_all, are_words, range_fits, is_declared, are_distinct, has_one, Uses}
 use Rattle.zl_abs.specs.CallRules.{received_in, state_after, uses_of, new, narrowed_value, triple_results, packet_values, values_by, values_of, goes_on, stops}
-use Rattle.zl_abs.specs.CallRules.{call_rule}
+use Rattle.zl_abs.specs.CallRules.{call_rule, Gives, gives, nothing, makes, copies, sizes, signals, packet}
 use Rattle.zl_abs.specs.Typing.{target_of, rule_by, rule_with}
 use Rattle.zl_abs.proofs.StateOrder.{both}
 use Rattle.zl_abs.proofs.FineStates.{Suits, Named, is_plain, named_self, named_there, plain_suits, fine_with, fine_moved, rights_fit}
@@ -95,8 +93,7 @@ may_named (Word m) h = by (eqb m 0) h
     by true e = refl
     by false e = cc
 may_named (Has a k q) h = refl
-may_named (KindOf r) h = cc
-may_named (RightsOf r) h = cc
+may_named _ h = cc
 
 takes_fine : (s : State) (a b : ℕ) → IsFine s → a < 32 → IfOk (takes s a b) FineWays
 takes_fine s a b h less =
@@ -211,8 +208,7 @@ narrowed_values (Has a k q) asked h = (refl, by (eqb asked SAME_RIGHTS), tt)
     by true = h
     by false = let z = and_le_r asked KNOWN_RIGHTS in omega arith
 narrowed_values (Word m) asked h = (refl, omega arith, tt)
-narrowed_values (KindOf r) asked h = (refl, omega arith, tt)
-narrowed_values (RightsOf r) asked h = (refl, omega arith, tt)
+narrowed_values _ asked h = (refl, omega arith, tt)
 
 -- a handle, and behind it its kind and its rights
 triples_fine : (n r : ℕ) → r + 3 * n ≤ 32 → CanGet (triple_results r n)
@@ -240,28 +236,22 @@ received_fine _ c h = λ t k. k
 
 new_value : (k : Kind) → Fits (new k)
 new_value kind.Process = omega arith
-new_value kind.Channel = omega arith
-new_value kind.Event = omega arith
-new_value kind.Port = omega arith
-new_value kind.Job = omega arith
+new_value _ = omega arith
 
 packet_fits : (bounds : List ℕ) → AreValues (packet_values bounds)
 packet_fits bounds = (refl, omega arith, (refl, rounded_fits bounds 1, (refl, omega arith, (refl, omega arith, tt))))
 
-values_fit : (bounds : List ℕ) (n : CallName) (have : AbsVal) (number : ℕ) → Fits have → AreValues (values_by bounds n have number)
-values_fit bounds call.Dup have number h = narrowed_values have number h
-values_fit bounds call.Replace have number h = narrowed_values have number h
-values_fit bounds call.ChanCreate have number h = (refl, new_value kind.Channel, (refl, new_value kind.Channel, tt))
-values_fit bounds call.ChanReadEtc have number h = (refl, omega arith, (refl, omega arith, tt))
-values_fit bounds call.EventCreate have number h = (refl, new_value kind.Event, tt)
-values_fit bounds call.WaitOne have number h = (refl, omega arith, tt)
-values_fit bounds call.WaitPoll have number h = (refl, omega arith, tt)
-values_fit bounds call.PortCreate have number h = (refl, new_value kind.Port, tt)
-values_fit bounds call.PortWait have number h = packet_fits bounds
-values_fit bounds call.PortPoll have number h = packet_fits bounds
-values_fit bounds call.ProcessCreate have number h = (refl, new_value kind.Process, tt)
-values_fit bounds call.JobCreate have number h = (refl, new_value kind.Job, tt)
-values_fit bounds n have number h = tt
+all_new : (ks : List Kind) → AreValues (map new ks)
+all_new [] = tt
+all_new (k ∷ ks) = (refl, new_value k, all_new ks)
+
+values_fit : (bounds : List ℕ) (g : Gives) (have : AbsVal) (number : ℕ) → Fits have → AreValues (values_by bounds g have number)
+values_fit bounds nothing have number h = tt
+values_fit bounds (makes kinds) have number h = all_new kinds
+values_fit bounds copies have number h = narrowed_values have number h
+values_fit bounds sizes have number h = (refl, omega arith, (refl, omega arith, tt))
+values_fit bounds signals have number h = (refl, omega arith, tt)
+values_fit bounds packet have number h = packet_fits bounds
 
 way_fine : (on : Bool) (s : State) → IsFine s → FineWays (if on then passes s else stops)
 way_fine true s h = (tt, h)
@@ -270,7 +260,7 @@ way_fine false s h = (tt, tt)
 pub call_fine : (bounds : List ℕ) (i : Image) (c : CallInstr) (s : State) → is_call_in_range c ≡ true → IsFine s → IfOk (call_rule bounds i c s) FineWays
 unfolding call_rule uses_of
 call_fine bounds i c s r h =
-    let fit = values_fit bounds c.name (value_at s (slice_index c.registers 1)) (number_at c.last 0 4) (h.fits (slice_index c.registers 1)) in
+    let fit = values_fit bounds (gives c.name) (value_at s (slice_index c.registers 1)) (number_at c.last 0 4) (h.fits (slice_index c.registers 1)) in
     then_fine IsFine FineWays (state_after i s (uses_of bounds s c)) _
     (after_fine i s (uses_of bounds s c) h (zip_fine _ (Word 30 ∷ values_of bounds s c) _ (refl, omega arith, fit) (received_fine _ c (whole c r).named)))
     (way_fine (goes_on c.name))

@@ -76,8 +76,7 @@ is_plain v = true
 pub plain_suits : (s : State) (v : AbsVal) → is_plain v ≡ true → Fits v → Suits s v
 plain_suits s (Word m) e h = (h, refl)
 plain_suits s (Has a k r) e h = (h, refl)
-plain_suits s (KindOf r) e h = cc
-plain_suits s (RightsOf r) e h = cc
+plain_suits s _ e h = cc
 
 abbrev pub Named : AbsVal → Type 0
 Named v = can_be_named v ≡ true
@@ -99,8 +98,7 @@ fits_untagged r (RightsOf x) h = by (eqb x r)
 named_untagged : (r : ℕ) (v : AbsVal) → Named v → Named (untagged r v)
 named_untagged r (Word m) h = h
 named_untagged r (Has a k q) h = h
-named_untagged r (KindOf x) h = cc
-named_untagged r (RightsOf x) h = cc
+named_untagged r _ h = cc
 
 -- ---- a write
 
@@ -155,10 +153,9 @@ named_refined s r x v k h = by (eqb x r) refl
     by false e = subst Named (sym (set_other s r x v e)) h
 
 well_refined : (s : State) (r : ℕ) (v w : AbsVal) → (Named (value_at s r) → Named v) → IsTrue (is_named_well s w) → IsTrue (is_named_well (slice_set s r v) w)
-well_refined s r v (Word m) k h = refl
-well_refined s r v (Has a j q) k h = refl
 well_refined s r v (KindOf x) k h = named_refined s r x v k h
 well_refined s r v (RightsOf x) k h = named_refined s r x v k h
+well_refined s r v _ k h = refl
 
 pub fine_refined : (s : State) (r : ℕ) (v : AbsVal) → IsFine s → is_plain v ≡ true → Fits v → (Named (value_at s r) → Named v) → IsFine (refined s r v)
 fine_refined s r v h e f k = record {
@@ -175,8 +172,7 @@ fine_refined s r v h e f k = record {
 named_retagged : (b a : ℕ) (v : AbsVal) → Named v → Named (retagged b a v)
 named_retagged b a (Word m) h = h
 named_retagged b a (Has x k q) h = h
-named_retagged b a (KindOf x) h = cc
-named_retagged b a (RightsOf x) h = cc
+named_retagged b a _ h = cc
 
 fits_retagged : (b a : ℕ) (v : AbsVal) → a < 32 → Fits v → Fits (retagged b a v)
 fits_retagged b a (Word m) less h = h
@@ -239,10 +235,8 @@ joined_named (Has x i r) (Word n) h k = rw k refl
 joined_named (Has x i r) (Has y j q) h k = refl
 joined_named (KindOf r) b h k = cc
 joined_named (RightsOf r) b h k = cc
-joined_named (Word m) (KindOf q) h k = cc
-joined_named (Word m) (RightsOf q) h k = cc
-joined_named (Has x i r) (KindOf q) h k = cc
-joined_named (Has x i r) (RightsOf q) h k = cc
+joined_named (Word m) _ h k = cc
+joined_named (Has x i r) _ h k = cc
 
 word_fits : (m n : ℕ) → m ≤ ANY → n ≤ ANY → larger m n ≤ ANY
 word_fits m n h k = grind (arith, nat_tests)
@@ -264,8 +258,7 @@ joined_fits (Word m) (KindOf q) h k = word_fits m ANY h (omega arith)
 joined_fits (Word m) (RightsOf q) h k = word_fits m ANY h (omega arith)
 joined_fits (Has x i r) (Word n) h k = handle_if Fits (eqb n 0) (Has true i r) h
 joined_fits (Has x i r) (Has y j q) h k = let z = and_le_l (bits r) (bits q) in omega arith
-joined_fits (Has x i r) (KindOf q) h k = tt
-joined_fits (Has x i r) (RightsOf q) h k = tt
+joined_fits (Has x i r) _ h k = tt
 joined_fits (KindOf r) (Word n) h k = word_fits n ANY k (omega arith)
 joined_fits (KindOf r) (Has x i q) h k = tt
 joined_fits (KindOf r) (KindOf q) h k = either Fits (eqb r q) (KindOf r) (Word ANY) h (omega arith)
@@ -279,14 +272,11 @@ joined_fits (RightsOf r) (KindOf q) h k = omega arith
 module _ (s t u : State) (kept : (x : ℕ) → Named (value_at s x) → Named (value_at t x) → Named (value_at u x)) where
   joined_well : (a b : AbsVal) → IsTrue (is_named_well s a) → IsTrue (is_named_well t b) → IfSome (joined a b) (λ v. IsTrue (is_named_well u v))
   unfolding joined
-  joined_well (Word m) (Word n) h k = refl
   joined_well (Word m) (Has x i r) h k = handle_if (λ v. IsTrue (is_named_well u v)) (eqb m 0) (Has true i r) refl
-  joined_well (Word m) (KindOf q) h k = refl
-  joined_well (Word m) (RightsOf q) h k = refl
+  joined_well (Word m) _ h k = refl
   joined_well (Has x i r) (Word n) h k = handle_if (λ v. IsTrue (is_named_well u v)) (eqb n 0) (Has true i r) refl
   joined_well (Has x i r) (Has y j q) h k = refl
-  joined_well (Has x i r) (KindOf q) h k = tt
-  joined_well (Has x i r) (RightsOf q) h k = tt
+  joined_well (Has x i r) _ h k = tt
   joined_well (KindOf r) (Word n) h k = refl
   joined_well (KindOf r) (Has x i q) h k = tt
   joined_well (KindOf r) (KindOf q) h k = by (eqb r q) refl

@@ -70,9 +70,7 @@ knows_if s r v false h e f k = tt
 zero_known : (s : State) (r : ℕ) (v : AbsVal) → IsFine s → IfSome (known_zero s r v) (Knows s r)
 zero_known s r (Has true k q) h = knows s r (Word 0) h refl (omega arith) refl
 zero_known s r (Has false k q) h = tt
-zero_known s r (Word m) h = knows_itself s r h
-zero_known s r (KindOf x) h = knows_itself s r h
-zero_known s r (RightsOf x) h = knows_itself s r h
+zero_known s r _ h = knows_itself s r h
 
 there_known : (s : State) (r : ℕ) (v : AbsVal) → IsFine s → Fits v → IfSome (known_there s r v) (Knows s r)
 there_known s r (Has a k q) h f = knows s r (Has false k q) h refl f refl
@@ -83,9 +81,7 @@ there_known s r (RightsOf x) h f = knows_itself s r h
 kind_known : (s : State) (r : ℕ) (o : Option Kind) (v : AbsVal) → IsFine s → Fits v → IfSome (known_kind s r o v) (Knows s r)
 kind_known s r None v h f = tt
 kind_known s r (Some x) (Has a k q) h f = knows_if s r (Has false (Some x) q) (kind_below (Some x) k) h refl (λ _. f) refl
-kind_known s r (Some x) (Word m) h f = tt
-kind_known s r (Some x) (KindOf y) h f = tt
-kind_known s r (Some x) (RightsOf y) h f = tt
+kind_known s r (Some x) _ h f = tt
 
 other_known : (s : State) (r : ℕ) (o : Option Kind) (v : AbsVal) → IsFine s → IfSome (known_other s o v) (Knows s r)
 other_known s r None v h = knows_itself s r h
@@ -106,8 +102,7 @@ rights_known : (s : State) (r imm : ℕ) (v : AbsVal) → IsFine s → Fits v �
 rights_known s r imm (Has a k q) h f =
     knows_if s r (Has false k (rights_of (bit_or (bits q) imm))) (within imm KNOWN_RIGHTS) h refl (gained_fit (bits q) imm f) refl
 rights_known s r imm (Word m) h f = tt
-rights_known s r imm (KindOf x) h f = tt
-rights_known s r imm (RightsOf x) h f = tt
+rights_known s r imm _ h f = tt
 
 -- ---- jumps
 

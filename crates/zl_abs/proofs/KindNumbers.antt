@@ -7,10 +7,7 @@ use Rattle.zl_abs.specs.LocalRules.{kind_numbered}
 
 again : (k : Kind) → Some k ≡ kind_numbered (kind_number k)
 again kind.Process = refl
-again kind.Channel = refl
-again kind.Event = refl
-again kind.Port = refl
-again kind.Job = refl
+again _ = refl
 
 pub kind_found : (n : ℕ) (o : Option Kind) → IfSome o (λ k. kind_number k ≡ n) → IfNone o ((k : Kind) → kind_number k ≢ n) → o ≡ kind_numbered n
 kind_found n (Some k) found missing = rw (sym found) (again k)

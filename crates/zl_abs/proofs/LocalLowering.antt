@@ -73,17 +73,12 @@ move_below : (v w : AbsVal) → IsTrue (below v w) → may_move w ≡ true → m
 unfolding below
 move_below (Word m) (Word n) h k = grind (arith, nat_tests)
 move_below (Word m) (Has x y z) h k = (both (eqb m 0) x h).0
-move_below (Word m) (KindOf _) h k = cc
-move_below (Word m) (RightsOf _) h k = cc
+move_below (Word m) _ h k = cc
 move_below (Has _ _ _) w h k = refl
 move_below (KindOf _) (Word n) h k = absurd (tag_apart n h k)
-move_below (KindOf _) (Has _ _ _) h k = cc
-move_below (KindOf _) (KindOf _) h k = cc
-move_below (KindOf _) (RightsOf _) h k = cc
+move_below (KindOf _) _ h k = cc
 move_below (RightsOf _) (Word n) h k = absurd (tag_apart n h k)
-move_below (RightsOf _) (Has _ _ _) h k = cc
-move_below (RightsOf _) (KindOf _) h k = cc
-move_below (RightsOf _) (RightsOf _) h k = cc
+move_below (RightsOf _) _ h k = cc
 
 takes_below : (s t : State) (a b : ℕ) → IsBelow s t → Lowers WaysBelow (takes s a b) (takes t a b)
 takes_below s t a b h =
@@ -125,20 +120,15 @@ enters_below : (x : SlotArray) (v w : AbsVal) → IsTrue (below v w) → slot_fa
 unfolding below
 enters_below x (Word m) (Word n) h e = let z = word_enters (eqb n 0) cause.NotLive e in let y : eqb m 0 ≡ true = grind (arith, nat_tests) in rw y refl
 enters_below x (Word m) (Has b k r) h e = let y = (both (eqb m 0) b h).0 in rw y refl
-enters_below x (Word m) (KindOf _) h e = cc
-enters_below x (Word m) (RightsOf _) h e = cc
+enters_below x (Word m) _ h e = cc
 enters_below x (Has m k r) (Has m2 k2 r2) h e = has_enters x m m2 k k2 r r2 h e
 enters_below x (Has _ _ _) (Word _) h e = cc
 enters_below x (Has _ _ _) (KindOf _) h e = cc
 enters_below x (Has _ _ _) (RightsOf _) h e = cc
 enters_below x (KindOf _) (Word n) h e = absurd (tag_apart n h (word_enters (eqb n 0) cause.NotLive e))
-enters_below x (KindOf _) (Has _ _ _) h e = cc
-enters_below x (KindOf _) (KindOf _) h e = cc
-enters_below x (KindOf _) (RightsOf _) h e = cc
+enters_below x (KindOf _) _ h e = cc
 enters_below x (RightsOf _) (Word n) h e = absurd (tag_apart n h (word_enters (eqb n 0) cause.NotLive e))
-enters_below x (RightsOf _) (Has _ _ _) h e = cc
-enters_below x (RightsOf _) (KindOf _) h e = cc
-enters_below x (RightsOf _) (RightsOf _) h e = cc
+enters_below x (RightsOf _) _ h e = cc
 
 swap_below : (s t : State) (a : ℕ) (x : SlotArray) (o p : Option Cause) → IsBelow s t → (p ≡ None → o ≡ None)
     → Lowers WaysBelow (swaps_by s a x o) (swaps_by t a x p)

@@ -153,8 +153,7 @@ lessens (Has true k r) (Word n) f g =
     (λ e. (omega arith, λ h. let q : (eqb n 0 && true) ≡ true = rw e refl in let z : true ≡ false = sym q ∙ h in absurd (cc)))
 lessens (Has false k r) (Word n) f g = zero_lessens (Has false k r) (Word n) (Has true k r) n (λ e. (omega arith, λ h. omega arith))
 lessens (Has a k r) (Has b j q) f g = (has_room a b k j (bits r) (bits q), has_less a b k j (bits r) (bits q))
-lessens (Has a k r) (KindOf _) f g = tt
-lessens (Has a k r) (RightsOf _) f g = tt
+lessens (Has a k r) _ f g = tt
 lessens (KindOf r) (Word n) f g = any_lessens (KindOf r) (Word n) n refl g
 lessens (KindOf r) (Has _ _ _) f g = tt
 lessens (KindOf r) (KindOf s) f g = tag_lessens (eqb r s) (KindOf r) (KindOf s) refl (same_register r s)

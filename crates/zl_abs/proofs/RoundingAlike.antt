@@ -5,8 +5,6 @@ use Rattle.zl_code.specs.declared.instr.Instr.TheVariants as instr
 use Rattle.zl_code.specs.declared.instr.LocalInstr.{LocalInstr}
 use Rattle.zl_code.specs.declared.instr.LocalInstr.TheVariants as local
 use Rattle.zl_code.specs.declared.instr.CallInstr.{CallInstr}
-use Rattle.zl_code.specs.declared.history.CallName.{CallName}
-use Rattle.zl_code.specs.declared.history.CallName.TheVariants as call
 use Rattle.zl_code.specs.Image.{Image, instr_at}
 use Rattle.zl_code.specs.Instructions.{call_row}
 use Rattle.zl_code.specs.Spells.{number_at}
@@ -17,7 +15,7 @@ use Rattle.zl_abs.specs.States.{State, value_at}
 use Rattle.zl_abs.specs.Bounds.{RoundAlike}
 use Rattle.zl_abs.specs.Rule.{and_then, word_at, writes, edges}
 use Rattle.zl_abs.specs.LocalRules.{computes, shifted, local_rule}
-use Rattle.zl_abs.specs.CallRules.{values_by, uses_by, uses_of, goes_on, call_rule_by, call_rule}
+use Rattle.zl_abs.specs.CallRules.{Gives, gives, packet, values_by, uses_by, uses_of, goes_on, call_rule_by, call_rule}
 use Rattle.zl_abs.specs.Typing.{target_of, rule_by, rule_with}
 
 module _ (bs cs : List ℕ) (alike : RoundAlike bs cs) (i : Image) (s : State) where
@@ -32,16 +30,15 @@ module _ (bs cs : List ℕ) (alike : RoundAlike bs cs) (i : Image) (s : State) w
   same_local (local.ShiftRight a b imm) = λ k. and_then (word_at s b) (λ m. same_computes a (shifted m imm) k)
   same_local x = refl
 
-  same_values : (n : CallName) (have : AbsVal) (number : ℕ) → values_by bs n have number ≡ values_by cs n have number
-  same_values call.PortWait have number = ap (λ (m : ℕ). Word ANY ∷ Word m ∷ Word ANY ∷ Word ANY ∷ []) (alike 1)
-  same_values call.PortPoll have number = ap (λ (m : ℕ). Word ANY ∷ Word m ∷ Word ANY ∷ Word ANY ∷ []) (alike 1)
-  same_values n have number = refl
+  same_values : (g : Gives) (have : AbsVal) (number : ℕ) → values_by bs g have number ≡ values_by cs g have number
+  same_values packet have number = ap (λ (m : ℕ). Word ANY ∷ Word m ∷ Word ANY ∷ Word ANY ∷ []) (alike 1)
+  same_values g have number = refl
 
   same_call : (c : CallInstr) → call_rule bs i c s ≡ call_rule cs i c s
   unfolding call_rule uses_of
   same_call c =
       ap (λ vs. call_rule_by i s (goes_on c.name) (uses_by (call_row c.name) c vs))
-      (same_values c.name (value_at s (slice_index c.registers 1)) (number_at c.last 0 4))
+      (same_values (gives c.name) (value_at s (slice_index c.registers 1)) (number_at c.last 0 4))
 
   same_by : (n : ℕ) (o : Option Instr) → rule_by bs i n s o ≡ rule_by cs i n s o
   same_by n None = refl

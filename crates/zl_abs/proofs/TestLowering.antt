@@ -57,25 +57,19 @@ pub known_zero_below : (s t : State) (r : ℕ) (v w : AbsVal) → IsBelow s t �
 unfolding below
 known_zero_below s t r (Has false k q) w h e b = tt
 known_zero_below s t r (Has true k q) (Has true j p) h e b = set_below s t r _ _ h zero_zero
-known_zero_below s t r (Has true k q) (Has false j p) h e b = cc
-known_zero_below s t r (Has true k q) (Word _) h e b = cc
-known_zero_below s t r (Has true k q) (KindOf _) h e b = cc
-known_zero_below s t r (Has true k q) (RightsOf _) h e b = cc
+known_zero_below s t r (Has true k q) _ h e b = cc
 known_zero_below s t r (Word m) (Has b j p) h e k =
     let z = zero_of m b j p k in
     let u : value_at s r ≡ Word 0 = e ∙ ap Word z.0 in
     rw (z.1) (set_above s t r (Word 0) h (rw u zero_zero))
 known_zero_below s t r (Word m) (Word _) h e b = h
-known_zero_below s t r (Word m) (KindOf _) h e b = cc
-known_zero_below s t r (Word m) (RightsOf _) h e b = cc
+known_zero_below s t r (Word m) _ h e b = cc
 known_zero_below s t r (KindOf _) (Word _) h e b = h
 known_zero_below s t r (KindOf _) (KindOf _) h e b = h
-known_zero_below s t r (KindOf _) (RightsOf _) h e b = cc
-known_zero_below s t r (KindOf _) (Has _ _ _) h e b = cc
+known_zero_below s t r (KindOf _) _ h e b = cc
 known_zero_below s t r (RightsOf _) (Word _) h e b = h
-known_zero_below s t r (RightsOf _) (KindOf _) h e b = cc
 known_zero_below s t r (RightsOf _) (RightsOf _) h e b = h
-known_zero_below s t r (RightsOf _) (Has _ _ _) h e b = cc
+known_zero_below s t r (RightsOf _) _ h e b = cc
 
 sure_below : (a b : Bool) (k j : Option Kind) (r q : Rights) → IsTrue (below (Has a k r) (Has b j q)) → IsTrue (below (Has false k r) (Has false j q))
 sure_below a b k j r q h = let p = has_parts a b k j r q h in has_from false false k j r q refl p.1 p.2
@@ -94,16 +88,13 @@ known_there_below s t r (Has _ _ _) (KindOf _) h e = cc
 known_there_below s t r (Has _ _ _) (RightsOf _) h e = cc
 known_there_below s t r (Word m) (Has b j p) h e = let z = (zero_of m b j p e).0 in rw z tt
 known_there_below s t r (Word m) (Word n) h e = way_refl s t h (eqb m 0) (eqb n 0) (zero_kept m n e)
-known_there_below s t r (Word m) (KindOf _) h e = cc
-known_there_below s t r (Word m) (RightsOf _) h e = cc
+known_there_below s t r (Word m) _ h e = cc
 known_there_below s t r (KindOf _) (Word n) h e = way_refl s t h false (eqb n 0) (λ k. absurd (tag_there n e k))
 known_there_below s t r (KindOf _) (KindOf _) h e = h
-known_there_below s t r (KindOf _) (RightsOf _) h e = cc
-known_there_below s t r (KindOf _) (Has _ _ _) h e = cc
+known_there_below s t r (KindOf _) _ h e = cc
 known_there_below s t r (RightsOf _) (Word n) h e = way_refl s t h false (eqb n 0) (λ k. absurd (tag_there n e k))
-known_there_below s t r (RightsOf _) (KindOf _) h e = cc
 known_there_below s t r (RightsOf _) (RightsOf _) h e = h
-known_there_below s t r (RightsOf _) (Has _ _ _) h e = cc
+known_there_below s t r (RightsOf _) _ h e = cc
 
 -- an edge that is followed where a test holds, with what it teaches
 way_if : (x y : Bool) (u v : State) → (x ≡ true → y ≡ true) → IsBelow u v → WayBelow (if x then Some u else None) (if y then Some v else None)
@@ -122,9 +113,7 @@ known_kind_below s t r (Some x) (Has a k q) (Has b j p) h e =
 known_kind_below s t r (Some x) (Has _ _ _) (Word _) h e = cc
 known_kind_below s t r (Some x) (Has _ _ _) (KindOf _) h e = cc
 known_kind_below s t r (Some x) (Has _ _ _) (RightsOf _) h e = cc
-known_kind_below s t r (Some x) (Word _) w h e = tt
-known_kind_below s t r (Some x) (KindOf _) w h e = tt
-known_kind_below s t r (Some x) (RightsOf _) w h e = tt
+known_kind_below s t r (Some x) _ w h e = tt
 
 other_kept : (a b : Bool) (x k j : Kind) → (not a || b) ≡ true → same_kind k j ≡ true → (not b && same_kind x j) ≡ true → (not a && same_kind x k) ≡ true
 other_kept true true x k j h p e = cc
@@ -152,16 +141,13 @@ known_other_below s t (Some x) (Has _ _ _) (RightsOf _) h e = cc
 known_other_below s t (Some x) (Word m) (Has b (Some j) p) h e = let z = (zero_of m b (Some j) p e).1 in rw z h
 known_other_below s t (Some x) (Word m) (Has b None p) h e = h
 known_other_below s t (Some x) (Word _) (Word _) h e = h
-known_other_below s t (Some x) (Word _) (KindOf _) h e = cc
-known_other_below s t (Some x) (Word _) (RightsOf _) h e = cc
+known_other_below s t (Some x) (Word _) _ h e = cc
 known_other_below s t (Some x) (KindOf _) (Word _) h e = h
 known_other_below s t (Some x) (KindOf _) (KindOf _) h e = h
-known_other_below s t (Some x) (KindOf _) (RightsOf _) h e = cc
-known_other_below s t (Some x) (KindOf _) (Has _ _ _) h e = cc
+known_other_below s t (Some x) (KindOf _) _ h e = cc
 known_other_below s t (Some x) (RightsOf _) (Word _) h e = h
-known_other_below s t (Some x) (RightsOf _) (KindOf _) h e = cc
 known_other_below s t (Some x) (RightsOf _) (RightsOf _) h e = h
-known_other_below s t (Some x) (RightsOf _) (Has _ _ _) h e = cc
+known_other_below s t (Some x) (RightsOf _) _ h e = cc
 
 pub known_rights_below : (s t : State) (r imm : ℕ) (v w : AbsVal) → IsBelow s t → IsTrue (below v w)
     → WayBelow (known_rights s r imm v) (known_rights t r imm w)
@@ -174,9 +160,7 @@ known_rights_below s t r imm (Has a k q) (Has b j p) h e =
 known_rights_below s t r imm (Has _ _ _) (Word _) h e = cc
 known_rights_below s t r imm (Has _ _ _) (KindOf _) h e = cc
 known_rights_below s t r imm (Has _ _ _) (RightsOf _) h e = cc
-known_rights_below s t r imm (Word _) w h e = tt
-known_rights_below s t r imm (KindOf _) w h e = tt
-known_rights_below s t r imm (RightsOf _) w h e = tt
+known_rights_below s t r imm _ w h e = tt
 
 -- ---- what is known below is below
 
@@ -186,12 +170,10 @@ way_under s t false u h = tt
 
 zero_under : (s t : State) (r : ℕ) (v : AbsVal) → IsBelow s t → value_at s r ≡ v → WayBelow (known_zero s r v) (Some t)
 unfolding below
-zero_under s t r (Word _) h e = h
-zero_under s t r (KindOf _) h e = h
-zero_under s t r (RightsOf _) h e = h
 zero_under s t r (Has false k q) h e = tt
 zero_under s t r (Has true k q) h e =
     all_below_trans _ s t (set_under s s r (Word 0) (all_below_refl s) (rw e refl)) h
+zero_under s t r _ h e = h
 
 there_under : (s t : State) (r : ℕ) (v : AbsVal) → IsBelow s t → value_at s r ≡ v → WayBelow (known_there s r v) (Some t)
 there_under s t r (Word m) h e = way_some s t (eqb m 0) h
@@ -222,14 +204,12 @@ other_under s t (Some x) (Has a None q) h = h
 other_under s t (Some x) (Has a (Some k) q) h = way_some s t (not a && same_kind x k) h
 
 rights_under : (s t : State) (r imm : ℕ) (v : AbsVal) → IsBelow s t → value_at s r ≡ v → WayBelow (known_rights s r imm v) (Some t)
-rights_under s t r imm (Word _) h e = tt
-rights_under s t r imm (KindOf _) h e = tt
-rights_under s t r imm (RightsOf _) h e = tt
 rights_under s t r imm (Has a k q) h e =
     way_under s t (within imm KNOWN_RIGHTS) _
     (all_below_trans _ s t
     (set_under s s r (Has false k (rights_of (bit_or (bits q) imm))) (all_below_refl s)
     (rw e (has_from false a k k (rights_of (bit_or (bits q) imm)) q refl (kind_refl k) (within_more (bits q) imm)))) h)
+rights_under s t r imm _ h e = tt
 
 -- ---- jumps
 
@@ -310,10 +290,8 @@ equal_by s t a imm (Word m) (KindOf _) h e = cc
 equal_by s t a imm (Has _ _ _) (KindOf _) h e = cc
 equal_by s t a imm (KindOf r) (KindOf q) h e = let p : r ≡ q = (Decides-eqb r q).0 e in rw p (kind_ways_below s t a imm q h)
 equal_by s t a imm (RightsOf _) (KindOf _) h e = cc
-equal_by s t a imm (Word m) (RightsOf _) h e = cc
-equal_by s t a imm (Has _ _ _) (RightsOf _) h e = cc
-equal_by s t a imm (KindOf _) (RightsOf _) h e = cc
 equal_by s t a imm (RightsOf _) (RightsOf _) h e = (becomes_below a imm (Some s) (Some t) h, h)
+equal_by s t a imm _ (RightsOf _) h e = cc
 
 pub equal_below : (s t : State) (a imm : ℕ) → IsBelow s t → Lowers WaysBelow (equal_ways s a imm (value_at s a)) (equal_ways t a imm (value_at t a))
 equal_below s t a imm h = equal_by s t a imm (value_at s a) (value_at t a) h (value_below s t a h)
@@ -331,8 +309,7 @@ zero_by s t a (Word m) (Has y j p) h e b =
 zero_by s t a (KindOf _) (Has _ _ _) h e b = cc
 zero_by s t a (RightsOf _) (Has _ _ _) h e b = cc
 zero_by s t a (Word m) (Word n) h e b = equal_by s t a 0 (Word m) (Word n) h b
-zero_by s t a (Word m) (KindOf _) h e b = cc
-zero_by s t a (Word m) (RightsOf _) h e b = cc
+zero_by s t a (Word m) _ h e b = cc
 zero_by s t a (KindOf r) (Word n) h e b = equal_by s t a 0 (KindOf r) (Word n) h b
 zero_by s t a (KindOf r) (KindOf q) h e b = equal_by s t a 0 (KindOf r) (KindOf q) h b
 zero_by s t a (KindOf r) (RightsOf _) h e b = cc
@@ -370,10 +347,8 @@ has_by s t imm (RightsOf r) (Word _) h e = (first (eqb imm 0), h)
     first : (c : Bool) → WayBelow (if c then Some s else known_rights s r imm (value_at s r)) (Some t)
     first true = h
     first false = rights_under s t r imm (value_at s r) h refl
-has_by s t imm (Word _) (KindOf _) h e = cc
-has_by s t imm (Has _ _ _) (KindOf _) h e = cc
 has_by s t imm (KindOf _) (KindOf _) h e = (h, h)
-has_by s t imm (RightsOf _) (KindOf _) h e = cc
+has_by s t imm _ (KindOf _) h e = cc
 has_by s t imm (Word _) (RightsOf _) h e = cc
 has_by s t imm (Has _ _ _) (RightsOf _) h e = cc
 has_by s t imm (KindOf _) (RightsOf _) h e = cc

@@ -2,16 +2,15 @@
 use Rattle.std.proofs.Common.{◌≡◌, ℕ, Bool, true, false, List, [], ◌∷◌, map, refl, sym, ap, ◌∙◌}
 use Rattle.std.specs.List.{list_any}
 use Rattle.zl_abs.specs.declared.value.AbsVal.{AbsVal}
-use Rattle.zl_abs.specs.declared.value.AbsVal.TheVariants.{Word, Has, KindOf, RightsOf}
+use Rattle.zl_abs.specs.declared.value.AbsVal.TheVariants.{KindOf, RightsOf}
 use Rattle.zl_abs.specs.Values.{untagged}
 use Rattle.zl_abs.specs.States.{State, refined, with_value}
 use Rattle.zl_abs.specs.Tags.{is_tag}
 
 one_bare : (r : ℕ) (v : AbsVal) → is_tag v ≡ false → untagged r v ≡ v
-one_bare r (Word m) h = refl
-one_bare r (Has maybe k q) h = refl
 one_bare r (KindOf s) h = absurd (cc)
 one_bare r (RightsOf s) h = absurd (cc)
+one_bare r _ h = refl
 
 bare : (r : ℕ) (xs : List AbsVal) → false ≡ list_any (λ v. is_tag v) xs → xs ≡ map (untagged r) xs
 bare r [] h = refl

@@ -1,5 +1,5 @@
 -- The rule of the system calls: what each reads and writes by its row of the table, and what its answer gives.
-use Rattle.std.specs.Prelude.{ℕ, zero, suc, Bool, true, false, ◌&&◌, not, ◌==◌, nat_le, ◌+◌, List, [], ◌∷◌, ◌++◌, length, zip, Option, Some, None, Result, Ok, Err, if◌then◌else◌, is_some, slice_index, bit_and}
+use Rattle.std.specs.Prelude.{ℕ, zero, suc, Bool, true, false, ◌&&◌, not, ◌==◌, nat_le, ◌+◌, List, [], ◌∷◌, ◌++◌, length, map, zip, Option, Some, None, Result, Ok, Err, if◌then◌else◌, is_some, slice_index, bit_and}
 use Rattle.std.specs.List.{list_all, list_any}
 use Rattle.zl_rights.specs.declared.kind.Kind.{Kind}
 use Rattle.zl_rights.specs.declared.kind.Kind.TheVariants as kind
@@ -184,25 +184,48 @@ received_in _ c = []
 abbrev pub packet_values : List ℕ → List AbsVal
 packet_values bounds = Word ANY ∷ Word (rounded bounds 1) ∷ Word ANY ∷ Word ANY ∷ []
 
--- what the destinations among the registers of a call get behind the status, by the value of its second register and its number
-abbrev pub values_by : List ℕ → CallName → AbsVal → ℕ → List AbsVal
-values_by bounds call.Dup have number = narrowed_value have number ∷ []
-values_by bounds call.Replace have number = narrowed_value have number ∷ []
-values_by bounds call.ChanCreate have number = new kind.Channel ∷ new kind.Channel ∷ []
-values_by bounds call.ChanReadEtc have number = Word 65536 ∷ Word 64 ∷ []
-values_by bounds call.EventCreate have number = new kind.Event ∷ []
-values_by bounds call.WaitOne have number = Word 0xffff_ffff ∷ []
-values_by bounds call.WaitPoll have number = Word 0xffff_ffff ∷ []
-values_by bounds call.PortCreate have number = new kind.Port ∷ []
-values_by bounds call.PortWait have number = packet_values bounds
-values_by bounds call.PortPoll have number = packet_values bounds
-values_by bounds call.ProcessCreate have number = new kind.Process ∷ []
-values_by bounds call.JobCreate have number = new kind.Job ∷ []
-values_by bounds _ have number = []
+-- what an answer gives behind the status
+pub data Gives : Type 0 where
+  -- no value
+  nothing : Gives
+  -- handles to new objects of these kinds
+  makes : (kinds : List Kind) → Gives
+  -- a handle made from that of the second register
+  copies : Gives
+  -- how many bytes and handles a message has
+  sizes : Gives
+  -- active signals
+  signals : Gives
+  packet : Gives
+
+-- the same of each call
+abbrev pub gives : CallName → Gives
+gives call.Dup = copies
+gives call.Replace = copies
+gives call.ChanCreate = makes (kind.Channel ∷ kind.Channel ∷ [])
+gives call.ChanReadEtc = sizes
+gives call.EventCreate = makes (kind.Event ∷ [])
+gives call.WaitOne = signals
+gives call.WaitPoll = signals
+gives call.PortCreate = makes (kind.Port ∷ [])
+gives call.PortWait = packet
+gives call.PortPoll = packet
+gives call.ProcessCreate = makes (kind.Process ∷ [])
+gives call.JobCreate = makes (kind.Job ∷ [])
+gives _ = nothing
+
+-- the values of the destinations that get it, by the value of the call's second register and its number
+abbrev pub values_by : List ℕ → Gives → AbsVal → ℕ → List AbsVal
+values_by bounds nothing have number = []
+values_by bounds (makes kinds) have number = map new kinds
+values_by bounds copies have number = narrowed_value have number ∷ []
+values_by bounds sizes have number = Word 65536 ∷ Word 64 ∷ []
+values_by bounds signals have number = Word 0xffff_ffff ∷ []
+values_by bounds packet have number = packet_values bounds
 
 -- the same of a call in a state
 abbrev pub values_of : List ℕ → State → CallInstr → List AbsVal
-values_of bounds s c = values_by bounds c.name (value_at s (slice_index c.registers 1)) (number_at c.last 0 4)
+values_of bounds s c = values_by bounds (gives c.name) (value_at s (slice_index c.registers 1)) (number_at c.last 0 4)
 
 -- ---- the rule
 

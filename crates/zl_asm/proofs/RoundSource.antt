@@ -112,11 +112,7 @@ some_operand count row r all few there =
     by : (n : ℕ) (e : Ending) → nat_lt 0 n || (elim e as (λ _. Bool) [ ending.Target ↦ true | _ ↦ false ]) ≡ true → 0 < n + length (tail_texts count e r)
     by (suc n) e h = omega arith
     by zero ending.Target h = omega arith
-    by zero ending.Nothing h = absurd cc
-    by zero ending.Number h = absurd cc
-    by zero ending.Room h = absurd cc
-    by zero ending.Both h = absurd cc
-    by zero ending.Handles h = absurd cc
+    by zero _ h = absurd cc
 
 -- ---- the bytes with the target that a label stands for
 
@@ -154,11 +150,9 @@ is_aimed e = elim e as (λ _. Bool) [ ending.Target ↦ true | ending.Both ↦ t
 pub source_resolved : (labels : List (List ℕ × ℕ)) (count opcode n : ℕ) (e : Ending) (r : Reading) → (is_aimed e ≡ true → IsPlaced labels count r.target)
     → resolved labels (record { bytes = opcode ∷ (seven (take n r.registers) ++ (tail_read count e r).bytes); label = (tail_read count e r).label })
     ≡ Some (row_bytes opcode (layout n e) r)
-source_resolved labels count opcode n ending.Nothing r placed = refl
-source_resolved labels count opcode n ending.Number r placed = refl
-source_resolved labels count opcode n ending.Room r placed = refl
 source_resolved labels count opcode n ending.Target r placed =
     target_resolved labels count opcode 0 r.target n r.registers (nat_lt r.target count) (placed refl)
 source_resolved labels count opcode n ending.Both r placed =
     target_resolved labels count opcode r.imm r.target n r.registers (nat_lt r.target count) (placed refl)
 source_resolved labels count opcode n ending.Handles r placed = refl
+source_resolved labels count opcode n _ r placed = refl

@@ -1,9 +1,9 @@
 -- Where nothing is due, nothing is due either once a process that isn't blocked has another Cpu.
 use Rattle.zl_code.proofs.Common.{◌≡◌, ℕ, Bool, true, false, ◌&&◌, ◌==◌, not, List, [], ◌∷◌, map, refl, ap, ◌∙◌, Option, Some, None, arith, nat_tests, or_parts}
 use Rattle.zl_code.proofs.Common.{list_any, filter, fold, option_map, if◌then◌else◌, get-update, get, put, update, each, Map, World, Cpu, answered, Process}
-use Rattle.zl_code.proofs.Common.{State, Ready, Blocked, Object, Body, ChannelEnd, EventBody, PortBody, JobBody, ProcessBody, Packet, is_process, state_passes}
+use Rattle.zl_code.proofs.Common.{State, Ready, Blocked, Object, Body, PortBody, JobBody, ProcessBody, Packet, is_process, state_passes}
 use Rattle.zl_code.proofs.Common.{lives, active, has_child_job, has_child_process, holds, fired, made_ready, woken, wakes, on_process, meets, SignalOf}
-use Rattle.zl_code.proofs.Common.{PacketAt, packets_for, body_with_packets, with_body, woken_by_first, woken_by, woken_at_port, woken_from, woken_if_there}
+use Rattle.zl_code.proofs.Common.{PacketAt, body_with_packets, with_body, woken_by_first, woken_by, woken_at_port, woken_from, woken_if_there}
 use Rattle.std.specs.Prelude.{bit_or}
 use Rattle.zl_rights.specs.Numbers.{TERMINATED, NO_JOBS, NO_PROCESSES}
 use Rattle.zl_rights.specs.World.{Wait}
@@ -39,13 +39,11 @@ module _ (p : ℕ) (c : Cpu) where
   signals w k = by_object (get w.objects k)
     where
       by_body : (raised : ℕ) (b : Body) → bit_or raised (implied (moved w) k b) ≡ bit_or raised (implied w k b)
-      by_body raised (ChannelEnd peer queue) = refl
-      by_body raised EventBody = refl
-      by_body raised (PortBody packets) = refl
       by_body raised (JobBody parent depth policy killed) = λ i. bit_or raised (bit_or (signal_if TERMINATED killed)
           (bit_or (signal_if NO_JOBS (not (has_child_job w k))) (signal_if NO_PROCESSES
           (not (list_any (λ e. is_process_of k e.1.body && passes_still w lives e.0 i) w.objects)))))
       by_body raised (ProcessBody job) = λ i. bit_or raised (signal_if TERMINATED (passes_still w has_ended k i))
+      by_body raised _ = refl
 
       by_object : (o : Option Object) → active_of (moved w) k o ≡ active_of w k o
       by_object None = refl

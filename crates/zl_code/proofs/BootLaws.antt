@@ -86,9 +86,7 @@ module _ (lib : Library) where
       count = sym (length-keys u.processes) ∙ ap length a.pids ∙ length-keys v.processes
   same_fault u v a (statement.Job parent) = rw (a.objects, a.next) refl
   same_fault u v a (statement.Policy job condition action) = rw (same_jobs u v a job, same_processes u v a job, a.objects) refl
-  same_fault u v a statement.Event = rw a.next refl
-  same_fault u v a statement.Port = rw a.next refl
-  same_fault u v a statement.Channel = rw a.next refl
+  same_fault u v a _ = rw a.next refl
 
   -- a new object beside the others
   alike_with : (u v : World) → IsAlike u v → (b c : Body) → b ≡ c → IsAlike (with_object u b) (with_object v c)

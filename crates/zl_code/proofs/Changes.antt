@@ -1,8 +1,8 @@
 -- The elementary changes of which a step is made.
 use Rattle.zl_code.proofs.Common.{◌≡◌, ◌<◌, ◌≤◌, inl, inr, arith, ℕ, suc, Bool, true, false, not, ◌==◌, List, [], ◌∷◌, length, refl, ap, sym, subst, ◌∙◌}
 use Rattle.zl_code.proofs.Common.{IsTrue, Option, Some, None, eq-eqb, if◌then◌else◌, ℤ, option_map, cases_Bool, eqb-true, within, Map, get, put, update}
-use Rattle.zl_code.proofs.Common.{has_key, without, World, Cpu, answered, Process, State, Created, Ready, Blocked, Ended, Object, Body, ChannelEnd, EventBody}
-use Rattle.zl_code.proofs.Common.{PortBody, JobBody, ProcessBody, is_process, state_passes, lives, runs, Settles, queue_of, fired, on_process, process_with}
+use Rattle.zl_code.proofs.Common.{has_key, without, World, Cpu, answered, Process, State, Created, Ready, Blocked, Ended, Object, Body, ChannelEnd}
+use Rattle.zl_code.proofs.Common.{PortBody, is_process, state_passes, lives, runs, Settles, queue_of, fired, on_process, process_with}
 use Rattle.zl_code.proofs.Common.{process_without, ended, with_object, may_get, in_order, has_default_rights, names_its_object, HandlesAreSound}
 use Rattle.zl_code.proofs.Common.{HandlesAreNamed, raisable, IsSound, Packet, Message, All, list_all, get-put, get-update, on_object, process_ended}
 use Rattle.zl_code.proofs.Common.{object_changed, with_process, is_blocked, HasItsObject, packets_for, made_ready, with_body, body_with_packets, filter}
@@ -467,10 +467,7 @@ packets_are_changed start w k f =
     by_body : (x : Object) (b : Body) → x.body ≡ b
         → Changed (ObjectChange start (on_object w k (repacked f)) k) (IsNewObject start w (on_object w k (repacked f)) k) (Some x) (Some (repacked f x))
     by_body x (PortBody packets) is = changed x _ refl refl (packets_change packets _ is (ap (λ (b : Body). record x { body = body_packed f b }) is))
-    by_body x (ChannelEnd peer queue) is = other x (ap (body_packed f) is ∙ sym is)
-    by_body x EventBody is = other x (ap (body_packed f) is ∙ sym is)
-    by_body x (JobBody a b c d) is = other x (ap (body_packed f) is ∙ sym is)
-    by_body x (ProcessBody job) is = other x (ap (body_packed f) is ∙ sym is)
+    by_body x _ is = other x (ap (body_packed f) is ∙ sym is)
 
 -- a wait is registered
 pub wait_begins : (start w : World) (x : Wait) → (IsSound start → IsWait (registered w x) x) → Change start w (registered w x)
@@ -509,6 +506,4 @@ waits_fire start w =
     by_body k x (PortBody packets) is =
         changed x _ refl refl (packets_change packets _ is (ap (λ (b : Body). record x { body = body_with_packets (packets_for w k) b }) is))
     by_body k x (ChannelEnd peer queue) is = other k x (ap (body_with_packets (packets_for w k)) is ∙ sym is)
-    by_body k x EventBody is = other k x (ap (body_with_packets (packets_for w k)) is ∙ sym is)
-    by_body k x (JobBody a b c d) is = other k x (ap (body_with_packets (packets_for w k)) is ∙ sym is)
-    by_body k x (ProcessBody job) is = other k x (ap (body_with_packets (packets_for w k)) is ∙ sym is)
+    by_body k x _ is = other k x (ap (body_with_packets (packets_for w k)) is ∙ sym is)

@@ -131,10 +131,7 @@ settled_process K q x = by_state x.state (K q) refl
     by_state : (s : State) (left : Bool) → x.state ≡ s → Later x (record x { state = state_without left x.state })
     by_state Created true is = stays (rw is refl)
     by_state Created false is = goes is (rw is refl)
-    by_state Ready left is = stays (rw is refl)
-    by_state (Blocked awaited ds) left is = stays (rw is refl)
-    by_state (Ended code) left is = stays (rw is refl)
-    by_state Gone left is = stays (rw is refl)
+    by_state _ left is = stays (rw is refl)
 
 settled_becomes : (q : ℕ) (x : Process) (u v : World) → Settles u v → get u.processes q ≡ Some x → Becomes q x v
 unfolding without_others

@@ -1,7 +1,7 @@
 -- A system call: its 16 bytes have no fault, and it is read from them again.
-use Rattle.zl_code.proofs.Common.{◌≡◌, ℕ, ◌+◌, Bool, true, false, List, [], ◌∷◌, ◌++◌, length, take, drop, Option, Some, None, ◌==◌, ◌&&◌, refl, sym, ap, ◌∙◌}
+use Rattle.zl_code.proofs.Common.{◌≡◌, ℕ, ◌+◌, Bool, true, false, List, [], ◌∷◌, ◌++◌, length, take, drop, Some, None, ◌==◌, refl, sym, ap, ◌∙◌}
 use Rattle.zl_code.proofs.Common.{arith, nat_lt, slice_index, list_all, option_map, if◌then◌else◌, and_parts, eqb-true, length-append}
-use Rattle.zl_code.proofs.Common.{Layout, layout_of, call_row, row_of, instr_fault, number_of, registers_at, reading_of}
+use Rattle.zl_code.proofs.Common.{layout_of, call_row, row_of, instr_fault, number_of, registers_at, reading_of}
 use Rattle.zl_code.proofs.Common.{names_registers, is_unused_zero, are_registers, fault_by}
 use Rattle.std.proofs.Math.Seq.{take-append_seam, drop-append_seam, drop-append-add}
 use Rattle.zl_code.proofs.Common.{IfSome, subst, Reading, row_bytes, bytes_of, length-drop, take_all, and_from, eq-eqb}

@@ -1,8 +1,8 @@
 -- Each instruction in turn: its 16 bytes have no fault, and it is read from them again.
-use Rattle.zl_code.proofs.Common.{◌≡◌, ℕ, ◌+◌, ◌*◌, ◌≤◌, Bool, true, List, [], ◌∷◌, length, Option, Some, None, ◌==◌, ◌&&◌, not, refl, ap, ◌∙◌, arith, is_some}
-use Rattle.zl_code.proofs.Common.{slice_index, nat_lt, nat_le, drop, if◌then◌else◌, list_all, and_parts, ltb-true, leb-true, eqb-true, Layout, layout_of}
+use Rattle.zl_code.proofs.Common.{◌≡◌, ℕ, Bool, true, List, [], ◌∷◌, length, Option, Some, None, ◌==◌, ◌&&◌, not, refl, ap, ◌∙◌, is_some}
+use Rattle.zl_code.proofs.Common.{slice_index, nat_lt, if◌then◌else◌, list_all, and_parts, ltb-true, eqb-true, Layout, layout_of}
 use Rattle.zl_code.proofs.Common.{row_of, local_parts, instr_fault, instr_bytes, bytes_of, number_of, number_at, is_instr_in_range, are_registers}
-use Rattle.zl_code.proofs.Common.{is_local_in_range, is_call_in_range, is_room, are_places, is_packed, is_32_bits}
+use Rattle.zl_code.proofs.Common.{is_local_in_range, is_call_in_range, is_32_bits}
 use Rattle.zl_code.specs.declared.instr.Instr.{Instr}
 use Rattle.zl_code.specs.declared.instr.Instr.TheVariants as instr
 use Rattle.zl_code.specs.declared.instr.LocalInstr.{LocalInstr}
@@ -83,10 +83,6 @@ local_fits raw (local.Add a b c) h = record { len = refl; fault = rw h refl; aga
 local_fits raw (local.AddNumber a b imm) h =
     let p = imm_and imm (a ∷ b ∷ []) h in
     record { len = refl; fault = rw p.1 refl; again = ap (λ n. instr.Local (local.AddNumber a b n)) (word_again imm p.0) }
-local_fits raw (local.Subtract a b c) h = record { len = refl; fault = rw h refl; again = refl }
-local_fits raw (local.And a b c) h = record { len = refl; fault = rw h refl; again = refl }
-local_fits raw (local.Or a b c) h = record { len = refl; fault = rw h refl; again = refl }
-local_fits raw (local.Xor a b c) h = record { len = refl; fault = rw h refl; again = refl }
 local_fits raw (local.ShiftLeft a b imm) h =
     let p = imm_and imm (a ∷ b ∷ []) h in
     record { len = refl; fault = rw p.1 refl; again = ap (λ n. instr.Local (local.ShiftLeft a b n)) (word_again imm p.0) }
@@ -136,6 +132,7 @@ local_fits raw (local.JumpHas a imm target) h =
 local_fits raw (local.JumpHasNot a imm target) h =
     let p = both_and imm target (a ∷ []) h in
     record { len = refl; fault = rw p.2 refl; again = λ k. instr.Local (local.JumpHasNot a (word_again imm p.0 k) (word_again target p.1 k)) }
+local_fits raw _ h = record { len = refl; fault = rw h refl; again = refl }
 
 call_fits : (raw : Bool) (i : CallInstr) → is_call_in_range i ≡ true → Fits raw (instr.Call i)
 unfolding read_instr

@@ -4,7 +4,6 @@ use Rattle.zl_code.proofs.Common.{None, if◌then◌else◌, flat_map, pid_of, s
 use Rattle.std.specs.Prelude.{IsSomeAnd, ◌↔◌}
 use Rattle.std.specs.List.{AllByRecursion}
 use Rattle.std.proofs.lemmas.List.Concat.{flat_map-cons}
-use Rattle.zl_code.specs.declared.history.Outcome.TheVariants as outcome
 use Rattle.zl_code.specs.declared.history.TraceItem.{TraceItem}
 use Rattle.zl_code.specs.declared.history.TraceItem.TheVariants as item
 use Rattle.zl_code.specs.Image.{Image}
@@ -96,8 +95,7 @@ module _ (budget p : ℕ) where
   one_counts : (x : TraceItem) (left : ℕ) (ys : List TraceItem)
       → ◌≡◌ {A = Type 0} (KeepsBudget budget p left (single x ++ ys)) (KeepsBudget budget p left (x ∷ ys))
   one_counts (item.Run q count) left ys = runs_count q (q == p) refl count left ys
-  one_counts (item.Call pid called o) left ys = refl
-  one_counts (item.Stuck pid) left ys = refl
+  one_counts _ left ys = refl
 
   pub counts_alike : (xs : List TraceItem) (left : ℕ) → ◌≡◌ {A = Type 0} (KeepsBudget budget p left (flat_map single xs)) (KeepsBudget budget p left xs)
   counts_alike [] left = refl

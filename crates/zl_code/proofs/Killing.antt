@@ -1,8 +1,8 @@
 -- What stands below a killed job is killed with it: nothing that lives is left below it.
 use Rattle.zl_code.proofs.Common.{nat_tests, is_some, ne_eqb, get-put, with_object, body_of, ◌≡◌, ◌<◌, ◌≤◌, ◌+◌, arith, inl, inr, ℕ, zero, suc, Bool, true}
 use Rattle.zl_code.proofs.Common.{false, ◌==◌, ◌&&◌, ◌||◌, [], refl, ap, sym, ◌∙◌, subst, IsTrue, Option, Some, None, option_map, if◌then◌else◌, cases_Bool}
-use Rattle.zl_code.proofs.Common.{eqb-true, or_left, or_right, none-some, same_Some, true≢false, false≢true, Map, get, World, Process, State, Created, Ready}
-use Rattle.zl_code.proofs.Common.{Blocked, Ended, Gone, Object, Body, JobBody, ProcessBody, lives, body_in, IsSound, get-each}
+use Rattle.zl_code.proofs.Common.{eqb-true, or_left, or_right, none-some, same_Some, true≢false, false≢true, Map, get, World, Process, State}
+use Rattle.zl_code.proofs.Common.{Ended, Gone, Object, Body, JobBody, ProcessBody, lives, body_in, IsSound, get-each}
 use Rattle.std.proofs.lemmas.Bool.{or_cases}
 use Rattle.zl_rights.specs.Numbers.{KILLED}
 use Rattle.zl_rights.specs.Signals.{is_job_below, is_process_of}
@@ -169,11 +169,9 @@ module _ (w : World) (s : IsSound w) (t : ℕ) (some : (0 == t) ≡ false) where
         where
           by_state : (st : State) → x.state ≡ st
               → IsTrue (lives (if lives st then record x { state = Ended KILLED; handles = []; last = None } else x).state) → ⊥
-          by_state Created is h = false≢true h
-          by_state Ready is h = false≢true h
-          by_state (Blocked awaited ds) is h = false≢true h
           by_state (Ended code) is h = false≢true (rw is at h)
           by_state Gone is h = false≢true (rw is at h)
+          by_state _ is h = false≢true h
 
       -- nor is a living process directly below it
       by_spared : (p : ℕ) (x : Process) (y : Object) → get w.processes p ≡ Some x → IsTrue (lives x.state) → get w.objects p ≡ Some y

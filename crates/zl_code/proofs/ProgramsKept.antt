@@ -1,10 +1,10 @@
 -- Each process runs a program of the library, in every world of a run from a boot world.
 use Rattle.zl_code.proofs.Common.{◌≡◌, ℕ, ℤ, Bool, true, false, not, ◌&&◌, ◌==◌, List, [], ◌∷◌, refl, sym, ◌∙◌, subst, Option, Some, None, IsTrue, is_some}
-use Rattle.zl_code.proofs.Common.{slice_get, option_map, if◌then◌else◌, none-some, same_Some, not-false, and_parts, fold, Map, get, put, update, each, has_key}
-use Rattle.zl_code.proofs.Common.{World, Process, State, Ready, Blocked, Ended, Object, Body, PortBody, Koids, Settles, without_others, process_settled, fired}
+use Rattle.zl_code.proofs.Common.{slice_get, option_map, if◌then◌else◌, none-some, same_Some, not-false, and_parts, fold, Map, get, update, each, has_key}
+use Rattle.zl_code.proofs.Common.{World, Process, State, Ready, Blocked, Ended, Object, Body, PortBody, Settles, without_others, process_settled, fired}
 use Rattle.zl_code.proofs.Common.{wakes, woken, made_ready, answered, meets, active, SignalOf, PacketAt, Awaited, Packet, with_body, woken_by_first, woken_by}
 use Rattle.zl_code.proofs.Common.{woken_at_port, woken_from, woken_if_there, packet_values, Library, Request, Site, Choice, Refused, WantsMemory, Values}
-use Rattle.zl_code.proofs.Common.{CallBy, refusal, listed, effect, with_effect, after_ok, after_refusal, ok_outcome, replied, cpu_answered, taken, gives_ok}
+use Rattle.zl_code.proofs.Common.{CallBy, refusal, listed, effect, with_effect, after_ok, after_refusal, ok_outcome, replied, taken, gives_ok}
 use Rattle.zl_code.proofs.Common.{gives_refused, taken_handles, STUCK, without, next_for, on_process, on_object, with_object, insert_all, remove_all}
 use Rattle.zl_code.proofs.Common.{process_with, process_without, process_ended, ended, lives, Next, Moves, AtCall, IsStuck, Acts, Step, pid_of, Runs, Boots}
 use Rattle.zl_code.proofs.Common.{IsBoot, boot_effect, boot_fault, origin, created_process, started_with, handles_given, process_with_all, get-update, get-each}
@@ -214,10 +214,7 @@ module _ (lib : Library) where
       each_put IsListed w.processes all w.next_koid q
       (rw (holding (handles_given w.objects handles) vs (created_process lib program)) (and_parts (is_some (slice_get lib program)) _ there.1).0)
   boots w (statement.Job parent) vs fine all = all
-  boots w (statement.Policy job condition action) vs fine all = all
-  boots w statement.Event vs fine all = all
-  boots w statement.Port vs fine all = all
-  boots w statement.Channel vs fine all = all
+  boots w _ vs fine all = all
 
   all_boot : (w : World) (statements : List Statement) (after : World) → HavePrograms lib w → Boots lib w statements after → HavePrograms lib after
   all_boot w [] after all e = rw e all

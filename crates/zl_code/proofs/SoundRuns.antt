@@ -75,11 +75,7 @@ settled_sound lib w p x after s step =
 no_wait_booted : (lib : Library) (w : World) (s : Statement) (vs : List ℕ) → (boot_effect lib w s vs).waits ≡ w.waits
 unfolding boot_effect with_object on_object
 no_wait_booted lib w (statement.Process job program word handles) vs = refl
-no_wait_booted lib w (statement.Job parent) vs = refl
-no_wait_booted lib w (statement.Policy job condition action) vs = refl
-no_wait_booted lib w statement.Event vs = refl
-no_wait_booted lib w statement.Port vs = refl
-no_wait_booted lib w statement.Channel vs = refl
+no_wait_booted lib w _ vs = refl
 
 -- What is true of a world within a boot.
 pub record IsBooting (w : World) : Type 0 where

@@ -28,7 +28,7 @@ abbrev pub moves : Option Cpu → Next
 moves None = IsStuck
 moves (Some c) = Moves c
 
--- so does a call whose operands can't be read
+-- so does a call whose memory isn't there
 abbrev pub calls_at : CallName → Option Site → Next
 calls_at call None = IsStuck
 calls_at call (Some s) = AtCall call s

@@ -1,6 +1,6 @@
 -- A process that a step makes isn't ready after it.
 use Rattle.zl_code.proofs.Common.{◌≡◌, ℕ, Bool, true, false, ◌==◌, List, [], ◌∷◌, refl, ap, sym, ◌∙◌, Option, Some, None, if◌then◌else◌, option_map, cases_Bool}
-use Rattle.zl_code.proofs.Common.{eqb-true, inl, inr, meets, fold, get, World, Process, State, Created, Ready, Blocked, Gone, Ended, Object, Body, PortBody}
+use Rattle.zl_code.proofs.Common.{eqb-true, inl, inr, meets, fold, get, World, Process, State, Created, Ready, Blocked, Gone, Object, Body, PortBody}
 use Rattle.zl_code.proofs.Common.{is_process, is_ready, state_passes, process_settled, state_without, Settles, without_others, wakes, fired, active, with_body}
 use Rattle.zl_code.proofs.Common.{woken_if_there, woken_from, woken_at_port, woken_by, woken_by_first, SignalOf, PacketAt, Packet, Library, Site, Request}
 use Rattle.zl_code.proofs.Common.{Choice, Refused, WantsMemory, Values, CallBy, after_refusal, after_ok, ok_outcome, refusal, object_at, taken, taken_handles}
@@ -144,9 +144,7 @@ module _ (q : ℕ) where
       by_state true Created h = refl
       by_state false Created h = refl
       by_state kept Gone h = refl
-      by_state kept Ready h = absurd (false≢true h)
-      by_state kept (Blocked awaited ds) h = absurd (false≢true h)
-      by_state kept (Ended code) h = absurd (false≢true h)
+      by_state kept _ h = absurd (false≢true h)
 
       by_process : (o : Option Process) → is_fresh o ≡ true → is_fresh (option_map (process_settled K q) o) ≡ true
       by_process None h = refl
@@ -202,11 +200,8 @@ module _ (q : ℕ) where
   not_ready u fresh = by_process (get u.processes q) fresh
     where
       by_state : (s : State) → is_new s ≡ true → is_ready s ≡ false
-      by_state Created h = refl
-      by_state Gone h = refl
       by_state Ready h = absurd (false≢true h)
-      by_state (Blocked awaited ds) h = refl
-      by_state (Ended code) h = refl
+      by_state _ h = refl
 
       by_process : (o : Option Process) → is_fresh o ≡ true → state_passes is_ready o ≡ false
       by_process None h = refl

@@ -1,6 +1,6 @@
 -- A step of one process leaves the marks of the others what they are: who has one is ready or has ended, and doesn't become ready.
 use Rattle.zl_sched.proofs.Common.{◌≡◌, ◌∙◌, ℕ, Bool, true, false, refl, ap, sym, IsTrue, Option, Some, None, if◌then◌else◌, get, is_process, is_ready}
-use Rattle.zl_sched.proofs.Common.{state_passes, Library, Process, State, Created, Ready, Blocked, Gone, Ended, Step}
+use Rattle.zl_sched.proofs.Common.{state_passes, Library, Process, State, Created, Ready, Ended, Step}
 use Rattle.std.specs.Prelude.{◌==◌}
 use Rattle.zl_rights.proofs.Common.{false≢true}
 use Rattle.zl_rights.specs.Signals.{has_ended, lives}
@@ -35,8 +35,7 @@ module _ (lib : Library) (w : World) (p : ℕ) (x : TraceItem) (after : World) (
       (over_after_act lib w p x after sound step k y apart at (ap has_ended is)) in
       rw still (ap is_ready_or_over is, λ h. h)
   by_state y at Created is passes = absurd (false≢true passes)
-  by_state y at (Blocked awaited ds) is passes = absurd (false≢true passes)
-  by_state y at Gone is passes = absurd (false≢true passes)
+  by_state y at _ is passes = absurd (false≢true passes)
 
   pub marked_stays : IsTrue (is_process w is_ready_or_over k)
       → IsTrue (is_process after is_ready_or_over k) × (is_process after is_ready k ≡ true → is_process w is_ready k ≡ true)
@@ -59,9 +58,7 @@ marked_known w k free = ap (state_passes is_ready_or_over) free
 state_over : (l : State) → is_ready_or_over l ≡ true → is_ready l ≡ false → lives l ≡ false
 state_over Ready passes busy = absurd (false≢true (sym busy))
 state_over (Ended code) passes busy = refl
-state_over Created passes busy = absurd (false≢true passes)
-state_over (Blocked awaited ds) passes busy = absurd (false≢true passes)
-state_over Gone passes busy = absurd (false≢true passes)
+state_over _ passes busy = absurd (false≢true passes)
 
 pub over_or_ready : (w : World) (k : ℕ) → IsTrue (is_process w is_ready_or_over k) → is_process w is_ready k ≡ false → is_process w lives k ≡ false
 unfolding is_process
@@ -74,9 +71,7 @@ over_or_ready w k passes busy = by (get w.processes k) passes busy
 state_passes_too : (l : State) → is_ready l ≡ true → is_ready_or_over l ≡ true
 state_passes_too Ready is = refl
 state_passes_too (Ended code) is = refl
-state_passes_too Created is = is
-state_passes_too (Blocked awaited ds) is = is
-state_passes_too Gone is = is
+state_passes_too _ is = is
 
 pub ready_passes : (w : World) (k : ℕ) → is_process w is_ready k ≡ true → IsTrue (is_process w is_ready_or_over k)
 unfolding is_process

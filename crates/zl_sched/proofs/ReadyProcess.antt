@@ -1,5 +1,5 @@
 -- A process that is told to be ready is ready, and no other.
-use Rattle.zl_sched.proofs.Common.{◌≡◌, ℕ, false, Option, Some, None, IsTrue, refl, get, State, Process, Created, Ready, Blocked, Ended, Gone, is_ready}
+use Rattle.zl_sched.proofs.Common.{◌≡◌, ℕ, false, Option, Some, None, IsTrue, refl, get, State, Process, Created, Ready, is_ready}
 use Rattle.zl_sched.proofs.Common.{is_process, state_passes, state_in, seen_in, seen_of, is_ready_in}
 use Rattle.zl_code.specs.declared.history.ProcState.TheVariants as seen
 use Rattle.zl_calls.specs.World.{Machine}
@@ -7,9 +7,7 @@ use Rattle.zl_calls.specs.World.{Machine}
 ready_state : (s : State) → seen_in s ≡ seen.Ready → IsTrue (is_ready s)
 ready_state Created e = absurd (cc)
 ready_state Ready e = refl
-ready_state (Blocked awaited destinations) e = absurd (cc)
-ready_state (Ended code) e = absurd (cc)
-ready_state Gone e = absurd (cc)
+ready_state _ e = absurd (cc)
 
 ready_process : (p : Option Process) → seen_of p ≡ seen.Ready → IsTrue (state_passes is_ready p)
 ready_process None e = absurd (cc)
@@ -22,9 +20,7 @@ ready_by m pid e = ready_process (get m.world.processes pid) e
 busy_state : (s : State) → (seen_in s ≡ seen.Ready → ⊥) → is_ready s ≡ false
 busy_state Created e = refl
 busy_state Ready e = absurd (e refl)
-busy_state (Blocked awaited destinations) e = refl
-busy_state (Ended code) e = refl
-busy_state Gone e = refl
+busy_state _ e = refl
 
 busy_process : (p : Option Process) → (seen_of p ≡ seen.Ready → ⊥) → state_passes is_ready p ≡ false
 busy_process None e = refl

@@ -1,7 +1,7 @@
 -- Where a step starts, kills and ends no process, and as many are blocked after it, all are as ready as before.
 use Rattle.zl_code.proofs.Common.{◌≡◌, ◌<◌, ◌≤◌, ◌+◌, ◌⊎◌, ℕ, Bool, true, false, not, ◌==◌, List, [], ◌∷◌, length, refl, ap, sym, ◌∙◌, subst, arith, cases_Bool}
 use Rattle.zl_code.proofs.Common.{eqb-true, false≢true, Option, Some, None, is_some, has_key, IsTrue, if◌then◌else◌, option_map, inl, inr, meets, fold, get}
-use Rattle.zl_code.proofs.Common.{World, Process, State, Created, Ready, Blocked, Gone, Ended, Object, Body, PortBody, is_process, is_ready, is_blocked}
+use Rattle.zl_code.proofs.Common.{World, Process, State, Created, Blocked, Gone, Object, Body, PortBody, is_process, is_ready, is_blocked}
 use Rattle.zl_code.proofs.Common.{without, state_passes, process_settled, state_without, Settles, without_others, wakes, fired, active, with_body}
 use Rattle.zl_code.proofs.Common.{woken_if_there, woken_from, woken_at_port, woken_by, woken_by_first, SignalOf, PacketAt, Packet, Library, Request, Site}
 use Rattle.zl_code.proofs.Common.{Choice, Refused, WantsMemory, Values, CallBy, after_refusal, after_ok, refusal, taken, taken_handles, effect, new_handles}
@@ -221,10 +221,7 @@ settled_so u v (K, largest, is) = rw is
     by_state : (test : State → Bool) → test Created ≡ false → test Gone ≡ false → (kept : Bool) (s : State) → test (state_without kept s) ≡ test s
     by_state test fresh gone true Created = refl
     by_state test fresh gone false Created = gone ∙ sym fresh
-    by_state test fresh gone kept Ready = refl
-    by_state test fresh gone kept (Blocked awaited ds) = refl
-    by_state test fresh gone kept (Ended code) = refl
-    by_state test fresh gone kept Gone = refl
+    by_state test fresh gone kept _ = refl
 
     by_process : (test : State → Bool) → test Created ≡ false → test Gone ≡ false → (k : ℕ) (o : Option Process)
         → state_passes test (option_map (process_settled K k) o) ≡ state_passes test o

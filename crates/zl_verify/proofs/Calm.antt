@@ -33,10 +33,7 @@ within_few part whole most h le =
 
 raisable_few : (b : Body) → raisable b ≤ 0xffff_ffff
 raisable_few (ChannelEnd peer queue) = omega arith
-raisable_few EventBody = omega arith
-raisable_few (PortBody packets) = omega arith
-raisable_few (JobBody parent depth policy killed) = omega arith
-raisable_few (ProcessBody job) = omega arith
+raisable_few _ = omega arith
 
 one_few : (s : ℕ) (b : Bool) → s ≤ 0xffff_ffff → signal_if s b ≤ 0xffff_ffff
 one_few s true h = h
@@ -109,10 +106,7 @@ module _ (w : World) (sized : QueuesAreSized w) where
 
 default_few : (k : Kind) → default_rights_of k ≤ ANY
 default_few kind.Process = omega arith
-default_few kind.Channel = omega arith
-default_few kind.Event = omega arith
-default_few kind.Port = omega arith
-default_few kind.Job = omega arith
+default_few _ = omega arith
 
 entries_few : (es : List Entry) → list_all has_default_rights es ≡ true → AllByRecursion HasFewRights es
 entries_few [] h = tt

@@ -109,9 +109,8 @@ module _ (w : World) (p : ℕ) where
   policy_not_ok (Some c) = by (action_of w (parent_of w p) c)
     where
       by : (a : Action) → IsNotOk (unless_allowed a)
-      by action.Allow = tt
       by action.Deny = refl
-      by action.Kill = tt
+      by _ = tt
 
   all_not_ok : (os : List (Option Outcome)) → AreOrdinary os → AreNotOk os
   all_not_ok [] h = tt

@@ -196,8 +196,7 @@ module _ (w : World) (p : ℕ) (read : List ℕ) (arrays : List SlotArray) (slot
       (zero_word o.may_be_zero m (slice_index xs o.value) (word_passes o m e)
       (subst (λ a. Describes f xs a (slice_index xs o.value)) is (h.described o.value))).1
   takes_it f s xs o h states lt (Has maybe kind rights) is e = consume h states o.value lt maybe kind rights is
-  takes_it f s xs o h states lt (KindOf t) is e = cc
-  takes_it f s xs o h states lt (RightsOf t) is e = cc
+  takes_it f s xs o h states lt _ is e = cc
 
   live_at : (seen : List ℕ) (s : State) (xs : List ℕ) (o : Operand) → Holds (unseen (Reads w p) seen) s xs arrays slots
       → slice_index xs o.value ≡ slice_index read o.value → fault_of o (value_at s o.value) ≡ None

@@ -31,24 +31,16 @@ all_so P Q so (x ∷ xs) all = (so x all.0, all_so P Q so xs all.1)
 module _ (p : ℕ) where
   no_fault : (x : TraceItem) → IsFineItem p x → HasNoFault p x
   no_fault (item.Call pid called (outcome.Answered answer)) fine = fine
-  no_fault (item.Call pid called (outcome.Ended code)) fine = tt
-  no_fault (item.Call pid called outcome.Blocked) fine = tt
-  no_fault (item.Run pid count) fine = tt
-  no_fault (item.Stuck pid) fine = tt
+  no_fault _ fine = tt
 
   ends_itself : (x : TraceItem) → IsFineItem p x → EndsItself p x
   ends_itself (item.Call pid called (outcome.Answered answer)) fine = tt
   ends_itself (item.Call pid called (outcome.Ended code)) fine = fine
-  ends_itself (item.Call pid called outcome.Blocked) fine = tt
-  ends_itself (item.Run pid count) fine = tt
-  ends_itself (item.Stuck pid) fine = tt
+  ends_itself _ fine = tt
 
   not_stuck : (x : TraceItem) → IsFineItem p x → IsNotStuck p x
-  not_stuck (item.Call pid called (outcome.Answered answer)) fine = tt
-  not_stuck (item.Call pid called (outcome.Ended code)) fine = tt
-  not_stuck (item.Call pid called outcome.Blocked) fine = tt
-  not_stuck (item.Run pid count) fine = tt
   not_stuck (item.Stuck pid) fine = fine
+  not_stuck _ fine = tt
 
 -- an image of the library is in its ranges
 pub in_range : (lib : Library) (i : Image) (w : World) (p : ℕ) → AllByRecursion (λ x. IsTrue (is_in_range x.image)) lib → IsStarted lib i w p

@@ -50,10 +50,8 @@ unless_ways (Err c) h = tt
 unless_ways (Ok w) h = exchanged (is_some w.jumped) (is_some w.passed) h
 
 zero_or_there : (s : State) (a r : ℕ) (v : AbsVal) → HasWay (record { jumped = becomes a 0 (known_zero s r v); passed = known_there s r v })
-zero_or_there s a r (Word m) = refl
 zero_or_there s a r (Has maybe k q) = or_true _
-zero_or_there s a r (KindOf q) = refl
-zero_or_there s a r (RightsOf q) = refl
+zero_or_there s a r _ = refl
 
 kind_or_other : (s : State) (a imm r : ℕ) (k : Option Kind) (v : AbsVal)
     → HasWay (record { jumped = becomes a imm (known_kind s r k v); passed = known_other s k v })
@@ -113,8 +111,7 @@ below_on s a imm = one HasWay s a _ (λ m. either (eqb imm 0) (ltb m imm) s _ (a
 has_on : (s : State) (imm : ℕ) (v : AbsVal) → IfOk (has_ways s imm v) HasWay
 has_on s imm (Has maybe k r) = tt
 has_on s imm (RightsOf r) = or_true _
-has_on s imm (Word m) = refl
-has_on s imm (KindOf r) = refl
+has_on s imm _ = refl
 
 -- ---- the rows
 

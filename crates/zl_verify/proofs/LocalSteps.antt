@@ -54,10 +54,7 @@ in_range_at raw (x ∷ code) (suc n) h = in_range_at raw code n (both (is_instr_
 
 defaults_known : (k : Kind) → within (default_rights_of k) KNOWN_RIGHTS ≡ true
 defaults_known kind.Process = refl
-defaults_known kind.Channel = refl
-defaults_known kind.Event = refl
-defaults_known kind.Port = refl
-defaults_known kind.Job = refl
+defaults_known _ = refl
 
 -- ---- the end of a followed edge
 

@@ -35,16 +35,14 @@ is_has-retagged b a (RightsOf t) = by (t == b)
 
 -- what moves is no tag
 stays : (a b : ℕ) (c : AbsVal) → may_move c ≡ true → retagged b a (untagged a c) ≡ c
-stays a b (Word m) e = refl
-stays a b (Has maybe kind rights) e = refl
 stays a b (KindOf t) e = cc
 stays a b (RightsOf t) e = cc
+stays a b _ e = refl
 
 described_anywhere : (f : Table) (xs ys : List ℕ) (c : AbsVal) (x : ℕ) → may_move c ≡ true → Describes f xs c x → Describes f ys c x
 described_anywhere f xs ys (Word m) x e d = d
 described_anywhere f xs ys (Has maybe kind rights) x e d = d
-described_anywhere f xs ys (KindOf t) x e d = cc
-described_anywhere f xs ys (RightsOf t) x e d = cc
+described_anywhere f xs ys _ x e d = cc
 
 abbrev pub moved_to : List ℕ → ℕ → ℕ → List ℕ
 moved_to xs a b = slice_set (slice_set xs a (slice_index xs b)) b 0

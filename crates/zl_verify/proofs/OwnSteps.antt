@@ -44,9 +44,8 @@ use Rattle.zl_verify.proofs.Ended.{ended_still}
 pub fine_other : (p : ℕ) (x : TraceItem) → (pid_of x == p) ≡ false → IsFineItem p x
 fine_other p (item.Call pid called (outcome.Answered answer)) apart = λ same. let bad : (pid == p) ≡ true = eq-eqb pid p same in cc
 fine_other p (item.Call pid called (outcome.Ended code)) apart = λ same. let bad : (pid == p) ≡ true = eq-eqb pid p same in cc
-fine_other p (item.Call pid called outcome.Blocked) apart = tt
-fine_other p (item.Run pid count) apart = tt
 fine_other p (item.Stuck pid) apart = λ same. let bad : (pid == p) ≡ true = eq-eqb pid p same in cc
+fine_other p _ apart = tt
 
 -- ---- a process that is over
 

@@ -18,8 +18,7 @@ test_apart a b h = by (cases_Bool (a == b))
 untagged_named : (r : ℕ) (a : AbsVal) → can_be_named a ≡ true → can_be_named (untagged r a) ≡ true
 untagged_named r (Word m) e = e
 untagged_named r (Has maybe kind rights) e = e
-untagged_named r (KindOf t) e = cc
-untagged_named r (RightsOf t) e = cc
+untagged_named r _ e = cc
 
 module _ (s : State) (states : IsState s) (r : ℕ) (lt : r < length s) (a : AbsVal) where
   pub named_with : (t : ℕ) → t ≢ r → can_be_named (value_at s t) ≡ true → can_be_named (value_at (with_value s r a) t) ≡ true

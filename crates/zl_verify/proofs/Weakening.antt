@@ -39,15 +39,11 @@ described-below f xs (KindOf r) (KindOf t) x e few d = subst (λ u. Describes f 
 described-below f xs (KindOf r) (Word n) x e few d = grind (arith, nat_tests)
 described-below f xs (RightsOf r) (RightsOf t) x e few d = subst (λ u. Describes f xs (RightsOf u) x) (eqb-true r t e) d
 described-below f xs (RightsOf r) (Word n) x e few d = grind (arith, nat_tests)
-described-below f xs (Word m) (KindOf t) x e few d = cc
-described-below f xs (Word m) (RightsOf t) x e few d = cc
 described-below f xs (Has maybe k q) (Word n) x e few d = cc
-described-below f xs (Has maybe k q) (KindOf t) x e few d = cc
-described-below f xs (Has maybe k q) (RightsOf t) x e few d = cc
-described-below f xs (KindOf r) (Has maybe k q) x e few d = cc
-described-below f xs (KindOf r) (RightsOf t) x e few d = cc
-described-below f xs (RightsOf r) (Has maybe k q) x e few d = cc
-described-below f xs (RightsOf r) (KindOf t) x e few d = cc
+described-below f xs _ (KindOf t) x e few d = cc
+described-below f xs _ (RightsOf t) x e few d = cc
+described-below f xs (KindOf r) _ x e few d = cc
+described-below f xs (RightsOf r) _ x e few d = cc
 
 -- a place that can only hold 0 holds 0
 abbrev IsZeroThere : AbsVal → ℕ → Type 0
@@ -56,22 +52,15 @@ IsZeroThere _ x = Unit {0}
 
 owns-below : (v : ℕ) (a b : AbsVal) (x : ℕ) → IsTrue (below a b) → IsZeroThere a x → one_if (owns v a x) ≡ one_if (owns v b x)
 unfolding below owns
-owns-below v (Word m) (Word n) x e z = refl
 owns-below v (Word m) (Has maybe k q) x e z = rw (z (eqb-true m 0 (both (m == 0) maybe e).0)) (sym (owns_0 v (Has maybe k q)))
 owns-below v (Has a k q) (Has b j p) x e z = refl
 owns-below v (Has maybe k q) (Word n) x e z = cc
 owns-below v (Has maybe k q) (KindOf t) x e z = cc
 owns-below v (Has maybe k q) (RightsOf t) x e z = cc
-owns-below v (KindOf r) (Has maybe k q) x e z = cc
-owns-below v (RightsOf r) (Has maybe k q) x e z = cc
-owns-below v (KindOf r) (KindOf t) x e z = refl
-owns-below v (KindOf r) (Word n) x e z = refl
-owns-below v (KindOf r) (RightsOf t) x e z = refl
-owns-below v (RightsOf r) (RightsOf t) x e z = refl
-owns-below v (RightsOf r) (Word n) x e z = refl
-owns-below v (RightsOf r) (KindOf t) x e z = refl
-owns-below v (Word m) (KindOf t) x e z = refl
-owns-below v (Word m) (RightsOf t) x e z = refl
+owns-below v _ (Has maybe k q) x e z = cc
+owns-below v (KindOf r) _ x e z = refl
+owns-below v (RightsOf r) _ x e z = refl
+owns-below v (Word m) _ x e z = refl
 
 owners-below : (v : ℕ) (s t : State) (xs : List ℕ) → IsTrue (all_below s t) → ((r : ℕ) → IsZeroThere (value_at s r) (slice_index xs r))
     → owners v s xs ≡ owners v t xs
@@ -110,6 +99,4 @@ weaken {f} {s} {xs} {arrays} {slots} t h e = record {
   where
     zero_at : (r : ℕ) (a : AbsVal) → Describes f xs a (slice_index xs r) → IsZeroThere a (slice_index xs r)
     zero_at r (Word m) d = λ z. small_is m (slice_index xs r) d z
-    zero_at r (Has maybe k q) d = tt
-    zero_at r (KindOf t) d = tt
-    zero_at r (RightsOf t) d = tt
+    zero_at r _ d = tt

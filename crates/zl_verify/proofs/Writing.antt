@@ -62,8 +62,7 @@ module _ {f : Table} {s : State} {xs : List ℕ} {arrays : List SlotArray} {slot
       → g (slice_index xs t) ≡ f (slice_index xs t)
   named_same t apart (Word m) is fine d = let z : slice_index xs t ≡ 0 = grind (arith, nat_tests) in rw z (zero-too ∙ sym (nothing_at_0 h))
   named_same t apart (Has maybe kind rights) is fine d = same_has t apart maybe kind rights (slice_index xs t) is refl d
-  named_same t apart (KindOf q) is fine d = cc
-  named_same t apart (RightsOf q) is fine d = cc
+  named_same t apart _ is fine d = cc
 
   -- a tag on register t goes on to hold, if t isn't written
   tag_same : (t x : ℕ) → t ≢ r → can_be_named (value_at s t) ≡ true → g (slice_index (slice_set xs r x) t) ≡ f (slice_index xs t)

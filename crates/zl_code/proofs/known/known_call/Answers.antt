@@ -1,4 +1,4 @@
-use Rattle.zl_code.proofs.Common.{rules, sym}
+use Rattle.zl_code.proofs.Common.{rules}
 use Rattle.zl_code.proofs.ImageCalls.{known_bytes, known_in_range}
 use Rattle.zl_code.proofs.known.known_call.Goals as goal
 

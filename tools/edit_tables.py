@@ -118,9 +118,11 @@ def in_file(path, crate):
 
 def edits_of(crate):
     """The edits of the crate that stand outside of the gate."""
-    folder = TOP / "edits" / crate
-    return [*(in_file(path, crate) for path in sorted(folder.glob("*.edit"))),
-            *(edit for path in sorted(folder.glob("*.edits")) for edit in in_table(path))]
+    files = sorted((TOP / "edits" / crate).glob("*"))
+    for file in files:
+        if file.suffix != ".edits":
+            raise Unreadable(f"edits/{crate}/{file.name} is no table")
+    return [edit for file in files for edit in in_table(file)]
 
 
 def edits_in_gate(crate):

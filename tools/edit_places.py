@@ -1,9 +1,11 @@
 """Where wrong bodies stand, so that many can be tried by one check.
 
 Each function is proved over the contracts of those that it calls. So where an edit changes nothing but a
-body, that function is proved with the edit or isn't, whatever other bodies are changed in the same check.
+body, that function is proved with the edit or isn't, whatever other bodies are changed in the same check. But
+what calls a function that isn't proved isn't tried.
 """
 import re
+from collections import defaultdict
 from pathlib import Path
 
 from contracts import functions_of
@@ -16,6 +18,8 @@ OPEN = re.compile(r"note: \S+:\d+:\d+: .*?\(`([^`]+)`\)(.*)")
 ERROR = re.compile(r"(?:note: )?(?:\./)?((?:src|specs|proofs)/[^\s:]+):\d+:\d+: error[^:]*: (?:`([^`]+)`)?(.*)")
 # What a proof file says where it names what an edit took away.
 LOST = re.compile(r"has no field|is not in scope|has no `|was not admitted")
+# A name that is called, or handed on.
+CALLED = re.compile(r"\b(\w+)(?=\s*[(),])")
 # The files of proofs that answer the goals of a function, in its folder.
 ANSWERS = {"Answers.antt", "Invariants.antt", "Proof.antt"}
 
@@ -34,20 +38,48 @@ def place_of(crate, functions, edit):
     return names.pop() if len(names) == 1 else None
 
 
+def body_of(crate, function):
+    """The lines of its body, without comments."""
+    if function.body is None:
+        return ""
+    lines = (crate / function.file).read_text(encoding="utf-8").splitlines()
+    return "\n".join(line.split("//")[0] for line in lines[function.body:function.last + 1])
+
+
+def calls_in(crate, functions):
+    """For each function those whose names its body calls or hands on."""
+    owners = defaultdict(set)
+    for name in functions:
+        owners[name.rpartition("::")[2]].add(name)
+    return {name: set().union(*(owners[word] for word in CALLED.findall(body_of(crate, it)) if word in owners))
+            for name, it in functions.items()}
+
+
+def led_to(name, calls):
+    """The function itself, and those that calls lead to from it."""
+    found, left = set(), [name]
+    while left:
+        at = left.pop()
+        if at not in found:
+            found.add(at)
+            left.extend(calls[at])
+    return found
+
+
 def rounds_of(crate, edits):
-    """The edits of bodies in rounds, in each of which no function has two, and the edits that are left."""
-    rounds, left, functions = [], [], functions_of(crate)
-    for edit in edits:
-        place = place_of(crate, functions, edit)
-        if place is None:
-            left.append(edit)
-            continue
-        free = next((found for found in rounds if place not in found), None)
+    """The edits of bodies in rounds, in each of which no function leads to another, and the edits that are left."""
+    rounds, functions = [], functions_of(crate)
+    places = [(place_of(crate, functions, edit), edit) for edit in edits]
+    calls = calls_in(crate, functions)
+    behind = {place: led_to(place, calls) for place, _ in places if place}
+    for place, edit in sorted(((place, edit) for place, edit in places if place), key=lambda it: len(behind[it[0]])):
+        free = next((found for found in rounds
+                     if not any(place in behind[other] or other in behind[place] for other in found)), None)
         if free is None:
             free = {}
             rounds.append(free)
         free[place] = edit
-    return rounds, left
+    return rounds, [edit for place, edit in places if place is None]
 
 
 def apply(crate, edits):

@@ -2,13 +2,14 @@
 use Rattle.zl_calls.proofs.Common.{◌≡◌, ℕ, Bool, true, false, ◌==◌, List, refl, sym, ◌∙◌, subst, Option, Some, None, inl, inr, IsTrue, if◌then◌else◌}
 use Rattle.zl_calls.proofs.Common.{option_map, cases_Bool, none-some, same_Some, Map, get, update, get-update, false≢true, [], nat_cmp, is_sorted, is_kept}
 use Rattle.zl_calls.proofs.Common.{AreKeptBut, is_process, runs, lives, Agrees, AreNamed, IsNamed, World, ap, kind_of, body_value, is_job_at, is_job_body}
-use Rattle.zl_calls.proofs.Common.{is_job_in, eqb-true, Entry, Kind, Message}
+use Rattle.zl_calls.proofs.Common.{eqb-true, Entry, Kind, Message}
 use Rattle.zl_code.proofs.Common.{State as StateValue, slice_index_or}
 use Rattle.zl_rights.specs.Signals.{has_ended}
 use Rattle.zl_rights.specs.declared.kind.Kind.TheVariants as kind
 use Rattle.zl_objects.specs.declared.object.Body.{Body}
 use Rattle.zl_objects.specs.declared.object.Body.TheVariants as body
 use Rattle.zl_objects.specs.declared.object.Object.{Object}
+use Rattle.zl_objects.proofs.Bodies.{job_changed}
 use Rattle.zl_objects.specs.Objects.{queue_of}
 
 -- an object afterwards is one that was there before, perhaps changed
@@ -71,16 +72,7 @@ job_by_kind _ = refl
 
 module _ (f : Object → Object) (same : (o : Object) → kind_of (body_value (f o).body) ≡ kind_of (body_value o.body)) (os : Map Object) (k : ℕ) where
   pub jobs_kept : (j : ℕ) → is_job_at (update os k f) j ≡ is_job_at os j
-  jobs_kept j =
-      ap is_job_in (get-update os k f j)
-      ∙ elim (cases_Bool (k == j)) as (λ _. is_job_in (if k == j then option_map f (get os j) else get os j) ≡ is_job_in (get os j)) [
-        | inl here ↦ rw here (by_object (get os j))
-        | inr apart ↦ rw apart refl
-      ]
-    where
-      by_object : (o : Option Object) → is_job_in (option_map f o) ≡ is_job_in o
-      by_object None = refl
-      by_object (Some o) = job_by_kind (f o).body ∙ (ap is_job_kind (same o) ∙ sym (job_by_kind o.body))
+  jobs_kept = job_changed f (λ o. job_by_kind (f o).body ∙ (ap is_job_kind (same o) ∙ sym (job_by_kind o.body))) os k
 
   pub named_kept : (e : Entry) → IsNamed os e → IsNamed (update os k f) e
   named_kept e named = elim (cases_Bool (k == e.koid)) as (λ _. IsNamed (update os k f) e) [

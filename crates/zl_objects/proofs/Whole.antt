@@ -17,7 +17,8 @@ use Rattle.zl_table.proofs.MapEdits.{put_key, has_key-update, length-update}
 use Rattle.zl_objects.specs.declared.object.Body.{Body}
 use Rattle.zl_objects.specs.declared.object.Body.TheVariants as body
 use Rattle.zl_objects.specs.declared.object.Object.{Object}
-use Rattle.zl_objects.specs.Objects.{held_once_more, is_end_at, is_end_in, is_end_body, raised_changed, received, received_body, sent, sent_body, stopped, stopped_body, new_object}
+use Rattle.zl_objects.specs.Objects.{held_once_more, is_end_at, is_end_in, is_end_body, raised_changed, received, received_body}
+use Rattle.zl_objects.specs.Objects.{sent, sent_body, stopped, stopped_body, new_object}
 use Rattle.zl_objects.specs.Dying.{HasPeer, IsWhole}
 use Rattle.zl_objects.specs.Ports.{at_port, changed_port, is_port_at, reserved_in, reserved_of}
 use Rattle.zl_objects.specs.Waits.{HavePlaces, HavePlacesWith, waits_at, waits_for, waits_in, watched, unwatched}

@@ -25,7 +25,8 @@ use Rattle.zl_code.specs.Effects.{on_process, on_object, with_object, insert_all
 use Rattle.zl_code.specs.Starting.{is_created, created_process, started_with}
 use Rattle.zl_code.specs.Jobs.{is_within, process_killed, with_killed}
 use Rattle.zl_code.specs.Refusals.{refusal}
-use Rattle.zl_code.specs.CallTable.{Request, process_start, process_create, task_kill, name_of, effect, new_handles, receiver_of, entering_at, stored_by, gives_ok}
+use Rattle.zl_code.specs.CallTable.{Request, process_start, process_create, task_kill, name_of, effect}
+use Rattle.zl_code.specs.CallTable.{new_handles, receiver_of, entering_at, stored_by, gives_ok}
 use Rattle.zl_code.specs.CallTable.{gives_refused, awaited_by}
 use Rattle.zl_code.specs.Request.{Site}
 use Rattle.zl_code.specs.Calls.{Choice, Refused, WantsMemory, Values, CallBy, taken_handles, taken, replied, with_effect, after_refusal, after_ok, ok_outcome}

@@ -10,6 +10,7 @@ use Rattle.zl_objects.specs.declared.object.Body.TheVariants as body
 use Rattle.zl_objects.specs.declared.object.Object.{Object}
 use Rattle.zl_objects.specs.Objects.{has_living_child, is_child, is_job_at, is_job_body, is_job_in, keeper_of, stays_alone}
 use Rattle.zl_objects.specs.Seen.{is_above, is_in_job}
+use Rattle.zl_objects.proofs.Places.{seen_updated}
 
 -- ---- one object was changed
 
@@ -51,16 +52,7 @@ module _ (f : Object → Object) where
 
   -- where it stays a job, or none, the jobs are the same
   pub job_changed : ((o : Object) → is_job_body (f o).body ≡ is_job_body o.body) → (m : Map Object) (k j : ℕ) → is_job_at (update m k f) j ≡ is_job_at m j
-  job_changed same m k j =
-      ap is_job_in (get-update m k f j)
-      ∙ elim (cases_Bool (k == j)) as (λ _. is_job_in (if k == j then option_map f (get m j) else get m j) ≡ is_job_in (get m j)) [
-        | inl here ↦ rw here (by_object (get m j))
-        | inr apart ↦ rw apart refl
-      ]
-    where
-      by_object : (o : Option Object) → is_job_in (option_map f o) ≡ is_job_in o
-      by_object None = refl
-      by_object (Some o) = same o
+  job_changed same = seen_updated is_job_in f same
 
 -- its body stays
 module _ (f : Object → Object) (same : (o : Object) → (f o).body ≡ o.body) where

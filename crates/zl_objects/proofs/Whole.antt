@@ -22,7 +22,7 @@ use Rattle.zl_objects.specs.Objects.{sent, sent_body, stopped, stopped_body, new
 use Rattle.zl_objects.specs.Dying.{HasPeer, IsWhole}
 use Rattle.zl_objects.specs.Ports.{at_port, changed_port, is_port_at, reserved_in, reserved_of}
 use Rattle.zl_objects.specs.Waits.{HavePlaces, HavePlacesWith, waits_at, waits_for, waits_in, watched, unwatched}
-use Rattle.zl_objects.proofs.Places.{places_made, places_put, places_taken, places_unwatched, places_updated, places_used}
+use Rattle.zl_objects.proofs.Places.{places_made, places_put, places_taken, places_unwatched, places_updated, places_used, seen_updated}
 use Rattle.zl_objects.proofs.ByKoid.{inserted, entry_inserted, looked_up, written, written_back}
 
 pub none_whole : (m : Map Object) (next room : ℕ) (d : List ℕ) → m ≡ [] → d ≡ [] → IsWhole None m next d room
@@ -35,16 +35,7 @@ none_whole m next room d none empty =
 module _ (f : Object → Object) (ends : (o : Object) → is_end_body (f o).body ≡ is_end_body o.body)
     (peer : (m : Map Object) (next : ℕ) (o : Object) → HasPeer m next o.body → HasPeer m next (f o).body) where
   end_updated : (m : Map Object) (k j : ℕ) → is_end_at (update m k f) j ≡ is_end_at m j
-  end_updated m k j =
-      ap is_end_in (get-update m k f j)
-      ∙ elim (cases_Bool (k == j)) as (λ _. is_end_in (if k == j then option_map f (get m j) else get m j) ≡ is_end_in (get m j)) [
-        | inl here ↦ rw here (by_object (get m j))
-        | inr apart ↦ rw apart refl
-      ]
-    where
-      by_object : (o : Option Object) → is_end_in (option_map f o) ≡ is_end_in o
-      by_object None = refl
-      by_object (Some o) = ends o
+  end_updated = seen_updated is_end_in f ends
 
   still : (m : Map Object) (k next : ℕ) (b : Body) → HasPeer m next b → HasPeer (update m k f) next b
   still m k next (body.ChannelEnd p queue) has = (has.0, λ there. end_updated m k p ∙ has.1 (sym (has_key-update m k f p) ∙ there))

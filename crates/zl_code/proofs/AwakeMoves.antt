@@ -1,13 +1,11 @@
 -- Where nothing is due, nothing is due either once a process that isn't blocked has another Cpu.
-use Rattle.zl_code.proofs.Common.{◌≡◌, ℕ, Bool, true, false, ◌&&◌, ◌==◌, not, List, [], ◌∷◌, map, refl, ap, ◌∙◌, Option, Some, None, arith, nat_tests, or_parts}
-use Rattle.zl_code.proofs.Common.{list_any, filter, fold, option_map, if◌then◌else◌, get-update, get, put, update, each, Map, World, Cpu, answered, Process}
-use Rattle.zl_code.proofs.Common.{State, Ready, Blocked, Object, Body, PortBody, JobBody, ProcessBody, Packet, is_process, state_passes}
-use Rattle.zl_code.proofs.Common.{lives, active, has_child_job, has_child_process, holds, fired, made_ready, woken, wakes, on_process, meets, SignalOf}
-use Rattle.zl_code.proofs.Common.{PacketAt, body_with_packets, with_body, woken_by_first, woken_by, woken_at_port, woken_from, woken_if_there}
-use Rattle.std.specs.Prelude.{bit_or}
+use Rattle.zl_code.proofs.Common.{Blocked, Body, Bool, Cpu, JobBody, List, Map, None, Object, Option, Packet, PacketAt, PortBody, Process, ProcessBody, Ready}
+use Rattle.zl_code.proofs.Common.{SignalOf, Some, State, Wait, World, [], active, answered, ap, arith, bit_or, body_with_packets, each, false, filter, fired}
+use Rattle.zl_code.proofs.Common.{fold, get, get-update, has_child_job, has_child_process, holds, if◌then◌else◌, is_process, is_process_of, list_any, lives}
+use Rattle.zl_code.proofs.Common.{made_ready, map, meets, nat_tests, not, on_process, option_map, or_parts, put, refl, state_passes, true, update, wakes}
+use Rattle.zl_code.proofs.Common.{with_body, woken, woken_at_port, woken_by, woken_by_first, woken_from, woken_if_there, ℕ, ◌&&◌, ◌==◌, ◌∙◌, ◌∷◌, ◌≡◌}
 use Rattle.zl_rights.specs.Numbers.{TERMINATED, NO_JOBS, NO_PROCESSES}
-use Rattle.zl_rights.specs.World.{Wait}
-use Rattle.zl_rights.specs.Signals.{active_of, implied, signal_if, has_ended, is_process_of}
+use Rattle.zl_rights.specs.Signals.{active_of, implied, signal_if, has_ended}
 use Rattle.zl_rights.specs.Wakes.{packet_of}
 
 -- ---- two changes of a map at two keys

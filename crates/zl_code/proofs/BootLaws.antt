@@ -1,20 +1,16 @@
 -- A boot makes a world or comes to a first fault, never both, whichever values new handles get.
-use Rattle.zl_code.proofs.Common.{on_object, update, body_in, is_process, lives, state_passes, list_any, has_child_job, has_child_process, ◌&&◌, Bool}
-use Rattle.zl_code.proofs.Common.{if◌then◌else◌, ◌≡◌, ◌<◌, ◌≤◌, ◌+◌, ◌⊎◌, ◌==◌, ℕ, zero, suc, true, false, cond, List, [], ◌∷◌, take, length, refl, sym, ap}
-use Rattle.zl_code.proofs.Common.{◌∙◌, Option, Some, None, inl, inr, IsTrue, arith, slice_get, nat_lt, cases_lt, length-map, none-some, same_Some, Map, put}
-use Rattle.zl_code.proofs.Common.{World, Body, ChannelEnd, EventBody, PortBody, ProcessBody, Library, with_object, boot_fault, boot_effect, may_boot, Boots}
-use Rattle.zl_code.proofs.Common.{IsBoot, FirstFault, at_statement, at_limit, MOST_ITEMS, origin, map, and_from, and_parts, nat_tests, subst, false≢true}
-use Rattle.zl_code.proofs.Common.{cases_Bool, eqb-true, get, has_key, Process, may_get, process_with, get-put, settled_in, keys_of, Settles-exists}
-use Rattle.zl_code.proofs.Common.{Settles-unique, may_get_all, IsBooted, handles_given, values_given, gives_no_handle, created_process, list_all}
-use Rattle.zl_code.proofs.Common.{condition_number, Program}
-use Rattle.zl_rights.specs.declared.entry.Entry.{Entry}
-use Rattle.zl_code.specs.declared.boot.Statement.{Statement}
+use Rattle.zl_code.proofs.Common.{Body, Bool, BootCause, Boots, ChannelEnd, Entry, EventBody, FirstFault, IsBoot, IsBooted, IsTrue, Library, List, MOST_ITEMS}
+use Rattle.zl_code.proofs.Common.{Map, None, Option, PortBody, Process, ProcessBody, Program, Settles-exists, Settles-unique, Some, Statement, World, []}
+use Rattle.zl_code.proofs.Common.{and_from, and_parts, ap, arith, at_limit, at_statement, body_in, boot_effect, boot_fault, cases_Bool, cases_lt, cond}
+use Rattle.zl_code.proofs.Common.{condition_number, created_process, eqb-true, false, false≢true, get, get-put, gives_no_handle, handles_given, has_child_job}
+use Rattle.zl_code.proofs.Common.{has_child_process, has_key, if◌then◌else◌, inl, inr, is_job_below, is_process, is_process_of, job_within, keys_of}
+use Rattle.zl_code.proofs.Common.{lacks_need, length, length-map, list_all, list_any, lives, map, may_boot, may_get, may_get_all, nat_lt, nat_tests}
+use Rattle.zl_code.proofs.Common.{none-some, on_object, origin, policy_changed, process_with, put, refl, same_Some, setting, settled_in, slice_get}
+use Rattle.zl_code.proofs.Common.{state_passes, subst, suc, sym, take, true, update, values_given, with_object, zero, ℕ, ◌&&◌, ◌+◌, ◌<◌, ◌==◌, ◌∙◌, ◌∷◌, ◌≡◌}
+use Rattle.zl_code.proofs.Common.{◌≤◌, ◌⊎◌}
 use Rattle.zl_code.specs.declared.boot.Statement.TheVariants as statement
-use Rattle.zl_code.specs.declared.boot.BootCause.{BootCause}
 use Rattle.zl_code.specs.declared.boot.BootCause.TheVariants as cause
-use Rattle.zl_rights.specs.Signals.{is_job_below, is_process_of}
-use Rattle.zl_code.specs.Boot.{setting}
-use Rattle.zl_code.specs.Jobs.{is_allowing, job_within, lacks_need, policy_changed}
+use Rattle.zl_code.specs.Jobs.{is_allowing}
 use Rattle.zl_code.specs.Tests.{policy_in}
 use Rattle.zl_rights.specs.declared.policy.Action.TheVariants as action
 use Rattle.std.specs.Prelude.{not, unwrap_or}

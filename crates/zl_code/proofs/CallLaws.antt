@@ -1,29 +1,23 @@
 -- What each call says where it isn't refused: its new handles have room, and it is made of these changes.
-use Rattle.zl_code.proofs.Common.{◌==◌, ◌<◌, All, Body, ChannelEnd, EventBody, IsSound, IsTrue, Library, List, Map, None, Object, PortBody, Process, Ready}
-use Rattle.zl_code.proofs.Common.{Request, Some, World, [], and_from, ap, arith, cases_Bool, chan_create, chan_read_etc, chan_write, copy_of, dup, effect}
-use Rattle.zl_code.proofs.Common.{entry_at, eq-eqb, event_create, examined, false, first_some, get, handle_operands, handles_to, has_koids, has_room, inl, inr}
-use Rattle.zl_code.proofs.Common.{insert_all, is_some, kind_of, queue_of, leb-true, length, listed, may_choose, may_get, may_get_all, nat_le, new_handles, not}
-use Rattle.zl_code.proofs.Common.{object_at, on_object, operand, refl, refusal, remove_all, replace, row_of, runs, same_Some, signal, subst, sym, taken_handles}
-use Rattle.zl_code.proofs.Common.{true, with_effect, with_object, without, ℕ, ◌+◌, ◌^◌, ◌∙◌, ◌∷◌, ◌≡◌, ◌≤◌, not-false, or_parts, new_entry, object_changed}
-use Rattle.zl_code.proofs.Common.{gets_all, true≢false, false≢true, body_of, HasPeer, is_port_there, is_empty, eqb-true, on_process, ◌==◌, drop, filter, takes}
-use Rattle.zl_code.proofs.Common.{◌++◌}
+use Rattle.zl_code.proofs.Common.{All, All-filter, Body, ChannelEnd, Entry, EventBody, HasPeer, IsSound, IsTrue, Library, List, Map, None, Object, PortBody}
+use Rattle.zl_code.proofs.Common.{Process, Ready, Request, Some, StandsBelow, WAIT, WRITE, World, [], and_from, ap, arith, body_of, cases_Bool, chan_create}
+use Rattle.zl_code.proofs.Common.{chan_read_etc, chan_write, choosing, copy_of, drop, dup, effect, entries_at, entry_at, eq-eqb, eqb-true, event_create}
+use Rattle.zl_code.proofs.Common.{examined, false, false≢true, filter, filter_passes, first_handles, first_some, get, gets_all, handle_operands, handles_to}
+use Rattle.zl_code.proofs.Common.{has_koids, has_room, inl, inr, insert_all, is_by_handle, is_dead, is_empty, is_port_there, is_some, job_create}
+use Rattle.zl_code.proofs.Common.{job_set_policy, job_within, kind_of, leb-true, length, listed, may_choose, may_get, may_get_all, message_read, nat_le}
+use Rattle.zl_code.proofs.Common.{new_entry, new_handles, not, not-false, not-true, object_at, object_changed, on_object, on_process, operand, or_parts}
+use Rattle.zl_code.proofs.Common.{peer_at, policy_changed, port_cancel, port_create, port_poll, port_queue, port_wait, process_create, process_start}
+use Rattle.zl_code.proofs.Common.{queue_at, queue_of, receiver_of, refl, refusal, registered, remove_all, replace, row_of, runs, same_Some, setting_of}
+use Rattle.zl_code.proofs.Common.{signal, signal_peer, storing, subst, sym, taken_handles, takes, task_kill, true, true≢false, user_packet, wait_async}
+use Rattle.zl_code.proofs.Common.{with_effect, with_killed, with_object, without, without_keyed, without_waits, ℕ, ◌++◌, ◌+◌, ◌<◌, ◌==◌, ◌^◌, ◌∙◌, ◌∷◌, ◌≡◌}
+use Rattle.zl_code.proofs.Common.{◌≤◌}
 use Rattle.zl_rights.specs.declared.kind.Kind.TheVariants as kind
-use Rattle.zl_rights.specs.declared.entry.Entry.{Entry}
 use Rattle.zl_rights.specs.declared.status.Status.TheVariants as status
-use Rattle.zl_rights.specs.Numbers.{WAIT, WRITE}
-use Rattle.zl_rights.specs.Packets.{is_from, user_packet}
-use Rattle.zl_code.specs.CallTable.{choosing, receiver_of, signal_peer, wait_async, port_create, port_queue, port_wait, port_poll, port_cancel, process_create}
-use Rattle.zl_code.specs.CallTable.{process_start, task_kill, job_create, job_set_policy}
-use Rattle.zl_code.specs.Jobs.{is_dead, job_within, policy_changed, with_killed}
-use Rattle.zl_code.specs.Sound.{StandsBelow}
-use Rattle.zl_rights.specs.Policies.{setting_of}
+use Rattle.zl_rights.specs.Packets.{is_from}
 use Rattle.zl_code.proofs.Killing.{childless}
-use Rattle.zl_code.specs.Waiting.{source_at, wait_of, registered, without_keyed, is_by_handle}
-use Rattle.std.proofs.lemmas.Bool.{not-true}
-use Rattle.std.proofs.lemmas.List.Elements.{All-filter, filter_passes}
-use Rattle.zl_code.specs.Effects.{message_read, storing, without_waits}
+use Rattle.zl_code.specs.Waiting.{source_at, wait_of}
 use Rattle.zl_code.specs.Local.{overwritten}
-use Rattle.zl_code.specs.Tests.{koid_in, entries_at, first_bytes, first_handles, peer_at, queue_at}
+use Rattle.zl_code.specs.Tests.{koid_in, first_bytes}
 use Rattle.zl_code.specs.Operands.{operand_of}
 use Rattle.zl_code.proofs.MapKept.{changed}
 use Rattle.zl_code.proofs.Changes.{AreUnmade, computes, message_comes, message_goes, signals_change, Changes, stays, changes, join, one, object_changes}

@@ -1,13 +1,11 @@
 -- The list of all calls: each stands at its opcode, and the rows from 64 on are theirs.
-use Rattle.zl_code.proofs.Common.{◌≡◌, ◌<◌, ◌≤◌, ◌+◌, ◌-◌, ◌==◌, ◌&&◌, ◌++◌, ◌∙◌, ℕ, Bool, true, List, [], ◌∷◌, Option, None, Some, IfSome, IfNone, arith}
-use Rattle.zl_code.proofs.Common.{zero, suc, refl, sym, ap, subst, nat_lt, map, take, list_all, option_map, slice_get, and_parts, eq-eqb, eqb-true, ne_eqb}
-use Rattle.zl_code.proofs.Common.{ltb-true, Row, rows, row_among, row_of, call_row}
+use Rattle.zl_code.proofs.Common.{Bool, CallName, IfNone, IfSome, List, None, Option, Row, Some, [], and_parts, ap, arith, call_row, calls, eq-eqb, eqb-true}
+use Rattle.zl_code.proofs.Common.{list_all, ltb-true, map, nat_lt, ne_eqb, option_map, refl, row_among, row_of, rows, slice_get, subst, suc, sym, take, true}
+use Rattle.zl_code.proofs.Common.{zero, ℕ, ◌&&◌, ◌++◌, ◌+◌, ◌-◌, ◌<◌, ◌==◌, ◌∙◌, ◌∷◌, ◌≡◌, ◌≤◌}
 use Rattle.std.specs.Borrow.{Bor}
 use Rattle.std.specs.List.{HoldsAt}
 use Rattle.std.specs.Prelude.{MatchOption, length, option_copied}
 use Rattle.std.specs.Slice.{IsItemAt}
-use Rattle.zl_code.specs.Instructions.{calls}
-use Rattle.zl_code.specs.declared.history.CallName.{CallName}
 use Rattle.zl_code.specs.declared.history.CallName.TheVariants as call
 
 -- the opcodes of the calls ascend by one, from this one on

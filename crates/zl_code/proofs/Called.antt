@@ -1,7 +1,5 @@
 -- Calls by their registers, for worked examples.
-use Rattle.zl_code.proofs.Common.{ℕ, List, ◌++◌, take, replicate, seven, bytes_of}
-use Rattle.zl_code.specs.declared.instr.CallInstr.{CallInstr}
-use Rattle.zl_code.specs.declared.history.CallName.{CallName}
+use Rattle.zl_code.proofs.Common.{CallInstr, CallName, List, bytes_of, replicate, seven, take, ℕ, ◌++◌}
 use Rattle.zl_code.specs.declared.history.CallName.TheVariants as name
 
 -- the call with these registers and a number, 0 where it has none

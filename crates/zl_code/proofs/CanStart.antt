@@ -1,16 +1,11 @@
 -- What is known of the process of a statement that has no fault, and how it gets its handles.
-use Rattle.zl_code.proofs.Common.{◌+◌, ◌≡◌, ◌<◌, ◌≤◌, ◌&&◌, ◌||◌, ℕ, Bool, true, false, not, List, [], ◌∷◌, ◌++◌, length, refl, sym, arith, nat_tests, nat_le}
-use Rattle.zl_code.proofs.Common.{nat_lt, Option, Some, None, IsTrue, is_some, then_some, slice_get, and_parts, none-some, first_some, Map, get, Object, World}
-use Rattle.zl_code.proofs.Common.{Library, Process, body_in, boot_fault, has_default_rights, may_get, process_with, not-false, or_parts, may_get_all}
-use Rattle.zl_code.proofs.Common.{MOST_GRANTS, MOST_PROCESSES, MOST_KOIDS, process_with_all, is_job, all_known, handle_given, handles_given, may_start_with}
-use Rattle.zl_code.proofs.Common.{started_with, list_all}
-use Rattle.std.specs.Option.{option_to_list}
-use Rattle.zl_code.specs.Boot.{are_misfits, lacks_koids}
-use Rattle.zl_code.specs.Jobs.{lacks_need}
-use Rattle.zl_rights.specs.declared.entry.Entry.{Entry}
-use Rattle.zl_code.specs.declared.boot.Grant.{Grant}
+use Rattle.zl_code.proofs.Common.{Bool, BootCause, Entry, Grant, IsTrue, Library, List, MOST_GRANTS, MOST_KOIDS, MOST_PROCESSES, Map, None, Object, Option}
+use Rattle.zl_code.proofs.Common.{Process, Some, World, [], all_known, and_parts, arith, body_in, boot_fault, false, first_some, get, handle_given}
+use Rattle.zl_code.proofs.Common.{handles_given, has_default_rights, is_job, is_some, lacks_koids, lacks_need, length, list_all, may_get, may_get_all}
+use Rattle.zl_code.proofs.Common.{may_start_with, nat_le, nat_lt, nat_tests, none-some, not, not-false, option_to_list, or_parts, process_with}
+use Rattle.zl_code.proofs.Common.{process_with_all, refl, slice_get, started_with, sym, then_some, true, ℕ, ◌&&◌, ◌++◌, ◌+◌, ◌<◌, ◌||◌, ◌∷◌, ◌≡◌, ◌≤◌}
+use Rattle.zl_code.specs.Boot.{are_misfits}
 use Rattle.zl_code.specs.declared.boot.Statement.TheVariants as statement
-use Rattle.zl_code.specs.declared.boot.BootCause.{BootCause}
 use Rattle.zl_code.specs.declared.boot.BootCause.TheVariants as cause
 
 -- the process can start with its handles

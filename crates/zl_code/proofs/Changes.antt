@@ -1,21 +1,16 @@
 -- The elementary changes of which a step is made.
-use Rattle.zl_code.proofs.Common.{◌≡◌, ◌<◌, ◌≤◌, inl, inr, arith, ℕ, suc, Bool, true, false, not, ◌==◌, List, [], ◌∷◌, length, refl, ap, sym, subst, ◌∙◌}
-use Rattle.zl_code.proofs.Common.{IsTrue, Option, Some, None, eq-eqb, if◌then◌else◌, ℤ, option_map, cases_Bool, eqb-true, within, Map, get, put, update}
-use Rattle.zl_code.proofs.Common.{has_key, without, World, Cpu, answered, Process, State, Created, Ready, Blocked, Ended, Object, Body, ChannelEnd}
-use Rattle.zl_code.proofs.Common.{PortBody, is_process, state_passes, lives, runs, Settles, queue_of, fired, on_process, process_with}
-use Rattle.zl_code.proofs.Common.{process_without, ended, with_object, may_get, in_order, has_default_rights, names_its_object, HandlesAreSound}
-use Rattle.zl_code.proofs.Common.{HandlesAreNamed, raisable, IsSound, Packet, Message, All, list_all, get-put, get-update, on_object, process_ended}
-use Rattle.zl_code.proofs.Common.{object_changed, with_process, is_blocked, HasItsObject, packets_for, made_ready, with_body, body_with_packets, filter}
-use Rattle.zl_code.proofs.Common.{Awaited, HasPeer, body_of, entry_at, is_port_there, ◌++◌, ◌+◌, ne_eqb, length-append, append-nil, same_Some}
+use Rattle.zl_code.proofs.Common.{All, Awaited, Blocked, Body, Bool, ChannelEnd, Cpu, Created, Ended, Entry, HandlesAreNamed, HandlesAreSound, HasItsObject}
+use Rattle.zl_code.proofs.Common.{HasPeer, IsSound, IsTrue, List, Map, Message, None, Object, Option, Packet, PortBody, Process, Ready, Setting, Settles}
+use Rattle.zl_code.proofs.Common.{Some, StandsBelow, State, Wait, World, [], answered, ap, append-nil, arith, body_of, body_with_packets, cases_Bool, ended}
+use Rattle.zl_code.proofs.Common.{entry_at, eq-eqb, eqb-true, false, filter, fired, get, get-put, get-update, has_child, has_default_rights, has_key}
+use Rattle.zl_code.proofs.Common.{if◌then◌else◌, in_order, inl, inr, is_blocked, is_by_handle, is_job_below, is_port_there, is_process, is_process_of, length}
+use Rattle.zl_code.proofs.Common.{length-append, list_all, lives, made_ready, may_get, message_read, message_sent, names_its_object, ne_eqb, not}
+use Rattle.zl_code.proofs.Common.{object_changed, object_killed, on_object, on_process, option_map, packets_for, policy_changed, process_ended, process_with}
+use Rattle.zl_code.proofs.Common.{process_without, put, queue_of, raisable, refl, registered, runs, same_Some, state_passes, subst, suc, sym, true, update}
+use Rattle.zl_code.proofs.Common.{waiting, with_body, with_object, with_process, within, without, without_keyed, without_waits, ℕ, ℤ, ◌++◌, ◌+◌, ◌<◌, ◌==◌}
+use Rattle.zl_code.proofs.Common.{◌∙◌, ◌∷◌, ◌≡◌, ◌≤◌}
 use Rattle.std.proofs.lemmas.List.Elements.{filter-append}
-use Rattle.zl_rights.specs.declared.entry.Entry.{Entry}
-use Rattle.zl_code.specs.Effects.{message_sent, message_read, without_waits, waiting}
-use Rattle.zl_code.specs.Waiting.{is_by_handle, registered, without_keyed, body_packed, repacked}
-use Rattle.zl_rights.specs.World.{Wait}
-use Rattle.zl_rights.specs.Policies.{Setting}
-use Rattle.zl_rights.specs.Signals.{is_job_below, is_process_of}
-use Rattle.zl_code.specs.Jobs.{has_child, object_killed, policy_changed}
-use Rattle.zl_code.specs.Sound.{StandsBelow}
+use Rattle.zl_code.specs.Waiting.{body_packed, repacked}
 use Rattle.zl_code.proofs.MapKept.{in_order-put, in_order-update, in_order-each, Changed, same, changed, new, EachChanged, unchanged, changed_put}
 use Rattle.zl_code.proofs.MapKept.{changed_update, changed_each}
 

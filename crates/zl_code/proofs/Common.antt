@@ -59,3 +59,53 @@ unfoldable pub use Rattle.zl_rights.specs.Signals.{active, has_child_job, has_ch
 pub use Rattle.zl_rights.specs.Wakes.{body_with_packets, packet_values, packets_for, with_body, woken_at_port, woken_by, woken_by_first, woken_from}
 pub use Rattle.zl_rights.specs.Wakes.{woken_if_there}
 unfoldable pub use Rattle.zl_rights.specs.Wakes.{holds, made_ready, woken}
+pub use Rattle.std.proofs.lemmas.Bool.{not-true}
+pub use Rattle.std.proofs.lemmas.List.Concat.{flat_map-cons}
+pub use Rattle.std.proofs.lemmas.List.Elements.{All-append, All-filter, filter_passes}
+pub use Rattle.std.proofs.lemmas.Slice.Eq.{slice_eq-Decides}
+pub use Rattle.std.specs.Cmp.Lexicographic.{pointwise}
+pub use Rattle.std.specs.Option.{option_to_list}
+pub use Rattle.std.specs.Prelude.{bit_or}
+pub use Rattle.zl_code.specs.Boot.{lacks_koids, setting}
+pub use Rattle.zl_code.specs.CallTable.{awaited_by, choosing, ends_caller, entering_at, job_create, job_set_policy, outcome_of, port_cancel, port_create}
+pub use Rattle.zl_code.specs.CallTable.{port_poll, port_queue, port_wait, process_create, process_start, receiver_of, signal_peer, stored_by, task_kill}
+pub use Rattle.zl_code.specs.CallTable.{wait_async, wait_one, wait_poll}
+pub use Rattle.zl_code.specs.Effects.{body_after_read, body_with_message, message_read, message_sent, storing, waiting, without_waits}
+pub use Rattle.zl_code.specs.Headline.{KeepsBudget}
+pub use Rattle.zl_code.specs.Instructions.{calls, row_value}
+pub use Rattle.zl_code.specs.Jobs.{body_killed, body_with_policy, has_child, is_dead, is_deepest, job_within, lacks_need, object_killed, policy_changed}
+pub use Rattle.zl_code.specs.Jobs.{process_killed}
+unfoldable pub use Rattle.zl_code.specs.Jobs.{is_under_by, is_within, with_killed}
+pub use Rattle.zl_code.specs.Koids.{KeepsKoids}
+pub use Rattle.zl_code.specs.Refusals.{condition_of}
+pub use Rattle.zl_code.specs.Sound.{IsBelow, LivesAt, StandsBelow}
+pub use Rattle.zl_code.specs.Spells.{call_bytes}
+pub use Rattle.zl_code.specs.Tests.{entries_at, first_handles, parent_in, peer_at, queue_at, queue_in}
+pub use Rattle.zl_code.specs.Waiting.{is_by_handle, packets_in, registered, without_keyed}
+pub use Rattle.zl_code.specs.declared.boot.BootCause.{BootCause}
+pub use Rattle.zl_code.specs.declared.boot.Grant.{Grant}
+pub use Rattle.zl_code.specs.declared.boot.Statement.{Statement}
+pub use Rattle.zl_code.specs.declared.history.CallName.{CallName}
+pub use Rattle.zl_code.specs.declared.history.Outcome.{Outcome}
+pub use Rattle.zl_code.specs.declared.history.TraceItem.{TraceItem}
+pub use Rattle.zl_code.specs.declared.image.DecodeFault.{DecodeFault}
+pub use Rattle.zl_code.specs.declared.image.SlotArray.{SlotArray}
+pub use Rattle.zl_code.specs.declared.image.Start.{Start}
+pub use Rattle.zl_code.specs.declared.instr.CallInstr.{CallInstr}
+pub use Rattle.zl_code.specs.declared.instr.Instr.{Instr}
+pub use Rattle.zl_code.specs.declared.instr.LocalInstr.{LocalInstr}
+pub use Rattle.zl_rights.proofs.Narrowed.{narrowed_within}
+pub use Rattle.zl_rights.specs.LookUp.{granted}
+pub use Rattle.zl_rights.specs.Numbers.{DESTROY, KILLED, MANAGE_PROCESS, PEER_CLOSED, SIGNAL_PEER, TRANSFER, WAIT, WRITABLE, WRITE}
+pub use Rattle.zl_rights.specs.Packets.{user_packet}
+pub use Rattle.zl_rights.specs.Policies.{Setting}
+unfoldable pub use Rattle.zl_rights.specs.Policies.{setting_of}
+unfoldable pub use Rattle.zl_rights.specs.Policies.{policy_set, with_unset}
+pub use Rattle.zl_rights.specs.Settle.{has_handle}
+pub use Rattle.zl_rights.specs.Signals.{is_job_below, is_process_of}
+pub use Rattle.zl_rights.specs.World.{Wait}
+pub use Rattle.zl_rights.specs.declared.entry.Entry.{Entry}
+pub use Rattle.zl_rights.specs.declared.kind.Kind.{Kind}
+pub use Rattle.zl_rights.specs.declared.policy.Action.{Action}
+pub use Rattle.zl_rights.specs.declared.policy.Condition.{Condition}
+pub use Rattle.zl_rights.specs.declared.status.Status.{Status}

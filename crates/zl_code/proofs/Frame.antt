@@ -1,31 +1,23 @@
 -- The step of a process leaves the others alone unless it starts, wakes, kills or drops them, keeps what their tables name, and changes no policy of theirs.
-use Rattle.zl_code.proofs.Common.{HasItsObject, and_from, or_left, or_right, not, IsTrue, lives, runs, refusal, may_choose, may_get, may_get_all, update}
-use Rattle.zl_code.proofs.Common.{and_parts, has_child_job, has_child_process, eq-eqb, true≢false, false≢true, body_in, JobBody, ProcessBody, is_process}
-use Rattle.zl_code.proofs.Common.{entry_at, object_at, handle_operands, row_of, new_handles, ◌⊎◌, ne_eqb, created_process, ◌≡◌, ◌<◌, ◌≤◌, arith, inl, inr, ℕ}
-use Rattle.zl_code.proofs.Common.{Bool, true, false, ◌==◌, List, [], ◌∷◌, refl, ap, sym, subst, ◌∙◌, Option, Some, None, if◌then◌else◌, option_map, cases_Bool}
-use Rattle.zl_code.proofs.Common.{eqb-true, is_some, none-some, same_Some, meets, fold, get, World, Process, State, Created, Ready, Blocked, Gone, Ended}
-use Rattle.zl_code.proofs.Common.{Object, Body, PortBody, process_settled, state_without, Settles, without_others, wakes, fired, answered, active}
-use Rattle.zl_code.proofs.Common.{packet_values, with_body, woken_if_there, woken_from, woken_at_port, woken_by, woken_by_first, Awaited, SignalOf, PacketAt}
-use Rattle.zl_code.proofs.Common.{Packet, Library, Site, Request, Choice, Refused, WantsMemory, Values, CallBy, after_refusal, after_ok, ok_outcome, taken}
-use Rattle.zl_code.proofs.Common.{taken_handles, with_effect, effect, replied, on_process, on_object, with_object, insert_all, remove_all, process_with}
-use Rattle.zl_code.proofs.Common.{process_without, process_ended, ended, Next, Moves, AtCall, IsStuck, Acts, Step, next_for, IsSound, get-update, get-put}
-use Rattle.zl_code.proofs.Common.{get-each, get-where_key-in, get-where_key-out, where_key, ChannelEnd}
-use Rattle.zl_rights.specs.declared.entry.Entry.{Entry}
+use Rattle.zl_code.proofs.Common.{Acts, AtCall, Awaited, Blocked, Body, Bool, CallBy, ChannelEnd, Choice, Created, Ended, Entry, Gone, HasItsObject, IsSound}
+use Rattle.zl_code.proofs.Common.{IsStuck, IsTrue, JobBody, KILLED, Library, List, LivesAt, Moves, Next, None, Object, Option, Outcome, Packet, PacketAt}
+use Rattle.zl_code.proofs.Common.{PortBody, Process, ProcessBody, Ready, Refused, Request, Settles, SignalOf, Site, Some, StandsBelow, State, Step, TraceItem}
+use Rattle.zl_code.proofs.Common.{Values, WantsMemory, World, [], active, after_ok, after_refusal, and_from, and_parts, answered, ap, arith, awaited_by}
+use Rattle.zl_code.proofs.Common.{body_after_read, body_in, body_killed, body_with_message, cases_Bool, created_process, effect, ended, entering_at, entry_at}
+use Rattle.zl_code.proofs.Common.{eq-eqb, eqb-true, false, false≢true, fired, fold, get, get-each, get-put, get-update, get-where_key-in, get-where_key-out}
+use Rattle.zl_code.proofs.Common.{handle_operands, has_child, has_child_job, has_child_process, if◌then◌else◌, inl, inr, insert_all, is_job_below, is_process}
+use Rattle.zl_code.proofs.Common.{is_process_of, is_some, is_within, lives, may_choose, may_get, may_get_all, meets, ne_eqb, new_handles, next_for, none-some}
+use Rattle.zl_code.proofs.Common.{not, not-true, object_at, ok_outcome, on_object, on_process, option_map, option_to_list, or_left, or_right, packet_values}
+use Rattle.zl_code.proofs.Common.{parent_in, process_create, process_ended, process_killed, process_settled, process_start, process_with, process_without}
+use Rattle.zl_code.proofs.Common.{receiver_of, refl, refusal, remove_all, replied, row_of, runs, same_Some, state_without, stored_by, storing, subst, sym}
+use Rattle.zl_code.proofs.Common.{taken, taken_handles, task_kill, true, true≢false, update, waiting, wakes, where_key, with_body, with_effect, with_killed}
+use Rattle.zl_code.proofs.Common.{with_object, without_others, woken_at_port, woken_by, woken_by_first, woken_from, woken_if_there, ℕ, ◌<◌, ◌==◌, ◌∙◌, ◌∷◌}
+use Rattle.zl_code.proofs.Common.{◌≡◌, ◌≤◌, ◌⊎◌}
 use Rattle.zl_rights.specs.Wakes.{made_ready, woken}
 use Rattle.zl_rights.specs.declared.status.Status.TheVariants as status
-use Rattle.zl_code.specs.declared.history.Outcome.{Outcome}
 use Rattle.zl_code.specs.declared.history.Outcome.TheVariants as outcome
-use Rattle.zl_code.specs.declared.history.TraceItem.{TraceItem}
-use Rattle.zl_code.specs.CallTable.{awaited_by, close, entering_at, process_create, process_start, receiver_of, stored_by, task_kill}
+use Rattle.zl_code.specs.CallTable.{close}
 use Rattle.zl_code.specs.Starting.{started_with}
-use Rattle.zl_code.specs.Jobs.{body_killed, has_child, is_within, process_killed, with_killed}
-use Rattle.zl_code.specs.Sound.{LivesAt, StandsBelow}
-use Rattle.zl_code.specs.Tests.{parent_in}
-use Rattle.zl_rights.specs.Numbers.{KILLED}
-use Rattle.zl_rights.specs.Signals.{is_job_below, is_process_of}
-use Rattle.std.specs.Option.{option_to_list}
-use Rattle.std.proofs.lemmas.Bool.{not-true}
-use Rattle.zl_code.specs.Effects.{body_after_read, body_with_message, storing, waiting}
 use Rattle.zl_code.specs.Frame.{OthersMake, left_alone, woken as is_woken, was_started, was_killed, dropped, LeavesOthers, HasLiving, IsWithin, itself, below}
 use Rattle.zl_code.specs.Frame.{policy_of}
 use Rattle.zl_code.proofs.Changes.{ObjectChange, signals_change, packets_change, message_comes, message_goes, policy_changes, dies, Change, kept}

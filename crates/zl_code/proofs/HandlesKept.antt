@@ -1,13 +1,10 @@
 -- Handles stay sound: at places of their own, with no right beyond the defaults of their kinds.
-use Rattle.zl_code.proofs.Common.{◌≡◌, ℕ, Bool, true, List, Message, Body, ChannelEnd, JobBody, Option, ◌∷◌, and_from, and_parts, list_all-append, not, ◌==◌}
-use Rattle.zl_code.proofs.Common.{[], refl, IsTrue, Some, list_all, none-some, Map, get, put, without, where_key, World, Process, Object, process_settled}
-use Rattle.zl_code.proofs.Common.{Settles, without_others, queue_of, in_order, has_default_rights, HandlesAreSound}
-use Rattle.zl_rights.specs.declared.entry.Entry.{Entry}
+use Rattle.zl_code.proofs.Common.{Body, Bool, ChannelEnd, Entry, HandlesAreSound, IsTrue, JobBody, List, Map, Message, Object, Option, Process, Setting}
+use Rattle.zl_code.proofs.Common.{Settles, Some, World, [], and_from, and_parts, body_after_read, body_killed, body_with_message, body_with_policy, get}
+use Rattle.zl_code.proofs.Common.{has_default_rights, in_order, list_all, list_all-append, none-some, not, process_settled, put, queue_of, refl, true}
+use Rattle.zl_code.proofs.Common.{where_key, without, without_others, ℕ, ◌==◌, ◌∷◌, ◌≡◌}
 use Rattle.zl_code.proofs.MapKept.{in_order-put, in_order-where_key, in_order-each, each_put, each_where_key, changed, changed_each, each_changed}
 use Rattle.zl_code.proofs.Changes.{ObjectChange, signals_change, packets_change, message_comes, message_goes, policy_changes, dies, Change, table_kept}
-use Rattle.zl_rights.specs.Policies.{Setting}
-use Rattle.zl_code.specs.Effects.{body_with_message, body_after_read}
-use Rattle.zl_code.specs.Jobs.{body_killed, body_with_policy}
 
 record IsFineTable (m : Map Entry) : Type 0 where
   order : IsTrue (in_order m)

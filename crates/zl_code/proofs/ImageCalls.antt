@@ -1,17 +1,14 @@
 -- A system call: its 16 bytes have no fault, and it is read from them again.
-use Rattle.zl_code.proofs.Common.{◌≡◌, ℕ, ◌+◌, Bool, true, false, List, [], ◌∷◌, ◌++◌, length, take, drop, Some, None, ◌==◌, refl, sym, ap, ◌∙◌}
-use Rattle.zl_code.proofs.Common.{arith, nat_lt, slice_index, list_all, option_map, if◌then◌else◌, and_parts, eqb-true, length-append}
-use Rattle.zl_code.proofs.Common.{layout_of, call_row, row_of, instr_fault, number_of, registers_at, reading_of}
-use Rattle.zl_code.proofs.Common.{names_registers, is_unused_zero, are_registers, fault_by}
+use Rattle.zl_code.proofs.Common.{Bool, CallInstr, CallName, IfSome, List, None, Reading, Some, [], and_from, and_parts, ap, are_registers, arith, bytes_of}
+use Rattle.zl_code.proofs.Common.{call_bytes, call_row, calls, drop, eq-eqb, eqb-true, false, fault_by, if◌then◌else◌, instr_fault, is_unused_zero, layout_of}
+use Rattle.zl_code.proofs.Common.{length, length-append, length-drop, list_all, names_registers, nat_lt, number_of, option_map, reading_of, refl}
+use Rattle.zl_code.proofs.Common.{registers_at, row_bytes, row_of, slice_index, subst, sym, take, take_all, true, ℕ, ◌++◌, ◌+◌, ◌==◌, ◌∙◌, ◌∷◌, ◌≡◌}
 use Rattle.std.proofs.Math.Seq.{take-append_seam, drop-append_seam, drop-append-add}
-use Rattle.zl_code.proofs.Common.{IfSome, subst, Reading, row_bytes, bytes_of, length-drop, take_all, and_from, eq-eqb}
 use Rattle.zl_code.proofs.ImageBytes.{IsBytes, bytes_of-number_at, parts_at, list_all-from_IsBytes}
 use Rattle.zl_code.proofs.ImageInstr.{IfSome-at, row_bytes-unused}
-use Rattle.zl_code.specs.Instructions.{calls, layout_in}
-use Rattle.zl_code.specs.Spells.{call_bytes, call_reading, is_call_in_range}
-use Rattle.zl_code.specs.declared.history.CallName.{CallName}
+use Rattle.zl_code.specs.Instructions.{layout_in}
+use Rattle.zl_code.specs.Spells.{call_reading, is_call_in_range}
 use Rattle.zl_code.specs.declared.history.CallName.TheVariants as name
-use Rattle.zl_code.specs.declared.instr.CallInstr.{CallInstr}
 
 -- ---- names and opcodes
 

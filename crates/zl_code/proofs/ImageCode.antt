@@ -1,7 +1,6 @@
 -- The pieces of an image, one after the other.
-use Rattle.zl_code.proofs.Common.{◌≡◌, ℕ, zero, suc, ◌+◌, ◌<◌, Bool, true, List, [], ◌∷◌, ◌++◌, length, get_or, take, map, Option, Some, None, refl, sym, ap}
-use Rattle.zl_code.proofs.Common.{◌∙◌, arith, list_all, and_from, map-append, take_more, list_all-append, first_some, map_more}
-use Rattle.zl_code.specs.declared.image.DecodeFault.{DecodeFault}
+use Rattle.zl_code.proofs.Common.{Bool, DecodeFault, List, None, Option, Some, [], and_from, ap, arith, first_some, get_or, length, list_all, list_all-append}
+use Rattle.zl_code.proofs.Common.{map, map-append, map_more, refl, suc, sym, take, take_more, true, zero, ℕ, ◌++◌, ◌+◌, ◌<◌, ◌∙◌, ◌∷◌, ◌≡◌}
 
 first_of-none : (fault : Option DecodeFault) (rest : List (Option DecodeFault)) → first_some (fault ∷ rest) ≡ None → (fault ≡ None) × (first_some rest ≡ None)
 first_of-none None rest h = (refl, h)

@@ -1,15 +1,12 @@
 -- The eight bytes of a declaration.
-use Rattle.zl_code.proofs.Common.{◌≡◌, ◌≢◌, ℕ, ◌<◌, ◌≤◌, Bool, true, false, List, [], ◌∷◌, ◌++◌, length, take, drop, Option, Some, None, ◌==◌, ◌&&◌, not, refl}
-use Rattle.zl_code.proofs.Common.{sym, ap, ◌∙◌, arith, slice_index, nat_lt, nat_le, bit_and, list_all, and_parts, and_from, eqb-true, ne_eqb, leb-true}
-use Rattle.zl_code.proofs.Common.{length-drop, take_all, then_some, bits, rights_of, within, number_of, number_at, bytes_of, start_bytes, slot_bytes}
-use Rattle.zl_code.proofs.Common.{is_start_in_range, is_slot_in_range, start_fault, slot_fault, kind_number, kind_byte, kind_at, rights_allowed, allows}
-use Rattle.zl_code.proofs.Common.{has_rights, has_length}
+use Rattle.zl_code.proofs.Common.{Bool, Kind, List, None, Option, SlotArray, Some, Start, [], allows, and_from, and_parts, ap, arith, bit_and, bits, bytes_of}
+use Rattle.zl_code.proofs.Common.{drop, eqb-true, false, has_length, has_rights, is_slot_in_range, is_start_in_range, kind_at, kind_byte, kind_number}
+use Rattle.zl_code.proofs.Common.{leb-true, length, length-drop, list_all, nat_le, nat_lt, ne_eqb, not, number_at, number_of, refl, rights_allowed, rights_of}
+use Rattle.zl_code.proofs.Common.{slice_index, slot_bytes, slot_fault, start_bytes, start_fault, sym, take, take_all, then_some, true, within, ℕ, ◌&&◌, ◌++◌}
+use Rattle.zl_code.proofs.Common.{◌<◌, ◌==◌, ◌∙◌, ◌∷◌, ◌≡◌, ◌≢◌, ◌≤◌}
 use Rattle.std.proofs.lemmas.Nat.{and_le_l}
-use Rattle.zl_rights.specs.declared.kind.Kind.{Kind}
 use Rattle.zl_rights.specs.declared.kind.Kind.TheVariants as kind
 use Rattle.zl_code.specs.declared.image.DecodeFault.TheVariants as faults
-use Rattle.zl_code.specs.declared.image.Start.{Start}
-use Rattle.zl_code.specs.declared.image.SlotArray.{SlotArray}
 use Rattle.zl_code.proofs.ImageBytes.{IsBytes, bytes_of-number_at, number_of-bytes_of, parts_at}
 
 pub has_rights_allowed : (bytes : List ℕ) (k : Option Kind) (b : Bool) → kind_at (slice_index bytes 0) ≡ Some k

@@ -1,10 +1,9 @@
 -- The header: its tests, and its 20 bytes.
-use Rattle.zl_code.proofs.Common.{◌≡◌, ℕ, zero, suc, ◌≤◌, Bool, true, false, cond, eqb, leb, List, [], ◌∷◌, ◌++◌, length, get_or, take, drop, Option, None}
-use Rattle.zl_code.proofs.Common.{◌==◌, not, refl, sym, ap, ◌∙◌, arith, slice_index, nat_le, nat_lt, starts_with, and_parts, leb-true, eqb-true, length-drop}
-use Rattle.zl_code.proofs.Common.{get_or-drop, then_some, first_some, Image, header_fault, needs_byte, number_at, bytes_of, ltb-false, le-ltb, header}
-use Rattle.zl_code.proofs.Common.{is_header_in_range, is_needs_byte, magic, count_at, starts_at, slots_at, length_at, is_raw_at, eq-eqb}
-use Rattle.std.specs.Cmp.Lexicographic.{pointwise}
-use Rattle.zl_code.specs.declared.image.DecodeFault.{DecodeFault}
+use Rattle.zl_code.proofs.Common.{Bool, DecodeFault, Image, List, None, Option, [], and_parts, ap, arith, bytes_of, cond, count_at, drop, eq-eqb, eqb}
+use Rattle.zl_code.proofs.Common.{eqb-true, false, first_some, get_or, get_or-drop, header, header_fault, is_header_in_range, is_needs_byte, is_raw_at}
+use Rattle.zl_code.proofs.Common.{le-ltb, leb, leb-true, length, length-drop, length_at, ltb-false, magic, nat_le, nat_lt, needs_byte, not, number_at}
+use Rattle.zl_code.proofs.Common.{pointwise, refl, slice_index, slots_at, starts_at, starts_with, suc, sym, take, then_some, true, zero, ℕ, ◌++◌, ◌==◌, ◌∙◌}
+use Rattle.zl_code.proofs.Common.{◌∷◌, ◌≡◌, ◌≤◌}
 use Rattle.zl_code.specs.declared.image.DecodeFault.TheVariants as faults
 use Rattle.zl_code.proofs.ImageBytes.{IsBytes, bytes_of-number_at, parts_at}
 

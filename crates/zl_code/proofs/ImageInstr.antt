@@ -1,11 +1,10 @@
 -- The 16 bytes of an instruction and what is read of them.
-use Rattle.zl_code.proofs.Common.{◌≡◌, ℕ, zero, suc, ◌≤◌, Bool, true, false, eqb, List, [], ◌∷◌, ◌++◌, length, take, drop, replicate, Option, Some, None, ◌==◌}
-use Rattle.zl_code.proofs.Common.{not, refl, sym, ap, subst, ◌∙◌, arith, slice_index, IfSome, list_all, and_parts, and_from, eqb-true, take_all, length-take}
-use Rattle.zl_code.proofs.Common.{length-drop, then_some, first_some, Layout, layout_of, Reading, reading_of, is_instr_in_range, are_registers, row_bytes}
-use Rattle.zl_code.proofs.Common.{seven, instr_fault, number_at, bytes_of, names_registers, is_ending_clear, is_unused_zero, ending_bytes, fault_by}
-use Rattle.zl_code.proofs.Common.{registers_at, eq-eqb}
+use Rattle.zl_code.proofs.Common.{Bool, DecodeFault, IfSome, Layout, List, None, Option, Reading, Some, [], and_from, and_parts, ap, are_registers, arith}
+use Rattle.zl_code.proofs.Common.{bytes_of, drop, ending_bytes, eq-eqb, eqb, eqb-true, false, fault_by, first_some, instr_fault, is_ending_clear}
+use Rattle.zl_code.proofs.Common.{is_instr_in_range, is_unused_zero, layout_of, length, length-drop, length-take, list_all, names_registers, not, number_at}
+use Rattle.zl_code.proofs.Common.{reading_of, refl, registers_at, replicate, row_bytes, seven, slice_index, subst, suc, sym, take, take_all, then_some, true}
+use Rattle.zl_code.proofs.Common.{zero, ℕ, ◌++◌, ◌==◌, ◌∙◌, ◌∷◌, ◌≡◌, ◌≤◌}
 use Rattle.zl_code.specs.declared.instr.Instr.TheVariants as instr
-use Rattle.zl_code.specs.declared.image.DecodeFault.{DecodeFault}
 use Rattle.zl_code.specs.declared.image.DecodeFault.TheVariants as faults
 use Rattle.zl_code.specs.declared.layout.Ending.{Ending}
 use Rattle.zl_code.specs.declared.layout.Ending.TheVariants as ending

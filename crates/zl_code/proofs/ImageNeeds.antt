@@ -1,8 +1,7 @@
 -- The byte of the needs.
-use Rattle.zl_code.proofs.Common.{◌≡◌, ℕ, ◌<◌, ◌/◌, ◌%◌, Bool, true, false, ◌==◌, ◌||◌, not, if◌then◌else◌, List, [], ◌∷◌, refl, ap, ◌∙◌, nat_lt, map}
-use Rattle.zl_code.proofs.Common.{and_parts, eqb-true, ltb-true, condition_number, is_among, needs_named, needs_value, needs_byte, are_needs, is_needs_byte}
-use Rattle.zl_code.proofs.Common.{ascend_from}
-use Rattle.zl_rights.specs.declared.policy.Condition.{Condition}
+use Rattle.zl_code.proofs.Common.{Bool, Condition, List, [], and_parts, ap, are_needs, ascend_from, condition_number, eqb-true, false, if◌then◌else◌}
+use Rattle.zl_code.proofs.Common.{is_among, is_needs_byte, ltb-true, map, nat_lt, needs_byte, needs_named, needs_value, not, refl, true, ℕ, ◌%◌, ◌/◌, ◌<◌}
+use Rattle.zl_code.proofs.Common.{◌==◌, ◌||◌, ◌∙◌, ◌∷◌, ◌≡◌}
 use Rattle.zl_rights.specs.declared.policy.Condition.TheVariants as condition
 use Rattle.zl_code.specs.declared.image.Needs.{Needs}
 use Rattle.zl_code.specs.Image.{need_if}

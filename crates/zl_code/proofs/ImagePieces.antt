@@ -1,10 +1,8 @@
 -- A list of bytes in pieces of one size.
-use Rattle.zl_code.proofs.Common.{◌≡◌, ℕ, zero, suc, ◌+◌, ◌-◌, ◌*◌, ◌/◌, ◌≤◌, Bool, true, List, [], ◌∷◌, ◌++◌, length, take, drop, map, Option, None, refl, ap}
-use Rattle.zl_code.proofs.Common.{◌∙◌, arith, append_assoc, list_all, flat_map, and_parts, length-drop, take_at, drop_at, first_some, pieces, drop-drop}
-use Rattle.zl_code.proofs.Common.{take_rest, length-append, take-append-drop}
+use Rattle.zl_code.proofs.Common.{Bool, DecodeFault, List, None, Option, [], and_parts, ap, append_assoc, arith, drop, drop-drop, drop_at, first_some}
+use Rattle.zl_code.proofs.Common.{flat_map, flat_map-cons, length, length-append, length-drop, list_all, map, pieces, refl, suc, take, take-append-drop}
+use Rattle.zl_code.proofs.Common.{take_at, take_rest, true, zero, ℕ, ◌*◌, ◌++◌, ◌+◌, ◌-◌, ◌/◌, ◌∙◌, ◌∷◌, ◌≡◌, ◌≤◌}
 use Rattle.std.specs.Simd.{first_chunks}
-use Rattle.std.proofs.lemmas.List.Concat.{flat_map-cons}
-use Rattle.zl_code.specs.declared.image.DecodeFault.{DecodeFault}
 
 -- ---- chunks
 

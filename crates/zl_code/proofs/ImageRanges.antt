@@ -1,11 +1,7 @@
 -- The ranges of an image, one by one, and of an image to which one thing is added.
-use Rattle.zl_code.proofs.Common.{◌≡◌, ℕ, ◌<◌, ◌≤◌, Bool, true, List, [], ◌∷◌, ◌++◌, length, refl, arith, nat_le, nat_lt, list_all, and_parts, and_from}
-use Rattle.zl_code.proofs.Common.{leb-true, ltb-true, le-leb, lt-ltb, Image, are_needs, is_in_range, is_start_in_range, is_slot_in_range, is_instr_in_range}
-use Rattle.zl_code.proofs.Common.{length-append}
-use Rattle.zl_rights.specs.declared.policy.Condition.{Condition}
-use Rattle.zl_code.specs.declared.image.Start.{Start}
-use Rattle.zl_code.specs.declared.image.SlotArray.{SlotArray}
-use Rattle.zl_code.specs.declared.instr.Instr.{Instr}
+use Rattle.zl_code.proofs.Common.{Bool, Condition, Image, Instr, List, SlotArray, Start, [], and_from, and_parts, are_needs, arith, is_in_range}
+use Rattle.zl_code.proofs.Common.{is_instr_in_range, is_slot_in_range, is_start_in_range, le-leb, leb-true, length, length-append, list_all, lt-ltb, ltb-true}
+use Rattle.zl_code.proofs.Common.{nat_le, nat_lt, refl, true, ℕ, ◌++◌, ◌<◌, ◌∷◌, ◌≡◌, ◌≤◌}
 use Rattle.zl_code.specs.declared.instr.Instr.TheVariants as instr
 use Rattle.zl_code.proofs.ImageCode.{list_all_push}
 

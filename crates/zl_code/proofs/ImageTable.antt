@@ -1,13 +1,10 @@
 -- Each instruction in turn: its 16 bytes have no fault, and it is read from them again.
-use Rattle.zl_code.proofs.Common.{◌≡◌, ℕ, Bool, true, List, [], ◌∷◌, length, Option, Some, None, ◌==◌, ◌&&◌, not, refl, ap, ◌∙◌, is_some}
-use Rattle.zl_code.proofs.Common.{slice_index, nat_lt, if◌then◌else◌, list_all, and_parts, ltb-true, eqb-true, Layout, layout_of}
-use Rattle.zl_code.proofs.Common.{row_of, local_parts, instr_fault, instr_bytes, bytes_of, number_of, number_at, is_instr_in_range, are_registers}
-use Rattle.zl_code.proofs.Common.{is_local_in_range, is_call_in_range, is_32_bits}
-use Rattle.zl_code.specs.declared.instr.Instr.{Instr}
+use Rattle.zl_code.proofs.Common.{Bool, CallInstr, Instr, Layout, List, LocalInstr, None, Option, Some, [], and_parts, ap, are_registers, bytes_of, eqb-true}
+use Rattle.zl_code.proofs.Common.{if◌then◌else◌, instr_bytes, instr_fault, is_32_bits, is_call_in_range, is_instr_in_range, is_local_in_range, is_some}
+use Rattle.zl_code.proofs.Common.{layout_of, length, list_all, local_parts, ltb-true, nat_lt, not, number_at, number_of, refl, row_of, slice_index, true, ℕ}
+use Rattle.zl_code.proofs.Common.{◌&&◌, ◌==◌, ◌∙◌, ◌∷◌, ◌≡◌}
 use Rattle.zl_code.specs.declared.instr.Instr.TheVariants as instr
-use Rattle.zl_code.specs.declared.instr.LocalInstr.{LocalInstr}
 use Rattle.zl_code.specs.declared.instr.LocalInstr.TheVariants as local
-use Rattle.zl_code.specs.declared.instr.CallInstr.{CallInstr}
 use Rattle.zl_code.proofs.ImageBytes.{number_of-bytes_of}
 use Rattle.zl_code.proofs.ImageCalls.{whole, length_whole, no_fault, layout_is, not_local, call_at, call_again}
 use Rattle.zl_code.proofs.ImageInstr.{instr_fault-unknown}

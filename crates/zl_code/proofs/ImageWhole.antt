@@ -1,11 +1,10 @@
 -- The bytes of a whole image.
-use Rattle.zl_code.proofs.Common.{◌≡◌, ℕ, ◌+◌, ◌*◌, Bool, true, false, cond, eqb, List, [], ◌∷◌, ◌++◌, length, drop, map, Option, Some, None, Result, Ok, Err}
-use Rattle.zl_code.proofs.Common.{◌⊎◌, inl, inr, IfOk, refl, sym, ap, ◌∙◌, arith, append-nil, nat_le, nat_lt, slice_index, list_all, flat_map, and_from, le-leb}
-use Rattle.zl_code.proofs.Common.{lt-ltb, length-map, first_some, Image, spelling, Spells, needs_byte, are_needs, is_in_range, is_start_in_range}
-use Rattle.zl_code.proofs.Common.{is_slot_in_range, is_instr_in_range, start_bytes, slot_bytes, instr_bytes, start_fault, slot_fault, instr_fault, header_fault}
-use Rattle.zl_code.proofs.Common.{first_fault, pieces, number_at, MatchResult, drop-drop, drop_all, header, start_pieces, slot_pieces, code_pieces, count_at}
-use Rattle.zl_code.proofs.Common.{starts_at, slots_at, is_raw_at, length-append}
-use Rattle.zl_code.specs.declared.image.DecodeFault.{DecodeFault}
+use Rattle.zl_code.proofs.Common.{Bool, DecodeFault, Err, IfOk, Image, List, MatchResult, None, Ok, Option, Result, Some, Spells, [], and_from, ap}
+use Rattle.zl_code.proofs.Common.{append-nil, are_needs, arith, code_pieces, cond, count_at, drop, drop-drop, drop_all, eqb, false, first_fault, first_some}
+use Rattle.zl_code.proofs.Common.{flat_map, header, header_fault, inl, inr, instr_bytes, instr_fault, is_in_range, is_instr_in_range, is_raw_at}
+use Rattle.zl_code.proofs.Common.{is_slot_in_range, is_start_in_range, le-leb, length, length-append, length-map, list_all, lt-ltb, map, nat_le, nat_lt}
+use Rattle.zl_code.proofs.Common.{needs_byte, number_at, pieces, refl, slice_index, slot_bytes, slot_fault, slot_pieces, slots_at, spelling, start_bytes}
+use Rattle.zl_code.proofs.Common.{start_fault, start_pieces, starts_at, sym, true, ℕ, ◌*◌, ◌++◌, ◌+◌, ◌∙◌, ◌∷◌, ◌≡◌, ◌⊎◌}
 use Rattle.zl_code.specs.declared.image.DecodeFault.TheVariants as faults
 use Rattle.zl_code.proofs.ImageBytes.{IsBytes, number_of-bytes_of}
 use Rattle.zl_code.proofs.ImageNeeds.{needs_at, needs_fit}

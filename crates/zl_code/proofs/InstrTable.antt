@@ -1,11 +1,10 @@
 -- The rows of the table, by opcode and by name.
-use Rattle.zl_code.proofs.Common.{◌≡◌, ◌≢◌, ℕ, ◌+◌, ◌<◌, ◌≤◌, Bool, true, false, ◌==◌, ◌&&◌, not, nat_lt, List, [], ◌∷◌, Option, Some, None, refl, ap, sym}
-use Rattle.zl_code.proofs.Common.{subst, ◌∙◌, inl, inr, arith, find, list_all, option_map, cases_Bool, and_parts, eqb-true, ltb-true, Row, row_of}
-use Rattle.zl_code.proofs.Common.{row_named, rows, row_among, eq-eqb, same_Some, length, length-map}
+use Rattle.zl_code.proofs.Common.{Bool, List, None, Option, Row, Some, [], and_parts, ap, arith, cases_Bool, eq-eqb, eqb-true, false, find, inl, inr, length}
+use Rattle.zl_code.proofs.Common.{length-map, list_all, ltb-true, nat_lt, not, option_map, pointwise, refl, row_among, row_named, row_of, row_value, rows}
+use Rattle.zl_code.proofs.Common.{same_Some, subst, sym, true, ℕ, ◌&&◌, ◌+◌, ◌<◌, ◌==◌, ◌∙◌, ◌∷◌, ◌≡◌, ◌≢◌, ◌≤◌}
 use Rattle.zl_code.proofs.Named.{passes, same_names, same_refl}
-use Rattle.zl_code.specs.Instructions.{layout, field_of, row_value}
+use Rattle.zl_code.specs.Instructions.{layout, field_of}
 use Rattle.zl_code.specs.declared.layout.Row.{Row as RowInCode}
-use Rattle.std.specs.Cmp.Lexicographic.{pointwise}
 
 -- the fact holds of each row
 abbrev Each : (Row → Type 0) → List Row → Type 0

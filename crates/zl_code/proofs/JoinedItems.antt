@@ -1,13 +1,11 @@
 -- A history tells of a process what the single steps tell that it stands for.
-use Rattle.zl_code.proofs.Common.{◌≡◌, ℕ, zero, suc, ◌-◌, ◌==◌, Bool, true, false, List, [], ◌∷◌, ◌++◌, replicate, refl, sym, ap, ◌∙◌, subst, Option, Some}
-use Rattle.zl_code.proofs.Common.{None, if◌then◌else◌, flat_map, pid_of, single, arith, nat_tests, nat_le}
+use Rattle.zl_code.proofs.Common.{Bool, KeepsBudget, List, None, Option, Some, TraceItem, [], ap, arith, false, flat_map, flat_map-cons, if◌then◌else◌}
+use Rattle.zl_code.proofs.Common.{nat_le, nat_tests, pid_of, refl, replicate, single, subst, suc, sym, true, zero, ℕ, ◌++◌, ◌-◌, ◌==◌, ◌∙◌, ◌∷◌, ◌≡◌}
 use Rattle.std.specs.Prelude.{IsSomeAnd, ◌↔◌}
 use Rattle.std.specs.List.{AllByRecursion}
-use Rattle.std.proofs.lemmas.List.Concat.{flat_map-cons}
-use Rattle.zl_code.specs.declared.history.TraceItem.{TraceItem}
 use Rattle.zl_code.specs.declared.history.TraceItem.TheVariants as item
 use Rattle.zl_code.specs.Image.{Image}
-use Rattle.zl_code.specs.Headline.{HasNoFault, EndsItself, IsNotStuck, GoesWell, KeepsBudget, executed, left_behind}
+use Rattle.zl_code.specs.Headline.{HasNoFault, EndsItself, IsNotStuck, GoesWell, executed, left_behind}
 
 -- ---- what is asked of each item, and is true of local instructions
 

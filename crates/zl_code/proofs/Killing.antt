@@ -1,15 +1,13 @@
 -- What stands below a killed job is killed with it: nothing that lives is left below it.
-use Rattle.zl_code.proofs.Common.{nat_tests, is_some, ne_eqb, get-put, with_object, body_of, ◌≡◌, ◌<◌, ◌≤◌, ◌+◌, arith, inl, inr, ℕ, zero, suc, Bool, true}
-use Rattle.zl_code.proofs.Common.{false, ◌==◌, ◌&&◌, ◌||◌, [], refl, ap, sym, ◌∙◌, subst, IsTrue, Option, Some, None, option_map, if◌then◌else◌, cases_Bool}
-use Rattle.zl_code.proofs.Common.{eqb-true, or_left, or_right, none-some, same_Some, true≢false, false≢true, Map, get, World, Process, State}
-use Rattle.zl_code.proofs.Common.{Ended, Gone, Object, Body, JobBody, ProcessBody, lives, body_in, IsSound, get-each}
+use Rattle.zl_code.proofs.Common.{Action, Body, Bool, Ended, Gone, IsSound, IsTrue, JobBody, KILLED, LivesAt, Map, None, Object, Option, Process, ProcessBody}
+use Rattle.zl_code.proofs.Common.{Some, StandsBelow, State, World, [], ap, arith, body_in, body_killed, body_of, cases_Bool, eqb-true, false, false≢true, get}
+use Rattle.zl_code.proofs.Common.{get-each, get-put, if◌then◌else◌, inl, inr, is_dead, is_deepest, is_job_below, is_process_of, is_some, is_under_by}
+use Rattle.zl_code.proofs.Common.{is_within, job_within, lives, nat_tests, ne_eqb, none-some, object_killed, option_map, or_left, or_right, parent_in}
+use Rattle.zl_code.proofs.Common.{process_killed, refl, same_Some, subst, suc, sym, true, true≢false, with_killed, with_object, zero, ℕ, ◌&&◌, ◌+◌, ◌<◌, ◌==◌}
+use Rattle.zl_code.proofs.Common.{◌||◌, ◌∙◌, ◌≡◌, ◌≤◌}
 use Rattle.std.proofs.lemmas.Bool.{or_cases}
-use Rattle.zl_rights.specs.Numbers.{KILLED}
-use Rattle.zl_rights.specs.Signals.{is_job_below, is_process_of}
-use Rattle.zl_rights.specs.declared.policy.Action.{Action}
-use Rattle.zl_code.specs.Tests.{parent_in}
-use Rattle.zl_code.specs.Jobs.{depth_in, is_dead, is_deepest, job_within, is_under_by, is_within, body_killed, object_killed, process_killed, with_killed}
-use Rattle.zl_code.specs.Sound.{LivesAt, IsSoundJob, StandsBelow}
+use Rattle.zl_code.specs.Jobs.{depth_in}
+use Rattle.zl_code.specs.Sound.{IsSoundJob}
 use Rattle.zl_code.proofs.Changes.{IsChildless}
 
 -- ---- the way up

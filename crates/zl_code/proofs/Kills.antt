@@ -1,9 +1,8 @@
 -- A kill is one change: of processes, of jobs and of the list of the blocked.
-use Rattle.zl_code.proofs.Common.{◌≡◌, inl, inr, arith, ℕ, suc, Bool, true, false, not, ◌==◌, List, [], ◌∷◌, length, refl, ap, sym, ◌∙◌, Option, Some, None}
-use Rattle.zl_code.proofs.Common.{if◌then◌else◌, option_map, cases_Bool, eqb-true, get, World, Process, State, Created, Ready, Blocked, Ended, Object}
-use Rattle.zl_code.proofs.Common.{is_process, state_passes, lives, IsSound, is_blocked, filter, true≢false, get-each}
-use Rattle.zl_rights.specs.Numbers.{KILLED}
-use Rattle.zl_code.specs.Jobs.{is_within, object_killed, process_killed, with_killed}
+use Rattle.zl_code.proofs.Common.{Blocked, Bool, Created, Ended, IsSound, KILLED, List, None, Object, Option, Process, Ready, Some, State, World, [], ap}
+use Rattle.zl_code.proofs.Common.{arith, cases_Bool, eqb-true, false, filter, get, get-each, if◌then◌else◌, inl, inr, is_blocked, is_process, is_within}
+use Rattle.zl_code.proofs.Common.{length, lives, not, object_killed, option_map, process_killed, refl, state_passes, suc, sym, true, true≢false, with_killed}
+use Rattle.zl_code.proofs.Common.{ℕ, ◌==◌, ◌∙◌, ◌∷◌, ◌≡◌}
 use Rattle.zl_code.proofs.MapKept.{in_order-each, Changed, same, changed, changed_each}
 use Rattle.zl_code.proofs.Changes.{IsChildless, ProcessChange, ends, IsNewProcess, ObjectChange, dies, IsNewObject, KeepsBlocked, awake, still, Change, alike}
 use Rattle.zl_code.proofs.Changes.{times}

@@ -1,13 +1,10 @@
 -- Handles on their way: those in a message, and those to both ends of a new channel.
-use Rattle.zl_code.proofs.Common.{All, All-cons, All-head, All-nil, All-tail, Body, HandlesAreNamed, HandlesAreSound, IsTrue, List, Map, None, Object, Option}
-use Rattle.zl_code.proofs.Common.{Some, World, [], and_from, and_parts, arith, body_in, cases_Bool, entry_at, eq-eqb, get, get-put, get-update}
-use Rattle.zl_code.proofs.Common.{has_default_rights, inl, inr, kind_of, list_all, names_its_object, ne_eqb, new_entry, object_at, put, queue_of, refl, subst}
-use Rattle.zl_code.proofs.Common.{sym, update, with_object, ℕ, ◌+◌, ◌==◌, ◌∙◌, ◌∷◌, ◌≡◌, Message, slice_index_or, ◌++◌, on_object}
-use Rattle.std.specs.Option.{option_to_list}
+use Rattle.zl_code.proofs.Common.{All, All-cons, All-head, All-nil, All-tail, Body, Entry, HandlesAreNamed, HandlesAreSound, IsTrue, List, Map, Message, None}
+use Rattle.zl_code.proofs.Common.{Object, Option, Some, World, [], and_from, and_parts, arith, body_in, cases_Bool, entries_at, entry_at, eq-eqb}
+use Rattle.zl_code.proofs.Common.{first_handles, get, get-put, get-update, has_default_rights, inl, inr, kind_of, list_all, message_read, message_sent}
+use Rattle.zl_code.proofs.Common.{names_its_object, ne_eqb, new_entry, object_at, on_object, option_to_list, put, queue_at, queue_in, queue_of, refl}
+use Rattle.zl_code.proofs.Common.{slice_index_or, subst, sym, update, with_object, ℕ, ◌++◌, ◌+◌, ◌==◌, ◌∙◌, ◌∷◌, ◌≡◌}
 use Rattle.zl_rights.specs.declared.kind.Kind.TheVariants as kind
-use Rattle.zl_rights.specs.declared.entry.Entry.{Entry}
-use Rattle.zl_code.specs.Effects.{message_sent, message_read}
-use Rattle.zl_code.specs.Tests.{entries_at, first_handles, queue_at, queue_in}
 use Rattle.zl_code.proofs.Changes.{MayBeSent}
 use Rattle.zl_code.proofs.Entering.{IsFine, default_rights, entry_is_fine}
 use Rattle.zl_code.proofs.NotReused.{sent_kind, read_kind}

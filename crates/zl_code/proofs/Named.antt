@@ -1,7 +1,6 @@
 -- What is found in a list by its name, and that nothing has the name where nothing is found.
-use Rattle.zl_code.proofs.Common.{◌≡◌, ◌≢◌, ◌==◌, ℕ, Bool, true, List, [], ◌∷◌, Option, None, Some, IfSome, IfNone, slice_get, find, zero, suc, refl, sym}
-use Rattle.zl_code.proofs.Common.{subst, eq-eqb, eqb-true, and_parts, cases_Bool, inl, inr}
-use Rattle.std.specs.Cmp.Lexicographic.{pointwise}
+use Rattle.zl_code.proofs.Common.{Bool, IfNone, IfSome, List, None, Option, Some, [], and_parts, cases_Bool, eq-eqb, eqb-true, find, inl, inr, pointwise}
+use Rattle.zl_code.proofs.Common.{refl, slice_get, subst, suc, sym, true, zero, ℕ, ◌==◌, ◌∷◌, ◌≡◌, ◌≢◌}
 
 pub same_names : (xs ys : List ℕ) → pointwise ◌==◌ xs ys ≡ true → xs ≡ ys
 same_names [] [] h = refl

@@ -1,16 +1,14 @@
 -- What handles name stays there, of the kind that they have.
-use Rattle.zl_code.proofs.Common.{◌≡◌, ◌<◌, ◌⊎◌, inl, inr, arith, ℕ, Bool, not, ◌||◌, ◌==◌, [], ◌∷◌, length, refl, ap, sym, ◌∙◌, IsTrue, Some, eq-eqb, is_some}
-use Rattle.zl_code.proofs.Common.{All, list_any, cases_Bool, eqb-true, and_from, or_left, or_right, none-some, same_Some, All-nil, All-cons, All-tail}
-use Rattle.zl_code.proofs.Common.{ChannelEnd, Map, get, without, where_key, World, Process, Object, Body, kind_of, is_process, runs, process_settled, Koids}
-use Rattle.zl_code.proofs.Common.{Settles, without_others, is_held, in_table, in_queue, has_living_child, queue_of, HasGivenKoids, names_its_object}
-use Rattle.zl_code.proofs.Common.{HandlesAreNamed, slice_index_or, Message, get-where_key-in, get-where_key-out, is_held-larger, IsLargestHeld}
+use Rattle.zl_code.proofs.Common.{All, All-append, All-cons, All-nil, All-tail, Body, Bool, ChannelEnd, Entry, HandlesAreNamed, HasGivenKoids, IsLargestHeld}
+use Rattle.zl_code.proofs.Common.{IsTrue, Koids, Map, Message, Object, Process, Settles, Some, World, [], and_from, ap, arith, body_after_read}
+use Rattle.zl_code.proofs.Common.{body_with_message, cases_Bool, eq-eqb, eqb-true, get, get-where_key-in, get-where_key-out, has_living_child, in_queue}
+use Rattle.zl_code.proofs.Common.{in_table, inl, inr, is_held, is_held-larger, is_process, is_some, kind_of, length, list_any, names_its_object, none-some}
+use Rattle.zl_code.proofs.Common.{not, or_left, or_right, process_settled, queue_of, refl, runs, same_Some, slice_index_or, sym, where_key, without}
+use Rattle.zl_code.proofs.Common.{without_others, ℕ, ◌<◌, ◌==◌, ◌||◌, ◌∙◌, ◌∷◌, ◌≡◌, ◌⊎◌}
 use Rattle.std.proofs.lemmas.List.Folds.{list_any_at}
-use Rattle.zl_rights.specs.declared.entry.Entry.{Entry}
 use Rattle.zl_code.proofs.MapKept.{Each, each_put, each_where_key, same, changed, new, changed_each, each_changed}
 use Rattle.zl_code.proofs.HandlesKept.{set_queue, killed_queue}
 use Rattle.zl_code.proofs.Changes.{ObjectChange, signals_change, packets_change, message_comes, message_goes, policy_changes, dies, Change, table_kept}
-use Rattle.zl_code.specs.Effects.{body_with_message, body_after_read}
-use Rattle.std.proofs.lemmas.List.Elements.{All-append}
 use Rattle.zl_code.proofs.NotReused.{same_kind}
 
 -- ---- one process and one object, where handles name objects of m

@@ -1,26 +1,17 @@
 -- What is known of a call that isn't refused: that none of its causes is there, and what its look-ups granted.
-use Rattle.zl_code.proofs.Common.{◌==◌, Body, Bool, ChannelEnd, HandlesAreNamed, HandlesAreSound, IsSound, IsTrue, Library, List, None, Object, Option}
-use Rattle.zl_code.proofs.Common.{PortBody, Process, Request, SIGNAL, Some, World, [], and_parts, answer_if, ap, bits, by_look_up, cases_Bool}
-use Rattle.zl_code.proofs.Common.{default_rights_of, entry_at, examined, false, first_some, get, handle_operands, handles_in, has_key, has_room, inl, inr}
-use Rattle.zl_code.proofs.Common.{is_some, kind_of, listed, none-some, not, object_at, operand, raisable, refl, refusal, replace, rights_of, row_of, same_Some}
-use Rattle.zl_code.proofs.Common.{signal, subst, sym, true, within, ℕ, ◌&&◌, ◌||◌, ◌∙◌, ◌∷◌, ◌≡◌, ⊤, not-false, or_parts, Packet, settable_of, by_policy}
-use Rattle.zl_code.proofs.Common.{true≢false, false≢true, body_in, body_of, HasPeer, IsSoundWait, slice_index_or, eqb-true, ◌==◌, is_end_if_there, takes}
-use Rattle.zl_code.proofs.Common.{if◌then◌else◌, Ok, Err}
+use Rattle.zl_code.proofs.Common.{Body, Bool, ChannelEnd, Entry, Err, HandlesAreNamed, HandlesAreSound, HasPeer, IsSound, IsSoundWait, IsTrue, Kind, Library}
+use Rattle.zl_code.proofs.Common.{List, None, Object, Ok, Option, Outcome, Packet, PortBody, Process, Request, SIGNAL, SIGNAL_PEER, Some, Status, Wait, World}
+use Rattle.zl_code.proofs.Common.{[], and_parts, answer_if, ap, bits, body_in, body_of, by_look_up, by_policy, cases_Bool, condition_of, default_rights_of}
+use Rattle.zl_code.proofs.Common.{entry_at, eqb-true, examined, false, false≢true, first_some, get, granted, handle_operands, handles_in, has_key, has_room}
+use Rattle.zl_code.proofs.Common.{if◌then◌else◌, inl, inr, is_by_handle, is_end_if_there, is_some, kind_of, listed, narrowed_within, none-some, not}
+use Rattle.zl_code.proofs.Common.{not-false, object_at, operand, or_parts, peer_at, raisable, refl, refusal, replace, rights_of, row_of, same_Some}
+use Rattle.zl_code.proofs.Common.{settable_of, signal, signal_peer, slice_index_or, subst, sym, takes, true, true≢false, within, ℕ, ⊤, ◌&&◌, ◌==◌, ◌||◌, ◌∙◌}
+use Rattle.zl_code.proofs.Common.{◌∷◌, ◌≡◌}
 use Rattle.zl_code.proofs.Changes.{AreUnmade}
 use Rattle.zl_rights.specs.declared.kind.Kind.TheVariants as kind
-use Rattle.zl_rights.specs.declared.entry.Entry.{Entry}
-use Rattle.zl_rights.specs.declared.status.Status.{Status}
 use Rattle.zl_rights.specs.declared.status.Status.TheVariants as status
-use Rattle.zl_rights.specs.LookUp.{granted}
-use Rattle.zl_rights.proofs.Narrowed.{narrowed_within}
-use Rattle.zl_code.specs.declared.history.Outcome.{Outcome}
-use Rattle.zl_rights.specs.declared.kind.Kind.{Kind}
-use Rattle.zl_rights.specs.Numbers.{SIGNAL_PEER, USER_SIGNALS}
-use Rattle.zl_code.specs.CallTable.{signal_peer}
-use Rattle.zl_code.specs.Waiting.{is_by_handle}
-use Rattle.zl_rights.specs.World.{Wait}
-use Rattle.zl_code.specs.Tests.{peer_at, peer_in}
-use Rattle.zl_code.specs.Refusals.{condition_of}
+use Rattle.zl_rights.specs.Numbers.{USER_SIGNALS}
+use Rattle.zl_code.specs.Tests.{peer_in}
 use Rattle.zl_code.proofs.Entering.{entry_is_fine}
 
 -- ---- what holds where a call isn't refused

@@ -1,27 +1,21 @@
 -- Each process runs a program of the library, in every world of a run from a boot world.
-use Rattle.zl_code.proofs.Common.{◌≡◌, ℕ, ℤ, Bool, true, false, not, ◌&&◌, ◌==◌, List, [], ◌∷◌, refl, sym, ◌∙◌, subst, Option, Some, None, IsTrue, is_some}
-use Rattle.zl_code.proofs.Common.{slice_get, option_map, if◌then◌else◌, none-some, same_Some, not-false, and_parts, fold, Map, get, update, each, has_key}
-use Rattle.zl_code.proofs.Common.{World, Process, State, Ready, Blocked, Ended, Object, Body, PortBody, Settles, without_others, process_settled, fired}
-use Rattle.zl_code.proofs.Common.{wakes, woken, made_ready, answered, meets, active, SignalOf, PacketAt, Awaited, Packet, with_body, woken_by_first, woken_by}
-use Rattle.zl_code.proofs.Common.{woken_at_port, woken_from, woken_if_there, packet_values, Library, Request, Site, Choice, Refused, WantsMemory, Values}
-use Rattle.zl_code.proofs.Common.{CallBy, refusal, listed, effect, with_effect, after_ok, after_refusal, ok_outcome, replied, taken, gives_ok}
-use Rattle.zl_code.proofs.Common.{gives_refused, taken_handles, STUCK, without, next_for, on_process, on_object, with_object, insert_all, remove_all}
-use Rattle.zl_code.proofs.Common.{process_with, process_without, process_ended, ended, lives, Next, Moves, AtCall, IsStuck, Acts, Step, pid_of, Runs, Boots}
-use Rattle.zl_code.proofs.Common.{IsBoot, boot_effect, boot_fault, origin, created_process, started_with, handles_given, process_with_all, get-update, get-each}
-use Rattle.zl_rights.specs.declared.entry.Entry.{Entry}
-use Rattle.zl_rights.specs.declared.status.Status.{Status}
+use Rattle.zl_code.proofs.Common.{Acts, AtCall, Awaited, Blocked, Body, Bool, Boots, CallBy, Choice, Ended, Entry, IsBoot, IsStuck, IsTrue, KILLED, Library}
+use Rattle.zl_code.proofs.Common.{List, Map, Moves, Next, None, Object, Option, Outcome, Packet, PacketAt, PortBody, Process, Ready, Refused, Request, Runs}
+use Rattle.zl_code.proofs.Common.{STUCK, Settles, SignalOf, Site, Some, State, Statement, Status, Step, TraceItem, Values, WantsMemory, World, [], active}
+use Rattle.zl_code.proofs.Common.{after_ok, after_refusal, and_parts, answered, awaited_by, boot_effect, boot_fault, created_process, each, effect, ended}
+use Rattle.zl_code.proofs.Common.{entering_at, false, fired, fold, get, get-each, get-update, gives_ok, gives_refused, handles_given, has_key, if◌then◌else◌}
+use Rattle.zl_code.proofs.Common.{insert_all, is_some, is_within, listed, lives, made_ready, meets, next_for, none-some, not, not-false, ok_outcome}
+use Rattle.zl_code.proofs.Common.{on_object, on_process, option_map, origin, packet_values, pid_of, process_create, process_ended, process_killed}
+use Rattle.zl_code.proofs.Common.{process_settled, process_start, process_with, process_with_all, process_without, receiver_of, refl, refusal, remove_all}
+use Rattle.zl_code.proofs.Common.{replied, same_Some, slice_get, started_with, stored_by, storing, subst, sym, taken, taken_handles, task_kill, true, update}
+use Rattle.zl_code.proofs.Common.{waiting, wakes, with_body, with_effect, with_killed, with_object, without, without_others, woken, woken_at_port, woken_by}
+use Rattle.zl_code.proofs.Common.{woken_by_first, woken_from, woken_if_there, ℕ, ℤ, ◌&&◌, ◌==◌, ◌∙◌, ◌∷◌, ◌≡◌}
 use Rattle.zl_rights.specs.declared.status.Status.TheVariants as status
 use Rattle.zl_code.specs.declared.boot.BootCause.TheVariants as cause
-use Rattle.zl_code.specs.declared.boot.Statement.{Statement}
 use Rattle.zl_code.specs.declared.boot.Statement.TheVariants as statement
-use Rattle.zl_code.specs.declared.history.Outcome.{Outcome}
 use Rattle.zl_code.specs.declared.history.Outcome.TheVariants as outcome
-use Rattle.zl_code.specs.declared.history.TraceItem.{TraceItem}
 use Rattle.zl_code.specs.Boot.{all_known, is_job}
-use Rattle.zl_code.specs.CallTable.{process_create, process_start, task_kill, awaited_by, receiver_of, entering_at, new_handles, stored_by}
-use Rattle.zl_code.specs.Effects.{storing, waiting}
-use Rattle.zl_code.specs.Jobs.{is_within, process_killed, with_killed}
-use Rattle.zl_rights.specs.Numbers.{KILLED}
+use Rattle.zl_code.specs.CallTable.{new_handles}
 use Rattle.zl_code.specs.Programs.{HavePrograms}
 use Rattle.zl_code.specs.Tests.{object_at}
 use Rattle.zl_code.proofs.CanStart.{none_first}

@@ -1,11 +1,9 @@
 -- Statements that give handles, and their faults, by computation.
-use Rattle.zl_code.proofs.Common.{◌≡◌, ℕ, true, false, ◌++◌, List, [], ◌∷◌, refl, replicate, Some, None, World, Library, boot_fault, boot_effect, origin}
-use Rattle.zl_code.proofs.Common.{table_of}
+use Rattle.zl_code.proofs.Common.{Grant, Library, List, None, Some, Statement, World, [], boot_effect, boot_fault, false, origin, refl, replicate, table_of}
+use Rattle.zl_code.proofs.Common.{true, ℕ, ◌++◌, ◌∷◌, ◌≡◌}
 use Rattle.zl_rights.specs.declared.kind.Kind.TheVariants as kind
 use Rattle.zl_rights.specs.Numbers.{rights_of}
 use Rattle.zl_code.specs.declared.boot.BootCause.TheVariants as cause
-use Rattle.zl_code.specs.declared.boot.Grant.{Grant}
-use Rattle.zl_code.specs.declared.boot.Statement.{Statement}
 use Rattle.zl_code.specs.declared.boot.Statement.TheVariants as statement
 use Rattle.zl_code.specs.declared.instr.Instr.TheVariants as instr
 use Rattle.zl_code.specs.declared.instr.LocalInstr.TheVariants as local

@@ -1,18 +1,11 @@
 -- Which handles and policies a boot asks of a checked program, by computation in small worlds.
-use Rattle.zl_code.proofs.Common.{◌≡◌, ℕ, Bool, true, false, List, [], ◌∷◌, ◌++◌, refl, replicate, Option, Some, None, World, Library, Program, boot_fault}
-use Rattle.zl_code.proofs.Common.{boot_effect, origin, rights_of}
-use Rattle.zl_rights.specs.declared.kind.Kind.{Kind}
+use Rattle.zl_code.proofs.Common.{Action, Bool, BootCause, Condition, Grant, Kind, Library, List, None, Option, Program, Some, Start, Statement, World, []}
+use Rattle.zl_code.proofs.Common.{boot_effect, boot_fault, false, origin, refl, replicate, rights_of, true, ℕ, ◌++◌, ◌∷◌, ◌≡◌}
 use Rattle.zl_rights.specs.declared.kind.Kind.TheVariants as kind
-use Rattle.zl_rights.specs.declared.policy.Action.{Action}
 use Rattle.zl_rights.specs.declared.policy.Action.TheVariants as action
-use Rattle.zl_rights.specs.declared.policy.Condition.{Condition}
 use Rattle.zl_rights.specs.declared.policy.Condition.TheVariants as condition
-use Rattle.zl_code.specs.declared.boot.BootCause.{BootCause}
 use Rattle.zl_code.specs.declared.boot.BootCause.TheVariants as cause
-use Rattle.zl_code.specs.declared.boot.Grant.{Grant}
-use Rattle.zl_code.specs.declared.boot.Statement.{Statement}
 use Rattle.zl_code.specs.declared.boot.Statement.TheVariants as statement
-use Rattle.zl_code.specs.declared.image.Start.{Start}
 use Rattle.zl_code.specs.declared.instr.Instr.TheVariants as instr
 use Rattle.zl_code.specs.declared.instr.LocalInstr.TheVariants as local
 use Rattle.zl_code.proofs.Running.{computing}

@@ -1,13 +1,10 @@
 -- Statements that make events, ports and channels, and their limits, by computation.
-use Rattle.zl_code.proofs.Common.{◌≡◌, ℕ, List, [], ◌∷◌, refl, false, Some, None, World, Object, Body, ChannelEnd, EventBody, PortBody, JobBody, ProcessBody}
-use Rattle.zl_code.proofs.Common.{Library, IsBoot, boot_fault, boot_effect, may_boot, origin, settled_in, Settles-by, table_of}
-use Rattle.zl_rights.specs.declared.kind.Kind.{Kind}
+use Rattle.zl_code.proofs.Common.{Body, ChannelEnd, Entry, EventBody, Grant, IsBoot, JobBody, Kind, Library, List, None, Object, PortBody, ProcessBody}
+use Rattle.zl_code.proofs.Common.{Settles-by, Some, Statement, World, [], boot_effect, boot_fault, false, may_boot, origin, refl, settled_in, table_of, ℕ}
+use Rattle.zl_code.proofs.Common.{◌∷◌, ◌≡◌}
 use Rattle.zl_rights.specs.declared.kind.Kind.TheVariants as kind
-use Rattle.zl_rights.specs.declared.entry.Entry.{Entry}
 use Rattle.zl_rights.specs.Numbers.{rights_of}
 use Rattle.zl_code.specs.declared.boot.BootCause.TheVariants as cause
-use Rattle.zl_code.specs.declared.boot.Grant.{Grant}
-use Rattle.zl_code.specs.declared.boot.Statement.{Statement}
 use Rattle.zl_code.specs.declared.boot.Statement.TheVariants as statement
 use Rattle.zl_code.specs.declared.instr.Instr.TheVariants as instr
 use Rattle.zl_code.specs.declared.instr.LocalInstr.TheVariants as local

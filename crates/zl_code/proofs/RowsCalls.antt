@@ -1,17 +1,13 @@
 -- Each cause of each call, by computation in small worlds.
-use Rattle.zl_code.proofs.Common.{◌≡◌, ℕ, ◌+◌, ◌-◌, ◌^◌, ◌==◌, IsTrue, [], ◌∷◌, refl, Option, Some, None, true, false, pos, and_parts, eqb-true, option_map}
-use Rattle.zl_code.proofs.Common.{DUPLICATE, SIGNAL, SIGNALED, condition_number, has_key, World, Ended, kind_of, close, dup, event_create, signal, process_exit}
-use Rattle.zl_code.proofs.Common.{table_of, body_of, may_choose, effect, Choice, Refused, WantsMemory, Values, ok_outcome, SAME_RIGHTS, READABLE, TERMINATED}
-use Rattle.zl_code.proofs.Common.{negsuc, active}
-use Rattle.zl_rights.specs.declared.kind.Kind.{Kind}
+use Rattle.zl_code.proofs.Common.{Action, CallInstr, Choice, Condition, DUPLICATE, Ended, IsTrue, Kind, None, Option, READABLE, Refused, SAME_RIGHTS, SIGNAL}
+use Rattle.zl_code.proofs.Common.{SIGNALED, Some, TERMINATED, Values, WantsMemory, World, [], active, and_parts, body_of, close, condition_number, dup}
+use Rattle.zl_code.proofs.Common.{effect, eqb-true, event_create, false, has_key, kind_of, may_choose, negsuc, ok_outcome, option_map, pos, process_exit}
+use Rattle.zl_code.proofs.Common.{refl, signal, table_of, true, ℕ, ◌+◌, ◌-◌, ◌==◌, ◌^◌, ◌∷◌, ◌≡◌}
 use Rattle.zl_rights.specs.declared.kind.Kind.TheVariants as kind
 use Rattle.zl_rights.specs.declared.status.Status.TheVariants as status
-use Rattle.zl_rights.specs.declared.policy.Action.{Action}
 use Rattle.zl_rights.specs.declared.policy.Action.TheVariants as action
-use Rattle.zl_rights.specs.declared.policy.Condition.{Condition}
 use Rattle.zl_rights.specs.declared.policy.Condition.TheVariants as condition
 use Rattle.zl_code.specs.declared.instr.Instr.TheVariants as instr
-use Rattle.zl_code.specs.declared.instr.CallInstr.{CallInstr}
 use Rattle.zl_code.specs.declared.history.CallName.TheVariants as name
 use Rattle.zl_code.specs.declared.history.Outcome.TheVariants as outcome
 use Rattle.zl_code.specs.declared.history.TraceItem.TheVariants as item

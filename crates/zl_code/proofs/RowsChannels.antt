@@ -1,21 +1,17 @@
 -- Each cause of replace and of the calls on channels, by computation in small worlds.
-use Rattle.zl_code.proofs.Common.{◌≡◌, ℕ, ◌^◌, ◌-◌, List, [], ◌∷◌, refl, replicate, Option, Some, None, true, false, DUPLICATE, READ, READABLE, SAME_RIGHTS}
-use Rattle.zl_code.proofs.Common.{has_key, rights_of, active, Map, World, Object, ChannelEnd, EventBody, JobBody, ProcessBody, Process, get, replace}
-use Rattle.zl_code.proofs.Common.{chan_create, chan_write, chan_read_etc, table_of, body_of, refusal, may_choose, effect, Site, site, Choice, Refused}
-use Rattle.zl_code.proofs.Common.{WantsMemory, Values, condition_number, negsuc, Message}
-use Rattle.zl_rights.specs.Numbers.{PEER_CLOSED, TRANSFER, WRITE, WRITABLE}
-use Rattle.zl_rights.specs.World.{Wait}
-use Rattle.std.specs.Prelude.{bit_or, map}
+use Rattle.zl_code.proofs.Common.{CallName, ChannelEnd, Choice, DUPLICATE, Entry, EventBody, JobBody, List, Map, Message, None, Object, Option, PEER_CLOSED}
+use Rattle.zl_code.proofs.Common.{Process, ProcessBody, READ, READABLE, Refused, SAME_RIGHTS, Site, Some, TRANSFER, Values, WRITABLE, WRITE, Wait}
+use Rattle.zl_code.proofs.Common.{WantsMemory, World, [], active, bit_or, body_of, chan_create, chan_read_etc, chan_write, condition_number, effect, false}
+use Rattle.zl_code.proofs.Common.{get, has_key, may_choose, negsuc, queue_in, refl, refusal, replace, replicate, rights_of, site, table_of, true, ℕ, ◌-◌, ◌^◌}
+use Rattle.zl_code.proofs.Common.{◌∷◌, ◌≡◌}
+use Rattle.std.specs.Prelude.{map}
 use Rattle.zl_rights.specs.declared.kind.Kind.TheVariants as kind
 use Rattle.zl_rights.specs.declared.status.Status.TheVariants as status
 use Rattle.zl_rights.specs.declared.policy.Action.TheVariants as action
 use Rattle.zl_rights.specs.declared.policy.Condition.TheVariants as condition
-use Rattle.zl_rights.specs.declared.entry.Entry.{Entry}
-use Rattle.zl_code.specs.declared.history.CallName.{CallName}
 use Rattle.zl_code.specs.declared.history.CallName.TheVariants as name
 use Rattle.zl_code.specs.declared.history.Outcome.TheVariants as outcome
 use Rattle.zl_code.specs.declared.history.TraceItem.TheVariants as item
-use Rattle.zl_code.specs.Tests.{queue_in}
 use Rattle.zl_code.proofs.Running.{Acted, call_by, settle_by, computing}
 use Rattle.zl_code.proofs.RowsWords.{Refuses, Passes, world_of, process_of, event_with, FIRST_RIGHTS, times, told, after, last_of}
 

@@ -1,7 +1,6 @@
 -- The first fault of some bytes, by computation.
-use Rattle.zl_code.proofs.Common.{◌≡◌, ℕ, List, [], ◌∷◌, ◌++◌, refl, take, replicate, Some, None, slice_set, row_of, first_fault, header_fault, start_fault}
-use Rattle.zl_code.proofs.Common.{slot_fault, instr_fault, pieces}
-use Rattle.zl_code.specs.declared.image.DecodeFault.{DecodeFault}
+use Rattle.zl_code.proofs.Common.{DecodeFault, List, None, Some, [], first_fault, header_fault, instr_fault, pieces, refl, replicate, row_of, slice_set}
+use Rattle.zl_code.proofs.Common.{slot_fault, start_fault, take, ℕ, ◌++◌, ◌∷◌, ◌≡◌}
 use Rattle.zl_code.specs.declared.image.DecodeFault.TheVariants as fault
 
 -- an image without instructions: version 1, no mark, no memory, budget 1

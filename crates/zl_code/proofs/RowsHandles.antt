@@ -1,7 +1,7 @@
 -- Worlds whose handles are sound, and worlds whose handles aren't, by computation.
-use Rattle.zl_code.proofs.Common.{◌≡◌, ℕ, ◌+◌, ◌==◌, true, false, [], ◌∷◌, refl, sym, subst, ◌∙◌, IsTrue, Option, Some, None, inl, inr, cases_Bool, none-some}
-use Rattle.zl_code.proofs.Common.{same_Some, Map, get, World, Process, ChannelEnd, in_order, has_default_rights, HandlesAreSound, READ, true≢false}
-use Rattle.zl_rights.specs.declared.entry.Entry.{Entry}
+use Rattle.zl_code.proofs.Common.{ChannelEnd, Entry, HandlesAreSound, IsTrue, Map, None, Option, Process, READ, Some, World, [], cases_Bool, false, get}
+use Rattle.zl_code.proofs.Common.{has_default_rights, in_order, inl, inr, none-some, refl, same_Some, subst, sym, true, true≢false, ℕ, ◌+◌, ◌==◌, ◌∙◌, ◌∷◌}
+use Rattle.zl_code.proofs.Common.{◌≡◌}
 use Rattle.zl_code.proofs.RowsWords.{world_of, process_of, event_with, job_with, FIRST_RIGHTS}
 
 -- ---- rights

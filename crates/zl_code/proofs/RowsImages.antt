@@ -1,10 +1,9 @@
 -- The table of instructions, and images with declarations and messages, by computation.
-use Rattle.zl_code.proofs.Common.{◌≡◌, ℕ, zero, suc, ◌+◌, true, List, [], ◌∷◌, ◌++◌, map, length, refl, replicate, Some, None, nat_le, slice_set, false}
-use Rattle.zl_code.proofs.Common.{list_all, rights_of, Image, row_of, Spells, local_parts, first_fault, header_fault, start_fault, slot_fault, instr_fault}
-use Rattle.zl_code.proofs.Common.{pieces, rows}
+use Rattle.zl_code.proofs.Common.{DecodeFault, Image, List, None, Some, Spells, [], false, first_fault, header_fault, instr_fault, length, list_all}
+use Rattle.zl_code.proofs.Common.{local_parts, map, nat_le, pieces, refl, replicate, rights_of, row_of, rows, slice_set, slot_fault, start_fault, suc, true}
+use Rattle.zl_code.proofs.Common.{zero, ℕ, ◌++◌, ◌+◌, ◌∷◌, ◌≡◌}
 use Rattle.zl_rights.specs.declared.kind.Kind.TheVariants as kind
 use Rattle.zl_rights.specs.declared.policy.Condition.TheVariants as condition
-use Rattle.zl_code.specs.declared.image.DecodeFault.{DecodeFault}
 use Rattle.zl_code.specs.declared.image.DecodeFault.TheVariants as fault
 use Rattle.zl_code.specs.declared.instr.Instr.TheVariants as instr
 use Rattle.zl_code.specs.declared.instr.LocalInstr.TheVariants as local

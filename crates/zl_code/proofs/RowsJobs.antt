@@ -1,19 +1,15 @@
 -- Each cause of the calls on jobs and processes, by computation in small worlds.
-use Rattle.zl_code.proofs.Common.{◌≡◌, ℕ, ◌^◌, Bool, true, false, [], ◌∷◌, refl, replicate, Some, None, negsuc, get, Program, World, Map, Body, Created, Gone}
-use Rattle.zl_code.proofs.Common.{JobBody, ProcessBody, body_of, close, refusal, Request, Library, Choice, WantsMemory, Values}
-use Rattle.zl_rights.specs.Numbers.{MANAGE_JOB, MANAGE_PROCESS, default_rights_of, condition_number}
+use Rattle.zl_code.proofs.Common.{Action, Body, Bool, CallName, Choice, Condition, Created, Gone, JobBody, Library, MANAGE_PROCESS, Map, None, Outcome}
+use Rattle.zl_code.proofs.Common.{ProcessBody, Program, Request, Some, Values, WantsMemory, World, [], body_of, close, false, get, job_create, negsuc}
+use Rattle.zl_code.proofs.Common.{process_create, refl, refusal, replicate, true, ℕ, ◌^◌, ◌∷◌, ◌≡◌}
+use Rattle.zl_rights.specs.Numbers.{MANAGE_JOB, default_rights_of, condition_number}
 use Rattle.zl_rights.specs.declared.kind.Kind.TheVariants as kind
 use Rattle.zl_rights.specs.declared.status.Status.TheVariants as status
-use Rattle.zl_rights.specs.declared.policy.Action.{Action}
 use Rattle.zl_rights.specs.declared.policy.Action.TheVariants as action
-use Rattle.zl_rights.specs.declared.policy.Condition.{Condition}
 use Rattle.zl_rights.specs.declared.policy.Condition.TheVariants as condition
-use Rattle.zl_code.specs.declared.history.CallName.{CallName}
 use Rattle.zl_code.specs.declared.history.CallName.TheVariants as name
-use Rattle.zl_code.specs.declared.history.Outcome.{Outcome}
 use Rattle.zl_code.specs.declared.history.Outcome.TheVariants as outcome
 use Rattle.zl_code.specs.declared.history.TraceItem.TheVariants as item
-use Rattle.zl_code.specs.CallTable.{job_create, process_create}
 use Rattle.zl_code.specs.Request.{Site, site}
 use Rattle.zl_code.specs.Tests.{entry_at}
 use Rattle.zl_code.proofs.Running.{Acted, call_by, computing, settle_by}

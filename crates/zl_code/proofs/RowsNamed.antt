@@ -1,9 +1,8 @@
 -- Worlds whose handles name objects of their kinds, and worlds with a handle that doesn't, by computation.
-use Rattle.zl_code.proofs.Common.{◌≡◌, arith, ◌==◌, [], ◌∷◌, refl, ap, sym, subst, ◌∙◌, None, inl, inr, All, cases_Bool, none-some, same_Some, All-nil}
-use Rattle.zl_code.proofs.Common.{rights_of, Map, get, World, Process, Object, ChannelEnd, EventBody, kind_of, queue_of, names_its_object, HandlesAreNamed}
-use Rattle.zl_code.proofs.Common.{Message, All-cons}
+use Rattle.zl_code.proofs.Common.{All, All-cons, All-nil, ChannelEnd, Entry, EventBody, HandlesAreNamed, Map, Message, None, Object, Process, World, [], ap}
+use Rattle.zl_code.proofs.Common.{arith, cases_Bool, get, inl, inr, kind_of, names_its_object, none-some, queue_of, refl, rights_of, same_Some, subst, sym}
+use Rattle.zl_code.proofs.Common.{◌==◌, ◌∙◌, ◌∷◌, ◌≡◌}
 use Rattle.zl_rights.specs.declared.kind.Kind.TheVariants as kind
-use Rattle.zl_rights.specs.declared.entry.Entry.{Entry}
 use Rattle.zl_code.proofs.MapKept.{Each}
 use Rattle.zl_code.proofs.RowsWords.{world_of, process_of, event_with}
 

@@ -1,13 +1,11 @@
 -- Boot, its faults, and the run of a program that ends stuck, by computation.
-use Rattle.zl_code.proofs.Common.{◌≡◌, ℕ, arith, Bool, true, ◌&&◌, IsTrue, List, [], ◌∷◌, refl, replicate, map, take, Option, Some, None, not, is_some}
-use Rattle.zl_code.proofs.Common.{and_parts, World, Ready, Ended, Library, Choice, Refused, IsLegalHistory, IsBoot, Boots, FirstFault, at_statement, at_limit}
-use Rattle.zl_code.proofs.Common.{boot_fault, boot_effect, may_boot, origin, settled_in, Settles-by, started_process, negsuc}
+use Rattle.zl_code.proofs.Common.{Bool, Boots, Choice, Ended, FirstFault, IsBoot, IsLegalHistory, IsTrue, Library, List, None, Option, Ready, Refused}
+use Rattle.zl_code.proofs.Common.{Settles-by, Some, Statement, TraceItem, World, [], and_parts, arith, at_limit, at_statement, boot_effect, boot_fault}
+use Rattle.zl_code.proofs.Common.{is_some, map, may_boot, negsuc, not, origin, refl, replicate, settled_in, started_process, take, true, ℕ, ◌&&◌, ◌∷◌, ◌≡◌}
 use Rattle.zl_code.specs.declared.boot.BootCause.TheVariants as cause
-use Rattle.zl_code.specs.declared.boot.Statement.{Statement}
 use Rattle.zl_code.specs.declared.boot.Statement.TheVariants as statement
 use Rattle.zl_code.specs.declared.instr.Instr.TheVariants as instr
 use Rattle.zl_code.specs.declared.instr.LocalInstr.TheVariants as local
-use Rattle.zl_code.specs.declared.history.TraceItem.{TraceItem}
 use Rattle.zl_code.specs.declared.history.TraceItem.TheVariants as item
 use Rattle.zl_code.proofs.Running.{run_by, IsLegalHistory-by, computing, world_after}
 use Rattle.zl_code.proofs.RowsWords.{program_of, state_of, registers_of, event_with, FIRST_RIGHTS}

@@ -1,7 +1,6 @@
 -- Worlds that no run comes to, by computation: what a sound world excludes.
-use Rattle.zl_code.proofs.Common.{◌≡◌, ◌+◌, ℕ, [], ◌∷◌, refl, Option, Some, None, arith, pos, false≢true, none-some, SIGNALED, Map, get, World, Blocked, Ended}
-use Rattle.zl_code.proofs.Common.{EventBody, PortBody, is_process, raisable, IsSound, USER_SIGNALS, PacketAt, true≢false}
-use Rattle.zl_rights.specs.declared.entry.Entry.{Entry}
+use Rattle.zl_code.proofs.Common.{Blocked, Ended, Entry, EventBody, IsSound, Map, None, Option, PacketAt, PortBody, SIGNALED, Some, USER_SIGNALS, World, []}
+use Rattle.zl_code.proofs.Common.{arith, false≢true, get, is_process, none-some, pos, raisable, refl, true≢false, ℕ, ◌+◌, ◌∷◌, ◌≡◌}
 use Rattle.zl_code.proofs.RowsWords.{world_of, process_of, event_with}
 
 -- process 2 has this table, and removed this value last

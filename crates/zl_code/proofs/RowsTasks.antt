@@ -1,21 +1,17 @@
 -- Each cause and effect of the calls that start, kill and set policies, by computation in small worlds.
-use Rattle.zl_code.proofs.Common.{◌≡◌, ℕ, Bool, true, false, [], ◌∷◌, List, refl, replicate, Some, None, negsuc, Program, World, Map, Body, Process, State}
-use Rattle.zl_code.proofs.Common.{Created, Ready, Ended, Blocked, JobBody, ProcessBody, EventBody, body_of, refusal, Request, Library, Choice, Refused}
-use Rattle.zl_code.proofs.Common.{WantsMemory, Values, SignalOf}
-use Rattle.zl_rights.specs.Numbers.{DESTROY, SET_POLICY, TRANSFER, WRITE, default_rights_of, condition_number, mode_number, action_number}
+use Rattle.zl_code.proofs.Common.{Blocked, Body, Bool, CallName, Choice, Created, DESTROY, Ended, Entry, EventBody, JobBody, Library, List, Map, None}
+use Rattle.zl_code.proofs.Common.{Outcome, Process, ProcessBody, Program, Ready, Refused, Request, SignalOf, Some, Start, State, TRANSFER, Values, WRITE}
+use Rattle.zl_code.proofs.Common.{WantsMemory, World, [], body_of, false, job_set_policy, negsuc, process_start, refl, refusal, replicate, task_kill, true, ℕ}
+use Rattle.zl_code.proofs.Common.{◌∷◌, ◌≡◌}
+use Rattle.zl_rights.specs.Numbers.{SET_POLICY, default_rights_of, condition_number, mode_number, action_number}
 use Rattle.zl_rights.specs.declared.kind.Kind.TheVariants as kind
 use Rattle.zl_rights.specs.declared.status.Status.TheVariants as status
 use Rattle.zl_rights.specs.declared.policy.Action.TheVariants as action
 use Rattle.zl_rights.specs.declared.policy.Condition.TheVariants as condition
 use Rattle.zl_rights.specs.declared.policy.Mode.TheVariants as mode
-use Rattle.zl_rights.specs.declared.entry.Entry.{Entry}
-use Rattle.zl_code.specs.declared.image.Start.{Start}
-use Rattle.zl_code.specs.declared.history.CallName.{CallName}
 use Rattle.zl_code.specs.declared.history.CallName.TheVariants as name
-use Rattle.zl_code.specs.declared.history.Outcome.{Outcome}
 use Rattle.zl_code.specs.declared.history.Outcome.TheVariants as outcome
 use Rattle.zl_code.specs.declared.history.TraceItem.TheVariants as item
-use Rattle.zl_code.specs.CallTable.{job_set_policy, process_start, task_kill}
 use Rattle.zl_code.specs.Request.{Site, site}
 use Rattle.zl_code.specs.Tests.{entry_at, table_of}
 use Rattle.zl_code.proofs.Running.{Acted, call_by, computing, settle_by}

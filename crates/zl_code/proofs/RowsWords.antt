@@ -1,14 +1,8 @@
 -- Small worlds for worked examples, and what is told of them.
-use Rattle.zl_code.proofs.Common.{◌≡◌, refusal, Request, Site, Choice, ℕ, zero, suc, List, [], ◌∷◌, ◌++◌, take, replicate, Option, Some, None, true, false}
-use Rattle.zl_code.proofs.Common.{rights_of, Map, get, World, Process, State, Ready, EventBody, JobBody, ProcessBody, Library}
-use Rattle.zl_rights.specs.declared.kind.Kind.{Kind}
+use Rattle.zl_code.proofs.Common.{Action, CallName, Choice, Entry, EventBody, Instr, JobBody, Kind, Library, List, Map, None, Option, Outcome, Process}
+use Rattle.zl_code.proofs.Common.{ProcessBody, Ready, Request, Site, Some, State, TraceItem, World, [], false, get, refusal, replicate, rights_of, suc, take}
+use Rattle.zl_code.proofs.Common.{true, zero, ℕ, ◌++◌, ◌∷◌, ◌≡◌}
 use Rattle.zl_rights.specs.declared.kind.Kind.TheVariants as kind
-use Rattle.zl_rights.specs.declared.policy.Action.{Action}
-use Rattle.zl_rights.specs.declared.entry.Entry.{Entry}
-use Rattle.zl_code.specs.declared.instr.Instr.{Instr}
-use Rattle.zl_code.specs.declared.history.CallName.{CallName}
-use Rattle.zl_code.specs.declared.history.TraceItem.{TraceItem}
-use Rattle.zl_code.specs.declared.history.Outcome.{Outcome}
 use Rattle.zl_code.proofs.Running.{Acted, call_by, settle_by}
 
 -- ---- what is told

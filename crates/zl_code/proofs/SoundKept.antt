@@ -1,25 +1,19 @@
 -- Every world of a run from a boot world is sound.
-use Rattle.zl_code.proofs.Common.{All, HandlesAreNamed, HandlesAreSound, ◌≡◌, ◌<◌, ◌≤◌, inl, inr, arith, ℕ, suc, Bool, true, false, not, ◌||◌, ◌==◌, [], subst}
-use Rattle.zl_code.proofs.Common.{length, refl, ap, sym, ◌∙◌, IsTrue, Option, Some, None, eq-eqb, if◌then◌else◌, is_some, nat_lt, bit_and, option_map}
-use Rattle.zl_code.proofs.Common.{cases_Bool, eqb-true, and_parts, and_from, or_left, or_right, false≢true, none-some, same_Some, within, Map, get, put}
-use Rattle.zl_code.proofs.Common.{without, where_key, each, has_key, World, Process, State, Created, Ready, Blocked, Gone, Object, Body, ChannelEnd, JobBody}
-use Rattle.zl_code.proofs.Common.{ProcessBody, Message, is_process, state_passes, lives, runs, process_settled, Koids, Settles, without_others, is_held}
-use Rattle.zl_code.proofs.Common.{in_table, in_queue, has_living_child, body_in, may_get, HasGivenKoids, raisable, IsSound, min, max, get-put, get-each}
-use Rattle.zl_code.proofs.Common.{get-where_key-in, get-where_key-out, may_get_after, is_value, IsSoundTable, is_blocked, HasItsObject, HasPeer}
-use Rattle.zl_code.proofs.Common.{is_end_if_there, bit_xor, state_without, IsLargestHeld, filter, true≢false}
+use Rattle.zl_code.proofs.Common.{Action, All, Blocked, Body, Bool, ChannelEnd, Created, Entry, Gone, HandlesAreNamed, HandlesAreSound, HasGivenKoids}
+use Rattle.zl_code.proofs.Common.{HasItsObject, HasPeer, IsBelow, IsLargestHeld, IsSound, IsSoundTable, IsTrue, JobBody, Koids, LivesAt, Map, Message, None}
+use Rattle.zl_code.proofs.Common.{Object, Option, Process, ProcessBody, Ready, Setting, Settles, Some, StandsBelow, State, World, [], and_from, and_parts, ap}
+use Rattle.zl_code.proofs.Common.{arith, bit_and, bit_xor, body_after_read, body_in, body_killed, body_with_message, body_with_policy, cases_Bool, each}
+use Rattle.zl_code.proofs.Common.{eq-eqb, eqb-true, false, false≢true, filter, get, get-each, get-put, get-where_key-in, get-where_key-out, has_key}
+use Rattle.zl_code.proofs.Common.{has_living_child, if◌then◌else◌, in_queue, in_table, inl, inr, is_blocked, is_end_if_there, is_held, is_job_below}
+use Rattle.zl_code.proofs.Common.{is_process, is_some, is_value, length, lives, max, may_get, may_get_after, min, nat_lt, none-some, not, option_map, or_left}
+use Rattle.zl_code.proofs.Common.{or_right, process_settled, put, raisable, refl, runs, same_Some, state_passes, state_without, subst, suc, sym, true}
+use Rattle.zl_code.proofs.Common.{true≢false, where_key, within, without, without_others, ℕ, ◌<◌, ◌==◌, ◌||◌, ◌∙◌, ◌≡◌, ◌≤◌}
 use Rattle.std.specs.Int.{bit_at}
 use Rattle.std.proofs.lemmas.Nat.Bits.{same_from_bits, bit_at_and, bit_at_or, bit_at-zero}
-use Rattle.zl_rights.specs.declared.entry.Entry.{Entry}
 use Rattle.zl_rights.specs.Numbers.{changed as signals_changed}
 use Rattle.zl_code.proofs.MapKept.{each_where_key, EachChanged, same, changed, new, changed_each, each_changed}
 use Rattle.zl_code.proofs.Changes.{IsWait, MayEnter, ProcessChange, handle_enters, handle_leaves, computes, ends, wakes, starts, blocks, ObjectChange}
 use Rattle.zl_code.proofs.Changes.{signals_change, packets_change, message_comes, message_goes, policy_changes, dies, still, awake, asleep, Change}
-use Rattle.zl_rights.specs.Policies.{Setting}
-use Rattle.zl_rights.specs.Signals.{is_job_below}
-use Rattle.zl_rights.specs.declared.policy.Action.{Action}
-use Rattle.zl_code.specs.Effects.{body_with_message, body_after_read}
-use Rattle.zl_code.specs.Jobs.{body_killed, body_with_policy}
-use Rattle.zl_code.specs.Sound.{LivesAt, IsBelow, StandsBelow}
 use Rattle.zl_code.proofs.Entering.{length_filter, length_put}
 use Rattle.zl_code.proofs.HandlesKept.{sound_change, sound_settled}
 use Rattle.zl_code.proofs.NamesKept.{named_change, named_settled, held_is_kept, list_any-get}

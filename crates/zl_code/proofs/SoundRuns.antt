@@ -1,13 +1,9 @@
 -- What steps keep, along runs and histories from a boot world.
-use Rattle.zl_code.proofs.Common.{on_object, ◌≡◌, ◌<◌, arith, inl, inr, ℕ, false, ◌∙◌, All-nil, HasPeer, IsSoundWait, JobBody, with_object, ◌==◌, List, [], ◌∷◌}
-use Rattle.zl_code.proofs.Common.{refl, subst, IsTrue, Option, Some, None, is_some, list_all, flat_map, cases_Bool, eqb-true, false≢true, none-some, same_Some}
-use Rattle.zl_code.proofs.Common.{within, get, World, Object, is_process, queue_of, Library, Step, pid_of, single, IsLegalHistory, Boots, IsBoot, boot_effect}
-use Rattle.zl_code.proofs.Common.{boot_fault, may_boot, origin, HasGivenKoids, has_default_rights, HandlesAreSound, HandlesAreNamed, raisable, IsSound}
-use Rattle.zl_code.proofs.Common.{KeepsProcesses, Runs}
-use Rattle.zl_code.specs.declared.boot.Statement.{Statement}
-use Rattle.zl_code.specs.declared.history.TraceItem.{TraceItem}
-use Rattle.zl_code.specs.Koids.{KeepsKoids}
-use Rattle.zl_code.specs.Sound.{StandsBelow}
+use Rattle.zl_code.proofs.Common.{All-nil, Boots, HandlesAreNamed, HandlesAreSound, HasGivenKoids, HasPeer, IsBoot, IsLegalHistory, IsSound, IsSoundWait}
+use Rattle.zl_code.proofs.Common.{IsTrue, JobBody, KeepsKoids, KeepsProcesses, Library, List, None, Object, Option, Runs, Some, StandsBelow, Statement, Step}
+use Rattle.zl_code.proofs.Common.{TraceItem, World, [], arith, boot_effect, boot_fault, cases_Bool, eqb-true, false, false≢true, flat_map, get}
+use Rattle.zl_code.proofs.Common.{has_default_rights, inl, inr, is_process, is_some, list_all, may_boot, none-some, on_object, origin, pid_of, queue_of}
+use Rattle.zl_code.proofs.Common.{raisable, refl, same_Some, single, subst, with_object, within, ℕ, ◌<◌, ◌==◌, ◌∙◌, ◌∷◌, ◌≡◌}
 use Rattle.zl_code.specs.Handles.{Throughout}
 use Rattle.zl_code.proofs.Changes.{Changes, kept}
 use Rattle.zl_code.proofs.StepChanges.{NoneKilled, is_killed, boot_kills_none, step_changes, settling_changes, boot_changes}

@@ -1,37 +1,24 @@
 -- Which changes a step is made of: a call with its answer, a statement of a boot, and waking.
-use Rattle.zl_code.proofs.Common.{◌||◌, on_object, update, not, queue_of, body_of, ◌+◌, ◌≡◌, ◌<◌, arith, ℕ, Bool, true, false, ChannelEnd, JobBody, List, []}
-use Rattle.zl_code.proofs.Common.{◌∷◌, refl, ap, sym, IsTrue, Option, Some, None, eq-eqb, if◌then◌else◌, is_some, ne_eqb, get, put, World, Process, State}
-use Rattle.zl_code.proofs.Common.{Ready, Blocked, Object, Body, EventBody, PortBody, ProcessBody, runs, wakes, fired, Library, Site, body_in, refusal}
-use Rattle.zl_code.proofs.Common.{with_object, with_effect, gives_ok, gives_refused, taken_handles, may_choose, cpu_answered, replied, taken, ok_outcome}
-use Rattle.zl_code.proofs.Common.{Choice, Refused, WantsMemory, Values, Next, Moves, AtCall, IsStuck, next_for, Acts, Step, boot_fault, boot_effect}
-use Rattle.zl_code.proofs.Common.{is_job_body, IsSound, subst, ◌∙◌, All, and_parts, nat_tests, All-nil, Map, has_key, on_process, insert_all, process_with}
-use Rattle.zl_code.proofs.Common.{has_default_rights, HasGivenKoids, ◌++◌, may_boot, update, meets, SignalOf, PacketAt, Packet, get-put, is_job, handle_given}
-use Rattle.zl_code.proofs.Common.{handles_given, process_with_all, with_process, All-cons, active, packet_values, woken, made_ready, with_body, woken_by_first}
-use Rattle.zl_code.proofs.Common.{woken_by, woken_at_port, woken_from, woken_if_there, after_refusal, after_ok, CallBy, created_process, started_with, fold}
-use Rattle.zl_code.proofs.Common.{list_all, true≢false, IsSoundWait, none-some, slice_index_or, cases_Bool, inl, inr, eqb-true, ◌==◌}
-use Rattle.std.specs.Option.{option_to_list}
-use Rattle.zl_rights.specs.declared.entry.Entry.{Entry}
-use Rattle.zl_rights.specs.declared.status.Status.{Status}
+use Rattle.zl_code.proofs.Common.{Action, Acts, All, All-cons, All-nil, AtCall, Blocked, Body, Bool, CallBy, ChannelEnd, Choice, Condition, Entry, EventBody}
+use Rattle.zl_code.proofs.Common.{Grant, HasGivenKoids, IsSound, IsSoundWait, IsStuck, IsTrue, JobBody, Library, List, Map, Moves, Next, None, Object, Option}
+use Rattle.zl_code.proofs.Common.{Outcome, Packet, PacketAt, PortBody, Process, ProcessBody, Ready, Refused, SignalOf, Site, Some, StandsBelow, State}
+use Rattle.zl_code.proofs.Common.{Statement, Status, Step, TraceItem, Values, Wait, WantsMemory, World, [], active, after_ok, after_refusal, and_parts, ap}
+use Rattle.zl_code.proofs.Common.{arith, awaited_by, body_in, body_of, body_with_policy, boot_effect, boot_fault, cases_Bool, cpu_answered, created_process}
+use Rattle.zl_code.proofs.Common.{eq-eqb, eqb-true, false, fired, fold, get, get-put, gives_ok, gives_refused, handle_given, handles_given, has_child}
+use Rattle.zl_code.proofs.Common.{has_default_rights, has_key, if◌then◌else◌, inl, inr, insert_all, is_by_handle, is_dead, is_deepest, is_job, is_job_body}
+use Rattle.zl_code.proofs.Common.{is_some, job_within, lacks_koids, list_all, made_ready, may_boot, may_choose, meets, nat_tests, ne_eqb, next_for, none-some}
+use Rattle.zl_code.proofs.Common.{not, ok_outcome, on_object, on_process, option_to_list, packet_values, policy_changed, process_with, process_with_all, put}
+use Rattle.zl_code.proofs.Common.{queue_of, refl, refusal, replied, runs, setting, slice_index_or, started_with, subst, sym, taken, taken_handles, true}
+use Rattle.zl_code.proofs.Common.{true≢false, update, waiting, wakes, with_body, with_effect, with_object, with_process, woken, woken_at_port, woken_by}
+use Rattle.zl_code.proofs.Common.{woken_by_first, woken_from, woken_if_there, ℕ, ◌++◌, ◌+◌, ◌<◌, ◌==◌, ◌||◌, ◌∙◌, ◌∷◌, ◌≡◌}
 use Rattle.zl_rights.specs.declared.status.Status.TheVariants as status
-use Rattle.zl_rights.specs.World.{Awaited, Wait}
-use Rattle.zl_code.specs.Waiting.{is_by_handle}
-use Rattle.zl_code.specs.CallTable.{awaited_by}
-use Rattle.zl_code.specs.Effects.{waiting}
-use Rattle.zl_code.specs.declared.boot.Grant.{Grant}
-use Rattle.zl_code.specs.declared.boot.Statement.{Statement}
+use Rattle.zl_rights.specs.World.{Awaited}
 use Rattle.zl_code.specs.declared.boot.Statement.TheVariants as statement
-use Rattle.zl_code.specs.declared.history.Outcome.{Outcome}
 use Rattle.zl_code.specs.declared.history.Outcome.TheVariants as outcome
-use Rattle.zl_code.specs.declared.history.TraceItem.{TraceItem}
-use Rattle.zl_rights.specs.declared.policy.Condition.{Condition}
 use Rattle.zl_code.specs.declared.boot.BootCause.TheVariants as cause
-use Rattle.zl_code.specs.Boot.{lacks_koids, setting}
-use Rattle.zl_code.specs.Jobs.{body_with_policy, has_child, is_dead, is_deepest, job_within, policy_changed}
-use Rattle.zl_code.specs.Sound.{StandsBelow}
 use Rattle.std.proofs.lemmas.Bool.{not-false, or_parts}
 use Rattle.zl_code.proofs.Killing.{new_job_stands}
 use Rattle.zl_code.proofs.CanStart.{none_first, CanStart, can_start, handles_at_most, started_with_all, started_may_get}
-use Rattle.zl_rights.specs.declared.policy.Action.{Action}
 use Rattle.zl_code.proofs.MapKept.{changed, changed_update, each_changed, each_put}
 use Rattle.zl_code.proofs.Changes.{AreUnmade, computes, Changes, stays, changes, settles, join, one, process_changes, process_ends, process_wakes}
 use Rattle.zl_code.proofs.Changes.{process_blocks, process_is_made, object_changes, policy_changes, object_is_made, ends_are_made, packet_goes, waits_fire}

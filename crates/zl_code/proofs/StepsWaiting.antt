@@ -1,15 +1,11 @@
 -- A step beside registered waits: it is the same, and those waits are left whose handle and port are.
-use Rattle.zl_code.proofs.Common.{◌≡◌, ℕ, Bool, false, ◌&&◌, ◌++◌, List, [], ◌∷◌, refl, ap, sym, subst, ◌∙◌, Option, Some, None, option_map, and_parts}
-use Rattle.zl_code.proofs.Common.{cases_Bool, inl, inr, filter, get, where_key, has_key, World, Process, Ready, Koids, Settles, IsLargestHeld, without_others}
-use Rattle.zl_code.proofs.Common.{process_settled, is_held, is_made_by_handle, same_Some, Library, Site, AtCall, next_for, refusal, get-each, get-where_key-in}
-use Rattle.zl_code.proofs.Common.{get-where_key-out}
-use Rattle.zl_rights.specs.World.{Awaited, Wait}
-use Rattle.zl_rights.specs.Settle.{has_handle}
-use Rattle.zl_code.specs.declared.history.CallName.{CallName}
+use Rattle.zl_code.proofs.Common.{AtCall, Bool, CallName, IsLargestHeld, Koids, Library, List, None, Option, Process, Ready, Settles, Site, Some, TraceItem}
+use Rattle.zl_code.proofs.Common.{Wait, World, [], and_parts, ap, awaited_by, cases_Bool, false, filter, get, get-each, get-where_key-in, get-where_key-out}
+use Rattle.zl_code.proofs.Common.{has_handle, has_key, inl, inr, is_held, is_made_by_handle, next_for, option_map, process_settled, refl, refusal, same_Some}
+use Rattle.zl_code.proofs.Common.{subst, sym, where_key, without_others, ℕ, ◌&&◌, ◌++◌, ◌∙◌, ◌∷◌, ◌≡◌}
+use Rattle.zl_rights.specs.World.{Awaited}
 use Rattle.zl_code.specs.declared.history.Outcome.TheVariants as outcome
-use Rattle.zl_code.specs.declared.history.TraceItem.{TraceItem}
 use Rattle.zl_code.specs.declared.history.TraceItem.TheVariants as item
-use Rattle.zl_code.specs.CallTable.{awaited_by}
 use Rattle.zl_code.proofs.Waiters.{with_waiters}
 use Rattle.zl_code.proofs.StepsBeside.{ActsAndSettles, acts_among, blocked_by, blocked_in, blocks_among, next_looks, settles_among, tells_blocking, waits_by}
 use Rattle.zl_code.proofs.StepsBeside.{waits_kept}

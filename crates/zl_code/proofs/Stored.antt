@@ -1,14 +1,12 @@
 -- The stored run: its bytes, its boot world and its history, by computation.
-use Rattle.zl_code.proofs.Common.{◌≡◌, ℕ, List, [], ◌∷◌, refl, Some, true, false, pos, World, Ended, Image, Library, Spells, local_parts, Choice, Refused}
-use Rattle.zl_code.proofs.Common.{Values, IsLegalHistory, IsBoot, boot_fault, boot_effect, origin, settled_in, Settles-by}
+use Rattle.zl_code.proofs.Common.{Choice, Ended, Image, IsBoot, IsLegalHistory, Library, List, Refused, Settles-by, Some, Spells, Statement, TraceItem}
+use Rattle.zl_code.proofs.Common.{Values, World, [], boot_effect, boot_fault, false, local_parts, origin, pos, refl, settled_in, true, ℕ, ◌∷◌, ◌≡◌}
 use Rattle.zl_rights.specs.declared.status.Status.TheVariants as status
-use Rattle.zl_code.specs.declared.boot.Statement.{Statement}
 use Rattle.zl_code.specs.declared.boot.Statement.TheVariants as statement
 use Rattle.zl_code.specs.declared.instr.Instr.TheVariants as instr
 use Rattle.zl_code.specs.declared.instr.LocalInstr.TheVariants as local
 use Rattle.zl_code.specs.declared.history.CallName.TheVariants as name
 use Rattle.zl_code.specs.declared.history.Outcome.TheVariants as outcome
-use Rattle.zl_code.specs.declared.history.TraceItem.{TraceItem}
 use Rattle.zl_code.specs.declared.history.TraceItem.TheVariants as item
 use Rattle.zl_code.proofs.Running.{run_by, IsLegalHistory-by, computing, world_after}
 use Rattle.zl_code.proofs.RowsWords.{state_of}

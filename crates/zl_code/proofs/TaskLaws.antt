@@ -1,24 +1,17 @@
 -- What the calls on jobs and processes say where they aren't refused: who is made, started or killed, and in which job.
-use Rattle.zl_code.proofs.Common.{Created, State, state_passes, is_process, All-nil, All-cons, get-update, process_without, ◌==◌, JobBody, ProcessBody}
-use Rattle.zl_code.proofs.Common.{created_process, with_process, get-put, ne_eqb, ◌<◌, All, Body, IsSound, IsTrue, Library, List, Map, None, Object, Option}
-use Rattle.zl_code.proofs.Common.{Process, Ready, Request, Some, World, [], ap, arith, cases_Bool, entry_at, eq-eqb, examined, false, first_some, get}
-use Rattle.zl_code.proofs.Common.{handle_operands, handles_in, inl, inr, insert_all, is_some, kind_of, length, listed, none-some, object_at, operand, refl}
-use Rattle.zl_code.proofs.Common.{refusal, remove_all, row_of, runs, same_Some, subst, sym, taken_handles, true, with_object, ℕ, ◌∙◌, ◌∷◌, ◌≡◌, ◌≤◌, not-false}
-use Rattle.zl_code.proofs.Common.{new_entry, gets_all, false≢true, body_of, IsSoundWait, slice_index_or, eqb-true, on_process, ◌==◌, takes}
+use Rattle.zl_code.proofs.Common.{Action, All, All-cons, All-nil, Body, Created, DESTROY, Entry, IsSound, IsSoundWait, IsTrue, JobBody, Library, List}
+use Rattle.zl_code.proofs.Common.{MANAGE_PROCESS, Map, None, Object, Option, Process, ProcessBody, Ready, Request, Some, StandsBelow, State, TRANSFER, WRITE}
+use Rattle.zl_code.proofs.Common.{Wait, World, [], ap, arith, body_of, cases_Bool, created_process, entry_at, eq-eqb, eqb-true, examined, false, false≢true}
+use Rattle.zl_code.proofs.Common.{first_some, get, get-put, get-update, gets_all, handle_operands, handles_in, inl, inr, insert_all, is_by_handle, is_process}
+use Rattle.zl_code.proofs.Common.{is_some, job_create, job_within, kind_of, length, listed, ne_eqb, new_entry, none-some, not-false, object_at, on_process}
+use Rattle.zl_code.proofs.Common.{operand, option_to_list, process_create, process_start, process_without, refl, refusal, remove_all, row_of, runs, same_Some}
+use Rattle.zl_code.proofs.Common.{slice_index_or, state_passes, subst, sym, taken_handles, takes, task_kill, true, with_object, with_process, ℕ, ◌<◌, ◌==◌}
+use Rattle.zl_code.proofs.Common.{◌∙◌, ◌∷◌, ◌≡◌, ◌≤◌}
 use Rattle.zl_rights.specs.declared.kind.Kind.TheVariants as kind
-use Rattle.zl_rights.specs.declared.entry.Entry.{Entry}
 use Rattle.zl_rights.specs.declared.status.Status.TheVariants as status
-use Rattle.zl_rights.specs.Numbers.{DESTROY, TRANSFER, MANAGE_PROCESS, WRITE}
-use Rattle.zl_code.specs.CallTable.{process_create, process_start, task_kill, job_create}
-use Rattle.zl_code.specs.Jobs.{job_within}
 use Rattle.zl_code.specs.Starting.{cpu_given, is_created, started_with}
-use Rattle.zl_code.specs.Sound.{StandsBelow}
-use Rattle.zl_rights.specs.declared.policy.Action.{Action}
-use Rattle.std.specs.Option.{option_to_list}
 use Rattle.zl_code.proofs.CanStart.{started_may_get}
 use Rattle.zl_code.proofs.Killing.{living_job, lives_beside, new_job_stands}
-use Rattle.zl_code.specs.Waiting.{is_by_handle}
-use Rattle.zl_rights.specs.World.{Wait}
 use Rattle.zl_code.specs.Operands.{operand_of}
 use Rattle.zl_code.proofs.Changes.{AreUnmade, process_is_made, Changes, changes, object_is_made, process_starts}
 use Rattle.zl_code.proofs.Entering.{IsFine, HaveRoom, left_behind, all_enter, entry_is_fine, new_is_fine}

@@ -1,27 +1,18 @@
 -- No call but wait_async, port_cancel and task_kill looks at registered waits or at blocked processes: it does the same whatever waits beside it.
-use Rattle.zl_code.proofs.Common.{◌≡◌, ℕ, ℤ, Bool, true, false, not, ◌==◌, ◌&&◌, List, [], ◌∷◌, filter, refl, ap, sym, ◌∙◌, Option, Some, None, true≢false}
-use Rattle.zl_code.proofs.Common.{World, Library, Site, Request, chan_read_etc, close, replace, effect, new_handles, gives_ok, gives_refused, taken_handles}
-use Rattle.zl_code.proofs.Common.{may_choose, replied, taken, with_effect, ok_outcome, after_ok, after_refusal, CallBy, Choice, Refused, WantsMemory, Values}
-use Rattle.zl_code.proofs.Common.{Calls, handles_to, listed, refusal, examined, operand, has_room, has_koids, creates, by_policy, Operand, operand_after}
-use Rattle.zl_code.proofs.Common.{seen_after, handle_operands, first_some, on_process, on_object, with_object, insert_all, remove_all, process_with}
-use Rattle.zl_code.proofs.Common.{process_without, ended, gets_all, is_process, active, has_child_job, has_child_process, get, is_empty, copy_of, entry_at}
-use Rattle.zl_code.proofs.Common.{answer_if, operand_of, by_look_up, faults, ends_if_kill, action_of, parent_of, unless_allowed, contains, bits, within, takes}
-use Rattle.zl_code.proofs.Common.{if◌then◌else◌, Ok, Err}
-use Rattle.zl_rights.specs.declared.entry.Entry.{Entry}
-use Rattle.zl_rights.specs.declared.kind.Kind.{Kind}
-use Rattle.zl_rights.specs.declared.policy.Action.{Action}
+use Rattle.zl_code.proofs.Common.{Action, Bool, CallBy, Calls, Choice, Condition, Entry, Err, Kind, Library, List, None, Ok, Operand, Option, Outcome}
+use Rattle.zl_code.proofs.Common.{Refused, Request, Site, Some, Status, Values, Wait, WantsMemory, World, [], action_of, active, after_ok, after_refusal}
+use Rattle.zl_code.proofs.Common.{answer_if, ap, awaited_by, bits, by_look_up, by_policy, chan_read_etc, choosing, close, condition_of, contains, copy_of}
+use Rattle.zl_code.proofs.Common.{creates, effect, ended, ends_caller, ends_if_kill, entering_at, entry_at, examined, false, faults, filter, first_some, get}
+use Rattle.zl_code.proofs.Common.{gets_all, gives_ok, gives_refused, handle_operands, handles_to, has_child_job, has_child_process, has_koids, has_room}
+use Rattle.zl_code.proofs.Common.{if◌then◌else◌, insert_all, is_empty, is_process, listed, may_choose, new_handles, not, ok_outcome, on_object, on_process}
+use Rattle.zl_code.proofs.Common.{operand, operand_after, operand_of, outcome_of, parent_of, port_cancel, process_with, process_without, receiver_of, refl}
+use Rattle.zl_code.proofs.Common.{refusal, remove_all, replace, replied, seen_after, stored_by, storing, sym, taken, taken_handles, takes, task_kill, true}
+use Rattle.zl_code.proofs.Common.{true≢false, unless_allowed, wait_async, wait_one, wait_poll, with_effect, with_object, within, ℕ, ℤ, ◌&&◌, ◌==◌, ◌∙◌, ◌∷◌}
+use Rattle.zl_code.proofs.Common.{◌≡◌}
 use Rattle.zl_rights.specs.declared.policy.Action.TheVariants as action
-use Rattle.zl_rights.specs.declared.policy.Condition.{Condition}
 use Rattle.zl_rights.specs.declared.policy.Condition.TheVariants as condition
-use Rattle.zl_rights.specs.declared.status.Status.{Status}
 use Rattle.zl_rights.specs.declared.status.Status.TheVariants as status
-use Rattle.zl_rights.specs.World.{Wait}
-use Rattle.zl_code.specs.declared.history.Outcome.{Outcome}
 use Rattle.zl_code.specs.declared.history.Outcome.TheVariants as outcome
-use Rattle.zl_code.specs.CallTable.{awaited_by, choosing, ends_caller, entering_at, outcome_of, receiver_of, stored_by, task_kill, wait_async, wait_one}
-use Rattle.zl_code.specs.CallTable.{wait_poll, port_cancel}
-use Rattle.zl_code.specs.Effects.{storing}
-use Rattle.zl_code.specs.Refusals.{condition_of}
 
 -- the world in which these waits are registered, so many ever were, and these processes are blocked
 abbrev pub with_waiters : World → (waits : List Wait) (made : ℕ) (blocked : List ℕ) → World

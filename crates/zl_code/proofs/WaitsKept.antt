@@ -1,20 +1,14 @@
 -- Registered waits stay right: their handles name what they watch, and their ports stay. After a step their handles are live.
-use Rattle.zl_code.proofs.Common.{◌≡◌, ◌<◌, inl, inr, arith, ℕ, Bool, true, false, not, ◌&&◌, ◌==◌, List, [], ◌∷◌, refl, ap, sym, subst, ◌∙◌, IsTrue, Option}
-use Rattle.zl_code.proofs.Common.{Some, None, eq-eqb, if◌then◌else◌, is_some, fold, filter, each, answered, Ready, option_map, cases_Bool, eqb-true, and_parts}
-use Rattle.zl_code.proofs.Common.{and_from, false≢true, none-some, same_Some, slice_index_or, All, All-cons, All-nil, meets, Map, get, without, where_key}
-use Rattle.zl_code.proofs.Common.{has_key, World, Process, State, Blocked, SignalOf, PacketAt, Object, Body, PortBody, Packet, Koids, Settles, without_others}
-use Rattle.zl_code.proofs.Common.{process_settled, wakes, fired, active, packet_values, woken, made_ready, with_body, woken_by_first, woken_by, woken_at_port}
-use Rattle.zl_code.proofs.Common.{woken_from, woken_if_there, is_made_by_handle, handles_in, entry_at, body_in, body_of, HasGivenKoids, IsSound, IsSoundWait}
-use Rattle.zl_code.proofs.Common.{is_port_there, get-put, get-each, get-where_key-in, get-where_key-out, true≢false}
-use Rattle.std.proofs.lemmas.List.Elements.{All-append, All-filter, filter_passes}
-use Rattle.zl_rights.specs.declared.entry.Entry.{Entry}
-use Rattle.zl_rights.specs.World.{Wait}
-use Rattle.zl_rights.specs.Settle.{has_handle}
+use Rattle.zl_code.proofs.Common.{All, All-append, All-cons, All-filter, All-nil, Blocked, Body, Bool, Entry, HasGivenKoids, IsSound, IsSoundWait, IsTrue}
+use Rattle.zl_code.proofs.Common.{Koids, List, Map, None, Object, Option, Packet, PacketAt, PortBody, Process, Ready, Setting, Settles, SignalOf, Some, State}
+use Rattle.zl_code.proofs.Common.{Wait, World, [], active, and_from, and_parts, answered, ap, arith, body_after_read, body_in, body_killed, body_of}
+use Rattle.zl_code.proofs.Common.{body_with_message, body_with_policy, cases_Bool, each, entry_at, eq-eqb, eqb-true, false, false≢true, filter, filter_passes}
+use Rattle.zl_code.proofs.Common.{fired, fold, get, get-each, get-put, get-where_key-in, get-where_key-out, handles_in, has_handle, has_key, if◌then◌else◌}
+use Rattle.zl_code.proofs.Common.{inl, inr, is_by_handle, is_made_by_handle, is_port_there, is_some, made_ready, meets, none-some, not, option_map}
+use Rattle.zl_code.proofs.Common.{packet_values, process_settled, refl, same_Some, slice_index_or, subst, sym, true, true≢false, wakes, where_key, with_body}
+use Rattle.zl_code.proofs.Common.{without, without_others, woken, woken_at_port, woken_by, woken_by_first, woken_from, woken_if_there, ℕ, ◌&&◌, ◌<◌, ◌==◌}
+use Rattle.zl_code.proofs.Common.{◌∙◌, ◌∷◌, ◌≡◌}
 use Rattle.zl_rights.proofs.Waking.{turns-later}
-use Rattle.zl_rights.specs.Policies.{Setting}
-use Rattle.zl_code.specs.Effects.{body_with_message, body_after_read}
-use Rattle.zl_code.specs.Jobs.{body_killed, body_with_policy}
-use Rattle.zl_code.specs.Waiting.{is_by_handle}
 use Rattle.zl_code.proofs.MapKept.{same, changed, new}
 use Rattle.zl_code.proofs.Changes.{IsWait, AreUnmade, alike, fewer, begins, ProcessChange, handle_enters, handle_leaves, computes, ends, wakes as wakes_up}
 use Rattle.zl_code.proofs.Changes.{starts, blocks, ObjectChange, signals_change, packets_change, message_comes, message_goes, policy_changes, dies, Change}

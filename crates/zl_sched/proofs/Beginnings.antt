@@ -1,8 +1,6 @@
 -- Items that begin with others.
-use Rattle.zl_sched.proofs.Common.{◌≡◌, ◌∙◌, Bool, List, ◌++◌, length, sym, ap, take, drop, take-append-drop, IsTrue}
+use Rattle.zl_sched.proofs.Common.{Bool, IsTrue, List, TraceItem, ap, drop, length, sym, take, take-append-drop, take-append_seam, ◌++◌, ◌∙◌, ◌≡◌}
 use Rattle.std.specs.Prelude.{◌↔◌}
-use Rattle.std.proofs.Math.Seq.{take-append_seam}
-use Rattle.zl_code.specs.declared.history.TraceItem.{TraceItem}
 use Rattle.zl_sched.specs.Opening.{Begins}
 
 pub begins : (first items : List TraceItem) (b : Bool) → (IsTrue b ↔ take (length first) items ≡ first) → (IsTrue b ↔ Begins first items)

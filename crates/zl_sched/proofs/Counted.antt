@@ -1,13 +1,12 @@
 -- How often a koid stands in a list.
-use Rattle.zl_sched.proofs.Common.{◌≡◌, ◌≤◌, ◌+◌, ◌∙◌, ℕ, suc, Bool, true, false, List, [], ◌∷◌, ◌++◌, length, map, refl, sym, ap, subst, arith, inl, inr}
-use Rattle.zl_sched.proofs.Common.{cases_Bool, IsTrue, Some, None, is_some, if◌then◌else◌, get, length-append}
+use Rattle.zl_sched.proofs.Common.{Bool, IsTrue, List, None, Some, [], ap, arith, cases_Bool, false, filter-append, get, if◌then◌else◌, inl, inr, is_some}
+use Rattle.zl_sched.proofs.Common.{length, length-append, length-filter_both, list_any, map, refl, subst, suc, sym, times-other, times-same, true, ℕ, ◌++◌}
+use Rattle.zl_sched.proofs.Common.{◌+◌, ◌∙◌, ◌∷◌, ◌≡◌, ◌≤◌}
 use Rattle.std.specs.Prelude.{not, ◌==◌, nat_lt}
-use Rattle.std.specs.List.{filter, list_any}
-use Rattle.std.proofs.lemmas.List.Elements.{filter-append}
-use Rattle.std.proofs.lemmas.List.Filters.{length-filter_both}
+use Rattle.std.specs.List.{filter}
 use Rattle.zl_rights.proofs.Common.{Map, is_sorted, below_all, nat_cmp, and_parts, nat_tests, has_key, eq-eqb, eqb-true, none-some}
 use Rattle.std.specs.Ordering.{is_lt}
-use Rattle.zl_code.proofs.Changes.{times, times-same, times-other}
+use Rattle.zl_code.proofs.Changes.{times}
 
 -- ---- filters
 

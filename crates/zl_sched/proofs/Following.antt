@@ -1,8 +1,7 @@
 -- A run that is computed along a schedule follows it.
-use Rattle.zl_sched.proofs.Common.{◌≡◌, ℕ, Bool, true, false, List, [], ◌∷◌, map, refl, ap, Some, None, is_some, is_process, is_ready, Library, Choice, Follows}
-use Rattle.zl_sched.proofs.Common.{ends, skips, goes}
+use Rattle.zl_sched.proofs.Common.{Bool, Choice, Follows, Library, List, None, Some, TraceItem, [], ap, ends, false, goes, is_process, is_ready, is_some, map}
+use Rattle.zl_sched.proofs.Common.{refl, skips, true, ℕ, ◌∷◌, ◌≡◌}
 use Rattle.zl_code.proofs.Common.{World}
-use Rattle.zl_code.specs.declared.history.TraceItem.{TraceItem}
 use Rattle.zl_code.proofs.Running.{Acted, step_by, step_by-Step, Went, onto, items_of, world_after}
 
 -- the turns, one after another, each with the choice that the definitions leave open; those of processes that aren't ready are skipped

@@ -1,23 +1,26 @@
 -- A process that a step makes isn't ready after it.
-use Rattle.zl_code.proofs.Common.{◌≡◌, ℕ, Bool, true, false, ◌==◌, List, [], ◌∷◌, refl, ap, sym, ◌∙◌, Option, Some, None, if◌then◌else◌, option_map, cases_Bool}
-use Rattle.zl_code.proofs.Common.{eqb-true, inl, inr, meets, fold, get, World, Process, State, Created, Ready, Blocked, Gone, Object, Body, PortBody}
-use Rattle.zl_code.proofs.Common.{is_process, is_ready, state_passes, process_settled, state_without, Settles, without_others, wakes, fired, active, with_body}
-use Rattle.zl_code.proofs.Common.{woken_if_there, woken_from, woken_at_port, woken_by, woken_by_first, SignalOf, PacketAt, Packet, Library, Site, Request}
-use Rattle.zl_code.proofs.Common.{Choice, Refused, WantsMemory, Values, CallBy, after_refusal, after_ok, ok_outcome, refusal, object_at, taken, taken_handles}
-use Rattle.zl_code.proofs.Common.{with_effect, effect, new_handles, replied, on_process, on_object, with_object, insert_all, remove_all, process_with}
-use Rattle.zl_code.proofs.Common.{process_without, process_ended, ended, Next, Moves, AtCall, IsStuck, Acts, Step, next_for, get-update, get-put, get-each}
+use Rattle.zl_sched.proofs.Common.{Body, CallBy, Entry, Object, Outcome, Packet, PortBody, Refused, Request, Settles, SignalOf, Site, TraceItem, Values}
+use Rattle.zl_sched.proofs.Common.{WantsMemory, active, after_ok, after_refusal, created_process, effect, entering_at, fired, fold, get-each, get-put}
+use Rattle.zl_sched.proofs.Common.{get-update, insert_all, made_ready, meets, new_handles, on_object, on_process, option_map, process_create, process_settled}
+use Rattle.zl_sched.proofs.Common.{process_start, process_with, process_without, receiver_of, refusal, remove_all, replied, state_without, stored_by, storing}
+use Rattle.zl_sched.proofs.Common.{taken, taken_handles, task_kill, wakes, with_body, with_object, without_others, woken_at_port, woken_by, woken_by_first}
+use Rattle.zl_sched.proofs.Common.{woken_from, woken_if_there}
+use Rattle.zl_code.proofs.Common.{◌≡◌, ℕ, Bool, true, false, ◌==◌, List, [], ◌∷◌, refl, ap, sym, ◌∙◌, Option, Some, None, if◌then◌else◌, cases_Bool}
+use Rattle.zl_code.proofs.Common.{eqb-true, inl, inr, get, World, Process, State, Created, Ready, Blocked, Gone}
+use Rattle.zl_code.proofs.Common.{is_process, is_ready, state_passes}
+use Rattle.zl_code.proofs.Common.{PacketAt, Library}
+use Rattle.zl_code.proofs.Common.{Choice, ok_outcome, object_at}
+use Rattle.zl_code.proofs.Common.{with_effect}
+use Rattle.zl_code.proofs.Common.{process_ended, ended, Next, Moves, AtCall, IsStuck, Acts, Step, next_for}
 use Rattle.zl_code.proofs.Common.{none-some, false≢true}
-use Rattle.zl_rights.specs.declared.entry.Entry.{Entry}
 use Rattle.zl_rights.specs.World.{Awaited}
-use Rattle.zl_rights.specs.Wakes.{made_ready, woken}
+use Rattle.zl_rights.specs.Wakes.{woken}
 use Rattle.zl_rights.specs.declared.status.Status.TheVariants as status
-use Rattle.zl_code.specs.declared.history.Outcome.{Outcome}
 use Rattle.zl_code.specs.declared.history.Outcome.TheVariants as outcome
-use Rattle.zl_code.specs.declared.history.TraceItem.{TraceItem}
-use Rattle.zl_code.specs.CallTable.{awaited_by, entering_at, process_create, process_start, receiver_of, stored_by, task_kill}
+use Rattle.zl_code.specs.CallTable.{awaited_by}
 use Rattle.zl_code.specs.Jobs.{is_within, process_killed, with_killed}
-use Rattle.zl_code.specs.Starting.{created_process, started_with}
-use Rattle.zl_code.specs.Effects.{storing, waiting}
+use Rattle.zl_code.specs.Starting.{started_with}
+use Rattle.zl_code.specs.Effects.{waiting}
 
 -- made and not started, and perhaps dropped
 abbrev is_new : State → Bool

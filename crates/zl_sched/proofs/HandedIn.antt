@@ -1,20 +1,14 @@
 -- What is handed in is a legal history more, and the list with its marks behind it is that of the definitions and has room.
-use Rattle.zl_sched.proofs.Common.{◌≡◌, ◌≤◌, ◌+◌, ◌∙◌, ◌++◌, ◌∷◌, [], ℕ, Bool, List, true, false, length, length-append, sym, subst, ap, refl, arith, IsTrue}
-use Rattle.zl_sched.proofs.Common.{None, get, is_process, is_ready, if◌then◌else◌, pid_of, State, System, IsLegalHistory}
-use Rattle.std.specs.Prelude.{not, ◌==◌, ◌&&◌}
-use Rattle.std.specs.List.{filter, list_all}
-use Rattle.zl_code.specs.declared.history.TraceItem.{TraceItem}
+use Rattle.zl_sched.proofs.Common.{Bool, Done, GoesFrom, HasRoom, IsAwaited, IsLegalHistory, IsSound, IsTrue, IsWhole, List, Listed, Machine, None, State}
+use Rattle.zl_sched.proofs.Common.{System, TraceItem, [], ap, arith, false, get, if◌then◌else◌, is_in, is_process, is_ready, leaves_ready, length}
+use Rattle.zl_sched.proofs.Common.{length-append, list_all, none_filtered, others_of, pid_of, put_back, queued_after, refl, requeued, run_items, run_sound}
+use Rattle.zl_sched.proofs.Common.{step_sound, subst, sym, true, unmarked, ℕ, ◌&&◌, ◌++◌, ◌+◌, ◌∙◌, ◌∷◌, ◌≡◌, ◌≤◌}
+use Rattle.std.specs.Prelude.{not, ◌==◌}
+use Rattle.std.specs.List.{filter}
 use Rattle.zl_code.specs.declared.history.TraceItem.TheVariants as item
-use Rattle.zl_code.proofs.Common.{IsSound, lives}
-use Rattle.zl_code.proofs.SoundRuns.{run_sound, step_sound}
-use Rattle.zl_interp.specs.Bursts.{Done}
-use Rattle.zl_calls.specs.World.{Machine}
+use Rattle.zl_code.proofs.Common.{lives}
 use Rattle.zl_calls.specs.Turns.{advanced}
-use Rattle.zl_calls.proofs.Above.{none_filtered}
-use Rattle.zl_sched.specs.Queueing.{leaves_ready, requeued}
-use Rattle.zl_sched.specs.Ready.{is_in, others_of, queued_after, Listed}
-use Rattle.zl_sched.specs.System.{IsWhole}
-use Rattle.zl_sched.specs.HandIn.{Accepts, Ends, GoesFrom, HasRoom, IsAwaited, LeavesAll, is_more, put_back, run_items, unmarked}
+use Rattle.zl_sched.specs.HandIn.{Accepts, Ends, LeavesAll, is_more}
 use Rattle.zl_sched.proofs.StillReady.{ready_as_before}
 use Rattle.zl_sched.proofs.Fresh.{made_not_ready}
 use Rattle.zl_sched.proofs.Legal.{history_then, nothing_legal, run_legal, step_legal}

@@ -1,12 +1,10 @@
 -- Processes that come to a list one after another, where they pass a test.
-use Rattle.zl_sched.proofs.Common.{◌≡◌, ◌<◌, ◌≤◌, ◌+◌, ◌∙◌, ◌++◌, ◌∷◌, [], ℕ, Bool, List, length, length-append, append_assoc, take, append-nil, true, false}
-use Rattle.zl_sched.proofs.Common.{refl, sym, ap, subst, arith, Some, is_process, is_ready}
-use Rattle.std.specs.Prelude.{slice_get}
+use Rattle.zl_sched.proofs.Common.{Bool, List, Some, [], ap, append-nil, append_assoc, arith, false, is_process, is_ready, itself_ready, length}
+use Rattle.zl_sched.proofs.Common.{length-append, one_if, refl, requeued, slice_get, still_ready, subst, sym, take, take-append_seam, true, ℕ, ◌++◌, ◌+◌, ◌<◌}
+use Rattle.zl_sched.proofs.Common.{◌∙◌, ◌∷◌, ◌≡◌, ◌≤◌}
 use Rattle.std.specs.List.{filter}
-use Rattle.std.proofs.Math.Seq.{take-append_seam}
 use Rattle.zl_code.proofs.Common.{World}
-use Rattle.zl_sched.specs.Ready.{still_ready, itself_ready}
-use Rattle.zl_sched.specs.Queueing.{joining, one_if, requeued}
+use Rattle.zl_sched.specs.Queueing.{joining}
 use Rattle.zl_sched.proofs.Queued.{filtered_more, fewer_first}
 
 -- those that were there stay in front

@@ -1,18 +1,14 @@
 -- What follows a schedule is a legal history, and a legal history with one step more is one.
-use Rattle.zl_sched.proofs.Common.{Bool, true, false, zero, suc, replicate, if◌then◌else◌, arith, length-append, ◌++◌, ◌∙◌, ap, append-nil, IsLegal, System}
-use Rattle.zl_sched.proofs.Common.{Runs, ◌≡◌, ℕ, List, [], ◌∷◌, refl, sym, subst, IsTrue, Library, Step, Acts, Next, Moves, AtCall, IsStuck, next_for, pid_of}
-use Rattle.zl_sched.proofs.Common.{single, IsLegalHistory, Follows, ends, skips, goes, EndsBy}
+use Rattle.zl_sched.proofs.Common.{Acts, AtCall, Bool, End, EndsBy, Follows, IsLegal, IsLegalHistory, IsStuck, IsTrue, Library, List, Moves, Next, Runs, Step}
+use Rattle.zl_sched.proofs.Common.{System, TraceItem, [], ap, append-nil, arith, ends, false, flat_map-append, goes, if◌then◌else◌, length-append, list_all}
+use Rattle.zl_sched.proofs.Common.{next_for, pid_of, refl, replicate, run_items, single, skips, subst, suc, sym, true, zero, ℕ, ◌++◌, ◌∙◌, ◌∷◌, ◌≡◌}
 use Rattle.zl_code.proofs.Common.{World, nat_lt, nat_tests}
 use Rattle.std.specs.Prelude.{◌==◌}
 use Rattle.std.proofs.lemmas.List.Folds.{list_all-append}
-use Rattle.std.specs.List.{flat_map, list_all}
-use Rattle.std.proofs.lemmas.List.Concat.{flat_map-append}
+use Rattle.std.specs.List.{flat_map}
 use Rattle.zl_code.specs.declared.history.CallName.{CallName}
-use Rattle.zl_code.specs.declared.history.TraceItem.{TraceItem}
 use Rattle.zl_code.specs.declared.history.TraceItem.TheVariants as item
 use Rattle.zl_code.specs.Steps.{has_count, Runs as RunsBy}
-use Rattle.zl_sched.specs.HandIn.{run_items}
-use Rattle.zl_sched.specs.declared.system.End.{End}
 use Rattle.zl_sched.specs.declared.system.End.TheVariants as end
 
 -- the item of one step

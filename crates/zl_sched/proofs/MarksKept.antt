@@ -1,16 +1,15 @@
 -- A step of one process leaves the marks of the others what they are: who has one is ready or has ended, and doesn't become ready.
-use Rattle.zl_sched.proofs.Common.{◌≡◌, ◌∙◌, ℕ, Bool, true, false, refl, ap, sym, IsTrue, Option, Some, None, if◌then◌else◌, get, is_process, is_ready}
-use Rattle.zl_sched.proofs.Common.{state_passes, Library, Process, State, Created, Ready, Ended, Step}
+use Rattle.zl_sched.proofs.Common.{Bool, Created, Ended, IsSound, IsTrue, Library, None, Option, Process, Ready, Some, State, Step, TraceItem, ap, false, get}
+use Rattle.zl_sched.proofs.Common.{get-update, if◌then◌else◌, is_process, is_ready, is_ready_or_over, on_process, option_map, refl, state_passes, sym, true}
+use Rattle.zl_sched.proofs.Common.{ℕ, ◌∙◌, ◌≡◌}
 use Rattle.std.specs.Prelude.{◌==◌}
 use Rattle.zl_rights.proofs.Common.{false≢true}
 use Rattle.zl_rights.specs.Signals.{has_ended, lives}
-use Rattle.zl_code.proofs.Common.{World, IsSound, get-update, on_process, option_map}
+use Rattle.zl_code.proofs.Common.{World}
 use Rattle.zl_code.specs.Frame.{OthersMake, left_alone, woken, was_started, was_killed, dropped}
 use Rattle.zl_code.proofs.Frame.{step_leaves_others}
-use Rattle.zl_code.specs.declared.history.TraceItem.{TraceItem}
 use Rattle.zl_verify.proofs.Others.{over_after_act}
 use Rattle.zl_verify.proofs.Ended.{ended_still}
-use Rattle.zl_sched.specs.Ready.{is_ready_or_over}
 
 -- what was y is ready or over, and ready only if it was
 abbrev Stays : Process → Option Process → Type 0

@@ -1,13 +1,12 @@
 -- What becomes of the list and the marks: a process is taken out, put back, forgotten, or did something.
-use Rattle.zl_sched.proofs.Common.{◌≡◌, ◌≤◌, ◌+◌, ◌∙◌, ◌++◌, ◌∷◌, [], ℕ, suc, Bool, true, false, List, length, length-append, refl, ap, sym, subst, arith, inl}
-use Rattle.zl_sched.proofs.Common.{inr, cases_Bool, IsTrue, None, if◌then◌else◌, get, is_process, is_ready, Library, Step, Process}
-use Rattle.std.specs.Prelude.{◌==◌, ◌&&◌, not}
+use Rattle.zl_sched.proofs.Common.{Bool, IsSound, IsTrue, Library, List, Listed, None, Process, Step, TraceItem, [], ap, arith, cases_Bool, false, get}
+use Rattle.zl_sched.proofs.Common.{if◌then◌else◌, inl, inr, is_in, is_process, is_ready, is_ready_or_over, length, length-append, on_process, others_of}
+use Rattle.zl_sched.proofs.Common.{queued_after, refl, subst, suc, sym, times-other, true, ℕ, ◌&&◌, ◌++◌, ◌+◌, ◌∙◌, ◌∷◌, ◌≡◌, ◌≤◌}
+use Rattle.std.specs.Prelude.{◌==◌, not}
 use Rattle.zl_rights.proofs.Common.{false≢true, eqb-true, nat_tests}
 use Rattle.zl_rights.specs.Signals.{lives}
-use Rattle.zl_code.proofs.Common.{World, IsSound, on_process}
-use Rattle.zl_code.specs.declared.history.TraceItem.{TraceItem}
-use Rattle.zl_code.proofs.Changes.{times-other}
-use Rattle.zl_sched.specs.Ready.{times, is_in, others_of, is_ready_or_over, Listed, queued_after}
+use Rattle.zl_code.proofs.Common.{World}
+use Rattle.zl_sched.specs.Ready.{times}
 use Rattle.zl_sched.proofs.Counted.{times-append}
 use Rattle.zl_sched.proofs.Marked.{some_mark, no_mark, counted_mark, listed_but, listed_by, self_unmarked, others_marked, fewer_marks, left_marked, other_way}
 use Rattle.zl_sched.proofs.Marked.{shorter, times_self, times_none}

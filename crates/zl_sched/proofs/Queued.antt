@@ -1,19 +1,15 @@
 -- The ready list after a step: the code's is that of the definitions, holds each ready process that isn't out once, and has room.
-use Rattle.zl_sched.proofs.Common.{◌-◌, take, drop, take_more, take-append-drop, get_or, ◌≡◌, ◌<◌, ◌≤◌, ◌+◌, ◌∙◌, ℕ, Bool, true, false, List, [], ◌∷◌, ◌++◌}
-use Rattle.zl_sched.proofs.Common.{length, refl, sym, ap, subst, arith, inl, inr, cases_Bool, IsTrue, Option, Some, None, if◌then◌else◌, get, is_process}
-use Rattle.zl_sched.proofs.Common.{is_ready, state_passes, append-nil, length-append}
-use Rattle.std.specs.Prelude.{◌&&◌, not, ◌==◌, nat_lt}
-use Rattle.std.specs.List.{filter, list_any}
-use Rattle.std.proofs.lemmas.List.Elements.{filter-append}
+use Rattle.zl_sched.proofs.Common.{Bool, IsSound, IsTrue, List, None, Option, Some, [], ap, append-nil, arith, cases_Bool, drop, false, filter-append, get}
+use Rattle.zl_sched.proofs.Common.{get_or, if◌then◌else◌, inl, inr, is_in, is_process, is_ready, itself_ready, joins, length, length-append}
+use Rattle.zl_sched.proofs.Common.{length-filter_both, list_any, none_filtered, one_if, pids_of, queued_after, refl, requeued, slice_get, state_passes}
+use Rattle.zl_sched.proofs.Common.{still_ready, subst, sym, take, take-append-drop, take_more, true, ℕ, ◌&&◌, ◌++◌, ◌+◌, ◌-◌, ◌<◌, ◌∙◌, ◌∷◌, ◌≡◌, ◌≤◌}
+use Rattle.std.specs.Prelude.{not, ◌==◌, nat_lt}
+use Rattle.std.specs.List.{filter}
 use Rattle.std.proofs.lemmas.List.{take_all}
-use Rattle.std.proofs.lemmas.List.Filters.{length-filter_both}
 use Rattle.zl_rights.proofs.Common.{nat_tests, false≢true}
 use Rattle.std.proofs.lemmas.Map.Views.{any-filter_same}
-use Rattle.zl_code.proofs.Common.{World, Process, is_some, has_key, eq-eqb, eqb-true, IsSound}
-use Rattle.zl_calls.proofs.Above.{none_filtered}
-use Rattle.zl_sched.specs.Ready.{pids_of, ready_by_koid, times, is_in, still_ready, became_ready, itself_ready, queued_after}
-use Rattle.zl_sched.specs.Queueing.{joins, one_if, requeued}
-use Rattle.std.specs.Prelude.{slice_get}
+use Rattle.zl_code.proofs.Common.{World, Process, is_some, has_key, eq-eqb, eqb-true}
+use Rattle.zl_sched.specs.Ready.{ready_by_koid, times, became_ready}
 use Rattle.std.proofs.lemmas.Option.{slice_get_within, get_or_from_slice_get}
 use Rattle.zl_sched.proofs.Counted.{times-filter, times-append, any_counted, key_once, no_longer}
 use Rattle.zl_sched.proofs.Marked.{AreBut, no_mark, other_way}

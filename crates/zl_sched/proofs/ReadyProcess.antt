@@ -1,8 +1,7 @@
 -- A process that is told to be ready is ready, and no other.
-use Rattle.zl_sched.proofs.Common.{◌≡◌, ℕ, false, Option, Some, None, IsTrue, refl, get, State, Process, Created, Ready, is_ready}
-use Rattle.zl_sched.proofs.Common.{is_process, state_passes, state_in, seen_in, seen_of, is_ready_in}
+use Rattle.zl_sched.proofs.Common.{Created, IsTrue, Machine, None, Option, Process, Ready, Some, State, false, get, is_process, is_ready, is_ready_in, refl}
+use Rattle.zl_sched.proofs.Common.{seen_in, seen_of, state_in, state_passes, ℕ, ◌≡◌}
 use Rattle.zl_code.specs.declared.history.ProcState.TheVariants as seen
-use Rattle.zl_calls.specs.World.{Machine}
 
 ready_state : (s : State) → seen_in s ≡ seen.Ready → IsTrue (is_ready s)
 ready_state Created e = absurd (cc)

@@ -4,13 +4,12 @@ use Rattle.zl_rights.specs.Common.{STUCK, World, Cpu, Process, State, Created, R
 use Rattle.zl_rights.specs.World.{PacketAt}
 use Rattle.zl_code.specs.Image.{Program}
 use Rattle.zl_code.specs.declared.history.TraceItem.TheVariants as item
-use Rattle.zl_interp.specs.Bursts.{Done}
+use Rattle.zl_sched.proofs.Common.{Done, is_in, is_ready_or_over, others_of, put_back, queued_after, requeued, run_items, unmarked}
 use Rattle.zl_interp.specs.declared.bursts.Stop.{Stop}
 use Rattle.zl_interp.specs.declared.bursts.Stop.TheVariants as stop
-use Rattle.zl_sched.specs.Ready.{is_in, is_ready_or_over, others_of, queued_after, times}
-use Rattle.zl_sched.specs.Queueing.{requeued}
+use Rattle.zl_sched.specs.Ready.{times}
 use Rattle.zl_sched.specs.System.{System}
-use Rattle.zl_sched.specs.HandIn.{items_of, put_back, run_items, unmarked}
+use Rattle.zl_sched.specs.HandIn.{items_of}
 
 -- ---- items
 

@@ -1,27 +1,27 @@
 -- Where a step starts, kills and ends no process, and as many are blocked after it, all are as ready as before.
 use Rattle.zl_code.proofs.Common.{◌≡◌, ◌<◌, ◌≤◌, ◌+◌, ◌⊎◌, ℕ, Bool, true, false, not, ◌==◌, List, [], ◌∷◌, length, refl, ap, sym, ◌∙◌, subst, arith, cases_Bool}
-use Rattle.zl_code.proofs.Common.{eqb-true, false≢true, Option, Some, None, is_some, has_key, IsTrue, if◌then◌else◌, option_map, inl, inr, meets, fold, get}
-use Rattle.zl_code.proofs.Common.{World, Process, State, Created, Blocked, Gone, Object, Body, PortBody, is_process, is_ready, is_blocked}
-use Rattle.zl_code.proofs.Common.{without, state_passes, process_settled, state_without, Settles, without_others, wakes, fired, active, with_body}
-use Rattle.zl_code.proofs.Common.{woken_if_there, woken_from, woken_at_port, woken_by, woken_by_first, SignalOf, PacketAt, Packet, Library, Request, Site}
-use Rattle.zl_code.proofs.Common.{Choice, Refused, WantsMemory, Values, CallBy, after_refusal, after_ok, refusal, taken, taken_handles, effect, new_handles}
-use Rattle.zl_code.proofs.Common.{replied, on_process, on_object, with_object, insert_all, remove_all, process_with, process_without, Next, Moves, AtCall}
-use Rattle.zl_code.proofs.Common.{IsStuck, Acts, Step, next_for, get-update, get-put, get-each, filter, IsSound}
+use Rattle.zl_sched.proofs.Common.{Body, CallBy, Entry, IsSound, Object, Outcome, Packet, PortBody, Refused, Request, Settles, SignalOf, Site, TraceItem}
+use Rattle.zl_sched.proofs.Common.{Values, WantsMemory, active, after_ok, after_refusal, created_process, effect, entering_at, fired, fold, get-each, get-put}
+use Rattle.zl_sched.proofs.Common.{get-update, insert_all, leaves_ready, length-filter_both, made_ready, meets, new_handles, on_object, on_process}
+use Rattle.zl_sched.proofs.Common.{option_map, process_create, process_settled, process_start, process_with, process_without, receiver_of, refusal}
+use Rattle.zl_sched.proofs.Common.{remove_all, replied, state_without, stored_by, storing, taken, taken_handles, task_kill, wakes, with_body, with_object}
+use Rattle.zl_sched.proofs.Common.{without_others, woken_at_port, woken_by, woken_by_first, woken_from, woken_if_there}
+use Rattle.zl_code.proofs.Common.{eqb-true, false≢true, Option, Some, None, is_some, has_key, IsTrue, if◌then◌else◌, inl, inr, get}
+use Rattle.zl_code.proofs.Common.{World, Process, State, Created, Blocked, Gone, is_process, is_ready, is_blocked}
+use Rattle.zl_code.proofs.Common.{without, state_passes}
+use Rattle.zl_code.proofs.Common.{PacketAt, Library}
+use Rattle.zl_code.proofs.Common.{Choice}
+use Rattle.zl_code.proofs.Common.{Next, Moves, AtCall}
+use Rattle.zl_code.proofs.Common.{IsStuck, Acts, Step, next_for, filter}
 use Rattle.std.proofs.lemmas.Bool.{not-true}
-use Rattle.std.proofs.lemmas.List.Filters.{length-filter_both}
-use Rattle.zl_rights.specs.Wakes.{made_ready, woken}
-use Rattle.zl_rights.specs.declared.entry.Entry.{Entry}
+use Rattle.zl_rights.specs.Wakes.{woken}
 use Rattle.zl_rights.specs.declared.status.Status.{Status}
 use Rattle.zl_rights.specs.declared.status.Status.TheVariants as status
-use Rattle.zl_code.specs.declared.history.Outcome.{Outcome}
 use Rattle.zl_code.specs.declared.history.Outcome.TheVariants as outcome
-use Rattle.zl_code.specs.declared.history.TraceItem.{TraceItem}
-use Rattle.zl_code.specs.CallTable.{entering_at, name_of, process_create, process_start, receiver_of, stored_by, task_kill}
-use Rattle.zl_code.specs.Effects.{storing}
-use Rattle.zl_code.specs.Starting.{created_process}
+use Rattle.zl_code.specs.CallTable.{name_of}
 use Rattle.zl_code.proofs.Changes.{times}
 use Rattle.zl_calls.proofs.Above.{asked_next}
-use Rattle.zl_sched.specs.Queueing.{leaves_ready, may_start_or_kill}
+use Rattle.zl_sched.specs.Queueing.{may_start_or_kill}
 
 -- ---- one turn of waking
 

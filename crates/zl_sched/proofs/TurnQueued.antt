@@ -1,15 +1,9 @@
 -- A turn of a ready process that isn't out: the list that the code makes after it is that of the definitions, has room, and keeps the system whole.
-use Rattle.zl_sched.proofs.Common.{◌≡◌, ◌<◌, ◌≤◌, ◌+◌, ◌∙◌, ◌++◌, ◌∷◌, [], ℕ, List, true, false, length, sym, subst, arith, System, Step}
+use Rattle.zl_sched.proofs.Common.{IsSound, IsWhole, List, Machine, Step, System, TakesStep, TraceItem, [], arith, false, is_in, leaves_ready, length}
+use Rattle.zl_sched.proofs.Common.{queued_after, requeued, run_sound, step_sound, subst, sym, true, ℕ, ◌++◌, ◌+◌, ◌<◌, ◌∙◌, ◌∷◌, ◌≡◌, ◌≤◌}
 use Rattle.std.specs.Prelude.{not, ◌==◌}
 use Rattle.std.specs.List.{filter}
-use Rattle.zl_code.specs.declared.history.TraceItem.{TraceItem}
-use Rattle.zl_code.proofs.Common.{IsSound}
-use Rattle.zl_code.proofs.SoundRuns.{run_sound, step_sound}
-use Rattle.zl_calls.specs.World.{Machine}
-use Rattle.zl_calls.specs.Steps.{TakesStep}
-use Rattle.zl_sched.specs.Queueing.{leaves_ready, requeued}
-use Rattle.zl_sched.specs.Ready.{times, is_in, queued_after}
-use Rattle.zl_sched.specs.System.{IsWhole}
+use Rattle.zl_sched.specs.Ready.{times}
 use Rattle.zl_sched.proofs.StillReady.{ready_as_before}
 use Rattle.zl_sched.proofs.Fresh.{made_not_ready}
 use Rattle.zl_sched.proofs.Legal.{legal_more}

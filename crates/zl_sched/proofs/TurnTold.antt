@@ -1,13 +1,8 @@
 -- What a turn does that has a step, and what one is answered for which the trace has no room.
-use Rattle.zl_sched.proofs.Common.{IsTrue, false, ap, ◌≡◌, ◌∷◌, ◌++◌, List, [], ◌<◌, ◌≤◌, ℕ, Bool, inl, inr, refl, length, if◌then◌else◌, cases_Bool}
-use Rattle.zl_sched.proofs.Common.{is_ready_in, Runs, System, Turns}
-use Rattle.zl_code.specs.declared.history.TraceItem.{TraceItem}
-use Rattle.zl_calls.specs.World.{Machine}
-use Rattle.zl_sched.specs.Ready.{is_in, queued_after}
-use Rattle.zl_sched.specs.System.{may_step}
+use Rattle.zl_sched.proofs.Common.{Bool, IsTrue, List, Machine, Runs, System, TakesStep, TraceItem, Turns, [], ap, cases_Bool, false, if◌then◌else◌, inl, inr}
+use Rattle.zl_sched.proofs.Common.{is_in, is_ready_in, length, may_step, queued_after, refl, ℕ, ◌++◌, ◌<◌, ◌∷◌, ◌≡◌, ◌≤◌}
 use Rattle.std.specs.Prelude.{not}
 use Rattle.std.proofs.lemmas.Bool.{and_right}
-use Rattle.zl_calls.specs.Steps.{TakesStep}
 use Rattle.zl_sched.specs.declared.system.Stepped.{Stepped}
 use Rattle.zl_sched.specs.declared.system.Stepped.TheVariants as stepped
 

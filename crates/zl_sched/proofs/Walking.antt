@@ -1,14 +1,10 @@
 -- Turns, one after another: what was walked, and what follows it.
-use Rattle.zl_sched.proofs.Common.{Bool, true, ◌≡◌, ℕ, ◌+◌, ◌-◌, ◌<◌, ◌≤◌, false, List, [], ◌∷◌, ◌++◌, length, replicate, take, drop, take-append-drop, get_or}
-use Rattle.zl_sched.proofs.Common.{refl, sym, ap, ◌∙◌, subst, IsTrue, arith, append_assoc, append-nil, zero, suc, take_more, is_process, is_ready, Library}
-use Rattle.zl_sched.proofs.Common.{is_ready_in, Follows, ends, skips, goes, StopsBefore, EndsBy, turns_of, System, Adds, Runs, Walks, room_of, length-append}
+use Rattle.zl_sched.proofs.Common.{Adds, Bool, End, EndsBy, Follows, IsTrue, Library, List, Runs, StopsBefore, System, TraceItem, Walks, [], ap, append-nil}
+use Rattle.zl_sched.proofs.Common.{append_assoc, arith, drop, ends, false, flat_map-append, get_or, goes, is_process, is_ready, is_ready_in, length}
+use Rattle.zl_sched.proofs.Common.{length-append, may_step, refl, replicate, room_of, skips, subst, suc, sym, take, take-append-drop, take_more, true}
+use Rattle.zl_sched.proofs.Common.{turns_of, zero, ℕ, ◌&&◌, ◌++◌, ◌+◌, ◌-◌, ◌<◌, ◌∙◌, ◌∷◌, ◌≡◌, ◌≤◌}
 use Rattle.zl_code.proofs.Common.{World, and_parts}
-use Rattle.std.specs.Prelude.{◌&&◌}
-use Rattle.zl_sched.specs.System.{may_step}
 use Rattle.std.proofs.lemmas.List.{replicate_more, replicate-append-replicate}
-use Rattle.std.proofs.lemmas.List.Concat.{flat_map-append}
-use Rattle.zl_code.specs.declared.history.TraceItem.{TraceItem}
-use Rattle.zl_sched.specs.declared.system.End.{End}
 use Rattle.zl_sched.specs.declared.system.End.TheVariants as end
 
 -- ---- what follows a schedule

@@ -1,18 +1,14 @@
 -- From what the parts of the engine do to the answer to a text.
-use Rattle.zlab.proofs.Common.{◌≡◌, ℕ, List, [], ◌++◌, length, Option, Some, None, Result, Ok, Err, refl, sym, ap, ◌∙◌, subst, arith, IfOk, OnOk}
-use Rattle.zlab.proofs.Common.{IsLegalHistory, Appends, states_of, IsRunOf, IsFirstFault, too_long, IsAnswer, trace, refusal, Answers, BeginsAnswer, nothing}
-use Rattle.zlab.proofs.Common.{beginning, IsTextOf, AnswersInput, AnswersSome, BeginsInput, BeginsReader, BeginsSome, BeginsFiles, joined_files, Holds}
-use Rattle.zlab.proofs.Common.{IsBounded, IsStart, IsRun, WritesRun, BeginsRun, no_line, some_lines, turns_of, EndsBy, AppendsBeginning, System, Walks, room_of}
-use Rattle.zlab.proofs.Common.{history_text, cause_name, refused_line}
+use Rattle.zlab.proofs.Common.{Answers, AnswersInput, AnswersSome, Appends, AppendsBeginning, BeginsAnswer, BeginsFiles, BeginsInput, BeginsReader, BeginsRun}
+use Rattle.zlab.proofs.Common.{BeginsSome, End, EndsBy, Err, Holds, IfOk, IsAnswer, IsBounded, IsFirstFault, IsLegalHistory, IsRun, IsRunOf, IsStart}
+use Rattle.zlab.proofs.Common.{IsTextOf, LineFault, List, None, Ok, OnOk, Option, Result, Some, System, TraceItem, Verdict, Walks, WritesRun, [], ap, arith}
+use Rattle.zlab.proofs.Common.{beginning, cause_name, history_text, joined_files, length, no_line, nothing, refl, refusal, refused_line, room_of, some_lines}
+use Rattle.zlab.proofs.Common.{states_of, subst, sym, too_long, trace, turns_of, ℕ, ◌++◌, ◌∙◌, ◌≡◌}
 use Rattle.std.specs.Prelude.{OnErr}
-use Rattle.zl_code.specs.declared.history.TraceItem.{TraceItem}
 use Rattle.zl_scenario.specs.declared.cause.Cause.TheVariants as cause
-use Rattle.zl_scenario.specs.declared.cause.LineFault.{LineFault}
-use Rattle.zlab.specs.declared.fault.Verdict.{Verdict}
 use Rattle.zlab.specs.declared.fault.Verdict.TheVariants as verdict
 use Rattle.zlab.specs.declared.input.Input.{Input}
 use Rattle.zlab.specs.declared.input.Input.TheVariants as input
-use Rattle.zl_sched.specs.declared.system.End.{End}
 use Rattle.zlab.specs.Assembling.{BeginsAssembly, nothing_written}
 use Rattle.zl_sched.proofs.Legal.{ends_legal}
 use Rattle.zlab.proofs.SoundWorlds.{always_sound}

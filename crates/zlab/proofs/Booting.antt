@@ -1,18 +1,13 @@
 -- What the text leads to before the first step.
-use Rattle.zlab.proofs.Common.{◌≡◌, ℕ, ◌<◌, List, [], length, get_or, Some, None, sym, ap, ◌∙◌, subst, arith, slice_get, slice_get-get_or, none-some, IsBoot}
-use Rattle.zlab.proofs.Common.{FirstFault, at_statement, at_limit, slice_index_or, IsFirstFault, of_statement, of_reading, line_cause, IsStart, FitsInput}
-use Rattle.zlab.proofs.Common.{Reading, IsRead, Option, IsInOrder, System}
+use Rattle.zlab.proofs.Common.{BootCause, FirstFault, FitsInput, IsBoot, IsFirstFault, IsFirstFaultBy, IsInOrder, IsRead, IsScenario, IsStart, LineFault}
+use Rattle.zlab.proofs.Common.{List, None, Option, Reading, Some, Statement, System, [], ap, arith, at_limit, at_statement, get_or, length, line_cause}
+use Rattle.zlab.proofs.Common.{none-some, of_reading, of_statement, slice_get, slice_get-get_or, slice_index_or, subst, sym, ℕ, ◌<◌, ◌∙◌, ◌≡◌}
 use Rattle.zl_code.proofs.Common.{World}
 use Rattle.zl_code.specs.Headline.{IsSizedBoot}
 use Rattle.std.proofs.lemmas.Option.{slice_get_within}
-use Rattle.zl_code.specs.declared.boot.BootCause.{BootCause}
 use Rattle.zl_code.specs.declared.boot.BootCause.TheVariants as boot
-use Rattle.zl_code.specs.declared.boot.Statement.{Statement}
 use Rattle.zl_scenario.specs.declared.cause.Cause.{Cause}
-use Rattle.zl_scenario.specs.declared.cause.LineFault.{LineFault}
 use Rattle.zl_scenario.specs.declared.reading.Scenario.{Scenario as Made}
-use Rattle.zlab.specs.Engine.{IsFirstFaultBy}
-use Rattle.zl_scenario.specs.Reading.{IsScenario}
 
 -- only a want of memory has no line
 other_than_memory : (found : BootCause) (c : Cause) → line_cause found ≡ Some c → found ≡ boot.NoMemory → ⊥

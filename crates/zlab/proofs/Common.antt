@@ -23,3 +23,15 @@ unfoldable pub use Rattle.zl_scenario.specs.Scenario.{turns_said}
 pub use Rattle.zl_scenario.specs.Reads.{IsRead}
 pub use Rattle.zl_scenario.specs.Causes.{cause_name}
 pub use Rattle.zlab.specs.Text.{refused_line}
+pub use Rattle.zl_code.proofs.Common.{take_all}
+pub use Rattle.zl_code.specs.declared.boot.BootCause.{BootCause}
+pub use Rattle.zl_code.specs.declared.boot.Statement.{Statement}
+pub use Rattle.zl_code.specs.declared.history.TraceItem.{TraceItem}
+pub use Rattle.zl_scenario.specs.Reading.{IsScenario, reading_value}
+pub use Rattle.zl_scenario.specs.declared.cause.LineFault.{LineFault}
+pub use Rattle.zl_sched.specs.declared.system.End.{End}
+pub use Rattle.zl_trace.proofs.KnownOutput.{on_err}
+pub use Rattle.zlab.specs.Engine.{IsFirstFaultBy}
+pub use Rattle.zlab.specs.Replay.{IsStatementFault, fault_alone}
+pub use Rattle.zlab.specs.Running.{no_trace, not_begun}
+pub use Rattle.zlab.specs.declared.fault.Verdict.{Verdict}

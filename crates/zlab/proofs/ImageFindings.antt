@@ -1,8 +1,8 @@
 -- What is found in what is read of an image, and is true of all its bytes.
-use Rattle.zlab.proofs.Common.{◌+◌, ◌∷◌, ◌≡◌, ◌≤◌, ℕ, List, length, Option, None, Some, Result, Err, refl, sym, subst, ap, ◌∙◌, inl, inr, ◌⊎◌, arith}
-use Rattle.zlab.proofs.Common.{length-take, Image, Spells, header_fault, first_fault}
+use Rattle.zlab.proofs.Common.{Err, Image, List, None, Option, Result, Some, Spells, ap, arith, first_fault, header_fault, inl, inr, length, length-take}
+use Rattle.zlab.proofs.Common.{refl, subst, sym, take_all, ℕ, ◌+◌, ◌∙◌, ◌∷◌, ◌≡◌, ◌≤◌, ◌⊎◌}
 use Rattle.std.specs.Prelude.{MatchResult, ◌≢◌}
-use Rattle.zl_code.proofs.Common.{take_all, leb-true, first_some}
+use Rattle.zl_code.proofs.Common.{leb-true, first_some}
 use Rattle.zl_code.proofs.ImageWhole.{spells_no_fault}
 use Rattle.zl_code.proofs.ImageHeader.{header_fits, header_ranges}
 use Rattle.zl_code.specs.declared.image.DecodeFault.{DecodeFault}

@@ -1,8 +1,8 @@
 -- What has been read so far, of a reader that may tell its bytes.
-use Rattle.zlab.proofs.Common.{ℕ, ◌≡◌, ◌+◌, ◌<◌, ◌≤◌, List, ◌++◌, length, take, Option, None, Some, refl, sym, ap, ◌∙◌, arith, append-nil, length-take}
-use Rattle.zlab.proofs.Common.{Consumes, MOST_INPUT, IsInputOf}
+use Rattle.zlab.proofs.Common.{Consumes, IsInputOf, List, MOST_INPUT, None, Option, Some, ap, append-nil, arith, length, length-take, refl, sym, take}
+use Rattle.zlab.proofs.Common.{take_all, ℕ, ◌++◌, ◌+◌, ◌<◌, ◌∙◌, ◌≡◌, ◌≤◌}
 use Rattle.std.specs.Io.KnownBytes.{IsAtEnd}
-use Rattle.zl_code.proofs.Common.{take_all, take_at}
+use Rattle.zl_code.proofs.Common.{take_at}
 use Rattle.zlab.specs.Input.{IsFrontOf}
 use Rattle.zlab.specs.declared.input.Input.TheVariants as input
 

@@ -1,19 +1,14 @@
 -- What comes of a scenario and a trace, from what their parts give.
-use Rattle.zlab.proofs.Common.{◌≡◌, ℕ, ◌+◌, ◌<◌, ◌≤◌, List, Option, None, Some, length, take, refl, sym, ap, ◌∙◌, subst, arith, length-take, IsBoot, of_reading}
-use Rattle.zlab.proofs.Common.{too_long, FitsInput, Reading, IsRead, IsInOrder, MOST_INPUT}
-use Rattle.zl_code.proofs.Common.{take_all}
+use Rattle.zlab.proofs.Common.{FitsInput, IsBoot, IsFirstFaultBy, IsInOrder, IsRead, IsScenario, IsStatementFault, LineFault, List, MOST_INPUT, None, Option}
+use Rattle.zlab.proofs.Common.{Reading, Some, Statement, TraceItem, ap, arith, fault_alone, length, length-take, of_reading, refl, subst, sym, take, take_all}
+use Rattle.zlab.proofs.Common.{too_long, ℕ, ◌+◌, ◌<◌, ◌∙◌, ◌≡◌, ◌≤◌}
 use Rattle.zl_code.specs.Common.{World}
-use Rattle.zl_code.specs.declared.boot.Statement.{Statement}
-use Rattle.zl_code.specs.declared.history.TraceItem.{TraceItem}
 use Rattle.zl_trace.specs.Reading.{AreLinesOf, IsFirstWrong, item_lines_of}
 use Rattle.zl_scenario.specs.declared.cause.Cause.TheVariants as cause
-use Rattle.zl_scenario.specs.declared.cause.LineFault.{LineFault}
 use Rattle.zlab.specs.declared.replaying.Replayed.{Replayed}
 use Rattle.zlab.specs.declared.replaying.Replayed.TheVariants as replayed
 use Rattle.zl_scenario.specs.declared.reading.Scenario.{Scenario as Made}
-use Rattle.zlab.specs.Engine.{IsFirstFaultBy}
-use Rattle.zl_scenario.specs.Reading.{IsScenario}
-use Rattle.zlab.specs.Replay.{AreItems, Boots, Comes, HasItems, IsScenarioOf, IsStatementFault, IsTraceFault, IsTrueOf, MOST_TRACE, fault_alone, trace_front}
+use Rattle.zlab.specs.Replay.{AreItems, Boots, Comes, HasItems, IsScenarioOf, IsTraceFault, IsTrueOf, MOST_TRACE, trace_front}
 use Rattle.zlab.specs.Replay.{wrong, too_long as trace_too_long}
 use Rattle.zlab.proofs.Booting.{statement_fault}
 

@@ -1,6 +1,6 @@
 -- What a writer got of the text of a run.
-use Rattle.zlab.proofs.Common.{ℕ, List, Option, refl, Appends, IsRun, WritesRun, BeginsRun, some_lines, AppendsBeginning, System, Walks, turns_of, trace_text}
-use Rattle.zl_sched.specs.declared.system.End.{End}
+use Rattle.zlab.proofs.Common.{Appends, AppendsBeginning, BeginsRun, End, IsRun, List, Option, System, Walks, WritesRun, refl, some_lines, trace_text}
+use Rattle.zlab.proofs.Common.{turns_of, ℕ}
 
 module _ (s last : System) (pairs : List (ℕ × ℕ)) (e : End) (walks : Walks s (turns_of pairs) e last) where
   is_run : IsRun s pairs (trace_text last e)

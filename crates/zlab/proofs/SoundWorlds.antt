@@ -1,8 +1,6 @@
 -- In every world of a history from a boot world handles are sound, and name objects of their kind.
-use Rattle.zlab.proofs.Common.{List, IsBoot, Library, IsSound, IsLegalHistory, InEachWorld}
+use Rattle.zlab.proofs.Common.{InEachWorld, IsBoot, IsLegalHistory, IsSound, Library, List, Statement, TraceItem}
 use Rattle.zl_code.proofs.Common.{World}
-use Rattle.zl_code.specs.declared.boot.Statement.{Statement}
-use Rattle.zl_code.specs.declared.history.TraceItem.{TraceItem}
 use Rattle.zl_code.proofs.SoundRuns.{history_keeps}
 
 pub always_sound : (lib : Library) (statements : List Statement) (boot w : World) (items : List TraceItem) → IsBoot lib statements boot

@@ -1,29 +1,22 @@
 -- What a scenario alone leads to, and the text of a run on threads.
-use Rattle.zlab.proofs.Common.{◌≡◌, ℕ, ◌≤◌, List, Option, None, Some, refl, sym, ◌∙◌, subst, arith, FirstFault, IsBoot, at_limit, at_statement, Appends}
-use Rattle.zlab.proofs.Common.{AppendsBeginning, FitsInput, Reading, IsRead, IsInOrder, IsTextOf, Library, System, cause_name, line_cause, refused_line}
-use Rattle.zlab.proofs.Common.{slice_index_or, trace_text}
+use Rattle.zlab.proofs.Common.{Appends, AppendsBeginning, BootCause, End, FirstFault, FitsInput, IsBoot, IsFirstFaultBy, IsInOrder, IsRead, IsScenario}
+use Rattle.zlab.proofs.Common.{IsStatementFault, IsTextOf, Library, LineFault, List, None, Option, Reading, Some, Statement, System, Verdict, arith, at_limit}
+use Rattle.zlab.proofs.Common.{at_statement, cause_name, fault_alone, line_cause, no_trace, not_begun, refl, refused_line, slice_index_or, subst, sym}
+use Rattle.zlab.proofs.Common.{trace_text, ℕ, ◌∙◌, ◌≡◌, ◌≤◌}
 use Rattle.std.specs.Prelude.{IfSome, IfNone}
 use Rattle.std.specs.Option.{unwrap_or}
 use Rattle.zl_code.proofs.Common.{World}
 use Rattle.zl_code.specs.Common.{MOST_ITEMS}
-use Rattle.zl_code.specs.declared.boot.BootCause.{BootCause}
 use Rattle.zl_code.specs.declared.boot.BootCause.TheVariants as boot
-use Rattle.zl_code.specs.declared.boot.Statement.{Statement}
-use Rattle.zl_scenario.specs.declared.cause.LineFault.{LineFault}
 use Rattle.zl_scenario.specs.declared.reading.Scenario.{Scenario as Made}
-use Rattle.zl_scenario.specs.Reading.{IsScenario}
-use Rattle.zl_sched.specs.declared.system.End.{End}
 use Rattle.zl_sched.specs.Opening.{GoesOn, Opening, opening_of}
 use Rattle.zl_sched.specs.System.{AreSafe}
 use Rattle.zl_pool.specs.declared.pool.RunEnd.{RunEnd}
 use Rattle.zl_pool.specs.declared.pool.RunEnd.TheVariants as run
 use Rattle.zl_pool.specs.Pool.{EndsRun}
-use Rattle.zlab.specs.declared.fault.Verdict.{Verdict}
 use Rattle.zlab.specs.declared.fault.Verdict.TheVariants as verdict
-use Rattle.zlab.specs.Engine.{IsFirstFaultBy}
-use Rattle.zlab.specs.Replay.{IsStatementFault, fault_alone}
 use Rattle.zlab.specs.Running.{AnswersRun, BeginsRunAnswer, BeginsThreads, IsOfScenario, IsRunAnswer, IsRunFrom, RestsBy, WritesThreads, begun, end_named}
-use Rattle.zlab.specs.Running.{no_trace, not_begun, run_refusal, run_trace, some_trace}
+use Rattle.zlab.specs.Running.{run_refusal, run_trace, some_trace}
 use Rattle.zlab.proofs.Booting.{statement_fault}
 use Rattle.zlab.proofs.ReplayFound.{fault_of_reading, fault_of_statement}
 use Rattle.zlab.proofs.SoundWorlds.{always_sound}

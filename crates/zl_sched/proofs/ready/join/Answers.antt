@@ -1,6 +1,4 @@
-use Rattle.zl_sched.proofs.Common.{◌∙◌, ℕ, List, ap, sym, arith}
-use Rattle.zl_sched.specs.Ready.{pids_of}
-use Rattle.zl_sched.specs.Queueing.{joins}
+use Rattle.zl_sched.proofs.Common.{List, ap, arith, joins, pids_of, sym, ℕ, ◌∙◌}
 use Rattle.zl_sched.proofs.Joining.{comes, has_place, stays_front}
 use Rattle.zl_sched.proofs.ready.join.Goals as goal
 

@@ -1,8 +1,5 @@
-use Rattle.zl_sched.proofs.Common.{◌≡◌, ◌++◌, length, take}
-use Rattle.std.specs.Prelude.{vec_capacity}
+use Rattle.zl_sched.proofs.Common.{joins, length, pids_of, take, vec_capacity, ◌++◌, ◌≡◌}
 use Rattle.std.specs.List.{filter}
-use Rattle.zl_sched.specs.Ready.{pids_of}
-use Rattle.zl_sched.specs.Queueing.{joins}
 use Rattle.zl_sched.proofs.ready.join.Given as goal
 
 abbrev pub invariant-loop-n : goal.invariant-loop-n

@@ -1,7 +1,6 @@
-use Rattle.zl_sched.proofs.Common.{◌-◌, ◌∙◌, refl, get_or, subst, sym, ◌≡◌, ◌++◌, ◌∷◌, [], List, ℕ, ap, arith, length, rules}
+use Rattle.zl_sched.proofs.Common.{List, [], ap, arith, filter_same, get_or, length, refl, rules, subst, sym, ℕ, ◌++◌, ◌-◌, ◌∙◌, ◌∷◌, ◌≡◌}
 use Rattle.std.specs.Prelude.{not, ◌==◌}
 use Rattle.std.specs.List.{filter}
-use Rattle.std.proofs.lemmas.Fn.{filter_same}
 use Rattle.zl_sched.proofs.Queued.{last_stays_at, room_left}
 use Rattle.zl_sched.proofs.ready.move_last.Goals as goal
 

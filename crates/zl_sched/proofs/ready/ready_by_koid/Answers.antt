@@ -1,6 +1,5 @@
-use Rattle.zl_sched.proofs.Common.{◌∙◌, [], sym, arith, is_process, is_ready}
+use Rattle.zl_sched.proofs.Common.{[], arith, is_process, is_ready, pids_of, sym, ◌∙◌}
 use Rattle.zl_code.proofs.Entering.{length_filter}
-use Rattle.zl_sched.specs.Ready.{pids_of}
 use Rattle.zl_sched.proofs.Joining.{comes, has_place}
 use Rattle.zl_sched.proofs.ready.ready_by_koid.Goals as goal
 

@@ -1,7 +1,5 @@
-use Rattle.zl_sched.proofs.Common.{◌≡◌, ◌≤◌, length, take, is_process, is_ready}
-use Rattle.std.specs.Prelude.{vec_capacity}
+use Rattle.zl_sched.proofs.Common.{is_process, is_ready, length, pids_of, take, vec_capacity, ◌≡◌, ◌≤◌}
 use Rattle.std.specs.List.{filter}
-use Rattle.zl_sched.specs.Ready.{pids_of}
 use Rattle.zl_sched.proofs.ready.ready_by_koid.Given as goal
 
 abbrev pub invariant-loop-n : goal.invariant-loop-n

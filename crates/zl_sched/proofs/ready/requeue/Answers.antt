@@ -1,7 +1,4 @@
-use Rattle.zl_sched.proofs.Common.{◌≡◌, ◌∙◌, ◌<◌, sym, refl, arith, length, rules}
-use Rattle.std.specs.Prelude.{vec_capacity}
-use Rattle.std.proofs.lemmas.Fn.{filter_same}
-use Rattle.zl_sched.specs.Ready.{still_ready}
+use Rattle.zl_sched.proofs.Common.{arith, filter_same, length, refl, rules, still_ready, sym, vec_capacity, ◌<◌, ◌∙◌, ◌≡◌}
 use Rattle.zl_sched.proofs.Joining.{join_fits, push_fits, requeued_with, requeued_without}
 use Rattle.zl_sched.proofs.ready.requeue.Goals as goal
 

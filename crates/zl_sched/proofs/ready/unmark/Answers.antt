@@ -1,5 +1,4 @@
-use Rattle.zl_sched.proofs.Common.{rules}
-use Rattle.std.proofs.lemmas.Fn.{filter_same}
+use Rattle.zl_sched.proofs.Common.{filter_same, rules}
 use Rattle.zl_sched.proofs.ready.unmark.Goals as goal
 
 pub returns : goal.returns

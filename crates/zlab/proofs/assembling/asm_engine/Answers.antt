@@ -1,6 +1,6 @@
 use Rattle.zlab.specs.Assembling.{image_begun, line_begun}
 use Rattle.zlab.proofs.Answering.{text_unanswered}
-use Rattle.zl_trace.proofs.KnownOutput.{on_err}
+use Rattle.zlab.proofs.Common.{on_err}
 use Rattle.zlab.proofs.assembling.asm_engine.Goals as goal
 
 pub returns-in_err-bytes-clause-err : goal.returns-in_err-bytes-clause-err

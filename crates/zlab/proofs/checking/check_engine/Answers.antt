@@ -1,6 +1,5 @@
-use Rattle.zlab.proofs.Common.{◌∙◌}
+use Rattle.zlab.proofs.Common.{on_err, ◌∙◌}
 use Rattle.zlab.specs.Checking.{no_line, line_begun}
-use Rattle.zl_trace.proofs.KnownOutput.{on_err}
 use Rattle.zlab.proofs.checking.check_engine.Goals as goal
 
 pub returns-in_err-front-clause-err : goal.returns-in_err-front-clause-err

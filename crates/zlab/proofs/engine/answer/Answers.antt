@@ -1,6 +1,5 @@
-use Rattle.zlab.proofs.Common.{nothing}
+use Rattle.zlab.proofs.Common.{nothing, on_err}
 use Rattle.zlab.proofs.Answering.{both_ok, mapped_err, run_answers, run_begins, refusal_answers, refusal_begins}
-use Rattle.zl_trace.proofs.KnownOutput.{on_err}
 use Rattle.zlab.proofs.engine.answer.Goals as goal
 
 pub returns-in_err-system-clause-err : goal.returns-in_err-system-clause-err

@@ -1,6 +1,5 @@
-use Rattle.zlab.proofs.Common.{refl, Starts}
+use Rattle.zlab.proofs.Common.{Starts, reading_value, refl}
 use Rattle.zlab.proofs.Booting.{statement_fault, reading_fault, is_start}
-use Rattle.zl_scenario.specs.Reading.{reading_value}
 use Rattle.zlab.proofs.engine.boot.Goals.{in-Some, in-None}
 use Rattle.zlab.proofs.engine.boot.Goals as goal
 

@@ -1,5 +1,4 @@
-use Rattle.zlab.proofs.Common.{no_line}
-use Rattle.zl_trace.proofs.KnownOutput.{on_err}
+use Rattle.zlab.proofs.Common.{no_line, on_err}
 use Rattle.zlab.proofs.RunOutput.{run_written, run_begun}
 use Rattle.zlab.proofs.engine.write_run.Goals as goal
 

@@ -1,5 +1,5 @@
 use Rattle.zlab.proofs.Answering.{is_bounded, mapped_ok, mapped_err, source_answers, source_begins, files_unanswered}
-use Rattle.zl_trace.proofs.KnownOutput.{on_err}
+use Rattle.zlab.proofs.Common.{on_err}
 use Rattle.zlab.proofs.files.step_files_engine.Goals as goal
 
 pub answer_input-requires : goal.answer_input-requires

@@ -1,7 +1,6 @@
-use Rattle.zlab.proofs.Common.{sym, ◌∙◌}
+use Rattle.zlab.proofs.Common.{reading_value, sym, ◌∙◌}
 use Rattle.zlab.proofs.Answering.{mapped_ok}
 use Rattle.zlab.proofs.ReplayFound.{boots_of, comes_of, fault_of_reading, fault_of_statement}
-use Rattle.zl_scenario.specs.Reading.{reading_value}
 use Rattle.zlab.proofs.replaying.compare.Goals as goal
 
 pub returns-in-Some-2-clause-ok : goal.returns-in-Some-2-clause-ok

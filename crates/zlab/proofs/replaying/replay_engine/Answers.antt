@@ -1,7 +1,6 @@
-use Rattle.zlab.proofs.Common.{◌∙◌}
+use Rattle.zlab.proofs.Common.{on_err, ◌∙◌}
 use Rattle.zlab.proofs.Answering.{is_bounded}
 use Rattle.zlab.specs.Replay.{line_begun, no_line}
-use Rattle.zl_trace.proofs.KnownOutput.{on_err}
 use Rattle.zlab.proofs.replaying.replay_engine.Goals as goal
 
 pub returns-in_err-input-clause-err : goal.returns-in_err-input-clause-err

@@ -1,8 +1,5 @@
-use Rattle.zlab.proofs.Common.{sym, ◌∙◌, subst}
-use Rattle.zlab.specs.Engine.{IsFirstFaultBy}
-use Rattle.zlab.specs.Replay.{fault_alone}
+use Rattle.zlab.proofs.Common.{IsFirstFaultBy, fault_alone, reading_value, subst, sym, ◌∙◌}
 use Rattle.zlab.proofs.ThreadRuns.{first_of_both, first_of_statements}
-use Rattle.zl_scenario.specs.Reading.{reading_value}
 use Rattle.zlab.proofs.running.boot_alone.Goals as goal
 
 pub returns-in-Some-clause-ok : goal.returns-in-Some-clause-ok

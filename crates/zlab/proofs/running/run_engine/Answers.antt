@@ -1,7 +1,6 @@
 use Rattle.zlab.proofs.Answering.{both_ok, is_bounded, mapped_err}
-use Rattle.zlab.specs.Running.{not_begun}
+use Rattle.zlab.proofs.Common.{not_begun, on_err}
 use Rattle.zlab.proofs.ThreadRuns.{run_answers, run_begins, refusal_answers, refusal_begins}
-use Rattle.zl_trace.proofs.KnownOutput.{on_err}
 use Rattle.zlab.proofs.running.run_engine.Goals as goal
 
 pub returns-in_err-input-clause-err : goal.returns-in_err-input-clause-err

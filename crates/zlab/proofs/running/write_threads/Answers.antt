@@ -1,6 +1,4 @@
-use Rattle.zlab.proofs.Common.{sym, ◌∙◌}
-use Rattle.zlab.specs.Running.{no_trace}
-use Rattle.zl_trace.proofs.KnownOutput.{on_err}
+use Rattle.zlab.proofs.Common.{no_trace, on_err, sym, ◌∙◌}
 use Rattle.zlab.proofs.ThreadRuns.{threads_written, threads_begun}
 use Rattle.zlab.proofs.running.write_threads.Goals as goal
 

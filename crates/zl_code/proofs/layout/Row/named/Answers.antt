@@ -1,5 +1,4 @@
-use Rattle.zl_code.proofs.Common.{◌≡◌, None, sym, ap, arith, option_map, row_named}
-use Rattle.zl_code.specs.Instructions.{row_value}
+use Rattle.zl_code.proofs.Common.{None, ap, arith, option_map, row_named, row_value, sym, ◌≡◌}
 use Rattle.zl_code.proofs.InstrTable.{laid_out, row_by_name, not_here, no_row, other_name, no_name}
 use Rattle.zl_code.proofs.layout.Row.named.Goals as goal
 

@@ -1,9 +1,4 @@
-use Rattle.zl_sched.proofs.Common.{◌≡◌, ◌≤◌, ◌∙◌, ap, arith, length, System}
-use Rattle.std.specs.Prelude.{vec_capacity}
-use Rattle.zl_calls.proofs.Above.{done}
-use Rattle.zl_sched.specs.Queueing.{requeued}
-use Rattle.zl_sched.specs.Ready.{others_of}
-use Rattle.zl_sched.specs.HandIn.{GoesFrom, HasRoom, IsAwaited}
+use Rattle.zl_sched.proofs.Common.{GoesFrom, HasRoom, IsAwaited, System, ap, arith, done, length, others_of, requeued, vec_capacity, ◌∙◌, ◌≡◌, ◌≤◌}
 use Rattle.zl_sched.proofs.HandedIn.{accepted_room, accepted_so, accepted_whole, goes_last, requeued_room, requeued_so}
 use Rattle.zl_sched.proofs.Held.{held}
 use Rattle.zl_sched.proofs.system.System.accept.Goals as goal

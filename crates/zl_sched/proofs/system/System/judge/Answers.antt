@@ -1,5 +1,4 @@
-use Rattle.zl_sched.proofs.Common.{◌≡◌, true, false, sym, is_process, is_ready, System}
-use Rattle.zl_sched.specs.Ready.{is_in}
+use Rattle.zl_sched.proofs.Common.{System, false, is_in, is_process, is_ready, sym, true, ◌≡◌}
 use Rattle.zl_sched.proofs.MarksKept.{over_or_ready}
 use Rattle.zl_sched.proofs.Held.{held}
 use Rattle.zl_sched.proofs.system.System.judge.Goals as goal

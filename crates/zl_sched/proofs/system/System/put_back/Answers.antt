@@ -1,5 +1,4 @@
-use Rattle.zl_sched.proofs.Common.{◌≡◌, true, arith, ap, length, is_process, is_ready, System}
-use Rattle.zl_sched.specs.Ready.{is_in}
+use Rattle.zl_sched.proofs.Common.{System, ap, arith, is_in, is_process, is_ready, length, true, ◌≡◌}
 use Rattle.zl_sched.proofs.HandedIn.{puts_back_whole}
 use Rattle.zl_sched.proofs.MarksMoved.{out_shorter, put_back_room}
 use Rattle.zl_sched.proofs.Held.{held}

@@ -1,8 +1,5 @@
-use Rattle.zl_sched.proofs.Common.{◌≡◌, ◌≤◌, ◌∙◌, ◌++◌, ◌∷◌, [], false, ℕ, List, ap, arith, length, rules, sym, System}
-use Rattle.std.specs.Prelude.{vec_capacity}
-use Rattle.zl_calls.proofs.Above.{done}
-use Rattle.zl_sched.specs.Queueing.{requeued}
-use Rattle.zl_sched.specs.Ready.{is_in, others_of, queued_after}
+use Rattle.zl_sched.proofs.Common.{List, System, [], ap, arith, done, false, is_in, length, others_of, queued_after, requeued, rules, sym, vec_capacity, ℕ}
+use Rattle.zl_sched.proofs.Common.{◌++◌, ◌∙◌, ◌∷◌, ◌≡◌, ◌≤◌}
 use Rattle.zl_sched.proofs.TurnTold.{limit_told, step_told}
 use Rattle.zl_sched.proofs.TurnQueued.{by_move, by_requeue, once, places, queue_room, still_whole}
 use Rattle.zl_sched.proofs.Held.{held}

@@ -3,4 +3,3 @@ pub mod Above
 pub mod lists
 pub mod tables
 pub mod objects
-pub mod processes

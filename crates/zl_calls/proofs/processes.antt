@@ -5,3 +5,4 @@ pub mod Stopped
 pub mod Departed
 pub mod Idle
 pub mod Answering
+pub mod InOrder

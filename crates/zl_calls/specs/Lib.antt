@@ -16,3 +16,4 @@ pub mod Policed
 pub mod FieldFaults
 pub mod Reaching
 pub mod Turns
+pub mod Calling

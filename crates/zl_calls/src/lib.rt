@@ -12,6 +12,7 @@ mod calls;
 mod leaving;
 mod policy;
 mod process;
+mod processes;
 mod stepping;
 mod tasks;
 mod waits;

@@ -1,8 +1,6 @@
 //! How registered waits end and fire, one after another in the order in which they were registered.
 
-ghost use Rattle.std.specs.Prelude.{◌≡◌, IsTrue, map};
-ghost use Rattle.std.specs.Ordering.{nat_cmp};
-ghost use Rattle.std.specs.FinMap.Entries.{is_sorted};
+ghost use Rattle.std.specs.Prelude.{◌≡◌, map};
 ghost use Rattle.zl_rights.specs.Map.{get};
 ghost use Rattle.zl_rights.specs.Settle.{has_handle};
 ghost use Rattle.zl_objects.specs.Listed.{wait_value};
@@ -12,8 +10,7 @@ ghost use Rattle.zl_code.specs.Waiting.{is_by_handle, is_keyed};
 ghost use Rattle.zl_calls.specs.Consistent.{IsConsistent};
 ghost use Rattle.zl_calls.specs.Registered.{EndsUnheld, EndsWaits, FiresWaits, is_left};
 
-use crate::process::Process;
-use crate::stepping::place_of;
+use crate::processes::Processes;
 use bitflags::Flags;
 use zl_objects::{Objects, Wait};
 use zl_rights::{HValue, Koid, Pid};
@@ -53,9 +50,9 @@ pub fn cancel_waits(objects: &mut Objects, pid: Pid, value: HValue, port: Koid, 
 
 /// The waits end whose handle, object or port is gone. It takes no memory.
 #[inline(always)]
-pub fn end_unheld(processes: &[Process], objects: &mut Objects)
-    requires { IsConsistent processes.now objects.old }
-    ensures { EndsUnheld processes.now objects.old objects.new }
+pub fn end_unheld(processes: &Processes, objects: &mut Objects)
+    requires { IsConsistent processes.now.list.items objects.old }
+    ensures { EndsUnheld processes.now.list.items objects.old objects.new }
 {
     let mut place = 0;
     while let Some(wait) = objects.wait_at(place) {
@@ -70,9 +67,9 @@ pub fn end_unheld(processes: &[Process], objects: &mut Objects)
 /// Each wait that holds, in the order of registration, gives its packet and is gone. It takes no
 /// memory.
 #[inline(always)]
-pub fn fire_waits(processes: &[Process], objects: &mut Objects)
-    requires { IsConsistent processes.now objects.old }
-    ensures { FiresWaits processes.now objects.old objects.new }
+pub fn fire_waits(processes: &Processes, objects: &mut Objects)
+    requires { IsConsistent processes.now.list.items objects.old }
+    ensures { FiresWaits processes.now.list.items objects.old objects.new }
 {
     let mut place = 0;
     while let Some(wait) = objects.wait_at(place) {
@@ -102,9 +99,9 @@ pub fn is_keyed(wait: &Wait, pid: Pid, value: HValue, port: Koid, key: u64) -> b
 
 /// Whether the handle of the wait is there, and its object and port.
 #[tactic(auto, using(crate::proofs::waits::Ending::kind_there), unfolding(zl_rights::specs::Settle::is_made_by_handle))]
-fn is_left(processes: &[Process], objects: &Objects, wait: &Wait) -> bool
-    requires { IsTrue (is_sorted nat_cmp (map process_entry processes.now)) }
-    ensures { result ≡ is_left (world_value processes.now objects.now) (wait_value wait.now) }
+fn is_left(processes: &Processes, objects: &Objects, wait: &Wait) -> bool
+    ensures { result
+        ≡ is_left (world_value processes.now.list.items objects.now) (wait_value wait.now) }
 {
     has_handle(processes, wait.pid, wait.value)
         && objects.kind_of(wait.object).is_some()
@@ -112,12 +109,11 @@ fn is_left(processes: &[Process], objects: &Objects, wait: &Wait) -> bool
 }
 
 /// Whether the process is there and has a handle of this value.
-fn has_handle(processes: &[Process], pid: Pid, value: HValue) -> bool
-    requires { IsTrue (is_sorted nat_cmp (map process_entry processes.now)) }
-    ensures { result ≡ has_handle (get (map process_entry processes.now) pid) value }
+fn has_handle(processes: &Processes, pid: Pid, value: HValue) -> bool
+    ensures { result ≡ has_handle (get (map process_entry processes.now.list.items) pid) value }
 {
-    match place_of(processes, pid) {
-        Some(place) => processes[place].table.get(value).is_some(),
+    match processes.place_of(pid) {
+        Some(place) => processes.list[place].table.get(value).is_some(),
         None => false,
     }
 }

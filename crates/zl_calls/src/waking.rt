@@ -15,10 +15,11 @@ ghost use Rattle.zl_calls.specs.Blocking.{then_blocked};
 ghost use Rattle.zl_calls.specs.Consistent.{IsConsistent};
 ghost use Rattle.zl_calls.specs.Waking.{WakesOne, awake, awake_in, given_awake, seen_active, without_taken};
 ghost use Rattle.zl_rights.specs.World.{Process as ProcessValue};
-ghost use Rattle.zl_calls.specs.World.{packet_registers, process_entry, signal_registers, state_value, world_blocked};
+ghost use Rattle.zl_calls.specs.Calling.{world_in};
+ghost use Rattle.zl_calls.specs.World.{packet_registers, process_entry, signal_registers, state_value};
 
 use crate::process::{Awaited, Process, Registers, State};
-use crate::stepping::place_of;
+use crate::processes::Processes;
 use bitflags::Flags;
 use zl_code::{Outcome, TraceItem};
 use zl_objects::Objects;
@@ -42,14 +43,14 @@ pub fn add_blocked(blocked: &mut Vec<Pid>, pid: Pid, item: &TraceItem)
 /// Each blocked process in turn, the longest blocked first: where what it waits for is there, it
 /// gets its answer and leaves the list. It takes no memory.
 #[inline(always)]
-pub fn wake(processes: &mut Vec<Process>, objects: &mut Objects, blocked: &mut Vec<Pid>)
-    requires consistent { IsConsistent processes.old.items objects.old }
-    requires list { AreBlocked processes.old.items blocked.old.items }
-    ensures wakes { world_blocked processes.new.items objects.new blocked.new.items
-        ≡ fold woken (world_blocked processes.old.items objects.old blocked.old.items) blocked.old.items }
-    ensures consistent { IsConsistent processes.new.items objects.new }
-    ensures list { AreBlocked processes.new.items blocked.new.items }
-    ensures count { length processes.new.items ≡ length processes.old.items }
+pub fn wake(processes: &mut Processes, objects: &mut Objects, blocked: &mut Vec<Pid>)
+    requires consistent { IsConsistent processes.old.list.items objects.old }
+    requires list { AreBlocked processes.old.list.items blocked.old.items }
+    ensures wakes { world_in processes.new objects.new blocked.new
+        ≡ fold woken (world_in processes.old objects.old blocked.old) blocked.old.items }
+    ensures consistent { IsConsistent processes.new.list.items objects.new }
+    ensures list { AreBlocked processes.new.list.items blocked.new.items }
+    ensures count { length processes.new.list.items ≡ length processes.old.list.items }
     ensures capacity { vec_capacity blocked.new ≡ vec_capacity blocked.old }
 {
     let mut place = 0;
@@ -63,15 +64,16 @@ pub fn wake(processes: &mut Vec<Process>, objects: &mut Objects, blocked: &mut V
 }
 
 /// One process, which is blocked; whether it woke.
-fn wake_one(processes: &mut Vec<Process>, objects: &mut Objects, pid: Pid) -> bool
-    requires consistent { IsConsistent processes.old.items objects.old }
-    requires counter { (p : ProcessValue) → get (map process_entry processes.old.items) pid ≡ Some p
+fn wake_one(processes: &mut Processes, objects: &mut Objects, pid: Pid) -> bool
+    requires consistent { IsConsistent processes.old.list.items objects.old }
+    requires counter { (p : ProcessValue)
+        → get (map process_entry processes.old.list.items) pid ≡ Some p
         → p.cpu.counter < 2 ^ 32 }
     ensures { WakesOne pid result
-        processes.old.items objects.old processes.new.items objects.new }
+        processes.old.list.items objects.old processes.new.list.items objects.new }
 {
-    match place_of(processes, pid) {
-        Some(place) => wake_process(&mut processes[place], objects),
+    match processes.place_of(pid) {
+        Some(place) => wake_process(&mut processes.list[place], objects),
         None => false,
     }
 }

@@ -14,8 +14,8 @@ ghost use Rattle.zl_calls.specs.Steps.{Performs, StepsTo, TakesStep, local_item,
 ghost use Rattle.zl_calls.specs.Turns.{Fits, IsTurn, advanced, steps_done};
 
 use crate::booting::{Made, booted};
-use crate::process::Process;
-use crate::stepping::{act_for, is_local, next_name, place_of};
+use crate::processes::Processes;
+use crate::stepping::{act_for, is_local, next_name};
 use crate::waits::{end_unheld, fire_waits};
 use crate::waking::{add_blocked, wake};
 use std::alloc::{AllocError, Global};
@@ -33,7 +33,7 @@ use zl_rights::{Pid, Status};
 pub struct World {
     alloc: Global,
     library: Library,
-    processes: Vec<Process>,
+    processes: Processes,
     objects: Objects,
     // The processes that are blocked, the longest blocked first. There is room for each process, so
     // that none takes memory to block.
@@ -51,11 +51,12 @@ impl Model for World {
 
     ghost view = { λ w. record {
       programs = w.library;
-      world = world_blocked w.processes.items w.objects w.blocked.items;
+      world = world_blocked w.processes.list.items w.objects w.blocked.items;
     } };
 
     ghost invariant = { λ w.
-        IsWhole w.library w.processes.items w.objects w.blocked.items (vec_capacity w.blocked) };
+        IsWhole w.library w.processes.list.items w.objects w.blocked.items
+        (vec_capacity w.blocked) };
 }
 
 /// What a process did that wasn't at a call.
@@ -107,7 +108,7 @@ impl World {
         Ok(World {
             alloc,
             library,
-            processes,
+            processes: Processes { list: processes },
             objects,
             blocked,
         })
@@ -124,7 +125,7 @@ impl World {
     pub fn process_count(&self) -> usize
         ensures { result ≡ length self.now.world.processes }
     {
-        self.processes.len()
+        self.processes.list.len()
     }
 
     /// How many processes are blocked.
@@ -139,15 +140,15 @@ impl World {
         ensures koid { result ≡ slice_get (map (λ p. p.0) self.now.world.processes) n }
         ensures in_order { IsTrue (is_sorted nat_cmp self.now.world.processes) }
     {
-        Some(self.processes.get(n)?.pid)
+        Some(self.processes.list.get(n)?.pid)
     }
 
     /// What the process is in; a number that was never a process is gone.
     pub fn state_of(&self, pid: Pid) -> ProcState
         ensures { result ≡ state_in self.now pid }
     {
-        match place_of(&self.processes, pid) {
-            Some(place) => self.processes[place].state(),
+        match self.processes.place_of(pid) {
+            Some(place) => self.processes.list[place].state(),
             None => ProcState::Gone,
         }
     }
@@ -158,8 +159,8 @@ impl World {
         ensures { option_map (λ cpu. cpu.now) result
             ≡ option_map (λ p. p.cpu) (get self.now.world.processes pid) }
     {
-        let place = place_of(&self.processes, pid)?;
-        Some(&self.processes[place].cpu)
+        let place = self.processes.place_of(pid)?;
+        Some(&self.processes.list[place].cpu)
     }
 
     /// The image that the process runs; nothing for a number that was never a process.
@@ -168,8 +169,8 @@ impl World {
             ≡ option_map (λ program. program.image)
             (program_of self.now.programs self.now.world pid) }
     {
-        let place = place_of(&self.processes, pid)?;
-        let program = self.library.get(self.processes[place].program)?;
+        let place = self.processes.place_of(pid)?;
+        let program = self.library.get(self.processes.list[place].program)?;
         Some(program.image())
     }
 
@@ -177,8 +178,8 @@ impl World {
     pub fn call_at(&self, pid: Pid) -> Option<CallName>
         ensures { result ≡ call_for self.now pid }
     {
-        let place = place_of(&self.processes, pid)?;
-        let process = &self.processes[place];
+        let place = self.processes.place_of(pid)?;
+        let process = &self.processes.list[place];
         if process.is_ready() {
             next_name(&self.library, process)
         } else {
@@ -270,10 +271,10 @@ impl World {
         requires { IsTrue (is_ready_in self.now pid) }
         ensures { IfOk result (IsTurn self.now pid) }
     {
-        let Some(place) = place_of(&self.processes, pid) else {
+        let Some(place) = self.processes.place_of(pid) else {
             unreachable!()
         };
-        let process = &self.processes[place];
+        let process = &self.processes.list[place];
         let Some(program) = self.library.shared(process.program) else {
             unreachable!()
         };
@@ -285,10 +286,10 @@ impl World {
     pub fn fits(&self, done: &Done) -> bool
         ensures { IsTrue result ↔ Fits self.now done.now }
     {
-        let Some(place) = place_of(&self.processes, done.pid()) else {
+        let Some(place) = self.processes.place_of(done.pid()) else {
             return false;
         };
-        let process = &self.processes[place];
+        let process = &self.processes.list[place];
         let Some(program) = self.library.get(process.program) else {
             return false;
         };
@@ -310,10 +311,10 @@ impl World {
     {
         // Its clause has that these instructions follow one another.
         done.ran();
-        let Some(place) = place_of(&self.processes, done.pid()) else {
+        let Some(place) = self.processes.place_of(done.pid()) else {
             unreachable!()
         };
-        let process = &mut self.processes[place];
+        let process = &mut self.processes.list[place];
         process.cpu = done.into_cpu();
     }
 }

@@ -12,7 +12,7 @@ use Rattle.zl_calls.proofs.calls.Refused.{TellsNothing, answers, refused_calls}
 use Rattle.zl_calls.proofs.processes.Written.{refusal_keeps}
 
 -- a process of the world, before and after its call
-module _ (lib : Library) (before after : List Process) (r r2 : Objects) (p p2 : Process) (consistent : IsConsistent before r)
+module _ {before after : List Process} {r : Objects} {p p2 : Process} (lib : Library) (r2 : Objects) (consistent : IsConsistent before r)
     (write : IsWrite before after p p2)
     (s : Site) where
   -- the world afterwards, from the one without waits
@@ -36,11 +36,11 @@ module _ (lib : Library) (before after : List Process) (r r2 : Objects) (p p2 : 
           λ blocked. refused_calls lib (world_blocked before r blocked) p.pid s wants o answer (world_blocked after r2 blocked) (nothing blocked)
           (refused blocked) may_want does.err
           (ends_among blocked (world_value before r) r.waits r.waits_made answer []
-          (same_world before after p p2 write r r2 s answer [] does.same_table does.same_objects replies)
+          (same_world write r r2 s answer [] does.same_table does.same_objects replies)
           (ap (λ (x : Objects). x.waits) does.same_objects) (ap (λ (x : Objects). x.waits_made) does.same_objects)
           ∙ ap (λ (v : World). replied v p.pid s answer []) (sym (takes_none blocked)));
       keeps = subst (IsConsistent after) (sym does.same_objects)
-          (refusal_keeps before after p p2 write r consistent does.same_table (ap (λ (q : Process). q.state) replies));
+          (refusal_keeps write r consistent does.same_table (ap (λ (q : Process). q.state) replies));
     }
 
     pub answered_among : (ends : Outcome) (answer : Result A Status) → Does Done wants o p.table r answer p2.table r2

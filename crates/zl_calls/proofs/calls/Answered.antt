@@ -49,7 +49,7 @@ may_get_both p between t2 first second one two enters then_enters =
     with_first = λ i. record (process_value p) { handles = enters.entries i; last = enters.last i }
 
 -- the world after an answer, from the world with the effect alone
-module _ (before after : List Process) (p p2 : Process) (write : IsWrite before after p p2) where
+module _ {before after : List Process} {p p2 : Process} (write : IsWrite before after p p2) where
   pub table_is : (r : Objects) → table_of (world_value before r) p.pid ≡ p.table.entries
   table_is r = rw write.there refl
 

@@ -21,7 +21,7 @@ use Rattle.zl_calls.proofs.calls.Refused.{answers, is_found, both_looked_up, two
 use Rattle.zl_calls.proofs.processes.Written.{refusal_keeps}
 
 -- a process of the world, before and after its call
-module _ (lib : Library) (before after : List Process) (r r2 : Objects) (p p2 : Process) (consistent : IsConsistent before r)
+module _ {before after : List Process} {r : Objects} {p p2 : Process} (lib : Library) (r2 : Objects) (consistent : IsConsistent before r)
     (write : IsWrite before after p p2) where
   abbrev among : List ℕ → World
   among blocked = world_blocked before r blocked
@@ -35,7 +35,7 @@ module _ (lib : Library) (before after : List Process) (r r2 : Objects) (p p2 : 
     async_refused : (blocked : List ℕ) → refusal lib (among blocked) p.pid (wait_async h port key mask) ≡ answers (async_refusal p.table.entries r h port mask)
     unfolding handle_operands operands_fault listed
     async_refused blocked =
-        both_looked_up lib (among blocked) p.pid p.table.entries (table_is before after p p2 write r) async_site.request
+        both_looked_up lib (among blocked) p.pid p.table.entries (table_is write r) async_site.request
         (async_refusal p.table.entries r h port mask) h port any (kind.Port ∷ []) WAIT WRITE refl (λ s is. rw is refl) (λ e s is fails. rw (is, fails) refl)
         (λ e f is are at also. rw (is, are) (two_tests (not (is_mask mask)) (not (may_register r)) status.InvalidArgs status.NoResources))
 
@@ -50,19 +50,19 @@ module _ (lib : Library) (before after : List Process) (r r2 : Objects) (p p2 : 
           let there : get p.table.entries h ≡ Some registers.watched = is_found (get p.table.entries h) [] WAIT registers.watched registers.is_watched in
           let receives : get p.table.entries port ≡ Some registers.receiver =
           is_found (get p.table.entries port) (kind.Port ∷ []) WRITE registers.receiver registers.is_receiver in
-          rw (table_is before after p p2 write r, there, receives) refl
+          rw (table_is write r, there, receives) refl
 
       answered_world : world_value after r2 ≡ replied (world_value before r) p.pid async_site status.Ok []
       answered_world =
           ap (world_value after) registers.objects
           ∙ (beside_world after r (watching r wait) (watching_beside r wait)
-          ∙ same_world before after p p2 write r r async_site status.Ok [] registers.table refl replies)
+          ∙ same_world write r r async_site status.Ok [] registers.table refl replies)
 
       async_ends : (blocked : List ℕ) → world_blocked after r2 blocked
           ≡ replied (record (among blocked) { waits = r.waits ++ (wait_of (among blocked) p.pid h port key mask ∷ []); waits_made = r.waits_made + 1 }) p.pid
           async_site status.Ok []
       async_ends blocked =
-          ends_among lib before after r r2 p p2 consistent write async_site blocked (world_value before r)
+          ends_among lib r2 consistent write async_site blocked (world_value before r)
           (r.waits ++ (wait_of (among blocked) p.pid h port key mask ∷ [])) (r.waits_made + 1) status.Ok []
           answered_world
           (ap (λ (x : Objects). x.waits) registers.objects ∙ ap (λ (x : WaitValue). r.waits ++ (x ∷ [])) (sym (same_wait blocked)))
@@ -73,7 +73,7 @@ module _ (lib : Library) (before after : List Process) (r r2 : Objects) (p p2 : 
       async_done = record {
         calls = λ blocked. (Values [], rw (async_refused blocked, registers.unrefused) (rw write.there refl, refl, async_ends blocked));
         keeps = subst (IsConsistent after) (sym registers.objects) (beside_consistent after r (watching r wait) (watching_beside r wait)
-            (refusal_keeps before after p p2 write r consistent registers.table (ap (λ (q : Process). q.state) replies)));
+            (refusal_keeps write r consistent registers.table (ap (λ (q : Process). q.state) replies)));
       }
 
     -- ---- the step
@@ -82,7 +82,7 @@ module _ (lib : Library) (before after : List Process) (r r2 : Objects) (p p2 : 
         → IsAnswered (told_by no_value) (WaitAsyncDoes p.pid h port key mask) async_site p r o p2 r2 → IsCalledAmong lib before after r r2 p.pid async_site o
     unfolding taken_handles handle_operands remove_all gives_refused
     async_called ready call next o acts =
-        answered_among lib before after r r2 p p2 consistent write async_site no_value (λ _. RegistersWait p.pid p.table r h port key mask) true
+        answered_among lib r2 consistent write async_site no_value (λ _. RegistersWait p.pid p.table r h port key mask) true
         (async_refusal p.table.entries r h port mask)
         async_refused refl (λ blocked. refl) (λ blocked answer. refl) (λ done registers replies. async_done registers replies) o acts.answer acts.acts
         acts.replied acts.ends

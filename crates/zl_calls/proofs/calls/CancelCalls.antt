@@ -21,7 +21,7 @@ use Rattle.zl_calls.proofs.calls.Refused.{answers, is_found, both_looked_up, one
 use Rattle.zl_calls.proofs.calls.Repacked.{packets_there, port_ends, port_kept}
 
 -- a process of the world, before and after its call
-module _ (lib : Library) (before after : List Process) (r r2 : Objects) (p p2 : Process) (consistent : IsConsistent before r)
+module _ {before after : List Process} {r : Objects} {p p2 : Process} (lib : Library) (r2 : Objects) (consistent : IsConsistent before r)
     (write : IsWrite before after p p2) where
   abbrev among : List ℕ → World
   among blocked = world_blocked before r blocked
@@ -36,10 +36,10 @@ module _ (lib : Library) (before after : List Process) (r r2 : Objects) (p p2 : 
         → refusal lib (among blocked) p.pid (port_cancel port source key) ≡ answers (cancel_refusal p.table.entries r p.pid port source key)
     unfolding handle_operands operands_fault listed
     cancel_refused blocked =
-        both_looked_up lib (among blocked) p.pid p.table.entries (table_is before after p p2 write r) cancel_site.request
+        both_looked_up lib (among blocked) p.pid p.table.entries (table_is write r) cancel_site.request
         (cancel_refusal p.table.entries r p.pid port source key) port source (kind.Port ∷ []) any WRITE 0 refl (λ s is. rw is refl)
         (λ e s is fails. rw (is, fails) refl)
-        (λ e f is are at also. rw (is, are, table_is before after p p2 write r, at, also, packets_there r.objects e.koid)
+        (λ e f is are at also. rw (is, are, table_is write r, at, also, packets_there r.objects e.koid)
         (one_test (not (list_any (is_keyed p.pid source e.koid key) r.waits
         || list_any (is_from (source_of p.pid source f) key) (packets_in (get r.objects e.koid)))) status.NotFound))
 
@@ -65,10 +65,10 @@ module _ (lib : Library) (before after : List Process) (r r2 : Objects) (p p2 : 
 
       koid_same : (blocked : List ℕ) → object_at (among blocked) p.pid port ≡ k
       koid_same blocked =
-          rw (table_is before after p p2 write r, is_found (get p.table.entries port) (kind.Port ∷ []) WRITE cancels.receiver cancels.is_receiver) refl
+          rw (table_is write r, is_found (get p.table.entries port) (kind.Port ∷ []) WRITE cancels.receiver cancels.is_receiver) refl
 
       source_same : (blocked : List ℕ) → source_at (among blocked) p.pid source ≡ from
-      source_same blocked = rw (table_is before after p p2 write r, is_found (get p.table.entries source) [] 0 cancels.named cancels.is_named) refl
+      source_same blocked = rw (table_is write r, is_found (get p.table.entries source) [] 0 cancels.named cancels.is_named) refl
 
       cancel_ends : (blocked : List ℕ)
           → world_blocked after r2 blocked
@@ -76,7 +76,7 @@ module _ (lib : Library) (before after : List Process) (r r2 : Objects) (p p2 : 
           (packets_cancelled (source_at (among blocked) p.pid source) key)) p.pid cancel_site status.Ok []
       unfolding on_object
       cancel_ends blocked = rw (koid_same blocked, source_same blocked)
-          (ends_among lib before after r r2 p p2 consistent write cancel_site blocked (on_object (world_value before r) k (packets_cancelled from key))
+          (ends_among lib r2 consistent write cancel_site blocked (on_object (world_value before r) k (packets_cancelled from key))
           (filter (λ x. not (is_keyed p.pid source k key x)) r.waits) r.waits_made status.Ok []
           (beside_world after emptied r2 cancels.ends.beside
           ∙ port_ends before after r emptied p p2 consistent write k without_them left (λ x. refl) refl cancels.table cancel_site [] replies)
@@ -96,7 +96,7 @@ module _ (lib : Library) (before after : List Process) (r r2 : Objects) (p p2 : 
         → IsAnswered (told_by no_value) (PortCancelDoes p.pid port source key) cancel_site p r o p2 r2 → IsCalledAmong lib before after r r2 p.pid cancel_site o
     unfolding taken_handles handle_operands remove_all gives_refused
     cancel_called ready call next o acts =
-        answered_among lib before after r r2 p p2 consistent write cancel_site no_value (λ _. Cancels p.pid p.table r port source key) false
+        answered_among lib r2 consistent write cancel_site no_value (λ _. Cancels p.pid p.table r port source key) false
         (cancel_refusal p.table.entries r p.pid port source key)
         cancel_refused refl (λ blocked. refl) (λ blocked answer. refl) (λ done cancels replies. cancel_done cancels replies) o acts.answer acts.acts
         acts.replied acts.ends

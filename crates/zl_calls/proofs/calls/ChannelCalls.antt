@@ -38,7 +38,7 @@ counted_inserted : (test : ℕ × Entry → Bool) (t : Handles) (e : Entry) (v :
 counted_inserted test t e v t2 inserts = ap (λ (m : Map Entry). count_by test m) inserts.entries ∙ count_put test t.entries v e inserts.unused
 
 -- a process of the world, before and after its call
-module _ (lib : Library) (before after : List Process) (r r2 : Objects) (p p2 : Process) (consistent : IsConsistent before r)
+module _ {before after : List Process} {r : Objects} {p p2 : Process} (lib : Library) (r2 : Objects) (consistent : IsConsistent before r)
     (write : IsWrite before after p p2)
     (consumed destinations : List ℕ) where
   abbrev w : World
@@ -50,8 +50,7 @@ module _ (lib : Library) (before after : List Process) (r r2 : Objects) (p p2 : 
   refused : refusal lib w p.pid chan_create ≡ answers (channel_refusal p.table.entries r.next_koid)
   unfolding refusal handle_operands operands_fault listed has_room has_koids
   refused =
-      rw (table_is before after p p2 write r)
-      (one_test (not (nat_le (length p.table.entries + 2) 1024 && nat_le (r.next_koid + 2) (2 ^ 62))) status.NoResources)
+      rw (table_is write r) (one_test (not (nat_le (length p.table.entries + 2) 1024 && nat_le (r.next_koid + 2) (2 ^ 62))) status.NoResources)
 
   module _ (made : ℕ × ℕ) (creates : CreatesChannel p.table r made p2.table r2) (replies : Replies create_site status.Ok (two_values made) p p2) where
     abbrev n : ℕ
@@ -111,8 +110,7 @@ module _ (lib : Library) (before after : List Process) (r r2 : Objects) (p p2 : 
         ≡ replied (with_effect lib w (taken w p.pid create_site) p.pid chan_create (two_values made)) p.pid create_site status.Ok (two_values made)
     unfolding taken_handles handle_operands remove_all new_handles effect insert_all with_object
     ends =
-        replied_inserted_two before after p p2 write r2 create_site made.0 made.1 first second creates.between with_ends refl rest creates.first
-        creates.second replies
+        replied_inserted_two write r2 create_site made.0 made.1 first second creates.between with_ends refl rest creates.first creates.second replies
 
     -- ---- the invariant
 
@@ -161,8 +159,8 @@ module _ (lib : Library) (before after : List Process) (r r2 : Objects) (p p2 : 
     unfolding gives_ok
     chan_create_called = record {
       calls = (Values (two_values made), rw (refused, creates.unrefused) (chosen, refl, ends));
-      keeps = rw creates.objects (entered before after p p2 write ((made.1, second) ∷ (made.0, first) ∷ []) with_both growing_both.sound growing_both.kept
-          (same_agrees before after p p2 write (ap (λ (q : Process). q.state) replies) with_both) table named counts);
+      keeps = rw creates.objects (entered write ((made.1, second) ∷ (made.0, first) ∷ []) with_both growing_both.sound growing_both.kept
+          (same_agrees write (ap (λ (q : Process). q.state) replies) with_both) table named counts);
     }
 
   -- ---- the step
@@ -170,5 +168,5 @@ module _ (lib : Library) (before after : List Process) (r r2 : Objects) (p p2 : 
   pub chan_create_done : IsDoneBy lib before after r r2 p p2 create_site (told_by two_values) ChanCreateDoes
   unfolding taken_handles handle_operands remove_all gives_refused
   chan_create_done =
-      answered_done lib before after r r2 p p2 consistent write create_site two_values ChanCreateDoes (CreatesChannel p.table r) true
+      answered_done lib r2 consistent write create_site two_values ChanCreateDoes (CreatesChannel p.table r) true
       (channel_refusal p.table.entries r.next_koid) (λ answer acts. acts) refused refl refl (λ answer. refl) chan_create_called

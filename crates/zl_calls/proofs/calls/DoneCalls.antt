@@ -36,7 +36,7 @@ IsDoneBy lib before after r r2 p p2 s told Acts =
     → IsDone lib before after r r2 p.pid call o
 
 -- a process of the world, before and after its call
-module _ (lib : Library) (before after : List Process) (r r2 : Objects) (p p2 : Process) (consistent : IsConsistent before r)
+module _ {before after : List Process} {r : Objects} {p p2 : Process} (lib : Library) (r2 : Objects) (consistent : IsConsistent before r)
     (write : IsWrite before after p p2) where
   abbrev w : World
   w = world_value before r
@@ -62,10 +62,9 @@ module _ (lib : Library) (before after : List Process) (r r2 : Objects) (p p2 : 
     by_answer (Ok x) does replies = done x does.ok replies
     by_answer (Err answer) does replies = record {
       calls = refused_calls lib w p.pid s wants o answer (world_value after r2) nothing refused may_want does.err
-          (same_world before after p p2 write r r2 s answer [] does.same_table does.same_objects replies
-          ∙ ap (λ (v : World). replied v p.pid s answer []) (sym takes_none));
+          (same_world write r r2 s answer [] does.same_table does.same_objects replies ∙ ap (λ (v : World). replied v p.pid s answer []) (sym takes_none));
       keeps = subst (IsConsistent after) (sym does.same_objects)
-          (refusal_keeps before after p p2 write r consistent does.same_table (ap (λ (q : Process). q.state) replies));
+          (refusal_keeps write r consistent does.same_table (ap (λ (q : Process). q.state) replies));
     }
 
     pub answered_done : IsDoneBy lib before after r r2 p p2 s (told_by values) Acts

@@ -33,7 +33,7 @@ settable_named os e named = rw (get_seen os e.koid, named.there, named.kind) (by
     by_body _ = refl
 
 -- a process of the world, before and after its call
-module _ (lib : Library) (before after : List Process) (r r2 : Objects) (p p2 : Process) (consistent : IsConsistent before r)
+module _ {before after : List Process} {r : Objects} {p p2 : Process} (lib : Library) (r2 : Objects) (consistent : IsConsistent before r)
     (write : IsWrite before after p p2) where
   abbrev w : World
   w = world_value before r
@@ -47,8 +47,8 @@ module _ (lib : Library) (before after : List Process) (r r2 : Objects) (p p2 : 
     pub event_done : IsDoneBy lib before after r r2 p p2 create_site (told_by one_value) EventCreateDoes
     unfolding refusal handle_operands operands_fault listed has_room has_koids taken_handles remove_all gives_refused may_choose
         new_handles effect insert_all gives_ok
-    event_done = made_done lib before after r r2 p p2 consistent write create_site body.Event (λ not. not runs) refl refl
-        (rw (table_is before after p p2 write r) (room_refused p.table.entries r.next_koid)) refl refl (λ answer. refl)
+    event_done = made_done lib r2 consistent write create_site body.Event (λ not. not runs) refl refl
+        (rw (table_is write r) (room_refused p.table.entries r.next_koid)) refl refl (λ answer. refl)
         (λ made may ends. (rw (write.there, may) refl, refl, ends))
 
   -- ---- the signals of the object k change, and nothing else is told
@@ -58,10 +58,10 @@ module _ (lib : Library) (before after : List Process) (r r2 : Objects) (p p2 : 
     change = raised_changed clear set
 
     signal_ends : world_value after r2 ≡ replied (on_object w k (object_changed clear set)) p.pid s status.Ok []
-    signal_ends = replied_changed before after p p2 write r r2 k change (object_changed clear set) (λ o. refl) objects table s [] replies
+    signal_ends = replied_changed write r r2 k change (object_changed clear set) (λ o. refl) objects table s [] replies
 
     signal_keeps : IsConsistent after r2
-    signal_keeps = rw objects (refusal_keeps before after p p2 write (changing r k clear set)
+    signal_keeps = rw objects (refusal_keeps write (changing r k clear set)
         (quiet_consistent change (λ o. alike_itself o.body) (λ o. refl) before r k (λ o. refl) consistent) table (ap (λ (q : Process). q.state) replies))
 
   -- what may be changed at the object of a handle of the caller
@@ -77,9 +77,9 @@ module _ (lib : Library) (before after : List Process) (r r2 : Objects) (p p2 : 
     refused_signal : refusal lib w p.pid signal_site.request ≡ answers (signal_refusal p.table.entries h clear set)
     unfolding handle_operands operands_fault listed
     refused_signal =
-        any_looked_up lib w p.pid p.table.entries (table_is before after p p2 write r) signal_site.request (signal_refusal p.table.entries h clear set)
+        any_looked_up lib w p.pid p.table.entries (table_is write r) signal_site.request (signal_refusal p.table.entries h clear set)
         h SIGNAL refl (λ is. rw is refl)
-        (λ e at. rw (table_is before after p p2 write r, at, settable_here h e at)
+        (λ e at. rw (table_is write r, at, settable_here h e at)
         (two_tests (not (within SIGNAL (bits e.rights))) (not (may_change_at e.kind clear set)) status.AccessDenied status.InvalidArgs))
 
     signal_called : (done : ⊤) → SignalsObject p.table r h clear set p2.table r2 → Replies signal_site status.Ok [] p p2
@@ -92,7 +92,7 @@ module _ (lib : Library) (before after : List Process) (r r2 : Objects) (p p2 : 
           rw write.there refl,
           refl,
           signal_ends signals.original.koid clear set signal_site signals.table signals.objects replies
-              ∙ rw (table_is before after p p2 write r, signals.was) refl,
+              ∙ rw (table_is write r, signals.was) refl,
         ),
       );
       keeps = signal_keeps signals.original.koid clear set signal_site signals.table signals.objects replies;
@@ -101,7 +101,7 @@ module _ (lib : Library) (before after : List Process) (r r2 : Objects) (p p2 : 
     pub signal_done : IsDoneBy lib before after r r2 p p2 signal_site (told_by no_value) (SignalDoes h clear set)
     unfolding taken_handles handle_operands remove_all gives_refused
     signal_done =
-        answered_done lib before after r r2 p p2 consistent write signal_site no_value (SignalDoes h clear set) (λ _. SignalsObject p.table r h clear set) false
+        answered_done lib r2 consistent write signal_site no_value (SignalDoes h clear set) (λ _. SignalsObject p.table r h clear set) false
         (signal_refusal p.table.entries h clear set) (λ answer acts. acts) refused_signal refl refl (λ answer. refl) signal_called
 
     abbrev peer_site : Site
@@ -110,14 +110,14 @@ module _ (lib : Library) (before after : List Process) (r r2 : Objects) (p p2 : 
     refused_peer : refusal lib w p.pid peer_site.request ≡ answers (peer_signal_refusal p.table.entries r.objects h clear set)
     unfolding handle_operands operands_fault listed
     refused_peer =
-        first_looked_up lib w p.pid p.table.entries (table_is before after p p2 write r) peer_site.request
+        first_looked_up lib w p.pid p.table.entries (table_is write r) peer_site.request
         (peer_signal_refusal p.table.entries r.objects h clear set) h (kind.Channel ∷ []) SIGNAL_PEER None refl (λ s is. rw is refl)
-        (λ e is at. rw (is, table_is before after p p2 write r, at, settable_here h e at, peer_there r consistent.no_zero e.koid)
+        (λ e is at. rw (is, table_is write r, at, settable_here h e at, peer_there r consistent.no_zero e.koid)
         (two_tests (not (may_change_at e.kind clear set)) (not (is_some (peer_at r.objects e.koid))) status.InvalidArgs status.PeerClosed))
 
     peer_same : (signals : SignalsPeer p.table r h clear set p2.table r2) → peer_named w p.pid h ≡ signals.peer
     peer_same signals =
-        rw (table_is before after p p2 write r, is_found (get p.table.entries h) (kind.Channel ∷ []) SIGNAL_PEER signals.end signals.is_end)
+        rw (table_is write r, is_found (get p.table.entries h) (kind.Channel ∷ []) SIGNAL_PEER signals.end signals.is_end)
         (peer_is r consistent.no_zero signals.end.koid signals.peer signals.is_peer)
 
     peer_called : (done : ⊤) → SignalsPeer p.table r h clear set p2.table r2 → Replies peer_site status.Ok [] p p2
@@ -139,5 +139,5 @@ module _ (lib : Library) (before after : List Process) (r r2 : Objects) (p p2 : 
     pub peer_done : IsDoneBy lib before after r r2 p p2 peer_site (told_by no_value) (SignalPeerDoes h clear set)
     unfolding taken_handles handle_operands remove_all gives_refused
     peer_done =
-        answered_done lib before after r r2 p p2 consistent write peer_site no_value (SignalPeerDoes h clear set) (λ _. SignalsPeer p.table r h clear set) false
+        answered_done lib r2 consistent write peer_site no_value (SignalPeerDoes h clear set) (λ _. SignalsPeer p.table r h clear set) false
         (peer_signal_refusal p.table.entries r.objects h clear set) (λ answer acts. acts) refused_peer refl refl (λ answer. refl) peer_called

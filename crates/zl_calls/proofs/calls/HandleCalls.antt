@@ -61,7 +61,7 @@ put_again {X} m k x f sorted there =
     by_key j (inr apart) = rw (apart, get-without m k j, apart) refl
 
 -- a process of the world, before and after its call
-module _ (lib : Library) (before after : List Process) (r r2 : Objects) (p p2 : Process) (consistent : IsConsistent before r)
+module _ {before after : List Process} {r : Objects} {p p2 : Process} (lib : Library) (r2 : Objects) (consistent : IsConsistent before r)
     (write : IsWrite before after p p2) where
   abbrev w : World
   w = world_value before r
@@ -79,7 +79,7 @@ module _ (lib : Library) (before after : List Process) (r r2 : Objects) (p p2 : 
 
     close_ends : world_value after r ≡ replied (taken w p.pid close_site) p.pid close_site answer []
     unfolding remove_all taken_handles handle_operands on_process
-    close_ends = replied_taking before after p p2 write (h ∷ []) table w r close_site answer [] (remove_all w p.pid (h ∷ [])) refl refl refl replies
+    close_ends = replied_taking write (h ∷ []) table w r close_site answer [] (remove_all w p.pid (h ∷ [])) refl refl refl replies
 
     close_chosen : IsTrue (may_choose w (taken w p.pid close_site) p.pid (close h) [])
     unfolding may_choose new_handles remove_all taken_handles handle_operands on_process
@@ -87,7 +87,7 @@ module _ (lib : Library) (before after : List Process) (r r2 : Objects) (p p2 : 
 
     calls : Calls lib w p.pid close_site (outcome.Answered answer) (world_value after r)
     unfolding effect gives_ok gives_refused new_handles insert_all
-    calls = by_test (has_key p.table.entries h || h == 0) (close_refused lib w p.pid h ∙ rw (table_is before after p p2 write r) refl) is_answer
+    calls = by_test (has_key p.table.entries h || h == 0) (close_refused lib w p.pid h ∙ rw (table_is write r) refl) is_answer
       where
         by_test : (passes : Bool) → refusal lib w p.pid close_site.request ≡ (if passes then None else Some (outcome.Answered status.BadHandle))
             → answer ≡ (if passes then status.Ok else status.BadHandle) → Calls lib w p.pid close_site (outcome.Answered answer) (world_value after r)
@@ -103,11 +103,11 @@ module _ (lib : Library) (before after : List Process) (r r2 : Objects) (p p2 : 
         state_same = ap (λ (q : Process). q.state) replies
 
         kept : get p.table.entries h ≡ None → IsConsistent after r
-        kept missing = refusal_keeps before after p p2 write r consistent (table ∙ rw missing refl) state_same
+        kept missing = refusal_keeps write r consistent (table ∙ rw missing refl) state_same
 
         by_entry : (o : Option Entry) → get p.table.entries h ≡ o → Closes o r r2 → IsSettled after r r2
         by_entry None missing same = rw same (record { consistent = kept missing; settles = still_settles after r (kept missing) })
-        by_entry (Some e) there releases = closed before after p p2 write (h ∷ []) table r consistent state_same r2 (rw there releases)
+        by_entry (Some e) there releases = closed write (h ∷ []) table r consistent state_same r2 (rw there releases)
 
     close_answered : (ready : state_value p.state ≡ Ready) (call : CallName) → next_for lib (process_value p) ≡ AtCall call close_site
         → IsDone lib before after r r2 p.pid call (outcome.Answered answer)
@@ -131,9 +131,9 @@ module _ (lib : Library) (before after : List Process) (r r2 : Objects) (p p2 : 
     refused : refusal lib w p.pid dup_site.request ≡ answers (dup_refusal p.table.entries r.objects h asked)
     unfolding handle_operands operands_fault listed has_room
     refused =
-        any_looked_up lib w p.pid p.table.entries (table_is before after p p2 write r) dup_site.request (dup_refusal p.table.entries r.objects h asked)
+        any_looked_up lib w p.pid p.table.entries (table_is write r) dup_site.request (dup_refusal p.table.entries r.objects h asked)
         h DUPLICATE refl (λ is. rw is refl)
-        (λ e at. rw (table_is before after p p2 write r, at, full_counted before r consistent p write.there h e at)
+        (λ e at. rw (table_is write r, at, full_counted before r consistent p write.there h e at)
         (three_tests (not (within DUPLICATE (bits e.rights))) (is_empty (with_rights e (narrowed e.rights asked)))
         (not (has_room_in p.table.entries) || not (has_place (get r.objects e.koid))) status.AccessDenied status.InvalidArgs status.NoResources))
 
@@ -147,7 +147,7 @@ module _ (lib : Library) (before after : List Process) (r r2 : Objects) (p p2 : 
       -- ---- the relation of calls
 
       copied : copy_of (entry_at w p.pid h) asked ≡ copy ∷ []
-      copied = rw (table_is before after p p2 write r, dups.was, dups.allowed) refl
+      copied = rw (table_is write r, dups.was, dups.allowed) refl
 
       rest : (record w { processes = map process_entry after }) ≡ world_value after r2
       rest =
@@ -161,7 +161,7 @@ module _ (lib : Library) (before after : List Process) (r r2 : Objects) (p p2 : 
       dup_ends : world_value after r2
           ≡ replied (with_effect lib w (taken w p.pid dup_site) p.pid (dup h asked) (made ∷ [])) p.pid dup_site status.Ok (made ∷ [])
       unfolding taken_handles handle_operands remove_all new_handles effect insert_all
-      dup_ends = rw copied (replied_inserted before after p p2 write r2 dup_site made copy w refl rest dups.inserts replies)
+      dup_ends = rw copied (replied_inserted write r2 dup_site made copy w refl rest dups.inserts replies)
 
       -- ---- the invariant
 
@@ -187,8 +187,7 @@ module _ (lib : Library) (before after : List Process) (r r2 : Objects) (p p2 : 
       unfolding gives_ok
       dup_called = record {
         calls = (Values (made ∷ []), rw (refused, dups.unrefused) (dup_chosen, refl, dup_ends));
-        keeps = rw dups.objects (one_entered before after p p2 write copy made dups.inserts (holding r k) held
-            (holding_kept before [] r made copy consistent.kept)
+        keeps = rw dups.objects (one_entered write copy made dups.inserts (holding r k) held (holding_kept before [] r made copy consistent.kept)
             (ap (λ (q : Process). q.state) replies) dups.room (named_updated held_once_more held_body r.objects k copy copy_named));
       }
 
@@ -197,7 +196,7 @@ module _ (lib : Library) (before after : List Process) (r r2 : Objects) (p p2 : 
     pub dup_done : IsDoneBy lib before after r r2 p p2 dup_site (told_by one_value) (DupDoes h asked)
     unfolding taken_handles handle_operands remove_all gives_refused
     dup_done =
-        answered_done lib before after r r2 p p2 consistent write dup_site one_value (DupDoes h asked) (Dups p.table r h asked) true
+        answered_done lib r2 consistent write dup_site one_value (DupDoes h asked) (Dups p.table r h asked) true
         (dup_refusal p.table.entries r.objects h asked) (λ answer acts. acts) refused refl refl (λ answer. refl) dup_called
 
   -- ---- replace
@@ -209,10 +208,9 @@ module _ (lib : Library) (before after : List Process) (r r2 : Objects) (p p2 : 
     replace_refused : refusal lib w p.pid replace_site.request ≡ answers (replace_refusal p.table.entries h asked)
     unfolding handle_operands operands_fault listed
     replace_refused =
-        any_looked_up lib w p.pid p.table.entries (table_is before after p p2 write r) replace_site.request (replace_refusal p.table.entries h asked)
+        any_looked_up lib w p.pid p.table.entries (table_is write r) replace_site.request (replace_refusal p.table.entries h asked)
         h 0 refl (λ is. rw is refl)
-        (λ e at. rw (table_is before after p p2 write r, at, no_bits (bits e.rights))
-        (one_test (is_empty (with_rights e (narrowed e.rights asked))) status.InvalidArgs))
+        (λ e at. rw (table_is write r, at, no_bits (bits e.rights)) (one_test (is_empty (with_rights e (narrowed e.rights asked))) status.InvalidArgs))
 
     module _ (made : ℕ) (replaces : Replaces p.pid p.table r h asked made p2.table r2) (replies : Replies replace_site status.Ok (made ∷ []) p p2) where
       abbrev narrower : Entry → Entry
@@ -231,7 +229,7 @@ module _ (lib : Library) (before after : List Process) (r r2 : Objects) (p p2 : 
       replaced q = process_with h replacement (process_without h q)
 
       is_copy : copy_of (entry_at w p.pid h) asked ≡ replacement ∷ []
-      is_copy = rw (table_is before after p p2 write r, replaces.was, replaces.allowed) refl
+      is_copy = rw (table_is write r, replaces.was, replaces.allowed) refl
 
       is_replaced : process_value p2
           ≡ record (replaced (process_value p)) { cpu = cpu_answered replace_site status.Ok (h ∷ []) (replaced (process_value p)).cpu }
@@ -252,7 +250,7 @@ module _ (lib : Library) (before after : List Process) (r r2 : Objects) (p p2 : 
           ≡ replied (with_effect lib w (taken w p.pid replace_site) p.pid (replace h asked) []) p.pid replace_site status.Ok (h ∷ [])
       unfolding taken_handles handle_operands remove_all new_handles effect insert_all on_process
       replace_ends =
-          rw is_copy (replied_with before after p p2 write r2 replace_site status.Ok (h ∷ []) replaced
+          rw is_copy (replied_with write r2 replace_site status.Ok (h ∷ []) replaced
           (on_process (taken w p.pid replace_site) p.pid (process_with h replacement))
           (update_twice (map process_entry before) p.pid (process_without h) (process_with h replacement)) same_rest is_replaced)
         where
@@ -302,8 +300,8 @@ module _ (lib : Library) (before after : List Process) (r r2 : Objects) (p p2 : 
       replace_called = record {
         calls = (Values [], rw (replace_refused, replaces.unrefused) (replace_chosen, refl, replace_ends));
         keeps = beside_consistent after r r2 replaces.ends.beside
-            (entered before after p p2 write [] r (sound_of before r consistent) consistent.kept
-            (same_agrees before after p p2 write (ap (λ (q : Process). q.state) replies) r) table_again still_named (λ j. omega (arith, recounted j)));
+            (entered write [] r (sound_of before r consistent) consistent.kept
+            (same_agrees write (ap (λ (q : Process). q.state) replies) r) table_again still_named (λ j. omega (arith, recounted j)));
       }
 
     -- ---- the step
@@ -311,6 +309,6 @@ module _ (lib : Library) (before after : List Process) (r r2 : Objects) (p p2 : 
     pub replace_done : IsDoneBy lib before after r r2 p p2 replace_site (told_by one_value) (ReplaceDoes p.pid h asked)
     unfolding taken_handles handle_operands gives_refused
     replace_done ready call next o acts =
-        taking_done lib before after r r2 p p2 consistent write ready call replace_site next (h ∷ []) refl one_value (Replaces p.pid p.table r h asked) false
+        taking_done lib r2 consistent write ready call replace_site next (h ∷ []) refl one_value (Replaces p.pid p.table r h asked) false
         (replace_refusal p.table.entries h asked)
         replace_refused refl (λ answer. refl) replace_called o acts.answer acts.acts acts.replied acts.ends

@@ -127,7 +127,7 @@ module _ (c : Condition) (a : Action) where
 
 -- ---- a process of the world, before and after its call
 
-module _ (lib : Library) (before after : List Process) (r r2 : Objects) (p p2 : Process) (consistent : IsConsistent before r)
+module _ {before after : List Process} {r : Objects} {p p2 : Process} (lib : Library) (r2 : Objects) (consistent : IsConsistent before r)
     (write : IsWrite before after p p2) where
   abbrev w : World
   w = world_value before r
@@ -137,7 +137,7 @@ module _ (lib : Library) (before after : List Process) (r r2 : Objects) (p p2 : 
   job_here = job_looked_up before r consistent p write.there
 
   named_koid : (h needed : ℕ) (e : Entry) → looked_up p.table.entries h (kind.Job ∷ []) needed ≡ Ok e → object_at w p.pid h ≡ e.koid
-  named_koid h needed e found = rw (table_is before after p p2 write r, is_found (get p.table.entries h) (kind.Job ∷ []) needed e found) refl
+  named_koid h needed e found = rw (table_is write r, is_found (get p.table.entries h) (kind.Job ∷ []) needed e found) refl
 
   -- ---- job_create
 
@@ -148,9 +148,9 @@ module _ (lib : Library) (before after : List Process) (r r2 : Objects) (p p2 : 
     refused_create : refusal lib w p.pid create_site.request ≡ answers (job_refusal p.table.entries r j)
     unfolding handle_operands operands_fault listed has_room has_koids
     refused_create =
-        first_looked_up lib w p.pid p.table.entries (table_is before after p p2 write r) create_site.request (job_refusal p.table.entries r j)
+        first_looked_up lib w p.pid p.table.entries (table_is write r) create_site.request (job_refusal p.table.entries r j)
         j (kind.Job ∷ []) MANAGE_JOB None refl (λ s is. rw is refl)
-        (λ e is at. rw (is, table_is before after p p2 write r, at) (passes e (job_here j MANAGE_JOB e is)))
+        (λ e is at. rw (is, table_is write r, at) (passes e (job_here j MANAGE_JOB e is)))
       where
         passes : (e : Entry) → IsJobAt r.objects e.koid
             → first_some (answer_if (is_deepest_body (body_of w e.koid)) status.OutOfRange ∷ answer_if (is_dead_body (body_of w e.koid)) status.BadState
@@ -193,7 +193,7 @@ module _ (lib : Library) (before after : List Process) (r r2 : Objects) (p p2 : 
 
       create_called : IsCalled lib before after r r2 p.pid create_site (outcome.Answered status.Ok)
       unfolding taken_handles handle_operands remove_all may_choose new_handles effect insert_all gives_ok
-      create_called = made_called lib before after r r2 p p2 consistent write create_site job (λ not. not runs) refl stands made creates.makes replies
+      create_called = made_called lib r2 consistent write create_site job (λ not. not runs) refl stands made creates.makes replies
           (refused_create ∙ ap answers creates.unrefused) (λ may ends. (rw (write.there, may) refl, refl, ends ∙ ap with_child body_is))
         where
           with_child : BodyValue → World
@@ -203,7 +203,7 @@ module _ (lib : Library) (before after : List Process) (r r2 : Objects) (p p2 : 
     pub job_done : IsDoneBy lib before after r r2 p p2 create_site (told_by one_value) (JobCreateDoes j)
     unfolding taken_handles handle_operands remove_all gives_refused
     job_done =
-        answered_done lib before after r r2 p p2 consistent write create_site one_value (JobCreateDoes j) (CreatesJob p.table r j) true
+        answered_done lib r2 consistent write create_site one_value (JobCreateDoes j) (CreatesJob p.table r j) true
         (job_refusal p.table.entries r j) (λ answer acts. acts) refused_create refl refl (λ answer. refl) create_called
 
   -- ---- job_set_policy
@@ -215,9 +215,9 @@ module _ (lib : Library) (before after : List Process) (r r2 : Objects) (p p2 : 
     refused_set : refusal lib w p.pid set_site.request ≡ answers (policy_refusal p.table.entries r.objects j mode condition action)
     unfolding handle_operands operands_fault listed
     refused_set =
-        first_looked_up lib w p.pid p.table.entries (table_is before after p p2 write r) set_site.request
+        first_looked_up lib w p.pid p.table.entries (table_is write r) set_site.request
         (policy_refusal p.table.entries r.objects j mode condition action) j (kind.Job ∷ []) SET_POLICY None refl (λ s is. rw is refl)
-        (λ e is at. rw (is, table_is before after p p2 write r, at) (passes e (job_here j SET_POLICY e is) (setting_of mode condition action)))
+        (λ e is at. rw (is, table_is write r, at) (passes e (job_here j SET_POLICY e is) (setting_of mode condition action)))
       where
         passes : (e : Entry) → IsJobAt r.objects e.koid → (o : Option Setting)
             → first_some (answer_if (not (is_some o)) status.InvalidArgs ∷ answer_if (is_dead_body (body_of w e.koid) || has_child w e.koid) status.BadState
@@ -239,7 +239,7 @@ module _ (lib : Library) (before after : List Process) (r r2 : Objects) (p p2 : 
 
       set_ends : world_value after r2 ≡ replied (on_object w job_koid (policy_changed (Some sets.setting))) p.pid set_site status.Ok []
       set_ends =
-          replied_changed before after p p2 write r r2 job_koid (with_policy_set c a) (policy_changed (Some sets.setting))
+          replied_changed write r r2 job_koid (with_policy_set c a) (policy_changed (Some sets.setting))
           (policy_seen c a sets.setting refl refl) sets.objects sets.table set_site [] replies
 
       set_called : IsCalled lib before after r r2 p.pid set_site (outcome.Answered status.Ok)
@@ -255,7 +255,7 @@ module _ (lib : Library) (before after : List Process) (r r2 : Objects) (p p2 : 
           ),
         );
         keeps = rw sets.objects
-            (refusal_keeps before after p p2 write (setting_policy r job_koid c a)
+            (refusal_keeps write (setting_policy r job_koid c a)
             (quiet_consistent (with_policy_set c a) (policy_keeps c a) (policy_quiet c a) before r job_koid (λ o. refl) consistent) sets.table
             (ap (λ (q : Process). q.state) replies));
       }
@@ -263,6 +263,6 @@ module _ (lib : Library) (before after : List Process) (r r2 : Objects) (p p2 : 
     pub job_set_policy_done : IsDoneBy lib before after r r2 p p2 set_site (told_by no_value) (JobSetPolicyDoes j mode condition action)
     unfolding taken_handles handle_operands remove_all gives_refused
     job_set_policy_done =
-        answered_done lib before after r r2 p p2 consistent write set_site no_value (JobSetPolicyDoes j mode condition action)
+        answered_done lib r2 consistent write set_site no_value (JobSetPolicyDoes j mode condition action)
         (λ _. SetsPolicy p.table r j mode condition action) false
         (policy_refusal p.table.entries r.objects j mode condition action) (λ answer acts. acts) refused_set refl refl (λ answer. refl) (λ done. set_called)

@@ -53,12 +53,12 @@ pub first_entered : (before after : List Process) (p p2 : Process) (write : IsWr
     → length p.table.entries < 1024 → IsGrowing before ((made, new_entry r.next_koid (kind_in b)) ∷ []) (with_new r b 1)
     → get (with_new r b 1).objects r.next_koid ≡ Some (new_object b 1) → IsConsistent after (with_new r b 1)
 first_entered before after p p2 write state r b made inserts place growing there =
-    one_entered before after p p2 write (new_entry r.next_koid (kind_in b)) made inserts (with_new r b 1) growing.sound growing.kept state place
+    one_entered write (new_entry r.next_koid (kind_in b)) made inserts (with_new r b 1) growing.sound growing.kept state place
     (new_named b (with_new r b 1).objects r.next_koid there)
 
 -- ---- a process of the world, before and after its call
 
-module _ (lib : Library) (before after : List Process) (r r2 : Objects) (p p2 : Process) (consistent : IsConsistent before r)
+module _ {before after : List Process} {r : Objects} {p p2 : Process} (lib : Library) (r2 : Objects) (consistent : IsConsistent before r)
     (write : IsWrite before after p p2)
     (s : Site) (b : Body) where
   abbrev w : World
@@ -95,7 +95,7 @@ module _ (lib : Library) (before after : List Process) (r r2 : Objects) (p p2 : 
 
       made_ends : world_value after r2 ≡ replied (on_process with_one p.pid (process_with made entry)) p.pid s status.Ok (made ∷ [])
       unfolding with_object
-      made_ends = replied_inserted before after p p2 write r2 s made entry with_one refl made_rest makes.inserts replies
+      made_ends = replied_inserted write r2 s made entry with_one refl made_rest makes.inserts replies
 
       -- ---- the invariant
 
@@ -118,6 +118,6 @@ module _ (lib : Library) (before after : List Process) (r r2 : Objects) (p p2 : 
     pub made_done : refusal lib w p.pid s.request ≡ answers (room_refusal p.table.entries n) → true ≡ grows s.request → taken w p.pid s ≡ w
         → TellsNothing lib w p.pid s → ((made : ℕ) → Makes made) → IsDoneBy lib before after r r2 p p2 s (told_by one_value) (MakeDoes b)
     made_done refused may_want takes_none nothing by =
-        answered_done lib before after r r2 p p2 consistent write s one_value (MakeDoes b) (MakesOne b p.table r) true (room_refusal p.table.entries n)
+        answered_done lib r2 consistent write s one_value (MakeDoes b) (MakesOne b p.table r) true (room_refusal p.table.entries n)
         (λ answer acts. acts) refused may_want takes_none nothing
         (λ made makes replies. made_called made makes replies (refused ∙ ap answers makes.unrefused) (by made))

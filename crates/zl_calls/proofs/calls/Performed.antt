@@ -59,7 +59,7 @@ module _ (p p2 : Process) (r r2 : Objects) (o : Outcome) where
 -- ---- a step
 
 -- a ready process of the world, at the call
-module _ (lib : Library) (before after : List Process) (r r2 : Objects) (p p2 : Process) (consistent : IsConsistent before r)
+module _ {before after : List Process} {r : Objects} {p p2 : Process} (lib : Library) (r2 : Objects) (consistent : IsConsistent before r)
     (write : IsWrite before after p p2)
     (ready : state_value p.state ≡ Ready) (call : CallName) (o : Outcome) where
   -- it is answered, or ends its caller
@@ -67,31 +67,29 @@ module _ (lib : Library) (before after : List Process) (r r2 : Objects) (p p2 : 
     by_request : (request : Request) (consumed destinations : List ℕ) → looks_at_waits request ≡ false
         → next_for lib (process_value p) ≡ AtCall call (site request consumed destinations)
         → Acts (action_of p.pid request) (site request consumed destinations) p r o p2 r2 → IsDone lib before after r r2 p.pid call o
-    by_request (close h) c d plain next acts = close_done lib before after r r2 p p2 consistent write h c d ready call next o acts
-    by_request (dup h asked) c d plain next acts = dup_done lib before after r r2 p p2 consistent write h asked c d ready call next o acts
-    by_request (replace h asked) c d plain next acts = replace_done lib before after r r2 p p2 consistent write h asked c d ready call next o acts
-    by_request chan_create c d plain next acts = chan_create_done lib before after r r2 p p2 consistent write c d ready call next o acts
-    by_request (chan_write end bytes hs) c d plain next acts = write_done lib before after r r2 p p2 consistent write end bytes hs c d ready call next o acts
+    by_request (close h) c d plain next acts = close_done lib r2 consistent write h c d ready call next o acts
+    by_request (dup h asked) c d plain next acts = dup_done lib r2 consistent write h asked c d ready call next o acts
+    by_request (replace h asked) c d plain next acts = replace_done lib r2 consistent write h asked c d ready call next o acts
+    by_request chan_create c d plain next acts = chan_create_done lib r2 consistent write c d ready call next o acts
+    by_request (chan_write end bytes hs) c d plain next acts = write_done lib r2 consistent write end bytes hs c d ready call next o acts
     by_request (chan_read_etc h address room places) c d plain next acts =
-        read_done lib before after r r2 p p2 consistent write h address room places c d ready call next o acts
-    by_request event_create c d plain next acts = event_done lib before after r r2 p p2 consistent write c d ready call next o acts
-    by_request (signal h clear set) c d plain next acts = signal_done lib before after r r2 p p2 consistent write h clear set c d ready call next o acts
-    by_request (signal_peer h clear set) c d plain next acts = peer_done lib before after r r2 p p2 consistent write h clear set c
-        d ready call next o acts
-    by_request (wait_one h mask) c d plain next (inl answered) = one_done lib before after r r2 p p2 consistent write h mask c d ready call next o answered
+        read_done lib r2 consistent write h address room places c d ready call next o acts
+    by_request event_create c d plain next acts = event_done lib r2 consistent write c d ready call next o acts
+    by_request (signal h clear set) c d plain next acts = signal_done lib r2 consistent write h clear set c d ready call next o acts
+    by_request (signal_peer h clear set) c d plain next acts = peer_done lib r2 consistent write h clear set c d ready call next o acts
+    by_request (wait_one h mask) c d plain next (inl answered) = one_done lib r2 consistent write h mask c d ready call next o answered
     by_request (wait_one h mask) c d plain next (inr blocks) = absurd (false≢true (sym goes ∙ ap is_blocking blocks.ends))
-    by_request (wait_poll h mask) c d plain next acts = poll_done lib before after r r2 p p2 consistent write h mask c d ready call next o acts
-    by_request port_create c d plain next acts = port_create_done lib before after r r2 p p2 consistent write c d ready call next o acts
-    by_request (port_queue port key value) c d plain next acts = port_queue_done lib before after r r2 p p2 consistent write port key value c
-        d ready call next o acts
-    by_request (port_wait port) c d plain next (inl answered) = port_wait_done lib before after r r2 p p2 consistent write port c d ready call next o answered
+    by_request (wait_poll h mask) c d plain next acts = poll_done lib r2 consistent write h mask c d ready call next o acts
+    by_request port_create c d plain next acts = port_create_done lib r2 consistent write c d ready call next o acts
+    by_request (port_queue port key value) c d plain next acts = port_queue_done lib r2 consistent write port key value c d ready call next o acts
+    by_request (port_wait port) c d plain next (inl answered) = port_wait_done lib r2 consistent write port c d ready call next o answered
     by_request (port_wait port) c d plain next (inr blocks) = absurd (false≢true (sym goes ∙ ap is_blocking blocks.ends))
-    by_request (port_poll port) c d plain next acts = port_poll_done lib before after r r2 p p2 consistent write port c d ready call next o acts
+    by_request (port_poll port) c d plain next acts = port_poll_done lib r2 consistent write port c d ready call next o acts
     by_request (process_exit code) c d plain next acts = rw acts.ends
-        (exit_done lib before after r r2 p p2 consistent write _ acts.over ready code refl c d call next)
-    by_request (job_create j) c d plain next acts = job_done lib before after r r2 p p2 consistent write j c d ready call next o acts
+        (exit_done lib r2 consistent write _ acts.over ready code refl c d call next)
+    by_request (job_create j) c d plain next acts = job_done lib r2 consistent write j c d ready call next o acts
     by_request (job_set_policy j mode condition action) c d plain next acts =
-        job_set_policy_done lib before after r r2 p p2 consistent write j mode condition action c d ready call next o acts
+        job_set_policy_done lib r2 consistent write j mode condition action c d ready call next o acts
     by_request (wait_async h port key mask) c d plain next acts = absurd (true≢false plain)
     by_request (port_cancel port source key) c d plain next acts = absurd (true≢false plain)
     by_request _ c d plain next acts = absurd acts
@@ -108,15 +106,15 @@ module _ (lib : Library) (before after : List Process) (r r2 : Objects) (p p2 : 
   asleep_by (wait_one h mask) c d next (inr blocks) =
       let x = blocks.awaits.watched in
       inr (asleep p p2 r r2 o lib before call (site (wait_one h mask) c d) next blocks
-      (one_passes lib before after r r2 p p2 consistent write h mask c d x blocks.awaits.seen)
-      (one_waits lib before after r r2 p p2 consistent write h mask c d x blocks.awaits.seen blocks.awaits.inactive
+      (one_passes lib r2 consistent write h mask c d x blocks.awaits.seen)
+      (one_waits lib r2 consistent write h mask c d x blocks.awaits.seen blocks.awaits.inactive
       ∙ ap (λ (a : Awaited). Some a) (sym blocks.awaits.is_awaited)))
   asleep_by (port_wait port) c d next (inl answered) = inl (ap is_blocking answered.ends)
   asleep_by (port_wait port) c d next (inr blocks) =
       let x = blocks.awaits.port in
       inr (asleep p p2 r r2 o lib before call (site (port_wait port) c d) next blocks
-      (port_passes lib before after r r2 p p2 consistent write port c d x blocks.awaits.is_port)
-      (port_waits lib before after r r2 p p2 consistent write port c d x blocks.awaits.is_port blocks.awaits.none
+      (port_passes lib r2 consistent write port c d x blocks.awaits.is_port)
+      (port_waits lib r2 consistent write port c d x blocks.awaits.is_port blocks.awaits.none
       ∙ ap (λ (a : Awaited). Some a) (sym blocks.awaits.is_awaited)))
   asleep_by request c d next acts = inl (answered_on p p2 r r2 o (action_of p.pid request) (site request c d) tt acts)
 
@@ -134,7 +132,7 @@ pub record Looks (lib : Library) (before after : List Process) (r r2 : Objects) 
   pub called : IsCalledAmong lib before after r r2 p.pid at o
   pub goes : is_blocking o ≡ false
 
-module _ (lib : Library) (before after : List Process) (r r2 : Objects) (p p2 : Process) (consistent : IsConsistent before r)
+module _ {before after : List Process} {r : Objects} {p p2 : Process} (lib : Library) (r2 : Objects) (consistent : IsConsistent before r)
     (write : IsWrite before after p p2)
     (ready : state_value p.state ≡ Ready) (call : CallName) (o : Outcome) where
   looks_by : (request : Request) (consumed destinations : List ℕ) → looks_at_waits request ≡ true
@@ -143,13 +141,13 @@ module _ (lib : Library) (before after : List Process) (r r2 : Objects) (p p2 : 
   looks_by (wait_async h port key mask) c d looks next acts = record {
     at = site (wait_async h port key mask) c d;
     next = next;
-    called = async_called lib before after r r2 p p2 consistent write h port key mask c d ready call next o acts;
+    called = async_called lib r2 consistent write h port key mask c d ready call next o acts;
     goes = ap is_blocking acts.ends;
   }
   looks_by (port_cancel port source key) c d looks next acts = record {
     at = site (port_cancel port source key) c d;
     next = next;
-    called = cancel_called lib before after r r2 p p2 consistent write port source key c d ready call next o acts;
+    called = cancel_called lib r2 consistent write port source key c d ready call next o acts;
     goes = ap is_blocking acts.ends;
   }
   looks_by (task_kill task) c d looks next acts = absurd acts

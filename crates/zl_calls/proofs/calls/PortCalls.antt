@@ -22,7 +22,7 @@ use Rattle.zl_calls.proofs.calls.Refused.{answers, is_found, first_looked_up, on
 use Rattle.zl_calls.proofs.calls.Repacked.{packets_there, port_ends, port_kept}
 
 -- a process of the world, before and after its call
-module _ (lib : Library) (before after : List Process) (r r2 : Objects) (p p2 : Process) (consistent : IsConsistent before r)
+module _ {before after : List Process} {r : Objects} {p p2 : Process} (lib : Library) (r2 : Objects) (consistent : IsConsistent before r)
     (write : IsWrite before after p p2) where
   abbrev w : World
   w = world_value before r
@@ -36,8 +36,8 @@ module _ (lib : Library) (before after : List Process) (r r2 : Objects) (p p2 : 
     pub port_create_done : IsDoneBy lib before after r r2 p p2 create_site (told_by one_value) PortCreateDoes
     unfolding refusal handle_operands operands_fault listed has_room has_koids taken_handles remove_all gives_refused may_choose
         new_handles effect insert_all gives_ok
-    port_create_done = made_done lib before after r r2 p p2 consistent write create_site new_port (λ not. not runs) refl refl
-        (rw (table_is before after p p2 write r) (room_refused p.table.entries r.next_koid)) refl refl (λ answer. refl)
+    port_create_done = made_done lib r2 consistent write create_site new_port (λ not. not runs) refl refl
+        (rw (table_is write r) (room_refused p.table.entries r.next_koid)) refl refl (λ answer. refl)
         (λ made may ends. (rw (write.there, may) refl, refl, ends))
 
   -- ---- port_queue
@@ -49,9 +49,9 @@ module _ (lib : Library) (before after : List Process) (r r2 : Objects) (p p2 : 
     refused_queue : refusal lib w p.pid queue_site.request ≡ answers (queue_refusal p.table.entries r.objects port)
     unfolding handle_operands operands_fault listed
     refused_queue =
-        first_looked_up lib w p.pid p.table.entries (table_is before after p p2 write r) queue_site.request
+        first_looked_up lib w p.pid p.table.entries (table_is write r) queue_site.request
         (queue_refusal p.table.entries r.objects port) port (kind.Port ∷ []) WRITE None refl (λ s is. rw is refl)
-        (λ e is at. rw (is, table_is before after p p2 write r, at, packets_there r.objects e.koid)
+        (λ e is at. rw (is, table_is write r, at, packets_there r.objects e.koid)
         (one_test (is_full (packets_in (get r.objects e.koid))) status.ShouldWait))
 
     queue_called : (done : ⊤) → QueuesPacket p.table r port key value p2.table r2 → Replies queue_site status.Ok [] p p2
@@ -68,7 +68,7 @@ module _ (lib : Library) (before after : List Process) (r r2 : Objects) (p p2 : 
               refl,
               port_ends before after r r2 p p2 consistent write queued.port.koid (λ x. with_packet x (user_packet key value))
                   (λ xs. xs ++ user_packet key value ∷ [])
-                  more queued.objects queued.table queue_site [] replies ∙ rw (table_is before after p p2 write r, there) refl,
+                  more queued.objects queued.table queue_site [] replies ∙ rw (table_is write r, there) refl,
             ),
           );
           keeps = port_kept before after r r2 p p2 consistent write queued.port.koid (λ x. with_packet x (user_packet key value))
@@ -78,8 +78,7 @@ module _ (lib : Library) (before after : List Process) (r r2 : Objects) (p p2 : 
     pub port_queue_done : IsDoneBy lib before after r r2 p p2 queue_site (told_by no_value) (PortQueueDoes port key value)
     unfolding taken_handles handle_operands remove_all gives_refused
     port_queue_done =
-        answered_done lib before after r r2 p p2 consistent write queue_site no_value (PortQueueDoes port key value)
-        (λ _. QueuesPacket p.table r port key value) true
+        answered_done lib r2 consistent write queue_site no_value (PortQueueDoes port key value) (λ _. QueuesPacket p.table r port key value) true
         (queue_refusal p.table.entries r.objects port) (λ answer acts. acts) refused_queue refl refl (λ answer. refl) queue_called
 
   -- ---- the first packet leaves the port
@@ -89,7 +88,7 @@ module _ (lib : Library) (before after : List Process) (r r2 : Objects) (p p2 : 
     k = takes_one.port.koid
 
     koid_same : object_at w p.pid port ≡ k
-    koid_same = rw (table_is before after p p2 write r, is_found (get p.table.entries port) (kind.Port ∷ []) READ takes_one.port takes_one.is_port) refl
+    koid_same = rw (table_is write r, is_found (get p.table.entries port) (kind.Port ∷ []) READ takes_one.port takes_one.is_port) refl
 
     packets_same : packets_at w p.pid port ≡ packets_in (get r.objects k)
     packets_same = ap (λ (j : ℕ). packets_seen (body_of w j)) koid_same ∙ packets_there r.objects k
@@ -131,10 +130,9 @@ module _ (lib : Library) (before after : List Process) (r r2 : Objects) (p p2 : 
     refused_poll : refusal lib w p.pid poll_site.request ≡ answers (poll_refusal p.table.entries r.objects port)
     unfolding handle_operands operands_fault listed
     refused_poll =
-        first_looked_up lib w p.pid p.table.entries (table_is before after p p2 write r) poll_site.request (poll_refusal p.table.entries r.objects port)
+        first_looked_up lib w p.pid p.table.entries (table_is write r) poll_site.request (poll_refusal p.table.entries r.objects port)
         port (kind.Port ∷ []) READ None refl (λ s is. rw is refl)
-        (λ e is at. rw (is, table_is before after p p2 write r, at, packets_there r.objects e.koid)
-        (one_test (is_empty (packets_in (get r.objects e.koid))) status.TimedOut))
+        (λ e is at. rw (is, table_is write r, at, packets_there r.objects e.koid) (one_test (is_empty (packets_in (get r.objects e.koid))) status.TimedOut))
 
     poll_called : (packet : Packet) → TakesPacket p.table r port packet p2.table r2 → Replies poll_site status.Ok (packet_values packet) p p2
         → IsCalled lib before after r r2 p.pid poll_site (outcome.Answered status.Ok)
@@ -147,7 +145,7 @@ module _ (lib : Library) (before after : List Process) (r r2 : Objects) (p p2 : 
     pub port_poll_done : IsDoneBy lib before after r r2 p p2 poll_site (told_by packet_values) (PortPollDoes port)
     unfolding taken_handles handle_operands remove_all gives_refused
     port_poll_done =
-        answered_done lib before after r r2 p p2 consistent write poll_site packet_values (PortPollDoes port) (TakesPacket p.table r port) false
+        answered_done lib r2 consistent write poll_site packet_values (PortPollDoes port) (TakesPacket p.table r port) false
         (poll_refusal p.table.entries r.objects port) (λ answer acts. acts) refused_poll refl refl (λ answer. refl) poll_called
 
   -- ---- port_wait
@@ -159,7 +157,7 @@ module _ (lib : Library) (before after : List Process) (r r2 : Objects) (p p2 : 
     refused_wait : refusal lib w p.pid wait_site.request ≡ answers (result_err (port_at p.table.entries port READ))
     unfolding handle_operands operands_fault listed
     refused_wait =
-        first_looked_up lib w p.pid p.table.entries (table_is before after p p2 write r) wait_site.request (result_err (port_at p.table.entries port READ))
+        first_looked_up lib w p.pid p.table.entries (table_is write r) wait_site.request (result_err (port_at p.table.entries port READ))
         port (kind.Port ∷ []) READ None refl (λ s is. rw is refl) (λ e is at. rw is refl)
 
     wait_called : (packet : Packet) → TakesPacket p.table r port packet p2.table r2 → Replies wait_site status.Ok (packet_values packet) p p2
@@ -177,7 +175,7 @@ module _ (lib : Library) (before after : List Process) (r r2 : Objects) (p p2 : 
     pub port_wait_done : IsDoneBy lib before after r r2 p p2 wait_site (told_by packet_values) (PortWaitDoes port)
     unfolding taken_handles handle_operands remove_all gives_refused
     port_wait_done =
-        answered_done lib before after r r2 p p2 consistent write wait_site packet_values (PortWaitDoes port) (TakesPacket p.table r port) false
+        answered_done lib r2 consistent write wait_site packet_values (PortWaitDoes port) (TakesPacket p.table r port) false
         (result_err (port_at p.table.entries port READ)) (λ answer acts. acts) refused_wait refl refl (λ answer. refl) wait_called
 
     -- it isn't refused, where the port is there; and where that has no packet, it waits for one
@@ -189,7 +187,7 @@ module _ (lib : Library) (before after : List Process) (r r2 : Objects) (p p2 : 
       port_waits none = rw (named, packets_there r.objects x.koid) (by_packets (packets_in (get r.objects x.koid)) none)
         where
           named : object_at w p.pid port ≡ x.koid
-          named = rw (table_is before after p p2 write r, is_found (get p.table.entries port) (kind.Port ∷ []) READ x is_port) refl
+          named = rw (table_is write r, is_found (get p.table.entries port) (kind.Port ∷ []) READ x is_port) refl
 
           by_packets : (xs : List Packet) → slice_get xs 0 ≡ None → packet_awaited x.koid xs ≡ Some (PacketAt x.koid)
           by_packets [] is = refl

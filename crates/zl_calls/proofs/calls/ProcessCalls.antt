@@ -17,7 +17,7 @@ use Rattle.zl_calls.proofs.processes.Departed.{settled_world}
 use Rattle.zl_calls.proofs.objects.Settled.{AreGone, IsSettled, drained, settled}
 use Rattle.zl_calls.proofs.processes.Stopped.{IsOver, named_stopped, over, seen_stopped, sound_stopped}
 
-module _ (lib : Library) (before after : List Process) (r r2 : Objects) (p p2 : Process) (consistent : IsConsistent before r)
+module _ {before after : List Process} {r : Objects} {p p2 : Process} (lib : Library) (r2 : Objects) (consistent : IsConsistent before r)
     (write : IsWrite before after p p2) (code : ℤ)
     (ends : Ends code p r p2 r2) (ready : state_value p.state ≡ Ready) where
   abbrev w : World
@@ -52,9 +52,8 @@ module _ (lib : Library) (before after : List Process) (r r2 : Objects) (p p2 : 
       let all : Releases gone.koids out.loose (stopping r p.pid) r2 =
       releases_then [] gone.koids out.loose (stopping r p.pid) ends.between r2 out.releases gone.releases in
       settled after p.table.entries (stopping r p.pid)
-      (sound_stopped before after p p2 write r consistent p.table.entries no_table none_left none_named code ended_state)
-      old_table.sorted
-      (λ v e at. named_stopped before after p p2 write r consistent p.table.entries no_table none_left none_named e
+      (sound_stopped write r consistent p.table.entries no_table none_left none_named code ended_state) old_table.sorted
+      (λ v e at. named_stopped write r consistent p.table.entries no_table none_left none_named e
       (consistent.named p.pid (process_value p) v e write.there at))
       gone.koids gone.counts r2 all.cascades (all.keeps [] out.kept) all.koids
 
@@ -64,7 +63,7 @@ module _ (lib : Library) (before after : List Process) (r r2 : Objects) (p p2 : 
   pub settles : Settles (world_value after r) (settled_world after r2)
   settles =
       subst (λ (x : World). Settles x (settled_world after r2))
-      (seen_stopped before after p p2 write r consistent p.table.entries no_table none_left none_named) left.settles
+      (seen_stopped write r consistent p.table.entries no_table none_left none_named) left.settles
 
   -- the world after the effect alone
   pub ended_is : world_value after r ≡ ended w p.pid code

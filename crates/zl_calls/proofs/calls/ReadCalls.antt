@@ -199,7 +199,7 @@ inserted_is u p (e ∷ es) (v ∷ vs) =
 -- ---- the step
 
 -- a process of the world, before and after its call
-module _ (lib : Library) (before after : List Process) (r r2 : Objects) (p p2 : Process) (consistent : IsConsistent before r)
+module _ {before after : List Process} {r : Objects} {p p2 : Process} (lib : Library) (r2 : Objects) (consistent : IsConsistent before r)
     (write : IsWrite before after p p2)
     (c address room places : ℕ) (consumed destinations : List ℕ) where
   abbrev w : World
@@ -217,9 +217,9 @@ module _ (lib : Library) (before after : List Process) (r r2 : Objects) (p p2 : 
   refused : refusal lib w p.pid (chan_read_etc c address room places) ≡ answers (why front_now)
   unfolding handle_operands operands_fault listed has_room
   refused =
-      first_looked_up lib w p.pid p.table.entries (table_is before after p p2 write r) (chan_read_etc c address room places) (why front_now)
+      first_looked_up lib w p.pid p.table.entries (table_is write r) (chan_read_etc c address room places) (why front_now)
       c (kind.Channel ∷ []) READ None refl (λ s is. rw is refl)
-      (λ e is at. rw (is, table_is before after p p2 write r, at, queue_there r.objects e.koid, peer_there r consistent.no_zero e.koid)
+      (λ e is at. rw (is, table_is write r, at, queue_there r.objects e.koid, peer_there r consistent.no_zero e.koid)
       (by_queue (length p.table.entries) room places e.koid (is_some (peer_at r.objects e.koid)) (queue_in (get r.objects e.koid))))
 
   -- ---- the message was read
@@ -242,7 +242,7 @@ module _ (lib : Library) (before after : List Process) (r r2 : Objects) (p p2 : 
     first = first_at r.objects k m reads.first
 
     koid_same : object_at w p.pid c ≡ k
-    koid_same = rw (table_is before after p p2 write r, front.there) front.koid
+    koid_same = rw (table_is write r, front.there) front.koid
 
     queue_same : queue_at w p.pid c ≡ m ∷ drop 1 (queue_of first.object.body)
     queue_same = ap (λ (j : ℕ). queue_seen_in (body_of w j)) koid_same ∙ (queue_there r.objects k ∙ (ap queue_in first.at ∙ first.queue))
@@ -290,7 +290,7 @@ module _ (lib : Library) (before after : List Process) (r r2 : Objects) (p p2 : 
     read_ends : world_value after r2 ≡ replied (with_effect lib w (taken w p.pid read_site) p.pid (chan_read_etc c address room places) vs) p.pid read_site
         status.Ok (gives_ok w p.pid (chan_read_etc c address room places) vs)
     unfolding effect new_handles taken_handles handle_operands remove_all gives_ok
-    read_ends = rw (queue_same, koid_same) (replied_with before after p p2 write r2 read_site status.Ok values change middle so_far rest is)
+    read_ends = rw (queue_same, koid_same) (replied_with write r2 read_site status.Ok values change middle so_far rest is)
 
     read_chosen : IsTrue (may_choose w (taken w p.pid read_site) p.pid (chan_read_etc c address room places) vs)
     unfolding may_choose new_handles remove_all taken_handles handle_operands
@@ -338,9 +338,8 @@ module _ (lib : Library) (before after : List Process) (r r2 : Objects) (p p2 : 
     read_called : IsCalled lib before after r r2 p.pid read_site (outcome.Answered status.Ok)
     read_called = record {
       calls = (Values vs, rw (refused, reads.is_front) (read_chosen, refl, read_ends));
-      keeps = rw (reads.objects, same_receiving r k) (entered before after p p2 write moved changed sound_changed
-          (requeued_kept (drop 1) before r k consistent.kept)
-          (same_agrees before after p p2 write state_same changed)
+      keeps = rw (reads.objects, same_receiving r k) (entered write moved changed sound_changed (requeued_kept (drop 1) before r k consistent.kept)
+          (same_agrees write state_same changed)
           (tables_entered p.table p2.table m.handles vs (consistent.tables p.pid (process_value p) write.there) fits reads.inserts)
           (λ v e at. named_now e (entered_named v e at))
           (λ j. omega (
@@ -364,7 +363,7 @@ module _ (lib : Library) (before after : List Process) (r r2 : Objects) (p p2 : 
         seen = ap process_value told ∙ rw table refl
 
     kept : p2.state ≡ p.state → IsConsistent after r2
-    kept same = subst (IsConsistent after) (sym objects) (refusal_keeps before after p p2 write r consistent table same)
+    kept same = subst (IsConsistent after) (sym objects) (refusal_keeps write r consistent table same)
 
     abbrev Called : ReadFault → Type 0
     Called f =
@@ -380,7 +379,7 @@ module _ (lib : Library) (before after : List Process) (r r2 : Objects) (p p2 : 
     sizes_same : (bytes handles : ℕ) → front_now ≡ Err (fault.TooSmall bytes handles) → sizes_of (queue_at w p.pid c) ≡ bytes ∷ handles ∷ []
     sizes_same bytes handles is =
         let small : IsTooSmall p.table.entries r.objects c bytes handles = known (Err (fault.TooSmall bytes handles)) is in
-        let koid : object_at w p.pid c ≡ small.entry.koid = rw (table_is before after p p2 write r, small.there) refl in
+        let koid : object_at w p.pid c ≡ small.entry.koid = rw (table_is write r, small.there) refl in
         ap (λ (j : ℕ). sizes_of (queue_seen_in (body_of w j))) koid ∙ (ap sizes_of (queue_there r.objects small.entry.koid) ∙ small.sizes)
 
     nothing_told : (s : Status) → front_now ≡ Err (fault.Refused s) → gives_refused w p.pid (chan_read_etc c address room places) s ≡ []
@@ -419,5 +418,5 @@ module _ (lib : Library) (before after : List Process) (r r2 : Objects) (p p2 : 
   by_answer (Err f) does told = by_front does.same_table does.same_objects front_now refl f does.err told
 
   pub read_done : IsDoneBy lib before after r r2 p p2 read_site (told_read address) (ChanReadDoes c room places)
-  read_done ready call next o acts = called_done lib before after r r2 p p2 consistent write ready call read_site next o
+  read_done ready call next o acts = called_done lib r2 consistent write ready call read_site next o
       (subst (λ (x : Outcome). IsCalled lib before after r r2 p.pid read_site x) (sym acts.ends) (by_answer acts.answer acts.acts acts.replied))

@@ -35,9 +35,9 @@ module _ (before after : List Process) (r r2 : Objects) (p p2 : Process) (consis
       (s : Site) (values : List ℕ) (replies : Replies s status.Ok values p p2) where
     -- the world after it
     pub port_ends : world_value after r2 ≡ replied (on_object w k (repacked g)) p.pid s status.Ok values
-    port_ends = replied_changed before after p p2 write r r2 k (at_port f) (repacked g) (packed_seen f g packed) objects table s values replies
+    port_ends = replied_changed write r r2 k (at_port f) (repacked g) (packed_seen f g packed) objects table s values replies
 
     -- the invariant
     pub port_kept : IsConsistent after r2
     port_kept = rw objects
-        (refusal_keeps before after p p2 write (changing_port r k f) (packed_consistent f before r k consistent) table (ap (λ (q : Process). q.state) replies))
+        (refusal_keeps write (changing_port r k f) (packed_consistent f before r k consistent) table (ap (λ (q : Process). q.state) replies))

@@ -192,7 +192,7 @@ without_all (h ∷ hs) t q = ap (process_without_all hs) (without_one h t q) ∙
 -- ---- the call of a process
 
 -- p2 is the process p after a call that took the handles at hs
-module _ (before after : List Process) (p p2 : Process) (write : IsWrite before after p p2) (hs : List ℕ) (table : p2.table ≡ without_handles p.table hs) where
+module _ {before after : List Process} {p p2 : Process} (write : IsWrite before after p p2) (hs : List ℕ) (table : p2.table ≡ without_handles p.table hs) where
   -- the world after the answer, from one without the handles
   pub replied_taking : (w : World) (r2 : Objects) (s : Site) (answer : Status) (values : List ℕ) (middle : World)
       → w.processes ≡ map process_entry before → middle.processes ≡ (remove_all w p.pid hs).processes
@@ -200,7 +200,7 @@ module _ (before after : List Process) (p p2 : Process) (write : IsWrite before 
       → world_value after r2 ≡ replied middle p.pid s answer values
   unfolding on_process
   replied_taking w r2 s answer values middle same so_far rest replies =
-      replied_with before after p p2 write r2 s answer values (process_without_all hs) middle
+      replied_with write r2 s answer values (process_without_all hs) middle
       (so_far ∙ (ap (λ (v : World). v.processes) (removed hs w p.pid) ∙ ap (λ (ps : Map ProcessValue). update ps p.pid (process_without_all hs)) same)) rest is
     where
       left : process_without_all hs (process_value p) ≡ with_table (without_handles p.table hs) (process_value p)
@@ -230,8 +230,7 @@ module _ (before after : List Process) (p p2 : Process) (write : IsWrite before 
 
     -- they have left the table, and count still
     pub taken_sound : IsSound after (taken_map p.table hs) r
-    taken_sound = sound_after before after p p2 write r consistent (taken_map p.table hs) new_table fewer
-        (λ v e at. named_before v e (was_there v e at)) same_state
+    taken_sound = sound_after write r consistent (taken_map p.table hs) new_table fewer (λ v e at. named_before v e (was_there v e at)) same_state
 
     -- the handles close
     pub closed : (r2 : Objects) → Releases (koids_of (taken_from p.table hs)) [] r r2 → IsSettled after r r2
@@ -242,7 +241,7 @@ module _ (before after : List Process) (p p2 : Process) (write : IsWrite before 
 -- ---- the step
 
 -- a ready process of the world, at a call that takes the handles at hs and is either done or refused
-module _ (lib : Library) (before after : List Process) (r r2 : Objects) (p p2 : Process) (consistent : IsConsistent before r)
+module _ {before after : List Process} {r : Objects} {p p2 : Process} (lib : Library) (r2 : Objects) (consistent : IsConsistent before r)
     (write : IsWrite before after p p2)
     (ready : state_value p.state ≡ Ready)
     (call : CallName) (s : Site) (next : next_for lib (process_value p) ≡ AtCall call s) (hs : List ℕ) (takes : taken_handles s.request ≡ hs) where
@@ -257,7 +256,7 @@ module _ (lib : Library) (before after : List Process) (r r2 : Objects) (p p2 : 
     unfolding on_process
     refused_done answer does replies =
         let left : IsSettled after r r2 =
-        closed before after p p2 write hs does.closed.table r consistent (ap (λ (q : Process). q.state) replies) r2 does.closed.objects in
+        closed write hs does.closed.table r consistent (ap (λ (q : Process). q.state) replies) r2 does.closed.objects in
         record {
           step = call_settles lib before after r r r2 p call s (outcome.Answered answer) write.there ready next
               (refused_calls lib w p.pid s wants o answer (world_value after r) nothing refused may_want does.err answered) left.settles;
@@ -268,13 +267,12 @@ module _ (lib : Library) (before after : List Process) (r r2 : Objects) (p p2 : 
         rest = rw (removed hs w p.pid) refl
 
         answered : world_value after r ≡ replied (remove_all w p.pid (taken_handles s.request)) p.pid s answer []
-        answered = rw takes (replied_taking before after p p2 write hs does.closed.table w r s answer [] (remove_all w p.pid hs) refl refl rest replies)
+        answered = rw takes (replied_taking write hs does.closed.table w r s answer [] (remove_all w p.pid hs) refl refl rest replies)
 
     by_answer : (answer : Result A Status) → DoesTaking Done wants o hs p.table r answer p2.table r2
         → Replies s (status_of answer) (values_of values answer) p p2
         → IsDone lib before after r r2 p.pid call (outcome.Answered (status_of answer))
-    by_answer (Ok x) does replies = called_done lib before after r r2 p p2 consistent write ready call s next (outcome.Answered status.Ok)
-        (done x does.ok replies)
+    by_answer (Ok x) does replies = called_done lib r2 consistent write ready call s next (outcome.Answered status.Ok) (done x does.ok replies)
     by_answer (Err answer) does replies = refused_done answer does replies
 
     pub taking_done : (ends : Outcome) (answer : Result A Status) → DoesTaking Done wants o hs p.table r answer p2.table r2

@@ -98,7 +98,7 @@ polled_known entries objects h mask = by_entry (get entries h)
 -- ---- the step
 
 -- a process of the world, before and after its call, which changes nothing but registers, or blocks
-module _ (lib : Library) (before after : List Process) (r r2 : Objects) (p p2 : Process) (consistent : IsConsistent before r)
+module _ {before after : List Process} {r : Objects} {p p2 : Process} (lib : Library) (r2 : Objects) (consistent : IsConsistent before r)
     (write : IsWrite before after p p2)
     (h mask : ℕ) (consumed destinations : List ℕ) where
   abbrev w : World
@@ -112,7 +112,7 @@ module _ (lib : Library) (before after : List Process) (r r2 : Objects) (p p2 : 
   refused_one : refusal lib w p.pid (wait_one h mask) ≡ answers (result_err (watched_at p.table.entries r.objects h mask))
   unfolding handle_operands operands_fault listed
   refused_one =
-      first_looked_up lib w p.pid p.table.entries (table_is before after p p2 write r) (wait_one h mask)
+      first_looked_up lib w p.pid p.table.entries (table_is write r) (wait_one h mask)
       (result_err (watched_at p.table.entries r.objects h mask)) h any WAIT None refl (λ s is. rw is refl) (λ e is at. rw is (by_mask e (is_mask mask)))
     where
       by_mask : (e : Entry) (a : Bool) → first_some (answer_if (not a) status.InvalidArgs ∷ []) ≡ answers (result_err (watched_if r.objects mask e a))
@@ -121,11 +121,11 @@ module _ (lib : Library) (before after : List Process) (r r2 : Objects) (p p2 : 
 
   module _ (x : Watched) (seen : watched_at p.table.entries r.objects h mask ≡ Ok x) where
     named : object_at w p.pid h ≡ x.koid
-    named = rw (table_is before after p p2 write r) (sym (watched_is p.table.entries r.objects h mask x seen).koid_is)
+    named = rw (table_is write r) (sym (watched_is p.table.entries r.objects h mask x seen).koid_is)
 
     active_seen : active_at w p.pid h ≡ x.active.0
     active_seen =
-        rw (table_is before after p p2 write r)
+        rw (table_is write r)
         (sym (signals_active before r consistent (koid_in (get p.table.entries h))) ∙ (watched_is p.table.entries r.objects h mask x seen).active_is)
 
     met_so : is_seen x ≡ is_active_at w p.pid h mask
@@ -148,17 +148,17 @@ module _ (lib : Library) (before after : List Process) (r r2 : Objects) (p p2 : 
         rw (one_passes, sym met_so ∙ is_met) (
           rw write.there refl,
           refl,
-          same_world before after p p2 write r r2 one_site status.Ok (watched_values x) table objects replies
+          same_world write r r2 one_site status.Ok (watched_values x) table objects replies
               ∙ ap (λ (y : ℕ). replied w p.pid one_site status.Ok (y ∷ [])) (sym active_seen),
         ),
       );
-      keeps = subst (IsConsistent after) (sym objects) (refusal_keeps before after p p2 write r consistent table (ap (λ (q : Process). q.state) replies));
+      keeps = subst (IsConsistent after) (sym objects) (refusal_keeps write r consistent table (ap (λ (q : Process). q.state) replies));
     }
 
   pub one_done : IsDoneBy lib before after r r2 p p2 one_site (told_by watched_values) (WaitOneDoes h mask)
   unfolding taken_handles handle_operands remove_all gives_refused
   one_done =
-      answered_done lib before after r r2 p p2 consistent write one_site watched_values (WaitOneDoes h mask) (SeesActive p.table r h mask) false
+      answered_done lib r2 consistent write one_site watched_values (WaitOneDoes h mask) (SeesActive p.table r h mask) false
       (result_err (watched_at p.table.entries r.objects h mask)) (λ answer acts. acts) refused_one refl refl (λ answer. refl)
       (λ x sees replies. one_called x sees.seen sees.active sees.table sees.objects replies)
 
@@ -173,9 +173,8 @@ module _ (lib : Library) (before after : List Process) (r r2 : Objects) (p p2 : 
   refused_now : refusal lib w p.pid (wait_poll h mask) ≡ answers (why polled)
   unfolding handle_operands operands_fault listed
   refused_now =
-      first_looked_up lib w p.pid p.table.entries (table_is before after p p2 write r) (wait_poll h mask) (why polled)
-      h any WAIT None refl (λ s is. rw is refl)
-      (λ e is at. rw (is, table_is before after p p2 write r, at, ← signals_active before r consistent e.koid) (by_mask e (is_mask mask)))
+      first_looked_up lib w p.pid p.table.entries (table_is write r) (wait_poll h mask) (why polled) h any WAIT None refl (λ s is. rw is refl)
+      (λ e is at. rw (is, table_is write r, at, ← signals_active before r consistent e.koid) (by_mask e (is_mask mask)))
     where
       by_met : (seen : Signals) (b : Bool)
           → first_some (answer_if (not b) status.TimedOut ∷ []) ≡ answers (why (if b then Ok seen else Err (fault.TimedOut seen)))
@@ -192,7 +191,7 @@ module _ (lib : Library) (before after : List Process) (r r2 : Objects) (p p2 : 
   known answer is = subst (IsKnown r.objects (koid_in (get p.table.entries h))) is (polled_known p.table.entries r.objects h mask)
 
   active_now : (seen : Signals) → signals_at r.objects (koid_in (get p.table.entries h)) ≡ seen.0 → active_at w p.pid h ≡ seen.0
-  active_now seen is = rw (table_is before after p p2 write r) (sym (signals_active before r consistent (koid_in (get p.table.entries h))) ∙ is)
+  active_now seen is = rw (table_is write r) (sym (signals_active before r consistent (koid_in (get p.table.entries h))) ∙ is)
 
   nothing_told : (s : Status) → tells_signals s ≡ false → gives_refused w p.pid (wait_poll h mask) s ≡ []
   unfolding gives_refused
@@ -201,13 +200,13 @@ module _ (lib : Library) (before after : List Process) (r r2 : Objects) (p p2 : 
 
   module _ (table : p2.table ≡ p.table) (objects : r2 ≡ r) where
     keeps : p2.state ≡ p.state → IsConsistent after r2
-    keeps same = subst (IsConsistent after) (sym objects) (refusal_keeps before after p p2 write r consistent table same)
+    keeps same = subst (IsConsistent after) (sym objects) (refusal_keeps write r consistent table same)
 
     -- the active signals are told
     seen_told : (s : Status) (seen : Signals) → signals_at r.objects (koid_in (get p.table.entries h)) ≡ seen.0
         → Replies poll_site s (seen.0 ∷ []) p p2 → world_value after r2 ≡ replied w p.pid poll_site s (active_at w p.pid h ∷ [])
     seen_told s seen is replies =
-        same_world before after p p2 write r r2 poll_site s (seen.0 ∷ []) table objects replies
+        same_world write r r2 poll_site s (seen.0 ∷ []) table objects replies
         ∙ ap (λ (x : ℕ). replied w p.pid poll_site s (x ∷ [])) (sym (active_now seen is))
 
     by_polled : (answer : Result Signals PollFault) → polled ≡ answer → IsTold poll_site (told_polled answer) p p2
@@ -226,7 +225,7 @@ module _ (lib : Library) (before after : List Process) (r r2 : Objects) (p p2 : 
         Refused,
         rw (refused_now, is) (
           refl,
-          same_world before after p p2 write r r2 poll_site s [] table objects replies
+          same_world write r r2 poll_site s [] table objects replies
               ∙ ap (replied w p.pid poll_site s) (sym (nothing_told s (known (Err (fault.Refused s)) is))),
         ),
       );
@@ -234,6 +233,6 @@ module _ (lib : Library) (before after : List Process) (r r2 : Objects) (p p2 : 
     }
 
   pub poll_done : IsDoneBy lib before after r r2 p p2 poll_site told_polled (WaitPollDoes h mask)
-  poll_done ready call next o acts = called_done lib before after r r2 p p2 consistent write ready call poll_site next o
+  poll_done ready call next o acts = called_done lib r2 consistent write ready call poll_site next o
       (subst (λ (x : Outcome). IsCalled lib before after r r2 p.pid poll_site x) (sym acts.ends)
       (by_polled acts.acts.table acts.acts.objects acts.answer (sym acts.acts.answered) acts.replied))

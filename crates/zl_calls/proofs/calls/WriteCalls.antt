@@ -192,7 +192,7 @@ count_koids j (e ∷ es) =
 -- ---- the step
 
 -- a process of the world, before and after its call
-module _ (lib : Library) (before after : List Process) (r r2 : Objects) (p p2 : Process) (consistent : IsConsistent before r)
+module _ {before after : List Process} {r : Objects} {p p2 : Process} (lib : Library) (r2 : Objects) (consistent : IsConsistent before r)
     (write : IsWrite before after p p2)
     (c : ℕ) (bytes hs consumed destinations : List ℕ) where
   abbrev w : World
@@ -207,11 +207,11 @@ module _ (lib : Library) (before after : List Process) (r r2 : Objects) (p p2 : 
   refused : refusal lib w p.pid (chan_write c bytes hs) ≡ answers refused_by
   unfolding handle_operands operands_fault listed
   refused =
-      first_looked_up lib w p.pid p.table.entries (table_is before after p p2 write r) (chan_write c bytes hs) refused_by
+      first_looked_up lib w p.pid p.table.entries (table_is write r) (chan_write c bytes hs) refused_by
       c (kind.Channel ∷ []) WRITE (list_refusal p.table.entries [] hs)
       (ap (option_or (result_err (looked_up p.table.entries c (kind.Channel ∷ []) WRITE))) (sym (list_fault p.table.entries [] [] hs (λ v. refl))))
       (λ s is. rw is refl)
-      (λ e is at. rw (is, table_is before after p p2 write r, at, peer_there r consistent.no_zero e.koid)
+      (λ e is at. rw (is, table_is write r, at, peer_there r consistent.no_zero e.koid)
       (by_tests (list_refusal p.table.entries [] hs) (not (is_some (peer_at r.objects e.koid)))))
     where
       by_tests : (o : Option Status) (closed : Bool)
@@ -233,12 +233,12 @@ module _ (lib : Library) (before after : List Process) (r r2 : Objects) (p p2 : 
 
     peer_same : peer_named w p.pid c ≡ writes.peer
     peer_same =
-        rw (table_is before after p p2 write r, is_found (get p.table.entries c) (kind.Channel ∷ []) WRITE writes.end writes.is_end)
+        rw (table_is write r, is_found (get p.table.entries c) (kind.Channel ∷ []) WRITE writes.end writes.is_end)
         (peer_is r consistent.no_zero writes.end.koid writes.peer writes.is_peer)
 
     handles_same : entries_at w p.pid hs ≡ taken_from p.table hs
     handles_same =
-        rw (table_is before after p p2 write r) (same_taken p.table.entries [] hs p.table
+        rw (table_is write r) (same_taken p.table.entries [] hs p.table
         (none_first (list_refusal p.table.entries [] hs) _ (none_then (fault_of (looked_up p.table.entries c (kind.Channel ∷ []) WRITE)) _ writes.unrefused))
         (λ v unseen. refl))
 
@@ -259,7 +259,7 @@ module _ (lib : Library) (before after : List Process) (r r2 : Objects) (p p2 : 
     unfolding effect new_handles insert_all
     write_ends =
         rw (takes_listed c bytes hs, peer_same, handles_same)
-        (replied_taking before after p p2 write hs writes.table w r2 write_site status.Ok [] middle refl so_far write_rest replies)
+        (replied_taking write hs writes.table w r2 write_site status.Ok [] middle refl so_far write_rest replies)
 
     write_chosen : IsTrue (may_choose w (taken w p.pid write_site) p.pid (chan_write c bytes hs) [])
     unfolding may_choose new_handles on_process
@@ -279,13 +279,12 @@ module _ (lib : Library) (before after : List Process) (r r2 : Objects) (p p2 : 
         All-append (λ (x : Message). All (IsNamed changed.objects) x.handles) queue (message ∷ []) (still_named r.objects changed.objects named_now queue old)
         (All-cons (λ (x : Message). All (IsNamed changed.objects) x.handles) message []
         (all_taken (IsNamed changed.objects) hs p.table (λ v e at. named_now e
-        (named_before before after p p2 write hs writes.table r consistent state_same v e at)))
-        (All-nil (λ (x : Message). All (IsNamed changed.objects) x.handles)))
+        (named_before write hs writes.table r consistent state_same v e at))) (All-nil (λ (x : Message). All (IsNamed changed.objects) x.handles)))
     queue_named _ old = All-nil (λ (x : Message). All (IsNamed changed.objects) x.handles)
 
     -- the handles have left the table, and count still; then they are in the queue
     left : IsSound after (taken_map p.table hs) r
-    left = taken_sound before after p p2 write hs writes.table r consistent state_same
+    left = taken_sound write hs writes.table r consistent state_same
 
     write_counts : (j : ℕ) → handles_to (world_value after changed) j + count_by (λ (h : ℕ × Entry). h.1.koid == j) []
         ≡ handles_to (world_value after r) j + count_by (λ h. h.1.koid == j) (taken_map p.table hs)
@@ -312,6 +311,6 @@ module _ (lib : Library) (before after : List Process) (r r2 : Objects) (p p2 : 
   pub write_done : IsDoneBy lib before after r r2 p p2 write_site (told_by no_value) (ChanWriteDoes c bytes hs)
   unfolding gives_refused
   write_done ready call next o acts =
-      taking_done lib before after r r2 p p2 consistent write ready call write_site next hs (takes_listed c bytes hs) no_value
+      taking_done lib r2 consistent write ready call write_site next hs (takes_listed c bytes hs) no_value
       (λ _. WritesMessage p.table r c bytes hs) true refused_by
       refused refl (λ answer. refl) (λ _. write_called) o acts.answer acts.acts acts.replied acts.ends

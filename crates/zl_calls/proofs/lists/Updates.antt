@@ -1,6 +1,7 @@
--- Changes of one value of a map: two after another, none, and as they are seen from outside. Maps in order: what is found, and seen.
-use Rattle.zl_calls.proofs.Common.{◌≡◌, ◌<◌, ℕ, true, false, ◌==◌, [], ◌∷◌, refl, sym, ap, ◌∙◌, subst, inl, inr, map, eq-eqb, cases_Bool, eqb-true, Map, update}
-use Rattle.zl_calls.proofs.Common.{Some, IsTrue, arith, below_all, get, is_sorted, nat_cmp, nat_tests, none-some, sorted_parts, below_parts}
+-- Changes of one value of a map or a list: two after another, none, and as they are seen from outside. Maps in order: what is found, and seen.
+use Rattle.zl_calls.proofs.Common.{◌≡◌, ◌<◌, ℕ, zero, suc, true, false, ◌==◌, List, [], ◌∷◌, refl, sym, ap, ◌∙◌, subst, inl, inr, map, eq-eqb, cases_Bool}
+use Rattle.zl_calls.proofs.Common.{eqb-true, Map, update}
+use Rattle.zl_calls.proofs.Common.{Some, IsTrue, arith, below_all, get, get_or, set, is_sorted, nat_cmp, nat_tests, none-some, sorted_parts, below_parts}
 
 pub update_twice : {X : Type 0} (m : Map X) (k : ℕ) (f g : X → X) → update (update m k f) k g ≡ update m k (λ x. g (f x))
 unfolding update
@@ -43,6 +44,17 @@ module _ {X Y : Type 0} (seen : X → Y) where
   pub sorted_seen : (m : Map X) → is_sorted nat_cmp (map seen_entry m) ≡ is_sorted nat_cmp m
   sorted_seen [] = refl
   sorted_seen (e ∷ m) = rw (below_seen e.0 m, sorted_seen m) refl
+
+-- ---- a list
+
+-- what is written back as it was read changes nothing
+pub set_read : {X : Type 0} (xs : List X) (n : ℕ) (x : X) → x ≡ get_or xs n x → set xs n x ≡ xs
+set_read [] n x read = refl
+set_read (y ∷ xs) zero x read = ap (λ z. z ∷ xs) read
+set_read (y ∷ xs) (suc n) x read = ap (λ zs. y ∷ zs) (set_read xs n x read)
+
+pub set_same : {X : Type 0} (xs : List X) (n : ℕ) (x y : X) → y ≡ x → x ≡ get_or xs n x → set xs n y ≡ xs
+set_same xs n x y same read = ap (set xs n) same ∙ set_read xs n x read
 
 -- ---- a map in order
 

@@ -27,7 +27,7 @@ use Rattle.zl_calls.proofs.processes.Written.{refusal_keeps}
 
 -- ---- the step
 
-module _ (lib : Library) (before after : List Process) (r r2 : Objects) (p p2 : Process) (consistent : IsConsistent before r)
+module _ {before after : List Process} {r : Objects} {p p2 : Process} (lib : Library) (r2 : Objects) (consistent : IsConsistent before r)
     (write : IsWrite before after p p2)
     (ready : state_value p.state ≡ Ready) (s : Site) (o : Outcome) where
   abbrev Judged : Verdict → Type 0
@@ -39,8 +39,8 @@ module _ (lib : Library) (before after : List Process) (r r2 : Objects) (p p2 : 
   -- what it leaves of the process and the objects
   keeps_by : (v : Verdict) → EndsBy v s p r o p2 r2 → IsConsistent after r2
   keeps_by verdict.Denied ends =
-      subst (IsConsistent after) (sym ends.objects) (refusal_keeps before after p p2 write r consistent ends.table (ap (λ (q : Process). q.state) ends.replied))
-  keeps_by verdict.Killed ends = ends_keeps lib before after r r2 p p2 consistent write BY_POLICY ends.over ready
+      subst (IsConsistent after) (sym ends.objects) (refusal_keeps write r consistent ends.table (ap (λ (q : Process). q.state) ends.replied))
+  keeps_by verdict.Killed ends = ends_keeps lib r2 consistent write BY_POLICY ends.over ready
 
   pub policed_keeps : Policed s p r o p2 r2 → IsConsistent after r2
   policed_keeps policed = keeps_by policed.verdict policed.ends
@@ -79,7 +79,7 @@ module _ (lib : Library) (before after : List Process) (r r2 : Objects) (p p2 : 
     denied_acts denied is =
         let making = denied_object p.table.entries r.objects p.pid s.request is in
         let answered : world_value after r2 ≡ replied (world_value before r) p.pid s status.AccessDenied [] =
-        same_world before after p p2 write r r2 s status.AccessDenied [] denied.table denied.objects denied.replied in
+        same_world write r r2 s status.AccessDenied [] denied.table denied.objects denied.replied in
         let acted : with_waiters (world_value after r2) r.waits r.waits_made blocked ≡ replied W p.pid s status.AccessDenied [] =
         ap (λ (w : World). with_waiters w r.waits r.waits_made blocked) answered
         ∙ sym (replied_among p.pid r.waits r.waits_made blocked (world_value before r) s status.AccessDenied []) in
@@ -105,7 +105,7 @@ module _ (lib : Library) (before after : List Process) (r r2 : Objects) (p p2 : 
     killed_acts exits is =
         let others : List ℕ = filter (λ q. not (q == p.pid)) blocked in
         let acted : with_waiters (world_value after r) r.waits r.waits_made others ≡ ended W p.pid BY_POLICY =
-        ap (λ (w : World). with_waiters w r.waits r.waits_made others) (ended_is lib before after r r2 p p2 consistent write BY_POLICY exits.over ready)
+        ap (λ (w : World). with_waiters w r.waits r.waits_made others) (ended_is lib r2 consistent write BY_POLICY exits.over ready)
         ∙ sym (ended_among p.pid r.waits r.waits_made blocked (world_value before r) BY_POLICY) in
         left_by lib before (left_all after r2) r r2 p.pid (item.Call p.pid call o) blocked sound r.waits r.waits_made blocked
         (subst (λ (b : List ℕ). ActsAndSettles lib W p.pid (item.Call p.pid call o)
@@ -123,8 +123,7 @@ module _ (lib : Library) (before after : List Process) (r r2 : Objects) (p p2 : 
                 (killed_calls lib W p.pid s (with_waiters (world_value after r) r.waits r.waits_made others) (refused verdict.Killed is) acted),
           );
           settles = settles_waiting (world_value after r) (settled_world after r2)
-              (settles lib before after r r2 p p2 consistent write BY_POLICY exits.over ready)
-              r.waits r.waits_made others;
+              (settles lib r2 consistent write BY_POLICY exits.over ready) r.waits r.waits_made others;
         }))
         exits.over.listed.listed
 

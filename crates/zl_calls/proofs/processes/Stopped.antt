@@ -23,17 +23,17 @@ use Rattle.zl_calls.proofs.processes.Written.{after_is, get_after, found_after, 
 
 -- ---- the table of the process has lost the handles m
 
-module _ (before after : List Process) (p p2 : Process) (write : IsWrite before after p p2) (r : Objects) (consistent : IsConsistent before r) (m : Map Entry)
+module _ {before after : List Process} {p p2 : Process} (write : IsWrite before after p p2) (r : Objects) (consistent : IsConsistent before r) (m : Map Entry)
     (table : IsTable p2.table)
     (fewer : (j : ℕ) → count_by (λ h. h.1.koid == j) p.table.entries ≡ count_by (λ h. h.1.koid == j) p2.table.entries + count_by (λ h. h.1.koid == j) m)
     (named : (v : ℕ) (e : Entry) → get p2.table.entries v ≡ Some e → IsNamed r.objects e) where
   pub still_given : (k : ℕ) → IsTrue (has_key (map process_entry after) k) → k < r.next_koid
   still_given k there =
       consistent.given_processes k (sym (has_key-update (map process_entry before) p.pid (λ _. process_value p2) k)
-      ∙ rw (after_is before after p p2 write) at there)
+      ∙ rw (after_is write) at there)
 
   pub sound_after : p2.state ≡ p.state → IsSound after m r
-  sound_after same = written_sound before after p p2 write [] m r (sound_of before r consistent) (same_agrees before after p p2 write same r) table named
+  sound_after same = written_sound write [] m r (sound_of before r consistent) (same_agrees write same r) table named
       (λ k. omega (arith, counts_fewer before after p p2 r r k (count_by (λ h. h.1.koid == k) m) write refl (fewer k)))
 
   -- ---- the process has ended too
@@ -69,7 +69,7 @@ module _ (before after : List Process) (p p2 : Process) (write : IsWrite before 
   module _ (code : ℤ) (over : p2.state ≡ state.Ended code) where
     now : (test : StateValue → Bool) → is_process (world_value after ended) test p.pid ≡ test (Ended code)
     unfolding is_process
-    now test = rw (get_after before after p p2 write p.pid, same p.pid, over) refl
+    now test = rw (get_after write p.pid, same p.pid, over) refl
       where
         same : (j : ℕ) → (j == j) ≡ true
         same j = eq-eqb j j refl
@@ -77,7 +77,7 @@ module _ (before after : List Process) (p p2 : Process) (write : IsWrite before 
     others_now : (j : ℕ) → (p.pid == j) ≡ false → (test : StateValue → Bool)
         → is_process (world_value after ended) test j ≡ is_process (world_value before r) test j
     unfolding is_process
-    others_now j apart test = rw (get_after before after p p2 write j, apart) refl
+    others_now j apart test = rw (get_after write j, apart) refl
 
     stopped_agrees : (b : Body) → Agrees (world_value after ended) p.pid (stopped_body b)
     stopped_agrees (body.Job own) = now runs
@@ -91,16 +91,16 @@ module _ (before after : List Process) (p p2 : Process) (write : IsWrite before 
     pub sound_stopped : IsSound after m ended
     sound_stopped = record {
       processes_in_order =
-          rw (after_is before after p p2 write, is_sorted-update (map process_entry before) p.pid (λ _. process_value p2)) consistent.processes_in_order;
+          rw (after_is write, is_sorted-update (map process_entry before) p.pid (λ _. process_value p2)) consistent.processes_in_order;
       objects_in_order = rw (is_sorted-update r.objects p.pid stopped) consistent.kept.in_order;
       given_processes = still_given;
       given_objects = λ j has. consistent.given_objects j (sym (has_key-update r.objects p.pid stopped j) ∙ has);
       koids = consistent.koids;
       above_zero = consistent.above_zero;
       no_zero = λ j has. consistent.no_zero j (sym (has_key-update r.objects p.pid stopped j) ∙ has);
-      tables = λ k q at. found_after before after p p2 write (IsTable (record { entries = q.handles; last = q.last })) k q at
+      tables = λ k q at. found_after write (IsTable (record { entries = q.handles; last = q.last })) k q at
           (λ is. subst (λ (x : ProcessValue). IsTable (record { entries = x.handles; last = x.last })) is table) (consistent.tables k q);
-      named = λ k q v e at there. found_after before after p p2 write (IsNamed ended.objects e) k q at
+      named = λ k q v e at there. found_after write (IsNamed ended.objects e) k q at
           (λ is. named_stopped e (named v e (ap (λ (x : ProcessValue). get x.handles v) is ∙ there)))
           (λ old. named_stopped e (consistent.named k q v e old there));
       queued = each_updated (λ j q. AreNamed ended.objects (queue_of q.body)) stopped r.objects p.pid

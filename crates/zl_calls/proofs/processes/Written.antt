@@ -47,7 +47,7 @@ place_is (p ∷ ps) pid (Some i) is =
 
 -- ---- what is found afterwards
 
-module _ (before after : List Process) (p p2 : Process) (write : IsWrite before after p p2) where
+module _ {before after : List Process} {p p2 : Process} (write : IsWrite before after p p2) where
   pub after_is : map process_entry after ≡ update (map process_entry before) p.pid (λ _. process_value p2)
   after_is = write.writes (λ _. process_value p2) refl
 

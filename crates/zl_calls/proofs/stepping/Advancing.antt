@@ -1,15 +1,15 @@
 -- What a process did by itself comes back to the world: what stands there for it, and the steps that these instructions are.
 use Rattle.zl_calls.proofs.Common.{◌≡◌, ◌<◌, ◌≤◌, ℕ, IsTrue, false≢true, Result, Ok, Err, arith, is_some, is_process, is_ready_in, List, length, map, get_or}
-use Rattle.zl_calls.proofs.Common.{set, replicate, refl, sym, ap, ◌∙◌, subst, Option, Some, None, none-some, same_Some, option_map, position, ◌==◌, true}
+use Rattle.zl_calls.proofs.Common.{set, replicate, refl, sym, ap, ◌∙◌, subst, Option, Some, None, none-some, same_Some, option_map, true}
 use Rattle.zl_calls.proofs.Common.{slice_get, slice_get-get_or, get, Cpu, Program, is_ready, Settles, wakes, on_process, Library, Objects, process_entry}
-use Rattle.zl_calls.proofs.Common.{process_value, state_value, world_blocked, AreBlocked, IsConsistent, IsPlaceOf, World, slice_get_within, Runs, step_programs}
+use Rattle.zl_calls.proofs.Common.{process_value, state_value, world_blocked, IsPlaceOf, World, slice_get_within, Runs, step_programs}
 use Rattle.zl_calls.proofs.Common.{step_sound, HavePrograms, after_locals, Stands}
 use Rattle.zl_code.proofs.Common.{IfOk, IsSound as IsSoundWorld}
 use Rattle.zl_code.specs.declared.history.TraceItem.TheVariants as item
 use Rattle.zl_calls.specs.declared.process.Process.{Process}
 use Rattle.zl_calls.proofs.stepping.LocalMoves.{stands, moved_awake, moved_rests, moved_world}
 use Rattle.zl_calls.proofs.stepping.LocalRuns.{along, locals_run}
-use Rattle.zl_calls.proofs.stepping.Performing.{ready}
+use Rattle.zl_calls.proofs.stepping.Performing.{AtTurn, ready}
 use Rattle.zl_calls.proofs.stepping.StepItems.{machine_value}
 
 -- ---- what stands there
@@ -59,34 +59,26 @@ made_passes P x (Err e) is passes = tt
 -- ---- the steps
 
 -- the process p stands at the place, under the pid, is ready and runs this program
-module _ (lib : Library) (ps : List Process) (r : Objects) (consistent : IsConsistent ps r) (blocked : List ℕ) (are : AreBlocked ps blocked)
-    (sound : IsSoundWorld (world_blocked ps r blocked)) (pid place : ℕ) (p : Process)
-    (found : Some place ≡ position (λ q. q.pid == pid) ps) (read : p ≡ get_or ps place p) (is_ready_there : is_ready (state_value p.state) ≡ true)
+module _ {ps : List Process} {r : Objects} {blocked : List ℕ} {pid place : ℕ} {p : Process} (turn : AtTurn ps r blocked pid place p) (lib : Library)
     (quiet : wakes (world_blocked ps r blocked) ≡ world_blocked ps r blocked) (g : Program) (runs : slice_get lib p.program ≡ Some g) where
   abbrev before : World
   before = world_blocked ps r blocked
 
   at_rest : (c : Cpu) → Settles (on_process before pid (λ q. record q { cpu = c })) (on_process before pid (λ q. record q { cpu = c }))
-  at_rest c = subst (λ (w : World). Settles w w) (moved_world lib ps r consistent blocked are sound pid place p found read is_ready_there
-      (record p { cpu = c }) refl)
-      (moved_rests lib ps r consistent blocked are sound pid place p found read is_ready_there (record p { cpu = c }) refl)
+  at_rest c = subst (λ (w : World). Settles w w) (moved_world turn (record p { cpu = c }) refl) (moved_rests turn (record p { cpu = c }) refl)
 
   awake : (c : Cpu) → wakes (on_process before pid (λ q. record q { cpu = c })) ≡ on_process before pid (λ q. record q { cpu = c })
-  awake c = subst (λ (w : World). wakes w ≡ w) (moved_world lib ps r consistent blocked are sound pid place p found read is_ready_there
-      (record p { cpu = c }) refl)
-      (moved_awake lib ps r consistent blocked are sound pid place p found read is_ready_there (record p { cpu = c }) refl quiet)
+  awake c = subst (λ (w : World). wakes w ≡ w) (moved_world turn (record p { cpu = c }) refl) (moved_awake turn (record p { cpu = c }) refl quiet)
 
   module _ (n : ℕ) (p2 : Process) (cpu : p2 ≡ record p { cpu = p2.cpu }) (follows : after_locals g.image n p.cpu ≡ Some p2.cpu) where
     -- as many steps as were done lead to the world with the new Cpu
     pub advances : Runs lib before (replicate n (item.Run pid 1)) (world_blocked (set ps place p2) r blocked)
-    advances = subst (Runs lib before (replicate n (item.Run pid 1)))
-        (sym (moved_world lib ps r consistent blocked are sound pid place p found read is_ready_there p2 cpu))
-        (locals_run lib before pid (process_value p) (stands lib ps r consistent blocked are sound pid place p found read is_ready_there)
-        (ready lib ps r consistent blocked are sound pid place p found read is_ready_there) g runs at_rest awake n p2.cpu follows)
+    advances = subst (Runs lib before (replicate n (item.Run pid 1))) (sym (moved_world turn p2 cpu))
+        (locals_run lib before pid (process_value p) (stands turn) (ready turn) g runs at_rest awake n p2.cpu follows)
 
     pub advanced_sound : IsSoundWorld (world_blocked (set ps place p2) r blocked)
     advanced_sound = along lib IsSoundWorld (λ w k x w2 s step. step_sound lib w k x w2 s step) before (replicate n (item.Run pid 1))
-        (world_blocked (set ps place p2) r blocked) sound advances
+        (world_blocked (set ps place p2) r blocked) turn.sound advances
 
     pub advanced_programs : HavePrograms lib before → HavePrograms lib (world_blocked (set ps place p2) r blocked)
     advanced_programs all = along lib (HavePrograms lib) (λ w k x w2 h step. step_programs lib w k x w2 h step) before (replicate n (item.Run pid 1))

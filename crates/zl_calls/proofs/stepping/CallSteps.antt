@@ -1,38 +1,26 @@
 -- Any call of a process in the midst of all others: from what was done among them to the relation of steps, up to where processes wake.
-use Rattle.zl_calls.proofs.Common.{◌≡◌, ◌<◌, ℕ, length, slice_get-get_or, Moves, IsStuck, STUCK, Ends, call_in, true, ◌==◌, List, get_or, set, refl, sym, ap}
+use Rattle.zl_calls.proofs.Common.{refl, ◌≡◌, ℕ, slice_get-get_or, Moves, IsStuck, STUCK, Ends, call_in, true, ◌==◌, List, get_or, set, sym, ap}
 use Rattle.zl_calls.proofs.Common.{◌∙◌, subst, Some, None, same_Some, position, slice_get, is_ready, Library, Site, AtCall, next_for, calls_at, Objects}
-use Rattle.zl_calls.proofs.Common.{process_value, state_value, world_blocked, world_value, AreBlocked, IsConsistent, CallName, Outcome, StaysAwake, world_left}
+use Rattle.zl_calls.proofs.Common.{process_value, state_value, world_blocked, CallName, Outcome, StaysAwake, world_left}
 use Rattle.zl_calls.proofs.Common.{CallActs, CalledAmong, acts, Parts, parts}
-use Rattle.zl_code.specs.Sound.{IsSound as IsSoundWorld}
 use Rattle.zl_code.specs.declared.history.TraceItem.TheVariants as item
 use Rattle.zl_calls.specs.Reaching.{policed, reaches}
 use Rattle.zl_calls.specs.declared.process.Process.{Process}
 use Rattle.zl_calls.proofs.stepping.LocalMoves.{moved_stays}
-use Rattle.zl_calls.proofs.stepping.Performing.{HasActed, HasLeft, alone_so, moves_so, stops_so, write_of}
-use Rattle.zl_calls.proofs.lists.Positions.{first_at}
-use Rattle.zl_calls.proofs.tasks.ReachSteps.{reaches_so}
+use Rattle.zl_calls.proofs.stepping.Performing.{AtTurn, HasActed, HasLeft, alone_so, here, left_as, moves_so, stops_so, within}
+use Rattle.zl_calls.proofs.tasks.ReachSteps.{free, free_beside, reaches_so}
 use Rattle.zl_calls.proofs.policy.PolicedSteps.{policed_so}
-use Rattle.zl_calls.proofs.policy.Freedom.{is_free}
 
 -- the process p stands at the place, under the pid, and is at the call
-module _ (lib : Library) (ps : List Process) (r : Objects) (whole : IsConsistent ps r) (blocked : List ℕ) (are : AreBlocked ps blocked)
-    (sound : IsSoundWorld (world_blocked ps r blocked)) (pid place : ℕ) (p : Process)
-    (found : Some place ≡ position (λ q. q.pid == pid) ps) (read : p ≡ get_or ps place p)
-    (is_ready_there : is_ready (state_value p.state) ≡ true) (all2 : Parts)
-    (o : Outcome) where
+module _ {ps : List Process} {r : Objects} {blocked : List ℕ} {pid place : ℕ} {p : Process} (turn : AtTurn ps r blocked pid place p) (lib : Library)
+    (all2 : Parts) (o : Outcome) where
   by_acts : (name : CallName) (s : Site) → next_for lib (process_value p) ≡ AtCall name s → CallActs lib place p s (parts ps r blocked) o all2
       → HasLeft lib ps all2.processes r all2.objects blocked all2.blocked pid (item.Call pid name o)
-  by_acts name s next (policed p2 alone ends) = policed_so lib ps r whole blocked are sound pid place p found read is_ready_there name s
-      next o p2 all2 alone ends
-  by_acts name s next (reaches none does) = reaches_so lib ps r whole blocked are sound pid place p found read is_ready_there name s next none o all2 does
+  by_acts name s next (policed p2 alone ends) = policed_so turn lib name s next o p2 all2 alone ends
+  by_acts name s next (reaches none does) = reaches_so turn lib name s next none o all2 does
   by_acts name s next (acts p2 none alone acted) =
-      subst (λ (b : List ℕ). HasLeft lib ps all2.processes r all2.objects blocked b pid (item.Call pid name o)) (sym alone.blocked)
-      (subst (λ (qs : List Process). HasLeft lib ps qs r all2.objects blocked blocked pid (item.Call pid name o)) (sym alone.processes)
-      (alone_so lib ps r whole blocked are sound pid place p found read is_ready_there name o s next p2 all2.objects acted
-      (is_free lib ps r whole blocked sound p ((write_of lib ps r whole blocked are sound pid place p found read p refl).there) is_ready_there name s next none
-      (world_value ps r) refl refl)
-      (is_free lib ps r whole blocked sound p ((write_of lib ps r whole blocked are sound pid place p found read p refl).there) is_ready_there name s next none
-      (world_blocked ps r blocked) refl refl)))
+      left_as all2 (set ps place p2) all2.objects blocked alone.processes refl alone.blocked
+      (alone_so turn lib name o s next p2 all2.objects acted (free turn lib name s next none) (free_beside turn lib name s next none))
 
   pub called_so : (name : CallName) → CalledAmong lib place p (parts ps r blocked) name o all2
       → HasLeft lib ps all2.processes r all2.objects blocked all2.blocked pid (item.Call pid name o)
@@ -41,44 +29,32 @@ module _ (lib : Library) (ps : List Process) (r : Objects) (whole : IsConsistent
 -- ---- a step that is no call, behind a look at what stands next that changed nothing
 
 module _ (ps : List Process) (pid place : ℕ) (p : Process) (found : Some place ≡ position (λ q. q.pid == pid) ps) (read : p ≡ get_or ps place p) where
-  pub within : place < length ps
-  within = (first_at (λ (q : Process). q.pid) process_value ps pid place p (sym found)).within
-
   pub caller_ready : is_ready (state_value p.state) ≡ true → (caller : Process) → slice_get ps place ≡ Some caller → is_ready (state_value caller.state) ≡ true
-  caller_ready ready caller at =
-      subst (λ (q : Process). is_ready (state_value q.state) ≡ true)
-      (same_Some p caller (sym (slice_get-get_or ps place p within ∙ ap (λ (q : Process). Some q) (sym read)) ∙ at)) ready
+  caller_ready ready caller at = subst (λ (q : Process). is_ready (state_value q.state) ≡ true) (same_Some p caller (sym (here ps pid place p found read) ∙
+      at)) ready
 
-module _ (lib : Library) (ps : List Process) (r : Objects) (whole : IsConsistent ps r) (blocked : List ℕ) (are : AreBlocked ps blocked)
-    (sound : IsSoundWorld (world_blocked ps r blocked)) (pid place : ℕ) (p : Process)
-    (found : Some place ≡ position (λ q. q.pid == pid) ps) (read : p ≡ get_or ps place p) (is_ready_there : is_ready (state_value p.state) ≡ true)
+module _ {ps : List Process} {r : Objects} {blocked : List ℕ} {pid place : ℕ} {p : Process} (turn : AtTurn ps r blocked pid place p) (lib : Library)
     (ps1 : List Process) (r1 : Objects) (b1 : List ℕ) (same_list : ps1 ≡ ps) (same_objects : r1 ≡ r) (same_blocked : b1 ≡ blocked) (p1 : Process)
     (read1 : p1 ≡ get_or ps1 place p1) where
   same_process : p1 ≡ p
   same_process =
-      let both : slice_get ps place ≡ Some p = slice_get-get_or ps place p (within ps pid place p found read) ∙ ap (λ (q : Process). Some q) (sym read) in
       let other : slice_get ps place ≡ Some p1 =
-      slice_get-get_or ps place p1 (within ps pid place p found read)
+      slice_get-get_or ps place p1 (within ps pid place p turn.found turn.read)
       ∙ ap (λ (q : Process). Some q) (sym (read1 ∙ ap (λ (qs : List Process). get_or qs place p1) same_list)) in
-      same_Some p1 p (sym other ∙ both)
+      same_Some p1 p (sym other ∙ here ps pid place p turn.found turn.read)
 
   pub moves_from : (p2 : Process) → next_for lib (process_value p1) ≡ Moves p2.cpu → p2 ≡ record p1 { cpu = p2.cpu }
       → HasActed lib ps (set ps1 place p2) r r1 blocked b1 pid (item.Run pid 1)
   moves_from p2 next cpu =
-      rw (same_list, same_objects, same_blocked)
-      (moves_so lib ps r whole blocked are sound pid place p found read is_ready_there p2 (rw same_process at next) (rw same_process at cpu))
+      rw (same_list, same_objects, same_blocked) (moves_so turn lib p2 (rw same_process at next) (rw same_process at cpu))
 
   -- nothing ends, fires or wakes behind it
   pub stays_from : (p2 : Process) → p2 ≡ record p1 { cpu = p2.cpu }
       → StaysAwake (world_blocked ps r blocked) (world_left (set ps1 place p2) r1 b1) (world_blocked (set ps1 place p2) r1 b1)
-  stays_from p2 cpu =
-      rw (same_list, same_objects, same_blocked)
-      (moved_stays lib ps r whole blocked are sound pid place p found read is_ready_there p2 (rw same_process at cpu))
+  stays_from p2 cpu = rw (same_list, same_objects, same_blocked) (moved_stays turn p2 (rw same_process at cpu))
 
   pub stops_from : (p2 : Process) (r2 : Objects) → (call_in (next_for lib (process_value p)) ≡ None)
       → (call_in (next_for lib (process_value p1)) ≡ None → next_for lib (process_value p1) ≡ IsStuck) → Ends STUCK p1 r1 p2 r2
       → HasLeft lib ps (set ps1 place p2) r r2 blocked b1 pid (item.Stuck pid)
   stops_from p2 r2 none missing ends =
-      rw (same_list, same_blocked)
-      (stops_so lib ps r whole blocked are sound pid place p found read is_ready_there p2 r2 (rw same_process at missing none)
-      (rw (same_process, same_objects) at ends))
+      rw (same_list, same_blocked) (stops_so turn lib p2 r2 (rw same_process at missing none) (rw (same_process, same_objects) at ends))

@@ -1,16 +1,13 @@
 -- A call in the midst of all processes, step by step: its policy, then what reaches others, then what it does by itself.
-use Rattle.zl_calls.proofs.Common.{◌≡◌, ◌<◌, ℕ, zero, suc, List, [], ◌∷◌, length, get_or, set, refl, sym, ap, ◌∙◌, subst, Option, Some, None, IfSome, IsSome}
+use Rattle.zl_calls.proofs.Common.{◌≡◌, ◌<◌, ℕ, List, length, get_or, set, refl, sym, ap, ◌∙◌, subst, Option, Some, None, IfNone, IfSome, IsSome}
 use Rattle.zl_calls.proofs.Common.{false≢true, same_Some, slice_get, slice_get-get_or, site_of, Library, Site, Objects, Acted, Outcome, CallInstr, Policed}
-use Rattle.zl_calls.proofs.Common.{verdict_on, CallActs, CalledAmong, Reaches, acts, Parts, parts}
+use Rattle.zl_calls.proofs.Common.{verdict_on, CallActs, CalledAmong, Reaches, acts, Parts, parts, IsTrue, is_sorted, map, nat_cmp, process_entry}
 use Rattle.zl_calls.specs.Reaching.{policed, reaches}
 use Rattle.zl_calls.specs.World.{CallsNext}
 use Rattle.zl_calls.specs.calls.Task.{IsReachedBy}
 use Rattle.zl_calls.specs.declared.process.Process.{Process}
-
-pub set_read : {X : Type 0} (xs : List X) (n : ℕ) (x : X) → x ≡ get_or xs n x → set xs n x ≡ xs
-set_read [] n x read = refl
-set_read (y ∷ xs) zero x read = ap (λ z. z ∷ xs) read
-set_read (y ∷ xs) (suc n) x read = ap (λ zs. y ∷ zs) (set_read xs n x read)
+use Rattle.zl_calls.proofs.policy.PolicedSteps.{same_pid}
+use Rattle.zl_calls.proofs.processes.InOrder.{set_in_order}
 
 -- the caller p stands at the place, and its call has a site
 module _ (lib : Library) (ps : List Process) (r : Objects) (b : List ℕ) (place : ℕ) (p : Process) (within : place < length ps)
@@ -42,6 +39,19 @@ module _ (lib : Library) (ps : List Process) (r : Objects) (b : List ℕ) (place
             → IsReachedBy at (λ s. CallActs lib place p s (parts ps r b) o (parts (set ps place p2) r2 b))
         by_site None none ends = absurd (elim (false≢true none) [ ])
         by_site (Some s) there ends = policed p2 (record { processes = refl; blocked = refl }) ends
+
+    -- it leaves the list in order, as where the policy says nothing
+    pub policed_order : (o : Option Outcome) (p2 : Process) (r2 : Objects) → IfSome o (λ x. IfSome (site_of call p.cpu) (λ s. Policed s p r x p2 r2))
+        → IfNone o (p2 ≡ p) → IsTrue (is_sorted nat_cmp (map process_entry ps)) → IsTrue (is_sorted nat_cmp (map process_entry (set ps place p2)))
+    policed_order o p2 r2 ends same = set_in_order p p2 (by_outcome o ends same) ps place read
+      where
+        by_site : (at : Option Site) → IsSome at → (x : Outcome) → IfSome at (λ s. Policed s p r x p2 r2) → p2.pid ≡ p.pid
+        by_site None none x ends = absurd (elim (false≢true none) [ ])
+        by_site (Some s) there x ends = same_pid s p p2 r r2 x ends
+
+        by_outcome : (o : Option Outcome) → IfSome o (λ x. IfSome (site_of call p.cpu) (λ s. Policed s p r x p2 r2)) → IfNone o (p2 ≡ p) → p2.pid ≡ p.pid
+        by_outcome None ends same = ap (λ (q : Process). q.pid) same
+        by_outcome (Some x) ends same = by_site (site_of call p.cpu) (has_site p is_there) x ends
 
     -- the policy says nothing
     module _ (none : IfSome (site_of call p.cpu) (λ s. verdict_on p.table.entries r.objects p.pid s.request ≡ None)) where

@@ -1,14 +1,14 @@
 -- A ready process gets another Cpu: what is held stays held, no wait ends, and nothing becomes due.
-use Rattle.zl_calls.proofs.Common.{◌≡◌, ℕ, suc, Bool, true, false, ◌&&◌, ◌==◌, List, [], ◌∷◌, length, map, get_or, set, refl, sym, ap, ◌∙◌, subst, Option, Some}
-use Rattle.zl_calls.proofs.Common.{None, inl, inr, IsTrue, All, arith, nat_tests, position, and_from, cases_Bool, eqb-true, false≢true, none-some, is_some}
-use Rattle.zl_calls.proofs.Common.{list_any, Map, get, has_key, lives, is_process, is_ready, Settles, wakes, on_process, Library, Objects, process_entry}
+use Rattle.zl_calls.proofs.Common.{◌≡◌, ℕ, suc, Bool, true, false, ◌&&◌, ◌==◌, List, [], ◌∷◌, length, map, set, refl, sym, ap, ◌∙◌, subst, Option, Some}
+use Rattle.zl_calls.proofs.Common.{None, inl, inr, IsTrue, All, arith, nat_tests, and_from, cases_Bool, eqb-true, false≢true, none-some, is_some}
+use Rattle.zl_calls.proofs.Common.{list_any, Map, get, has_key, lives, is_process, Settles, wakes, on_process, Objects, process_entry}
 use Rattle.zl_calls.proofs.Common.{process_value, object_entry, state_value, world_blocked, world_value, AreBlocked, IsConsistent, World, has_handle, Entry}
 use Rattle.zl_calls.proofs.Common.{IsSoundWait, settles_waiting, StaysAwake, is_left, world_left}
 use Rattle.std.specs.List.{filter}
 use Rattle.std.specs.Prelude.{slice_index_or}
 use Rattle.zl_rights.specs.Settle.{is_made_by_handle}
 use Rattle.zl_rights.specs.World.{Wait}
-use Rattle.zl_code.proofs.Common.{Object as ObjectValue, Process as ProcessValue, body_in, handles_in, is_blocked, is_port_there, IsSound as IsSoundWorld}
+use Rattle.zl_code.proofs.Common.{Object as ObjectValue, Process as ProcessValue, body_in, handles_in, is_blocked, is_port_there}
 use Rattle.zl_code.proofs.AwakeMoves.{moves_awake}
 use Rattle.zl_code.proofs.StepsWaiting.{is_left as is_left_at_port}
 use Rattle.zl_calls.specs.declared.process.Process.{Process}
@@ -16,7 +16,7 @@ use Rattle.zl_calls.proofs.calls.Answered.{IsWrite}
 use Rattle.zl_calls.proofs.waking.BlockedLists.{still_blocked}
 use Rattle.zl_calls.proofs.processes.Departed.{all_live}
 use Rattle.zl_calls.proofs.waits.LeftWaits.{watched_there}
-use Rattle.zl_calls.proofs.stepping.Performing.{object_there, write_of, key, there, unblocked}
+use Rattle.zl_calls.proofs.stepping.Performing.{AtTurn, key, object_there, there, unblocked, write_of}
 use Rattle.zl_calls.proofs.objects.Settled.{still_settles}
 use Rattle.zl_calls.proofs.processes.Written.{alike_states, get_after, refusal_keeps}
 
@@ -36,17 +36,15 @@ not_among p (q ∷ ps) none = elim (cases_Bool (q == p)) as (λ _. list_any (λ 
 
 -- ---- the process p stands at the place, under the pid, and is ready
 
-module _ (lib : Library) (ps : List Process) (r : Objects) (consistent : IsConsistent ps r) (blocked : List ℕ) (are : AreBlocked ps blocked)
-    (sound : IsSoundWorld (world_blocked ps r blocked)) (pid place : ℕ) (p : Process)
-    (found : Some place ≡ position (λ q. q.pid == pid) ps) (read : p ≡ get_or ps place p) (is_ready_there : is_ready (state_value p.state) ≡ true) where
+module _ {ps : List Process} {r : Objects} {blocked : List ℕ} {pid place : ℕ} {p : Process} (turn : AtTurn ps r blocked pid place p) where
   abbrev before : World
   before = world_blocked ps r blocked
 
   pub stands : get (map process_entry ps) pid ≡ Some (process_value p)
-  stands = there lib ps r consistent blocked are sound pid place p found read
+  stands = there turn
 
   none_blocked : list_any (λ q. pid == q) blocked ≡ false
-  none_blocked = not_among pid blocked (are.once pid ∙ rw (stands, unblocked lib ps r consistent blocked are sound pid place p found read is_ready_there) refl)
+  none_blocked = not_among pid blocked (turn.are.once pid ∙ rw (stands, unblocked turn) refl)
 
   -- it gets another Cpu, and nothing else changes
   module _ (p2 : Process) (cpu : p2 ≡ record p { cpu = p2.cpu }) where
@@ -54,21 +52,21 @@ module _ (lib : Library) (ps : List Process) (r : Objects) (consistent : IsConsi
     after = set ps place p2
 
     write : IsWrite ps after p p2
-    write = write_of lib ps r consistent blocked are sound pid place p found read p2 (ap (λ (q : Process). q.pid) cpu)
+    write = write_of turn p2 (ap (λ (q : Process). q.pid) cpu)
 
     pub moved_keeps : IsConsistent after r
-    moved_keeps = refusal_keeps ps after p p2 write r consistent (ap (λ (q : Process). q.table) cpu) (ap (λ (q : Process). q.state) cpu)
+    moved_keeps = refusal_keeps write r turn.consistent (ap (λ (q : Process). q.table) cpu) (ap (λ (q : Process). q.state) cpu)
 
     pub moved_list : AreBlocked after blocked
     moved_list =
-        let was : is_blocked (state_value p.state) ≡ false = unblocked lib ps r consistent blocked are sound pid place p found read is_ready_there in
-        still_blocked ps after p p2 write was (ap (λ (q : Process). is_blocked (state_value q.state)) cpu ∙ was) blocked are
+        let was : is_blocked (state_value p.state) ≡ false = unblocked turn in
+        still_blocked write was (ap (λ (q : Process). is_blocked (state_value q.state)) cpu ∙ was) blocked turn.are
 
     pub moved_world : world_blocked after r blocked ≡ on_process before pid (λ q. record q { cpu = p2.cpu })
     unfolding on_process
     moved_world =
         ap (λ (m : Map ProcessValue). record before { processes = m })
-        (rw (← key lib ps r consistent blocked are sound pid place p found read) (write.writes (λ q. record q { cpu = p2.cpu }) (ap process_value cpu)))
+        (rw (← key turn) (write.writes (λ q. record q { cpu = p2.cpu }) (ap process_value cpu)))
 
     pub moved_awake : wakes before ≡ before → wakes (world_blocked after r blocked) ≡ world_blocked after r blocked
     moved_awake awake = subst (λ (w : World). wakes w ≡ w) (sym moved_world) (moves_awake before pid p2.cpu none_blocked awake)
@@ -77,8 +75,8 @@ module _ (lib : Library) (ps : List Process) (r : Objects) (consistent : IsConsi
 
     handles_still : (k v : ℕ) → has_handle (get (map process_entry after) k) v ≡ has_handle (get (map process_entry ps) k) v
     handles_still k v = elim (cases_Bool (p.pid == k)) as (λ _. has_handle (get (map process_entry after) k) v ≡ has_handle (get (map process_entry ps) k) v) [
-      | inl here ↦ rw (get_after ps after p p2 write k, here, ← eqb-true p.pid k here, write.there) (ap (λ (q : Process). has_key q.table.entries v) cpu)
-      | inr apart ↦ rw (get_after ps after p p2 write k, apart) refl
+      | inl here ↦ rw (get_after write k, here, ← eqb-true p.pid k here, write.there) (ap (λ (q : Process). has_key q.table.entries v) cpu)
+      | inr apart ↦ rw (get_after write k, apart) refl
     ]
 
     by_entry : (o : Option ProcessValue) (v : ℕ) (e : Entry) → get (handles_in o) v ≡ Some e → has_handle o v ≡ true
@@ -100,16 +98,16 @@ module _ (lib : Library) (ps : List Process) (r : Objects) (consistent : IsConsi
     all_left : filter (is_left (world_value after r)) r.waits ≡ r.waits
     all_left = all_kept (is_left (world_value after r)) r.waits (λ i d inside.
         let x : Wait = slice_index_or r.waits i d in
-        let t : IsSoundWait before x = sound.waits i d inside in
+        let t : IsSoundWait before x = turn.sound.waits i d inside in
         and_from (is_made_by_handle (world_value after r) x) (has_key (map object_entry r.objects) x.object && has_key (map object_entry r.objects) x.port)
         (made x t)
-        (and_from (has_key (map object_entry r.objects) x.object) (has_key (map object_entry r.objects) x.port) (watched_there before sound i d inside)
+        (and_from (has_key (map object_entry r.objects) x.object) (has_key (map object_entry r.objects) x.port) (watched_there before turn.sound i d inside)
         (ported x t)))
 
     all_left_at_port : filter (is_left_at_port (world_value after r)) r.waits ≡ r.waits
     all_left_at_port = all_kept (is_left_at_port (world_value after r)) r.waits (λ i d inside.
         let x : Wait = slice_index_or r.waits i d in
-        let t : IsSoundWait before x = sound.waits i d inside in
+        let t : IsSoundWait before x = turn.sound.waits i d inside in
         and_from (is_made_by_handle (world_value after r) x) (has_key (map object_entry r.objects) x.port) (made x t) (ported x t))
 
     pub moved_left : world_left after r blocked ≡ world_blocked after r blocked
@@ -122,7 +120,7 @@ module _ (lib : Library) (ps : List Process) (r : Objects) (consistent : IsConsi
 
     live : (k : ℕ) (q : ProcessValue) → get (map process_entry after) k ≡ Some q → IsTrue (lives q.state) → IsTrue (has_key r.objects k)
     unfolding is_process
-    live k q at h = object_there ps r blocked sound k (sym (alike_states ps after p p2 write lives (ap (λ (x : Process). lives (state_value x.state)) cpu) r
+    live k q at h = object_there ps r blocked turn.sound k (sym (alike_states write lives (ap (λ (x : Process). lives (state_value x.state)) cpu) r
         r k) ∙ rw at h)
 
     pub moved_rests : Settles (world_blocked after r blocked) (world_blocked after r blocked)

@@ -4,7 +4,7 @@ use Rattle.zl_calls.proofs.Common.{false≢true, STUCK, Map, get, Ready, is_read
 use Rattle.zl_calls.proofs.Common.{Objects, process_entry, process_value, state_value, world_blocked, world_value, IsConsistent, AreBlocked, DoesNext}
 use Rattle.zl_calls.proofs.Common.{is_process, IsActed, Ends, Settles, lives, has_key, is_some, none-some, subst, IsTrue, AtCall, ProcessBody, body_in}
 use Rattle.zl_calls.proofs.Common.{object_entry, Acted, pid_of, CallName, Outcome, TraceItem, ListsBut, world_left, next_looks, tells_blocking, waits_by}
-use Rattle.zl_calls.proofs.Common.{then_blocked, is_blocking, has_seen}
+use Rattle.zl_calls.proofs.Common.{then_blocked, is_blocking, has_seen, ◌<◌, length, slice_get, slice_get-get_or, get_or_from_slice_get, Parts, parts}
 use Rattle.zl_code.proofs.Common.{Object as ObjectValue, Process as ProcessValue, Body, is_blocked}
 use Rattle.zl_code.specs.declared.history.TraceItem.TheVariants as item
 use Rattle.zl_calls.specs.declared.process.State.{State}
@@ -23,6 +23,7 @@ use Rattle.zl_calls.proofs.processes.Departed.{all_live, left_all, left_blocked,
 use Rattle.zl_calls.proofs.stepping.FromConsistent.{IsFree, freely}
 use Rattle.zl_calls.proofs.objects.Settled.{still_settles}
 use Rattle.zl_calls.proofs.processes.Written.{alike_states, write_at, pid_read, refusal_keeps}
+use Rattle.zl_calls.proofs.lists.Positions.{first_at}
 
 pub ready_state : (s : State) → is_ready (state_value s) ≡ true → state_value s ≡ Ready
 ready_state state.Ready h = refl
@@ -59,29 +60,67 @@ object_there ps r blocked sound k living = by_process (get (map process_entry ps
         let own = sound.living k q is h in
         sym (has_seen r.objects k) ∙ by_object (get (map object_entry r.objects) k) (ProcessBody own.job) own.there
 
+-- where the call has left these parts
+pub left_as : {lib : Library} {ps : List Process} {r : Objects} {blocked : List ℕ} {pid : ℕ} {x : TraceItem} (all2 : Parts) (after : List Process)
+    (r2 : Objects) (blocked2 : List ℕ) → all2.processes ≡ after → all2.objects ≡ r2 → all2.blocked ≡ blocked2
+    → HasLeft lib ps after r r2 blocked blocked2 pid x → HasLeft lib ps all2.processes r all2.objects blocked all2.blocked pid x
+left_as {lib} {ps} {r} {blocked} {pid} {x} all2 after r2 blocked2 processes objects list left =
+    subst (λ (all : Parts). HasLeft lib ps all.processes r all.objects blocked all.blocked pid x)
+    (λ i. parts (sym processes i) (sym objects i) (sym list i)) left
+
 -- the process p stands at the place, under the pid
-module _ (lib : Library) (ps : List Process) (r : Objects) (consistent : IsConsistent ps r) (blocked : List ℕ) (are : AreBlocked ps blocked)
-    (sound : IsSoundWorld (world_blocked ps r blocked)) (pid place : ℕ) (p : Process)
-    (found : Some place ≡ position (λ q. q.pid == pid) ps) (read : p ≡ get_or ps place p) where
-  pub write_of : (p2 : Process) → p2.pid ≡ p.pid → IsWrite ps (set ps place p2) p p2
-  write_of p2 same = write_at ps pid place p p2 found read same
+module _ (ps : List Process) (pid place : ℕ) (p : Process) (found : Some place ≡ position (λ q. q.pid == pid) ps) (read : p ≡ get_or ps place p) where
+  pub within : place < length ps
+  within = (first_at (λ (q : Process). q.pid) process_value ps pid place p (sym found)).within
 
-  pub key : p.pid ≡ pid
-  key = pid_read ps pid place p found read
+  pub here : slice_get ps place ≡ Some p
+  here = slice_get-get_or ps place p within ∙ ap (λ (q : Process). Some q) (sym read)
 
-  pub there : get (map process_entry ps) pid ≡ Some (process_value p)
-  there = rw (← key) ((write_of p refl).there)
+  pub stands_there : get (map process_entry ps) pid ≡ Some (process_value p)
+  stands_there = rw (← pid_read ps pid place p found read) ((write_at ps pid place p p found read refl).there)
 
   pub not_ready : is_ready (state_value p.state) ≡ false → state_passes is_ready (get (map process_entry ps) pid) ≡ false
-  not_ready h = rw there h
+  not_ready h = rw stands_there h
 
-  module _ (is_ready_there : is_ready (state_value p.state) ≡ true) where
-    pub ready : state_value p.state ≡ Ready
-    ready = ready_state p.state is_ready_there
+-- there it is ready, and the world is sound
+pub record AtTurn (ps : List Process) (r : Objects) (blocked : List ℕ) (pid place : ℕ) (p : Process) : Type 0 where
+  pub consistent : IsConsistent ps r
+  pub are : AreBlocked ps blocked
+  pub sound : IsSoundWorld (world_blocked ps r blocked)
+  pub found : Some place ≡ position (λ q. q.pid == pid) ps
+  pub read : p ≡ get_or ps place p
+  pub ready : is_ready (state_value p.state) ≡ true
 
-    pub unblocked : is_blocked (state_value p.state) ≡ false
-    unblocked = ap is_blocked ready
+-- the same, by its parts
+pub turn_at : (ps : List Process) (r : Objects) (blocked : List ℕ) (pid place : ℕ) (p : Process) → IsConsistent ps r → AreBlocked ps blocked
+    → IsSoundWorld (world_blocked ps r blocked) → Some place ≡ position (λ q. q.pid == pid) ps → p ≡ get_or ps place p → is_ready (state_value p.state) ≡ true
+    → AtTurn ps r blocked pid place p
+turn_at ps r blocked pid place p consistent are sound found read ready =
+    record { consistent = consistent; are = are; sound = sound; found = found; read = read; ready = ready }
 
+module _ {ps : List Process} {r : Objects} {blocked : List ℕ} {pid place : ℕ} {p : Process} (turn : AtTurn ps r blocked pid place p) where
+  pub write_of : (p2 : Process) → p2.pid ≡ p.pid → IsWrite ps (set ps place p2) p p2
+  write_of p2 same = write_at ps pid place p p2 turn.found turn.read same
+
+  pub itself : IsWrite ps (set ps place p) p p
+  itself = write_of p refl
+
+  pub is_caller : (c : Process) → slice_get ps place ≡ Some c → c ≡ p
+  is_caller c at = sym (turn.read ∙ get_or_from_slice_get ps place c p at)
+
+  pub key : p.pid ≡ pid
+  key = pid_read ps pid place p turn.found turn.read
+
+  pub there : get (map process_entry ps) pid ≡ Some (process_value p)
+  there = stands_there ps pid place p turn.found turn.read
+
+  pub ready : state_value p.state ≡ Ready
+  ready = ready_state p.state turn.ready
+
+  pub unblocked : is_blocked (state_value p.state) ≡ false
+  unblocked = ap is_blocked ready
+
+  module _ (lib : Library) where
     -- from a world in which nothing waits to one in which some do
     pub left_with : (after : List Process) (r2 : Objects) (x : TraceItem) → pid_of x ≡ pid → tells_blocking x ≡ false
         → next_looks (next_for lib (process_value p)) ≡ false → IsConsistent after r2 → AreBlocked after blocked
@@ -93,7 +132,8 @@ module _ (lib : Library) (ps : List Process) (r : Objects) (consistent : IsConsi
       acts = record {
         pid_is = same;
         acted = rw (same_list pid x blocked goes)
-            (left_beside lib ps (left_all after r2) r r2 pid x blocked sound (process_value p) there (rw there unblocked) are same goes looks acts lists);
+            (left_beside lib ps (left_all after r2) r r2 pid x blocked turn.sound (process_value p) there (rw there unblocked) turn.are same goes looks acts
+            lists);
       };
     }
 
@@ -103,15 +143,15 @@ module _ (lib : Library) (ps : List Process) (r : Objects) (consistent : IsConsi
         → IsActed lib (world_value ps r) pid x (settled_world after r2) → ListsBut (waits_by (next_for lib (process_value p)) x r.waits) r.waits_made r2
         → HasLeft lib ps after r r2 blocked blocked pid x
     acted_so after p2 r2 x write still same goes looks keeps =
-        left_with after r2 x same goes looks keeps (still_blocked ps after p p2 write unblocked still blocked are)
+        left_with after r2 x same goes looks keeps (still_blocked write unblocked still blocked turn.are)
 
     -- a call that blocks
     blocks_so : (name : CallName) (o : Outcome) (p2 : Process) (r2 : Objects) → IsWrite ps (set ps place p2) p p2 → IsFree lib (world_value ps r) p.pid name
         → IsAsleep lib ps r r2 p p2 name o → HasLeft lib ps (set ps place p2) r r2 blocked blocked pid (item.Call pid name o)
     blocks_so name o p2 r2 write free sleeps = rw (sleeps.ends, sleeps.objects, ← key) (record {
-      consistent = left_keeps (set ps place p2) r (asleep_keeps lib ps (set ps place p2) r r2 p p2 consistent write ready name o sleeps);
-      list = left_blocked (set ps place p2) r _ (asleep_list lib ps (set ps place p2) r r2 p p2 consistent write ready name o sleeps blocked are);
-      acts = record { pid_is = refl; acted = asleep_acts lib ps (set ps place p2) r r2 p p2 consistent write ready name o sleeps blocked free sound };
+      consistent = left_keeps (set ps place p2) r (asleep_keeps lib r2 turn.consistent write ready name o sleeps);
+      list = left_blocked (set ps place p2) r _ (asleep_list lib r2 turn.consistent write ready name o sleeps blocked turn.are);
+      acts = record { pid_is = refl; acted = asleep_acts lib r2 turn.consistent write ready name o sleeps blocked free turn.sound };
     })
 
     -- a call that looks at waits
@@ -121,11 +161,11 @@ module _ (lib : Library) (ps : List Process) (r : Objects) (consistent : IsConsi
     looks_so name o p2 r2 write still free looks = rw (← key) (record {
       consistent = left_keeps (set ps place p2) r2 looks.called.keeps;
       list = rw (same_list p.pid (item.Call p.pid name o) blocked looks.goes)
-          (left_blocked (set ps place p2) r2 blocked (still_blocked ps (set ps place p2) p p2 write unblocked still blocked are));
+          (left_blocked (set ps place p2) r2 blocked (still_blocked write unblocked still blocked turn.are));
       acts = record {
         pid_is = refl;
         acted = rw (same_list p.pid (item.Call p.pid name o) blocked looks.goes)
-            (left_looking lib ps (set ps place p2) r r2 p.pid (process_value p) name looks.at o blocked sound write.there ready looks.next
+            (left_looking lib ps (set ps place p2) r r2 p.pid (process_value p) name looks.at o blocked turn.sound write.there ready looks.next
             (freely lib (world_blocked ps r blocked) p.pid looks.at o (world_blocked (set ps place p2) r2 blocked)
             (free (process_value p) looks.at write.there looks.next) (looks.called.calls blocked))
             (still_settles (set ps place p2) r2 looks.called.keeps));
@@ -143,7 +183,7 @@ module _ (lib : Library) (ps : List Process) (r : Objects) (consistent : IsConsi
           → HasLeft lib ps (set ps place p2) r r2 blocked blocked pid (item.Call pid name o)
       by_outcome plain (inl goes) =
           let done : IsDone lib ps (set ps place p2) r r2 p.pid name o =
-          acted_done lib ps (set ps place p2) r r2 p p2 consistent write_so ready name o goes (Some s) plain next acted in
+          acted_done lib r2 turn.consistent write_so ready name o goes (Some s) plain next acted in
           acted_so (set ps place p2) p2 r2 (item.Call pid name o) write_so (still_unblocked p p2 r r2 o (Some s) acted goes unblocked) refl goes
           (ap next_looks next ∙ plain) done.consistent
           (rw (← key) (done.step free))
@@ -154,9 +194,9 @@ module _ (lib : Library) (ps : List Process) (r : Objects) (consistent : IsConsi
           → HasLeft lib ps (set ps place p2) r r2 blocked blocked pid (item.Call pid name o)
       by_looks (inl looks) =
           let is : Looks lib ps (set ps place p2) r r2 p name o =
-          acted_looks lib ps (set ps place p2) r r2 p p2 consistent write_so ready name o (Some s) looks next acted in
+          acted_looks lib r2 turn.consistent write_so ready name o (Some s) looks next acted in
           looks_so name o p2 r2 write_so (still_unblocked p p2 r r2 o (Some s) acted is.goes unblocked) free_beside is
-      by_looks (inr plain) = by_outcome plain (acted_asleep lib ps (set ps place p2) r r2 p p2 consistent write_so ready name o (Some s) next acted)
+      by_looks (inr plain) = by_outcome plain (acted_asleep lib r2 turn.consistent write_so ready name o (Some s) next acted)
 
       pub alone_so : HasLeft lib ps (set ps place p2) r r2 blocked blocked pid (item.Call pid name o)
       alone_so = by_looks (cases_Bool (next_looks (AtCall name s)))
@@ -168,14 +208,14 @@ module _ (lib : Library) (ps : List Process) (r : Objects) (consistent : IsConsi
     moves_so p2 next cpu =
         let write : IsWrite ps (set ps place p2) p p2 = write_of p2 (ap (λ (q : Process). q.pid) cpu) in
         let keeps : IsConsistent (set ps place p2) r =
-        refusal_keeps ps (set ps place p2) p p2 write r consistent (ap (λ (q : Process). q.table) cpu) (ap (λ (q : Process). q.state) cpu) in
+        refusal_keeps write r turn.consistent (ap (λ (q : Process). q.table) cpu) (ap (λ (q : Process). q.state) cpu) in
         record {
           consistent = keeps;
-          list = still_blocked ps (set ps place p2) p p2 write unblocked (ap (λ (q : Process). is_blocked (state_value q.state)) cpu ∙ unblocked) blocked are;
+          list = still_blocked write unblocked (ap (λ (q : Process). is_blocked (state_value q.state)) cpu ∙ unblocked) blocked turn.are;
           acts = record {
             pid_is = refl;
             acted =
-                left_beside lib ps (set ps place p2) r r pid (item.Run pid 1) blocked sound (process_value p) there (rw there unblocked) are refl refl
+                left_beside lib ps (set ps place p2) r r pid (item.Run pid 1) blocked turn.sound (process_value p) there (rw there unblocked) turn.are refl refl
                 (ap next_looks next)
                 (record {
                   process = process_value p;
@@ -197,8 +237,7 @@ module _ (lib : Library) (ps : List Process) (r : Objects) (consistent : IsConsi
         live : (p2 : Process) → IsWrite ps (set ps place p2) p p2 → p2 ≡ record p { cpu = p2.cpu } → (k : ℕ) (q : ProcessValue)
             → get (map process_entry (set ps place p2)) k ≡ Some q → IsTrue (lives q.state) → IsTrue (has_key r.objects k)
         live p2 write cpu k q at h =
-            object_there ps r blocked sound k
-            (sym (alike_states ps (set ps place p2) p p2 write lives (ap (λ (x : Process). lives (state_value x.state)) cpu) r r k) ∙ rw at h)
+            object_there ps r blocked turn.sound k (sym (alike_states write lives (ap (λ (x : Process). lives (state_value x.state)) cpu) r r k) ∙ rw at h)
 
     -- the end of a stuck process
     pub stops_so : (p2 : Process) (r2 : Objects) → next_for lib (process_value p) ≡ IsStuck → Ends STUCK p r p2 r2
@@ -207,6 +246,5 @@ module _ (lib : Library) (ps : List Process) (r : Objects) (consistent : IsConsi
         let write : IsWrite ps (set ps place p2) p p2 = write_of p2 (ap (λ (q : Process). q.pid) ends.process) in
         acted_so (set ps place p2) p2 r2 (item.Stuck pid) write (ap (λ (q : Process). is_blocked (state_value q.state)) ends.process) refl refl
         (ap next_looks next)
-        (ends_keeps lib ps (set ps place p2) r r2 p p2 consistent write STUCK ends ready)
-        (rw (← key) (stuck_steps lib ps (set ps place p2) r r2 p p2 consistent write STUCK ends ready refl next))
+        (ends_keeps lib r2 turn.consistent write STUCK ends ready) (rw (← key) (stuck_steps lib r2 turn.consistent write STUCK ends ready refl next))
         (rw next ends.listed.listed)

@@ -154,7 +154,7 @@ module _ (lib : Library) (before mid : List Process) (r : Objects) (consistent :
 
   pub created_blocked : is_blocked (state_value p.state) ≡ false → (blocked : List ℕ) → AreBlocked before blocked → AreBlocked after blocked
   created_blocked unblocked_is blocked are =
-      still_blocked both after p p2 write_both unblocked_is (ap (λ (s : State). is_blocked (state_value s)) state ∙ unblocked_is) blocked (record {
+      still_blocked write_both unblocked_is (ap (λ (s : State). is_blocked (state_value s)) state ∙ unblocked_is) blocked (record {
         once = λ k. are.once k ∙ ap (λ (t : Bool). if t then 1 else 0) (sym (same_there k));
         counters = λ k q at waits. found_process before [] r sound new pid above.koid life.Created 1 (q.cpu.counter < 2 ^ 32) k q at
             (λ is. absurd (false≢true (sym (ap (λ (x : ProcessValue). is_blocked x.state) created)
@@ -184,7 +184,7 @@ module _ (lib : Library) (before mid : List Process) (r : Objects) (consistent :
     create_site = site (process_create job program) consumed destinations
 
     koid_is : object_at w p.pid job ≡ above.koid
-    koid_is = rw (table_is before mid p p2 write r, is_found (get p.table.entries job) (kind.Job ∷ []) MANAGE_PROCESS above is_above) refl
+    koid_is = rw (table_is write r, is_found (get p.table.entries job) (kind.Job ∷ []) MANAGE_PROCESS above is_above) refl
 
     abbrev with_one : World
     with_one = with_process (with_object w (ProcessBody (object_at w p.pid job))) n (created_process lib program)
@@ -202,7 +202,7 @@ module _ (lib : Library) (before mid : List Process) (r : Objects) (consistent :
         ≡ replied (with_effect lib w (taken w p.pid create_site) p.pid (process_create job program) (made ∷ [])) p.pid create_site status.Ok (made ∷ [])
     unfolding taken_handles handle_operands remove_all new_handles effect insert_all
     create_ends =
-        replied_inserted both after p p2 write_both grown create_site made entry (world_value both grown) refl refl inserts replies
+        replied_inserted write_both grown create_site made entry (world_value both grown) refl refl inserts replies
         ∙ ap (λ (x : World). replied (on_process x p.pid (process_with made entry)) p.pid create_site status.Ok (made ∷ [])) with_one_is
 
     create_chosen : IsTrue (may_choose w (taken w p.pid create_site) p.pid (process_create job program) (made ∷ []))

@@ -1,11 +1,10 @@
 -- The call process_create in the midst of all processes: from what it did to a step, up to where processes wake.
-use Rattle.zl_calls.proofs.Common.{◌≡◌, ◌==◌, ℕ, zero, suc, true, List, [], ◌∷◌, ◌++◌, refl, sym, ap, ◌∙◌, subst, Some, None, Result, Ok, Err, IsActed}
-use Rattle.zl_calls.proofs.Common.{none-some, same_Some, get_or, slice_get, slice_set, set, position, is_ready, Library, Site, site, refusal, handle_operands}
+use Rattle.zl_calls.proofs.Common.{◌≡◌, ℕ, zero, suc, true, List, [], ◌∷◌, ◌++◌, refl, sym, ap, ◌∙◌, subst, Some, None, Result, Ok, Err, IsActed}
+use Rattle.zl_calls.proofs.Common.{none-some, same_Some, slice_get, slice_set, set, Library, Site, site, refusal, handle_operands}
 use Rattle.zl_calls.proofs.Common.{remove_all, taken_handles, gives_refused, AtCall, next_for, cpu_answered, Objects, with_new, told_by, one_value, Replies}
-use Rattle.zl_calls.proofs.Common.{status_of, process_value, state_value, world_blocked, world_value, AreBlocked, IsConsistent, IsRefusedBy, process_create}
-use Rattle.zl_calls.proofs.Common.{CallName, Outcome, next_looks, looked_up, MANAGE_PROCESS, Entry, Status, get_or_from_slice_get, IsAnsweredIn, IsToldIn}
+use Rattle.zl_calls.proofs.Common.{status_of, process_value, world_value, AreBlocked, IsConsistent, IsRefusedBy, process_create}
+use Rattle.zl_calls.proofs.Common.{CallName, Outcome, next_looks, looked_up, MANAGE_PROCESS, Entry, Status, IsAnsweredIn, IsToldIn}
 use Rattle.zl_calls.proofs.Common.{CreatesProcess, Parts, ProcessCreateDoes, create_refusal, parts, MakesOne}
-use Rattle.zl_code.specs.Sound.{IsSound as IsSoundWorld}
 use Rattle.zl_code.specs.declared.history.Outcome.TheVariants as outcome
 use Rattle.zl_code.specs.declared.history.TraceItem.TheVariants as item
 use Rattle.zl_rights.specs.declared.kind.Kind.TheVariants as kind
@@ -17,7 +16,7 @@ use Rattle.zl_calls.proofs.calls.Answered.{IsWrite, same_world}
 use Rattle.zl_calls.proofs.processes.Departed.{settled_world}
 use Rattle.zl_calls.proofs.calls.DoneCalls.{IsCalled, IsDone, called_done}
 use Rattle.zl_calls.proofs.stepping.FromConsistent.{IsFree, call_settles}
-use Rattle.zl_calls.proofs.stepping.Performing.{HasLeft, acted_so, key, left_with, ready, unblocked, write_of}
+use Rattle.zl_calls.proofs.stepping.Performing.{AtTurn, HasLeft, acted_so, is_caller, itself, key, left_as, left_with, ready, unblocked, write_of}
 use Rattle.zl_calls.proofs.calls.Refused.{answers, refused_calls}
 use Rattle.zl_calls.proofs.objects.Settled.{still_settles}
 use Rattle.zl_calls.proofs.processes.Written.{refusal_keeps}
@@ -40,9 +39,7 @@ get_again (a ∷ xs) ys (suc i) x c at = get_again xs ys i x c at
 -- ---- the step
 
 -- the process p stands at the place, under the pid, and is at the call
-module _ (lib : Library) (ps : List Process) (r : Objects) (whole : IsConsistent ps r) (blocked : List ℕ) (are : AreBlocked ps blocked)
-    (sound : IsSoundWorld (world_blocked ps r blocked)) (pid place : ℕ) (p : Process)
-    (found : Some place ≡ position (λ q. q.pid == pid) ps) (read : p ≡ get_or ps place p) (is_ready_there : is_ready (state_value p.state) ≡ true)
+module _ {ps : List Process} {r : Objects} {blocked : List ℕ} {pid place : ℕ} {p : Process} (turn : AtTurn ps r blocked pid place p) (lib : Library)
     (name : CallName) (free : IsFree lib (world_value ps r) p.pid name) (job program : ℕ) (consumed destinations : List ℕ)
     (next : next_for lib (process_value p) ≡ AtCall name (site (process_create job program) consumed destinations)) (all2 : Parts) where
   abbrev s : Site
@@ -52,21 +49,8 @@ module _ (lib : Library) (ps : List Process) (r : Objects) (whole : IsConsistent
   abbrev Left : Outcome → Type 0
   Left o = HasLeft lib ps all2.processes r all2.objects blocked all2.blocked pid (item.Call pid name o)
 
-  left_as : (o : Outcome) (after : List Process) (r2 : Objects) → all2.processes ≡ after → all2.objects ≡ r2 → all2.blocked ≡ blocked
-      → HasLeft lib ps after r r2 blocked blocked pid (item.Call pid name o) → Left o
-  left_as o after r2 processes objects list left =
-      subst (λ (qs : List Process). HasLeft lib ps qs r all2.objects blocked all2.blocked pid (item.Call pid name o)) (sym processes)
-      (subst (λ (x : Objects). HasLeft lib ps after r x blocked all2.blocked pid (item.Call pid name o)) (sym objects)
-      (subst (λ (b : List ℕ). HasLeft lib ps after r r2 blocked b pid (item.Call pid name o)) (sym list) left))
-
-  is_caller : (c : Process) → slice_get ps place ≡ Some c → c ≡ p
-  is_caller c at = sym (read ∙ get_or_from_slice_get ps place c p at)
-
-  itself : IsWrite ps (set ps place p) p p
-  itself = write_of lib ps r whole blocked are sound pid place p found read p refl
-
   refused_here : refusal lib (world_value ps r) p.pid (process_create job program) ≡ answers (create_refusal lib p.table.entries r job program)
-  refused_here = create_refused lib ps r whole p itself.there job program
+  refused_here = create_refused lib ps r turn.consistent p (itself turn).there job program
 
   -- ---- it is refused
 
@@ -78,7 +62,7 @@ module _ (lib : Library) (ps : List Process) (r : Objects) (whole : IsConsistent
     after_it = set ps place told
 
     write_told : IsWrite ps after_it p told
-    write_told = write_of lib ps r whole blocked are sound pid place p found read told refl
+    write_told = write_of turn told refl
 
     refused_called : IsCalled lib ps after_it r r p.pid s (outcome.Answered answer)
     unfolding taken_handles handle_operands remove_all gives_refused
@@ -86,26 +70,22 @@ module _ (lib : Library) (ps : List Process) (r : Objects) (whole : IsConsistent
       calls =
           refused_calls lib (world_value ps r) p.pid s true (create_refusal lib p.table.entries r job program) answer (world_value after_it r)
           (λ a. refl) refused_here refl refuses
-          (same_world ps after_it p told write_told r r s answer [] refl refl refl);
-      keeps = refusal_keeps ps after_it p told write_told r whole refl refl;
+          (same_world write_told r r s answer [] refl refl refl);
+      keeps = refusal_keeps write_told r turn.consistent refl refl;
     }
 
     refused_so : HasLeft lib ps after_it r r blocked blocked pid (item.Call pid name (outcome.Answered answer))
     refused_so =
         let done : IsDone lib ps after_it r r p.pid name (outcome.Answered answer) =
-        called_done lib ps after_it r r p told whole write_told (ready lib ps r whole blocked are sound pid place p found read is_ready_there) name s next
-        (outcome.Answered answer) refused_called in
-        acted_so lib ps r whole blocked are sound pid place p found read is_ready_there after_it told r
-        (item.Call pid name (outcome.Answered answer)) write_told
-        (unblocked lib ps r whole blocked are sound pid place p found read is_ready_there) refl refl (ap next_looks next) done.consistent
-        (rw (← key lib ps r whole blocked are sound pid place p found read) (done.step free))
-        (rw next (record { waits = λ test h. refl; made = refl }))
+        called_done lib r turn.consistent write_told (ready turn) name s next (outcome.Answered answer) refused_called in
+        acted_so turn lib after_it told r (item.Call pid name (outcome.Answered answer)) write_told (unblocked turn) refl refl (ap next_looks next)
+        done.consistent (rw (← key turn) (done.step free)) (rw next (record { waits = λ test h. refl; made = refl }))
 
   -- ---- a process is made
 
   module _ (made : ℕ) (between : Parts) (done : CreatesProcess lib (parts ps r blocked) place job program made between) where
     handed_is : done.after ≡ record p { table = done.after.table }
-    handed_is = done.is_caller.same ∙ (λ i. record (is_caller done.caller done.is_caller.is_there i) { table = done.after.table })
+    handed_is = done.is_caller.same ∙ (λ i. record (is_caller turn done.caller done.is_caller.is_there i) { table = done.after.table })
 
     abbrev given : Process
     given = record (done.after) { cpu = cpu_answered s status.Ok (made ∷ []) done.after.cpu }
@@ -118,17 +98,19 @@ module _ (lib : Library) (ps : List Process) (r : Objects) (whole : IsConsistent
 
     found_above : looked_up p.table.entries job (kind.Job ∷ []) MANAGE_PROCESS ≡ Ok above
     found_above =
-        ap (λ (c : Process). looked_up c.table.entries job (kind.Job ∷ []) MANAGE_PROCESS) (sym (is_caller done.caller done.is_caller.is_there)) ∙ done.is_above
+        ap (λ (c : Process). looked_up c.table.entries job (kind.Job ∷ []) MANAGE_PROCESS) (sym (is_caller turn done.caller done.is_caller.is_there)) ∙
+        done.is_above
 
     unrefused : create_refusal lib p.table.entries r job program ≡ None
-    unrefused = ap (λ (c : Process). create_refusal lib c.table.entries r job program) (sym (is_caller done.caller done.is_caller.is_there)) ∙ done.unrefused
+    unrefused = ap (λ (c : Process). create_refusal lib c.table.entries r job program) (sym (is_caller turn done.caller done.is_caller.is_there)) ∙
+        done.unrefused
 
     makes : MakesOne (body.Process above.koid life.Created) p.table r made given.table between.objects
     makes = subst (λ (c : Process). MakesOne (body.Process above.koid life.Created) c.table r made given.table between.objects)
-        (is_caller done.caller done.is_caller.is_there) done.makes
+        (is_caller turn done.caller done.is_caller.is_there) done.makes
 
     write_mid : IsWrite ps mid p given
-    write_mid = write_of lib ps r whole blocked are sound pid place p found read given (ap (λ (c : Process). c.pid) handed_is)
+    write_mid = write_of turn given (ap (λ (c : Process). c.pid) handed_is)
 
     same_state : given.state ≡ p.state
     same_state = ap (λ (c : Process). c.state) handed_is
@@ -143,27 +125,25 @@ module _ (lib : Library) (ps : List Process) (r : Objects) (whole : IsConsistent
     made_grown = with_new r (body.Process above.koid life.Created) 1
 
     made_keeps : IsConsistent made_all made_grown
-    made_keeps = created_keeps lib ps mid r whole p given write_mid same_state job program made above found_above unrefused makes.inserts
+    made_keeps = created_keeps lib ps mid r turn.consistent p given write_mid same_state job program made above found_above unrefused makes.inserts
         (has_left p.table.entries r.next_koid makes.unrefused) done.new done.pid done.created
 
     made_blocked : AreBlocked made_all blocked
-    made_blocked = created_blocked lib ps mid r whole p given write_mid same_state job program made above found_above unrefused makes.inserts
+    made_blocked = created_blocked lib ps mid r turn.consistent p given write_mid same_state job program made above found_above unrefused makes.inserts
         (has_left p.table.entries r.next_koid makes.unrefused) done.new done.pid done.created
-        (unblocked lib ps r whole blocked are sound pid place p found read is_ready_there) blocked are
+        (unblocked turn) blocked turn.are
 
     made_step : IsActed lib (world_value ps r) p.pid (item.Call p.pid name (outcome.Answered status.Ok)) (settled_world made_all made_grown)
     made_step =
         call_settles lib ps made_all r made_grown made_grown p name s (outcome.Answered status.Ok) write_mid.there
-        (ready lib ps r whole blocked are sound pid place p found read is_ready_there) next
-        (created_calls lib ps mid r whole p given write_mid same_state job program made above found_above unrefused makes.inserts
+        (ready turn) next (created_calls lib ps mid r turn.consistent p given write_mid same_state job program made above found_above unrefused makes.inserts
         (has_left p.table.entries r.next_koid makes.unrefused) done.new done.pid done.created consumed destinations replies)
         (still_settles made_all made_grown made_keeps) free
 
     made_so : HasLeft lib ps made_all r made_grown blocked blocked pid (item.Call pid name (outcome.Answered status.Ok))
     made_so =
-        left_with lib ps r whole blocked are sound pid place p found read is_ready_there made_all made_grown
-        (item.Call pid name (outcome.Answered status.Ok)) refl refl (ap next_looks next) made_keeps made_blocked
-        (rw (← key lib ps r whole blocked are sound pid place p found read) made_step) (rw next (record { waits = λ test h. refl; made = refl }))
+        left_with turn lib made_all made_grown (item.Call pid name (outcome.Answered status.Ok)) refl refl (ap next_looks next) made_keeps made_blocked
+        (rw (← key turn) made_step) (rw next (record { waits = λ test h. refl; made = refl }))
 
   -- ---- either
 
@@ -171,8 +151,8 @@ module _ (lib : Library) (ps : List Process) (r : Objects) (whole : IsConsistent
       → IsToldIn s place (told_by one_value answer) between all2 → Left (outcome.Answered (status_of answer))
   by_answer (Err answer) between does is_told =
       let before : between.processes ≡ ps = ap (λ (all : Parts). all.processes) does.refused in
-      let same : is_told.caller ≡ p = is_caller is_told.caller (ap (λ (qs : List Process). slice_get qs place) (sym before) ∙ is_told.is_there) in
-      left_as (outcome.Answered answer) (set ps place (record p { cpu = cpu_answered s answer [] p.cpu })) r
+      let same : is_told.caller ≡ p = is_caller turn is_told.caller (ap (λ (qs : List Process). slice_get qs place) (sym before) ∙ is_told.is_there) in
+      left_as all2 (set ps place (record p { cpu = cpu_answered s answer [] p.cpu })) r blocked
       (is_told.processes ∙ (λ i. slice_set (before i) place (record (same i) { cpu = cpu_answered s answer [] (same i).cpu })))
       (is_told.objects ∙ ap (λ (all : Parts). all.objects) does.refused) (is_told.blocked ∙ ap (λ (all : Parts). all.blocked) does.refused)
       (refused_so answer does.err)
@@ -181,9 +161,8 @@ module _ (lib : Library) (ps : List Process) (r : Objects) (whole : IsConsistent
       let same : is_told.caller ≡ done.after =
       sym (same_Some done.after is_told.caller (sym (get_again ps (done.new ∷ []) place done.after done.caller done.is_caller.is_there)
       ∙ (ap (λ (qs : List Process). slice_get qs place) (sym done.processes) ∙ is_told.is_there))) in
-      left_as (outcome.Answered status.Ok) (set ps place (record (done.after) { cpu = cpu_answered s status.Ok (made ∷ []) done.after.cpu }) ++ done.new ∷ [])
-      (with_new r (body.Process done.above.koid life.Created) 1)
-      (is_told.processes
+      left_as all2 (set ps place (record (done.after) { cpu = cpu_answered s status.Ok (made ∷ []) done.after.cpu }) ++ done.new ∷ [])
+      (with_new r (body.Process done.above.koid life.Created) 1) blocked (is_told.processes
       ∙ ((λ i. slice_set (done.processes i) place (record (same i) { cpu = cpu_answered s status.Ok (made ∷ []) (same i).cpu }))
       ∙ set_again ps (done.new ∷ []) place done.after (record (done.after) { cpu = cpu_answered s status.Ok (made ∷ []) done.after.cpu }) done.caller
       done.is_caller.is_there))

@@ -1,5 +1,5 @@
 -- What process_create does where memory is wanted, from what its parts do.
-use Rattle.zl_calls.proofs.Common.{◌≡◌, ℕ, zero, suc, List, [], ◌∷◌, refl, sym, ap, ◌∙◌, subst, Option, Some, None, Result, Ok, Err, none-some, option_or}
+use Rattle.zl_calls.proofs.Common.{◌≡◌, ℕ, List, [], ◌∷◌, refl, sym, ap, ◌∙◌, subst, Option, Some, None, Result, Ok, Err, none-some, option_or}
 use Rattle.zl_calls.proofs.Common.{then_some, is_some, Map, get_or, slice_get, slice_set, Bool, true, false, not, Handles, IsRefusedBy, Library, Objects}
 use Rattle.zl_calls.proofs.Common.{get_or_from_slice_get, Status, looked_up, MANAGE_PROCESS, Entry, is_dead, job_at, MakeDoes, room_refusal, ProcessCreateDoes}
 use Rattle.zl_calls.proofs.Common.{create_refusal, create_refusal_of, needs_more, parts}
@@ -8,12 +8,7 @@ use Rattle.zl_rights.specs.declared.kind.Kind.TheVariants as kind
 use Rattle.zl_objects.specs.declared.object.Body.{Body}
 use Rattle.zl_objects.specs.Jobs.{action_of}
 use Rattle.zl_calls.specs.declared.process.Process.{Process}
-
--- what is written back as it was read changes nothing
-set_itself : {X : Type 0} (xs : List X) (i : ℕ) (x : X) → x ≡ get_or xs i x → slice_set xs i x ≡ xs
-set_itself [] i x is = refl
-set_itself (y ∷ xs) zero x is = ap (λ z. z ∷ xs) is
-set_itself (y ∷ xs) (suc i) x is = ap (λ rest. y ∷ rest) (set_itself xs i x is)
+use Rattle.zl_calls.proofs.lists.Updates.{set_read}
 
 -- what nothing refuses has room
 room_is_left : (lib : Library) (entries : Map Entry) (r : Objects) (job program : ℕ) → create_refusal lib entries r job program ≡ None
@@ -59,7 +54,7 @@ module _ (lib : Library) (ps ps2 : List Process) (r : Objects) (blocked blocked2
       subst (λ (x : Status). ProcessCreateDoes lib place job program caller (parts ps r blocked) (Err x)
       (parts (slice_set ps2 place (record written { table = table })) r2 blocked2)) (sym is)
       (wants_memory r2 does.same_objects (slice_set ps2 place (record written { table = table }))
-      (ap (λ (t : Handles). slice_set ps2 place (record written { table = t })) does.same_table ∙ set_itself ps2 place written is_written))
+      (ap (λ (t : Handles). slice_set ps2 place (record written { table = t })) does.same_table ∙ set_read ps2 place written is_written))
     where
       same : written ≡ caller
       same = is_written ∙ (ap (λ (qs : List Process). get_or qs place written) same_ps ∙ get_or_from_slice_get ps place caller written there)

@@ -483,7 +483,7 @@ module _ (lib : Library) (ps : List Process) (r : Objects) (whole : IsConsistent
       answered_so =
           leaves_so lib ps r blocked sound p there ready name kill_site next after (killing r t) all2.objects all2.blocked (outcome.Answered status.Ok) refl
           (ends_settled ps r whole blocked sound t given all2 kills after cpus after_got after_tables after_sorted)
-          (still_blocked all2.processes after c answered_caller write not_blocked not_blocked all2.blocked blocked_after) answered_calls lists
+          (still_blocked write not_blocked not_blocked all2.blocked blocked_after) answered_calls lists
 
     pub lives_so : (c : Process) → slice_get all2.processes place ≡ Some c → ((code : ℤ) → c.state ≡ state.Ended code → ⊥)
         → HasLeft lib ps (slice_set all2.processes place (record c { cpu = cpu_answered kill_site status.Ok [] c.cpu })) r all2.objects

@@ -1,10 +1,9 @@
 -- What a kill makes of the list of processes: koids stay, and each process that is over closes its handles in turn.
 use Rattle.zl_calls.proofs.Common.{ClosesAllEnded, ClosesEnded, IsCallerStill, TaskKillDoes, ended_if, ended_within, lives_on, parts, get_or_from_slice_get}
 use Rattle.zl_calls.proofs.Common.{slice_get-map, looked_up, DESTROY, Entry, Status, is_within, killed_if, killing, LeavesListed, all_koids, KeepsListed}
-use Rattle.zl_rights.proofs.Common.{◌≡◌, ◌<◌, ◌≤◌, ◌+◌, ℕ, Bool, true, false, ◌&&◌, List, [], ◌∷◌, ◌++◌, length, map, take, drop, refl, sym, ap, ◌∙◌, subst}
-use Rattle.zl_rights.proofs.Common.{arith, zero, suc, get_or, IsTrue, nat_cmp, below_all, is_sorted, set, slice_get, state_passes, Option, Some, None, Result}
+use Rattle.zl_rights.proofs.Common.{◌≡◌, ◌<◌, ◌≤◌, ◌+◌, ℕ, Bool, true, false, List, [], ◌∷◌, ◌++◌, length, map, take, drop, refl, sym, ap, ◌∙◌, subst}
+use Rattle.zl_rights.proofs.Common.{arith, zero, suc, get_or, IsTrue, nat_cmp, is_sorted, set, slice_get, state_passes, Option, Some, None, Result}
 use Rattle.zl_rights.proofs.Common.{Ok, filter, has_key, is_some, option_map, Map, get, each, append-nil, take_all, length-map, none-some, same_Some}
-use Rattle.std.specs.Ordering.{is_lt}
 use Rattle.zl_objects.specs.Objects.{Objects}
 use Rattle.zl_calls.specs.World.{process_entry}
 use Rattle.zl_calls.specs.declared.process.Process.{Process}
@@ -17,6 +16,7 @@ use Rattle.zl_code.specs.Sound.{is_blocked}
 use Rattle.zl_objects.specs.Jobs.{all_killed}
 use Rattle.zl_objects.specs.Release.{Releases}
 use Rattle.zl_calls.proofs.waits.WaitsLost.{listed_gone, listed_then}
+use Rattle.zl_calls.proofs.processes.InOrder.{all_in_order, closed_in_order}
 
 -- ---- koids stay
 
@@ -24,21 +24,10 @@ same_pid : (killed : Bool) (p : Process) → (ended_if killed p).pid ≡ p.pid
 same_pid true p = refl
 same_pid false p = refl
 
-module _ (f : Process → Process) (same : (p : Process) → (f p).pid ≡ p.pid) where
-  below_kept : (k : ℕ) (ps : List Process) → below_all nat_cmp k (map process_entry (map f ps)) ≡ below_all nat_cmp k (map process_entry ps)
-  below_kept k [] = refl
-  below_kept k (p ∷ ps) = λ i. is_lt (nat_cmp k (same p i)) && below_kept k ps i
-
-  pub order_kept : (ps : List Process) → is_sorted nat_cmp (map process_entry (map f ps)) ≡ is_sorted nat_cmp (map process_entry ps)
-  order_kept [] = refl
-  order_kept (p ∷ ps) =
-      (λ i. below_all nat_cmp (same p i) (map process_entry (map f ps)) && order_kept ps i)
-      ∙ ap (λ (b : Bool). b && is_sorted nat_cmp (map process_entry ps)) (below_kept p.pid ps)
-
 -- the koids still rise
 pub in_order_ended : (r : Objects) (task : ℕ) (ps : List Process) → IsTrue (is_sorted nat_cmp (map process_entry ps))
     → IsTrue (is_sorted nat_cmp (map process_entry (map (ended_within r task) ps)))
-in_order_ended r task ps sorted = order_kept (ended_within r task) (λ p. same_pid _ p) ps ∙ sorted
+in_order_ended r task ps = all_in_order (ended_within r task) (λ p. same_pid _ p) ps
 
 -- ---- a loop over all processes
 
@@ -170,14 +159,14 @@ still_too : (p q : Process) → p.cpu ≡ q.cpu → (o : Option Process) → IsC
 still_too p q same None still = absurd still
 still_too p q same (Some x) still = still ∙ same
 
-module _ (n : ℕ) (ps d e d1 d2 ps2 : List Process) (r : Objects) (koid : ℕ) (long : n ≡ length ps) (same : d ≡ ps) (ended : e ≡ map (ended_within r koid) d)
-    (same1 : d1 ≡ take n (e ++ drop (length e) ps)) (same2 : d2 ≡ take n (e ++ drop (length e) ps)) where
+module _ (n : ℕ) (ps d e d2 ps2 : List Process) (r : Objects) (koid : ℕ) (long : n ≡ length ps) (same : d ≡ ps) (ended : e ≡ map (ended_within r koid) d)
+    (same2 : d2 ≡ take n (e ++ drop (length e) ps)) where
   all_ended : take n (e ++ drop (length e) ps) ≡ map (ended_within r koid) ps
   all_ended = ended_back (ended_within r koid) n ps d e long same ended
 
-  pub in_order_back : IsTrue (is_sorted nat_cmp (map process_entry ps)) → IsTrue (is_sorted nat_cmp (map process_entry d1))
+  pub in_order_back : IsTrue (is_sorted nat_cmp (map process_entry ps)) → IsTrue (is_sorted nat_cmp (map process_entry (take n (e ++ drop (length e) ps))))
   in_order_back sorted =
-      subst (λ (qs : List Process). IsTrue (is_sorted nat_cmp (map process_entry qs))) (sym (same1 ∙ all_ended)) (in_order_ended r koid ps sorted)
+      subst (λ (qs : List Process). IsTrue (is_sorted nat_cmp (map process_entry qs))) (sym all_ended) (in_order_ended r koid ps sorted)
 
   module _ (between r2 : Objects) (closes : ClosesAllEnded d2 between ps2 r2) where
     closes_all : ClosesAllEnded (map (ended_within r koid) ps) between ps2 r2
@@ -191,6 +180,12 @@ module _ (n : ℕ) (ps d e d1 d2 ps2 : List Process) (r : Objects) (koid : ℕ) 
         let before : length (take n (e ++ drop (length e) ps)) ≡ length ps =
         ap (λ (qs : List Process). length qs) all_ended ∙ length-map ps (ended_within r koid) in
         back n (take n (e ++ drop (length e) ps)) ps2 (omega (arith, long, before)) (omega (arith, as_many, before))
+
+    pub closed_order_back : IsTrue (is_sorted nat_cmp (map process_entry ps))
+        → IsTrue (is_sorted nat_cmp (map process_entry (take n (ps2 ++ drop (length ps2) (take n (e ++ drop (length e) ps))))))
+    closed_order_back sorted =
+        subst (λ (qs : List Process). IsTrue (is_sorted nat_cmp (map process_entry qs))) (sym written)
+        (closed_in_order (map (ended_within r koid) ps) ps2 between r2 closes_all (in_order_ended r koid ps sorted))
 
     pub still_as_many : length (take n (ps2 ++ drop (length ps2) (take n (e ++ drop (length e) ps)))) ≡ length ps
     still_as_many = ap (λ (qs : List Process). length qs) written ∙ as_many
@@ -206,7 +201,7 @@ module _ (n : ℕ) (ps d e d1 d2 ps2 : List Process) (r : Objects) (koid : ℕ) 
     pub killed_back : (blocked blocked2 : List ℕ) (place task : ℕ) (p : Process) → p ≡ get_or ps place p → (named : Entry) → named.koid ≡ koid
         → ◌≡◌ {A = Result Entry Status} (Ok named) (looked_up p.table.entries task (kind.Process ∷ kind.Job ∷ []) DESTROY)
         → Releases [] (all_koids r.objects) (killing r koid) between → LeavesListed r between → KeepsListed between r2
-        → blocked2 ≡ filter (λ k. state_passes is_blocked (get (map process_entry d1) k)) blocked
+        → blocked2 ≡ filter (λ k. state_passes is_blocked (get (map process_entry (take n (e ++ drop (length e) ps))) k)) blocked
         → (caller : Process) → slice_get ps place ≡ Some caller
         → TaskKillDoes task caller (parts ps r blocked) (Ok tt) (parts (take n (ps2 ++ drop (length ps2) (take n (e ++ drop (length e) ps)))) r2 blocked2)
     killed_back blocked blocked2 place task p read named is_koid found releases left kept list caller at =
@@ -214,4 +209,4 @@ module _ (n : ℕ) (ps d e d1 d2 ps2 : List Process) (r : Objects) (koid : ℕ) 
         (killed_so ps r blocked place task caller at p read named found between r2 (map (ended_within r koid) ps) ps2 blocked2
         (ap (λ (k : ℕ). map (ended_within r k) ps) (sym is_koid))
         (subst (λ (k : ℕ). Releases [] (all_koids r.objects) (killing r k) between) (sym is_koid) releases) left closes_all kept
-        (list ∙ ap (λ (qs : List Process). filter (λ k. state_passes is_blocked (get (map process_entry qs) k)) blocked) (same1 ∙ all_ended)))
+        (list ∙ ap (λ (qs : List Process). filter (λ k. state_passes is_blocked (get (map process_entry qs) k)) blocked) all_ended))

@@ -1,13 +1,12 @@
 -- The call task_kill as a step: refused, done, or with the end of its caller.
-use Rattle.zl_calls.proofs.Common.{◌≡◌, ℕ, ℤ, true, false, ◌==◌, List, [], refl, sym, ap, ◌∙◌, subst, get_or, slice_get, slice_set, set, Some, Result, Ok, Err}
-use Rattle.zl_calls.proofs.Common.{position, is_ready, Library, Site, site, AtCall, next_for, Objects, process_value, state_value, world_blocked, world_value}
-use Rattle.zl_calls.proofs.Common.{AreBlocked, IsConsistent, IsRefusedBy, cpu_answered, handle_operands, remove_all, taken_handles, gives_refused, refusal}
-use Rattle.zl_calls.proofs.Common.{status_of, ⊤, Ready, slice_get-get_or, Status, CallName, Outcome, get_or_from_slice_get, IsAnsweredIn, IsToldIn, Parts}
+use Rattle.zl_calls.proofs.Common.{◌≡◌, ℕ, ℤ, false, List, [], refl, sym, ap, ◌∙◌, subst, slice_get, slice_set, set, Result, Ok, Err}
+use Rattle.zl_calls.proofs.Common.{Library, Site, site, AtCall, next_for, Objects, process_value, state_value, world_blocked, world_value}
+use Rattle.zl_calls.proofs.Common.{IsConsistent, IsRefusedBy, cpu_answered, handle_operands, remove_all, taken_handles, gives_refused, refusal}
+use Rattle.zl_calls.proofs.Common.{status_of, ⊤, Ready, Status, CallName, Outcome, IsAnsweredIn, IsToldIn, Parts}
 use Rattle.zl_calls.proofs.Common.{TaskKillDoes, kill_refusal, parts}
 use Rattle.zl_rights.specs.declared.status.Status.TheVariants as status
 use Rattle.zl_code.proofs.Common.{is_blocked}
 use Rattle.zl_code.specs.CallTable.{task_kill}
-use Rattle.zl_code.specs.Sound.{IsSound as IsSoundWorld}
 use Rattle.zl_code.specs.declared.history.Outcome.TheVariants as outcome
 use Rattle.zl_code.specs.declared.history.TraceItem.TheVariants as item
 use Rattle.zl_code.specs.Calls.{Calls as PolicedCalls}
@@ -23,15 +22,12 @@ use Rattle.zl_calls.proofs.calls.Answered.{IsWrite, table_is, same_world}
 use Rattle.zl_calls.proofs.calls.AmongWaits.{ends_among}
 use Rattle.zl_calls.proofs.waking.BlockedLists.{still_blocked}
 use Rattle.zl_calls.proofs.objects.Settled.{still_settles}
-use Rattle.zl_calls.proofs.stepping.Performing.{HasLeft, key, ready, unblocked, write_of}
-use Rattle.zl_calls.proofs.lists.Positions.{first_at}
+use Rattle.zl_calls.proofs.stepping.Performing.{AtTurn, HasLeft, here, is_caller, itself, key, left_as, ready, unblocked, write_of}
 use Rattle.zl_calls.proofs.calls.Refused.{refused_calls}
 use Rattle.zl_calls.proofs.processes.Written.{refusal_keeps}
 
 -- the process p stands at the place, under the pid, and is at the call
-module _ (lib : Library) (ps : List Process) (r : Objects) (whole : IsConsistent ps r) (blocked : List ℕ) (are : AreBlocked ps blocked)
-    (sound : IsSoundWorld (world_blocked ps r blocked)) (pid place : ℕ) (p : Process)
-    (found : Some place ≡ position (λ q. q.pid == pid) ps) (read : p ≡ get_or ps place p) (is_ready_there : is_ready (state_value p.state) ≡ true)
+module _ {ps : List Process} {r : Objects} {blocked : List ℕ} {pid place : ℕ} {p : Process} (turn : AtTurn ps r blocked pid place p) (lib : Library)
     (name : CallName) (free : IsFree lib (world_value ps r) p.pid name) (free_beside : IsFree lib (world_blocked ps r blocked) p.pid name) (task : ℕ)
     (consumed destinations : List ℕ)
     (next : next_for lib (process_value p) ≡ AtCall name (site (task_kill task) consumed destinations)) (all2 : Parts) where
@@ -42,34 +38,17 @@ module _ (lib : Library) (ps : List Process) (r : Objects) (whole : IsConsistent
   abbrev Left : Outcome → Type 0
   Left o = HasLeft lib ps all2.processes r all2.objects blocked all2.blocked pid (item.Call pid name o)
 
-  left_as : (o : Outcome) (after : List Process) (r2 : Objects) (blocked2 : List ℕ) → all2.processes ≡ after → all2.objects ≡ r2 → all2.blocked ≡ blocked2
-      → HasLeft lib ps after r r2 blocked blocked2 pid (item.Call pid name o) → Left o
-  left_as o after r2 blocked2 processes objects list left =
-      subst (λ (qs : List Process). HasLeft lib ps qs r all2.objects blocked all2.blocked pid (item.Call pid name o)) (sym processes)
-      (subst (λ (x : Objects). HasLeft lib ps after r x blocked all2.blocked pid (item.Call pid name o)) (sym objects)
-      (subst (λ (b : List ℕ). HasLeft lib ps after r r2 blocked b pid (item.Call pid name o)) (sym list) left))
-
-  is_caller : (c : Process) → slice_get ps place ≡ Some c → c ≡ p
-  is_caller c at = sym (read ∙ get_or_from_slice_get ps place c p at)
-
-  itself : IsWrite ps (set ps place p) p p
-  itself = write_of lib ps r whole blocked are sound pid place p found read p refl
-
-  here : slice_get ps place ≡ Some p
-  here =
-      slice_get-get_or ps place p (first_at (λ (q : Process). q.pid) process_value ps pid place p (sym found)).within ∙ ap (λ (q : Process). Some q) (sym read)
-
   is_ready_process : state_value p.state ≡ Ready
-  is_ready_process = ready lib ps r whole blocked are sound pid place p found read is_ready_there
+  is_ready_process = ready turn
 
   free_there : policed_refusal lib (world_blocked ps r blocked) p.pid (task_kill task) ≡ refusal lib (world_blocked ps r blocked) p.pid (task_kill task)
-  free_there = free_beside (process_value p) s itself.there next
+  free_there = free_beside (process_value p) s (itself turn).there next
 
   -- with the pid that the step names
   under_pid : (o : Outcome) (after : List Process) (r2 : Objects) (blocked2 : List ℕ)
       → HasLeft lib ps after r r2 blocked blocked2 p.pid (item.Call p.pid name o) → HasLeft lib ps after r r2 blocked blocked2 pid (item.Call pid name o)
   under_pid o after r2 blocked2 left =
-      subst (λ (k : ℕ). HasLeft lib ps after r r2 blocked blocked2 k (item.Call k name o)) (key lib ps r whole blocked are sound pid place p found read) left
+      subst (λ (k : ℕ). HasLeft lib ps after r r2 blocked blocked2 k (item.Call k name o)) (key turn) left
 
   -- ---- it is refused
 
@@ -81,26 +60,26 @@ module _ (lib : Library) (ps : List Process) (r : Objects) (whole : IsConsistent
     after_it = set ps place told
 
     write_told : IsWrite ps after_it p told
-    write_told = write_of lib ps r whole blocked are sound pid place p found read told refl
+    write_told = write_of turn told refl
 
     refused_calls_so : PolicedCalls lib (world_blocked ps r blocked) p.pid s (outcome.Answered answer) (world_blocked after_it r blocked)
     unfolding taken_handles handle_operands remove_all gives_refused
     refused_calls_so =
         freely lib (world_blocked ps r blocked) p.pid s (outcome.Answered answer) (world_blocked after_it r blocked) free_there
         (refused_calls lib (world_blocked ps r blocked) p.pid s false (kill_refusal p.table.entries task) answer (world_blocked after_it r blocked) (λ a. refl)
-        (kill_refused lib (world_blocked ps r blocked) p.pid p.table.entries (table_is ps (set ps place p) p p itself r) task) refl refuses
-        (ends_among lib ps after_it r r p told whole write_told s blocked (world_value ps r) r.waits r.waits_made answer []
-        (same_world ps after_it p told write_told r r s answer [] refl refl refl) refl refl))
+        (kill_refused lib (world_blocked ps r blocked) p.pid p.table.entries (table_is (itself turn) r) task) refl refuses
+        (ends_among lib r turn.consistent write_told s blocked (world_value ps r) r.waits r.waits_made answer []
+        (same_world write_told r r s answer [] refl refl refl) refl refl))
 
     keeps : IsConsistent after_it r
-    keeps = refusal_keeps ps after_it p told write_told r whole refl refl
+    keeps = refusal_keeps write_told r turn.consistent refl refl
 
     refused_so : HasLeft lib ps after_it r r blocked blocked pid (item.Call pid name (outcome.Answered answer))
     refused_so =
-        let still : is_blocked (state_value p.state) ≡ false = unblocked lib ps r whole blocked are sound pid place p found read is_ready_there in
+        let still : is_blocked (state_value p.state) ≡ false = unblocked turn in
         under_pid (outcome.Answered answer) after_it r blocked
-        (leaves_so lib ps r blocked sound p itself.there is_ready_process name s next after_it r r blocked (outcome.Answered answer) refl
-        (record { consistent = keeps; settles = still_settles after_it r keeps }) (still_blocked ps after_it p told write_told still still blocked are)
+        (leaves_so lib ps r blocked turn.sound p (itself turn).there is_ready_process name s next after_it r r blocked (outcome.Answered answer) refl
+        (record { consistent = keeps; settles = still_settles after_it r keeps }) (still_blocked write_told still still blocked turn.are)
         refused_calls_so (record { waits = λ test h. refl; made = refl }))
 
   -- ---- it is done
@@ -110,20 +89,20 @@ module _ (lib : Library) (ps : List Process) (r : Objects) (whole : IsConsistent
       → ((code : ℤ) → is_told.caller.state ≡ state.Ended code → ⊥) → Left (outcome.Answered (status_of answer))
   by_answer (Err answer) between does is_told alive =
       let before : between.processes ≡ ps = ap (λ (all : Parts). all.processes) does.refused in
-      let same : is_told.caller ≡ p = is_caller is_told.caller (ap (λ (qs : List Process). slice_get qs place) (sym before) ∙ is_told.is_there) in
-      left_as (outcome.Answered answer) (set ps place (record p { cpu = cpu_answered s answer [] p.cpu })) r blocked
+      let same : is_told.caller ≡ p = is_caller turn is_told.caller (ap (λ (qs : List Process). slice_get qs place) (sym before) ∙ is_told.is_there) in
+      left_as all2 (set ps place (record p { cpu = cpu_answered s answer [] p.cpu })) r blocked
       (is_told.processes ∙ (λ i. slice_set (before i) place (record (same i) { cpu = cpu_answered s answer [] (same i).cpu })))
       (is_told.objects ∙ ap (λ (all : Parts). all.objects) does.refused) (is_told.blocked ∙ ap (λ (all : Parts). all.blocked) does.refused)
       (refused_so answer does.err)
   by_answer (Ok tt) between does is_told alive =
       let done : KillsNamed (parts ps r blocked) p task between = does.ok in
-      left_as (outcome.Answered status.Ok)
+      left_as all2
       (slice_set between.processes place (record (is_told.caller) { cpu = cpu_answered s status.Ok [] is_told.caller.cpu })) between.objects between.blocked
       is_told.processes is_told.objects is_told.blocked
       (under_pid (outcome.Answered status.Ok)
       (slice_set between.processes place (record (is_told.caller) { cpu = cpu_answered s status.Ok [] is_told.caller.cpu })) between.objects between.blocked
-      (lives_so lib ps r whole blocked are sound place p here itself.there is_ready_process name task consumed destinations next free_there between done.named
-      done.is_named done.kills is_told.caller is_told.is_there alive))
+      (lives_so lib ps r turn.consistent blocked turn.are turn.sound place p (here ps pid place p turn.found turn.read) (itself turn).there is_ready_process
+      name task consumed destinations next free_there between done.named done.is_named done.kills is_told.caller is_told.is_there alive))
 
   pub kill_so : (o : Outcome) → (a : IsAnsweredIn (told_by no_value) (TaskKillDoes task p) s place (parts ps r blocked) o all2)
       → ((code : ℤ) → a.is_told.caller.state ≡ state.Ended code → ⊥) → Left o
@@ -133,5 +112,5 @@ module _ (lib : Library) (ps : List Process) (r : Objects) (whole : IsConsistent
   kill_itself_so o e =
       let done : KillsNamed (parts ps r blocked) p task all2 = e.does.ok in
       subst Left (sym e.ends) (under_pid (outcome.Ended e.code) all2.processes all2.objects all2.blocked
-      (dies_so lib ps r whole blocked are sound place p here itself.there is_ready_process name task consumed destinations next free_there all2 done.named
-      done.is_named done.kills e.caller e.code e.is_there e.is_over))
+      (dies_so lib ps r turn.consistent blocked turn.are turn.sound place p (here ps pid place p turn.found turn.read) (itself turn).there is_ready_process
+      name task consumed destinations next free_there all2 done.named done.is_named done.kills e.caller e.code e.is_there e.is_over))

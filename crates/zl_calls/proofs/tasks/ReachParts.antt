@@ -79,6 +79,14 @@ module _ {A : Type 0} (values : A → List ℕ) (Does : Parts → Result A Statu
     };
   }
 
+-- a caller that has ended or is answered keeps its koid
+pub told_pid : (status : ℕ) (answer : Result ⊤ Status) (p p2 : Process) → p2 ≡ told_unless_over status answer p.state p → p2.pid ≡ p.pid
+told_pid status answer p p2 told = by_state p.state told
+  where
+    by_state : (x : State) → p2 ≡ told_unless_over status answer x p → p2.pid ≡ p.pid
+    by_state (state.Ended code) is = ap (λ (q : Process). q.pid) is
+    by_state _ is = ap (λ (q : Process). q.pid) is
+
 -- ---- each of them
 
 -- over, with a code

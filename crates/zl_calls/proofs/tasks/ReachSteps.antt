@@ -1,10 +1,9 @@
 -- A call that reaches other processes: from what it did among them to a step, up to where processes wake.
-use Rattle.zl_calls.proofs.Common.{◌≡◌, ℕ, ℤ, true, ◌==◌, List, get_or, refl, sym, ap, ◌∙◌, subst, Some, None, position, is_ready, Library, Request, Site, site}
-use Rattle.zl_calls.proofs.Common.{AtCall, next_for, Objects, process_value, state_value, world_blocked, world_value, AreBlocked, IsConsistent, process_create}
+use Rattle.zl_calls.proofs.Common.{◌≡◌, ℕ, ℤ, List, refl, sym, ap, ◌∙◌, subst, None, Library, Request, Site, site}
+use Rattle.zl_calls.proofs.Common.{AtCall, next_for, Objects, process_value, world_blocked, world_value, process_create}
 use Rattle.zl_calls.proofs.Common.{process_start, CallName, Outcome, verdict_on, IsAnsweredIn, Reaches, kills, kills_itself, starts, Parts, ProcessCreateDoes}
 use Rattle.zl_calls.proofs.Common.{ProcessStartDoes, TaskKillDoes, parts}
 use Rattle.zl_code.specs.CallTable.{task_kill}
-use Rattle.zl_code.specs.Sound.{IsSound as IsSoundWorld}
 use Rattle.zl_code.specs.declared.history.TraceItem.TheVariants as item
 use Rattle.zl_calls.specs.Reaching.{creates}
 use Rattle.zl_calls.specs.calls.Answer.{no_value, one_value, told_by}
@@ -12,26 +11,21 @@ use Rattle.zl_calls.specs.declared.process.Process.{Process}
 use Rattle.zl_calls.specs.declared.process.State.TheVariants as state
 use Rattle.zl_calls.proofs.policy.Freedom.{is_free}
 use Rattle.zl_calls.proofs.stepping.FromConsistent.{IsFree}
-use Rattle.zl_calls.proofs.stepping.Performing.{HasLeft, write_of}
+use Rattle.zl_calls.proofs.stepping.Performing.{AtTurn, HasLeft, write_of}
 use Rattle.zl_calls.proofs.tasks.CreateSteps.{create_so}
 use Rattle.zl_calls.proofs.tasks.StartWorlds.{start_so}
 use Rattle.zl_calls.proofs.tasks.KillSteps.{kill_itself_so, kill_so}
 
 -- the process p stands at the place, under the pid, and is at the call
-module _ (lib : Library) (ps : List Process) (r : Objects) (whole : IsConsistent ps r) (blocked : List ℕ) (are : AreBlocked ps blocked)
-    (sound : IsSoundWorld (world_blocked ps r blocked)) (pid place : ℕ) (p : Process)
-    (found : Some place ≡ position (λ q. q.pid == pid) ps) (read : p ≡ get_or ps place p) (is_ready_there : is_ready (state_value p.state) ≡ true)
+module _ {ps : List Process} {r : Objects} {blocked : List ℕ} {pid place : ℕ} {p : Process} (turn : AtTurn ps r blocked pid place p) (lib : Library)
     (name : CallName) (s : Site) (next : next_for lib (process_value p) ≡ AtCall name s)
     (none : verdict_on p.table.entries r.objects p.pid s.request ≡ None) where
-  free : IsFree lib (world_value ps r) p.pid name
-  free =
-      is_free lib ps r whole blocked sound p ((write_of lib ps r whole blocked are sound pid place p found read p refl).there) is_ready_there name s next none
-      (world_value ps r) refl refl
+  pub free : IsFree lib (world_value ps r) p.pid name
+  free = is_free lib ps r turn.consistent blocked turn.sound p ((write_of turn p refl).there) turn.ready name s next none (world_value ps r) refl refl
 
-  free_beside : IsFree lib (world_blocked ps r blocked) p.pid name
+  pub free_beside : IsFree lib (world_blocked ps r blocked) p.pid name
   free_beside =
-      is_free lib ps r whole blocked sound p ((write_of lib ps r whole blocked are sound pid place p found read p refl).there) is_ready_there name s next none
-      (world_blocked ps r blocked) refl refl
+      is_free lib ps r turn.consistent blocked turn.sound p ((write_of turn p refl).there) turn.ready name s next none (world_blocked ps r blocked) refl refl
 
   -- the site of the call, by its request
   site_is : (request : Request) → s.request ≡ request → s ≡ site request s.consumed s.destinations
@@ -40,13 +34,11 @@ module _ (lib : Library) (ps : List Process) (r : Objects) (whole : IsConsistent
   pub reaches_so : (o : Outcome) (all2 : Parts) → Reaches lib place p s (parts ps r blocked) o all2
       → HasLeft lib ps all2.processes r all2.objects blocked all2.blocked pid (item.Call pid name o)
   reaches_so o all2 (creates job program is does) =
-      create_so lib ps r whole blocked are sound pid place p found read is_ready_there name free job program s.consumed s.destinations
-      (next ∙ ap (AtCall name) (site_is (process_create job program) is)) all2 o
+      create_so turn lib name free job program s.consumed s.destinations (next ∙ ap (AtCall name) (site_is (process_create job program) is)) all2 o
       (subst (λ (x : Site). IsAnsweredIn (told_by one_value) (ProcessCreateDoes lib place job program p) x place (parts ps r blocked) o all2)
       (site_is (process_create job program) is) does)
   reaches_so o all2 (starts process h word is does) =
-      start_so lib ps r whole blocked are sound pid place p found read is_ready_there name free process h word s.consumed s.destinations
-      (next ∙ ap (AtCall name) (site_is (process_start process h word) is)) all2 o
+      start_so turn lib name free process h word s.consumed s.destinations (next ∙ ap (AtCall name) (site_is (process_start process h word) is)) all2 o
       (subst (λ (x : Site). IsAnsweredIn (told_by no_value) (ProcessStartDoes lib place process h word p) x place (parts ps r blocked) o all2)
       (site_is (process_start process h word) is) does)
   reaches_so o all2 (kills task is does alive) =
@@ -54,8 +46,6 @@ module _ (lib : Library) (ps : List Process) (r : Objects) (whole : IsConsistent
       → ((code : ℤ) → a.is_told.caller.state ≡ state.Ended code → ⊥)
       → HasLeft lib ps all2.processes r all2.objects blocked all2.blocked pid (item.Call pid name o))
       (sym (site_is (task_kill task) is))
-      (kill_so lib ps r whole blocked are sound pid place p found read is_ready_there name free free_beside task s.consumed s.destinations
-      (next ∙ ap (AtCall name) (site_is (task_kill task) is)) all2 o) does alive
+      (kill_so turn lib name free free_beside task s.consumed s.destinations (next ∙ ap (AtCall name) (site_is (task_kill task) is)) all2 o) does alive
   reaches_so o all2 (kills_itself task is does) =
-      kill_itself_so lib ps r whole blocked are sound pid place p found read is_ready_there name free free_beside task s.consumed s.destinations
-      (next ∙ ap (AtCall name) (site_is (task_kill task) is)) all2 o does
+      kill_itself_so turn lib name free free_beside task s.consumed s.destinations (next ∙ ap (AtCall name) (site_is (task_kill task) is)) all2 o does

@@ -81,54 +81,37 @@ module _ (lib : Library) (ps : List Process) (pid : ℕ) (e : Entry) where
 
 -- ---- the handle enters its table
 
-module _ (lib : Library) (ps ds : List Process) (same : ds ≡ ps) (place child process h : ℕ) (e : Entry)
-    (found : (caller : Process) → slice_get ds place ≡ Some caller → IsFound ds caller process h child e) where
+module _ (lib : Library) (ps : List Process) (place child process h : ℕ) (e : Entry)
+    (found : (caller : Process) → slice_get ps place ≡ Some caller → IsFound ps caller process h child e) where
   pub child_within : place < length ps → child < length ps
   child_within within =
       let there : (x : Process) × (slice_get ps place ≡ Some x) = stands_at ps place within in
-      let it : IsFound ds there.0 process h child e = found there.0 (ap (λ (xs : List Process). slice_get xs place) same ∙ there.1) in
-      subst (λ (xs : List Process). child < length xs) same (slice_get_within ds child it.at.child it.at.is_there)
+      let it : IsFound ps there.0 process h child e = found there.0 there.1 in
+      slice_get_within ps child it.at.child it.at.is_there
 
   module _ (q : Process) (read : q ≡ get_or ps child q) where
-    is_child : (caller : Process) (at : slice_get ds place ≡ Some caller) → q ≡ (found caller at).at.child
-    is_child caller at =
-        let there : slice_get ps child ≡ Some (found caller at).at.child =
-        subst (λ (xs : List Process). slice_get xs child ≡ Some (found caller at).at.child) same (found caller at).at.is_there in
-        read ∙ get_or_from_slice_get ps child (found caller at).at.child q there
+    is_child : (caller : Process) (at : slice_get ps place ≡ Some caller) → q ≡ (found caller at).at.child
+    is_child caller at = read ∙ get_or_from_slice_get ps child (found caller at).at.child q (found caller at).at.is_there
 
     pub child_room : place < length ps → AreBare ps → length q.table.entries < 1024
     child_room within bare =
         let there : (x : Process) × (slice_get ps place ≡ Some x) = stands_at ps place within in
-        let at : slice_get ds place ≡ Some there.0 = ap (λ (xs : List Process). slice_get xs place) same ∙ there.1 in
-        let it : IsFound ds there.0 process h child e = found there.0 at in
-        let empty : it.at.child.table.entries ≡ [] =
-        bare child it.at.child (subst (λ (xs : List Process). slice_get xs child ≡ Some it.at.child) same it.at.is_there) it.at.is_created in
-        let none : q.table.entries ≡ [] = ap (λ (x : Process). x.table.entries) (is_child there.0 at) ∙ empty in
+        let it : IsFound ps there.0 process h child e = found there.0 there.1 in
+        let empty : it.at.child.table.entries ≡ [] = bare child it.at.child it.at.is_there it.at.is_created in
+        let none : q.table.entries ≡ [] = ap (λ (x : Process). x.table.entries) (is_child there.0 there.1) ∙ empty in
         rw none (omega arith)
 
     pub enters_so :
-        (refusal : (caller : Process) → slice_get ds place ≡ Some caller → ◌≡◌ {A = Option Status} None (start_refusal lib ds caller.table.entries process h))
+        (refusal : (caller : Process) → slice_get ps place ≡ Some caller → ◌≡◌ {A = Option Status} None (start_refusal lib ps caller.table.entries process h))
         (t2 : Handles) (value : ℕ)
         → Inserts q.table e value t2 → (caller : Process) → slice_get ps place ≡ Some caller
         → Enters lib ps caller process h (record { place = child; handle = value }) (slice_set ps child (record q { table = t2 }))
-    enters_so refusal t2 value inserts caller there =
-        let at : slice_get ds place ≡ Some caller = ap (λ (xs : List Process). slice_get xs place) same ∙ there in
-        let it : IsFound ds caller process h child e = found caller at in
-        let is : q ≡ it.at.child = is_child caller at in
+    enters_so refusal t2 value inserts caller at =
+        let is : q ≡ (found caller at).at.child = is_child caller at in
         record {
-          unrefused = subst (λ (xs : List Process). start_refusal lib xs caller.table.entries process h ≡ None) same (sym (refusal caller at));
+          unrefused = sym (refusal caller at);
           e = e;
-          found = record {
-            named = it.named;
-            is_named = it.is_named;
-            at = record {
-              child = it.at.child;
-              is_there = subst (λ (xs : List Process). slice_get xs child ≡ Some it.at.child) same it.at.is_there;
-              is_pid = it.at.is_pid;
-              is_created = it.at.is_created;
-            };
-            is_given = it.is_given;
-          };
+          found = found caller at;
           child = record q { table = t2 };
           same = ap (λ (x : Process). record x { table = t2 }) is;
           inserts = subst (λ (x : Process). Inserts x.table e value t2) is inserts;

@@ -124,9 +124,8 @@ module _ (ps mid after : List Process) (child begins p p2 : Process) (one : IsWr
   IsTableOf q = IsTable (record { entries = q.handles; last = q.last })
 
   tables_now : (j : ℕ) (q : ProcessValue) → get (map process_entry after) j ≡ Some q → IsTableOf q
-  tables_now j q at = found_after mid after p p2 two (IsTableOf q) j q at
-      (λ is. subst IsTableOf is p2_table)
-      (λ old. found_after ps mid child begins one (IsTableOf q) j q old (λ is. subst IsTableOf is begins_table) (λ older. consistent.tables j q older))
+  tables_now j q at = found_after two (IsTableOf q) j q at (λ is. subst IsTableOf is p2_table)
+      (λ old. found_after one (IsTableOf q) j q old (λ is. subst IsTableOf is begins_table) (λ older. consistent.tables j q older))
 
   -- ---- names
 
@@ -145,10 +144,8 @@ module _ (ps mid after : List Process) (child begins p p2 : Process) (one : IsWr
       (λ old. still x (consistent.named child.pid (process_value child) v x one.there old))
 
   named_now : (j : ℕ) (q : ProcessValue) (v : ℕ) (x : Entry) → get (map process_entry after) j ≡ Some q → get q.handles v ≡ Some x → IsNamed r2.objects x
-  named_now j q v x at inside = found_after mid after p p2 two (IsNamed r2.objects x) j q at
-      (λ is. in_p2 v x (ap (λ (y : ProcessValue). get y.handles v) is ∙ inside))
-      (λ old. found_after ps mid child begins one (IsNamed r2.objects x) j q old
-      (λ is. in_begins v x (ap (λ (y : ProcessValue). get y.handles v) is ∙ inside))
+  named_now j q v x at inside = found_after two (IsNamed r2.objects x) j q at (λ is. in_p2 v x (ap (λ (y : ProcessValue). get y.handles v) is ∙ inside))
+      (λ old. found_after one (IsNamed r2.objects x) j q old (λ is. in_begins v x (ap (λ (y : ProcessValue). get y.handles v) is ∙ inside))
       (λ older. still x (consistent.named j q v x older inside)))
 
   -- ---- counts
@@ -176,11 +173,11 @@ module _ (ps mid after : List Process) (child begins p p2 : Process) (one : IsWr
   -- ---- states
 
   same_after : (j : ℕ) (test : StateValue → Bool) → is_process (world_value after r2) test j ≡ is_process (world_value mid r2) test j
-  same_after j test = same_states mid after p p2 two state_is r2 r2 j test
+  same_after j test = same_states two state_is r2 r2 j test
 
   now : (test : StateValue → Bool) → is_process (world_value mid r2) test k ≡ test Ready
   unfolding is_process
-  now test = rw (get_after ps mid child begins one k, eq-eqb k k refl) (ap test ready)
+  now test = rw (get_after one k, eq-eqb k k refl) (ap test ready)
 
   before : (test : StateValue → Bool) → is_process (world_value ps r) test k ≡ test Created
   unfolding is_process
@@ -188,7 +185,7 @@ module _ (ps mid after : List Process) (child begins p p2 : Process) (one : IsWr
 
   others : (j : ℕ) → (k == j) ≡ false → (test : StateValue → Bool) → is_process (world_value mid r2) test j ≡ is_process (world_value ps r) test j
   unfolding is_process
-  others j apart test = rw (get_after ps mid child begins one j, apart) refl
+  others j apart test = rw (get_after one j, apart) refl
 
   agrees_now : (b : Body) → kind_of (body_value b) ≡ kind.Process → Agrees (world_value ps r) k b → Agrees (world_value mid r2) k (started_body b)
   agrees_now (body.Process job life.Created) same agrees = record { running = sym (now runs); living = sym (now lives); over = sym (now has_ended) }
@@ -207,16 +204,15 @@ module _ (ps mid after : List Process) (child begins p p2 : Process) (one : IsWr
   pub start_keeps : IsConsistent after r2
   start_keeps = record {
     processes_in_order = rw (
-      after_is mid after p p2 two,
+      after_is two,
       is_sorted-update (map process_entry mid) p.pid (λ _. process_value p2),
-      after_is ps mid child begins one,
+      after_is one,
       is_sorted-update (map process_entry ps) child.pid (λ _. process_value begins),
     ) consistent.processes_in_order;
     given_processes = λ j has. consistent.given_processes j
         (sym (has_key-update (map process_entry ps) child.pid (λ _. process_value begins) j)
-        ∙ (ap (λ (m : Map ProcessValue). has_key m j) (sym (after_is ps mid child begins one))
-        ∙ (sym (has_key-update (map process_entry mid) p.pid (λ _. process_value p2) j)
-        ∙ (ap (λ (m : Map ProcessValue). has_key m j) (sym (after_is mid after p p2 two)) ∙ has))));
+        ∙ (ap (λ (m : Map ProcessValue). has_key m j) (sym (after_is one)) ∙ (sym (has_key-update (map process_entry mid) p.pid (λ _. process_value p2) j)
+        ∙ (ap (λ (m : Map ProcessValue). has_key m j) (sym (after_is two)) ∙ has))));
     given_objects = λ j has. consistent.given_objects j (sym (has_key-update r.objects k started j) ∙ has);
     koids = consistent.koids;
     above_zero = consistent.above_zero;
@@ -251,5 +247,5 @@ module _ (ps mid after : List Process) (child begins p p2 : Process) (one : IsWr
 
   pub start_blocked : is_blocked (state_value p.state) ≡ false → (blocked : List ℕ) → AreBlocked ps blocked → AreBlocked after blocked
   start_blocked unblocked blocked are =
-      still_blocked mid after p p2 two unblocked (ap (λ (s : State). is_blocked (state_value s)) state_is ∙ unblocked) blocked
-      (still_blocked ps mid child begins one (ap is_blocked created) (ap is_blocked ready) blocked are)
+      still_blocked two unblocked (ap (λ (s : State). is_blocked (state_value s)) state_is ∙ unblocked) blocked
+      (still_blocked one (ap is_blocked created) (ap is_blocked ready) blocked are)

@@ -1,9 +1,10 @@
 -- The call process_start where it is done: in the world it is what the definitions make of it.
-use Rattle.zl_calls.proofs.Common.{◌≡◌, ◌≢◌, ℕ, true, false, ◌==◌, List, [], ◌∷◌, map, refl, sym, ap, ◌∙◌, subst, Some, None, Ok, inl, inr, IsTrue, cases_Bool}
-use Rattle.zl_calls.proofs.Common.{eqb-true, same_Some, nat_cmp, is_sorted, Map, get, update, slice_get, slice_set, is_ready, Library, Site, site, Calls}
+use Rattle.zl_calls.proofs.Common.{◌≡◌, ◌≢◌, ℕ, true, false, ◌==◌, List, [], ◌∷◌, map, refl, sym, ap, ◌∙◌, subst, Some, None, Ok, inl, inr, IsTrue}
+use Rattle.zl_calls.proofs.Common.{cases_Bool, eqb-true, same_Some, nat_cmp, is_sorted, Map, get, update, slice_get, slice_set, is_ready}
+use Rattle.zl_calls.proofs.Common.{Library, Site, site, Calls}
 use Rattle.zl_calls.proofs.Common.{cpu_answered, process_with, process_without, is_sorted-update, Objects, process_entry, process_value, state_value}
-use Rattle.zl_calls.proofs.Common.{world_value, looked_up, TRANSFER, WRITE, process_start, is_created, started_with, IsToldIn, Told, without_handle, Parts}
-use Rattle.zl_calls.proofs.Common.{StartsProcess, parts, start_refusal}
+use Rattle.zl_calls.proofs.Common.{world_value, looked_up, TRANSFER, WRITE, process_start, is_created, started_with, IsToldIn, no_value, told_by}
+use Rattle.zl_calls.proofs.Common.{without_handle, Parts, StartsProcess, parts, start_refusal}
 use Rattle.zl_code.proofs.Common.{Process as ProcessValue, State as StateValue}
 use Rattle.zl_rights.specs.declared.kind.Kind.TheVariants as kind
 use Rattle.zl_rights.specs.declared.status.Status.TheVariants as status
@@ -13,11 +14,10 @@ use Rattle.zl_calls.proofs.calls.Answered.{IsWrite}
 use Rattle.zl_calls.proofs.tasks.StartCalls.{caller_is, child_is, start_calls, writes_at}
 use Rattle.zl_calls.proofs.tasks.StartParts.{get_apart, get_set, not_both, set_apart, set_twice}
 
-module _ (lib : Library) (ps : List Process) (r : Objects) (blocked : List ℕ) (place process h word : ℕ) (p : Process) (is_caller : slice_get ps place ≡ Some p)
-    (ready : is_ready (state_value p.state) ≡ true) (sorted : IsTrue (is_sorted nat_cmp (map process_entry ps)))
-    (all1 all2 : Parts) (does : StartsProcess lib (parts ps r blocked) place process h word all1) (consumed destinations : List ℕ) (told : Told)
-    (ok : told.status ≡ status.Ok) (no_values : told.values ≡ [])
-    (tells : IsToldIn (site (process_start process h word) consumed destinations) place told all1 all2) where
+module _ {lib : Library} {ps : List Process} {r : Objects} {blocked : List ℕ} {place process h word : ℕ} {p : Process} {all1 all2 : Parts}
+    {consumed destinations : List ℕ} (is_caller : slice_get ps place ≡ Some p) (ready : is_ready (state_value p.state) ≡ true)
+    (sorted : IsTrue (is_sorted nat_cmp (map process_entry ps))) (does : StartsProcess lib (parts ps r blocked) place process h word all1)
+    (tells : IsToldIn (site (process_start process h word) consumed destinations) place (told_by no_value (Ok tt)) all1 all2) where
   abbrev s : Site
   s = site (process_start process h word) consumed destinations
 
@@ -42,11 +42,11 @@ module _ (lib : Library) (ps : List Process) (r : Objects) (blocked : List ℕ) 
       ap (λ (qs : List Process). slice_get qs place) does.processes
       ∙ (get_apart (slice_set ps place does.after) does.at_place place does.started apart ∙ get_set ps place does.caller does.after does.is_caller.is_there)
 
-  told_is : (record tells.caller { cpu = cpu_answered s told.status told.values tells.caller.cpu }) ≡ p2
+  told_is : (record tells.caller { cpu = cpu_answered s status.Ok [] tells.caller.cpu }) ≡ p2
   told_is =
       let one : tells.caller ≡ record p { table = without_handle p.table h } =
       same_Some tells.caller does.after (sym tells.is_there ∙ caller_there) ∙ after_is in
-      λ i. record (one i) { cpu = cpu_answered s (ok i) (no_values i) (one i).cpu }
+      λ i. record (one i) { cpu = cpu_answered s status.Ok [] (one i).cpu }
 
   pub all_is : all2.processes ≡ slice_set (slice_set ps does.at_place does.started) place p2
   all_is =

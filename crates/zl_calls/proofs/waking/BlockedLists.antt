@@ -13,13 +13,13 @@ use Rattle.zl_calls.specs.declared.process.Process.{Process}
 use Rattle.zl_calls.proofs.calls.Answered.{IsWrite}
 use Rattle.zl_calls.proofs.processes.Written.{found_after, get_after}
 
-module _ (before after : List Process) (p p2 : Process) (write : IsWrite before after p p2) where
+module _ {before after : List Process} {p p2 : Process} (write : IsWrite before after p p2) where
   -- a process that isn't blocked before it changes, nor afterwards
   pub still_blocked : is_blocked (state_value p.state) ≡ false → is_blocked (state_value p2.state) ≡ false → (blocked : List ℕ) → AreBlocked before blocked
       → AreBlocked after blocked
   still_blocked was is blocked are = record {
     once = λ k. are.once k ∙ ap (λ (b : Bool). if b then 1 else 0) (sym (same_there k));
-    counters = λ k q at h. found_after before after p p2 write (q.cpu.counter < 2 ^ 32) k q at
+    counters = λ k q at h. found_after write (q.cpu.counter < 2 ^ 32) k q at
         (λ here. absurd (false≢true (sym is ∙ (ap (λ (x : ProcessValue). is_blocked x.state) here ∙ h))))
         (λ old. are.counters k q old h);
   }
@@ -28,8 +28,8 @@ module _ (before after : List Process) (p p2 : Process) (write : IsWrite before 
       same_there k =
           elim (cases_Bool (p.pid == k))
           as (λ _. state_passes is_blocked (get (map process_entry after) k) ≡ state_passes is_blocked (get (map process_entry before) k)) [
-            | inl here ↦ rw (get_after before after p p2 write k, here, ← eqb-true p.pid k here, write.there, was, is) refl
-            | inr apart ↦ rw (get_after before after p p2 write k, apart) refl
+            | inl here ↦ rw (get_after write k, here, ← eqb-true p.pid k here, write.there, was, is) refl
+            | inr apart ↦ rw (get_after write k, apart) refl
           ]
 
   -- a process that was blocked, and isn't any more
@@ -39,10 +39,10 @@ module _ (before after : List Process) (p p2 : Process) (write : IsWrite before 
     once =
         λ k. elim (cases_Bool (p.pid == k))
         as (λ _. times k (filter (λ q. not (q == p.pid)) blocked) ≡ (if state_passes is_blocked (get (map process_entry after) k) then 1 else 0)) [
-          | inl here ↦ rw (get_after before after p p2 write k, here, ← eqb-true p.pid k here, is) (times-same p.pid blocked)
-          | inr apart ↦ rw (get_after before after p p2 write k, apart) (times-other p.pid k apart blocked ∙ are.once k)
+          | inl here ↦ rw (get_after write k, here, ← eqb-true p.pid k here, is) (times-same p.pid blocked)
+          | inr apart ↦ rw (get_after write k, apart) (times-other p.pid k apart blocked ∙ are.once k)
         ];
-    counters = λ k q at h. found_after before after p p2 write (q.cpu.counter < 2 ^ 32) k q at
+    counters = λ k q at h. found_after write (q.cpu.counter < 2 ^ 32) k q at
         (λ here. absurd (false≢true (sym is ∙ (ap (λ (x : ProcessValue). is_blocked x.state) here ∙ h))))
         (λ old. are.counters k q old h);
   }
@@ -54,12 +54,10 @@ module _ (before after : List Process) (p p2 : Process) (write : IsWrite before 
     once =
         λ k. elim (cases_Bool (p.pid == k))
         as (λ _. times k (blocked ++ (p.pid ∷ [])) ≡ (if state_passes is_blocked (get (map process_entry after) k) then 1 else 0)) [
-          | inl here ↦ rw (get_after before after p p2 write k, here, ← eqb-true p.pid k here, is)
-              (times-last p.pid blocked (are.once p.pid ∙ rw (write.there, was) refl))
-          | inr apart ↦ rw (get_after before after p p2 write k, apart) (times-behind p.pid k apart blocked ∙ are.once k)
+          | inl here ↦ rw (get_after write k, here, ← eqb-true p.pid k here, is) (times-last p.pid blocked (are.once p.pid ∙ rw (write.there, was) refl))
+          | inr apart ↦ rw (get_after write k, apart) (times-behind p.pid k apart blocked ∙ are.once k)
         ];
-    counters = λ k q at h. found_after before after p p2 write (q.cpu.counter < 2 ^ 32) k q at
-        (λ here. subst (λ (x : ProcessValue). x.cpu.counter < 2 ^ 32) here within)
+    counters = λ k q at h. found_after write (q.cpu.counter < 2 ^ 32) k q at (λ here. subst (λ (x : ProcessValue). x.cpu.counter < 2 ^ 32) here within)
         (λ old. are.counters k q old h);
   }
 

@@ -33,7 +33,7 @@ pub record IsAsleep (lib : Library) (before : List Process) (r r2 : Objects) (p 
   pub counter : p.cpu.counter < 2 ^ 32
   pub objects : r2 ≡ r
 
-module _ (lib : Library) (before after : List Process) (r r2 : Objects) (p p2 : Process) (consistent : IsConsistent before r)
+module _ {before after : List Process} {r : Objects} {p p2 : Process} (lib : Library) (r2 : Objects) (consistent : IsConsistent before r)
     (write : IsWrite before after p p2)
     (ready : state_value p.state ≡ Ready)
     (name : CallName) (o : Outcome) (sleeps : IsAsleep lib before r r2 p p2 name o) where
@@ -41,18 +41,18 @@ module _ (lib : Library) (before after : List Process) (r r2 : Objects) (p p2 : 
 
   agrees : (k : ℕ) (b : Body) → Agrees (world_value before r) k b → Agrees (world_value after r) k b
   agrees k b = alike_agrees (world_value before r) (world_value after r) k b
-      (alike_states before after p p2 write runs (ap runs sleeps.state ∙ sym (ap runs ready)) r r k)
-      (alike_states before after p p2 write lives (ap lives sleeps.state ∙ sym (ap lives ready)) r r k)
-      (alike_states before after p p2 write has_ended (ap has_ended sleeps.state ∙ sym (ap has_ended ready)) r r k)
+      (alike_states write runs (ap runs sleeps.state ∙ sym (ap runs ready)) r r k)
+      (alike_states write lives (ap lives sleeps.state ∙ sym (ap lives ready)) r r k)
+      (alike_states write has_ended (ap has_ended sleeps.state ∙ sym (ap has_ended ready)) r r k)
 
   pub asleep_keeps : IsConsistent after r
-  asleep_keeps = keeps_table before after p p2 write r consistent agrees (ap (λ (q : Process). q.table) sleeps.process)
+  asleep_keeps = keeps_table write r consistent agrees (ap (λ (q : Process). q.table) sleeps.process)
 
   -- ---- the list
 
   pub asleep_list : (blocked : List ℕ) → AreBlocked before blocked → AreBlocked after (blocked ++ (p.pid ∷ []))
   asleep_list =
-      one_asleep before after p p2 write (ap is_blocked ready) (ap is_blocked sleeps.state)
+      one_asleep write (ap is_blocked ready) (ap is_blocked sleeps.state)
       (subst (λ (q : Process). q.cpu.counter < 2 ^ 32) (sym sleeps.process) sleeps.counter)
 
   -- ---- the step

@@ -100,7 +100,7 @@ module _ (ps : List Process) (r : Objects) (consistent : IsConsistent ps r) (pid
           once = λ k. rw same_entries (are.once k);
           counters = λ k q at h. are.counters k q (rw same_entries at at) h;
         };
-        consistent = rw same_objects (refusal_keeps ps after p p2 write r consistent (ap (λ (q : Process). q.table) same) (ap (λ (q : Process). q.state) same));
+        consistent = rw same_objects (refusal_keeps write r consistent (ap (λ (q : Process). q.table) same) (ap (λ (q : Process). q.state) same));
         count = same_count;
       }
 
@@ -112,12 +112,11 @@ module _ (ps : List Process) (r : Objects) (consistent : IsConsistent ps r) (pid
         → woken (world_blocked ps r blocked) pid ≡ made_ready (world_blocked ps r2 blocked) pid (process_value p) ds (0 ∷ values)) where
       ready_entries : map process_entry after ≡ put (map process_entry ps) pid (process_value p2)
       ready_entries = rw (← key)
-          (after_is ps after p p2 write ∙ put_there (map process_entry ps) p.pid (process_value p) (λ _. process_value p2)
-          consistent.processes_in_order write.there)
+          (after_is write ∙ put_there (map process_entry ps) p.pid (process_value p) (λ _. process_value p2) consistent.processes_in_order write.there)
 
       tests_alike : (test : StateValue → Bool) → test (state_value p.state) ≡ test Ready → (k : ℕ)
           → is_process (world_value after r2) test k ≡ is_process (world_value ps r2) test k
-      tests_alike test alike k = alike_states ps after p p2 write test (ap (λ (q : Process). test (state_value q.state)) is ∙ sym alike) r2 r2 k
+      tests_alike test alike k = alike_states write test (ap (λ (q : Process). test (state_value q.state)) is ∙ sym alike) r2 r2 k
 
       agrees_on : (k : ℕ) (b : Body) → Agrees (world_value ps r2) k b → Agrees (world_value after r2) k b
       agrees_on k b = alike_agrees (world_value ps r2) (world_value after r2) k b
@@ -129,8 +128,8 @@ module _ (ps : List Process) (r : Objects) (consistent : IsConsistent ps r) (pid
       gets_awake = record {
         world = λ blocked. ap (λ (m : Map ProcessValue). record (world_blocked ps r2 (filter (λ q. not (q == pid)) blocked)) { processes = m })
             (ready_entries ∙ ap (λ (q : Process). put (map process_entry ps) pid (process_value q)) is) ∙ sym (wakes_so blocked);
-        list = λ blocked are. rw (← key) (one_awake ps after p p2 write (ap (λ (q : Process). is_blocked (state_value q.state)) is) blocked are);
-        consistent = keeps_table ps after p p2 write r2 still agrees_on (ap (λ (q : Process). q.table) is);
+        list = λ blocked are. rw (← key) (one_awake write (ap (λ (q : Process). is_blocked (state_value q.state)) is) blocked are);
+        consistent = keeps_table write r2 still agrees_on (ap (λ (q : Process). q.table) is);
         count = same_count;
       }
 

@@ -1,20 +1,19 @@
 //! The call that kills a process, or a job with all that stands below it.
 
-ghost use Rattle.std.specs.Prelude.{◌≡◌, ◌<◌, length, map, vec_capacity, Some, slice_get, IsTrue};
-ghost use Rattle.std.specs.FinMap.Entries.{is_sorted};
+ghost use Rattle.std.specs.Prelude.{◌≡◌, ◌<◌, length, map, vec_capacity, slice_get};
 ghost use Rattle.std.specs.List.{filter};
-ghost use Rattle.std.specs.Ordering.{nat_cmp};
 ghost use Rattle.zl_rights.specs.Map.{get};
 ghost use Rattle.zl_rights.specs.Signals.{state_passes};
 ghost use Rattle.zl_code.specs.Sound.{is_blocked};
 ghost use Rattle.zl_calls.specs.Registered.{KeepsListed};
 ghost use Rattle.zl_calls.specs.World.{process_entry};
-ghost use Rattle.zl_calls.specs.calls.Task.{ClosesAllEnded, ClosesEnded, IsCallerStill, TaskKillDoes, ended_within, parts};
+ghost use Rattle.zl_calls.specs.Calling.{AtPlace, parts_in};
+ghost use Rattle.zl_calls.specs.calls.Task.{ClosesAllEnded, ClosesEnded, IsCallerStill, TaskKillDoes, ended_within};
 
 use crate::calls::look_up;
 use crate::calls::process::close_all;
 use crate::process::{Process, State};
-use crate::stepping::place_of;
+use crate::processes::Processes;
 use std::alloc::Global;
 use zl_objects::Objects;
 use zl_rights::{Kind, Koid, Pid, Rights, Status};
@@ -31,32 +30,31 @@ const KILLED: i32 = -1024;
 /// Source: the page "zx_task_kill" of the Fuchsia documentation; the code is own profile.
 pub fn task_kill(
     alloc: Global,
-    processes: &mut Vec<Process>,
+    processes: &mut Processes,
     objects: &mut Objects,
     blocked: &mut Vec<Pid>,
     place: usize,
     task: u64,
 ) -> Result<(), Status>
-    requires place { place < length processes.old.items }
-    requires in_order { IsTrue (is_sorted nat_cmp (map process_entry processes.old.items)) }
-    ensures does { (caller : Process) → slice_get processes.old.items place ≡ Some caller
-        → TaskKillDoes task caller (parts processes.old.items objects.old blocked.old.items) result
-        (parts processes.new.items objects.new blocked.new.items) }
-    ensures caller { (caller : Process) → slice_get processes.old.items place ≡ Some caller
-        → IsCallerStill caller (slice_get processes.new.items place) }
-    ensures count { length processes.new.items ≡ length processes.old.items }
+    requires { place < length processes.old.list.items }
+    ensures does { AtPlace processes.old place (λ caller. TaskKillDoes task caller
+        (parts_in processes.old objects.old blocked.old) result
+        (parts_in processes.new objects.new blocked.new)) }
+    ensures caller { AtPlace processes.old place (λ caller.
+        IsCallerStill caller (slice_get processes.new.list.items place)) }
+    ensures count { length processes.new.list.items ≡ length processes.old.list.items }
     ensures capacity { vec_capacity blocked.new ≡ vec_capacity blocked.old }
 {
     let task = look_up(
-        &processes[place].table,
+        &processes.list[place].table,
         task,
         &[Kind::Process, Kind::Job],
         Rights::DESTROY,
     )?;
-    end_within(processes, objects, task.koid);
+    end_within(&mut processes.list, objects, task.koid);
     keep_blocked(processes, blocked);
     objects.kill(task.koid);
-    close_ended(alloc, processes, objects);
+    close_ended(alloc, &mut processes.list, objects);
     Ok(())
 }
 
@@ -80,10 +78,9 @@ fn end_if_within(process: &mut Process, objects: &Objects, task: Koid)
 }
 
 /// Those of the list are left that are still blocked.
-fn keep_blocked(processes: &[Process], blocked: &mut Vec<Pid>)
-    requires { IsTrue (is_sorted nat_cmp (map process_entry processes.now)) }
+fn keep_blocked(processes: &Processes, blocked: &mut Vec<Pid>)
     ensures items { blocked.new.items
-        ≡ filter (λ k. state_passes is_blocked (get (map process_entry processes.now) k))
+        ≡ filter (λ k. state_passes is_blocked (get (map process_entry processes.now.list.items) k))
         blocked.old.items }
     ensures capacity { vec_capacity blocked.new ≡ vec_capacity blocked.old }
 {
@@ -98,12 +95,12 @@ fn keep_blocked(processes: &[Process], blocked: &mut Vec<Pid>)
 }
 
 /// Whether the process waits within a call.
-fn is_blocked(processes: &[Process], pid: Pid) -> bool
-    requires { IsTrue (is_sorted nat_cmp (map process_entry processes.now)) }
-    ensures { result ≡ state_passes is_blocked (get (map process_entry processes.now) pid) }
+fn is_blocked(processes: &Processes, pid: Pid) -> bool
+    ensures { result
+        ≡ state_passes is_blocked (get (map process_entry processes.now.list.items) pid) }
 {
-    match place_of(processes, pid) {
-        Some(place) => processes[place].is_blocked(),
+    match processes.place_of(pid) {
+        Some(place) => processes.list[place].is_blocked(),
         None => false,
     }
 }

@@ -1,21 +1,18 @@
 //! Calls on processes: one that ends its caller, one that makes a process, and one that starts it.
 
-ghost use Rattle.std.specs.Prelude.{ℕ, ◌≡◌, ◌+◌, ◌<◌, ◌≤◌, true, List, [], ◌∷◌, length, map, vec_capacity, Some, slice_get, IsTrue, IfOk, OnOk, IfErr, OnErr};
-ghost use Rattle.std.specs.FinMap.Entries.{is_sorted};
+ghost use Rattle.std.specs.Prelude.{ℕ, ◌≡◌, ◌+◌, ◌<◌, ◌≤◌, true, List, [], ◌∷◌, length, vec_capacity, Some, slice_get, IfOk, OnOk, IfErr, OnErr};
 ghost use Rattle.std.specs.Option.{option_map};
-ghost use Rattle.std.specs.Ordering.{nat_cmp};
 ghost use Rattle.std.specs.Result.{result_err, result_ok};
 ghost use Rattle.zl_code.specs.Effects.{signed_word};
 ghost use Rattle.zl_code.specs.Jobs.{is_allowing, is_declared, is_only_start, misfits};
 ghost use Rattle.zl_code.specs.Starting.{cpu_given};
 ghost use Rattle.zl_rights.specs.LookUp.{looked_up};
 ghost use Rattle.zl_rights.specs.Numbers.{MANAGE_PROCESS};
-ghost use Rattle.zl_rights.specs.Signals.{is_ready};
 ghost use Rattle.zl_objects.specs.Jobs.{action_of, job_at};
 ghost use Rattle.zl_objects.specs.Objects.{starting};
 ghost use Rattle.zl_interp.specs.Common.{program_value, started_cpu};
 ghost use Rattle.zl_calls.specs.Registered.{KeepsListed};
-ghost use Rattle.zl_calls.specs.World.{process_entry, state_value};
+ghost use Rattle.zl_calls.specs.Calling.{AtPlace, IsCalling, KeepsRoom, MayCall, parts_in};
 ghost use Rattle.zl_calls.specs.calls.Answer.{IsRefusedBy};
 ghost use Rattle.zl_calls.specs.calls.Process.{Drained, Ends};
 ghost use Rattle.zl_calls.specs.calls.Task.{AreBare, Enters, IsCallerStill, IsCreatedAt, IsFound, ProcessCreateDoes, ProcessStartDoes, child_refusal, create_refusal, needs_more, parts, process_at, start_refusal};
@@ -23,7 +20,7 @@ ghost use Rattle.zl_calls.specs.calls.Task.{AreBare, Enters, IsCallerStill, IsCr
 use crate::calls::handle::{close_each, take_out};
 use crate::calls::{check_room, insert, look_up, make_object};
 use crate::process::{Process, State};
-use crate::stepping::place_of;
+use crate::processes::Processes;
 use std::alloc::{AllocError, Global};
 use zl_code::{Image, Start};
 use zl_interp::{Cpu, Library, Program};
@@ -64,23 +61,21 @@ pub fn signed_word(value: u64) -> i32
 pub fn process_create(
     alloc: Global,
     library: &Library,
-    processes: &mut Vec<Process>,
+    processes: &mut Processes,
     objects: &mut Objects,
     blocked: &mut Vec<Pid>,
     place: usize,
     job: u64,
     program: u64,
 ) -> Result<HValue, Status>
-    requires place { place < length processes.old.items }
-    requires few { length blocked.old.items ≤ length processes.old.items }
-    ensures does { (caller : Process) → slice_get processes.old.items place ≡ Some caller
-        → ProcessCreateDoes library.now place job program caller
-        (parts processes.old.items objects.old blocked.old.items) result
-        (parts processes.new.items objects.new blocked.new.items) }
-    ensures room { length processes.old.items ≤ vec_capacity blocked.old
-        → length processes.new.items ≤ vec_capacity blocked.new }
+    requires { MayCall (parts_in processes.old objects.old blocked.old) place }
+    ensures does { AtPlace processes.old place (λ caller.
+        ProcessCreateDoes library.now place job program caller
+        (parts_in processes.old objects.old blocked.old) result
+        (parts_in processes.new objects.new blocked.new)) }
+    ensures room { KeepsRoom processes.old blocked.old processes.new blocked.new }
 {
-    let (job, image) = find_job(library, &processes[place].table, objects, job, program)?;
+    let (job, image) = find_job(library, &processes.list[place].table, objects, job, program)?;
     let Ok(cpu) = prepare(alloc, image, processes, blocked) else {
         return Err(Status::NoMemory);
     };
@@ -89,9 +84,9 @@ pub fn process_create(
         job,
         life: Life::Created,
     };
-    match make_object(&mut processes[place].table, objects, body) {
+    match make_object(&mut processes.list[place].table, objects, body) {
         Ok(made) => {
-            processes.push_reserved(Process {
+            processes.list.push_reserved(Process {
                 pid,
                 program: program as usize,
                 state: State::Created,
@@ -109,21 +104,21 @@ pub fn process_create(
 fn prepare(
     alloc: Global,
     image: &Image,
-    processes: &mut Vec<Process>,
+    processes: &mut Processes,
     blocked: &mut Vec<Pid>,
 ) -> Result<Cpu, AllocError>
-    requires { length blocked.old.items ≤ length processes.old.items }
+    requires { length blocked.old.items ≤ length processes.old.list.items }
     ensures cpu { IfOk result (λ cpu. cpu ≡ started_cpu image.now 0) }
     ensures place { OnOk result
-        (length processes.old.items + 1 ≤ vec_capacity processes.new) }
-    ensures room { OnOk result (length processes.old.items + 1 ≤ vec_capacity blocked.new) }
-    ensures kept { length processes.old.items ≤ vec_capacity blocked.old
-        → length processes.old.items ≤ vec_capacity blocked.new }
-    ensures same_processes { processes.new.items ≡ processes.old.items }
+        (length processes.old.list.items + 1 ≤ vec_capacity processes.new.list) }
+    ensures room { OnOk result
+        (length processes.old.list.items + 1 ≤ vec_capacity blocked.new) }
+    ensures kept { KeepsRoom processes.old blocked.old processes.new blocked.new }
+    ensures same_processes { processes.new.list.items ≡ processes.old.list.items }
     ensures same_blocked { blocked.new.items ≡ blocked.old.items }
 {
-    processes.reserve(1)?;
-    blocked.reserve(processes.len() + 1 - blocked.len())?;
+    processes.list.reserve(1)?;
+    blocked.reserve(processes.list.len() + 1 - blocked.len())?;
     Cpu::new(alloc, image, 0)
 }
 
@@ -197,35 +192,31 @@ fn allows(objects: &Objects, job: Koid, condition: Condition) -> bool
 /// order are own profile.
 pub fn process_start(
     library: &Library,
-    processes: &mut Vec<Process>,
+    processes: &mut Processes,
     objects: &mut Objects,
     place: usize,
     process: u64,
     handle: u64,
     word: u64,
 ) -> Result<(), Status>
-    requires place { place < length processes.old.items }
-    requires in_order { IsTrue (is_sorted nat_cmp (map process_entry processes.old.items)) }
-    requires bare { AreBare processes.old.items }
-    requires ready { (caller : Process) → slice_get processes.old.items place ≡ Some caller
-        → is_ready (state_value caller.state) ≡ true }
-    ensures does { (blocked : List ℕ) (caller : Process)
-        → slice_get processes.old.items place ≡ Some caller
-        → ProcessStartDoes library.now place process handle word caller
-        (parts processes.old.items objects.old blocked) result
-        (parts processes.new.items objects.new blocked) }
-    ensures caller { (caller : Process) → slice_get processes.old.items place ≡ Some caller
-        → IsCallerStill caller (slice_get processes.new.items place) }
-    ensures count { length processes.new.items ≡ length processes.old.items }
+    requires { IsCalling processes.old.list.items place }
+    ensures does { (blocked : List ℕ) → AtPlace processes.old place (λ caller.
+        ProcessStartDoes library.now place process handle word caller
+        (parts processes.old.list.items objects.old blocked) result
+        (parts processes.new.list.items objects.new blocked)) }
+    ensures caller { AtPlace processes.old place (λ caller.
+        IsCallerStill caller (slice_get processes.new.list.items place)) }
+    ensures count { length processes.new.list.items ≡ length processes.old.list.items }
 {
     match enter(library, processes, place, process, handle) {
         Ok(started) => {
-            take_out(&mut processes[place].table, handle);
-            begin(&mut processes[started.place], objects, started.handle, word);
+            take_out(&mut processes.list[place].table, handle);
+            let child = &mut processes.list[started.place];
+            begin(child, objects, started.handle, word);
             Ok(())
         }
         Err(refused) => {
-            close_each(&mut processes[place].table, objects, &[handle]);
+            close_each(&mut processes.list[place].table, objects, &[handle]);
             Err(refused)
         }
     }
@@ -254,26 +245,23 @@ struct Started {
 /// The handle enters the table of the process that is to start, and is in the caller's still.
 fn enter(
     library: &Library,
-    processes: &mut Vec<Process>,
+    processes: &mut Processes,
     place: usize,
     process: u64,
     handle: u64,
 ) -> Result<Started, Status>
-    requires place { place < length processes.old.items }
-    requires in_order { IsTrue (is_sorted nat_cmp (map process_entry processes.old.items)) }
-    requires bare { AreBare processes.old.items }
-    ensures entered { IfOk result (λ started. (caller : Process)
-        → slice_get processes.old.items place ≡ Some caller
-        → Enters library.now processes.old.items caller process handle started
-        processes.new.items) }
-    ensures err { IfErr result (λ refused. (caller : Process)
-        → slice_get processes.old.items place ≡ Some caller
-        → IsRefusedBy true (start_refusal library.now processes.old.items caller.table.entries
-        process handle) refused) }
-    ensures unchanged { OnErr result (processes.new.items ≡ processes.old.items) }
+    requires place { place < length processes.old.list.items }
+    requires bare { AreBare processes.old.list.items }
+    ensures entered { IfOk result (λ started. AtPlace processes.old place (λ caller.
+        Enters library.now processes.old.list.items caller process handle started
+        processes.new.list.items)) }
+    ensures err { IfErr result (λ refused. AtPlace processes.old place (λ caller.
+        IsRefusedBy true (start_refusal library.now processes.old.list.items
+        caller.table.entries process handle) refused)) }
+    ensures unchanged { OnErr result (processes.new.list.items ≡ processes.old.list.items) }
 {
     let (child, entry) = find_child(library, processes, place, process, handle)?;
-    let value = insert(&mut processes[child].table, entry)?;
+    let value = insert(&mut processes.list[child].table, entry)?;
     Ok(Started {
         place: child,
         handle: value,
@@ -283,21 +271,18 @@ fn enter(
 /// The place of the process that is to start, and the handle that it gets.
 fn find_child(
     library: &Library,
-    processes: &[Process],
+    processes: &Processes,
     place: usize,
     process: u64,
     handle: u64,
 ) -> Result<(usize, Entry), Status>
-    requires place { place < length processes.now }
-    requires in_order { IsTrue (is_sorted nat_cmp (map process_entry processes.now)) }
-    ensures refusal { (caller : Process) → slice_get processes.now place ≡ Some caller
-        → result_err result
-        ≡ start_refusal library.now processes.now caller.table.entries process handle }
-    ensures found { IfOk result (λ found. (caller : Process)
-        → slice_get processes.now place ≡ Some caller
-        → IsFound processes.now caller process handle found.0 found.1) }
+    requires { place < length processes.now.list.items }
+    ensures refusal { AtPlace processes.now place (λ caller. result_err result
+        ≡ start_refusal library.now processes.now.list.items caller.table.entries process handle) }
+    ensures found { IfOk result (λ found. AtPlace processes.now place (λ caller.
+        IsFound processes.now.list.items caller process handle found.0 found.1)) }
 {
-    let table = &processes[place].table;
+    let table = &processes.list[place].table;
     let child = look_up(table, process, &[Kind::Process], Rights::WRITE)?;
     let entry = look_up(table, handle, &[], Rights::TRANSFER)?;
     let child = created_at(library, processes, child.koid, &entry)?;
@@ -307,22 +292,21 @@ fn find_child(
 /// The place of the process, if it was made and not started, and can start with the handle.
 fn created_at(
     library: &Library,
-    processes: &[Process],
+    processes: &Processes,
     pid: Pid,
     entry: &Entry,
 ) -> Result<usize, Status>
-    requires in_order { IsTrue (is_sorted nat_cmp (map process_entry processes.now)) }
     ensures refusal { result_err result
-        ≡ child_refusal library.now (process_at processes.now pid) entry.now }
-    ensures found { IfOk result (IsCreatedAt processes.now pid) }
+        ≡ child_refusal library.now (process_at processes.now.list.items pid) entry.now }
+    ensures found { IfOk result (IsCreatedAt processes.now.list.items pid) }
 {
-    let Some(place) = place_of(processes, pid) else {
+    let Some(place) = processes.place_of(pid) else {
         return Err(Status::BadState);
     };
-    if !processes[place].is_created() {
+    if !processes.list[place].is_created() {
         return Err(Status::BadState);
     }
-    if misfits(library, processes[place].program, entry) {
+    if misfits(library, processes.list[place].program, entry) {
         return Err(Status::InvalidArgs);
     }
     Ok(place)

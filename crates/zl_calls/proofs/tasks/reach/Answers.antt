@@ -1,64 +1,86 @@
-use Rattle.zl_calls.proofs.Common.{arith, ◌≡◌, ◌∙◌, Some, slice_get, common_steps, get_or_from_slice_get, reg, IsCallerStill, parts}
+use Rattle.zl_calls.proofs.Common.{ap, arith, ◌≡◌, ◌∙◌, Some, slice_get, common_steps, get_or_from_slice_get, reg, IsCallerStill, parts}
 use Rattle.std.specs.Prelude.{slice_index}
 use Rattle.zl_code.specs.Request.{site_of}
 use Rattle.zl_calls.specs.declared.process.Process.{Process}
-use Rattle.zl_calls.proofs.tasks.ReachParts.{counter_still, create_reaches, created_still, kill_reaches, start_reaches, still_within}
+use Rattle.zl_calls.proofs.tasks.ReachParts.{counter_still, create_reaches, created_still, kill_reaches, start_reaches, still_within, told_pid}
 use Rattle.zl_calls.proofs.tasks.StartParts.{stands_at}
+use Rattle.zl_calls.proofs.processes.InOrder.{set_in_order}
 use Rattle.zl_calls.proofs.tasks.reach.Goals as goal
+
+pub invariant_of-processes : goal.invariant_of-processes
+invariant_of-processes c = record {
+  in_order = set_in_order c.index_mut.result.now _ (ap (λ (p : Process). p.pid) c.answer_made.ensures.process)
+      c.process_create-made.new.processes.list.items c.args.place c.index_mut.ensures.value c.process_create-made.new.processes.in_order;
+}
+
+pub invariant_of-processes-in-ProcessStart : goal.invariant_of-processes-in-ProcessStart
+invariant_of-processes-in-ProcessStart c = record {
+  in_order = set_in_order c.index_mut-in-ProcessStart.result.now _ (ap (λ (p : Process). p.pid) c.answer_taking.ensures.process)
+      c.process_start-answer.new.processes.list.items c.args.place c.index_mut-in-ProcessStart.ensures.value c.process_start-answer.new.processes.in_order;
+}
+
+pub invariant_of-processes-in-TaskKill : goal.invariant_of-processes-in-TaskKill
+invariant_of-processes-in-TaskKill c = record {
+  in_order = set_in_order c.index_mut-in-TaskKill.result.now _ (told_pid _ c.task_kill-answer.result c.index_mut-in-TaskKill.result.now
+      _ c.answer_unless_over.ensures.told) c.task_kill-answer.new.processes.list.items c.args.place c.index_mut-in-TaskKill.ensures.value
+      c.task_kill-answer.new.processes.in_order;
+}
 
 pub index_mut-requires : goal.index_mut-requires
 index_mut-requires c =
-    let there : (x : Process) × (slice_get c.args.processes.now.items c.args.place ≡ Some x) =
-    stands_at c.args.processes.now.items c.args.place c.requires.place in
-    let still : IsCallerStill there.0 (slice_get c.process_create-made.new.processes.items c.args.place) =
-    created_still c.args.library.now c.args.place _ _ there.0 (parts c.args.processes.now.items c.args.objects.now c.args.blocked.now.items)
-    (parts c.process_create-made.new.processes.items c.process_create-made.new.objects c.process_create-made.new.blocked.items) c.process_create-made.result
-    there.1 (c.process_create-made.ensures.does there.0 there.1) in
-    omega (arith, still_within c.process_create-made.new.processes.items c.args.place there.0 still, c.process_create-made.new.processes.ok.0)
+    let there : (x : Process) × (slice_get c.args.processes.now.list.items c.args.place ≡ Some x) =
+    stands_at c.args.processes.now.list.items c.args.place c.requires.may.calling.within in
+    let still : IsCallerStill there.0 (slice_get c.process_create-made.new.processes.list.items c.args.place) =
+    created_still c.args.library.now c.args.place _ _ there.0 (parts c.args.processes.now.list.items c.args.objects.now c.args.blocked.now.items)
+    (parts c.process_create-made.new.processes.list.items c.process_create-made.new.objects c.process_create-made.new.blocked.items)
+    c.process_create-made.result there.1 (c.process_create-made.ensures.does there.0 there.1) in
+    omega (arith, still_within c.process_create-made.new.processes.list.items c.args.place there.0 still, c.process_create-made.new.processes.list.ok.0)
 
 pub answer_made-requires : goal.answer_made-requires
 answer_made-requires c =
-    let there : (x : Process) × (slice_get c.args.processes.now.items c.args.place ≡ Some x) =
-    stands_at c.args.processes.now.items c.args.place c.requires.place in
-    counter_still c.process_create-made.new.processes.items c.args.place there.0 c.index_mut.result.now
-    (created_still c.args.library.now c.args.place _ _ there.0 (parts c.args.processes.now.items c.args.objects.now c.args.blocked.now.items)
-    (parts c.process_create-made.new.processes.items c.process_create-made.new.objects c.process_create-made.new.blocked.items) c.process_create-made.result
-    there.1 (c.process_create-made.ensures.does there.0 there.1))
+    let there : (x : Process) × (slice_get c.args.processes.now.list.items c.args.place ≡ Some x) =
+    stands_at c.args.processes.now.list.items c.args.place c.requires.may.calling.within in
+    counter_still c.process_create-made.new.processes.list.items c.args.place there.0 c.index_mut.result.now
+    (created_still c.args.library.now c.args.place _ _ there.0 (parts c.args.processes.now.list.items c.args.objects.now c.args.blocked.now.items)
+    (parts c.process_create-made.new.processes.list.items c.process_create-made.new.objects c.process_create-made.new.blocked.items)
+    c.process_create-made.result there.1 (c.process_create-made.ensures.does there.0 there.1))
     c.index_mut.ensures.value (c.requires.counter there.0 there.1)
 
 pub answer_taking-requires : goal.answer_taking-requires
 answer_taking-requires c =
-    let there : (x : Process) × (slice_get c.args.processes.now.items c.args.place ≡ Some x) =
-    stands_at c.args.processes.now.items c.args.place c.requires.place in
-    counter_still c.process_start-answer.new.processes.items c.args.place there.0 c.index_mut-in-ProcessStart.result.now
+    let there : (x : Process) × (slice_get c.args.processes.now.list.items c.args.place ≡ Some x) =
+    stands_at c.args.processes.now.list.items c.args.place c.requires.may.calling.within in
+    counter_still c.process_start-answer.new.processes.list.items c.args.place there.0 c.index_mut-in-ProcessStart.result.now
     (c.process_start-answer.ensures.caller there.0 there.1)
     c.index_mut-in-ProcessStart.ensures.value (c.requires.counter there.0 there.1)
 
 pub answer_unless_over-requires : goal.answer_unless_over-requires
 answer_unless_over-requires c =
-    let there : (x : Process) × (slice_get c.args.processes.now.items c.args.place ≡ Some x) =
-    stands_at c.args.processes.now.items c.args.place c.requires.place in
-    counter_still c.task_kill-answer.new.processes.items c.args.place there.0 c.index_mut-in-TaskKill.result.now
+    let there : (x : Process) × (slice_get c.args.processes.now.list.items c.args.place ≡ Some x) =
+    stands_at c.args.processes.now.list.items c.args.place c.requires.may.calling.within in
+    counter_still c.task_kill-answer.new.processes.list.items c.args.place there.0 c.index_mut-in-TaskKill.result.now
     (c.task_kill-answer.ensures.caller there.0 there.1)
     c.index_mut-in-TaskKill.ensures.value (c.requires.counter there.0 there.1)
 
 pub returns-in-ProcessCreate-clause-reached : goal.returns-in-ProcessCreate-clause-reached
 unfolding site_of
 returns-in-ProcessCreate-clause-reached c = λ caller at.
-    let same : c.index.result.now ≡ caller = c.index.ensures ∙ get_or_from_slice_get c.args.processes.now.items c.args.place caller c.index.result.now at in
+    let same : c.index.result.now ≡ caller = c.index.ensures ∙ get_or_from_slice_get c.args.processes.now.list.items c.args.place caller c.index.result.now at
+    in
     let job : c.register-job.result ≡ reg caller.cpu (slice_index c.args.call.now.registers 1) = grind (arith, common_steps) in
     let program : c.register-program.result ≡ reg caller.cpu (slice_index c.args.call.now.registers 2) = grind (arith, common_steps) in
     rw (c.in-ProcessCreate.is, ← job, ← program)
     (create_reaches _ _ _ _ _ _ _ _ _ at _ c.index_mut.ensures.value
-    (created_still c.args.library.now c.args.place _ _ caller (parts c.args.processes.now.items c.args.objects.now c.args.blocked.now.items)
-    (parts c.process_create-made.new.processes.items c.process_create-made.new.objects c.process_create-made.new.blocked.items) c.process_create-made.result at
-    (c.process_create-made.ensures.does caller at))
+    (created_still c.args.library.now c.args.place _ _ caller (parts c.args.processes.now.list.items c.args.objects.now c.args.blocked.now.items)
+    (parts c.process_create-made.new.processes.list.items c.process_create-made.new.objects c.process_create-made.new.blocked.items)
+    c.process_create-made.result at (c.process_create-made.ensures.does caller at))
     _ _ _ _ _ (c.process_create-made.ensures.does caller at) _ c.answer_made.ensures.ends _ (grind (arith, common_steps)))
 
 pub returns-in-ProcessStart-clause-reached : goal.returns-in-ProcessStart-clause-reached
 unfolding site_of
 returns-in-ProcessStart-clause-reached c = λ caller at.
-    let same : c.index.result.now ≡ caller = c.index.ensures ∙ get_or_from_slice_get c.args.processes.now.items c.args.place caller c.index.result.now at in
+    let same : c.index.result.now ≡ caller = c.index.ensures ∙ get_or_from_slice_get c.args.processes.now.list.items c.args.place caller c.index.result.now at
+    in
     let process : c.register-process.result ≡ reg caller.cpu (slice_index c.args.call.now.registers 1) = grind (arith, common_steps) in
     let handle : c.register-handle.result ≡ reg caller.cpu (slice_index c.args.call.now.registers 2) = grind (arith, common_steps) in
     let word : c.register-word.result ≡ reg caller.cpu (slice_index c.args.call.now.registers 3) = grind (arith, common_steps) in
@@ -70,8 +92,10 @@ returns-in-ProcessStart-clause-reached c = λ caller at.
 pub returns-in-TaskKill-clause-reached : goal.returns-in-TaskKill-clause-reached
 unfolding site_of
 returns-in-TaskKill-clause-reached c = λ caller at.
-    let same : c.index.result.now ≡ caller = c.index.ensures ∙ get_or_from_slice_get c.args.processes.now.items c.args.place caller c.index.result.now at in
+    let same : c.index.result.now ≡ caller = c.index.ensures ∙ get_or_from_slice_get c.args.processes.now.list.items c.args.place caller c.index.result.now at
+    in
     let task : c.register-task.result ≡ reg caller.cpu (slice_index c.args.call.now.registers 1) = grind (arith, common_steps) in
     rw (c.in-TaskKill.is, ← task)
-    (kill_reaches _ _ _ _ _ _ _ _ _ at _ c.index_mut-in-TaskKill.ensures.value (c.task_kill-answer.ensures.caller caller at) _ _ (c.requires.ready caller at)
+    (kill_reaches _ _ _ _ _ _ _ _ _ at _ c.index_mut-in-TaskKill.ensures.value (c.task_kill-answer.ensures.caller caller at) _ _ (c.requires.may.calling.ready
+    caller at)
     _ (c.task_kill-answer.ensures.does caller at) _ _ (record { ends = c.answer_unless_over.ensures.ends; told = grind (arith, common_steps) }))

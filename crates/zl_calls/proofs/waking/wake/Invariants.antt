@@ -5,7 +5,7 @@ use Rattle.zl_calls.proofs.waking.wake.Given as goal
 
 abbrev pub invariant-loop-place : goal.invariant-loop-place
 invariant-loop-place l =
-    IsWaking l.fn.processes.items l.fn.objects l.fn.blocked.items (vec_capacity l.fn.blocked) l.place l.processes.items l.objects l.blocked.items
+    IsWaking l.fn.processes.list.items l.fn.objects l.fn.blocked.items (vec_capacity l.fn.blocked) l.place l.processes.list.items l.objects l.blocked.items
     (vec_capacity l.blocked)
 
 abbrev pub decreases-loop-place : goal.decreases-loop-place

@@ -11,7 +11,7 @@ use Rattle.zl_calls.proofs.calls.kill.keep_blocked.Given as goal
 
 abbrev pub invariant-loop-place : goal.invariant-loop-place
 invariant-loop-place l = record {
-  left : IsKeeping (λ k. state_passes is_blocked (get (map process_entry l.processes) k)) l.fn.blocked.items l.place l.blocked.items;
+  left : IsKeeping (λ k. state_passes is_blocked (get (map process_entry l.processes.list.items) k)) l.fn.blocked.items l.place l.blocked.items;
   capacity : vec_capacity l.blocked ≡ vec_capacity l.fn.blocked;
 }
 

@@ -1,20 +1,31 @@
 use Rattle.zl_calls.proofs.Common.{arith, ◌≡◌, [], length, refl}
-use Rattle.zl_calls.proofs.tasks.KillParts.{in_order_back, killed_back, still_back}
+use Rattle.zl_calls.proofs.tasks.KillParts.{closed_order_back, in_order_back, killed_back, still_back}
 use Rattle.zl_calls.proofs.calls.kill.task_kill.Goals as goal
 
-pub keep_blocked-requires : goal.keep_blocked-requires
-keep_blocked-requires c =
-    let long : c.args.processes.now.len ≡ length c.args.processes.now.items = omega (arith, c.args.processes.now.ok.0) in
-    in_order_back c.args.processes.now.len c.args.processes.now.items c.deref_mut.result.now c.end_within.new.processes c.deref.result.now c.deref.result.now []
-    c.args.objects.now c.in_ok-task.task.koid
-    long c.deref_mut.ensures.value c.end_within.ensures c.deref.ensures.value c.deref.ensures.value c.requires.in_order
+pub invariant_of-processes : goal.invariant_of-processes
+invariant_of-processes c =
+    let long : c.args.processes.now.list.len ≡ length c.args.processes.now.list.items = omega (arith, c.args.processes.now.list.ok.0) in
+    record {
+      in_order = in_order_back c.args.processes.now.list.len c.args.processes.now.list.items c.deref_mut.result.now c.end_within.new.processes _ []
+          c.args.objects.now c.in_ok-task.task.koid long c.deref_mut.ensures.value c.end_within.ensures refl c.args.processes.now.in_order;
+    }
+
+pub invariant_of-processes-2 : goal.invariant_of-processes-2
+invariant_of-processes-2 c =
+    let long : c.args.processes.now.list.len ≡ length c.args.processes.now.list.items = omega (arith, c.args.processes.now.list.ok.0) in
+    record {
+      in_order = closed_order_back c.args.processes.now.list.len c.args.processes.now.list.items c.deref_mut.result.now c.end_within.new.processes
+          c.deref_mut-2.result.now c.close_ended.new.processes c.args.objects.now
+          c.in_ok-task.task.koid long c.deref_mut.ensures.value c.end_within.ensures c.deref_mut-2.ensures.value c.kill.new.self
+          c.close_ended.new.objects c.close_ended.ensures.closes c.args.processes.now.in_order;
+    }
 
 pub returns-clause-does : goal.returns-clause-does
 returns-clause-does c =
-    let long : c.args.processes.now.len ≡ length c.args.processes.now.items = omega (arith, c.args.processes.now.ok.0) in
-    killed_back c.args.processes.now.len c.args.processes.now.items c.deref_mut.result.now c.end_within.new.processes c.deref.result.now
+    let long : c.args.processes.now.list.len ≡ length c.args.processes.now.list.items = omega (arith, c.args.processes.now.list.ok.0) in
+    killed_back c.args.processes.now.list.len c.args.processes.now.list.items c.deref_mut.result.now c.end_within.new.processes
     c.deref_mut-2.result.now c.close_ended.new.processes c.args.objects.now
-    c.in_ok-task.task.koid long c.deref_mut.ensures.value c.end_within.ensures c.deref.ensures.value c.deref_mut-2.ensures.value c.kill.new.self
+    c.in_ok-task.task.koid long c.deref_mut.ensures.value c.end_within.ensures c.deref_mut-2.ensures.value c.kill.new.self
     c.close_ended.new.objects c.close_ended.ensures.closes
     c.args.blocked.now.items c.keep_blocked.new.blocked.items c.args.place c.args.task c.index.result.now c.index.ensures c.in_ok-task.task refl
     (c.in_ok-task.ensures {u = tt})
@@ -22,9 +33,9 @@ returns-clause-does c =
 
 pub returns-clause-caller : goal.returns-clause-caller
 returns-clause-caller c =
-    let long : c.args.processes.now.len ≡ length c.args.processes.now.items = omega (arith, c.args.processes.now.ok.0) in
-    λ caller at. still_back c.args.processes.now.len c.args.processes.now.items c.deref_mut.result.now c.end_within.new.processes c.deref.result.now
+    let long : c.args.processes.now.list.len ≡ length c.args.processes.now.list.items = omega (arith, c.args.processes.now.list.ok.0) in
+    λ caller at. still_back c.args.processes.now.list.len c.args.processes.now.list.items c.deref_mut.result.now c.end_within.new.processes
     c.deref_mut-2.result.now c.close_ended.new.processes c.args.objects.now
-    c.in_ok-task.task.koid long c.deref_mut.ensures.value c.end_within.ensures c.deref.ensures.value c.deref_mut-2.ensures.value c.kill.new.self
+    c.in_ok-task.task.koid long c.deref_mut.ensures.value c.end_within.ensures c.deref_mut-2.ensures.value c.kill.new.self
     c.close_ended.new.objects c.close_ended.ensures.closes
     c.args.place caller at

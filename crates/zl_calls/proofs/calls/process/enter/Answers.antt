@@ -1,22 +1,29 @@
-use Rattle.zl_calls.proofs.Common.{arith, ◌<◌, length}
+use Rattle.zl_calls.proofs.Common.{arith, ◌<◌, length, refl}
 use Rattle.zl_calls.proofs.tasks.StartParts.{child_room, child_within, enters_so}
+use Rattle.zl_calls.proofs.processes.InOrder.{set_in_order}
 use Rattle.zl_calls.proofs.calls.process.enter.Goals as goal
+
+pub invariant_of-processes : goal.invariant_of-processes
+invariant_of-processes c = record {
+  in_order = set_in_order c.index_mut.result.now (record c.index_mut.result.now { table = c.insert.new.table }) refl c.args.processes.now.list.items
+      c.in_ok-child.child c.index_mut.ensures.value c.args.processes.now.in_order;
+}
 
 pub index_mut-requires : goal.index_mut-requires
 index_mut-requires c =
-    let within : c.in_ok-child.child < length c.args.processes.now.items =
-    child_within c.args.library.now c.args.processes.now.items c.deref.result.now c.deref.ensures.value c.args.place c.in_ok-child.child c.args.process
+    let within : c.in_ok-child.child < length c.args.processes.now.list.items =
+    child_within c.args.library.now c.args.processes.now.list.items c.args.place c.in_ok-child.child c.args.process
     c.args.handle c.in_ok-child.entry c.in_ok-child.ensures.found c.requires.place in
-    omega (arith, within, c.args.processes.now.ok.0)
+    omega (arith, within, c.args.processes.now.list.ok.0)
 
 pub insert-requires : goal.insert-requires
 insert-requires c =
-    child_room c.args.library.now c.args.processes.now.items c.deref.result.now c.deref.ensures.value c.args.place c.in_ok-child.child c.args.process
+    child_room c.args.library.now c.args.processes.now.list.items c.args.place c.in_ok-child.child c.args.process
     c.args.handle c.in_ok-child.entry c.in_ok-child.ensures.found
     c.index_mut.result.now c.index_mut.ensures.value c.requires.place c.requires.bare
 
 pub returns-clause-entered : goal.returns-clause-entered
 returns-clause-entered c =
-    enters_so c.args.library.now c.args.processes.now.items c.deref.result.now c.deref.ensures.value c.args.place c.in_ok-child.child c.args.process
+    enters_so c.args.library.now c.args.processes.now.list.items c.args.place c.in_ok-child.child c.args.process
     c.args.handle c.in_ok-child.entry c.in_ok-child.ensures.found
     c.index_mut.result.now c.index_mut.ensures.value c.in_ok-child.ensures.refusal c.insert.new.table c.in_ok-value.value c.in_ok-value.ensures.ok

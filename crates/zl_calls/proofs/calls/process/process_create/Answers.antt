@@ -1,16 +1,29 @@
-use Rattle.zl_calls.proofs.Common.{refl}
+use Rattle.zl_calls.proofs.Common.{◌≡◌, ◌<◌, length, refl}
+use Rattle.zl_calls.proofs.processes.InOrder.{pushed_in_order}
 use Rattle.zl_calls.proofs.tasks.Creating.{not_made, wants_memory}
+use Rattle.zl_calls.proofs.tasks.StartParts.{read_at}
 use Rattle.zl_calls.proofs.calls.process.process_create.Goals as goal
 
+pub invariant_of-processes : goal.invariant_of-processes
+invariant_of-processes c =
+    let same : c.prepare.new.processes.list.items ≡ c.args.processes.now.list.items = c.prepare.ensures.same_processes in
+    let within : c.args.place < length c.prepare.new.processes.list.items = rw same c.requires.calling.within in
+    record {
+      in_order = rw c.push_reserved.ensures.items
+          (pushed_in_order c.prepare.new.processes.list.items c.args.place c.index_mut.result.now _ _
+          (read_at c.prepare.new.processes.list.items c.args.place c.index_mut.result.now within c.index_mut.ensures.value) refl
+          c.prepare.new.processes.in_order (λ k there. rw c.end_of_koids-pid.ensures (c.requires.given k (rw same at there))));
+    }
+
 pub returns-in_default-clause-does : goal.returns-in_default-clause-does
-returns-in_default-clause-does c = λ caller there. wants_memory c.args.library.now c.args.processes.now.items c.prepare.new.processes.items
+returns-in_default-clause-does c = λ caller there. wants_memory c.args.library.now c.args.processes.now.list.items c.prepare.new.processes.list.items
     c.args.objects.now c.args.blocked.now.items c.prepare.new.blocked.items
     c.args.place c.args.job c.args.program c.prepare.ensures.same_processes c.prepare.ensures.same_blocked c.index.result.now c.index.ensures
     c.in_ok-job.ensures.refusal caller there
-    c.args.objects.now refl c.prepare.new.processes.items refl
+    c.args.objects.now refl c.prepare.new.processes.list.items refl
 
 pub returns-in-Err-clause-does : goal.returns-in-Err-clause-does
-returns-in-Err-clause-does c = λ caller there. not_made c.args.library.now c.args.processes.now.items c.prepare.new.processes.items c.args.objects.now
+returns-in-Err-clause-does c = λ caller there. not_made c.args.library.now c.args.processes.now.list.items c.prepare.new.processes.list.items c.args.objects.now
     c.args.blocked.now.items c.prepare.new.blocked.items
     c.args.place c.args.job c.args.program c.prepare.ensures.same_processes c.prepare.ensures.same_blocked c.index.result.now c.index.ensures
     c.in_ok-job.ensures.refusal caller there

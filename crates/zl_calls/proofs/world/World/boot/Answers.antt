@@ -5,14 +5,17 @@ use Rattle.zl_calls.proofs.Common.{arith, world_blocked}
 use Rattle.zl_calls.proofs.booting.BootBlocked.{booted_boots, booted_sound, none_blocked}
 use Rattle.zl_calls.proofs.world.World.boot.Goals as goal
 
-boots : (c : goal.After-len-2) → IsBoot c.args.library c.args.boot.now.statements.items
+boots : (c : goal.After-result-1) → IsBoot c.args.library c.args.boot.now.statements.items
     (world_blocked c.in_ok-processes.field-0.processes.items c.in_ok-processes.field-0.objects c.in-Ok.blocked.items)
 boots c = booted_boots c.args.library c.args.boot.now.statements.items c.in_ok-processes.field-0.processes.items c.in_ok-processes.field-0.objects
     c.in-Ok.blocked.items
     c.in_ok-processes.ensures.ok c.in_ok-processes.ensures.unwatched ((c.in-Ok.ensures {u = tt}).items)
 
 pub invariant_of-result : goal.invariant_of-result
-invariant_of-result c = record {
+invariant_of-result c = record { in_order = c.in_ok-processes.ensures.consistent.processes_in_order }
+
+pub invariant_of-result-2 : goal.invariant_of-result-2
+invariant_of-result-2 c = record {
   consistent = c.in_ok-processes.ensures.consistent;
   sound =
       booted_sound c.args.library c.args.boot.now.statements.items c.in_ok-processes.field-0.processes.items c.in_ok-processes.field-0.objects

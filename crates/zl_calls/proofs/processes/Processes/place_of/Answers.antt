@@ -3,14 +3,16 @@ use Rattle.std.proofs.lemmas.List.Sorted.{answers_always}
 use Rattle.zl_calls.specs.declared.process.Process.{Process}
 use Rattle.zl_calls.proofs.lists.Searching.{searched}
 use Rattle.zl_calls.proofs.processes.Written.{place_is}
-use Rattle.zl_calls.proofs.stepping.place_of.Goals as goal
+use Rattle.zl_calls.proofs.processes.Processes.place_of.Goals as goal
 
 -- the closure gives a process's pid
 pub returns-clause-first : goal.returns-clause-first
 returns-clause-first c =
     let facts = c.binary_search_by_key.ensures in
     let by_pid = facts.position (λ p. p.pid) (answers_always _ _ _ (λ f a r g called. search rules)) in
-    c.ok.ensures.value ∙ searched (λ (p : Process). p.pid) process_value c.args.pid c.args.processes.now _ c.requires.in_order facts.bound by_pid
+    rw (← c.deref.ensures.value)
+    (c.ok.ensures.value ∙ searched (λ (p : Process). p.pid) process_value c.args.pid c.deref.result.now _
+    (rw c.deref.ensures.value c.args.self.now.in_order) facts.bound by_pid)
 
 pub returns-clause-found : goal.returns-clause-found
-returns-clause-found c = place_is c.args.processes.now c.args.pid c.ok.result (returns-clause-first c)
+returns-clause-found c = place_is c.args.self.now.list.items c.args.pid c.ok.result (returns-clause-first c)

@@ -1,0 +1,48 @@
+-- Words for contracts over all processes, their objects and the list of the blocked, and what is true before a call. No public clause cites this module.
+use Rattle.std.specs.Prelude.{ℕ, ◌≡◌, ◌<◌, ◌≤◌, true, List, length, map, Some, IsTrue, slice_get}
+use Rattle.std.specs.Global.{Vec}
+use Rattle.std.specs.Vec.{vec_capacity}
+use Rattle.zl_code.specs.Common.{World, has_key}
+use Rattle.zl_rights.specs.Signals.{is_ready}
+use Rattle.zl_objects.specs.Objects.{Objects}
+use Rattle.zl_calls.specs.Registered.{world_left}
+use Rattle.zl_calls.specs.World.{process_entry, state_value, world_blocked}
+use Rattle.zl_calls.specs.calls.Task.{AreBare, Parts, parts}
+use Rattle.zl_calls.specs.declared.process.Process.{Process}
+use Rattle.zl_calls.specs.declared.processes.Processes.{Processes}
+
+-- ---- words
+
+-- this is true of the process at the place
+abbrev pub AtPlace : Processes → ℕ → (Process → Type 0) → Type 0
+AtPlace ps place P = (p : Process) → slice_get ps.list.items place ≡ Some p → P p
+
+-- all that a call can reach
+abbrev pub parts_in : Processes → Objects → Vec ℕ → Parts
+parts_in ps r blocked = parts ps.list.items r blocked.items
+
+-- the world of these
+abbrev pub world_in : Processes → Objects → Vec ℕ → World
+world_in ps r blocked = world_blocked ps.list.items r blocked.items
+
+-- the world that a step leaves, where these block
+abbrev pub left_in : Processes → Objects → List ℕ → World
+left_in ps r blocked = world_left ps.list.items r blocked
+
+-- where the list of the blocked had room for each process, it still has
+abbrev pub KeepsRoom : Processes → Vec ℕ → Processes → Vec ℕ → Type 0
+KeepsRoom ps blocked ps2 blocked2 = length ps.list.items ≤ vec_capacity blocked → length ps2.list.items ≤ vec_capacity blocked2
+
+-- ---- before a call
+
+-- the process at the place is there and ready, and none that was made and not started has a handle
+pub record IsCalling (processes : List Process) (place : ℕ) : Type 0 where
+  pub within : place < length processes
+  pub ready : (caller : Process) → slice_get processes place ≡ Some caller → is_ready (state_value caller.state) ≡ true
+  pub bare : AreBare processes
+
+-- the same, where no more processes block than there are, and each has a koid that was given
+pub record MayCall (all : Parts) (place : ℕ) : Type 0 where
+  pub calling : IsCalling all.processes place
+  pub few : length all.blocked ≤ length all.processes
+  pub given : (k : ℕ) → IsTrue (has_key (map process_entry all.processes) k) → k < all.objects.next_koid

@@ -64,7 +64,7 @@ LOCALS = [
 CALLS = [
     Row(64, "close", "wc", wants=wants("any -")),
     Row(65, "dup", "whw", "n", wants("any DUPLICATE"), grows=True),
-    Row(66, "replace", "wcw", "n", wants("any -"), grows=True),
+    Row(66, "replace", "wcw", "n", wants("any -")),
     Row(67, "chan_create", "www", condition="NEW_CHANNEL", grows=True),
     Row(68, "chan_write", "whrr", "l", wants("channel WRITE, any TRANSFER"), grows=True),
     Row(69, "chan_read_etc", "whrrwwf", "m", wants("channel READ"), grows=True),

@@ -10,6 +10,7 @@ from runs import read_trace, without_turns
 
 TOP = Path(__file__).resolve().parent.parent
 FOLDERS = ("examples", "tests/cases", "tests/hints", "tests/tools")
+NO_INPUTS = (".args", ".stdout", ".stderr", ".last", ".refused")
 # Larger inputs are left out: what is slow is timed by bench.
 MOST_BYTES = 20_000
 NUMBERS = (0, 1, 2, 3, 4, 7, 8, 9, 15, 16, 31, 32, 63, 64, 65, 127, 128, 255, 256, 257, 1000, 1024, 4095, 4096, 4097,
@@ -47,7 +48,7 @@ def corpus():
     """All inputs of the cases and examples."""
     found, words = Corpus(), set()
     for path in sorted(path for name in FOLDERS for path in (TOP / name).rglob("*")):
-        if not path.is_file() or path.suffix in (".args", ".stdout", ".stderr", ".last") or path.name == "README.md" \
+        if not path.is_file() or path.suffix in NO_INPUTS or path.name == "README.md" \
                 or path.stat().st_size > MOST_BYTES:
             continue
         content = path.read_bytes()

@@ -1,0 +1,42 @@
+"""Cases: an input, and what stands beside it; for tests/try-cases, which says what these are, and tests/try-memory."""
+from assembler import assemble
+
+STATUSES = {"refused": 1, "wrong_words": 2, "failing_files": 3, "no_memory": 4,
+            "status_1": 1, "status_2": 2, "status_3": 3}
+BESIDE = [".args", ".stdout", ".stderr", ".scenario", ".last", ".refused"]
+
+
+def cases_in(folders):
+    """The inputs in the folders and below them, by names that no two of them share."""
+    cases = {}
+    for folder in folders:
+        for path in sorted(folder.rglob("*")):
+            if path.is_file() and path.suffix not in BESIDE and path.name != "README.md":
+                name = f"{path.parent.name}-{path.name}"
+                if name in cases:
+                    raise SystemExit(f"cases: {path} and {cases[name]} have one name")
+                cases[name] = path
+    return cases
+
+
+def beside(path, ending):
+    return path.with_name(path.name + ending)
+
+
+def content(path):
+    """The bytes of an input; of a text that is to be checked, those of its image."""
+    words = beside(path, ".args")
+    if path.suffix == ".zasm" and words.exists() and words.read_text().startswith("check\n"):
+        return assemble(path.read_text())
+    return path.read_bytes()
+
+
+def words_of(path):
+    """The words of the command line; `{}` among them stands for the input."""
+    words = beside(path, ".args")
+    return words.read_text().splitlines() if words.exists() else []
+
+
+def status_of(path):
+    """The status with which the program has to end."""
+    return STATUSES.get(path.parent.name, 0)

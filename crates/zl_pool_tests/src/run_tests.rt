@@ -1,6 +1,6 @@
 //! Runs on worker threads. Each test asserts what every order of workers gives.
 
-use crate::systems::{CALLS, COUNTS, EXITS, FIRST, KILLS, booted, library, statements};
+use crate::systems::{CALLS, COUNTS, EXITS, FIRST, KILLS, booted, library, statements, told};
 use std::alloc::Global;
 use std::sync::Wait;
 use std::sync::atomic::{AtomicU64, Ordering};
@@ -12,8 +12,8 @@ use zl_code::{Boot, ProcState, TraceItem};
 use zl_interp::{Done, Turn, burst};
 use zl_pool::{Desk, Direct, Gate, RunEnd, run, work};
 use zl_rights::Pid;
-use zl_sched::{End, Fake, HandIn, System};
-use zl_trace::{empty_block, replay, text};
+use zl_sched::{Fake, HandIn, System};
+use zl_trace::replay;
 
 /// A gate that holds the burst of the first process until that of the second was begun twice, and the
 /// second burst of the second until that of the first was begun; each for so many sleeps at most.
@@ -53,10 +53,7 @@ const MEETING: (&[&str], &[u64]) = (&[EXITS, KILLS], &[5, 0]);
 
 /// The system of two processes of which the second kills the first, behind the gate that crosses their
 /// bursts.
-fn run_crossing<R: Threads + Wait + Clock + Sync>(
-    rt: &R,
-    alloc: Global,
-) -> Result<(System, End), Fail> {
+fn run_crossing<R: Threads + Wait + Clock + Sync>(rt: &R, alloc: Global) -> Result<System, Fail> {
     let system = booted(alloc, MEETING.0, MEETING.1, 100)?;
     let gate = Crossing {
         rt,
@@ -69,18 +66,15 @@ fn run_crossing<R: Threads + Wait + Clock + Sync>(
         return Err(Fail::from("a worker waited in vain"));
     }
     match end {
-        RunEnd::Quiet => Ok((system, End::Quiet)),
+        RunEnd::Quiet => Ok(system),
         RunEnd::Limit | RunEnd::NoMemory | RunEnd::Mixed => Err(Fail::from("the run isn't quiet")),
     }
 }
 
 #[test]
 fn two_workers_are_at_work_at_once(rt: HostRuntime) -> Result<(), Fail> {
-    let (system, end) = run_crossing(&rt, rt.alloc())?;
-    let mut written = Vec::new(rt.alloc());
-    text(&system, end, &mut empty_block(rt.alloc())?, &mut written)
-        .ok()
-        .ok_or("memory was refused")?;
+    let system = run_crossing(&rt, rt.alloc())?;
+    let written = told(rt.alloc(), &system)?;
     let wanted: &str = "3 task_kill OK
 3 process_exit ended 0
 process 2 ended -1024
@@ -93,7 +87,7 @@ end quiet
 
 #[test]
 fn what_workers_did_is_replayed(rt: HostRuntime) -> Result<(), Fail> {
-    let (system, _) = run_crossing(&rt, rt.alloc())?;
+    let system = run_crossing(&rt, rt.alloc())?;
     let boot = Boot {
         statements: statements(rt.alloc(), 2, MEETING.1)?,
         limit: 100,
@@ -197,6 +191,67 @@ fn a_worker_ends_where_memory_is_refused(rt: HostRuntime) -> Result<(), Fail> {
         (7, (3, true)),
     ] {
         assert_eq!(rt; refused(&rt, rt.alloc(), calls)?, left, "{calls} calls");
+    }
+    Ok(())
+}
+
+/// What a run makes of what a worker left to which memory was refused behind so many requests: three calls
+/// of process 2, beside which process 3 exits.
+fn gone_on<R: Threads + Wait + Sync>(rt: &R, alloc: Global, calls: u32) -> Result<Vec<u8>, Fail> {
+    let system = booted(alloc, &[CALLS, EXITS], &[0, 7], 100)?;
+    let desk = Desk::new(Fake { system, calls });
+    work(rt, &desk, &Direct, 256);
+    let fake = desk.kernel.into_inner();
+    let (system, _) = run(rt, fake.system, 1, &Direct);
+    told(alloc, &system)
+}
+
+/// Each in its turn: as if memory had not been refused.
+const IN_TURN: &str = "2 close OK
+3 process_exit ended 7
+2 close OK
+2 process_exit ended 0
+process 2 ended 0
+process 3 ended 7
+end quiet
+";
+
+/// The first burst of process 2 was refused, and it comes behind process 3.
+const FIRST_LATER: &str = "3 process_exit ended 7
+2 close OK
+2 close OK
+2 process_exit ended 0
+process 2 ended 0
+process 3 ended 7
+end quiet
+";
+
+/// That of process 3 was refused, and it comes behind process 2.
+const SECOND_LATER: &str = "2 close OK
+2 close OK
+3 process_exit ended 7
+2 process_exit ended 0
+process 2 ended 0
+process 3 ended 7
+end quiet
+";
+
+/// Requests are made in turn by taking a process out and by handing in what it did.
+#[test]
+fn a_run_goes_on_where_memory_was_refused(rt: HostRuntime) -> Result<(), Fail> {
+    for (calls, wanted) in [
+        (0, IN_TURN),
+        (1, FIRST_LATER),
+        (2, IN_TURN),
+        (3, SECOND_LATER),
+        (4, IN_TURN),
+        (5, IN_TURN),
+        (6, IN_TURN),
+        (7, IN_TURN),
+        (8, IN_TURN),
+    ] {
+        let trace = gone_on(&rt, rt.alloc(), calls)?;
+        assert_eq!(rt; trace.as_slice(), wanted.as_bytes(), "{calls} calls");
     }
     Ok(())
 }

@@ -6,7 +6,8 @@ use zl_asm::assemble_bytes;
 use zl_code::{Boot, Grant, Grants, Statement};
 use zl_interp::{Library, Program};
 use zl_rights::{Koid, Pid};
-use zl_sched::System;
+use zl_sched::{End, System};
+use zl_trace::{empty_block, text};
 
 const ROOT: Koid = 1;
 
@@ -95,4 +96,13 @@ pub fn booted(alloc: Global, texts: &[&str], words: &[u64], limit: u64) -> Resul
         Ok(system) => Ok(system),
         Err(_) => Err(Fail::from("the boot is refused")),
     }
+}
+
+/// What the trace of the system says, and what each process is in.
+pub fn told(alloc: Global, system: &System) -> Result<Vec<u8>, Fail> {
+    let mut written = Vec::new(alloc);
+    text(system, End::Quiet, &mut empty_block(alloc)?, &mut written)
+        .ok()
+        .ok_or("memory was refused")?;
+    Ok(written)
 }

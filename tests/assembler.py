@@ -55,7 +55,7 @@ def instruction(name, operands, labels):
 def assemble(text):
     """The image of the text."""
     raw, memory, budget, needs, starts, slots, labels, code = 0, 0, 1, 0, [], [], {}, []
-    for line in text.splitlines():
+    for line in text.split("\n"):
         words = re.split(r"[ ,]+", line.split(";")[0].strip(" "))
         name, operands = words[0], words[1:]
         if name == ".raw":

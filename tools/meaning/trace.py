@@ -12,6 +12,7 @@ MOST_ITEMS = 1000000
 NUMBER = r"(?:0|[1-9][0-9]{0,19})"
 RUN = re.compile(rf"({NUMBER}) +run +([1-9][0-9]{{0,9}})")
 STUCK = re.compile(rf"({NUMBER}) +stuck")
+MOST_PID = 2**64 - 1
 CALL = re.compile(rf"({NUMBER}) +([a-z_]+) +([A-Z_]+|blocked|ended +(?:0|-?[1-9][0-9]*))")
 
 
@@ -33,12 +34,12 @@ class Item:
 def item_in(line, place):
     """The item of a line."""
     text = line.strip(" ")
-    if found := RUN.fullmatch(text):
+    if (found := RUN.fullmatch(text)) and int(found[1]) <= MOST_PID:
         return Item(place, int(found[1]), "run", int(found[2]))
-    if found := STUCK.fullmatch(text):
+    if (found := STUCK.fullmatch(text)) and int(found[1]) <= MOST_PID:
         return Item(place, int(found[1]), "stuck")
     found = CALL.fullmatch(text)
-    if found and found[2] in BY_NAME and BY_NAME[found[2]].is_call:
+    if found and int(found[1]) <= MOST_PID and found[2] in BY_NAME and BY_NAME[found[2]].is_call:
         outcome = " ".join(found[3].split())
         if outcome[0].islower() or outcome in STATUSES:
             return Item(place, int(found[1]), found[2], outcome=outcome)

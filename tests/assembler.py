@@ -11,6 +11,7 @@ CALLS = {
     "wait_async": (75, 5), "port_create": (76, 2), "port_queue": (77, 4), "port_wait": (78, 6),
     "port_poll": (79, 6), "port_cancel": (80, 4), "process_create": (81, 4), "process_start": (82, 4),
     "process_exit": (83, 1), "task_kill": (84, 2), "job_create": (85, 3), "job_set_policy": (86, 5),
+    "eventpair_create": (87, 3),
 }
 # Opcode, registers, and what stands behind these: a number, a target, a list of handles.
 ROWS = {
@@ -22,8 +23,8 @@ ROWS = {
     "jlt": (22, 1, "n", "t"), "jge": (23, 1, "n", "t"), "jhas": (24, 1, "n", "t"),
     "jnhas": (25, 1, "n", "t"), **CALLS,
 }
-KINDS = {"any": 0, "process": 1, "channel": 4, "event": 5, "port": 6, "job": 17}
-NEEDS = {"NEW_CHANNEL": 1, "NEW_EVENT": 2, "NEW_PORT": 8, "NEW_PROCESS": 16}
+KINDS = {"any": 0, "process": 1, "channel": 4, "event": 5, "port": 6, "eventpair": 16, "job": 17}
+NEEDS = {"NEW_CHANNEL": 1, "NEW_EVENT": 2, "NEW_EVENTPAIR": 4, "NEW_PORT": 8, "NEW_PROCESS": 16}
 
 
 def number(word):

@@ -69,7 +69,7 @@ def checked_processes(scenario):
         elif words[0] == "program":
             opening = words
         else:
-            koid += {"job": 1, "event": 1, "port": 1, "process": 1, "channel": 2}.get(words[0], 0)
+            koid += {"job": 1, "event": 1, "port": 1, "process": 1, "channel": 2, "eventpair": 2}.get(words[0], 0)
             if words[0] == "process" and programs[int(words[2])] is not None:
                 found[koid] = programs[int(words[2])]
     return found

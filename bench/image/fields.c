@@ -19,6 +19,7 @@ static const uint8_t used[256] = {
     [64] = 3, [65] = 4, [66] = 4, [67] = 4, [68] = 5, [69] = 8, [70] = 3, [71] = 5, [72] = 5,
     [73] = 5, [74] = 5, [75] = 6, [76] = 3, [77] = 5, [78] = 7, [79] = 7, [80] = 5, [81] = 5,
     [82] = 5, [83] = 2, [84] = 3, [85] = 4, [86] = 6,
+    [87] = 4,
 };
 
 /* What stands in the last eight bytes. */
@@ -69,6 +70,7 @@ static uint32_t allowed(uint8_t kind) {
     case 4: return 61454;
     case 5: return 53251;
     case 6: return 32783;
+    case 16: return 61443;
     case 17: return 251407;
     default: return 0;
     }
@@ -89,7 +91,7 @@ static unsigned check(const uint8_t *bytes, size_t size) {
     const uint8_t *at = bytes + HEADER;
     if (count > 4096 || word(bytes + 8) > 65536 || word(bytes + 12) - 1 >= 1000000)
         return 0;
-    if ((bytes[16] & ~0x1b) != 0 || starts > 7 || slots > 8 || bytes[19] != 0)
+    if ((bytes[16] & ~0x1f) != 0 || starts > 7 || slots > 8 || bytes[19] != 0)
         return 0;
     if (size != HEADER + DECLARATION * (starts + slots) + INSTR * (size_t)count)
         return 0;

@@ -1,7 +1,7 @@
 """The world before the first turn, by the statements of a scenario that the lab doesn't refuse."""
 from meaning.calls import set_policy, start
 from meaning.numbers import DEFAULT_RIGHTS
-from meaning.objects import Entry
+from meaning.objects import PAIRS, Entry
 from meaning.scenario import handle_in
 from meaning.trouble import Trouble
 from meaning.world import World
@@ -24,8 +24,8 @@ def do(world, words):
     """One statement."""
     if words[0] in ("event", "port"):
         world.make(words[0])
-    elif words[0] == "channel":
-        world.make_channel()
+    elif words[0] in PAIRS:
+        world.make_pair(words[0])
     elif words[0] == "job":
         world.make_job(int(words[1]))
     elif words[0] == "policy":

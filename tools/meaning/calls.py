@@ -142,12 +142,14 @@ def replace(request, done):
 # ---- channels
 
 
-def chan_create(request, done):
-    ends = request.world.make_channel()
-    values = [new_handle(request, first_entry(end, "channel")) for end in ends]
-    first, second = register_of(request, 1), register_of(request, 2)
-    done.about.append(f"{first} gets channel {ends[0]}, {second} its peer {ends[1]}")
-    finish(request, done, *values)
+def new_pair(kind):
+    def create(request, done):
+        ends = request.world.make_pair(kind)
+        values = [new_handle(request, first_entry(end, kind)) for end in ends]
+        first, second = register_of(request, 1), register_of(request, 2)
+        done.about.append(f"{first} gets {kind} {ends[0]}, {second} its peer {ends[1]}")
+        finish(request, done, *values)
+    return create
 
 
 def message_text(world, message):
@@ -361,11 +363,11 @@ def job_set_policy(request, done):
 
 
 EFFECTS = {
-    "close": close, "dup": dup, "replace": replace, "chan_create": chan_create, "chan_write": chan_write,
+    "close": close, "dup": dup, "replace": replace, "chan_create": new_pair("channel"), "chan_write": chan_write,
     "chan_read_etc": chan_read_etc, "event_create": new_object("event"), "signal": signal,
     "signal_peer": signal_peer, "wait_one": wait_one, "wait_poll": wait_poll, "wait_async": wait_async,
     "port_create": new_object("port"), "port_queue": port_queue, "port_wait": port_wait,
     "port_poll": take_packet, "port_cancel": port_cancel, "process_create": process_create,
     "process_start": process_start, "process_exit": process_exit, "task_kill": task_kill,
-    "job_create": job_create, "job_set_policy": job_set_policy,
+    "job_create": job_create, "job_set_policy": job_set_policy, "eventpair_create": new_pair("eventpair"),
 }

@@ -70,7 +70,7 @@ CALLS = [
     Row(69, "chan_read_etc", "whrrwwf", "m", wants("channel READ"), grows=True),
     Row(70, "event_create", "ww", condition="NEW_EVENT", grows=True),
     Row(71, "signal", "whrr", wants=wants("any SIGNAL")),
-    Row(72, "signal_peer", "whrr", wants=wants("channel SIGNAL_PEER")),
+    Row(72, "signal_peer", "whrr", wants=wants("channel|eventpair SIGNAL_PEER")),
     Row(73, "wait_one", "whrw", wants=wants("any WAIT")),
     Row(74, "wait_poll", "whrw", wants=wants("any WAIT")),
     Row(75, "wait_async", "whhrr", wants=wants("any WAIT, port WRITE"), grows=True),
@@ -85,6 +85,7 @@ CALLS = [
     Row(84, "task_kill", "wh", wants=wants("process|job DESTROY")),
     Row(85, "job_create", "whw", wants=wants("job MANAGE_JOB"), grows=True),
     Row(86, "job_set_policy", "whrrr", wants=wants("job SET_POLICY")),
+    Row(87, "eventpair_create", "www", condition="NEW_EVENTPAIR", grows=True),
 ]
 BY_NAME = {row.name: row for row in LOCALS + CALLS}
 BY_OPCODE = {row.opcode: row for row in LOCALS + CALLS}

@@ -10,8 +10,9 @@ from meaning.scenario import is_skipped, words_of
 from meaning.texts import number
 from meaning.trouble import Trouble
 
-OWNERS = {"READABLE": "CHANNEL", "WRITABLE": "CHANNEL", "PEER_CLOSED": "CHANNEL", "SIGNALED": "EVENT",
-          "TERMINATED": "TASK", "NO_JOBS": "JOB", "NO_PROCESSES": "JOB"}
+# What Zircon's names of signals begin with, of some there are two.
+OWNERS = {"READABLE": ("CHANNEL",), "WRITABLE": ("CHANNEL",), "PEER_CLOSED": ("CHANNEL", "EVENTPAIR"),
+          "SIGNALED": ("EVENT", "EVENTPAIR"), "TERMINATED": ("TASK",), "NO_JOBS": ("JOB",), "NO_PROCESSES": ("JOB",)}
 # Each family of names: its numbers, and the front of Zircon's names.
 FAMILIES = {
     "right": (RIGHTS | {"KNOWN_RIGHTS": KNOWN_RIGHTS, "SAME_RIGHTS": SAME_RIGHTS}, "ZX_RIGHT_"),
@@ -26,16 +27,18 @@ IN_ZIRCON = {"USER_SIGNALS": "ZX_USER_SIGNAL_ALL", "OK": "ZX_OK"}
 NUMBER = re.compile(r"[0-9]{1,20}|0x[0-9a-fA-F]{1,16}")
 DEFINITION = re.compile(r"( *)(@\S+(?:, *@\S+)*) *= *(\S.*?)( *)")
 LABEL = re.compile(r"@[a-z][a-z0-9_]*")
-OBJECTS = {"job": 1, "event": 1, "port": 1, "channel": 2, "process": 1}
+OBJECTS = {"job": 1, "event": 1, "eventpair": 2, "port": 1, "channel": 2, "process": 1}
 
 
-def zircon_name(family, name):
+def zircon_names(family, name):
+    """Zircon's names of it; of a signal that objects of two kinds have, the one of either."""
     if name in IN_ZIRCON:
-        return IN_ZIRCON[name]
+        return [IN_ZIRCON[name]]
     if name.startswith("USER_"):
-        return "ZX_USER_SIGNAL_" + name[5:]
+        return ["ZX_USER_SIGNAL_" + name[5:]]
     front = FAMILIES[family][1]
-    return front + (f"{OWNERS[name]}_" if family == "signal" else "") + name.upper()
+    owners = [f"{owner}_" for owner in OWNERS[name]] if family == "signal" else [""]
+    return [front + owner + name.upper() for owner in owners]
 
 
 def all_names():
@@ -43,8 +46,8 @@ def all_names():
     names = {}
     for family, (numbers, _) in FAMILIES.items():
         for name, given in numbers.items():
-            names.setdefault(name, {})[family] = given
-            names.setdefault(zircon_name(family, name), {})[family] = given
+            for one in (name, *zircon_names(family, name)):
+                names.setdefault(one, {})[family] = given
     return names
 
 
@@ -105,7 +108,7 @@ class Names:
 
     def refuse_both(self, word, families):
         told = " and ".join(f"a {family} ({NAMES[word][family]})" for family in families if word in NAMES)
-        better = " or ".join(zircon_name(family, word) for family in families if word in NAMES)
+        better = " or ".join(zircon_names(family, word)[0] for family in families if word in NAMES)
         self.fail(f"{word} is {told}: write {better}")
 
 

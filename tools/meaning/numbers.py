@@ -7,10 +7,12 @@ RIGHTS = {
 }
 KNOWN_RIGHTS = sum(RIGHTS.values())
 SAME_RIGHTS = 1 << 31
-KINDS = {"process": 1, "channel": 4, "event": 5, "port": 6, "job": 17}
+KINDS = {"process": 1, "channel": 4, "event": 5, "port": 6, "eventpair": 16, "job": 17}
 KIND_NAMES = {number: name for name, number in KINDS.items()}
 # The rights of the first handle of a new object.
-DEFAULT_RIGHTS = {"process": 184847, "channel": 61454, "event": 53251, "port": 32783, "job": 251407}
+DEFAULT_RIGHTS = {
+    "process": 184847, "channel": 61454, "event": 53251, "port": 32783, "eventpair": 61443, "job": 251407,
+}
 
 READABLE, WRITABLE, PEER_CLOSED = 1, 2, 4
 SIGNALED = TERMINATED = 8
@@ -25,6 +27,7 @@ SIGNALS = {
 SIGNALS_OF = {
     "channel": ("READABLE", "WRITABLE", "PEER_CLOSED"),
     "event": ("SIGNALED",),
+    "eventpair": ("PEER_CLOSED", "SIGNALED"),
     "process": ("TERMINATED",),
     "job": ("TERMINATED", "NO_JOBS", "NO_PROCESSES"),
     "port": (),
@@ -36,12 +39,12 @@ STATUSES = {
     "ACCESS_DENIED": 30,
 }
 CONDITIONS = {
-    "BAD_HANDLE": 0, "WRONG_OBJECT": 1, "NEW_ANY": 2, "NEW_CHANNEL": 3, "NEW_EVENT": 4, "NEW_PORT": 6,
-    "NEW_PROCESS": 7,
+    "BAD_HANDLE": 0, "WRONG_OBJECT": 1, "NEW_ANY": 2, "NEW_CHANNEL": 3, "NEW_EVENT": 4,
+    "NEW_EVENTPAIR": 5, "NEW_PORT": 6, "NEW_PROCESS": 7,
 }
 CONDITION_NAMES = {number: name for name, number in CONDITIONS.items()}
 # The conditions that NEW_ANY stands for, with their bits among the needs of an image.
-NEEDS = {"NEW_CHANNEL": 1, "NEW_EVENT": 2, "NEW_PORT": 8, "NEW_PROCESS": 16}
+NEEDS = {"NEW_CHANNEL": 1, "NEW_EVENT": 2, "NEW_EVENTPAIR": 4, "NEW_PORT": 8, "NEW_PROCESS": 16}
 ACTIONS = {"ALLOW": 0, "DENY": 1, "KILL": 2}
 ACTION_NAMES = {number: name for name, number in ACTIONS.items()}
 MODES = {"RELATIVE": 0, "ABSOLUTE": 1}

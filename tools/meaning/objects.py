@@ -123,6 +123,16 @@ class Channel(Object):
 
 
 @dataclass(eq=False)
+class EventPair(Object):
+    """One end of an event pair."""
+
+    peer: int = 0
+
+    def active(self, world):
+        return self.raised | (0 if self.peer in world.objects else PEER_CLOSED)
+
+
+@dataclass(eq=False)
 class Port(Object):
     """A port, and the waits whose packets are to come to it."""
 
@@ -181,4 +191,8 @@ class Process(Object):
         return f"ended {self.code}" if self.state == "ended" else self.state
 
 
-KINDS = {"event": Object, "channel": Channel, "port": Port, "job": Job, "process": Process}
+KINDS = {
+    "event": Object, "eventpair": EventPair, "channel": Channel, "port": Port, "job": Job, "process": Process,
+}
+# Objects of these kinds are made two at a time, each the other's peer.
+PAIRS = ("channel", "eventpair")

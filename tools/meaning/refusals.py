@@ -9,6 +9,8 @@ from meaning.numbers import (
 MOST_SIGNALS = 0xFFFFFFFF
 MOST_PACKETS = 2048
 MOST_DEPTH = 16
+# These carry SIGNALED too.
+SIGNALED_KINDS = ("event", "eventpair")
 
 
 @dataclass
@@ -119,14 +121,19 @@ def on_read(request):
     return first_of(("BUFFER_TOO_SMALL", small), ("NO_RESOURCES", has_no_room(request, len(message.entries))))
 
 
+def is_not_for_calls(request):
+    """A signal is to be cleared or set that no call changes at this kind."""
+    allowed = USER_SIGNALS | (SIGNALED if request.entry(1).kind in SIGNALED_KINDS else 0)
+    return (request.values[2] | request.values[3]) & ~allowed
+
+
 def on_signal(request):
-    allowed = USER_SIGNALS | (SIGNALED if request.entry(1).kind == "event" else 0)
-    return first_of(("INVALID_ARGS", (request.values[2] | request.values[3]) & ~allowed))
+    return first_of(("INVALID_ARGS", is_not_for_calls(request)))
 
 
 def on_signal_peer(request):
     return first_of(
-        ("INVALID_ARGS", (request.values[2] | request.values[3]) & ~USER_SIGNALS),
+        ("INVALID_ARGS", is_not_for_calls(request)),
         ("PEER_CLOSED", request.object(1).peer not in request.world.objects),
     )
 
@@ -237,5 +244,5 @@ LISTED = {
     "wait_one": on_wait, "wait_poll": on_wait_poll, "wait_async": on_wait_async, "port_create": on_new(1),
     "port_queue": on_port_queue, "port_poll": on_port_poll, "port_cancel": on_port_cancel,
     "process_create": on_process_create, "process_start": on_process_start, "job_create": on_job_create,
-    "job_set_policy": on_job_set_policy,
+    "job_set_policy": on_job_set_policy, "eventpair_create": on_new(2),
 }

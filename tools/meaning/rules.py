@@ -264,9 +264,10 @@ def results_of(bounds, one, state):
     targets = [register for register, use in zip(one.registers, one.row.fields) if use == WRITTEN]
     packet = [ANYTHING, Word(rounded(bounds, 1)), ANYTHING, ANYTHING]
     given = {
-        "chan_create": [new_handle("channel")] * 2, "event_create": [new_handle("event")],
-        "port_create": [new_handle("port")], "process_create": [new_handle("process")],
-        "job_create": [new_handle("job")], "wait_one": [Word(0xFFFFFFFF)], "wait_poll": [Word(0xFFFFFFFF)],
+        "chan_create": [new_handle("channel")] * 2, "eventpair_create": [new_handle("eventpair")] * 2,
+        "event_create": [new_handle("event")], "port_create": [new_handle("port")],
+        "process_create": [new_handle("process")], "job_create": [new_handle("job")],
+        "wait_one": [Word(0xFFFFFFFF)], "wait_poll": [Word(0xFFFFFFFF)],
         "port_wait": packet, "port_poll": packet, "chan_read_etc": [Word(65536), Word(64)],
     }.get(one.name, [])
     if one.name in ("dup", "replace"):

@@ -8,7 +8,7 @@ from meaning.texts import TextFault, assemble, bare
 from meaning.trouble import Trouble
 
 MOST_BYTES = 4194304
-BEGINS = ("program", "job", "policy", "event", "port", "channel", "process", "limit", "--")
+BEGINS = ("program", "job", "policy", "event", "eventpair", "port", "channel", "process", "limit", "--")
 
 
 @dataclass

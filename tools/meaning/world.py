@@ -5,7 +5,7 @@ It is this program's own model by the rules of docs/calls, not the lab's, and no
 from dataclasses import dataclass, field
 
 from meaning.numbers import KILLED, rights_text, signals_text
-from meaning.objects import KINDS, Packet
+from meaning.objects import KINDS, PAIRS, Packet
 
 ROOT = 1
 
@@ -71,9 +71,9 @@ class World:
         self.suspects.append(koid)
         return koid
 
-    def make_channel(self):
-        first = self.make("channel")
-        second = self.make("channel", peer=first)
+    def make_pair(self, kind):
+        first = self.make(kind)
+        second = self.make(kind, peer=first)
         self.objects[first].peer = second
         return first, second
 
@@ -171,8 +171,9 @@ class World:
     def drop(self, gone):
         """An object that nobody holds is gone, and what lies in it."""
         del self.objects[gone.koid]
-        if gone.kind == "channel":
+        if gone.kind in PAIRS:
             self.touch(gone.peer)
+        if gone.kind == "channel":
             for message in gone.queue:
                 for entry in message.entries:
                     if entry.koid in self.objects:

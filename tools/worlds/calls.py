@@ -1,8 +1,8 @@
-"""The 23 system calls, each with its refusals in their order (docs/ASSEMBLER.md#calls, docs/calls)."""
+"""The 24 system calls, each with its refusals in their order (docs/ASSEMBLER.md#calls, docs/calls)."""
 from .numbers import (
     ABSOLUTE, ACTIONS, ALLOW, BY_POLICY, CONDITIONS, DENY, DESTROY, DUPLICATE, KILL, KILLED, KINDS, MANAGE_JOB,
     MANAGE_PROCESS, MOST_DEPTH, MOST_HANDLES, MOST_USER_PACKETS, NEW_OBJECTS, READ, RELATIVE, SAME_RIGHTS,
-    SET_POLICY, SIGNAL, SIGNALED, SIGNAL_PEER, STATUSES, TRANSFER, USER_SIGNALS, WAIT, WRITE)
+    SET_POLICY, SIGNAL, SIGNALED, SIGNALED_KINDS, SIGNAL_PEER, STATUSES, TRANSFER, USER_SIGNALS, WAIT, WRITE)
 from .world import Awaited, Entry, Object, Packet, Wait
 
 
@@ -117,7 +117,7 @@ def replace(call):
 def chan_create(call):
     call.ask_policy("NEW_CHANNEL")
     call.want_room(2)
-    return tuple(call.insert_new(end) for end in call.world.make_channel())
+    return tuple(call.insert_new(end) for end in call.world.make_pair("channel"))
 
 
 def chan_write(call):
@@ -163,6 +163,20 @@ def event_create(call):
     return (call.insert_new(call.world.make(Object("event"))),)
 
 
+def eventpair_create(call):
+    call.ask_policy("NEW_EVENTPAIR")
+    call.want_room(2)
+    return tuple(call.insert_new(end) for end in call.world.make_pair("eventpair"))
+
+
+def masks_for(call, koid):
+    """The signals to be cleared and to be set, which calls have to be able to change at the object."""
+    clear, more = call.values[2:4]
+    may_change = USER_SIGNALS | (SIGNALED if call.world.objects[koid].kind in SIGNALED_KINDS else 0)
+    refuse_if((clear | more) & ~may_change, "INVALID_ARGS")
+    return clear, more
+
+
 def change_signals(call, koid, clear, more):
     call.world.change(koid, raised=call.world.objects[koid].raised & ~clear | more)
     return ()
@@ -170,19 +184,15 @@ def change_signals(call, koid, clear, more):
 
 def signal(call):
     koid = call.handle(1, SIGNAL).koid
-    clear, more = call.values[2:4]
-    may_change = USER_SIGNALS | (SIGNALED if call.world.objects[koid].kind == "event" else 0)
-    refuse_if((clear | more) & ~may_change, "INVALID_ARGS")
-    return change_signals(call, koid, clear, more)
+    return change_signals(call, koid, *masks_for(call, koid))
 
 
 def signal_peer(call):
-    koid = call.handle(1, SIGNAL_PEER, "channel").koid
-    clear, more = call.values[2:4]
-    refuse_if((clear | more) & ~USER_SIGNALS, "INVALID_ARGS")
+    koid = call.handle(1, SIGNAL_PEER, "channel", "eventpair").koid
+    masks = masks_for(call, koid)
     peer = call.world.objects[koid].peer
     refuse_if(peer not in call.world.objects, "PEER_CLOSED")
-    return change_signals(call, peer, clear, more)
+    return change_signals(call, peer, *masks)
 
 
 # ---- waits and ports
@@ -345,7 +355,7 @@ CALLS = {
     "port_cancel": (port_cancel, (), None), "process_create": (process_create, (3,), None),
     "process_start": (process_start, (), 2), "process_exit": (process_exit, (), None),
     "task_kill": (task_kill, (), None), "job_create": (job_create, (2,), None),
-    "job_set_policy": (job_set_policy, (), None),
+    "job_set_policy": (job_set_policy, (), None), "eventpair_create": (eventpair_create, (1, 2), None),
 }
 
 

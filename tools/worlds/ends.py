@@ -1,8 +1,8 @@
 """What an end of all orders is: the state of each process, who waits for what, and who could bring it."""
 from .cpu import FAR, ROUND
 from .numbers import (
-    DESTROY, NO_JOBS, NO_PROCESSES, PEER_CLOSED, READABLE, SIGNAL, SIGNALED, SIGNAL_PEER, TERMINATED, USER_SIGNALS,
-    WRITE, signals_named)
+    DESTROY, NO_JOBS, NO_PROCESSES, PEER_CLOSED, READABLE, SIGNAL, SIGNALED, SIGNALED_KINDS, SIGNAL_PEER, TERMINATED,
+    USER_SIGNALS, WRITE, signals_named)
 
 
 def end_name(world):
@@ -36,12 +36,14 @@ def changers(world, koid, mask):
     if thing is None:
         return set()
     pids = set()
-    if mask & (USER_SIGNALS | (SIGNALED if thing.kind == "event" else 0)):
+    by_calls = mask & (USER_SIGNALS | (SIGNALED if thing.kind in SIGNALED_KINDS else 0))
+    if by_calls:
         pids |= holders(world, koid, SIGNAL)
+    if thing.kind in ("channel", "eventpair"):
+        pids |= holders(world, thing.peer, 0) if mask & PEER_CLOSED else set()
+        pids |= holders(world, thing.peer, SIGNAL_PEER) if by_calls else set()
     if thing.kind == "channel":
         pids |= holders(world, thing.peer, WRITE) if mask & READABLE else set()
-        pids |= holders(world, thing.peer, 0) if mask & PEER_CLOSED else set()
-        pids |= holders(world, thing.peer, SIGNAL_PEER) if mask & USER_SIGNALS else set()
     elif thing.kind in ("process", "job"):
         pids |= killers(world, koid) if mask & (TERMINATED | NO_JOBS | NO_PROCESSES) else set()
         pids |= {pid for pid in world.processes if pid in world.objects and world.is_within(koid, pid)}

@@ -14,7 +14,7 @@ ROWS = {
     73: ("wait_one", 4), 74: ("wait_poll", 4), 75: ("wait_async", 5), 76: ("port_create", 2),
     77: ("port_queue", 4), 78: ("port_wait", 6), 79: ("port_poll", 6), 80: ("port_cancel", 4),
     81: ("process_create", 4), 82: ("process_start", 4), 83: ("process_exit", 1), 84: ("task_kill", 2),
-    85: ("job_create", 3), 86: ("job_set_policy", 5),
+    85: ("job_create", 3), 86: ("job_set_policy", 5), 87: ("eventpair_create", 3),
 }
 FIRST_CALL = 64
 KIND_NAMES = {0: None, **{number: name for name, number in KINDS.items()}}

@@ -6,15 +6,19 @@ SIGNAL, SIGNAL_PEER, WAIT = 1 << 12, 1 << 13, 1 << 14
 MANAGE_JOB, MANAGE_PROCESS = 1 << 16, 1 << 17
 SAME_RIGHTS = 1 << 31
 
-KINDS = {"process": 1, "channel": 4, "event": 5, "port": 6, "job": 17}
-DEFAULT_RIGHTS = {"process": 184847, "channel": 61454, "event": 53251, "port": 32783, "job": 251407}
+KINDS = {"process": 1, "channel": 4, "event": 5, "port": 6, "eventpair": 16, "job": 17}
+DEFAULT_RIGHTS = {"process": 184847, "channel": 61454, "event": 53251, "port": 32783, "eventpair": 61443,
+                  "job": 251407}
 
 READABLE, WRITABLE, PEER_CLOSED = 1 << 0, 1 << 1, 1 << 2
 SIGNALED, TERMINATED, NO_JOBS, NO_PROCESSES = 1 << 3, 1 << 3, 1 << 4, 1 << 5
 USER_SIGNALS = 255 << 24
+# These carry SIGNALED too.
+SIGNALED_KINDS = ("event", "eventpair")
 SIGNAL_NAMES = {
     "channel": {READABLE: "READABLE", WRITABLE: "WRITABLE", PEER_CLOSED: "PEER_CLOSED"},
     "event": {SIGNALED: "SIGNALED"},
+    "eventpair": {PEER_CLOSED: "PEER_CLOSED", SIGNALED: "SIGNALED"},
     "process": {TERMINATED: "TERMINATED"},
     "job": {TERMINATED: "TERMINATED", NO_JOBS: "NO_JOBS", NO_PROCESSES: "NO_PROCESSES"},
     "port": {},
@@ -27,11 +31,10 @@ STATUSES = {
 }
 
 CONDITIONS = {"BAD_HANDLE": 0, "WRONG_OBJECT": 1, "NEW_ANY": 2, "NEW_CHANNEL": 3, "NEW_EVENT": 4,
-              "NEW_PORT": 6, "NEW_PROCESS": 7}
-NEW_OBJECTS = [CONDITIONS[name] for name in ["NEW_CHANNEL", "NEW_EVENT", "NEW_PORT", "NEW_PROCESS"]]
+              "NEW_EVENTPAIR": 5, "NEW_PORT": 6, "NEW_PROCESS": 7}
+NEW_OBJECTS = [CONDITIONS[name] for name in ["NEW_CHANNEL", "NEW_EVENT", "NEW_EVENTPAIR", "NEW_PORT", "NEW_PROCESS"]]
 # The bits of an image's needs, by the condition that each one names.
-NEEDS = {0: CONDITIONS["NEW_CHANNEL"], 1: CONDITIONS["NEW_EVENT"], 3: CONDITIONS["NEW_PORT"],
-         4: CONDITIONS["NEW_PROCESS"]}
+NEEDS = dict(enumerate(NEW_OBJECTS))
 ACTIONS = {"ALLOW": 0, "DENY": 1, "KILL": 2}
 ALLOW, DENY, KILL = 0, 1, 2
 RELATIVE, ABSOLUTE = 0, 1

@@ -69,8 +69,8 @@ def do_statement(world, words):
     name, *rest = words
     if name in ("event", "port"):
         world.make(Object(name))
-    elif name == "channel":
-        world.make_channel()
+    elif name in ("channel", "eventpair"):
+        world.make_pair(name)
     elif name == "job":
         world.make_job(int(rest[0]))
     elif name == "policy":

@@ -42,8 +42,9 @@ class Object(NamedTuple):
     """An object; each kind uses its own fields."""
     kind: str
     raised: int = 0
-    # Of a channel's end: the other end, and the messages to be read here, as bytes and entries.
+    # Of an end of a channel or an event pair: the other end.
     peer: int = 0
+    # Of a channel's end: the messages to be read here, as bytes and entries.
     queue: tuple = ()
     # Of a port.
     packets: tuple = ()
@@ -145,9 +146,10 @@ class World:
     def change(self, koid, **fields):
         self.objects[koid] = self.objects[koid]._replace(**fields)
 
-    def make_channel(self):
-        first = self.make(Object("channel"))
-        second = self.make(Object("channel", peer=first))
+    def make_pair(self, kind):
+        """Two new ends, each the other's peer; their koids."""
+        first = self.make(Object(kind))
+        second = self.make(Object(kind, peer=first))
         self.change(first, peer=second)
         return first, second
 
@@ -192,6 +194,8 @@ class World:
         signals = thing.raised
         if thing.kind == "channel":
             signals |= (READABLE if thing.queue else 0) | (WRITABLE if thing.peer in self.objects else PEER_CLOSED)
+        elif thing.kind == "eventpair":
+            signals |= 0 if thing.peer in self.objects else PEER_CLOSED
         elif thing.kind == "process" and self.processes[koid].state == "ended":
             signals |= TERMINATED
         elif thing.kind == "job":

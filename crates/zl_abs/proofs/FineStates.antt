@@ -357,10 +357,7 @@ rights_fit o r h =
     most : (o : Option Kind) → rights_allowed o ≤ 0xffff_ffff
     most None = omega arith
     most (Some kind.Process) = omega arith
-    most (Some kind.Channel) = omega arith
-    most (Some kind.Event) = omega arith
-    most (Some kind.Port) = omega arith
-    most (Some kind.Job) = omega arith
+    most (Some _) = omega arith
 
 start_fits : (x : Start) → is_start_in_range x ≡ true → Fits (start_value x)
 start_fits x h = rights_fit x.kind (bits x.rights) h

@@ -17,5 +17,6 @@ kind_found n None found missing =
       ne_eqb 4 n (missing kind.Channel),
       ne_eqb 5 n (missing kind.Event),
       ne_eqb 6 n (missing kind.Port),
+      ne_eqb 16 n (missing kind.Eventpair),
       ne_eqb 17 n (missing kind.Job),
     ) refl

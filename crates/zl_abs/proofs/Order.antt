@@ -5,7 +5,7 @@ use Rattle.std.proofs.lemmas.Bool.Decides.{nat_tests, Decides-eqb}
 use Rattle.std.proofs.lemmas.Nat.{and_assoc, and_comm}
 use Rattle.std.specs.Int.Bits.{and_self}
 use Rattle.zl_rights.specs.declared.kind.Kind.{Kind}
-use Rattle.zl_rights.specs.declared.kind.Kind.TheVariants.{Process, Channel, Event, Port, Job}
+use Rattle.zl_rights.specs.declared.kind.Kind.TheVariants.{Process, Channel, Event, Port, Eventpair, Job}
 use Rattle.zl_rights.specs.declared.rights.Rights.{Rights}
 use Rattle.zl_rights.specs.Numbers.{bits, within, same_kind}
 use Rattle.zl_abs.specs.declared.value.AbsVal.{AbsVal}
@@ -15,21 +15,20 @@ use Rattle.zl_abs.specs.Laws.{IsAboveJoin, JoinIsAbove}
 
 pub same_kind_refl : (a : Kind) → same_kind a a ≡ true
 same_kind_refl Process = refl
-same_kind_refl Channel = refl
-same_kind_refl Event = refl
-same_kind_refl Port = refl
-same_kind_refl Job = refl
+same_kind_refl _ = refl
 
 pub same_kind_is : (a b : Kind) → same_kind a b ≡ true → a ≡ b
 same_kind_is Process Process h = refl
 same_kind_is Channel Channel h = refl
 same_kind_is Event Event h = refl
 same_kind_is Port Port h = refl
+same_kind_is Eventpair Eventpair h = refl
 same_kind_is Job Job h = refl
 same_kind_is Process _ h = cc
 same_kind_is Channel _ h = cc
 same_kind_is Event _ h = cc
 same_kind_is Port _ h = cc
+same_kind_is Eventpair _ h = cc
 same_kind_is Job _ h = cc
 
 pub both : (a b : Bool) → (a && b) ≡ true → (a ≡ true) × (b ≡ true)

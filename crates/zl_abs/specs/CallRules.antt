@@ -212,6 +212,7 @@ gives call.PortWait = packet
 gives call.PortPoll = packet
 gives call.ProcessCreate = makes (kind.Process ∷ [])
 gives call.JobCreate = makes (kind.Job ∷ [])
+gives call.EventpairCreate = makes (kind.Eventpair ∷ kind.Eventpair ∷ [])
 gives _ = nothing
 
 -- the values of the destinations that get it, by the value of the call's second register and its number

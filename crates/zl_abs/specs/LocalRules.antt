@@ -1,9 +1,8 @@
 -- The rules of the local instructions, row by row.
-use Rattle.std.specs.Prelude.{ℕ, ◌+◌, ◌-◌, ◌/◌, ◌^◌, Bool, true, false, ◌&&◌, not, ◌==◌, nat_lt, nat_le, List, [], ◌∷◌, map, Option, Some, None, Result, Ok, Err, if◌then◌else◌, slice_get, slice_set, bit_or}
+use Rattle.std.specs.Prelude.{ℕ, ◌+◌, ◌-◌, ◌/◌, ◌^◌, Bool, true, false, ◌&&◌, not, ◌==◌, nat_lt, nat_le, List, map, Option, Some, None, Result, Ok, Err, if◌then◌else◌, slice_get, slice_set, bit_or}
 use Rattle.std.specs.Option.{option_map}
 use Rattle.zl_rights.specs.declared.kind.Kind.{Kind}
-use Rattle.zl_rights.specs.declared.kind.Kind.TheVariants as kind
-use Rattle.zl_rights.specs.Numbers.{bits, rights_of, within, same_kind, KNOWN_RIGHTS}
+use Rattle.zl_rights.specs.Numbers.{all_kinds, bits, rights_of, within, same_kind, KNOWN_RIGHTS}
 use Rattle.zl_code.specs.declared.image.SlotArray.{SlotArray}
 use Rattle.zl_code.specs.declared.instr.LocalInstr.{LocalInstr}
 use Rattle.zl_code.specs.declared.instr.LocalInstr.TheVariants as local
@@ -117,7 +116,7 @@ swaps_in s a b (Some t) =
 
 -- the kind of this number
 abbrev pub kind_numbered : ℕ → Option Kind
-kind_numbered n = kind_among (kind.Process ∷ kind.Channel ∷ kind.Event ∷ kind.Port ∷ kind.Job ∷ []) n
+kind_numbered n = kind_among all_kinds n
 
 -- register r, with this value, turns out to be 0; nothing where it can't be
 abbrev pub known_zero : State → ℕ → AbsVal → Option State

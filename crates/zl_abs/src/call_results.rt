@@ -115,6 +115,7 @@ pub(crate) fn values_of(
         CallName::PortCancel | CallName::ProcessStart => status_and(STATUS),
         CallName::ProcessExit | CallName::TaskKill => status_and(STATUS),
         CallName::JobSetPolicy => status_and(STATUS),
+        CallName::EventpairCreate => status_and(new(Kind::Eventpair)),
     }
 }
 

@@ -26,6 +26,7 @@ fn takes(kinds: Kinds, known: Option<Kind>) -> bool
         Kinds::Any => true,
         Kinds::Only(kind) => is_kind(known, kind),
         Kinds::Tasks => is_kind(known, Kind::Process) || is_kind(known, Kind::Job),
+        Kinds::Ends => is_kind(known, Kind::Channel) || is_kind(known, Kind::Eventpair),
     }
 }
 

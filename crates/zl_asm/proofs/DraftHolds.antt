@@ -1,12 +1,12 @@
 -- What a draft holds after one line more.
 use Rattle.zl_asm.proofs.Common.{append-nil, ◌≡◌, ℕ, ◌+◌, Bool, true, false, ◌&&◌, ◌||◌, not, cond, List, [], ◌∷◌, ◌++◌, length, filter, ◌==◌, Some, None, refl}
-use Rattle.zl_asm.proofs.Common.{sym, ap, subst, ◌∙◌, true≢false, arith, flat_map, list_any, list_all, flat_map-append, eqb-true, list_all-append}
+use Rattle.zl_asm.proofs.Common.{sym, ap, subst, ◌∙◌, true≢false, arith, flat_map, list_any, list_all, flat_map-append, eq-eqb, eqb-true, list_all-append}
+use Rattle.zl_asm.proofs.Common.{or_left, or_right}
 use Rattle.zl_asm.proofs.Common.{condition_number, Image, needs_named, is_among, Line, Blank, Declares, Label, Code, Source, mark_in, memory_in, budget_in}
 use Rattle.zl_asm.proofs.Common.{need_in, start_in, slots_in, source_in, given, declares, is_body, directives_first, labels_from, position_of, names_once}
 use Rattle.zl_asm.proofs.Common.{IsGiven, Held, IsHeldOf, Holds}
 use Rattle.std.proofs.lemmas.List.Folds.{list_any-append}
 use Rattle.zl_rights.specs.declared.policy.Condition.{Condition}
-use Rattle.zl_rights.specs.declared.policy.Condition.TheVariants as condition
 use Rattle.zl_code.specs.Image.{can_be_needed}
 use Rattle.zl_code.specs.declared.image.Start.{Start}
 use Rattle.zl_code.specs.declared.image.SlotArray.{SlotArray}
@@ -123,17 +123,16 @@ swapped true false = refl
 swapped false true = refl
 swapped false false = refl
 
-abbrev choose : (channel event port process : Bool) → Condition → Bool
-choose channel event port process condition.NewChannel = channel
-choose channel event port process condition.NewEvent = event
-choose channel event port process condition.NewPort = port
-choose channel event port process condition.NewProcess = process
-choose channel event port process _ = false
+-- a filter goes by what its test says of the elements
+same_filter : (p q : Condition → Bool) (cs : List Condition) → ((c : Condition) → is_among cs c ≡ true → p c ≡ q c) → filter p cs ≡ filter q cs
+same_filter p q [] same = refl
+same_filter p q (c ∷ cs) same =
+    let rest : filter p cs ≡ filter q cs = same_filter p q cs (λ x among. same x (or_right (condition_number c == condition_number x) _ among)) in
+    λ i. cond (same c (or_left _ (is_among cs c) (eq-eqb (condition_number c) (condition_number c) refl)) i) (c ∷ rest i) (rest i)
 
 -- one need more
 needs-more : (xs : List Condition) (c : Condition) → needs_named (c ∷ needs_named xs) ≡ needs_named (xs ++ c ∷ [])
-needs-more xs c = λ i.
-    filter (choose (at condition.NewChannel refl i) (at condition.NewEvent refl i) (at condition.NewPort refl i) (at condition.NewProcess refl i)) can_be_needed
+needs-more xs c = same_filter (is_among (c ∷ needs_named xs)) (is_among (xs ++ c ∷ [])) can_be_needed at
   where
     at : (k : Condition) → is_among can_be_needed k ≡ true → is_among (c ∷ needs_named xs) k ≡ is_among (xs ++ c ∷ []) k
     at k can =

@@ -1,11 +1,14 @@
 -- The text of an image, piece by piece.
 use Rattle.zl_asm.proofs.Common.{◌≡◌, ℕ, suc, ◌+◌, ◌<◌, Bool, true, false, ◌||◌, cond, List, [], ◌∷◌, ◌++◌, codes, length, map, take, drop, get_or, refl, sym}
-use Rattle.zl_asm.proofs.Common.{ap, ◌∙◌, arith, IsTrue, append_assoc, append-nil, flat_map, list_any, flat_map-append, take_more, at_drop_more, condition_name}
+use Rattle.zl_asm.proofs.Common.{ap, ◌∙◌, arith, filter, IsTrue, append_assoc, append-nil, flat_map, list_any, flat_map-append, take_more, at_drop_more}
+use Rattle.zl_asm.proofs.Common.{condition_name}
 use Rattle.zl_asm.proofs.Common.{bits, Image, is_among, needs_named, instr_bytes, is_in_range, ranges, kind_text, label_text, directive_lines, is_target}
 use Rattle.zl_asm.proofs.Common.{aims_at, label_lines, instr_text, code_lines_from, code_lines, text_of, ended, fields_text, need_text, needs_text, start_text}
 use Rattle.zl_asm.proofs.Common.{slot_array_text, directives_text, line_text, TargetsAre, needs_named-needs, decimal}
 use Rattle.zl_rights.specs.declared.policy.Condition.{Condition}
 use Rattle.zl_rights.specs.declared.policy.Condition.TheVariants as condition
+use Rattle.zl_code.specs.Image.{can_be_needed}
+use Rattle.zl_asm.specs.Pieces.{need_if_among}
 use Rattle.zl_code.specs.declared.image.Start.{Start}
 use Rattle.zl_code.specs.declared.image.SlotArray.{SlotArray}
 
@@ -92,37 +95,23 @@ slot_array_ended s =
     ∙ ap (λ (x : List ℕ). decimal s.length ++ x) (append_assoc (codes " ") rights (codes "\n")))))
 
 -- the lines of the needs that are among some
-filtered_needs : (a b c d : Bool) → flat_map need_text
-    (cond a (condition.NewChannel
-    ∷ cond b (condition.NewEvent ∷ cond c (condition.NewPort ∷ cond d (condition.NewProcess ∷ []) []) (cond d (condition.NewProcess ∷ []) []))
-    (cond c (condition.NewPort ∷ cond d (condition.NewProcess ∷ []) []) (cond d (condition.NewProcess ∷ []) [])))
-    (cond b (condition.NewEvent ∷ cond c (condition.NewPort ∷ cond d (condition.NewProcess ∷ []) []) (cond d (condition.NewProcess ∷ []) []))
-    (cond c (condition.NewPort ∷ cond d (condition.NewProcess ∷ []) []) (cond d (condition.NewProcess ∷ []) []))))
-    ≡ cond a (need_text condition.NewChannel) []
-    ++ (cond b (need_text condition.NewEvent) [] ++ (cond c (need_text condition.NewPort) [] ++ cond d (need_text condition.NewProcess) []))
-filtered_needs true true true true = refl
-filtered_needs true true true false = refl
-filtered_needs true true false true = refl
-filtered_needs true true false false = refl
-filtered_needs true false true true = refl
-filtered_needs true false true false = refl
-filtered_needs true false false true = refl
-filtered_needs true false false false = refl
-filtered_needs false true true true = refl
-filtered_needs false true true false = refl
-filtered_needs false true false true = refl
-filtered_needs false true false false = refl
-filtered_needs false false true true = refl
-filtered_needs false false true false = refl
-filtered_needs false false false true = refl
-filtered_needs false false false false = refl
+filtered_needs : (needs cs : List Condition) → flat_map need_text (filter (λ c. is_among needs c) cs) ≡ flat_map (need_if_among needs) cs
+filtered_needs needs [] = refl
+filtered_needs needs (c ∷ cs) = by (is_among needs c) (filtered_needs needs cs)
+  where
+    by : (b : Bool) → flat_map need_text (filter (λ x. is_among needs x) cs) ≡ flat_map (need_if_among needs) cs
+        → flat_map need_text (cond b (c ∷ filter (λ x. is_among needs x) cs) (filter (λ x. is_among needs x) cs))
+        ≡ cond b (need_text c) [] ++ flat_map (need_if_among needs) cs
+    by true rest = ap (λ (x : List ℕ). need_text c ++ x) rest
+    by false rest = rest
 
 needs_ended : (needs : List Condition) → needs_named needs ≡ needs → ended (map (λ c. codes ".need " ++ condition_name c) needs) ≡ needs_text needs
 needs_ended needs same =
     mapped_ended (λ c. codes ".need " ++ condition_name c) need_text need_ended needs
     ∙ ap (flat_map need_text) (sym same)
-    ∙ filtered_needs (is_among needs condition.NewChannel) (is_among needs condition.NewEvent) (is_among needs condition.NewPort)
-    (is_among needs condition.NewProcess)
+    ∙ filtered_needs needs can_be_needed
+    ∙ (λ i. need_if_among needs condition.NewChannel ++ (need_if_among needs condition.NewEvent ++ (need_if_among needs condition.NewEventpair
+    ++ (need_if_among needs condition.NewPort ++ append-nil (need_if_among needs condition.NewProcess) i))))
 
 both_ended : (front back : List (List ℕ)) → ended (front ++ back) ≡ ended front ++ ended back
 both_ended front back = flat_map-append (λ line. line ++ codes "\n") front back

@@ -12,6 +12,7 @@ use Rattle.zl_rights.specs.Names.{kind_named, condition_named}
 use Rattle.zl_code.specs.declared.image.Start.{Start}
 use Rattle.zl_code.specs.declared.image.SlotArray.{SlotArray}
 use Rattle.zl_code.specs.Image.{need_if}
+use Rattle.zl_code.proofs.ImageNeeds.{needs_at}
 use Rattle.zl_asm.specs.declared.directive.Directive.TheVariants as directive
 use Rattle.zl_asm.proofs.RoundWords.{is_plain_word, words_of-space, words_of-alone}
 use Rattle.zl_asm.proofs.RoundNumbers.{number_of-decimal, plain-decimal}
@@ -74,6 +75,10 @@ event_said : IsSaid condition.NewEvent
 unfolding words_from line_of directive_of is_word condition_named
 event_said = record { printed = refl; said = refl }
 
+eventpair_said : IsSaid condition.NewEventpair
+unfolding words_from line_of directive_of is_word condition_named
+eventpair_said = record { printed = refl; said = refl }
+
 port_said : IsSaid condition.NewPort
 unfolding words_from line_of directive_of is_word condition_named
 port_said = record { printed = refl; said = refl }
@@ -86,9 +91,10 @@ said_if : (t : Bool) (c : Condition) (cs : List Condition) → IsSaid c → AllS
 said_if true c cs h more = (h, more)
 said_if false c cs h more = more
 
-flags_said : (c e p q : Bool)
-    → AllSaid (need_if c condition.NewChannel (need_if e condition.NewEvent (need_if p condition.NewPort (need_if q condition.NewProcess []))))
-flags_said c e p q = said_if c _ _ channel_said (said_if e _ _ event_said (said_if p _ _ port_said (said_if q _ _ process_said tt)))
+byte_said : (b : ℕ) → AllSaid (needs_at b)
+byte_said b =
+    said_if (b % 2 == 1) _ _ channel_said (said_if (b / 2 % 2 == 1) _ _ event_said (said_if (b / 4 % 2 == 1) _ _ eventpair_said
+    (said_if (b / 8 % 2 == 1) _ _ port_said (said_if (b / 16 % 2 == 1) _ _ process_said tt))))
 
 abbrev need_line : Condition → List ℕ
 need_line c = codes ".need " ++ condition_name c
@@ -100,9 +106,7 @@ needs_say (c ∷ cs) h =
 
 pub needs_said : (needs : List Condition) → are_needs needs ≡ true
     → Say (map (λ c. codes ".need " ++ condition_name c) needs) (map (λ c. Declares (directive.Need c)) needs)
-needs_said needs h =
-    needs_say needs
-    (subst AllSaid (needs_fit needs h).again (let b = needs_byte needs in flags_said (b % 2 == 1) (b / 2 % 2 == 1) (b / 8 % 2 == 1) (b / 16 % 2 == 1)))
+needs_said needs h = needs_say needs (subst AllSaid (needs_fit needs h).again (byte_said (needs_byte needs)))
 
 -- ---- kinds and rights
 
@@ -110,26 +114,17 @@ kind_again : (k : Option Kind) → kind_of (kind_text k) ≡ Some k
 unfolding kind_of is_word kind_named
 kind_again None = refl
 kind_again (Some kind.Process) = refl
-kind_again (Some kind.Channel) = refl
-kind_again (Some kind.Event) = refl
-kind_again (Some kind.Port) = refl
-kind_again (Some kind.Job) = refl
+kind_again (Some _) = refl
 
 plain_kind : (k : Option Kind) → is_plain_word (kind_text k) ≡ true
 plain_kind None = refl
 plain_kind (Some kind.Process) = refl
-plain_kind (Some kind.Channel) = refl
-plain_kind (Some kind.Event) = refl
-plain_kind (Some kind.Port) = refl
-plain_kind (Some kind.Job) = refl
+plain_kind (Some _) = refl
 
 allowed_small : (k : Option Kind) → rights_allowed k < 2 ^ 32
 allowed_small None = omega arith
 allowed_small (Some kind.Process) = omega arith
-allowed_small (Some kind.Channel) = omega arith
-allowed_small (Some kind.Event) = omega arith
-allowed_small (Some kind.Port) = omega arith
-allowed_small (Some kind.Job) = omega arith
+allowed_small (Some _) = omega arith
 
 within_small : (part whole : ℕ) → within part whole ≡ true → whole < 2 ^ 32 → part < 2 ^ 32
 within_small part whole h small =

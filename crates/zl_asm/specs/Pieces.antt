@@ -43,7 +43,8 @@ need_if_among needs c = if is_among needs c then need_text c else []
 abbrev pub needs_text : List Condition → List ℕ
 needs_text needs =
     need_if_among needs condition.NewChannel
-    ++ (need_if_among needs condition.NewEvent ++ (need_if_among needs condition.NewPort ++ need_if_among needs condition.NewProcess))
+    ++ (need_if_among needs condition.NewEvent ++ (need_if_among needs condition.NewEventpair
+    ++ (need_if_among needs condition.NewPort ++ need_if_among needs condition.NewProcess)))
 
 -- the lines of all directives
 abbrev pub directives_text : Image → List ℕ

@@ -44,6 +44,7 @@ fn push_needs(text: &mut String, image: &Image) -> Result<(), AllocError>
 {
     push_need(text, image, Condition::NewChannel)?;
     push_need(text, image, Condition::NewEvent)?;
+    push_need(text, image, Condition::NewEventpair)?;
     push_need(text, image, Condition::NewPort)?;
     push_need(text, image, Condition::NewProcess)
 }

@@ -104,7 +104,8 @@ pub use Rattle.zl_code.proofs.StepsWaiting.{settles_waiting}
 pub use Rattle.zl_code.proofs.Waiters.{is_blocking, looks_at_waits, replied_among, with_waiters}
 pub use Rattle.zl_code.specs.Asked.{triples_from}
 pub use Rattle.zl_code.specs.Boot.{are_declared}
-pub use Rattle.zl_code.specs.CallTable.{awaited_by, job_create, job_set_policy, port_cancel, port_create, port_poll, port_queue, port_wait, process_create}
+pub use Rattle.zl_code.specs.CallTable.{awaited_by, eventpair_create, job_create, job_set_policy, port_cancel, port_create, port_poll, port_queue, port_wait}
+pub use Rattle.zl_code.specs.CallTable.{process_create}
 pub use Rattle.zl_code.specs.CallTable.{process_start, wait_async, wait_one}
 pub use Rattle.zl_code.specs.Calls.{CallBy}
 pub use Rattle.zl_code.specs.Common.{signal_peer}

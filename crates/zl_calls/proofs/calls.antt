@@ -7,7 +7,7 @@ pub mod MakeCalls
 pub mod TakenCalls
 pub mod HandleCalls
 pub mod EventCalls
-pub mod ChannelCalls
+pub mod PairCalls
 pub mod WriteCalls
 pub mod ReadCalls
 pub mod ReaderTold

@@ -41,8 +41,12 @@ pub record IsCalling (processes : List Process) (place : ℕ) : Type 0 where
   pub ready : (caller : Process) → slice_get processes place ≡ Some caller → is_ready (state_value caller.state) ≡ true
   pub bare : AreBare processes
 
+-- each process has a koid that was given
+abbrev pub AreGiven : Parts → Type 0
+AreGiven all = (k : ℕ) → IsTrue (has_key (map process_entry all.processes) k) → k < all.objects.next_koid
+
 -- the same, where no more processes block than there are, and each has a koid that was given
 pub record MayCall (all : Parts) (place : ℕ) : Type 0 where
   pub calling : IsCalling all.processes place
   pub few : length all.blocked ≤ length all.processes
-  pub given : (k : ℕ) → IsTrue (has_key (map process_entry all.processes) k) → k < all.objects.next_koid
+  pub given : AreGiven all

@@ -6,6 +6,9 @@ use Rattle.zl_code.specs.Boot.{MOST_KOIDS}
 use Rattle.zl_code.specs.declared.boot.BootCause.{BootCause}
 use Rattle.zl_code.specs.declared.boot.BootCause.TheVariants as cause
 use Rattle.zl_code.specs.declared.boot.Statement.{Statement}
+use Rattle.zl_code.specs.declared.boot.Statement.TheVariants as statement
+use Rattle.zl_objects.specs.declared.object.Pair.{Pair}
+use Rattle.zl_objects.specs.declared.object.Pair.TheVariants as pair
 use Rattle.zl_calls.specs.declared.booting.Made.{Made}
 use Rattle.zl_calls.specs.World.{world_value}
 use Rattle.zl_calls.specs.Making.{IsMaking}
@@ -26,6 +29,11 @@ pub record Makes (lib : Library) (s : Statement) (old new : Made) : Type 0 where
 abbrev pub IsCauseOf : Option BootCause → BootCause → Type 0
 IsCauseOf None c = c ≡ cause.NoMemory
 IsCauseOf (Some found) c = c ≡ found
+
+-- the statement that makes such a pair
+abbrev pub making_pair : Pair → Statement
+making_pair pair.Channel = statement.Channel
+making_pair pair.Eventpair = statement.Eventpair
 
 -- the fault of a statement that makes one object, where it has no other
 abbrev pub koid_fault : Made → Option BootCause

@@ -15,7 +15,7 @@ ghost use Rattle.zl_objects.specs.Objects.{is_end_body, kind_at, root_alone, wit
 ghost use Rattle.zl_objects.specs.Ports.{reserved_of};
 ghost use Rattle.zl_interp.specs.Program.{program_value};
 ghost use Rattle.zl_calls.specs.Making.{IsMaking, IsUnwatched};
-ghost use Rattle.zl_calls.specs.Makes.{Makes, seen, IsCauseOf, IsReached, koid_fault};
+ghost use Rattle.zl_calls.specs.Makes.{Makes, seen, IsCauseOf, IsReached, koid_fault, making_pair};
 ghost use Rattle.zl_calls.specs.Gives.{allowed, rights_if, IsBare, Gives};
 
 use crate::calls::job::has_children;
@@ -26,7 +26,7 @@ use bitflags::Flags;
 use std::alloc::{AllocError, Global};
 use zl_code::{Boot, BootCause, BootFault, Grant, Grants, Image, Start, Statement};
 use zl_interp::{Cpu, Library, Program};
-use zl_objects::{Body, Life, Objects};
+use zl_objects::{Body, Life, Objects, Pair};
 use zl_rights::{Action, Condition, Entry, Kind, Koid, Mode, Rights};
 use zl_table::Table;
 
@@ -110,7 +110,8 @@ impl Made {
                 let port = self.objects.new_port();
                 self.make_object(port)
             }
-            Statement::Channel => self.make_channel(),
+            Statement::Channel => self.make_pair(Pair::Channel),
+            Statement::Eventpair => self.make_pair(Pair::Eventpair),
             Statement::Process {
                 job,
                 program,
@@ -188,18 +189,18 @@ impl Made {
         }
     }
 
-    /// Makes the two ends of a channel. No handle names them yet.
-    fn make_channel(&mut self) -> Result<(), BootCause>
+    /// Makes the two ends of a channel or of an event pair. No handle names them yet.
+    fn make_pair(&mut self, pair: Pair) -> Result<(), BootCause>
         requires { IsMaking self.old.processes.items [] self.old.objects }
         ensures ok { OnOk result ((lib : Library)
-            → Makes lib Statement.Channel self.old self.new) }
+            → Makes lib (making_pair pair) self.old self.new) }
         ensures err { IfErr result (λ cause. (lib : Library)
-            → IsCauseOf (boot_fault lib (seen self.old) Statement.Channel) cause) }
+            → IsCauseOf (boot_fault lib (seen self.old) (making_pair pair)) cause) }
     {
         if self.lacks_koids(2) {
             return Err(BootCause::Limit);
         }
-        match self.objects.create_channel(0) {
+        match self.objects.create_pair(pair, 0) {
             Ok(_) => Ok(()),
             Err(_) => Err(BootCause::NoMemory),
         }

@@ -129,7 +129,9 @@ fn deny(process: &mut Process, call: &CallInstr) -> Option<Outcome>
     let [a, b, c, d, ..] = call.registers;
     let denied = Err(Status::AccessDenied);
     match call.name {
-        CallName::ChanCreate => Some(process.answer_made_two(a, b, c, Err(Status::AccessDenied))),
+        CallName::ChanCreate | CallName::EventpairCreate => {
+            Some(process.answer_made_two(a, b, c, Err(Status::AccessDenied)))
+        }
         CallName::EventCreate | CallName::PortCreate => Some(process.answer_made(a, b, denied)),
         CallName::ProcessCreate => Some(process.answer_made(a, d, denied)),
         _ => None,
@@ -186,6 +188,7 @@ fn find(table: &Table, value: u64, kinds: Kinds, rights: Rights) -> Result<(), S
         Kinds::Any => look_up(table, value, &[], rights),
         Kinds::Only(kind) => look_up(table, value, &[kind], rights),
         Kinds::Tasks => look_up(table, value, &[Kind::Process, Kind::Job], rights),
+        Kinds::Ends => look_up(table, value, &[Kind::Channel, Kind::Eventpair], rights),
     };
     match found {
         Ok(_) => Ok(()),

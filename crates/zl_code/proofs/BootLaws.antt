@@ -1,5 +1,6 @@
 -- A boot makes a world or comes to a first fault, never both, whichever values new handles get.
-use Rattle.zl_code.proofs.Common.{Body, Bool, BootCause, Boots, ChannelEnd, Entry, EventBody, FirstFault, IsBoot, IsBooted, IsTrue, Library, List, MOST_ITEMS}
+use Rattle.zl_code.proofs.Common.{PairEnd, Body, Bool, BootCause, Boots, ChannelEnd, Entry, EventBody, FirstFault, IsBoot, IsBooted, IsTrue, Library, List}
+use Rattle.zl_code.proofs.Common.{MOST_ITEMS}
 use Rattle.zl_code.proofs.Common.{Map, None, Option, PortBody, Process, ProcessBody, Program, Settles-exists, Settles-unique, Some, Statement, World, []}
 use Rattle.zl_code.proofs.Common.{and_from, and_parts, ap, arith, at_limit, at_statement, body_in, boot_effect, boot_fault, cases_Bool, cases_lt, cond}
 use Rattle.zl_code.proofs.Common.{condition_number, created_process, eqb-true, false, false≢true, get, get-put, gives_no_handle, handles_given, has_child_job}
@@ -111,6 +112,9 @@ module _ (lib : Library) where
   alike_after u v a statement.Channel vs xs =
       alike_with (with_object u (ChannelEnd (u.next_koid + 1) [])) (with_object v (ChannelEnd (v.next_koid + 1) []))
       (alike_with u v a _ _ (λ i. ChannelEnd (a.next i + 1) [])) _ _ (λ i. ChannelEnd (a.next i) [])
+  alike_after u v a statement.Eventpair vs xs =
+      alike_with (with_object u (PairEnd (u.next_koid + 1))) (with_object v (PairEnd (v.next_koid + 1)))
+      (alike_with u v a _ _ (λ i. PairEnd (a.next i + 1))) _ _ (λ i. PairEnd (a.next i))
 
   -- ---- statements one after another
 

@@ -1,7 +1,8 @@
 -- What each call says where it isn't refused: its new handles have room, and it is made of these changes.
-use Rattle.zl_code.proofs.Common.{All, All-filter, Body, ChannelEnd, Entry, EventBody, HasPeer, IsSound, IsTrue, Library, List, Map, None, Object, PortBody}
+use Rattle.zl_code.proofs.Common.{All, All-filter, Body, Entry, EventBody, HasPeer, IsSound, IsTrue, Kind, Library, List, Map, None, Object, PortBody}
 use Rattle.zl_code.proofs.Common.{Process, Ready, Request, Some, StandsBelow, WAIT, WRITE, World, [], and_from, ap, arith, body_of, cases_Bool, chan_create}
 use Rattle.zl_code.proofs.Common.{chan_read_etc, chan_write, choosing, copy_of, drop, dup, effect, entries_at, entry_at, eq-eqb, eqb-true, event_create}
+use Rattle.zl_code.proofs.Common.{eventpair_create}
 use Rattle.zl_code.proofs.Common.{examined, false, false≢true, filter, filter_passes, first_handles, first_some, get, gets_all, handle_operands, handles_to}
 use Rattle.zl_code.proofs.Common.{has_koids, has_room, inl, inr, insert_all, is_by_handle, is_dead, is_empty, is_port_there, is_some, job_create}
 use Rattle.zl_code.proofs.Common.{job_set_policy, job_within, kind_of, leb-true, length, listed, may_choose, may_get, may_get_all, message_read, nat_le}
@@ -21,7 +22,8 @@ use Rattle.zl_code.specs.Tests.{koid_in, first_bytes}
 use Rattle.zl_code.specs.Operands.{operand_of}
 use Rattle.zl_code.proofs.MapKept.{changed}
 use Rattle.zl_code.proofs.Changes.{AreUnmade, computes, message_comes, message_goes, signals_change, Changes, stays, changes, join, one, object_changes}
-use Rattle.zl_code.proofs.Changes.{object_is_made, policy_changes, ends_are_made, packets_are_changed, process_changes, wait_begins, keyed_end, waits_end}
+use Rattle.zl_code.proofs.Changes.{object_is_made, policy_changes, MakesEnds, channel_ends, pair_ends, ends_are_made, packets_are_changed, process_changes}
+use Rattle.zl_code.proofs.Changes.{wait_begins, keyed_end, waits_end}
 use Rattle.zl_code.proofs.Entering.{IsFine, HaveRoom, MayTake, IsLeft, all_enter, get_without, gone_without, copy_is_fine, one_copy, entry_is_fine}
 use Rattle.zl_code.proofs.Entering.{length_without, new_is_fine, removed_last}
 use Rattle.zl_code.proofs.Messages.{may_be_sent, received_are_fine, two_entries, both_are_fine}
@@ -71,17 +73,18 @@ module _ (lib : Library) (w : World) (p : ℕ) (q : Process) (there : get w.proc
         (enter (with_object u b) refl may (new_entry w.next_koid (kind_of b) ∷ []) vs (λ s. room) (chosen _ vs gets)
         (new_is_fine w u b w.next_koid left.next_koid))
 
-    -- two new ends of a channel, and the first handles to them
-    two_made : MayTake w u.waits p after → HaveRoom after (two_entries w) → (vs : List ℕ) → IsTrue (gets_all (get u.processes p) (two_entries w) vs)
-        → Changes w u (insert_all (with_object (with_object u (ChannelEnd (w.next_koid + 1) [])) (ChannelEnd w.next_koid [])) p (two_entries w) vs)
+    -- two new ends of a pair, and the first handles to them
+    two_made : {end_to : ℕ → Body} {kind : Kind} → MakesEnds end_to kind → MayTake w u.waits p after → HaveRoom after (two_entries w kind) → (vs : List ℕ)
+        → IsTrue (gets_all (get u.processes p) (two_entries w kind) vs)
+        → Changes w u (insert_all (with_object (with_object u (end_to (w.next_koid + 1))) (end_to w.next_koid)) p (two_entries w kind) vs)
     unfolding with_object
-    two_made may room vs gets =
-        changes u both _ (ends_are_made w u w.next_koid left.next_koid)
-        (enter both refl may (two_entries w) vs (λ s. room) (chosen _ vs gets)
-        (both_are_fine w u (ChannelEnd (w.next_koid + 1) []) (ChannelEnd w.next_koid []) w.next_koid left.next_koid refl refl))
+    two_made {end_to} {kind} ends may room vs gets =
+        changes u both _ (ends_are_made w u w.next_koid left.next_koid ends)
+        (enter both refl may (two_entries w kind) vs (λ s. room) (chosen _ vs gets)
+        (both_are_fine w u (end_to (w.next_koid + 1)) (end_to w.next_koid) kind w.next_koid left.next_koid (ends.kind_is _) (ends.kind_is _)))
       where
         both : World
-        both = with_object (with_object u (ChannelEnd (w.next_koid + 1) [])) (ChannelEnd w.next_koid [])
+        both = with_object (with_object u (end_to (w.next_koid + 1))) (end_to w.next_koid)
 
     -- a handle enters at the value that was removed last
     enter_again : (v : World) (h : ℕ) → v.processes ≡ u.processes → MayTake w v.waits p after → (es : List Entry) → length es ≤ 1 → IsTrue (may_get after h)
@@ -192,8 +195,8 @@ module _ (lib : Library) (w : World) (p : ℕ) (q : Process) (there : get w.proc
   laws chan_create after left passes =
       let u = left_by chan_create in
       let some_room = room_and w p 2 (has_koids w 2) (listed_none lib w p chan_create passes).0 in
-      let room = room_for u after left 2 (two_entries w) some_room (omega arith) in
-      record { room = λ e. room; changes = two_made u after left (may_take (taken_handles chan_create) refl after left) room }
+      let room = room_for u after left 2 (two_entries w kind.Channel) some_room (omega arith) in
+      record { room = λ e. room; changes = two_made u after left channel_ends (may_take (taken_handles chan_create) refl after left) room }
   laws (chan_write c bytes hs) after left passes =
       let u = left_by (chan_write c bytes hs) in
       record {
@@ -296,4 +299,9 @@ module _ (lib : Library) (w : World) (p : ℕ) (q : Process) (there : get w.proc
             (λ o at. signals_change clear set refl
             (may_signal w p h clear set lib passes o (subst (λ (m : Map Object). get m (object_at w p h) ≡ Some o) left.objects at))));
       }
+  laws eventpair_create after left passes =
+      let u = left_by eventpair_create in
+      let some_room = room_and w p 2 (has_koids w 2) (listed_none lib w p eventpair_create passes).0 in
+      let room = room_for u after left 2 (two_entries w kind.Eventpair) some_room (omega arith) in
+      record { room = λ e. room; changes = two_made u after left pair_ends (may_take (taken_handles eventpair_create) refl after left) room }
   laws _ after left passes = record { room = λ e. omega arith; changes = λ vs gets. stays _ }

@@ -1,15 +1,20 @@
 -- The elementary changes of which a step is made.
 use Rattle.zl_code.proofs.Common.{All, Awaited, Blocked, Body, Bool, ChannelEnd, Cpu, Created, Ended, Entry, HandlesAreNamed, HandlesAreSound, HasItsObject}
-use Rattle.zl_code.proofs.Common.{HasPeer, IsSound, IsTrue, List, Map, Message, None, Object, Option, Packet, PortBody, Process, Ready, Setting, Settles}
+use Rattle.zl_code.proofs.Common.{HasPeerOf}
+use Rattle.zl_code.proofs.Common.{HasPeer, IsSound, IsTrue, Kind, List, Map, Message, None, Object, Option, Packet, PairEnd, PortBody, Process, Ready, Setting}
+use Rattle.zl_code.proofs.Common.{Settles}
 use Rattle.zl_code.proofs.Common.{Some, StandsBelow, State, Wait, World, [], answered, ap, append-nil, arith, body_of, body_with_packets, cases_Bool, ended}
 use Rattle.zl_code.proofs.Common.{entry_at, eq-eqb, eqb-true, false, filter, fired, get, get-put, get-update, has_child, has_default_rights, has_key}
-use Rattle.zl_code.proofs.Common.{if◌then◌else◌, in_order, inl, inr, is_blocked, is_by_handle, is_job_below, is_port_there, is_process, is_process_of, length}
+use Rattle.zl_code.proofs.Common.{if◌then◌else◌, in_order, inl, inr, is_blocked, is_by_handle, is_job_below, is_port_there, is_process, is_process_of, kind_of}
+use Rattle.zl_code.proofs.Common.{length}
 use Rattle.zl_code.proofs.Common.{length-append, list_all, lives, made_ready, may_get, message_read, message_sent, names_its_object, ne_eqb, not}
 use Rattle.zl_code.proofs.Common.{object_changed, object_killed, on_object, on_process, option_map, packets_for, policy_changed, process_ended, process_with}
 use Rattle.zl_code.proofs.Common.{process_without, put, queue_of, raisable, refl, registered, runs, same_Some, state_passes, subst, suc, sym, true, update}
 use Rattle.zl_code.proofs.Common.{waiting, with_body, with_object, with_process, within, without, without_keyed, without_waits, ℕ, ℤ, ◌++◌, ◌+◌, ◌<◌, ◌==◌}
 use Rattle.zl_code.proofs.Common.{◌∙◌, ◌∷◌, ◌≡◌, ◌≤◌}
 use Rattle.std.proofs.lemmas.List.Elements.{filter-append}
+use Rattle.zl_rights.specs.declared.kind.Kind.TheVariants as kind
+use Rattle.zl_rights.specs.Numbers.{kind_number, same_kind}
 use Rattle.zl_code.specs.Waiting.{body_packed, repacked}
 use Rattle.zl_code.proofs.MapKept.{in_order-put, in_order-update, in_order-each, Changed, same, changed, new, EachChanged, unchanged, changed_put}
 use Rattle.zl_code.proofs.MapKept.{changed_update, changed_each}
@@ -388,15 +393,31 @@ object_is_made start w b quiet peer tree =
     (changed_put _ _ w.objects w.next_koid _
     (new _ refl (record { next = omega arith; given = omega arith; quiet = quiet; unraised = refl; peer = peer; tree = tree }))) (alike refl)
 
--- both ends of a channel
-pub ends_are_made : (start w : World) (n : ℕ) → w.next_koid ≡ n → Change start w (with_object (with_object w (ChannelEnd (n + 1) [])) (ChannelEnd n []))
+-- an object is made as the end of a pair of this kind; nothing is to be read at it
+pub record MakesEnds (end_to : ℕ → Body) (k : Kind) : Type 0 where
+  pub kind_is : (peer : ℕ) → kind_of (end_to peer) ≡ k
+  pub quiet : (peer : ℕ) → queue_of (end_to peer) ≡ []
+  pub peer : (m : Map Object) (n peer : ℕ) → HasPeerOf k m n peer → HasPeer m n (end_to peer)
+  pub tree : (m : Map Object) (j peer : ℕ) → StandsBelow m j (end_to peer)
+
+pub channel_ends : MakesEnds (λ peer. ChannelEnd peer []) kind.Channel
+channel_ends = record { kind_is = λ peer. refl; quiet = λ peer. refl; peer = λ m n peer has. has; tree = λ m j peer. tt }
+
+pub pair_ends : MakesEnds (λ peer. PairEnd peer) kind.Eventpair
+pair_ends = record { kind_is = λ peer. refl; quiet = λ peer. refl; peer = λ m n peer has. has; tree = λ m j peer. tt }
+
+-- both ends of a pair
+pub ends_are_made : {end_to : ℕ → Body} {kind : Kind} (start w : World) (n : ℕ) → w.next_koid ≡ n → MakesEnds end_to kind
+    → Change start w (with_object (with_object w (end_to (n + 1))) (end_to n))
 unfolding with_object
-ends_are_made start w n here =
-    objects_alone start w (with_object (with_object w (ChannelEnd (n + 1) [])) (ChannelEnd n [])) refl refl (omega arith)
-    (λ h. in_order-put first _ _ (in_order-put w.objects _ _ h)) at_koid (alike refl)
+ends_are_made {end_to} {kind} start w n here makes =
+    objects_alone start w after refl refl (omega arith) (λ h. in_order-put first _ _ (in_order-put w.objects _ _ h)) at_koid (alike refl)
   where
+    after : World
+    after = with_object (with_object w (end_to (n + 1))) (end_to n)
+
     end_at : ℕ → Object
-    end_at peer = record { body = ChannelEnd peer []; raised = 0 }
+    end_at peer = record { body = end_to peer; raised = 0 }
 
     first : Map Object
     first = put w.objects w.next_koid (end_at (n + 1))
@@ -412,37 +433,34 @@ ends_are_made start w n here =
     at_second : get both (n + 1) ≡ Some (end_at n)
     at_second = get-put first (w.next_koid + 1) (end_at n) (n + 1) ∙ rw (eq-eqb (w.next_koid + 1) (n + 1) (omega (arith, here))) refl
 
-    at_koid : EachChanged (ObjectChange start (with_object (with_object w (ChannelEnd (n + 1) [])) (ChannelEnd n [])))
-        (IsNewObject start w (with_object (with_object w (ChannelEnd (n + 1) [])) (ChannelEnd n []))) w.objects both
+    -- an end is of the kind of both
+    is_end : (peer : ℕ) → IsTrue (same_kind kind (kind_of (end_to peer)))
+    is_end peer = rw (makes.kind_is peer) (eq-eqb (kind_number kind) (kind_number kind) refl)
+
+    made : (k peer : ℕ) → w.next_koid ≤ k → k < w.next_koid + 1 + 1 → HasPeerOf kind both (w.next_koid + 1 + 1) peer → IsNewObject start w after k (end_at peer)
+    made k peer low high has = record {
+      next = low;
+      given = high;
+      quiet = makes.quiet peer;
+      unraised = refl;
+      peer = makes.peer both (w.next_koid + 1 + 1) peer has;
+      tree = λ s. makes.tree both k peer;
+    }
+
+    at_koid : EachChanged (ObjectChange start after) (IsNewObject start w after) w.objects both
     at_koid k =
-        elim (cases_Bool (w.next_koid + 1 == k)) as (λ _. Changed (ObjectChange start (with_object (with_object w (ChannelEnd (n + 1) [])) (ChannelEnd n [])) k)
-        (IsNewObject start w (with_object (with_object w (ChannelEnd (n + 1) [])) (ChannelEnd n [])) k) (get w.objects k) (get both k)) [
+        elim (cases_Bool (w.next_koid + 1 == k)) as (λ _. Changed (ObjectChange start after k) (IsNewObject start w after k) (get w.objects k) (get both k)) [
           | inl second ↦
               let is : w.next_koid + 1 ≡ k = eqb-true (w.next_koid + 1) k second in
               new (end_at n) (get-put first (w.next_koid + 1) (end_at n) k ∙ rw second refl)
-              (record {
-                next = omega (arith, is);
-                given = omega (arith, is);
-                quiet = refl;
-                unraised = refl;
-                peer = (omega (arith, here), rw at_first refl);
-                tree = λ s. tt;
-              })
-          | inr other ↦ elim (cases_Bool (w.next_koid == k))
-              as (λ _. Changed (ObjectChange start (with_object (with_object w (ChannelEnd (n + 1) [])) (ChannelEnd n [])) k)
-              (IsNewObject start w (with_object (with_object w (ChannelEnd (n + 1) [])) (ChannelEnd n [])) k) (get w.objects k) (get both k)) [
+              (made k n (omega (arith, is)) (omega (arith, is)) (omega (arith, here), rw at_first (is_end (n + 1))))
+          | inr other ↦
+              elim (cases_Bool (w.next_koid == k)) as (λ _. Changed (ObjectChange start after k) (IsNewObject start w after k) (get w.objects k) (get both k)) [
                 | inl now ↦
                     let is : w.next_koid ≡ k = eqb-true w.next_koid k now in
                     new (end_at (n + 1))
                     (get-put first (w.next_koid + 1) (end_at n) k ∙ (rw other (get-put w.objects w.next_koid (end_at (n + 1)) k ∙ rw now refl)))
-                    (record {
-                      next = omega (arith, is);
-                      given = omega (arith, is);
-                      quiet = refl;
-                      unraised = refl;
-                      peer = (omega (arith, here), rw at_second refl);
-                      tree = λ s. tt;
-                    })
+                    (made k (n + 1) (omega (arith, is)) (omega (arith, is)) (omega (arith, here), rw at_second (is_end n)))
                 | inr apart ↦
                     same (get-put first (w.next_koid + 1) (end_at n) k ∙ (rw other (get-put w.objects w.next_koid (end_at (n + 1)) k ∙ rw apart refl)))
               ]

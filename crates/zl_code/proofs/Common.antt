@@ -1,6 +1,7 @@
 -- The names that most proofs cite, of this crate and those above, passed on from one place. Declares nothing.
 pub use Rattle.zl_rights.proofs.Common.{All, All-nil, Blocked, Body, Bool, ChannelEnd, Cpu, Created, DUPLICATE, Ended, Err, EventBody, Gone, IfErr, IfNone}
-pub use Rattle.zl_rights.proofs.Common.{IfOk, IfSome, IsSome, IsTrue, JobBody, Koids, List, Map, None, Object, Ok, OnOk, Option, PortBody, Process, ProcessBody}
+pub use Rattle.zl_rights.proofs.Common.{IfOk, IfSome, IsSome, IsTrue, JobBody, Koids, List, Map, None, Object, Ok, OnOk, Option, PairEnd, PortBody, Process}
+pub use Rattle.zl_rights.proofs.Common.{ProcessBody}
 pub use Rattle.zl_rights.proofs.Common.{Ready, Result, SIGNAL, SIGNALED, STUCK, Settles, Some, State, World, [], and_from, and_parts, ap, append-nil}
 pub use Rattle.zl_rights.proofs.Common.{append_assoc, arith, at_drop_all, at_drop_more, below_all, bit_and, bits, cases_Bool, cases_lt, codes, cond}
 pub use Rattle.zl_rights.proofs.Common.{condition_name, condition_number, count_by, decimal, default_rights_of, drop, drop_at, eq-eqb, eqb, eqb-true}
@@ -18,7 +19,8 @@ pub use Rattle.zl_code.specs.Common.{Acts, AtCall, Boots, Calls, Choice, FirstFa
 pub use Rattle.zl_code.specs.Common.{IsLegalHistory, IsSound, IsStuck, Layout, Library, MOST_ITEMS, Moves, Next, Program, Reading, Refused, Request, Row, Site}
 pub use Rattle.zl_code.specs.Common.{Spells, Step, Values, WantsMemory, answer_if, any, are_needs, are_registers, at_limit, at_statement, body_in, body_of}
 pub use Rattle.zl_code.specs.Common.{by_look_up, bytes_of, call_name, call_row, calls_at, chan_create, chan_read_etc, chan_write, close, copy_of, cpu_answered}
-pub use Rattle.zl_code.specs.Common.{dup, entry_at, event_create, first_some, grows, has_default_rights, in_order, instr_bytes, is_among, is_in_range}
+pub use Rattle.zl_code.specs.Common.{dup, entry_at, event_create, eventpair_create, first_some, grows, has_default_rights, in_order, instr_bytes, is_among}
+pub use Rattle.zl_code.specs.Common.{is_in_range}
 pub use Rattle.zl_code.specs.Common.{is_instr_in_range, is_job_body, is_slot_in_range, is_start_in_range, layout_of, may_boot, may_get, names_its_object}
 pub use Rattle.zl_code.specs.Common.{needs_byte, needs_named, needs_value, next_for, number_at, number_of, object_at, ok_outcome, operand_of, origin, pid_of}
 pub use Rattle.zl_code.specs.Common.{process_exit, process_with, process_without, raisable, reading_of, replace, row_bytes, seven, signal, single, site}
@@ -34,7 +36,8 @@ pub use Rattle.zl_code.specs.Boot.{IsBooted, MOST_GRANTS, MOST_KOIDS, MOST_PROCE
 pub use Rattle.zl_code.specs.Boot.{may_start_with, process_with_all, started_process, values_given}
 pub use Rattle.zl_code.specs.Effects.{gets_all, may_get_after, may_get_all, new_entry, object_changed, process_ended, with_process}
 unfoldable pub use Rattle.zl_code.specs.Effects.{on_object}
-pub use Rattle.zl_code.specs.Sound.{HasItsObject, HasPeer, IsSoundTable, IsSoundWait, KeepsProcesses, is_blocked, is_end_if_there, is_port_there, is_value}
+pub use Rattle.zl_code.specs.Sound.{HasItsObject, HasPeer, HasPeerOf, IsSoundTable, IsSoundWait, KeepsProcesses, is_blocked, is_kind_if_there, is_port_there}
+pub use Rattle.zl_code.specs.Sound.{is_value}
 pub use Rattle.zl_code.specs.Spells.{Parts, allows, are_places, ascend_from, code_pieces, count_at, ending_bytes, fault_by, has_length, has_rights, header}
 pub use Rattle.zl_code.specs.Spells.{is_32_bits, is_call_in_range, is_ending_clear, is_header_in_range, is_local_in_range, is_needs_byte, is_packed, is_raw_at}
 pub use Rattle.zl_code.specs.Spells.{is_room, is_unused_zero, kind_at, kind_byte, length_at, magic, names_registers, registers_at, rights_allowed, slot_pieces}

@@ -23,6 +23,7 @@ kind_at_none b named missing = rw (
   ne_eqb 4 b (missing kind.Channel),
   ne_eqb 5 b (missing kind.Event),
   ne_eqb 6 b (missing kind.Port),
+  ne_eqb 16 b (missing kind.Eventpair),
   ne_eqb 17 b (missing kind.Job),
 ) refl
 
@@ -107,10 +108,7 @@ slot_fault-length bytes h = slot_fault-by bytes false _ h refl
 kind_again : (k : Option Kind) → kind_at (kind_byte k) ≡ Some k
 kind_again None = refl
 kind_again (Some kind.Process) = refl
-kind_again (Some kind.Channel) = refl
-kind_again (Some kind.Event) = refl
-kind_again (Some kind.Port) = refl
-kind_again (Some kind.Job) = refl
+kind_again (Some _) = refl
 
 abbrev kind_or_any : Option (Option Kind) → Option Kind
 kind_or_any None = None
@@ -126,10 +124,7 @@ read_slots bytes = record { kind = kind_or_any (kind_at (slice_index bytes 0)); 
 allowed_small : (k : Option Kind) → rights_allowed k < 4294967296
 allowed_small None = omega arith
 allowed_small (Some kind.Process) = omega arith
-allowed_small (Some kind.Channel) = omega arith
-allowed_small (Some kind.Event) = omega arith
-allowed_small (Some kind.Port) = omega arith
-allowed_small (Some kind.Job) = omega arith
+allowed_small (Some _) = omega arith
 
 -- rights within others are no larger number
 within_small : (part whole : ℕ) → within part whole ≡ true → part ≤ whole

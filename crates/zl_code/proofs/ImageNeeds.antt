@@ -1,206 +1,166 @@
 -- The byte of the needs.
-use Rattle.zl_code.proofs.Common.{Bool, Condition, List, [], and_parts, ap, are_needs, ascend_from, condition_number, eqb-true, false, if◌then◌else◌}
-use Rattle.zl_code.proofs.Common.{is_among, is_needs_byte, ltb-true, map, nat_lt, needs_byte, needs_named, needs_value, not, refl, true, ℕ, ◌%◌, ◌/◌, ◌<◌}
-use Rattle.zl_code.proofs.Common.{◌==◌, ◌||◌, ◌∙◌, ◌∷◌, ◌≡◌}
+use Rattle.zl_code.proofs.Common.{Bool, Condition, List, Some, [], and_from, and_parts, ap, are_needs, arith, ascend_from, cases_Bool, condition_number}
+use Rattle.zl_code.proofs.Common.{eqb-true}
+use Rattle.zl_code.proofs.Common.{false, false≢true, if◌then◌else◌, inl, inr, is_among, is_needs_byte, lt-ltb, ltb-true, map, nat_lt, needs_byte, needs_named}
+use Rattle.zl_code.proofs.Common.{needs_value, not, refl, same_Some, sym, true, ℕ, ◌%◌, ◌&&◌, ◌+◌, ◌/◌, ◌<◌, ◌==◌, ◌∙◌, ◌∷◌, ◌≡◌, ◌≤◌}
 use Rattle.zl_rights.specs.declared.policy.Condition.TheVariants as condition
+use Rattle.zl_rights.specs.Policies.{condition_numbered}
 use Rattle.zl_code.specs.declared.image.Needs.{Needs}
 use Rattle.zl_code.specs.Image.{need_if}
 use Rattle.zl_code.proofs.Below.{all_below, below}
 
+-- ---- facts of all sets of needs, each by one computation
+
+-- the needs of five flags
+abbrev flags : (c e v p q : Bool) → List Condition
+flags c e v p q = need_if c condition.NewChannel (need_if e condition.NewEvent (need_if v condition.NewEventpair
+    (need_if p condition.NewPort (need_if q condition.NewProcess []))))
+
+-- the test passes for both
+abbrev both : (Bool → Bool) → Bool
+both test = test true && test false
+
+at_both : (test : Bool → Bool) → both test ≡ true → (b : Bool) → test b ≡ true
+at_both test h true = (and_parts (test true) (test false) h).0
+at_both test h false = (and_parts (test true) (test false) h).1
+
+-- the test passes for each choice of flags
+abbrev every : ((c e v p q : Bool) → Bool) → Bool
+every test = both (λ c. both (λ e. both (λ v. both (λ p. both (λ q. test c e v p q)))))
+
+at_every : (test : (c e v p q : Bool) → Bool) → every test ≡ true → (c e v p q : Bool) → test c e v p q ≡ true
+at_every test h c e v p q =
+    at_both (λ q. test c e v p q) (at_both (λ p. both (λ q. test c e v p q)) (at_both (λ v. both (λ p. both (λ q. test c e v p q)))
+    (at_both (λ e. both (λ v. both (λ p. both (λ q. test c e v p q))))
+    (at_both (λ c. both (λ e. both (λ v. both (λ p. both (λ q. test c e v p q))))) h c) e) v) p) q
+
+-- the flags are one
+abbrev alike : Bool → Bool → Bool
+alike true b = b
+alike false b = not b
+
+alike_flags : (a b : Bool) → alike a b ≡ true → a ≡ b
+alike_flags true true h = refl
+alike_flags true false h = absurd (false≢true h)
+alike_flags false true h = absurd (false≢true h)
+alike_flags false false h = refl
+
+-- five flags that are the same give the same needs
+same_flags : (c e v p q c2 e2 v2 p2 q2 : Bool) → (alike c c2 && (alike e e2 && (alike v v2 && (alike p p2 && alike q q2)))) ≡ true
+    → flags c e v p q ≡ flags c2 e2 v2 p2 q2
+same_flags c e v p q c2 e2 v2 p2 q2 h =
+    let one = and_parts (alike c c2) _ h in
+    let two = and_parts (alike e e2) _ one.1 in
+    let three = and_parts (alike v v2) _ two.1 in
+    let four = and_parts (alike p p2) (alike q q2) three.1 in
+    λ i. flags (alike_flags c c2 one.0 i) (alike_flags e e2 two.0 i) (alike_flags v v2 three.0 i) (alike_flags p p2 four.0 i) (alike_flags q q2 four.1 i)
+
+-- ---- the byte
+
 -- the needs whose bits are in the byte
 abbrev pub needs_at : ℕ → List Condition
-needs_at b =
-    need_if (b % 2 == 1) condition.NewChannel
-    (need_if (b / 2 % 2 == 1) condition.NewEvent (need_if (b / 8 % 2 == 1) condition.NewPort (need_if (b / 16 % 2 == 1) condition.NewProcess [])))
+needs_at b = flags (b % 2 == 1) (b / 2 % 2 == 1) (b / 4 % 2 == 1) (b / 8 % 2 == 1) (b / 16 % 2 == 1)
 
 again : ℕ → Bool
-again b = not (is_needs_byte b) || (needs_byte (needs_at b) == b)
-
-or_not : (a b : Bool) → not a || b ≡ true → a ≡ true → b ≡ true
-or_not true b h e = h
-or_not false b h e = absurd cc
+again b = needs_byte (needs_at b) == b
 
 -- nothing of the byte is lost
 pub needs_of_byte : (b : ℕ) → is_needs_byte b ≡ true → needs_byte (needs_at b) ≡ b
 unfolding again all_below
-needs_of_byte b h =
-    let lt : b < 32 = ltb-true b 32 (and_parts (nat_lt b 32) (b / 4 % 2 == 0) h).0 in
-    eqb-true _ _ (or_not _ _ (below again 32 b refl lt) h)
+needs_of_byte b h = eqb-true _ _ (below again 32 b refl (ltb-true b 32 h))
 
--- the needs of four flags are in order
+-- the needs of flags are in order
 pub are_needs-value : (n : Needs) → are_needs (needs_value n) ≡ true
-are_needs-value n = by n.channel n.event n.port n.process
-  where
-    by : (c e p q : Bool)
-        → are_needs (need_if c condition.NewChannel (need_if e condition.NewEvent (need_if p condition.NewPort (need_if q condition.NewProcess [])))) ≡ true
-    by true true true true = refl
-    by true true true false = refl
-    by true true false true = refl
-    by true true false false = refl
-    by true false true true = refl
-    by true false true false = refl
-    by true false false true = refl
-    by true false false false = refl
-    by false true true true = refl
-    by false true true false = refl
-    by false true false true = refl
-    by false true false false = refl
-    by false false true true = refl
-    by false false true false = refl
-    by false false false true = refl
-    by false false false false = refl
+are_needs-value n = at_every (λ c e v p q. are_needs (flags c e v p q)) refl n.channel n.event n.eventpair n.port n.process
 
--- ---- needs in order are those of their byte
+-- ---- needs in order are those of flags
 
 abbrev InOrder : ℕ → List Condition → Type 0
 InOrder n needs = ascend_from n (map condition_number needs) ≡ true
 
-after_process : (needs : List Condition) → InOrder 7 needs → needs ≡ []
-after_process [] h = refl
-after_process (condition.BadHandle ∷ needs) h = absurd cc
-after_process (condition.WrongObject ∷ needs) h = absurd cc
-after_process (condition.NewAny ∷ needs) h = absurd cc
-after_process (condition.NewChannel ∷ needs) h = absurd cc
-after_process (condition.NewEvent ∷ needs) h = absurd cc
-after_process (condition.NewPort ∷ needs) h = absurd cc
-after_process (condition.NewProcess ∷ needs) h = absurd cc
+numbered : (c : Condition) → condition_numbered (condition_number c) ≡ Some c
+numbered condition.NewAny = refl
+numbered _ = refl
 
-after_port : (needs : List Condition) → InOrder 6 needs → (q : Bool) × (needs ≡ need_if q condition.NewProcess [])
-after_port [] h = (false, refl)
-after_port (condition.BadHandle ∷ needs) h = absurd cc
-after_port (condition.WrongObject ∷ needs) h = absurd cc
-after_port (condition.NewAny ∷ needs) h = absurd cc
-after_port (condition.NewChannel ∷ needs) h = absurd cc
-after_port (condition.NewEvent ∷ needs) h = absurd cc
-after_port (condition.NewPort ∷ needs) h = absurd cc
-after_port (condition.NewProcess ∷ needs) h = (true, ap (λ (r : List Condition). condition.NewProcess ∷ r) (after_process needs h))
+number_most : (c : Condition) → condition_number c ≤ 7
+number_most condition.NewAny = omega arith
+number_most _ = omega arith
 
-after_event : (needs : List Condition) → InOrder 4 needs → (p : Bool) × (q : Bool) × (needs ≡ need_if p condition.NewPort (need_if q condition.NewProcess []))
-after_event [] h = (false, false, refl)
-after_event (condition.BadHandle ∷ needs) h = absurd cc
-after_event (condition.WrongObject ∷ needs) h = absurd cc
-after_event (condition.NewAny ∷ needs) h = absurd cc
-after_event (condition.NewChannel ∷ needs) h = absurd cc
-after_event (condition.NewEvent ∷ needs) h = absurd cc
-after_event (condition.NewPort ∷ needs) h = let r = after_port needs h in (true, r.0, ap (λ (r : List Condition). condition.NewPort ∷ r) r.1)
-after_event (condition.NewProcess ∷ needs) h = (false, true, ap (λ (r : List Condition). condition.NewProcess ∷ r) (after_process needs h))
+-- the first of needs that come behind n is the condition with the next number, or all come behind that
+step : (d : Condition) (n : ℕ) → condition_number d ≡ n + 1 → (needs : List Condition) → InOrder n needs
+    → (b : Bool) × (rest : List Condition) × InOrder (n + 1) rest × (needs ≡ need_if b d rest)
+step d n is [] h = (false, [], refl, refl)
+step d n is (c ∷ needs) h =
+    let parts = and_parts (nat_lt n (condition_number c)) _ h in
+    let above : n < condition_number c = ltb-true n (condition_number c) parts.0 in
+    elim (cases_Bool (condition_number c == n + 1))
+    as (λ _. (b : Bool) × (rest : List Condition) × InOrder (n + 1) rest × (c ∷ needs ≡ need_if b d rest)) [
+      | inl here ↦
+          let number : condition_number c ≡ n + 1 = eqb-true _ _ here in
+          let one : c ≡ d = same_Some c d (sym (numbered c) ∙ (ap condition_numbered (number ∙ sym is) ∙ numbered d)) in
+          (true, needs, rw number at parts.1, ap (λ (x : Condition). x ∷ needs) one)
+      | inr apart ↦ (false, c ∷ needs, and_from _ _ (lt-ltb (n + 1) (condition_number c) (grind (arith, above, apart))) parts.1, refl)
+    ]
 
-after_channel : (needs : List Condition) → InOrder 3 needs
-    → (e : Bool) × (p : Bool) × (q : Bool) × (needs ≡ need_if e condition.NewEvent (need_if p condition.NewPort (need_if q condition.NewProcess [])))
-after_channel [] h = (false, false, false, refl)
-after_channel (condition.BadHandle ∷ needs) h = absurd cc
-after_channel (condition.WrongObject ∷ needs) h = absurd cc
-after_channel (condition.NewAny ∷ needs) h = absurd cc
-after_channel (condition.NewChannel ∷ needs) h = absurd cc
-after_channel (condition.NewEvent ∷ needs) h = let r = after_event needs h in (true, r.0, r.1, ap (λ (r : List Condition). condition.NewEvent ∷ r) r.2)
-after_channel (condition.NewPort ∷ needs) h = let r = after_port needs h in (false, true, r.0, ap (λ (r : List Condition). condition.NewPort ∷ r) r.1)
-after_channel (condition.NewProcess ∷ needs) h = (false, false, true, ap (λ (r : List Condition). condition.NewProcess ∷ r) (after_process needs h))
+none_behind : (needs : List Condition) → InOrder 7 needs → needs ≡ []
+none_behind [] h = refl
+none_behind (c ∷ needs) h =
+    let above : 7 < condition_number c = ltb-true 7 (condition_number c) (and_parts _ _ h).0 in
+    let most : condition_number c ≤ 7 = number_most c in
+    absurd (omega (arith, above, most))
 
 -- some flags have just these needs
 flagged : (needs : List Condition) → are_needs needs ≡ true → (n : Needs) × (needs ≡ needs_value n)
-flagged [] h = (record { channel = false; event = false; port = false; process = false }, refl)
-flagged (condition.BadHandle ∷ needs) h = absurd cc
-flagged (condition.WrongObject ∷ needs) h = absurd cc
-flagged (condition.NewAny ∷ needs) h = absurd cc
-flagged (condition.NewChannel ∷ needs) h =
-    let r = after_channel needs h in
-    (record { channel = true; event = r.0; port = r.1; process = r.2 }, ap (λ (r : List Condition). condition.NewChannel ∷ r) r.3)
-flagged (condition.NewEvent ∷ needs) h =
-    let r = after_event needs h in
-    (record { channel = false; event = true; port = r.0; process = r.1 }, ap (λ (r : List Condition). condition.NewEvent ∷ r) r.2)
-flagged (condition.NewPort ∷ needs) h =
-    let r = after_port needs h in
-    (record { channel = false; event = false; port = true; process = r.0 }, ap (λ (r : List Condition). condition.NewPort ∷ r) r.1)
-flagged (condition.NewProcess ∷ needs) h =
-    (record { channel = false; event = false; port = false; process = true }, ap (λ (r : List Condition). condition.NewProcess ∷ r) (after_process needs h))
+flagged needs h =
+    let c = step condition.NewChannel 2 refl needs h in
+    let e = step condition.NewEvent 3 refl c.1 c.2 in
+    let v = step condition.NewEventpair 4 refl e.1 e.2 in
+    let p = step condition.NewPort 5 refl v.1 v.2 in
+    let q = step condition.NewProcess 6 refl p.1 p.2 in (
+      record { channel = c.0; event = e.0; eventpair = v.0; port = p.0; process = q.0 },
+      c.3 ∙ ap (need_if c.0 condition.NewChannel) (e.3 ∙ ap (need_if e.0 condition.NewEvent) (v.3 ∙ ap (need_if v.0 condition.NewEventpair)
+          (p.3 ∙ ap (need_if p.0 condition.NewPort) (q.3 ∙ ap (need_if q.0 condition.NewProcess) (none_behind q.1 q.2))))),
+    )
 
 -- what is kept by a byte of needs
 pub record FitsByte (needs : List Condition) : Type 0 where
   pub valid : is_needs_byte (needs_byte needs) ≡ true
   pub again : needs_at (needs_byte needs) ≡ needs
 
-value_fits : (n : Needs) → FitsByte (needs_value n)
-value_fits n = by n.channel n.event n.port n.process
-  where
-    by : (c e p q : Bool)
-        → FitsByte (need_if c condition.NewChannel (need_if e condition.NewEvent (need_if p condition.NewPort (need_if q condition.NewProcess []))))
-    by true true true true = record { valid = refl; again = refl }
-    by true true true false = record { valid = refl; again = refl }
-    by true true false true = record { valid = refl; again = refl }
-    by true true false false = record { valid = refl; again = refl }
-    by true false true true = record { valid = refl; again = refl }
-    by true false true false = record { valid = refl; again = refl }
-    by true false false true = record { valid = refl; again = refl }
-    by true false false false = record { valid = refl; again = refl }
-    by false true true true = record { valid = refl; again = refl }
-    by false true true false = record { valid = refl; again = refl }
-    by false true false true = record { valid = refl; again = refl }
-    by false true false false = record { valid = refl; again = refl }
-    by false false true true = record { valid = refl; again = refl }
-    by false false true false = record { valid = refl; again = refl }
-    by false false false true = record { valid = refl; again = refl }
-    by false false false false = record { valid = refl; again = refl }
+flags_fit : (c e v p q : Bool) → FitsByte (flags c e v p q)
+flags_fit c e v p q = record {
+  valid = at_every (λ c e v p q. is_needs_byte (needs_byte (flags c e v p q))) refl c e v p q;
+  again = same_flags _ _ _ _ _ c e v p q (at_every (λ c e v p q. let b = needs_byte (flags c e v p q) in
+      alike (b % 2 == 1) c && (alike (b / 2 % 2 == 1) e && (alike (b / 4 % 2 == 1) v && (alike (b / 8 % 2 == 1) p && alike (b / 16 % 2 == 1) q))))
+      refl c e v p q);
+}
 
 pub needs_fit : (needs : List Condition) → are_needs needs ≡ true → FitsByte needs
-needs_fit needs h = let f = flagged needs h in rw f.1 (value_fits f.0)
+needs_fit needs h = let (n, is) = flagged needs h in rw is (flags_fit n.channel n.event n.eventpair n.port n.process)
 
 -- ---- needs that are named
 
--- the four flags as needs
-abbrev flags : Bool → Bool → Bool → Bool → List Condition
-flags c e p q = need_if c condition.NewChannel (need_if e condition.NewEvent (need_if p condition.NewPort (need_if q condition.NewProcess [])))
-
--- which of the four are named
+-- which of them are named
 abbrev named_flags : List Condition → List Condition
-named_flags named =
-    flags (is_among named condition.NewChannel) (is_among named condition.NewEvent) (is_among named condition.NewPort) (is_among named condition.NewProcess)
+named_flags named = flags (is_among named condition.NewChannel) (is_among named condition.NewEvent) (is_among named condition.NewEventpair)
+    (is_among named condition.NewPort) (is_among named condition.NewProcess)
 
 needs_named-flags : (named : List Condition) → needs_named named ≡ named_flags named
 needs_named-flags named =
-    by (is_among named condition.NewChannel) (is_among named condition.NewEvent) (is_among named condition.NewPort) (is_among named condition.NewProcess)
+    one (is_among named condition.NewChannel) _ _ _ (one (is_among named condition.NewEvent) _ _ _ (one (is_among named condition.NewEventpair) _ _ _
+    (one (is_among named condition.NewPort) _ _ _ (one (is_among named condition.NewProcess) _ _ _ refl))))
   where
     one : (b : Bool) (c : Condition) (xs ys : List Condition) → xs ≡ ys → (if b then c ∷ xs else xs) ≡ need_if b c ys
     one true c xs ys e = ap (λ (r : List Condition). c ∷ r) e
     one false c xs ys e = e
 
-    by : (c e p q : Bool)
-        → (if c then condition.NewChannel ∷ (if e then condition.NewEvent
-        ∷ (if p then condition.NewPort ∷ (if q then condition.NewProcess ∷ [] else []) else (if q then condition.NewProcess ∷ [] else []))
-        else (if p then condition.NewPort ∷ (if q then condition.NewProcess ∷ [] else []) else (if q then condition.NewProcess ∷ [] else [])))
-        else (if e then condition.NewEvent
-        ∷ (if p then condition.NewPort ∷ (if q then condition.NewProcess ∷ [] else []) else (if q then condition.NewProcess ∷ [] else []))
-        else (if p then condition.NewPort ∷ (if q then condition.NewProcess ∷ [] else []) else (if q then condition.NewProcess ∷ [] else [])))) ≡ flags c e p q
-    by c e p q = one c _ _ _ (one e _ _ _ (one p _ _ _ (one q _ _ _ refl)))
-
--- each of the four is among the flags where its flag is set
-record Among (c e p q : Bool) : Type 0 where
-  channel : is_among (flags c e p q) condition.NewChannel ≡ c
-  event : is_among (flags c e p q) condition.NewEvent ≡ e
-  port : is_among (flags c e p q) condition.NewPort ≡ p
-  process : is_among (flags c e p q) condition.NewProcess ≡ q
-
-among : (c e p q : Bool) → Among c e p q
-among true true true true = record { channel = refl; event = refl; port = refl; process = refl }
-among true true true false = record { channel = refl; event = refl; port = refl; process = refl }
-among true true false true = record { channel = refl; event = refl; port = refl; process = refl }
-among true true false false = record { channel = refl; event = refl; port = refl; process = refl }
-among true false true true = record { channel = refl; event = refl; port = refl; process = refl }
-among true false true false = record { channel = refl; event = refl; port = refl; process = refl }
-among true false false true = record { channel = refl; event = refl; port = refl; process = refl }
-among true false false false = record { channel = refl; event = refl; port = refl; process = refl }
-among false true true true = record { channel = refl; event = refl; port = refl; process = refl }
-among false true true false = record { channel = refl; event = refl; port = refl; process = refl }
-among false true false true = record { channel = refl; event = refl; port = refl; process = refl }
-among false true false false = record { channel = refl; event = refl; port = refl; process = refl }
-among false false true true = record { channel = refl; event = refl; port = refl; process = refl }
-among false false true false = record { channel = refl; event = refl; port = refl; process = refl }
-among false false false true = record { channel = refl; event = refl; port = refl; process = refl }
-among false false false false = record { channel = refl; event = refl; port = refl; process = refl }
-
 -- the flags name themselves
-flags_again : (c e p q : Bool) → needs_named (flags c e p q) ≡ flags c e p q
-flags_again c e p q = let a = among c e p q in needs_named-flags (flags c e p q) ∙ (λ i. flags (a.channel i) (a.event i) (a.port i) (a.process i))
+flags_again : (c e v p q : Bool) → needs_named (flags c e v p q) ≡ flags c e v p q
+flags_again c e v p q =
+    needs_named-flags (flags c e v p q) ∙ same_flags _ _ _ _ _ c e v p q (at_every (λ c e v p q. let named = flags c e v p q in
+    alike (is_among named condition.NewChannel) c && (alike (is_among named condition.NewEvent) e && (alike (is_among named condition.NewEventpair) v
+    && (alike (is_among named condition.NewPort) p && alike (is_among named condition.NewProcess) q)))) refl c e v p q)
 
 -- needs in order name themselves
 pub needs_named-needs : (needs : List Condition) → are_needs needs ≡ true → needs_named needs ≡ needs
-needs_named-needs needs h = let f = flagged needs h in rw f.1 (flags_again f.0.channel f.0.event f.0.port f.0.process)
+needs_named-needs needs h = let (n, is) = flagged needs h in rw is (flags_again n.channel n.event n.eventpair n.port n.process)

@@ -118,13 +118,13 @@ other_name n name opcode r has differs e same =
 
 -- ---- the end
 
-small : (name : List ℕ) (r : Row) → row_named name ≡ Some r → r.opcode < 87
+small : (name : List ℕ) (r : Row) → row_named name ≡ Some r → r.opcode < 88
 unfolding row_named
 small name r e =
-    ltb-true r.opcode 87 (each_found (λ x. nat_lt x.opcode 87 ≡ true) (λ x. pointwise ◌==◌ x.name name) rows r (all_of (λ x. nat_lt x.opcode 87) rows refl) e).0
+    ltb-true r.opcode 88 (each_found (λ x. nat_lt x.opcode 88 ≡ true) (λ x. pointwise ◌==◌ x.name name) rows r (all_of (λ x. nat_lt x.opcode 88) rows refl) e).0
 
 -- where no opcode has the name, no row has it
-pub no_name : (name : List ℕ) → ((r : Row) → row_named name ≡ Some r → 87 ≤ r.opcode) → row_named name ≡ None
+pub no_name : (name : List ℕ) → ((r : Row) → row_named name ≡ Some r → 88 ≤ r.opcode) → row_named name ≡ None
 no_name name above = by (row_named name) refl
   where
     by : (o : Option Row) → row_named name ≡ o → row_named name ≡ None

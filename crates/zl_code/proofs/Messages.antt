@@ -1,10 +1,10 @@
--- Handles on their way: those in a message, and those to both ends of a new channel.
-use Rattle.zl_code.proofs.Common.{All, All-cons, All-head, All-nil, All-tail, Body, Entry, HandlesAreNamed, HandlesAreSound, IsTrue, List, Map, Message, None}
+-- Handles on their way: those in a message, and those to both ends of a new pair.
+use Rattle.zl_code.proofs.Common.{All, All-cons, All-head, All-nil, All-tail, Body, Entry, HandlesAreNamed, HandlesAreSound, IsTrue, Kind, List, Map, Message}
+use Rattle.zl_code.proofs.Common.{None}
 use Rattle.zl_code.proofs.Common.{Object, Option, Some, World, [], and_from, and_parts, arith, body_in, cases_Bool, entries_at, entry_at, eq-eqb}
 use Rattle.zl_code.proofs.Common.{first_handles, get, get-put, get-update, has_default_rights, inl, inr, kind_of, list_all, message_read, message_sent}
 use Rattle.zl_code.proofs.Common.{names_its_object, ne_eqb, new_entry, object_at, on_object, option_to_list, put, queue_at, queue_in, queue_of, refl}
 use Rattle.zl_code.proofs.Common.{slice_index_or, subst, sym, update, with_object, ℕ, ◌++◌, ◌+◌, ◌==◌, ◌∙◌, ◌∷◌, ◌≡◌}
-use Rattle.zl_rights.specs.declared.kind.Kind.TheVariants as kind
 use Rattle.zl_code.proofs.Changes.{MayBeSent}
 use Rattle.zl_code.proofs.Entering.{IsFine, default_rights, entry_is_fine}
 use Rattle.zl_code.proofs.NotReused.{sent_kind, read_kind}
@@ -93,20 +93,20 @@ received_are_fine w u p c same =
     names None at s = All-nil (names_its_object (update u.objects k message_read))
     names (Some o) at s = first_names (queue_of o.body) (s.queues k o at)
 
--- ---- both ends of a new channel
+-- ---- both ends of a new pair
 
--- the first handles to the next two objects, which are ends of a channel
-abbrev pub two_entries : World → List Entry
-two_entries w = new_entry w.next_koid kind.Channel ∷ new_entry (w.next_koid + 1) kind.Channel ∷ []
+-- the first handles to the next two objects, which are ends of this kind
+abbrev pub two_entries : World → Kind → List Entry
+two_entries w kind = new_entry w.next_koid kind ∷ new_entry (w.next_koid + 1) kind ∷ []
 
-pub both_are_fine : (start u : World) (first second : Body) (k : ℕ) → u.next_koid ≡ k → kind_of first ≡ kind.Channel → kind_of second ≡ kind.Channel
-    → All (IsFine start (with_object (with_object u first) second).objects) (new_entry k kind.Channel ∷ new_entry (k + 1) kind.Channel ∷ [])
+pub both_are_fine : (start u : World) (first second : Body) (kind : Kind) (k : ℕ) → u.next_koid ≡ k → kind_of first ≡ kind → kind_of second ≡ kind
+    → All (IsFine start (with_object (with_object u first) second).objects) (new_entry k kind ∷ new_entry (k + 1) kind ∷ [])
 unfolding with_object
-both_are_fine start u first second k is is_end other_end =
-    All-cons (IsFine start objects) (new_entry k kind.Channel) (new_entry (k + 1) kind.Channel ∷ [])
-    (record { rights = λ s. default_rights k kind.Channel; names = λ s. (object first, at_first, sym is_end) })
-    (All-cons (IsFine start objects) (new_entry (k + 1) kind.Channel) []
-    (record { rights = λ s. default_rights (k + 1) kind.Channel; names = λ s. (object second, at_second, sym other_end) }) (All-nil (IsFine start objects)))
+both_are_fine start u first second kind k is is_end other_end =
+    All-cons (IsFine start objects) (new_entry k kind) (new_entry (k + 1) kind ∷ [])
+    (record { rights = λ s. default_rights k kind; names = λ s. (object first, at_first, sym is_end) })
+    (All-cons (IsFine start objects) (new_entry (k + 1) kind) []
+    (record { rights = λ s. default_rights (k + 1) kind; names = λ s. (object second, at_second, sym other_end) }) (All-nil (IsFine start objects)))
   where
     object : Body → Object
     object b = record { body = b; raised = 0 }

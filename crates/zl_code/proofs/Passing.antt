@@ -1,17 +1,21 @@
 -- What is known of a call that isn't refused: that none of its causes is there, and what its look-ups granted.
-use Rattle.zl_code.proofs.Common.{Body, Bool, ChannelEnd, Entry, Err, HandlesAreNamed, HandlesAreSound, HasPeer, IsSound, IsSoundWait, IsTrue, Kind, Library}
-use Rattle.zl_code.proofs.Common.{List, None, Object, Ok, Option, Outcome, Packet, PortBody, Process, Request, SIGNAL, SIGNAL_PEER, Some, Status, Wait, World}
+use Rattle.zl_code.proofs.Common.{Body, Bool, ChannelEnd, PairEnd, Entry, Err, HandlesAreNamed, HandlesAreSound, HasPeer, IsSound, IsSoundWait, IsTrue, Kind}
+use Rattle.zl_code.proofs.Common.{Library}
+use Rattle.zl_code.proofs.Common.{List, None, Object, Ok, Option, Outcome, Packet, PortBody, Process, Request, SIGNAL, SIGNALED, SIGNAL_PEER, Some, Status}
+use Rattle.zl_code.proofs.Common.{Wait, World}
 use Rattle.zl_code.proofs.Common.{[], and_parts, answer_if, ap, bits, body_in, body_of, by_look_up, by_policy, cases_Bool, condition_of, default_rights_of}
 use Rattle.zl_code.proofs.Common.{entry_at, eqb-true, examined, false, false≢true, first_some, get, granted, handle_operands, handles_in, has_key, has_room}
-use Rattle.zl_code.proofs.Common.{if◌then◌else◌, inl, inr, is_by_handle, is_end_if_there, is_some, kind_of, listed, narrowed_within, none-some, not}
+use Rattle.zl_code.proofs.Common.{if◌then◌else◌, inl, inr, is_by_handle, is_kind_if_there, is_some, kind_of, listed, narrowed_within, none-some, not}
 use Rattle.zl_code.proofs.Common.{not-false, object_at, operand, or_parts, peer_at, raisable, refl, refusal, replace, rights_of, row_of, same_Some}
-use Rattle.zl_code.proofs.Common.{settable_of, signal, signal_peer, slice_index_or, subst, sym, takes, true, true≢false, within, ℕ, ⊤, ◌&&◌, ◌==◌, ◌||◌, ◌∙◌}
+use Rattle.zl_code.proofs.Common.{settable_of, signal, signal_peer, slice_index_or, subst, sym, takes, true, true≢false, within, ℕ, ⊤, ◌&&◌, ◌+◌, ◌==◌, ◌||◌}
+use Rattle.zl_code.proofs.Common.{◌∙◌}
 use Rattle.zl_code.proofs.Common.{◌∷◌, ◌≡◌}
 use Rattle.zl_code.proofs.Changes.{AreUnmade}
 use Rattle.zl_rights.specs.declared.kind.Kind.TheVariants as kind
 use Rattle.zl_rights.specs.declared.status.Status.TheVariants as status
 use Rattle.zl_rights.specs.Numbers.{USER_SIGNALS}
-use Rattle.zl_code.specs.Tests.{peer_in}
+use Rattle.zl_code.specs.Instructions.{ends}
+use Rattle.zl_code.specs.Tests.{may_change, peer_in}
 use Rattle.zl_code.proofs.Entering.{entry_is_fine}
 
 -- ---- what holds where a call isn't refused
@@ -117,30 +121,47 @@ may_signal w p h clear set lib passes o there sound =
 
 -- the handle by which the peer is signaled names an end
 pub has_end : (w : World) (p h clear set : ℕ) (lib : Library) → refusal lib w p (signal_peer h clear set) ≡ None
-    → IsGranted (kind.Channel ∷ []) SIGNAL_PEER (entry_at w p h)
+    → IsGranted ends SIGNAL_PEER (entry_at w p h)
 unfolding row_of refusal handle_operands examined operand
-has_end w p h clear set lib passes = is_granted w p (kind.Channel ∷ []) SIGNAL_PEER (entry_at w p h) (first_is_none _ _ (first_is_none _ _ passes))
+has_end w p h clear set lib passes = is_granted w p ends SIGNAL_PEER (entry_at w p h) (first_is_none _ _ (first_is_none _ _ passes))
 
 pub may_signal_peer : (w : World) (p h clear set : ℕ) (lib : Library) → refusal lib w p (signal_peer h clear set) ≡ None → (o : Object)
     → get w.objects (peer_at w p h) ≡ Some o
     → IsSound w → IsTrue (within set (raisable o.body))
 unfolding listed
 may_signal_peer w p h clear set lib passes o there sound =
-    let (x, at, fits) = named_object w p h (kind.Channel ∷ []) SIGNAL_PEER (has_end w p h clear set lib passes) sound.named in
+    let (x, at, fits) = named_object w p h ends SIGNAL_PEER (has_end w p h clear set lib passes) sound.named in
     by_body x x.body at refl fits
   where
-    at_end : (b : Body) → IsTrue (is_end_if_there (Some b)) → IsTrue (within set USER_SIGNALS) → IsTrue (within set (raisable b))
-    at_end (ChannelEnd peer queue) is h2 = h2
-    at_end _ is h2 = absurd (false≢true is)
+    at_channel : (b : Body) → IsTrue (is_kind_if_there kind.Channel (Some b)) → IsTrue (within set USER_SIGNALS) → IsTrue (within set (raisable b))
+    at_channel (ChannelEnd peer queue) is h2 = h2
+    at_channel _ is h2 = absurd (false≢true is)
 
-    by_body : (x : Object) (b : Body) → get w.objects (object_at w p h) ≡ Some x → x.body ≡ b → IsTrue (takes (kind.Channel ∷ []) (kind_of b))
+    at_pair : (b : Body) → IsTrue (is_kind_if_there kind.Eventpair (Some b)) → IsTrue (within set (SIGNALED + USER_SIGNALS)) → IsTrue (within set (raisable b))
+    at_pair (PairEnd peer) is h2 = h2
+    at_pair _ is h2 = absurd (false≢true is)
+
+    masked : (b : Body) → body_of w (object_at w p h) ≡ Some b → IsTrue (within set (settable_of (Some b)))
+    masked b body =
+        (and_parts (within clear (settable_of (Some b))) (within set (settable_of (Some b)))
+        (rw body at (not-false (may_change (body_of w (object_at w p h)) clear set)
+        (test_fails (not (may_change (body_of w (object_at w p h)) clear set)) status.InvalidArgs
+        (listed_none lib w p (signal_peer h clear set) passes).0)))).1
+
+    has : (x : Object) (b : Body) → get w.objects (object_at w p h) ≡ Some x → x.body ≡ b → HasPeer w.objects w.next_koid b
+    has x b at is = subst (HasPeer w.objects w.next_koid) is (sound.peers (object_at w p h) x at)
+
+    found : (b : Body) → body_of w (object_at w p h) ≡ Some b → get w.objects (peer_in (Some b)) ≡ Some o
+    found b body = ap (get w.objects) (sym (ap peer_in body)) ∙ there
+
+    by_body : (x : Object) (b : Body) → get w.objects (object_at w p h) ≡ Some x → x.body ≡ b → IsTrue (takes ends (kind_of b))
         → IsTrue (within set (raisable o.body))
     by_body x (ChannelEnd peer queue) at is fits =
         let body : body_of w (object_at w p h) ≡ Some (ChannelEnd peer queue) = ap body_in at ∙ ap Some is in
-        let has : HasPeer w.objects w.next_koid (ChannelEnd peer queue) = subst (HasPeer w.objects w.next_koid) is (sound.peers (object_at w p h) x at) in
-        let found : get w.objects peer ≡ Some o = ap (get w.objects) (sym (ap peer_in body)) ∙ there in
-        at_end o.body (rw found at has.1)
-        (and_parts _ _ (rw body at (not-false _ (test_fails _ status.InvalidArgs (listed_none lib w p (signal_peer h clear set) passes).0)))).1
+        at_channel o.body (rw (found (ChannelEnd peer queue) body) at (has x (ChannelEnd peer queue) at is).1) (masked (ChannelEnd peer queue) body)
+    by_body x (PairEnd peer) at is fits =
+        let body : body_of w (object_at w p h) ≡ Some (PairEnd peer) = ap body_in at ∙ ap Some is in
+        at_pair o.body (rw (found (PairEnd peer) body) at (has x (PairEnd peer) at is).1) (masked (PairEnd peer) body)
     by_body x _ at is fits = absurd (false≢true fits)
 
 -- by a value that no handle of p has no wait was made

@@ -60,8 +60,10 @@ rows_of_one_fault :
     × (FirstIs (with_byte 8 1 (with_byte 10 1 exit)) fault.BadHeader)
     -- The raw mark is 2.
     × (FirstIs (with_byte 5 2 exit) fault.BadHeader)
-    -- Bit 2 of the needs stands for nothing.
-    × (FirstIs (with_byte 16 4 exit) fault.BadHeader)
+    -- Bit 5 of the needs stands for nothing.
+    × (FirstIs (with_byte 16 32 exit) fault.BadHeader)
+    -- Bit 2 stands for event pairs.
+    × (first_fault (with_byte 16 4 exit) ≡ None)
     -- No instruction has opcode 26.
     × (FirstIs (with_byte 20 26 exit) fault.UnknownOp)
     -- Under the raw mark it may stand, whatever its other bytes are.
@@ -79,7 +81,7 @@ rows_of_one_fault :
     -- process_exit has no target, and the last byte of its field is set.
     × (FirstIs (with_byte 35 1 exit) fault.UnusedField)
 unfolding first_fault header_fault start_fault slot_fault instr_fault pieces row_of
-rows_of_one_fault = (refl, refl, refl, refl, refl, refl, refl, refl, refl, refl, refl, refl, refl, refl, refl, refl, refl, refl, refl, refl, refl)
+rows_of_one_fault = (refl, refl, refl, refl, refl, refl, refl, refl, refl, refl, refl, refl, refl, refl, refl, refl, refl, refl, refl, refl, refl, refl)
 
 -- ---- two faults at once
 

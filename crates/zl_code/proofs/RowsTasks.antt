@@ -240,7 +240,7 @@ rows_of_job_set_policy :
     × (PassesIn (family ((9, entry_of kind.Job 4 SET_POLICY) ∷ []) child_job (child_of 0 (Ended (negsuc 0)) [])) (job_set_policy 9 ABSOLUTE EVENTS DENY))
     -- Unknown numbers of a mode, a condition and an action, which come before the state of the job.
     × (RefusesIn created (job_set_policy 9 2 EVENTS DENY) (outcome.Answered status.InvalidArgs))
-    × (RefusesIn created (job_set_policy 9 ABSOLUTE 5 DENY) (outcome.Answered status.InvalidArgs))
+    × (RefusesIn created (job_set_policy 9 ABSOLUTE 8 DENY) (outcome.Answered status.InvalidArgs))
     × (RefusesIn created (job_set_policy 9 ABSOLUTE EVENTS 3) (outcome.Answered status.InvalidArgs))
     -- A process that was only created lives in the job; a job lives in job 1.
     × (RefusesIn created (job_set_policy 9 ABSOLUTE EVENTS DENY) (outcome.Answered status.BadState))
@@ -262,7 +262,7 @@ rows_of_job_set_policy_2 :
     -- What is set stays, and the other conditions are set beside it.
     × (body_of (set_in 9 RELATIVE EVENTS ALLOW (childless denying)) 4 ≡ Some denying)
     × (body_of (set_in 9 RELATIVE ANY_NEW ALLOW (childless denying)) 4
-    ≡ Some (JobBody 1 2 ((3, action.Allow) ∷ (4, action.Deny) ∷ (6, action.Allow) ∷ (7, action.Allow) ∷ []) false))
+    ≡ Some (JobBody 1 2 ((3, action.Allow) ∷ (4, action.Deny) ∷ (5, action.Allow) ∷ (6, action.Allow) ∷ (7, action.Allow) ∷ []) false))
     -- A conflict sets nothing.
     × (body_of (after (childless denying) (turn_in name.JobSetPolicy (site (job_set_policy 9 ABSOLUTE ANY_NEW ALLOW) [] (0 ∷ [])) (childless denying) Refused))
     4 ≡ Some denying)

@@ -6,7 +6,8 @@ use Rattle.zl_code.specs.Same.{DeclaresSame, HasSameHeader, HasSameNeeds, HaveSa
 use Rattle.zl_code.proofs.ImageWhole.{spells_one}
 
 same_byte : (i j : Image) → HasSameNeeds i j → needs_byte i.needs ≡ needs_byte j.needs
-same_byte i j n = λ k. (if n.channels k then 1 else 0) + ((if n.events k then 2 else 0) + ((if n.ports k then 8 else 0) + (if n.processes k then 16 else 0)))
+same_byte i j n = λ k. (if n.channels k then 1 else 0) + ((if n.events k then 2 else 0) + ((if n.eventpairs k then 4 else 0)
+    + ((if n.ports k then 8 else 0) + (if n.processes k then 16 else 0))))
 
 same_spelling : (i j : Image) → HasSameHeader i j → DeclaresSame i j → HaveSameBytes i.code j.code → spelling i ≡ spelling j
 same_spelling i j h d code = λ k.

@@ -1,23 +1,25 @@
 -- Every world of a run from a boot world is sound.
-use Rattle.zl_code.proofs.Common.{Action, All, Blocked, Body, Bool, ChannelEnd, Created, Entry, Gone, HandlesAreNamed, HandlesAreSound, HasGivenKoids}
-use Rattle.zl_code.proofs.Common.{HasItsObject, HasPeer, IsBelow, IsLargestHeld, IsSound, IsSoundTable, IsTrue, JobBody, Koids, LivesAt, Map, Message, None}
+use Rattle.zl_code.proofs.Common.{Action, All, Blocked, Body, Bool, ChannelEnd, PairEnd, Created, Entry, Gone, HandlesAreNamed, HandlesAreSound, HasGivenKoids}
+use Rattle.zl_code.proofs.Common.{HasItsObject, HasPeer, HasPeerOf, IsBelow, IsLargestHeld, IsSound, IsSoundTable, IsTrue, JobBody, Kind, Koids, LivesAt, Map}
+use Rattle.zl_code.proofs.Common.{Message, None}
 use Rattle.zl_code.proofs.Common.{Object, Option, Process, ProcessBody, Ready, Setting, Settles, Some, StandsBelow, State, World, [], and_from, and_parts, ap}
 use Rattle.zl_code.proofs.Common.{arith, bit_and, bit_xor, body_after_read, body_in, body_killed, body_with_message, body_with_policy, cases_Bool, each}
 use Rattle.zl_code.proofs.Common.{eq-eqb, eqb-true, false, false≢true, filter, get, get-each, get-put, get-where_key-in, get-where_key-out, has_key}
-use Rattle.zl_code.proofs.Common.{has_living_child, if◌then◌else◌, in_queue, in_table, inl, inr, is_blocked, is_end_if_there, is_held, is_job_below}
+use Rattle.zl_code.proofs.Common.{has_living_child, if◌then◌else◌, in_queue, in_table, inl, inr, is_blocked, is_held, is_kind_if_there, is_job_below}
 use Rattle.zl_code.proofs.Common.{is_process, is_some, is_value, length, lives, max, may_get, may_get_after, min, nat_lt, none-some, not, option_map, or_left}
 use Rattle.zl_code.proofs.Common.{or_right, process_settled, put, raisable, refl, runs, same_Some, state_passes, state_without, subst, suc, sym, true}
 use Rattle.zl_code.proofs.Common.{true≢false, where_key, within, without, without_others, ℕ, ◌<◌, ◌==◌, ◌||◌, ◌∙◌, ◌≡◌, ◌≤◌}
 use Rattle.std.specs.Int.{bit_at}
 use Rattle.std.proofs.lemmas.Nat.Bits.{same_from_bits, bit_at_and, bit_at_or, bit_at-zero}
 use Rattle.zl_rights.specs.Numbers.{changed as signals_changed}
+use Rattle.zl_rights.specs.declared.kind.Kind.TheVariants as kind
 use Rattle.zl_code.proofs.MapKept.{each_where_key, EachChanged, same, changed, new, changed_each, each_changed}
 use Rattle.zl_code.proofs.Changes.{IsWait, MayEnter, ProcessChange, handle_enters, handle_leaves, computes, ends, wakes, starts, blocks, ObjectChange}
 use Rattle.zl_code.proofs.Changes.{signals_change, packets_change, message_comes, message_goes, policy_changes, dies, still, awake, asleep, Change}
 use Rattle.zl_code.proofs.Entering.{length_filter, length_put}
 use Rattle.zl_code.proofs.HandlesKept.{sound_change, sound_settled}
 use Rattle.zl_code.proofs.NamesKept.{named_change, named_settled, held_is_kept, list_any-get}
-use Rattle.zl_code.proofs.NotReused.{given_change, given_settled}
+use Rattle.zl_code.proofs.NotReused.{given_change, given_settled, same_kind}
 use Rattle.zl_code.proofs.WaitsKept.{AreLive, are_waits, sound_waits, waits_kept, waits_settled}
 use Rattle.zl_code.proofs.TreeKept.{changed_stands, has_body, lives_before, object_stays, stands_on}
 
@@ -136,7 +138,7 @@ none_raised whole =
     nothing : (n : ℕ) → min n 0 ≡ 0
     nothing n = omega arith
 
--- ---- the peers of channel ends
+-- ---- the peers of ends
 
 -- a change of an end leaves it its peer
 peer_kept : (start after : World) (m : Map Object) (n k : ℕ) (x y : Object) → ObjectChange start after k x y → HasPeer m n x.body → HasPeer m n y.body
@@ -163,54 +165,42 @@ peer_kept start after m n k x y (message_goes is) t = rw is (read x.body t)
     read (ChannelEnd peer queue) h = h
     read _ h = h
 
--- and it stays an end
-end_stays : (start after : World) (k : ℕ) (x y : Object) → ObjectChange start after k x y → IsTrue (is_end_if_there (Some x.body))
-    → IsTrue (is_end_if_there (Some y.body))
-end_stays start after k x y (signals_change clear set is may) t = rw is t
-end_stays start after k x y (packets_change old packets port is) t = absurd (false≢true (rw port at t))
-end_stays start after k x y (message_comes message is may) t = rw is (sent x.body t)
-  where
-    sent : (b : Body) → IsTrue (is_end_if_there (Some b)) → IsTrue (is_end_if_there (Some (body_with_message message b)))
-    sent (ChannelEnd peer queue) h = h
-    sent _ h = h
-end_stays start after k x y (policy_changes s is may) t = rw is (set x.body t)
-  where
-    set : (b : Body) → IsTrue (is_end_if_there (Some b)) → IsTrue (is_end_if_there (Some (body_with_policy s b)))
-    set (JobBody parent depth policy killed) h = absurd (false≢true h)
-    set _ h = h
-end_stays start after k x y (dies is may) t = rw is (died x.body t)
-  where
-    died : (b : Body) → IsTrue (is_end_if_there (Some b)) → IsTrue (is_end_if_there (Some (body_killed b)))
-    died (JobBody parent depth policy killed) h = absurd (false≢true h)
-    died _ h = h
-end_stays start after k x y (message_goes is) t = rw is (read x.body t)
-  where
-    read : (b : Body) → IsTrue (is_end_if_there (Some b)) → IsTrue (is_end_if_there (Some (body_after_read b)))
-    read (ChannelEnd peer queue) h = h
-    read _ h = h
-
 -- no change takes a peer away, or puts anything else at its koid
 peer_stays : (start u v : World) → Change start u v → (b : Body) → HasPeer u.objects u.next_koid b → HasPeer v.objects v.next_koid b
-peer_stays start u v c (ChannelEnd peer queue) (below, is_end) = (
-  omega (arith, below, c.next_koid),
-  elim (c.objects peer) as (λ _. IsTrue (is_end_if_there (body_in (get v.objects peer)))) [
-    | same e ↦ rw e is_end
-    | changed x y was is r ↦ rw is (end_stays start v peer x y r (rw was at is_end))
-    | new y is n ↦ absurd (omega (arith, n.next, below))
-  ],
-)
-peer_stays start u v c _ h = tt
+peer_stays start u v c b has = by_body b has
+  where
+    stays : (k : Kind) (peer : ℕ) → HasPeerOf k u.objects u.next_koid peer → HasPeerOf k v.objects v.next_koid peer
+    stays k peer (below, is_end) = (
+      omega (arith, below, c.next_koid),
+      elim (c.objects peer) as (λ _. IsTrue (is_kind_if_there k (body_in (get v.objects peer)))) [
+        | same e ↦ rw e is_end
+        | changed x y was is r ↦ rw (is, same_kind start v peer x y r) (rw was at is_end)
+        | new y is n ↦ absurd (omega (arith, n.next, below))
+      ],
+    )
+
+    by_body : (b : Body) → HasPeer u.objects u.next_koid b → HasPeer v.objects v.next_koid b
+    by_body (ChannelEnd peer queue) has = stays kind.Channel peer has
+    by_body (PairEnd peer) has = stays kind.Eventpair peer has
+    by_body _ has = tt
 
 -- nor does settling
 peer_settles : (m : Map Object) (n : ℕ) (K : Koids) (b : Body) → HasPeer m n b → HasPeer (where_key K m) n b
-peer_settles m n K (ChannelEnd peer queue) (below, is_end) = (
-  below,
-  elim (cases_Bool (K peer)) as (λ _. IsTrue (is_end_if_there (body_in (get (where_key K m) peer)))) [
-    | inl kept ↦ rw (get-where_key-in m K peer kept) is_end
-    | inr gone ↦ rw (get-where_key-out m K peer gone) refl
-  ],
-)
-peer_settles m n K _ h = tt
+peer_settles m n K b has = by_body b has
+  where
+    settles : (k : Kind) (peer : ℕ) → HasPeerOf k m n peer → HasPeerOf k (where_key K m) n peer
+    settles k peer (below, is_end) = (
+      below,
+      elim (cases_Bool (K peer)) as (λ _. IsTrue (is_kind_if_there k (body_in (get (where_key K m) peer)))) [
+        | inl kept ↦ rw (get-where_key-in m K peer kept) is_end
+        | inr gone ↦ rw (get-where_key-out m K peer gone) refl
+      ],
+    )
+
+    by_body : (b : Body) → HasPeer m n b → HasPeer (where_key K m) n b
+    by_body (ChannelEnd peer queue) has = settles kind.Channel peer has
+    by_body (PairEnd peer) has = settles kind.Eventpair peer has
+    by_body _ has = tt
 
 -- ---- a change
 

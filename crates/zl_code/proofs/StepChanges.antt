@@ -1,5 +1,6 @@
 -- Which changes a step is made of: a call with its answer, a statement of a boot, and waking.
-use Rattle.zl_code.proofs.Common.{Action, Acts, All, All-cons, All-nil, AtCall, Blocked, Body, Bool, CallBy, ChannelEnd, Choice, Condition, Entry, EventBody}
+use Rattle.zl_code.proofs.Common.{PairEnd, Action, Acts, All, All-cons, All-nil, AtCall, Blocked, Body, Bool, CallBy, ChannelEnd, Choice, Condition, Entry}
+use Rattle.zl_code.proofs.Common.{EventBody}
 use Rattle.zl_code.proofs.Common.{Grant, HasGivenKoids, IsSound, IsSoundWait, IsStuck, IsTrue, JobBody, Library, List, Map, Moves, Next, None, Object, Option}
 use Rattle.zl_code.proofs.Common.{Outcome, Packet, PacketAt, PortBody, Process, ProcessBody, Ready, Refused, SignalOf, Site, Some, StandsBelow, State}
 use Rattle.zl_code.proofs.Common.{Statement, Status, Step, TraceItem, Values, Wait, WantsMemory, World, [], active, after_ok, after_refusal, and_parts, ap}
@@ -21,7 +22,8 @@ use Rattle.zl_code.proofs.Killing.{new_job_stands}
 use Rattle.zl_code.proofs.CanStart.{none_first, CanStart, can_start, handles_at_most, started_with_all, started_may_get}
 use Rattle.zl_code.proofs.MapKept.{changed, changed_update, each_changed, each_put}
 use Rattle.zl_code.proofs.Changes.{AreUnmade, computes, Changes, stays, changes, settles, join, one, process_changes, process_ends, process_wakes}
-use Rattle.zl_code.proofs.Changes.{process_blocks, process_is_made, object_changes, policy_changes, object_is_made, ends_are_made, packet_goes, waits_fire}
+use Rattle.zl_code.proofs.Changes.{process_blocks, process_is_made, object_changes, policy_changes, object_is_made, channel_ends, pair_ends, ends_are_made}
+use Rattle.zl_code.proofs.Changes.{packet_goes, waits_fire}
 use Rattle.zl_code.proofs.Entering.{IsFine, all_enter, all_leave, left_behind}
 use Rattle.zl_code.proofs.CallLaws.{laws}
 use Rattle.zl_code.proofs.StepsBeside.{ActsAndSettles}
@@ -205,6 +207,9 @@ boot_kills_none lib w statement.Port vs none = none_killed_beside w (PortBody []
 boot_kills_none lib w statement.Channel vs none =
     none_killed_beside (with_object w (ChannelEnd (w.next_koid + 1) [])) (ChannelEnd w.next_koid []) refl
     (none_killed_beside w (ChannelEnd (w.next_koid + 1) []) refl none)
+boot_kills_none lib w statement.Eventpair vs none =
+    none_killed_beside (with_object w (PairEnd (w.next_koid + 1))) (PairEnd w.next_koid) refl
+    (none_killed_beside w (PairEnd (w.next_koid + 1)) refl none)
 
 -- nothing lives in the job whose policy a statement sets
 pub no_child_booted : (lib : Library) (w : World) (job : ℕ) (condition : Condition) (action : Action)
@@ -310,4 +315,5 @@ boot_changes lib w (statement.Policy job condition action) vs given none fine ma
     (λ o at. policy_changes (setting condition action) refl (λ s. no_child_booted lib w job condition action fine)))
 boot_changes lib w statement.Event vs given none fine may = one w w _ (object_is_made w w EventBody refl tt (λ s. tt))
 boot_changes lib w statement.Port vs given none fine may = one w w _ (object_is_made w w (PortBody []) refl tt (λ s. tt))
-boot_changes lib w statement.Channel vs given none fine may = one w w _ (ends_are_made w w w.next_koid refl)
+boot_changes lib w statement.Channel vs given none fine may = one w w _ (ends_are_made w w w.next_koid refl channel_ends)
+boot_changes lib w statement.Eventpair vs given none fine may = one w w _ (ends_are_made w w w.next_koid refl pair_ends)

@@ -126,11 +126,13 @@ set_policy policy None h = h
 set_policy policy (Some s) h = by_condition s.condition
   where
     by_condition : (c : Condition) → IsTrue (is_policy (policy_set policy c s.action))
-    by_condition condition.NewAny = set_one s.action _ 7 refl (set_one s.action _ 6 refl (set_one s.action _ 4 refl (set_one s.action policy 3 refl h)))
+    by_condition condition.NewAny =
+        set_one s.action _ 7 refl (set_one s.action _ 6 refl (set_one s.action _ 5 refl (set_one s.action _ 4 refl (set_one s.action policy 3 refl h))))
     by_condition condition.BadHandle = set_one s.action policy 0 refl h
     by_condition condition.WrongObject = set_one s.action policy 1 refl h
     by_condition condition.NewChannel = set_one s.action policy 3 refl h
     by_condition condition.NewEvent = set_one s.action policy 4 refl h
+    by_condition condition.NewEventpair = set_one s.action policy 5 refl h
     by_condition condition.NewPort = set_one s.action policy 6 refl h
     by_condition condition.NewProcess = set_one s.action policy 7 refl h
 

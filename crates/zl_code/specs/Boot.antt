@@ -3,7 +3,7 @@ use Rattle.std.specs.Prelude.{ℕ, ◌+◌, ◌≡◌, ◌<◌, ◌≤◌, Bool,
 use Rattle.std.specs.Bool.{then_some}
 use Rattle.std.specs.List.{list_all}
 use Rattle.std.specs.Option.{option_to_list}
-use Rattle.zl_rights.specs.Common.{rights_of, default_rights_of, Map, get, has_key, World, Process, Object, Body, JobBody, ProcessBody, ChannelEnd, EventBody, PortBody, kind_of, is_empty, Settles}
+use Rattle.zl_rights.specs.Common.{rights_of, default_rights_of, Map, get, has_key, World, Process, Object, Body, JobBody, ProcessBody, ChannelEnd, EventBody, PairEnd, PortBody, kind_of, is_empty, Settles}
 use Rattle.zl_rights.specs.declared.kind.Kind.{Kind}
 use Rattle.zl_code.specs.First.{first_some}
 use Rattle.zl_rights.specs.declared.entry.Entry.{Entry}
@@ -98,6 +98,7 @@ koids_of (statement.Process job program word handles) = 1
 koids_of statement.Event = 1
 koids_of statement.Port = 1
 koids_of statement.Channel = 2
+koids_of statement.Eventpair = 2
 
 -- fewer koids are left than the statement takes
 abbrev pub lacks_koids : World → Statement → Bool
@@ -130,6 +131,7 @@ boot_fault lib w (statement.Process job program word handles) = first_some (
 boot_fault lib w statement.Event = then_some (lacks_koids w statement.Event) cause.Limit
 boot_fault lib w statement.Port = then_some (lacks_koids w statement.Port) cause.Limit
 boot_fault lib w statement.Channel = then_some (lacks_koids w statement.Channel) cause.Limit
+boot_fault lib w statement.Eventpair = then_some (lacks_koids w statement.Eventpair) cause.Limit
 
 -- these values may be given to the handles of the statement, one after another
 abbrev pub may_boot : Library → World → Statement → List ℕ → Bool
@@ -139,6 +141,7 @@ may_boot lib w (statement.Policy job condition action) vs = is_empty vs
 may_boot lib w statement.Event vs = is_empty vs
 may_boot lib w statement.Port vs = is_empty vs
 may_boot lib w statement.Channel vs = is_empty vs
+may_boot lib w statement.Eventpair vs = is_empty vs
 
 -- the process with the handles, each at its value
 abbrev pub process_with_all : List Entry → List ℕ → Process → Process
@@ -160,6 +163,7 @@ boot_effect lib w statement.Event vs = with_object w EventBody
 boot_effect lib w statement.Port vs = with_object w (PortBody [])
 boot_effect lib w statement.Channel vs =
     with_object (with_object w (ChannelEnd (w.next_koid + 1) [])) (ChannelEnd w.next_koid [])
+boot_effect lib w statement.Eventpair vs = with_object (with_object w (PairEnd (w.next_koid + 1))) (PairEnd w.next_koid)
 
 -- ---- all statements
 
@@ -193,6 +197,7 @@ gives_no_handle (statement.Policy job condition action) = true
 gives_no_handle statement.Event = true
 gives_no_handle statement.Port = true
 gives_no_handle statement.Channel = true
+gives_no_handle statement.Eventpair = true
 
 -- w is a boot world of the statements
 pub record IsBoot (lib : Library) (statements : List Statement) (w : World) : Type 0 where

@@ -2,7 +2,7 @@
 use Rattle.std.specs.Prelude.{ℕ, ℤ, ◌+◌, ◌^◌, ◌&&◌, ◌||◌, not, nat_le, List, [], ◌∷◌, ◌++◌, length, Option, Some, None, is_some, slice_get}
 use Rattle.std.specs.Bool.{then_some}
 use Rattle.std.specs.Option.{option_to_list}
-use Rattle.zl_rights.specs.Common.{World, ChannelEnd, EventBody, PortBody, ProcessBody, has_key, is_empty, is_process}
+use Rattle.zl_rights.specs.Common.{World, ChannelEnd, EventBody, PairEnd, PortBody, ProcessBody, has_key, is_empty, is_process}
 use Rattle.zl_rights.specs.declared.kind.Kind.TheVariants as kind
 use Rattle.zl_rights.specs.declared.status.Status.{Status}
 use Rattle.zl_rights.specs.declared.status.Status.TheVariants as status
@@ -108,6 +108,9 @@ job_create j = ask name.JobCreate (j, tt) tt
 pattern abbrev pub job_set_policy : (j mode condition action : ℕ) → Request
 job_set_policy j mode condition action = ask name.JobSetPolicy (j, (mode, (condition, (action, tt)))) tt
 
+pattern abbrev pub eventpair_create : Request
+eventpair_create = ask name.EventpairCreate tt tt
+
 -- ---- how it is refused
 
 -- the listed answers in their order; here each handle operand is live, of its kind and with its rights
@@ -190,6 +193,9 @@ listed lib w p (job_set_policy j mode condition action) =
     ∷ answer_if (is_dead (body_of w (object_at w p j)) || has_child w (object_at w p j)) status.BadState
     ∷ answer_if (is_conflict (policy_in (body_of w (object_at w p j))) (setting_of mode condition action)) status.AlreadyExists
     ∷ []
+listed lib w p eventpair_create =
+    answer_if (not (has_room w p 2 && has_koids w 2)) status.NoResources
+    ∷ []
 
 -- ---- the handles that it makes
 
@@ -204,6 +210,7 @@ new_handles w p port_create = new_entry w.next_koid kind.Port ∷ []
 new_handles w p (process_create job program) = new_entry w.next_koid kind.Process ∷ []
 new_handles w p (process_start process h word) = option_to_list (entry_at w p h)
 new_handles w p (job_create j) = new_entry w.next_koid kind.Job ∷ []
+new_handles w p eventpair_create = new_entry w.next_koid kind.Eventpair ∷ new_entry (w.next_koid + 1) kind.Eventpair ∷ []
 new_handles w p _ = []
 
 -- the process whose table new handles enter
@@ -254,6 +261,7 @@ effect lib w taken p (task_kill task) vs = with_killed taken (object_at w p task
 effect lib w taken p (job_create j) vs = with_object taken (job_within (object_at w p j) (body_of w (object_at w p j)))
 effect lib w taken p (job_set_policy j mode condition action) vs =
     on_object taken (object_at w p j) (policy_changed (setting_of mode condition action))
+effect lib w taken p eventpair_create vs = with_object (with_object taken (PairEnd (w.next_koid + 1))) (PairEnd w.next_koid)
 
 -- the bytes that the call stores in its caller's memory, and the address of the first
 abbrev pub stored_by : World → ℕ → Request → ℕ × List ℕ

@@ -2,6 +2,7 @@
 use Rattle.std.specs.Prelude.{ℕ, Bool, true, false, ◌==◌, List, [], ◌∷◌, filter, Option, Some, None, slice_get}
 use Rattle.std.specs.List.{list_any}
 use Rattle.zl_rights.specs.Common.{condition_number}
+use Rattle.zl_rights.specs.Numbers.{all_makings}
 use Rattle.zl_rights.specs.declared.policy.Condition.{Condition}
 use Rattle.zl_rights.specs.declared.policy.Condition.TheVariants as condition
 use Rattle.zl_code.specs.declared.image.Start.{Start}
@@ -41,7 +42,7 @@ is_among needs c = list_any (λ x. condition_number x == condition_number c) nee
 
 -- the conditions that an image can need, in the order of their numbers
 abbrev pub can_be_needed : List Condition
-can_be_needed = condition.NewChannel ∷ condition.NewEvent ∷ condition.NewPort ∷ condition.NewProcess ∷ []
+can_be_needed = all_makings
 
 -- those of them that are named, each once
 abbrev pub needs_named : List Condition → List Condition
@@ -55,7 +56,8 @@ need_if false c rest = rest
 -- the needs that these flags stand for, in the order of their numbers
 abbrev pub needs_value : Needs → List Condition
 needs_value n =
-    need_if n.channel condition.NewChannel (need_if n.event condition.NewEvent (need_if n.port condition.NewPort (need_if n.process condition.NewProcess [])))
+    need_if n.channel condition.NewChannel (need_if n.event condition.NewEvent (need_if n.eventpair condition.NewEventpair
+    (need_if n.port condition.NewPort (need_if n.process condition.NewProcess []))))
 
 -- the n-th instruction, counted from 0
 abbrev pub instr_at : Image → ℕ → Option Instr

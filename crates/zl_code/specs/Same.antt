@@ -10,6 +10,7 @@ use Rattle.zl_code.specs.declared.instr.Instr.{Instr}
 pub record HasSameNeeds (i j : Image) : Type 0 where
   pub channels : is_among i.needs condition.NewChannel ≡ is_among j.needs condition.NewChannel
   pub events : is_among i.needs condition.NewEvent ≡ is_among j.needs condition.NewEvent
+  pub eventpairs : is_among i.needs condition.NewEventpair ≡ is_among j.needs condition.NewEventpair
   pub ports : is_among i.needs condition.NewPort ≡ is_among j.needs condition.NewPort
   pub processes : is_among i.needs condition.NewProcess ≡ is_among j.needs condition.NewProcess
 

@@ -1,8 +1,11 @@
 -- What is true of every world of a run from a boot world, and what no step changes of a process.
 use Rattle.std.specs.Prelude.{ℕ, ◌+◌, ◌≡◌, ◌≤◌, ◌<◌, ◌⊎◌, ⊤, Bool, true, false, ◌&&◌, ◌==◌, nat_lt, [], length, Option, Some, None, is_some, if◌then◌else◌, IsTrue}
-use Rattle.zl_rights.specs.Common.{within, Map, get, has_key, World, Process, State, Blocked, Object, Body, ChannelEnd, PortBody, JobBody, ProcessBody, lives, runs, is_process}
+use Rattle.zl_rights.specs.Common.{within, Map, get, has_key, World, Process, State, Blocked, Object, Body, ChannelEnd, PairEnd, PortBody, JobBody, ProcessBody, kind_of, lives, runs, is_process}
 use Rattle.std.specs.List.{All, filter, list_all}
 use Rattle.zl_rights.specs.World.{Wait}
+use Rattle.zl_rights.specs.declared.kind.Kind.{Kind}
+use Rattle.zl_rights.specs.declared.kind.Kind.TheVariants as kind
+use Rattle.zl_rights.specs.Numbers.{same_kind}
 use Rattle.zl_rights.specs.Policies.{condition_numbered}
 use Rattle.zl_rights.specs.declared.entry.Entry.{Entry}
 use Rattle.zl_rights.specs.declared.policy.Action.{Action}
@@ -72,15 +75,19 @@ abbrev pub raisable : Body → ℕ
 raisable (PortBody packets) = 0
 raisable b = settable_of (Some b)
 
--- it is a channel end, if it is there
-abbrev pub is_end_if_there : Option Body → Bool
-is_end_if_there None = true
-is_end_if_there (Some (ChannelEnd peer queue)) = true
-is_end_if_there _ = false
+-- it is of this kind, if it is there
+abbrev pub is_kind_if_there : Kind → Option Body → Bool
+is_kind_if_there k None = true
+is_kind_if_there k (Some b) = same_kind k (kind_of b)
 
--- the peer of a channel end has a koid that was given, and is an end while it is there
+-- the koid of the peer was given, and it is of this kind while it is there
+abbrev pub HasPeerOf : Kind → Map Object → ℕ → ℕ → Type 0
+HasPeerOf k objects next_koid peer = (peer < next_koid) × IsTrue (is_kind_if_there k (body_in (get objects peer)))
+
+-- the peer of an end is an end of the same kind
 abbrev pub HasPeer : Map Object → ℕ → Body → Type 0
-HasPeer objects next_koid (ChannelEnd peer queue) = (peer < next_koid) × IsTrue (is_end_if_there (body_in (get objects peer)))
+HasPeer objects next_koid (ChannelEnd peer queue) = HasPeerOf kind.Channel objects next_koid peer
+HasPeer objects next_koid (PairEnd peer) = HasPeerOf kind.Eventpair objects next_koid peer
 HasPeer objects next_koid _ = ⊤
 
 -- a port is there
@@ -113,7 +120,7 @@ pub record IsSound (w : World) : Type 0 where
   pub tree : (k : ℕ) (o : Object) → get w.objects k ≡ Some o → StandsBelow w.objects k o.body
   -- the list of the blocked has each blocked process once, and nothing else
   pub blocked : (p : ℕ) → length (filter (λ q. q == p) w.blocked) ≡ (if is_process w is_blocked p then 1 else 0)
-  -- the peers of channel ends
+  -- the peers of ends
   pub peers : (k : ℕ) (o : Object) → get w.objects k ≡ Some o → HasPeer w.objects w.next_koid o.body
   -- each registered wait
   pub waits : All (IsSoundWait w) w.waits

@@ -6,10 +6,9 @@ use Rattle.std.specs.Bool.{then_some}
 use Rattle.zl_rights.specs.Common.{bits, within, default_rights_of, condition_number}
 use Rattle.zl_code.specs.First.{first_some}
 use Rattle.zl_rights.specs.declared.kind.Kind.{Kind}
-use Rattle.zl_rights.specs.declared.kind.Kind.TheVariants as kind
 use Rattle.zl_rights.specs.declared.policy.Condition.{Condition}
 use Rattle.zl_rights.specs.declared.policy.Condition.TheVariants as condition
-use Rattle.zl_rights.specs.Numbers.{kind_number, KNOWN_RIGHTS}
+use Rattle.zl_rights.specs.Numbers.{all_kinds, kind_number, KNOWN_RIGHTS}
 use Rattle.zl_code.specs.declared.image.DecodeFault.{DecodeFault}
 use Rattle.zl_code.specs.declared.image.DecodeFault.TheVariants as fault
 use Rattle.zl_code.specs.declared.image.Start.{Start}
@@ -217,10 +216,11 @@ is_slot_in_range s = nat_lt 0 s.length && (nat_le s.length most_places && within
 abbrev pub bit_if : List Condition → Condition → ℕ → ℕ
 bit_if needs c bit = if is_among needs c then bit else 0
 
--- the needs as a byte: bit 0 for channels, 1 for events, 3 for ports, 4 for processes
+-- the needs as a byte: bit 0 for channels, 1 for events, 2 for event pairs, 3 for ports, 4 for processes
 abbrev pub needs_byte : List Condition → ℕ
 needs_byte needs =
-    bit_if needs condition.NewChannel 1 + (bit_if needs condition.NewEvent 2 + (bit_if needs condition.NewPort 8 + bit_if needs condition.NewProcess 16))
+    bit_if needs condition.NewChannel 1 + (bit_if needs condition.NewEvent 2 + (bit_if needs condition.NewEventpair 4
+    + (bit_if needs condition.NewPort 8 + bit_if needs condition.NewProcess 16)))
 
 -- the numbers are above n, and each is above the one before
 abbrev pub ascend_from : ℕ → List ℕ → Bool
@@ -296,9 +296,9 @@ slots_at bytes = slice_index bytes 18
 abbrev pub is_raw_at : List ℕ → Bool
 is_raw_at bytes = slice_index bytes 5 == 1
 
--- no bit but 0, 1, 3 and 4
+-- no bit but 0 to 4
 abbrev pub is_needs_byte : ℕ → Bool
-is_needs_byte b = nat_lt b 32 && (b / 4 % 2 == 0)
+is_needs_byte b = nat_lt b 32
 
 -- the fields of the header from offset 5 on are in their ranges
 abbrev pub is_header_in_range : List ℕ → Bool
@@ -337,7 +337,7 @@ kind_among (k ∷ ks) n = if kind_number k == n then Some k else kind_among ks n
 
 -- the kind of the byte, where 0 is any, or nothing where the byte is no kind's
 abbrev pub kind_at : ℕ → Option (Option Kind)
-kind_at b = if b == 0 then Some None else option_map Some (kind_among (kind.Process ∷ kind.Channel ∷ kind.Event ∷ kind.Port ∷ kind.Job ∷ []) b)
+kind_at b = if b == 0 then Some None else option_map Some (kind_among all_kinds b)
 
 -- the byte is that of a kind, or of any, with which an image can declare the rights
 abbrev pub allows : Option (Option Kind) → ℕ → Bool

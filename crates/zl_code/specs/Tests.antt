@@ -2,7 +2,7 @@
 use Rattle.std.specs.List.{flat_map}
 use Rattle.std.specs.Option.{option_to_list}
 use Rattle.std.specs.Bool.{then_some}
-use Rattle.zl_rights.specs.Common.{SIGNALED, within, narrowed, condition_number, Map, get, World, Process, Object, Body, ChannelEnd, EventBody, JobBody, ProcessBody, queue_of}
+use Rattle.zl_rights.specs.Common.{SIGNALED, within, narrowed, condition_number, Map, get, World, Process, Object, Body, ChannelEnd, EventBody, JobBody, PairEnd, ProcessBody, queue_of}
 use Rattle.zl_rights.specs.World.{Message}
 use Rattle.std.specs.Prelude.{ℕ, ◌+◌, ◌^◌, Bool, ◌&&◌, ◌||◌, nat_le, nat_lt, List, [], ◌∷◌, length, Option, Some, None, unwrap_or}
 use Rattle.zl_rights.specs.declared.rights.Rights.{Rights}
@@ -88,6 +88,7 @@ has_koids w n = nat_le (w.next_koid + n) (2 ^ 62)
 -- the signals that a call may set and clear
 abbrev pub settable_of : Option Body → ℕ
 settable_of (Some EventBody) = SIGNALED + USER_SIGNALS
+settable_of (Some (PairEnd peer)) = SIGNALED + USER_SIGNALS
 settable_of _ = USER_SIGNALS
 
 -- both are among those
@@ -106,11 +107,12 @@ abbrev pub copy_of : Option Entry → ℕ → List Entry
 copy_of None asked = []
 copy_of (Some e) asked = with_rights e (narrowed e.rights asked)
 
--- ---- channels
+-- ---- peers and channels
 
--- the peer of a channel end; 0, which no object has, of anything else
+-- the peer of an end of a channel or of an event pair; 0, which no object has, of anything else
 abbrev pub peer_in : Option Body → ℕ
 peer_in (Some (ChannelEnd peer queue)) = peer
+peer_in (Some (PairEnd peer)) = peer
 peer_in _ = 0
 
 -- the peer of the end that the handle h of the process p names

@@ -88,6 +88,8 @@ pub enum Statement {
     Port,
     /// The two ends of a channel; the first has the lower koid, and no message waits at either.
     Channel,
+    /// The two ends of an event pair; the first has the lower koid.
+    Eventpair,
     /// A process of the job, running the program of that number from 0. It is started with the first
     /// of its handles in register 0, the word in register 1 and the other handles from register 2 on.
     /// A checked program wants just the handles that it declares, and a job that allows its needs.
@@ -118,6 +120,7 @@ impl Statement {
             Statement::Event => Ok(Statement::Event),
             Statement::Port => Ok(Statement::Port),
             Statement::Channel => Ok(Statement::Channel),
+            Statement::Eventpair => Ok(Statement::Eventpair),
             Statement::Process {
                 job,
                 program,
@@ -165,6 +168,7 @@ impl Statement {
             (Statement::Event, Statement::Event) => true,
             (Statement::Port, Statement::Port) => true,
             (Statement::Channel, Statement::Channel) => true,
+            (Statement::Eventpair, Statement::Eventpair) => true,
             (
                 Statement::Process {
                     job,

@@ -31,6 +31,7 @@ impl Image {
             needs: Needs {
                 channel: false,
                 event: false,
+                eventpair: false,
                 port: false,
                 process: false,
             },
@@ -72,6 +73,7 @@ impl Image {
         match condition {
             Condition::NewChannel => self.needs.channel = true,
             Condition::NewEvent => self.needs.event = true,
+            Condition::NewEventpair => self.needs.eventpair = true,
             Condition::NewPort => self.needs.port = true,
             Condition::NewProcess => self.needs.process = true,
             Condition::BadHandle | Condition::WrongObject | Condition::NewAny => {}

@@ -124,6 +124,14 @@ pub(crate) const CHAN_CREATE: &'static Columns = &Columns {
     in_list: None,
 };
 
+pub(crate) const EVENTPAIR_CREATE: &'static Columns = &Columns {
+    fields: &[Field::Writes, Field::Writes, Field::Writes],
+    ending: Ending::Nothing,
+    condition: Some(Condition::NewEventpair),
+    grows: true,
+    in_list: None,
+};
+
 pub(crate) const CHAN_WRITE: &'static Columns = &Columns {
     fields: &[
         Field::Writes,
@@ -177,7 +185,7 @@ pub(crate) const SIGNAL: &'static Columns = &Columns {
 pub(crate) const SIGNAL_PEER: &'static Columns = &Columns {
     fields: &[
         Field::Writes,
-        Field::Names(Kinds::Only(Kind::Channel), Rights::SIGNAL_PEER),
+        Field::Names(Kinds::Ends, Rights::SIGNAL_PEER),
         Field::Reads,
         Field::Reads,
     ],

@@ -36,6 +36,7 @@ fn has_same_needs(one: &Image, other: &Image) -> bool
 {
     one.needs(Condition::NewChannel) == other.needs(Condition::NewChannel)
         && one.needs(Condition::NewEvent) == other.needs(Condition::NewEvent)
+        && one.needs(Condition::NewEventpair) == other.needs(Condition::NewEventpair)
         && one.needs(Condition::NewPort) == other.needs(Condition::NewPort)
         && one.needs(Condition::NewProcess) == other.needs(Condition::NewProcess)
 }

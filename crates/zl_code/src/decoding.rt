@@ -47,11 +47,11 @@ fn word_at(bytes: &[u8], offset: usize) -> u32
     ])
 }
 
-/// Whether the byte has no bit but those of the four needs.
+/// Whether the byte has no bit but those of the five needs.
 fn is_needs_byte(byte: u8) -> bool
     ensures { result ≡ is_needs_byte byte }
 {
-    byte < 32 && byte / 4 % 2 == 0
+    byte < 32
 }
 
 /// The needs whose bits are in the byte.
@@ -63,6 +63,7 @@ fn needs_of(byte: u8) -> Needs
     Needs {
         channel: byte % 2 == 1,
         event: byte / 2 % 2 == 1,
+        eventpair: byte / 4 % 2 == 1,
         port: byte / 8 % 2 == 1,
         process: byte / 16 % 2 == 1,
     }

@@ -53,6 +53,7 @@ fn needs_byte(needs: Needs) -> u8
 {
     bit_if(needs.channel, 1)
         + bit_if(needs.event, 2)
+        + bit_if(needs.eventpair, 4)
         + bit_if(needs.port, 8)
         + bit_if(needs.process, 16)
 }

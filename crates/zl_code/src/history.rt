@@ -31,6 +31,7 @@ pub enum CallName {
     TaskKill,
     JobCreate,
     JobSetPolicy,
+    EventpairCreate,
 }
 
 /// How a system call ends. Own profile.

@@ -27,6 +27,7 @@ pub struct Image {
 pub(crate) struct Needs {
     pub channel: bool,
     pub event: bool,
+    pub eventpair: bool,
     pub port: bool,
     pub process: bool,
 }
@@ -36,6 +37,7 @@ impl Needs {
     const ALL: Needs = Needs {
         channel: true,
         event: true,
+        eventpair: true,
         port: true,
         process: true,
     };
@@ -47,6 +49,7 @@ impl Needs {
         match condition {
             Condition::NewChannel => self.channel,
             Condition::NewEvent => self.event,
+            Condition::NewEventpair => self.eventpair,
             Condition::NewPort => self.port,
             Condition::NewProcess => self.process,
             Condition::BadHandle | Condition::WrongObject | Condition::NewAny => false,
@@ -150,7 +153,7 @@ impl Image {
     }
 
     /// Whether a program can declare that its processes have to be allowed to make objects by this
-    /// condition: `NewChannel`, `NewEvent`, `NewPort` and `NewProcess` can be declared.
+    /// condition: `NewChannel`, `NewEvent`, `NewEventpair`, `NewPort` and `NewProcess` can be declared.
     pub fn can_need(condition: Condition) -> bool
         ensures { result ≡ is_among can_be_needed condition }
     {

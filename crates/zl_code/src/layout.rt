@@ -26,6 +26,8 @@ pub enum Kinds {
     Only(Kind),
     /// A process or a job.
     Tasks,
+    /// An end of a channel or of an event pair.
+    Ends,
 }
 
 /// What an instruction does with one of its registers. A handle operand has the kinds that are taken

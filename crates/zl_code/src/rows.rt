@@ -14,7 +14,7 @@ use crate::layout::Row;
 pub(crate) const FIRST_CALL: u8 = 64;
 
 /// All known opcodes are below.
-const OPCODE_END: u8 = 87;
+const OPCODE_END: u8 = 88;
 
 /// The row of an opcode below 64, if it is known.
 #[tactic(auto, unfolding(crate::specs::Instructions::row_of))]
@@ -88,6 +88,7 @@ impl CallName {
             CallName::TaskKill,
             CallName::JobCreate,
             CallName::JobSetPolicy,
+            CallName::EventpairCreate,
         ]
     }
 
@@ -120,6 +121,7 @@ impl CallName {
             CallName::TaskKill => (84, "task_kill", columns::TASK_KILL),
             CallName::JobCreate => (85, "job_create", columns::JOB_CREATE),
             CallName::JobSetPolicy => (86, "job_set_policy", columns::JOB_SET_POLICY),
+            CallName::EventpairCreate => (87, "eventpair_create", columns::EVENTPAIR_CREATE),
         };
         Row {
             opcode,

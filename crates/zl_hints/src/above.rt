@@ -80,7 +80,7 @@ impl Above {
             return Ok(());
         };
         self.objects.push(kind)?;
-        if kind == Kind::Channel {
+        if matches!(kind, Kind::Channel | Kind::Eventpair) {
             self.objects.push(kind)?;
         }
         Ok(())

@@ -7,12 +7,13 @@ use zl_program_hints::{Word, push_nearest};
 use zl_rights::{Condition, Kind};
 
 /// The conditions that a policy knows.
-const CONDITIONS: [&str; 7] = [
+const CONDITIONS: [&str; 8] = [
     "BAD_HANDLE",
     "WRONG_OBJECT",
     "NEW_ANY",
     "NEW_CHANNEL",
     "NEW_EVENT",
+    "NEW_EVENTPAIR",
     "NEW_PORT",
     "NEW_PROCESS",
 ];

@@ -17,12 +17,22 @@ use zl_rights::Kind;
 use zl_scenario::{Form, LineFault};
 
 /// The statements and lines that there are.
-const STATEMENTS: [&str; 10] = [
-    "process", "program", "event", "port", "channel", "job", "policy", "limit", "end", "--",
+const STATEMENTS: [&str; 11] = [
+    "process",
+    "program",
+    "event",
+    "port",
+    "channel",
+    "eventpair",
+    "job",
+    "policy",
+    "limit",
+    "end",
+    "--",
 ];
 
 /// The statements of one word.
-const OBJECTS: [&str; 3] = ["event", "port", "channel"];
+const OBJECTS: [&str; 4] = ["event", "port", "channel", "eventpair"];
 
 /// What a program may be marked as.
 const MARKS: [&str; 2] = ["raw", "checked"];
@@ -258,7 +268,7 @@ fn push_no_koid(hint: &mut String, above: &Above) -> Result<(), AllocError> {
     let last = above.objects.len();
     write!(
         hint,
-        "a scenario gives koids up to 1024, and {last} are given; a channel takes two"
+        "a scenario gives koids up to 1024, and {last} are given; a channel or an event pair takes two"
     )
 }
 

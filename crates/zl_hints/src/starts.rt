@@ -97,6 +97,7 @@ fn push_start(hint: &mut String, start: &Start, line: u64) -> Result<(), AllocEr
         Some(Kind::Channel) => "a channel",
         Some(Kind::Event) => "an event",
         Some(Kind::Port) => "a port",
+        Some(Kind::Eventpair) => "an end of an event pair",
         Some(Kind::Job) => "a job",
         None => "any object",
     })?;

@@ -9,6 +9,7 @@ use Rattle.zl_table.proofs.MapEdits.{has_key-update}
 use Rattle.zl_signals.specs.declared.watch.Watch.{Watch}
 use Rattle.zl_signals.specs.Waits.{SignalState, wait_at, without_first}
 use Rattle.zl_port.specs.Packets.{Port, with_place}
+use Rattle.zl_objects.specs.declared.object.Pair.{Pair}
 use Rattle.zl_objects.specs.declared.object.Object.{Object}
 use Rattle.zl_objects.specs.declared.wait.Wait.{Wait}
 use Rattle.zl_objects.specs.Objects.{held_once_more, is_end_at, is_end_body, raised_changed, sent, received, stopped}
@@ -21,7 +22,7 @@ use Rattle.zl_objects.proofs.Listed.{inserted_listed, left_listed, none_listed, 
 use Rattle.zl_objects.proofs.Listed.{watched_listed}
 use Rattle.zl_objects.proofs.Released.{waits_left, whole_left}
 use Rattle.zl_objects.proofs.Tasks.{killed_kept, started_kept}
-use Rattle.zl_objects.proofs.Whole.{below_first, changed_whole, channel_whole, end_of, gone_whole, inserted_whole, made_whole, more_quiet, more_whole}
+use Rattle.zl_objects.proofs.Whole.{below_first, changed_whole, pair_whole, end_of, gone_whole, inserted_whole, made_whole, more_quiet, more_whole}
 use Rattle.zl_objects.proofs.Whole.{none_out_whole, none_whole, popped_whole, port_or_same_whole, port_whole, received_whole, roomy_whole, sent_or_same_whole}
 use Rattle.zl_objects.proofs.Whole.{stopped_whole, watched_whole}
 
@@ -98,11 +99,11 @@ module _ {waits : List WaitValue} where
     listed = inserted_listed waits m n next o kept.whole.below fresh kept.listed into;
   }
 
-  pub channel_kept : (m n n2 : Map Object) (next room room2 handles : ℕ) (d d2 : List ℕ) (o o2 : Object) → IsKept None m next d room waits
-      → o ≡ end_of (next + 1) handles → o2 ≡ end_of next handles → d2 ≡ d → length m + 2 ≤ room2
+  pub pair_kept : (pair : Pair) (m n n2 : Map Object) (next room room2 handles : ℕ) (d d2 : List ℕ) (o o2 : Object) → IsKept None m next d room waits
+      → o ≡ end_of pair (next + 1) handles → o2 ≡ end_of pair next handles → d2 ≡ d → length m + 2 ≤ room2
       → n ≡ insert_entry nat_cmp m next o → n2 ≡ insert_entry nat_cmp n (next + 1) o2 → IsKept None n2 (next + 1 + 1) d2 room2 waits
-  channel_kept m n n2 next room room2 handles d d2 o o2 kept first second same more into into2 = record {
-    whole = channel_whole m n n2 next room room2 handles d d2 o o2 kept.whole first second same more into into2;
+  pair_kept pair m n n2 next room room2 handles d d2 o o2 kept first second same more into into2 = record {
+    whole = pair_whole pair m n n2 next room room2 handles d d2 o o2 kept.whole first second same more into into2;
     listed = inserted_listed waits n n2 (next + 1) o2 (below_first m n next o kept.whole.below into) (rw second refl)
         (inserted_listed waits m n next o kept.whole.below (rw first refl) kept.listed into) into2;
   }

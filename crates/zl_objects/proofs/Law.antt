@@ -4,7 +4,7 @@ use Rattle.zl_rights.proofs.Common.{if◌then◌else◌, Option, Some, None, inl
 use Rattle.zl_rights.proofs.Common.{option_map, sum_by-cons, cases_Bool, eqb-true, false≢true, or_left, or_right, and_parts, and_from, nat_tests, Map, get}
 use Rattle.zl_rights.proofs.Common.{has_key, update, without, World, State, Ready, Blocked, Process, is_process, runs, lives}
 use Rattle.zl_rights.proofs.Common.{state_passes, Koids, Settles, is_held, in_table, in_queue, has_living_child as living_child, queue_of as queue_value}
-use Rattle.zl_rights.proofs.Common.{ChannelEnd, EventBody}
+use Rattle.zl_rights.proofs.Common.{ChannelEnd}
 use Rattle.std.proofs.lemmas.List.Sums.{sum_by-append}
 use Rattle.std.proofs.lemmas.List.Concat.{flat_map-cons}
 use Rattle.std.proofs.lemmas.Bool.{or_cases, or_parts}
@@ -71,7 +71,6 @@ sum_seen n (e ∷ m) = omega (arith, sum_by-cons n (object_entry e) (map object_
 pub queue_named : (k : ℕ) (b : BodyValue) → IsTrue (names k (queue_value b)) → 0 < queued_to k b
 queue_named k (ChannelEnd peer queue) h =
     any_summed (λ m. count_by (λ h. h.koid == k) m.handles) (λ m. list_any (λ h. h.koid == k) m.handles) (λ m. any_counted (λ h. h.koid == k) m.handles) queue h
-queue_named k EventBody h = absurd (false≢true h)
 queue_named k _ h = absurd (false≢true h)
 
 -- and back
@@ -90,7 +89,6 @@ named_queue k (ChannelEnd peer queue) h = no_sum queue h
     no_sum (m ∷ ms) h =
         let both = or_parts (list_any (λ h. h.koid == k) m.handles) (names k ms) h in
         omega (arith, sum_by-cons (λ m. count_by (λ h. h.koid == k) m.handles) m ms, no_count m.handles both.0, no_sum ms both.1)
-named_queue k EventBody h = refl
 named_queue k _ h = refl
 
 queue_counts : (k : ℕ) (es : List Entry) → count_by (λ j. j == k) (koids_of es) ≡ count_by (λ (h : Entry). h.koid == k) es
@@ -144,7 +142,6 @@ seen_child w k j (body.Process job life) agrees = ap (λ b. (job == k) && b) (sy
     by_state : (alive : Bool) → ((job == k) && alive) ≡ is_koid k (if alive then Some job else None)
     by_state true = always (job == k)
     by_state false = never (job == k)
-seen_child w k j body.Event agrees = refl
 seen_child w k j _ agrees = refl
 
 -- ---- the law, after each change
@@ -431,7 +428,6 @@ module _ (w : World) (m : Map Object) (exact : IsExact w [] m) (kept : (k : ℕ)
           alone (body.Process job life) is stays =
               let agrees : Agrees w k (body.Process job life) = subst (Agrees w k) is (exact.agrees k o there) in
               or_left _ _ (or_right _ _ (sym agrees.running ∙ stays))
-          alone body.Event is stays = absurd (false≢true stays)
           alone _ is stays = absurd (false≢true stays)
 
           by_reason : IsTrue (nat_lt 0 o.handles) ⊎ IsTrue (stays_alone m k o.body) → IsHeldBy k

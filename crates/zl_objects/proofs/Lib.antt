@@ -9,6 +9,7 @@ pub mod Kept
 pub mod Law
 pub mod Listed
 pub mod Lists
+pub mod Peers
 pub mod Places
 pub mod Refusable
 pub mod Released

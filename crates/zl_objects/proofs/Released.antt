@@ -8,16 +8,18 @@ use Rattle.zl_table.proofs.MapEdits.{is_sorted-update, length-update}
 use Rattle.zl_objects.specs.declared.object.Body.{Body}
 use Rattle.zl_objects.specs.declared.object.Body.TheVariants as body
 use Rattle.zl_objects.specs.declared.object.Object.{Object}
-use Rattle.zl_objects.specs.Objects.{Objects, has_living_child, held_once_less, is_alive, is_child, is_end_at, is_end_body, is_kept, is_koid, job_in, job_of}
+use Rattle.zl_objects.specs.Objects.{Objects, has_living_child, held_once_less, is_alive, is_child, is_kept, is_koid, job_in, job_of, kind_at, kind_in}
 use Rattle.zl_objects.specs.Objects.{queue_of, stays_alone, stopped, stopped_body, stopping}
 use Rattle.zl_objects.specs.Release.{named_in, AreKeptBut, Cascades, none_left, let_go, goes, waits_end, Releases}
-use Rattle.zl_objects.specs.Dying.{HasPeer, IsWhole, LetsGo, Thins, budget, is_named}
+use Rattle.zl_rights.specs.declared.kind.Kind.{Kind}
+use Rattle.zl_objects.specs.Dying.{HasPeer, HasPeerOf, IsWhole, LetsGo, Thins, budget, is_named}
 use Rattle.zl_objects.specs.Ports.{unreserved}
 use Rattle.zl_objects.specs.Seen.{body_value}
 use Rattle.zl_objects.specs.Waits.{HavePlaces, KeepsWaits}
 use Rattle.zl_objects.proofs.Bare.{IsAlike, alike, length_same, named_same, of_body}
 use Rattle.zl_objects.proofs.Ending.{all_ports_there}
 use Rattle.zl_objects.proofs.Sums.{length_left, sum_left, sum_no_more}
+use Rattle.zl_objects.proofs.Peers.{peer_stays}
 use Rattle.zl_objects.proofs.Bodies.{Changed, changed, changed_body, found_left}
 use Rattle.zl_objects.proofs.Budget.{thin_then}
 
@@ -104,21 +106,20 @@ whole_left ks m m2 next room room2 d d2 cascades places whole none same = record
     by_object k None is there = absurd (false≢true there)
     by_object k (Some o) is there = whole.below k (rw (was k o is).there refl)
 
-    end_left : (p : ℕ) (o : Option Object) → get m2 p ≡ o → (IsTrue (has_key m p) → IsTrue (is_end_at m p)) → IsTrue (is_some o) → IsTrue (is_end_at m2 p)
-    end_left p None is end there = absurd (false≢true there)
-    end_left p (Some o) is end there =
+    kind_left : (kind : Kind) (p : ℕ) (o : Option Object) → get m2 p ≡ o → HasPeerOf kind m next p → IsTrue (is_some o) → kind_at m2 p ≡ Some kind
+    kind_left kind p None is has there = absurd (false≢true there)
+    kind_left kind p (Some o) is has there =
         let old : Was m p o = was p o is in
-        let was_end : IsTrue (is_end_at m p) = end (rw old.there refl) in
-        rw is (of_body is_end_body (λ packets reserved. refl) o.body old.before.body old.body ∙ (rw old.there at was_end))
+        let was_kind : kind_at m p ≡ Some kind = has.1 (rw old.there refl) in
+        rw is (ap Some (of_body kind_in (λ packets reserved. refl) o.body old.before.body old.body) ∙ (rw old.there at was_kind))
 
-    by_body : (b : Body) → HasPeer m next b → HasPeer m2 next b
-    by_body (body.ChannelEnd p queue) has = (has.0, λ there. end_left p (get m2 p) refl has.1 there)
-    by_body _ has = has
+    left : (b : Body) → HasPeer m next b → HasPeer m2 next b
+    left b = peer_stays m m2 next next b (λ p has. (has.0, λ there. kind_left (kind_in b) p (get m2 p) refl has there))
 
     peers : (k : ℕ) (o : Object) → get m2 k ≡ Some o → HasPeer m2 next o.body
     peers k o at =
         let old : Was m k o = was k o at in
-        from_bare o.body (subst (HasPeer m2 next) (sym old.body) (to_bare old.before.body (by_body old.before.body (whole.peers k old.before old.there))))
+        from_bare o.body (subst (HasPeer m2 next) (sym old.body) (to_bare old.before.body (left old.before.body (whole.peers k old.before old.there))))
       where
         to_bare : (b : Body) → HasPeer m2 next b → HasPeer m2 next (unreserved b)
         to_bare (body.Job own) h = h
@@ -212,7 +213,6 @@ module _ (r : Objects) (pid job : ℕ) (of : job_in (get r.objects pid) ≡ Some
       by_body (body.Job own) h = refl
       by_body (body.Process j life) h =
           elim (is_alive life) as (λ b. false ≡ is_koid k (if b then Some j else None)) [ true ↦ rw (same_Some j job h, apart) refl | false ↦ refl ]
-      by_body body.Event h = refl
       by_body _ h = refl
 
   pub stopped_loose : AreKeptBut [] r.objects → AreKeptBut (job ∷ pid ∷ []) (stopping r pid).objects

@@ -49,7 +49,6 @@ module _ (w : World) (m : Map Object) (shows : ShowStates w m) (k : ℕ) where
       same j o (body.Process job life) is at =
           let shown : Shows w j (body.Process job life) = subst (Shows w j) is (shows.shown j o at) in
           ap (λ b. (job == k) && b) (sym shown.living)
-      same j o body.Event is at = refl
       same j o _ is at = refl
 
       there : IsTrue (list_any seen m) → IsTrue (list_any below m)
@@ -70,6 +69,7 @@ module _ (w : World) (m : Map Object) (shows : ShowStates w m) (k : ℕ) where
       let shown : Shows w k (body.Process job life) = subst (Shows w k) is (shows.shown k o at) in
       ap (signal_if TERMINATED) shown.over
   implied_shown o (body.ChannelEnd peer queue) is at = rw (has_seen m peer) refl
+  implied_shown o (body.PairEnd peer) is at = rw (has_seen m peer) refl
   implied_shown o _ is at = refl
 
   shown_at : (q : Option Object) → get m k ≡ q → signals_in m k q ≡ active (with_objects w m) k

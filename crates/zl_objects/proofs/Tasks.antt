@@ -13,26 +13,27 @@ use Rattle.zl_objects.specs.declared.object.Body.TheVariants as body
 use Rattle.zl_objects.specs.declared.object.Object.{Object}
 use Rattle.zl_objects.specs.Dying.{HasPeer, IsKept, IsWhole}
 use Rattle.zl_objects.specs.Jobs.{all_killed, is_within, killed_body, killed_if, with_policy_body, with_policy_set}
-use Rattle.zl_objects.specs.Objects.{is_end_at, is_end_in, started, started_body}
+use Rattle.zl_objects.specs.Objects.{kind_at, kind_in, started, started_body}
 use Rattle.zl_objects.specs.Ports.{reserved_in}
 use Rattle.zl_objects.specs.Waits.{HavePlaces, waits_at, waits_for, waits_in}
 use Rattle.zl_objects.proofs.ByKoid.{written, written_back}
 use Rattle.zl_objects.proofs.Listed.{same_listed, updated_listed, updated_or_listed}
+use Rattle.zl_objects.proofs.Peers.{peer_stays}
 use Rattle.zl_objects.proofs.Whole.{Stays, rebodied_whole, roomy_whole, stays_same}
 
 -- ---- bodies
 
 started_stays : (b : Body) → Stays b (started_body b)
-started_stays (body.Process job life) = record { ends = refl; reserved = refl; peer = λ m next has. has }
+started_stays (body.Process job life) = record { kind = refl; reserved = refl; peer = refl }
 started_stays b = stays_same b
 
 policy_stays : (c : Condition) (a : Action) (b : Body) → Stays b (with_policy_body c a b)
-policy_stays c a (body.Job own) = record { ends = refl; reserved = refl; peer = λ m next has. has }
+policy_stays c a (body.Job own) = record { kind = refl; reserved = refl; peer = refl }
 policy_stays c a b = stays_same b
 
 killed_stays : (b : Body) → Stays b (killed_body b)
-killed_stays (body.Job own) = record { ends = refl; reserved = refl; peer = λ m next has. has }
-killed_stays (body.Process job life) = record { ends = refl; reserved = refl; peer = λ m next has. has }
+killed_stays (body.Job own) = record { kind = refl; reserved = refl; peer = refl }
+killed_stays (body.Process job life) = record { kind = refl; reserved = refl; peer = refl }
 killed_stays b = stays_same b
 
 -- ---- one of them
@@ -103,12 +104,11 @@ module _ (kills : ℕ → Bool) where
   has_each : (m : Map Object) (k : ℕ) → has_key (each f m) k ≡ has_key m k
   has_each = seen_each (λ o. is_some o) (λ j o. refl)
 
-  end_each : (m : Map Object) (k : ℕ) → is_end_at (each f m) k ≡ is_end_at m k
-  end_each = seen_each is_end_in (λ j o. (stays j o).ends)
+  kind_each : (m : Map Object) (k : ℕ) → kind_at (each f m) k ≡ kind_at m k
+  kind_each = seen_each (option_map (λ (o : Object). kind_in o.body)) (λ j o. ap Some (stays j o).kind)
 
   still : (m : Map Object) (next : ℕ) (b : Body) → HasPeer m next b → HasPeer (each f m) next b
-  still m next (body.ChannelEnd p queue) has = (has.0, λ there. end_each m p ∙ has.1 (sym (has_each m p) ∙ there))
-  still m next _ has = has
+  still m next b = peer_stays m (each f m) next next b (λ p has. (has.0, λ there. kind_each m p ∙ has.1 (sym (has_each m p) ∙ there)))
 
   each_whole : (m : Map Object) (next room : ℕ) (d : List ℕ) → IsWhole None m next d room → IsWhole None (each f m) next d room
   each_whole m next room d whole = record {
@@ -123,7 +123,7 @@ module _ (kills : ℕ → Bool) where
       by_object k o None is read = absurd (none-some o (rw is at read))
       by_object k o (Some q) is read =
           subst (λ (x : Object). HasPeer (each f m) next x.body) (same_Some (f k q) o (rw is at read))
-          (still m next (f k q).body ((stays k q).peer m next (whole.peers k q is)))
+          (still m next (f k q).body (rw ((stays k q).kind, (stays k q).peer) (whole.peers k q is)))
 
       places : HavePlaces (each f m)
       places j =

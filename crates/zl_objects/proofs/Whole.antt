@@ -10,18 +10,24 @@ use Rattle.std.specs.Map.{lookup, set_value, remove_entry}
 use Rattle.std.specs.BTreeMap.{BTreeMap, is_at, insert_entry, IsUnchanged, IsUpperBound, Updates}
 use Rattle.zl_rights.specs.World.{Message}
 use Rattle.zl_rights.proofs.MapLaws.{get-put, get-update}
+use Rattle.zl_rights.specs.declared.kind.Kind.{Kind}
+use Rattle.zl_rights.specs.declared.kind.Kind.TheVariants as kind
 use Rattle.zl_signals.specs.declared.watch.Watch.{Watch}
 use Rattle.zl_signals.specs.Waits.{SignalState, is_at_port}
 use Rattle.zl_port.specs.Packets.{Port, with_place}
 use Rattle.zl_table.proofs.MapEdits.{put_key, has_key-update, length-update}
 use Rattle.zl_objects.specs.declared.object.Body.{Body}
 use Rattle.zl_objects.specs.declared.object.Body.TheVariants as body
+use Rattle.zl_objects.specs.declared.object.Pair.{Pair}
+use Rattle.zl_objects.specs.declared.object.Pair.TheVariants as pair
 use Rattle.zl_objects.specs.declared.object.Object.{Object}
-use Rattle.zl_objects.specs.Objects.{held_once_more, is_end_at, is_end_in, is_end_body, raised_changed, received, received_body}
+use Rattle.zl_objects.specs.Objects.{end_to, held_once_more, is_end_at, is_end_in, is_end_body, kind_at, kind_in, kind_of_pair, peer_of, raised_changed}
+use Rattle.zl_objects.specs.Objects.{received, received_body}
 use Rattle.zl_objects.specs.Objects.{sent, sent_body, stopped, stopped_body, new_object}
-use Rattle.zl_objects.specs.Dying.{HasPeer, IsWhole}
+use Rattle.zl_objects.specs.Dying.{HasPeer, HasPeerOf, IsWhole}
 use Rattle.zl_objects.specs.Ports.{at_port, changed_port, is_port_at, reserved_in, reserved_of}
 use Rattle.zl_objects.specs.Waits.{HavePlaces, HavePlacesWith, waits_at, waits_for, waits_in, watched, unwatched}
+use Rattle.zl_objects.proofs.Peers.{peer_stays}
 use Rattle.zl_objects.proofs.Places.{places_made, places_put, places_taken, places_unwatched, places_updated, places_used, seen_updated}
 use Rattle.zl_objects.proofs.ByKoid.{inserted, entry_inserted, looked_up, written, written_back}
 
@@ -32,14 +38,13 @@ none_whole m next room d none empty =
 
 -- ---- one of the objects is written
 
-module _ (f : Object → Object) (ends : (o : Object) → is_end_body (f o).body ≡ is_end_body o.body)
-    (peer : (m : Map Object) (next : ℕ) (o : Object) → HasPeer m next o.body → HasPeer m next (f o).body) where
-  end_updated : (m : Map Object) (k j : ℕ) → is_end_at (update m k f) j ≡ is_end_at m j
-  end_updated = seen_updated is_end_in f ends
+module _ (f : Object → Object) (kinds : (o : Object) → kind_in (f o).body ≡ kind_in o.body) (peers : (o : Object) → peer_of (f o).body ≡ peer_of o.body) where
+  kind_updated : (m : Map Object) (k j : ℕ) → kind_at (update m k f) j ≡ kind_at m j
+  kind_updated = seen_updated (option_map (λ (o : Object). kind_in o.body)) f (λ o. ap Some (kinds o))
 
   still : (m : Map Object) (k next : ℕ) (b : Body) → HasPeer m next b → HasPeer (update m k f) next b
-  still m k next (body.ChannelEnd p queue) has = (has.0, λ there. end_updated m k p ∙ has.1 (sym (has_key-update m k f p) ∙ there))
-  still m k next _ has = has
+  still m k next b =
+      peer_stays m (update m k f) next next b (λ p has. (has.0, λ there. kind_updated m k p ∙ has.1 (sym (has_key-update m k f p) ∙ there)))
 
   -- the places are those that the wait needs
   pub placed_whole : (x y : Option Watch) (m n : Map Object) (next room k : ℕ) (d : List ℕ) → IsWhole x m next d room → n ≡ update m k f
@@ -60,7 +65,7 @@ module _ (f : Object → Object) (ends : (o : Object) → is_end_body (f o).body
       ]
       by_object j o (Some q) is read = elim (cases_Bool (k == j)) as (λ _. HasPeer (update m k f) next o.body) [
         | inl here ↦ subst (λ (x : Object). HasPeer (update m k f) next x.body) (same_Some (f q) o (rw (here, is) at read))
-            (still m k next (f q).body (peer m next q (whole.peers j q is)))
+            (still m k next (f q).body (rw (kinds q, peers q) (whole.peers j q is)))
         | inr apart ↦
             subst (λ (x : Object). HasPeer (update m k f) next x.body) (same_Some q o (rw (apart, is) at read)) (still m k next q.body (whole.peers j q is))
       ]
@@ -72,13 +77,6 @@ module _ (f : Object → Object) (ends : (o : Object) → is_end_body (f o).body
     pub updated_whole : (m n : Map Object) (next room k : ℕ) (d : List ℕ) → IsWhole None m next d room → n ≡ update m k f → IsWhole None n next d room
     updated_whole m n next room k d whole is = placed_whole None None m n next room k d whole is (places_updated f same_waits same None m k whole.places)
 
-same_ends : (f : Object → Object) → ((o : Object) → (f o).body ≡ o.body) → (o : Object) → is_end_body (f o).body ≡ is_end_body o.body
-same_ends f same o = ap is_end_body (same o)
-
-same_peer : (f : Object → Object) → ((o : Object) → (f o).body ≡ o.body) → (m : Map Object) (next : ℕ) (o : Object) → HasPeer m next o.body
-    → HasPeer m next (f o).body
-same_peer f same m next o has = rw (same o) has
-
 pub more_same : (o : Object) → (held_once_more o).body ≡ o.body
 more_same o = elim (nat_lt o.handles (2 ^ 62)) as (λ b. (if b then record o { handles = o.handles + 1 } else o).body ≡ o.body) [ true ↦ refl | false ↦ refl ]
 
@@ -89,28 +87,28 @@ more_quiet o =
 -- one handle more
 pub more_whole : (m n : Map Object) (next room k : ℕ) (d : List ℕ) → IsWhole None m next d room → n ≡ update m k held_once_more → IsWhole None n next d room
 more_whole =
-    updated_whole held_once_more (same_ends held_once_more more_same) (same_peer held_once_more more_same) more_quiet (λ o. ap reserved_of (more_same o))
+    updated_whole held_once_more (λ o. ap kind_in (more_same o)) (λ o. ap peer_of (more_same o)) more_quiet (λ o. ap reserved_of (more_same o))
 
 -- other signals
 pub changed_whole : (m n : Map Object) (next room k clear set : ℕ) (d : List ℕ) → IsWhole None m next d room → n ≡ update m k (raised_changed clear set)
     → IsWhole None n next d room
 changed_whole m n next room k clear set d whole is =
-    placed_whole f (λ o. refl) (λ m next o has. has) None None m n next room k d whole is (places_updated f (λ j o. refl) (λ o. refl) None m k whole.places)
+    placed_whole f (λ o. refl) (λ o. refl) None None m n next room k d whole is (places_updated f (λ j o. refl) (λ o. refl) None m k whole.places)
   where
     f : Object → Object
     f = raised_changed clear set
 
-same_end : (g : Port → Port) (b : Body) → is_end_body (changed_port g b) ≡ is_end_body b
-same_end g (body.Job own) = refl
-same_end g _ = refl
+same_kind : (g : Port → Port) (b : Body) → kind_in (changed_port g b) ≡ kind_in b
+same_kind g (body.Job own) = refl
+same_kind g _ = refl
 
-same_other : (g : Port → Port) (m : Map Object) (next : ℕ) (b : Body) → HasPeer m next b → HasPeer m next (changed_port g b)
-same_other g m next (body.Job own) has = has
-same_other g m next _ has = has
+same_peer : (g : Port → Port) (b : Body) → peer_of (changed_port g b) ≡ peer_of b
+same_peer g (body.Job own) = refl
+same_peer g _ = refl
 
 at_port_whole : (g : Port → Port) (x y : Option Watch) (m n : Map Object) (next room k : ℕ) (d : List ℕ) → IsWhole x m next d room → n ≡ update m k (at_port g)
     → HavePlacesWith y (update m k (at_port g)) → IsWhole y n next d room
-at_port_whole g = placed_whole (at_port g) (λ o. same_end g o.body) (λ m next o. same_other g m next o.body)
+at_port_whole g = placed_whole (at_port g) (λ o. same_kind g o.body) (λ o. same_peer g o.body)
 
 -- other packets at a port
 pub port_whole : (g : Port → Port) → ((p : Port) → (g p).reserved ≡ p.reserved) → (m n : Map Object) (next room k : ℕ) (d : List ℕ) → IsWhole None m next d room
@@ -132,13 +130,13 @@ made_whole x m n next room d port whole is = at_port_whole with_place None (Some
 pub watched_whole : (x : Watch) (m n : Map Object) (next room k : ℕ) (d : List ℕ) → IsTrue (has_key m k) → IsWhole (Some x) m next d room
     → n ≡ update m k (watched x) → IsWhole None n next d room
 watched_whole x m n next room k d there whole is =
-    placed_whole (watched x) (λ o. refl) (λ m next o has. has) (Some x) None m n next room k d whole is (places_taken x m k there whole.places)
+    placed_whole (watched x) (λ o. refl) (λ o. refl) (Some x) None m n next room k d whole is (places_taken x m k there whole.places)
 
 -- the wait has gone, and its place is left
 pub unwatched_whole : (test : Watch → Bool) (m n : Map Object) (next room k : ℕ) (d : List ℕ) → IsWhole None m next d room → n ≡ update m k (unwatched test)
     → IsWhole (find test (waits_in (get m k))) n next d room
 unwatched_whole test m n next room k d whole is =
-    placed_whole (unwatched test) (λ o. refl) (λ m next o has. has) None (find test (waits_in (get m k))) m n next room k d whole is
+    placed_whole (unwatched test) (λ o. refl) (λ o. refl) None (find test (waits_in (get m k))) m n next room k d whole is
     (places_unwatched test m k whole.places)
 
 -- its place is given back, or holds its packet
@@ -148,19 +146,19 @@ used_whole g less x m n next room d whole is = at_port_whole g (Some x) None m n
 
 -- ---- what an object is changes
 
--- a body that is as much an end, with the same peer, and at which as many places are reserved
+-- a body of the same kind, with the same peer, and at which as many places are reserved
 pub record Stays (b c : Body) : Type 0 where
-  pub ends : is_end_body c ≡ is_end_body b
+  pub kind : kind_in c ≡ kind_in b
   pub reserved : reserved_of c ≡ reserved_of b
-  pub peer : (m : Map Object) (next : ℕ) → HasPeer m next b → HasPeer m next c
+  pub peer : peer_of c ≡ peer_of b
 
 pub stays_same : (b : Body) → Stays b b
-stays_same b = record { ends = refl; reserved = refl; peer = λ m next has. has }
+stays_same b = record { kind = refl; reserved = refl; peer = refl }
 
 pub rebodied_whole : (g : Body → Body) → ((b : Body) → Stays b (g b)) → (m n : Map Object) (next room k : ℕ) (d : List ℕ) → IsWhole None m next d room
     → n ≡ update m k (λ o. record o { body = g o.body }) → IsWhole None n next d room
 rebodied_whole g same =
-    updated_whole (λ o. record o { body = g o.body }) (λ o. (same o.body).ends) (λ m next o. (same o.body).peer m next) (λ o. refl)
+    updated_whole (λ o. record o { body = g o.body }) (λ o. (same o.body).kind) (λ o. (same o.body).peer) (λ o. refl)
     (λ o. (same o.body).reserved)
 
 -- the end of a process
@@ -168,7 +166,7 @@ pub stopped_whole : (m n : Map Object) (next room k : ℕ) (d : List ℕ) → Is
 stopped_whole = rebodied_whole stopped_body by_body
   where
     by_body : (b : Body) → Stays b (stopped_body b)
-    by_body (body.Process job l) = record { ends = refl; reserved = refl; peer = λ m next has. has }
+    by_body (body.Process job l) = record { kind = refl; reserved = refl; peer = refl }
     by_body b = stays_same b
 
 -- one message more
@@ -177,7 +175,7 @@ pub sent_whole : (m n : Map Object) (next room k : ℕ) (d : List ℕ) (message 
 sent_whole m n next room k d message = rebodied_whole (sent_body message) by_body m n next room k d
   where
     by_body : (b : Body) → Stays b (sent_body message b)
-    by_body (body.ChannelEnd peer queue) = record { ends = refl; reserved = refl; peer = λ m next has. has }
+    by_body (body.ChannelEnd peer queue) = record { kind = refl; reserved = refl; peer = refl }
     by_body b = stays_same b
 
 -- one message less
@@ -185,19 +183,20 @@ pub received_whole : (m n : Map Object) (next room k : ℕ) (d : List ℕ) → I
 received_whole = rebodied_whole received_body by_body
   where
     by_body : (b : Body) → Stays b (received_body b)
-    by_body (body.ChannelEnd peer queue) = record { ends = refl; reserved = refl; peer = λ m next has. has }
+    by_body (body.ChannelEnd peer queue) = record { kind = refl; reserved = refl; peer = refl }
     by_body b = stays_same b
 
 -- ---- one object more
 
 later_peer : (m : Map Object) (next : ℕ) (o : Object) (b : Body) → ((j : ℕ) → IsTrue (has_key m j) → j < next) → HasPeer m next b
     → HasPeer (put m next o) (next + 1) b
-later_peer m next o (body.ChannelEnd p queue) below has =
-    (omega (arith, has.0), λ there. rw (get-put m next o p, apart) (has.1 (rw (get-put m next o p, apart) at there)))
+later_peer m next o b below = peer_stays m (put m next o) next (next + 1) b later
   where
-    apart : (next == p) ≡ false
-    apart = grind (arith, nat_tests, has.0)
-later_peer m next o _ below has = has
+    later : (p : ℕ) → HasPeerOf (kind_in b) m next p → HasPeerOf (kind_in b) (put m next o) (next + 1) p
+    later p has = (omega (arith, has.0), λ there. rw (get-put m next o p, apart) (has.1 (rw (get-put m next o p, apart) at there)))
+      where
+        apart : (next == p) ≡ false
+        apart = grind (arith, nat_tests, has.0)
 
 -- the new object has the next koid, and is no end; no place is reserved at it
 pub inserted_whole : (m n : Map Object) (next room room2 : ℕ) (d d2 : List ℕ) (o : Object) → IsWhole None m next d room → is_end_body o.body ≡ false
@@ -216,6 +215,7 @@ inserted_whole m n next room room2 d d2 o whole alone empty fresh same more into
   where
     no_end : (b : Body) → is_end_body b ≡ false → HasPeer (put m next o) (next + 1) b
     no_end (body.ChannelEnd p queue) h = absurd (false≢true (sym h))
+    no_end (body.PairEnd p) h = absurd (false≢true (sym h))
     no_end _ h = tt
 
     by_key : (k : ℕ) (q : Object) → IsTrue (next == k) ⊎ ((next == k) ≡ false) → (if next == k then Some o else get m k) ≡ Some q
@@ -229,10 +229,23 @@ created_there m n k o into = rw (into, inserted m k o, get-put m k o k, same) re
     same : (k == k) ≡ true
     same = eq-eqb k k refl
 
--- ---- both ends of a channel more
+-- ---- both ends of a channel or of an event pair more
 
-abbrev pub end_of : ℕ → ℕ → Object
-end_of peer handles = new_object (body.ChannelEnd peer []) handles
+-- a new end of the pair that has this peer
+abbrev pub end_of : Pair → ℕ → ℕ → Object
+end_of pair peer handles = new_object (end_to pair peer) handles
+
+end_kind : (pair : Pair) (peer : ℕ) → kind_in (end_to pair peer) ≡ kind_of_pair pair
+end_kind pair.Channel peer = refl
+end_kind pair.Eventpair peer = refl
+
+end_reserved : (pair : Pair) (peer : ℕ) → reserved_of (end_to pair peer) ≡ 0
+end_reserved pair.Channel peer = refl
+end_reserved pair.Eventpair peer = refl
+
+end_peer : (pair : Pair) (peer : ℕ) → peer_of (end_to pair peer) ≡ Some peer
+end_peer pair.Channel peer = refl
+end_peer pair.Eventpair peer = refl
 
 -- all koids lie below the one after the new object's
 pub below_first : (m n : Map Object) (next : ℕ) (o : Object) → ((j : ℕ) → IsTrue (has_key m j) → j < next) → n ≡ insert_entry nat_cmp m next o → (j : ℕ)
@@ -243,20 +256,20 @@ below_first m n next o below into j there = elim (put_key m next o j (rw (into, 
 ]
 
 -- the second end goes behind the first
-pub channel_created : (m n n2 : Map Object) (next : ℕ) (o o2 : Object) → ((j : ℕ) → IsTrue (has_key m j) → j < next) → n ≡ insert_entry nat_cmp m next o
+pub pair_created : (m n n2 : Map Object) (next : ℕ) (o o2 : Object) → ((j : ℕ) → IsTrue (has_key m j) → j < next) → n ≡ insert_entry nat_cmp m next o
     → n2 ≡ insert_entry nat_cmp n (next + 1) o2 → n2 ≡ (m ++ (next, o) ∷ []) ++ (next + 1, o2) ∷ []
-channel_created m n n2 next o o2 below into into2 =
+pair_created m n n2 next o o2 below into into2 =
     into2 ∙ (entry_inserted n (next + 1) o2 (below_first m n next o below into)
     ∙ ap (λ (x : Map Object). x ++ (next + 1, o2) ∷ []) (into ∙ entry_inserted m next o below))
 
-pub channel_whole : (m n n2 : Map Object) (next room room2 handles : ℕ) (d d2 : List ℕ) (o o2 : Object) → IsWhole None m next d room
-    → o ≡ end_of (next + 1) handles → o2 ≡ end_of next handles → d2 ≡ d → length m + 2 ≤ room2
+pub pair_whole : (pair : Pair) (m n n2 : Map Object) (next room room2 handles : ℕ) (d d2 : List ℕ) (o o2 : Object) → IsWhole None m next d room
+    → o ≡ end_of pair (next + 1) handles → o2 ≡ end_of pair next handles → d2 ≡ d → length m + 2 ≤ room2
     → n ≡ insert_entry nat_cmp m next o → n2 ≡ insert_entry nat_cmp n (next + 1) o2 → IsWhole None n2 (next + 1 + 1) d2 room2
-channel_whole m n n2 next room room2 handles d d2 o o2 whole first second same more into into2 = rw same record {
+pair_whole pair m n n2 next room room2 handles d d2 o o2 whole first second same more into into2 = rw same record {
   below = λ k there. below_second k (rw is_put2 at there);
   peers = λ k q at. by_key k q (cases_Bool (next + 1 == k)) (cases_Bool (next == k)) (sym (get_second k) ∙ at);
-  places = rw is_put2 (places_put n (next + 1) o2 below (rw second refl) (rw second refl) first_places);
-  enough = rw (channel_created m n n2 next o o2 whole.below into into2)
+  places = rw is_put2 (places_put n (next + 1) o2 below (rw second refl) (rw second (end_reserved pair next)) first_places);
+  enough = rw (pair_created m n n2 next o o2 whole.below into into2)
       (omega (arith, more, length-append (m ++ (next, o) ∷ []) ((next + 1, o2) ∷ []), length-append m ((next, o) ∷ [])));
   none = whole.none;
 }
@@ -265,7 +278,7 @@ channel_whole m n n2 next room room2 handles d d2 o o2 whole first second same m
     is_put = into ∙ inserted m next o
 
     first_places : HavePlaces n
-    first_places = rw is_put (places_put m next o whole.below (rw first refl) (rw first refl) whole.places)
+    first_places = rw is_put (places_put m next o whole.below (rw first refl) (rw first (end_reserved pair (next + 1))) whole.places)
 
     is_put2 : n2 ≡ put n (next + 1) o2
     is_put2 = into2 ∙ inserted n (next + 1) o2
@@ -282,8 +295,8 @@ channel_whole m n n2 next room room2 handles d d2 o o2 whole first second same m
     get_second : (k : ℕ) → get n2 k ≡ (if next + 1 == k then Some o2 else (if next == k then Some o else get m k))
     get_second k = rw (is_put2, get-put n (next + 1) o2 k, is_put, get-put m next o k) refl
 
-    first_there : IsTrue (is_end_at n2 next)
-    first_there = rw (get_second next, apart, here, first) refl
+    first_there : kind_at n2 next ≡ Some (kind_of_pair pair)
+    first_there = rw (get_second next, apart, here, first) (ap Some (end_kind pair (next + 1)))
       where
         apart : (next + 1 == next) ≡ false
         apart = grind (arith, nat_tests)
@@ -291,18 +304,24 @@ channel_whole m n n2 next room room2 handles d d2 o o2 whole first second same m
         here : (next == next) ≡ true
         here = eq-eqb next next refl
 
-    second_there : IsTrue (is_end_at n2 (next + 1))
-    second_there = rw (get_second (next + 1), here, second) refl
+    second_there : kind_at n2 (next + 1) ≡ Some (kind_of_pair pair)
+    second_there = rw (get_second (next + 1), here, second) (ap Some (end_kind pair next))
       where
         here : (next + 1 == next + 1) ≡ true
         here = eq-eqb (next + 1) (next + 1) refl
 
+    -- an end has its peer
+    has_peer : (p : ℕ) → HasPeerOf (kind_of_pair pair) n2 (next + 1 + 1) p → HasPeer n2 (next + 1 + 1) (end_to pair p)
+    has_peer p has = rw (end_peer pair p, end_kind pair p) has
+
     by_key : (k : ℕ) (q : Object) → IsTrue (next + 1 == k) ⊎ ((next + 1 == k) ≡ false) → IsTrue (next == k) ⊎ ((next == k) ≡ false)
         → (if next + 1 == k then Some o2 else (if next == k then Some o else get m k)) ≡ Some q → HasPeer n2 (next + 1 + 1) q.body
     by_key k q (inl last) other read =
-        subst (λ (x : Object). HasPeer n2 (next + 1 + 1) x.body) (sym second ∙ same_Some o2 q (rw last at read)) (omega arith, λ there. first_there)
+        subst (λ (x : Object). HasPeer n2 (next + 1 + 1) x.body) (sym second ∙ same_Some o2 q (rw last at read))
+        (has_peer next (omega arith, λ there. first_there))
     by_key k q (inr apart) (inl here) read =
-        subst (λ (x : Object). HasPeer n2 (next + 1 + 1) x.body) (sym first ∙ same_Some o q (rw (apart, here) at read)) (omega arith, λ there. second_there)
+        subst (λ (x : Object). HasPeer n2 (next + 1 + 1) x.body) (sym first ∙ same_Some o q (rw (apart, here) at read))
+        (has_peer (next + 1) (omega arith, λ there. second_there))
     by_key k q (inr apart) (inr old) read =
         rw is_put2 (later_peer n (next + 1) o2 q.body below (rw is_put (later_peer m next o q.body whole.below (whole.peers k q (rw (apart, old) at read)))))
 
@@ -386,6 +405,21 @@ module _ (test : Watch → Bool) (m n : Map Object) (next room k : ℕ) (d : Lis
 
 -- ---- the newest object less
 
+-- the kind of an end
+abbrev is_end_kind : Kind → Bool
+is_end_kind kind.Channel = true
+is_end_kind kind.Eventpair = true
+is_end_kind _ = false
+
+-- what is of such a kind is an end
+of_kind : (kind : Kind) → is_end_kind kind ≡ true → (o : Option Object) → option_map (λ (x : Object). kind_in x.body) o ≡ Some kind → is_end_in o ≡ true
+of_kind kind is_end None is = absurd (none-some kind is)
+of_kind kind is_end (Some o) is = by_body o.body (ap is_end_kind (same_Some (kind_in o.body) kind is) ∙ is_end)
+  where
+    by_body : (b : Body) → is_end_kind (kind_in b) ≡ true → is_end_body b ≡ true
+    by_body (body.Job own) h = h
+    by_body _ h = h
+
 no_entries : (es : Map Object) → (0 < length es → false ≡ true) → es ≡ []
 no_entries [] some = refl
 no_entries (e ∷ es) some = absurd (false≢true (some (omega arith)))
@@ -429,25 +463,30 @@ popped_whole m n next koid room d (Some p) whole newest alone unreserved unwatch
         by_test false h = sym (looked_up m.entries j) ∙ h
 
     -- the newest object was no peer
-    not_newest : (q : ℕ) → q < next → (IsTrue (has_key m.entries q) → IsTrue (is_end_at m.entries q)) → q < koid
-    not_newest q given end = elim (cases_Bool (q == koid)) as (λ _. q < koid) [
+    not_newest : (kind : Kind) → is_end_kind kind ≡ true → (q : ℕ) → HasPeerOf kind m.entries next q → q < koid
+    not_newest kind is_end q has = elim (cases_Bool (q == koid)) as (λ _. q < koid) [
       | inl same ↦
           let key : q ≡ koid = eqb-true q koid same in
-          absurd (false≢true (sym alone ∙ (ap (is_end_at m.entries) (sym key) ∙ end (rw key there))))
-      | inr apart ↦ grind (arith, nat_tests, given, newest, apart)
+          absurd (false≢true (sym alone ∙ (ap (is_end_at m.entries) (sym key) ∙ of_kind kind is_end (get m.entries q) (has.1 (rw key there)))))
+      | inr apart ↦ grind (arith, nat_tests, has.0, newest, apart)
     ]
 
-    end_left : (q : ℕ) (o : Option Object) → get n.entries q ≡ o → (IsTrue (has_key m.entries q) → IsTrue (is_end_at m.entries q)) → IsTrue (is_some o)
-        → IsTrue (is_end_at n.entries q)
-    end_left q None is end at = absurd (false≢true at)
-    end_left q (Some o) is end at = rw is (rw (was q o is) at (end (rw (was q o is) refl)))
-
-    by_body : (b : Body) → HasPeer m.entries next b → HasPeer n.entries koid b
-    by_body (body.ChannelEnd q queue) has = (not_newest q has.0 has.1, λ at. end_left q (get n.entries q) refl has.1 at)
-    by_body _ has = has
+    kind_left : (kind : Kind) (q : ℕ) (o : Option Object) → get n.entries q ≡ o → HasPeerOf kind m.entries next q → IsTrue (is_some o)
+        → kind_at n.entries q ≡ Some kind
+    kind_left kind q None is has at = absurd (false≢true at)
+    kind_left kind q (Some o) is has at = rw is (rw (was q o is) at (has.1 (rw (was q o is) refl)))
 
     peers : (j : ℕ) (o : Object) → get n.entries j ≡ Some o → HasPeer n.entries koid o.body
     peers j o at = by_body o.body (whole.peers j o (was j o at))
+      where
+        by_end : (b : Body) → is_end_kind (kind_in b) ≡ true → HasPeer m.entries next b → HasPeer n.entries koid b
+        by_end b is_end = peer_stays m.entries n.entries next koid b
+            (λ q has. (not_newest (kind_in b) is_end q has, λ at. kind_left (kind_in b) q (get n.entries q) refl has at))
+
+        by_body : (b : Body) → HasPeer m.entries next b → HasPeer n.entries koid b
+        by_body (body.ChannelEnd q queue) has = by_end (body.ChannelEnd q queue) refl has
+        by_body (body.PairEnd q) has = by_end (body.PairEnd q) refl has
+        by_body _ has = has
 
     -- it was the one with this koid
     is_koid : p.0 ≡ koid

@@ -1,13 +1,13 @@
 -- How what goes is noted, without memory. No public clause cites this module.
-use Rattle.std.specs.Prelude.{ℕ, ◌≡◌, ◌+◌, ◌<◌, ◌≤◌, Bool, false, ◌==◌, nat_lt, not, IsTrue, List, [], ◌++◌, length, Option, Some, None, if◌then◌else◌}
+use Rattle.std.specs.Prelude.{ℕ, ◌≡◌, ◌+◌, ◌<◌, ◌≤◌, Bool, false, ◌==◌, nat_lt, not, IsTrue, List, [], ◌++◌, length, Option, Some, None, IfSome, if◌then◌else◌}
 use Rattle.std.specs.List.{count_by, filter}
+use Rattle.zl_rights.specs.declared.kind.Kind.{Kind}
 use Rattle.zl_rights.specs.Map.{Map, get, has_key, without}
 use Rattle.zl_rights.specs.World.{Wait}
 use Rattle.zl_signals.specs.declared.watch.Watch.{Watch}
 use Rattle.zl_objects.specs.declared.object.Body.{Body}
-use Rattle.zl_objects.specs.declared.object.Body.TheVariants as body
 use Rattle.zl_objects.specs.declared.object.Object.{Object}
-use Rattle.zl_objects.specs.Objects.{is_end_at, is_kept}
+use Rattle.zl_objects.specs.Objects.{is_kept, kind_at, kind_in, peer_of}
 use Rattle.zl_objects.specs.Release.{AreKeptBut, Cascades}
 use Rattle.zl_objects.specs.Listed.{AreListed}
 use Rattle.zl_objects.specs.Waits.{HavePlaces, HavePlacesWith}
@@ -52,10 +52,13 @@ pub record LetsGo (ks : List ℕ) (m : Map Object) (dying : List ℕ) (m2 : Map 
   pub places : HavePlaces m → HavePlaces m2
   pub thins : (k : ℕ) (o : Object) → get m2 k ≡ Some o → Thins m m2 k o
 
--- the peer of an end has a koid that was given, and is an end while it is there
+-- the koid of the peer was given, and it is of this kind while it is there
+abbrev pub HasPeerOf : Kind → Map Object → ℕ → ℕ → Type 0
+HasPeerOf kind m next_koid peer = (peer < next_koid) × (IsTrue (has_key m peer) → kind_at m peer ≡ Some kind)
+
+-- the peer of an end is an end of the same kind
 abbrev pub HasPeer : Map Object → ℕ → Body → Type 0
-HasPeer m next_koid (body.ChannelEnd peer queue) = (peer < next_koid) × (IsTrue (has_key m peer) → IsTrue (is_end_at m peer))
-HasPeer m next_koid _ = Unit {0}
+HasPeer m next_koid b = IfSome (peer_of b) (HasPeerOf (kind_in b) m next_koid)
 
 -- all koids lie below the next one, peers are ends, each wait has its place at its port and there is one more for this
 -- one, there is room for each object, and none is noted

@@ -10,6 +10,8 @@ use Rattle.zl_jobs.specs.Jobs.{root_job}
 use Rattle.zl_signals.specs.Waits.{with_changed}
 use Rattle.zl_objects.specs.declared.object.Body.{Body}
 use Rattle.zl_objects.specs.declared.object.Body.TheVariants as body
+use Rattle.zl_objects.specs.declared.object.Pair.{Pair}
+use Rattle.zl_objects.specs.declared.object.Pair.TheVariants as pair
 use Rattle.zl_objects.specs.declared.object.Life.{Life}
 use Rattle.zl_objects.specs.declared.object.Life.TheVariants as life
 use Rattle.zl_objects.specs.declared.object.Object.{Object}
@@ -105,21 +107,36 @@ stopped_body b = b
 abbrev pub stopped : Object → Object
 stopped o = record o { body = stopped_body o.body }
 
--- ---- channel ends
+-- ---- ends of channels and of event pairs
 
--- the end of a channel
+-- an end of a channel or of an event pair
 abbrev pub is_end_body : Body → Bool
 is_end_body (body.ChannelEnd peer queue) = true
+is_end_body (body.PairEnd peer) = true
 is_end_body _ = false
 
--- the object that was found is the end of a channel
+-- the object that was found is such an end
 abbrev pub is_end_in : Option Object → Bool
 is_end_in None = false
 is_end_in (Some o) = is_end_body o.body
 
--- the object k is the end of a channel
+-- the object k is such an end
 abbrev pub is_end_at : Map Object → ℕ → Bool
 is_end_at objects k = is_end_in (get objects k)
+
+-- an end of a channel
+abbrev pub is_channel_body : Body → Bool
+is_channel_body (body.ChannelEnd peer queue) = true
+is_channel_body _ = false
+
+-- the object that was found is an end of a channel
+abbrev pub is_channel_in : Option Object → Bool
+is_channel_in None = false
+is_channel_in (Some o) = is_channel_body o.body
+
+-- the object k is an end of a channel
+abbrev pub is_channel_at : Map Object → ℕ → Bool
+is_channel_at objects k = is_channel_in (get objects k)
 
 -- what is to be read at an end, the earliest first; nothing at other objects
 abbrev pub queue_of : Body → List Message
@@ -134,9 +151,10 @@ queue_in (Some o) = queue_of o.body
 -- the other end, if there is one
 abbrev pub peer_of : Body → Option ℕ
 peer_of (body.ChannelEnd peer queue) = Some peer
+peer_of (body.PairEnd peer) = Some peer
 peer_of _ = None
 
--- the other end of the channel whose end was found
+-- the other end of what was found
 abbrev pub peer_in : Option Object → Option ℕ
 peer_in None = None
 peer_in (Some o) = peer_of o.body
@@ -149,6 +167,20 @@ if_there objects (Some k) = if has_key objects k then Some k else None
 -- the peer of the end k, while it is there
 abbrev pub peer_at : Map Object → ℕ → Option ℕ
 peer_at objects k = if_there objects (peer_in (get objects k))
+
+-- the end at which is to be read what is written at this end of a channel
+abbrev pub reader_of : Body → Option ℕ
+reader_of (body.ChannelEnd peer queue) = Some peer
+reader_of _ = None
+
+-- the reader of what was found
+abbrev pub reader_in : Option Object → Option ℕ
+reader_in None = None
+reader_in (Some o) = reader_of o.body
+
+-- the reader of the end k, while it is there
+abbrev pub reader_at : Map Object → ℕ → Option ℕ
+reader_at objects k = if_there objects (reader_in (get objects k))
 
 -- a message goes last into the queue of an end
 abbrev pub sent_body : Message → Body → Body
@@ -177,6 +209,7 @@ kind_in (body.Process job l) = kind.Process
 kind_in body.Event = kind.Event
 kind_in (body.ChannelEnd peer queue) = kind.Channel
 kind_in (body.Port port) = kind.Port
+kind_in (body.PairEnd peer) = kind.Eventpair
 
 -- the kind of the object k, if it is there
 abbrev pub kind_at : Map Object → ℕ → Option Kind
@@ -235,10 +268,19 @@ with_new r body handles = record r {
 abbrev pub root_alone : Objects
 root_alone = record { objects = (1, new_object (body.Job root_job) 0) ∷ []; next_koid = 2; waits = []; waits_made = 0 }
 
--- the objects with both ends of a new channel, which are peers of each other; the first has the lower koid
-abbrev pub with_channel : Objects → ℕ → Objects
-with_channel r handles =
-    with_new (with_new r (body.ChannelEnd (r.next_koid + 1) []) handles) (body.ChannelEnd r.next_koid []) handles
+-- the kind of each end
+abbrev pub kind_of_pair : Pair → Kind
+kind_of_pair pair.Channel = kind.Channel
+kind_of_pair pair.Eventpair = kind.Eventpair
+
+-- a new end that has this peer
+abbrev pub end_to : Pair → ℕ → Body
+end_to pair.Channel peer = body.ChannelEnd peer []
+end_to pair.Eventpair peer = body.PairEnd peer
+
+-- the objects with both ends of a new channel or event pair, which are peers of each other; the first has the lower koid
+abbrev pub with_pair : Objects → Pair → ℕ → Objects
+with_pair r pair handles = with_new (with_new r (end_to pair (r.next_koid + 1)) handles) (end_to pair r.next_koid) handles
 
 -- the objects without the newest, which had the koid k
 abbrev pub without_newest : Objects → ℕ → Objects

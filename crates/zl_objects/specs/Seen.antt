@@ -5,7 +5,7 @@ use Rattle.std.specs.Ordering.{nat_cmp}
 use Rattle.std.specs.FinMap.Entries.{is_sorted}
 use Rattle.zl_rights.specs.Counts.{handles_to}
 use Rattle.zl_rights.specs.Map.{Map, get, has_key}
-use Rattle.zl_rights.specs.World.{World, Object as ObjectValue, Body as BodyValue, ChannelEnd, EventBody, PortBody, JobBody, ProcessBody}
+use Rattle.zl_rights.specs.World.{World, Object as ObjectValue, Body as BodyValue, ChannelEnd, EventBody, PairEnd, PortBody, JobBody, ProcessBody}
 use Rattle.zl_rights.specs.Signals.{has_ended, is_process, lives, runs}
 use Rattle.zl_rights.specs.Settle.{Settles, without_others}
 use Rattle.zl_objects.specs.declared.object.Body.{Body}
@@ -24,6 +24,7 @@ body_value (body.Process job l) = ProcessBody job
 body_value body.Event = EventBody
 body_value (body.ChannelEnd peer queue) = ChannelEnd peer queue
 body_value (body.Port port) = PortBody port.packets
+body_value (body.PairEnd peer) = PairEnd peer
 
 -- an object; how many handles name it isn't seen
 abbrev pub object_value : Object → ObjectValue

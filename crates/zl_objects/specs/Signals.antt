@@ -22,6 +22,7 @@ implied m k (body.Job job) =
 implied m k (body.Process job l) = signal_if TERMINATED (not (is_alive l))
 implied m k body.Event = 0
 implied m k (body.Port port) = 0
+implied m k (body.PairEnd peer) = signal_if PEER_CLOSED (not (has_key m peer))
 implied m k (body.ChannelEnd peer queue) =
     bit_or (signal_if READABLE (not (is_empty queue))) (if has_key m peer then WRITABLE else PEER_CLOSED)
 

@@ -23,6 +23,6 @@ mod signals;
 mod wait;
 mod waits;
 
-pub use object::{Body, Life, Object};
+pub use object::{Body, Life, Object, Pair};
 pub use objects::Objects;
 pub use wait::Wait;

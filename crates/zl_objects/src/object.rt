@@ -2,10 +2,11 @@
 
 ghost use Rattle.std.specs.Prelude.{◌≡◌, ◌↔◌, IsTrue, IfErr, OnErr, OnOk, Err, Some, slice_get};
 ghost use Rattle.zl_objects.specs.Dying.{is_last};
-ghost use Rattle.zl_objects.specs.Objects.{has_place, held_once_more, held_once_less, is_alive, is_end_body, is_running, job_of, kind_in, peer_of, queue_of, raised_changed, received, sent, started, started_life, stopped};
+ghost use Rattle.zl_objects.specs.Objects.{has_place, held_once_more, held_once_less, is_alive, is_channel_body, is_running, end_to, job_of, kind_in, kind_of_pair, peer_of, queue_of, reader_of, raised_changed, received, sent, started, started_life, stopped};
 ghost use Rattle.zl_channel.specs.Queue.{is_too_large, refused_message, front_sizes, front_entry};
 
 use crate::objects::Objects;
+use std::alloc::Global;
 use zl_channel::{ChannelEnd, Message, PushFault};
 use zl_jobs::Job;
 use zl_port::Port;
@@ -66,6 +67,42 @@ pub enum Body {
     ChannelEnd { peer: Koid, queue: ChannelEnd },
     /// A port, with its packets and the number of places reserved for waits.
     Port(Port),
+    /// One end of an event pair, of which signals are all there is.
+    PairEnd { peer: Koid },
+}
+
+/// What has two ends that are peers of each other.
+///
+/// Source: the pages "Channel" and "Event pair" of the Fuchsia documentation.
+#[derive(Clone, Copy)]
+pub enum Pair {
+    Channel,
+    Eventpair,
+}
+
+impl Pair {
+    /// The kind of each end.
+    pub fn kind(self) -> Kind
+        ensures { result ≡ kind_of_pair self }
+    {
+        match self {
+            Pair::Channel => Kind::Channel,
+            Pair::Eventpair => Kind::Eventpair,
+        }
+    }
+
+    /// An end whose peer has this koid; nothing is to be read at it.
+    pub(crate) fn end_to(self, alloc: Global, peer: Koid) -> Body
+        ensures { result ≡ end_to self peer }
+    {
+        match self {
+            Pair::Channel => Body::ChannelEnd {
+                peer,
+                queue: ChannelEnd::new(alloc),
+            },
+            Pair::Eventpair => Body::PairEnd { peer },
+        }
+    }
 }
 
 /// An object, with the signals that calls set and clear, the waits that are registered there, and the
@@ -127,7 +164,7 @@ impl Object {
 
     /// The message goes last into the queue of a channel end.
     pub(crate) fn send(&mut self, message: Message) -> Result<(), PushFault>
-        requires { IsTrue (is_end_body self.old.body) }
+        requires { IsTrue (is_channel_body self.old.body) }
         ensures ok { OnOk result (self.new ≡ sent message self.old) }
         ensures unchanged { OnErr result (self.new ≡ self.old) }
         ensures handed_back { IfErr result (λ fault. refused_message fault ≡ message) }
@@ -163,6 +200,7 @@ impl Body {
             Body::Event => Kind::Event,
             Body::ChannelEnd { .. } => Kind::Channel,
             Body::Port(_) => Kind::Port,
+            Body::PairEnd { .. } => Kind::Eventpair,
         }
     }
 
@@ -176,9 +214,19 @@ impl Body {
         }
     }
 
-    /// The other end of a channel.
+    /// The other end of a channel or of an event pair.
     pub(crate) fn peer(&self) -> Option<Koid>
         ensures { result ≡ peer_of self.now }
+    {
+        match self {
+            Body::ChannelEnd { peer, .. } | Body::PairEnd { peer } => Some(*peer),
+            _ => None,
+        }
+    }
+
+    /// The end at which is to be read what is written at this end of a channel.
+    pub(crate) fn reader(&self) -> Option<Koid>
+        ensures { result ≡ reader_of self.now }
     {
         match self {
             Body::ChannelEnd { peer, .. } => Some(*peer),

@@ -1,6 +1,6 @@
 ghost use Rattle.std.specs.Prelude.{[], Err, Some, false, ◌≡◌, ◌↔◌, ◌+◌, ◌<◌, ◌^◌, ◌∷◌, IsTrue, IfErr, IfOk, IfSome, OnErr, OnOk, slice_get};
 ghost use Rattle.zl_rights.specs.Map.{get, has_key};
-ghost use Rattle.zl_objects.specs.Objects.{changing, has_koids, has_place, holding, is_end_at, is_end_body, is_job_at, job_in, kind_at, new_object, next_of, peer_at, queue_in, receiving, root_alone, sending, starting, stopping, with_channel, with_new, without_newest};
+ghost use Rattle.zl_objects.specs.Objects.{changing, end_to, has_koids, has_place, holding, is_channel_at, is_end_at, is_end_body, is_job_at, job_in, kind_at, new_object, next_of, peer_at, queue_in, reader_at, receiving, root_alone, sending, starting, stopping, with_pair, with_new, without_newest};
 ghost use Rattle.zl_channel.specs.Queue.{front_entry, front_sizes, is_too_large, refused_message};
 ghost use Rattle.zl_objects.specs.Ports.{reserved_in, reserved_of};
 ghost use Rattle.zl_objects.specs.Jobs.{killing};
@@ -11,13 +11,13 @@ ghost use Rattle.zl_objects.specs.Waits.{waits_in, HavePlaces, LeavesWaits};
 
 use crate::killing::kill_all;
 use crate::listing::keep_there;
-use crate::object::{Body, Object};
+use crate::object::{Body, Object, Pair};
 use crate::releasing::{let_go, remove_dying, remove_unkept, sweep};
 use crate::wait::Wait;
 use std::alloc::{AllocError, Global};
 use std::collections::{BTreeMap, VecDeque};
 use std::marker::Model;
-use zl_channel::{ChannelEnd, Message, PushFault};
+use zl_channel::{Message, PushFault};
 use zl_jobs::Job;
 use zl_rights::{Entry, Kind, Koid, Signals};
 use zl_signals::SignalState;
@@ -107,7 +107,8 @@ impl Objects {
     }
 
     /// Makes an object that so many handles name, and gives its koid. A koid has to be left, an end
-    /// of a channel is made by `create_channel`, and at a port no place may be reserved.
+    /// of a channel or of an event pair is made by `create_pair`, and at a port no place may be
+    /// reserved.
     pub fn create(&mut self, body: Body, handles: u64) -> Result<Koid, AllocError>
         requires koid { IsTrue (has_koids self.old.next_koid 1) }
         requires alone { is_end_body body ≡ false }
@@ -133,16 +134,16 @@ impl Objects {
         Ok(koid)
     }
 
-    /// Makes a channel and gives the koids of its ends, the lower first. They are peers of each
-    /// other, nothing is to be read at them, and so many handles name each. Two koids have to be
-    /// left.
+    /// Makes a channel or an event pair and gives the koids of its ends, the lower first. They are
+    /// peers of each other, nothing is to be read at them, and so many handles name each. Two koids
+    /// have to be left.
     ///
-    /// Source: the page "zx_channel_create" of the Fuchsia documentation.
-    pub fn create_channel(&mut self, handles: u64) -> Result<(Koid, Koid), AllocError>
+    /// Source: the pages "zx_channel_create" and "zx_eventpair_create" of the Fuchsia documentation.
+    pub fn create_pair(&mut self, pair: Pair, handles: u64) -> Result<(Koid, Koid), AllocError>
         requires { IsTrue (has_koids self.old.next_koid 2) }
         ensures koids { IfOk result
             (λ koids. koids ≡ (self.old.next_koid, self.old.next_koid + 1)) }
-        ensures created { OnOk result (self.new ≡ with_channel self.old handles) }
+        ensures created { OnOk result (self.new ≡ with_pair self.old pair handles) }
         ensures unchanged { OnErr result (self.new ≡ self.old) }
     {
         let first = self.next_koid;
@@ -150,10 +151,10 @@ impl Objects {
         let alloc = *self.dying.allocator();
         self.dying.reserve(self.by_koid.len() + 2)?;
         self.by_koid
-            .insert(first, channel_end(alloc, second, handles))?;
+            .insert(first, new_end(alloc, pair, second, handles))?;
         if self
             .by_koid
-            .insert(second, channel_end(alloc, first, handles))
+            .insert(second, new_end(alloc, pair, first, handles))
             .is_err()
         {
             self.by_koid.remove(&first);
@@ -164,8 +165,8 @@ impl Objects {
     }
 
     /// Takes the newest object back, with its koid, as if it had not been made. The koid has to be
-    /// the one given last, and that of no end of a channel; no wait may be registered at it, and at
-    /// a port no place be reserved.
+    /// the one given last, and that of no end of a channel or of an event pair; no wait may be
+    /// registered at it, and at a port no place be reserved.
     pub fn take_back(&mut self, koid: Koid)
         requires newest { self.old.next_koid ≡ koid + 1 }
         requires there { IsTrue (has_key self.old.objects koid) }
@@ -242,12 +243,13 @@ impl Objects {
         object.change(clear, set);
     }
 
-    /// The other end of the channel whose end it is, while it is an object.
+    /// The other end of the channel or of the event pair whose end it is, while it is an object.
     ///
-    /// Source: the page "Channels" of the Fuchsia documentation.
+    /// Source: the pages "Channel" and "Event pair" of the Fuchsia documentation.
     pub fn peer(&self, koid: Koid) -> Option<Koid>
         ensures peer { result ≡ peer_at self.now.objects koid }
-        ensures end { IfSome result (λ peer. IsTrue (is_end_at self.now.objects peer)) }
+        ensures kind { IfSome result
+            (λ peer. kind_at self.now.objects peer ≡ kind_at self.now.objects koid) }
     {
         let peer = self.by_koid.get(&koid)?.body.peer()?;
         if self.by_koid.contains_key(&peer) {
@@ -257,12 +259,28 @@ impl Objects {
         }
     }
 
+    /// The end at which is to be read what is written at this end of a channel, while it is an
+    /// object.
+    ///
+    /// Source: the page "Channel" of the Fuchsia documentation.
+    pub fn reader(&self, koid: Koid) -> Option<Koid>
+        ensures reader { result ≡ reader_at self.now.objects koid }
+        ensures channel { IfSome result (λ reader. IsTrue (is_channel_at self.now.objects reader)) }
+    {
+        let reader = self.by_koid.get(&koid)?.body.reader()?;
+        if self.by_koid.contains_key(&reader) {
+            Some(reader)
+        } else {
+            None
+        }
+    }
+
     /// Puts the message behind all others that are to be read at the end. No count of handles
-    /// changes. The koid has to be that of an end, as `peer` gives it.
+    /// changes. The koid has to be that of an end of a channel, as `reader` gives it.
     ///
     /// `OutOfRange` where it has more bytes or handles than a message may have, else `NoMemory`.
     pub fn send(&mut self, koid: Koid, message: Message) -> Result<(), PushFault>
-        requires { IsTrue (is_end_at self.old.objects koid) }
+        requires { IsTrue (is_channel_at self.old.objects koid) }
         ensures sent { OnOk result (self.new ≡ sending self.old koid message) }
         ensures unchanged { OnErr result (self.new ≡ self.old) }
         ensures handed_back { IfErr result (λ fault. refused_message fault ≡ message) }
@@ -408,15 +426,12 @@ fn job_of(by_koid: &BTreeMap<Koid, Object>, pid: Koid) -> Option<Koid>
     by_koid.get(&pid)?.body.job()
 }
 
-/// An end of a channel, at which nothing is to be read, and which so many handles name.
-fn channel_end(alloc: Global, peer: Koid, handles: u64) -> Object
-    ensures { result ≡ new_object (Body.ChannelEnd peer []) handles }
+/// An end at which nothing is to be read, and which so many handles name.
+fn new_end(alloc: Global, pair: Pair, peer: Koid, handles: u64) -> Object
+    ensures { result ≡ new_object (end_to pair peer) handles }
 {
     Object {
-        body: Body::ChannelEnd {
-            peer,
-            queue: ChannelEnd::new(alloc),
-        },
+        body: pair.end_to(alloc, peer),
         signals: SignalState::new(alloc),
         handles,
     }

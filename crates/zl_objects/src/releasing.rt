@@ -85,7 +85,7 @@ fn is_kept(by_koid: &BTreeMap<Koid, Object>, koid: Koid, object: &Object) -> boo
     match &object.body {
         Body::Job(_) => has_living_child(by_koid, koid),
         Body::Process { life, .. } => life.is_running(),
-        Body::Event | Body::ChannelEnd { .. } | Body::Port(_) => false,
+        Body::Event | Body::ChannelEnd { .. } | Body::Port(_) | Body::PairEnd { .. } => false,
     }
 }
 

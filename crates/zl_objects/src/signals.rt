@@ -15,7 +15,8 @@ impl Objects {
     /// The signals that are active at the object, none where it isn't there. It takes no memory.
     ///
     /// An end of a channel is readable while its queue isn't empty, writable while its peer is an
-    /// object, and else its peer is closed. A process is terminated once it has ended, and a job
+    /// object, and else its peer is closed. So is that of an end of an event pair, which is never
+    /// writable. A process is terminated once it has ended, and a job
     /// once it was killed. A job has no jobs while none directly in it lives, and no processes
     /// likewise.
     /// Source: the page "Signals" of the Fuchsia documentation.
@@ -48,6 +49,9 @@ impl Objects {
             }
             Body::Process { life, .. } => signal_if(Signals::TERMINATED, !life.is_alive()),
             Body::Event | Body::Port(_) => Signals::empty(),
+            Body::PairEnd { peer } => {
+                signal_if(Signals::PEER_CLOSED, !self.by_koid.contains_key(peer))
+            }
             Body::ChannelEnd { peer, queue } => {
                 let readable = if queue.is_empty() {
                     Signals::empty()

@@ -140,6 +140,7 @@ fn stands_for(condition: &Condition) -> &[Condition]
         Condition::NewAny => &[
             Condition::NewChannel,
             Condition::NewEvent,
+            Condition::NewEventpair,
             Condition::NewPort,
             Condition::NewProcess,
         ],
@@ -165,6 +166,7 @@ fn place_of(condition: &Condition) -> usize
         Condition::NewAny => 2,
         Condition::NewChannel => 3,
         Condition::NewEvent => 4,
+        Condition::NewEventpair => 5,
         Condition::NewPort => 6,
         Condition::NewProcess => 7,
     }

@@ -28,9 +28,23 @@ const NAMES: [&str; 7] = [
     ".raw", ".memory", ".budget", ".need", ".start", ".slots", ".bytes",
 ];
 
-const KINDS: [&str; 6] = ["any", "process", "channel", "event", "port", "job"];
+const KINDS: [&str; 7] = [
+    "any",
+    "process",
+    "channel",
+    "event",
+    "port",
+    "eventpair",
+    "job",
+];
 
-const CONDITIONS: [&str; 4] = ["NEW_CHANNEL", "NEW_EVENT", "NEW_PORT", "NEW_PROCESS"];
+const CONDITIONS: [&str; 5] = [
+    "NEW_CHANNEL",
+    "NEW_EVENT",
+    "NEW_EVENTPAIR",
+    "NEW_PORT",
+    "NEW_PROCESS",
+];
 
 /// Adds which directive, kind or condition was meant by a name that none has.
 pub fn push_directive_unknown(
@@ -146,8 +160,9 @@ fn push_opcode(hint: &mut String, opcode: u8) -> Result<(), AllocError> {
 fn push_wrong_need(hint: &mut String, word: &[u8]) -> Result<bool, AllocError> {
     match Condition::named(word) {
         Some(condition) if !Image::can_need(condition) => {
-            let text = "a program needs NEW_CHANNEL, NEW_EVENT, NEW_PORT or NEW_PROCESS, and not #";
-            push_text(hint, text, &[Word(word)])?;
+            let known =
+                "a program needs NEW_CHANNEL, NEW_EVENT, NEW_EVENTPAIR, NEW_PORT or NEW_PROCESS";
+            push_text(hint, "#, and not #", &[Name(known), Word(word)])?;
             Ok(true)
         }
         _ => Ok(false),

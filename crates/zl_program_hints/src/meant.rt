@@ -8,8 +8,17 @@ use zl_asm::words::split_words;
 use zl_code::Row;
 
 /// The first words of the lines of a scenario that stand in no block.
-const STATEMENTS: [&str; 9] = [
-    "process", "program", "event", "port", "channel", "job", "policy", "limit", "--",
+const STATEMENTS: [&str; 10] = [
+    "process",
+    "program",
+    "event",
+    "port",
+    "channel",
+    "eventpair",
+    "job",
+    "policy",
+    "limit",
+    "--",
 ];
 
 /// What the words of a line in a block say of its end, if they are those of a statement, or nearly end

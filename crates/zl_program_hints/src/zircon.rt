@@ -5,13 +5,14 @@ use crate::text::push_text;
 use std::alloc::AllocError;
 
 /// Zircon's names without `zx_`, each with what the call is here.
-const CALLS: [(&str, &str); 24] = [
+const CALLS: [(&str, &str); 25] = [
     ("channel_create", "chan_create"),
     ("channel_read", "chan_read_etc"),
     ("channel_read_etc", "chan_read_etc"),
     ("channel_write", "chan_write"),
     ("channel_write_etc", "chan_write"),
     ("event_create", "event_create"),
+    ("eventpair_create", "eventpair_create"),
     ("handle_close", "close"),
     ("handle_duplicate", "dup"),
     ("handle_replace", "replace"),

@@ -1,5 +1,6 @@
 -- The names that most proofs cite, passed on from one place. Declares nothing.
-pub use Rattle.zl_rights.specs.Common.{Blocked, Body, ChannelEnd, Cpu, Created, DUPLICATE, Ended, EventBody, Gone, JobBody, Koids, Map, Object, PortBody}
+pub use Rattle.zl_rights.specs.Common.{Blocked, Body, ChannelEnd, Cpu, Created, DUPLICATE, Ended, EventBody, Gone, JobBody, Koids, Map, Object, PairEnd}
+pub use Rattle.zl_rights.specs.Common.{PortBody}
 pub use Rattle.zl_rights.specs.Common.{Process, ProcessBody, Ready, SIGNAL, SIGNALED, STUCK, Settles, State, World, bits, condition_name, condition_number}
 pub use Rattle.zl_rights.specs.Common.{default_rights_of, has_key, is_empty, is_ready, kind_of, lives, narrowed, process_settled, queue_of, rights_of, runs}
 pub use Rattle.zl_rights.specs.Common.{state_passes, within}

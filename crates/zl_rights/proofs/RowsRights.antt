@@ -15,5 +15,8 @@ of_event = refl
 of_port : default_rights_of kind.Port ≡ 32783
 of_port = refl
 
+of_eventpair : default_rights_of kind.Eventpair ≡ 61443
+of_eventpair = refl
+
 of_job : default_rights_of kind.Job ≡ 251407
 of_job = refl

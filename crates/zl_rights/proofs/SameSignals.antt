@@ -5,7 +5,7 @@ use Rattle.std.specs.List.{list_any}
 use Rattle.std.specs.Option.{option_map, is_some}
 use Rattle.std.proofs.lemmas.Bool.{cases_Bool, eqb-true}
 use Rattle.zl_rights.specs.Map.{get, has_key}
-use Rattle.zl_rights.specs.World.{World, answered, Process, State, Ready, Object, Body, ChannelEnd, EventBody, PortBody, JobBody, ProcessBody, Packet}
+use Rattle.zl_rights.specs.World.{World, answered, Process, State, Ready, Object, Body, ChannelEnd, EventBody, PairEnd, PortBody, JobBody, ProcessBody, Packet}
 use Rattle.zl_rights.specs.Signals.{active, active_of, implied, is_process, state_passes, lives, has_ended, has_child_job, has_child_process, is_job_below}
 use Rattle.zl_rights.specs.Signals.{is_process_of}
 use Rattle.zl_rights.specs.Wakes.{fired, body_with_packets, packets_for, made_ready, with_body}
@@ -24,6 +24,7 @@ pub record IsAlike (u v : World) : Type 0 where
 implied-same : (u v : World) → IsAlike u v → (k : ℕ) (b : Body) → implied v k b ≡ implied u k b
 implied-same u v alike k (ChannelEnd peer queue) = rw (alike.keys peer)
 implied-same u v alike k EventBody = refl
+implied-same u v alike k (PairEnd peer) = rw (alike.keys peer)
 implied-same u v alike k (PortBody packets) = refl
 implied-same u v alike k (JobBody parent depth policy killed) = rw (alike.jobs k, alike.processes k)
 implied-same u v alike k (ProcessBody job) = rw (alike.ended k)

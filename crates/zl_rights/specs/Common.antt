@@ -8,5 +8,5 @@ unfoldable pub use Rattle.zl_rights.specs.Settle.{has_living_child, in_queue, in
 pub use Rattle.zl_rights.specs.Signals.{is_empty, is_ready, lives, runs, state_passes}
 unfoldable pub use Rattle.zl_rights.specs.Signals.{is_process}
 unfoldable pub use Rattle.zl_rights.specs.Wakes.{fired, wakes}
-pub use Rattle.zl_rights.specs.World.{Blocked, Body, ChannelEnd, Cpu, Created, Ended, EventBody, Gone, JobBody, Object, PortBody, Process, ProcessBody, Ready, State, World, kind_of}
+pub use Rattle.zl_rights.specs.World.{Blocked, Body, ChannelEnd, Cpu, Created, Ended, EventBody, Gone, JobBody, Object, PairEnd, PortBody, Process, ProcessBody, Ready, State, World, kind_of}
 unfoldable pub use Rattle.zl_rights.specs.World.{answered}

@@ -1,9 +1,10 @@
 -- The names of statuses, kinds and conditions, as texts have them.
-use Rattle.std.specs.Prelude.{ℕ, ◌==◌, List, [], ◌∷◌, codes, Option}
+use Rattle.std.specs.Prelude.{ℕ, ◌==◌, List, codes, Option}
 use Rattle.std.specs.List.{find}
 use Rattle.std.specs.Cmp.Lexicographic.{pointwise}
 use Rattle.zl_rights.specs.declared.kind.Kind.{Kind}
 use Rattle.zl_rights.specs.declared.kind.Kind.TheVariants as kind
+use Rattle.zl_rights.specs.Numbers.{all_conditions, all_kinds}
 use Rattle.zl_rights.specs.declared.policy.Condition.{Condition}
 use Rattle.zl_rights.specs.declared.policy.Condition.TheVariants as condition
 use Rattle.zl_rights.specs.declared.status.Status.{Status}
@@ -34,11 +35,12 @@ kind_name kind.Process = codes "process"
 kind_name kind.Channel = codes "channel"
 kind_name kind.Event = codes "event"
 kind_name kind.Port = codes "port"
+kind_name kind.Eventpair = codes "eventpair"
 kind_name kind.Job = codes "job"
 
 -- the kind of this name
 unfoldable pub kind_named : List ℕ → Option Kind
-kind_named name = find (λ k. pointwise ◌==◌ (kind_name k) name) (kind.Process ∷ kind.Channel ∷ kind.Event ∷ kind.Port ∷ kind.Job ∷ [])
+kind_named name = find (λ k. pointwise ◌==◌ (kind_name k) name) all_kinds
 
 -- the name of a condition, as the texts of programs spell it
 abbrev pub condition_name : Condition → List ℕ
@@ -47,12 +49,10 @@ condition_name condition.WrongObject = codes "WRONG_OBJECT"
 condition_name condition.NewAny = codes "NEW_ANY"
 condition_name condition.NewChannel = codes "NEW_CHANNEL"
 condition_name condition.NewEvent = codes "NEW_EVENT"
+condition_name condition.NewEventpair = codes "NEW_EVENTPAIR"
 condition_name condition.NewPort = codes "NEW_PORT"
 condition_name condition.NewProcess = codes "NEW_PROCESS"
 
 -- the condition of this name
 unfoldable pub condition_named : List ℕ → Option Condition
-condition_named name =
-    find (λ c. pointwise ◌==◌ (condition_name c) name)
-    (condition.BadHandle ∷ condition.WrongObject ∷ condition.NewAny
-    ∷ condition.NewChannel ∷ condition.NewEvent ∷ condition.NewPort ∷ condition.NewProcess ∷ [])
+condition_named name = find (λ c. pointwise ◌==◌ (condition_name c) name) all_conditions

@@ -1,5 +1,5 @@
 -- The numbers of rights, signals, kinds, statuses, conditions, actions and modes.
-use Rattle.std.specs.Prelude.{ℕ, ◌+◌, ◌^◌, ℤ, pos, negsuc, Bool, not, ◌||◌, ◌==◌, List, length, bit_and, bit_or, bit_xor, Option, Some, None, if◌then◌else◌}
+use Rattle.std.specs.Prelude.{ℕ, ◌+◌, ◌^◌, ℤ, pos, negsuc, Bool, not, ◌||◌, ◌==◌, List, [], ◌∷◌, length, bit_and, bit_or, bit_xor, Option, Some, None, if◌then◌else◌}
 use Rattle.std.specs.List.{list_any}
 use Rattle.zl_rights.specs.declared.rights.Rights.{Rights}
 use Rattle.zl_rights.specs.declared.kind.Kind.{Kind}
@@ -109,11 +109,11 @@ READABLE = 0x1
 abbrev pub WRITABLE : ℕ
 WRITABLE = 0x2
 
--- at an end of a channel: the other end is gone
+-- at an end of a channel or of an event pair: the other end is gone
 abbrev pub PEER_CLOSED : ℕ
 PEER_CLOSED = 0x4
 
--- at an event, where calls alone set and clear it
+-- at an event or an end of a pair, where calls alone set and clear it
 abbrev pub SIGNALED : ℕ
 SIGNALED = 0x8
 
@@ -145,7 +145,12 @@ kind_number kind.Process = 1
 kind_number kind.Channel = 4
 kind_number kind.Event = 5
 kind_number kind.Port = 6
+kind_number kind.Eventpair = 16
 kind_number kind.Job = 17
+
+-- all kinds, in the order of their numbers
+abbrev pub all_kinds : List Kind
+all_kinds = kind.Process ∷ kind.Channel ∷ kind.Event ∷ kind.Port ∷ kind.Eventpair ∷ kind.Job ∷ []
 
 -- the two are one kind
 abbrev pub same_kind : Kind → Kind → Bool
@@ -161,6 +166,7 @@ default_rights_of kind.Process = DUPLICATE + TRANSFER + READ + WRITE + DESTROY +
 default_rights_of kind.Channel = TRANSFER + READ + WRITE + SIGNAL + SIGNAL_PEER + WAIT + INSPECT
 default_rights_of kind.Event = DUPLICATE + TRANSFER + SIGNAL + WAIT + INSPECT
 default_rights_of kind.Port = DUPLICATE + TRANSFER + READ + WRITE + INSPECT
+default_rights_of kind.Eventpair = DUPLICATE + TRANSFER + SIGNAL + SIGNAL_PEER + WAIT + INSPECT
 default_rights_of kind.Job = DUPLICATE + TRANSFER + READ + WRITE + DESTROY + SET_POLICY + SIGNAL + WAIT + INSPECT + MANAGE_JOB + MANAGE_PROCESS
 
 -- ---- statuses
@@ -212,8 +218,17 @@ condition_number condition.WrongObject = 1
 condition_number condition.NewAny = 2
 condition_number condition.NewChannel = 3
 condition_number condition.NewEvent = 4
+condition_number condition.NewEventpair = 5
 condition_number condition.NewPort = 6
 condition_number condition.NewProcess = 7
+
+-- the conditions of making an object of one kind, in the order of their numbers
+abbrev pub all_makings : List Condition
+all_makings = condition.NewChannel ∷ condition.NewEvent ∷ condition.NewEventpair ∷ condition.NewPort ∷ condition.NewProcess ∷ []
+
+-- all conditions, in the order of their numbers
+abbrev pub all_conditions : List Condition
+all_conditions = condition.BadHandle ∷ condition.WrongObject ∷ condition.NewAny ∷ all_makings
 
 -- the number of an action, as job_set_policy takes it
 abbrev pub action_number : Action → ℕ

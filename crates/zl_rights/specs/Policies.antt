@@ -2,7 +2,7 @@
 use Rattle.std.specs.Prelude.{ℕ, Bool, true, false, not, ◌==◌, List, [], ◌∷◌, map, fold, Option, Some, None, unwrap_or, Result, Ok, Err, if◌then◌else◌, ◌&&◌}
 use Rattle.std.specs.List.{find, list_any}
 use Rattle.zl_rights.specs.Map.{Map, get, put, has_key}
-use Rattle.zl_rights.specs.Numbers.{condition_number, action_number, mode_number}
+use Rattle.zl_rights.specs.Numbers.{condition_number, action_number, all_conditions, all_makings, mode_number}
 use Rattle.zl_rights.specs.declared.policy.Condition.{Condition}
 use Rattle.zl_rights.specs.declared.policy.Condition.TheVariants as condition
 use Rattle.zl_rights.specs.declared.policy.Action.{Action}
@@ -18,8 +18,7 @@ action_in policy c = unwrap_or (get policy (condition_number c)) action.Allow
 
 -- the numbers of the conditions that one stands for
 abbrev pub conditions_of : Condition → List ℕ
-conditions_of condition.NewAny =
-    map condition_number (condition.NewChannel ∷ condition.NewEvent ∷ condition.NewPort ∷ condition.NewProcess ∷ [])
+conditions_of condition.NewAny = map condition_number all_makings
 conditions_of c = condition_number c ∷ []
 
 -- it is set, to another action
@@ -56,15 +55,9 @@ pub record Setting : Type 0 where
   pub condition : Condition
   pub action : Action
 
--- all conditions
-abbrev pub conditions : List Condition
-conditions =
-    condition.BadHandle ∷ condition.WrongObject ∷ condition.NewAny ∷ condition.NewChannel ∷ condition.NewEvent
-    ∷ condition.NewPort ∷ condition.NewProcess ∷ []
-
 -- the condition with this number, if one has it
 abbrev pub condition_numbered : ℕ → Option Condition
-condition_numbered n = find (λ c. condition_number c == n) conditions
+condition_numbered n = find (λ c. condition_number c == n) all_conditions
 
 -- the action with this number, if one has it
 abbrev pub action_numbered : ℕ → Option Action

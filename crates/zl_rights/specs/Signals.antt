@@ -3,7 +3,7 @@ use Rattle.std.specs.Prelude.{ℕ, Bool, true, false, ◌&&◌, not, ◌==◌, L
 use Rattle.std.specs.List.{list_any}
 use Rattle.zl_rights.specs.Numbers.{READABLE, WRITABLE, PEER_CLOSED, TERMINATED, NO_JOBS, NO_PROCESSES}
 use Rattle.zl_rights.specs.Map.{get, has_key}
-use Rattle.zl_rights.specs.World.{World, Process, State, Created, Ready, Blocked, Ended, Gone, Object, Body, ChannelEnd, EventBody, PortBody, JobBody, ProcessBody}
+use Rattle.zl_rights.specs.World.{World, Process, State, Created, Ready, Blocked, Ended, Gone, Object, Body, ChannelEnd, EventBody, PairEnd, PortBody, JobBody, ProcessBody}
 
 -- ---- states of a process
 
@@ -76,6 +76,7 @@ abbrev pub implied : World → ℕ → Body → ℕ
 implied w k (ChannelEnd peer queue) =
     bit_or (signal_if READABLE (not (is_empty queue))) (if has_key w.objects peer then WRITABLE else PEER_CLOSED)
 implied w k EventBody = 0
+implied w k (PairEnd peer) = signal_if PEER_CLOSED (not (has_key w.objects peer))
 implied w k (PortBody packets) = 0
 implied w k (JobBody parent depth policy killed) =
     bit_or (signal_if TERMINATED killed)

@@ -85,6 +85,8 @@ pub data Body : Type 0 where
   -- the queue holds what is to be read at this end
   ChannelEnd : (peer : ℕ) (queue : List Message) → Body
   EventBody : Body
+  -- one end of an event pair
+  PairEnd : (peer : ℕ) → Body
   PortBody : (packets : List Packet) → Body
   -- the policy is by the numbers of conditions; unset allows
   JobBody : (parent depth : ℕ) (policy : Map Action) (killed : Bool) → Body
@@ -100,6 +102,7 @@ pub record Object : Type 0 where
 abbrev pub kind_of : Body → Kind
 kind_of (ChannelEnd peer queue) = kind.Channel
 kind_of EventBody = kind.Event
+kind_of (PairEnd peer) = kind.Eventpair
 kind_of (PortBody packets) = kind.Port
 kind_of (JobBody parent depth policy killed) = kind.Job
 kind_of (ProcessBody job) = kind.Process

@@ -22,6 +22,7 @@ pub enum Kind {
     Channel,
     Event,
     Port,
+    Eventpair,
     Job,
 }
 
@@ -37,6 +38,7 @@ impl Kind {
             Kind::Channel => 4,
             Kind::Event => 5,
             Kind::Port => 6,
+            Kind::Eventpair => 16,
             Kind::Job => 17,
         }
     }
@@ -51,6 +53,7 @@ impl Kind {
             4 => Some(Kind::Channel),
             5 => Some(Kind::Event),
             6 => Some(Kind::Port),
+            16 => Some(Kind::Eventpair),
             17 => Some(Kind::Job),
             _ => None,
         }
@@ -65,6 +68,7 @@ impl Kind {
             Kind::Channel => "channel",
             Kind::Event => "event",
             Kind::Port => "port",
+            Kind::Eventpair => "eventpair",
             Kind::Job => "job",
         }
     }
@@ -78,6 +82,7 @@ impl Kind {
             Kind::Channel,
             Kind::Event,
             Kind::Port,
+            Kind::Eventpair,
             Kind::Job,
         ];
         kinds
@@ -99,6 +104,7 @@ impl Kind {
             Kind::Channel => rights![TRANSFER READ WRITE SIGNAL SIGNAL_PEER WAIT INSPECT],
             Kind::Event => rights![DUPLICATE TRANSFER SIGNAL WAIT INSPECT],
             Kind::Port => rights![DUPLICATE TRANSFER READ WRITE INSPECT],
+            Kind::Eventpair => rights![DUPLICATE TRANSFER SIGNAL SIGNAL_PEER WAIT INSPECT],
             Kind::Job => rights![
                 DUPLICATE TRANSFER READ WRITE DESTROY SET_POLICY SIGNAL WAIT INSPECT MANAGE_JOB
                 MANAGE_PROCESS

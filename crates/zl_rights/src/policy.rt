@@ -15,6 +15,7 @@ pub enum Condition {
     NewAny,
     NewChannel,
     NewEvent,
+    NewEventpair,
     NewPort,
     NewProcess,
 }
@@ -49,6 +50,7 @@ impl Condition {
             Condition::NewAny => 2,
             Condition::NewChannel => 3,
             Condition::NewEvent => 4,
+            Condition::NewEventpair => 5,
             Condition::NewPort => 6,
             Condition::NewProcess => 7,
         }
@@ -65,6 +67,7 @@ impl Condition {
             2 => Some(Condition::NewAny),
             3 => Some(Condition::NewChannel),
             4 => Some(Condition::NewEvent),
+            5 => Some(Condition::NewEventpair),
             6 => Some(Condition::NewPort),
             7 => Some(Condition::NewProcess),
             _ => None,
@@ -81,6 +84,7 @@ impl Condition {
             Condition::NewAny => "NEW_ANY",
             Condition::NewChannel => "NEW_CHANNEL",
             Condition::NewEvent => "NEW_EVENT",
+            Condition::NewEventpair => "NEW_EVENTPAIR",
             Condition::NewPort => "NEW_PORT",
             Condition::NewProcess => "NEW_PROCESS",
         }
@@ -96,6 +100,7 @@ impl Condition {
             Condition::NewAny,
             Condition::NewChannel,
             Condition::NewEvent,
+            Condition::NewEventpair,
             Condition::NewPort,
             Condition::NewProcess,
         ];

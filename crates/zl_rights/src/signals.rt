@@ -5,7 +5,7 @@ use bitflags::{Flag, Flags, bitflag_items};
 
 /// What is active at an object: a set of named bits.
 ///
-/// `SIGNALED` of an event and `TERMINATED` of a process or a job are one bit.
+/// `SIGNALED` of an event or an end of a pair and `TERMINATED` of a process or a job are one bit.
 /// Source: the page "Signals" of the Fuchsia documentation.
 #[derive(Clone, Copy)]
 pub struct Signals(u32);

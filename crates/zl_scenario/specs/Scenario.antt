@@ -96,12 +96,13 @@ unfoldable pub policy_said : ℕ → Scenario → Option ℕ → Option Conditio
 policy_said n said (Some job) (Some condition) (Some action) = Ok (with_statement said n (statement.Policy job condition action))
 policy_said n said _ _ _ = Err cause.Syntax
 
--- `event`, `port` or `channel`
+-- `event`, `port`, `channel` or `eventpair`
 unfoldable pub object_named : List ℕ → Option Statement
 object_named name =
     if is_word name (codes "event") then Some statement.Event
     else (if is_word name (codes "port") then Some statement.Port
-    else (if is_word name (codes "channel") then Some statement.Channel else None))
+    else (if is_word name (codes "channel") then Some statement.Channel
+    else (if is_word name (codes "eventpair") then Some statement.Eventpair else None)))
 
 -- the statement, if there is one
 abbrev pub object_said : ℕ → Scenario → Option Statement → Result Scenario Cause

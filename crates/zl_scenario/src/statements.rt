@@ -150,6 +150,8 @@ fn object_named(name: &[u8]) -> Option<Statement>
         Some(Statement::Port)
     } else if is(name, b"channel") {
         Some(Statement::Channel)
+    } else if is(name, b"eventpair") {
+        Some(Statement::Eventpair)
     } else {
         None
     }

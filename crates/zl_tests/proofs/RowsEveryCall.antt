@@ -1,4 +1,4 @@
--- A checked program that goes through each of the 23 calls: its process starts properly, each call but its exit is answered OK, it waits
+-- A checked program that goes through each of the 24 calls: its process starts properly, each call but its exit is answered OK, it waits
 -- for a checked child that it starts, and wakes. So the headline speaks of something.
 use Rattle.std.proofs.lemmas.Option.{none-some, same_Some}
 use Rattle.zl_code.proofs.Common.{◌≡◌, ℕ, zero, suc, subst, slice_get, arith, true, false, List, [], ◌∷◌, ◌++◌, refl, map, replicate, pos, Some, None, World}
@@ -43,7 +43,7 @@ image = record {
   raw = false;
   memory = 0;
   budget = 40;
-  needs = condition.NewChannel ∷ condition.NewEvent ∷ condition.NewPort ∷ condition.NewProcess ∷ [];
+  needs = condition.NewChannel ∷ condition.NewEvent ∷ condition.NewEventpair ∷ condition.NewPort ∷ condition.NewProcess ∷ [];
   starts =
       start kind.Channel 8200
       ∷ start kind.Channel 4
@@ -76,6 +76,9 @@ image = record {
       ∷ instr.Call (called name.Close (31 ∷ 13 ∷ []) 0)
       ∷ instr.Call (called name.EventCreate (31 ∷ 12 ∷ []) 0)
       ∷ instr.Call (called name.Close (31 ∷ 12 ∷ []) 0)
+      ∷ instr.Call (called name.EventpairCreate (31 ∷ 12 ∷ 13 ∷ []) 0)
+      ∷ instr.Call (called name.Close (31 ∷ 12 ∷ []) 0)
+      ∷ instr.Call (called name.Close (31 ∷ 13 ∷ []) 0)
       ∷ instr.Call (called name.PortCreate (31 ∷ 12 ∷ []) 0)
       ∷ instr.Call (called name.Close (31 ∷ 12 ∷ []) 0)
       ∷ instr.Local (local.Const 14 6)
@@ -84,7 +87,7 @@ image = record {
       ∷ instr.Call (called name.Close (31 ∷ 12 ∷ []) 0)
       ∷ instr.Local (local.Const 18 1)
       ∷ instr.Call (called name.ProcessCreate (31 ∷ 5 ∷ 18 ∷ 12 ∷ []) 0)
-      ∷ instr.Local (local.JumpZero 12 37)
+      ∷ instr.Local (local.JumpZero 12 40)
       ∷ instr.Call (called name.ProcessStart (31 ∷ 12 ∷ 3 ∷ 16 ∷ []) 0)
       ∷ instr.Call (called name.WaitOne (31 ∷ 12 ∷ 7 ∷ 30 ∷ []) 0)
       ∷ instr.Call (called name.TaskKill (31 ∷ 5 ∷ []) 0)
@@ -198,6 +201,7 @@ allowed condition.WrongObject = refl
 allowed condition.NewAny = refl
 allowed condition.NewChannel = refl
 allowed condition.NewEvent = refl
+allowed condition.NewEventpair = refl
 allowed condition.NewPort = refl
 allowed condition.NewProcess = refl
 
@@ -226,15 +230,16 @@ starts = record { process = process; there = refl; proper = starts_properly }
 abbrev own_turns : List (List ℕ) → List (ℕ × Choice)
 own_turns values = map (λ vs. (7, Values vs)) values
 
--- up to the start of the child, which is process 13
+-- up to the start of the child, which is process 15
 abbrev first_turns : List (ℕ × Choice)
 first_turns = own_turns (
     replicate 13 []
-    ++ ((16 ∷ []) ∷ [] ∷ (16 ∷ []) ∷ [] ∷ (16 ∷ 20 ∷ []) ∷ [] ∷ [] ∷ (20 ∷ []) ∷ [] ∷ (20 ∷ []) ∷ [] ∷ [] ∷ [] ∷ (20 ∷ []) ∷ [] ∷ [] ∷ (20 ∷ []) ∷ [] ∷ []))
+    ++ ((16 ∷ []) ∷ [] ∷ (16 ∷ []) ∷ [] ∷ (16 ∷ 20 ∷ []) ∷ [] ∷ [] ∷ (20 ∷ []) ∷ []
+    ∷ (20 ∷ 21 ∷ []) ∷ [] ∷ [] ∷ (21 ∷ []) ∷ [] ∷ [] ∷ [] ∷ (21 ∷ []) ∷ [] ∷ [] ∷ (21 ∷ []) ∷ [] ∷ []))
 
 -- the start; process 7 waits until the child has ended, and goes on to its own end
 abbrev turns : List (ℕ × Choice)
-turns = first_turns ++ (own_turns ((9 ∷ []) ∷ [] ∷ []) ++ ((13, Values []) ∷ own_turns (replicate 4 [])))
+turns = first_turns ++ (own_turns ((9 ∷ []) ∷ [] ∷ []) ++ ((15, Values []) ∷ own_turns (replicate 4 [])))
 
 abbrev ok : CallName → TraceItem
 ok call = item.Call 7 call (outcome.Answered status.Ok)
@@ -248,15 +253,15 @@ first_items =
     one ∷ ok name.Signal ∷ ok name.WaitOne ∷ ok name.WaitPoll ∷ ok name.WaitAsync ∷ ok name.PortWait ∷ ok name.PortQueue ∷ ok name.PortPoll
     ∷ ok name.WaitAsync ∷ ok name.PortCancel
     ∷ one ∷ ok name.SignalPeer ∷ ok name.ChanWrite ∷ ok name.ChanReadEtc ∷ ok name.Close
-    ∷ ok name.Dup ∷ ok name.Close ∷ ok name.ChanCreate ∷ ok name.Close ∷ ok name.Close ∷ ok name.EventCreate ∷ ok name.Close ∷ ok name.PortCreate
-    ∷ ok name.Close
+    ∷ ok name.Dup ∷ ok name.Close ∷ ok name.ChanCreate ∷ ok name.Close ∷ ok name.Close ∷ ok name.EventCreate ∷ ok name.Close
+    ∷ ok name.EventpairCreate ∷ ok name.Close ∷ ok name.Close ∷ ok name.PortCreate ∷ ok name.Close
     ∷ one ∷ ok name.JobSetPolicy ∷ ok name.JobCreate ∷ ok name.Close ∷ one ∷ ok name.ProcessCreate ∷ one ∷ []
 
 -- and behind it: process 7 waits, the child ends, and process 7 is awake and ends
 abbrev last_items : List TraceItem
 last_items =
     item.Call 7 name.WaitOne outcome.Blocked
-    ∷ item.Call 13 name.ProcessExit (outcome.Ended (pos 0))
+    ∷ item.Call 15 name.ProcessExit (outcome.Ended (pos 0))
     ∷ ok name.TaskKill ∷ ok name.Close ∷ ok name.Replace
     ∷ item.Call 7 name.ProcessExit (outcome.Ended (pos 0))
     ∷ []

@@ -25,10 +25,10 @@ const SMALLEST: [u8; 36] = [
     0x53, 0, 0, 0, 0, 0, 0, 0, 0, 0, 0, 0, 0, 0, 0, 0,
 ];
 
-/// All four needs, a start handle (an event to signal and to wait for), a slot array (256 places for
+/// All five needs, a start handle (an event to signal and to wait for), a slot array (256 places for
 /// handles of any kind with all rights), and `swap r1, r2, 0`.
 const DECLARED: [u8; 52] = [
-    0x5a, 0x4c, 0x41, 0x42, 1, 0, 1, 0, 0, 0, 0, 0, 0x64, 0, 0, 0, 0x1b, 1, 1, 0, //
+    0x5a, 0x4c, 0x41, 0x42, 1, 0, 1, 0, 0, 0, 0, 0, 0x64, 0, 0, 0, 0x1f, 1, 1, 0, //
     5, 0, 0, 0, 0, 0x50, 0, 0, //
     0, 0, 0, 1, 0x0f, 0xf6, 3, 0, //
     0x0c, 1, 2, 0, 0, 0, 0, 0, 0, 0, 0, 0, 0, 0, 0, 0,
@@ -83,10 +83,10 @@ fn each_byte_changed(rt: HostRuntime) {
         }
     }
     // Each offset's own value; the raw mark; the memory 0 to 65,536; the budget 1 to 1,000,000 (254
-    // low bytes, 255 and 15 more); the needs; 47 more opcodes; 31 more registers.
+    // low bytes, 255 and 15 more); the needs; 48 more opcodes; 31 more registers.
     assert_eq!(rt;
         images,
-        36 + 1 + (255 + 255 + 1) + (254 + 255 + 15) + 15 + 47 + 31
+        36 + 1 + (255 + 255 + 1) + (254 + 255 + 15) + 31 + 48 + 31
     );
 }
 
@@ -99,6 +99,7 @@ fn declared_again(alloc: Global) -> Result<Vec<u8>, DecodeFault> {
         Condition::NewProcess,
         Condition::NewEvent,
         Condition::NewAny,
+        Condition::NewEventpair,
         Condition::NewPort,
         Condition::NewChannel,
         Condition::NewEvent,

@@ -7,7 +7,8 @@ use Rattle.std.proofs.lemmas.Bool.{cases_Bool, eqb-true, not-false}
 use Rattle.std.proofs.lemmas.Option.{none-some, same_Some}
 use Rattle.zl_rights.specs.declared.entry.Entry.{Entry}
 use Rattle.zl_rights.specs.declared.policy.Condition.{Condition}
-use Rattle.zl_rights.specs.Common.{get, lives, Settles, process_settled, without_others, World, Process, Body, EventBody, PortBody, ChannelEnd, ProcessBody}
+use Rattle.zl_rights.specs.Common.{get, lives, Settles, process_settled, without_others, World, Process, Body, EventBody, PairEnd, PortBody, ChannelEnd}
+use Rattle.zl_rights.specs.Common.{ProcessBody}
 use Rattle.zl_rights.specs.Signals.{has_child_job, has_child_process}
 use Rattle.zl_rights.proofs.MapLaws.{get-put, get-each}
 use Rattle.zl_code.specs.declared.boot.Grant.{Grant}
@@ -77,6 +78,10 @@ boot_alike lib w statement.Channel vs fine =
     let first : Body = ChannelEnd (w.next_koid + 1) [] in
     alike_then w w (with_object w first) _ (made_alike w w first (omega arith))
     (made_alike w (with_object w first) (ChannelEnd w.next_koid []) (more_koids w w first (omega arith)))
+boot_alike lib w statement.Eventpair vs fine =
+    let first : Body = PairEnd (w.next_koid + 1) in
+    alike_then w w (with_object w first) _ (made_alike w w first (omega arith))
+    (made_alike w (with_object w first) (PairEnd w.next_koid) (more_koids w w first (omega arith)))
 
 -- one that was there before the statement
 before : (lib : Library) (w : World) (s : Statement) (vs : List ℕ) → boot_fault lib w s ≡ None → IsSound w → AreStarts lib w → (p : ℕ) (q : Process)
@@ -131,6 +136,7 @@ statement_starts lib w (statement.Policy job condition action) vs few fine may s
 statement_starts lib w statement.Event vs few fine may sound all p q there = before lib w statement.Event vs fine sound all p q there
 statement_starts lib w statement.Port vs few fine may sound all p q there = before lib w statement.Port vs fine sound all p q there
 statement_starts lib w statement.Channel vs few fine may sound all p q there = before lib w statement.Channel vs fine sound all p q there
+statement_starts lib w statement.Eventpair vs few fine may sound all p q there = before lib w statement.Eventpair vs fine sound all p q there
 
 -- ---- all statements, and the end of the boot
 

@@ -6,7 +6,8 @@ use Rattle.std.proofs.lemmas.Nat.{and_le_l, or_lt}
 use Rattle.zl_rights.specs.declared.entry.Entry.{Entry}
 use Rattle.zl_rights.specs.declared.kind.Kind.{Kind}
 use Rattle.zl_rights.specs.declared.kind.Kind.TheVariants as kind
-use Rattle.zl_rights.specs.Common.{bits, within, default_rights_of, get, World, Object, Body, ChannelEnd, EventBody, PortBody, JobBody, ProcessBody, queue_of}
+use Rattle.zl_rights.specs.Common.{bits, within, default_rights_of, get, World, Object, Body, ChannelEnd, EventBody, PairEnd, PortBody, JobBody, ProcessBody}
+use Rattle.zl_rights.specs.Common.{queue_of}
 use Rattle.zl_rights.specs.World.{Message}
 use Rattle.zl_rights.specs.Signals.{active, active_of, implied, signal_if, is_empty, has_child_job, has_child_process, is_process, has_ended}
 use Rattle.zl_rights.specs.Map.{has_key}
@@ -47,6 +48,7 @@ implied_few w k (ChannelEnd peer queue) =
     by true = omega arith
     by false = omega arith
 implied_few w k EventBody = omega arith
+implied_few w k (PairEnd peer) = one_few PEER_CLOSED (not (has_key w.objects peer)) (omega arith)
 implied_few w k (PortBody packets) = omega arith
 implied_few w k (JobBody parent depth policy killed) =
     both_few (signal_if TERMINATED killed) _ (one_few TERMINATED killed (omega arith))

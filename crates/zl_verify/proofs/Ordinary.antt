@@ -9,7 +9,8 @@ use Rattle.zl_code.specs.declared.history.Outcome.TheVariants as outcome
 use Rattle.zl_code.specs.First.{first_some}
 use Rattle.zl_code.specs.Image.{Library}
 use Rattle.zl_code.specs.Tests.{answer_if}
-use Rattle.zl_code.specs.CallTable.{Request, listed, close, dup, replace, chan_create, chan_write, chan_read_etc, event_create, signal, signal_peer, wait_one}
+use Rattle.zl_code.specs.CallTable.{Request, listed, close, dup, replace, chan_create, chan_write, chan_read_etc, event_create, eventpair_create, signal}
+use Rattle.zl_code.specs.CallTable.{signal_peer, wait_one}
 use Rattle.zl_code.specs.CallTable.{wait_poll, wait_async, port_create, port_queue, port_wait, port_poll, port_cancel, process_create, process_start}
 use Rattle.zl_code.specs.CallTable.{process_exit, task_kill, job_create, job_set_policy}
 use Rattle.zl_code.specs.Headline.{is_fault}
@@ -61,3 +62,4 @@ listed_ordinary lib w p (process_exit code) = tt
 listed_ordinary lib w p (task_kill task) = tt
 listed_ordinary lib w p (job_create j) = (if_so _ _ refl refl, (if_so _ _ refl refl, (if_so _ _ refl refl, tt)))
 listed_ordinary lib w p (job_set_policy j mode condition action) = (if_so _ _ refl refl, (if_so _ _ refl refl, (if_so _ _ refl refl, tt)))
+listed_ordinary lib w p eventpair_create = (if_so _ _ refl refl, tt)

@@ -6,7 +6,8 @@ use Rattle.std.specs.Bool.{then_some}
 use Rattle.std.proofs.lemmas.Bool.{cases_Bool, eqb-true}
 use Rattle.std.proofs.lemmas.Bool.Decides.{nat_tests}
 use Rattle.std.proofs.lemmas.Option.{none-some, same_Some}
-use Rattle.zl_rights.specs.Common.{condition_number, get, lives, is_process, World, Process, Ready, Object, Body, ChannelEnd, EventBody, PortBody, JobBody}
+use Rattle.zl_rights.specs.Common.{condition_number, get, lives, is_process, World, Process, Ready, Object, Body, ChannelEnd, EventBody, PairEnd, PortBody}
+use Rattle.zl_rights.specs.Common.{JobBody}
 use Rattle.zl_rights.specs.Common.{ProcessBody}
 use Rattle.zl_rights.specs.Numbers.{KILLED}
 use Rattle.zl_rights.specs.Signals.{has_ended, has_child_job, has_child_process}
@@ -25,7 +26,9 @@ use Rattle.zl_code.specs.Starting.{is_created, created_process, started_with}
 use Rattle.zl_code.specs.Jobs.{is_dead, has_child, is_within, body_killed, object_killed, process_killed, with_killed, body_with_policy, policy_changed}
 use Rattle.zl_code.specs.Jobs.{job_within}
 use Rattle.zl_code.specs.Waiting.{without_keyed, repacked}
-use Rattle.zl_code.specs.CallTable.{Request, chan_create, chan_write, chan_read_etc, event_create, signal, signal_peer, port_create, port_queue, port_wait}
+use Rattle.zl_code.specs.CallTable.{Request, chan_create, chan_write, chan_read_etc, event_create, eventpair_create, signal, signal_peer, port_create}
+use Rattle.zl_code.specs.CallTable.{port_queue}
+use Rattle.zl_code.specs.CallTable.{port_wait}
 use Rattle.zl_code.specs.CallTable.{port_poll, port_cancel}
 use Rattle.zl_code.specs.CallTable.{process_create, process_start, process_exit, task_kill, job_create, job_set_policy, listed, effect, new_handles}
 use Rattle.zl_code.specs.CallTable.{receiver_of, entering_at, stored_by, ends_caller}
@@ -262,6 +265,9 @@ effect_alike chan_create lib w u p passes le vs =
 effect_alike (chan_write c bytes hs) lib w u p passes le vs = changed_alike w u _ _ (sends_alike _)
 effect_alike (chan_read_etc c address room places) lib w u p passes le vs = changed_alike w u _ _ reads_alike
 effect_alike event_create lib w u p passes le vs = made_alike w u EventBody le
+effect_alike eventpair_create lib w u p passes le vs =
+    let first : Body = PairEnd (w.next_koid + 1) in
+    alike_then w u (with_object u first) _ (made_alike w u first le) (made_alike w (with_object u first) (PairEnd w.next_koid) (more_koids w u first le))
 effect_alike (signal h clear set) lib w u p passes le vs = changed_alike w u _ _ (λ o. (refl, refl))
 effect_alike (signal_peer h clear set) lib w u p passes le vs = changed_alike w u _ _ (λ o. (refl, refl))
 effect_alike port_create lib w u p passes le vs = made_alike w u (PortBody []) le

@@ -10,7 +10,7 @@ use Rattle.zl_rights.specs.declared.entry.Entry.{Entry}
 use Rattle.zl_rights.specs.declared.kind.Kind.{Kind}
 use Rattle.zl_rights.specs.declared.kind.Kind.TheVariants as kind
 use Rattle.zl_rights.specs.declared.rights.Rights.{Rights}
-use Rattle.zl_rights.specs.Numbers.{bits, rights_of, within, kind_number, same_kind, KNOWN_RIGHTS}
+use Rattle.zl_rights.specs.Numbers.{all_kinds, bits, rights_of, within, kind_number, same_kind, KNOWN_RIGHTS}
 use Rattle.zl_code.specs.declared.image.SlotArray.{SlotArray}
 use Rattle.zl_code.specs.Spells.{kind_among}
 use Rattle.zl_abs.specs.declared.value.AbsVal.{AbsVal}
@@ -64,10 +64,7 @@ refine {f} {s} {xs} {arrays} {slots} h r lt a new same = record {
 
 numbered_again : (k : Kind) → kind_numbered (kind_number k) ≡ Some k
 numbered_again kind.Process = refl
-numbered_again kind.Channel = refl
-numbered_again kind.Event = refl
-numbered_again kind.Port = refl
-numbered_again kind.Job = refl
+numbered_again _ = refl
 
 among_is : (ks : List Kind) (n : ℕ) (k : Kind) → kind_among ks n ≡ Some k → kind_number k ≡ n
 among_is [] n k e = cc
@@ -79,14 +76,11 @@ among_is (x ∷ ks) n k e = by (kind_number x == n) refl e (λ g. among_is ks n 
     by false is e more = more e
 
 numbered_is : (n : ℕ) (k : Kind) → kind_numbered n ≡ Some k → kind_number k ≡ n
-numbered_is n k e = among_is (kind.Process ∷ kind.Channel ∷ kind.Event ∷ kind.Port ∷ kind.Job ∷ []) n k e
+numbered_is n k e = among_is all_kinds n k e
 
 some_kind : (k : Kind) → kind_number k ≢ 0
 some_kind kind.Process e = cc
-some_kind kind.Channel e = cc
-some_kind kind.Event e = cc
-some_kind kind.Port e = cc
-some_kind kind.Job e = cc
+some_kind _ e = cc
 
 none_numbered : (o : Option Entry) → kind_in o ≡ 0 → o ≡ None
 none_numbered None e = refl

@@ -12,6 +12,7 @@ use Rattle.zl_rights.specs.declared.entry.Entry.{Entry}
 use Rattle.zl_rights.specs.declared.status.Status.{Status}
 use Rattle.zl_rights.specs.declared.status.Status.TheVariants as status
 use Rattle.zl_rights.specs.Common.{get, has_key, lives, without, within, runs, queue_of, World, Cpu, Process, Object, Body, ChannelEnd, EventBody, JobBody}
+use Rattle.zl_rights.specs.Common.{PairEnd}
 use Rattle.zl_rights.specs.Common.{PortBody, ProcessBody, Ended}
 use Rattle.zl_rights.specs.World.{written, Message, Packet}
 use Rattle.zl_rights.specs.Numbers.{status_magnitude, changed, KILLED}
@@ -30,7 +31,8 @@ use Rattle.zl_code.specs.Starting.{created_process, started_with}
 use Rattle.zl_code.specs.Jobs.{job_within, body_with_policy, body_killed, object_killed, process_killed, is_within, with_killed}
 use Rattle.zl_code.specs.Effects.{on_process, insert_all, remove_all, with_object, process_with, process_without, may_get_after, may_get_all, gets_all, told_of}
 use Rattle.zl_code.specs.Effects.{body_with_message, body_after_read}
-use Rattle.zl_code.specs.CallTable.{Request, replace, chan_create, chan_write, chan_read_etc, event_create, signal, signal_peer, wait_one, wait_poll}
+use Rattle.zl_code.specs.CallTable.{Request, replace, chan_create, chan_write, chan_read_etc, event_create, eventpair_create, signal, signal_peer, wait_one}
+use Rattle.zl_code.specs.CallTable.{wait_poll}
 use Rattle.zl_code.specs.CallTable.{wait_async, port_create, port_queue, port_wait, port_poll, port_cancel, process_create, process_start, task_kill}
 use Rattle.zl_code.specs.CallTable.{job_create, job_set_policy, listed, new_handles, receiver_of, choosing, entering_at, effect, stored_by, gives_ok}
 use Rattle.zl_code.specs.CallTable.{gives_refused, awaited_by}
@@ -276,6 +278,9 @@ module _ (lib : Library) (w : World) (p : ℕ) (u : World) (s : IsSized u) (vs :
       o.body o.raised k) s
   effect_sized (chan_read_etc c address room places) fits passes = object_sized u (object_at w p c) _ (λ o k. message_goes o.body o.raised k) s
   effect_sized event_create fits passes = new_object_sized u EventBody (empty_sized _ refl refl) s
+  effect_sized eventpair_create fits passes =
+      new_object_sized (with_object u (PairEnd (w.next_koid + 1))) (PairEnd w.next_koid) (empty_sized _ refl refl)
+      (new_object_sized u (PairEnd (w.next_koid + 1)) (empty_sized _ refl refl) s)
   effect_sized (signal h clear set) fits passes =
       object_sized u (object_at w p h) _
       (λ o k. signals_changed (body_of w (object_at w p h)) clear set (test_passes _ status.InvalidArgs (listed_none lib w p (signal h clear set) passes).0)

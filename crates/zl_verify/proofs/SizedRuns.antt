@@ -4,7 +4,7 @@ use Rattle.std.specs.Prelude.{⊤, if◌then◌else◌, slice_get}
 use Rattle.std.specs.List.{AllByRecursion, flat_map}
 use Rattle.std.proofs.lemmas.Option.{same_Some, none-some}
 use Rattle.zl_rights.specs.declared.entry.Entry.{Entry}
-use Rattle.zl_rights.specs.Common.{STUCK, get, World, Cpu, Process, Object, EventBody, PortBody, ChannelEnd, JobBody, ProcessBody}
+use Rattle.zl_rights.specs.Common.{STUCK, get, World, Cpu, Process, Object, EventBody, PairEnd, PortBody, ChannelEnd, JobBody, ProcessBody}
 use Rattle.zl_code.specs.declared.boot.Statement.{Statement}
 use Rattle.zl_code.specs.declared.boot.Statement.TheVariants as statement
 use Rattle.zl_code.specs.Jobs.{job_within}
@@ -121,6 +121,9 @@ statement_sized lib w statement.Port vs few may s = new_object_sized w (PortBody
 statement_sized lib w statement.Channel vs few may s =
     new_object_sized (with_object w (ChannelEnd (w.next_koid + 1) [])) (ChannelEnd w.next_koid []) (empty_sized _ refl refl)
     (new_object_sized w (ChannelEnd (w.next_koid + 1) []) (empty_sized _ refl refl) s)
+statement_sized lib w statement.Eventpair vs few may s =
+    new_object_sized (with_object w (PairEnd (w.next_koid + 1))) (PairEnd w.next_koid) (empty_sized _ refl refl)
+    (new_object_sized w (PairEnd (w.next_koid + 1)) (empty_sized _ refl refl) s)
 
 boots_sized : (lib : Library) (w : World) (statements : List Statement) (after : World) → AllByRecursion (λ s. word_of s ≤ ANY) statements → IsSized w
     → Boots lib w statements after → IsSized after

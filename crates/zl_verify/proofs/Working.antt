@@ -321,6 +321,9 @@ module _ (lib : Library) (w : World) (p : ℕ) (q : Process) (sound : IsSound w)
     works_by name.ProcessStart rs last = λ k may passes. alone_told _ (slice_index rs 0) []
     works_by name.ProcessExit rs last = λ k may passes. refl
     works_by name.JobCreate rs last = λ k may passes. one_told (slice_index rs 0) (slice_index rs 2) kind.Job may
+    works_by name.EventpairCreate rs last = λ k may passes.
+        new_told (slice_index rs 0) ((slice_index rs 1, new kind.Eventpair) ∷ (slice_index rs 2, new kind.Eventpair) ∷ [])
+        (new_entry w.next_koid kind.Eventpair ∷ new_entry (w.next_koid + 1) kind.Eventpair ∷ []) may ((refl, refl), ((refl, refl), tt))
     works_by _ rs last = λ k may passes. alone_told _ (slice_index rs 0) vs
 
     pub works : (x : CallInstr) (t : Site) → site_of x q.cpu ≡ Some t → IsWorking x t

@@ -18,13 +18,13 @@ syntax match zlasmDirective /\%(^ *\)\@<=\.\%(raw\|memory\|budget\)\>/
 syntax match zlasmDirective /\%(^ *\)\@<=\.need\>/ nextgroup=zlasmCondition skipwhite
 syntax match zlasmDirective /\%(^ *\)\@<=\.\%(start\|slots\)\>/ nextgroup=zlasmKind skipwhite
 syntax match zlasmDirective /\%(^ *\)\@<=\.bytes\>/ nextgroup=zlasmBytes skipwhite
-syntax match zlasmCondition /\<NEW_\%(CHANNEL\|EVENT\|PORT\|PROCESS\)\>/ contained
-syntax match zlasmKind /\<\%(process\|channel\|event\|port\|job\|any\)\>/ contained
+syntax match zlasmCondition /\<NEW_\%(CHANNEL\|EVENT\|EVENTPAIR\|PORT\|PROCESS\)\>/ contained
+syntax match zlasmKind /\<\%(process\|channel\|event\|port\|eventpair\|job\|any\)\>/ contained
 syntax match zlasmBytes /\<\x\{32}\>/ contained
 
 " Local instructions and calls.
 syntax match zlasmLocal /\%(^ *\)\@<=\%(const\|mov\|addi\|add\|sub\|and\|or\|xor\|shl\|shr\|take\|swap\|ld8\|ld64\|st8\|st64\) \@=/
-syntax match zlasmCall /\%(^ *\)\@<=\%(close\|dup\|replace\|chan_create\|chan_write\|chan_read_etc\|event_create\|signal\|signal_peer\|wait_one\|wait_poll\|wait_async\|port_create\|port_queue\|port_wait\|port_poll\|port_cancel\|process_create\|process_start\|process_exit\|task_kill\|job_create\|job_set_policy\) \@=/
+syntax match zlasmCall /\%(^ *\)\@<=\%(close\|dup\|replace\|chan_create\|chan_write\|chan_read_etc\|event_create\|signal\|signal_peer\|wait_one\|wait_poll\|wait_async\|port_create\|port_queue\|port_wait\|port_poll\|port_cancel\|process_create\|process_start\|process_exit\|task_kill\|job_create\|job_set_policy\|eventpair_create\) \@=/
 
 " A jump, whose last word may be a label that looks like a register.
 syntax region zlasmJump start=/\%(^ *\)\@<=j\%(mp\|z\|nz\|eq\|ne\|lt\|ge\|has\|nhas\) \@=/ end=/$/ oneline keepend contains=zlasmJumpName,zlasmRegister,zlasmNumber,zlasmTarget,zlasmComment,zlasmError

@@ -12,7 +12,7 @@ syntax match zlsNumber /\<\d\+\>/
 syntax match zlsUnknown /\%(^ *\)\@<=[^ ]\+/
 syntax match zlsStatement /\%(^ *\)\@<=\%(process\|job\|policy\|limit\)\>/
 " An object stands alone on its line.
-syntax match zlsStatement /^ *\%(event\|port\|channel\) *$/
+syntax match zlsStatement /^ *\%(event\|port\|channel\|eventpair\) *$/
 " A handle: the rights for `*` too.
 syntax match zlsRights /\%(:\)\@<=\*\%( \|$\)\@=/
 

@@ -1,18 +1,19 @@
--- Objects that a statement makes, and that no handle names yet: an event, a port, the two ends of a channel.
+-- Objects that a statement makes, and that no handle names yet: an event, a port, the two ends of a pair.
 use Rattle.zl_calls.proofs.Common.{◌≡◌, ◌<◌, ◌≤◌, ◌+◌, ◌^◌, ℕ, Bool, true, false, ◌==◌, List, [], refl, sym, ap, ◌∙◌, subst, None, Result, Ok, Err, ⊤, OnOk}
 use Rattle.zl_calls.proofs.Common.{none-some, cond, may_boot, seen, IsTrue, arith, nat_lt, nat_tests, then_some, Map, is_process, runs, with_object}
-use Rattle.zl_calls.proofs.Common.{boot_effect, boot_fault, Library, World, ChannelEnd, body_value, Objects, with_new, world_value, IsSound, IsMaking, Makes}
+use Rattle.zl_calls.proofs.Common.{boot_effect, boot_fault, Library, World, body_value, Objects, with_new, world_value, IsSound, IsMaking, Makes}
 use Rattle.zl_calls.proofs.Common.{IsCauseOf, Agrees, is_in_job, MOST_KOIDS, BootCause, Statement, koid_fault, is_killed, Made}
 use Rattle.zl_code.proofs.Common.{State as StateValue, Object as ObjectValue}
 use Rattle.zl_code.specs.declared.boot.BootCause.TheVariants as cause
-use Rattle.zl_code.specs.declared.boot.Statement.TheVariants as statement
 use Rattle.zl_objects.specs.declared.object.Body.{Body}
-use Rattle.zl_objects.specs.declared.object.Body.TheVariants as body
 use Rattle.zl_objects.specs.declared.object.Object.{Object}
-use Rattle.zl_objects.specs.Objects.{queue_of, with_channel}
+use Rattle.zl_objects.specs.declared.object.Pair.{Pair}
+use Rattle.zl_objects.specs.declared.object.Pair.TheVariants as pair
+use Rattle.zl_objects.specs.Objects.{end_to, queue_of, with_pair}
+use Rattle.zl_calls.specs.Makes.{making_pair}
 use Rattle.zl_calls.specs.declared.process.Process.{Process}
 use Rattle.zl_calls.proofs.objects.Counting.{queues_grown, same_tables}
-use Rattle.zl_calls.proofs.objects.Grown.{found_grown, grown_seen, grown_sound, none_queued}
+use Rattle.zl_calls.proofs.objects.Grown.{end_quiet, found_grown, grown_seen, grown_sound, none_queued}
 
 -- ---- one object more
 
@@ -61,6 +62,13 @@ limit_cause test is = rw is refl
 pub memory_cause : (test : Bool) → test ≡ false → IsCauseOf (then_some test cause.Limit) cause.NoMemory
 memory_cause test is = rw is refl
 
+-- the fault of a statement that makes a pair
+pub pair_caused : (lib : Library) (before : Made) (pair : Pair) → boot_fault lib (seen before) (making_pair pair)
+    ≡ then_some (nat_lt (MOST_KOIDS + 1) (before.objects.next_koid + 2)) cause.Limit
+unfolding boot_fault
+pair_caused lib before pair.Channel = refl
+pair_caused lib before pair.Eventpair = refl
+
 -- ---- the statements
 
 module _ (lib : Library) (before : Made) (making : IsMaking before.processes.items [] before.objects) where
@@ -90,29 +98,50 @@ module _ (lib : Library) (before : Made) (making : IsMaking before.processes.ite
       by_test true is h = absurd (none-some _ (sym h))
       by_test false is h = omega (arith, enough_koids k 1 is)
 
-  pub channel_makes : (after : Objects) → nat_lt (MOST_KOIDS + 1) (k + 2) ≡ false → after ≡ with_channel before.objects 0
-      → Makes lib statement.Channel before (record before { objects = after })
+  -- both ends of a pair
+  module _ (pair : Pair) (enough : nat_lt (MOST_KOIDS + 1) (k + 2) ≡ false) where
+    abbrev first_end : Body
+    first_end = end_to pair (k + 1)
+
+    abbrev second_end : Body
+    second_end = end_to pair k
+
+    abbrev with_first : Objects
+    with_first = with_new before.objects first_end 0
+
+    few : k + 2 ≤ 1025
+    few = enough_koids k 2 enough
+
+    first : IsMaking ps2 [] with_first
+    first =
+        let quiet = end_quiet pair (k + 1) in
+        grown_making ps2 before.objects making first_end quiet.empty (λ not. quiet.agrees _ k (not runs)) (quiet.in_job _) (omega (arith, few)) quiet.alive
+
+    both_making : IsMaking ps2 [] (with_pair before.objects pair 0)
+    both_making =
+        let quiet = end_quiet pair k in
+        grown_making ps2 with_first first second_end quiet.empty (λ not. quiet.agrees _ (k + 1) (not runs)) (quiet.in_job _) (omega (arith, few)) quiet.alive
+
+    both_world : world_value ps2 (with_pair before.objects pair 0)
+        ≡ with_object (with_object (world_value ps2 before.objects) (body_value first_end)) (body_value second_end)
+    both_world =
+        grown_world ps2 with_first first second_end
+        ∙ ap (λ (w : World). with_object w (body_value second_end)) (grown_world ps2 before.objects making first_end)
+
+  pub pair_makes : (pair : Pair) (after : Objects) → nat_lt (MOST_KOIDS + 1) (k + 2) ≡ false → after ≡ with_pair before.objects pair 0
+      → Makes lib (making_pair pair) before (record before { objects = after })
   unfolding boot_fault boot_effect
-  channel_makes after enough made = record {
+  pair_makes pair.Channel after enough made = record {
     no_fault = rw enough refl;
     values = [];
     chosen = refl;
-    effect = rw made
-        (grown_world ps2 with_first first second_end ∙ ap (λ (w : World). with_object w (ChannelEnd k [])) (grown_world ps2 before.objects making first_end));
-    making = rw made (grown_making ps2 with_first first second_end refl (λ not. not runs) refl (omega (arith, few)) refl);
+    effect = rw made (both_world pair.Channel enough);
+    making = rw made (both_making pair.Channel enough);
   }
-    where
-      first_end : Body
-      first_end = body.ChannelEnd (k + 1) []
-
-      second_end : Body
-      second_end = body.ChannelEnd k []
-
-      with_first : Objects
-      with_first = with_new before.objects first_end 0
-
-      few : k + 2 ≤ 1025
-      few = enough_koids k 2 enough
-
-      first : IsMaking ps2 [] with_first
-      first = grown_making ps2 before.objects making first_end refl (λ not. not runs) refl (omega (arith, few)) refl
+  pair_makes pair.Eventpair after enough made = record {
+    no_fault = rw enough refl;
+    values = [];
+    chosen = refl;
+    effect = rw made (both_world pair.Eventpair enough);
+    making = rw made (both_making pair.Eventpair enough);
+  }

@@ -111,13 +111,13 @@ module _ {before after : List Process} {r : Objects} {p p2 : Process} (lib : Lib
     unfolding handle_operands operands_fault listed
     refused_peer =
         first_looked_up lib w p.pid p.table.entries (table_is write r) peer_site.request
-        (peer_signal_refusal p.table.entries r.objects h clear set) h (kind.Channel ∷ []) SIGNAL_PEER None refl (λ s is. rw is refl)
+        (peer_signal_refusal p.table.entries r.objects h clear set) h (kind.Channel ∷ kind.Eventpair ∷ []) SIGNAL_PEER None refl (λ s is. rw is refl)
         (λ e is at. rw (is, table_is write r, at, settable_here h e at, peer_there r consistent.no_zero e.koid)
         (two_tests (not (may_change_at e.kind clear set)) (not (is_some (peer_at r.objects e.koid))) status.InvalidArgs status.PeerClosed))
 
     peer_same : (signals : SignalsPeer p.table r h clear set p2.table r2) → peer_named w p.pid h ≡ signals.peer
     peer_same signals =
-        rw (table_is write r, is_found (get p.table.entries h) (kind.Channel ∷ []) SIGNAL_PEER signals.end signals.is_end)
+        rw (table_is write r, is_found (get p.table.entries h) (kind.Channel ∷ kind.Eventpair ∷ []) SIGNAL_PEER signals.end signals.is_end)
         (peer_is r consistent.no_zero signals.end.koid signals.peer signals.is_peer)
 
     peer_called : (done : ⊤) → SignalsPeer p.table r h clear set p2.table r2 → Replies peer_site status.Ok [] p p2

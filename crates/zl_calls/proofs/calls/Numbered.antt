@@ -31,6 +31,7 @@ condition_found n None found missing =
       ne_eqb 2 n (missing condition.NewAny),
       ne_eqb 3 n (missing condition.NewChannel),
       ne_eqb 4 n (missing condition.NewEvent),
+      ne_eqb 5 n (missing condition.NewEventpair),
       ne_eqb 6 n (missing condition.NewPort),
       ne_eqb 7 n (missing condition.NewProcess),
     ) refl

@@ -2,14 +2,15 @@
 use Rattle.zl_calls.proofs.Common.{◌≡◌, ◌⊎◌, ℕ, true, false, false≢true, ⊤, inl, inr, List, ap, refl, sym, ◌∙◌, Option, Some, None, Ready, Library, Request}
 use Rattle.zl_calls.proofs.Common.{Site, site, close, dup, chan_write, event_create, signal, process_exit, AtCall, calls_at, next_for, refusal, Handles}
 use Rattle.zl_calls.proofs.Common.{Objects, Action, answers, exits, reaches, process_value, state_value, world_value, IsConsistent, Acted, Acts, action_of}
-use Rattle.zl_calls.proofs.Common.{CallName, Outcome, chan_create, replace, true≢false, awaited_by, job_create, job_set_policy, port_cancel, port_create}
+use Rattle.zl_calls.proofs.Common.{CallName, Outcome, chan_create, replace, true≢false, awaited_by, eventpair_create, job_create, job_set_policy, port_cancel}
+use Rattle.zl_calls.proofs.Common.{port_create}
 use Rattle.zl_calls.proofs.Common.{port_poll, port_queue, port_wait, wait_async, wait_one, Awaited, next_looks, is_blocking, looks_at_waits, signal_peer}
 use Rattle.zl_code.proofs.Common.{is_blocked}
 use Rattle.zl_calls.specs.calls.Answer.{Blocks, waits}
 use Rattle.zl_calls.specs.declared.process.Process.{Process}
 use Rattle.zl_calls.proofs.calls.Answered.{IsWrite}
 use Rattle.zl_calls.proofs.calls.DoneCalls.{IsCalledAmong, IsDone}
-use Rattle.zl_calls.proofs.calls.ChannelCalls.{chan_create_done}
+use Rattle.zl_calls.proofs.calls.PairCalls.{chan_create_done, eventpair_done}
 use Rattle.zl_calls.proofs.calls.EventCalls.{event_done, signal_done, peer_done}
 use Rattle.zl_calls.proofs.calls.AsyncCalls.{async_called}
 use Rattle.zl_calls.proofs.calls.CancelCalls.{cancel_called}
@@ -90,6 +91,7 @@ module _ {before after : List Process} {r : Objects} {p p2 : Process} (lib : Lib
     by_request (job_create j) c d plain next acts = job_done lib r2 consistent write j c d ready call next o acts
     by_request (job_set_policy j mode condition action) c d plain next acts =
         job_set_policy_done lib r2 consistent write j mode condition action c d ready call next o acts
+    by_request eventpair_create c d plain next acts = eventpair_done lib r2 consistent write c d ready call next o acts
     by_request (wait_async h port key mask) c d plain next acts = absurd (true≢false plain)
     by_request (port_cancel port source key) c d plain next acts = absurd (true≢false plain)
     by_request _ c d plain next acts = absurd acts

@@ -7,7 +7,8 @@ use Rattle.zl_calls.proofs.Common.{insert_all, remove_all, taken_handles, effect
 use Rattle.zl_calls.proofs.Common.{taken, get-update, get-without, Handles, Objects, told_by, no_value, Replies, process_entry, object_entry, object_value}
 use Rattle.zl_calls.proofs.Common.{world_value, body_value, body_in, koids_of, handles_to, IsConsistent, IsNamed, AreNamed, World, operands_fault, IsSound}
 use Rattle.zl_calls.proofs.Common.{or_parts, list_any-append, sum_by-append, option_to_list, result_err, Status, Entry, looked_up, TRANSFER, WRITE, Message}
-use Rattle.zl_calls.proofs.Common.{operand_by, Operand, peer_at, get_seen, has_seen, taken_from, without_handle, fault_of, list_refusal}
+use Rattle.zl_calls.proofs.Common.{operand_by, Operand, kind_of, peer_at, process_value, takes, Ok, get_seen, has_seen, taken_from, without_handle, fault_of}
+use Rattle.zl_calls.proofs.Common.{list_refusal}
 use Rattle.zl_code.proofs.Common.{Object as ObjectValue, All-cons}
 use Rattle.std.proofs.lemmas.List.Elements.{All-append}
 use Rattle.std.specs.List.{filter, flat_map}
@@ -22,7 +23,7 @@ use Rattle.zl_code.specs.Operands.{contains}
 use Rattle.zl_objects.specs.declared.object.Body.{Body}
 use Rattle.zl_objects.specs.declared.object.Body.TheVariants as body
 use Rattle.zl_objects.specs.declared.object.Object.{Object}
-use Rattle.zl_objects.specs.Objects.{if_there, is_end_body, is_end_in, peer_in, peer_of, queue_of, sending, sent, sent_body}
+use Rattle.zl_objects.specs.Objects.{if_there, is_channel_body, is_channel_in, peer_in, peer_of, queue_of, reader_at, reader_of, sending, sent, sent_body}
 use Rattle.zl_calls.specs.declared.process.Process.{Process}
 use Rattle.zl_calls.specs.calls.Channel.{ChanWriteDoes, WritesMessage, write_refusal}
 use Rattle.zl_calls.proofs.calls.Answered.{IsWrite, table_is}
@@ -30,7 +31,7 @@ use Rattle.zl_calls.proofs.objects.Counting.{queues, sum_update}
 use Rattle.zl_calls.proofs.calls.DoneCalls.{IsCalled, IsDoneBy}
 use Rattle.zl_calls.proofs.objects.Queued.{requeued, requeued_body, more_queued, requeued_kept, requeued_named, requeued_sound}
 use Rattle.zl_calls.proofs.policy.Examining.{list_fault}
-use Rattle.zl_calls.proofs.calls.Refused.{answers, first_looked_up, is_found, three_tests}
+use Rattle.zl_calls.proofs.calls.Refused.{answers, first_looked_up, is_found, is_of_kind, three_tests}
 use Rattle.zl_calls.proofs.calls.TakenCalls.{left_one, named_before, process_without_all, removed, replied_taking, taken_map, taking_done}
 use Rattle.zl_calls.proofs.calls.TakenCalls.{same_koids, taken_sound}
 use Rattle.zl_calls.proofs.objects.SameBodies.{still_named}
@@ -57,6 +58,7 @@ module _ (r : Objects) (no_zero : (k : ℕ) → IsTrue (has_key r.objects k) →
     where
       by_body : (b : Body) → has_key r.objects (peer_seen (Some (body_value b))) ≡ is_some (if_there r.objects (peer_of b))
       by_body (body.ChannelEnd peer queue) = there_or_not (has_key r.objects peer) peer
+      by_body (body.PairEnd peer) = there_or_not (has_key r.objects peer) peer
       by_body _ = no_object
 
       by_object : (o : Option Object) → has_key r.objects (peer_seen (body_in (option_map object_value o))) ≡ is_some (if_there r.objects (peer_in o))
@@ -73,11 +75,20 @@ module _ (r : Objects) (no_zero : (k : ℕ) → IsTrue (has_key r.objects k) →
 
       by_body : (b : Body) → if_there r.objects (peer_of b) ≡ Some n → peer_seen (Some (body_value b)) ≡ n
       by_body (body.ChannelEnd peer queue) read = by_key (has_key r.objects peer) peer read
+      by_body (body.PairEnd peer) read = by_key (has_key r.objects peer) peer read
       by_body _ read = absurd (none-some n read)
 
       by_object : (o : Option Object) → if_there r.objects (peer_in o) ≡ Some n → peer_seen (body_in (option_map object_value o)) ≡ n
       by_object None read = absurd (none-some n read)
       by_object (Some o) read = by_body o.body read
+
+-- of an end of a channel the reader is the peer
+reader_is : (os : Map Object) (e : Entry) → IsNamed os e → takes (kind.Channel ∷ []) e.kind ≡ true → reader_at os e.koid ≡ peer_at os e.koid
+reader_is os e named fits = rw named.there (ap (if_there os) (by_body named.object.body (rw named.kind at fits)))
+  where
+    by_body : (b : Body) → takes (kind.Channel ∷ []) (kind_of (body_value b)) ≡ true → reader_of b ≡ peer_of b
+    by_body (body.PairEnd peer) h = absurd (false≢true h)
+    by_body _ h = refl
 
 -- ---- what holds where it isn't refused
 
@@ -150,11 +161,11 @@ module _ (m : Message) where
       by_body (body.ChannelEnd peer queue) = refl
       by_body _ = refl
 
-  queues_sent : (os : Map Object) (k j : ℕ) → IsTrue (is_end_in (get os k))
+  queues_sent : (os : Map Object) (k j : ℕ) → IsTrue (is_channel_in (get os k))
       → queues (update os k (sent m)) j ≡ queues os j + count_by (λ (e : Entry). e.koid == j) m.handles
   queues_sent os k j is_end = by_object (get os k) refl is_end
     where
-      by_body : (b : Body) → IsTrue (is_end_body b)
+      by_body : (b : Body) → IsTrue (is_channel_body b)
           → queued_to j (body_with_message m (body_value b)) ≡ queued_to j (body_value b) + count_by (λ (e : Entry). e.koid == j) m.handles
       by_body (body.ChannelEnd peer queue) h =
           omega (
@@ -164,7 +175,7 @@ module _ (m : Message) where
           )
       by_body _ h = absurd (false≢true h)
 
-      by_object : (o : Option Object) → get os k ≡ o → IsTrue (is_end_in o)
+      by_object : (o : Option Object) → get os k ≡ o → IsTrue (is_channel_in o)
           → queues (update os k (sent m)) j ≡ queues os j + count_by (λ (e : Entry). e.koid == j) m.handles
       by_object None is h = absurd (false≢true h)
       by_object (Some o) is h = rw (sent_seen os k)
@@ -201,6 +212,12 @@ module _ {before after : List Process} {r : Objects} {p p2 : Process} (lib : Lib
   abbrev write_site : Site
   write_site = site (chan_write c bytes hs) consumed destinations
 
+  -- the end at the value c is one of a channel
+  reader_here : (e : Entry) → looked_up p.table.entries c (kind.Channel ∷ []) WRITE ≡ Ok e → get p.table.entries c ≡ Some e
+      → reader_at r.objects e.koid ≡ peer_at r.objects e.koid
+  reader_here e is at =
+      reader_is r.objects e (consistent.named p.pid (process_value p) c e write.there at) (is_of_kind (get p.table.entries c) (kind.Channel ∷ []) WRITE e is)
+
   abbrev refused_by : Option Status
   refused_by = write_refusal p.table.entries r.objects c (length bytes) hs
 
@@ -211,7 +228,7 @@ module _ {before after : List Process} {r : Objects} {p p2 : Process} (lib : Lib
       c (kind.Channel ∷ []) WRITE (list_refusal p.table.entries [] hs)
       (ap (option_or (result_err (looked_up p.table.entries c (kind.Channel ∷ []) WRITE))) (sym (list_fault p.table.entries [] [] hs (λ v. refl))))
       (λ s is. rw is refl)
-      (λ e is at. rw (is, table_is write r, at, peer_there r consistent.no_zero e.koid)
+      (λ e is at. rw (is, table_is write r, at, reader_here e is at, peer_there r consistent.no_zero e.koid)
       (by_tests (list_refusal p.table.entries [] hs) (not (is_some (peer_at r.objects e.koid)))))
     where
       by_tests : (o : Option Status) (closed : Bool)
@@ -234,7 +251,8 @@ module _ {before after : List Process} {r : Objects} {p p2 : Process} (lib : Lib
     peer_same : peer_named w p.pid c ≡ writes.peer
     peer_same =
         rw (table_is write r, is_found (get p.table.entries c) (kind.Channel ∷ []) WRITE writes.end writes.is_end)
-        (peer_is r consistent.no_zero writes.end.koid writes.peer writes.is_peer)
+        (peer_is r consistent.no_zero writes.end.koid writes.peer
+        (sym (reader_here writes.end writes.is_end (is_found (get p.table.entries c) (kind.Channel ∷ []) WRITE writes.end writes.is_end)) ∙ writes.is_peer))
 
     handles_same : entries_at w p.pid hs ≡ taken_from p.table hs
     handles_same =

@@ -4,13 +4,16 @@ use Rattle.zl_calls.proofs.Common.{◌∙◌, subst, cond, Option, Some, None, i
 use Rattle.zl_calls.proofs.Common.{sum_by-cons, cases_Bool, eqb-true, false≢true, same_Some, Map, get, put, has_key, is_process, map-append, state_passes, All}
 use Rattle.zl_calls.proofs.Common.{All-nil, has_living_child, handles_to, get-put, sorted_put, put_key, queued_to, body_value, Objects, AreKeptBut, new_object}
 use Rattle.zl_calls.proofs.Common.{with_new, is_kept, stays_alone, is_child, is_job_at, is_job_in, object_entry, object_value, process_entry, world_value}
-use Rattle.zl_calls.proofs.Common.{IsConsistent, IsSound, AreNamed, IsNamed, Agrees, is_in_job, Entry, Message, put_last, has_seen, kept_all}
+use Rattle.zl_calls.proofs.Common.{IsConsistent, IsSound, AreNamed, IsNamed, Agrees, is_in_job, default_rights_of, is_killed, kind_of, runs, within, World}
+use Rattle.zl_calls.proofs.Common.{Entry, Message, put_last, has_seen, kept_all}
 use Rattle.zl_code.proofs.Common.{Process as ProcessValue, State as StateValue}
 use Rattle.zl_objects.specs.declared.object.Body.{Body}
 use Rattle.zl_objects.specs.declared.object.Body.TheVariants as body
 use Rattle.zl_objects.specs.declared.object.Object.{Object}
 use Rattle.zl_calls.specs.declared.process.Process.{Process}
-use Rattle.zl_objects.specs.Objects.{queue_of}
+use Rattle.zl_objects.specs.declared.object.Pair.{Pair}
+use Rattle.zl_objects.specs.declared.object.Pair.TheVariants as pair
+use Rattle.zl_objects.specs.Objects.{end_to, kind_of_pair, queue_of}
 use Rattle.zl_objects.proofs.Bodies.{more_in_job}
 use Rattle.zl_calls.proofs.objects.Counted.{never_named}
 use Rattle.zl_calls.proofs.objects.Counting.{queues_grown, same_tables}
@@ -37,6 +40,26 @@ grown_seen r b handles given =
 pub none_queued : (j : ℕ) (b : Body) → queue_of b ≡ [] → ◌≡◌ {A = ℕ} (queued_to j (body_value b)) 0
 none_queued j (body.ChannelEnd peer queue) empty = rw empty refl
 none_queued j _ empty = refl
+
+-- an object that is neither a process nor a killed job, in which no message is, and which stands in no job
+pub record IsQuiet (b : Body) : Type 0 where
+  pub agrees : (w : World) (k : ℕ) → is_process w runs k ≡ false → Agrees w k b
+  pub empty : queue_of b ≡ []
+  pub in_job : (m : Map Object) → IsTrue (is_in_job m b)
+  pub alive : is_killed b ≡ false
+
+-- such is a new end of a pair, which is of its kind
+pub end_quiet : (pair : Pair) (peer : ℕ) → IsQuiet (end_to pair peer)
+end_quiet pair.Channel peer = record { agrees = λ w k not. not; empty = refl; in_job = λ m. refl; alive = refl }
+end_quiet pair.Eventpair peer = record { agrees = λ w k not. not; empty = refl; in_job = λ m. refl; alive = refl }
+
+pub end_kind : (pair : Pair) (peer : ℕ) → kind_of_pair pair ≡ kind_of (body_value (end_to pair peer))
+end_kind pair.Channel peer = refl
+end_kind pair.Eventpair peer = refl
+
+pub end_rights : (pair : Pair) → IsTrue (within (default_rights_of (kind_of_pair pair)) (default_rights_of (kind_of_pair pair)))
+end_rights pair.Channel = refl
+end_rights pair.Eventpair = refl
 
 -- the invariant, where the handles m count and are to enter a table
 pub record IsGrowing (ps : List Process) (m : Map Entry) (r : Objects) : Type 0 where

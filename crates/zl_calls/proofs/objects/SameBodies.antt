@@ -43,7 +43,6 @@ pub still_agrees : (w w2 : World) (k : ℕ) (b : Body) → ((test : StateValue �
 still_agrees w w2 k (body.Job own) same agrees = same runs ∙ agrees
 still_agrees w w2 k (body.Process job alive) same agrees =
     record { running = agrees.running ∙ sym (same runs); living = agrees.living ∙ sym (same lives); over = agrees.over ∙ sym (same has_ended) }
-still_agrees w w2 k body.Event same agrees = same runs ∙ agrees
 still_agrees w w2 k _ same agrees = same runs ∙ agrees
 
 -- the same where it runs, lives and has ended as before
@@ -52,7 +51,6 @@ pub alike_agrees : (w w2 : World) (k : ℕ) (b : Body) → is_process w2 runs k 
 alike_agrees w w2 k (body.Job own) runs_on lives_on over_on agrees = runs_on ∙ agrees
 alike_agrees w w2 k (body.Process job alive) runs_on lives_on over_on agrees =
     record { running = agrees.running ∙ sym runs_on; living = agrees.living ∙ sym lives_on; over = agrees.over ∙ sym over_on }
-alike_agrees w w2 k body.Event runs_on lives_on over_on agrees = runs_on ∙ agrees
 alike_agrees w w2 k _ runs_on lives_on over_on agrees = runs_on ∙ agrees
 
 -- what names objects before, names them after

@@ -142,9 +142,7 @@ not_stopped (e ∷ m) k none = elim (cases_Bool (e.0 == k)) as (λ _. update (e 
     by_body : (o : Object) (b : Body) → o.body ≡ b → job_of b ≡ None → stopped o ≡ o
     by_body o (body.Job own) is none = same_body o (body.Job own) is refl
     by_body o (body.Process job alive) is none = absurd (none-some job (sym none))
-    by_body o body.Event is none = same_body o body.Event is refl
-    by_body o (body.Port port) is none = same_body o (body.Port port) is refl
-    by_body o (body.ChannelEnd peer queue) is none = same_body o (body.ChannelEnd peer queue) is refl
+    by_body o b is none = same_body o b is refl
 
 -- what the end of the process k lets go: perhaps its object and its job
 pub record IsOver (k : ℕ) (r r2 : Objects) : Type 0 where

@@ -198,10 +198,10 @@ module _ (lib : Library) (before mid : List Process) (r : Objects) (consistent :
       next_koid = n + 1;
     }
 
-    create_ends : world_value after grown
+    create_pair : world_value after grown
         ≡ replied (with_effect lib w (taken w p.pid create_site) p.pid (process_create job program) (made ∷ [])) p.pid create_site status.Ok (made ∷ [])
     unfolding taken_handles handle_operands remove_all new_handles effect insert_all
-    create_ends =
+    create_pair =
         replied_inserted write_both grown create_site made entry (world_value both grown) refl refl inserts replies
         ∙ ap (λ (x : World). replied (on_process x p.pid (process_with made entry)) p.pid create_site status.Ok (made ∷ [])) with_one_is
 
@@ -211,4 +211,4 @@ module _ (lib : Library) (before mid : List Process) (r : Objects) (consistent :
 
     pub created_calls : Calls lib w p.pid create_site (outcome.Answered status.Ok) (world_value after grown)
     unfolding gives_ok
-    created_calls = (Values (made ∷ []), rw (create_refused lib before r consistent p write.there job program, unrefused) (create_chosen, refl, create_ends))
+    created_calls = (Values (made ∷ []), rw (create_refused lib before r consistent p write.there job program, unrefused) (create_chosen, refl, create_pair))

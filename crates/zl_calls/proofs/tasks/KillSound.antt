@@ -383,9 +383,7 @@ module _ (ps ps3 : List Process) (r : Objects) (consistent : IsConsistent ps r) 
     over = h.over ∙ sym (unchanged_by has_ended k out);
   }
   agrees_body k false out (body.Job job) h = unchanged_by runs k out ∙ h
-  agrees_body k false out body.Event h = unchanged_by runs k out ∙ h
-  agrees_body k false out (body.ChannelEnd peer queue) h = unchanged_by runs k out ∙ h
-  agrees_body k false out (body.Port port) h = unchanged_by runs k out ∙ h
+  agrees_body k false out _ h = unchanged_by runs k out ∙ h
   agrees_body k true inside (body.Process job l) h =
       let three = stops (get (map process_entry ps) k) l h.living h.over in
       record {
@@ -400,9 +398,7 @@ module _ (ps ps3 : List Process) (r : Objects) (consistent : IsConsistent ps r) 
   in_job_body false c h = same_in_job r.objects (all_killed r.objects t) (jobs_stay r.objects t) c ∙ h
   in_job_body true (body.Job job) h = refl
   in_job_body true (body.Process job l) h = refl
-  in_job_body true body.Event h = refl
-  in_job_body true (body.ChannelEnd peer queue) h = refl
-  in_job_body true (body.Port port) h = refl
+  in_job_body true _ h = refl
 
   body_if : (b : Bool) (o : Object) → (killed_if b o).body ≡ (if b then killed_body o.body else o.body)
   body_if true o = refl

@@ -7,7 +7,7 @@ use Rattle.std.specs.List.{filter}
 use Rattle.std.specs.Prelude.{bit_or}
 use Rattle.std.proofs.Common.{append-nil, append_assoc, cond}
 use Rattle.zl_rights.specs.Numbers.{meets}
-use Rattle.zl_rights.specs.World.{Object, Body, ChannelEnd, JobBody, ProcessBody, Wait}
+use Rattle.zl_rights.specs.World.{Object, Body, ChannelEnd, JobBody, PairEnd, ProcessBody, Wait}
 use Rattle.zl_rights.specs.Signals.{active, active_of, implied, has_child_job, has_child_process, is_job_below, is_process_of}
 use Rattle.zl_rights.specs.Wakes.{body_with_packets, holds, packets_for}
 use Rattle.zl_rights.proofs.MapLaws.{get-each}
@@ -39,6 +39,7 @@ sorted_each f (e ∷ m) = rw (below_each f e.0 m, sorted_each f m) refl
 
 implied_alike : (u v : World) → IsAlike u v → (k : ℕ) (b : Body) → implied v k b ≡ implied u k b
 implied_alike u v alike k (ChannelEnd peer queue) = rw (alike.keys peer)
+implied_alike u v alike k (PairEnd peer) = rw (alike.keys peer)
 implied_alike u v alike k (JobBody parent depth policy killed) = rw (alike.jobs k, alike.processes k)
 implied_alike u v alike k (ProcessBody job) = rw (alike.ended k)
 implied_alike u v alike k _ = refl

@@ -1,7 +1,8 @@
 -- What each call leaves of the list of registered waits: replace ends its own, and others end with objects and ports alone.
 use Rattle.zl_calls.proofs.Common.{◌≡◌, ℕ, Bool, true, false, List, refl, ap, ◌∙◌, Option, Some, None, Result, Ok, Err, inl, inr, get, is_empty, narrowed}
 use Rattle.zl_calls.proofs.Common.{then_some, with_rights, IsRefusedBy, Request, Site, site, close, dup, chan_write, event_create, signal, process_exit}
-use Rattle.zl_calls.proofs.Common.{calls_at, Objects, Does, status_of, Acted, Acts, action_of, chan_create, replace, signal_peer, job_create, job_set_policy}
+use Rattle.zl_calls.proofs.Common.{calls_at, Objects, Does, status_of, Acted, Acts, action_of, chan_create, replace, signal_peer, eventpair_create, job_create}
+use Rattle.zl_calls.proofs.Common.{job_set_policy}
 use Rattle.zl_calls.proofs.Common.{port_cancel, port_create, port_poll, port_queue, port_wait, wait_async, wait_one, CallName, Outcome, true≢false, next_looks}
 use Rattle.zl_calls.proofs.Common.{waits_by, looks_at_waits, Entry, Status, ListsBut, DoesTaking, ReplaceDoes, ChanReadDoes, Received, ReadFault}
 use Rattle.zl_code.proofs.Common.{chan_read_etc}
@@ -65,6 +66,7 @@ module _ (p p2 : Process) (r r2 : Objects) (o : Outcome) (consumed destinations 
       replaced (Ok made) ends does = rw ends (record { waits = λ test there. ap (filter test) does.ok.ends.waits; made = does.ok.ends.made })
       replaced (Err s) ends does = rw (ends, refused_replace (get p.table.entries h) h asked p.pid r.waits s does.err) does.closed.listed.listed
   by_request chan_create plain acts = does_lists r r2 _ _ _ _ _ acts.answer (λ x done. of_same r r2 _ refl refl done.objects) acts.acts
+  by_request eventpair_create plain acts = does_lists r r2 _ _ _ _ _ acts.answer (λ x done. of_same r r2 _ refl refl done.objects) acts.acts
   by_request (chan_write end bytes hs) plain acts = taking_lists r r2 _ _ _ _ _ _ acts.answer (λ x done. of_same r r2 _ refl refl done.objects) acts.acts
   by_request (chan_read_etc h address room places) plain acts = read acts.answer acts.acts
     where

@@ -1,5 +1,5 @@
 -- What calls on channels do: chan_create, chan_write and chan_read_etc. No public clause cites this module.
-use Rattle.std.specs.Prelude.{ℕ, ◌≡◌, ◌<◌, ◌+◌, ◌^◌, true, ◌&&◌, ◌||◌, not, nat_le, nat_lt, [], ◌∷◌, ◌++◌, List, length, Option, Some, None, Result, Ok, Err, ⊤, if◌then◌else◌, is_some, IsTrue}
+use Rattle.std.specs.Prelude.{ℕ, ◌≡◌, true, ◌||◌, not, nat_lt, [], ◌∷◌, ◌++◌, List, length, Option, Some, None, Result, Ok, Err, ⊤, if◌then◌else◌, is_some, IsTrue}
 use Rattle.std.specs.Option.{option_or}
 use Rattle.std.specs.Bool.{then_some}
 use Rattle.zl_code.specs.Common.{Map}
@@ -9,34 +9,21 @@ use Rattle.zl_rights.specs.declared.status.Status.TheVariants as status
 use Rattle.zl_rights.specs.declared.entry.Entry.{Entry}
 use Rattle.zl_rights.specs.LookUp.{looked_up}
 use Rattle.zl_rights.specs.Numbers.{TRANSFER, WRITE}
-use Rattle.zl_code.specs.Effects.{new_entry}
 use Rattle.zl_code.specs.Operands.{contains}
-use Rattle.zl_table.specs.Table.{Handles, Inserts}
+use Rattle.zl_table.specs.Table.{Handles}
 use Rattle.zl_objects.specs.declared.object.Object.{Object}
-use Rattle.zl_objects.specs.Objects.{Objects, is_end_at, peer_at, sending, with_channel}
+use Rattle.zl_objects.specs.declared.object.Pair.TheVariants as pair
+use Rattle.zl_objects.specs.Objects.{Objects, is_channel_at, reader_at, sending}
 use Rattle.smallvec.specs.SmallVec.{HasRoomFor}
 use Rattle.zl_calls.specs.declared.calls.channel.Letter.{Letter}
-use Rattle.zl_calls.specs.calls.Answer.{Does, DoesTaking, taken_from, without_handles}
+use Rattle.zl_calls.specs.calls.Answer.{DoesTaking, taken_from, without_handles}
+use Rattle.zl_calls.specs.calls.Making.{MakePairDoes}
 
 -- ---- chan_create
 
--- the answer of chan_create other than OK
-abbrev pub channel_refusal : Map Entry → ℕ → Option Status
-channel_refusal entries next_koid = then_some (not (nat_le (length entries + 2) 1024 && nat_le (next_koid + 2) (2 ^ 62))) status.NoResources
-
--- handles to both ends of a new channel get these values, that to the lower koid first
-pub record CreatesChannel (t : Handles) (r : Objects) (made : ℕ × ℕ) (t2 : Handles) (r2 : Objects) : Type 0 where
-  pub unrefused : channel_refusal t.entries r.next_koid ≡ None
-  -- the table with the first of them
-  pub between : Handles
-  pub room : length t.entries + 1 < 1024
-  pub first : Inserts t (new_entry r.next_koid kind.Channel) made.0 between
-  pub second : Inserts between (new_entry (r.next_koid + 1) kind.Channel) made.1 t2
-  pub objects : r2 ≡ with_channel r 1
-
--- chan_create, over the table of its caller
+-- chan_create, over the table of its caller: it makes a channel
 abbrev pub ChanCreateDoes : Handles → Objects → Result (ℕ × ℕ) Status → Handles → Objects → Type 0
-ChanCreateDoes t r = Does (CreatesChannel t r) true (channel_refusal t.entries r.next_koid) t r
+ChanCreateDoes = MakePairDoes pair.Channel
 
 -- ---- chan_write
 
@@ -53,9 +40,9 @@ list_refusal entries before (h ∷ hs) =
     (list_refusal entries (before ++ h ∷ []) hs)
 
 -- why nothing can be written, where this look-up found the end: its peer has to be there
-abbrev pub peer_refusal : Map Object → Result Entry Status → Option Status
-peer_refusal objects (Ok end) = then_some (not (is_some (peer_at objects end.koid))) status.PeerClosed
-peer_refusal objects (Err s) = None
+abbrev pub reader_refusal : Map Object → Result Entry Status → Option Status
+reader_refusal objects (Ok end) = then_some (not (is_some (reader_at objects end.koid))) status.PeerClosed
+reader_refusal objects (Err s) = None
 
 -- the answer of chan_write other than OK
 abbrev pub write_refusal : Map Entry → Map Object → ℕ → ℕ → List ℕ → Option Status
@@ -64,7 +51,7 @@ write_refusal entries objects channel size hs =
     (option_or (list_refusal entries [] hs)
     (option_or (then_some (contains hs channel) status.NotSupported)
     (option_or (then_some (nat_lt 65536 size || nat_lt 64 (length hs)) status.OutOfRange)
-    (peer_refusal objects (looked_up entries channel (kind.Channel ∷ []) WRITE)))))
+    (reader_refusal objects (looked_up entries channel (kind.Channel ∷ []) WRITE)))))
 
 -- the handles leave the table into a message, which goes last into the queue of the end's peer
 pub record WritesMessage (t : Handles) (r : Objects) (channel : ℕ) (bytes hs : List ℕ) (t2 : Handles) (r2 : Objects) : Type 0 where
@@ -72,8 +59,8 @@ pub record WritesMessage (t : Handles) (r : Objects) (channel : ℕ) (bytes hs :
   pub end : Entry
   pub is_end : looked_up t.entries channel (kind.Channel ∷ []) WRITE ≡ Ok end
   pub peer : ℕ
-  pub is_peer : peer_at r.objects end.koid ≡ Some peer
-  pub there : IsTrue (is_end_at r.objects peer)
+  pub is_peer : reader_at r.objects end.koid ≡ Some peer
+  pub there : IsTrue (is_channel_at r.objects peer)
   pub table : t2 ≡ without_handles t hs
   pub objects : r2 ≡ sending r peer (record { bytes = bytes; handles = taken_from t hs })
 
@@ -85,8 +72,8 @@ ChanWriteDoes channel bytes hs t r = DoesTaking (λ _. WritesMessage t r channel
 pub record IsPeerOf (entries : Map Entry) (objects : Map Object) (channel peer : ℕ) : Type 0 where
   pub end : Entry
   pub is_end : looked_up entries channel (kind.Channel ∷ []) WRITE ≡ Ok end
-  pub is_peer : peer_at objects end.koid ≡ Some peer
-  pub there : IsTrue (is_end_at objects peer)
+  pub is_peer : reader_at objects end.koid ≡ Some peer
+  pub there : IsTrue (is_channel_at objects peer)
 
 -- nothing refuses the write, and what it needs is there
 pub record IsReady (entries : Map Entry) (objects : Map Object) (channel : ℕ) (bytes hs : List ℕ) (letter : Letter) : Type 0 where

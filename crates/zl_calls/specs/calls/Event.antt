@@ -1,4 +1,4 @@
--- What event_create does, and the calls that change signals: signal and signal_peer. No public clause cites this module.
+-- What event_create and eventpair_create do, and the calls that change signals: signal and signal_peer. No public clause cites this module.
 use Rattle.std.specs.Bool.{then_some}
 use Rattle.std.specs.Option.{option_or}
 use Rattle.zl_code.specs.Common.{bits, within, SIGNAL, SIGNALED, Map, get}
@@ -13,10 +13,11 @@ use Rattle.zl_rights.specs.LookUp.{looked_up}
 use Rattle.zl_rights.specs.Numbers.{SIGNAL_PEER, USER_SIGNALS}
 use Rattle.zl_table.specs.Table.{Handles}
 use Rattle.zl_objects.specs.declared.object.Body.TheVariants as body
+use Rattle.zl_objects.specs.declared.object.Pair.TheVariants as pair
 use Rattle.zl_objects.specs.declared.object.Object.{Object}
 use Rattle.zl_objects.specs.Objects.{Objects, changing, peer_at}
 use Rattle.zl_calls.specs.calls.Answer.{Does}
-use Rattle.zl_calls.specs.calls.Making.{MakeDoes}
+use Rattle.zl_calls.specs.calls.Making.{MakeDoes, MakePairDoes}
 
 -- ---- event_create
 
@@ -24,11 +25,18 @@ use Rattle.zl_calls.specs.calls.Making.{MakeDoes}
 abbrev pub EventCreateDoes : Handles → Objects → Result ℕ Status → Handles → Objects → Type 0
 EventCreateDoes = MakeDoes body.Event
 
+-- ---- eventpair_create
+
+-- eventpair_create, over the table of its caller: it makes an event pair
+abbrev pub EventpairCreateDoes : Handles → Objects → Result (ℕ × ℕ) Status → Handles → Objects → Type 0
+EventpairCreateDoes = MakePairDoes pair.Eventpair
+
 -- ---- signal
 
 -- the signals that calls may set and clear at an object of the kind
 abbrev pub settable_at : Kind → ℕ
 settable_at kind.Event = bit_or SIGNALED USER_SIGNALS
+settable_at kind.Eventpair = bit_or SIGNALED USER_SIGNALS
 settable_at _ = USER_SIGNALS
 
 -- the signals with these bits, if the test passes
@@ -74,13 +82,13 @@ peer_signal_refusal_of objects clear set (Ok end) =
 -- the answer of signal_peer other than OK
 abbrev pub peer_signal_refusal : Map Entry → Map Object → ℕ → ℕ → ℕ → Option Status
 peer_signal_refusal entries objects value clear set =
-    peer_signal_refusal_of objects clear set (looked_up entries value (kind.Channel ∷ []) SIGNAL_PEER)
+    peer_signal_refusal_of objects clear set (looked_up entries value (kind.Channel ∷ kind.Eventpair ∷ []) SIGNAL_PEER)
 
 -- the signals of the peer of the end change, and no handle does
 pub record SignalsPeer (t : Handles) (r : Objects) (value clear set : ℕ) (t2 : Handles) (r2 : Objects) : Type 0 where
   pub unrefused : peer_signal_refusal t.entries r.objects value clear set ≡ None
   pub end : Entry
-  pub is_end : looked_up t.entries value (kind.Channel ∷ []) SIGNAL_PEER ≡ Ok end
+  pub is_end : looked_up t.entries value (kind.Channel ∷ kind.Eventpair ∷ []) SIGNAL_PEER ≡ Ok end
   pub peer : ℕ
   pub is_peer : peer_at r.objects end.koid ≡ Some peer
   pub table : t2 ≡ t

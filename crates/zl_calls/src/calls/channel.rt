@@ -4,10 +4,9 @@ ghost use Rattle.std.specs.Prelude.{◌≡◌, ◌<◌, ◌^◌, ◌++◌, [], t
 ghost use Rattle.std.specs.Option.{option_to_list};
 ghost use Rattle.zl_rights.specs.Map.{get};
 ghost use Rattle.smallvec.specs.SmallVec.{HasRoomFor};
-ghost use Rattle.zl_code.specs.Effects.{new_entry};
 ghost use Rattle.zl_code.specs.Request.{site_of};
 ghost use Rattle.zl_code.specs.declared.history.CallName.TheVariants as name;
-ghost use Rattle.zl_objects.specs.Objects.{is_end_at, sending};
+ghost use Rattle.zl_objects.specs.Objects.{is_channel_at, sending};
 ghost use Rattle.zl_objects.specs.Release.{Releases, koids_of};
 ghost use Rattle.zl_calls.specs.Acted.{Acted};
 ghost use Rattle.zl_calls.specs.calls.Answer.{IsRefusedBy, taken_from, without_handle, without_handles};
@@ -15,12 +14,12 @@ ghost use Rattle.zl_calls.specs.calls.Channel.{ChanCreateDoes, ChanWriteDoes, Is
 ghost use Rattle.zl_calls.specs.Registered.{KeepsListed};
 
 use crate::calls::handle::{close_each, take_out};
-use crate::calls::{insert, look_up};
+use crate::calls::{look_up, make_pair};
 use crate::process::Process;
 use std::alloc::Global;
 use zl_channel::{ChannelEnd, Handles, Message, PushFault};
 use zl_code::{CallInstr, Outcome};
-use zl_objects::Objects;
+use zl_objects::{Objects, Pair};
 use zl_rights::{Entry, HValue, Kind, Koid, Rights, Status};
 use zl_table::Table;
 
@@ -33,22 +32,7 @@ use zl_table::Table;
 pub fn chan_create(table: &mut Table, objects: &mut Objects) -> Result<(HValue, HValue), Status>
     ensures { ChanCreateDoes table.old objects.old result table.new objects.new }
 {
-    if table.len() + 2 > Table::CAPACITY || !objects.has_koids(2) {
-        return Err(Status::NoResources);
-    }
-    let koid = objects.end_of_koids();
-    let last = table.last();
-    let first = insert(table, handle_to_end(koid))?;
-    let Ok(second) = insert(table, handle_to_end(koid + 1)) else {
-        table.undo(first, last);
-        return Err(Status::NoMemory);
-    };
-    if objects.create_channel(1).is_err() {
-        table.undo(second, None);
-        table.undo(first, last);
-        return Err(Status::NoMemory);
-    }
-    Ok((first, second))
+    make_pair(table, objects, Pair::Channel)
 }
 
 /// Writes a message with the bytes and with the handles at these values: it goes last into the
@@ -168,7 +152,7 @@ fn find_peer(
     if size > ChannelEnd::MOST_BYTES || handles.len() > ChannelEnd::MOST_HANDLES {
         return Err(Status::OutOfRange);
     }
-    objects.peer(end.koid).ok_or(Status::PeerClosed)
+    objects.reader(end.koid).ok_or(Status::PeerClosed)
 }
 
 /// Whether each handle of the list may be sent, and none is listed twice.
@@ -192,7 +176,7 @@ fn send(
     letter: Letter,
     handles: &[u64],
 ) -> Result<(), Status>
-    requires end { IsTrue (is_end_at objects.old.objects letter.peer) }
+    requires end { IsTrue (is_channel_at objects.old.objects letter.peer) }
     requires room { HasRoomFor letter.room (length handles.now) }
     requires empty { letter.room.items ≡ [] }
     ensures sent { OnOk result (objects.new ≡ sending objects.old letter.peer
@@ -257,16 +241,5 @@ fn release_each(objects: &mut Objects, handles: &[Entry])
 {
     for handle in handles {
         objects.release(handle.koid);
-    }
-}
-
-/// The first handle to the end of a channel with the koid.
-fn handle_to_end(koid: Koid) -> Entry
-    ensures { result ≡ new_entry koid Kind.Channel }
-{
-    Entry {
-        koid,
-        kind: Kind::Channel,
-        rights: Kind::Channel.default_rights(),
     }
 }

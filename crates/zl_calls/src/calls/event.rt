@@ -1,12 +1,12 @@
-//! Calls on events, and calls that change signals.
+//! Calls that make events and event pairs, and calls that change signals.
 
 ghost use Rattle.std.specs.Prelude.{◌≡◌};
 ghost use Rattle.zl_rights.specs.Numbers.{within};
-ghost use Rattle.zl_calls.specs.calls.Event.{EventCreateDoes, SignalDoes, SignalPeerDoes, settable_at, signals_if};
+ghost use Rattle.zl_calls.specs.calls.Event.{EventCreateDoes, EventpairCreateDoes, SignalDoes, SignalPeerDoes, settable_at, signals_if};
 
-use crate::calls::{check_room, look_up, make_object};
+use crate::calls::{check_room, look_up, make_object, make_pair};
 use bitflags::Flags;
-use zl_objects::{Body, Objects};
+use zl_objects::{Body, Objects, Pair};
 use zl_rights::{HValue, Kind, Rights, Signals, Status};
 use zl_table::Table;
 
@@ -19,6 +19,21 @@ pub fn event_create(table: &mut Table, objects: &mut Objects) -> Result<HValue, 
 {
     check_room(table, objects)?;
     make_object(table, objects, Body::Event)
+}
+
+/// Makes an event pair, with a handle to each end that has the default rights. The first is to the
+/// end with the lower koid.
+///
+/// `NoResources` where the table has no place for both or fewer than two koids are left,
+/// `NoMemory`.
+/// Source: the page "zx_eventpair_create" of the Fuchsia documentation.
+pub fn eventpair_create(
+    table: &mut Table,
+    objects: &mut Objects,
+) -> Result<(HValue, HValue), Status>
+    ensures { EventpairCreateDoes table.old objects.old result table.new objects.new }
+{
+    make_pair(table, objects, Pair::Eventpair)
 }
 
 /// Takes the signals `clear` from the object, and then gives it the signals `set`.
@@ -46,11 +61,12 @@ pub fn signal(
     Ok(())
 }
 
-/// Takes the signals `clear` from the channel's other end, and then gives it the signals `set`.
+/// Takes the signals `clear` from the other end of a channel or of an event pair, and then gives it
+/// the signals `set`.
 ///
-/// `BadHandle`, `WrongType` for what is no channel, `AccessDenied` without the right to signal the
-/// peer, `InvalidArgs` for a bit that calls may not change at an end, `PeerClosed` where the other
-/// end has gone.
+/// `BadHandle`, `WrongType` for what is neither, `AccessDenied` without the right to signal the
+/// peer, `InvalidArgs` for a bit that calls may not change at such an end, `PeerClosed` where the
+/// other end has gone.
 /// Source: the page "zx_object_signal" of the Fuchsia documentation; that what has no peer is of
 /// the wrong type is own profile.
 pub fn signal_peer(
@@ -62,7 +78,8 @@ pub fn signal_peer(
 ) -> Result<(), Status>
     ensures { SignalPeerDoes value clear set table.now objects.old result table.now objects.new }
 {
-    let end = look_up(table, value, &[Kind::Channel], Rights::SIGNAL_PEER)?;
+    let kinds = &[Kind::Channel, Kind::Eventpair];
+    let end = look_up(table, value, kinds, Rights::SIGNAL_PEER)?;
     let (Some(clear), Some(set)) = (
         signals_within(clear, end.kind),
         signals_within(set, end.kind),
@@ -104,7 +121,7 @@ fn settable(kind: Kind) -> Signals
         .union(Signals::USER_6)
         .union(Signals::USER_7);
     match kind {
-        Kind::Event => Signals::SIGNALED.union(user),
+        Kind::Event | Kind::Eventpair => Signals::SIGNALED.union(user),
         _ => user,
     }
 }

@@ -12,7 +12,7 @@ ghost use Rattle.zl_objects.specs.Jobs.{action_of, job_at};
 ghost use Rattle.zl_objects.specs.Objects.{starting};
 ghost use Rattle.zl_interp.specs.Common.{program_value, started_cpu};
 ghost use Rattle.zl_calls.specs.Registered.{KeepsListed};
-ghost use Rattle.zl_calls.specs.Calling.{AtPlace, IsCalling, KeepsRoom, MayCall, parts_in};
+ghost use Rattle.zl_calls.specs.Calling.{AreGiven, AtPlace, IsCalling, KeepsRoom, parts_in};
 ghost use Rattle.zl_calls.specs.calls.Answer.{IsRefusedBy};
 ghost use Rattle.zl_calls.specs.calls.Process.{Drained, Ends};
 ghost use Rattle.zl_calls.specs.calls.Task.{AreBare, Enters, IsCallerStill, IsCreatedAt, IsFound, ProcessCreateDoes, ProcessStartDoes, child_refusal, create_refusal, needs_more, parts, process_at, start_refusal};
@@ -68,7 +68,9 @@ pub fn process_create(
     job: u64,
     program: u64,
 ) -> Result<HValue, Status>
-    requires { MayCall (parts_in processes.old objects.old blocked.old) place }
+    requires place { place < length processes.old.list.items }
+    requires few { length blocked.old.items ≤ length processes.old.list.items }
+    requires given { AreGiven (parts_in processes.old objects.old blocked.old) }
     ensures does { AtPlace processes.old place (λ caller.
         ProcessCreateDoes library.now place job program caller
         (parts_in processes.old objects.old blocked.old) result
@@ -123,9 +125,10 @@ fn prepare(
 }
 
 /// What a program can declare that its processes make.
-const NEEDS: [Condition; 4] = [
+const NEEDS: [Condition; 5] = [
     Condition::NewChannel,
     Condition::NewEvent,
+    Condition::NewEventpair,
     Condition::NewPort,
     Condition::NewProcess,
 ];
@@ -166,7 +169,7 @@ pub fn lacks_need(objects: &Objects, job: Koid, program: &Program) -> bool
         (action_of (job_at objects.now.objects job)) (Some (program_value program.now)) }
 {
     let image = program.image();
-    // Its clauses are the image's invariant, by which needs are among the four.
+    // Its clauses are the image's invariant, by which needs are among the five.
     image.len();
     program.is_checked()
         && NEEDS

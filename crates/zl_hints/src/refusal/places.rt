@@ -58,8 +58,8 @@ fn purposes_of(opcode: u8) -> &'static str {
         64 => "dz",
         65 => "dud",
         66 => "dod",
-        // chan_create, chan_write, chan_read_etc
-        67 => "ddd",
+        // chan_create, eventpair_create; chan_write, chan_read_etc
+        67 | 87 => "ddd",
         68 => "dcnnllllllll",
         69 => "drnnddgggggggggggggggggggggggg",
         // event_create, port_create
@@ -128,7 +128,8 @@ pub fn may_be_zero(purpose: u8) -> bool {
     matches!(purpose, b'm' | b'x' | b'z')
 }
 
-/// What the handle in a place for this purpose has to be. Of a process or a job it says process.
+/// What the handle in a place for this purpose has to be. Of a process or a job it says process, and of
+/// a channel or an event pair channel.
 pub fn wanted_at(site: &Site, purpose: u8) -> Wanted {
     let (kind, rights) = match purpose {
         b'u' => (None, Rights::DUPLICATE),
@@ -156,5 +157,8 @@ pub fn wanted_at(site: &Site, purpose: u8) -> Wanted {
 
 /// Whether a handle of which this is known of its kind will do in a place for this purpose.
 pub fn is_taken(purpose: u8, wanted: Option<Kind>, known: Option<Kind>) -> bool {
-    wanted.is_none() || known == wanted || (purpose == b'k' && known == Some(Kind::Job))
+    wanted.is_none()
+        || known == wanted
+        || (purpose == b'k' && known == Some(Kind::Job))
+        || (purpose == b'e' && known == Some(Kind::Eventpair))
 }

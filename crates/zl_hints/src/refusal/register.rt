@@ -109,6 +109,7 @@ fn push_wanted(
 fn kind_words(site: &Site, purpose: u8) -> &'static str {
     match wanted_at(site, purpose).kind {
         _ if purpose == b'k' => "process or job",
+        _ if purpose == b'e' => "channel or eventpair",
         Some(kind) => kind.name(),
         None => "any",
     }

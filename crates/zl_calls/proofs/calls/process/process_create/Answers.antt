@@ -7,7 +7,7 @@ use Rattle.zl_calls.proofs.calls.process.process_create.Goals as goal
 pub invariant_of-processes : goal.invariant_of-processes
 invariant_of-processes c =
     let same : c.prepare.new.processes.list.items ≡ c.args.processes.now.list.items = c.prepare.ensures.same_processes in
-    let within : c.args.place < length c.prepare.new.processes.list.items = rw same c.requires.calling.within in
+    let within : c.args.place < length c.prepare.new.processes.list.items = rw same c.requires.place in
     record {
       in_order = rw c.push_reserved.ensures.items
           (pushed_in_order c.prepare.new.processes.list.items c.args.place c.index_mut.result.now _ _

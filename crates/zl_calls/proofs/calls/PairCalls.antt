@@ -1,0 +1,201 @@
+-- Calls that make both ends of a pair, chan_create and eventpair_create: how they are refused, and what is left of the world and of the invariant.
+use Rattle.zl_calls.proofs.Common.{◌≡◌, ◌≤◌, ◌+◌, ◌^◌, ℕ, Bool, true, false, not, ◌&&◌, ◌==◌, List, [], ◌∷◌, map, length, refl, sym, ap, ◌∙◌, subst, cond, None}
+use Rattle.zl_calls.proofs.Common.{IsTrue, arith, nat_le, nat_tests, ne_eqb, Some, none-some, and_parts, count_by, sum_by-cons, then_some, Map, get, put}
+use Rattle.zl_calls.proofs.Common.{CallBy, Library, Site, answer_if, body_value, eventpair_create, first_some, grows, may_get_all, on_process, process_with}
+use Rattle.zl_calls.proofs.Common.{site, has_room, has_koids, handles_to, refusal, handle_operands, listed, may_choose, new_handles}
+use Rattle.zl_calls.proofs.Common.{insert_all, remove_all, taken_handles, effect, with_object, gives_ok, gives_refused, Values, replied, taken}
+use Rattle.zl_calls.proofs.Common.{new_entry, IsTable, Inserts, Handles, Objects, new_object, with_new, told_by, Replies, process_entry, process_value}
+use Rattle.zl_calls.proofs.Common.{world_value, object_value, IsConsistent, IsNamed, runs, World, operands_fault, chan_create, Entry}
+use Rattle.zl_code.proofs.Common.{Object as ObjectValue}
+use Rattle.zl_rights.specs.declared.status.Status.TheVariants as status
+use Rattle.zl_code.specs.declared.history.Outcome.TheVariants as outcome
+use Rattle.zl_objects.specs.declared.object.Body.{Body}
+use Rattle.zl_objects.specs.declared.object.Pair.{Pair}
+use Rattle.zl_objects.specs.declared.object.Pair.TheVariants as pair
+use Rattle.zl_objects.specs.Objects.{end_to, kind_of_pair}
+use Rattle.zl_calls.specs.declared.process.Process.{Process}
+use Rattle.zl_calls.specs.calls.Answer.{two_values}
+use Rattle.zl_calls.specs.calls.Channel.{ChanCreateDoes}
+use Rattle.zl_calls.specs.calls.Event.{EventpairCreateDoes}
+use Rattle.zl_calls.specs.calls.Making.{MakePairDoes, MakesPair, pair_refusal}
+use Rattle.zl_calls.proofs.calls.Answered.{IsWrite, table_is, may_get_both, replied_inserted_two}
+use Rattle.zl_calls.proofs.objects.Counting.{count_put, counts_written}
+use Rattle.zl_calls.proofs.calls.DoneCalls.{IsDoneBy, IsCalled, answered_done}
+use Rattle.zl_calls.proofs.objects.Grown.{IsGrowing, end_kind, end_quiet, end_rights, grown_named, grown_one, grown_seen, growing_none, there_grown}
+use Rattle.zl_calls.proofs.objects.Settled.{sound_of}
+use Rattle.zl_calls.proofs.calls.Refused.{TellsNothing, answers, one_test}
+use Rattle.zl_calls.proofs.tables.Tables.{inserted_table, found_inserted}
+use Rattle.zl_calls.proofs.tables.Taking.{one_longer}
+use Rattle.zl_calls.proofs.processes.Written.{entered, same_agrees}
+
+koids_left : (entries : Map Entry) (n : ℕ) → pair_refusal entries n ≡ None → n + 2 ≤ 2 ^ 62
+koids_left entries n unrefused = by_test (nat_le (length entries + 2) 1024 && nat_le (n + 2) (2 ^ 62)) refl unrefused
+  where
+    by_test : (b : Bool) → (nat_le (length entries + 2) 1024 && nat_le (n + 2) (2 ^ 62)) ≡ b → then_some (not b) status.NoResources ≡ None → n + 2 ≤ 2 ^ 62
+    by_test true is none =
+        let fits : IsTrue (nat_le (n + 2) (2 ^ 62)) = (and_parts (nat_le (length entries + 2) 1024) (nat_le (n + 2) (2 ^ 62)) is).1 in
+        grind (arith, nat_tests, fits)
+    by_test false is none = absurd (none-some status.NoResources (sym none))
+
+counted_inserted : (test : ℕ × Entry → Bool) (t : Handles) (e : Entry) (v : ℕ) (t2 : Handles) → Inserts t e v t2
+    → count_by test t2.entries ≡ count_by test t.entries + cond (test (v, e)) 1 0
+counted_inserted test t e v t2 inserts = ap (λ (m : Map Entry). count_by test m) inserts.entries ∙ count_put test t.entries v e inserts.unused
+
+-- a process of the world, before and after its call
+module _ {before after : List Process} {r : Objects} {p p2 : Process} (lib : Library) (r2 : Objects) (consistent : IsConsistent before r)
+    (write : IsWrite before after p p2) where
+  abbrev w : World
+  w = world_value before r
+
+  abbrev n : ℕ
+  n = r.next_koid
+
+  module _ (s : Site) (pair : Pair) where
+    abbrev first_end : Body
+    first_end = end_to pair (n + 1)
+
+    abbrev second_end : Body
+    second_end = end_to pair n
+
+    abbrev first : Entry
+    first = new_entry n (kind_of_pair pair)
+
+    abbrev second : Entry
+    second = new_entry (n + 1) (kind_of_pair pair)
+
+    -- the objects with the first end, and with both
+    abbrev with_first : Objects
+    with_first = with_new r first_end 1
+
+    abbrev with_both : Objects
+    with_both = with_new with_first second_end 1
+
+    abbrev with_ends : World
+    with_ends = with_object (with_object w (body_value first_end)) (body_value second_end)
+
+    -- the call does so much to its world, if the new handles may get the values
+    abbrev Makes : ℕ × ℕ → Type 0
+    Makes made = IsTrue (may_get_all (process_value p) (first ∷ second ∷ []) (two_values made))
+        → world_value after r2
+        ≡ replied (on_process (on_process with_ends p.pid (process_with made.0 first)) p.pid (process_with made.1 second)) p.pid s status.Ok (two_values made)
+        → CallBy lib w p.pid s (Values (two_values made)) None (outcome.Answered status.Ok) (world_value after r2)
+
+    module _ (made : ℕ × ℕ) (makes : MakesPair pair p.table r made p2.table r2) (replies : Replies s status.Ok (two_values made) p p2) where
+      koids : n + 2 ≤ 2 ^ 62
+      koids = koids_left p.table.entries n makes.unrefused
+
+      growing : IsGrowing before ((made.0, first) ∷ []) with_first
+      growing =
+          let quiet = end_quiet pair (n + 1) in
+          grown_one before [] r (growing_none before r consistent) first_end (λ not. quiet.agrees w n (not runs)) quiet.empty (quiet.in_job with_first.objects)
+          (omega (arith, koids)) refl (made.0, first) refl
+
+      growing_both : IsGrowing before ((made.1, second) ∷ (made.0, first) ∷ []) with_both
+      growing_both =
+          let quiet = end_quiet pair n in
+          grown_one before ((made.0, first) ∷ []) with_first growing second_end
+          (λ not. quiet.agrees (world_value before with_first) (n + 1) (not runs)) quiet.empty (quiet.in_job with_both.objects) (omega (arith, koids)) apart (made.1, second) refl
+        where
+          other : (n == n + 1) ≡ false
+          other = ne_eqb n (n + 1) (omega arith)
+
+          apart : ◌≡◌ {A = ℕ} (count_by (λ (h : ℕ × Entry). h.1.koid == n + 1) ((made.0, first) ∷ [])) 0
+          apart = sum_by-cons (λ (h : ℕ × Entry). cond (h.1.koid == n + 1) 1 0) (made.0, first) [] ∙ rw other refl
+
+      -- ---- the relation of calls
+
+      rest : (record with_ends { processes = map process_entry after }) ≡ world_value after r2
+      unfolding with_object
+      rest = rw makes.objects (ap (λ (os : Map ObjectValue). record w { processes = map process_entry after; objects = os; next_koid = n + 1 + 1 })
+          (ap (λ (os : Map ObjectValue). put os (n + 1) (object_value (new_object second_end 1))) (grown_seen r first_end 1 consistent.given_objects)
+          ∙ grown_seen with_first second_end 1 growing.sound.given_objects))
+
+      chosen : IsTrue (may_get_all (process_value p) (first ∷ second ∷ []) (two_values made))
+      chosen = may_get_both p makes.between p2.table first second made.0 made.1 makes.first makes.second
+
+      both_ends : world_value after r2
+          ≡ replied (on_process (on_process with_ends p.pid (process_with made.0 first)) p.pid (process_with made.1 second)) p.pid s status.Ok (two_values made)
+      unfolding with_object
+      both_ends = replied_inserted_two write r2 s made.0 made.1 first second makes.between with_ends refl rest makes.first makes.second replies
+
+      -- ---- the invariant
+
+      still : (e : Entry) → IsNamed r.objects e → IsNamed with_both.objects e
+      still e named = grown_named before ((made.0, first) ∷ []) with_first growing.sound second_end 1 e
+          (grown_named before [] r (sound_of before r consistent) first_end 1 e named)
+
+      first_named : IsNamed with_both.objects first
+      first_named = grown_named before ((made.0, first) ∷ []) with_first growing.sound second_end 1 first (record {
+        object = new_object first_end 1;
+        there = there_grown before [] r (sound_of before r consistent) first_end 1;
+        kind = end_kind pair (n + 1);
+        rights = end_rights pair;
+      })
+
+      second_named : IsNamed with_both.objects second
+      second_named = record {
+        object = new_object second_end 1;
+        there = there_grown before ((made.0, first) ∷ []) with_first growing.sound second_end 1;
+        kind = end_kind pair n;
+        rights = end_rights pair;
+      }
+
+      named : (v : ℕ) (e : Entry) → get p2.table.entries v ≡ Some e → IsNamed with_both.objects e
+      named v e at = found_inserted (IsNamed with_both.objects e) makes.between second made.1 p2.table makes.second v e at
+          (λ is. subst (λ (x : Entry). IsNamed with_both.objects x) is second_named)
+          (λ early. found_inserted (IsNamed with_both.objects e) p.table first made.0 makes.between makes.first v e early
+          (λ is. subst (λ (x : Entry). IsNamed with_both.objects x) is first_named)
+          (λ old. still e (consistent.named p.pid (process_value p) v e write.there old)))
+
+      table : IsTable p2.table
+      table = inserted_table makes.between second made.1 p2.table
+          (inserted_table p.table first made.0 makes.between (consistent.tables p.pid (process_value p) write.there)
+          (omega (arith, makes.room)) makes.first)
+          (omega (arith, makes.room, one_longer p.table first made.0 makes.between makes.first)) makes.second
+
+      counts : (j : ℕ) → handles_to (world_value after with_both) j
+          ≡ handles_to (world_value before with_both) j + count_by (λ (h : ℕ × Entry). h.1.koid == j) ((made.1, second) ∷ (made.0, first) ∷ [])
+      counts j = counts_written before after p p2 with_both with_both j _ write refl
+          (omega (
+            arith,
+            counted_inserted (λ h. h.1.koid == j) p.table first made.0 makes.between makes.first,
+            counted_inserted (λ h. h.1.koid == j) makes.between second made.1 p2.table makes.second,
+            sum_by-cons (λ (h : ℕ × Entry). cond (h.1.koid == j) 1 0) (made.1, second) ((made.0, first) ∷ []),
+            sum_by-cons (λ (h : ℕ × Entry). cond (h.1.koid == j) 1 0) (made.0, first) [],
+          ))
+
+      pair_called : refusal lib w p.pid s.request ≡ None → Makes made → IsCalled lib before after r r2 p.pid s (outcome.Answered status.Ok)
+      pair_called unrefused by = record {
+        calls = (Values (two_values made), rw unrefused (by chosen both_ends));
+        keeps = rw makes.objects (entered write ((made.1, second) ∷ (made.0, first) ∷ []) with_both growing_both.sound growing_both.kept
+            (same_agrees write (ap (λ (q : Process). q.state) replies) with_both) table named counts);
+      }
+
+    -- ---- the step
+
+    pair_done : refusal lib w p.pid s.request ≡ answers (pair_refusal p.table.entries n) → true ≡ grows s.request → taken w p.pid s ≡ w
+        → TellsNothing lib w p.pid s → ((made : ℕ × ℕ) → Makes made) → IsDoneBy lib before after r r2 p p2 s (told_by two_values) (MakePairDoes pair)
+    pair_done refused may_want takes_none nothing by =
+        answered_done lib r2 consistent write s two_values (MakePairDoes pair) (MakesPair pair p.table r) true (pair_refusal p.table.entries n)
+        (λ answer acts. acts) refused may_want takes_none nothing
+        (λ made makes replies. pair_called made makes replies (refused ∙ ap answers makes.unrefused) (by made))
+
+  -- where nothing else refuses it
+  pair_refused : first_some (answer_if (not (nat_le (length p.table.entries + 2) 1024 && nat_le (n + 2) (2 ^ 62))) status.NoResources ∷ [])
+      ≡ answers (pair_refusal p.table.entries n)
+  pair_refused = one_test (not (nat_le (length p.table.entries + 2) 1024 && nat_le (n + 2) (2 ^ 62))) status.NoResources
+
+  -- ---- the two calls
+
+  module _ (consumed destinations : List ℕ) where
+    pub chan_create_done : IsDoneBy lib before after r r2 p p2 (site chan_create consumed destinations) (told_by two_values) ChanCreateDoes
+    unfolding refusal handle_operands operands_fault listed has_room has_koids taken_handles remove_all gives_refused may_choose
+        new_handles effect insert_all gives_ok
+    chan_create_done = pair_done (site chan_create consumed destinations) pair.Channel (rw (table_is write r) pair_refused) refl refl (λ answer. refl)
+        (λ made may ends. (rw (write.there, may) refl, refl, ends))
+
+    pub eventpair_done : IsDoneBy lib before after r r2 p p2 (site eventpair_create consumed destinations) (told_by two_values) EventpairCreateDoes
+    unfolding refusal handle_operands operands_fault listed has_room has_koids taken_handles remove_all gives_refused may_choose
+        new_handles effect insert_all gives_ok
+    eventpair_done = pair_done (site eventpair_create consumed destinations) pair.Eventpair (rw (table_is write r) pair_refused) refl refl (λ answer. refl)
+        (λ made may ends. (rw (write.there, may) refl, refl, ends))

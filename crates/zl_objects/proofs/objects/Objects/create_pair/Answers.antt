@@ -1,0 +1,37 @@
+use Rattle.std.proofs.Common.{arith, refl, sym, vec_capacity}
+use Rattle.zl_objects.proofs.Kept.{pair_kept, roomy_kept}
+use Rattle.zl_objects.proofs.Whole.{pair_created, end_taken, if_err, unless_err}
+use Rattle.zl_objects.proofs.objects.Objects.create_pair.Goals as goal
+
+pub invariant_of-self-2 : goal.invariant_of-self-2
+invariant_of-self-2 c =
+    pair_kept c.args.pair c.self.inside.by_koid.entries c.insert.new.self.entries c.insert-2.new.self.entries c.self.inside.next_koid
+    (vec_capacity c.self.inside.dying) (vec_capacity c.reserve.new.self) c.args.handles c.self.inside.dying.items c.reserve.new.self.items c.new_end.result c.new_end-2.result
+    c.self.invariant c.new_end.ensures c.new_end-2.ensures c.reserve.ensures.items (omega (arith, c.in_ok-reserve.ensures.ok, c.len.ensures.len))
+    c.in_ok-insert.ensures.entries (unless_err c.insert-2.result _ c.insert-2.ensures.entries (sym (c.if-is_err.ensures {u = tt}).value))
+
+pub returns-clause-created : goal.returns-clause-created
+returns-clause-created c =
+    rw (
+      pair_created c.self.inside.by_koid.entries c.insert.new.self.entries c.insert-2.new.self.entries
+          c.self.inside.next_koid c.new_end.result c.new_end-2.result c.self.invariant.whole.below c.in_ok-insert.ensures.entries
+          (unless_err c.insert-2.result _ c.insert-2.ensures.entries (sym (c.if-is_err.ensures {u = tt}).value)),
+      c.new_end.ensures,
+      c.new_end-2.ensures,
+      ← c.self.view_is,
+    ) refl
+
+pub returns-then-is_err-clause-unchanged : goal.returns-then-is_err-clause-unchanged
+returns-then-is_err-clause-unchanged c =
+    rw (end_taken c.self.inside.by_koid.entries c.insert.new.self.entries c.insert-2.new.self.entries
+    c.remove.new.self.entries c.self.inside.next_koid c.new_end.result c.self.invariant.whole.below c.in_ok-insert.ensures.entries
+    (if_err c.insert-2.result _ c.insert-2.ensures.err (sym (c.if-is_err.ensures {u = tt}).value)) c.remove.ensures.entries) c.self.view_is
+
+pub invariant_of-self-then-is_err : goal.invariant_of-self-then-is_err
+invariant_of-self-then-is_err c =
+    roomy_kept c.self.inside.by_koid.entries c.remove.new.self.entries c.self.inside.next_koid (vec_capacity c.self.inside.dying)
+    (vec_capacity c.reserve.new.self) c.self.inside.dying.items c.reserve.new.self.items c.self.invariant
+    (end_taken c.self.inside.by_koid.entries c.insert.new.self.entries c.insert-2.new.self.entries
+    c.remove.new.self.entries c.self.inside.next_koid c.new_end.result c.self.invariant.whole.below c.in_ok-insert.ensures.entries
+    (if_err c.insert-2.result _ c.insert-2.ensures.err (sym (c.if-is_err.ensures {u = tt}).value)) c.remove.ensures.entries)
+    c.reserve.ensures.items c.reserve.ensures.capacity

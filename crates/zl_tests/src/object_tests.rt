@@ -4,7 +4,7 @@ use bitflags::Flags;
 use std::alloc::{AllocError, Global};
 use std::test::Fail;
 use zl_channel::{Handles, Message};
-use zl_objects::{Body, Life, Objects, Wait};
+use zl_objects::{Body, Life, Objects, Pair, Wait};
 use zl_rights::{Entry, Kind, Koid, Rights, Signals};
 use zl_signals::Watch;
 
@@ -15,7 +15,7 @@ fn new_channel(objects: &mut Objects) -> Result<(Koid, Koid), AllocError> {
     if !objects.has_koids(2) {
         return Err(AllocError);
     }
-    objects.create_channel(1)
+    objects.create_pair(Pair::Channel, 1)
 }
 
 /// Sends a message with a handle to the object `named` from this end.
@@ -30,10 +30,10 @@ fn send(alloc: Global, objects: &mut Objects, end: Koid, named: Koid) -> Result<
         bytes: Vec::new(alloc),
         handles,
     };
-    let Some(peer) = objects.peer(end) else {
+    let Some(reader) = objects.reader(end) else {
         return Err(AllocError);
     };
-    objects.send(peer, message).map_err(|_| AllocError)
+    objects.send(reader, message).map_err(|_| AllocError)
 }
 
 #[test]

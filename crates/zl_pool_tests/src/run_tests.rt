@@ -49,12 +49,12 @@ impl<'a, R: Clock + Sync> Gate for Crossing<'a, R> {
 }
 
 /// The texts of two processes of which the second kills the first, and their words.
-const MEETING: (&[&str], &[u64]) = (&[EXITS, KILLS], &[5, 0]);
+const MEETING: &[(&str, u64)] = &[(EXITS, 5), (KILLS, 0)];
 
 /// The system of two processes of which the second kills the first, behind the gate that crosses their
 /// bursts.
 fn run_crossing<R: Threads + Wait + Clock + Sync>(rt: &R, alloc: Global) -> Result<System, Fail> {
-    let system = booted(alloc, MEETING.0, MEETING.1, 100)?;
+    let system = booted(alloc, MEETING, 100)?;
     let gate = Crossing {
         rt,
         first: AtomicU64::new(0),
@@ -89,10 +89,10 @@ end quiet
 fn what_workers_did_is_replayed(rt: HostRuntime) -> Result<(), Fail> {
     let system = run_crossing(&rt, rt.alloc())?;
     let boot = Boot {
-        statements: statements(rt.alloc(), 2, MEETING.1)?,
+        statements: statements(rt.alloc(), MEETING, 0)?,
         limit: 100,
     };
-    let programs = library(rt.alloc(), MEETING.0)?;
+    let programs = library(rt.alloc(), MEETING)?;
     assert!(rt; replay(rt.alloc(), programs, boot, system.items()).is_ok());
     Ok(())
 }
@@ -117,8 +117,8 @@ fn counted<R: Threads + Wait + Sync>(
     alloc: Global,
     workers: u32,
 ) -> Result<(RunEnd, usize, [u64; 3]), Fail> {
-    let texts: &[&str] = &[COUNTS, COUNTS, COUNTS];
-    let system = booted(alloc, texts, &[500, 1, 300], 100)?;
+    let processes: &[(&str, u64)] = &[(COUNTS, 500), (COUNTS, 1), (COUNTS, 300)];
+    let system = booted(alloc, processes, 100)?;
     let (system, end) = run(rt, system, workers, &Direct);
     let mut steps: [u64; 3] = [0; 3];
     for (index, slot) in steps.iter_mut().enumerate() {
@@ -150,7 +150,7 @@ fn limited<R: Threads + Wait + Sync>(
     limit: u64,
     workers: u32,
 ) -> Result<(RunEnd, usize, bool), Fail> {
-    let system = booted(alloc, &[CALLS], &[0], limit)?;
+    let system = booted(alloc, &[(CALLS, 0)], limit)?;
     let (system, end) = run(rt, system, workers, &Direct);
     Ok((end, system.items().len(), !system.idle()))
 }
@@ -171,7 +171,7 @@ fn runs_end_at_the_limit(rt: HostRuntime) -> Result<(), Fail> {
 /// What a worker leaves of a process of calls alone where memory is refused behind so many requests: how
 /// many items, and whether nothing is ready.
 fn refused<R: Wait>(rt: &R, alloc: Global, calls: u32) -> Result<(usize, bool), Fail> {
-    let system = booted(alloc, &[CALLS], &[0], 100)?;
+    let system = booted(alloc, &[(CALLS, 0)], 100)?;
     let desk = Desk::new(Fake { system, calls });
     work(rt, &desk, &Direct, 256);
     let fake = desk.kernel.into_inner();
@@ -198,7 +198,7 @@ fn a_worker_ends_where_memory_is_refused(rt: HostRuntime) -> Result<(), Fail> {
 /// What a run makes of what a worker left to which memory was refused behind so many requests: three calls
 /// of process 2, beside which process 3 exits.
 fn gone_on<R: Threads + Wait + Sync>(rt: &R, alloc: Global, calls: u32) -> Result<Vec<u8>, Fail> {
-    let system = booted(alloc, &[CALLS, EXITS], &[0, 7], 100)?;
+    let system = booted(alloc, &[(CALLS, 0), (EXITS, 7)], 100)?;
     let desk = Desk::new(Fake { system, calls });
     work(rt, &desk, &Direct, 256);
     let fake = desk.kernel.into_inner();

@@ -11,6 +11,7 @@ use zl_trace::{empty_block, text};
 
 const ROOT: Koid = 1;
 
+/// What is made first: the first process, or the job of the first ones.
 pub const FIRST: Pid = 2;
 
 pub const SECOND: Pid = 3;
@@ -20,7 +21,7 @@ pub const EXITS: &str = ".raw
 process_exit r1
 ";
 
-/// Kills the process of its handle, and exits with the word.
+/// Kills the process or the job of its handle, and exits with the word.
 pub const KILLS: &str = ".raw
 task_kill r2, r0
 process_exit r1
@@ -53,10 +54,17 @@ wait_one r2, r3, r4, r5
 process_exit r1
 ";
 
+/// Waits for TERMINATED of the process of its handle, and exits with the word.
+pub const AWAITS: &str = ".raw
+const r4, 8
+wait_one r2, r0, r4, r5
+process_exit r1
+";
+
 /// The programs of the texts, all raw.
-pub fn library(alloc: Global, texts: &[&str]) -> Result<Library, Fail> {
+pub fn library(alloc: Global, processes: &[(&str, u64)]) -> Result<Library, Fail> {
     let mut library = Library::new(alloc);
-    for text in texts {
+    for (text, _) in processes {
         let image = assemble_bytes(alloc, text.as_bytes())
             .ok()
             .ok_or("the text is a program")?;
@@ -67,10 +75,19 @@ pub fn library(alloc: Global, texts: &[&str]) -> Result<Library, Fail> {
     Ok(library)
 }
 
-/// A process for each of so many programs, with the word; each but the first has a handle to the first.
-pub fn statements(alloc: Global, programs: u64, words: &[u64]) -> Result<Vec<Statement>, Fail> {
+/// A process for each text, with the word, the first so many of them in a job of their own. Each but the
+/// first has a handle to what was made first: this job, or else the first process.
+pub fn statements(
+    alloc: Global,
+    processes: &[(&str, u64)],
+    in_job: u64,
+) -> Result<Vec<Statement>, Fail> {
     let mut statements = Vec::new(alloc);
-    for program in 0..programs {
+    if in_job > 0 {
+        statements.push(Statement::Job { parent: ROOT })?;
+    }
+    for (n, (_, word)) in processes.iter().enumerate() {
+        let program = n as u64;
         let mut handles = Grants::new(alloc);
         let first = Grant {
             koid: FIRST,
@@ -80,9 +97,9 @@ pub fn statements(alloc: Global, programs: u64, words: &[u64]) -> Result<Vec<Sta
             return Err(Fail::from("memory was refused"));
         }
         statements.push(Statement::Process {
-            job: ROOT,
+            job: if program < in_job { FIRST } else { ROOT },
             program,
-            word: words.get(program as usize).copied().unwrap_or(0),
+            word: *word,
             handles,
         })?;
     }
@@ -90,18 +107,39 @@ pub fn statements(alloc: Global, programs: u64, words: &[u64]) -> Result<Vec<Sta
 }
 
 /// A system of a process for each text, with the word; each but the first has a handle to the first.
-pub fn booted(alloc: Global, texts: &[&str], words: &[u64], limit: u64) -> Result<System, Fail> {
-    let statements = statements(alloc, texts.len() as u64, words)?;
-    match System::boot(alloc, library(alloc, texts)?, Boot { statements, limit }) {
+pub fn booted(alloc: Global, processes: &[(&str, u64)], limit: u64) -> Result<System, Fail> {
+    booted_in_job(alloc, processes, 0, limit)
+}
+
+/// The same, where the first so many processes are in a job of their own; then each but the first has a
+/// handle to that.
+pub fn booted_in_job(
+    alloc: Global,
+    processes: &[(&str, u64)],
+    in_job: u64,
+    limit: u64,
+) -> Result<System, Fail> {
+    let statements = statements(alloc, processes, in_job)?;
+    match System::boot(
+        alloc,
+        library(alloc, processes)?,
+        Boot { statements, limit },
+    ) {
         Ok(system) => Ok(system),
         Err(_) => Err(Fail::from("the boot is refused")),
     }
 }
 
-/// What the trace of the system says, and what each process is in.
+/// What the trace of the system says, and what each process is in. It ends as a run on threads that is
+/// quiet where the system is idle, and else as one along a schedule.
 pub fn told(alloc: Global, system: &System) -> Result<Vec<u8>, Fail> {
+    let end = if system.idle() {
+        End::Quiet
+    } else {
+        End::Schedule
+    };
     let mut written = Vec::new(alloc);
-    text(system, End::Quiet, &mut empty_block(alloc)?, &mut written)
+    text(system, end, &mut empty_block(alloc)?, &mut written)
         .ok()
         .ok_or("memory was refused")?;
     Ok(written)

@@ -13,6 +13,8 @@ NUMBER = r"(?:0|[1-9][0-9]{0,19})"
 RUN = re.compile(rf"({NUMBER}) +run +([1-9][0-9]{{0,9}})")
 STUCK = re.compile(rf"({NUMBER}) +stuck")
 MOST_PID = 2**64 - 1
+MOST_COUNT = 2**32 - 1
+CODES = range(-2**31, 2**31)
 CALL = re.compile(rf"({NUMBER}) +([a-z_]+) +([A-Z_]+|blocked|ended +(?:0|-?[1-9][0-9]*))")
 
 
@@ -31,17 +33,22 @@ class Item:
         return " ".join(str(part) for part in (self.pid, self.name, self.count, self.outcome) if part)
 
 
+def is_end(outcome):
+    """Whether it is the end of a process, with a code of 32 bits."""
+    return outcome.startswith("ended ") and int(outcome.split()[1]) in CODES
+
+
 def item_in(line, place):
     """The item of a line."""
     text = line.strip(" ")
-    if (found := RUN.fullmatch(text)) and int(found[1]) <= MOST_PID:
+    if (found := RUN.fullmatch(text)) and int(found[1]) <= MOST_PID and int(found[2]) <= MOST_COUNT:
         return Item(place, int(found[1]), "run", int(found[2]))
     if (found := STUCK.fullmatch(text)) and int(found[1]) <= MOST_PID:
         return Item(place, int(found[1]), "stuck")
     found = CALL.fullmatch(text)
     if found and int(found[1]) <= MOST_PID and found[2] in BY_NAME and BY_NAME[found[2]].is_call:
         outcome = " ".join(found[3].split())
-        if outcome[0].islower() or outcome in STATUSES:
+        if outcome == "blocked" or outcome in STATUSES or is_end(outcome):
             return Item(place, int(found[1]), found[2], outcome=outcome)
     shown = text if len(text) <= 60 else text[:60] + " .."
     raise Trouble(f"line {place} of the trace isn't an item's: {shown!r}")

@@ -32,7 +32,7 @@ const FIELDS: [(usize, usize, u32, u32, &str); 7] = [
 const NEEDS: usize = 16;
 
 /// The bits of the needs that there are.
-const KNOWN_NEEDS: u32 = 0x1b;
+const KNOWN_NEEDS: u32 = 0x1f;
 
 /// The byte, or 0 past the end.
 fn byte_at(bytes: &[u8], offset: usize) -> u8 {
@@ -198,7 +198,8 @@ fn push_header_fault(hint: &mut String, source: Source, bytes: &[u8]) -> Result<
     }
     let needs = number_at(bytes, NEEDS, 1);
     if needs & KNOWN_NEEDS != needs {
-        let text = "the needs, at byte 16 of the image, are #; the bits 1, 2, 8 and 16 are known";
+        let text =
+            "the needs, at byte 16 of the image, are #; the bits 1, 2, 4, 8 and 16 are known";
         let needs = Number(u64::from(needs));
         return push_fault(hint, source, NEEDS, "BadHeader", text, &[needs]);
     }

@@ -94,7 +94,8 @@ module _ {before after : List Process} {r : Objects} {p p2 : Process} (lib : Lib
       growing_both =
           let quiet = end_quiet pair n in
           grown_one before ((made.0, first) ∷ []) with_first growing second_end
-          (λ not. quiet.agrees (world_value before with_first) (n + 1) (not runs)) quiet.empty (quiet.in_job with_both.objects) (omega (arith, koids)) apart (made.1, second) refl
+          (λ not. quiet.agrees (world_value before with_first) (n + 1) (not runs)) quiet.empty (quiet.in_job with_both.objects)
+          (omega (arith, koids)) apart (made.1, second) refl
         where
           other : (n == n + 1) ≡ false
           other = ne_eqb n (n + 1) (omega arith)

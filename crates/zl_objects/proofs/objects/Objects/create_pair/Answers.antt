@@ -6,7 +6,8 @@ use Rattle.zl_objects.proofs.objects.Objects.create_pair.Goals as goal
 pub invariant_of-self-2 : goal.invariant_of-self-2
 invariant_of-self-2 c =
     pair_kept c.args.pair c.self.inside.by_koid.entries c.insert.new.self.entries c.insert-2.new.self.entries c.self.inside.next_koid
-    (vec_capacity c.self.inside.dying) (vec_capacity c.reserve.new.self) c.args.handles c.self.inside.dying.items c.reserve.new.self.items c.new_end.result c.new_end-2.result
+    (vec_capacity c.self.inside.dying) (vec_capacity c.reserve.new.self)
+    c.args.handles c.self.inside.dying.items c.reserve.new.self.items c.new_end.result c.new_end-2.result
     c.self.invariant c.new_end.ensures c.new_end-2.ensures c.reserve.ensures.items (omega (arith, c.in_ok-reserve.ensures.ok, c.len.ensures.len))
     c.in_ok-insert.ensures.entries (unless_err c.insert-2.result _ c.insert-2.ensures.entries (sym (c.if-is_err.ensures {u = tt}).value))
 

@@ -2,7 +2,7 @@
 pub use Rattle.zl_code.proofs.Common.{All, All-nil, AtCall, Blocked, Body, Bool, Boots, ChannelEnd, Cpu, Created, DUPLICATE, Ended, Err, EventBody, FirstFault}
 pub use Rattle.zl_code.proofs.Common.{Gone, IfNone, IfSome, Image, IsSome, IsStuck, IsTrue, Koids, Library, List, MOST_ITEMS, Map, Moves, None, Object, Ok}
 pub use Rattle.zl_code.proofs.Common.{OnOk, Option, PortBody, Process, ProcessBody, Program, Ready, Refused, Request, Result, Row, SIGNAL, STUCK, Settles, Site}
-pub use Rattle.zl_code.proofs.Common.{Some, State, Step, Values, WantsMemory, [], and_from, and_parts, answer_if, any, ap, append-nil, arith, at_limit}
+pub use Rattle.zl_code.proofs.Common.{Some, State, Step, Values, Wants, [], and_from, and_parts, answer_if, any, ap, append-nil, arith, at_limit}
 pub use Rattle.zl_code.proofs.Common.{at_statement, below_all, bit_and, bits, body_in, body_of, call_row, calls_at, cases_Bool, cases_lt, chan_write, close}
 pub use Rattle.zl_code.proofs.Common.{cond, copy_of, count_by, cpu_answered, default_rights_of, dup, entry_at, eq-eqb, eqb-true, event_create, false}
 pub use Rattle.zl_code.proofs.Common.{false≢true, first_some, get_or, get_or-map, grows, has_default_rights, has_key, if◌then◌else◌, inl, inr, is_empty}
@@ -31,6 +31,8 @@ pub use Rattle.zl_calls.specs.World.{IsPlaceOf, call_for, is_ready_in, process_e
 pub use Rattle.zl_calls.specs.Acting.{DoesNext, IsActed}
 pub use Rattle.zl_calls.specs.Blocked.{AreBlocked, IsWhole}
 pub use Rattle.zl_calls.specs.calls.Answer.{reaches, Action, Does, IsAnswered, IsRefusedBy, Replies, answers, exits, has_room_in, no_value, one_value}
+pub use Rattle.zl_calls.specs.calls.Answer.{wants_memory, wants_nothing, wants_place}
+pub use Rattle.zl_code.specs.Calls.{may_want, wanted}
 pub use Rattle.zl_calls.specs.calls.Answer.{status_of, told_by, values_of}
 pub use Rattle.zl_code.specs.Effects.{may_get_all, new_entry, object_changed, signed_word, with_process}
 unfoldable pub use Rattle.zl_code.specs.Effects.{on_object}
@@ -86,7 +88,7 @@ pub use Rattle.zl_calls.specs.calls.Job.{has_child_at}
 pub use Rattle.zl_calls.specs.calls.Making.{MakeDoes, MakesOne, room_refusal}
 pub use Rattle.zl_calls.specs.calls.Port.{TakesPacket, poll_refusal, port_at}
 pub use Rattle.zl_calls.specs.calls.Reading.{ChanReadDoes, InsertsEach, front_handles}
-pub use Rattle.zl_calls.specs.calls.Task.{AreBare, ClosesAllEnded, ClosesEnded, CreatesProcess, IsCallerStill, Parts, ProcessCreateDoes, ProcessStartDoes}
+pub use Rattle.zl_calls.specs.calls.Task.{ClosesAllEnded, ClosesEnded, CreatesProcess, IsCallerStill, Parts, ProcessCreateDoes, ProcessStartDoes}
 pub use Rattle.zl_calls.specs.calls.Task.{StartsProcess, TaskKillDoes, child_refusal, create_refusal, create_refusal_of, ended_if, ended_within, kill_refusal}
 pub use Rattle.zl_calls.specs.calls.Task.{lives_on, needs_more, parts, process_at, start_refusal}
 pub use Rattle.zl_calls.specs.declared.booting.Made.{Made}

@@ -7,7 +7,7 @@ use Rattle.zl_rights.specs.Signals.{is_ready}
 use Rattle.zl_objects.specs.Objects.{Objects}
 use Rattle.zl_calls.specs.Registered.{world_left}
 use Rattle.zl_calls.specs.World.{process_entry, state_value, world_blocked}
-use Rattle.zl_calls.specs.calls.Task.{AreBare, Parts, parts}
+use Rattle.zl_calls.specs.calls.Task.{Parts, parts}
 use Rattle.zl_calls.specs.declared.process.Process.{Process}
 use Rattle.zl_calls.specs.declared.processes.Processes.{Processes}
 
@@ -35,11 +35,10 @@ KeepsRoom ps blocked ps2 blocked2 = length ps.list.items ≤ vec_capacity blocke
 
 -- ---- before a call
 
--- the process at the place is there and ready, and none that was made and not started has a handle
+-- the process at the place is there and ready
 pub record IsCalling (processes : List Process) (place : ℕ) : Type 0 where
   pub within : place < length processes
   pub ready : (caller : Process) → slice_get processes place ≡ Some caller → is_ready (state_value caller.state) ≡ true
-  pub bare : AreBare processes
 
 -- each process has a koid that was given
 abbrev pub AreGiven : Parts → Type 0

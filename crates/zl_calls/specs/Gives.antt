@@ -29,10 +29,11 @@ if_default (Some e) = then_some (has_default_rights e) e
 abbrev pub allowed : Map ObjectValue → Grant → Option Entry
 allowed objects g = if_default (handle_given g (body_in (get objects g.koid)))
 
--- the process has no handle, and had none
+-- the process has no handle, and had none, so that its table offers the first value
 pub record IsBare (p : Process) : Type 0 where
   pub no_handles : p.table.entries ≡ []
   pub none_removed : p.table.last ≡ None
+  pub offers_first : p.table.offered ≡ 1
 
 -- the process with the handles es at the values vs, which stand in its registers too
 abbrev pub process_given : List Entry → List ℕ → ProcessValue → ProcessValue
@@ -45,8 +46,9 @@ pub record Gives (gs : List Grant) (old : Made) (p : Process) (new : Made) (p2 :
   pub chosen : IsTrue (may_get_all (process_value p) (handles_given (seen old).objects gs) values)
   pub pid : p2.pid ≡ p.pid
   pub is : process_value p2 ≡ process_given (handles_given (seen old).objects gs) values (process_value p)
-  pub table : IsTable p2.table
+  pub table : IsTable p2.table.entries
   pub few : length p2.table.entries ≤ length gs
+  pub untouched : length gs ≡ 0 → p2.table ≡ p.table
   pub named : (v : ℕ) (e : Entry) → get p2.table.entries v ≡ Some e → IsNamed new.objects.objects e
   pub making : IsMaking new.processes.items p2.table.entries new.objects
   pub processes : new.processes.items ≡ old.processes.items

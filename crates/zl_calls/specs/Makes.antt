@@ -1,6 +1,6 @@
 -- What one statement of a boot does to the processes and objects made so far.
 use Rattle.zl_code.specs.Common.{World, Library, boot_fault, boot_effect, may_boot, Boots, origin}
-use Rattle.std.specs.Prelude.{ℕ, ◌≡◌, ◌<◌, ◌+◌, nat_lt, List, [], length, take, Option, Some, None, IsTrue, max}
+use Rattle.std.specs.Prelude.{ℕ, ◌≡◌, ◌<◌, ◌+◌, Bool, true, false, nat_lt, List, [], length, take, Option, Some, None, IsTrue, max}
 use Rattle.std.specs.Bool.{then_some}
 use Rattle.zl_code.specs.Boot.{MOST_KOIDS}
 use Rattle.zl_code.specs.declared.boot.BootCause.{BootCause}
@@ -25,10 +25,16 @@ pub record Makes (lib : Library) (s : Statement) (old new : Made) : Type 0 where
   pub effect : seen new ≡ boot_effect lib (seen old) s values
   pub making : IsMaking new.processes.items [] new.objects
 
--- the cause is that of the statement; where it has none it is the want of memory
-abbrev pub IsCauseOf : Option BootCause → BootCause → Type 0
-IsCauseOf None c = c ≡ cause.NoMemory
-IsCauseOf (Some found) c = c ≡ found
+-- the causes for a want: of memory, and of a place for a handle behind the first of a table
+abbrev pub is_want : (more : Bool) → BootCause → Bool
+is_want more cause.NoMemory = true
+is_want more cause.Limit = more
+is_want more c = false
+
+-- the cause is that of the statement; where it has none it is that for a want
+abbrev pub IsCauseOf : (more : Bool) → Option BootCause → BootCause → Type 0
+IsCauseOf more None c = IsTrue (is_want more c)
+IsCauseOf more (Some found) c = c ≡ found
 
 -- the statement that makes such a pair
 abbrev pub making_pair : Pair → Statement

@@ -25,7 +25,7 @@ pub record IsSound (ps : List Process) (m : Map Entry) (r : Objects) : Type 0 wh
   pub koids : r.next_koid ≤ 2 ^ 62
   pub above_zero : 0 < r.next_koid
   pub no_zero : (k : ℕ) → IsTrue (has_key r.objects k) → 0 < k
-  pub tables : (k : ℕ) (p : ProcessValue) → get (map process_entry ps) k ≡ Some p → IsTable (record { entries = p.handles; last = p.last })
+  pub tables : (k : ℕ) (p : ProcessValue) → get (map process_entry ps) k ≡ Some p → IsTable p.handles
   pub named : (k : ℕ) (p : ProcessValue) (v : ℕ) (e : Entry) → get (map process_entry ps) k ≡ Some p → get p.handles v ≡ Some e → IsNamed r.objects e
   pub queued : (k : ℕ) (o : Object) → get r.objects k ≡ Some o → AreNamed r.objects (queue_of o.body)
   pub counted : (k : ℕ) (o : Object) → get r.objects k ≡ Some o → o.handles ≡ handles_to (world_value ps r) k + count_by (λ h. h.1.koid == k) m

@@ -4,7 +4,7 @@ ghost use Rattle.std.specs.FinMap.Entries.{is_sorted};
 ghost use Rattle.std.specs.Option.{option_map};
 ghost use Rattle.zl_rights.specs.Map.{get};
 ghost use Rattle.zl_code.specs.declared.boot.BootCause.TheVariants.{NoMemory};
-ghost use Rattle.zl_code.specs.Boot.{IsBoot, FirstFault, MOST_ITEMS};
+ghost use Rattle.zl_code.specs.Boot.{IsBoot, BootRefusal, MOST_ITEMS};
 ghost use Rattle.zl_code.specs.Headline.{IsSizedBoot};
 ghost use Rattle.zl_code.specs.Starting.{program_of};
 ghost use Rattle.zl_code.specs.Steps.{Runs};
@@ -81,7 +81,8 @@ impl World {
     /// `BadState` for the policy of a job in which a job or a process lives; else `Conflict` for an
     /// action where another is set; else `Limit` for the 65th process, for the 17th level of jobs,
     /// or where fewer koids up to 1,024 are left than the statement takes, two for a channel, none
-    /// for a policy and one for any other. A limit of the trace above `Boot::MOST_ITEMS` is `Limit`
+    /// for a policy and one for any other. A statement without a fault may be refused with `Limit` for
+    /// a handle behind its first, as no clause says which value a new table then offers. A limit of the trace above `Boot::MOST_ITEMS` is `Limit`
     /// of a statement one past the last. `NoMemory` may come at any statement, and for the root job
     /// and the room for blocked processes as of statement 0, which need not be there.
     pub fn boot(alloc: Global, library: Library, boot: &Boot) -> Result<World, BootFault>
@@ -91,7 +92,7 @@ impl World {
         ensures programs { IfOk result (λ world. world.programs ≡ library) }
         ensures limit { OnOk result (boot.now.limit ≤ MOST_ITEMS) }
         ensures err { IfErr result (λ fault. fault.cause ≢ NoMemory
-            → FirstFault library boot.now.statements.items boot.now.limit
+            → BootRefusal library boot.now.statements.items boot.now.limit
             fault.statement fault.cause) }
         ensures reached { IfErr result (λ fault. fault.cause ≡ NoMemory
             → IsReached library boot.now.statements.items fault.statement) }

@@ -17,7 +17,7 @@ unfoldable pub use Rattle.zl_rights.proofs.Common.{answered, each, fired, get, h
 unfoldable pub use Rattle.zl_rights.proofs.Common.{where_key, without, without_others}
 pub use Rattle.zl_code.specs.Common.{Acts, AtCall, Boots, Calls, Choice, FirstFault, HandlesAreNamed, HandlesAreSound, HasGivenKoids, Image, IsBoot}
 pub use Rattle.zl_code.specs.Common.{IsLegalHistory, IsSound, IsStuck, Layout, Library, MOST_ITEMS, Moves, Next, Program, Reading, Refused, Request, Row, Site}
-pub use Rattle.zl_code.specs.Common.{Spells, Step, Values, WantsMemory, answer_if, any, are_needs, are_registers, at_limit, at_statement, body_in, body_of}
+pub use Rattle.zl_code.specs.Common.{Spells, Step, Values, Wants, answer_if, any, are_needs, are_registers, at_limit, at_statement, body_in, body_of}
 pub use Rattle.zl_code.specs.Common.{by_look_up, bytes_of, call_name, call_row, calls_at, chan_create, chan_read_etc, chan_write, close, copy_of, cpu_answered}
 pub use Rattle.zl_code.specs.Common.{dup, entry_at, event_create, eventpair_create, first_some, grows, has_default_rights, in_order, instr_bytes, is_among}
 pub use Rattle.zl_code.specs.Common.{is_in_range}
@@ -51,7 +51,7 @@ pub use Rattle.zl_rights.specs.Numbers.{READ, READABLE, SAME_RIGHTS, TERMINATED,
 pub use Rattle.zl_rights.specs.World.{Awaited, Message, Packet, PacketAt, SignalOf}
 pub use Rattle.std.proofs.lemmas.List.Elements.{All-cons, All-head, All-tail}
 pub use Rattle.std.specs.Prelude.{bit_xor, negsuc}
-pub use Rattle.zl_code.specs.Calls.{CallBy, after_ok, after_refusal}
+pub use Rattle.zl_code.specs.Calls.{CallBy, after_ok, after_refusal, may_want}
 pub use Rattle.zl_code.specs.Instructions.{Field, closes, consumes, names, row_among, rows}
 pub use Rattle.zl_code.specs.Starting.{created_process, started_with}
 pub use Rattle.zl_code.specs.Steps.{Runs, has_count}

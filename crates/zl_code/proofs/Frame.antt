@@ -2,7 +2,7 @@
 use Rattle.zl_code.proofs.Common.{Acts, AtCall, Awaited, Blocked, Body, Bool, CallBy, ChannelEnd, Choice, Created, Ended, Entry, Gone, HasItsObject, IsSound}
 use Rattle.zl_code.proofs.Common.{IsStuck, IsTrue, JobBody, KILLED, Library, List, LivesAt, Moves, Next, None, Object, Option, Outcome, Packet, PacketAt}
 use Rattle.zl_code.proofs.Common.{PortBody, Process, ProcessBody, Ready, Refused, Request, Settles, SignalOf, Site, Some, StandsBelow, State, Step, TraceItem}
-use Rattle.zl_code.proofs.Common.{Values, WantsMemory, World, [], active, after_ok, after_refusal, and_from, and_parts, answered, ap, arith, awaited_by}
+use Rattle.zl_code.proofs.Common.{Values, Wants, World, [], active, after_ok, after_refusal, and_from, and_parts, answered, ap, arith, awaited_by}
 use Rattle.zl_code.proofs.Common.{body_after_read, body_in, body_killed, body_with_message, cases_Bool, created_process, effect, ended, entering_at, entry_at}
 use Rattle.zl_code.proofs.Common.{eq-eqb, eqb-true, false, false≢true, fired, fold, get, get-each, get-put, get-update, get-where_key-in, get-where_key-out}
 use Rattle.zl_code.proofs.Common.{handle_operands, has_child, has_child_job, has_child_process, if◌then◌else◌, inl, inr, insert_all, is_job_below, is_process}
@@ -14,7 +14,6 @@ use Rattle.zl_code.proofs.Common.{taken, taken_handles, task_kill, true, true≢
 use Rattle.zl_code.proofs.Common.{with_object, without_others, woken_at_port, woken_by, woken_by_first, woken_from, woken_if_there, ℕ, ◌<◌, ◌==◌, ◌∙◌, ◌∷◌}
 use Rattle.zl_code.proofs.Common.{◌≡◌, ◌≤◌, ◌⊎◌}
 use Rattle.zl_rights.specs.Wakes.{made_ready, woken}
-use Rattle.zl_rights.specs.declared.status.Status.TheVariants as status
 use Rattle.zl_code.specs.declared.history.Outcome.TheVariants as outcome
 use Rattle.zl_code.specs.CallTable.{close}
 use Rattle.zl_code.specs.Starting.{started_with}
@@ -334,8 +333,8 @@ module _ (p q : ℕ) (apart : (p == q) ≡ false) (lib : Library) (w : World) (x
         → CallBy lib w p s choice r answer w2 → Made q x w2
     call_made s Refused None answer w2 is c = absurd c
     call_made s Refused (Some o) answer w2 is c = rw c.1 (same_made _ (refused_other p q apart w s o))
-    call_made s WantsMemory None answer w2 is c = rw c.2 (same_made _ (refused_other p q apart w s (outcome.Answered status.NoMemory)))
-    call_made s WantsMemory (Some o) answer w2 is c = absurd c
+    call_made s (Wants want) None answer w2 is c = rw c.2 (same_made _ (refused_other p q apart w s (outcome.Answered want)))
+    call_made s (Wants want) (Some o) answer w2 is c = absurd c
     call_made s (Values vs) None answer w2 is c = rw c.2 (ok_made s vs (ok_outcome w p s.request) (done_made s.request vs is c.0))
     call_made s (Values vs) (Some o) answer w2 is c = absurd c
 

@@ -1,7 +1,7 @@
 -- Each process runs a program of the library, in every world of a run from a boot world.
 use Rattle.zl_code.proofs.Common.{Acts, AtCall, Awaited, Blocked, Body, Bool, Boots, CallBy, Choice, Ended, Entry, IsBoot, IsStuck, IsTrue, KILLED, Library}
 use Rattle.zl_code.proofs.Common.{List, Map, Moves, Next, None, Object, Option, Outcome, Packet, PacketAt, PortBody, Process, Ready, Refused, Request, Runs}
-use Rattle.zl_code.proofs.Common.{STUCK, Settles, SignalOf, Site, Some, State, Statement, Status, Step, TraceItem, Values, WantsMemory, World, [], active}
+use Rattle.zl_code.proofs.Common.{STUCK, Settles, SignalOf, Site, Some, State, Statement, Status, Step, TraceItem, Values, Wants, World, [], active}
 use Rattle.zl_code.proofs.Common.{after_ok, after_refusal, and_parts, answered, awaited_by, boot_effect, boot_fault, created_process, each, effect, ended}
 use Rattle.zl_code.proofs.Common.{entering_at, false, fired, fold, get, get-each, get-update, gives_ok, gives_refused, handles_given, has_key, if◌then◌else◌}
 use Rattle.zl_code.proofs.Common.{insert_all, is_some, is_within, listed, lives, made_ready, meets, next_for, none-some, not, not-false, ok_outcome}
@@ -130,8 +130,8 @@ module _ (lib : Library) where
           → HavePrograms lib w2
       called Refused None answer w2 is c = absurd c
       called Refused (Some o) answer w2 is c = rw c.1 (refused o)
-      called WantsMemory None answer w2 is c = rw c.2 (refused (outcome.Answered status.NoMemory))
-      called WantsMemory (Some o) answer w2 is c = absurd c
+      called (Wants want) None answer w2 is c = rw c.2 (refused (outcome.Answered want))
+      called (Wants want) (Some o) answer w2 is c = absurd c
       called (Values vs) None answer w2 is c = rw c.2 (passed vs (ok_outcome w p s.request) is)
       called (Values vs) (Some o) answer w2 is c = absurd c
 

@@ -1,6 +1,6 @@
 -- Each cause of each call, by computation in small worlds.
 use Rattle.zl_code.proofs.Common.{Action, CallInstr, Choice, Condition, DUPLICATE, Ended, IsTrue, Kind, None, Option, READABLE, Refused, SAME_RIGHTS, SIGNAL}
-use Rattle.zl_code.proofs.Common.{SIGNALED, Some, TERMINATED, Values, WantsMemory, World, [], active, and_parts, body_of, close, condition_number, dup}
+use Rattle.zl_code.proofs.Common.{SIGNALED, Some, TERMINATED, Values, Wants, World, [], active, and_parts, body_of, close, condition_number, dup}
 use Rattle.zl_code.proofs.Common.{effect, eqb-true, event_create, false, has_key, kind_of, may_choose, negsuc, ok_outcome, option_map, pos, process_exit}
 use Rattle.zl_code.proofs.Common.{refl, signal, table_of, true, ℕ, ◌+◌, ◌-◌, ◌==◌, ◌^◌, ◌∷◌, ◌≡◌}
 use Rattle.zl_rights.specs.declared.kind.Kind.TheVariants as kind
@@ -145,10 +145,15 @@ rows_of_dup :
     -- No copy gets a value above 65,535.
     × (may_choose (with_rights FIRST_RIGHTS) (with_rights FIRST_RIGHTS) 2 (dup 7 SIGNAL) (65536 ∷ []) ≡ false)
     -- Where memory is wanted, no handle is made.
-    × (told (turn (called name.Dup (0 ∷ 1 ∷ 2 ∷ []) SIGNAL) (with_rights FIRST_RIGHTS) WantsMemory)
+    × (told (turn (called name.Dup (0 ∷ 1 ∷ 2 ∷ []) SIGNAL) (with_rights FIRST_RIGHTS) (Wants status.NoMemory))
     ≡ Some (item.Call 2 name.Dup (outcome.Answered status.NoMemory), 4 ∷ 7 ∷ 0 ∷ 0 ∷ 0 ∷ 0 ∷ []))
+    -- The table may have no place.
+    × (told (turn (called name.Dup (0 ∷ 1 ∷ 2 ∷ []) SIGNAL) (with_rights FIRST_RIGHTS) (Wants status.NoResources))
+    ≡ Some (item.Call 2 name.Dup (outcome.Answered status.NoResources), 3 ∷ 7 ∷ 0 ∷ 0 ∷ 0 ∷ 0 ∷ []))
+    -- There is no other want.
+    × (told (turn (called name.Dup (0 ∷ 1 ∷ 2 ∷ []) SIGNAL) (with_rights FIRST_RIGHTS) (Wants status.BadState)) ≡ None)
 unfolding computing
-rows_of_dup = (refl, refl, refl, refl, refl, refl, refl, refl, refl, refl, refl, refl, refl, refl, refl, refl, refl, refl, refl, refl, refl)
+rows_of_dup = (refl, refl, refl, refl, refl, refl, refl, refl, refl, refl, refl, refl, refl, refl, refl, refl, refl, refl, refl, refl, refl, refl, refl)
 
 -- ---- event_create
 

@@ -1,7 +1,7 @@
 -- Each cause of replace and of the calls on channels, by computation in small worlds.
 use Rattle.zl_code.proofs.Common.{CallName, ChannelEnd, Choice, DUPLICATE, Entry, EventBody, JobBody, List, Map, Message, None, Object, Option, PEER_CLOSED}
 use Rattle.zl_code.proofs.Common.{Process, ProcessBody, READ, READABLE, Refused, SAME_RIGHTS, Site, Some, TRANSFER, Values, WRITABLE, WRITE, Wait}
-use Rattle.zl_code.proofs.Common.{WantsMemory, World, [], active, bit_or, body_of, chan_create, chan_read_etc, chan_write, condition_number, effect, false}
+use Rattle.zl_code.proofs.Common.{Wants, World, [], active, bit_or, body_of, chan_create, chan_read_etc, chan_write, condition_number, effect, false}
 use Rattle.zl_code.proofs.Common.{get, has_key, may_choose, negsuc, queue_in, refl, refusal, replace, replicate, rights_of, site, table_of, true, ℕ, ◌-◌, ◌^◌}
 use Rattle.zl_code.proofs.Common.{◌∷◌, ◌≡◌}
 use Rattle.std.specs.Prelude.{map}
@@ -156,10 +156,13 @@ rows_of_chan_create :
     -- They may be written to.
     × (active created 4 ≡ WRITABLE)
     -- Where memory is wanted, nothing is made.
-    × (told (turn name.ChanCreate creating bare WantsMemory)
+    × (told (turn name.ChanCreate creating bare (Wants status.NoMemory))
     ≡ Some (item.Call 2 name.ChanCreate (outcome.Answered status.NoMemory), 4 ∷ 0 ∷ 0 ∷ 0 ∷ 0 ∷ 0 ∷ []))
+    -- The table may have no place.
+    × (told (turn name.ChanCreate creating bare (Wants status.NoResources))
+    ≡ Some (item.Call 2 name.ChanCreate (outcome.Answered status.NoResources), 3 ∷ 0 ∷ 0 ∷ 0 ∷ 0 ∷ 0 ∷ []))
 unfolding computing
-rows_of_chan_create = (refl, refl, refl, refl, refl, refl, refl, refl, refl, refl, refl, refl, refl, refl)
+rows_of_chan_create = (refl, refl, refl, refl, refl, refl, refl, refl, refl, refl, refl, refl, refl, refl, refl)
 
 -- ---- chan_write
 
@@ -295,9 +298,15 @@ rows_of_chan_read_etc :
     -- The message stays then.
     × (queue_of_object (after sent (turn name.ChanReadEtc (reading 1) readable Refused)) 4 ≡ queue_of_object readable 4)
     -- Where memory is wanted no count is told, and the message stays.
-    × (told (turn name.ChanReadEtc (reading 2) readable WantsMemory)
+    × (told (turn name.ChanReadEtc (reading 2) readable (Wants status.NoMemory))
     ≡ Some (item.Call 2 name.ChanReadEtc (outcome.Answered status.NoMemory), 4 ∷ 0 ∷ 0 ∷ 0 ∷ 0 ∷ 0 ∷ []))
-    × (queue_of_object (after sent (turn name.ChanReadEtc (reading 2) readable WantsMemory)) 4 ≡ queue_of_object readable 4)
+    × (queue_of_object (after sent (turn name.ChanReadEtc (reading 2) readable (Wants status.NoMemory))) 4 ≡ queue_of_object readable 4)
+    -- The table may have no place for the handle, and the message stays.
+    × (told (turn name.ChanReadEtc (reading 2) readable (Wants status.NoResources))
+    ≡ Some (item.Call 2 name.ChanReadEtc (outcome.Answered status.NoResources), 3 ∷ 0 ∷ 0 ∷ 0 ∷ 0 ∷ 0 ∷ []))
+    × (queue_of_object (after sent (turn name.ChanReadEtc (reading 2) readable (Wants status.NoResources))) 4 ≡ queue_of_object readable 4)
+    -- A message without handles wants none.
+    × (told (turn name.ChanReadEtc (reading 2) read (Wants status.NoResources)) ≡ None)
     -- Both counts are told, and of the handle its value, the number of its kind and its rights.
     × (told (turn name.ChanReadEtc (reading 2) with_memory (Values (20 ∷ [])))
     ≡ Some (item.Call 2 name.ChanReadEtc (outcome.Answered status.Ok), 0 ∷ 2 ∷ 1 ∷ 20 ∷ 5 ∷ FIRST_RIGHTS ∷ []))
@@ -308,4 +317,5 @@ rows_of_chan_read_etc :
     -- The next message is the first now.
     × (queue_of_object read 4 ≡ message [] [] ∷ [])
 unfolding computing
-rows_of_chan_read_etc = (refl, refl, refl, refl, refl, refl, refl, refl, refl, refl, refl, refl, refl, refl, refl, refl, refl, refl, refl, refl)
+rows_of_chan_read_etc =
+    (refl, refl, refl, refl, refl, refl, refl, refl, refl, refl, refl, refl, refl, refl, refl, refl, refl, refl, refl, refl, refl, refl, refl)

@@ -1,6 +1,6 @@
 -- Each cause of the calls on jobs and processes, by computation in small worlds.
 use Rattle.zl_code.proofs.Common.{Action, Body, Bool, CallName, Choice, Condition, Created, Gone, JobBody, Library, MANAGE_PROCESS, Map, None, Outcome}
-use Rattle.zl_code.proofs.Common.{ProcessBody, Program, Request, Some, Values, WantsMemory, World, [], body_of, close, false, get, job_create, negsuc}
+use Rattle.zl_code.proofs.Common.{ProcessBody, Program, Request, Some, Values, Wants, World, [], body_of, close, false, get, job_create, negsuc}
 use Rattle.zl_code.proofs.Common.{process_create, refl, refusal, replicate, true, ℕ, ◌^◌, ◌∷◌, ◌≡◌}
 use Rattle.zl_rights.specs.Numbers.{MANAGE_JOB, default_rights_of, condition_number}
 use Rattle.zl_rights.specs.declared.kind.Kind.TheVariants as kind
@@ -67,7 +67,7 @@ rows_of_job_create :
     × (told (turn_of 2 name.JobCreate creating (beside_job (JobBody 1 2 [] false)) (Values (8 ∷ [])))
     ≡ Some (item.Call 2 name.JobCreate (outcome.Answered status.Ok), 0 ∷ 7 ∷ 8 ∷ 0 ∷ 0 ∷ 0 ∷ []))
     -- It may want memory.
-    × (told (turn_of 2 name.JobCreate creating (beside_job (JobBody 1 2 [] false)) WantsMemory)
+    × (told (turn_of 2 name.JobCreate creating (beside_job (JobBody 1 2 [] false)) (Wants status.NoMemory))
     ≡ Some (item.Call 2 name.JobCreate (outcome.Answered status.NoMemory), 4 ∷ 7 ∷ 0 ∷ 0 ∷ 0 ∷ 0 ∷ []))
 unfolding computing
 rows_of_job_create = (refl, refl, refl, refl, refl, refl, refl, refl, refl, refl, refl, refl, refl)
@@ -151,10 +151,13 @@ rows_of_process_create :
     × (told (turn_in name.ProcessCreate (making 0) (beside_job (JobBody 1 2 [] false)) (Values (8 ∷ [])))
     ≡ Some (item.Call 2 name.ProcessCreate (outcome.Answered status.Ok), 0 ∷ 7 ∷ 8 ∷ 0 ∷ 0 ∷ 0 ∷ []))
     -- It may want memory.
-    × (told (turn_in name.ProcessCreate (making 0) (beside_job (JobBody 1 2 [] false)) WantsMemory)
+    × (told (turn_in name.ProcessCreate (making 0) (beside_job (JobBody 1 2 [] false)) (Wants status.NoMemory))
     ≡ Some (item.Call 2 name.ProcessCreate (outcome.Answered status.NoMemory), 4 ∷ 7 ∷ 0 ∷ 0 ∷ 0 ∷ 0 ∷ []))
+    -- The table may have no place.
+    × (told (turn_in name.ProcessCreate (making 0) (beside_job (JobBody 1 2 [] false)) (Wants status.NoResources))
+    ≡ Some (item.Call 2 name.ProcessCreate (outcome.Answered status.NoResources), 3 ∷ 7 ∷ 0 ∷ 0 ∷ 0 ∷ 0 ∷ []))
 unfolding computing
-rows_of_process_create = (refl, refl, refl, refl, refl, refl, refl, refl, refl, refl, refl, refl, refl, refl, refl)
+rows_of_process_create = (refl, refl, refl, refl, refl, refl, refl, refl, refl, refl, refl, refl, refl, refl, refl, refl)
 
 -- the world after it
 abbrev with_created : World

@@ -1,6 +1,6 @@
 -- Event pairs, by computation in small worlds: each cause of their calls, what is active at their ends, and the statement.
 use Rattle.zl_code.proofs.Common.{false, Entry, EventBody, JobBody, Library, Map, None, Object, PEER_CLOSED, PairEnd, ProcessBody, SIGNALED, SIGNAL_PEER}
-use Rattle.zl_code.proofs.Common.{Site, Some, USER_SIGNALS, Values, WRITE, WantsMemory, World, [], active, boot_effect, boot_fault, chan_write}
+use Rattle.zl_code.proofs.Common.{Site, Some, USER_SIGNALS, Values, WRITE, Wants, World, [], active, boot_effect, boot_fault, chan_write}
 use Rattle.zl_code.proofs.Common.{condition_number}
 use Rattle.zl_code.proofs.Common.{eventpair_create, may_choose, negsuc, origin, refl, signal, signal_peer, site, table_of, ℕ, ◌+◌, ◌-◌, ◌^◌, ◌∷◌, ◌≡◌}
 use Rattle.zl_rights.specs.Numbers.{READABLE, SIGNAL, WRITABLE}
@@ -67,10 +67,13 @@ rows_of_eventpair_create :
     × (active created 4 ≡ 0)
     × (created.next_koid ≡ 6)
     -- Where memory is wanted, no handle is made.
-    × (told (turn_of 2 name.EventpairCreate creating bare WantsMemory)
+    × (told (turn_of 2 name.EventpairCreate creating bare (Wants status.NoMemory))
     ≡ Some (item.Call 2 name.EventpairCreate (outcome.Answered status.NoMemory), 4 ∷ 0 ∷ 0 ∷ 0 ∷ 0 ∷ 0 ∷ []))
+    -- The table may have no place.
+    × (told (turn_of 2 name.EventpairCreate creating bare (Wants status.NoResources))
+    ≡ Some (item.Call 2 name.EventpairCreate (outcome.Answered status.NoResources), 3 ∷ 0 ∷ 0 ∷ 0 ∷ 0 ∷ 0 ∷ []))
 unfolding computing
-rows_of_eventpair_create = (refl, refl, refl, refl, refl, refl, refl, refl, refl, refl, refl, refl, refl, refl, refl, refl)
+rows_of_eventpair_create = (refl, refl, refl, refl, refl, refl, refl, refl, refl, refl, refl, refl, refl, refl, refl, refl, refl)
 
 -- ---- signal and signal_peer
 

@@ -1,6 +1,6 @@
 -- Each cause of the calls on ports, by computation in small worlds.
 use Rattle.zl_code.proofs.Common.{Blocked, Entry, EventBody, JobBody, List, Map, None, Packet, PacketAt, PortBody, ProcessBody, READ, Ready, Refused, Some}
-use Rattle.zl_code.proofs.Common.{Values, WRITE, Wait, WantsMemory, World, [], body_of, condition_number, false, map, packets_in, port_cancel, port_create}
+use Rattle.zl_code.proofs.Common.{Values, WRITE, Wait, Wants, World, [], body_of, condition_number, false, map, packets_in, port_cancel, port_create}
 use Rattle.zl_code.proofs.Common.{port_poll, port_queue, port_wait, refl, replicate, table_of, user_packet, ℕ, ◌++◌, ◌+◌, ◌-◌, ◌^◌, ◌∷◌, ◌≡◌}
 use Rattle.std.specs.Prelude.{negsuc}
 use Rattle.zl_rights.specs.Numbers.{default_rights_of}
@@ -80,9 +80,9 @@ rows_of_port_create :
     -- No packet is there.
     × (body_of created 4 ≡ Some (PortBody []))
     -- Where memory is wanted, nothing is made.
-    × (told (turn_of 2 name.PortCreate creating bare WantsMemory)
+    × (told (turn_of 2 name.PortCreate creating bare (Wants status.NoMemory))
     ≡ Some (item.Call 2 name.PortCreate (outcome.Answered status.NoMemory), 4 ∷ 0 ∷ 3 ∷ 0 ∷ 0 ∷ 0 ∷ []))
-    × (body_of (after bare (turn_of 2 name.PortCreate creating bare WantsMemory)) 4 ≡ None)
+    × (body_of (after bare (turn_of 2 name.PortCreate creating bare (Wants status.NoMemory))) 4 ≡ None)
 unfolding computing
 rows_of_port_create = (refl, refl, refl, refl, refl, refl, refl, refl, refl, refl, refl)
 
@@ -116,9 +116,9 @@ rows_of_port_queue :
     (after bare (turn_of 2 name.PortQueue (queueing (2 ^ 64 - 1) (2 ^ 64 - 1)) (with_port port_and_event (signal_packet 8 3 5 ∷ [])) (Values [])))
     ≡ (1, 5, 8, 8) ∷ (0, 2 ^ 64 - 1, 2 ^ 64 - 1, 0) ∷ [])
     -- Where memory is wanted, none comes.
-    × (told (turn_of 2 name.PortQueue (queueing 1 1) (with_port port_and_event []) WantsMemory)
+    × (told (turn_of 2 name.PortQueue (queueing 1 1) (with_port port_and_event []) (Wants status.NoMemory))
     ≡ Some (item.Call 2 name.PortQueue (outcome.Answered status.NoMemory), 4 ∷ 2 ∷ 3 ∷ 4 ∷ 5 ∷ 6 ∷ []))
-    × (packets_there (after bare (turn_of 2 name.PortQueue (queueing 1 1) (with_port port_and_event []) WantsMemory)) ≡ [])
+    × (packets_there (after bare (turn_of 2 name.PortQueue (queueing 1 1) (with_port port_and_event []) (Wants status.NoMemory))) ≡ [])
 unfolding computing
 rows_of_port_queue = (refl, refl, refl, refl, refl, refl, refl, refl, refl, refl)
 

@@ -1,7 +1,7 @@
 -- Each cause and effect of the calls that start, kill and set policies, by computation in small worlds.
 use Rattle.zl_code.proofs.Common.{Blocked, Body, Bool, CallName, Choice, Created, DESTROY, Ended, Entry, EventBody, JobBody, Library, List, Map, None}
 use Rattle.zl_code.proofs.Common.{Outcome, Process, ProcessBody, Program, Ready, Refused, Request, SignalOf, Some, Start, State, TRANSFER, Values, WRITE}
-use Rattle.zl_code.proofs.Common.{WantsMemory, World, [], body_of, false, job_set_policy, negsuc, process_start, refl, refusal, replicate, task_kill, true, ℕ}
+use Rattle.zl_code.proofs.Common.{Wants, World, [], body_of, false, job_set_policy, negsuc, process_start, refl, refusal, replicate, task_kill, true, ℕ}
 use Rattle.zl_code.proofs.Common.{◌∷◌, ◌≡◌}
 use Rattle.zl_rights.specs.Numbers.{SET_POLICY, default_rights_of, condition_number, mode_number, action_number}
 use Rattle.zl_rights.specs.declared.kind.Kind.TheVariants as kind
@@ -140,11 +140,13 @@ rows_of_process_start_2 :
     -- Refused, the handle is gone too.
     × (entry_at (after created (turn_in name.ProcessStart (site (process_start 11 8 77) (1 ∷ []) (0 ∷ [])) created Refused)) 2 8 ≡ None)
     -- It may want memory; then the process isn't started.
-    × (told (turn_in name.ProcessStart (starting 8) created WantsMemory)
+    × (told (turn_in name.ProcessStart (starting 8) created (Wants status.NoMemory))
     ≡ Some (item.Call 2 name.ProcessStart (outcome.Answered status.NoMemory), 4 ∷ 0 ∷ 9 ∷ 0 ∷ 0 ∷ 0 ∷ []))
-    × (state_of (after created (turn_in name.ProcessStart (starting 8) created WantsMemory)) 5 ≡ Some Created)
+    × (state_of (after created (turn_in name.ProcessStart (starting 8) created (Wants status.NoMemory))) 5 ≡ Some Created)
+    -- Its table has a place for the handle.
+    × (told (turn_in name.ProcessStart (starting 8) created (Wants status.NoResources)) ≡ None)
 unfolding computing
-rows_of_process_start_2 = (refl, refl, refl, refl, refl, refl, refl, refl)
+rows_of_process_start_2 = (refl, refl, refl, refl, refl, refl, refl, refl, refl)
 
 -- ---- task_kill
 

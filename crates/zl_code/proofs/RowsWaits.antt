@@ -1,6 +1,6 @@
 -- Each cause of the calls that wait for signals, by computation in small worlds.
 use Rattle.zl_code.proofs.Common.{Blocked, ChannelEnd, Entry, EventBody, JobBody, List, Map, None, Object, PEER_CLOSED, Packet, PortBody, ProcessBody, READ}
-use Rattle.zl_code.proofs.Common.{Ready, Refused, SIGNALED, SignalOf, Some, Values, WAIT, WRITE, WantsMemory, World, [], body_of, close, false, map}
+use Rattle.zl_code.proofs.Common.{Ready, Refused, SIGNALED, SignalOf, Some, Values, WAIT, WRITE, Wants, World, [], body_of, close, false, map}
 use Rattle.zl_code.proofs.Common.{packets_in, port_wait, refl, signal, wait_async, wait_one, wait_poll, ℕ, ◌+◌, ◌-◌, ◌^◌, ◌∷◌, ◌≡◌}
 use Rattle.zl_rights.specs.Numbers.{SIGNAL}
 use Rattle.zl_rights.specs.declared.kind.Kind.TheVariants as kind
@@ -101,7 +101,7 @@ rows_of_wait_one :
     -- Who blocks later stands behind it.
     × (both_blocked.blocked ≡ 2 ∷ 7 ∷ [])
     -- It never wants memory.
-    × (turn_of 2 name.WaitOne (waiting_for SIGNALED) (with_raised four 8) WantsMemory ≡ None)
+    × (turn_of 2 name.WaitOne (waiting_for SIGNALED) (with_raised four 8) (Wants status.NoMemory) ≡ None)
 unfolding computing
 rows_of_wait_one = (refl, refl, refl, refl, refl, refl, refl, refl, refl, refl, refl, refl, refl, refl)
 
@@ -199,9 +199,9 @@ rows_of_wait_async :
     -- One is left.
     × (Passes (record (with_raised four 0) { waits_made = 2 ^ 62 - 1 }) (wait_async 7 9 (2 ^ 64 - 1) (2 ^ 32 - 1)))
     -- Where memory is wanted nothing is registered.
-    × (told (turn_of 2 name.WaitAsync (watching 7 5) (with_raised four 0) WantsMemory)
+    × (told (turn_of 2 name.WaitAsync (watching 7 5) (with_raised four 0) (Wants status.NoMemory))
     ≡ Some (item.Call 2 name.WaitAsync (outcome.Answered status.NoMemory), 4 ∷ 2 ∷ 3 ∷ 4 ∷ 5 ∷ 6 ∷ []))
-    × (waits_there (after watched (turn_of 2 name.WaitAsync (watching 7 5) (with_raised four 0) WantsMemory)) ≡ [])
+    × (waits_there (after watched (turn_of 2 name.WaitAsync (watching 7 5) (with_raised four 0) (Wants status.NoMemory))) ≡ [])
     -- Nothing is active yet: the wait is registered, and counted.
     × (told (turn_of 2 name.WaitAsync (watching 7 5) (with_raised four 0) (Values []))
     ≡ Some (item.Call 2 name.WaitAsync (outcome.Answered status.Ok), 0 ∷ 2 ∷ 3 ∷ 4 ∷ 5 ∷ 6 ∷ []))

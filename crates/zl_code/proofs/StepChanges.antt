@@ -3,7 +3,7 @@ use Rattle.zl_code.proofs.Common.{PairEnd, Action, Acts, All, All-cons, All-nil,
 use Rattle.zl_code.proofs.Common.{EventBody}
 use Rattle.zl_code.proofs.Common.{Grant, HasGivenKoids, IsSound, IsSoundWait, IsStuck, IsTrue, JobBody, Library, List, Map, Moves, Next, None, Object, Option}
 use Rattle.zl_code.proofs.Common.{Outcome, Packet, PacketAt, PortBody, Process, ProcessBody, Ready, Refused, SignalOf, Site, Some, StandsBelow, State}
-use Rattle.zl_code.proofs.Common.{Statement, Status, Step, TraceItem, Values, Wait, WantsMemory, World, [], active, after_ok, after_refusal, and_parts, ap}
+use Rattle.zl_code.proofs.Common.{Statement, Status, Step, TraceItem, Values, Wait, Wants, World, [], active, after_ok, after_refusal, and_parts, ap}
 use Rattle.zl_code.proofs.Common.{arith, awaited_by, body_in, body_of, body_with_policy, boot_effect, boot_fault, cases_Bool, cpu_answered, created_process}
 use Rattle.zl_code.proofs.Common.{eq-eqb, eqb-true, false, fired, fold, get, get-put, gives_ok, gives_refused, handle_given, handles_given, has_child}
 use Rattle.zl_code.proofs.Common.{has_default_rights, has_key, if◌then◌else◌, inl, inr, insert_all, is_by_handle, is_dead, is_deepest, is_job, is_job_body}
@@ -62,8 +62,8 @@ module _ (lib : Library) (w : World) (p : ℕ) (q : Process) (there : get w.proc
       → CallBy lib w p s choice r answer w2 → Changes w w w2
   call_changes s Refused None answer w2 is c = absurd c
   call_changes s Refused (Some o) answer w2 is c = rw c.1 (refused_changes s o)
-  call_changes s WantsMemory None answer w2 is c = rw c.2 (refused_changes s (outcome.Answered status.NoMemory))
-  call_changes s WantsMemory (Some o) answer w2 is c = absurd c
+  call_changes s (Wants want) None answer w2 is c = rw c.2 (refused_changes s (outcome.Answered want))
+  call_changes s (Wants want) (Some o) answer w2 is c = absurd c
   call_changes s (Values vs) None answer w2 is c = rw c.2 (ok_changes s vs (ok_outcome w p s.request) is c.0)
   call_changes s (Values vs) (Some o) answer w2 is c = absurd c
 

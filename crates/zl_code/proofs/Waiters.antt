@@ -1,10 +1,11 @@
 -- No call but wait_async, port_cancel and task_kill looks at registered waits or at blocked processes: it does the same whatever waits beside it.
 use Rattle.zl_code.proofs.Common.{Action, Bool, CallBy, Calls, Choice, Condition, Entry, Err, Kind, Library, List, None, Ok, Operand, Option, Outcome}
-use Rattle.zl_code.proofs.Common.{Refused, Request, Site, Some, Status, Values, Wait, WantsMemory, World, [], action_of, active, after_ok, after_refusal}
+use Rattle.zl_code.proofs.Common.{IsTrue, Refused, Request, Site, Some, Status, Values, Wait, Wants, World, [], action_of, active, after_ok, after_refusal}
 use Rattle.zl_code.proofs.Common.{answer_if, ap, awaited_by, bits, by_look_up, by_policy, chan_read_etc, choosing, close, condition_of, contains, copy_of}
 use Rattle.zl_code.proofs.Common.{creates, effect, ended, ends_caller, ends_if_kill, entering_at, entry_at, examined, false, faults, filter, first_some, get}
 use Rattle.zl_code.proofs.Common.{gets_all, gives_ok, gives_refused, handle_operands, handles_to, has_child_job, has_child_process, has_koids, has_room}
-use Rattle.zl_code.proofs.Common.{if◌then◌else◌, insert_all, is_empty, is_process, listed, may_choose, new_handles, not, ok_outcome, on_object, on_process}
+use Rattle.zl_code.proofs.Common.{if◌then◌else◌, insert_all, is_empty, is_process, listed, may_choose, may_want, new_handles, not, ok_outcome}
+use Rattle.zl_code.proofs.Common.{on_object, on_process}
 use Rattle.zl_code.proofs.Common.{operand, operand_after, operand_of, outcome_of, parent_of, port_cancel, process_with, process_without, receiver_of, refl}
 use Rattle.zl_code.proofs.Common.{refusal, remove_all, replace, replied, seen_after, stored_by, storing, sym, taken, taken_handles, takes, task_kill, true}
 use Rattle.zl_code.proofs.Common.{true≢false, unless_allowed, wait_async, wait_one, wait_poll, with_effect, with_object, within, ℕ, ℤ, ◌&&◌, ◌==◌, ◌∙◌, ◌∷◌}
@@ -76,6 +77,10 @@ module _ (lib : Library) (w : World) (p : ℕ) (ws : List Wait) (n : ℕ) (b : L
   unfolding new_handles
   choosing_same (close h) = refl
   choosing_same _ = refl
+
+  wants_same : (r : Request) (want : Status) → may_want among p r want ≡ may_want w p r want
+  wants_same (close h) want = refl
+  wants_same _ want = refl
 
   stored_same : (r : Request) → stored_by among p r ≡ stored_by w p r
   stored_same (close h) = refl
@@ -237,9 +242,11 @@ module _ (lib : Library) (w : World) (p : ℕ) where
   refused_waits ws (close h) o is = refl
   refused_waits ws r o is = refl
 
-  wanting_waits : (ws : List Wait) (r : Request) → waits_after r (outcome.Answered status.NoMemory) p ws ≡ ws
-  wanting_waits ws (replace h rights) = refl
-  wanting_waits ws _ = refl
+  wanting_waits : (ws : List Wait) (r : Request) (want : Status) → IsTrue (may_want w p r want) → waits_after r (outcome.Answered want) p ws ≡ ws
+  wanting_waits ws (replace h rights) status.Ok may = absurd (true≢false (sym may))
+  wanting_waits ws (replace h rights) want may = refl
+  wanting_waits ws (close h) want may = refl
+  wanting_waits ws _ want may = refl
 
   done_waits : (ws : List Wait) (r : Request) → waits_after r (ok_outcome w p r) p ws ≡ waits_left r p ws
   done_waits ws (replace h rights) = refl
@@ -289,14 +296,14 @@ module _ (lib : Library) (w : World) (p : ℕ) where
           ∙ (ap (λ xs. with_waiters (after_refusal w p s a) xs n (blocked_after a p b)) (refused_waits ws s.request a is)
           ∙ refused_among a (sym (ap is_blocking c.0) ∙ goes)),
     )
-    by_among WantsMemory None o w2 is goes c = (
-      c.0,
+    by_among (Wants want) None o w2 is goes c = (
+      wants_same lib w p ws n b s.request want ∙ c.0,
       c.1,
       (λ i. with_waiters (c.2 i) (waits_after s.request (c.1 i) p ws) n (blocked_after (c.1 i) p b))
-          ∙ (ap (λ xs. with_waiters (after_refusal w p s (outcome.Answered status.NoMemory)) xs n b) (wanting_waits ws s.request)
-          ∙ refused_among (outcome.Answered status.NoMemory) refl),
+          ∙ (ap (λ xs. with_waiters (after_refusal w p s (outcome.Answered want)) xs n b) (wanting_waits ws s.request want c.0)
+          ∙ refused_among (outcome.Answered want) refl),
     )
-    by_among WantsMemory (Some a) o w2 is goes c = absurd c
+    by_among (Wants want) (Some a) o w2 is goes c = absurd c
     by_among (Values vs) None o w2 is goes c = (
       sym (chosen_among vs) ∙ c.0,
       c.1 ∙ outcome_same,

@@ -18,7 +18,7 @@ pub use Rattle.zl_calls.proofs.Above.{done, none_filtered}
 pub use Rattle.zl_calls.specs.Steps.{TakesStep}
 pub use Rattle.zl_calls.specs.World.{Machine}
 pub use Rattle.zl_code.proofs.Changes.{times-other, times-same}
-pub use Rattle.zl_code.proofs.Common.{Body, CallBy, IsSound, Object, Packet, PortBody, Refused, Request, Settles, SignalOf, Site, Values, WantsMemory, active}
+pub use Rattle.zl_code.proofs.Common.{Body, CallBy, IsSound, Object, Packet, PortBody, Refused, Request, Settles, SignalOf, Site, Values, Wants, active}
 pub use Rattle.zl_code.proofs.Common.{after_ok, after_refusal, fold, get-each, get-put, get-update, meets, new_handles, option_map, process_settled}
 pub use Rattle.zl_code.proofs.Common.{process_with, process_without, refusal, state_without, taken, taken_handles, with_body, woken_at_port, woken_by}
 pub use Rattle.zl_code.proofs.Common.{woken_by_first, woken_from, woken_if_there}

@@ -1,6 +1,6 @@
 -- A process that a step makes isn't ready after it.
 use Rattle.zl_sched.proofs.Common.{Body, CallBy, Entry, Object, Outcome, Packet, PortBody, Refused, Request, Settles, SignalOf, Site, TraceItem, Values}
-use Rattle.zl_sched.proofs.Common.{WantsMemory, active, after_ok, after_refusal, created_process, effect, entering_at, fired, fold, get-each, get-put}
+use Rattle.zl_sched.proofs.Common.{Wants, active, after_ok, after_refusal, created_process, effect, entering_at, fired, fold, get-each, get-put}
 use Rattle.zl_sched.proofs.Common.{get-update, insert_all, made_ready, meets, new_handles, on_object, on_process, option_map, process_create, process_settled}
 use Rattle.zl_sched.proofs.Common.{process_start, process_with, process_without, receiver_of, refusal, remove_all, replied, state_without, stored_by, storing}
 use Rattle.zl_sched.proofs.Common.{taken, taken_handles, task_kill, wakes, with_body, with_object, without_others, woken_at_port, woken_by, woken_by_first}
@@ -127,8 +127,8 @@ module _ (q : ℕ) where
     fresh_called : (s : Site) (choice : Choice) (r : Option Outcome) (answer : Outcome) (w2 : World) → CallBy lib w p s choice r answer w2 → IsFresh w2
     fresh_called s Refused None answer w2 c = absurd c
     fresh_called s Refused (Some o) answer w2 c = rw c.1 (fresh_refused s o)
-    fresh_called s WantsMemory None answer w2 c = rw c.2 (fresh_refused s (outcome.Answered status.NoMemory))
-    fresh_called s WantsMemory (Some o) answer w2 c = absurd c
+    fresh_called s (Wants want) None answer w2 c = rw c.2 (fresh_refused s (outcome.Answered want))
+    fresh_called s (Wants want) (Some o) answer w2 c = absurd c
     fresh_called s (Values vs) None answer w2 c = rw c.2 (fresh_ok s vs (ok_outcome w p s.request))
     fresh_called s (Values vs) (Some o) answer w2 c = absurd c
 

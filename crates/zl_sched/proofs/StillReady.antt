@@ -1,7 +1,7 @@
 -- Where a step starts, kills and ends no process, and as many are blocked after it, all are as ready as before.
 use Rattle.zl_code.proofs.Common.{◌≡◌, ◌<◌, ◌≤◌, ◌+◌, ◌⊎◌, ℕ, Bool, true, false, not, ◌==◌, List, [], ◌∷◌, length, refl, ap, sym, ◌∙◌, subst, arith, cases_Bool}
 use Rattle.zl_sched.proofs.Common.{Body, CallBy, Entry, IsSound, Object, Outcome, Packet, PortBody, Refused, Request, Settles, SignalOf, Site, TraceItem}
-use Rattle.zl_sched.proofs.Common.{Values, WantsMemory, active, after_ok, after_refusal, created_process, effect, entering_at, fired, fold, get-each, get-put}
+use Rattle.zl_sched.proofs.Common.{Values, Wants, active, after_ok, after_refusal, created_process, effect, entering_at, fired, fold, get-each, get-put}
 use Rattle.zl_sched.proofs.Common.{get-update, insert_all, leaves_ready, length-filter_both, made_ready, meets, new_handles, on_object, on_process}
 use Rattle.zl_sched.proofs.Common.{option_map, process_create, process_settled, process_start, process_with, process_without, receiver_of, refusal}
 use Rattle.zl_sched.proofs.Common.{remove_all, replied, state_without, stored_by, storing, taken, taken_handles, task_kill, wakes, with_body, with_object}
@@ -198,8 +198,8 @@ module _ (lib : Library) (w : World) (p : ℕ) (free : get w.processes w.next_ko
       → CallBy lib w p s choice r (outcome.Answered answer) w2 → Left w2 w
   called_so s Refused None answer w2 left c = absurd c
   called_so s Refused (Some o) answer w2 left c = rw c.1 (subst (λ x. Left (after_refusal w p s x) w) c.0 (refused_so s answer))
-  called_so s WantsMemory None answer w2 left c = rw c.2 (refused_so s status.NoMemory)
-  called_so s WantsMemory (Some o) answer w2 left c = absurd c
+  called_so s (Wants want) None answer w2 left c = rw c.2 (refused_so s want)
+  called_so s (Wants want) (Some o) answer w2 left c = absurd c
   called_so s (Values vs) None answer w2 left c = rw c.2 (subst (λ x. Left (after_ok lib w p s vs x) w) c.1 (done_so s vs answer left))
   called_so s (Values vs) (Some o) answer w2 left c = absurd c
 

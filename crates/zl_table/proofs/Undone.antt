@@ -22,8 +22,8 @@ module _ {X : Type 0} where
   get_put m k v = rw (get-put m k v k, eq-eqb k k refl) refl
 
 -- a table of these parts
-same_table : (t u : Handles) → t.entries ≡ u.entries → t.last ≡ u.last → t ≡ u
-same_table t u entries last i = record { entries = entries i; last = last i }
+same_table : (t u : Handles) → t.entries ≡ u.entries → t.last ≡ u.last → t.offered ≡ u.offered → t ≡ u
+same_table t u entries last offered i = record { entries = entries i; last = last i; offered = offered i }
 
 -- an entry was removed, and the value removed last is written
 pub taken_back : (old removed : Handles) (value : ℕ) (told : Option ℕ) (entry : Entry) → Removes old value entry removed
@@ -33,7 +33,8 @@ taken_back old removed value told entry removes = record {
   table = λ before given inserts last.
       same_table (record removed { last = told }) before
       (removes.entries ∙ rw inserts.entries (without_put before.entries value given inserts.unused))
-      last;
+      last
+      (removes.offered ∙ inserts.offered);
 }
 
 -- nothing comes out only where no insertion was

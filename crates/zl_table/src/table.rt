@@ -1,13 +1,11 @@
-ghost use Rattle.std.specs.Prelude.{◌≡◌, ◌↔◌, ◌+◌, ◌<◌, IsTrue, [], length, IfOk, OnErr, IfErr, IfSome, IfNone};
+ghost use Rattle.std.specs.Prelude.{◌≡◌, ◌↔◌, ◌+◌, ◌<◌, ◌≤◌, IsTrue, [], length, IfOk, OnErr, IfErr, Some, IfSome, IfNone};
 ghost use Rattle.std.specs.Bool.{OnTrue, OnFalse};
-ghost use Rattle.std.specs.Ordering.{nat_cmp};
-ghost use Rattle.std.specs.FinMap.Entries.{is_sorted};
 ghost use Rattle.zl_rights.specs.Numbers.{bits, takes};
 ghost use Rattle.zl_rights.specs.Map.{get, has_key, update};
 ghost use Rattle.zl_rights.specs.LookUp.{looked_up};
-ghost use Rattle.zl_table.specs.Table.{CAPACITY, IsTable, Inserts, Removes, Undoes, TakesBack, Drains, refused_entry};
-ghost use Rattle.zl_table.specs.Places.{IsAt, IsGapFor, next_value};
+ghost use Rattle.zl_table.specs.Table.{CAPACITY, MOST_VALUE, IsFull, IsTable, Inserts, Removes, Undoes, TakesBack, Drains, refused_entry};
 
+use slab::Slab;
 use std::alloc::Global;
 use std::marker::Model;
 use zl_rights::{Entry, HValue, Kind, Rights, Status};
@@ -17,7 +15,7 @@ use zl_rights::{Entry, HValue, Kind, Rights, Status};
 /// Source: own profile.
 #[derive(Debug, Drop)]
 pub enum InsertFault {
-    /// The table holds `Table::CAPACITY` handles.
+    /// The table holds `Table::CAPACITY` handles, or the value that is offered is above 65,535.
     Full(Entry),
     /// There was no memory for one more handle.
     NoMemory(Entry),
@@ -28,39 +26,40 @@ pub enum InsertFault {
 /// Source: the page "Handles" of the Fuchsia documentation; which value a handle gets is own profile.
 #[derive(Drop)]
 pub struct Table {
-    // In rising order of values.
-    places: Vec<(HValue, Entry)>,
-    // The value freed most recently stands last. There is room for every value that was ever live,
-    // so that a removal takes no memory.
-    freed: Vec<HValue>,
+    // The value of a handle is its key plus 1.
+    slots: Slab<Entry>,
     last: Option<HValue>,
+    // Where a drain goes on, so that it reads no empty slot twice. Any number would do.
+    drained: usize,
 }
 
 impl Model for Table {
-    ghost use Rattle.std.specs.Prelude.{vec_capacity};
     ghost use Rattle.zl_table.specs.Table.{Handles};
-    ghost use Rattle.zl_table.specs.Places.{IsKept};
+    ghost use Rattle.zl_table.specs.Stored.{table_in, IsStored};
 
     ghost Value = { Handles };
 
-    ghost view = { λ t. record { entries = t.places.items; last = t.last } };
+    ghost view = { λ t. table_in t.slots t.last };
 
-    ghost invariant = { λ t. IsKept t.places.items t.freed.items (vec_capacity t.freed) t.last };
+    ghost invariant = { λ t. IsStored t.slots t.last };
 }
 
 impl Table {
     /// The most handles that a table holds (own profile).
     pub const CAPACITY: usize = 1024;
+    /// The greatest value of a handle (own profile).
+    const MOST_VALUE: usize = 65_535;
 
     /// A table with no handles. It takes no memory.
     pub fn new(alloc: Global) -> Table
         ensures entries { result.entries ≡ [] }
         ensures last { result.last ≡ None }
+        ensures offered { result.offered ≡ 1 }
     {
         Table {
-            places: Vec::new(alloc),
-            freed: Vec::new(alloc),
+            slots: Slab::new(alloc),
             last: None,
+            drained: 0,
         }
     }
 
@@ -68,26 +67,31 @@ impl Table {
     pub fn len(&self) -> usize
         ensures count { result ≡ length self.now.entries }
         // What is public of the invariant: callers learn it here of any table.
-        ensures table { IsTable self.now }
+        ensures table { IsTable self.now.entries }
     {
-        self.places.len()
+        self.slots.len()
     }
 
     /// Whether the table holds no handle.
     pub fn is_empty(&self) -> bool
         ensures { IsTrue result ↔ (self.now.entries ≡ []) }
     {
-        self.places.is_empty()
+        self.slots.is_empty()
     }
 
     /// The entry at the value, or nothing where the value isn't live.
     pub fn get(&self, value: HValue) -> Option<Entry>
         ensures { result ≡ get self.now.entries value }
     {
-        match place_of(&self.places, value) {
-            Ok(place) => Some(self.places[place].1),
-            Err(_) => None,
-        }
+        self.slots.get(key_of(value)).copied()
+    }
+
+    /// The entry at the value, which is live. It takes no memory.
+    pub fn entry(&self, value: HValue) -> Entry
+        requires live { IsTrue (has_key self.now.entries value) }
+        ensures { get self.now.entries value ≡ Some result }
+    {
+        self.slots[key_of(value)]
     }
 
     /// The entry at the value, if it is of one of the kinds and has the rights. No kinds stand for
@@ -112,40 +116,31 @@ impl Table {
     }
 
     /// Gives the entry a value that isn't live: the value removed last, if nothing was inserted
-    /// since, and else the one freed most recently, or a fresh one. Which of all unused values it
-    /// then is no clause says.
+    /// since, and else the one freed most recently, or a fresh one.
     ///
-    /// `Full` where the table holds `CAPACITY` handles, and `NoMemory` where there is no memory.
-    /// `Full` comes at no other time (`full_only`), which is true of this representation alone: callers
-    /// use only that it comes at `CAPACITY` handles (`full`).
+    /// `Full` where the table holds `CAPACITY` handles, or where the value that is offered is above
+    /// 65,535, and at no other time; `NoMemory` where there is no memory. Directly after a removal only
+    /// a table of `CAPACITY` handles is full, and a new one never is.
     ///
     /// Source: own profile.
     pub fn insert(&mut self, entry: Entry) -> Result<HValue, InsertFault>
         ensures ok { IfOk result (λ value. Inserts self.old entry value self.new) }
         ensures unchanged { OnErr result (self.new ≡ self.old) }
         ensures handed_back { IfErr result (λ fault. refused_entry fault ≡ entry) }
-        ensures full { length self.old.entries ≡ CAPACITY → result ≡ Err (InsertFault.Full entry) }
-        ensures full_only { result ≡ Err (InsertFault.Full entry)
-            → length self.old.entries ≡ CAPACITY }
+        ensures full { IsFull self.old → result ≡ Err (InsertFault.Full entry) }
+        ensures full_only { result ≡ Err (InsertFault.Full entry) → IsFull self.old }
     {
-        let live = self.places.len();
-        if live == Table::CAPACITY {
+        let key = self.slots.vacant_key();
+        if self.slots.len() == Table::CAPACITY || key >= Table::MOST_VALUE {
             return Err(InsertFault::Full(entry));
         }
-        // Room for every value to be freed again, so that no removal needs memory.
-        if self.freed.reserve(live + 1).is_err() {
-            return Err(InsertFault::NoMemory(entry));
+        match self.slots.insert(entry) {
+            Ok(_) => {
+                self.last = None;
+                Ok(key as u32 + 1)
+            }
+            Err(failed) => Err(InsertFault::NoMemory(failed.value)),
         }
-        let value = value_to_give(live, &self.freed);
-        let Err(place) = place_of(&self.places, value) else {
-            unreachable!()
-        };
-        if self.places.insert(place, (value, entry)).is_err() {
-            return Err(InsertFault::NoMemory(entry));
-        }
-        self.freed.pop();
-        self.last = None;
-        Ok(value)
     }
 
     /// Takes the entry at the value out, if the value is live. It takes no memory.
@@ -156,12 +151,7 @@ impl Table {
         ensures missing { IfNone result (get self.old.entries value ≡ None) }
         ensures unchanged { IfNone result (self.new ≡ self.old) }
     {
-        let Ok(place) = place_of(&self.places, value) else {
-            return None;
-        };
-        let (_, entry) = self.places.remove(place);
-        // `insert` made room for it.
-        self.freed.push(value).unwrap();
+        let entry = self.slots.try_remove(key_of(value))?;
         self.last = Some(value);
         Some(entry)
     }
@@ -171,7 +161,10 @@ impl Table {
     ///
     /// Source: own profile.
     pub fn last(&self) -> Option<HValue>
-        ensures { result ≡ self.now.last }
+        ensures last { result ≡ self.now.last }
+        // It is what the next insertion gets.
+        ensures offered { IfSome result (λ value.
+            (value ≡ self.now.offered) × (value ≤ MOST_VALUE)) }
     {
         self.last
     }
@@ -207,16 +200,16 @@ impl Table {
         ensures last { OnTrue result (self.new.last ≡ None) }
         ensures unchanged { OnFalse result (self.new ≡ self.old) }
     {
-        let Ok(place) = place_of(&self.places, value) else {
+        let Some(entry) = self.slots.get_mut(key_of(value)) else {
             return false;
         };
-        self.places[place].1.rights = rights;
+        entry.rights = rights;
         self.last = None;
         true
     }
 
-    /// Takes one entry out, whichever it is, or nothing where the table is empty. No memory is
-    /// taken.
+    /// Takes one entry out, whichever it is, or nothing where the table is empty. It takes no memory,
+    /// and one call after another takes time for the values that there were, whichever are left.
     ///
     /// Source: own profile.
     pub fn drain(&mut self) -> Option<Entry>
@@ -224,8 +217,25 @@ impl Table {
         ensures empty { IfNone result (self.old.entries ≡ []) }
         ensures unchanged { IfNone result (self.new ≡ self.old) }
     {
-        let (value, _) = *self.places.last()?;
-        self.remove(value)
+        let key = self.next_key()?;
+        self.drained = key + 1;
+        self.remove(key as u32 + 1)
+    }
+
+    /// A key at which an entry stands: the first where a drain goes on, if there is one, and else the
+    /// first of all.
+    fn next_key(&self) -> Option<usize>
+        ensures live { IfSome result (λ key. IsTrue (has_key self.now.entries (key + 1))) }
+        ensures low { IfSome result (λ key. key < MOST_VALUE) }
+        ensures empty { IfNone result (self.now.entries ≡ []) }
+    {
+        for key in self.drained..self.slots.capacity() {
+            if self.slots.contains(key) {
+                return Some(key);
+            }
+        }
+        let (key, _) = self.slots.iter().next()?;
+        Some(key)
     }
 }
 
@@ -236,20 +246,13 @@ fn is_asked_for(kinds: &[Kind], kind: Kind) -> bool
     kinds.is_empty() || kinds.contains(&kind)
 }
 
-/// The value that the next insertion gets.
-fn value_to_give(live: usize, freed: &[HValue]) -> HValue
-    requires { live < CAPACITY }
-    ensures { result ≡ next_value live freed.now }
+/// The key of the value; for 0, which is no value, one above all keys of handles.
+fn key_of(value: HValue) -> usize
+    ensures above { 0 < value → result + 1 ≡ value }
+    ensures zero { value ≡ 0 → MOST_VALUE ≤ result }
 {
-    let fresh = live as u32 + 1;
-    freed.last().copied().unwrap_or(fresh)
-}
-
-/// The place of the value, or where it would go.
-fn place_of(places: &[(HValue, Entry)], value: HValue) -> Result<usize, usize>
-    requires { IsTrue (is_sorted nat_cmp places.now) }
-    ensures found { IfOk result (IsAt places.now value) }
-    ensures missing { IfErr result (IsGapFor places.now value) }
-{
-    places.binary_search_by_key(&value, |&(key, _)| key)
+    match value.checked_sub(1) {
+        Some(key) => key as usize,
+        None => Table::MOST_VALUE,
+    }
 }

@@ -2,7 +2,7 @@
 ghost use Rattle.std.specs.Prelude.{◌≡◌, ◌≢◌, IfOk, IfErr, true, false, ℕ};
 ghost use Rattle.zl_code.specs.declared.boot.BootCause.TheVariants.{NoMemory};
 ghost use Rattle.zl_code.specs.declared.boot.BootFault.{BootFault as BootFaultValue};
-ghost use Rattle.zl_code.specs.Boot.{FirstFault};
+ghost use Rattle.zl_code.specs.Boot.{BootRefusal};
 ghost use Rattle.zl_code.specs.Steps.{pid_of};
 ghost use Rattle.zl_calls.specs.Makes.{IsReached};
 ghost use Rattle.zl_calls.specs.Steps.{StepsTo};
@@ -21,7 +21,7 @@ use zl_rights::Pid;
 /// `Boot` has the fault of the statements. `At` names the first item, from 1, that the lab's own steps
 /// don't give: its process isn't ready, or its own step has another item; or it is one past
 /// `Boot::MOST_ITEMS`. That isn't to say that no step has it. A call for which the lab has memory may
-/// also be answered `NoMemory`; and as a step may give any unused value to a new handle, a trace with
+/// also be answered `NoMemory`, and one that makes handles `NoResources`; and as a step may give any unused value to a new handle, a trace with
 /// another choice may differ from the first exit that tells of such a value on. The clause says of the
 /// other item only that some step of the process has it. What was handed in is then gone.
 ///
@@ -37,7 +37,7 @@ pub fn replay(
     ensures at { IfErr result (λ fault. (n : ℕ) → fault ≡ ReplayFault.At n
         → DiffersAt library boot.statements.items boot.limit items.now n) }
     ensures boot { IfErr result (λ fault. (lost : BootFaultValue) → fault ≡ ReplayFault.Boot lost
-        → lost.cause ≢ NoMemory → FirstFault library boot.statements.items boot.limit
+        → lost.cause ≢ NoMemory → BootRefusal library boot.statements.items boot.limit
         lost.statement lost.cause) }
     ensures reached { IfErr result (λ fault. (lost : BootFaultValue)
         → fault ≡ ReplayFault.Boot lost → lost.cause ≡ NoMemory

@@ -37,7 +37,7 @@ use Rattle.zl_code.specs.Boot.{are_declared}
 use Rattle.zl_code.specs.Refusals.{refusal, handle_operands, condition_of}
 use Rattle.zl_code.specs.CallTable.{Request, process_start, listed, effect, new_handles, gives_ok}
 use Rattle.zl_code.specs.Request.{Site, site}
-use Rattle.zl_code.specs.Calls.{Calls, CallBy, Choice, Refused, WantsMemory, Values, taken_handles, taken, may_choose, replied, with_effect}
+use Rattle.zl_code.specs.Calls.{Calls, CallBy, Choice, Refused, Wants, Values, may_want, taken_handles, taken, may_choose, replied, with_effect}
 use Rattle.zl_code.specs.Steps.{AtCall, Acts, Runs, next_in, pid_of}
 use Rattle.zl_code.specs.Sound.{IsSound}
 use Rattle.zl_code.specs.Headline.{IsSizedBoot, StartsChild, IsStarted}
@@ -242,8 +242,11 @@ module _ (lib : Library) (w : World) (p : ℕ) (caller : Process) (there : get w
   unfolding gives_ok
   by_choice Refused None is ok u c = absurd c
   by_choice Refused (Some o) is ok u c = let bad : true ≡ false = subst (λ y. IsNotOk (Some y)) (sym c.0) ok in cc
-  by_choice WantsMemory None is ok u c = let bad = c.1 in cc
-  by_choice WantsMemory (Some o) is ok u c = absurd c
+  by_choice (Wants want) None is ok u c =
+      let ends = c.1 in
+      let same : want ≡ status.Ok = cc in
+      let bad : false ≡ true = subst (λ x. may_want w p (process_start process h word) x ≡ true) same c.0 in cc
+  by_choice (Wants want) (Some o) is ok u c = absurd c
   by_choice (Values vs) None is ok u c = started is vs c.0 u c.2
   by_choice (Values vs) (Some o) is ok u c = absurd c
 

@@ -29,7 +29,7 @@ use Rattle.zl_code.specs.CallTable.{Request, process_start, process_create, task
 use Rattle.zl_code.specs.CallTable.{new_handles, receiver_of, entering_at, stored_by, gives_ok}
 use Rattle.zl_code.specs.CallTable.{gives_refused, awaited_by}
 use Rattle.zl_code.specs.Request.{Site}
-use Rattle.zl_code.specs.Calls.{Choice, Refused, WantsMemory, Values, CallBy, taken_handles, taken, replied, with_effect, after_refusal, after_ok, ok_outcome}
+use Rattle.zl_code.specs.Calls.{Choice, Refused, Wants, Values, CallBy, taken_handles, taken, replied, with_effect, after_refusal, after_ok, ok_outcome}
 use Rattle.zl_code.specs.Steps.{Next, Moves, AtCall, IsStuck, next_in, next_for, Acts, Step}
 use Rattle.zl_code.specs.Headline.{StartsChild}
 use Rattle.zl_code.proofs.CallRows.{asks_again}
@@ -206,8 +206,8 @@ module _ (p q : ℕ) (apart : (p == q) ≡ false) (lib : Library) (w : World) wh
           → CallBy lib w p t choice r answer w2 → IsIdle w2 q ⊎ IsStart answer
       when_called Refused None is answer w2 h = absurd h
       when_called Refused (Some o) is answer w2 h = rw h.1 (inl (when_refused t o))
-      when_called WantsMemory None is answer w2 h = rw h.2 (inl (when_refused t (outcome.Answered status.NoMemory)))
-      when_called WantsMemory (Some o) is answer w2 h = absurd h
+      when_called (Wants want) None is answer w2 h = rw h.2 (inl (when_refused t (outcome.Answered want)))
+      when_called (Wants want) (Some o) is answer w2 h = absurd h
       when_called (Values vs) None is answer w2 h = by (when_ok vs (ok_outcome w p t.request))
         where
           by : Idles t.request (after_ok lib w p t vs (ok_outcome w p t.request)) → IsIdle w2 q ⊎ IsStart answer

@@ -25,7 +25,7 @@ use Rattle.zl_code.specs.Sound.{IsSound}
 use Rattle.zl_code.specs.CallTable.{Request, process_create, process_start, task_kill, effect, new_handles, receiver_of, entering_at, stored_by, gives_ok}
 use Rattle.zl_code.specs.CallTable.{gives_refused, awaited_by}
 use Rattle.zl_code.specs.Request.{Site}
-use Rattle.zl_code.specs.Calls.{Choice, Refused, WantsMemory, Values, CallBy, taken_handles, taken, replied, with_effect, after_refusal, after_ok, ok_outcome}
+use Rattle.zl_code.specs.Calls.{Choice, Refused, Wants, Values, CallBy, taken_handles, taken, replied, with_effect, after_refusal, after_ok, ok_outcome}
 use Rattle.zl_code.specs.Steps.{Next, Moves, AtCall, IsStuck, next_for, Acts, Step}
 use Rattle.zl_code.proofs.Entering.{left_behind}
 use Rattle.zl_abs.specs.States.{State}
@@ -165,8 +165,8 @@ module _ (lib : Library) (w : World) (p : ℕ) (caller : Process) (there : get w
         → LeavesOthers w2
     when_called Refused None is answer w2 h = absurd h
     when_called Refused (Some o) is answer w2 h = rw h.1 (when_refused t o)
-    when_called WantsMemory None is answer w2 h = rw h.2 (when_refused t (outcome.Answered status.NoMemory))
-    when_called WantsMemory (Some o) is answer w2 h = absurd h
+    when_called (Wants want) None is answer w2 h = rw h.2 (when_refused t (outcome.Answered want))
+    when_called (Wants want) (Some o) is answer w2 h = absurd h
     when_called (Values vs) None is answer w2 h = rw h.2 (when_ok is vs (ok_outcome w p t.request))
     when_called (Values vs) (Some o) is answer w2 h = absurd h
 

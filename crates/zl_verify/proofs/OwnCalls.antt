@@ -3,6 +3,7 @@ use Rattle.std.proofs.Common.{◌≡◌, ℕ, ◌+◌, ◌⊎◌, Bool, true, fa
 use Rattle.std.proofs.Common.{inr, arith, slice_index}
 use Rattle.std.specs.Prelude.{if◌then◌else◌, is_some, ℤ}
 use Rattle.std.specs.Bool.{then_some}
+use Rattle.std.proofs.lemmas.Bool.{false≢true}
 use Rattle.std.proofs.lemmas.Option.{same_Some}
 use Rattle.zl_rights.specs.Common.{answered, get, lives, World, Cpu, Process, Blocked}
 use Rattle.zl_rights.specs.World.{Awaited, SignalOf, Packet}
@@ -29,7 +30,8 @@ use Rattle.zl_code.specs.CallTable.{outcome_of}
 use Rattle.zl_code.specs.Jobs.{is_within}
 use Rattle.zl_code.specs.Refusals.{condition_of, handle_operands, refusal}
 use Rattle.zl_code.specs.Request.{Site, site, site_of}
-use Rattle.zl_code.specs.Calls.{Calls, CallBy, Choice, Refused, WantsMemory, Values, taken_handles, may_choose, taken, cpu_answered, replied, with_effect}
+use Rattle.zl_code.specs.Calls.{Calls, CallBy, Choice, Refused, Wants, Values, may_want, wanted, taken_handles, may_choose, taken, cpu_answered}
+use Rattle.zl_code.specs.Calls.{replied, with_effect}
 use Rattle.zl_code.specs.Calls.{after_refusal, after_ok}
 use Rattle.zl_code.specs.Headline.{is_fault}
 use Rattle.zl_code.proofs.CallRows.{asks_again}
@@ -82,7 +84,12 @@ only_exits : (lib : Library) (w : World) (p n : ℕ) (cs ds : List ℕ) (answer 
     → answer ≡ outcome.Ended (signed_word n)
 unfolding refusal handle_operands examined listed
 only_exits lib w p n cs ds answer w2 (Refused, h) = absurd h
-only_exits lib w p n cs ds answer w2 (WantsMemory, h) = cc
+only_exits lib w p n cs ds answer w2 (Wants want, h) = absurd (no_want want h.0)
+  where
+    no_want : (a : Status) → wanted false false a ≡ true → ⊥
+    no_want status.NoMemory e = false≢true e
+    no_want status.NoResources e = false≢true e
+    no_want _ e = false≢true e
 only_exits lib w p n cs ds answer w2 (Values vs, h) = h.1
 
 -- a call that waits stands at a wait of the kind
@@ -257,6 +264,12 @@ module _ (i : Image) (t : ℕ → Option State) (w : World) (p : ℕ) (q : Proce
     by_refusal outcome.Blocked h = absurd h
     by_refusal (outcome.Ended code) h = absurd h
 
+    -- a want is no fault
+    by_want : (want : Status) → IsTrue (may_want w p s.request want) → Ends (outcome.Answered want) (after_refusal w p s (outcome.Answered want))
+    by_want status.NoMemory may = (refl, after_refused status.NoMemory refl)
+    by_want status.NoResources may = (refl, after_refused status.NoResources refl)
+    by_want _ may = absurd (false≢true may)
+
     -- it ends its caller, or is answered
     by_ending : refusal lib w p s.request ≡ None → (vs : List ℕ) → may_choose w (taken w p s) p s.request vs ≡ true → (e : Option ℤ)
         → ends_caller w p s.request ≡ e → Ends (outcome_of None e) (after_ok lib w p s vs (outcome_of None e))
@@ -294,8 +307,8 @@ module _ (i : Image) (t : ℕ → Option State) (w : World) (p : ℕ) (q : Proce
         → CallBy lib w p s choice r answer w2 → Ends answer w2
     by_choice Refused None none o answer w2 h = absurd h
     by_choice Refused (Some x) none o answer w2 (is, same) = rw (is, same) (by_refusal x o)
-    by_choice WantsMemory None none o answer w2 (grows, is, same) = rw (is, same) (refl, after_refused status.NoMemory refl)
-    by_choice WantsMemory (Some x) none o answer w2 h = absurd h
+    by_choice (Wants want) None none o answer w2 (may, is, same) = rw (is, same) (by_want want may)
+    by_choice (Wants want) (Some x) none o answer w2 h = absurd h
     by_choice (Values vs) None none o answer w2 (may, is, same) = rw (is, same) (by_waiting none vs may (awaited_by w p s.request) refl)
     by_choice (Values vs) (Some x) none o answer w2 h = absurd h
 

@@ -19,7 +19,7 @@ use Rattle.zl_code.specs.Effects.{on_process, process_ended, ended}
 use Rattle.zl_code.specs.Request.{Site}
 use Rattle.zl_code.specs.CallTable.{awaited_by, ends_caller, outcome_of}
 use Rattle.zl_code.specs.Refusals.{refusal}
-use Rattle.zl_code.specs.Calls.{Calls, CallBy, Choice, Refused, WantsMemory, Values, taken, taken_handles, with_effect, ok_outcome, after_ok}
+use Rattle.zl_code.specs.Calls.{Calls, CallBy, Choice, Refused, Wants, Values, taken, taken_handles, with_effect, ok_outcome, after_ok}
 use Rattle.zl_code.specs.Steps.{Next, Moves, AtCall, IsStuck, next_at, next_in, Acts, pid_of}
 use Rattle.zl_code.specs.Sound.{IsSound}
 use Rattle.zl_code.specs.Headline.{MayEnd, is_pause_name, executed}
@@ -194,8 +194,8 @@ module _ (lib : Library) (i : Image) (t : ℕ → Option State) (range : is_in_r
       exited code Refused (Some (outcome.Answered answer)) c = let bad = c.0 in cc
       exited code Refused (Some outcome.Blocked) c = let bad = c.0 in cc
       exited code Refused (Some (outcome.Ended other)) c = subst (λ v. HasEnded v p) (sym c.1) (ended_there w p own b.step.is_there (inl b.step.is_ready) other)
-      exited code WantsMemory None c = let bad = c.1 in cc
-      exited code WantsMemory (Some o) c = absurd c
+      exited code (Wants want) None c = let bad = c.1 in cc
+      exited code (Wants want) (Some o) c = absurd c
       exited code (Values vs) None c = subst (λ v. HasEnded v p) (sym (c.2 ∙ ap (after_ok lib w p s vs) (sym c.1))) (exited_at vs code (sym c.1))
       exited code (Values vs) (Some o) c = absurd c
 

@@ -39,7 +39,7 @@ use Rattle.zl_code.specs.CallTable.{gives_refused, awaited_by}
 use Rattle.zl_code.specs.Refusals.{refusal}
 use Rattle.zl_code.specs.Request.{Site, site_of}
 use Rattle.zl_code.specs.Calls.{taken_handles, may_choose, taken, cpu_answered, replied, with_effect, after_refusal, after_ok, ok_outcome, CallBy, Choice}
-use Rattle.zl_code.specs.Calls.{Refused, WantsMemory, Values, Calls}
+use Rattle.zl_code.specs.Calls.{Refused, Wants, Values, Calls}
 use Rattle.zl_code.specs.Sound.{IsSound, IsSoundTable, is_value}
 use Rattle.zl_code.proofs.Entering.{get_without, gone_without}
 use Rattle.zl_code.proofs.MapKept.{Each}
@@ -369,8 +369,8 @@ module _ (lib : Library) (w : World) (p : ℕ) (sound : IsSound w) (s : IsSized 
       → CallBy lib w p t choice r answer w2 → IsSized w2
   by_choice Refused None is answer w2 c = absurd c
   by_choice Refused (Some o) is answer w2 c = rw c.1 (refused_sized o)
-  by_choice WantsMemory None is answer w2 c = rw c.2 (refused_sized (outcome.Answered status.NoMemory))
-  by_choice WantsMemory (Some o) is answer w2 c = absurd c
+  by_choice (Wants want) None is answer w2 c = rw c.2 (refused_sized (outcome.Answered want))
+  by_choice (Wants want) (Some o) is answer w2 c = absurd c
   by_choice (Values vs) None is answer w2 c = rw c.2 (ok_sized is vs c.0 (ok_outcome w p t.request))
   by_choice (Values vs) (Some o) is answer w2 c = absurd c
 

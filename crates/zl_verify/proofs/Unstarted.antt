@@ -24,7 +24,7 @@ use Rattle.zl_code.specs.Refusals.{refusal}
 use Rattle.zl_code.specs.CallTable.{Request, process_create, process_start, task_kill, effect, new_handles, receiver_of, entering_at, stored_by, gives_ok}
 use Rattle.zl_code.specs.CallTable.{gives_refused, awaited_by, ends_caller}
 use Rattle.zl_code.specs.Request.{Site}
-use Rattle.zl_code.specs.Calls.{Choice, Refused, WantsMemory, Values, CallBy, taken_handles, taken, cpu_answered, replied, with_effect, after_refusal, after_ok}
+use Rattle.zl_code.specs.Calls.{Choice, Refused, Wants, Values, CallBy, taken_handles, taken, cpu_answered, replied, with_effect, after_refusal, after_ok}
 use Rattle.zl_code.specs.Calls.{ok_outcome}
 use Rattle.zl_code.specs.Steps.{Next, Moves, AtCall, IsStuck, Acts}
 use Rattle.zl_code.proofs.Entering.{left_behind}
@@ -262,8 +262,8 @@ module _ (lib : Library) (w : World) (p : ℕ) (caller : Process) (there : get w
         → CallBy lib w p t choice r answer w2 → AllCome w2
     when_called Refused None is answer w2 h = absurd h
     when_called Refused (Some o) is answer w2 h = rw h.1 (when_refused t o)
-    when_called WantsMemory None is answer w2 h = rw h.2 (when_refused t (outcome.Answered status.NoMemory))
-    when_called WantsMemory (Some o) is answer w2 h = absurd h
+    when_called (Wants want) None is answer w2 h = rw h.2 (when_refused t (outcome.Answered want))
+    when_called (Wants want) (Some o) is answer w2 h = absurd h
     when_called (Values vs) None is answer w2 h = rw h.2 (when_ok is vs (ok_outcome w p t.request))
     when_called (Values vs) (Some o) is answer w2 h = absurd h
 

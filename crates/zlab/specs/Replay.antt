@@ -2,7 +2,7 @@
 use Rattle.std.specs.Prelude.{ℕ, ◌≡◌, ◌<◌, ◌≤◌, ◌+◌, List, ◌++◌, codes, length, take, Option, Some, None, slice_index_or}
 use Rattle.std.specs.Fmt.{decimal}
 use Rattle.std.specs.Io.KnownBytes.{Appends}
-use Rattle.zl_code.specs.Common.{World, IsBoot, FirstFault, Library, IsLegalHistory}
+use Rattle.zl_code.specs.Common.{World, IsBoot, BootRefusal, Library, IsLegalHistory}
 use Rattle.zl_code.specs.declared.boot.BootCause.{BootCause}
 use Rattle.zl_code.specs.declared.boot.Statement.{Statement}
 use Rattle.zl_code.specs.declared.history.TraceItem.{TraceItem}
@@ -137,11 +137,11 @@ pub data BeginsReplay (told told_trace old : Option (List ℕ)) : Option (List �
 
 -- ---- what the parts of the engine do
 
--- a statement has this fault, and stands in this line
+-- a boot is refused for this fault at a statement, which stands in this line
 pub record IsStatementFault (library : Library) (statements : List Statement) (limit : ℕ) (lines : List ℕ) (fault : LineFault) : Type 0 where
   pub number : ℕ
   pub found : BootCause
-  pub first : FirstFault library statements limit number found
+  pub first : BootRefusal library statements limit number found
   pub named : line_cause found ≡ Some fault.cause
   pub line : fault.line ≡ slice_index_or lines number 0
 

@@ -108,7 +108,7 @@ registers_more (x ∷ vs) v registers =
 
 -- ---- one handle after another
 
-pub bare_table : IsTable (record { entries = []; last = None })
+pub bare_table : IsTable []
 unfolding get
 bare_table = record { sorted = refl; few = omega arith; values = λ value there. absurd (false≢true there) }
 
@@ -120,8 +120,9 @@ none_given old p making bare = record {
   chosen = refl;
   pid = refl;
   is = refl;
-  table = rw (bare.no_handles, bare.none_removed) bare_table;
+  table = rw bare.no_handles bare_table;
   few = rw bare.no_handles (omega arith);
+  untouched = λ none. refl;
   named = λ v e at. absurd (none-some e (rw bare.no_handles at at));
   making = rw bare.no_handles making;
   processes = refl;
@@ -189,6 +190,7 @@ module _ (gs : List Grant) (old new : Made) (p p2 : Process) (so_far : Gives gs 
     is = rw es_more is_more;
     table = inserted_table p2.table e value t so_far.table (omega (arith, so_far.few, fewer)) inserts;
     few = rw (inserts.entries, length-put_new p2.table.entries value e inserts.unused, length-append gs (g ∷ [])) (omega (arith, so_far.few));
+    untouched = λ none. absurd (omega (arith, none, length-append gs (g ∷ [])));
     named = λ v x at. named_updated held_once_more held_body r.objects e.koid x
         (found_inserted (IsNamed r.objects x) p2.table e value t inserts v x at (λ is. subst (IsNamed r.objects) is is_allowed.named) (so_far.named v x));
     making = record {

@@ -28,7 +28,7 @@ use Rattle.zl_calls.proofs.processes.OneProcess.{counts, new_is, process_sound, 
 -- ---- one process more
 
 module _ (ps : List Process) (p : Process) (r : Objects) (making : IsMaking ps p.table.entries r) (job : ℕ) (pid : p.pid ≡ r.next_koid)
-    (ready : runs (state_value p.state) ≡ true) (table : IsTable p.table)
+    (ready : runs (state_value p.state) ≡ true) (table : IsTable p.table.entries)
     (names : (v : ℕ) (e : Entry) → get p.table.entries v ≡ Some e → IsNamed r.objects e) (in_job : IsTrue (is_job_at r.objects job))
     (left : r.next_koid ≤ 1024) where
   abbrev sound : IsSound ps p.table.entries r

@@ -1,6 +1,9 @@
 -- One statement after another: what was made is what the definitions make, up to the first fault.
 use Rattle.zl_calls.proofs.Common.{◌≢◌, ◌≡◌, ◌<◌, ◌≤◌, ◌+◌, ℕ, List, [], ◌∷◌, ◌++◌, take, length, refl, sym, ap, ◌∙◌, Option, Some, None, get_or, IsTrue, arith}
-use Rattle.zl_calls.proofs.Common.{take_more, take_all, slice_get-get_or, Library, boot_effect, boot_fault, may_boot, Boots, FirstFault, at_statement, at_limit}
+use Rattle.zl_calls.proofs.Common.{take_more, take_all, slice_get-get_or, Library, boot_effect, boot_fault, may_boot, Boots, at_statement, at_limit}
+use Rattle.zl_calls.proofs.Common.{false≢true}
+use Rattle.zl_code.specs.Boot.{BootRefusal, for_fault, for_place, gives_more}
+use Rattle.zl_calls.specs.Makes.{is_want}
 use Rattle.zl_calls.proofs.Common.{MOST_ITEMS, origin, IsMaking, root_alone, Makes, IsCauseOf, IsReached, seen, World, Statement, word_of, most_word, BootCause}
 use Rattle.zl_calls.proofs.Common.{Made}
 use Rattle.std.specs.List.{AllByRecursion}
@@ -50,17 +53,24 @@ all_small lib ss i made all so_far = rw take_all at so_far.words
 
 pub first_fault : (lib : Library) (ss : List Statement) (limit i : ℕ) (d : Statement) (made : Made) (c : BootCause) → i < length ss
     → IsMadeBy lib (take i ss) made
-    → IsCauseOf (boot_fault lib (seen made) (get_or ss i d)) c → c ≢ cause.NoMemory → FirstFault lib ss limit i c
+    → IsCauseOf (gives_more (get_or ss i d)) (boot_fault lib (seen made) (get_or ss i d)) c → c ≢ cause.NoMemory → BootRefusal lib ss limit i c
 first_fault lib ss limit i d made c lt so_far causes other = by_fault (boot_fault lib (seen made) (get_or ss i d)) refl causes
   where
-    by_fault : (o : Option BootCause) → boot_fault lib (seen made) (get_or ss i d) ≡ o → IsCauseOf o c → FirstFault lib ss limit i c
-    by_fault None is wants = absurd (other wants)
-    by_fault (Some found) is same =
-        at_statement (seen made) i (get_or ss i d) c so_far.boots (slice_get-get_or ss i d lt) (is ∙ ap (λ (x : BootCause). Some x) (sym same))
+    by_want : (x : BootCause) → boot_fault lib (seen made) (get_or ss i d) ≡ None → IsTrue (is_want (gives_more (get_or ss i d)) x) → x ≢ cause.NoMemory
+        → BootRefusal lib ss limit i x
+    by_want cause.NoMemory is want other = absurd (other refl)
+    by_want cause.Limit is want other = for_place (seen made) i (get_or ss i d) so_far.boots (slice_get-get_or ss i d lt) is want
+    by_want _ is want other = absurd (false≢true want)
+
+    by_fault : (o : Option BootCause) → boot_fault lib (seen made) (get_or ss i d) ≡ o → IsCauseOf (gives_more (get_or ss i d)) o c
+        → BootRefusal lib ss limit i c
+    by_fault None is want = by_want c is want other
+    by_fault (Some found) is same = for_fault i c
+        (at_statement (seen made) i (get_or ss i d) c so_far.boots (slice_get-get_or ss i d lt) (is ∙ ap (λ (x : BootCause). Some x) (sym same)))
 
 pub limit_fault : (lib : Library) (ss : List Statement) (limit i : ℕ) (made : Made) → length ss ≤ i → IsMadeBy lib (take i ss) made → MOST_ITEMS < limit
-    → FirstFault lib ss limit (length ss) cause.Limit
-limit_fault lib ss limit i made all so_far above = at_limit (seen made) (rw take_all at so_far.boots) above
+    → BootRefusal lib ss limit (length ss) cause.Limit
+limit_fault lib ss limit i made all so_far above = for_fault (length ss) cause.Limit (at_limit (seen made) (rw take_all at so_far.boots) above)
 
 -- ---- the statements before a fault
 

@@ -1,7 +1,7 @@
 -- A call that looks at registered waits: it is done beside them and any blocked processes, or refused with nothing changed.
 use Rattle.zl_calls.proofs.Common.{◌≡◌, ℕ, Bool, List, [], sym, ap, ◌∙◌, subst, Option, Result, Ok, Err, Library, Site, grows}
 use Rattle.zl_calls.proofs.Common.{refusal, replied, taken, Handles, Objects, Does, Replies, status_of, values_of, world_blocked, world_value, IsConsistent}
-use Rattle.zl_calls.proofs.Common.{World, Status, Outcome, replied_among, with_waiters}
+use Rattle.zl_calls.proofs.Common.{World, Status, Outcome, replied_among, with_waiters, may_want}
 use Rattle.zl_rights.specs.World.{Wait}
 use Rattle.zl_rights.specs.declared.status.Status.TheVariants as status
 use Rattle.zl_code.specs.declared.history.Outcome.TheVariants as outcome
@@ -22,8 +22,9 @@ module _ {before after : List Process} {r : Objects} {p p2 : Process} (lib : Lib
   ends_among blocked middle waits made answer values ends listed counted =
       (λ i. with_waiters (ends i) (listed i) (counted i) blocked) ∙ sym (replied_among p.pid waits made blocked middle s answer values)
 
-  module _ {A : Type 0} (values : A → List ℕ) (Done : A → Handles → Objects → Type 0) (wants : Bool) (o : Option Status)
-      (refused : (blocked : List ℕ) → refusal lib (world_blocked before r blocked) p.pid s.request ≡ answers o) (may_want : wants ≡ grows s.request)
+  module _ {A : Type 0} (values : A → List ℕ) (Done : A → Handles → Objects → Type 0) (wants : Status → Bool) (o : Option Status)
+      (refused : (blocked : List ℕ) → refusal lib (world_blocked before r blocked) p.pid s.request ≡ answers o)
+      (wanting : (blocked : List ℕ) → wants ≡ may_want (world_blocked before r blocked) p.pid s.request)
       (takes_none : (blocked : List ℕ) → taken (world_blocked before r blocked) p.pid s ≡ world_blocked before r blocked)
       (nothing : (blocked : List ℕ) → TellsNothing lib (world_blocked before r blocked) p.pid s)
       (done : (x : A) → Done x p2.table r2 → Replies s status.Ok (values x) p p2
@@ -34,7 +35,7 @@ module _ {before after : List Process} {r : Objects} {p p2 : Process} (lib : Lib
     by_answer (Err answer) does replies = record {
       calls =
           λ blocked. refused_calls lib (world_blocked before r blocked) p.pid s wants o answer (world_blocked after r2 blocked) (nothing blocked)
-          (refused blocked) may_want does.err
+          (refused blocked) (wanting blocked) does.err
           (ends_among blocked (world_value before r) r.waits r.waits_made answer []
           (same_world write r r2 s answer [] does.same_table does.same_objects replies)
           (ap (λ (x : Objects). x.waits) does.same_objects) (ap (λ (x : Objects). x.waits_made) does.same_objects)

@@ -4,7 +4,7 @@ use Rattle.zl_calls.proofs.Common.{get, Ready, Library, Site, site, refusal, han
 use Rattle.zl_calls.proofs.Common.{may_choose, new_handles, insert_all, remove_all, taken_handles, effect, gives_ok, gives_refused, AtCall, next_for, Values}
 use Rattle.zl_calls.proofs.Common.{replied, Objects, IsAnswered, Replies, told_by, no_value, process_value, state_value, world_blocked, world_value}
 use Rattle.zl_calls.proofs.Common.{IsConsistent, World, operands_fault, WAIT, WRITE, wait_async, is_mask, CallName, Outcome, may_register}
-use Rattle.zl_calls.proofs.Common.{wait_value, watching, WaitAsyncDoes}
+use Rattle.zl_calls.proofs.Common.{wait_value, watching, WaitAsyncDoes, wants_memory}
 use Rattle.zl_rights.specs.World.{Wait as WaitValue}
 use Rattle.zl_rights.specs.declared.kind.Kind.TheVariants as kind
 use Rattle.zl_rights.specs.declared.status.Status.TheVariants as status
@@ -82,7 +82,8 @@ module _ {before after : List Process} {r : Objects} {p p2 : Process} (lib : Lib
         → IsAnswered (told_by no_value) (WaitAsyncDoes p.pid h port key mask) async_site p r o p2 r2 → IsCalledAmong lib before after r r2 p.pid async_site o
     unfolding taken_handles handle_operands remove_all gives_refused
     async_called ready call next o acts =
-        answered_among lib r2 consistent write async_site no_value (λ _. RegistersWait p.pid p.table r h port key mask) true
+        answered_among lib r2 consistent write async_site no_value (λ _. RegistersWait p.pid p.table r h port key mask) wants_memory
         (async_refusal p.table.entries r h port mask)
-        async_refused refl (λ blocked. refl) (λ blocked answer. refl) (λ done registers replies. async_done registers replies) o acts.answer acts.acts
+        async_refused (λ blocked. refl) (λ blocked. refl) (λ blocked answer. refl) (λ done registers replies. async_done registers replies) o
+        acts.answer acts.acts
         acts.replied acts.ends

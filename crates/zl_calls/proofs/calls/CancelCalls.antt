@@ -4,7 +4,7 @@ use Rattle.zl_calls.proofs.Common.{Library, Site, site, refusal, handle_operands
 use Rattle.zl_calls.proofs.Common.{insert_all, remove_all, taken_handles, effect, on_object, gives_ok, gives_refused, AtCall, next_for, Values, replied}
 use Rattle.zl_calls.proofs.Common.{Objects, IsAnswered, Replies, told_by, no_value, process_value, state_value, world_blocked, world_value}
 use Rattle.zl_calls.proofs.Common.{IsConsistent, World, operands_fault, WRITE, Packet, Port, is_from, without_packets}
-use Rattle.zl_calls.proofs.Common.{port_cancel, object_at, CallName, Outcome, changing_port, packets_in, PortCancelDoes, source_of}
+use Rattle.zl_calls.proofs.Common.{port_cancel, object_at, CallName, Outcome, changing_port, packets_in, PortCancelDoes, source_of, wants_nothing}
 use Rattle.std.specs.List.{filter}
 use Rattle.zl_rights.specs.World.{Source}
 use Rattle.zl_rights.specs.declared.kind.Kind.TheVariants as kind
@@ -96,7 +96,8 @@ module _ {before after : List Process} {r : Objects} {p p2 : Process} (lib : Lib
         → IsAnswered (told_by no_value) (PortCancelDoes p.pid port source key) cancel_site p r o p2 r2 → IsCalledAmong lib before after r r2 p.pid cancel_site o
     unfolding taken_handles handle_operands remove_all gives_refused
     cancel_called ready call next o acts =
-        answered_among lib r2 consistent write cancel_site no_value (λ _. Cancels p.pid p.table r port source key) false
+        answered_among lib r2 consistent write cancel_site no_value (λ _. Cancels p.pid p.table r port source key) wants_nothing
         (cancel_refusal p.table.entries r p.pid port source key)
-        cancel_refused refl (λ blocked. refl) (λ blocked answer. refl) (λ done cancels replies. cancel_done cancels replies) o acts.answer acts.acts
+        cancel_refused (λ blocked. refl) (λ blocked. refl) (λ blocked answer. refl) (λ done cancels replies. cancel_done cancels replies) o
+        acts.answer acts.acts
         acts.replied acts.ends

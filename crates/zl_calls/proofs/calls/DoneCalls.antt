@@ -1,7 +1,7 @@
 -- That a call is done: it is a step up to where processes wake, and the invariant holds afterwards.
 use Rattle.zl_calls.proofs.Common.{◌≡◌, ℕ, Bool, List, [], ap, sym, ◌∙◌, subst, Option, Result, Ok, Err, Ready, Library, Site, refusal, AtCall, next_for, Calls}
 use Rattle.zl_calls.proofs.Common.{grows, replied, taken, Handles, Objects, Does, Replies, status_of, values_of, process_value, state_value, world_blocked}
-use Rattle.zl_calls.proofs.Common.{world_value, IsConsistent, World, IsActed, IsAnswered, told_by, Status, CallName, Outcome, Told}
+use Rattle.zl_calls.proofs.Common.{world_value, IsConsistent, World, IsActed, IsAnswered, told_by, Status, CallName, Outcome, Told, may_want}
 use Rattle.zl_rights.specs.declared.status.Status.TheVariants as status
 use Rattle.zl_code.specs.declared.history.Outcome.TheVariants as outcome
 use Rattle.zl_code.specs.declared.history.TraceItem.TheVariants as item
@@ -52,16 +52,16 @@ module _ {before after : List Process} {r : Objects} {p p2 : Process} (lib : Lib
 
   -- a call that takes no handle and is either done or refused
   module _ {A : Type 0} (s : Site) (values : A → List ℕ) (Acts : Handles → Objects → Result A Status → Handles → Objects → Type 0)
-      (Done : A → Handles → Objects → Type 0) (wants : Bool) (o : Option Status)
+      (Done : A → Handles → Objects → Type 0) (wants : Status → Bool) (o : Option Status)
       (does : (answer : Result A Status) → Acts p.table r answer p2.table r2 → Does Done wants o p.table r answer p2.table r2)
-      (refused : refusal lib w p.pid s.request ≡ answers o) (may_want : wants ≡ grows s.request) (takes_none : taken w p.pid s ≡ w)
+      (refused : refusal lib w p.pid s.request ≡ answers o) (wanting : wants ≡ may_want w p.pid s.request) (takes_none : taken w p.pid s ≡ w)
       (nothing : TellsNothing lib w p.pid s)
       (done : (x : A) → Done x p2.table r2 → Replies s status.Ok (values x) p p2 → IsCalled lib before after r r2 p.pid s (outcome.Answered status.Ok)) where
     by_answer : (answer : Result A Status) → Does Done wants o p.table r answer p2.table r2 → Replies s (status_of answer) (values_of values answer) p p2
         → IsCalled lib before after r r2 p.pid s (outcome.Answered (status_of answer))
     by_answer (Ok x) does replies = done x does.ok replies
     by_answer (Err answer) does replies = record {
-      calls = refused_calls lib w p.pid s wants o answer (world_value after r2) nothing refused may_want does.err
+      calls = refused_calls lib w p.pid s wants o answer (world_value after r2) nothing refused wanting does.err
           (same_world write r r2 s answer [] does.same_table does.same_objects replies ∙ ap (λ (v : World). replied v p.pid s answer []) (sym takes_none));
       keeps = subst (IsConsistent after) (sym does.same_objects)
           (refusal_keeps write r consistent does.same_table (ap (λ (q : Process). q.state) replies));

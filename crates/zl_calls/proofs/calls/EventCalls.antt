@@ -4,7 +4,7 @@ use Rattle.zl_calls.proofs.Common.{has_room, has_koids, refusal, handle_operands
 use Rattle.zl_calls.proofs.Common.{effect, gives_ok, gives_refused, Values, replied, ⊤, bits, within, SIGNAL, kind_of, signal, body_of, body_in, on_object}
 use Rattle.zl_calls.proofs.Common.{object_changed, Objects, raised_changed, changing, told_by, one_value, Replies, no_value, process_value, object_entry}
 use Rattle.zl_calls.proofs.Common.{world_value, body_value, IsConsistent, IsNamed, runs, settable_of, World, operands_fault, signal_peer, Entry, peer_at}
-use Rattle.zl_calls.proofs.Common.{settable_at, get_seen}
+use Rattle.zl_calls.proofs.Common.{settable_at, get_seen, wants_nothing}
 use Rattle.zl_code.specs.Tests.{peer_at as peer_named}
 use Rattle.zl_rights.specs.declared.kind.Kind.TheVariants as kind
 use Rattle.zl_rights.specs.declared.status.Status.TheVariants as status
@@ -101,7 +101,7 @@ module _ {before after : List Process} {r : Objects} {p p2 : Process} (lib : Lib
     pub signal_done : IsDoneBy lib before after r r2 p p2 signal_site (told_by no_value) (SignalDoes h clear set)
     unfolding taken_handles handle_operands remove_all gives_refused
     signal_done =
-        answered_done lib r2 consistent write signal_site no_value (SignalDoes h clear set) (λ _. SignalsObject p.table r h clear set) false
+        answered_done lib r2 consistent write signal_site no_value (SignalDoes h clear set) (λ _. SignalsObject p.table r h clear set) wants_nothing
         (signal_refusal p.table.entries h clear set) (λ answer acts. acts) refused_signal refl refl (λ answer. refl) signal_called
 
     abbrev peer_site : Site
@@ -139,5 +139,5 @@ module _ {before after : List Process} {r : Objects} {p p2 : Process} (lib : Lib
     pub peer_done : IsDoneBy lib before after r r2 p p2 peer_site (told_by no_value) (SignalPeerDoes h clear set)
     unfolding taken_handles handle_operands remove_all gives_refused
     peer_done =
-        answered_done lib r2 consistent write peer_site no_value (SignalPeerDoes h clear set) (λ _. SignalsPeer p.table r h clear set) false
+        answered_done lib r2 consistent write peer_site no_value (SignalPeerDoes h clear set) (λ _. SignalsPeer p.table r h clear set) wants_nothing
         (peer_signal_refusal p.table.entries r.objects h clear set) (λ answer acts. acts) refused_peer refl refl (λ answer. refl) peer_called

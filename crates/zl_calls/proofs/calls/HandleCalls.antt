@@ -9,7 +9,7 @@ use Rattle.zl_calls.proofs.Common.{get-update, IsTable, get-without, sorted_with
 use Rattle.zl_calls.proofs.Common.{status_of, one_value, has_room_in, process_value, state_value, world_value, process_entry, object_value, IsConsistent}
 use Rattle.zl_calls.proofs.Common.{IsNamed, World, and_le_r, put, update, is_sorted, nat_cmp, sorted_put, get-put, option_map, is_sorted-update, has_key-update}
 use Rattle.zl_calls.proofs.Common.{process_with, operands_fault, IsSound, replace, Status, Entry, CallName, without_handle, Closes, Replaces, ReplaceDoes}
-use Rattle.zl_calls.proofs.Common.{replace_refusal, passes, result_err, granted, same_map}
+use Rattle.zl_calls.proofs.Common.{replace_refusal, passes, result_err, granted, same_map, wants_place, wants_nothing}
 use Rattle.zl_code.proofs.Common.{Object as ObjectValue, Process as ProcessValue, on_process}
 use Rattle.zl_rights.specs.declared.status.Status.TheVariants as status
 use Rattle.zl_code.specs.declared.history.Outcome.TheVariants as outcome
@@ -196,7 +196,7 @@ module _ {before after : List Process} {r : Objects} {p p2 : Process} (lib : Lib
     pub dup_done : IsDoneBy lib before after r r2 p p2 dup_site (told_by one_value) (DupDoes h asked)
     unfolding taken_handles handle_operands remove_all gives_refused
     dup_done =
-        answered_done lib r2 consistent write dup_site one_value (DupDoes h asked) (Dups p.table r h asked) true
+        answered_done lib r2 consistent write dup_site one_value (DupDoes h asked) (Dups p.table r h asked) wants_place
         (dup_refusal p.table.entries r.objects h asked) (λ answer acts. acts) refused refl refl (λ answer. refl) dup_called
 
   -- ---- replace
@@ -219,7 +219,7 @@ module _ {before after : List Process} {r : Objects} {p p2 : Process} (lib : Lib
       abbrev replacement : Entry
       replacement = narrower replaces.original
 
-      before_it : IsTable p.table
+      before_it : IsTable p.table.entries
       before_it = consistent.tables p.pid (process_value p) write.there
 
       -- ---- the relation of calls
@@ -282,7 +282,7 @@ module _ {before after : List Process} {r : Objects} {p p2 : Process} (lib : Lib
               (replacement_named (old h replaces.original replaces.was))
           by_key (inr apart) read = old v e (rw apart at read)
 
-      table_again : IsTable p2.table
+      table_again : IsTable p2.table.entries
       table_again = record {
         sorted = rw (replaces.entries, is_sorted-update p.table.entries h narrower) before_it.sorted;
         few = rw (replaces.entries, length-update p.table.entries h narrower) before_it.few;
@@ -309,6 +309,6 @@ module _ {before after : List Process} {r : Objects} {p p2 : Process} (lib : Lib
     pub replace_done : IsDoneBy lib before after r r2 p p2 replace_site (told_by one_value) (ReplaceDoes p.pid h asked)
     unfolding taken_handles handle_operands gives_refused
     replace_done ready call next o acts =
-        taking_done lib r2 consistent write ready call replace_site next (h ∷ []) refl one_value (Replaces p.pid p.table r h asked) false
+        taking_done lib r2 consistent write ready call replace_site next (h ∷ []) refl one_value (Replaces p.pid p.table r h asked) wants_nothing
         (replace_refusal p.table.entries h asked)
         replace_refused refl (λ answer. refl) replace_called o acts.answer acts.acts acts.replied acts.ends

@@ -7,7 +7,7 @@ use Rattle.zl_calls.proofs.Common.{on_object, on_process, process_with, runs, Ob
 use Rattle.zl_calls.proofs.Common.{process_entry, process_value, object_value, body_value, world_value, is_in_job, IsConsistent, IsNamed, IsSound, World}
 use Rattle.zl_calls.proofs.Common.{operands_fault, result_err, Status, Entry, Condition, looked_up, takes, Setting, conflicts, Job, job_within, JobFault}
 use Rattle.zl_calls.proofs.Common.{job_create, job_set_policy, has_child, policy_changed, object_at, job_at, new_in, setting_policy, with_policy_body}
-use Rattle.zl_calls.proofs.Common.{with_policy_set, keeper_of, is_above, get_seen, job_shown, process_shown, has_child_at}
+use Rattle.zl_calls.proofs.Common.{with_policy_set, keeper_of, is_above, get_seen, job_shown, process_shown, has_child_at, wants_place, wants_nothing}
 use Rattle.zl_code.proofs.Common.{Body as BodyValue, JobBody}
 use Rattle.zl_rights.specs.declared.kind.Kind.TheVariants as kind
 use Rattle.zl_rights.specs.declared.status.Status.TheVariants as status
@@ -203,7 +203,7 @@ module _ {before after : List Process} {r : Objects} {p p2 : Process} (lib : Lib
     pub job_done : IsDoneBy lib before after r r2 p p2 create_site (told_by one_value) (JobCreateDoes j)
     unfolding taken_handles handle_operands remove_all gives_refused
     job_done =
-        answered_done lib r2 consistent write create_site one_value (JobCreateDoes j) (CreatesJob p.table r j) true
+        answered_done lib r2 consistent write create_site one_value (JobCreateDoes j) (CreatesJob p.table r j) wants_place
         (job_refusal p.table.entries r j) (λ answer acts. acts) refused_create refl refl (λ answer. refl) create_called
 
   -- ---- job_set_policy
@@ -264,5 +264,5 @@ module _ {before after : List Process} {r : Objects} {p p2 : Process} (lib : Lib
     unfolding taken_handles handle_operands remove_all gives_refused
     job_set_policy_done =
         answered_done lib r2 consistent write set_site no_value (JobSetPolicyDoes j mode condition action)
-        (λ _. SetsPolicy p.table r j mode condition action) false
+        (λ _. SetsPolicy p.table r j mode condition action) wants_nothing
         (policy_refusal p.table.entries r.objects j mode condition action) (λ answer acts. acts) refused_set refl refl (λ answer. refl) (λ done. set_called)

@@ -3,7 +3,7 @@ use Rattle.zl_calls.proofs.Common.{Inserts, ◌≡◌, ◌<◌, ◌+◌, ◌^◌
 use Rattle.zl_calls.proofs.Common.{nat_le, nat_tests, arith, none-some, sym, then_some, first_some, Map, get, Library, Site, Values, refusal, grows, taken}
 use Rattle.zl_calls.proofs.Common.{answer_if, with_object, replied, may_get, new_entry, on_process, process_with, is_process, Objects, new_object, with_new}
 use Rattle.zl_calls.proofs.Common.{Replies, told_by, one_value, has_room_in, process_entry, process_value, body_value, world_value, Agrees, is_in_job}
-use Rattle.zl_calls.proofs.Common.{IsConsistent, IsNamed, World, Entry, CallBy, MakeDoes, MakesOne, room_refusal}
+use Rattle.zl_calls.proofs.Common.{IsConsistent, IsNamed, World, Entry, CallBy, MakeDoes, MakesOne, room_refusal, may_want, wants_place}
 use Rattle.zl_code.proofs.Common.{Object as ObjectValue, State as StateValue}
 use Rattle.zl_rights.specs.declared.status.Status.TheVariants as status
 use Rattle.zl_code.specs.declared.history.Outcome.TheVariants as outcome
@@ -115,9 +115,9 @@ module _ {before after : List Process} {r : Objects} {p p2 : Process} (lib : Lib
 
     -- ---- the step of a call that nothing else refuses
 
-    pub made_done : refusal lib w p.pid s.request ≡ answers (room_refusal p.table.entries n) → true ≡ grows s.request → taken w p.pid s ≡ w
+    pub made_done : refusal lib w p.pid s.request ≡ answers (room_refusal p.table.entries n) → wants_place ≡ may_want w p.pid s.request → taken w p.pid s ≡ w
         → TellsNothing lib w p.pid s → ((made : ℕ) → Makes made) → IsDoneBy lib before after r r2 p p2 s (told_by one_value) (MakeDoes b)
-    made_done refused may_want takes_none nothing by =
-        answered_done lib r2 consistent write s one_value (MakeDoes b) (MakesOne b p.table r) true (room_refusal p.table.entries n)
-        (λ answer acts. acts) refused may_want takes_none nothing
+    made_done refused wanting takes_none nothing by =
+        answered_done lib r2 consistent write s one_value (MakeDoes b) (MakesOne b p.table r) wants_place (room_refusal p.table.entries n)
+        (λ answer acts. acts) refused wanting takes_none nothing
         (λ made makes replies. made_called made makes replies (refused ∙ ap answers makes.unrefused) (by made))

@@ -6,6 +6,7 @@ use Rattle.zl_calls.proofs.Common.{site, has_room, has_koids, handles_to, refusa
 use Rattle.zl_calls.proofs.Common.{insert_all, remove_all, taken_handles, effect, with_object, gives_ok, gives_refused, Values, replied, taken}
 use Rattle.zl_calls.proofs.Common.{new_entry, IsTable, Inserts, Handles, Objects, new_object, with_new, told_by, Replies, process_entry, process_value}
 use Rattle.zl_calls.proofs.Common.{world_value, object_value, IsConsistent, IsNamed, runs, World, operands_fault, chan_create, Entry}
+use Rattle.zl_calls.proofs.Common.{may_want, wants_place}
 use Rattle.zl_code.proofs.Common.{Object as ObjectValue}
 use Rattle.zl_rights.specs.declared.status.Status.TheVariants as status
 use Rattle.zl_code.specs.declared.history.Outcome.TheVariants as outcome
@@ -148,7 +149,7 @@ module _ {before after : List Process} {r : Objects} {p p2 : Process} (lib : Lib
           (λ is. subst (λ (x : Entry). IsNamed with_both.objects x) is first_named)
           (λ old. still e (consistent.named p.pid (process_value p) v e write.there old)))
 
-      table : IsTable p2.table
+      table : IsTable p2.table.entries
       table = inserted_table makes.between second made.1 p2.table
           (inserted_table p.table first made.0 makes.between (consistent.tables p.pid (process_value p) write.there)
           (omega (arith, makes.room)) makes.first)
@@ -174,11 +175,11 @@ module _ {before after : List Process} {r : Objects} {p p2 : Process} (lib : Lib
 
     -- ---- the step
 
-    pair_done : refusal lib w p.pid s.request ≡ answers (pair_refusal p.table.entries n) → true ≡ grows s.request → taken w p.pid s ≡ w
+    pair_done : refusal lib w p.pid s.request ≡ answers (pair_refusal p.table.entries n) → wants_place ≡ may_want w p.pid s.request → taken w p.pid s ≡ w
         → TellsNothing lib w p.pid s → ((made : ℕ × ℕ) → Makes made) → IsDoneBy lib before after r r2 p p2 s (told_by two_values) (MakePairDoes pair)
-    pair_done refused may_want takes_none nothing by =
-        answered_done lib r2 consistent write s two_values (MakePairDoes pair) (MakesPair pair p.table r) true (pair_refusal p.table.entries n)
-        (λ answer acts. acts) refused may_want takes_none nothing
+    pair_done refused wanting takes_none nothing by =
+        answered_done lib r2 consistent write s two_values (MakePairDoes pair) (MakesPair pair p.table r) wants_place (pair_refusal p.table.entries n)
+        (λ answer acts. acts) refused wanting takes_none nothing
         (λ made makes replies. pair_called made makes replies (refused ∙ ap answers makes.unrefused) (by made))
 
   -- where nothing else refuses it

@@ -1,7 +1,7 @@
 -- What is taken from a port: its first packet, or nothing, and then nothing has changed.
 use Rattle.zl_calls.proofs.Common.{◌≡◌, ℕ, false, ◌==◌, List, [], ◌∷◌, refl, sym, ap, ◌∙◌, inl, inr, Some, None, Ok, Err, cases_Bool, eqb-true, none-some}
 use Rattle.zl_calls.proofs.Common.{slice_get, then_some, is_empty, Map, get, update, Handles, Objects, Does, IsRefusedBy, Entry, READ, Packet, without_front}
-use Rattle.zl_calls.proofs.Common.{at_port, changed_port, changing_port, packets_in, packets_of, TakesPacket, poll_refusal, port_at}
+use Rattle.zl_calls.proofs.Common.{at_port, changed_port, changing_port, packets_in, packets_of, TakesPacket, poll_refusal, port_at, wants_nothing}
 use Rattle.std.specs.Prelude.{drop}
 use Rattle.zl_rights.specs.declared.status.Status.TheVariants as status
 use Rattle.zl_objects.specs.declared.object.Body.{Body}
@@ -31,7 +31,7 @@ unpopped (e ∷ m) k none = elim (cases_Bool (e.0 == k)) as (λ _. update (e ∷
 module _ (t : Handles) (r r2 : Objects) (value : ℕ) (port : Entry) (is_port : port_at t.entries value READ ≡ Ok port)
     (rest : r2 ≡ changing_port r port.koid without_front) where
   pub packet_polled : (packet : Packet) → slice_get (packets_in (get r.objects port.koid)) 0 ≡ Some packet
-      → Does (TakesPacket t r value) false (poll_refusal t.entries r.objects value) t r (Ok packet) t r2
+      → Does (TakesPacket t r value) wants_nothing (poll_refusal t.entries r.objects value) t r (Ok packet) t r2
   packet_polled packet first = record {
     ok = record {
       unrefused = rw is_port (by_packets (packets_in (get r.objects port.koid)) first);
@@ -51,7 +51,7 @@ module _ (t : Handles) (r r2 : Objects) (value : ℕ) (port : Entry) (is_port : 
       by_packets (x ∷ xs) h = refl
 
   pub nothing_polled : slice_get (packets_in (get r.objects port.koid)) 0 ≡ None
-      → Does (TakesPacket t r value) false (poll_refusal t.entries r.objects value) t r (Err status.TimedOut) t r2
+      → Does (TakesPacket t r value) wants_nothing (poll_refusal t.entries r.objects value) t r (Err status.TimedOut) t r2
   nothing_polled none = record {
     ok = tt;
     err = rw is_port (by_packets (packets_in (get r.objects port.koid)) none);
@@ -59,6 +59,6 @@ module _ (t : Handles) (r r2 : Objects) (value : ℕ) (port : Entry) (is_port : 
     same_objects = rest ∙ ap (λ (os : Map Object). record r { objects = os }) (unpopped r.objects port.koid none);
   }
     where
-      by_packets : (xs : List Packet) → slice_get xs 0 ≡ None → IsRefusedBy false (then_some (is_empty xs) status.TimedOut) status.TimedOut
+      by_packets : (xs : List Packet) → slice_get xs 0 ≡ None → IsRefusedBy wants_nothing (then_some (is_empty xs) status.TimedOut) status.TimedOut
       by_packets [] h = refl
       by_packets (x ∷ xs) h = absurd (none-some x (sym h))

@@ -6,6 +6,7 @@ use Rattle.zl_calls.proofs.Common.{Values, replied, ⊤, body_of, Objects, told_
 use Rattle.zl_calls.proofs.Common.{world_value, IsConsistent, runs, World, operands_fault, Entry, READ, WRITE, packet_values}
 use Rattle.zl_calls.proofs.Common.{Packet, PacketAt, Port, with_packet, without_front, awaited_by, port_create, port_poll, port_queue}
 use Rattle.zl_calls.proofs.Common.{port_wait, result_err, object_at, packet_taken, new_port, packets_in, TakesPacket, poll_refusal, port_at}
+use Rattle.zl_calls.proofs.Common.{wants_memory, wants_nothing}
 use Rattle.std.specs.Prelude.{drop}
 use Rattle.zl_rights.specs.declared.kind.Kind.TheVariants as kind
 use Rattle.zl_rights.specs.declared.status.Status.TheVariants as status
@@ -78,7 +79,7 @@ module _ {before after : List Process} {r : Objects} {p p2 : Process} (lib : Lib
     pub port_queue_done : IsDoneBy lib before after r r2 p p2 queue_site (told_by no_value) (PortQueueDoes port key value)
     unfolding taken_handles handle_operands remove_all gives_refused
     port_queue_done =
-        answered_done lib r2 consistent write queue_site no_value (PortQueueDoes port key value) (λ _. QueuesPacket p.table r port key value) true
+        answered_done lib r2 consistent write queue_site no_value (PortQueueDoes port key value) (λ _. QueuesPacket p.table r port key value) wants_memory
         (queue_refusal p.table.entries r.objects port) (λ answer acts. acts) refused_queue refl refl (λ answer. refl) queue_called
 
   -- ---- the first packet leaves the port
@@ -145,7 +146,7 @@ module _ {before after : List Process} {r : Objects} {p p2 : Process} (lib : Lib
     pub port_poll_done : IsDoneBy lib before after r r2 p p2 poll_site (told_by packet_values) (PortPollDoes port)
     unfolding taken_handles handle_operands remove_all gives_refused
     port_poll_done =
-        answered_done lib r2 consistent write poll_site packet_values (PortPollDoes port) (TakesPacket p.table r port) false
+        answered_done lib r2 consistent write poll_site packet_values (PortPollDoes port) (TakesPacket p.table r port) wants_nothing
         (poll_refusal p.table.entries r.objects port) (λ answer acts. acts) refused_poll refl refl (λ answer. refl) poll_called
 
   -- ---- port_wait
@@ -175,7 +176,7 @@ module _ {before after : List Process} {r : Objects} {p p2 : Process} (lib : Lib
     pub port_wait_done : IsDoneBy lib before after r r2 p p2 wait_site (told_by packet_values) (PortWaitDoes port)
     unfolding taken_handles handle_operands remove_all gives_refused
     port_wait_done =
-        answered_done lib r2 consistent write wait_site packet_values (PortWaitDoes port) (TakesPacket p.table r port) false
+        answered_done lib r2 consistent write wait_site packet_values (PortWaitDoes port) (TakesPacket p.table r port) wants_nothing
         (result_err (port_at p.table.entries port READ)) (λ answer acts. acts) refused_wait refl refl (λ answer. refl) wait_called
 
     -- it isn't refused, where the port is there; and where that has no packet, it waits for one

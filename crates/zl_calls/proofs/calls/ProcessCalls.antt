@@ -23,7 +23,7 @@ module _ {before after : List Process} {r : Objects} {p p2 : Process} (lib : Lib
   abbrev w : World
   w = world_value before r
 
-  no_table : IsTable p2.table
+  no_table : IsTable p2.table.entries
   unfolding get
   no_table = record {
     sorted = rw (ends.no_handle) refl;
@@ -31,7 +31,7 @@ module _ {before after : List Process} {r : Objects} {p p2 : Process} (lib : Lib
     values = λ v has. absurd (false≢true (rw (ends.no_handle) at has));
   }
 
-  old_table : IsTable p.table
+  old_table : IsTable p.table.entries
   old_table = consistent.tables p.pid (process_value p) write.there
 
   ended_state : p2.state ≡ state.Ended code

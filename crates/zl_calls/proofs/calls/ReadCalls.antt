@@ -3,11 +3,12 @@ use Rattle.zl_calls.proofs.Common.{◌≡◌, ◌≤◌, ◌+◌, ℕ, Bool, tru
 use Rattle.zl_calls.proofs.Common.{Option, Some, None, Result, Ok, Err, IsTrue, arith, nat_tests, is_empty, is_some, count_by, sum_by, sum_by-cons, none-some}
 use Rattle.zl_calls.proofs.Common.{All, All-nil, bits, within, Map, get, update, Library, Site, site, refusal, handle_operands, listed, has_room, answer_if}
 use Rattle.zl_calls.proofs.Common.{first_some, may_choose, new_handles, insert_all, remove_all, taken_handles, effect, with_effect, gives_ok, gives_refused}
-use Rattle.zl_calls.proofs.Common.{on_object, on_process, Refused, WantsMemory, Values, replied, taken, cpu_answered, process_with, process_with_all, slice_get}
+use Rattle.zl_calls.proofs.Common.{on_object, on_process, Refused, Wants, Values, replied, taken, cpu_answered, process_with, process_with_all, slice_get}
 use Rattle.zl_calls.proofs.Common.{nat_le, option_map, Objects, process_entry, process_value, object_entry, object_value, world_value, body_value, body_in}
 use Rattle.zl_calls.proofs.Common.{body_of, handles_to, queued_to, IsConsistent, IsNamed, AreNamed, World, operands_fault, false≢true, IsSound, All-head}
 use Rattle.zl_calls.proofs.Common.{All-tail, result_err, Status, Entry, granted, READ, takes, Message, Outcome, told_of, first_handles, object_at, peer_at}
 use Rattle.zl_calls.proofs.Common.{queue_in, get_seen, sum_fewer, Received, ReadFault, IsTold, with_stored, ChanReadDoes, front_handles}
+use Rattle.zl_calls.proofs.Common.{nat_lt, wanted}
 use Rattle.zl_code.proofs.Common.{Object as ObjectValue, Process as ProcessValue, chan_read_etc}
 use Rattle.std.specs.Prelude.{drop}
 use Rattle.zl_rights.specs.declared.kind.Kind.TheVariants as kind
@@ -76,6 +77,7 @@ record IsFrontOf (entries : Map Entry) (objects : Map Object) (c : ℕ) (front :
   pub entry : Entry
   pub there : get entries c ≡ Some entry
   pub koid : entry.koid ≡ front.end
+  pub count : front.handles ≡ length (front_handles objects front.end)
   pub room : length entries + length (front_handles objects front.end) ≤ 1024
 
 -- the sizes that are told are those of the first message at the end that the handle names
@@ -104,7 +106,8 @@ front_known entries objects c room places = by_entry (get entries c) refl
         else (if not b then Err (fault.Refused status.NoResources) else Ok (record { end = e.koid; handles = length m.handles })))
     by_tests e m ms there at false b fits = record { entry = e; there = there; sizes = rw at refl }
     by_tests e m ms there at true false fits = refl
-    by_tests e m ms there at true true fits = record { entry = e; there = there; koid = refl; room = rw at (grind (arith, nat_tests, fits)) }
+    by_tests e m ms there at true true fits =
+        record { entry = e; there = there; koid = refl; count = rw at refl; room = rw at (grind (arith, nat_tests, fits)) }
 
     by_messages : (e : Entry) → get entries c ≡ Some e → (peer : Bool) (queue : List Message) → queue_in (get objects e.koid) ≡ queue
         → IsKnown entries objects c (front_in (length entries) peer room places e.koid queue)
@@ -369,10 +372,30 @@ module _ {before after : List Process} {r : Objects} {p p2 : Process} (lib : Lib
     Called f =
         IsTold read_site (told_read address (Err f)) p p2 → IsCalled lib before after r r2 p.pid read_site (outcome.Answered (told_read address (Err f)).status)
 
-    wanting : (front : Front) → front_now ≡ Ok front → Called (fault.Refused status.NoMemory)
-    unfolding taken_handles handle_operands remove_all gives_refused
-    wanting front is told = record {
-      calls = (WantsMemory, rw (refused, is) (refl, refl, told_world status.NoMemory [] told));
+    -- its handles are those of the message for the definitions
+    handles_same : (front : Front) → front_now ≡ Ok front → front.handles ≡ length (first_handles (queue_at w p.pid c))
+    handles_same front is =
+        let found : IsFrontOf p.table.entries r.objects c front = known (Ok front) is in
+        let koid : object_at w p.pid c ≡ front.end = rw (table_is write r, found.there) found.koid in
+        found.count ∙ ap (λ (q : List Message). length (first_handles q))
+        (sym (ap (λ (j : ℕ). queue_seen_in (body_of w j)) koid ∙ queue_there r.objects front.end))
+
+    want_tells : (s : Status) (place : Bool) → IsTrue (wanted true place s) → gives_refused w p.pid (chan_read_etc c address room places) s ≡ []
+    unfolding gives_refused
+    want_tells status.BufferTooSmall place want = absurd (false≢true want)
+    want_tells _ place want = refl
+
+    wanting : (front : Front) → front_now ≡ Ok front → (s : Status) → IsTrue (wanted true (nat_lt 0 front.handles) s) → Called (fault.Refused s)
+    unfolding taken_handles handle_operands remove_all
+    wanting front is s want told = record {
+      calls = (
+        Wants s,
+        rw (refused, is) (
+          subst (λ (n : ℕ). IsTrue (wanted true (nat_lt 0 n) s)) (handles_same front is) want,
+          refl,
+          told_world s [] told ∙ ap (replied w p.pid read_site s) (sym (want_tells s (nat_lt 0 front.handles) want)),
+        ),
+      );
       keeps = kept (ap (λ (q : Process). q.state) told);
     }
 
@@ -408,8 +431,9 @@ module _ {before after : List Process} {r : Objects} {p p2 : Process} (lib : Lib
       keeps = kept (ap (λ (q : Process). q.state) told);
     }
 
-    by_front : (found : Result Front ReadFault) → front_now ≡ found → (f : ReadFault) → IsFaultBy (result_err found) f → Called f
-    by_front (Ok front) is f by = subst Called (sym by) (wanting front is)
+    by_front : (found : Result Front ReadFault) → front_now ≡ found → (f : ReadFault) → IsFaultBy found f → Called f
+    by_front (Ok found) same (fault.Refused s) want = wanting found same s want
+    by_front (Ok found) same (fault.TooSmall bytes handles) never = absurd never
     by_front (Err g) is f by = subst Called (sym by) (by_known g is)
 
   by_answer : (answer : Result Received ReadFault) → ChanReadDoes c room places p.table r answer p2.table r2 → IsTold read_site (told_read address answer) p p2

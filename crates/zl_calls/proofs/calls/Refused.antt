@@ -1,7 +1,8 @@
 -- The answers other than OK, where no policy has a say: they follow from the caller's table and from counts.
 use Rattle.zl_calls.proofs.Common.{◌≡◌, ℕ, Bool, true, false, not, List, [], ◌∷◌, refl, sym, ap, ◌∙◌, subst, if◌then◌else◌, Option, Some, None, Result, Ok, Err}
 use Rattle.zl_calls.proofs.Common.{option_or, then_some, bits, within, Map, get, Library, Request, Site, handle_operands, listed, table_of, answer_if}
-use Rattle.zl_calls.proofs.Common.{first_some, operands_fault, refusal, gives_refused, Calls, WantsMemory, Refused, grows, replied, taken, IsRefusedBy, World}
+use Rattle.zl_calls.proofs.Common.{first_some, operands_fault, refusal, gives_refused, Calls, Wants, Refused, may_want, replied, taken, IsRefusedBy}
+use Rattle.zl_calls.proofs.Common.{IsTrue, World, false≢true, wants_nothing}
 use Rattle.zl_calls.proofs.Common.{result_err, granted, looked_up, takes, Entry, Kind, Status, Outcome}
 use Rattle.zl_rights.specs.declared.status.Status.TheVariants as status
 use Rattle.zl_code.specs.declared.history.Outcome.TheVariants as outcome
@@ -103,18 +104,22 @@ module _ (lib : Library) (w : World) (p : ℕ) (entries : Map Entry) (table : ta
       (λ e is there. behind_look_up (looked_up entries j others more) None o (listed lib w p request) (λ s. also e s is)
       (λ f are. found e f is are there (is_found (get entries j) others more f are)))
 
--- ---- an answer that refuses the call, or wants memory
+-- ---- an answer that refuses the call, or is that for a want
+
+pub nothing_wanted : (s : Status) → IsTrue (wants_nothing s) → ⊥
+nothing_wanted status.NoMemory want = false≢true want
+nothing_wanted status.NoResources want = false≢true want
+nothing_wanted _ want = false≢true want
 
 module _ (lib : Library) (w : World) (p : ℕ) (s : Site) where
   -- where a refusal tells no more than the status
   abbrev pub TellsNothing : Type 0
   TellsNothing = (answer : Status) → gives_refused w p s.request answer ≡ []
 
-  pub refused_calls : (wants : Bool) (o : Option Status) (answer : Status) (w2 : World) → TellsNothing → refusal lib w p s.request ≡ answers o
-      → wants ≡ grows s.request → IsRefusedBy wants o answer
+  pub refused_calls : (wants : Status → Bool) (o : Option Status) (answer : Status) (w2 : World) → TellsNothing → refusal lib w p s.request ≡ answers o
+      → wants ≡ may_want w p s.request → IsRefusedBy wants o answer
       → w2 ≡ replied (taken w p s) p s answer [] → Calls lib w p s (outcome.Answered answer) w2
   refused_calls wants (Some r) answer w2 nothing refused may by is =
       (Refused, rw refused (ap (λ (x : Status). outcome.Answered x) by, is ∙ rw (by, nothing r) refl))
-  refused_calls true None answer w2 nothing refused may by is =
-      (WantsMemory, rw refused (sym may, ap (λ (x : Status). outcome.Answered x) by, is ∙ rw (by, nothing status.NoMemory) refl))
-  refused_calls false None answer w2 nothing refused may by is = absurd by
+  refused_calls wants None answer w2 nothing refused may by is =
+      (Wants answer, rw refused (ap (λ (f : Status → Bool). f answer) (sym may) ∙ by, refl, is ∙ rw (nothing answer) refl))

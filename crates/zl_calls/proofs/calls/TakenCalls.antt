@@ -5,7 +5,7 @@ use Rattle.zl_calls.proofs.Common.{false≢true, none-some, nat_cmp, is_sorted, 
 use Rattle.zl_calls.proofs.Common.{taken_handles, remove_all, on_process, process_without, replied, cpu_answered, AtCall, next_for, get-put, get-without}
 use Rattle.zl_calls.proofs.Common.{sorted_put, sorted_without, length-without, Handles, IsTable, Objects, Releases, koids_of, Replies, status_of, values_of}
 use Rattle.zl_calls.proofs.Common.{process_entry, process_value, state_value, world_value, IsConsistent, IsNamed, World, IsSound, option_to_list, Entry, Status}
-use Rattle.zl_calls.proofs.Common.{CallName, Outcome, DoesTaking, taken_from, without_handle, without_handles}
+use Rattle.zl_calls.proofs.Common.{CallName, Outcome, DoesTaking, taken_from, without_handle, without_handles, may_want}
 use Rattle.zl_code.proofs.Common.{Process as ProcessValue}
 use Rattle.zl_rights.specs.declared.status.Status.TheVariants as status
 use Rattle.zl_code.specs.declared.history.Outcome.TheVariants as outcome
@@ -33,7 +33,8 @@ left_one t h v e at = by_live (has_key t.entries h) at
     by_key (inl here) read = absurd (none-some e (rw here at read))
     by_key (inr apart) read = rw apart at read
 
-    by_live : (live : Bool) → get (if live then record { entries = without t.entries h; last = Some h } else t).entries v ≡ Some e → get t.entries v ≡ Some e
+    by_live : (live : Bool) → get (if live then record { entries = without t.entries h; last = Some h; offered = h } else t).entries v ≡ Some e
+        → get t.entries v ≡ Some e
     by_live true read = by_key (cases_Bool (h == v)) (sym (get-without t.entries h v) ∙ read)
     by_live false read = read
 
@@ -44,11 +45,11 @@ gone_one t h = by_entry (get t.entries h) refl
     same j = eq-eqb j j refl
 
     by_entry : (o : Option Entry) → get t.entries h ≡ o
-        → get (if is_some o then record { entries = without t.entries h; last = Some h } else t).entries h ≡ None
+        → get (if is_some o then record { entries = without t.entries h; last = Some h; offered = h } else t).entries h ≡ None
     by_entry None is = is
     by_entry (Some e) is = get-without t.entries h h ∙ rw (same h) refl
 
-table_left : (t : Handles) (h : ℕ) → IsTable t → IsTable (without_handle t h)
+table_left : (t : Handles) (h : ℕ) → IsTable t.entries → IsTable (without_handle t h).entries
 table_left t h table = by_entry (get t.entries h) refl
   where
     by_value : (v : ℕ) (o : Option Entry) → get (without t.entries h) v ≡ o → IsTrue (is_some o) → (if h == v then None else get t.entries v) ≡ o
@@ -59,7 +60,8 @@ table_left t h table = by_entry (get t.entries h) refl
       | inr apart ↦ ap is_some (rw apart at read)
     ]
 
-    by_entry : (o : Option Entry) → get t.entries h ≡ o → IsTable (if is_some o then record { entries = without t.entries h; last = Some h } else t)
+    by_entry : (o : Option Entry) → get t.entries h ≡ o
+        → IsTable (if is_some o then record { entries = without t.entries h; last = Some h; offered = h } else t).entries
     by_entry None is = table
     by_entry (Some e) is = record {
       sorted = sorted_without t.entries h table.sorted;
@@ -69,7 +71,7 @@ table_left t h table = by_entry (get t.entries h) refl
 
 -- ---- handles leave a table one after another
 
-pub tables_left : (hs : List ℕ) (t : Handles) → IsTable t → IsTable (without_handles t hs)
+pub tables_left : (hs : List ℕ) (t : Handles) → IsTable t.entries → IsTable (without_handles t hs).entries
 tables_left [] t table = table
 tables_left (h ∷ hs) t table = tables_left hs (without_handle t h) (table_left t h table)
 
@@ -116,7 +118,7 @@ not_twice hs t h = by_entry (get (taken_map (without_handle t h) hs) h) refl
     by_entry (Some e) is = absurd (none-some e (sym (gone_one t h) ∙ taken_there hs (without_handle t h) h e is))
 
 -- what left isn't counted any more
-pub fewer_left : (test : ℕ × Entry → Bool) (hs : List ℕ) (t : Handles) → IsTable t
+pub fewer_left : (test : ℕ × Entry → Bool) (hs : List ℕ) (t : Handles) → IsTable t.entries
     → count_by test t.entries ≡ count_by test (without_handles t hs).entries + count_by test (taken_map t hs)
 fewer_left test [] t table = omega arith
 fewer_left test (h ∷ hs) t table = by_entry (get t.entries h) refl (fewer_left test hs (without_handle t h) (table_left t h table))
@@ -179,8 +181,8 @@ without_one h t q = by_live (has_key t.entries h)
   where
     by_live : (live : Bool) → (if live then record (with_table t q) { handles = without t.entries h; last = Some h } else with_table t q)
         ≡ record q {
-          handles = (if live then record { entries = without t.entries h; last = Some h } else t).entries;
-          last = (if live then record { entries = without t.entries h; last = Some h } else t).last;
+          handles = (if live then record { entries = without t.entries h; last = Some h; offered = h } else t).entries;
+          last = (if live then record { entries = without t.entries h; last = Some h; offered = h } else t).last;
         }
     by_live true = refl
     by_live false = refl
@@ -211,10 +213,10 @@ module _ {before after : List Process} {p p2 : Process} (write : IsWrite before 
       is = ap process_value replies ∙ (rw (table, left) refl)
 
   module _ (r : Objects) (consistent : IsConsistent before r) (same_state : p2.state ≡ p.state) where
-    old_table : IsTable p.table
+    old_table : IsTable p.table.entries
     old_table = consistent.tables p.pid (process_value p) write.there
 
-    pub new_table : IsTable p2.table
+    pub new_table : IsTable p2.table.entries
     new_table = rw table (tables_left hs p.table old_table)
 
     -- a handle that is left was there
@@ -248,8 +250,8 @@ module _ {before after : List Process} {r : Objects} {p p2 : Process} (lib : Lib
   abbrev w : World
   w = world_value before r
 
-  module _ {A : Type 0} (values : A → List ℕ) (Done : A → Handles → Objects → Type 0) (wants : Bool) (o : Option Status)
-      (refused : refusal lib w p.pid s.request ≡ answers o) (may_want : wants ≡ grows s.request) (nothing : TellsNothing lib w p.pid s)
+  module _ {A : Type 0} (values : A → List ℕ) (Done : A → Handles → Objects → Type 0) (wants : Status → Bool) (o : Option Status)
+      (refused : refusal lib w p.pid s.request ≡ answers o) (wanting : wants ≡ may_want w p.pid s.request) (nothing : TellsNothing lib w p.pid s)
       (done : (x : A) → Done x p2.table r2 → Replies s status.Ok (values x) p p2 → IsCalled lib before after r r2 p.pid s (outcome.Answered status.Ok)) where
     refused_done : (answer : Status) → DoesTaking Done wants o hs p.table r (Err answer) p2.table r2 → Replies s answer [] p p2
         → IsDone lib before after r r2 p.pid call (outcome.Answered answer)
@@ -259,7 +261,7 @@ module _ {before after : List Process} {r : Objects} {p p2 : Process} (lib : Lib
         closed write hs does.closed.table r consistent (ap (λ (q : Process). q.state) replies) r2 does.closed.objects in
         record {
           step = call_settles lib before after r r r2 p call s (outcome.Answered answer) write.there ready next
-              (refused_calls lib w p.pid s wants o answer (world_value after r) nothing refused may_want does.err answered) left.settles;
+              (refused_calls lib w p.pid s wants o answer (world_value after r) nothing refused wanting does.err answered) left.settles;
           consistent = left.consistent;
         }
       where

@@ -5,6 +5,7 @@ use Rattle.zl_calls.proofs.Common.{answer_if, first_some, may_choose, new_handle
 use Rattle.zl_calls.proofs.Common.{gives_refused, Refused, Values, replied, koid_in, Objects, Replies, told_by}
 use Rattle.zl_calls.proofs.Common.{world_value, IsConsistent, World, operands_fault, false≢true, awaited_by, wait_one, object_at}
 use Rattle.zl_calls.proofs.Common.{is_mask, SignalOf, result_err, granted, looked_up, WAIT, Status, Entry, Signals, Outcome, signals_at, IsTold}
+use Rattle.zl_calls.proofs.Common.{wants_nothing}
 use Rattle.zl_code.specs.Common.{wait_poll}
 use Rattle.zl_code.specs.Waiting.{active_at, is_active_at}
 use Rattle.zl_rights.specs.Numbers.{meets}
@@ -158,7 +159,7 @@ module _ {before after : List Process} {r : Objects} {p p2 : Process} (lib : Lib
   pub one_done : IsDoneBy lib before after r r2 p p2 one_site (told_by watched_values) (WaitOneDoes h mask)
   unfolding taken_handles handle_operands remove_all gives_refused
   one_done =
-      answered_done lib r2 consistent write one_site watched_values (WaitOneDoes h mask) (SeesActive p.table r h mask) false
+      answered_done lib r2 consistent write one_site watched_values (WaitOneDoes h mask) (SeesActive p.table r h mask) wants_nothing
       (result_err (watched_at p.table.entries r.objects h mask)) (λ answer acts. acts) refused_one refl refl (λ answer. refl)
       (λ x sees replies. one_called x sees.seen sees.active sees.table sees.objects replies)
 

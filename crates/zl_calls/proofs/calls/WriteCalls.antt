@@ -8,7 +8,7 @@ use Rattle.zl_calls.proofs.Common.{taken, get-update, get-without, Handles, Obje
 use Rattle.zl_calls.proofs.Common.{world_value, body_value, body_in, koids_of, handles_to, IsConsistent, IsNamed, AreNamed, World, operands_fault, IsSound}
 use Rattle.zl_calls.proofs.Common.{or_parts, list_any-append, sum_by-append, option_to_list, result_err, Status, Entry, looked_up, TRANSFER, WRITE, Message}
 use Rattle.zl_calls.proofs.Common.{operand_by, Operand, kind_of, peer_at, process_value, takes, Ok, get_seen, has_seen, taken_from, without_handle, fault_of}
-use Rattle.zl_calls.proofs.Common.{list_refusal}
+use Rattle.zl_calls.proofs.Common.{list_refusal, wants_memory}
 use Rattle.zl_code.proofs.Common.{Object as ObjectValue, All-cons}
 use Rattle.std.proofs.lemmas.List.Elements.{All-append}
 use Rattle.std.specs.List.{filter, flat_map}
@@ -103,7 +103,7 @@ none_then (Some s) b h = absurd (none-some s (sym h))
 other_one : (t : Handles) (h v : ℕ) → (h == v) ≡ false → get (without_handle t h).entries v ≡ get t.entries v
 other_one t h v apart = by_live (has_key t.entries h)
   where
-    by_live : (live : Bool) → get (if live then record { entries = without t.entries h; last = Some h } else t).entries v ≡ get t.entries v
+    by_live : (live : Bool) → get (if live then record { entries = without t.entries h; last = Some h; offered = h } else t).entries v ≡ get t.entries v
     by_live true = get-without t.entries h v ∙ rw apart refl
     by_live false = refl
 
@@ -330,5 +330,5 @@ module _ {before after : List Process} {r : Objects} {p p2 : Process} (lib : Lib
   unfolding gives_refused
   write_done ready call next o acts =
       taking_done lib r2 consistent write ready call write_site next hs (takes_listed c bytes hs) no_value
-      (λ _. WritesMessage p.table r c bytes hs) true refused_by
+      (λ _. WritesMessage p.table r c bytes hs) wants_memory refused_by
       refused refl (λ answer. refl) (λ _. write_called) o acts.answer acts.acts acts.replied acts.ends

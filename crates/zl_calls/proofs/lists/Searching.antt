@@ -6,8 +6,28 @@ use Rattle.std.specs.Result.{result_ok}
 use Rattle.std.specs.List.Sorted.{IsSearchInRange, IsBinarySearchResult, IsNonDecreasingBy}
 use Rattle.std.specs.Ordering.{ordering_index}
 use Rattle.std.proofs.lemmas.Cmp.{ranked}
-use Rattle.zl_table.proofs.Search.{first_below, keys_rise}
+use Rattle.zl_table.proofs.MapEdits.{below_parts}
+use Rattle.zl_rights.proofs.Common.{Map, below_all}
 use Rattle.zl_calls.proofs.lists.Positions.{entry}
+
+module _ {X : Type 0} where
+  -- a key below all is below the key at each place
+  below_each : (k : ℕ) (m : Map X) → IsTrue (below_all nat_cmp k m) → (i : ℕ) (d : ℕ × X) → i < length m → k < (get_or m i d).0
+  below_each k [] below i d lt = absurd (omega arith)
+  below_each k (e ∷ m) below zero d lt = (below_parts k e m below).0
+  below_each k (e ∷ m) below (suc i) d lt = below_each k m (below_parts k e m below).1 i d (omega arith)
+
+  -- the first key is below each later one
+  first_below : (e : ℕ × X) (m : Map X) → IsTrue (is_sorted nat_cmp (e ∷ m)) → (i : ℕ) (d : ℕ × X) → i < length m → e.0 < (get_or m i d).0
+  first_below e m sorted = below_each e.0 m (sorted_parts e m sorted).0
+
+  -- the keys rise
+  keys_rise : (m : Map X) → IsTrue (is_sorted nat_cmp m) → (i j : ℕ) (d : ℕ × X) → i ≤ j → j < length m → (get_or m i d).0 ≤ (get_or m j d).0
+  keys_rise [] sorted i j d le lt = absurd (omega arith)
+  keys_rise (e ∷ m) sorted zero zero d le lt = omega arith
+  keys_rise (e ∷ m) sorted zero (suc j) d le lt = omega (arith, first_below e m sorted j d (omega arith))
+  keys_rise (e ∷ m) sorted (suc i) zero d le lt = absurd (omega arith)
+  keys_rise (e ∷ m) sorted (suc i) (suc j) d le lt = keys_rise m (sorted_parts e m sorted).1 i j d (omega arith) (omega arith)
 
 module _ {X Y : Type 0} (key : X → ℕ) (value : X → Y) (k : ℕ) where
   abbrev keyed : X → ℕ × Y

@@ -36,7 +36,7 @@ module _ (ps : List Process) (m : Map Entry) (r : Objects) (sound : IsSound ps m
   in_a_table some =
       let holder : Found (λ p. list_any (λ h. h.1.koid == k) p.1.handles) (map process_entry ps) =
       any_found (λ p. list_any (λ h. h.1.koid == k) p.1.handles) (map process_entry ps) sound.processes_in_order some in
-      let table : IsTable (record { entries = holder.value.handles; last = holder.value.last }) = sound.tables holder.key holder.value holder.at in
+      let table : IsTable holder.value.handles = sound.tables holder.key holder.value holder.at in
       let handle : Found (λ h. h.1.koid == k) holder.value.handles = any_found (λ h. h.1.koid == k) holder.value.handles table.sorted holder.passes in
       is_there handle.value (sound.named holder.key holder.value handle.key handle.value holder.at handle.at) handle.passes
 

@@ -130,7 +130,7 @@ module _ (ps : List Process) (r : Objects) where
     above_zero = consistent.above_zero;
     no_zero = consistent.no_zero;
     tables = λ k p at. let (old, was, is) = found_left k p at in
-        subst (λ (x : ProcessValue). IsTable (record { entries = x.handles; last = x.last })) is (consistent.tables k old was);
+        subst (λ (x : ProcessValue). IsTable x.handles) is (consistent.tables k old was);
     named = λ k p v e at there. let (old, was, is) = found_left k p at in consistent.named k old v e
         was (ap (λ (x : ProcessValue). get x.handles v) is ∙ there);
     queued = consistent.queued;

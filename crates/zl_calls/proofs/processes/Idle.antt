@@ -1,7 +1,6 @@
 -- Processes that were made and not started have no handles; and each process stands where its koid is.
 use Rattle.zl_calls.proofs.Common.{◌≡◌, ℕ, zero, suc, true, false, List, [], ◌∷◌, map, refl, Some, IsTrue, eq-eqb, false≢true, none-some, same_Some, nat_cmp}
 use Rattle.zl_calls.proofs.Common.{is_sorted, slice_get, sorted_parts, get, runs, Objects, process_entry, process_value, state_value, world_blocked, is_created}
-use Rattle.zl_calls.proofs.Common.{AreBare}
 use Rattle.zl_code.specs.Sound.{IsSound as IsSoundWorld}
 use Rattle.zl_calls.specs.declared.process.State.{State}
 use Rattle.zl_calls.specs.declared.process.State.TheVariants as state
@@ -22,5 +21,6 @@ not_running state.Created h = refl
 not_running _ h = absurd (false≢true h)
 
 pub are_bare : (ps : List Process) (r : Objects) (blocked : List ℕ) → IsTrue (is_sorted nat_cmp (map process_entry ps))
-    → IsSoundWorld (world_blocked ps r blocked) → AreBare ps
+    → IsSoundWorld (world_blocked ps r blocked) → (n : ℕ) (q : Process) → slice_get ps n ≡ Some q
+    → is_created (state_value q.state) ≡ true → q.table.entries ≡ []
 are_bare ps r blocked sorted sound n q at created = ((sound.tables q.pid (process_value q) (get_placed ps sorted n q at)).idle (not_running q.state created)).0

@@ -73,7 +73,7 @@ module _ (ps : List Process) (m : Map Entry) (r : Objects) (sound : IsSound ps m
   -- ---- the invariant
 
   -- none of the handles m names the object; its own handles have entered, and the handles m2 are to enter
-  module _ (table : IsTable p.table) (names : (v : ℕ) (e : Entry) → get p.table.entries v ≡ Some e → IsNamed r.objects e)
+  module _ (table : IsTable p.table.entries) (names : (v : ℕ) (e : Entry) → get p.table.entries v ≡ Some e → IsNamed r.objects e)
       (agrees : Agrees (world_value after grown) n b) (in_job : IsTrue (is_in_job grown.objects b)) (koid : n < 2 ^ 62)
       (apart_from : ◌≡◌ {A = ℕ} (count_by (λ h. h.1.koid == n) m) 0) (m2 : Map Entry)
       (counted_is : (j : ℕ)
@@ -97,8 +97,8 @@ module _ (ps : List Process) (m : Map Entry) (r : Objects) (sound : IsSound ps m
         | inl same ↦ omega (arith, same, sound.above_zero)
         | inr old ↦ sound.no_zero k old
       ];
-      tables = λ k q at. found_process (IsTable (record { entries = q.handles; last = q.last })) k q at
-          (λ is. subst (λ (x : ProcessValue). IsTable (record { entries = x.handles; last = x.last })) is table) (sound.tables k q);
+      tables = λ k q at. found_process (IsTable q.handles) k q at
+          (λ is. subst (λ (x : ProcessValue). IsTable x.handles) is table) (sound.tables k q);
       named = λ k q v e at there. grown_named ps m r sound b count e
           (found_process (IsNamed r.objects e) k q at (λ is. names v e (ap (λ (x : ProcessValue). get x.handles v) is ∙ there))
           (λ old. sound.named k q v e old there));

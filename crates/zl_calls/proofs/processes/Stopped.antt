@@ -24,7 +24,7 @@ use Rattle.zl_calls.proofs.processes.Written.{after_is, get_after, found_after, 
 -- ---- the table of the process has lost the handles m
 
 module _ {before after : List Process} {p p2 : Process} (write : IsWrite before after p p2) (r : Objects) (consistent : IsConsistent before r) (m : Map Entry)
-    (table : IsTable p2.table)
+    (table : IsTable p2.table.entries)
     (fewer : (j : ℕ) → count_by (λ h. h.1.koid == j) p.table.entries ≡ count_by (λ h. h.1.koid == j) p2.table.entries + count_by (λ h. h.1.koid == j) m)
     (named : (v : ℕ) (e : Entry) → get p2.table.entries v ≡ Some e → IsNamed r.objects e) where
   pub still_given : (k : ℕ) → IsTrue (has_key (map process_entry after) k) → k < r.next_koid
@@ -98,8 +98,8 @@ module _ {before after : List Process} {p p2 : Process} (write : IsWrite before 
       koids = consistent.koids;
       above_zero = consistent.above_zero;
       no_zero = λ j has. consistent.no_zero j (sym (has_key-update r.objects p.pid stopped j) ∙ has);
-      tables = λ k q at. found_after write (IsTable (record { entries = q.handles; last = q.last })) k q at
-          (λ is. subst (λ (x : ProcessValue). IsTable (record { entries = x.handles; last = x.last })) is table) (consistent.tables k q);
+      tables = λ k q at. found_after write (IsTable q.handles) k q at
+          (λ is. subst (λ (x : ProcessValue). IsTable x.handles) is table) (consistent.tables k q);
       named = λ k q v e at there. found_after write (IsNamed ended.objects e) k q at
           (λ is. named_stopped e (named v e (ap (λ (x : ProcessValue). get x.handles v) is ∙ there)))
           (λ old. named_stopped e (consistent.named k q v e old there));

@@ -92,7 +92,7 @@ module _ {before after : List Process} {p p2 : Process} (write : IsWrite before 
   -- the handles m counted beside those in tables and queues, and m2 do now
   pub written_sound : (m m2 : Map Entry) (r : Objects) → IsSound before m r
       → ((k : ℕ) (b : Body) → Agrees (world_value before r) k b → Agrees (world_value after r) k b)
-      → IsTable p2.table → ((v : ℕ) (e : Entry) → get p2.table.entries v ≡ Some e → IsNamed r.objects e)
+      → IsTable p2.table.entries → ((v : ℕ) (e : Entry) → get p2.table.entries v ≡ Some e → IsNamed r.objects e)
       → ((k : ℕ) → handles_to (world_value after r) k + count_by (λ h. h.1.koid == k) m2
       ≡ handles_to (world_value before r) k + count_by (λ h. h.1.koid == k) m)
       → IsSound after m2 r
@@ -105,8 +105,8 @@ module _ {before after : List Process} {p p2 : Process} (write : IsWrite before 
     koids = sound.koids;
     above_zero = sound.above_zero;
     no_zero = sound.no_zero;
-    tables = λ k q at. found_after (IsTable (record { entries = q.handles; last = q.last })) k q at
-        (λ is. subst (λ (x : ProcessValue). IsTable (record { entries = x.handles; last = x.last })) is table) (sound.tables k q);
+    tables = λ k q at. found_after (IsTable q.handles) k q at
+        (λ is. subst (λ (x : ProcessValue). IsTable x.handles) is table) (sound.tables k q);
     named = λ k q v e at there. found_after (IsNamed r.objects e) k q at (λ is. named v e (ap (λ (x : ProcessValue). get x.handles v) is ∙ there))
         (λ old. sound.named k q v e old there);
     queued = sound.queued;
@@ -118,7 +118,7 @@ module _ {before after : List Process} {p p2 : Process} (write : IsWrite before 
   -- the handles m have entered its table
   pub entered : (m : Map Entry) (r : Objects) → IsSound before m r → AreKeptBut [] r.objects
       → ((k : ℕ) (b : Body) → Agrees (world_value before r) k b → Agrees (world_value after r) k b)
-      → IsTable p2.table → ((v : ℕ) (e : Entry) → get p2.table.entries v ≡ Some e → IsNamed r.objects e)
+      → IsTable p2.table.entries → ((v : ℕ) (e : Entry) → get p2.table.entries v ≡ Some e → IsNamed r.objects e)
       → ((k : ℕ) → handles_to (world_value after r) k ≡ handles_to (world_value before r) k + count_by (λ h. h.1.koid == k) m)
       → IsConsistent after r
   entered m r sound kept agree table named counts =

@@ -5,7 +5,6 @@ use Rattle.zl_calls.proofs.Common.{first_handles, InsertsEach}
 use Rattle.zl_code.proofs.Common.{get_or, take_more, is_empty, ne_eqb, eq-eqb, length-take-le}
 use Rattle.zl_channel.specs.Queue.{front_entry}
 use Rattle.zl_table.specs.Table.{TakesBack}
-use Rattle.zl_calls.proofs.tables.Taking.{one_longer}
 
 -- ---- one more behind the others
 
@@ -27,15 +26,6 @@ values_count t u [] (y ∷ vs) so_far = absurd so_far
 values_count t u (x ∷ es) [] so_far = absurd so_far
 values_count t u (x ∷ es) (y ∷ vs) so_far = let rest = values_count so_far.between u es vs so_far.rest in omega (arith, rest)
 
-pub longer_by : (t u : Handles) (es : List Entry) (vs : List ℕ) → InsertsEach t es vs u → length u.entries ≤ length t.entries + length es
-longer_by t u [] [] so_far = rw so_far (omega arith)
-longer_by t u [] (y ∷ vs) so_far = absurd so_far
-longer_by t u (x ∷ es) [] so_far = absurd so_far
-longer_by t u (x ∷ es) (y ∷ vs) so_far =
-    let first = one_longer t x y so_far.between so_far.inserts in
-    let rest = longer_by so_far.between u es vs so_far.rest in
-    omega (arith, first, rest)
-
 -- ---- the handles in the first message
 
 -- with the next of them
@@ -45,14 +35,6 @@ front_more [] n e within at = absurd (omega (arith, within))
 front_more (m ∷ ms) n e within at =
     let same : get_or m.handles n e ≡ e = same_Some (get_or m.handles n e) e (sym (slice_get-get_or m.handles n e within) ∙ sym at) in
     take_more m.handles n e within ∙ ap (λ (x : Entry). take n m.handles ++ x ∷ []) same
-
--- the table has room for the next of them
-pub room_for_next : (t u : Handles) (es : List Entry) (vs : List ℕ) (n : ℕ) → n < length es → InsertsEach t (take n es) vs u
-    → length t.entries + length es ≤ 1024 → length u.entries < 1024
-room_for_next t u es vs n within so_far room =
-    let longer = longer_by t u (take n es) vs so_far in
-    let count : length (take n es) ≡ n = length-take-le n es (omega (arith, within)) in
-    omega (arith, longer, count, within, room)
 
 pub places_left : (t u : Handles) (es : List Entry) (vs : List ℕ) (n : ℕ) → n < length es → InsertsEach t (take n es) vs u → length vs ≡ n
 places_left t u es vs n within so_far = values_count t u (take n es) vs so_far ∙ length-take-le n es (omega (arith, within))

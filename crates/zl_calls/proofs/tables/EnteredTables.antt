@@ -9,7 +9,8 @@ use Rattle.zl_calls.proofs.tables.Taking.{one_longer}
 
 -- ---- the table afterwards
 
-pub tables_entered : (t u : Handles) (es : List Entry) (vs : List ℕ) → IsTable t → length t.entries + length es ≤ 1024 → InsertsEach t es vs u → IsTable u
+pub tables_entered : (t u : Handles) (es : List Entry) (vs : List ℕ) → IsTable t.entries → length t.entries + length es ≤ 1024
+    → InsertsEach t es vs u → IsTable u.entries
 tables_entered t u [] [] table room so_far = rw so_far table
 tables_entered t u [] (y ∷ vs) table room so_far = absurd so_far
 tables_entered t u (x ∷ es) [] table room so_far = absurd so_far

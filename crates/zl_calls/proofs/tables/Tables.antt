@@ -42,7 +42,7 @@ empty_has_none t value n count empty = by_entries t value t.entries refl (omega 
 
 -- ---- a table with one handle more
 
-pub inserted_table : (t : Handles) (e : Entry) (v : ℕ) (t2 : Handles) → IsTable t → length t.entries < 1024 → Inserts t e v t2 → IsTable t2
+pub inserted_table : (t : Handles) (e : Entry) (v : ℕ) (t2 : Handles) → IsTable t.entries → length t.entries < 1024 → Inserts t e v t2 → IsTable t2.entries
 inserted_table t e v t2 table room inserts = record {
   sorted = rw inserts.entries (sorted_put t.entries v e table.sorted);
   few = rw (inserts.entries, length-put_new t.entries v e inserts.unused) (omega (arith, room));

@@ -2,7 +2,7 @@
 use Rattle.zl_calls.proofs.Common.{false, koids_of, map-append, take, ◌-◌, ◌≡◌, ◌<◌, ◌≤◌, ◌+◌, ℕ, List, [], ◌∷◌, length, refl, sym, subst, ◌∙◌, ap, Option}
 use Rattle.zl_calls.proofs.Common.{Some, None, arith, ◌++◌, append-nil, Map, get, Objects, none_left, Releases, AreKeptBut, Err, Entry, option_to_list}
 use Rattle.zl_calls.proofs.Common.{releases_then, ClosesEach, DoesTaking, taken_from, without_handle, without_handles, Closes, Replaces, replace_refusal}
-use Rattle.zl_calls.proofs.Common.{KeepsListed}
+use Rattle.zl_calls.proofs.Common.{KeepsListed, wants_nothing}
 use Rattle.zl_table.specs.Table.{Handles, Inserts}
 use Rattle.zl_code.proofs.Common.{append_assoc, length-append, get_or, take_more}
 use Rattle.std.specs.Option.{option_map}
@@ -91,7 +91,7 @@ no_value_of f (Some x) e = cc
 -- a value that isn't live can't be replaced
 pub not_live_refused : (pid : ℕ) (t : Handles) (r : Objects) (v asked : ℕ)
     → ◌≡◌ {A = Option (ℕ × Entry)} None (option_map (λ (e : Entry). (v, e)) (get t.entries v))
-    → DoesTaking (Replaces pid t r v asked) false (replace_refusal t.entries v asked) (v ∷ []) t r (Err status.BadHandle) t r
+    → DoesTaking (Replaces pid t r v asked) wants_nothing (replace_refusal t.entries v asked) (v ∷ []) t r (Err status.BadHandle) t r
 not_live_refused pid t r v asked e =
     let gone : get t.entries v ≡ None = no_value_of {B = ℕ × Entry} (λ (x : Entry). (v, x)) (get t.entries v) (sym e) in
     record { ok = tt; err = rw gone refl; closed = none_closes v t r gone }

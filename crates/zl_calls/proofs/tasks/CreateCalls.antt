@@ -135,7 +135,7 @@ module _ (lib : Library) (before mid : List Process) (r : Objects) (consistent :
   unfolding get
   growing = record {
     sound = process_sound before [] r sound new pid above.koid life.Created 1
-        (subst (λ (x : ProcessValue). IsTable (record { entries = x.handles; last = x.last })) (sym created)
+        (subst (λ (x : ProcessValue). IsTable x.handles) (sym created)
         (record { sorted = refl; few = omega arith; values = λ value has. absurd (false≢true has) }))
         (λ v e at. absurd (none-some e (ap (λ (x : ProcessValue). get x.handles v) (sym created) ∙ at)))
         agrees_new (stands_grown before [] r sound b 1 above.koid above_there) has.koid refl ((made, entry) ∷ [])

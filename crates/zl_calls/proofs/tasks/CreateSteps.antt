@@ -4,7 +4,7 @@ use Rattle.zl_calls.proofs.Common.{none-some, same_Some, slice_get, slice_set, s
 use Rattle.zl_calls.proofs.Common.{remove_all, taken_handles, gives_refused, AtCall, next_for, cpu_answered, Objects, with_new, told_by, one_value, Replies}
 use Rattle.zl_calls.proofs.Common.{status_of, process_value, world_value, AreBlocked, IsConsistent, IsRefusedBy, process_create}
 use Rattle.zl_calls.proofs.Common.{CallName, Outcome, next_looks, looked_up, MANAGE_PROCESS, Entry, Status, IsAnsweredIn, IsToldIn}
-use Rattle.zl_calls.proofs.Common.{CreatesProcess, Parts, ProcessCreateDoes, create_refusal, parts, MakesOne}
+use Rattle.zl_calls.proofs.Common.{CreatesProcess, Parts, ProcessCreateDoes, create_refusal, parts, MakesOne, wants_place}
 use Rattle.zl_code.specs.declared.history.Outcome.TheVariants as outcome
 use Rattle.zl_code.specs.declared.history.TraceItem.TheVariants as item
 use Rattle.zl_rights.specs.declared.kind.Kind.TheVariants as kind
@@ -54,7 +54,7 @@ module _ {ps : List Process} {r : Objects} {blocked : List ℕ} {pid place : ℕ
 
   -- ---- it is refused
 
-  module _ (answer : Status) (refuses : IsRefusedBy true (create_refusal lib p.table.entries r job program) answer) where
+  module _ (answer : Status) (refuses : IsRefusedBy wants_place (create_refusal lib p.table.entries r job program) answer) where
     abbrev told : Process
     told = record p { cpu = cpu_answered s answer [] p.cpu }
 
@@ -68,7 +68,7 @@ module _ {ps : List Process} {r : Objects} {blocked : List ℕ} {pid place : ℕ
     unfolding taken_handles handle_operands remove_all gives_refused
     refused_called = record {
       calls =
-          refused_calls lib (world_value ps r) p.pid s true (create_refusal lib p.table.entries r job program) answer (world_value after_it r)
+          refused_calls lib (world_value ps r) p.pid s wants_place (create_refusal lib p.table.entries r job program) answer (world_value after_it r)
           (λ a. refl) refused_here refl refuses
           (same_world write_told r r s answer [] refl refl refl);
       keeps = refusal_keeps write_told r turn.consistent refl refl;

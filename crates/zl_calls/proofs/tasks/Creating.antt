@@ -1,6 +1,7 @@
--- What process_create does where memory is wanted, from what its parts do.
+-- What process_create does where memory or a place is wanted, from what its parts do.
 use Rattle.zl_calls.proofs.Common.{◌≡◌, ℕ, List, [], ◌∷◌, refl, sym, ap, ◌∙◌, subst, Option, Some, None, Result, Ok, Err, none-some, option_or}
-use Rattle.zl_calls.proofs.Common.{then_some, is_some, Map, get_or, slice_get, slice_set, Bool, true, false, not, Handles, IsRefusedBy, Library, Objects}
+use Rattle.zl_calls.proofs.Common.{then_some, is_some, Map, get_or, slice_get, slice_set, Bool, true, false, not, Handles, IsRefusedBy, IsTrue, Library}
+use Rattle.zl_calls.proofs.Common.{Objects, wants_place}
 use Rattle.zl_calls.proofs.Common.{get_or_from_slice_get, Status, looked_up, MANAGE_PROCESS, Entry, is_dead, job_at, MakeDoes, room_refusal, ProcessCreateDoes}
 use Rattle.zl_calls.proofs.Common.{create_refusal, create_refusal_of, needs_more, parts}
 use Rattle.zl_rights.specs.declared.status.Status.TheVariants as status
@@ -37,28 +38,26 @@ module _ (lib : Library) (ps ps2 : List Process) (r : Objects) (blocked blocked2
   unrefused : create_refusal lib caller.table.entries r job program ≡ None
   unrefused = ap (λ (p : Process). create_refusal lib p.table.entries r job program) (sym is_caller) ∙ sym passes
 
-  -- memory is wanted, and nothing has changed
-  pub wants_memory : (r2 : Objects) → r2 ≡ r → (ps3 : List Process) → ps3 ≡ ps2
-      → ProcessCreateDoes lib place job program caller (parts ps r blocked) (Err status.NoMemory) (parts ps3 r2 blocked2)
-  wants_memory r2 same_objects ps3 same = record {
+  -- there is a want, and nothing has changed
+  pub wanting : (s : Status) → IsTrue (wants_place s) → (r2 : Objects) → r2 ≡ r → (ps3 : List Process) → ps3 ≡ ps2
+      → ProcessCreateDoes lib place job program caller (parts ps r blocked) (Err s) (parts ps3 r2 blocked2)
+  wanting s want r2 same_objects ps3 same = record {
     ok = tt;
-    err = subst (λ (o : Option Status). IsRefusedBy true o status.NoMemory) (sym unrefused) refl;
+    err = subst (λ (o : Option Status). IsRefusedBy wants_place o s) (sym unrefused) want;
     refused = λ i. parts ((same ∙ same_ps) i) (same_objects i) (same_blocked i);
   }
 
-  -- the object or its handle wants memory
+  -- the object or its handle is wanting
   pub not_made : (written : Process) → written ≡ get_or ps2 place written → (b : Body) (table : Handles) (r2 : Objects) (s : Status)
       → MakeDoes b written.table r (Err s) table r2
       → ProcessCreateDoes lib place job program caller (parts ps r blocked) (Err s) (parts (slice_set ps2 place (record written { table = table })) r2 blocked2)
   not_made written is_written b table r2 s does =
-      subst (λ (x : Status). ProcessCreateDoes lib place job program caller (parts ps r blocked) (Err x)
-      (parts (slice_set ps2 place (record written { table = table })) r2 blocked2)) (sym is)
-      (wants_memory r2 does.same_objects (slice_set ps2 place (record written { table = table }))
-      (ap (λ (t : Handles). slice_set ps2 place (record written { table = t })) does.same_table ∙ set_read ps2 place written is_written))
+      wanting s want r2 does.same_objects (slice_set ps2 place (record written { table = table }))
+      (ap (λ (t : Handles). slice_set ps2 place (record written { table = t })) does.same_table ∙ set_read ps2 place written is_written)
     where
       same : written ≡ caller
       same = is_written ∙ (ap (λ (qs : List Process). get_or qs place written) same_ps ∙ get_or_from_slice_get ps place caller written there)
 
-      is : s ≡ status.NoMemory
-      is = subst (λ (o : Option Status). IsRefusedBy true o s)
+      want : IsTrue (wants_place s)
+      want = subst (λ (o : Option Status). IsRefusedBy wants_place o s)
           (ap (λ (p : Process). room_refusal p.table.entries r.next_koid) same ∙ room_is_left lib caller.table.entries r job program unrefused) does.err

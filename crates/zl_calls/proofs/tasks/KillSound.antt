@@ -415,8 +415,8 @@ module _ (ps ps3 : List Process) (r : Objects) (consistent : IsConsistent ps r) 
     above_zero = consistent.above_zero;
     no_zero = λ k there. consistent.no_zero k (was_object k (get r.objects k) (sym (ap is_some (kill_in t r.objects k)) ∙ there));
     tables = λ k q at. let w = was_here k q at in
-        subst (λ (x : ProcessValue). IsTable (record { entries = x.handles; last = x.last })) (sym w.became)
-        (table_killed (λ m l. IsTable (record { entries = m; last = l })) bare_table (within k) w.before (consistent.tables k w.before w.there));
+        subst (λ (x : ProcessValue). IsTable x.handles) (sym w.became)
+        (table_killed (λ m l. IsTable m) bare_table (within k) w.before (consistent.tables k w.before w.there));
     named = λ k q v e at there. let w = was_here k q at in
         table_killed (λ m l. get m v ≡ Some e → IsNamed (all_killed r.objects t) e) (λ found. absurd (none_in v e found)) (within k) w.before
         (λ found. named_killed r.objects t e (consistent.named k w.before v e w.there found))

@@ -3,7 +3,7 @@ use Rattle.zl_calls.proofs.Common.{◌≡◌, ℕ, ℤ, false, List, [], refl, s
 use Rattle.zl_calls.proofs.Common.{Library, Site, site, AtCall, next_for, Objects, process_value, state_value, world_blocked, world_value}
 use Rattle.zl_calls.proofs.Common.{IsConsistent, IsRefusedBy, cpu_answered, handle_operands, remove_all, taken_handles, gives_refused, refusal}
 use Rattle.zl_calls.proofs.Common.{status_of, ⊤, Ready, Status, CallName, Outcome, IsAnsweredIn, IsToldIn, Parts}
-use Rattle.zl_calls.proofs.Common.{TaskKillDoes, kill_refusal, parts}
+use Rattle.zl_calls.proofs.Common.{TaskKillDoes, kill_refusal, parts, wants_nothing}
 use Rattle.zl_rights.specs.declared.status.Status.TheVariants as status
 use Rattle.zl_code.proofs.Common.{is_blocked}
 use Rattle.zl_code.specs.CallTable.{task_kill}
@@ -52,7 +52,7 @@ module _ {ps : List Process} {r : Objects} {blocked : List ℕ} {pid place : ℕ
 
   -- ---- it is refused
 
-  module _ (answer : Status) (refuses : IsRefusedBy false (kill_refusal p.table.entries task) answer) where
+  module _ (answer : Status) (refuses : IsRefusedBy wants_nothing (kill_refusal p.table.entries task) answer) where
     abbrev told : Process
     told = record p { cpu = cpu_answered s answer [] p.cpu }
 
@@ -66,7 +66,8 @@ module _ {ps : List Process} {r : Objects} {blocked : List ℕ} {pid place : ℕ
     unfolding taken_handles handle_operands remove_all gives_refused
     refused_calls_so =
         freely lib (world_blocked ps r blocked) p.pid s (outcome.Answered answer) (world_blocked after_it r blocked) free_there
-        (refused_calls lib (world_blocked ps r blocked) p.pid s false (kill_refusal p.table.entries task) answer (world_blocked after_it r blocked) (λ a. refl)
+        (refused_calls lib (world_blocked ps r blocked) p.pid s wants_nothing (kill_refusal p.table.entries task) answer
+        (world_blocked after_it r blocked) (λ a. refl)
         (kill_refused lib (world_blocked ps r blocked) p.pid p.table.entries (table_is (itself turn) r) task) refl refuses
         (ends_among lib r turn.consistent write_told s blocked (world_value ps r) r.waits r.waits_made answer []
         (same_world write_told r r s answer [] refl refl refl) refl refl))

@@ -146,8 +146,8 @@ module _ (lib : Library) (ps : List Process) (r : Objects) (p : Process) (there 
       where
         by_live : (live : Bool) → (record (process_value p) {
           cpu = cpu_answered start_site status.Ok [] p.cpu;
-          handles = (if live then record { entries = without p.table.entries h; last = Some h } else p.table).entries;
-          last = (if live then record { entries = without p.table.entries h; last = Some h } else p.table).last;
+          handles = (if live then record { entries = without p.table.entries h; last = Some h; offered = h } else p.table).entries;
+          last = (if live then record { entries = without p.table.entries h; last = Some h; offered = h } else p.table).last;
         }) ≡ record (if live then record (process_value p) { handles = without p.table.entries h; last = Some h } else process_value p) {
           cpu = cpu_answered start_site status.Ok []
               (if live then record (process_value p) { handles = without p.table.entries h; last = Some h } else process_value p).cpu;

@@ -1,6 +1,6 @@
 -- The process that a call starts: how it is found by its koid, and what becomes of all processes.
 use Rattle.zl_calls.proofs.Common.{length-set, position-Some, get_or_from_slice_get, slice_get_within, misfits, is_created, Entry, Status, cpu_given, starting}
-use Rattle.zl_calls.proofs.Common.{ClosesEach, without_handle, AreBare, IsCallerStill, ProcessStartDoes, child_refusal, parts, process_at, start_refusal}
+use Rattle.zl_calls.proofs.Common.{ClosesEach, without_handle, IsCallerStill, ProcessStartDoes, child_refusal, parts, process_at, start_refusal}
 use Rattle.zl_rights.proofs.Common.{◌≡◌, ◌≢◌, ◌<◌, ℕ, Bool, true, false, ◌==◌, List, [], ◌∷◌, length, Option, Some, None, Ok, Err, refl, sym, ap, ◌∙◌, subst}
 use Rattle.zl_rights.proofs.Common.{arith, zero, suc, false≢true, same_Some, none-some, position, find, slice_get, slice_set, slice_get-get_or, nat_tests}
 use Rattle.zl_rights.proofs.Common.{eqb-true, get_or}
@@ -12,7 +12,7 @@ use Rattle.zl_rights.specs.declared.status.Status.TheVariants as status
 use Rattle.zl_rights.specs.Signals.{is_ready}
 use Rattle.zl_objects.specs.Objects.{Objects}
 use Rattle.zl_calls.specs.World.{state_value}
-use Rattle.zl_calls.specs.calls.Answer.{IsRefusedBy}
+use Rattle.zl_calls.specs.calls.Answer.{IsRefusedBy, wants_memory}
 use Rattle.zl_calls.specs.declared.process.State.{State}
 use Rattle.zl_calls.specs.declared.process.State.TheVariants as state
 use Rattle.zl_calls.specs.declared.calls.process.Started.{Started}
@@ -92,14 +92,6 @@ module _ (lib : Library) (ps : List Process) (place child process h : ℕ) (e : 
   module _ (q : Process) (read : q ≡ get_or ps child q) where
     is_child : (caller : Process) (at : slice_get ps place ≡ Some caller) → q ≡ (found caller at).at.child
     is_child caller at = read ∙ get_or_from_slice_get ps child (found caller at).at.child q (found caller at).at.is_there
-
-    pub child_room : place < length ps → AreBare ps → length q.table.entries < 1024
-    child_room within bare =
-        let there : (x : Process) × (slice_get ps place ≡ Some x) = stands_at ps place within in
-        let it : IsFound ps there.0 process h child e = found there.0 there.1 in
-        let empty : it.at.child.table.entries ≡ [] = bare child it.at.child it.at.is_there it.at.is_created in
-        let none : q.table.entries ≡ [] = ap (λ (x : Process). x.table.entries) (is_child there.0 there.1) ∙ empty in
-        rw none (omega arith)
 
     pub enters_so :
         (refusal : (caller : Process) → slice_get ps place ≡ Some caller → ◌≡◌ {A = Option Status} None (start_refusal lib ps caller.table.entries process h))
@@ -262,7 +254,8 @@ module _ (lib : Library) (ps : List Process) (r : Objects) (blocked : List ℕ) 
         }
 
   -- the start was refused, and the handle closes
-  module _ (refused : Status) (ps1 : List Process) (same : ps1 ≡ ps) (refuses : IsRefusedBy true (start_refusal lib ps caller.table.entries process h) refused)
+  module _ (refused : Status) (ps1 : List Process) (same : ps1 ≡ ps)
+      (refuses : IsRefusedBy wants_memory (start_refusal lib ps caller.table.entries process h) refused)
       (p : Process) (read : p ≡ get_or ps1 place p) (t : Handles) (r2 : Objects) (closes : ClosesEach (h ∷ []) p.table r t r2) where
     pub refused_still : IsCallerStill caller (slice_get (slice_set ps1 place (record p { table = t })) place)
     refused_still =

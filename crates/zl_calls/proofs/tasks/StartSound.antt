@@ -108,20 +108,20 @@ module _ (ps mid after : List Process) (child begins p p2 : Process) (one : IsWr
 
   -- ---- tables
 
-  child_table : IsTable child.table
+  child_table : IsTable child.table.entries
   child_table = consistent.tables child.pid (process_value child) one.there
 
-  begins_table : IsTable begins.table
+  begins_table : IsTable begins.table.entries
   begins_table = inserted_table child.table e value begins.table child_table (rw bare (omega arith)) inserts
 
-  old_table : IsTable p.table
+  old_table : IsTable p.table.entries
   old_table = consistent.tables p.pid (process_value p) there
 
-  p2_table : IsTable p2.table
+  p2_table : IsTable p2.table.entries
   p2_table = rw table (tables_left (h ∷ []) p.table old_table)
 
   abbrev IsTableOf : ProcessValue → Type 0
-  IsTableOf q = IsTable (record { entries = q.handles; last = q.last })
+  IsTableOf q = IsTable q.handles
 
   tables_now : (j : ℕ) (q : ProcessValue) → get (map process_entry after) j ≡ Some q → IsTableOf q
   tables_now j q at = found_after two (IsTableOf q) j q at (λ is. subst IsTableOf is p2_table)

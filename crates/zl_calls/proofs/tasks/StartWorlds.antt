@@ -4,7 +4,7 @@ use Rattle.zl_calls.proofs.Common.{slice_get, slice_set, set, get, Library, Site
 use Rattle.zl_calls.proofs.Common.{cpu_answered, no_value, told_by, status_of, process_value, state_value, world_value, taken_handles}
 use Rattle.zl_calls.proofs.Common.{handle_operands, gives_refused, AreBlocked, IsActed, IsConsistent, IsNamed, IsRefusedBy, World, next_looks, process_start}
 use Rattle.zl_calls.proofs.Common.{CallName, Outcome, looked_up, TRANSFER, WRITE, takes, Kind, Status, starting, IsAnsweredIn, IsToldIn}
-use Rattle.zl_calls.proofs.Common.{ClosesEach, without_handle, Parts, ProcessStartDoes, StartsProcess, parts, start_refusal}
+use Rattle.zl_calls.proofs.Common.{ClosesEach, without_handle, Parts, ProcessStartDoes, StartsProcess, parts, start_refusal, wants_memory}
 use Rattle.zl_code.specs.declared.history.Outcome.TheVariants as outcome
 use Rattle.zl_code.specs.declared.history.TraceItem.TheVariants as item
 use Rattle.zl_rights.specs.declared.kind.Kind.TheVariants as kind
@@ -44,7 +44,7 @@ module _ {ps : List Process} {r : Objects} {blocked : List ℕ} {pid place : ℕ
 
   -- ---- it is refused
 
-  module _ (answer : Status) (refuses : IsRefusedBy true (start_refusal lib ps p.table.entries process h) answer) (t : Handles) (r2 : Objects)
+  module _ (answer : Status) (refuses : IsRefusedBy wants_memory (start_refusal lib ps p.table.entries process h) answer) (t : Handles) (r2 : Objects)
       (closes : ClosesEach (h ∷ []) p.table r t r2) where
     abbrev told : Process
     told = record p { table = t; cpu = cpu_answered s answer [] p.cpu }
@@ -59,7 +59,7 @@ module _ {ps : List Process} {r : Objects} {blocked : List ℕ} {pid place : ℕ
     unfolding taken_handles handle_operands gives_refused
     refused_done =
         taking_done lib r2 turn.consistent write_told
-        (ready turn) name s next (h ∷ []) refl no_value (λ done t2 x. ⊥) true (start_refusal lib ps p.table.entries process h) (start_refused lib ps r p
+        (ready turn) name s next (h ∷ []) refl no_value (λ done t2 x. ⊥) wants_memory (start_refusal lib ps p.table.entries process h) (start_refused lib ps r p
         (itself turn).there process h word) refl (λ a. refl) (λ done never replies. absurd never)
         (outcome.Answered answer) (Err answer) (record { ok = tt; err = refuses; closed = closes }) refl refl
 

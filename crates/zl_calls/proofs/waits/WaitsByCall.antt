@@ -5,6 +5,8 @@ use Rattle.zl_calls.proofs.Common.{calls_at, Objects, Does, status_of, Acted, Ac
 use Rattle.zl_calls.proofs.Common.{job_set_policy}
 use Rattle.zl_calls.proofs.Common.{port_cancel, port_create, port_poll, port_queue, port_wait, wait_async, wait_one, CallName, Outcome, true≢false, next_looks}
 use Rattle.zl_calls.proofs.Common.{waits_by, looks_at_waits, Entry, Status, ListsBut, DoesTaking, ReplaceDoes, ChanReadDoes, Received, ReadFault}
+use Rattle.zl_calls.proofs.Common.{wants_nothing}
+use Rattle.zl_calls.proofs.calls.Refused.{nothing_wanted}
 use Rattle.zl_code.proofs.Common.{chan_read_etc}
 use Rattle.zl_code.specs.Common.{wait_poll}
 use Rattle.zl_code.specs.declared.history.Outcome.TheVariants as outcome
@@ -29,27 +31,28 @@ of_same r r2 x same made is = as_before r r2 (ap (λ (y : Objects). y.waits) is 
 
 module _ (r r2 : Objects) where
   -- where it is refused, nothing changes
-  does_lists : {A : Type 0} (Done : A → Handles → Objects → Type 0) (wants : Bool) (refusal : Option Status) (t t2 : Handles) (answer : Result A Status)
+  does_lists : {A : Type 0} (Done : A → Handles → Objects → Type 0) (wants : Status → Bool) (refusal : Option Status)
+      (t t2 : Handles) (answer : Result A Status)
       → ((x : A) → Done x t2 r2 → ListsBut r.waits r.waits_made r2) → Does Done wants refusal t r answer t2 r2 → ListsBut r.waits r.waits_made r2
   does_lists Done wants refusal t t2 (Ok x) done does = done x does.ok
   does_lists Done wants refusal t t2 (Err s) done does = of_same r r2 r refl refl does.same_objects
 
   -- or the handles that it takes close
-  taking_lists : {A : Type 0} (Done : A → Handles → Objects → Type 0) (wants : Bool) (refusal : Option Status) (hs : List ℕ) (t t2 : Handles)
+  taking_lists : {A : Type 0} (Done : A → Handles → Objects → Type 0) (wants : Status → Bool) (refusal : Option Status) (hs : List ℕ) (t t2 : Handles)
       (answer : Result A Status)
       → ((x : A) → Done x t2 r2 → ListsBut r.waits r.waits_made r2) → DoesTaking Done wants refusal hs t r answer t2 r2 → ListsBut r.waits r.waits_made r2
   taking_lists Done wants refusal hs t t2 (Ok x) done does = done x does.ok
   taking_lists Done wants refusal hs t t2 (Err s) done does = does.closed.listed.listed
 
 -- a refusal of replace isn't OK
-refused_replace : (e : Option Entry) (h asked pid : ℕ) (ws : List Wait) (s : Status) → IsRefusedBy false (replace_refusal_of asked e) s
+refused_replace : (e : Option Entry) (h asked pid : ℕ) (ws : List Wait) (s : Status) → IsRefusedBy wants_nothing (replace_refusal_of asked e) s
     → waits_after (replace h asked) (outcome.Answered s) pid ws ≡ ws
 refused_replace None h asked pid ws s err = rw err refl
 refused_replace (Some e) h asked pid ws s err = by_test (is_empty (with_rights e (narrowed e.rights asked))) err
   where
-    by_test : (b : Bool) → IsRefusedBy false (then_some b status.InvalidArgs) s → waits_after (replace h asked) (outcome.Answered s) pid ws ≡ ws
+    by_test : (b : Bool) → IsRefusedBy wants_nothing (then_some b status.InvalidArgs) s → waits_after (replace h asked) (outcome.Answered s) pid ws ≡ ws
     by_test true err = rw err refl
-    by_test false err = absurd err
+    by_test false err = absurd (nothing_wanted s err)
 
 module _ (p p2 : Process) (r r2 : Objects) (o : Outcome) (consumed destinations : List ℕ) where
   abbrev Listed : Request → Type 0

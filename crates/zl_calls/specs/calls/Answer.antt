@@ -1,8 +1,9 @@
 -- How a call is refused and answered, which is alike for all calls. No public clause cites this module.
 use Rattle.zl_code.specs.Common.{Blocked, Cpu, Map, get, has_key, without, answered, Site, cpu_answered}
+use Rattle.zl_code.specs.Calls.{wanted}
 use Rattle.zl_code.specs.Local.{overwritten}
 use Rattle.std.specs.Option.{option_to_list}
-use Rattle.std.specs.Prelude.{ℕ, ℤ, ◌≡◌, ◌+◌, ◌<◌, ◌^◌, Bool, true, false, nat_le, List, [], ◌∷◌, ◌++◌, if◌then◌else◌, length, Option, Some, None, Result, Ok, Err, ⊤, IfOk, IfErr, OnErr}
+use Rattle.std.specs.Prelude.{ℕ, ℤ, ◌≡◌, ◌+◌, ◌<◌, ◌^◌, Bool, true, false, nat_le, List, [], ◌∷◌, ◌++◌, if◌then◌else◌, length, Option, Some, None, Result, Ok, Err, ⊤, IfOk, IfErr, IsTrue, OnErr}
 use Rattle.zl_rights.specs.declared.status.Status.{Status}
 use Rattle.zl_rights.specs.declared.status.Status.TheVariants as status
 use Rattle.zl_rights.specs.declared.entry.Entry.{Entry}
@@ -19,18 +20,27 @@ use Rattle.zl_objects.specs.Release.{Releases, koids_of}
 
 -- ---- refusals
 
--- the status is the refusal; where nothing refuses the call, it is the want of memory, if the call can want it
-abbrev pub IsRefusedBy : Bool → Option Status → Status → Type 0
+-- the answers for a want of a call that may want nothing; memory alone; memory, and a place in a table
+abbrev pub wants_nothing : Status → Bool
+wants_nothing = wanted false false
+
+abbrev pub wants_memory : Status → Bool
+wants_memory = wanted true false
+
+abbrev pub wants_place : Status → Bool
+wants_place = wanted true true
+
+-- the status is the refusal; where nothing refuses the call, it is the answer for a want
+abbrev pub IsRefusedBy : (wants : Status → Bool) → Option Status → Status → Type 0
 IsRefusedBy wants (Some refusal) s = s ≡ refusal
-IsRefusedBy true None s = s ≡ status.NoMemory
-IsRefusedBy false None s = ⊥
+IsRefusedBy wants None s = IsTrue (wants s)
 
 -- the table has place for one handle more
 abbrev pub has_room_in : Map Entry → Bool
 has_room_in entries = nat_le (length entries + 1) 1024
 
 -- a call was done, or else it was refused and changed nothing
-pub record Does {A : Type 0} (Done : A → Handles → Objects → Type 0) (wants : Bool) (refusal : Option Status) (t : Handles) (r : Objects) (answer : Result A Status) (t2 : Handles) (r2 : Objects) : Type 0 where
+pub record Does {A : Type 0} (Done : A → Handles → Objects → Type 0) (wants : Status → Bool) (refusal : Option Status) (t : Handles) (r : Objects) (answer : Result A Status) (t2 : Handles) (r2 : Objects) : Type 0 where
   pub ok : IfOk answer (λ x. Done x t2 r2)
   pub err : IfErr answer (IsRefusedBy wants refusal)
   pub same_table : OnErr answer (t2 ≡ t)
@@ -40,7 +50,7 @@ pub record Does {A : Type 0} (Done : A → Handles → Objects → Type 0) (want
 
 -- the table without the handle
 abbrev pub without_handle : Handles → ℕ → Handles
-without_handle t value = if has_key t.entries value then record { entries = without t.entries value; last = Some value } else t
+without_handle t value = if has_key t.entries value then record { entries = without t.entries value; last = Some value; offered = value } else t
 
 -- the table without the handles at these values, which leave it from left to right
 abbrev pub without_handles : Handles → List ℕ → Handles
@@ -59,7 +69,7 @@ pub record ClosesEach (hs : List ℕ) (t : Handles) (r : Objects) (t2 : Handles)
   pub listed : KeepsListed r r2
 
 -- a call was done; or else it was refused, and the handles at the values hs closed, which it takes however it is answered
-pub record DoesTaking {A : Type 0} (Done : A → Handles → Objects → Type 0) (wants : Bool) (refusal : Option Status) (hs : List ℕ) (t : Handles) (r : Objects) (answer : Result A Status) (t2 : Handles) (r2 : Objects) : Type 0 where
+pub record DoesTaking {A : Type 0} (Done : A → Handles → Objects → Type 0) (wants : Status → Bool) (refusal : Option Status) (hs : List ℕ) (t : Handles) (r : Objects) (answer : Result A Status) (t2 : Handles) (r2 : Objects) : Type 0 where
   pub ok : IfOk answer (λ x. Done x t2 r2)
   pub err : IfErr answer (IsRefusedBy wants refusal)
   pub closed : OnErr answer (ClosesEach hs t r t2 r2)

@@ -17,7 +17,7 @@ use Rattle.zl_objects.specs.declared.wait.Wait.{Wait}
 use Rattle.zl_objects.specs.Listed.{may_register, watching}
 use Rattle.zl_objects.specs.Objects.{Objects}
 use Rattle.zl_objects.specs.Ports.{changing_port, packets_in}
-use Rattle.zl_calls.specs.calls.Answer.{Does}
+use Rattle.zl_calls.specs.calls.Answer.{Does, wants_memory, wants_nothing}
 use Rattle.zl_calls.specs.calls.Port.{port_at}
 use Rattle.zl_calls.specs.Registered.{EndsWaits}
 
@@ -57,7 +57,7 @@ pub record RegistersWait (pid : ℕ) (t : Handles) (r : Objects) (h port key mas
 
 -- wait_async of the process by its handle h, for a packet with the key to the port at the value
 abbrev pub WaitAsyncDoes : (pid h port key mask : ℕ) → Handles → Objects → Result ⊤ Status → Handles → Objects → Type 0
-WaitAsyncDoes pid h port key mask t r = Does (λ _. RegistersWait pid t r h port key mask) true (async_refusal t.entries r h port mask) t r
+WaitAsyncDoes pid h port key mask t r = Does (λ _. RegistersWait pid t r h port key mask) wants_memory (async_refusal t.entries r h port mask) t r
 
 -- ---- port_cancel
 
@@ -91,4 +91,4 @@ pub record Cancels (pid : ℕ) (t : Handles) (r : Objects) (port source key : �
 
 -- port_cancel of the process at the port at the value, for the waits by its handle source
 abbrev pub PortCancelDoes : (pid port source key : ℕ) → Handles → Objects → Result ⊤ Status → Handles → Objects → Type 0
-PortCancelDoes pid port source key t r = Does (λ _. Cancels pid t r port source key) false (cancel_refusal t.entries r pid port source key) t r
+PortCancelDoes pid port source key t r = Does (λ _. Cancels pid t r port source key) wants_nothing (cancel_refusal t.entries r pid port source key) t r

@@ -16,7 +16,7 @@ use Rattle.zl_objects.specs.declared.object.Pair.TheVariants as pair
 use Rattle.zl_objects.specs.Objects.{Objects, is_channel_at, reader_at, sending}
 use Rattle.smallvec.specs.SmallVec.{HasRoomFor}
 use Rattle.zl_calls.specs.declared.calls.channel.Letter.{Letter}
-use Rattle.zl_calls.specs.calls.Answer.{DoesTaking, taken_from, without_handles}
+use Rattle.zl_calls.specs.calls.Answer.{DoesTaking, taken_from, wants_memory, without_handles}
 use Rattle.zl_calls.specs.calls.Making.{MakePairDoes}
 
 -- ---- chan_create
@@ -66,7 +66,7 @@ pub record WritesMessage (t : Handles) (r : Objects) (channel : ℕ) (bytes hs :
 
 -- chan_write to the end at the value channel; where it is refused the handles of the list close
 abbrev pub ChanWriteDoes : ℕ → List ℕ → List ℕ → Handles → Objects → Result ⊤ Status → Handles → Objects → Type 0
-ChanWriteDoes channel bytes hs t r = DoesTaking (λ _. WritesMessage t r channel bytes hs) true (write_refusal t.entries r.objects channel (length bytes) hs) hs t r
+ChanWriteDoes channel bytes hs t r = DoesTaking (λ _. WritesMessage t r channel bytes hs) wants_memory (write_refusal t.entries r.objects channel (length bytes) hs) hs t r
 
 -- the peer is that of the end that the look-up finds, and both are there
 pub record IsPeerOf (entries : Map Entry) (objects : Map Object) (channel peer : ℕ) : Type 0 where

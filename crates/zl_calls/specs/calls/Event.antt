@@ -16,7 +16,7 @@ use Rattle.zl_objects.specs.declared.object.Body.TheVariants as body
 use Rattle.zl_objects.specs.declared.object.Pair.TheVariants as pair
 use Rattle.zl_objects.specs.declared.object.Object.{Object}
 use Rattle.zl_objects.specs.Objects.{Objects, changing, peer_at}
-use Rattle.zl_calls.specs.calls.Answer.{Does}
+use Rattle.zl_calls.specs.calls.Answer.{Does, wants_nothing}
 use Rattle.zl_calls.specs.calls.Making.{MakeDoes, MakePairDoes}
 
 -- ---- event_create
@@ -68,7 +68,7 @@ pub record SignalsObject (t : Handles) (r : Objects) (value clear set : ℕ) (t2
 
 -- signal by the handle at the value, with these masks; it never wants memory
 abbrev pub SignalDoes : (value clear set : ℕ) → Handles → Objects → Result ⊤ Status → Handles → Objects → Type 0
-SignalDoes value clear set t r = Does (λ _. SignalsObject t r value clear set) false (signal_refusal t.entries value clear set) t r
+SignalDoes value clear set t r = Does (λ _. SignalsObject t r value clear set) wants_nothing (signal_refusal t.entries value clear set) t r
 
 -- ---- signal_peer
 
@@ -97,4 +97,4 @@ pub record SignalsPeer (t : Handles) (r : Objects) (value clear set : ℕ) (t2 :
 -- signal_peer by the end at the value, with these masks; it never wants memory
 abbrev pub SignalPeerDoes : (value clear set : ℕ) → Handles → Objects → Result ⊤ Status → Handles → Objects → Type 0
 SignalPeerDoes value clear set t r =
-    Does (λ _. SignalsPeer t r value clear set) false (peer_signal_refusal t.entries r.objects value clear set) t r
+    Does (λ _. SignalsPeer t r value clear set) wants_nothing (peer_signal_refusal t.entries r.objects value clear set) t r

@@ -17,7 +17,7 @@ use Rattle.zl_table.specs.Table.{Handles}
 use Rattle.zl_objects.specs.declared.object.Object.{Object}
 use Rattle.zl_objects.specs.Objects.{Objects}
 use Rattle.zl_objects.specs.Ports.{changing_port, new_port, packets_in}
-use Rattle.zl_calls.specs.calls.Answer.{Action, Does, answers, told_by}
+use Rattle.zl_calls.specs.calls.Answer.{Action, Does, answers, told_by, wants_memory, wants_nothing}
 use Rattle.zl_calls.specs.calls.Making.{MakeDoes}
 
 -- ---- port_create
@@ -53,7 +53,7 @@ pub record QueuesPacket (t : Handles) (r : Objects) (value key word : ℕ) (t2 :
 
 -- port_queue at the port at the value, with the key and the word of the packet
 abbrev pub PortQueueDoes : (value key word : ℕ) → Handles → Objects → Result ⊤ Status → Handles → Objects → Type 0
-PortQueueDoes value key word t r = Does (λ _. QueuesPacket t r value key word) true (queue_refusal t.entries r.objects value) t r
+PortQueueDoes value key word t r = Does (λ _. QueuesPacket t r value key word) wants_memory (queue_refusal t.entries r.objects value) t r
 
 -- ---- port_poll
 
@@ -72,7 +72,7 @@ pub record TakesPacket (t : Handles) (r : Objects) (value : ℕ) (packet : Packe
 
 -- port_poll at the port at the value; it never wants memory
 abbrev pub PortPollDoes : (value : ℕ) → Handles → Objects → Result Packet Status → Handles → Objects → Type 0
-PortPollDoes value t r = Does (TakesPacket t r value) false (poll_refusal t.entries r.objects value) t r
+PortPollDoes value t r = Does (TakesPacket t r value) wants_nothing (poll_refusal t.entries r.objects value) t r
 
 -- its answer gives the values of a packet
 abbrev pub gives_packet : (Handles → Objects → Result Packet Status → Handles → Objects → Type 0) → Action
@@ -82,7 +82,7 @@ gives_packet = answers (Result Packet Status) (told_by packet_values)
 
 -- port_wait at the port at the value, where it is answered: it takes the first packet, as port_poll does
 abbrev pub PortWaitDoes : (value : ℕ) → Handles → Objects → Result Packet Status → Handles → Objects → Type 0
-PortWaitDoes value t r = Does (TakesPacket t r value) false (result_err (port_at t.entries value READ)) t r
+PortWaitDoes value t r = Does (TakesPacket t r value) wants_nothing (result_err (port_at t.entries value READ)) t r
 
 -- where it blocks: the port that the handle names has no packet, and it waits there for one
 pub record WaitsForPacket (value : ℕ) (t : Handles) (r : Objects) (awaited : Awaited) : Type 0 where

@@ -1,8 +1,8 @@
 -- What chan_read_etc does. No public clause cites this module.
-use Rattle.std.specs.Prelude.{ℕ, ◌≡◌, ◌+◌, Bool, not, nat_le, List, [], ◌∷◌, ◌++◌, length, Option, Some, None, Result, Ok, Err, IfOk, IfErr, OnErr, if◌then◌else◌, is_some, slice_get, slice_index}
-use Rattle.std.specs.Result.{result_err}
+use Rattle.std.specs.Prelude.{ℕ, ◌≡◌, ◌+◌, Bool, true, not, nat_le, nat_lt, List, [], ◌∷◌, ◌++◌, length, Option, Some, None, Result, Ok, Err, IfOk, IfErr, IsTrue, OnErr, if◌then◌else◌, is_some, slice_get, slice_index}
 use Rattle.zl_code.specs.Common.{Map, get}
 use Rattle.zl_code.specs.Asked.{triples_from}
+use Rattle.zl_code.specs.Calls.{wanted}
 use Rattle.zl_code.specs.Effects.{told_of}
 use Rattle.zl_code.specs.Spells.{number_at}
 use Rattle.zl_code.specs.Tests.{first_handles, has_place_for, sizes_of}
@@ -71,10 +71,11 @@ front_at entries objects channel room places = front_by entries objects room pla
 
 -- ---- chan_read_etc
 
--- the fault is this one; where nothing stands against the call, it is the want of memory
-abbrev pub IsFaultBy : Option ReadFault → ReadFault → Type 0
-IsFaultBy None found = found ≡ fault.Refused status.NoMemory
-IsFaultBy (Some f) found = found ≡ f
+-- the fault is this one; where a message can be read, it is the want of memory, or of a place for a handle
+abbrev pub IsFaultBy : Result Front ReadFault → ReadFault → Type 0
+IsFaultBy (Err f) found = found ≡ f
+IsFaultBy (Ok front) (fault.Refused s) = IsTrue (wanted true (nat_lt 0 front.handles) s)
+IsFaultBy (Ok front) (fault.TooSmall bytes handles) = ⊥
 
 -- the first message left the queue of the end k, and its handles are in the table at the values
 pub record ReadsMessage (t : Handles) (r : Objects) (channel room places : ℕ) (received : Received) (t2 : Handles) (r2 : Objects) : Type 0 where
@@ -87,7 +88,7 @@ pub record ReadsMessage (t : Handles) (r : Objects) (channel room places : ℕ) 
 -- chan_read_etc from the end at the value channel: the message is read, or it stays and nothing changes
 pub record ChanReadDoes (channel room places : ℕ) (t : Handles) (r : Objects) (answer : Result Received ReadFault) (t2 : Handles) (r2 : Objects) : Type 0 where
   pub ok : IfOk answer (λ received. ReadsMessage t r channel room places received t2 r2)
-  pub err : IfErr answer (IsFaultBy (result_err (front_at t.entries r.objects channel room places)))
+  pub err : IfErr answer (IsFaultBy (front_at t.entries r.objects channel room places))
   pub same_table : OnErr answer (t2 ≡ t)
   pub same_objects : OnErr answer (r2 ≡ r)
 

@@ -28,7 +28,7 @@ use Rattle.zl_objects.specs.declared.object.Body.TheVariants as body
 use Rattle.zl_objects.specs.declared.object.Life.TheVariants as life
 use Rattle.zl_calls.specs.Registered.{KeepsListed}
 use Rattle.zl_calls.specs.World.{process_entry, process_value, state_value}
-use Rattle.zl_calls.specs.calls.Answer.{ClosesEach, IsRefusedBy, answered_in, no_value, status_of, without_handle}
+use Rattle.zl_calls.specs.calls.Answer.{ClosesEach, IsRefusedBy, answered_in, no_value, status_of, wants_memory, wants_nothing, wants_place, without_handle}
 use Rattle.zl_calls.specs.calls.Making.{MakesOne, room_refusal}
 use Rattle.zl_calls.specs.calls.Process.{Drained}
 use Rattle.zl_calls.specs.declared.process.Process.{Process}
@@ -83,7 +83,7 @@ pub record EndsOrAnswers (status : ℕ) (answer : Result ⊤ Status) (p : Proces
   pub told : p2 ≡ told_unless_over status answer p.state p
 
 -- such a call was done, or else it was refused
-pub record Tries {A : Type 0} (Done : A → Parts → Type 0) (Refuses : Parts → Type 0) (wants : Bool) (refusal : Option Status) (answer : Result A Status) (all2 : Parts) : Type 0 where
+pub record Tries {A : Type 0} (Done : A → Parts → Type 0) (Refuses : Parts → Type 0) (wants : Status → Bool) (refusal : Option Status) (answer : Result A Status) (all2 : Parts) : Type 0 where
   pub ok : IfOk answer (λ x. Done x all2)
   pub err : IfErr answer (IsRefusedBy wants refusal)
   pub refused : OnErr answer (Refuses all2)
@@ -127,17 +127,13 @@ pub record CreatesProcess (lib : Library) (all : Parts) (place job program made 
 -- process_create by the process at the place; where it is refused nothing changes
 abbrev pub ProcessCreateDoes : Library → (place job program : ℕ) → (caller : Process) → Parts → Result ℕ Status → Parts → Type 0
 ProcessCreateDoes lib place job program caller all =
-    Tries (CreatesProcess lib all place job program) (λ all2. all2 ≡ all) true (create_refusal lib caller.table.entries all.objects job program)
+    Tries (CreatesProcess lib all place job program) (λ all2. all2 ≡ all) wants_place (create_refusal lib caller.table.entries all.objects job program)
 
 -- ---- process_start
 
 -- the process with this koid
 abbrev pub process_at : List Process → ℕ → Option Process
 process_at processes pid = find (λ q. q.pid == pid) processes
-
--- none that was made and not started has a handle
-abbrev pub AreBare : List Process → Type 0
-AreBare processes = (at_place : ℕ) (q : Process) → slice_get processes at_place ≡ Some q → is_created (state_value q.state) ≡ true → q.table.entries ≡ []
 
 -- why the process that was found can't start with the handle
 abbrev pub child_refusal : Library → Option Process → Entry → Option Status
@@ -218,7 +214,7 @@ pub record ClosesHandle (all : Parts) (place h : ℕ) (all2 : Parts) : Type 0 wh
 -- process_start by the process at the place; where it is refused the handle closes
 abbrev pub ProcessStartDoes : Library → (place process h word : ℕ) → (caller : Process) → Parts → Result ⊤ Status → Parts → Type 0
 ProcessStartDoes lib place process h word caller all =
-    Tries (λ _. StartsProcess lib all place process h word) (ClosesHandle all place h) true (start_refusal lib all.processes caller.table.entries process h)
+    Tries (λ _. StartsProcess lib all place process h word) (ClosesHandle all place h) wants_memory (start_refusal lib all.processes caller.table.entries process h)
 
 -- ---- task_kill
 
@@ -265,4 +261,4 @@ pub record KillsNamed (all : Parts) (caller : Process) (task : ℕ) (all2 : Part
 
 -- task_kill by the caller; it never wants memory, and where it is refused nothing changes
 abbrev pub TaskKillDoes : (task : ℕ) → (caller : Process) → Parts → Result ⊤ Status → Parts → Type 0
-TaskKillDoes task caller all = Tries (λ _. KillsNamed all caller task) (λ all2. all2 ≡ all) false (kill_refusal caller.table.entries task)
+TaskKillDoes task caller all = Tries (λ _. KillsNamed all caller task) (λ all2. all2 ≡ all) wants_nothing (kill_refusal caller.table.entries task)

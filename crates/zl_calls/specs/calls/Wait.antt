@@ -17,7 +17,7 @@ use Rattle.zl_objects.specs.Signals.{signals_at}
 use Rattle.zl_calls.specs.declared.calls.wait.Watched.{Watched}
 use Rattle.zl_calls.specs.declared.calls.wait.PollFault.{PollFault}
 use Rattle.zl_calls.specs.declared.calls.wait.PollFault.TheVariants as fault
-use Rattle.zl_calls.specs.calls.Answer.{Does, Told}
+use Rattle.zl_calls.specs.calls.Answer.{Does, Told, wants_nothing}
 
 -- ---- what is looked at
 
@@ -47,7 +47,7 @@ pub record SeesActive (t : Handles) (r : Objects) (value mask : ℕ) (watched : 
 
 -- wait_one by the handle at the value, with this mask, where it is answered; it never wants memory
 abbrev pub WaitOneDoes : (value mask : ℕ) → Handles → Objects → Result Watched Status → Handles → Objects → Type 0
-WaitOneDoes value mask t r = Does (SeesActive t r value mask) false (result_err (watched_at t.entries r.objects value mask)) t r
+WaitOneDoes value mask t r = Does (SeesActive t r value mask) wants_nothing (result_err (watched_at t.entries r.objects value mask)) t r
 
 -- what it gives behind the status: the active signals
 abbrev pub watched_values : Watched → List ℕ

@@ -9,7 +9,7 @@ ghost use Rattle.zl_code.specs.declared.history.CallName.TheVariants as name;
 ghost use Rattle.zl_objects.specs.Objects.{is_channel_at, sending};
 ghost use Rattle.zl_objects.specs.Release.{Releases, koids_of};
 ghost use Rattle.zl_calls.specs.Acted.{Acted};
-ghost use Rattle.zl_calls.specs.calls.Answer.{IsRefusedBy, taken_from, without_handle, without_handles};
+ghost use Rattle.zl_calls.specs.calls.Answer.{IsRefusedBy, taken_from, wants_memory, without_handle, without_handles};
 ghost use Rattle.zl_calls.specs.calls.Channel.{ChanCreateDoes, ChanWriteDoes, IsPeerOf, IsReady, fault_of, list_refusal, write_refusal};
 ghost use Rattle.zl_calls.specs.Registered.{KeepsListed};
 
@@ -117,7 +117,7 @@ fn prepare(
 ) -> Result<Letter, Status>
     ensures ready { IfOk result (λ letter.
         IsReady table.now.entries objects.now.objects channel bytes.now handles.now letter) }
-    ensures refused { IfErr result (IsRefusedBy true (write_refusal
+    ensures refused { IfErr result (IsRefusedBy wants_memory (write_refusal
         table.now.entries objects.now.objects channel (length bytes.now) handles.now)) }
 {
     let peer = find_peer(table, objects, channel, bytes.len(), handles)?;

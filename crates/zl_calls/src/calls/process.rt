@@ -13,9 +13,9 @@ ghost use Rattle.zl_objects.specs.Objects.{starting};
 ghost use Rattle.zl_interp.specs.Common.{program_value, started_cpu};
 ghost use Rattle.zl_calls.specs.Registered.{KeepsListed};
 ghost use Rattle.zl_calls.specs.Calling.{AreGiven, AtPlace, IsCalling, KeepsRoom, parts_in};
-ghost use Rattle.zl_calls.specs.calls.Answer.{IsRefusedBy};
+ghost use Rattle.zl_calls.specs.calls.Answer.{IsRefusedBy, wants_memory};
 ghost use Rattle.zl_calls.specs.calls.Process.{Drained, Ends};
-ghost use Rattle.zl_calls.specs.calls.Task.{AreBare, Enters, IsCallerStill, IsCreatedAt, IsFound, ProcessCreateDoes, ProcessStartDoes, child_refusal, create_refusal, needs_more, parts, process_at, start_refusal};
+ghost use Rattle.zl_calls.specs.calls.Task.{Enters, IsCallerStill, IsCreatedAt, IsFound, ProcessCreateDoes, ProcessStartDoes, child_refusal, create_refusal, needs_more, parts, process_at, start_refusal};
 
 use crate::calls::handle::{close_each, take_out};
 use crate::calls::{check_room, insert, look_up, make_object};
@@ -254,17 +254,20 @@ fn enter(
     handle: u64,
 ) -> Result<Started, Status>
     requires place { place < length processes.old.list.items }
-    requires bare { AreBare processes.old.list.items }
     ensures entered { IfOk result (λ started. AtPlace processes.old place (λ caller.
         Enters library.now processes.old.list.items caller process handle started
         processes.new.list.items)) }
     ensures err { IfErr result (λ refused. AtPlace processes.old place (λ caller.
-        IsRefusedBy true (start_refusal library.now processes.old.list.items
+        IsRefusedBy wants_memory (start_refusal library.now processes.old.list.items
         caller.table.entries process handle) refused)) }
     ensures unchanged { OnErr result (processes.new.list.items ≡ processes.old.list.items) }
 {
     let (child, entry) = find_child(library, processes, place, process, handle)?;
-    let value = insert(&mut processes.list[child].table, entry)?;
+    // A table that was never used has a place. Should it tell of none, that is a want of memory: a
+    // start lists no other.
+    let Ok(value) = insert(&mut processes.list[child].table, entry) else {
+        return Err(Status::NoMemory);
+    };
     Ok(Started {
         place: child,
         handle: value,

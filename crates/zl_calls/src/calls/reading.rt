@@ -1,9 +1,10 @@
 //! The call that reads a message: what it does, and what it then writes of its caller.
 
-ghost use Rattle.std.specs.Prelude.{◌≡◌, ◌+◌, ◌<◌, ◌≤◌, ◌^◌, ◌∷◌, if◌then◌else◌, is_some, length, slice_get, IsSome, IfOk, OnErr};
+ghost use Rattle.std.specs.Prelude.{◌≡◌, ◌+◌, ◌<◌, ◌≤◌, ◌^◌, ◌∷◌, if◌then◌else◌, is_some, length, nat_lt, slice_get, true, IsSome, IsTrue, IfOk, IfErr, OnErr};
 ghost use Rattle.zl_rights.specs.Numbers.{status_magnitude};
 ghost use Rattle.zl_rights.specs.World.{answered, written};
 ghost use Rattle.zl_code.specs.Asked.{triples_from};
+ghost use Rattle.zl_code.specs.Calls.{wanted};
 ghost use Rattle.zl_code.specs.Effects.{told_of};
 ghost use Rattle.zl_code.specs.Request.{site_of};
 ghost use Rattle.zl_code.specs.declared.history.CallName.TheVariants as name;
@@ -15,7 +16,7 @@ use crate::calls::{insert, look_up};
 use crate::process::Process;
 use bitflags::Flags;
 use smallvec::SmallVec;
-use std::alloc::{AllocError, Global};
+use std::alloc::Global;
 use zl_channel::Message;
 use zl_code::{CallInstr, Outcome, Register};
 use zl_interp::Cpu;
@@ -56,7 +57,7 @@ struct Front {
 /// Of the end `BadHandle`, `WrongType` for what is no channel, `AccessDenied` without the right to
 /// read; where no message is there `PeerClosed` if the peer has gone, else `ShouldWait`; `TooSmall`
 /// with both sizes where there is too little room; `NoResources` where the table has no place for
-/// all its handles; `NoMemory`.
+/// all its handles, or none that it offers; `NoMemory`.
 /// Source: the page "zx_channel_read_etc" of the Fuchsia documentation.
 pub fn chan_read_etc(
     alloc: Global,
@@ -70,8 +71,9 @@ pub fn chan_read_etc(
         table.old objects.old result table.new objects.new }
 {
     let front = find_front(table, objects, channel, room, places)?;
-    let Ok(values) = insert_front(alloc, table, objects, front) else {
-        return Err(ReadFault::Refused(Status::NoMemory));
+    let values = match insert_front(alloc, table, objects, front) {
+        Ok(values) => values,
+        Err(refused) => return Err(ReadFault::Refused(refused)),
     };
     let Some(message) = objects.receive(front.end) else {
         unreachable!()
@@ -118,30 +120,36 @@ fn why_empty(objects: &Objects, end: Koid) -> Status
     }
 }
 
-/// The handles of the message enter the table, and their values are told. Where memory is refused
-/// for one of them the table is as it was.
+/// The handles of the message enter the table, and their values are told. Where memory or a place is
+/// refused for one of them the table is as it was.
 fn insert_front(
     alloc: Global,
     table: &mut Table,
     objects: &Objects,
     front: Front,
-) -> Result<Values, AllocError>
+) -> Result<Values, Status>
     requires count { front.handles ≡ length (front_handles objects.now.objects front.end) }
-    requires room { length table.old.entries + front.handles ≤ 1024 }
     ensures entered { IfOk result (λ values. InsertsEach
         table.old (front_handles objects.now.objects front.end) values.items table.new) }
+    ensures refused { IfErr result
+        (λ refused. IsTrue (wanted true (nat_lt 0 front.handles) refused)) }
     ensures unchanged { OnErr result (table.new ≡ table.old) }
 {
     let last = table.last();
     let mut values = Values::new(alloc);
-    values.reserve(front.handles)?;
+    if values.reserve(front.handles).is_err() {
+        return Err(Status::NoMemory);
+    }
     for n in 0..front.handles {
         let Some(entry) = objects.front_entry(front.end, n) else {
             unreachable!()
         };
-        let Ok(value) = insert(table, entry) else {
-            take_back(table, values.as_slice(), last);
-            return Err(AllocError);
+        let value = match insert(table, entry) {
+            Ok(value) => value,
+            Err(refused) => {
+                take_back(table, values.as_slice(), last);
+                return Err(refused);
+            }
         };
         values.push_reserved(value);
     }

@@ -1,7 +1,6 @@
 use Rattle.zl_calls.proofs.Common.{◌≡◌, true, set, sym, ◌∙◌, parts, is_ready, state_value}
 use Rattle.zl_calls.proofs.waking.BlockedLists.{no_more}
 use Rattle.zl_calls.proofs.stepping.CallSteps.{called_so, caller_ready, moves_from, stays_from, stops_from}
-use Rattle.zl_calls.proofs.processes.Idle.{are_bare}
 use Rattle.zl_calls.proofs.stepping.Performing.{HasActed, here, turn_at, within}
 use Rattle.zl_code.specs.declared.history.TraceItem.TheVariants as item
 use Rattle.zl_calls.proofs.stepping.act_for.Goals as goal
@@ -14,7 +13,6 @@ call_next-requires c =
         within = within c.args.processes.now.list.items c.args.pid c.in_ok-place.place c.index.result.now c.in_ok-place.ensures.first c.index.ensures;
         ready = caller_ready c.args.processes.now.list.items c.args.pid c.in_ok-place.place c.index.result.now c.in_ok-place.ensures.first c.index.ensures
             ready;
-        bare = are_bare c.args.processes.now.list.items c.args.objects.now c.args.blocked.now.items c.requires.consistent.processes_in_order c.requires.sound;
       };
       few = no_more c.args.processes.now.list.items c.args.blocked.now.items c.requires.list;
       given = c.requires.consistent.given_processes;

@@ -21,7 +21,7 @@ loop-number-preserved c =
     c.loop-number-test.true c.loop-number.invariant
     c.requires.place c.requires.few c.in-Some.entry (sym c.handle.ensures ∙ c.in-Some.is) c.in-Ok.value c.insert.new.self (c.in-Ok.ensures {u = tt}).ok)
 
-pub returns : goal.returns
-returns c =
+pub returns-clause-ok : goal.returns-clause-ok
+returns-clause-ok c =
     all_given c.args.handles.now c.loop-number.number c.args.self.now c.loop-number.self c.args.process.now c.loop-number.process c.loop-number-test.false
     c.loop-number.invariant

@@ -1,7 +1,7 @@
 use Rattle.zl_calls.proofs.Common.{◌≡◌, ◌∙◌, ap, sym, refl, arith, length, length-map, nat_tests, seen, process_entry, World, can_start}
 use Rattle.zl_calls.specs.declared.process.State.TheVariants as state
 use Rattle.zl_calls.proofs.booting.BootFaults.{rights_are}
-use Rattle.zl_calls.proofs.booting.BootMaking.{done, makes}
+use Rattle.zl_calls.proofs.booting.BootMaking.{makes}
 use Rattle.zl_calls.proofs.booting.Made.make_process.Goals as goal
 
 pub give-requires-clause-place : goal.give-requires-clause-place
@@ -26,7 +26,7 @@ pub create-requires-clause-koid : goal.create-requires-clause-koid
 create-requires-clause-koid c =
     let can = can_start c.args.library.now (seen c.args.self.now) c.args.job c.args.program c.args.word c.args.handles.now
     ((c.in_ok-image.ensures {u = tt}).fault c.args.word) in
-    let gives = done _ _ (c.if-is_err.ensures {u = tt}).value c.give.ensures in
+    let gives = (c.in_ok-give.ensures {u = tt}).ok in
     let koid : c.give.new.self.objects.next_koid ≡ c.args.self.now.objects.next_koid = ap (λ (w : World). w.next_koid) gives.same in
     grind (arith, nat_tests, koid, can.koid)
 
@@ -41,7 +41,7 @@ returns-clause-ok c =
       program_is = refl;
       cpu = c.in-Ok.ensures {u = tt};
       ready = refl;
-      bare = record { no_handles = c.new-2.ensures.entries; none_removed = c.new-2.ensures.last };
+      bare = record { no_handles = c.new-2.ensures.entries; none_removed = c.new-2.ensures.last; offers_first = c.new-2.ensures.offered };
     })
-    (done _ _ (c.if-is_err.ensures {u = tt}).value c.give.ensures)
-    (rw (c.if-is_err-2.ensures {u = tt}).negation at c.push.ensures.items) c.in-Ok-create.ensures.created
+    ((c.in_ok-give.ensures {u = tt}).ok)
+    (rw (c.if-is_err.ensures {u = tt}).negation at c.push.ensures.items) c.in-Ok-create.ensures.created

@@ -1,5 +1,5 @@
 use Rattle.zl_calls.proofs.Common.{arith, ◌<◌, length, refl}
-use Rattle.zl_calls.proofs.tasks.StartParts.{child_room, child_within, enters_so}
+use Rattle.zl_calls.proofs.tasks.StartParts.{child_within, enters_so}
 use Rattle.zl_calls.proofs.processes.InOrder.{set_in_order}
 use Rattle.zl_calls.proofs.calls.process.enter.Goals as goal
 
@@ -16,14 +16,8 @@ index_mut-requires c =
     c.args.handle c.in_ok-child.entry c.in_ok-child.ensures.found c.requires.place in
     omega (arith, within, c.args.processes.now.list.ok.0)
 
-pub insert-requires : goal.insert-requires
-insert-requires c =
-    child_room c.args.library.now c.args.processes.now.list.items c.args.place c.in_ok-child.child c.args.process
-    c.args.handle c.in_ok-child.entry c.in_ok-child.ensures.found
-    c.index_mut.result.now c.index_mut.ensures.value c.requires.place c.requires.bare
-
 pub returns-clause-entered : goal.returns-clause-entered
 returns-clause-entered c =
     enters_so c.args.library.now c.args.processes.now.list.items c.args.place c.in_ok-child.child c.args.process
     c.args.handle c.in_ok-child.entry c.in_ok-child.ensures.found
-    c.index_mut.result.now c.index_mut.ensures.value c.in_ok-child.ensures.refusal c.insert.new.table c.in_ok-value.value c.in_ok-value.ensures.ok
+    c.index_mut.result.now c.index_mut.ensures.value c.in_ok-child.ensures.refusal c.insert.new.table c.in-Ok.value (c.in-Ok.ensures {u = tt}).ok

@@ -1,6 +1,7 @@
 use Rattle.zl_calls.proofs.Common.{◌≡◌, ◌<◌, length, refl}
+use Rattle.zl_rights.specs.declared.status.Status.TheVariants as status
 use Rattle.zl_calls.proofs.processes.InOrder.{pushed_in_order}
-use Rattle.zl_calls.proofs.tasks.Creating.{not_made, wants_memory}
+use Rattle.zl_calls.proofs.tasks.Creating.{not_made, wanting}
 use Rattle.zl_calls.proofs.tasks.StartParts.{read_at}
 use Rattle.zl_calls.proofs.calls.process.process_create.Goals as goal
 
@@ -16,11 +17,11 @@ invariant_of-processes c =
     }
 
 pub returns-in_default-clause-does : goal.returns-in_default-clause-does
-returns-in_default-clause-does c = λ caller there. wants_memory c.args.library.now c.args.processes.now.list.items c.prepare.new.processes.list.items
+returns-in_default-clause-does c = λ caller there. wanting c.args.library.now c.args.processes.now.list.items c.prepare.new.processes.list.items
     c.args.objects.now c.args.blocked.now.items c.prepare.new.blocked.items
     c.args.place c.args.job c.args.program c.prepare.ensures.same_processes c.prepare.ensures.same_blocked c.index.result.now c.index.ensures
     c.in_ok-job.ensures.refusal caller there
-    c.args.objects.now refl c.prepare.new.processes.list.items refl
+    status.NoMemory refl c.args.objects.now refl c.prepare.new.processes.list.items refl
 
 pub returns-in-Err-clause-does : goal.returns-in-Err-clause-does
 returns-in-Err-clause-does c = λ caller there. not_made c.args.library.now c.args.processes.now.list.items c.prepare.new.processes.list.items c.args.objects.now

@@ -60,7 +60,7 @@ pub mod BootStarts
 pub mod ChildStarts
 pub mod Idling
 pub mod Covering
-mod Headline
+pub mod Headline
 mod NoLeak
 pub mod CoveredRuns
 mod RowsConforms

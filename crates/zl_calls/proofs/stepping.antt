@@ -8,3 +8,4 @@ pub mod LocalMoves
 pub mod LocalRuns
 pub mod StepItems
 pub mod Advancing
+pub mod Covered

@@ -5,6 +5,7 @@ use Rattle.zl_code.specs.Common.{get, wakes, Process as ProcessValue, Library}
 use Rattle.zl_code.specs.Programs.{HavePrograms}
 use Rattle.zl_code.specs.Sound.{IsSound, is_blocked}
 use Rattle.zl_rights.specs.Signals.{state_passes}
+use Rattle.zl_verify.specs.Covered.{IsCovered, IsVerified}
 use Rattle.zl_objects.specs.Objects.{Objects}
 use Rattle.zl_calls.specs.declared.process.Process.{Process}
 use Rattle.zl_calls.specs.World.{process_entry, world_blocked}
@@ -26,3 +27,6 @@ pub record IsWhole (lib : Library) (processes : List Process) (r : Objects) (blo
   -- nothing is due: no wait holds, and no process that is blocked can wake
   pub awake : wakes (world_blocked processes r blocked) ≡ world_blocked processes r blocked
   pub programs : HavePrograms lib (world_blocked processes r blocked)
+  -- each program that was checked has a typing with a step bound, and its processes that run are as a typing says
+  pub verified : IsVerified lib
+  pub covered : IsCovered lib (world_blocked processes r blocked)

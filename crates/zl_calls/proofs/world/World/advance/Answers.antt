@@ -2,6 +2,7 @@ use Rattle.zl_calls.proofs.Common.{◌≡◌, ◌∙◌, ◌==◌, true, ap, get
 use Rattle.zl_calls.proofs.Common.{state_value, world_blocked, length-set, after_locals, Stands}
 use Rattle.zl_calls.specs.declared.process.Process.{Process}
 use Rattle.zl_calls.proofs.stepping.Advancing.{advances, advanced_programs, advanced_sound, cpu_stands, program_stands, read_there, ready_there}
+use Rattle.zl_calls.proofs.stepping.Covered.{advanced_covered}
 use Rattle.zl_calls.proofs.stepping.LocalMoves.{moved_awake, moved_keeps, moved_list, moved_world}
 use Rattle.zl_calls.proofs.stepping.Performing.{AtTurn, turn_at}
 use Rattle.zl_calls.proofs.stepping.StepItems.{machine_value}
@@ -61,6 +62,9 @@ invariant_of-self c = record {
   awake = moved_awake (turn (written c)) (p2 (written c)) refl c.self.invariant.awake;
   programs = advanced_programs (turn (written c)) c.self.inside.library c.self.invariant.awake c.args.done.program (program (written c))
       c.args.done.ran (p2 (written c)) refl (follows (written c)) c.self.invariant.programs;
+  verified = c.self.invariant.verified;
+  covered = advanced_covered c.self.inside.library c.self.invariant.verified (turn (written c)) c.self.invariant.awake c.args.done.program
+      (program (written c)) c.args.done.ran (p2 (written c)) refl (follows (written c)) c.self.invariant.covered;
 }
 
 pub returns-clause-cpu : goal.returns-clause-cpu

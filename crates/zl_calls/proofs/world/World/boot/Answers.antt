@@ -1,6 +1,7 @@
 use Rattle.zl_code.proofs.AwakeRuns.{boot_awake}
 use Rattle.zl_code.proofs.ProgramsKept.{boot_programs}
 use Rattle.zl_code.specs.Boot.{IsBoot}
+use Rattle.zl_verify.proofs.Covering.{boot_covered}
 use Rattle.zl_calls.proofs.Common.{arith, world_blocked}
 use Rattle.zl_calls.proofs.booting.BootBlocked.{booted_boots, booted_sound, none_blocked}
 use Rattle.zl_calls.proofs.world.World.boot.Goals as goal
@@ -27,5 +28,8 @@ invariant_of-result-2 c = record {
       c.in_ok-processes.ensures.ok ((c.in-Ok.ensures {u = tt}).items);
   awake = boot_awake c.args.library c.args.boot.now.statements.items _ (boots c);
   programs = boot_programs c.args.library c.args.boot.now.statements.items _ (boots c);
+  verified = c.len-2.ensures.verified;
+  covered = boot_covered c.args.library c.len-2.ensures.verified c.args.boot.now.statements.items _
+      (record { images = c.len-2.ensures.verified.images; words = c.in_ok-processes.ensures.words; boots = boots c });
   room = omega (arith, (c.in-Ok.ensures {u = tt}).exact, c.len.ensures, c.in_ok-processes.field-0.processes.ok.0);
 }

@@ -1,5 +1,6 @@
 use Rattle.zl_calls.proofs.Common.{◌≡◌, ◌≤◌, ◌∙◌, ℕ, true, arith, length, subst, sym, List, AreBlocked, TakesStep, is_local, then_blocked}
 use Rattle.zl_calls.proofs.waking.BlockedLists.{no_more}
+use Rattle.zl_calls.proofs.stepping.Covered.{stepped_covered}
 use Rattle.zl_calls.proofs.stepping.StepItems.{machine_value, local_list, not_ready_in, stepped_awake, stepped_programs, stepped_sound, takes_local, takes_step}
 use Rattle.zl_calls.proofs.world.World.step.Goals as goal
 
@@ -38,6 +39,10 @@ invariant_of-self-2 c = record {
       c.self.inside.blocked.items c.wake.new.blocked.items c.args.pid c.in_ok-item.item (steps c);
   programs = stepped_programs c.self.inside.library c.self.inside.processes.list.items c.wake.new.processes.list.items c.self.inside.objects c.wake.new.objects
       c.self.inside.blocked.items c.wake.new.blocked.items c.args.pid c.in_ok-item.item (steps c) c.self.invariant.programs;
+  verified = c.self.invariant.verified;
+  covered = stepped_covered c.self.inside.library c.self.invariant.verified c.self.inside.processes.list.items c.wake.new.processes.list.items
+      c.self.inside.objects c.wake.new.objects c.self.inside.blocked.items c.wake.new.blocked.items c.args.pid c.in_ok-item.item (steps c)
+      c.self.invariant.sound c.self.invariant.covered;
 }
 
 -- ---- a local instruction, behind which nothing is due
@@ -69,4 +74,8 @@ invariant_of-self-then-is_local c =
           c.act_for.new.objects c.self.inside.blocked.items c.act_for.new.blocked.items c.args.pid c.in_ok-item.item taken;
       programs = stepped_programs c.self.inside.library c.self.inside.processes.list.items c.act_for.new.processes.list.items c.self.inside.objects
           c.act_for.new.objects c.self.inside.blocked.items c.act_for.new.blocked.items c.args.pid c.in_ok-item.item taken c.self.invariant.programs;
+      verified = c.self.invariant.verified;
+      covered = stepped_covered c.self.inside.library c.self.invariant.verified c.self.inside.processes.list.items c.act_for.new.processes.list.items
+          c.self.inside.objects c.act_for.new.objects c.self.inside.blocked.items c.act_for.new.blocked.items c.args.pid c.in_ok-item.item taken
+          c.self.invariant.sound c.self.invariant.covered;
     }

@@ -6,6 +6,7 @@ ghost use Rattle.zl_code.specs.Steps.{next_at};
 ghost use Rattle.zl_interp.specs.Bursts.{IsBurst, after_locals, stop_at};
 ghost use Rattle.zl_interp.specs.Program.{program_value};
 ghost use Rattle.zl_interp.specs.declared.bursts.Stop.TheVariants.{More};
+ghost use Rattle.zl_verify.specs.Covered.{IsAbleIn};
 
 use crate::cpu::Cpu;
 use crate::next::{local_step, stop_of};
@@ -30,7 +31,8 @@ pub enum Stop {
 
 /// A process that may go on by itself: its koid, its program, and its Cpu as it stands.
 ///
-/// It has room for a second Cpu, so that a burst takes no memory.
+/// Where its program was checked, the Cpu is as a typing of it says. There is room for a second Cpu,
+/// so that a burst takes no memory.
 ///
 /// Source: own profile.
 #[derive(Drop)]
@@ -55,19 +57,23 @@ impl Model for Turn {
       cpu = t.from;
     } };
 
-    ghost invariant = { λ t. t.to ≡ t.from };
+    ghost use Rattle.zl_verify.specs.Covered.{IsAbleIn};
+
+    ghost invariant = { λ t.
+        (t.to ≡ t.from) × IsAbleIn (program_value (arc_value t.program)) t.from };
 }
 
 impl Turn {
     /// A turn of the process with this koid, which runs the program and has this Cpu.
     ///
-    /// Only memory can be refused.
+    /// The Cpu of a checked program has to be as a typing of it says. Only memory can be refused.
     pub fn new(
         alloc: Global,
         pid: Pid,
         program: &Arc<Program>,
         cpu: &Cpu,
     ) -> Result<Turn, AllocError>
+        requires able { IsAbleIn (program_value (arc_value program.now)) cpu.now }
         ensures { IfOk result (λ turn. turn ≡ record {
           pid = pid;
           program = program_value (arc_value program.now);

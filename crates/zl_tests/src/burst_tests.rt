@@ -1,5 +1,9 @@
 //! Bursts: how far a process goes on by itself.
 
+ghost use Rattle.std.specs.Arc.{arc_value};
+ghost use Rattle.std.specs.Prelude.{◌≡◌, IfOk, false};
+ghost use Rattle.zl_interp.specs.Program.{program_value};
+
 use std::alloc::{AllocError, Global};
 use std::sync::Arc;
 use std::test::*;
@@ -27,7 +31,9 @@ const FALLS: &str = ".raw
 const r2, 9
 ";
 
-fn program(alloc: Global, text: &str) -> Result<Arc<Program>, Fail> {
+fn program(alloc: Global, text: &str) -> Result<Arc<Program>, Fail>
+    ensures { IfOk result (λ program. (program_value (arc_value program)).checked ≡ false) }
+{
     let image = assemble_bytes(alloc, text.as_bytes())
         .ok()
         .ok_or("the text is a program")?;
@@ -38,7 +44,9 @@ fn program(alloc: Global, text: &str) -> Result<Arc<Program>, Fail> {
 }
 
 /// What a process that starts does of the program.
-fn started(alloc: Global, program: &Arc<Program>, most: u32) -> Result<Done, AllocError> {
+fn started(alloc: Global, program: &Arc<Program>, most: u32) -> Result<Done, AllocError>
+    requires { (program_value (arc_value program.now)).checked ≡ false }
+{
     let cpu = Cpu::new(alloc, program.image(), 7)?;
     Ok(burst(Turn::new(alloc, 2, program, &cpu)?, most))
 }

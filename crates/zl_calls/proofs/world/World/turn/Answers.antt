@@ -1,6 +1,7 @@
 use Rattle.zl_calls.proofs.Common.{refl, process_value}
 use Rattle.zl_calls.specs.Turns.{IsTurn}
-use Rattle.zl_calls.proofs.stepping.Advancing.{listed_there, made_passes, none_ready, read_there, they_stand}
+use Rattle.zl_calls.proofs.stepping.Advancing.{listed_there, made_passes, none_ready, read_there, ready_there, they_stand}
+use Rattle.zl_calls.proofs.stepping.Covered.{able_there}
 use Rattle.zl_calls.proofs.stepping.StepItems.{machine_value}
 use Rattle.zl_calls.proofs.world.World.turn.Goals as goal
 
@@ -15,6 +16,17 @@ unreachable-requires-in_default-shared c =
     (c.self.invariant.programs c.args.pid (process_value c.index-process.result.now)
     (read_there c.self.inside.processes.list.items c.args.pid c.in-Some.place c.index-process.result.now
     (c.in-Some.ensures {u = tt}).found c.index-process.ensures))
+
+pub new-requires : goal.new-requires
+new-requires c =
+    let there = read_there c.self.inside.processes.list.items c.args.pid c.in-Some.place c.index-process.result.now (c.in-Some.ensures {u = tt}).found
+    c.index-process.ensures in
+    record {
+      able = able_there c.self.inside.library c.self.invariant.verified c.self.inside.processes.list.items c.self.inside.objects
+          c.self.inside.blocked.items c.args.pid c.index-process.result.now _ c.self.invariant.sound c.self.invariant.covered there
+          (ready_there c.self.inside.library c.self.inside.processes.list.items c.self.inside.objects c.self.inside.blocked.items c.args.pid
+          c.index-process.result.now there (rw (← c.self.view_is) at c.requires)) (c.in-Some-shared.ensures {u = tt}).found;
+    }
 
 pub returns : goal.returns
 returns c =

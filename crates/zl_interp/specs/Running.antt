@@ -1,8 +1,6 @@
--- The parts of local instructions: memory, slots, and instructions that are never stuck. No public clause cites this module.
-use Rattle.std.specs.Prelude.{ℕ, Bool, true, false, List, Option, Some, None, slice_get, slice_set, replicate}
+-- The parts of local instructions: memory and slots. No public clause cites this module.
+use Rattle.std.specs.Prelude.{ℕ, List, Option, Some, None, slice_get, slice_set, replicate}
 use Rattle.zl_code.specs.Common.{Cpu, bytes_of}
-use Rattle.zl_code.specs.declared.instr.LocalInstr.{LocalInstr}
-use Rattle.zl_code.specs.declared.instr.LocalInstr.TheVariants as local
 use Rattle.zl_code.specs.declared.image.SlotArray.{SlotArray}
 use Rattle.zl_code.specs.Local.{reg, sets, overwritten}
 use Rattle.zl_interp.specs.Cpu.{register_set}
@@ -18,15 +16,6 @@ moved c destination source = register_set (sets c destination (reg c source)) so
 -- the places of a slot array that starts: each holds 0
 abbrev pub empty_places : SlotArray → List ℕ
 empty_places array = replicate array.length 0
-
--- whether the instruction asks for neither data memory nor slot arrays
-abbrev pub is_free : LocalInstr → Bool
-is_free (local.Swap a b imm) = false
-is_free (local.LoadByte a b imm) = false
-is_free (local.LoadWord a b imm) = false
-is_free (local.StoreByte a b imm) = false
-is_free (local.StoreWord a b imm) = false
-is_free _ = true
 
 -- what is in the place of the slot array that was found
 abbrev pub place_in : Option (List ℕ) → ℕ → Option ℕ

@@ -6,14 +6,15 @@ ghost use Rattle.zl_code.specs.Steps.{next_at};
 ghost use Rattle.zl_interp.specs.Bursts.{IsBurst, after_locals, stop_at};
 ghost use Rattle.zl_interp.specs.Program.{program_value};
 ghost use Rattle.zl_interp.specs.declared.bursts.Stop.TheVariants.{More};
-ghost use Rattle.zl_verify.specs.Covered.{IsAbleIn};
+ghost use Rattle.zl_verify.specs.Covered.{IsAble, IsAbleIn};
 
 use crate::cpu::Cpu;
-use crate::next::{local_step, stop_of};
+use crate::next::{step_in, step_sure, stop_of};
 use crate::program::Program;
 use std::alloc::{AllocError, Global};
 use std::marker::Model;
 use std::sync::Arc;
+use zl_code::Image;
 use zl_rights::Pid;
 
 /// Where a burst ended.
@@ -193,7 +194,8 @@ impl Done {
 /// Lets the process of the turn go on by itself, for at most so many local instructions.
 ///
 /// It ends at a system call, where the process is stuck, or once it did as many as it may. It takes
-/// no memory, and waits for nobody. Source: own profile.
+/// no memory, and waits for nobody. For a checked program it tests only whether a call stands next.
+/// Source: own profile.
 pub fn burst(turn: Turn, most: u32) -> Done
     ensures process { result.pid ≡ turn.pid }
     ensures program { result.program ≡ turn.program }
@@ -208,7 +210,11 @@ pub fn burst(turn: Turn, most: u32) -> Done
         from,
         mut to,
     } = turn;
-    let ran = run_on(&program, &mut to, most);
+    let ran = if program.is_checked() {
+        run_on_sure(program.image(), &mut to, most)
+    } else {
+        run_on(program.image(), &mut to, most)
+    };
     let stop = stop_of(&program, &to);
     Done {
         pid,
@@ -221,16 +227,43 @@ pub fn burst(turn: Turn, most: u32) -> Done
 }
 
 /// Does local instructions in a row, at most so many, as long as one stands next that can be done.
-fn run_on(program: &Program, cpu: &mut Cpu, most: u32) -> u32
-    ensures follows { after_locals (program_value program.now).image result cpu.old ≡ Some cpu.new }
+#[tactic(auto, unfolding(zl_code::specs::Steps::next_at))]
+fn run_on(image: &Image, cpu: &mut Cpu, most: u32) -> u32
+    ensures follows { after_locals image.now result cpu.old ≡ Some cpu.new }
     ensures within { result ≤ most }
-    ensures whole { stop_at (next_at (program_value program.now).image cpu.new) ≡ More
-        → result ≡ most }
+    ensures whole { stop_at (next_at image.now cpu.new) ≡ More → result ≡ most }
 {
+    let code = image.code();
+    let mut counter = cpu.counter;
     for ran in 0..most {
-        if local_step(program, cpu).is_none() {
+        let Some(next) = step_in(code, cpu, counter) else {
+            cpu.counter = counter;
             return ran;
-        }
+        };
+        counter = next;
     }
+    cpu.counter = counter;
+    most
+}
+
+/// Does the same for a Cpu that is as a typing of the image says: until a call stands next, each
+/// instruction can be done, so that isn't tested.
+#[tactic(auto, unfolding(zl_code::specs::Steps::next_at))]
+fn run_on_sure(image: &Image, cpu: &mut Cpu, most: u32) -> u32
+    requires { IsAble image.now cpu.old }
+    ensures follows { after_locals image.now result cpu.old ≡ Some cpu.new }
+    ensures within { result ≤ most }
+    ensures whole { stop_at (next_at image.now cpu.new) ≡ More → result ≡ most }
+{
+    let code = image.code();
+    let mut counter = cpu.counter;
+    for ran in 0..most {
+        let Some(next) = step_sure(code, cpu, counter) else {
+            cpu.counter = counter;
+            return ran;
+        };
+        counter = next;
+    }
+    cpu.counter = counter;
     most
 }

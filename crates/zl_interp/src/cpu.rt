@@ -4,7 +4,7 @@ ghost use Rattle.std.specs.Prelude.{◌≡◌, ◌↔◌, IsTrue, ◌+◌, ◌<�
 ghost use Rattle.zl_rights.specs.World.{written};
 ghost use Rattle.zl_code.specs.Asked.{used};
 ghost use Rattle.zl_code.specs.Limits.{most_handles};
-ghost use Rattle.zl_code.specs.Local.{reg, sets, goes_to, goes_if};
+ghost use Rattle.zl_code.specs.Local.{reg};
 ghost use Rattle.zl_code.specs.Starting.{cpu_given};
 ghost use Rattle.zl_interp.specs.Cpu.{started_cpu, register_set, handle_register};
 ghost use Rattle.zl_interp.specs.Running.{empty_places};
@@ -175,34 +175,6 @@ impl Cpu {
         ensures { self.new ≡ record self.old { counter = self.old.counter + 1 } }
     {
         self.counter += 1;
-    }
-
-    /// The register becomes the value, and the next instruction is the one behind this.
-    pub(crate) fn assign(&mut self, register: Register, value: u64)
-        requires { self.old.counter < 2 ^ 32 }
-        ensures { self.new ≡ sets self.old register value }
-    {
-        self.set(register, value);
-        self.advance();
-    }
-
-    /// The next instruction is the target.
-    pub(crate) fn go_to(&mut self, target: u32)
-        ensures { self.new ≡ goes_to self.old target }
-    {
-        self.counter = target as usize;
-    }
-
-    /// The next instruction is the target where the test holds, else the one behind this.
-    pub(crate) fn go_if(&mut self, test: bool, target: u32)
-        requires { self.old.counter < 2 ^ 32 }
-        ensures { self.new ≡ goes_if self.old test target }
-    {
-        if test {
-            self.go_to(target);
-        } else {
-            self.advance();
-        }
     }
 }
 

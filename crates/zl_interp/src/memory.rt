@@ -33,14 +33,25 @@ impl Cpu {
         self.memory[start..start + bytes.len()].copy_from_slice(bytes);
     }
 
-    /// Where the bytes from the sum of base and offset on begin, if so many lie in the memory.
-    pub(crate) fn place(&self, base: u64, offset: u32, count: usize) -> Option<usize>
-        requires { count ≤ 8 }
+    /// Where the bytes from the sum of base and offset on begin, if so many lie in the memory; they do
+    /// where it isn't tested.
+    pub(crate) fn place<const TESTED: bool>(
+        &self,
+        base: u64,
+        offset: u32,
+        count: usize,
+    ) -> Option<usize>
+        requires few { count ≤ 8 }
+        requires sure { TESTED ≡ false → is_in_memory self.now (base + offset) count ≡ true }
         ensures found { IfSome result (λ place. place ≡ base + offset) }
         ensures within { OnSome result (is_in_memory self.now (base + offset) count ≡ true) }
         ensures missing { IfNone result (is_in_memory self.now (base + offset) count ≡ false) }
     {
         let len = self.memory.len() as u64;
+        // By the length the prover knows that this sum has 64 bits.
+        if !TESTED {
+            return Some((base + u64::from(offset)) as usize);
+        }
         match base.checked_add(u64::from(offset) + count as u64) {
             Some(end) if end <= len => Some(end as usize - count),
             _ => None,

@@ -1,11 +1,11 @@
 //! What stands next for a Cpu in its program: a system call, or a local instruction, done here.
 
-ghost use Rattle.std.specs.Prelude.{◌≡◌, ◌<◌, None, IfSome, IfNone, OnSome};
+ghost use Rattle.std.specs.Prelude.{◌≡◌, ◌≢◌, ◌<◌, ◌≤◌, length, slice_get, None, IfSome, IfNone, OnSome};
 ghost use Rattle.zl_code.specs.Asked.{has_its_memory};
 ghost use Rattle.zl_code.specs.Instructions.{call_row};
 ghost use Rattle.zl_code.specs.Limits.{most_instructions};
-ghost use Rattle.zl_code.specs.Local.{local_effect};
-ghost use Rattle.zl_code.specs.Steps.{Moves, moves, next_at};
+ghost use Rattle.zl_code.specs.Local.{goes_to, local_effect};
+ghost use Rattle.zl_code.specs.Steps.{IsStuck, Moves, moves, next_at, next_of};
 ghost use Rattle.zl_interp.specs.Bursts.{stop_at};
 ghost use Rattle.zl_interp.specs.Next.{IsStuckOrCalls, StandsNext, call_in};
 ghost use Rattle.zl_interp.specs.Program.{program_value};
@@ -13,8 +13,8 @@ ghost use Rattle.zl_interp.specs.Program.{program_value};
 use crate::bursts::Stop;
 use crate::cpu::Cpu;
 use crate::program::Program;
-use crate::running::{can_run, run};
-use zl_code::{CallInstr, Ending, LocalInstr};
+use crate::running::{can_run, run, run_sure};
+use zl_code::{CallInstr, Ending, Instr, LocalInstr};
 
 /// The call that stands next for the Cpu, if one does.
 ///
@@ -62,7 +62,48 @@ pub fn local_step(program: &Program, cpu: &mut Cpu) -> Option<()>
     ensures unchanged { IfNone result (cpu.new ≡ cpu.old) }
 {
     let local = local_at(program, cpu)?;
-    run(cpu, local)
+    let counter = cpu.counter;
+    cpu.counter = run::<true>(cpu, counter, &local)?;
+    Some(())
+}
+
+/// Does the local instruction of this number in the code, as `local_step` does, and says which is next.
+///
+/// The counter of the Cpu itself stays as it is.
+#[inline(always)]
+pub fn step_in(code: &[Instr], cpu: &mut Cpu, counter: usize) -> Option<usize>
+    requires few { length code.now ≤ most_instructions }
+    ensures moves { IfSome result (λ next.
+        next_of (slice_get code.now counter) (goes_to cpu.old counter)
+        ≡ Moves (goes_to cpu.new next)) }
+    ensures stuck { IfNone result
+        (IsStuckOrCalls (next_of (slice_get code.now counter) (goes_to cpu.old counter))) }
+    ensures unchanged { IfNone result (cpu.new ≡ cpu.old) }
+{
+    match code.get(counter) {
+        Some(Instr::Local(local)) => run::<true>(cpu, counter, local),
+        _ => None,
+    }
+}
+
+/// Does the same for a Cpu that isn't stuck: only a call can stand next in place of a local
+/// instruction, which can be done then. Nothing else is tested.
+#[inline(always)]
+pub fn step_sure(code: &[Instr], cpu: &mut Cpu, counter: usize) -> Option<usize>
+    requires few { length code.now ≤ most_instructions }
+    requires sure { next_of (slice_get code.now counter) (goes_to cpu.old counter) ≢ IsStuck }
+    ensures moves { IfSome result (λ next.
+        next_of (slice_get code.now counter) (goes_to cpu.old counter)
+        ≡ Moves (goes_to cpu.new next)) }
+    ensures calls { IfNone result
+        (IsStuckOrCalls (next_of (slice_get code.now counter) (goes_to cpu.old counter))) }
+    ensures unchanged { IfNone result (cpu.new ≡ cpu.old) }
+{
+    match &code[counter] {
+        Instr::Local(local) => Some(run_sure(cpu, counter, local)),
+        Instr::Call(_) => None,
+        Instr::Unknown(_) => unreachable!(),
+    }
 }
 
 /// The local instruction that stands next for the Cpu, if one does, be it possible or not.

@@ -9,3 +9,4 @@ pub mod LocalRuns
 pub mod StepItems
 pub mod Advancing
 pub mod Covered
+pub mod Untaken

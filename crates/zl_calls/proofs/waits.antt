@@ -4,4 +4,5 @@ pub mod Firing
 pub mod FiringWorlds
 pub mod LeftWaits
 pub mod WaitsLost
+pub mod Staying
 pub mod WaitsByCall

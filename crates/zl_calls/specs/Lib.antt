@@ -16,4 +16,5 @@ pub mod Policed
 pub mod FieldFaults
 pub mod Reaching
 pub mod Turns
+pub mod Untaken
 pub mod Calling

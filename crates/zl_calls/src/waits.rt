@@ -1,6 +1,6 @@
 //! How registered waits end and fire, one after another in the order in which they were registered.
 
-ghost use Rattle.std.specs.Prelude.{◌≡◌, map};
+ghost use Rattle.std.specs.Prelude.{◌≡◌, map, IsTrue};
 ghost use Rattle.zl_rights.specs.Map.{get};
 ghost use Rattle.zl_rights.specs.Settle.{has_handle};
 ghost use Rattle.zl_objects.specs.Listed.{wait_value};
@@ -9,9 +9,12 @@ ghost use Rattle.std.specs.List.{list_any};
 ghost use Rattle.zl_code.specs.Waiting.{is_by_handle, is_keyed};
 ghost use Rattle.zl_calls.specs.Consistent.{IsConsistent};
 ghost use Rattle.zl_calls.specs.Registered.{EndsUnheld, EndsWaits, FiresWaits, is_left};
+ghost use Rattle.zl_calls.specs.Untaken.{takes_no_handle as tells_none_taken};
 
 use crate::processes::Processes;
+use crate::stepping::takes_no_handle;
 use bitflags::Flags;
+use zl_code::TraceItem;
 use zl_objects::{Objects, Wait};
 use zl_rights::{HValue, Koid, Pid};
 
@@ -49,8 +52,7 @@ pub fn cancel_waits(objects: &mut Objects, pid: Pid, value: HValue, port: Koid, 
 }
 
 /// The waits end whose handle, object or port is gone. It takes no memory.
-#[inline(always)]
-pub fn end_unheld(processes: &Processes, objects: &mut Objects)
+fn end_unheld(processes: &Processes, objects: &mut Objects)
     requires { IsConsistent processes.now.list.items objects.old }
     ensures { EndsUnheld processes.now.list.items objects.old objects.new }
 {
@@ -61,6 +63,20 @@ pub fn end_unheld(processes: &Processes, objects: &mut Objects)
         } else {
             objects.unwatch_key(wait.object, wait.pid, wait.value, wait.port, wait.key);
         }
+    }
+}
+
+/// The waits end whose handle, object or port is gone: none behind a step that took no handle. It takes
+/// no memory.
+#[inline(always)]
+pub fn end_behind(item: &TraceItem, processes: &Processes, objects: &mut Objects)
+    requires consistent { IsConsistent processes.now.list.items objects.old }
+    requires unheld { IsTrue (tells_none_taken item.now) → EndsUnheld processes.now.list.items
+        objects.old objects.old }
+    ensures { EndsUnheld processes.now.list.items objects.old objects.new }
+{
+    if !takes_no_handle(item) {
+        end_unheld(processes, objects);
     }
 }
 

@@ -16,7 +16,7 @@ ghost use Rattle.zl_calls.specs.Turns.{Fits, IsTurn, advanced, steps_done};
 use crate::booting::{Made, booted};
 use crate::processes::Processes;
 use crate::stepping::{act_for, is_local, next_name};
-use crate::waits::{end_unheld, fire_waits};
+use crate::waits::{end_behind, fire_waits};
 use crate::waking::{add_blocked, wake};
 use std::alloc::{AllocError, Global};
 use std::marker::Model;
@@ -215,7 +215,7 @@ impl World {
             return Some(item);
         }
         add_blocked(&mut self.blocked, pid, &item);
-        end_unheld(&self.processes, &mut self.objects);
+        end_behind(&item, &self.processes, &mut self.objects);
         fire_waits(&self.processes, &mut self.objects);
         wake(&mut self.processes, &mut self.objects, &mut self.blocked);
         Some(item)

@@ -1,30 +1,25 @@
 -- A ready process gets another Cpu: what is held stays held, no wait ends, and nothing becomes due.
-use Rattle.zl_calls.proofs.Common.{◌≡◌, ℕ, suc, Bool, true, false, ◌&&◌, ◌==◌, List, [], ◌∷◌, length, map, set, refl, sym, ap, ◌∙◌, subst, Option, Some}
-use Rattle.zl_calls.proofs.Common.{None, inl, inr, IsTrue, All, arith, nat_tests, and_from, cases_Bool, eqb-true, false≢true, none-some, is_some}
-use Rattle.zl_calls.proofs.Common.{list_any, Map, get, has_key, lives, is_process, Settles, wakes, on_process, Objects, process_entry}
-use Rattle.zl_calls.proofs.Common.{process_value, object_entry, state_value, world_blocked, world_value, AreBlocked, IsConsistent, World, has_handle, Entry}
-use Rattle.zl_calls.proofs.Common.{IsSoundWait, settles_waiting, StaysAwake, is_left, world_left}
+use Rattle.zl_calls.proofs.Common.{◌≡◌, ℕ, suc, false, ◌==◌, List, [], ◌∷◌, length, map, set, refl, sym, ap, ◌∙◌, subst, Some, inl, inr, IsTrue, arith}
+use Rattle.zl_calls.proofs.Common.{nat_tests, cases_Bool, list_any, Map, get, has_key, lives, is_process, Settles, wakes, on_process, Objects, process_entry}
+use Rattle.zl_calls.proofs.Common.{process_value, state_value, world_blocked, world_value, AreBlocked, IsConsistent, World, settles_waiting, StaysAwake}
+use Rattle.zl_calls.proofs.Common.{is_left, world_left}
 use Rattle.std.specs.List.{filter}
 use Rattle.std.specs.Prelude.{slice_index_or}
-use Rattle.zl_rights.specs.Settle.{is_made_by_handle}
 use Rattle.zl_rights.specs.World.{Wait}
-use Rattle.zl_code.proofs.Common.{Object as ObjectValue, Process as ProcessValue, body_in, handles_in, is_blocked, is_port_there}
+use Rattle.zl_code.proofs.Common.{Process as ProcessValue, is_blocked}
 use Rattle.zl_code.proofs.AwakeMoves.{moves_awake}
 use Rattle.zl_code.proofs.StepsWaiting.{is_left as is_left_at_port}
 use Rattle.zl_calls.specs.declared.process.Process.{Process}
 use Rattle.zl_calls.proofs.calls.Answered.{IsWrite}
 use Rattle.zl_calls.proofs.waking.BlockedLists.{still_blocked}
 use Rattle.zl_calls.proofs.processes.Departed.{all_live}
-use Rattle.zl_calls.proofs.waits.LeftWaits.{watched_there}
-use Rattle.zl_calls.proofs.stepping.Performing.{AtTurn, key, object_there, there, unblocked, write_of}
+use Rattle.zl_calls.proofs.waits.LeftWaits.{at_port}
+use Rattle.zl_calls.proofs.waits.Staying.{AreLeft, all_pass, sound_left, stays_left, written_keeps}
+use Rattle.zl_calls.proofs.stepping.Performing.{AtTurn, here, key, object_there, there, unblocked, write_of}
 use Rattle.zl_calls.proofs.objects.Settled.{still_settles}
-use Rattle.zl_calls.proofs.processes.Written.{alike_states, get_after, refusal_keeps}
+use Rattle.zl_calls.proofs.processes.Written.{alike_states, refusal_keeps}
 
 -- ---- lists
-
-all_kept : {X : Type 0} (p : X → Bool) (xs : List X) → All (λ x. p x ≡ true) xs → filter p xs ≡ xs
-all_kept p [] all = refl
-all_kept p (x ∷ xs) all = rw (all 0 x (omega arith)) (ap (λ ys. x ∷ ys) (all_kept p xs (λ i d inside. all (suc i) d (omega (arith, inside)))))
 
 -- whom no place of the list has isn't among it
 not_among : (p : ℕ) (ps : List ℕ) → length (filter (λ q. q == p) ps) ≡ 0 → list_any (λ q. p == q) ps ≡ false
@@ -73,45 +68,17 @@ module _ {ps : List Process} {r : Objects} {blocked : List ℕ} {pid place : ℕ
 
     -- ---- no wait ends
 
-    handles_still : (k v : ℕ) → has_handle (get (map process_entry after) k) v ≡ has_handle (get (map process_entry ps) k) v
-    handles_still k v = elim (cases_Bool (p.pid == k)) as (λ _. has_handle (get (map process_entry after) k) v ≡ has_handle (get (map process_entry ps) k) v) [
-      | inl here ↦ rw (get_after write k, here, ← eqb-true p.pid k here, write.there) (ap (λ (q : Process). has_key q.table.entries v) cpu)
-      | inr apart ↦ rw (get_after write k, apart) refl
-    ]
-
-    by_entry : (o : Option ProcessValue) (v : ℕ) (e : Entry) → get (handles_in o) v ≡ Some e → has_handle o v ≡ true
-    unfolding get
-    by_entry None v e at = absurd (none-some e at)
-    by_entry (Some q) v e at = ap is_some at
-
-    by_port : (o : Option ObjectValue) → IsTrue (is_port_there (body_in o)) → is_some o ≡ true
-    by_port None is = absurd (false≢true is)
-    by_port (Some o) is = refl
-
-    made : (x : Wait) → IsSoundWait before x → is_made_by_handle (world_value after r) x ≡ true
-    unfolding is_made_by_handle
-    made x t = handles_still x.pid x.value ∙ by_entry (get (map process_entry ps) x.pid) x.value t.handle.0 t.handle.1
-
-    ported : (x : Wait) → IsSoundWait before x → has_key (map object_entry r.objects) x.port ≡ true
-    ported x t = by_port (get (map object_entry r.objects) x.port) t.port
-
-    all_left : filter (is_left (world_value after r)) r.waits ≡ r.waits
-    all_left = all_kept (is_left (world_value after r)) r.waits (λ i d inside.
-        let x : Wait = slice_index_or r.waits i d in
-        let t : IsSoundWait before x = turn.sound.waits i d inside in
-        and_from (is_made_by_handle (world_value after r) x) (has_key (map object_entry r.objects) x.object && has_key (map object_entry r.objects) x.port)
-        (made x t)
-        (and_from (has_key (map object_entry r.objects) x.object) (has_key (map object_entry r.objects) x.port) (watched_there before turn.sound i d inside)
-        (ported x t)))
+    left : AreLeft after r r.waits
+    left = stays_left ps after r r
+        (written_keeps ps place p p2 (here ps pid place p turn.found turn.read) (ap (λ (q : Process). q.pid) cpu)
+        (λ v at. ap (λ (q : Process). has_key q.table.entries v) cpu ∙ at)) (λ k at. at) r.waits (sound_left ps r blocked turn.sound)
 
     all_left_at_port : filter (is_left_at_port (world_value after r)) r.waits ≡ r.waits
-    all_left_at_port = all_kept (is_left_at_port (world_value after r)) r.waits (λ i d inside.
-        let x : Wait = slice_index_or r.waits i d in
-        let t : IsSoundWait before x = turn.sound.waits i d inside in
-        and_from (is_made_by_handle (world_value after r) x) (has_key (map object_entry r.objects) x.port) (made x t) (ported x t))
+    all_left_at_port = all_pass (is_left_at_port (world_value after r)) r.waits (λ i d inside. at_port (world_value after r) (slice_index_or r.waits i d)
+        (left i d inside))
 
     pub moved_left : world_left after r blocked ≡ world_blocked after r blocked
-    moved_left = λ i. record (world_blocked after r blocked) { waits = all_left i }
+    moved_left = λ i. record (world_blocked after r blocked) { waits = all_pass (is_left (world_value after r)) r.waits left i }
 
     pub moved_stays : StaysAwake before (world_left after r blocked) (world_blocked after r blocked)
     moved_stays awake = ap wakes moved_left ∙ moved_awake awake

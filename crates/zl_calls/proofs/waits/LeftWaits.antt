@@ -53,7 +53,7 @@ watched_there w sound i d inside = one (slice_index_or w.waits i d) (sound.waits
     one x t = subst (λ (k : ℕ). IsTrue (has_key w.objects k)) t.handle.2 (at_process (get w.processes x.pid) x t.handle.0 refl t.handle.1)
 
 -- the test of handle, object and port asks for more than that of handle and port
-at_port : (w : World) (x : Wait) → IsTrue (is_left w x) → IsTrue (is_left_at_port w x)
+pub at_port : (w : World) (x : Wait) → IsTrue (is_left w x) → IsTrue (is_left_at_port w x)
 at_port w x left =
     let parts = and_parts (is_made_by_handle w x) (has_key w.objects x.object && has_key w.objects x.port) left in
     and_from (is_made_by_handle w x) (has_key w.objects x.port) parts.0 (and_parts (has_key w.objects x.object) (has_key w.objects x.port) parts.1).1

@@ -2,6 +2,7 @@ use Rattle.zl_calls.proofs.Common.{◌≡◌, true, set, sym, ◌∙◌, parts, 
 use Rattle.zl_calls.proofs.waking.BlockedLists.{no_more}
 use Rattle.zl_calls.proofs.stepping.CallSteps.{called_so, caller_ready, moves_from, stays_from, stops_from}
 use Rattle.zl_calls.proofs.stepping.Performing.{HasActed, here, turn_at, within}
+use Rattle.zl_calls.proofs.stepping.Untaken.{called_spares}
 use Rattle.zl_code.specs.declared.history.TraceItem.TheVariants as item
 use Rattle.zl_calls.proofs.stepping.act_for.Goals as goal
 
@@ -96,3 +97,12 @@ returns-in-Some-run_next-clause-quiet c local =
     c.call_next.new.processes.list.items c.call_next.new.objects c.call_next.new.blocked.items (c.in_default.ensures {u = tt}).same_processes
     (c.in_default.ensures {u = tt}).same_objects (c.in_default.ensures {u = tt}).same_blocked c.index_mut-process.result.now c.index_mut-process.ensures.value
     c.run_next.new.process (c.in-Some-run_next.ensures {u = tt}).cpu
+
+pub returns-in-Some-clause-unheld : goal.returns-in-Some-clause-unheld
+returns-in-Some-clause-unheld d none =
+    let c = d.before in
+    called_spares (turn_at c.args.processes.now.list.items c.args.objects.now c.args.blocked.now.items c.args.pid c.in_ok-place.place c.index.result.now
+    c.requires.consistent c.requires.list c.requires.sound c.in_ok-place.ensures.first c.index.ensures (sym c.is_ready.ensures ∙ c.if-not-is_ready.false))
+    c.args.library.now (parts c.call_next.new.processes.list.items c.call_next.new.objects c.call_next.new.blocked.items) c.in-Some.outcome c.in-Some.call
+    ((c.in-Some.ensures {u = tt}).calls c.index.result.now (here c.args.processes.now.list.items c.args.pid c.in_ok-place.place c.index.result.now
+    c.in_ok-place.ensures.first c.index.ensures)) none c.leave.new.processes.items c.leave.ensures (called c).consistent

@@ -15,8 +15,8 @@ steps : (c : goal.After-wake) → TakesStep (machine_value c.self.inside.library
     c.args.pid (machine_value c.self.inside.library c.wake.new.processes.list.items c.wake.new.objects c.wake.new.blocked.items) c.in_ok-item.item
 steps c =
     takes_step c.self.inside.library c.self.inside.processes.list.items c.self.inside.objects c.self.inside.blocked.items c.args.pid
-    c.act_for.new.processes.list.items c.wake.new.processes.list.items c.act_for.new.objects c.end_unheld.new.objects c.fire_waits.new.objects
-    c.wake.new.objects _ c.wake.new.blocked.items c.in_ok-item.item c.in_ok-item.ensures.acts c.end_unheld.ensures c.fire_waits.ensures
+    c.act_for.new.processes.list.items c.wake.new.processes.list.items c.act_for.new.objects c.end_behind.new.objects c.fire_waits.new.objects
+    c.wake.new.objects _ c.wake.new.blocked.items c.in_ok-item.item c.in_ok-item.ensures.acts c.end_behind.ensures c.fire_waits.ensures
     (rw c.add_blocked.ensures.items at c.wake.ensures.wakes)
 
 pub returns-clause-ran : goal.returns-clause-ran

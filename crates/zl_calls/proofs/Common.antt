@@ -87,7 +87,7 @@ pub use Rattle.zl_calls.specs.calls.Handle.{Closes, ReplaceDoes, Replaces, repla
 pub use Rattle.zl_calls.specs.calls.Job.{has_child_at}
 pub use Rattle.zl_calls.specs.calls.Making.{MakeDoes, MakesOne, room_refusal}
 pub use Rattle.zl_calls.specs.calls.Port.{TakesPacket, poll_refusal, port_at}
-pub use Rattle.zl_calls.specs.calls.Reading.{ChanReadDoes, InsertsEach, front_handles}
+pub use Rattle.zl_calls.specs.calls.Reading.{ChanReadDoes, InsertsEach}
 pub use Rattle.zl_calls.specs.calls.Task.{ClosesAllEnded, ClosesEnded, CreatesProcess, IsCallerStill, Parts, ProcessCreateDoes, ProcessStartDoes}
 pub use Rattle.zl_calls.specs.calls.Task.{StartsProcess, TaskKillDoes, child_refusal, create_refusal, create_refusal_of, ended_if, ended_within, kill_refusal}
 pub use Rattle.zl_calls.specs.calls.Task.{lives_on, needs_more, parts, process_at, start_refusal}

@@ -1,5 +1,5 @@
 -- The queue of a channel end: its messages, the earliest first, and what operations make of it.
-use Rattle.std.specs.Prelude.{◌≡◌, ℕ, Bool, ◌||◌, nat_lt, List, [], ◌∷◌, ◌++◌, length, Option, Some, None, slice_get}
+use Rattle.std.specs.Prelude.{◌≡◌, ℕ, Bool, ◌||◌, nat_lt, List, [], ◌∷◌, ◌++◌, length, Option, Some, None}
 use Rattle.zl_rights.specs.World.{Message}
 use Rattle.zl_rights.specs.declared.entry.Entry.{Entry}
 use Rattle.zl_channel.specs.declared.channel_end.PushFault.{PushFault}
@@ -22,10 +22,10 @@ abbrev pub front_sizes : List Message → Option (ℕ × ℕ)
 front_sizes [] = None
 front_sizes (m ∷ ms) = Some (length m.bytes, length m.handles)
 
--- the n-th handle of the first message
-abbrev pub front_entry : List Message → ℕ → Option Entry
-front_entry [] n = None
-front_entry (m ∷ ms) n = slice_get m.handles n
+-- the handles in the first message
+abbrev pub front_handles : List Message → List Entry
+front_handles [] = []
+front_handles (m ∷ ms) = m.handles
 
 -- the handle leaves its message, whichever it is in; all else stays
 pub record Drains (old : List Message) (entry : Entry) (new : List Message) : Type 0 where

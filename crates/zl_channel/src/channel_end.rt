@@ -1,5 +1,5 @@
 ghost use Rattle.std.specs.Prelude.{◌≡◌, ◌↔◌, ◌++◌, ◌∷◌, [], IsTrue, OnOk, OnErr, IfErr, IfSome, IfNone, Err, All, drop, slice_get};
-ghost use Rattle.zl_channel.specs.Queue.{Drains, front_entry, front_sizes, is_too_large, refused_message};
+ghost use Rattle.zl_channel.specs.Queue.{Drains, front_handles, front_sizes, is_too_large, refused_message};
 
 use crate::message::Message;
 use std::alloc::Global;
@@ -89,12 +89,15 @@ impl ChannelEnd {
         Some((message.bytes.len(), message.handles.len()))
     }
 
-    /// The handle at place `n`, from 0, of the first message. It takes no memory.
-    pub fn front_entry(&self, n: usize) -> Option<Entry>
-        ensures { result ≡ front_entry self.now n }
+    /// The handles in the first message, in order, or none where no message is to be read. It takes
+    /// no memory.
+    pub fn front_handles(&self) -> &[Entry]
+        ensures { result.now ≡ front_handles self.now }
     {
-        let message = self.queue.front()?;
-        message.handles.as_slice().get(n).copied()
+        match self.queue.front() {
+            Some(message) => message.handles.as_slice(),
+            None => &[],
+        }
     }
 
     /// Takes the first message out, or nothing where the queue is empty. It takes no memory.

@@ -48,10 +48,10 @@ fn messages_come_out_in_order(rt: HostRuntime) -> Result<(), Fail> {
     let mut end = ChannelEnd::new(rt.alloc());
     assert!(rt; end.push(message(rt.alloc(), 1, &[])?).is_ok());
     assert!(rt; end.push(message(rt.alloc(), 2, &[10, 11])?).is_ok());
-    assert_eq!(rt; end.front_entry(0), None);
+    assert!(rt; end.front_handles().is_empty());
     assert!(rt; matches!(end.take(), Some(m) if m.bytes.len() == 1));
     assert_eq!(rt; end.front_sizes(), Some((2, 2)));
-    assert_eq!(rt; end.front_entry(1), Some(event(11)));
+    assert!(rt; end.front_handles() == [event(10), event(11)].as_slice());
     assert!(rt; end.drain().is_some());
     assert!(rt; end.drain().is_some());
     assert_eq!(rt; end.drain(), None);

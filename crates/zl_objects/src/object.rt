@@ -3,7 +3,7 @@
 ghost use Rattle.std.specs.Prelude.{◌≡◌, ◌↔◌, IsTrue, IfErr, OnErr, OnOk, Err, Some, slice_get};
 ghost use Rattle.zl_objects.specs.Dying.{is_last};
 ghost use Rattle.zl_objects.specs.Objects.{has_place, held_once_more, held_once_less, is_alive, is_channel_body, is_running, end_to, job_of, kind_in, kind_of_pair, peer_of, queue_of, reader_of, raised_changed, received, sent, started, started_life, stopped};
-ghost use Rattle.zl_channel.specs.Queue.{is_too_large, refused_message, front_sizes, front_entry};
+ghost use Rattle.zl_channel.specs.Queue.{front_handles, front_sizes, is_too_large, refused_message};
 
 use crate::objects::Objects;
 use std::alloc::Global;
@@ -244,13 +244,13 @@ impl Body {
         }
     }
 
-    /// The handle at place `n`, from 0, of the first message that is to be read.
-    pub(crate) fn front_entry(&self, n: usize) -> Option<Entry>
-        ensures { result ≡ front_entry (queue_of self.now) n }
+    /// The handles in the first message that is to be read, in order.
+    pub(crate) fn front_handles(&self) -> &[Entry]
+        ensures { result.now ≡ front_handles (queue_of self.now) }
     {
         match self {
-            Body::ChannelEnd { queue, .. } => queue.front_entry(n),
-            _ => None,
+            Body::ChannelEnd { queue, .. } => queue.front_handles(),
+            _ => &[],
         }
     }
 }

@@ -1,7 +1,7 @@
 ghost use Rattle.std.specs.Prelude.{[], Err, Some, false, ◌≡◌, ◌↔◌, ◌+◌, ◌<◌, ◌^◌, ◌∷◌, IsTrue, IfErr, IfOk, IfSome, OnErr, OnOk, slice_get};
 ghost use Rattle.zl_rights.specs.Map.{get, has_key};
 ghost use Rattle.zl_objects.specs.Objects.{changing, end_to, has_koids, has_place, holding, is_channel_at, is_end_at, is_end_body, is_job_at, job_in, kind_at, new_object, next_of, peer_at, queue_in, reader_at, receiving, root_alone, sending, starting, stopping, with_pair, with_new, without_newest};
-ghost use Rattle.zl_channel.specs.Queue.{front_entry, front_sizes, is_too_large, refused_message};
+ghost use Rattle.zl_channel.specs.Queue.{front_handles, front_sizes, is_too_large, refused_message};
 ghost use Rattle.zl_objects.specs.Ports.{reserved_in, reserved_of};
 ghost use Rattle.zl_objects.specs.Jobs.{killing};
 ghost use Rattle.zl_objects.specs.Release.{all_koids, Ends, Releases};
@@ -309,11 +309,15 @@ impl Objects {
         self.by_koid.get(&koid)?.body.front_sizes()
     }
 
-    /// The handle at place `n`, from 0, of the first message that is to be read at the end.
-    pub fn front_entry(&self, koid: Koid, n: usize) -> Option<Entry>
-        ensures { result ≡ front_entry (queue_in (get self.now.objects koid)) n }
+    /// The handles in the first message that is to be read at the end, in order. None where no
+    /// message is there, or it is no end.
+    pub fn front_handles(&self, koid: Koid) -> &[Entry]
+        ensures { result.now ≡ front_handles (queue_in (get self.now.objects koid)) }
     {
-        self.by_koid.get(&koid)?.body.front_entry(n)
+        match self.by_koid.get(&koid) {
+            Some(object) => object.body.front_handles(),
+            None => &[],
+        }
     }
 
     /// A handle to the object has gone, and with it goes what isn't held any more: with the end of

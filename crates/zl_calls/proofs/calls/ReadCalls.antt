@@ -6,8 +6,8 @@ use Rattle.zl_calls.proofs.Common.{first_some, may_choose, new_handles, insert_a
 use Rattle.zl_calls.proofs.Common.{on_object, on_process, Refused, Wants, Values, replied, taken, cpu_answered, process_with, process_with_all, slice_get}
 use Rattle.zl_calls.proofs.Common.{nat_le, option_map, Objects, process_entry, process_value, object_entry, object_value, world_value, body_value, body_in}
 use Rattle.zl_calls.proofs.Common.{body_of, handles_to, queued_to, IsConsistent, IsNamed, AreNamed, World, operands_fault, false≢true, IsSound, All-head}
-use Rattle.zl_calls.proofs.Common.{All-tail, result_err, Status, Entry, granted, READ, takes, Message, Outcome, told_of, first_handles, object_at, peer_at}
-use Rattle.zl_calls.proofs.Common.{queue_in, get_seen, sum_fewer, Received, ReadFault, IsTold, with_stored, ChanReadDoes, front_handles}
+use Rattle.zl_calls.proofs.Common.{All-tail, Status, Entry, granted, READ, takes, Message, Outcome, told_of, first_handles, object_at, peer_at}
+use Rattle.zl_calls.proofs.Common.{queue_in, get_seen, sum_fewer, Received, ReadFault, IsTold, with_stored, ChanReadDoes}
 use Rattle.zl_calls.proofs.Common.{nat_lt, wanted}
 use Rattle.zl_code.proofs.Common.{Object as ObjectValue, Process as ProcessValue, chan_read_etc}
 use Rattle.std.specs.Prelude.{drop}
@@ -16,12 +16,12 @@ use Rattle.zl_rights.specs.declared.status.Status.TheVariants as status
 use Rattle.zl_code.specs.declared.history.Outcome.TheVariants as outcome
 use Rattle.zl_code.specs.Effects.{body_after_read, message_read, storing}
 use Rattle.zl_code.specs.Tests.{has_place_for, queue_at, queue_in as queue_seen_in, sizes_of}
+use Rattle.zl_channel.specs.Queue.{front_handles}
 use Rattle.zl_objects.specs.declared.object.Body.{Body}
 use Rattle.zl_objects.specs.declared.object.Body.TheVariants as body
 use Rattle.zl_objects.specs.declared.object.Object.{Object}
 use Rattle.zl_objects.specs.Objects.{queue_of, received, received_body, receiving}
 use Rattle.zl_calls.specs.declared.process.Process.{Process}
-use Rattle.zl_calls.specs.declared.calls.reading.Front.{Front}
 use Rattle.zl_calls.specs.declared.calls.reading.ReadFault.TheVariants as fault
 use Rattle.zl_calls.specs.calls.Reading.{IsFaultBy, ReadsMessage, front_at, front_by, front_in, told_read}
 use Rattle.zl_calls.proofs.calls.Answered.{IsWrite, table_is, replied_with}
@@ -40,8 +40,8 @@ use Rattle.zl_calls.proofs.objects.Settled.{sound_of}
 -- ---- the refusal
 
 -- the status of a fault, if there is one
-abbrev why : Result Front ReadFault → Option Status
-why (Ok front) = None
+abbrev why : Result ℕ ReadFault → Option Status
+why (Ok end) = None
 why (Err (fault.TooSmall bytes handles)) = Some status.BufferTooSmall
 why (Err (fault.Refused s)) = Some s
 
@@ -65,7 +65,7 @@ by_queue count room places k there (m ∷ ms) = by_tests (has_place_for room pla
   where
     by_tests : (a b : Bool) → first_some (answer_if (not a) status.BufferTooSmall ∷ answer_if (not b) status.NoResources ∷ [])
         ≡ answers (why (if not a then Err (fault.TooSmall (length m.bytes) (length m.handles))
-        else (if not b then Err (fault.Refused status.NoResources) else Ok (record { end = k; handles = length m.handles }))))
+        else (if not b then Err (fault.Refused status.NoResources) else Ok k)))
     by_tests false b = refl
     by_tests true false = refl
     by_tests true true = refl
@@ -73,12 +73,11 @@ by_queue count room places k there (m ∷ ms) = by_tests (has_place_for room pla
 -- ---- what holds of the message
 
 -- the end is named by the caller's handle, and the table has room for the handles of its first message
-record IsFrontOf (entries : Map Entry) (objects : Map Object) (c : ℕ) (front : Front) : Type 0 where
+record IsFrontOf (entries : Map Entry) (objects : Map Object) (c end : ℕ) : Type 0 where
   pub entry : Entry
   pub there : get entries c ≡ Some entry
-  pub koid : entry.koid ≡ front.end
-  pub count : front.handles ≡ length (front_handles objects front.end)
-  pub room : length entries + length (front_handles objects front.end) ≤ 1024
+  pub koid : entry.koid ≡ end
+  pub room : length entries + length (front_handles (queue_in (get objects end))) ≤ 1024
 
 -- the sizes that are told are those of the first message at the end that the handle names
 record IsTooSmall (entries : Map Entry) (objects : Map Object) (c bytes handles : ℕ) : Type 0 where
@@ -92,8 +91,8 @@ tells_sizes status.BufferTooSmall = true
 tells_sizes _ = false
 
 -- what is known of the message by what was found
-abbrev IsKnown : Map Entry → Map Object → ℕ → Result Front ReadFault → Type 0
-IsKnown entries objects c (Ok front) = IsFrontOf entries objects c front
+abbrev IsKnown : Map Entry → Map Object → ℕ → Result ℕ ReadFault → Type 0
+IsKnown entries objects c (Ok end) = IsFrontOf entries objects c end
 IsKnown entries objects c (Err (fault.TooSmall bytes handles)) = IsTooSmall entries objects c bytes handles
 IsKnown entries objects c (Err (fault.Refused s)) = tells_sizes s ≡ false
 
@@ -103,11 +102,11 @@ front_known entries objects c room places = by_entry (get entries c) refl
     by_tests : (e : Entry) (m : Message) (ms : List Message) → get entries c ≡ Some e → queue_in (get objects e.koid) ≡ m ∷ ms
         → (a b : Bool) → nat_le (length entries + length m.handles) 1024 ≡ b
         → IsKnown entries objects c (if not a then Err (fault.TooSmall (length m.bytes) (length m.handles))
-        else (if not b then Err (fault.Refused status.NoResources) else Ok (record { end = e.koid; handles = length m.handles })))
+        else (if not b then Err (fault.Refused status.NoResources) else Ok e.koid))
     by_tests e m ms there at false b fits = record { entry = e; there = there; sizes = rw at refl }
     by_tests e m ms there at true false fits = refl
     by_tests e m ms there at true true fits =
-        record { entry = e; there = there; koid = refl; count = rw at refl; room = rw at (grind (arith, nat_tests, fits)) }
+        record { entry = e; there = there; koid = refl; room = rw at (grind (arith, nat_tests, fits)) }
 
     by_messages : (e : Entry) → get entries c ≡ Some e → (peer : Bool) (queue : List Message) → queue_in (get objects e.koid) ≡ queue
         → IsKnown entries objects c (front_in (length entries) peer room places e.koid queue)
@@ -142,6 +141,11 @@ first_at objects k m is = by_object (get objects k) refl is
     by_object : (o : Option Object) → get objects k ≡ o → slice_get (queue_in o) 0 ≡ Some m → IsFirstAt objects k m
     by_object None at read = absurd (none-some m read)
     by_object (Some o) at read = record { object = o; at = at; queue = by_messages (queue_of o.body) read }
+
+-- its handles are the same for the definitions
+first_alike : (queue : List Message) → front_handles queue ≡ first_handles queue
+first_alike [] = refl
+first_alike (m ∷ ms) = refl
 
 -- ---- a message less in a queue
 
@@ -211,10 +215,10 @@ module _ {before after : List Process} {r : Objects} {p p2 : Process} (lib : Lib
   abbrev read_site : Site
   read_site = site (chan_read_etc c address room places) consumed destinations
 
-  abbrev front_now : Result Front ReadFault
+  abbrev front_now : Result ℕ ReadFault
   front_now = front_at p.table.entries r.objects c room places
 
-  known : (found : Result Front ReadFault) → front_now ≡ found → IsKnown p.table.entries r.objects c found
+  known : (found : Result ℕ ReadFault) → front_now ≡ found → IsKnown p.table.entries r.objects c found
   known found is = subst (IsKnown p.table.entries r.objects c) is (front_known p.table.entries r.objects c room places)
 
   refused : refusal lib w p.pid (chan_read_etc c address room places) ≡ answers (why front_now)
@@ -230,7 +234,7 @@ module _ {before after : List Process} {r : Objects} {p p2 : Process} (lib : Lib
   module _ (message : Received) (reads : ReadsMessage p.table r c room places message p2.table r2)
       (told : IsTold read_site (told_read address (Ok message)) p p2) where
     abbrev k : ℕ
-    k = reads.front.end
+    k = reads.end
 
     abbrev m : Message
     m = message.message
@@ -238,8 +242,8 @@ module _ {before after : List Process} {r : Objects} {p p2 : Process} (lib : Lib
     abbrev vs : List ℕ
     vs = message.values.items
 
-    front : IsFrontOf p.table.entries r.objects c reads.front
-    front = known (Ok reads.front) reads.is_front
+    front : IsFrontOf p.table.entries r.objects c k
+    front = known (Ok k) reads.is_end
 
     first : IsFirstAt r.objects k m
     first = first_at r.objects k m reads.first
@@ -340,7 +344,7 @@ module _ {before after : List Process} {r : Objects} {p p2 : Process} (lib : Lib
 
     read_called : IsCalled lib before after r r2 p.pid read_site (outcome.Answered status.Ok)
     read_called = record {
-      calls = (Values vs, rw (refused, reads.is_front) (read_chosen, refl, read_ends));
+      calls = (Values vs, rw (refused, reads.is_end) (read_chosen, refl, read_ends));
       keeps = rw (reads.objects, same_receiving r k) (entered write moved changed sound_changed (requeued_kept (drop 1) before r k consistent.kept)
           (same_agrees write state_same changed)
           (tables_entered p.table p2.table m.handles vs (consistent.tables p.pid (process_value p) write.there) fits reads.inserts)
@@ -373,31 +377,34 @@ module _ {before after : List Process} {r : Objects} {p p2 : Process} (lib : Lib
         IsTold read_site (told_read address (Err f)) p p2 → IsCalled lib before after r r2 p.pid read_site (outcome.Answered (told_read address (Err f)).status)
 
     -- its handles are those of the message for the definitions
-    handles_same : (front : Front) → front_now ≡ Ok front → front.handles ≡ length (first_handles (queue_at w p.pid c))
-    handles_same front is =
-        let found : IsFrontOf p.table.entries r.objects c front = known (Ok front) is in
-        let koid : object_at w p.pid c ≡ front.end = rw (table_is write r, found.there) found.koid in
-        found.count ∙ ap (λ (q : List Message). length (first_handles q))
-        (sym (ap (λ (j : ℕ). queue_seen_in (body_of w j)) koid ∙ queue_there r.objects front.end))
+    handles_same : (end : ℕ) → front_now ≡ Ok end → front_handles (queue_in (get r.objects end)) ≡ first_handles (queue_at w p.pid c)
+    handles_same end is =
+        let found : IsFrontOf p.table.entries r.objects c end = known (Ok end) is in
+        let koid : object_at w p.pid c ≡ end = rw (table_is write r, found.there) found.koid in
+        first_alike (queue_in (get r.objects end))
+        ∙ ap first_handles (sym (ap (λ (j : ℕ). queue_seen_in (body_of w j)) koid ∙ queue_there r.objects end))
 
     want_tells : (s : Status) (place : Bool) → IsTrue (wanted true place s) → gives_refused w p.pid (chan_read_etc c address room places) s ≡ []
     unfolding gives_refused
     want_tells status.BufferTooSmall place want = absurd (false≢true want)
     want_tells _ place want = refl
 
-    wanting : (front : Front) → front_now ≡ Ok front → (s : Status) → IsTrue (wanted true (nat_lt 0 front.handles) s) → Called (fault.Refused s)
+    wanting : (end : ℕ) → front_now ≡ Ok end → (s : Status) → IsFaultBy r.objects (Ok end) (fault.Refused s) → Called (fault.Refused s)
     unfolding taken_handles handle_operands remove_all
-    wanting front is s want told = record {
+    wanting end is s want told = record {
       calls = (
         Wants s,
         rw (refused, is) (
-          subst (λ (n : ℕ). IsTrue (wanted true (nat_lt 0 n) s)) (handles_same front is) want,
+          seen,
           refl,
-          told_world s [] told ∙ ap (replied w p.pid read_site s) (sym (want_tells s (nat_lt 0 front.handles) want)),
+          told_world s [] told ∙ ap (replied w p.pid read_site s) (sym (want_tells s (nat_lt 0 (length (first_handles (queue_at w p.pid c)))) seen)),
         ),
       );
       keeps = kept (ap (λ (q : Process). q.state) told);
     }
+      where
+        seen : IsTrue (wanted true (nat_lt 0 (length (first_handles (queue_at w p.pid c)))) s)
+        seen = subst (λ (es : List Entry). IsTrue (wanted true (nat_lt 0 (length es)) s)) (handles_same end is) want
 
     sizes_same : (bytes handles : ℕ) → front_now ≡ Err (fault.TooSmall bytes handles) → sizes_of (queue_at w p.pid c) ≡ bytes ∷ handles ∷ []
     sizes_same bytes handles is =
@@ -431,7 +438,7 @@ module _ {before after : List Process} {r : Objects} {p p2 : Process} (lib : Lib
       keeps = kept (ap (λ (q : Process). q.state) told);
     }
 
-    by_front : (found : Result Front ReadFault) → front_now ≡ found → (f : ReadFault) → IsFaultBy found f → Called f
+    by_front : (found : Result ℕ ReadFault) → front_now ≡ found → (f : ReadFault) → IsFaultBy r.objects found f → Called f
     by_front (Ok found) same (fault.Refused s) want = wanting found same s want
     by_front (Ok found) same (fault.TooSmall bytes handles) never = absurd never
     by_front (Err g) is f by = subst Called (sym by) (by_known g is)

@@ -1,9 +1,8 @@
 -- Handles that enter a table one after another, and those that are taken back in reverse.
 use Rattle.zl_calls.proofs.Common.{◌≡◌, ◌<◌, ◌≤◌, ◌+◌, ℕ, zero, suc, Bool, true, false, ◌==◌, List, [], ◌∷◌, ◌++◌, length, take, refl, sym, ap, ◌∙◌, subst}
-use Rattle.zl_calls.proofs.Common.{Option, Some, None, arith, if◌then◌else◌, Handles, Inserts, IfSome, slice_get-get_or, same_Some, Entry, Message}
-use Rattle.zl_calls.proofs.Common.{first_handles, InsertsEach}
+use Rattle.zl_calls.proofs.Common.{Option, Some, None, arith, if◌then◌else◌, Handles, Inserts, IfSome, Entry}
+use Rattle.zl_calls.proofs.Common.{InsertsEach}
 use Rattle.zl_code.proofs.Common.{get_or, take_more, is_empty, ne_eqb, eq-eqb, length-take-le}
-use Rattle.zl_channel.specs.Queue.{front_entry}
 use Rattle.zl_table.specs.Table.{TakesBack}
 
 -- ---- one more behind the others
@@ -26,15 +25,10 @@ values_count t u [] (y ∷ vs) so_far = absurd so_far
 values_count t u (x ∷ es) [] so_far = absurd so_far
 values_count t u (x ∷ es) (y ∷ vs) so_far = let rest = values_count so_far.between u es vs so_far.rest in omega (arith, rest)
 
--- ---- the handles in the first message
-
--- with the next of them
-pub front_more : (queue : List Message) (n : ℕ) (e : Entry) → n < length (first_handles queue) → Some e ≡ front_entry queue n
-    → take (n + 1) (first_handles queue) ≡ take n (first_handles queue) ++ e ∷ []
-front_more [] n e within at = absurd (omega (arith, within))
-front_more (m ∷ ms) n e within at =
-    let same : get_or m.handles n e ≡ e = same_Some (get_or m.handles n e) e (sym (slice_get-get_or m.handles n e within) ∙ sym at) in
-    take_more m.handles n e within ∙ ap (λ (x : Entry). take n m.handles ++ x ∷ []) same
+-- the next of the list behind those before it
+pub one_more : (t u w : Handles) (es : List Entry) (n : ℕ) (d : Entry) (vs : List ℕ) (v : ℕ) → n < length es → InsertsEach t (take n es) vs u
+    → Inserts u (get_or es n d) v w → InsertsEach t (take (n + 1) es) (vs ++ v ∷ []) w
+one_more t u w es n d vs v within so_far last = rw (take_more es n d within) (one_behind t u w (take n es) vs (get_or es n d) v so_far last)
 
 pub places_left : (t u : Handles) (es : List Entry) (vs : List ℕ) (n : ℕ) → n < length es → InsertsEach t (take n es) vs u → length vs ≡ n
 places_left t u es vs n within so_far = values_count t u (take n es) vs so_far ∙ length-take-le n es (omega (arith, within))

@@ -1,11 +1,11 @@
 -- What chan_read_etc does. No public clause cites this module.
-use Rattle.std.specs.Prelude.{ℕ, ◌≡◌, ◌+◌, Bool, true, not, nat_le, nat_lt, List, [], ◌∷◌, ◌++◌, length, Option, Some, None, Result, Ok, Err, IfOk, IfErr, IsTrue, OnErr, if◌then◌else◌, is_some, slice_get, slice_index}
+use Rattle.std.specs.Prelude.{ℕ, ◌≡◌, ◌+◌, Bool, true, not, nat_le, nat_lt, List, [], ◌∷◌, ◌++◌, length, Option, Some, Result, Ok, Err, IfOk, IfErr, IsTrue, OnErr, if◌then◌else◌, is_some, slice_get, slice_index}
 use Rattle.zl_code.specs.Common.{Map, get}
 use Rattle.zl_code.specs.Asked.{triples_from}
 use Rattle.zl_code.specs.Calls.{wanted}
 use Rattle.zl_code.specs.Effects.{told_of}
 use Rattle.zl_code.specs.Spells.{number_at}
-use Rattle.zl_code.specs.Tests.{first_handles, has_place_for, sizes_of}
+use Rattle.zl_code.specs.Tests.{has_place_for, sizes_of}
 use Rattle.zl_code.specs.declared.instr.CallInstr.{CallInstr}
 use Rattle.zl_rights.specs.declared.kind.Kind.TheVariants as kind
 use Rattle.zl_rights.specs.declared.status.Status.{Status}
@@ -15,9 +15,9 @@ use Rattle.zl_rights.specs.LookUp.{looked_up}
 use Rattle.zl_rights.specs.Numbers.{READ, bits, kind_number}
 use Rattle.zl_rights.specs.World.{Message}
 use Rattle.zl_table.specs.Table.{Handles, Inserts}
+use Rattle.zl_channel.specs.Queue.{front_handles}
 use Rattle.zl_objects.specs.declared.object.Object.{Object}
 use Rattle.zl_objects.specs.Objects.{Objects, peer_at, queue_in, receiving}
-use Rattle.zl_calls.specs.declared.calls.reading.Front.{Front}
 use Rattle.zl_calls.specs.declared.calls.reading.Received.{Received}
 use Rattle.zl_calls.specs.declared.calls.reading.ReadFault.{ReadFault}
 use Rattle.zl_calls.specs.declared.calls.reading.ReadFault.TheVariants as fault
@@ -47,48 +47,44 @@ pub record CameFrom (last : Option ℕ) (values : List ℕ) (t : Handles) : Type
 
 -- ---- the message that is to be read
 
--- the handles in the first message that is to be read at the object k
-abbrev pub front_handles : Map Object → ℕ → List Entry
-front_handles objects k = first_handles (queue_in (get objects k))
-
--- the first message in the queue of the end k, for a table of count handles, or why it can't be read
-abbrev pub front_in : (count : ℕ) (has_peer : Bool) (room places k : ℕ) → List Message → Result Front ReadFault
+-- the end k where the first message in its queue can be read, for a table of count handles, or why it can't
+abbrev pub front_in : (count : ℕ) (has_peer : Bool) (room places k : ℕ) → List Message → Result ℕ ReadFault
 front_in count has_peer room places k [] = Err (fault.Refused (if has_peer then status.ShouldWait else status.PeerClosed))
 front_in count has_peer room places k (m ∷ ms) =
     if not (has_place_for room places (m ∷ ms)) then Err (fault.TooSmall (length m.bytes) (length m.handles))
     else (if not (nat_le (count + length m.handles) 1024) then Err (fault.Refused status.NoResources)
-    else Ok (record { end = k; handles = length m.handles }))
+    else Ok k)
 
 -- the same, where this look-up found the end
-abbrev pub front_by : Map Entry → Map Object → (room places : ℕ) → Result Entry Status → Result Front ReadFault
+abbrev pub front_by : Map Entry → Map Object → (room places : ℕ) → Result Entry Status → Result ℕ ReadFault
 front_by entries objects room places (Err s) = Err (fault.Refused s)
 front_by entries objects room places (Ok end) =
     front_in (length entries) (is_some (peer_at objects end.koid)) room places end.koid (queue_in (get objects end.koid))
 
--- the first message at the end at the value channel, or why it can't be read
-abbrev pub front_at : Map Entry → Map Object → (channel room places : ℕ) → Result Front ReadFault
+-- the end at the value channel where the first message there can be read, or why it can't
+abbrev pub front_at : Map Entry → Map Object → (channel room places : ℕ) → Result ℕ ReadFault
 front_at entries objects channel room places = front_by entries objects room places (looked_up entries channel (kind.Channel ∷ []) READ)
 
 -- ---- chan_read_etc
 
 -- the fault is this one; where a message can be read, it is the want of memory, or of a place for a handle
-abbrev pub IsFaultBy : Result Front ReadFault → ReadFault → Type 0
-IsFaultBy (Err f) found = found ≡ f
-IsFaultBy (Ok front) (fault.Refused s) = IsTrue (wanted true (nat_lt 0 front.handles) s)
-IsFaultBy (Ok front) (fault.TooSmall bytes handles) = ⊥
+abbrev pub IsFaultBy : Map Object → Result ℕ ReadFault → ReadFault → Type 0
+IsFaultBy objects (Err f) found = found ≡ f
+IsFaultBy objects (Ok end) (fault.Refused s) = IsTrue (wanted true (nat_lt 0 (length (front_handles (queue_in (get objects end))))) s)
+IsFaultBy objects (Ok end) (fault.TooSmall bytes handles) = ⊥
 
 -- the first message left the queue of the end k, and its handles are in the table at the values
 pub record ReadsMessage (t : Handles) (r : Objects) (channel room places : ℕ) (received : Received) (t2 : Handles) (r2 : Objects) : Type 0 where
-  pub front : Front
-  pub is_front : front_at t.entries r.objects channel room places ≡ Ok front
-  pub first : slice_get (queue_in (get r.objects front.end)) 0 ≡ Some received.message
+  pub end : ℕ
+  pub is_end : front_at t.entries r.objects channel room places ≡ Ok end
+  pub first : slice_get (queue_in (get r.objects end)) 0 ≡ Some received.message
   pub inserts : InsertsEach t received.message.handles received.values.items t2
-  pub objects : r2 ≡ receiving r front.end
+  pub objects : r2 ≡ receiving r end
 
 -- chan_read_etc from the end at the value channel: the message is read, or it stays and nothing changes
 pub record ChanReadDoes (channel room places : ℕ) (t : Handles) (r : Objects) (answer : Result Received ReadFault) (t2 : Handles) (r2 : Objects) : Type 0 where
   pub ok : IfOk answer (λ received. ReadsMessage t r channel room places received t2 r2)
-  pub err : IfErr answer (IsFaultBy (front_at t.entries r.objects channel room places))
+  pub err : IfErr answer (IsFaultBy r.objects (front_at t.entries r.objects channel room places))
   pub same_table : OnErr answer (t2 ≡ t)
   pub same_objects : OnErr answer (r2 ≡ r)
 

@@ -10,7 +10,7 @@ ghost use Rattle.zl_code.specs.Request.{site_of};
 ghost use Rattle.zl_code.specs.declared.history.CallName.TheVariants as name;
 ghost use Rattle.zl_objects.specs.Objects.{peer_at};
 ghost use Rattle.zl_calls.specs.Acted.{Acted};
-ghost use Rattle.zl_calls.specs.calls.Reading.{CameFrom, ChanReadDoes, InsertsEach, front_at, front_handles, read_into, triple_of};
+ghost use Rattle.zl_calls.specs.calls.Reading.{CameFrom, ChanReadDoes, InsertsEach, front_at, read_into, triple_of};
 
 use crate::calls::{insert, look_up};
 use crate::process::Process;
@@ -43,13 +43,6 @@ pub enum ReadFault {
     Refused(Status),
 }
 
-/// The first message at an end: the koid of the end, and how many handles the message has.
-#[derive(Clone, Copy)]
-struct Front {
-    end: Koid,
-    handles: usize,
-}
-
 /// Reads the first message at the end at the value `channel`: its handles enter the table, and it
 /// leaves the queue. There is room for so many bytes and for handles at so many places. Where it is
 /// refused the message stays.
@@ -70,25 +63,25 @@ pub fn chan_read_etc(
     ensures { ChanReadDoes channel room places
         table.old objects.old result table.new objects.new }
 {
-    let front = find_front(table, objects, channel, room, places)?;
-    let values = match insert_front(alloc, table, objects, front) {
+    let end = find_front(table, objects, channel, room, places)?;
+    let values = match insert_each(alloc, table, objects.front_handles(end)) {
         Ok(values) => values,
         Err(refused) => return Err(ReadFault::Refused(refused)),
     };
-    let Some(message) = objects.receive(front.end) else {
+    let Some(message) = objects.receive(end) else {
         unreachable!()
     };
     Ok(Received { message, values })
 }
 
-/// The message that can be read, or why none can.
+/// The end whose first message can be read, or why it can't.
 fn find_front(
     table: &Table,
     objects: &Objects,
     channel: u64,
     room: u64,
     places: u32,
-) -> Result<Front, ReadFault>
+) -> Result<Koid, ReadFault>
     ensures { result
         ≡ front_at table.now.entries objects.now.objects channel room places }
 {
@@ -105,7 +98,7 @@ fn find_front(
     if table.len() + handles > Table::CAPACITY {
         return Err(ReadFault::Refused(Status::NoResources));
     }
-    Ok(Front { end, handles })
+    Ok(end)
 }
 
 /// The answer where no message is there: one can come while the peer is there.
@@ -120,31 +113,22 @@ fn why_empty(objects: &Objects, end: Koid) -> Status
     }
 }
 
-/// The handles of the message enter the table, and their values are told. Where memory or a place is
+/// The handles of a message enter the table, and their values are told. Where memory or a place is
 /// refused for one of them the table is as it was.
-fn insert_front(
-    alloc: Global,
-    table: &mut Table,
-    objects: &Objects,
-    front: Front,
-) -> Result<Values, Status>
-    requires count { front.handles ≡ length (front_handles objects.now.objects front.end) }
-    ensures entered { IfOk result (λ values. InsertsEach
-        table.old (front_handles objects.now.objects front.end) values.items table.new) }
+fn insert_each(alloc: Global, table: &mut Table, handles: &[Entry]) -> Result<Values, Status>
+    ensures entered { IfOk result
+        (λ values. InsertsEach table.old handles.now values.items table.new) }
     ensures refused { IfErr result
-        (λ refused. IsTrue (wanted true (nat_lt 0 front.handles) refused)) }
+        (λ refused. IsTrue (wanted true (nat_lt 0 (length handles.now)) refused)) }
     ensures unchanged { OnErr result (table.new ≡ table.old) }
 {
     let last = table.last();
     let mut values = Values::new(alloc);
-    if values.reserve(front.handles).is_err() {
+    if values.reserve(handles.len()).is_err() {
         return Err(Status::NoMemory);
     }
-    for n in 0..front.handles {
-        let Some(entry) = objects.front_entry(front.end, n) else {
-            unreachable!()
-        };
-        let value = match insert(table, entry) {
+    for handle in handles {
+        let value = match insert(table, *handle) {
             Ok(value) => value,
             Err(refused) => {
                 take_back(table, values.as_slice(), last);

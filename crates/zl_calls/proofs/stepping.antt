@@ -10,3 +10,4 @@ pub mod StepItems
 pub mod Advancing
 pub mod Covered
 pub mod Untaken
+pub mod SureCalls

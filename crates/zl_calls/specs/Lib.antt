@@ -15,6 +15,7 @@ pub mod Leaving
 pub mod Policed
 pub mod FieldFaults
 pub mod Reaching
+pub mod Sure
 pub mod Turns
 pub mod Untaken
 pub mod Calling

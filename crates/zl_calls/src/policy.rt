@@ -1,6 +1,6 @@
 //! What the policy of a job says to a call of its process, which is asked before the call is done.
 
-ghost use Rattle.std.specs.Prelude.{◌≡◌, ◌<◌, ◌≤◌, ◌^◌, [], None, IfSome, IfNone, length, map};
+ghost use Rattle.std.specs.Prelude.{◌≡◌, ◌<◌, ◌≤◌, ◌^◌, false, [], None, IfSome, IfNone, length, map};
 ghost use Rattle.std.specs.Result.{result_err};
 ghost use Rattle.zl_rights.specs.LookUp.{looked_up};
 ghost use Rattle.zl_rights.specs.Numbers.{bits};
@@ -11,6 +11,7 @@ ghost use Rattle.zl_code.specs.Request.{site_of};
 ghost use Rattle.zl_objects.specs.Jobs.{action_of, job_at};
 ghost use Rattle.zl_calls.specs.FieldFaults.{field_fault, fields_fault, last_fault};
 ghost use Rattle.zl_calls.specs.Policed.{IsDenied, Policed, on_fault, verdict_by, verdict_on};
+ghost use Rattle.zl_calls.specs.Sure.{IsUnpoliced};
 ghost use Rattle.zl_calls.specs.calls.Channel.{fault_of};
 
 use crate::calls::channel::examine_list;
@@ -45,13 +46,15 @@ pub enum Verdict {
 /// Source: the page "zx_job_set_policy" of the Fuchsia documentation; that it denies no bad handle is
 /// own profile.
 #[inline(always)]
-pub fn by_policy(
+pub fn by_policy<const TESTED: bool>(
     alloc: Global,
     process: &mut Process,
     objects: &mut Objects,
     call: &CallInstr,
 ) -> Option<Outcome>
     requires counter { process.old.cpu.counter < 2 ^ 32 }
+    requires sure { TESTED ≡ false
+        → IsUnpoliced process.old objects.old (site_of call.now process.old.cpu) }
     ensures policed { IfSome result (λ outcome. IfSome (site_of call.now process.old.cpu)
         (λ s. Policed s process.old objects.old outcome process.new objects.new)) }
     ensures done { IfNone result (IfSome (site_of call.now process.old.cpu) (λ s.
@@ -60,7 +63,7 @@ pub fn by_policy(
     ensures same_process { IfNone result (process.new ≡ process.old) }
     ensures same_objects { IfNone result (objects.new ≡ objects.old) }
 {
-    match judge(process, objects, call)? {
+    match judge::<TESTED>(process, objects, call)? {
         Verdict::Denied => deny(process, call),
         Verdict::Killed => {
             end(alloc, process, objects, BY_POLICY);
@@ -69,12 +72,21 @@ pub fn by_policy(
     }
 }
 
-/// How the policy of the process's job ends the call, if it does.
+/// How the policy of the process's job ends the call, if it does; it doesn't where that isn't tested.
 #[inline(always)]
-fn judge(process: &Process, objects: &Objects, call: &CallInstr) -> Option<Verdict>
+fn judge<const TESTED: bool>(
+    process: &Process,
+    objects: &Objects,
+    call: &CallInstr,
+) -> Option<Verdict>
+    requires sure { TESTED ≡ false
+        → IsUnpoliced process.now objects.now (site_of call.now process.now.cpu) }
     ensures { IfSome (site_of call.now process.now.cpu) (λ s. result
         ≡ verdict_on process.now.table.entries objects.now.objects process.now.pid s.request) }
 {
+    if !TESTED {
+        return None;
+    }
     let job = objects.job_of(process.pid)?;
     if !objects.has_policy(job) {
         // So it is in most jobs, and spares the examination.
@@ -185,10 +197,10 @@ fn find(table: &Table, value: u64, kinds: Kinds, rights: Rights) -> Result<(), S
         ≡ result_err (looked_up table.now.entries value (kinds_of kinds) (bits rights)) }
 {
     let found = match kinds {
-        Kinds::Any => look_up(table, value, &[], rights),
-        Kinds::Only(kind) => look_up(table, value, &[kind], rights),
-        Kinds::Tasks => look_up(table, value, &[Kind::Process, Kind::Job], rights),
-        Kinds::Ends => look_up(table, value, &[Kind::Channel, Kind::Eventpair], rights),
+        Kinds::Any => look_up::<true>(table, value, &[], rights),
+        Kinds::Only(kind) => look_up::<true>(table, value, &[kind], rights),
+        Kinds::Tasks => look_up::<true>(table, value, &[Kind::Process, Kind::Job], rights),
+        Kinds::Ends => look_up::<true>(table, value, &[Kind::Channel, Kind::Eventpair], rights),
     };
     match found {
         Ok(_) => Ok(()),

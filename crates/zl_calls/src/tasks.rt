@@ -5,6 +5,7 @@ ghost use Rattle.std.specs.Prelude.{◌≡◌, ◌<◌, ◌^◌, false, [], ◌�
 ghost use Rattle.zl_code.specs.Request.{site_of};
 ghost use Rattle.zl_interp.specs.Common.{register_set};
 ghost use Rattle.zl_calls.specs.Reaching.{Reaches, is_reaching};
+ghost use Rattle.zl_calls.specs.Sure.{IsFaultless};
 ghost use Rattle.zl_calls.specs.Calling.{AtPlace, KeepsRoom, MayCall, parts_in};
 ghost use Rattle.zl_calls.specs.calls.Answer.{answered_in, no_value, status_of};
 ghost use Rattle.zl_calls.specs.calls.Task.{EndsOrAnswers, IsReachedBy};
@@ -22,7 +23,7 @@ use zl_rights::{Pid, Status};
 /// Does the call of the process at this place, if it is one that reaches other processes.
 #[inline(always)]
 #[tactic(auto, unfolding(zl_code::specs::Request::site_of))]
-pub fn reach(
+pub fn reach<const TESTED: bool>(
     alloc: Global,
     library: &Library,
     processes: &mut Processes,
@@ -33,6 +34,8 @@ pub fn reach(
 ) -> Option<Outcome>
     requires may { MayCall (parts_in processes.old objects.old blocked.old) place }
     requires counter { AtPlace processes.old place (λ caller. caller.cpu.counter < 2 ^ 32) }
+    requires sure { TESTED ≡ false → AtPlace processes.old place (λ caller.
+        IsFaultless caller.table.entries (site_of call.now caller.cpu)) }
     ensures reached { IfSome result (λ o. AtPlace processes.old place (λ caller.
         IsReachedBy (site_of call.now caller.cpu) (λ s. Reaches library.now place caller s
         (parts_in processes.old objects.old blocked.old) o
@@ -49,19 +52,21 @@ pub fn reach(
     match call.name {
         CallName::ProcessCreate => {
             let (job, program) = (cpu.register(b), cpu.register(c));
-            let made = process_create(
+            let made = process_create::<TESTED>(
                 alloc, library, processes, objects, blocked, place, job, program,
             );
             Some(processes.list[place].answer_made(a, d, made))
         }
         CallName::ProcessStart => {
             let (process, handle, word) = (cpu.register(b), cpu.register(c), cpu.register(d));
-            let answer = process_start(library, processes, objects, place, process, handle, word);
+            let answer = process_start::<TESTED>(
+                library, processes, objects, place, process, handle, word,
+            );
             Some(answer_taking(&mut processes.list[place], a, c, answer))
         }
         CallName::TaskKill => {
             let task = cpu.register(b);
-            let answer = task_kill(alloc, processes, objects, blocked, place, task);
+            let answer = task_kill::<TESTED>(alloc, processes, objects, blocked, place, task);
             Some(answer_unless_over(&mut processes.list[place], a, answer))
         }
         _ => None,

@@ -8,7 +8,7 @@ use Rattle.zl_rights.specs.declared.policy.Action.{Action}
 use Rattle.zl_rights.specs.declared.policy.Action.TheVariants as action
 use Rattle.zl_rights.specs.declared.policy.Condition.TheVariants as condition
 use Rattle.zl_rights.specs.declared.status.Status.TheVariants as status
-use Rattle.zl_code.proofs.Common.{get, refusal, examined, operand, handle_operands, listed, ap, refl, ◌∙◌}
+use Rattle.zl_code.proofs.Common.{get, refusal, examined, operand, handle_operands, listed, ap, refl, subst, sym, ◌∙◌}
 use Rattle.zl_code.specs.CallTable.{Request}
 use Rattle.zl_code.specs.First.{first_some}
 use Rattle.zl_code.specs.Image.{Library}
@@ -63,6 +63,22 @@ first_fault decides None g = alone (by_fault decides g)
 first_fault decides (Some status.BadHandle) g = refl
 first_fault decides (Some status.WrongType) g = refl
 first_fault decides (Some _) g = refl
+
+-- what isn't faulted by the definitions has no fault
+unfaulted : (decides : Condition → Action) (f : Option Status) → by_fault decides f ≡ None → f ≡ None
+unfaulted decides None none = refl
+unfaulted decides (Some status.BadHandle) none = cc
+unfaulted decides (Some status.WrongType) none = cc
+unfaulted decides (Some _) none = cc
+
+-- what may be made has no verdict
+unmade : (decides : Condition → Action) (c : Option Condition) → by_making decides c ≡ None → verdict_by decides None c ≡ None
+unmade decides None none = refl
+unmade decides (Some c) none = by_action (decides c) none
+  where
+    by_action : (a : Action) → unless_allowed a ≡ None → on_making a ≡ None
+    by_action action.Allow none = refl
+    by_action _ none = cc
 
 -- a verdict, or what is left of the refusal
 pub by_verdict : (decides : Condition → Action) (f : Option Status) (c : Option Condition) (rest : List (Option Outcome))
@@ -180,18 +196,23 @@ module _ (w : World) (p : ℕ) (entries : Map Entry) (objects : Map Object) (see
       by_job (Some job) = action_seen job c
 
 module _ (lib : Library) (w : World) (p : ℕ) (entries : Map Entry) (objects : Map Object) (seen : IsSeen w p entries objects) (request : Request) where
+  -- what the definitions find, and decide for it
+  abbrev fault : Option Status
+  fault = operands_fault (table_of w p) [] (handle_operands request)
+
+  same_verdict : verdict_by (decides w p) fault (condition_of request) ≡ verdict_on entries objects p request
+  same_verdict =
+      (λ i. verdict_by (λ c. decided w p entries objects seen c i) fault (condition_of request))
+      ∙ (verdict_decided objects (job_in (get objects p)) fault (condition_of request)
+      ∙ ap (λ t. verdict_in objects (job_in (get objects p)) (operands_fault t [] (handle_operands request)) (condition_of request)) seen.table_is)
+
   -- the verdict comes first, and the plain refusal behind it
   pub refused_by : refusal lib w p request ≡ option_or (option_map ending (verdict_on entries objects p request)) (plain_refusal lib w p request)
   unfolding refusal plain_refusal
   refused_by =
-      let fault : Option Status = operands_fault (table_of w p) [] (handle_operands request) in
-      let same : verdict_by (decides w p) fault (condition_of request) ≡ verdict_on entries objects p request =
-      (λ i. verdict_by (λ c. decided w p entries objects seen c i) fault (condition_of request))
-      ∙ (verdict_decided objects (job_in (get objects p)) fault (condition_of request)
-      ∙ ap (λ t. verdict_in objects (job_in (get objects p)) (operands_fault t [] (handle_operands request)) (condition_of request)) seen.table_is) in
       (λ i. first_some (examined_fault w p [] (handle_operands request) i ∷ policy_making w p (condition_of request) i ∷ listed lib w p request))
       ∙ (by_verdict (decides w p) fault (condition_of request) (listed lib w p request)
-      ∙ ap (λ v. option_or (option_map ending v) (first_some (answers fault ∷ listed lib w p request))) same)
+      ∙ ap (λ v. option_or (option_map ending v) (first_some (answers fault ∷ listed lib w p request))) same_verdict)
 
   -- where no policy has a verdict, the refusal is that without policies
   pub unpoliced : verdict_on entries objects p request ≡ None → refusal lib w p request ≡ plain_refusal lib w p request
@@ -200,3 +221,16 @@ module _ (lib : Library) (w : World) (p : ℕ) (entries : Map Entry) (objects : 
   -- and a verdict is the refusal
   pub policed : (v : Verdict) → verdict_on entries objects p request ≡ Some v → refusal lib w p request ≡ Some (ending v)
   policed v is = refused_by ∙ ap (λ x. option_or (option_map ending x) (plain_refusal lib w p request)) is
+
+  -- where the definitions find neither a fault nor what a policy forbids, there is none, and no verdict
+  module _ (passes : examined w p [] (handle_operands request) ≡ None) (allowed : by_policy w p (condition_of request) ≡ None) where
+    no_fault : fault ≡ None
+    no_fault = unfaulted (decides w p) fault (sym (examined_fault w p [] (handle_operands request)) ∙ passes)
+
+    pub faultless : operands_fault entries [] (handle_operands request) ≡ None
+    faultless = subst (λ t. operands_fault t [] (handle_operands request) ≡ None) seen.table_is no_fault
+
+    pub unjudged : verdict_on entries objects p request ≡ None
+    unjudged =
+        sym same_verdict ∙ (ap (λ f. verdict_by (decides w p) f (condition_of request)) no_fault
+        ∙ unmade (decides w p) (condition_of request) (sym (policy_making w p (condition_of request)) ∙ allowed))

@@ -1,8 +1,10 @@
 //! Calls on channels, but for the one that reads.
 
-ghost use Rattle.std.specs.Prelude.{◌≡◌, ◌<◌, ◌^◌, ◌++◌, [], true, length, IsTrue, IsSome, IfOk, IfErr, OnOk, OnErr};
+ghost use Rattle.std.specs.Prelude.{◌≡◌, ◌<◌, ◌^◌, ◌++◌, [], ◌∷◌, true, false, None, length, IsTrue, IsSome, IfOk, IfErr, IsOk, OnOk, OnErr};
 ghost use Rattle.std.specs.Option.{option_to_list};
+ghost use Rattle.zl_rights.specs.LookUp.{looked_up};
 ghost use Rattle.zl_rights.specs.Map.{get};
+ghost use Rattle.zl_rights.specs.Numbers.{WRITE};
 ghost use Rattle.smallvec.specs.SmallVec.{HasRoomFor};
 ghost use Rattle.zl_code.specs.Request.{site_of};
 ghost use Rattle.zl_code.specs.declared.history.CallName.TheVariants as name;
@@ -12,6 +14,7 @@ ghost use Rattle.zl_calls.specs.Acted.{Acted};
 ghost use Rattle.zl_calls.specs.calls.Answer.{IsRefusedBy, taken_from, wants_memory, without_handle, without_handles};
 ghost use Rattle.zl_calls.specs.calls.Channel.{ChanCreateDoes, ChanWriteDoes, IsPeerOf, IsReady, fault_of, list_refusal, write_refusal};
 ghost use Rattle.zl_calls.specs.Registered.{KeepsListed};
+ghost use Rattle.zl_calls.specs.Sure.{IsFaultless};
 
 use crate::calls::handle::{close_each, take_out};
 use crate::calls::{look_up, make_pair};
@@ -43,7 +46,7 @@ pub fn chan_create(table: &mut Table, objects: &mut Objects) -> Result<(HValue, 
 /// without the right to transfer; `NotSupported` for the end's own value; `OutOfRange` for more
 /// than 65,536 bytes or 64 handles; `PeerClosed`; `NoMemory`.
 /// Source: the page "zx_channel_write" of the Fuchsia documentation.
-pub fn chan_write(
+pub fn chan_write<const TESTED: bool>(
     alloc: Global,
     table: &mut Table,
     objects: &mut Objects,
@@ -51,10 +54,13 @@ pub fn chan_write(
     bytes: &[u8],
     handles: &[u64],
 ) -> Result<(), Status>
+    requires channel { TESTED ≡ false
+        → IsOk (looked_up table.old.entries channel (Kind.Channel ∷ []) WRITE) }
+    requires list { TESTED ≡ false → list_refusal table.old.entries [] handles.now ≡ None }
     ensures { ChanWriteDoes channel bytes.now handles.now
         table.old objects.old result table.new objects.new }
 {
-    match prepare(alloc, table, objects, channel, bytes, handles) {
+    match prepare::<TESTED>(alloc, table, objects, channel, bytes, handles) {
         Ok(letter) => send(table, objects, letter, handles),
         Err(refused) => {
             close_each(table, objects, handles);
@@ -65,7 +71,7 @@ pub fn chan_write(
 
 /// Does `chan_write` at its registers. Its bytes lie in the memory.
 #[tactic(auto, unfolding(zl_code::specs::Request::site_of))]
-pub fn write(
+pub fn write<const TESTED: bool>(
     alloc: Global,
     process: &mut Process,
     objects: &mut Objects,
@@ -74,6 +80,8 @@ pub fn write(
     requires counter { process.old.cpu.counter < 2 ^ 32 }
     requires name { call.now.name ≡ name.ChanWrite }
     requires there { IsSome (site_of call.now process.old.cpu) }
+    requires sure { TESTED ≡ false
+        → IsFaultless process.old.table.entries (site_of call.now process.old.cpu) }
     ensures { Acted (site_of call.now process.old.cpu)
         process.old objects.old result process.new objects.new }
 {
@@ -86,7 +94,7 @@ pub fn write(
         unreachable!()
     };
     let channel = process.cpu.register(channel);
-    let answer = chan_write(
+    let answer = chan_write::<TESTED>(
         alloc,
         &mut process.table,
         objects,
@@ -107,7 +115,7 @@ struct Letter {
 }
 
 /// What chan_write needs before it changes anything, or its answer.
-fn prepare(
+fn prepare<const TESTED: bool>(
     alloc: Global,
     table: &Table,
     objects: &Objects,
@@ -115,12 +123,15 @@ fn prepare(
     bytes: &[u8],
     handles: &[u64],
 ) -> Result<Letter, Status>
+    requires channel { TESTED ≡ false
+        → IsOk (looked_up table.now.entries channel (Kind.Channel ∷ []) WRITE) }
+    requires list { TESTED ≡ false → list_refusal table.now.entries [] handles.now ≡ None }
     ensures ready { IfOk result (λ letter.
         IsReady table.now.entries objects.now.objects channel bytes.now handles.now letter) }
     ensures refused { IfErr result (IsRefusedBy wants_memory (write_refusal
         table.now.entries objects.now.objects channel (length bytes.now) handles.now)) }
 {
-    let peer = find_peer(table, objects, channel, bytes.len(), handles)?;
+    let peer = find_peer::<TESTED>(table, objects, channel, bytes.len(), handles)?;
     let Ok(bytes) = bytes.to_vec(alloc) else {
         return Err(Status::NoMemory);
     };
@@ -132,20 +143,23 @@ fn prepare(
 }
 
 /// The end to whose queue a message goes that is written at the end at the value `channel`.
-fn find_peer(
+fn find_peer<const TESTED: bool>(
     table: &Table,
     objects: &Objects,
     channel: u64,
     size: usize,
     handles: &[u64],
 ) -> Result<Koid, Status>
+    requires channel { TESTED ≡ false
+        → IsOk (looked_up table.now.entries channel (Kind.Channel ∷ []) WRITE) }
+    requires list { TESTED ≡ false → list_refusal table.now.entries [] handles.now ≡ None }
     ensures refusal { fault_of result
         ≡ write_refusal table.now.entries objects.now.objects channel size handles.now }
     ensures peer { IfOk result (λ peer.
         IsPeerOf table.now.entries objects.now.objects channel peer) }
 {
-    let end = look_up(table, channel, &[Kind::Channel], Rights::WRITE)?;
-    examine_list(table, handles)?;
+    let end = look_up::<TESTED>(table, channel, &[Kind::Channel], Rights::WRITE)?;
+    unless_sure::<TESTED>(table, handles)?;
     if handles.contains(&channel) {
         return Err(Status::NotSupported);
     }
@@ -153,6 +167,18 @@ fn find_peer(
         return Err(Status::OutOfRange);
     }
     objects.reader(end.koid).ok_or(Status::PeerClosed)
+}
+
+/// The same of a list as `examine_list`; each handle may be sent where that isn't tested.
+fn unless_sure<const TESTED: bool>(table: &Table, handles: &[u64]) -> Result<(), Status>
+    requires sure { TESTED ≡ false → list_refusal table.now.entries [] handles.now ≡ None }
+    ensures { fault_of result ≡ list_refusal table.now.entries [] handles.now }
+{
+    if TESTED {
+        examine_list(table, handles)
+    } else {
+        Ok(())
+    }
 }
 
 /// Whether each handle of the list may be sent, and none is listed twice.
@@ -163,7 +189,7 @@ pub fn examine_list(table: &Table, handles: &[u64]) -> Result<(), Status>
         if handles[..n].contains(handle) {
             return Err(Status::BadHandle);
         }
-        look_up(table, *handle, &[], Rights::TRANSFER)?;
+        look_up::<true>(table, *handle, &[], Rights::TRANSFER)?;
     }
     Ok(())
 }

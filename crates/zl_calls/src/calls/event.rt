@@ -1,7 +1,8 @@
 //! Calls that make events and event pairs, and calls that change signals.
 
-ghost use Rattle.std.specs.Prelude.{◌≡◌};
-ghost use Rattle.zl_rights.specs.Numbers.{within};
+ghost use Rattle.std.specs.Prelude.{◌≡◌, false, [], ◌∷◌, IsOk};
+ghost use Rattle.zl_rights.specs.LookUp.{looked_up};
+ghost use Rattle.zl_rights.specs.Numbers.{SIGNAL, SIGNAL_PEER, within};
 ghost use Rattle.zl_calls.specs.calls.Event.{EventCreateDoes, EventpairCreateDoes, SignalDoes, SignalPeerDoes, settable_at, signals_if};
 
 use crate::calls::{check_room, look_up, make_object, make_pair};
@@ -41,16 +42,17 @@ pub fn eventpair_create(
 /// `BadHandle`, `AccessDenied` without the right to signal, `InvalidArgs` for a bit that calls may
 /// not change at an object of its kind.
 /// Source: the page "zx_object_signal" of the Fuchsia documentation.
-pub fn signal(
+pub fn signal<const TESTED: bool>(
     table: &Table,
     objects: &mut Objects,
     value: u64,
     clear: u64,
     set: u64,
 ) -> Result<(), Status>
+    requires sure { TESTED ≡ false → IsOk (looked_up table.now.entries value [] SIGNAL) }
     ensures { SignalDoes value clear set table.now objects.old result table.now objects.new }
 {
-    let entry = look_up(table, value, &[], Rights::SIGNAL)?;
+    let entry = look_up::<TESTED>(table, value, &[], Rights::SIGNAL)?;
     let (Some(clear), Some(set)) = (
         signals_within(clear, entry.kind),
         signals_within(set, entry.kind),
@@ -69,17 +71,19 @@ pub fn signal(
 /// other end has gone.
 /// Source: the page "zx_object_signal" of the Fuchsia documentation; that what has no peer is of
 /// the wrong type is own profile.
-pub fn signal_peer(
+pub fn signal_peer<const TESTED: bool>(
     table: &Table,
     objects: &mut Objects,
     value: u64,
     clear: u64,
     set: u64,
 ) -> Result<(), Status>
+    requires sure { TESTED ≡ false → IsOk (looked_up
+        table.now.entries value (Kind.Channel ∷ Kind.Eventpair ∷ []) SIGNAL_PEER) }
     ensures { SignalPeerDoes value clear set table.now objects.old result table.now objects.new }
 {
     let kinds = &[Kind::Channel, Kind::Eventpair];
-    let end = look_up(table, value, kinds, Rights::SIGNAL_PEER)?;
+    let end = look_up::<TESTED>(table, value, kinds, Rights::SIGNAL_PEER)?;
     let (Some(clear), Some(set)) = (
         signals_within(clear, end.kind),
         signals_within(set, end.kind),

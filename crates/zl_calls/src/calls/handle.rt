@@ -1,10 +1,12 @@
 //! Calls on handles.
 
-ghost use Rattle.std.specs.Prelude.{◌≡◌, ◌==◌, if◌then◌else◌};
+ghost use Rattle.std.specs.Prelude.{◌≡◌, ◌==◌, false, [], if◌then◌else◌, IsOk, IsTrue};
 ghost use Rattle.std.specs.Option.{option_map};
-ghost use Rattle.zl_rights.specs.Map.{get};
+ghost use Rattle.zl_rights.specs.LookUp.{looked_up};
+ghost use Rattle.zl_rights.specs.Map.{get, has_key};
+ghost use Rattle.zl_rights.specs.Numbers.{DUPLICATE};
 ghost use Rattle.zl_calls.specs.calls.Answer.{ClosesEach, status_of, without_handle};
-ghost use Rattle.zl_calls.specs.calls.Handle.{CloseDoes, DupDoes, ReplaceDoes};
+ghost use Rattle.zl_calls.specs.calls.Handle.{CloseDoes, DupDoes, ReplaceDoes, close_answer};
 
 use crate::calls::{insert, look_up};
 use crate::waits::end_handle;
@@ -16,7 +18,12 @@ use zl_table::Table;
 ///
 /// `BadHandle` unless the value is live or 0.
 /// Source: the page "zx_handle_close" of the Fuchsia documentation.
-pub fn close(table: &mut Table, objects: &mut Objects, value: u64) -> Result<(), Status>
+pub fn close<const TESTED: bool>(
+    table: &mut Table,
+    objects: &mut Objects,
+    value: u64,
+) -> Result<(), Status>
+    requires sure { TESTED ≡ false → close_answer table.old.entries value ≡ Status.Ok }
     ensures { CloseDoes value table.old objects.old result table.new objects.new }
 {
     match take_out(table, value) {
@@ -24,18 +31,19 @@ pub fn close(table: &mut Table, objects: &mut Objects, value: u64) -> Result<(),
             objects.release(entry.koid);
             Ok(())
         }
-        None => unless_zero(value),
+        None => unless_zero::<TESTED>(value),
     }
 }
 
-/// The answer to closing a value that isn't live.
-fn unless_zero(value: u64) -> Result<(), Status>
+/// The answer to closing a value that isn't live; it is 0 where that isn't tested.
+fn unless_zero<const TESTED: bool>(value: u64) -> Result<(), Status>
+    requires sure { TESTED ≡ false → value ≡ 0 }
     ensures { status_of result ≡ (if value == 0 then Status.Ok else Status.BadHandle) }
 {
-    if value == 0 {
-        Ok(())
-    } else {
+    if TESTED && value != 0 {
         Err(Status::BadHandle)
+    } else {
+        Ok(())
     }
 }
 
@@ -60,7 +68,7 @@ pub fn close_each(table: &mut Table, objects: &mut Objects, values: &[u64])
 {
     for value in values {
         // A value that isn't live any more was listed twice.
-        let _ = close(table, objects, *value);
+        let _ = close::<true>(table, objects, *value);
     }
 }
 
@@ -70,15 +78,16 @@ pub fn close_each(table: &mut Table, objects: &mut Objects, values: &[u64])
 /// neither `Rights::SAME_RIGHTS` alone nor a subset of the handle's rights, `NoResources` where the
 /// table is full or the object has too many handles, `NoMemory`.
 /// Source: the page "zx_handle_duplicate" of the Fuchsia documentation.
-pub fn dup(
+pub fn dup<const TESTED: bool>(
     table: &mut Table,
     objects: &mut Objects,
     value: u64,
     asked: u32,
 ) -> Result<HValue, Status>
+    requires sure { TESTED ≡ false → IsOk (looked_up table.old.entries value [] DUPLICATE) }
     ensures { DupDoes value asked table.old objects.old result table.new objects.new }
 {
-    let entry = look_up(table, value, &[], Rights::DUPLICATE)?;
+    let entry = look_up::<TESTED>(table, value, &[], Rights::DUPLICATE)?;
     let rights = narrow(entry.rights, asked)?;
     if table.len() >= Table::CAPACITY || !objects.may_hold(entry.koid) {
         return Err(Status::NoResources);
@@ -94,16 +103,17 @@ pub fn dup(
 /// `BadHandle`, `InvalidArgs` where `asked` is neither `Rights::SAME_RIGHTS` alone nor a subset of
 /// the handle's rights.
 /// Source: the page "zx_handle_replace" of the Fuchsia documentation.
-pub fn replace(
+pub fn replace<const TESTED: bool>(
     table: &mut Table,
     objects: &mut Objects,
     pid: Pid,
     value: u64,
     asked: u32,
 ) -> Result<HValue, Status>
+    requires sure { TESTED ≡ false → IsTrue (has_key table.old.entries value) }
     ensures { ReplaceDoes pid value asked table.old objects.old result table.new objects.new }
 {
-    let Some((place, entry)) = live_at(table, value) else {
+    let Some((place, entry)) = live_at::<TESTED>(table, value) else {
         return Err(Status::BadHandle);
     };
     match narrow(entry.rights, asked) {
@@ -119,12 +129,18 @@ pub fn replace(
     }
 }
 
-/// The value and its handle, if it is live.
-pub(crate) fn live_at(table: &Table, value: u64) -> Option<(HValue, Entry)>
+/// The value and its handle, if it is live; it is where that isn't tested.
+pub(crate) fn live_at<const TESTED: bool>(table: &Table, value: u64) -> Option<(HValue, Entry)>
+    requires sure { TESTED ≡ false → IsTrue (has_key table.now.entries value) }
     ensures { result ≡ option_map (λ entry. (value, entry)) (get table.now.entries value) }
 {
     // A fact that the prover needs below, as in `look_up`.
-    if table.len() == 0 {
+    let live = table.len();
+    if !TESTED {
+        let place = value as HValue;
+        return Some((place, table.entry(place)));
+    }
+    if live == 0 {
         return None;
     }
     let place = HValue::try_from(value).ok()?;

@@ -1,7 +1,9 @@
 //! Calls on jobs.
 
-ghost use Rattle.std.specs.Prelude.{◌≡◌};
+ghost use Rattle.std.specs.Prelude.{◌≡◌, false, [], ◌∷◌, IsOk};
 ghost use Rattle.std.specs.Option.{option_map};
+ghost use Rattle.zl_rights.specs.LookUp.{looked_up};
+ghost use Rattle.zl_rights.specs.Numbers.{MANAGE_JOB, SET_POLICY};
 ghost use Rattle.zl_rights.specs.Policies.{setting_of};
 ghost use Rattle.zl_calls.specs.calls.Job.{JobCreateDoes, JobSetPolicyDoes, has_child_at, setting_value};
 
@@ -19,10 +21,16 @@ use zl_table::Table;
 /// `NoResources` where the table is full or no koid is left, `NoMemory`.
 /// Source: the page "zx_job_create" of the Fuchsia documentation; the depth and the order are own
 /// profile.
-pub fn job_create(table: &mut Table, objects: &mut Objects, value: u64) -> Result<HValue, Status>
+pub fn job_create<const TESTED: bool>(
+    table: &mut Table,
+    objects: &mut Objects,
+    value: u64,
+) -> Result<HValue, Status>
+    requires sure { TESTED ≡ false
+        → IsOk (looked_up table.old.entries value (Kind.Job ∷ []) MANAGE_JOB) }
     ensures { JobCreateDoes value table.old objects.old result table.new objects.new }
 {
-    let above = look_up(table, value, &[Kind::Job], Rights::MANAGE_JOB)?;
+    let above = look_up::<TESTED>(table, value, &[Kind::Job], Rights::MANAGE_JOB)?;
     let child = match objects.job_below(above.koid) {
         Ok(child) => child,
         Err(JobFault::OutOfRange) => return Err(Status::OutOfRange),
@@ -48,7 +56,7 @@ pub struct Setting {
 /// killed, or a job or a process lives directly below it; `AlreadyExists` in the mode `Absolute` where
 /// the condition, or one for which it stands, is set to another action. It takes no memory.
 /// Source: the page "zx_job_set_policy" of the Fuchsia documentation; the numbers are own profile.
-pub fn job_set_policy(
+pub fn job_set_policy<const TESTED: bool>(
     table: &Table,
     objects: &mut Objects,
     value: u64,
@@ -56,10 +64,12 @@ pub fn job_set_policy(
     condition: u64,
     action: u64,
 ) -> Result<(), Status>
+    requires sure { TESTED ≡ false
+        → IsOk (looked_up table.now.entries value (Kind.Job ∷ []) SET_POLICY) }
     ensures { JobSetPolicyDoes value mode condition action
         table.now objects.old result table.now objects.new }
 {
-    let job = look_up(table, value, &[Kind::Job], Rights::SET_POLICY)?;
+    let job = look_up::<TESTED>(table, value, &[Kind::Job], Rights::SET_POLICY)?;
     let Some(setting) = setting_of(mode, condition, action) else {
         return Err(Status::InvalidArgs);
     };

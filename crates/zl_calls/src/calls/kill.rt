@@ -1,8 +1,10 @@
 //! The call that kills a process, or a job with all that stands below it.
 
-ghost use Rattle.std.specs.Prelude.{◌≡◌, ◌<◌, length, map, vec_capacity, slice_get};
+ghost use Rattle.std.specs.Prelude.{◌≡◌, ◌<◌, false, [], ◌∷◌, length, map, vec_capacity, slice_get, IsOk};
 ghost use Rattle.std.specs.List.{filter};
+ghost use Rattle.zl_rights.specs.LookUp.{looked_up};
 ghost use Rattle.zl_rights.specs.Map.{get};
+ghost use Rattle.zl_rights.specs.Numbers.{DESTROY};
 ghost use Rattle.zl_rights.specs.Signals.{state_passes};
 ghost use Rattle.zl_code.specs.Sound.{is_blocked};
 ghost use Rattle.zl_calls.specs.Registered.{KeepsListed};
@@ -28,7 +30,7 @@ const KILLED: i32 = -1024;
 /// `BadHandle`, `WrongType` for what is neither, `AccessDenied` without the right to destroy. It takes
 /// no memory.
 /// Source: the page "zx_task_kill" of the Fuchsia documentation; the code is own profile.
-pub fn task_kill(
+pub fn task_kill<const TESTED: bool>(
     alloc: Global,
     processes: &mut Processes,
     objects: &mut Objects,
@@ -36,7 +38,9 @@ pub fn task_kill(
     place: usize,
     task: u64,
 ) -> Result<(), Status>
-    requires { place < length processes.old.list.items }
+    requires place { place < length processes.old.list.items }
+    requires sure { TESTED ≡ false → AtPlace processes.old place (λ caller.
+        IsOk (looked_up caller.table.entries task (Kind.Process ∷ Kind.Job ∷ []) DESTROY)) }
     ensures does { AtPlace processes.old place (λ caller. TaskKillDoes task caller
         (parts_in processes.old objects.old blocked.old) result
         (parts_in processes.new objects.new blocked.new)) }
@@ -45,7 +49,7 @@ pub fn task_kill(
     ensures count { length processes.new.list.items ≡ length processes.old.list.items }
     ensures capacity { vec_capacity blocked.new ≡ vec_capacity blocked.old }
 {
-    let task = look_up(
+    let task = look_up::<TESTED>(
         &processes.list[place].table,
         task,
         &[Kind::Process, Kind::Job],

@@ -1,11 +1,15 @@
 //! Calls on ports.
 
-ghost use Rattle.std.specs.Prelude.{◌≡◌, ◌<◌, ◌^◌};
+ghost use Rattle.std.specs.Prelude.{◌≡◌, ◌<◌, ◌^◌, false, [], ◌∷◌, IsOk, IsTrue};
 ghost use Rattle.std.specs.List.{list_any};
+ghost use Rattle.zl_rights.specs.LookUp.{looked_up};
+ghost use Rattle.zl_rights.specs.Map.{has_key};
+ghost use Rattle.zl_rights.specs.Numbers.{READ, WRITE};
 ghost use Rattle.zl_code.specs.Request.{site_of};
 ghost use Rattle.zl_code.specs.Waiting.{is_keyed};
 ghost use Rattle.zl_code.specs.declared.history.CallName.TheVariants as name;
 ghost use Rattle.zl_calls.specs.Acted.{Acted};
+ghost use Rattle.zl_calls.specs.Sure.{IsFaultless};
 ghost use Rattle.zl_calls.specs.calls.Async.{PortCancelDoes};
 ghost use Rattle.zl_calls.specs.calls.Port.{PortCreateDoes, PortPollDoes, PortQueueDoes};
 
@@ -37,17 +41,19 @@ pub fn port_create(table: &mut Table, objects: &mut Objects) -> Result<HValue, S
 /// `BadHandle`, `WrongType` for what is no port, `AccessDenied` without the right to write;
 /// `ShouldWait` where calls have queued as many packets as the port takes of them; `NoMemory`.
 /// Source: the page "zx_port_queue" of the Fuchsia documentation; the limit is own profile.
-pub fn port_queue(
+pub fn port_queue<const TESTED: bool>(
     table: &Table,
     objects: &mut Objects,
     port: u64,
     key: u64,
     value: u64,
 ) -> Result<(), Status>
+    requires sure { TESTED ≡ false
+        → IsOk (looked_up table.now.entries port (Kind.Port ∷ []) WRITE) }
     ensures { PortQueueDoes port key value
         table.now objects.old result table.now objects.new }
 {
-    let entry = look_up(table, port, &[Kind::Port], Rights::WRITE)?;
+    let entry = look_up::<TESTED>(table, port, &[Kind::Port], Rights::WRITE)?;
     match objects.queue_user(entry.koid, key, value) {
         Ok(()) => Ok(()),
         Err(QueueFault::ShouldWait) => Err(Status::ShouldWait),
@@ -61,10 +67,16 @@ pub fn port_queue(
 /// `BadHandle`, `WrongType` for what is no port, `AccessDenied` without the right to read;
 /// `TimedOut` where no packet is there.
 /// Source: the page "zx_port_wait" of the Fuchsia documentation, with a deadline that has passed.
-pub fn port_poll(table: &Table, objects: &mut Objects, port: u64) -> Result<Packet, Status>
+pub fn port_poll<const TESTED: bool>(
+    table: &Table,
+    objects: &mut Objects,
+    port: u64,
+) -> Result<Packet, Status>
+    requires sure { TESTED ≡ false
+        → IsOk (looked_up table.now.entries port (Kind.Port ∷ []) READ) }
     ensures { PortPollDoes port table.now objects.old result table.now objects.new }
 {
-    let entry = look_up(table, port, &[Kind::Port], Rights::READ)?;
+    let entry = look_up::<TESTED>(table, port, &[Kind::Port], Rights::READ)?;
     match objects.pop(entry.koid) {
         Some(packet) => Ok(packet),
         None => Err(Status::TimedOut),
@@ -78,16 +90,22 @@ pub fn port_poll(table: &Table, objects: &mut Objects, port: u64) -> Result<Pack
 /// no memory.
 /// Source: the page "zx_port_wait" of the Fuchsia documentation, without a deadline.
 #[tactic(auto, unfolding(zl_code::specs::Request::site_of))]
-pub fn port_wait(process: &mut Process, objects: &mut Objects, call: &CallInstr) -> Outcome
+pub fn port_wait<const TESTED: bool>(
+    process: &mut Process,
+    objects: &mut Objects,
+    call: &CallInstr,
+) -> Outcome
     requires counter { process.old.cpu.counter < 2 ^ 32 }
     requires name { call.now.name ≡ name.PortWait }
+    requires sure { TESTED ≡ false
+        → IsFaultless process.old.table.entries (site_of call.now process.old.cpu) }
     ensures { Acted (site_of call.now process.old.cpu)
         process.old objects.old result process.new objects.new }
 {
     let registers = call.registers;
     let [_, port, ..] = registers;
     let value = process.cpu.register(port);
-    let entry = match look_up(&process.table, value, &[Kind::Port], Rights::READ) {
+    let entry = match look_up::<TESTED>(&process.table, value, &[Kind::Port], Rights::READ) {
         Ok(entry) => entry,
         Err(refused) => return process.answer_packet(registers, Err(refused)),
     };
@@ -109,7 +127,7 @@ pub fn port_wait(process: &mut Process, objects: &mut Objects, call: &CallInstr)
 /// handle `source` `BadHandle`; `NotFound` where there is no such wait and no such packet.
 /// Source: the page "zx_port_cancel" of the Fuchsia documentation; which packets they are is own
 /// profile.
-pub fn port_cancel(
+pub fn port_cancel<const TESTED: bool>(
     table: &Table,
     objects: &mut Objects,
     pid: Pid,
@@ -117,11 +135,14 @@ pub fn port_cancel(
     source: u64,
     key: u64,
 ) -> Result<(), Status>
+    requires port { TESTED ≡ false
+        → IsOk (looked_up table.now.entries port (Kind.Port ∷ []) WRITE) }
+    requires source { TESTED ≡ false → IsTrue (has_key table.now.entries source) }
     ensures { PortCancelDoes pid port source key
         table.now objects.old result table.now objects.new }
 {
-    let receiver = look_up(table, port, &[Kind::Port], Rights::WRITE)?;
-    let Some((value, named)) = live_at(table, source) else {
+    let receiver = look_up::<TESTED>(table, port, &[Kind::Port], Rights::WRITE)?;
+    let Some((value, named)) = live_at::<TESTED>(table, source) else {
         return Err(Status::BadHandle);
     };
     let any = is_awaited(objects, pid, value, receiver.koid, key);

@@ -1,13 +1,13 @@
 //! Calls on processes: one that ends its caller, one that makes a process, and one that starts it.
 
-ghost use Rattle.std.specs.Prelude.{ℕ, ◌≡◌, ◌+◌, ◌<◌, ◌≤◌, true, List, [], ◌∷◌, length, vec_capacity, Some, slice_get, IfOk, OnOk, IfErr, OnErr};
+ghost use Rattle.std.specs.Prelude.{ℕ, ◌≡◌, ◌+◌, ◌<◌, ◌≤◌, true, false, IsOk, List, [], ◌∷◌, length, vec_capacity, Some, slice_get, IfOk, OnOk, IfErr, OnErr};
 ghost use Rattle.std.specs.Option.{option_map};
 ghost use Rattle.std.specs.Result.{result_err, result_ok};
 ghost use Rattle.zl_code.specs.Effects.{signed_word};
 ghost use Rattle.zl_code.specs.Jobs.{is_allowing, is_declared, is_only_start, misfits};
 ghost use Rattle.zl_code.specs.Starting.{cpu_given};
 ghost use Rattle.zl_rights.specs.LookUp.{looked_up};
-ghost use Rattle.zl_rights.specs.Numbers.{MANAGE_PROCESS};
+ghost use Rattle.zl_rights.specs.Numbers.{MANAGE_PROCESS, TRANSFER, WRITE};
 ghost use Rattle.zl_objects.specs.Jobs.{action_of, job_at};
 ghost use Rattle.zl_objects.specs.Objects.{starting};
 ghost use Rattle.zl_interp.specs.Common.{program_value, started_cpu};
@@ -58,7 +58,7 @@ pub fn signed_word(value: u64) -> i32
 /// doesn't allow; `NoResources` where the table is full or no koid is left; `NoMemory`.
 /// Source: the page "zx_process_create" of the Fuchsia documentation; programs, their needs and the
 /// order are own profile.
-pub fn process_create(
+pub fn process_create<const TESTED: bool>(
     alloc: Global,
     library: &Library,
     processes: &mut Processes,
@@ -71,13 +71,16 @@ pub fn process_create(
     requires place { place < length processes.old.list.items }
     requires few { length blocked.old.items ≤ length processes.old.list.items }
     requires given { AreGiven (parts_in processes.old objects.old blocked.old) }
+    requires sure { TESTED ≡ false → AtPlace processes.old place (λ caller.
+        IsOk (looked_up caller.table.entries job (Kind.Job ∷ []) MANAGE_PROCESS)) }
     ensures does { AtPlace processes.old place (λ caller.
         ProcessCreateDoes library.now place job program caller
         (parts_in processes.old objects.old blocked.old) result
         (parts_in processes.new objects.new blocked.new)) }
     ensures room { KeepsRoom processes.old blocked.old processes.new blocked.new }
 {
-    let (job, image) = find_job(library, &processes.list[place].table, objects, job, program)?;
+    let table = &processes.list[place].table;
+    let (job, image) = find_job::<TESTED>(library, table, objects, job, program)?;
     let Ok(cpu) = prepare(alloc, image, processes, blocked) else {
         return Err(Status::NoMemory);
     };
@@ -135,13 +138,15 @@ const NEEDS: [Condition; 5] = [
 
 /// The job in which a process is to be made, and the image that the process is to run; or why none is
 /// made, but for want of memory. `process_create` says when which refusal comes.
-fn find_job<'a>(
+fn find_job<'a, const TESTED: bool>(
     library: &'a Library,
     table: &Table,
     objects: &Objects,
     job: u64,
     program: u64,
 ) -> Result<(Koid, &'a Image), Status>
+    requires sure { TESTED ≡ false
+        → IsOk (looked_up table.now.entries job (Kind.Job ∷ []) MANAGE_PROCESS) }
     ensures refusal { result_err result
         ≡ create_refusal library.now table.now.entries objects.now job program }
     ensures job { IfOk result (λ found. option_map (λ e. e.koid)
@@ -149,7 +154,7 @@ fn find_job<'a>(
     ensures image { IfOk result (λ found. option_map (λ g. g.image)
         (slice_get library.now program) ≡ Some found.1.now) }
 {
-    let job = look_up(table, job, &[Kind::Job], Rights::MANAGE_PROCESS)?;
+    let job = look_up::<TESTED>(table, job, &[Kind::Job], Rights::MANAGE_PROCESS)?;
     let Some(program) = library.get(program as usize) else {
         return Err(Status::InvalidArgs);
     };
@@ -193,7 +198,7 @@ fn allows(objects: &Objects, job: Koid, condition: Condition) -> bool
 /// declare just one handle of this kind with these rights at most; `NoMemory`.
 /// Source: the page "zx_process_start" of the Fuchsia documentation; what a program declares and the
 /// order are own profile.
-pub fn process_start(
+pub fn process_start<const TESTED: bool>(
     library: &Library,
     processes: &mut Processes,
     objects: &mut Objects,
@@ -202,7 +207,11 @@ pub fn process_start(
     handle: u64,
     word: u64,
 ) -> Result<(), Status>
-    requires { IsCalling processes.old.list.items place }
+    requires calling { IsCalling processes.old.list.items place }
+    requires process { TESTED ≡ false → AtPlace processes.old place (λ caller.
+        IsOk (looked_up caller.table.entries process (Kind.Process ∷ []) WRITE)) }
+    requires handle { TESTED ≡ false → AtPlace processes.old place (λ caller.
+        IsOk (looked_up caller.table.entries handle [] TRANSFER)) }
     ensures does { (blocked : List ℕ) → AtPlace processes.old place (λ caller.
         ProcessStartDoes library.now place process handle word caller
         (parts processes.old.list.items objects.old blocked) result
@@ -211,7 +220,7 @@ pub fn process_start(
         IsCallerStill caller (slice_get processes.new.list.items place)) }
     ensures count { length processes.new.list.items ≡ length processes.old.list.items }
 {
-    match enter(library, processes, place, process, handle) {
+    match enter::<TESTED>(library, processes, place, process, handle) {
         Ok(started) => {
             take_out(&mut processes.list[place].table, handle);
             let child = &mut processes.list[started.place];
@@ -246,7 +255,7 @@ struct Started {
 }
 
 /// The handle enters the table of the process that is to start, and is in the caller's still.
-fn enter(
+fn enter<const TESTED: bool>(
     library: &Library,
     processes: &mut Processes,
     place: usize,
@@ -254,6 +263,10 @@ fn enter(
     handle: u64,
 ) -> Result<Started, Status>
     requires place { place < length processes.old.list.items }
+    requires process { TESTED ≡ false → AtPlace processes.old place (λ caller.
+        IsOk (looked_up caller.table.entries process (Kind.Process ∷ []) WRITE)) }
+    requires handle { TESTED ≡ false → AtPlace processes.old place (λ caller.
+        IsOk (looked_up caller.table.entries handle [] TRANSFER)) }
     ensures entered { IfOk result (λ started. AtPlace processes.old place (λ caller.
         Enters library.now processes.old.list.items caller process handle started
         processes.new.list.items)) }
@@ -262,7 +275,7 @@ fn enter(
         caller.table.entries process handle) refused)) }
     ensures unchanged { OnErr result (processes.new.list.items ≡ processes.old.list.items) }
 {
-    let (child, entry) = find_child(library, processes, place, process, handle)?;
+    let (child, entry) = find_child::<TESTED>(library, processes, place, process, handle)?;
     // A table that was never used has a place. Should it tell of none, that is a want of memory: a
     // start lists no other.
     let Ok(value) = insert(&mut processes.list[child].table, entry) else {
@@ -275,22 +288,26 @@ fn enter(
 }
 
 /// The place of the process that is to start, and the handle that it gets.
-fn find_child(
+fn find_child<const TESTED: bool>(
     library: &Library,
     processes: &Processes,
     place: usize,
     process: u64,
     handle: u64,
 ) -> Result<(usize, Entry), Status>
-    requires { place < length processes.now.list.items }
+    requires place { place < length processes.now.list.items }
+    requires process { TESTED ≡ false → AtPlace processes.now place (λ caller.
+        IsOk (looked_up caller.table.entries process (Kind.Process ∷ []) WRITE)) }
+    requires handle { TESTED ≡ false → AtPlace processes.now place (λ caller.
+        IsOk (looked_up caller.table.entries handle [] TRANSFER)) }
     ensures refusal { AtPlace processes.now place (λ caller. result_err result
         ≡ start_refusal library.now processes.now.list.items caller.table.entries process handle) }
     ensures found { IfOk result (λ found. AtPlace processes.now place (λ caller.
         IsFound processes.now.list.items caller process handle found.0 found.1)) }
 {
     let table = &processes.list[place].table;
-    let child = look_up(table, process, &[Kind::Process], Rights::WRITE)?;
-    let entry = look_up(table, handle, &[], Rights::TRANSFER)?;
+    let child = look_up::<TESTED>(table, process, &[Kind::Process], Rights::WRITE)?;
+    let entry = look_up::<TESTED>(table, handle, &[], Rights::TRANSFER)?;
     let child = created_at(library, processes, child.koid, &entry)?;
     Ok((child, entry))
 }

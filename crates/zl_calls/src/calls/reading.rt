@@ -1,7 +1,8 @@
 //! The call that reads a message: what it does, and what it then writes of its caller.
 
-ghost use Rattle.std.specs.Prelude.{◌≡◌, ◌+◌, ◌<◌, ◌≤◌, ◌^◌, ◌∷◌, if◌then◌else◌, is_some, length, nat_lt, slice_get, true, IsSome, IsTrue, IfOk, IfErr, OnErr};
-ghost use Rattle.zl_rights.specs.Numbers.{status_magnitude};
+ghost use Rattle.std.specs.Prelude.{◌≡◌, ◌+◌, ◌<◌, ◌≤◌, ◌^◌, [], ◌∷◌, if◌then◌else◌, is_some, length, nat_lt, slice_get, true, false, IsSome, IsTrue, IfOk, IfErr, IsOk, OnErr};
+ghost use Rattle.zl_rights.specs.LookUp.{looked_up};
+ghost use Rattle.zl_rights.specs.Numbers.{READ, status_magnitude};
 ghost use Rattle.zl_rights.specs.World.{answered, written};
 ghost use Rattle.zl_code.specs.Asked.{triples_from};
 ghost use Rattle.zl_code.specs.Calls.{wanted};
@@ -10,6 +11,7 @@ ghost use Rattle.zl_code.specs.Request.{site_of};
 ghost use Rattle.zl_code.specs.declared.history.CallName.TheVariants as name;
 ghost use Rattle.zl_objects.specs.Objects.{peer_at};
 ghost use Rattle.zl_calls.specs.Acted.{Acted};
+ghost use Rattle.zl_calls.specs.Sure.{IsFaultless};
 ghost use Rattle.zl_calls.specs.calls.Reading.{CameFrom, ChanReadDoes, InsertsEach, front_at, read_into, triple_of};
 
 use crate::calls::{insert, look_up};
@@ -52,7 +54,7 @@ pub enum ReadFault {
 /// with both sizes where there is too little room; `NoResources` where the table has no place for
 /// all its handles, or none that it offers; `NoMemory`.
 /// Source: the page "zx_channel_read_etc" of the Fuchsia documentation.
-pub fn chan_read_etc(
+pub fn chan_read_etc<const TESTED: bool>(
     alloc: Global,
     table: &mut Table,
     objects: &mut Objects,
@@ -60,10 +62,12 @@ pub fn chan_read_etc(
     room: u64,
     places: u32,
 ) -> Result<Received, ReadFault>
+    requires sure { TESTED ≡ false
+        → IsOk (looked_up table.old.entries channel (Kind.Channel ∷ []) READ) }
     ensures { ChanReadDoes channel room places
         table.old objects.old result table.new objects.new }
 {
-    let end = find_front(table, objects, channel, room, places)?;
+    let end = find_front::<TESTED>(table, objects, channel, room, places)?;
     let values = match insert_each(alloc, table, objects.front_handles(end)) {
         Ok(values) => values,
         Err(refused) => return Err(ReadFault::Refused(refused)),
@@ -75,17 +79,19 @@ pub fn chan_read_etc(
 }
 
 /// The end whose first message can be read, or why it can't.
-fn find_front(
+fn find_front<const TESTED: bool>(
     table: &Table,
     objects: &Objects,
     channel: u64,
     room: u64,
     places: u32,
 ) -> Result<Koid, ReadFault>
+    requires sure { TESTED ≡ false
+        → IsOk (looked_up table.now.entries channel (Kind.Channel ∷ []) READ) }
     ensures { result
         ≡ front_at table.now.entries objects.now.objects channel room places }
 {
-    let end = match look_up(table, channel, &[Kind::Channel], Rights::READ) {
+    let end = match look_up::<TESTED>(table, channel, &[Kind::Channel], Rights::READ) {
         Ok(entry) => entry.koid,
         Err(refused) => return Err(ReadFault::Refused(refused)),
     };
@@ -215,7 +221,7 @@ impl Process {
 
 /// Does `chan_read_etc` at its registers. Its room lies in the memory.
 #[tactic(auto, unfolding(zl_code::specs::Request::site_of, zl_rights::specs::World::answered))]
-pub fn read(
+pub fn read<const TESTED: bool>(
     alloc: Global,
     process: &mut Process,
     objects: &mut Objects,
@@ -224,6 +230,8 @@ pub fn read(
     requires counter { process.old.cpu.counter < 2 ^ 32 }
     requires name { call.now.name ≡ name.ChanReadEtc }
     requires there { IsSome (site_of call.now process.old.cpu) }
+    requires sure { TESTED ≡ false
+        → IsFaultless process.old.table.entries (site_of call.now process.old.cpu) }
     ensures { Acted (site_of call.now process.old.cpu)
         process.old objects.old result process.new objects.new }
 {
@@ -232,7 +240,7 @@ pub fn read(
     let room = process.cpu.register(room);
     let channel = process.cpu.register(channel);
     let places = call.number();
-    match chan_read_etc(alloc, &mut process.table, objects, channel, room, places) {
+    match chan_read_etc::<TESTED>(alloc, &mut process.table, objects, channel, room, places) {
         Ok(received) => {
             let bytes = &received.message.bytes;
             let sent = received.message.handles.as_slice();

@@ -1,9 +1,12 @@
 //! Calls that look at the signals of an object.
 
-ghost use Rattle.std.specs.Prelude.{◌≡◌, ◌<◌, ◌^◌};
+ghost use Rattle.std.specs.Prelude.{◌≡◌, ◌<◌, ◌^◌, false, [], ◌∷◌, IsOk};
+ghost use Rattle.zl_rights.specs.LookUp.{looked_up};
+ghost use Rattle.zl_rights.specs.Numbers.{WAIT, WRITE};
 ghost use Rattle.zl_code.specs.Request.{site_of};
 ghost use Rattle.zl_code.specs.declared.history.CallName.TheVariants as name;
 ghost use Rattle.zl_calls.specs.Acted.{Acted};
+ghost use Rattle.zl_calls.specs.Sure.{IsFaultless};
 ghost use Rattle.zl_calls.specs.calls.Async.{WaitAsyncDoes};
 ghost use Rattle.zl_calls.specs.calls.Wait.{polled_at, watched_at};
 
@@ -36,10 +39,16 @@ pub enum PollFault {
 ///
 /// `BadHandle`, `AccessDenied` without the right to wait, `InvalidArgs` for a mask of more than 32
 /// bits.
-pub fn watch(table: &Table, objects: &Objects, value: u64, mask: u64) -> Result<Watched, Status>
+pub fn watch<const TESTED: bool>(
+    table: &Table,
+    objects: &Objects,
+    value: u64,
+    mask: u64,
+) -> Result<Watched, Status>
+    requires sure { TESTED ≡ false → IsOk (looked_up table.now.entries value [] WAIT) }
     ensures { result ≡ watched_at table.now.entries objects.now.objects value mask }
 {
-    let entry = look_up(table, value, &[], Rights::WAIT)?;
+    let entry = look_up::<TESTED>(table, value, &[], Rights::WAIT)?;
     let Ok(mask) = u32::try_from(mask) else {
         return Err(Status::InvalidArgs);
     };
@@ -56,15 +65,16 @@ pub fn watch(table: &Table, objects: &Objects, value: u64, mask: u64) -> Result<
 /// `BadHandle`, `AccessDenied` without the right to wait, `InvalidArgs` for a mask of more than 32
 /// bits; `TimedOut`, with the active signals, where none of the mask is among them.
 /// Source: the page "zx_object_wait_one" of the Fuchsia documentation, with a deadline of 0.
-pub fn wait_poll(
+pub fn wait_poll<const TESTED: bool>(
     table: &Table,
     objects: &Objects,
     value: u64,
     mask: u64,
 ) -> Result<Signals, PollFault>
+    requires sure { TESTED ≡ false → IsOk (looked_up table.now.entries value [] WAIT) }
     ensures { result ≡ polled_at table.now.entries objects.now.objects value mask }
 {
-    match watch(table, objects, value, mask) {
+    match watch::<TESTED>(table, objects, value, mask) {
         Ok(watched) => {
             if watched.active.intersects(watched.mask) {
                 Ok(watched.active)
@@ -83,9 +93,15 @@ pub fn wait_poll(
 /// bits. It takes no memory.
 /// Source: the page "zx_object_wait_one" of the Fuchsia documentation, without a deadline.
 #[tactic(auto, unfolding(zl_code::specs::Request::site_of))]
-pub fn wait_one(process: &mut Process, objects: &Objects, call: &CallInstr) -> Outcome
+pub fn wait_one<const TESTED: bool>(
+    process: &mut Process,
+    objects: &Objects,
+    call: &CallInstr,
+) -> Outcome
     requires counter { process.old.cpu.counter < 2 ^ 32 }
     requires name { call.now.name ≡ name.WaitOne }
+    requires sure { TESTED ≡ false
+        → IsFaultless process.old.table.entries (site_of call.now process.old.cpu) }
     ensures { Acted (site_of call.now process.old.cpu)
         process.old objects.now result process.new objects.now }
 {
@@ -93,7 +109,7 @@ pub fn wait_one(process: &mut Process, objects: &Objects, call: &CallInstr) -> O
     let [_, handle, mask, ..] = registers;
     let value = process.cpu.register(handle);
     let mask = process.cpu.register(mask);
-    let watched = match watch(&process.table, objects, value, mask) {
+    let watched = match watch::<TESTED>(&process.table, objects, value, mask) {
         Ok(watched) => watched,
         Err(refused) => {
             let answer = Err(PollFault::Refused(refused));
@@ -119,7 +135,7 @@ pub fn wait_one(process: &mut Process, objects: &Objects, call: &CallInstr) -> O
 /// what is no port, `AccessDenied` without the right to write; `InvalidArgs` for a mask of more than
 /// 32 bits; `NoResources` where 2^62 waits were registered; `NoMemory`.
 /// Source: the page "zx_object_wait_async" of the Fuchsia documentation; the limit is own profile.
-pub fn wait_async(
+pub fn wait_async<const TESTED: bool>(
     table: &Table,
     objects: &mut Objects,
     pid: Pid,
@@ -128,12 +144,15 @@ pub fn wait_async(
     key: u64,
     mask: u64,
 ) -> Result<(), Status>
+    requires handle { TESTED ≡ false → IsOk (looked_up table.now.entries handle [] WAIT) }
+    requires port { TESTED ≡ false
+        → IsOk (looked_up table.now.entries port (Kind.Port ∷ []) WRITE) }
     ensures { WaitAsyncDoes pid handle port key mask
         table.now objects.old result table.now objects.new }
 {
-    let watched = look_up(table, handle, &[], Rights::WAIT)?;
-    let receiver = look_up(table, port, &[Kind::Port], Rights::WRITE)?;
-    let Some((value, _)) = live_at(table, handle) else {
+    let watched = look_up::<TESTED>(table, handle, &[], Rights::WAIT)?;
+    let receiver = look_up::<TESTED>(table, port, &[Kind::Port], Rights::WRITE)?;
+    let Some((value, _)) = live_at::<TESTED>(table, handle) else {
         return Err(Status::BadHandle);
     };
     let Ok(bits) = u32::try_from(mask) else {

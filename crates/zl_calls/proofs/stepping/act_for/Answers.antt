@@ -3,51 +3,58 @@ use Rattle.zl_calls.proofs.waking.BlockedLists.{no_more}
 use Rattle.zl_calls.proofs.stepping.CallSteps.{called_so, caller_ready, moves_from, stays_from, stops_from}
 use Rattle.zl_calls.proofs.stepping.Performing.{HasActed, here, turn_at, within}
 use Rattle.zl_calls.proofs.stepping.Untaken.{called_spares}
+use Rattle.zl_calls.proofs.stepping.SureCalls.{sure_calls}
 use Rattle.zl_code.specs.declared.history.TraceItem.TheVariants as item
 use Rattle.zl_calls.proofs.stepping.act_for.Goals as goal
 
-pub call_next-requires : goal.call_next-requires
-call_next-requires c =
+pub call_checked-requires : goal.call_checked-requires
+call_checked-requires c =
     let ready : is_ready (state_value c.index.result.now.state) ≡ true = sym c.is_ready.ensures ∙ c.if-not-is_ready.false in
     record {
-      calling = record {
-        within = within c.args.processes.now.list.items c.args.pid c.in_ok-place.place c.index.result.now c.in_ok-place.ensures.first c.index.ensures;
-        ready = caller_ready c.args.processes.now.list.items c.args.pid c.in_ok-place.place c.index.result.now c.in_ok-place.ensures.first c.index.ensures
-            ready;
+      may = record {
+        calling = record {
+          within = within c.args.processes.now.list.items c.args.pid c.in_ok-place.place c.index.result.now c.in_ok-place.ensures.first c.index.ensures;
+          ready = caller_ready c.args.processes.now.list.items c.args.pid c.in_ok-place.place c.index.result.now c.in_ok-place.ensures.first c.index.ensures
+              ready;
+        };
+        few = no_more c.args.processes.now.list.items c.args.blocked.now.items c.requires.list;
+        given = c.requires.consistent.given_processes;
       };
-      few = no_more c.args.processes.now.list.items c.args.blocked.now.items c.requires.list;
-      given = c.requires.consistent.given_processes;
+      sure = sure_calls (turn_at c.args.processes.now.list.items c.args.objects.now c.args.blocked.now.items c.args.pid c.in_ok-place.place
+          c.index.result.now c.requires.consistent c.requires.list c.requires.sound c.in_ok-place.ensures.first c.index.ensures ready)
+          c.args.library.now c.requires.verified c.requires.covered;
     }
 
 called : (c : goal.After-leave) → HasActed c.args.library.now c.args.processes.now.list.items c.leave.new.processes.items c.args.objects.now
-    c.call_next.new.objects c.args.blocked.now.items c.call_next.new.blocked.items
+    c.call_checked.new.objects c.args.blocked.now.items c.call_checked.new.blocked.items
     c.args.pid (item.Call c.args.pid c.in-Some.call c.in-Some.outcome)
 called c = rw c.leave.ensures
     (called_so (turn_at c.args.processes.now.list.items c.args.objects.now c.args.blocked.now.items c.args.pid c.in_ok-place.place c.index.result.now
     c.requires.consistent c.requires.list c.requires.sound c.in_ok-place.ensures.first c.index.ensures (sym c.is_ready.ensures ∙ c.if-not-is_ready.false))
-    c.args.library.now (parts c.call_next.new.processes.list.items c.call_next.new.objects c.call_next.new.blocked.items) c.in-Some.outcome c.in-Some.call
+    c.args.library.now (parts c.call_checked.new.processes.list.items c.call_checked.new.objects c.call_checked.new.blocked.items)
+    c.in-Some.outcome c.in-Some.call
     ((c.in-Some.ensures {u = tt}).calls c.index.result.now (here c.args.processes.now.list.items c.args.pid c.in_ok-place.place c.index.result.now
     c.in_ok-place.ensures.first c.index.ensures)))
 
 moved : (c : goal.After-processes-in-Some-run_next-1) → HasActed c.args.library.now c.args.processes.now.list.items
-    (set c.call_next.new.processes.list.items c.in_ok-place.place c.run_next.new.process) c.args.objects.now c.call_next.new.objects
-    c.args.blocked.now.items c.call_next.new.blocked.items c.args.pid (item.Run c.args.pid 1)
+    (set c.call_checked.new.processes.list.items c.in_ok-place.place c.run_next.new.process) c.args.objects.now c.call_checked.new.objects
+    c.args.blocked.now.items c.call_checked.new.blocked.items c.args.pid (item.Run c.args.pid 1)
 moved c =
     moves_from (turn_at c.args.processes.now.list.items c.args.objects.now c.args.blocked.now.items c.args.pid c.in_ok-place.place c.index.result.now
     c.requires.consistent c.requires.list c.requires.sound c.in_ok-place.ensures.first c.index.ensures (sym c.is_ready.ensures ∙ c.if-not-is_ready.false))
     c.args.library.now
-    c.call_next.new.processes.list.items c.call_next.new.objects c.call_next.new.blocked.items (c.in_default.ensures {u = tt}).same_processes
+    c.call_checked.new.processes.list.items c.call_checked.new.objects c.call_checked.new.blocked.items (c.in_default.ensures {u = tt}).same_processes
     (c.in_default.ensures {u = tt}).same_objects (c.in_default.ensures {u = tt}).same_blocked c.index_mut-process.result.now c.index_mut-process.ensures.value
     c.run_next.new.process (c.in-Some-run_next.ensures {u = tt}).runs (c.in-Some-run_next.ensures {u = tt}).cpu
 
 stopped : (c : goal.After-leave-2) → HasActed c.args.library.now c.args.processes.now.list.items c.leave-2.new.processes.items c.args.objects.now
     c.end.new.objects
-    c.args.blocked.now.items c.call_next.new.blocked.items c.args.pid (item.Stuck c.args.pid)
+    c.args.blocked.now.items c.call_checked.new.blocked.items c.args.pid (item.Stuck c.args.pid)
 stopped c = rw c.leave-2.ensures
     (stops_from (turn_at c.args.processes.now.list.items c.args.objects.now c.args.blocked.now.items c.args.pid c.in_ok-place.place c.index.result.now
     c.requires.consistent c.requires.list c.requires.sound c.in_ok-place.ensures.first c.index.ensures (sym c.is_ready.ensures ∙ c.if-not-is_ready.false))
     c.args.library.now
-    c.call_next.new.processes.list.items c.call_next.new.objects c.call_next.new.blocked.items (c.in_default.ensures {u = tt}).same_processes
+    c.call_checked.new.processes.list.items c.call_checked.new.objects c.call_checked.new.blocked.items (c.in_default.ensures {u = tt}).same_processes
     (c.in_default.ensures {u = tt}).same_objects (c.in_default.ensures {u = tt}).same_blocked c.index_mut-process.result.now c.index_mut-process.ensures.value
     c.end.new.process c.end.new.objects ((c.in_default.ensures {u = tt}).missing c.index.result.now
     (here c.args.processes.now.list.items c.args.pid c.in_ok-place.place c.index.result.now c.in_ok-place.ensures.first c.index.ensures))
@@ -94,7 +101,7 @@ returns-in-Some-run_next-clause-quiet c local =
     stays_from (turn_at c.args.processes.now.list.items c.args.objects.now c.args.blocked.now.items c.args.pid c.in_ok-place.place c.index.result.now
     c.requires.consistent c.requires.list c.requires.sound c.in_ok-place.ensures.first c.index.ensures (sym c.is_ready.ensures ∙ c.if-not-is_ready.false))
     c.args.library.now
-    c.call_next.new.processes.list.items c.call_next.new.objects c.call_next.new.blocked.items (c.in_default.ensures {u = tt}).same_processes
+    c.call_checked.new.processes.list.items c.call_checked.new.objects c.call_checked.new.blocked.items (c.in_default.ensures {u = tt}).same_processes
     (c.in_default.ensures {u = tt}).same_objects (c.in_default.ensures {u = tt}).same_blocked c.index_mut-process.result.now c.index_mut-process.ensures.value
     c.run_next.new.process (c.in-Some-run_next.ensures {u = tt}).cpu
 
@@ -103,6 +110,6 @@ returns-in-Some-clause-unheld d none =
     let c = d.before in
     called_spares (turn_at c.args.processes.now.list.items c.args.objects.now c.args.blocked.now.items c.args.pid c.in_ok-place.place c.index.result.now
     c.requires.consistent c.requires.list c.requires.sound c.in_ok-place.ensures.first c.index.ensures (sym c.is_ready.ensures ∙ c.if-not-is_ready.false))
-    c.args.library.now (parts c.call_next.new.processes.list.items c.call_next.new.objects c.call_next.new.blocked.items) c.in-Some.outcome c.in-Some.call
+    c.args.library.now (parts c.call_checked.new.processes.list.items c.call_checked.new.objects c.call_checked.new.blocked.items) c.in-Some.outcome c.in-Some.call
     ((c.in-Some.ensures {u = tt}).calls c.index.result.now (here c.args.processes.now.list.items c.args.pid c.in_ok-place.place c.index.result.now
     c.in_ok-place.ensures.first c.index.ensures)) none c.leave.new.processes.items c.leave.ensures (called c).consistent

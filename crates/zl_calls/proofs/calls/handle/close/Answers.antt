@@ -3,7 +3,7 @@ use Rattle.zl_calls.proofs.waits.WaitsLost.{listed_gone}
 use Rattle.zl_calls.proofs.calls.handle.close.Goals as goal
 
 pub returns-in-Some : goal.returns-in-Some
-returns-in-Some c =
+returns-in-Some g c =
     let there = sym c.take_out.ensures.entry ∙ c.in-Some.is in
     record {
       answered = rw there refl;

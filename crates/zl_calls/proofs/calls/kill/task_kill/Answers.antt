@@ -3,7 +3,7 @@ use Rattle.zl_calls.proofs.tasks.KillParts.{closed_order_back, in_order_back, ki
 use Rattle.zl_calls.proofs.calls.kill.task_kill.Goals as goal
 
 pub invariant_of-processes : goal.invariant_of-processes
-invariant_of-processes c =
+invariant_of-processes g c =
     let long : c.args.processes.now.list.len ≡ length c.args.processes.now.list.items = omega (arith, c.args.processes.now.list.ok.0) in
     record {
       in_order = in_order_back c.args.processes.now.list.len c.args.processes.now.list.items c.deref_mut.result.now c.end_within.new.processes _ []
@@ -11,7 +11,7 @@ invariant_of-processes c =
     }
 
 pub invariant_of-processes-2 : goal.invariant_of-processes-2
-invariant_of-processes-2 c =
+invariant_of-processes-2 g c =
     let long : c.args.processes.now.list.len ≡ length c.args.processes.now.list.items = omega (arith, c.args.processes.now.list.ok.0) in
     record {
       in_order = closed_order_back c.args.processes.now.list.len c.args.processes.now.list.items c.deref_mut.result.now c.end_within.new.processes
@@ -21,7 +21,7 @@ invariant_of-processes-2 c =
     }
 
 pub returns-clause-does : goal.returns-clause-does
-returns-clause-does c =
+returns-clause-does g c =
     let long : c.args.processes.now.list.len ≡ length c.args.processes.now.list.items = omega (arith, c.args.processes.now.list.ok.0) in
     killed_back c.args.processes.now.list.len c.args.processes.now.list.items c.deref_mut.result.now c.end_within.new.processes
     c.deref_mut-2.result.now c.close_ended.new.processes c.args.objects.now
@@ -32,7 +32,7 @@ returns-clause-does c =
     c.kill.ensures.releases c.kill.ensures.listed c.close_ended.ensures.listed c.keep_blocked.ensures.items
 
 pub returns-clause-caller : goal.returns-clause-caller
-returns-clause-caller c =
+returns-clause-caller g c =
     let long : c.args.processes.now.list.len ≡ length c.args.processes.now.list.items = omega (arith, c.args.processes.now.list.ok.0) in
     λ caller at. still_back c.args.processes.now.list.len c.args.processes.now.list.items c.deref_mut.result.now c.end_within.new.processes
     c.deref_mut-2.result.now c.close_ended.new.processes c.args.objects.now

@@ -3,7 +3,7 @@ use Rattle.zl_calls.proofs.calls.Cancelled.{found_entry, found_some, found_value
 use Rattle.zl_calls.proofs.calls.port.port_cancel.Goals as goal
 
 pub returns-then-cancelled-eq0 : goal.returns-then-cancelled-eq0
-returns-then-cancelled-eq0 c =
+returns-then-cancelled-eq0 g c =
     let same : c.in-Some.value ≡ c.args.source =
     found_value c.args.source c.in-Some.value c.in-Some.named (get c.args.table.now.entries c.args.source) (c.in-Some.ensures {u = tt}) in
     none_cancelled c.args.table.now c.args.objects.now c.args.pid c.args.port c.args.source c.args.key c.in_ok-receiver.receiver c.in-Some.named
@@ -13,7 +13,7 @@ returns-then-cancelled-eq0 c =
     (rw same at (sym c.cancel-cancelled.ensures.count ∙ c.if-cancelled-eq0.true)) (rw same at c.cancel-cancelled.ensures.rest)
 
 pub returns : goal.returns
-returns c =
+returns g c =
     let same : c.in-Some.value ≡ c.args.source =
     found_value c.args.source c.in-Some.value c.in-Some.named (get c.args.table.now.entries c.args.source) (c.in-Some.ensures {u = tt}) in
     some_cancelled c.args.table.now c.args.objects.now c.args.pid c.args.port c.args.source c.args.key c.in_ok-receiver.receiver c.in-Some.named

@@ -6,7 +6,7 @@ use Rattle.zl_calls.proofs.tasks.StartParts.{read_at}
 use Rattle.zl_calls.proofs.calls.process.process_create.Goals as goal
 
 pub invariant_of-processes : goal.invariant_of-processes
-invariant_of-processes c =
+invariant_of-processes g c =
     let same : c.prepare.new.processes.list.items ≡ c.args.processes.now.list.items = c.prepare.ensures.same_processes in
     let within : c.args.place < length c.prepare.new.processes.list.items = rw same c.requires.place in
     record {
@@ -17,14 +17,15 @@ invariant_of-processes c =
     }
 
 pub returns-in_default-clause-does : goal.returns-in_default-clause-does
-returns-in_default-clause-does c = λ caller there. wanting c.args.library.now c.args.processes.now.list.items c.prepare.new.processes.list.items
+returns-in_default-clause-does g c = λ caller there. wanting c.args.library.now c.args.processes.now.list.items c.prepare.new.processes.list.items
     c.args.objects.now c.args.blocked.now.items c.prepare.new.blocked.items
     c.args.place c.args.job c.args.program c.prepare.ensures.same_processes c.prepare.ensures.same_blocked c.index.result.now c.index.ensures
     c.in_ok-job.ensures.refusal caller there
     status.NoMemory refl c.args.objects.now refl c.prepare.new.processes.list.items refl
 
 pub returns-in-Err-clause-does : goal.returns-in-Err-clause-does
-returns-in-Err-clause-does c = λ caller there. not_made c.args.library.now c.args.processes.now.list.items c.prepare.new.processes.list.items c.args.objects.now
+returns-in-Err-clause-does g c = λ caller there.
+    not_made c.args.library.now c.args.processes.now.list.items c.prepare.new.processes.list.items c.args.objects.now
     c.args.blocked.now.items c.prepare.new.blocked.items
     c.args.place c.args.job c.args.program c.prepare.ensures.same_processes c.prepare.ensures.same_blocked c.index.result.now c.index.ensures
     c.in_ok-job.ensures.refusal caller there

@@ -3,7 +3,7 @@ use Rattle.zl_calls.proofs.calls.Cancelled.{found_value, wait_registered}
 use Rattle.zl_calls.proofs.calls.wait.wait_async.Goals as goal
 
 pub returns-in-Ok-watch : goal.returns-in-Ok-watch
-returns-in-Ok-watch c =
+returns-in-Ok-watch g c =
     let same : c.from_bits_retain.result.0 ≡ c.args.mask = search rules in
     let masked : nat_lt c.args.mask (2 ^ 32) ≡ true = search rules in
     wait_registered c.args.table.now c.args.objects.now c.watch.new.self c.args.pid c.args.handle c.args.port c.args.key c.args.mask c.in_ok-watched.watched

@@ -1,0 +1,19 @@
+-- What is known of the operands of a call by its name.
+use Rattle.zl_calls.proofs.Common.{◌≡◌, ◌∙◌, Bool, true, false, [], ap, subst, None, IsSome, Map, Entry, CallInstr, CallName, call_row, site_of, then_some}
+use Rattle.zl_calls.proofs.Common.{Cpu, handle_operands, operands_fault}
+use Rattle.zl_code.specs.Asked.{has_its_memory}
+use Rattle.zl_code.specs.Request.{site_at, site_in}
+use Rattle.zl_code.proofs.CallRows.{site_named}
+use Rattle.zl_calls.specs.Sure.{IsFaultless}
+
+-- no operand of the call has a fault, where its memory is there
+pub faultless_at : (i : CallInstr) (c : Cpu) (n : CallName) (entries : Map Entry) → i.name ≡ n → IsSome (site_of i c) → IsFaultless entries (site_of i c)
+    → operands_fault entries [] (handle_operands (site_at n i c).request) ≡ None
+faultless_at i c n entries is there passes =
+    let same : site_of i c ≡ site_in n i c = site_named i c ∙ ap (λ m. site_in m i c) is in
+    by (has_its_memory (call_row n).ending i c) (subst (λ o. IsSome o) same there) (subst (IsFaultless entries) same passes)
+  where
+    by : (t : Bool) → IsSome (then_some t (site_at n i c)) → IsFaultless entries (then_some t (site_at n i c))
+        → operands_fault entries [] (handle_operands (site_at n i c).request) ≡ None
+    by true there passes = passes
+    by false there passes = absurd cc

@@ -1,6 +1,6 @@
 -- What stands next, by the instruction at the counter.
 use Rattle.zl_code.proofs.Common.{◌≡◌, ◌∙◌, Option, Some, None, IfSome, IfNone, true, false, sym, refl, ap, none-some, same_Some, is_some, false≢true, Cpu}
-use Rattle.zl_code.proofs.Common.{Image, Site, call_row, local_effect, site_of, IsStuck, calls_at, next_at}
+use Rattle.zl_code.proofs.Common.{Image, Site, call_row, local_effect, site_of, IsStuck, calls_at, next_at, ◌≢◌}
 use Rattle.zl_code.specs.declared.history.CallName.{CallName}
 use Rattle.zl_code.specs.declared.instr.CallInstr.{CallInstr}
 use Rattle.zl_code.specs.declared.instr.Instr.{Instr}
@@ -38,6 +38,14 @@ module _ (i : Image) (c : Cpu) (x : CallInstr) (there : call_at i c.counter ≡ 
       by : (s : Option Site) → is_some s ≡ false → call_in (calls_at x.name s) ≡ None
       by None none = refl
       by (Some s) none = absurd (false≢true (sym none))
+
+  -- a Cpu that isn't stuck stands at a call whose memory is there
+  pub memory_there : next_at i c ≢ IsStuck → has_its_memory (call_row x.name).ending x c ≡ true
+  memory_there goes = sym (has_site x c) ∙ by (site_of x c) comes
+    where
+      by : (s : Option Site) → next_at i c ≡ calls_at x.name s → is_some s ≡ true
+      by None next = absurd (goes next)
+      by (Some s) next = refl
 
 moves_name_none : (o : Option Cpu) → call_in (moves o) ≡ None
 moves_name_none None = refl

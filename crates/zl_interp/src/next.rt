@@ -1,6 +1,6 @@
 //! What stands next for a Cpu in its program: a system call, or a local instruction, done here.
 
-ghost use Rattle.std.specs.Prelude.{◌≡◌, ◌≢◌, ◌<◌, ◌≤◌, length, slice_get, None, IfSome, IfNone, OnSome};
+ghost use Rattle.std.specs.Prelude.{◌≡◌, ◌≢◌, ◌<◌, ◌≤◌, true, false, length, slice_get, None, IfSome, IfNone, OnSome};
 ghost use Rattle.zl_code.specs.Asked.{has_its_memory};
 ghost use Rattle.zl_code.specs.Instructions.{call_row};
 ghost use Rattle.zl_code.specs.Limits.{most_instructions};
@@ -19,26 +19,35 @@ use zl_code::{CallInstr, Ending, Instr, LocalInstr};
 /// The call that stands next for the Cpu, if one does.
 ///
 /// None does where the counter is outside the code, where a local instruction or an unknown one
-/// stands there, and at a call whose range of memory isn't there. Own profile.
+/// stands there, and at a call whose range of memory isn't there; where that isn't tested, the Cpu
+/// isn't stuck. Own profile.
 #[inline(always)]
-pub fn call_at(program: &Program, cpu: &Cpu) -> Option<CallInstr>
+pub fn call_at<const TESTED: bool>(program: &Program, cpu: &Cpu) -> Option<CallInstr>
+    requires sure { TESTED ≡ false
+        → next_at (program_value program.now).image cpu.now ≢ IsStuck }
     ensures found { IfSome result (StandsNext (program_value program.now).image cpu.now) }
     ensures missing { IfNone result
         (call_in (next_at (program_value program.now).image cpu.now) ≡ None) }
     ensures within { OnSome result (cpu.now.counter < most_instructions) }
 {
     let call = program.image().call_at(cpu.counter())?;
-    if has_its_memory(&call, cpu) {
+    if has_its_memory::<TESTED>(&call, cpu) {
         Some(call)
     } else {
         None
     }
 }
 
-/// Whether the range of memory that the call names is there; most calls name none.
-fn has_its_memory(call: &CallInstr, cpu: &Cpu) -> bool
+/// Whether the range of memory that the call names is there; most calls name none. It is there where
+/// that isn't tested.
+fn has_its_memory<const TESTED: bool>(call: &CallInstr, cpu: &Cpu) -> bool
+    requires sure { TESTED ≡ false
+        → has_its_memory (call_row call.now.name).ending call.now cpu.now ≡ true }
     ensures { result ≡ has_its_memory (call_row call.now.name).ending call.now cpu.now }
 {
+    if !TESTED {
+        return true;
+    }
     match call.name.row().columns.ending {
         Ending::Room | Ending::Handles => {
             let address = cpu.register(call.registers[2]);
@@ -122,7 +131,7 @@ fn local_at(program: &Program, cpu: &Cpu) -> Option<LocalInstr>
 pub fn stop_of(program: &Program, cpu: &Cpu) -> Stop
     ensures { result ≡ stop_at (next_at (program_value program.now).image cpu.now) }
 {
-    if call_at(program, cpu).is_some() {
+    if call_at::<true>(program, cpu).is_some() {
         return Stop::AtCall;
     }
     match local_at(program, cpu) {

@@ -1,6 +1,6 @@
 -- Where a process stands in the list, and what stands next for it.
 use Rattle.zl_calls.proofs.Common.{◌≡◌, ◌<◌, ◌∙◌, ℕ, List, length, map, get_or, Option, Some, None, refl, sym, ap, slice_get, IfSome, IfNone, IsSome, IsTrue}
-use Rattle.zl_calls.proofs.Common.{false≢true, get, Cpu, Image, is_process, is_ready, Library, Program, Site, site_of, Moves, calls_at, next_for, process_entry}
+use Rattle.zl_calls.proofs.Common.{false≢true, get, Cpu, Image, is_process, is_ready, Library, Program, Site, site_of, Moves, IsStuck, ◌≢◌, calls_at, next_for, process_entry}
 use Rattle.zl_calls.proofs.Common.{StandsNext, call_in, World, slice_get-map, CallInstr}
 use Rattle.std.specs.Prelude.{OnSome}
 use Rattle.zl_code.proofs.Common.{Process as ProcessValue}
@@ -22,6 +22,10 @@ module _ (lib : Library) (p : ProcessValue) (g : Program) (runs : slice_get lib 
   pub calls_next : (o : Option CallInstr) → IfSome o (StandsNext g.image p.cpu) → IfSome o (λ x. next_for lib p ≡ calls_at x.name (site_of x p.cpu))
   calls_next None stands = tt
   calls_next (Some x) stands = rw runs (stands.next ∙ ap (calls_at x.name) (sym stands.at_site))
+
+  -- nor is its Cpu stuck in the program, if the process isn't
+  pub goes_in : next_for lib p ≢ IsStuck → next_at g.image p.cpu ≢ IsStuck
+  goes_in goes stuck = goes (rw runs stuck)
 
   pub no_call_next : {A : Type 0} (o : Option A) → IfNone o (call_in (next_at g.image p.cpu) ≡ None) → IfNone o (call_in (next_for lib p) ≡ None)
   no_call_next None none = rw runs none

@@ -1,9 +1,10 @@
 -- What is known of the calls of a checked program, as its process is as its typing says: no operand has a fault, and no policy ends them.
-use Rattle.zl_calls.proofs.Common.{◌≡◌, ◌∙◌, ℕ, true, List, ap, refl, subst, sym, Option, Some, None, slice_get, runs, Library, Objects, Site, AtCall}
+use Rattle.zl_calls.proofs.Common.{◌≡◌, ◌≢◌, ◌∙◌, ℕ, IsStuck, true, List, ap, refl, subst, sym, Option, Some, None, slice_get, runs, Library, Objects, Site, AtCall}
 use Rattle.zl_calls.proofs.Common.{CallName, Image, Program, World, calls_at, next_for, process_value, site_of, world_blocked}
 use Rattle.zl_verify.specs.CallLaws.{StandsAtCall}
 use Rattle.zl_verify.specs.Covered.{IsAsTyped, IsCovered, IsVerified}
 use Rattle.zl_verify.proofs.Headline.{program_in}
+use Rattle.zl_verify.proofs.LocalSteps.{not_stuck}
 use Rattle.zl_verify.proofs.OwnCalls.{operands_pass, policy_passes}
 use Rattle.zl_verify.proofs.SizedWorlds.{queues_sized}
 use Rattle.zl_calls.specs.Sure.{CallsSurely, IsSure, IsSureIfChecked, is_checked}
@@ -24,6 +25,11 @@ module _ {ps : List Process} {r : Objects} {blocked : List ℕ} {pid place : ℕ
   module _ (i : Image) (listed : slice_get lib p.program ≡ Some (record { checked = true; image = i })) where
     typed : IsAsTyped i w p.pid (process_value p)
     typed = covered.typed p.pid (process_value p) i (itself turn).there (ap runs (ready turn)) listed
+
+    goes : next_for lib (process_value p) ≢ IsStuck
+    goes stuck =
+        not_stuck i typed.typing w p.pid (process_value p) (program_in lib p.program (record { checked = true; image = i }) v.images listed) typed.types
+        turn.sound.handles (itself turn).there typed.conforms (rw listed at stuck)
 
     stands_at : (name : CallName) (s : Site) → next_for lib (process_value p) ≡ AtCall name s → StandsAtCall i typed.typing w p.pid (process_value p) name s
     stands_at name s next = record {
@@ -49,9 +55,11 @@ module _ {ps : List Process} {r : Objects} {blocked : List ℕ} {pid place : ℕ
         }
 
   by_program : (o : Option Program) → slice_get lib p.program ≡ o → is_checked o ≡ true → CallsSurely lib p r
-  by_program None listed checked call next = absurd cc
-  by_program (Some g) listed checked call next =
-      sure_at g.image (listed ∙ ap (λ b. Some (record { checked = b; image = g.image })) checked) call.name (site_of call p.cpu) next
+  by_program None listed checked = absurd cc
+  by_program (Some g) listed checked =
+      let at : slice_get lib p.program ≡ Some (record { checked = true; image = g.image }) =
+      listed ∙ ap (λ b. Some (record { checked = b; image = g.image })) checked in
+      record { goes = goes g.image at; sure = λ call next. sure_at g.image at call.name (site_of call p.cpu) next }
 
   -- it is so for whoever is read at its place
   pub sure_calls : (caller : Process) → slice_get ps place ≡ Some caller → IsSureIfChecked lib caller r

@@ -76,6 +76,7 @@ pub use Rattle.zl_calls.specs.Makes.{koid_fault}
 pub use Rattle.zl_calls.specs.Making.{IsUnwatched, is_killed}
 pub use Rattle.zl_calls.specs.Policed.{EndsBy, IsDenied, Policed, on_fault_by, verdict_by, verdict_in, verdict_on}
 pub use Rattle.zl_calls.specs.Reaching.{CallActs, CalledAmong, IsAnsweredIn, IsToldIn, Reaches, acts, kills, kills_itself, starts}
+pub use Rattle.zl_objects.specs.Awaited.{KeepSleepers, Seeks}
 pub use Rattle.zl_calls.specs.Registered.{AreBeside, EndsUnheld, EndsWaits, FiresWaits, KeepsListed, ListsBut, is_left, world_left}
 pub use Rattle.zl_calls.specs.Turns.{Stands}
 pub use Rattle.zl_calls.specs.Waking.{WakesOne}

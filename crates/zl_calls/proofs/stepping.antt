@@ -11,3 +11,4 @@ pub mod Advancing
 pub mod Covered
 pub mod Untaken
 pub mod SureCalls
+pub mod Whole

@@ -3,3 +3,5 @@ pub mod BlockedLists
 pub mod Sleeping
 pub mod Woken
 pub mod WakeLoop
+pub mod StillBlocked
+pub mod Quiet

@@ -6,9 +6,11 @@ use Rattle.zl_code.specs.Programs.{HavePrograms}
 use Rattle.zl_code.specs.Sound.{IsSound, is_blocked}
 use Rattle.zl_rights.specs.Signals.{state_passes}
 use Rattle.zl_verify.specs.Covered.{IsCovered, IsVerified}
+use Rattle.zl_rights.specs.World.{Awaited as AwaitedValue, Blocked}
+use Rattle.zl_objects.specs.Awaited.{Seeks}
 use Rattle.zl_objects.specs.Objects.{Objects}
 use Rattle.zl_calls.specs.declared.process.Process.{Process}
-use Rattle.zl_calls.specs.World.{process_entry, world_blocked}
+use Rattle.zl_calls.specs.World.{awaited_of, process_entry, world_blocked}
 use Rattle.zl_calls.specs.Consistent.{IsConsistent}
 
 -- the list is that of the blocked processes, each of which stands at an instruction
@@ -17,12 +19,18 @@ pub record AreBlocked (processes : List Process) (blocked : List ℕ) : Type 0 w
   pub once : (k : ℕ) → length (filter (λ q. q == k) blocked) ≡ (if state_passes is_blocked (get (map process_entry processes) k) then 1 else 0)
   pub counters : (k : ℕ) (p : ProcessValue) → get (map process_entry processes) k ≡ Some p → IsTrue (is_blocked p.state) → p.cpu.counter < 2 ^ 32
 
+-- what each blocked process waits for is known to the objects
+abbrev pub AreSought : List Process → Objects → Type 0
+AreSought processes r = (k : ℕ) (p : ProcessValue) (awaited : AwaitedValue) (destinations : List ℕ) → get (map process_entry processes) k ≡ Some p
+    → p.state ≡ Blocked awaited destinations → Seeks r k (awaited_of awaited)
+
 -- the invariant of the programs, the processes and objects, and of the list of those that are blocked, which has room for all
 pub record IsWhole (lib : Library) (processes : List Process) (r : Objects) (blocked : List ℕ) (capacity : ℕ) : Type 0 where
   pub consistent : IsConsistent processes r
   -- their world is sound
   pub sound : IsSound (world_blocked processes r blocked)
   pub are_blocked : AreBlocked processes blocked
+  pub sought : AreSought processes r
   pub room : length processes ≤ capacity
   -- nothing is due: no wait holds, and no process that is blocked can wake
   pub awake : wakes (world_blocked processes r blocked) ≡ world_blocked processes r blocked

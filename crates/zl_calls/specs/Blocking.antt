@@ -1,5 +1,13 @@
 -- Who blocks in a step. No public clause cites this module.
-use Rattle.std.specs.Prelude.{ℕ, List, [], ◌∷◌, ◌++◌}
+use Rattle.std.specs.Prelude.{ℕ, ◌≡◌, ◌==◌, Bool, true, false, List, [], ◌∷◌, ◌++◌, Option, Some, None, map}
+use Rattle.zl_rights.specs.Map.{get}
+use Rattle.zl_rights.specs.World.{Process as ProcessValue, State, Blocked}
+use Rattle.zl_objects.specs.Awaited.{Seeks}
+use Rattle.zl_objects.specs.Objects.{Objects}
+use Rattle.zl_objects.specs.declared.awaited.Awaited.{Awaited}
+use Rattle.zl_calls.specs.declared.process.Process.{Process}
+use Rattle.zl_calls.specs.Registered.{AreBeside}
+use Rattle.zl_calls.specs.World.{awaited_of, process_entry}
 use Rattle.zl_code.specs.declared.history.Outcome.TheVariants as outcome
 use Rattle.zl_code.specs.declared.history.TraceItem.{TraceItem}
 use Rattle.zl_code.specs.declared.history.TraceItem.TheVariants as item
@@ -8,3 +16,26 @@ use Rattle.zl_code.specs.declared.history.TraceItem.TheVariants as item
 abbrev pub then_blocked : ℕ → TraceItem → List ℕ → List ℕ
 then_blocked pid (item.Call at call outcome.Blocked) blocked = blocked ++ (pid ∷ [])
 then_blocked pid _ blocked = blocked
+
+-- the item tells of a call that blocked
+abbrev pub tells_asleep : TraceItem → Bool
+tells_asleep (item.Call at call outcome.Blocked) = true
+tells_asleep _ = false
+
+-- what a process in this state waits for
+abbrev pub awaited_in : State → Option Awaited
+awaited_in (Blocked awaited destinations) = Some (awaited_of awaited)
+awaited_in _ = None
+
+-- the same of the process that was found
+abbrev pub awaited_by : Option ProcessValue → Option Awaited
+awaited_by None = None
+awaited_by (Some p) = awaited_in p.state
+
+-- but for what the process waits for, all is as before, and if the item tells that it blocked, that is known too
+pub record FallsAsleep (ps : List Process) (pid : ℕ) (x : TraceItem) (r r2 : Objects) : Type 0 where
+  pub beside : AreBeside r r2
+  pub waits : r2.waits ≡ r.waits
+  pub made : r2.waits_made ≡ r.waits_made
+  pub others : (q : ℕ) (a : Awaited) → (q == pid) ≡ false → Seeks r q a → Seeks r2 q a
+  pub itself : tells_asleep x ≡ true → (a : Awaited) → awaited_by (get (map process_entry ps) pid) ≡ Some a → Seeks r2 pid a

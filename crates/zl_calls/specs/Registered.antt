@@ -5,6 +5,7 @@ use Rattle.zl_code.specs.Common.{has_key, World as WorldValue}
 use Rattle.zl_rights.specs.Settle.{is_made_by_handle}
 use Rattle.zl_rights.specs.Wakes.{fired}
 use Rattle.zl_rights.specs.World.{Wait}
+use Rattle.zl_objects.specs.Awaited.{KeepSleepers}
 use Rattle.zl_objects.specs.Listed.{is_there}
 use Rattle.zl_objects.specs.Objects.{Objects}
 use Rattle.zl_objects.specs.Waits.{AreSameButWaits}
@@ -23,15 +24,17 @@ abbrev pub world_left : List Process → Objects → List ℕ → WorldValue
 world_left processes objects blocked =
     record (world_blocked processes objects blocked) { waits = filter (is_left (world_value processes objects)) objects.waits }
 
--- the list is these waits, but for some whose object or port is gone: a test that none of those passes leaves the same of both
-pub record ListsBut (ws : List Wait) (count : ℕ) (r : Objects) : Type 0 where
+-- the list is these waits, but for some whose object or port is gone: a test that none of those passes leaves the same of both; and
+-- who may be blocked is as before
+pub record ListsBut (ws : List Wait) (count : ℕ) (old r : Objects) : Type 0 where
   pub waits : (test : Wait → Bool) → ((x : Wait) → IsTrue (test x) → IsTrue (is_there r.objects x)) → filter test r.waits ≡ filter test ws
   pub made : r.waits_made ≡ count
+  pub asleep : KeepSleepers old r
 
 -- nothing new is there, and waits have ended with their objects and ports alone
 pub record KeepsListed (r r2 : Objects) : Type 0 where
   pub shrinks : (k : ℕ) → IsTrue (has_key r2.objects k) → IsTrue (has_key r.objects k)
-  pub listed : ListsBut r.waits r.waits_made r2
+  pub listed : ListsBut r.waits r.waits_made r r2
 
 -- ---- waits that end or fire
 
@@ -45,13 +48,16 @@ pub record EndsWaits (test : Wait → Bool) (r r2 : Objects) : Type 0 where
   pub beside : AreBeside r r2
   pub waits : r2.waits ≡ filter (λ x. not (test x)) r.waits
   pub made : r2.waits_made ≡ r.waits_made
+  pub asleep : KeepSleepers r r2
 
 -- of the waits those are left whose handle, object and port are, and all else is as it was
 pub record EndsUnheld (ps : List Process) (r r2 : Objects) : Type 0 where
   pub world : (blocked : List ℕ) → world_blocked ps r2 blocked ≡ world_left ps r blocked
   pub consistent : IsConsistent ps r2
+  pub asleep : KeepSleepers r r2
 
 -- each wait that holds has given its packet and is gone, whichever processes block
 pub record FiresWaits (ps : List Process) (r r2 : Objects) : Type 0 where
   pub world : (blocked : List ℕ) → world_blocked ps r2 blocked ≡ fired (world_blocked ps r blocked)
   pub consistent : IsConsistent ps r2
+  pub asleep : KeepSleepers r r2

@@ -8,8 +8,8 @@ use Rattle.zl_code.specs.declared.history.ProcState.TheVariants as seen
 use Rattle.zl_code.specs.declared.instr.CallInstr.{CallInstr}
 use Rattle.zl_rights.specs.World.{Awaited as AwaitedValue, SignalOf, PacketAt}
 use Rattle.zl_interp.specs.Common.{call_in}
-use Rattle.zl_calls.specs.declared.process.Awaited.{Awaited}
-use Rattle.zl_calls.specs.declared.process.Awaited.TheVariants as awaits
+use Rattle.zl_objects.specs.declared.awaited.Awaited.{Awaited}
+use Rattle.zl_objects.specs.declared.awaited.Awaited.TheVariants as awaits
 use Rattle.zl_calls.specs.declared.process.State.{State}
 use Rattle.zl_calls.specs.declared.process.State.TheVariants as state
 use Rattle.zl_calls.specs.declared.process.Process.{Process}
@@ -36,6 +36,11 @@ packet_registers registers =
 abbrev pub awaited_value : Awaited → AwaitedValue
 awaited_value (awaits.SignalOf koid mask) = SignalOf koid mask
 awaited_value (awaits.PacketAt port) = PacketAt port
+
+-- the same, as the objects know it
+abbrev pub awaited_of : AwaitedValue → Awaited
+awaited_of (SignalOf koid mask) = awaits.SignalOf koid mask
+awaited_of (PacketAt port) = awaits.PacketAt port
 
 -- the registers of its answer, of those of its wait
 abbrev pub destinations_in : Awaited → List ℕ → List ℕ

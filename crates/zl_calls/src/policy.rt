@@ -72,7 +72,8 @@ pub fn by_policy<const TESTED: bool>(
     }
 }
 
-/// How the policy of the process's job ends the call, if it does; it doesn't where that isn't tested.
+/// How the policy of the process's job ends the call, if it does; it doesn't where that isn't
+/// tested.
 #[inline(always)]
 fn judge<const TESTED: bool>(
     process: &Process,

@@ -3,6 +3,7 @@ ghost use Rattle.zl_rights.specs.Signals.{is_ready, lives};
 ghost use Rattle.zl_rights.specs.Wakes.{packet_values};
 ghost use Rattle.zl_code.specs.Sound.{is_blocked};
 ghost use Rattle.zl_code.specs.Starting.{is_created};
+ghost use Rattle.zl_calls.specs.Blocking.{awaited_in};
 ghost use Rattle.zl_calls.specs.World.{packet_registers, seen_in, signal_registers, state_value};
 ghost use Rattle.zl_code.specs.Common.{answered};
 ghost use Rattle.zl_rights.specs.Numbers.{status_magnitude};
@@ -14,21 +15,13 @@ use bitflags::Flags;
 use std::alloc::Global;
 use zl_code::{InstrBytes, Outcome, ProcState, Register};
 use zl_interp::Cpu;
+use zl_objects::Awaited;
 use zl_port::Packet;
-use zl_rights::{HValue, Koid, Pid, Signals, Status};
+use zl_rights::{HValue, Pid, Signals, Status};
 use zl_table::Table;
 
 /// The registers of a call.
 pub type Registers = [Register; InstrBytes::REGISTERS];
-
-/// What a blocked process waits for.
-#[derive(Clone, Copy)]
-pub enum Awaited {
-    /// A signal of the mask at the object.
-    SignalOf { koid: Koid, mask: u64 },
-    /// A packet at the port.
-    PacketAt(Koid),
-}
 
 /// What a process is in. Those that are made at boot are ready at once.
 #[derive(Clone, Copy)]
@@ -90,6 +83,16 @@ impl Process {
         ensures { result ≡ is_created (state_value self.now.state) }
     {
         matches!(self.state, State::Created)
+    }
+
+    /// What it waits for, if it is blocked.
+    pub fn awaited(&self) -> Option<Awaited>
+        ensures { result ≡ awaited_in (state_value self.now.state) }
+    {
+        match self.state {
+            State::Blocked { awaited, .. } => Some(awaited),
+            State::Created | State::Ready | State::Ended(_) | State::Gone => None,
+        }
     }
 
     /// Whether it waits within a call.

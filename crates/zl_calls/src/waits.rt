@@ -66,8 +66,8 @@ fn end_unheld(processes: &Processes, objects: &mut Objects)
     }
 }
 
-/// The waits end whose handle, object or port is gone: none behind a step that took no handle. It takes
-/// no memory.
+/// The waits end whose handle, object or port is gone: none behind a step that took no handle. It
+/// takes no memory.
 #[inline(always)]
 pub fn end_behind(item: &TraceItem, processes: &Processes, objects: &mut Objects)
     requires consistent { IsConsistent processes.now.list.items objects.old }

@@ -11,18 +11,19 @@ ghost use Rattle.zl_objects.specs.Ports.{changing_port, packets_in};
 ghost use Rattle.zl_objects.specs.Signals.{signals_at};
 ghost use Rattle.zl_port.specs.Packets.{without_front};
 ghost use Rattle.zl_calls.specs.Blocked.{AreBlocked};
-ghost use Rattle.zl_calls.specs.Blocking.{then_blocked};
+ghost use Rattle.zl_objects.specs.Awaited.{KeepSleepers};
+ghost use Rattle.zl_calls.specs.Blocking.{FallsAsleep, awaited_by, tells_asleep, then_blocked};
 ghost use Rattle.zl_calls.specs.Consistent.{IsConsistent};
 ghost use Rattle.zl_calls.specs.Waking.{WakesOne, awake, awake_in, given_awake, seen_active, without_taken};
 ghost use Rattle.zl_rights.specs.World.{Process as ProcessValue};
 ghost use Rattle.zl_calls.specs.Calling.{world_in};
 ghost use Rattle.zl_calls.specs.World.{packet_registers, process_entry, signal_registers, state_value};
 
-use crate::process::{Awaited, Process, Registers, State};
+use crate::process::{Process, Registers, State};
 use crate::processes::Processes;
 use bitflags::Flags;
 use zl_code::{Outcome, TraceItem};
-use zl_objects::Objects;
+use zl_objects::{Awaited, Objects};
 use zl_rights::{Koid, Pid};
 
 /// The process becomes the last of the blocked, if the item tells of a call that blocked.
@@ -40,6 +41,37 @@ pub fn add_blocked(blocked: &mut Vec<Pid>, pid: Pid, item: &TraceItem)
     }
 }
 
+/// The objects know what the process waits for, if the item tells of a call that blocked. It takes
+/// no memory.
+pub fn fall_asleep(processes: &Processes, objects: &mut Objects, pid: Pid, item: &TraceItem)
+    ensures { FallsAsleep processes.now.list.items pid item.now objects.old objects.new }
+{
+    if !tells_asleep(item) {
+        return;
+    }
+    if let Some(awaited) = awaited_by(processes, pid) {
+        objects.sleep(pid, awaited);
+    }
+}
+
+/// Whether the item tells of a call that blocked.
+fn tells_asleep(item: &TraceItem) -> bool
+    ensures { result ≡ tells_asleep item.now }
+{
+    match item {
+        TraceItem::Call { outcome, .. } => matches!(outcome, Outcome::Blocked),
+        TraceItem::Run { .. } | TraceItem::Stuck { .. } => false,
+    }
+}
+
+/// What the process waits for, if it is blocked.
+fn awaited_by(processes: &Processes, pid: Pid) -> Option<Awaited>
+    ensures { result ≡ awaited_by (get (map process_entry processes.now.list.items) pid) }
+{
+    let place = processes.place_of(pid)?;
+    processes.list[place].awaited()
+}
+
 /// Each blocked process in turn, the longest blocked first: where what it waits for is there, it
 /// gets its answer and leaves the list. It takes no memory.
 #[inline(always)]
@@ -52,6 +84,7 @@ pub fn wake(processes: &mut Processes, objects: &mut Objects, blocked: &mut Vec<
     ensures list { AreBlocked processes.new.list.items blocked.new.items }
     ensures count { length processes.new.list.items ≡ length processes.old.list.items }
     ensures capacity { vec_capacity blocked.new ≡ vec_capacity blocked.old }
+    ensures asleep { KeepSleepers objects.old objects.new }
 {
     let mut place = 0;
     while place < blocked.len() {
@@ -69,8 +102,9 @@ fn wake_one(processes: &mut Processes, objects: &mut Objects, pid: Pid) -> bool
     requires counter { (p : ProcessValue)
         → get (map process_entry processes.old.list.items) pid ≡ Some p
         → p.cpu.counter < 2 ^ 32 }
-    ensures { WakesOne pid result
+    ensures wakes { WakesOne pid result
         processes.old.list.items objects.old processes.new.list.items objects.new }
+    ensures asleep { KeepSleepers objects.old objects.new }
 {
     match processes.place_of(pid) {
         Some(place) => wake_process(&mut processes.list[place], objects),

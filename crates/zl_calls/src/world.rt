@@ -17,7 +17,7 @@ use crate::booting::{Made, booted};
 use crate::processes::Processes;
 use crate::stepping::{act_for, is_local, next_name};
 use crate::waits::{end_behind, fire_waits};
-use crate::waking::{add_blocked, wake};
+use crate::waking::{add_blocked, fall_asleep, wake};
 use std::alloc::{AllocError, Global};
 use std::marker::Model;
 use zl_code::{Boot, BootCause, BootFault, CallName, Image, Outcome, ProcState, TraceItem};
@@ -191,8 +191,8 @@ impl World {
     /// Does the next instruction of the process, if the process is ready: the system call at which it
     /// is, as `perform` does, or a local one, as `local` does. Behind a call registered waits end with
     /// their handles, those that hold fire in the order of registration, and blocked processes wake in
-    /// the order in which they blocked; behind a local instruction there are none. It looks the process
-    /// up once.
+    /// the order in which they blocked; behind a local instruction, and where nothing waits at an
+    /// object that the call touched, there are none.
     ///
     /// Nothing where the process isn't ready, or there is none of this koid.
     /// Source: that of `perform` and `local`.
@@ -216,8 +216,13 @@ impl World {
         }
         add_blocked(&mut self.blocked, pid, &item);
         end_behind(&item, &self.processes, &mut self.objects);
+        fall_asleep(&self.processes, &mut self.objects, pid, &item);
+        if self.objects.is_quiet() {
+            return Some(item);
+        }
         fire_waits(&self.processes, &mut self.objects);
         wake(&mut self.processes, &mut self.objects, &mut self.blocked);
+        self.objects.calm();
         Some(item)
     }
 

@@ -343,15 +343,31 @@ module _ (p q : ℕ) (apart : (p == q) ≡ false) (lib : Library) (w : World) (x
     act_made (AtCall call s) item w2 (o, e, c) = call_made s c.0 (refusal lib w p s.request) o w2 refl c.1
     act_made IsStuck item w2 a = rw a.1 (same_made _ (ended_other p q apart w _))
 
+-- before waits fire and processes wake
+settled_made : (lib : Library) (w : World) (p : ℕ) (item : TraceItem) (caller : Process) (acted settled : World) → IsSound w → get w.processes p ≡ Some caller
+    → caller.state ≡ Ready → Acts lib w p (next_for lib caller) item acted → Settles acted settled → (q : ℕ) (x : Process)
+    → (p == q) ≡ false → get w.processes q ≡ Some x → IsTrue (lives x.state) → Made q x settled
+settled_made lib w p item caller acted settled sound at ready acts settles q x apart there alive =
+    let below : q < w.next_koid = sound.processes q (ap is_some there) in
+    let a = act_made p q apart lib w x there (ne_eqb w.next_koid q (λ e. omega (arith, e, below))) caller at ready alive (next_for lib caller) item acted
+    acts in
+    let b = settled_becomes q a.process acted settled settles a.there in
+    record { process = b.process; there = b.there; made = made_later x a.process b.process a.made b.made }
+
 step_made : (lib : Library) (w : World) (p : ℕ) (item : TraceItem) (after : World) → IsSound w → Step lib w p item after → (q : ℕ) (x : Process)
     → (p == q) ≡ false → get w.processes q ≡ Some x → IsTrue (lives x.state) → Made q x after
 step_made lib w p item after sound step q x apart there alive =
-    let below : q < w.next_koid = sound.processes q (ap is_some there) in
-    let a = act_made p q apart lib w x there (ne_eqb w.next_koid q (λ e. omega (arith, e, below))) step.process step.is_there step.is_ready alive
-    (next_for lib step.process) item step.acted step.acts in
-    let b = becomes_then q a.process step.settled _ (settled_becomes q a.process step.acted step.settled step.settles a.there)
-    (λ y at. waking_becomes q y step.settled at) in
+    let a = settled_made lib w p item step.process step.acted step.settled sound step.is_there step.is_ready step.acts step.settles q x apart there alive in
+    let b = waking_becomes q a.process step.settled a.there in
     rw step.ends_awake (record { process = b.process; there = b.there; made = made_later x a.process b.process a.made b.made })
+
+-- what the act of p and settling leave of another process that lives
+pub act_leaves_others : (lib : Library) (w : World) (p : ℕ) (item : TraceItem) (caller : Process) (acted settled : World) → IsSound w
+    → get w.processes p ≡ Some caller
+    → caller.state ≡ Ready → Acts lib w p (next_for lib caller) item acted → Settles acted settled → (q : ℕ) (x : Process)
+    → (p == q) ≡ false → get w.processes q ≡ Some x → IsTrue (lives x.state) → (y : Process) × (get settled.processes q ≡ Some y) × OthersMake x y
+act_leaves_others lib w p item caller acted settled sound at ready acts settles q x apart there alive =
+    let a = settled_made lib w p item caller acted settled sound at ready acts settles q x apart there alive in (a.process, a.there, a.made)
 
 -- ---- what their tables name
 

@@ -38,8 +38,8 @@ pub fn call_at<const TESTED: bool>(program: &Program, cpu: &Cpu) -> Option<CallI
     }
 }
 
-/// Whether the range of memory that the call names is there; most calls name none. It is there where
-/// that isn't tested.
+/// Whether the range of memory that the call names is there; most calls name none. It is there
+/// where that isn't tested.
 fn has_its_memory<const TESTED: bool>(call: &CallInstr, cpu: &Cpu) -> bool
     requires sure { TESTED ≡ false
         → has_its_memory (call_row call.now.name).ending call.now cpu.now ≡ true }

@@ -84,11 +84,12 @@ filter_within test p within (x ∷ xs) = elim (cases_Bool (p x)) as (λ _. filte
   ]
 ]
 
--- the same signals and waits as before
+-- the same signals and waits as before, and as much slept at
 record IsStill (m : Map Object) (k : ℕ) (o : Object) : Type 0 where
   before : Object
   there : get m k ≡ Some before
   same : o.signals ≡ before.signals
+  slept : o.slept ≡ before.slept
 
 update_still : (m : Map Object) (p k : ℕ) (o : Object) → get (update m p (at_port without_place)) k ≡ Some o → IsStill m k o
 update_still m p k o at =
@@ -98,14 +99,16 @@ update_still m p k o at =
       there = c.there;
       same = ap (λ (x : Object). x.signals) c.is
           ∙ elim (p == k) as (λ b. (if b then at_port without_place c.before else c.before).signals ≡ c.before.signals) [ true ↦ refl | false ↦ refl ];
+      slept = ap (λ (x : Object). x.slept) c.is
+          ∙ elim (p == k) as (λ b. (if b then at_port without_place c.before else c.before).slept ≡ c.before.slept) [ true ↦ refl | false ↦ refl ];
     }
 
 giving_still : (xs : List Watch) (m : Map Object) (k : ℕ) (o : Object) → get (giving_back xs m) k ≡ Some o → IsStill m k o
-giving_still [] m k o at = record { before = o; there = at; same = refl }
+giving_still [] m k o at = record { before = o; there = at; same = refl; slept = refl }
 giving_still (x ∷ xs) m k o at =
     let later : IsStill (update m x.port (at_port without_place)) k o = giving_still xs (update m x.port (at_port without_place)) k o at in
     let first : IsStill m k later.before = update_still m x.port k later.before later.there in
-    record { before = first.before; there = first.there; same = later.same ∙ first.same }
+    record { before = first.before; there = first.there; same = later.same ∙ first.same; slept = later.slept ∙ first.slept }
 
 -- a wait at a port that is there doesn't end with k
 module _ (m m2 : Map Object) (k : ℕ) (gone : has_key m2 k ≡ false) where
@@ -127,11 +130,12 @@ module _ (m m2 : Map Object) (k : ℕ) (gone : has_key m2 k ≡ false) where
         waits = λ test left.
             ap (λ (x : Object). filter test x.signals.waits) (sym (same_Some (without_port_waits k q) o read))
             ∙ filter_within test (λ x. not (is_at_port k x)) (apart test left) q.signals.waits;
+        slept = ap (λ (x : Object). x.slept) (sym (same_Some (without_port_waits k q) o read));
       }
 
       by_test : (b : Bool) → get (if b then each (λ i. without_port_waits k) m else m) j ≡ Some o → Thins m m2 j o
       by_test true read = by_object (get m j) refl (sym (get-each m (λ i. without_port_waits k) j) ∙ read)
-      by_test false read = record { before = o; there = read; waits = λ test left. refl }
+      by_test false read = record { before = o; there = read; waits = λ test left. refl; slept = refl }
 
 -- where k has gone, the waits of the others are left whose port isn't k
 pub ending_thins : (m : Map Object) (k : ℕ) (gone : Object) (j : ℕ) (o : Object) → has_key (ending_waits k gone (without m k)) k ≡ false
@@ -145,6 +149,7 @@ ending_thins m k gone j o out at =
       before = first.before;
       there = (found_left m k j first.before first.there).1;
       waits = λ test left. later.waits test left ∙ ap (λ s. filter test s.waits) first.same;
+      slept = later.slept ∙ first.slept;
     }
 
 -- ---- their places

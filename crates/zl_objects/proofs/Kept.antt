@@ -1,5 +1,6 @@
 -- The invariant of the objects and of the list of all waits, after each change.
-use Rattle.zl_rights.proofs.Common.{◌≡◌, ◌<◌, ◌≤◌, ◌+◌, ◌==◌, ◌&&◌, ℕ, Bool, false, List, [], ◌∷◌, ◌++◌, length, refl, ap, ◌∙◌, Option, Some, None, IsTrue}
+use Rattle.zl_rights.proofs.Common.{◌≡◌, ◌<◌, ◌≤◌, ◌+◌, ◌==◌, ◌&&◌, ℕ, Bool, false, List, [], ◌∷◌, ◌++◌, length, refl, sym, arith, ap, ◌∙◌, Option, Some}
+use Rattle.zl_rights.proofs.Common.{None, IsTrue}
 use Rattle.zl_rights.proofs.Common.{filter, find, nat_cmp, Map, get, update, has_key}
 use Rattle.std.specs.Prelude.{◌-◌, ◌↔◌, IfNone, IfSome, IsSome, Result, OnOk, OnErr}
 use Rattle.std.specs.Map.{lookup, set_value}
@@ -12,7 +13,8 @@ use Rattle.zl_port.specs.Packets.{Port, with_place}
 use Rattle.zl_objects.specs.declared.object.Pair.{Pair}
 use Rattle.zl_objects.specs.declared.object.Object.{Object}
 use Rattle.zl_objects.specs.declared.wait.Wait.{Wait}
-use Rattle.zl_objects.specs.Objects.{held_once_more, is_end_at, is_end_body, raised_changed, sent, received, stopped}
+use Rattle.zl_objects.specs.Objects.{held_once_less, held_once_more, is_end_at, is_end_body, raised_changed, sent, received, stopped}
+use Rattle.zl_objects.specs.Calm.{slept}
 use Rattle.zl_objects.specs.Dying.{IsKept, Thins}
 use Rattle.zl_objects.specs.Listed.{is_there, wait_value, watch_of}
 use Rattle.zl_objects.specs.Ports.{at_port, is_port_at, reserved_in, reserved_of}
@@ -22,8 +24,9 @@ use Rattle.zl_objects.proofs.Listed.{inserted_listed, left_listed, none_listed, 
 use Rattle.zl_objects.proofs.Listed.{watched_listed}
 use Rattle.zl_objects.proofs.Released.{waits_left, whole_left}
 use Rattle.zl_objects.proofs.Tasks.{killed_kept, started_kept}
-use Rattle.zl_objects.proofs.Whole.{below_first, changed_whole, pair_whole, end_of, gone_whole, inserted_whole, made_whole, more_quiet, more_whole}
-use Rattle.zl_objects.proofs.Whole.{none_out_whole, none_whole, popped_whole, port_or_same_whole, port_whole, received_whole, roomy_whole, sent_or_same_whole}
+use Rattle.zl_objects.proofs.Whole.{below_first, changed_whole, pair_whole, end_of, gone_whole, inserted_whole, made_whole, less_whole, more_quiet, more_whole}
+use Rattle.zl_objects.proofs.Whole.{none_out_whole, none_whole, popped_whole, port_or_same_whole, port_whole, received_whole, roomy_whole, slept_whole}
+use Rattle.zl_objects.proofs.Whole.{sent_or_same_whole}
 use Rattle.zl_objects.proofs.Whole.{stopped_whole, watched_whole}
 
 pub none_kept : (m : Map Object) (next room : ℕ) (d : List ℕ) (waits : List WaitValue) → m ≡ [] → d ≡ [] → waits ≡ [] → IsKept None m next d room waits
@@ -37,6 +40,19 @@ module _ {waits : List WaitValue} where
   more_kept m n next room k d kept is = record {
     whole = more_whole m n next room k d kept.whole is;
     listed = updated_listed held_once_more (λ o. ap (λ (s : SignalState). s.waits) (more_quiet o)) waits m n k kept.listed is;
+  }
+
+  pub less_kept : (m n : Map Object) (next room room2 k : ℕ) (d d2 : List ℕ) → IsKept None m next d room waits → n ≡ update m k held_once_less → d2 ≡ []
+      → room2 ≡ room → IsKept None n next d2 room2 waits
+  less_kept m n next room room2 k d d2 kept is none same = record {
+    whole = roomy_whole n n next room room2 d d2 (less_whole m n next room k d kept.whole is) refl (none ∙ sym kept.whole.none) (omega (arith, same));
+    listed = updated_listed held_once_less (λ o. refl) waits m n k kept.listed is;
+  }
+
+  pub slept_kept : (m n : Map Object) (next room k : ℕ) (d : List ℕ) → IsKept None m next d room waits → n ≡ update m k slept → IsKept None n next d room waits
+  slept_kept m n next room k d kept is = record {
+    whole = slept_whole m n next room k d kept.whole is;
+    listed = updated_listed slept (λ o. refl) waits m n k kept.listed is;
   }
 
   pub changed_kept : (m n : Map Object) (next room k clear set : ℕ) (d : List ℕ) → IsKept None m next d room waits → n ≡ update m k (raised_changed clear set)

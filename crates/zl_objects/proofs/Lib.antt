@@ -1,6 +1,9 @@
 pub mod Bare
 pub mod Bodies
 pub mod Budget
+pub mod Calm
+pub mod CalmChanges
+pub mod CalmMade
 pub mod ByKoid
 pub mod Climbing
 pub mod Ending

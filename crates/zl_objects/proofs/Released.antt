@@ -1,10 +1,11 @@
 -- What is left of the objects once handles have gone: each as it was, and the invariant holds.
-use Rattle.zl_rights.proofs.Common.{◌≡◌, ◌<◌, ◌≤◌, ℕ, true, false, sym, ◌||◌, ◌==◌, ◌⊎◌, List, [], ◌∷◌, ◌++◌, length, if◌then◌else◌, refl, ap, ◌∙◌, subst}
+use Rattle.zl_rights.proofs.Common.{◌≡◌, ◌<◌, ◌≤◌, ℕ, Bool, true, false, sym, ◌||◌, ◌==◌, ◌⊎◌, List, [], ◌∷◌, ◌++◌, length, if◌then◌else◌, refl, ap, ◌∙◌, subst}
 use Rattle.zl_rights.proofs.Common.{Option, Some, None, inl, inr, IsTrue, arith, cond, count_by, nat_tests, is_some, list_any, append-nil, append_assoc}
 use Rattle.zl_rights.proofs.Common.{same_Some, or_left, or_right, cases_Bool, false≢true, Map, get, has_key, update, without}
 use Rattle.std.proofs.lemmas.List.Sums.{count_by-le-length}
 use Rattle.zl_rights.specs.World.{Wait}
 use Rattle.zl_table.proofs.MapEdits.{is_sorted-update, length-update}
+use Rattle.zl_objects.specs.declared.awaited.Sleeper.{Sleeper}
 use Rattle.zl_objects.specs.declared.object.Body.{Body}
 use Rattle.zl_objects.specs.declared.object.Body.TheVariants as body
 use Rattle.zl_objects.specs.declared.object.Object.{Object}
@@ -134,10 +135,11 @@ whole_left ks m m2 next room room2 d d2 cascades places whole none same = record
 pub cascades_of : (ks : List ℕ) (m m2 : Map Object) (d d2 : List ℕ) → LetsGo ks m d m2 d2 → Cascades ks m m2
 cascades_of ks m m2 d d2 went = rw (append-nil ks) at (went.leads [] m2 (none_left m2))
 
-pub released : (ks loose : List ℕ) (m m2 : Map Object) (next made : ℕ) (waits waits2 : List Wait) (d d2 : List ℕ) → LetsGo ks m d m2 d2 → d ≡ loose → d2 ≡ []
-    → Releases ks loose (record { objects = m; next_koid = next; waits = waits; waits_made = made })
-    (record { objects = m2; next_koid = next; waits = waits2; waits_made = made })
-released ks loose m m2 next made waits waits2 d d2 went noted none = record {
+pub released : {sleepers : List Sleeper} {crowded : Bool} (ks loose : List ℕ) (m m2 : Map Object) (next made : ℕ) (waits waits2 : List Wait) (d d2 : List ℕ)
+    → LetsGo ks m d m2 d2 → d ≡ loose → d2 ≡ []
+    → Releases ks loose (record { objects = m; next_koid = next; waits = waits; waits_made = made; sleepers = sleepers; crowded = crowded })
+    (record { objects = m2; next_koid = next; waits = waits2; waits_made = made; sleepers = sleepers; crowded = crowded })
+released {sleepers} {crowded} ks loose m m2 next made waits waits2 d d2 went noted none = record {
   cascades = cascades_of ks m m2 d d2 went;
   keeps = λ others kept. rw (none, append-nil others) at (went.notes others (rw noted kept));
   koids = refl;
@@ -160,10 +162,10 @@ waits_left ks m m2 cascades have thins k o at =
 
 -- a process that has ended and then its job are looked at
 module _ (m m1 m2 : Map Object) (pid job : ℕ) (first : LetsGo [] m (pid ∷ []) m1 []) (second : LetsGo [] m1 (job ∷ []) m2 []) where
-  pub both_released : (next made : ℕ) (waits waits2 : List Wait)
-      → Releases [] (job ∷ pid ∷ []) (record { objects = m; next_koid = next; waits = waits; waits_made = made })
-      (record { objects = m2; next_koid = next; waits = waits2; waits_made = made })
-  both_released next made waits waits2 = record {
+  pub both_released : (sleepers : List Sleeper) (crowded : Bool) (next made : ℕ) (waits waits2 : List Wait)
+      → Releases [] (job ∷ pid ∷ []) (record { objects = m; next_koid = next; waits = waits; waits_made = made; sleepers = sleepers; crowded = crowded })
+      (record { objects = m2; next_koid = next; waits = waits2; waits_made = made; sleepers = sleepers; crowded = crowded })
+  both_released sleepers crowded next made waits waits2 = record {
     cascades = first.leads [] m2 (second.leads [] m2 (none_left m2));
     keeps = λ others kept. rw (append-nil others) at
         (second.notes others

@@ -21,9 +21,11 @@ use Rattle.zl_objects.specs.declared.object.Body.TheVariants as body
 use Rattle.zl_objects.specs.declared.object.Pair.{Pair}
 use Rattle.zl_objects.specs.declared.object.Pair.TheVariants as pair
 use Rattle.zl_objects.specs.declared.object.Object.{Object}
-use Rattle.zl_objects.specs.Objects.{end_to, held_once_more, is_end_at, is_end_in, is_end_body, kind_at, kind_in, kind_of_pair, peer_of, raised_changed}
+use Rattle.zl_objects.specs.Objects.{end_to, held_once_less, held_once_more, is_end_at, is_end_in, is_end_body, kind_at, kind_in, kind_of_pair, peer_of}
+use Rattle.zl_objects.specs.Objects.{raised_changed}
 use Rattle.zl_objects.specs.Objects.{received, received_body}
 use Rattle.zl_objects.specs.Objects.{sent, sent_body, stopped, stopped_body, new_object}
+use Rattle.zl_objects.specs.Calm.{slept}
 use Rattle.zl_objects.specs.Dying.{HasPeer, HasPeerOf, IsWhole}
 use Rattle.zl_objects.specs.Ports.{at_port, changed_port, is_port_at, reserved_in, reserved_of}
 use Rattle.zl_objects.specs.Waits.{HavePlaces, HavePlacesWith, waits_at, waits_for, waits_in, watched, unwatched}
@@ -88,6 +90,14 @@ more_quiet o =
 pub more_whole : (m n : Map Object) (next room k : ℕ) (d : List ℕ) → IsWhole None m next d room → n ≡ update m k held_once_more → IsWhole None n next d room
 more_whole =
     updated_whole held_once_more (λ o. ap kind_in (more_same o)) (λ o. ap peer_of (more_same o)) more_quiet (λ o. ap reserved_of (more_same o))
+
+-- one handle less
+pub less_whole : (m n : Map Object) (next room k : ℕ) (d : List ℕ) → IsWhole None m next d room → n ≡ update m k held_once_less → IsWhole None n next d room
+less_whole = updated_whole held_once_less (λ o. refl) (λ o. refl) (λ o. refl) (λ o. refl)
+
+-- a process may be blocked at it
+pub slept_whole : (m n : Map Object) (next room k : ℕ) (d : List ℕ) → IsWhole None m next d room → n ≡ update m k slept → IsWhole None n next d room
+slept_whole = updated_whole slept (λ o. refl) (λ o. refl) (λ o. refl) (λ o. refl)
 
 -- other signals
 pub changed_whole : (m n : Map Object) (next room k clear set : ℕ) (d : List ℕ) → IsWhole None m next d room → n ≡ update m k (raised_changed clear set)

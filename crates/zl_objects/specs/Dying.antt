@@ -38,11 +38,12 @@ is_named e = nat_lt 0 e.1.handles
 unfoldable pub budget : Map Object → List ℕ → ℕ
 budget m dying = length dying + count_by is_named m
 
--- of the waits at the object, those are left of which a test knows that their ports are left
+-- of the waits at the object, those are left of which a test knows that their ports are left, and processes were blocked at it as before
 pub record Thins (m m2 : Map Object) (k : ℕ) (o : Object) : Type 0 where
   pub before : Object
   pub there : get m k ≡ Some before
   pub waits : (test : Watch → Bool) → ((x : Watch) → IsTrue (test x) → IsTrue (has_key m2 x.port)) → filter test o.signals.waits ≡ filter test before.signals.waits
+  pub slept : o.slept ≡ before.slept
 
 -- handles to these koids went, what nothing keeps was noted, and waits ended with their ports alone
 pub record LetsGo (ks : List ℕ) (m : Map Object) (dying : List ℕ) (m2 : Map Object) (dying2 : List ℕ) : Type 0 where

@@ -9,3 +9,5 @@ pub mod Ports
 pub mod Waits
 pub mod Listed
 pub mod Asked
+pub mod Awaited
+pub mod Calm

@@ -9,6 +9,7 @@ use Rattle.zl_signals.specs.Waits.{wait_at, without_first}
 use Rattle.zl_port.specs.Packets.{with_place}
 use Rattle.zl_objects.specs.declared.object.Object.{Object}
 use Rattle.zl_objects.specs.declared.wait.Wait.{Wait}
+use Rattle.zl_objects.specs.Awaited.{KeepSleepers}
 use Rattle.zl_objects.specs.Objects.{Objects}
 use Rattle.zl_objects.specs.Ports.{at_port}
 use Rattle.zl_objects.specs.Waits.{waits_in, watched}
@@ -65,10 +66,11 @@ watching r x = record r {
 abbrev pub unlisting : (WaitValue → Bool) → Objects → Objects
 unlisting test r = record r { waits = without_first test r.waits }
 
--- of all waits those are left whose object and port are, in order
+-- of all waits those are left whose object and port are, in order, and who may be blocked is as before
 pub record LeavesListed (r r2 : Objects) : Type 0 where
   pub waits : r2.waits ≡ filter (is_there r2.objects) r.waits
   pub made : r2.waits_made ≡ r.waits_made
+  pub asleep : KeepSleepers r r2
 
 -- ---- what the list and the objects both say
 

@@ -8,6 +8,7 @@ use Rattle.zl_rights.specs.Map.{Map, get, update, has_key}
 use Rattle.zl_rights.specs.World.{Message, Wait}
 use Rattle.zl_jobs.specs.Jobs.{root_job}
 use Rattle.zl_signals.specs.Waits.{with_changed}
+use Rattle.zl_objects.specs.declared.awaited.Sleeper.{Sleeper}
 use Rattle.zl_objects.specs.declared.object.Body.{Body}
 use Rattle.zl_objects.specs.declared.object.Body.TheVariants as body
 use Rattle.zl_objects.specs.declared.object.Pair.{Pair}
@@ -16,12 +17,15 @@ use Rattle.zl_objects.specs.declared.object.Life.{Life}
 use Rattle.zl_objects.specs.declared.object.Life.TheVariants as life
 use Rattle.zl_objects.specs.declared.object.Object.{Object}
 
--- the objects by koid, the least koid that was not given yet, all registered waits, the earliest first, and how many ever were
+-- the objects by koid, the least koid that was not given yet, all registered waits, the earliest first, how many ever were, and
+-- which processes may be blocked, of which perhaps not all are listed
 pub record Objects : Type 0 where
   pub objects : Map Object
   pub next_koid : ℕ
   pub waits : List Wait
   pub waits_made : ℕ
+  pub sleepers : List Sleeper
+  pub crowded : Bool
 
 -- ---- koids
 
@@ -253,9 +257,9 @@ is_kept objects k o = nat_lt 0 o.handles || stays_alone objects k o.body
 
 -- ---- changes
 
--- an object with no signals raised and no waits, which so many handles name
+-- an object with no signals raised, at which nothing waits, and which so many handles name
 abbrev pub new_object : Body → ℕ → Object
-new_object body handles = record { body = body; signals = record { raised = 0; waits = [] }; handles = handles }
+new_object body handles = record { body = body; signals = record { raised = 0; waits = [] }; handles = handles; slept = false }
 
 -- the objects with a new one, which gets the next koid
 abbrev pub with_new : Objects → Body → ℕ → Objects
@@ -266,7 +270,14 @@ with_new r body handles = record r {
 
 -- the root job alone
 abbrev pub root_alone : Objects
-root_alone = record { objects = (1, new_object (body.Job root_job) 0) ∷ []; next_koid = 2; waits = []; waits_made = 0 }
+root_alone = record {
+  objects = (1, new_object (body.Job root_job) 0) ∷ [];
+  next_koid = 2;
+  waits = [];
+  waits_made = 0;
+  sleepers = [];
+  crowded = false;
+}
 
 -- the kind of each end
 abbrev pub kind_of_pair : Pair → Kind

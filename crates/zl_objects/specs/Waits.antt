@@ -1,5 +1,5 @@
 -- The waits that are registered at the objects, and what operations make of them.
-use Rattle.std.specs.Prelude.{ℕ, ◌≡◌, Bool, nat_lt, ◌+◌, cond, ◌==◌, List, [], ◌∷◌, Option, Some, None, if◌then◌else◌}
+use Rattle.std.specs.Prelude.{ℕ, ◌≡◌, Bool, false, nat_lt, ◌+◌, cond, ◌==◌, List, [], ◌∷◌, Option, Some, None, if◌then◌else◌}
 use Rattle.std.specs.List.{find, filter, count_by, sum_by}
 use Rattle.zl_rights.specs.Map.{Map, each, get, has_key, update}
 use Rattle.zl_rights.specs.World.{Packet}
@@ -100,9 +100,9 @@ ending_waits k o m = ending_port k (nat_lt 0 (reserved_of o.body)) (giving_back 
 
 -- ---- what is left
 
--- the object without its waits and reserved places
+-- the object without its waits and reserved places, at which no process was blocked
 abbrev pub bare : Object → Object
-bare o = record { body = unreserved o.body; signals = record { raised = o.signals.raised; waits = [] }; handles = o.handles }
+bare o = record { body = unreserved o.body; signals = record { raised = o.signals.raised; waits = [] }; handles = o.handles; slept = false }
 
 -- the objects are the same but for waits and reserved places
 abbrev pub AreSameButWaits : Map Object → Map Object → Type 0

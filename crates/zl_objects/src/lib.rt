@@ -12,17 +12,22 @@
 //! of its type is meant.
 #![tactic(auto)]
 
+mod awaited;
 mod jobs;
 mod killing;
 mod listing;
+mod marks;
 mod object;
 mod objects;
 mod ports;
+mod quiet;
 mod releasing;
 mod signals;
+mod sleepers;
 mod wait;
 mod waits;
 
+pub use awaited::{Awaited, Sleeper};
 pub use object::{Body, Life, Object, Pair};
 pub use objects::Objects;
 pub use wait::Wait;

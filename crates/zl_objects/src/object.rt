@@ -1,6 +1,7 @@
 //! One object.
 
 ghost use Rattle.std.specs.Prelude.{◌≡◌, ◌↔◌, IsTrue, IfErr, OnErr, OnOk, Err, Some, slice_get};
+ghost use Rattle.zl_objects.specs.Calm.{is_watched};
 ghost use Rattle.zl_objects.specs.Dying.{is_last};
 ghost use Rattle.zl_objects.specs.Objects.{has_place, held_once_more, held_once_less, is_alive, is_channel_body, is_running, end_to, job_of, kind_in, kind_of_pair, peer_of, queue_of, reader_of, raised_changed, received, sent, started, started_life, stopped};
 ghost use Rattle.zl_channel.specs.Queue.{front_handles, front_sizes, is_too_large, refused_message};
@@ -105,16 +106,25 @@ impl Pair {
     }
 }
 
-/// An object, with the signals that calls set and clear, the waits that are registered there, and the
-/// number of its handles.
+/// An object, with the signals that calls set and clear, the waits that are registered there, the
+/// number of its handles, and whether a process may be blocked there.
 #[derive(Drop)]
 pub struct Object {
     pub body: Body,
     pub signals: SignalState,
     pub handles: u64,
+    /// Whether a process may be blocked here.
+    pub slept: bool,
 }
 
 impl Object {
+    /// Whether a wait is registered here, or a process may be blocked here.
+    pub(crate) fn is_watched(&self) -> bool
+        ensures { result ≡ is_watched self.now }
+    {
+        self.slept || self.signals.has_waits()
+    }
+
     /// One handle more, if one may name the object. Says whether one may.
     pub(crate) fn hold_more(&mut self) -> bool
         ensures object { self.new ≡ held_once_more self.old }

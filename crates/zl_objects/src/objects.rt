@@ -11,8 +11,10 @@ ghost use Rattle.zl_objects.specs.Waits.{waits_in, HavePlaces, LeavesWaits};
 
 use crate::killing::kill_all;
 use crate::listing::keep_there;
+use crate::marks::Marks;
 use crate::object::{Body, Object, Pair};
 use crate::releasing::{let_go, remove_dying, remove_unkept, sweep};
+use crate::sleepers::Sleepers;
 use crate::wait::Wait;
 use std::alloc::{AllocError, Global};
 use std::collections::{BTreeMap, VecDeque};
@@ -36,12 +38,16 @@ pub struct Objects {
     pub(crate) waits: VecDeque<Wait>,
     // How many waits ever were registered.
     pub(crate) waits_made: u64,
+    // Who may be blocked.
+    pub(crate) sleepers: Sleepers,
+    // At all other objects nothing is due.
+    pub(crate) marks: Marks,
 }
 
 impl Model for Objects {
-    ghost use Rattle.std.specs.Prelude.{None, map, vec_capacity};
+    ghost use Rattle.std.specs.Prelude.{map, vec_capacity};
     ghost use Rattle.zl_objects.specs.Objects.{Objects as ObjectsValue};
-    ghost use Rattle.zl_objects.specs.Dying.{IsKept};
+    ghost use Rattle.zl_objects.specs.Calm.{IsSteady};
     ghost use Rattle.zl_objects.specs.Listed.{wait_value};
 
     ghost Value = { ObjectsValue };
@@ -51,11 +57,13 @@ impl Model for Objects {
       next_koid = o.next_koid;
       waits = map wait_value o.waits.items;
       waits_made = o.waits_made;
+      sleepers = o.sleepers.list.items;
+      crowded = o.sleepers.crowded;
     } };
 
     ghost invariant = { λ o.
-        IsKept None o.by_koid.entries o.next_koid o.dying.items (vec_capacity o.dying)
-        (map wait_value o.waits.items) };
+        IsSteady o.marks o.by_koid.entries o.next_koid o.dying.items (vec_capacity o.dying)
+        (map wait_value o.waits.items) o.sleepers.list.items };
 }
 
 #[tactic(auto, using(crate::proofs::ByKoid::by_koid, crate::proofs::Kept::kept))]
@@ -76,6 +84,8 @@ impl Objects {
             dying: Vec::new(alloc),
             waits: VecDeque::new(alloc),
             waits_made: 0,
+            sleepers: Sleepers::new(alloc)?,
+            marks: Marks::new(alloc)?,
         };
         objects.create(Body::Job(Job::root()), 0)?;
         Ok(objects)
@@ -128,6 +138,7 @@ impl Objects {
                 body,
                 signals: SignalState::new(alloc),
                 handles,
+                slept: false,
             },
         )?;
         self.next_koid = koid + 1;
@@ -166,17 +177,20 @@ impl Objects {
 
     /// Takes the newest object back, with its koid, as if it had not been made. The koid has to be
     /// the one given last, and that of no end of a channel or of an event pair; no wait may be
-    /// registered at it, and at a port no place be reserved.
+    /// registered at it, no process have been blocked there, and at a port no place be reserved.
     pub fn take_back(&mut self, koid: Koid)
         requires newest { self.old.next_koid ≡ koid + 1 }
         requires there { IsTrue (has_key self.old.objects koid) }
         requires alone { is_end_at self.old.objects koid ≡ false }
         requires unreserved { reserved_in (get self.old.objects koid) ≡ 0 }
         requires unwatched { waits_in (get self.old.objects koid) ≡ [] }
+        requires unslept { IfSome (get self.old.objects koid) (λ object. object.slept ≡ false) }
         ensures { self.new ≡ without_newest self.old koid }
     {
         self.by_koid.pop_last();
         self.next_koid = koid;
+        // What its job had before is active there again.
+        self.marks.add_all();
     }
 
     /// What new objects take their memory from.
@@ -241,6 +255,7 @@ impl Objects {
             return;
         };
         object.change(clear, set);
+        self.marks.add_if(object.is_watched(), koid);
     }
 
     /// The other end of the channel or of the event pair whose end it is, while it is an object.
@@ -290,7 +305,9 @@ impl Objects {
         let Some(end) = self.by_koid.get_mut(&koid) else {
             return Ok(());
         };
-        end.send(message)
+        let sent = end.send(message);
+        self.marks.add_if(end.is_watched(), koid);
+        sent
     }
 
     /// Takes the first message that is to be read at the end, with its handles. No count of handles
@@ -338,6 +355,10 @@ impl Objects {
         ensures listed { LeavesListed self.old self.new }
     {
         let_go(&mut self.by_koid, &mut self.dying, koid);
+        if self.dying.is_empty() {
+            return;
+        }
+        self.marks.add_all();
         remove_dying(&mut self.by_koid, &mut self.dying);
         keep_there(&mut self.waits, &self.by_koid);
     }
@@ -353,6 +374,7 @@ impl Objects {
     {
         remove_unkept(&mut self.by_koid, &mut self.dying, koid);
         keep_there(&mut self.waits, &self.by_koid);
+        self.marks.add_all();
     }
 
     /// The process has ended, and what isn't held any more goes, with the waits as in `release`. It
@@ -369,6 +391,7 @@ impl Objects {
             remove_unkept(&mut self.by_koid, &mut self.dying, pid);
             remove_unkept(&mut self.by_koid, &mut self.dying, job);
             keep_there(&mut self.waits, &self.by_koid);
+            self.marks.add_all();
         }
     }
 
@@ -388,6 +411,7 @@ impl Objects {
         ensures listed { LeavesListed self.old self.new }
     {
         self.mark_killed(task);
+        self.marks.add_all();
         sweep(&mut self.by_koid, &mut self.dying, self.next_koid);
         keep_there(&mut self.waits, &self.by_koid);
     }
@@ -397,6 +421,7 @@ impl Objects {
         ensures { self.new ≡ killing self.old task }
     {
         kill_all(&mut self.by_koid, task, self.next_koid);
+        self.marks.add_all();
     }
 
     /// The process is started, if it was made and not started yet.
@@ -419,6 +444,7 @@ impl Objects {
             return;
         };
         object.stop();
+        self.marks.add_all();
     }
 }
 
@@ -438,5 +464,6 @@ fn new_end(alloc: Global, pair: Pair, peer: Koid, handles: u64) -> Object
         body: pair.end_to(alloc, peer),
         signals: SignalState::new(alloc),
         handles,
+        slept: false,
     }
 }

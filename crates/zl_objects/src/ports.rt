@@ -1,6 +1,7 @@
 //! Ports: their packets, and the places that are reserved for the packets of waits.
 
-ghost use Rattle.std.specs.Prelude.{◌≡◌, ◌↔◌, ◌≤◌, Err, IsTrue, OnErr, OnOk, Some, filter, length, nat_lt, slice_get};
+ghost use Rattle.std.specs.Prelude.{◌≡◌, ◌↔◌, ◌≤◌, Err, IsTrue, OnErr, OnOk, Some, filter, length, nat_lt, not, slice_get};
+ghost use Rattle.zl_rights.specs.Signals.{is_empty};
 ghost use Rattle.zl_rights.specs.Map.{get};
 ghost use Rattle.zl_port.specs.Packets.{MOST_USER_PACKETS, is_from, user_count, user_packet, with_packet, with_place, without_front, without_packets, without_place};
 ghost use Rattle.zl_objects.specs.Ports.{at_port, changing_port, has_place_body, is_port_at, new_port, packets_in, packets_of, reserved_of};
@@ -80,6 +81,16 @@ impl Object {
 }
 
 impl Body {
+    /// Whether a packet is there, at a port.
+    pub(crate) fn has_packet(&self) -> bool
+        ensures { result ≡ not (is_empty (packets_of self.now)) }
+    {
+        match self {
+            Body::Port(port) => port.has_packet(),
+            _ => false,
+        }
+    }
+
     /// Whether a place is reserved, at a port.
     pub(crate) fn has_reserved(&self) -> bool
         ensures { result ≡ nat_lt 0 (reserved_of self.now) }
@@ -128,7 +139,9 @@ impl Objects {
         let Some(object) = self.by_koid.get_mut(&koid) else {
             return Ok(());
         };
-        object.queue_user(key, value)
+        let queued = object.queue_user(key, value);
+        self.marks.add_if(object.is_watched(), koid);
+        queued
     }
 
     /// Takes the first packet out of the port, or nothing where there is none, or it is no port. It

@@ -37,6 +37,7 @@ pub fn let_go(by_koid: &mut BTreeMap<Koid, Object>, dying: &mut Vec<Koid>, koid:
     requires fits { budget by_koid.old.entries dying.old.items ≤ vec_capacity dying.old }
     ensures goes { LetsGo (koid ∷ [])
         by_koid.old.entries dying.old.items by_koid.new.entries dying.new.items }
+    ensures objects { by_koid.new.entries ≡ update by_koid.old.entries koid held_once_less }
     ensures capacity { vec_capacity dying.new ≡ vec_capacity dying.old }
 {
     if hold_less(by_koid, koid) {

@@ -5,9 +5,10 @@ ghost use Rattle.zl_rights.specs.Signals.{signal_if};
 ghost use Rattle.zl_objects.specs.Signals.{implied, signals_at, AreActive};
 
 use crate::jobs::{has_job_below, has_process_below};
-use crate::object::Body;
+use crate::object::{Body, Object};
 use crate::objects::Objects;
 use bitflags::Flags;
+use std::collections::BTreeMap;
 use zl_rights::{Koid, Signals};
 
 #[tactic(auto, using(crate::proofs::ByKoid::by_koid))]
@@ -24,45 +25,49 @@ impl Objects {
         ensures signals { result.0 ≡ signals_at self.now.objects koid }
         ensures active { AreActive self.now.objects koid result.0 }
     {
-        match self.by_koid.get(&koid) {
-            Some(object) => object
-                .signals
-                .raised()
-                .union(self.implied(koid, &object.body)),
-            None => Signals::empty(),
-        }
+        signals_at(&self.by_koid, koid)
     }
+}
 
-    /// The signals that follow from the objects.
-    fn implied(&self, koid: Koid, body: &Body) -> Signals
-        ensures { result.0 ≡ implied self.now.objects koid body.now }
-    {
-        match body {
-            Body::Job(job) => {
-                let terminated = signal_if(Signals::TERMINATED, job.is_killed());
-                let no_jobs = signal_if(Signals::NO_JOBS, !has_job_below(&self.by_koid, koid));
-                let no_processes = signal_if(
-                    Signals::NO_PROCESSES,
-                    !has_process_below(&self.by_koid, koid),
-                );
-                terminated.union(no_jobs.union(no_processes))
-            }
-            Body::Process { life, .. } => signal_if(Signals::TERMINATED, !life.is_alive()),
-            Body::Event | Body::Port(_) => Signals::empty(),
-            Body::PairEnd { peer } => {
-                signal_if(Signals::PEER_CLOSED, !self.by_koid.contains_key(peer))
-            }
-            Body::ChannelEnd { peer, queue } => {
-                let readable = if queue.is_empty() {
-                    Signals::empty()
-                } else {
-                    Signals::READABLE
-                };
-                if self.by_koid.contains_key(peer) {
-                    readable.union(Signals::WRITABLE)
-                } else {
-                    readable.union(Signals::PEER_CLOSED)
-                }
+/// The signals that are active at the object, none where it isn't there.
+#[tactic(auto, using(crate::proofs::ByKoid::by_koid))]
+pub fn signals_at(by_koid: &BTreeMap<Koid, Object>, koid: Koid) -> Signals
+    ensures { result.0 ≡ signals_at by_koid.now.entries koid }
+{
+    match by_koid.get(&koid) {
+        Some(object) => object
+            .signals
+            .raised()
+            .union(implied(by_koid, koid, &object.body)),
+        None => Signals::empty(),
+    }
+}
+
+/// The signals that follow from the objects.
+#[tactic(auto, using(crate::proofs::ByKoid::by_koid))]
+fn implied(by_koid: &BTreeMap<Koid, Object>, koid: Koid, body: &Body) -> Signals
+    ensures { result.0 ≡ implied by_koid.now.entries koid body.now }
+{
+    match body {
+        Body::Job(job) => {
+            let terminated = signal_if(Signals::TERMINATED, job.is_killed());
+            let no_jobs = signal_if(Signals::NO_JOBS, !has_job_below(by_koid, koid));
+            let no_processes = signal_if(Signals::NO_PROCESSES, !has_process_below(by_koid, koid));
+            terminated.union(no_jobs.union(no_processes))
+        }
+        Body::Process { life, .. } => signal_if(Signals::TERMINATED, !life.is_alive()),
+        Body::Event | Body::Port(_) => Signals::empty(),
+        Body::PairEnd { peer } => { signal_if(Signals::PEER_CLOSED, !by_koid.contains_key(peer)) }
+        Body::ChannelEnd { peer, queue } => {
+            let readable = if queue.is_empty() {
+                Signals::empty()
+            } else {
+                Signals::READABLE
+            };
+            if by_koid.contains_key(peer) {
+                readable.union(Signals::WRITABLE)
+            } else {
+                readable.union(Signals::PEER_CLOSED)
             }
         }
     }

@@ -5,6 +5,7 @@ ghost use Rattle.std.specs.List.{find};
 ghost use Rattle.zl_rights.specs.Map.{get, has_key, update};
 ghost use Rattle.zl_port.specs.Packets.{with_packet, with_place, without_place};
 ghost use Rattle.zl_signals.specs.Waits.{holds, is_at_port, is_by_handle, is_keyed, wait_at};
+ghost use Rattle.zl_objects.specs.Calm.{is_watched_in};
 ghost use Rattle.zl_objects.specs.Ports.{at_port, has_place_in, is_port_at};
 ghost use Rattle.zl_objects.specs.Listed.{holds_at, is_given_from, is_keyed_at, is_made_at, may_register, unlisting, watch_of, watching};
 ghost use Rattle.zl_objects.specs.Waits.{firing, next_in, packet_of, unwatched, unwatching, waits_in, watched, without_port_waits};
@@ -102,6 +103,8 @@ impl Objects {
             return Err(AllocError);
         }
         self.waits_made += 1;
+        // A signal that is active already counts too.
+        self.marks.add_if(true, wait.object);
         Ok(())
     }
 
@@ -185,6 +188,8 @@ impl Objects {
         unlist(&mut self.waits, Asked::Holding(koid, active));
         let wait = take_holding(&mut self.by_koid, koid, active)?;
         queue_signal(&mut self.by_koid, wait.port, packet_of(koid, active, &wait));
+        self.marks
+            .add_if(is_watched(&self.by_koid, wait.port), wait.port);
         Some(wait)
     }
 }
@@ -258,6 +263,17 @@ fn queue_signal(by_koid: &mut BTreeMap<Koid, Object>, port: Koid, packet: Packet
         return;
     };
     object.queue_signal(packet);
+}
+
+/// Whether something waits at the object, if it is there.
+#[tactic(auto, using(crate::proofs::ByKoid::by_koid))]
+fn is_watched(by_koid: &BTreeMap<Koid, Object>, koid: Koid) -> bool
+    ensures { result ≡ is_watched_in (get by_koid.now.entries koid) }
+{
+    match by_koid.get(&koid) {
+        Some(object) => object.is_watched(),
+        None => false,
+    }
 }
 
 /// The packet of a wait that was registered at the object.

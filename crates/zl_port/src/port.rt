@@ -1,4 +1,5 @@
 ghost use Rattle.std.specs.Prelude.{◌≡◌, ◌↔◌, ◌+◌, ◌<◌, ◌≤◌, [], Err, OnOk, OnErr, filter, length, nat_lt, not, slice_get};
+ghost use Rattle.zl_rights.specs.Signals.{is_empty};
 ghost use Rattle.std.specs.VecDeque.{deque_capacity, deque_len};
 ghost use Rattle.zl_port.specs.Packets.{MOST_USER_PACKETS, is_from, user_count, user_packet, with_packet, with_place, without_front, without_packets, without_place};
 
@@ -98,6 +99,13 @@ impl Port {
         ensures { result ≡ nat_lt 0 self.now.reserved }
     {
         self.reserved > 0
+    }
+
+    /// Whether a packet is there.
+    pub fn has_packet(&self) -> bool
+        ensures { result ≡ not (is_empty self.now.packets) }
+    {
+        !self.queue.is_empty()
     }
 
     /// Gives a reserved place back, if one is reserved, as its wait has ended without a packet. It

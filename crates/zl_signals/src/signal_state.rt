@@ -1,5 +1,6 @@
 ghost use Rattle.std.specs.Prelude.{◌≡◌, [], OnOk, OnErr, IfErr, IfNone, drop, filter, not, slice_get};
 ghost use Rattle.std.specs.List.{find, position};
+ghost use Rattle.zl_rights.specs.Signals.{is_empty};
 ghost use Rattle.zl_signals.specs.Asked.{takes};
 ghost use Rattle.zl_signals.specs.Waits.{holds, is_at_port, is_by_handle, is_keyed, next_order, with_changed, with_wait, without_first, without_port, without_wait};
 
@@ -45,6 +46,13 @@ impl SignalState {
         ensures { result.0 ≡ self.now.raised }
     {
         self.raised
+    }
+
+    /// Whether a wait is registered here.
+    pub fn has_waits(&self) -> bool
+        ensures { result ≡ not (is_empty self.now.waits) }
+    {
+        !self.waits.is_empty()
     }
 
     /// The signals `clear` go, and then the signals `set` come. It takes no memory.

@@ -15,6 +15,8 @@ mod image_tests;
 #[cfg(test)]
 mod object_tests;
 #[cfg(test)]
+mod quiet_tests;
+#[cfg(test)]
 mod system_tests;
 #[cfg(test)]
 mod text_tests;

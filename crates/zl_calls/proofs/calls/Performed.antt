@@ -1,5 +1,6 @@
 -- Any call: it blocks, or what it does is a step up to where processes wake; and it leaves its process its pid.
-use Rattle.zl_calls.proofs.Common.{◌≡◌, ◌⊎◌, ℕ, true, false, false≢true, ⊤, inl, inr, List, ap, refl, sym, ◌∙◌, Option, Some, None, Ready, Library, Request}
+use Rattle.zl_calls.proofs.Common.{◌≡◌, ◌⊎◌, ℕ, true, false, false≢true, ⊤, inl, inr, List, ap, refl, sym, subst, Result, Ok, Err, Status, KeepSleepers}
+use Rattle.zl_calls.proofs.Common.{WaitAsyncDoes, PortCancelDoes, ◌∙◌, Option, Some, None, Ready, Library, Request}
 use Rattle.zl_calls.proofs.Common.{Site, site, close, dup, chan_write, event_create, signal, process_exit, AtCall, calls_at, next_for, refusal, Handles}
 use Rattle.zl_calls.proofs.Common.{Objects, Action, answers, exits, reaches, process_value, state_value, world_value, IsConsistent, Acted, Acts, action_of}
 use Rattle.zl_calls.proofs.Common.{CallName, Outcome, chan_create, replace, true≢false, awaited_by, eventpair_create, job_create, job_set_policy, port_cancel}
@@ -133,6 +134,7 @@ pub record Looks (lib : Library) (before after : List Process) (r r2 : Objects) 
   pub next : next_for lib (process_value p) ≡ AtCall call at
   pub called : IsCalledAmong lib before after r r2 p.pid at o
   pub goes : is_blocking o ≡ false
+  pub asleep : KeepSleepers r r2
 
 module _ {before after : List Process} {r : Objects} {p p2 : Process} (lib : Library) (r2 : Objects) (consistent : IsConsistent before r)
     (write : IsWrite before after p p2)
@@ -145,13 +147,23 @@ module _ {before after : List Process} {r : Objects} {p p2 : Process} (lib : Lib
     next = next;
     called = async_called lib r2 consistent write h port key mask c d ready call next o acts;
     goes = ap is_blocking acts.ends;
+    asleep = keeps acts.answer acts.acts;
   }
+    where
+      keeps : (answer : Result ⊤ Status) → WaitAsyncDoes p.pid h port key mask p.table r answer p2.table r2 → KeepSleepers r r2
+      keeps (Ok x) does = subst (KeepSleepers r) (sym does.ok.objects) (refl, refl)
+      keeps (Err s) does = subst (KeepSleepers r) (sym does.same_objects) (refl, refl)
   looks_by (port_cancel port source key) c d looks next acts = record {
     at = site (port_cancel port source key) c d;
     next = next;
     called = cancel_called lib r2 consistent write port source key c d ready call next o acts;
     goes = ap is_blocking acts.ends;
+    asleep = keeps acts.answer acts.acts;
   }
+    where
+      keeps : (answer : Result ⊤ Status) → PortCancelDoes p.pid port source key p.table r answer p2.table r2 → KeepSleepers r r2
+      keeps (Ok x) does = does.ok.ends.asleep
+      keeps (Err s) does = subst (KeepSleepers r) (sym does.same_objects) (refl, refl)
   looks_by (task_kill task) c d looks next acts = absurd acts
   looks_by _ c d looks next acts = absurd (false≢true looks)
 

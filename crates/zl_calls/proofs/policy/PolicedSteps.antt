@@ -1,7 +1,7 @@
 -- A call in the midst of all processes that the policy of its process's job ends.
 use Rattle.zl_calls.proofs.Common.{◌≡◌, ℕ, false, List, set, refl, ap, Library, Site, AtCall}
 use Rattle.zl_calls.proofs.Common.{next_for, Objects, process_value, CallName, Outcome, is_blocking}
-use Rattle.zl_calls.proofs.Common.{EndsBy, Policed, Parts, parts, Verdict}
+use Rattle.zl_calls.proofs.Common.{EndsBy, KeepSleepers, Policed, Parts, arith, parts, subst, sym, Verdict}
 use Rattle.zl_code.specs.declared.history.TraceItem.TheVariants as item
 use Rattle.zl_calls.specs.Reaching.{IsAlone}
 use Rattle.zl_calls.specs.declared.policy.Verdict.TheVariants as verdict
@@ -20,6 +20,14 @@ same_pid s p p2 r r2 o judged = by_verdict judged.verdict judged.ends
     by_verdict verdict.Denied ends = ap (λ (q : Process). q.pid) ends.replied
     by_verdict verdict.Killed ends = ap (λ (q : Process). q.pid) ends.over.process
 
+-- and who may be blocked as before
+same_sleepers : (s : Site) (p p2 : Process) (r r2 : Objects) (o : Outcome) → Policed s p r o p2 r2 → KeepSleepers r r2
+same_sleepers s p p2 r r2 o judged = by_verdict judged.verdict judged.ends
+  where
+    by_verdict : (v : Verdict) → EndsBy v s p r o p2 r2 → KeepSleepers r r2
+    by_verdict verdict.Denied ends = subst (KeepSleepers r) (sym ends.objects) (refl, refl)
+    by_verdict verdict.Killed ends = ends.over.listed.listed.asleep
+
 -- the process p stands at the place, under the pid, and is at the call
 module _ {ps : List Process} {r : Objects} {blocked : List ℕ} {pid place : ℕ} {p : Process} (turn : AtTurn ps r blocked pid place p) (lib : Library)
     (name : CallName) (s : Site) (next : next_for lib (process_value p) ≡ AtCall name s) where
@@ -33,6 +41,8 @@ module _ {ps : List Process} {r : Objects} {blocked : List ℕ} {pid place : ℕ
         list = rw (same_list p.pid (item.Call p.pid name o) blocked goes)
             (left_blocked (set ps place p2) r2 blocked (still_blocked writes (unblocked turn)
             (policed_unblocked lib r2 turn.consistent writes (ready turn) s o judged) blocked turn.are));
+        fewer = λ k. omega arith;
+        asleep = same_sleepers s p p2 r r2 o judged;
         acts = record {
           pid_is = refl;
           acted = rw (same_list p.pid (item.Call p.pid name o) blocked goes)

@@ -1,4 +1,5 @@
 -- A call that the policy of its process's job ends: it is a step up to where processes wake, and the invariant holds afterwards.
+use Rattle.zl_calls.proofs.Common.{KeepSleepers}
 use Rattle.zl_calls.proofs.Common.{◌≡◌, ◌==◌, ℕ, false, not, List, [], refl, sym, ap, ◌∙◌, subst, Some, is_ready, Ready, Library, Site, AtCall, next_for}
 use Rattle.zl_calls.proofs.Common.{Objects, AreBlocked, process_value, state_value, world_blocked, world_value, IsConsistent, IsActed, World, BY_POLICY}
 use Rattle.zl_calls.proofs.Common.{ActsAndSettles, settles_waiting, is_blocking, replied_among, with_waiters, CallName, Outcome, EndsBy, IsDenied, Policed}
@@ -99,7 +100,11 @@ module _ {before after : List Process} {r : Objects} {p p2 : Process} (lib : Lib
           settles = settles_waiting (world_value after r2) (settled_world after r2) (still_settles after r2 (keeps_by verdict.Denied denied)) r.waits
               r.waits_made blocked;
         })
-        (record { waits = λ test there. ap (λ (x : Objects). filter test x.waits) denied.objects; made = ap (λ (x : Objects). x.waits_made) denied.objects })
+        (record {
+          waits = λ test there. ap (λ (x : Objects). filter test x.waits) denied.objects;
+          made = ap (λ (x : Objects). x.waits_made) denied.objects;
+          asleep = subst (KeepSleepers r) (sym denied.objects) (refl, refl);
+        })
 
     killed_acts : Exits BY_POLICY p r o p2 r2 → Judged verdict.Killed → Acts
     killed_acts exits is =

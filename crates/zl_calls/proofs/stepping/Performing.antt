@@ -1,4 +1,5 @@
 -- A process of the world acts by itself: from the list of processes to the relation of steps, up to where processes wake.
+use Rattle.zl_calls.proofs.Common.{KeepSleepers, arith, times, ◌≤◌}
 use Rattle.zl_calls.proofs.Common.{◌≡◌, ◌⊎◌, inl, inr, ℕ, true, false, List, map, get_or, set, refl, sym, ap, ◌∙◌, Option, Some, None, IfNone, ◌==◌, position}
 use Rattle.zl_calls.proofs.Common.{false≢true, STUCK, Map, get, Ready, is_ready, on_process, state_passes, Library, Site, cases_Bool, IsStuck, Moves, next_for}
 use Rattle.zl_calls.proofs.Common.{Objects, process_entry, process_value, state_value, world_blocked, world_value, IsConsistent, AreBlocked, DoesNext}
@@ -35,10 +36,12 @@ pub absent : {A : Type 0} (ps : List Process) (pid : ℕ) (o : Option A) → get
 absent ps pid None missing = rw missing refl
 absent ps pid (Some x) missing = tt
 
--- what a step did to the processes and objects, where these block
+-- what a step did to the processes and objects, where these block, none more often than before
 pub record HasActed (lib : Library) (before after : List Process) (r r2 : Objects) (blocked blocked2 : List ℕ) (pid : ℕ) (x : TraceItem) : Type 0 where
   pub consistent : IsConsistent after r2
   pub list : AreBlocked after (then_blocked pid x blocked2)
+  pub fewer : (k : ℕ) → times k blocked2 ≤ times k blocked
+  pub asleep : KeepSleepers r r2
   pub acts : DoesNext lib (world_blocked before r blocked) pid x (world_left after r2 (then_blocked pid x blocked2))
 
 -- a step after which processes go with their objects
@@ -124,10 +127,12 @@ module _ {ps : List Process} {r : Objects} {blocked : List ℕ} {pid place : ℕ
     -- from a world in which nothing waits to one in which some do
     pub left_with : (after : List Process) (r2 : Objects) (x : TraceItem) → pid_of x ≡ pid → tells_blocking x ≡ false
         → next_looks (next_for lib (process_value p)) ≡ false → IsConsistent after r2 → AreBlocked after blocked
-        → IsActed lib (world_value ps r) pid x (settled_world after r2) → ListsBut (waits_by (next_for lib (process_value p)) x r.waits) r.waits_made r2
+        → IsActed lib (world_value ps r) pid x (settled_world after r2) → ListsBut (waits_by (next_for lib (process_value p)) x r.waits) r.waits_made r r2
         → HasLeft lib ps after r r2 blocked blocked pid x
     left_with after r2 x same goes looks keeps list acts lists = record {
       consistent = left_keeps after r2 keeps;
+      fewer = λ k. omega arith;
+      asleep = lists.asleep;
       list = rw (same_list pid x blocked goes) (left_blocked after r2 blocked list);
       acts = record {
         pid_is = same;
@@ -140,7 +145,7 @@ module _ {ps : List Process} {r : Objects} {blocked : List ℕ} {pid place : ℕ
     -- the same where of the processes only this one is written
     pub acted_so : (after : List Process) (p2 : Process) (r2 : Objects) (x : TraceItem) → IsWrite ps after p p2 → is_blocked (state_value p2.state) ≡ false
         → pid_of x ≡ pid → tells_blocking x ≡ false → next_looks (next_for lib (process_value p)) ≡ false → IsConsistent after r2
-        → IsActed lib (world_value ps r) pid x (settled_world after r2) → ListsBut (waits_by (next_for lib (process_value p)) x r.waits) r.waits_made r2
+        → IsActed lib (world_value ps r) pid x (settled_world after r2) → ListsBut (waits_by (next_for lib (process_value p)) x r.waits) r.waits_made r r2
         → HasLeft lib ps after r r2 blocked blocked pid x
     acted_so after p2 r2 x write still same goes looks keeps =
         left_with after r2 x same goes looks keeps (still_blocked write unblocked still blocked turn.are)
@@ -150,6 +155,8 @@ module _ {ps : List Process} {r : Objects} {blocked : List ℕ} {pid place : ℕ
         → IsAsleep lib ps r r2 p p2 name o → HasLeft lib ps (set ps place p2) r r2 blocked blocked pid (item.Call pid name o)
     blocks_so name o p2 r2 write free sleeps = rw (sleeps.ends, sleeps.objects, ← key) (record {
       consistent = left_keeps (set ps place p2) r (asleep_keeps lib r2 turn.consistent write ready name o sleeps);
+      fewer = λ k. omega arith;
+      asleep = (refl, refl);
       list = left_blocked (set ps place p2) r _ (asleep_list lib r2 turn.consistent write ready name o sleeps blocked turn.are);
       acts = record { pid_is = refl; acted = asleep_acts lib r2 turn.consistent write ready name o sleeps blocked free turn.sound };
     })
@@ -160,12 +167,14 @@ module _ {ps : List Process} {r : Objects} {blocked : List ℕ} {pid place : ℕ
         → HasLeft lib ps (set ps place p2) r r2 blocked blocked pid (item.Call pid name o)
     looks_so name o p2 r2 write still free looks = rw (← key) (record {
       consistent = left_keeps (set ps place p2) r2 looks.called.keeps;
+      fewer = λ k. omega arith;
+      asleep = looks.asleep;
       list = rw (same_list p.pid (item.Call p.pid name o) blocked looks.goes)
           (left_blocked (set ps place p2) r2 blocked (still_blocked write unblocked still blocked turn.are));
       acts = record {
         pid_is = refl;
         acted = rw (same_list p.pid (item.Call p.pid name o) blocked looks.goes)
-            (left_looking lib ps (set ps place p2) r r2 p.pid (process_value p) name looks.at o blocked turn.sound write.there ready looks.next
+            (left_looking lib ps (set ps place p2) r r2 p.pid (process_value p) name looks.at o blocked turn.sound looks.asleep write.there ready looks.next
             (freely lib (world_blocked ps r blocked) p.pid looks.at o (world_blocked (set ps place p2) r2 blocked)
             (free (process_value p) looks.at write.there looks.next) (looks.called.calls blocked))
             (still_settles (set ps place p2) r2 looks.called.keeps));
@@ -211,6 +220,8 @@ module _ {ps : List Process} {r : Objects} {blocked : List ℕ} {pid place : ℕ
         refusal_keeps write r turn.consistent (ap (λ (q : Process). q.table) cpu) (ap (λ (q : Process). q.state) cpu) in
         record {
           consistent = keeps;
+          fewer = λ k. omega arith;
+          asleep = (refl, refl);
           list = still_blocked write unblocked (ap (λ (q : Process). is_blocked (state_value q.state)) cpu ∙ unblocked) blocked turn.are;
           acts = record {
             pid_is = refl;
@@ -230,7 +241,7 @@ module _ {ps : List Process} {r : Objects} {blocked : List ℕ} {pid place : ℕ
                   settles = subst (Settles (world_value (set ps place p2) r)) (all_live (set ps place p2) r keeps.processes_in_order (live p2 write cpu))
                       (still_settles (set ps place p2) r keeps);
                 })
-                (rw next (record { waits = λ test there. refl; made = refl }));
+                (rw next (record { waits = λ test there. refl; made = refl; asleep = (refl, refl) }));
           };
         }
       where

@@ -3,7 +3,7 @@ use Rattle.zl_calls.proofs.Common.{◌≡◌, ℕ, true, false, false≢true, Li
 use Rattle.zl_calls.proofs.Common.{is_process, state_passes, Library, call_row, Program, Site, site_of, Step, AtCall, IsStuck, Moves, calls_at, next_for}
 use Rattle.zl_calls.proofs.Common.{call_in, call_for, is_ready_in, StepsTo, TakesStep, Performs, takes_memory, map, wakes, Objects, IfNone, process_entry}
 use Rattle.zl_calls.proofs.Common.{world_blocked, DoesNext, Next, CallName, Outcome, TraceItem, CallInstr, pid_of, step_programs, step_sound, HavePrograms}
-use Rattle.zl_calls.proofs.Common.{is_local, then_blocked, EndsUnheld, FiresWaits, world_left, fold}
+use Rattle.zl_calls.proofs.Common.{is_local, then_blocked, EndsUnheld, world_left, fold}
 use Rattle.zl_code.proofs.Common.{Acts, Cpu, World as WorldValue, Process as ProcessValue, next_at}
 use Rattle.zl_rights.specs.declared.status.Status.TheVariants as status
 use Rattle.zl_code.specs.declared.history.Outcome.TheVariants as outcome
@@ -157,7 +157,7 @@ module _ (lib : Library) (ps : List Process) (r : Objects) (blocked : List ℕ) 
 
   pub takes_step : (ps2 ps3 : List Process) (r2 left fires r3 : Objects) (blocked2 blocked3 : List ℕ) (x : TraceItem)
       → DoesNext lib (world_blocked ps r blocked) pid x (world_left ps2 r2 blocked2)
-      → EndsUnheld ps2 r2 left → FiresWaits ps2 left fires
+      → EndsUnheld ps2 r2 left → world_blocked ps2 fires blocked2 ≡ fired (world_blocked ps2 left blocked2)
       → world_blocked ps3 r3 blocked3 ≡ fold woken (world_blocked ps2 fires blocked2) blocked2
       → TakesStep (machine_value lib ps r blocked) pid (machine_value lib ps3 r3 blocked3) x
   unfolding is_process wakes fired
@@ -174,7 +174,7 @@ module _ (lib : Library) (ps : List Process) (r : Objects) (blocked : List ℕ) 
         acts = does.acted.acts;
         settled = world_left ps2 r2 blocked2;
         settles = does.acted.settles;
-        ends_awake = awake ∙ ap (λ (w : WorldValue). fold woken w blocked2) (fired_so.world blocked2 ∙ ap fired (unheld.world blocked2));
+        ends_awake = awake ∙ ap (λ (w : WorldValue). fold woken w blocked2) (fired_so ∙ ap fired (unheld.world blocked2));
       });
     };
   }

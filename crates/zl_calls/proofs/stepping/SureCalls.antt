@@ -1,5 +1,6 @@
 -- What is known of the calls of a checked program, as its process is as its typing says: no operand has a fault, and no policy ends them.
-use Rattle.zl_calls.proofs.Common.{◌≡◌, ◌≢◌, ◌∙◌, ℕ, IsStuck, true, List, ap, refl, subst, sym, Option, Some, None, slice_get, runs, Library, Objects, Site, AtCall}
+use Rattle.zl_calls.proofs.Common.{◌≡◌, ◌≢◌, ◌∙◌, ℕ, IsStuck, true, List, ap, refl, subst, sym, Option, Some, None, slice_get, runs, Library, Objects, Site}
+use Rattle.zl_calls.proofs.Common.{AtCall}
 use Rattle.zl_calls.proofs.Common.{CallName, Image, Program, World, calls_at, next_for, process_value, site_of, world_blocked}
 use Rattle.zl_verify.specs.CallLaws.{StandsAtCall}
 use Rattle.zl_verify.specs.Covered.{IsAsTyped, IsCovered, IsVerified}

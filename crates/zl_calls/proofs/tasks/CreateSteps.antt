@@ -79,7 +79,7 @@ module _ {ps : List Process} {r : Objects} {blocked : List ℕ} {pid place : ℕ
         let done : IsDone lib ps after_it r r p.pid name (outcome.Answered answer) =
         called_done lib r turn.consistent write_told (ready turn) name s next (outcome.Answered answer) refused_called in
         acted_so turn lib after_it told r (item.Call pid name (outcome.Answered answer)) write_told (unblocked turn) refl refl (ap next_looks next)
-        done.consistent (rw (← key turn) (done.step free)) (rw next (record { waits = λ test h. refl; made = refl }))
+        done.consistent (rw (← key turn) (done.step free)) (rw next (record { waits = λ test h. refl; made = refl; asleep = (refl, refl) }))
 
   -- ---- a process is made
 
@@ -143,7 +143,7 @@ module _ {ps : List Process} {r : Objects} {blocked : List ℕ} {pid place : ℕ
     made_so : HasLeft lib ps made_all r made_grown blocked blocked pid (item.Call pid name (outcome.Answered status.Ok))
     made_so =
         left_with turn lib made_all made_grown (item.Call pid name (outcome.Answered status.Ok)) refl refl (ap next_looks next) made_keeps made_blocked
-        (rw (← key turn) made_step) (rw next (record { waits = λ test h. refl; made = refl }))
+        (rw (← key turn) made_step) (rw next (record { waits = λ test h. refl; made = refl; asleep = (refl, refl) }))
 
   -- ---- either
 

@@ -1,4 +1,5 @@
 -- The call task_kill, from what it did among all processes to the relation of steps, up to where processes wake.
+use Rattle.zl_calls.proofs.Common.{KeepSleepers, ◌≤◌}
 use Rattle.zl_calls.proofs.Common.{◌≡◌, ◌<◌, ◌^◌, ℕ, ℤ, zero, suc, Bool, true, false, not, ◌&&◌, ◌==◌, List, [], ◌∷◌, map, refl, sym, ap, ◌∙◌, subst, Option}
 use Rattle.zl_calls.proofs.Common.{Some, None, Ok, inl, inr, ◌⊎◌, IsTrue, arith, option_map, Map, get, each, update, lives, state_passes, none-some, same_Some}
 use Rattle.zl_calls.proofs.Common.{slice_get, eq-eqb, false≢true, is_sorted, nat_cmp, nat_tests, object_entry, process_entry, process_value, state_value}
@@ -31,6 +32,7 @@ use Rattle.zl_calls.proofs.waking.BlockedLists.{same_list, still_blocked}
 use Rattle.zl_calls.proofs.objects.Counting.{sum_update, naming, numbered, numbered_naming}
 use Rattle.zl_calls.proofs.processes.Departed.{left_all, left_blocked, left_keeps, settled_world}
 use Rattle.zl_calls.proofs.waits.LeftWaits.{left_by}
+use Rattle.zl_calls.proofs.waking.StillBlocked.{fewer_times}
 use Rattle.zl_calls.proofs.stepping.Performing.{HasLeft}
 use Rattle.zl_calls.proofs.tasks.KillSound.{all_noted, tables_from, AllTables, AreAllGone, gone_of, killed_sound, killed_with, numbered_all}
 use Rattle.zl_calls.proofs.tasks.KillSound.{numbered_sorted, in_tables, named_killed}
@@ -153,11 +155,13 @@ module _ (lib : Library) (ps : List Process) (r : Objects) (blocked : List ℕ) 
     (next : next_for lib (process_value p) ≡ AtCall name s) where
   -- a call behind which this is left, in the midst of all that waits
   pub leaves_so : (after : List Process) (r1 r2 : Objects) (blocked2 : List ℕ) (o : Outcome) → is_blocking o ≡ false → IsSettled after r1 r2
-      → AreBlocked after blocked2
+      → AreBlocked after blocked2 → ((k : ℕ) → times k blocked2 ≤ times k blocked)
       → PolicedCalls lib (world_blocked ps r blocked) p.pid s o (with_waiters (world_value after r1) r.waits r.waits_made blocked2)
-      → ListsBut r.waits r.waits_made r2
+      → ListsBut r.waits r.waits_made r r2
       → HasLeft lib ps after r r2 blocked blocked2 p.pid (item.Call p.pid name o)
-  leaves_so after r1 r2 blocked2 o goes left list calls lists = record {
+  leaves_so after r1 r2 blocked2 o goes left list fewer calls lists = record {
+    fewer = fewer;
+    asleep = lists.asleep;
     consistent = left_keeps after r2 left.consistent;
     list = rw (same_list p.pid (item.Call p.pid name o) blocked2 goes) (left_blocked after r2 blocked2 list);
     acts = record {
@@ -321,7 +325,10 @@ module _ (lib : Library) (ps : List Process) (r : Objects) (whole : IsConsistent
             let same : x ≡ q = sym (was_blocked (is_within r.objects t k) x (ap (λ (y : ProcessValue). is_blocked y.state) became ∙ h)) ∙ became in
             are.counters k q (at ∙ ap Some same) h
 
-    lists : ListsBut r.waits r.waits_made all2.objects
+    fewer_blocked : (k : ℕ) → times k all2.blocked ≤ times k blocked
+    fewer_blocked k = rw kills.blocked (fewer_times _ k blocked)
+
+    lists : ListsBut r.waits r.waits_made r all2.objects
     lists = kills.listed.listed
 
     -- the caller is among the killed, or it isn't
@@ -401,7 +408,7 @@ module _ (lib : Library) (ps : List Process) (r : Objects) (whole : IsConsistent
               (outcome.Ended KILLED) refl
               (ends_settled ps r whole blocked sound t given all2 kills all2.processes (λ k q. q.cpu) (λ k. killed_got (λ j q. q.cpu) k (λ q there_too. refl))
               (λ k. refl) (still_sorted ps r whole blocked sound t given all2 kills))
-              blocked_after (killed_calls among) lists)
+              blocked_after fewer_blocked (killed_calls among) lists)
           | inr apart ↦ absurd (not_over apart)
         ]
       where
@@ -483,7 +490,7 @@ module _ (lib : Library) (ps : List Process) (r : Objects) (whole : IsConsistent
       answered_so =
           leaves_so lib ps r blocked sound p there ready name kill_site next after (killing r t) all2.objects all2.blocked (outcome.Answered status.Ok) refl
           (ends_settled ps r whole blocked sound t given all2 kills after cpus after_got after_tables after_sorted)
-          (still_blocked write not_blocked not_blocked all2.blocked blocked_after) answered_calls lists
+          (still_blocked write not_blocked not_blocked all2.blocked blocked_after) fewer_blocked answered_calls lists
 
     pub lives_so : (c : Process) → slice_get all2.processes place ≡ Some c → ((code : ℤ) → c.state ≡ state.Ended code → ⊥)
         → HasLeft lib ps (slice_set all2.processes place (record c { cpu = cpu_answered kill_site status.Ok [] c.cpu })) r all2.objects

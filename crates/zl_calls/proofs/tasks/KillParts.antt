@@ -90,10 +90,10 @@ pub listed_killed : (r r2 : Objects) (task : ℕ) → Releases [] (all_koids r.o
 unfolding all_killed
 listed_killed r r2 task releases left =
     let kept : KeepsListed (killing r task) r2 =
-    listed_gone [] (all_koids r.objects) (killing r task) r2 releases (record { waits = left.waits; made = left.made }) in
+    listed_gone [] (all_koids r.objects) (killing r task) r2 releases (record { waits = left.waits; made = left.made; asleep = left.asleep }) in
     record {
       shrinks = λ k there. sym (has_kept (λ j. killed_if (is_within r.objects task j)) r.objects k) ∙ kept.shrinks k there;
-      listed = record { waits = kept.listed.waits; made = kept.listed.made };
+      listed = record { waits = kept.listed.waits; made = kept.listed.made; asleep = kept.listed.asleep };
     }
 
 -- ---- the whole of it

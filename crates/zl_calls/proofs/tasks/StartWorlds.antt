@@ -143,7 +143,7 @@ module _ {ps : List Process} {r : Objects} {blocked : List ℕ} {pid place : ℕ
     begun_so : HasLeft lib ps after r begun blocked blocked pid (item.Call pid name (outcome.Answered status.Ok))
     begun_so =
         left_with turn lib after begun (item.Call pid name (outcome.Answered status.Ok)) refl refl (ap next_looks next) keeps list (rw (← key turn) step)
-        (rw next (record { waits = λ test h. refl; made = refl }))
+        (rw next (record { waits = λ test h. refl; made = refl; asleep = (refl, refl) }))
 
   -- ---- either
 

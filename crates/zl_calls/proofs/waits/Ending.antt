@@ -7,6 +7,7 @@ use Rattle.zl_calls.proofs.Common.{is_left}
 use Rattle.std.specs.List.{filter}
 use Rattle.zl_rights.specs.Settle.{is_made_by_handle}
 use Rattle.zl_rights.specs.World.{Wait}
+use Rattle.zl_objects.specs.Awaited.{KeepSleepers}
 use Rattle.zl_objects.specs.declared.object.Object.{Object}
 use Rattle.zl_objects.specs.Listed.{is_keyed_at}
 use Rattle.zl_calls.specs.declared.process.Process.{Process}
@@ -36,19 +37,32 @@ has_at ps pid place value p found is =
 pub record IsEnding (test : Wait → Bool) (old : Objects) (place : ℕ) (now : Objects) : Type 0 where
   pub beside : AreBeside old now
   pub made : now.waits_made ≡ old.waits_made
+  pub asleep : KeepSleepers old now
   pub list : IsSifting test old.waits place now.waits
 
 module _ (test : Wait → Bool) (old : Objects) where
   pub ending_starts : IsEnding test old 0 old
-  ending_starts = record { beside = beside_same old; made = refl; list = sifting_starts test old.waits }
+  ending_starts = record { beside = beside_same old; made = refl; asleep = (refl, refl); list = sifting_starts test old.waits }
 
   module _ (place : ℕ) (now : Objects) (so_far : IsEnding test old place now) where
     pub ends_all : slice_get now.waits place ≡ None → EndsWaits test old now
-    ends_all none = record { beside = so_far.beside; waits = sifting_ends test old.waits place now.waits none so_far.list; made = so_far.made }
+    ends_all none = record {
+      beside = so_far.beside;
+      waits = sifting_ends test old.waits place now.waits none so_far.list;
+      made = so_far.made;
+      asleep =
+          so_far.asleep;
+    }
 
     module _ (x : Wait) (at : slice_get now.waits place ≡ Some x) where
       pub one_stays : test x ≡ false → IsEnding test old (place + 1) now
-      one_stays fail = record { beside = so_far.beside; made = so_far.made; list = sifting_stays test old.waits place now.waits x at fail so_far.list }
+      one_stays fail = record {
+        beside = so_far.beside;
+        made = so_far.made;
+        asleep = so_far.asleep;
+        list = sifting_stays test old.waits place now.waits x at
+            fail so_far.list;
+      }
 
       -- the operation takes the earliest out of those that a narrower test asks for
       module _ (narrow : Wait → Bool) (wider : (y : Wait) → narrow y ≡ true → test y ≡ true) (asked : narrow x ≡ true) (k : ℕ) (watch : Watch → Bool)
@@ -61,6 +75,7 @@ module _ (test : Wait → Bool) (old : Objects) where
         narrow_ends = subst (λ (r : Objects). IsEnding test old place r) (sym is) (record {
           beside = still_beside;
           made = so_far.made;
+          asleep = so_far.asleep;
           list = sifting_takes test narrow wider old.waits place now.waits x at asked so_far.list;
         })
 
@@ -148,6 +163,7 @@ module _ (ps : List Process) (old : Objects) where
           world = λ blocked.
               λ i. record (beside_world ps old now so_far.beside i) { waits = (over.waits ∙ left_is) i; waits_made = over.made i; blocked = blocked };
           consistent = beside_consistent ps old now so_far.beside consistent;
+          asleep = over.asleep;
         }
       where
         left_is : filter (λ x. not (is_over x)) old.waits ≡ filter (is_left (world_value ps old)) old.waits

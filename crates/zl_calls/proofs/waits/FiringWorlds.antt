@@ -1,4 +1,5 @@
 -- Registered waits fire one after another, in the order of the list.
+use Rattle.zl_calls.proofs.Common.{KeepSleepers}
 use Rattle.zl_calls.proofs.Common.{◌≡◌, ◌<◌, ◌≤◌, ◌+◌, ℕ, zero, suc, Bool, true, false, ◌&&◌, ◌==◌, ◌++◌, List, [], ◌∷◌, length, take, map, slice_get, refl}
 use Rattle.zl_calls.proofs.Common.{sym, ap, ◌∙◌, subst, cond, inl, inr, Option, Some, None, arith, cases_Bool, eqb-true, eq-eqb, none-some, same_Some}
 use Rattle.zl_calls.proofs.Common.{option_map, list_any, length-append, and_from, position_or_len, is_process, Map, update, get, fired, Objects, IsConsistent}
@@ -29,6 +30,7 @@ pub record IsFiring (ps : List Process) (first : Objects) (place : ℕ) (r : Obj
   pub consistent : IsConsistent ps r
   pub so_far : (blocked : List ℕ) → fired (world_blocked ps r blocked) ≡ fired (world_blocked ps first blocked)
   pub before : list_any (holds (world_value ps r)) (take place r.waits) ≡ false
+  pub asleep : KeepSleepers first r
 
 -- ---- an element of a list, where none before it passes
 
@@ -222,6 +224,7 @@ module _ (ps : List Process) (first : Objects) (place : ℕ) (r : Objects) (so_f
         before = (λ i. list_any (same_holds i) (take place (waits_are i)))
             ∙ (ap (list_any (holds (world_value ps r))) (take_again r.waits behind_it place (omega (arith, slice_get_within r.waits place (wait_at k y) at)))
             ∙ so_far.before);
+        asleep = so_far.asleep;
       }
 
   -- ---- a turn
@@ -272,6 +275,7 @@ module _ (ps : List Process) (first : Objects) (place : ℕ) (r : Objects) (so_f
           before = ap (λ (n : ℕ). list_any (holds (world_value ps r)) (take n r.waits)) next
               ∙ none_next (holds (world_value ps r)) r.waits place x at so_far.before
               (ap (λ (n : ℕ). meets n x.mask) (sym (active_here x.object a is)) ∙ fails);
+          asleep = so_far.asleep;
         }
 
   -- all waits have had their turn
@@ -280,6 +284,7 @@ module _ (ps : List Process) (first : Objects) (place : ℕ) (r : Objects) (so_f
     world = λ blocked. sym (fired_none (world_blocked ps r blocked) (ap (λ (test : Wait → Bool). list_any test r.waits) (holds_blocked ps r blocked)
         ∙ none_at_all (holds (world_value ps r)) r.waits place past so_far.before)) ∙ so_far.so_far blocked;
     consistent = so_far.consistent;
+    asleep = so_far.asleep;
   }
 
 -- ---- the place

@@ -14,6 +14,7 @@ use Rattle.zl_code.specs.Calls.{Calls}
 use Rattle.zl_code.specs.declared.history.TraceItem.TheVariants as item
 use Rattle.zl_code.proofs.SoundRuns.{settled_sound}
 use Rattle.zl_code.proofs.StepsWaiting.{step_waiting, is_left as is_left_at_port}
+use Rattle.zl_objects.specs.Awaited.{KeepSleepers}
 use Rattle.zl_objects.specs.Listed.{is_there}
 use Rattle.zl_calls.specs.declared.process.Process.{Process}
 use Rattle.zl_calls.proofs.waking.BlockedLists.{same_blocked}
@@ -73,9 +74,9 @@ left_alike w ws n b sound = agreeing (is_left w) (is_left_at_port w) ws (at_port
         (and_from (has_key w.objects x.object) (has_key w.objects x.port) there parts.1)
 
 -- the list that a call leaves has all that are left
-pub left_in_list : (after : List Process) (r2 : Objects) (ws : List Wait) (made : ℕ) → ListsBut ws made r2
+pub left_in_list : (after : List Process) (r r2 : Objects) (ws : List Wait) (made : ℕ) → ListsBut ws made r r2
     → filter (is_left (world_value after r2)) r2.waits ≡ filter (is_left (world_value after r2)) ws
-left_in_list after r2 ws made lists = lists.waits (is_left (world_value after r2)) there
+left_in_list after r r2 ws made lists = lists.waits (is_left (world_value after r2)) there
   where
     there : (x : Wait) → IsTrue (is_left (world_value after r2) x) → IsTrue (is_there r2.objects x)
     there x left =
@@ -93,11 +94,11 @@ module _ (lib : Library) (before after : List Process) (r r2 : Objects) (pid : �
 
   -- a step up to where waits fire, by the waits that settling leaves
   pub left_by : (ws : List Wait) (made : ℕ) (b : List ℕ)
-      → ActsAndSettles lib (world_blocked before r blocked) pid x (with_waiters w2 (filter (is_left_at_port w2) ws) made b) → ListsBut ws made r2
+      → ActsAndSettles lib (world_blocked before r blocked) pid x (with_waiters w2 (filter (is_left_at_port w2) ws) made b) → ListsBut ws made r r2
       → IsActed lib (world_blocked before r blocked) pid x (world_left after r2 b)
   left_by ws made b steps lists =
       let alike : filter (is_left_at_port w2) ws ≡ filter (is_left w2) r2.waits =
-      sym (left_alike w2 ws made b (settled_sound lib (world_blocked before r blocked) pid x _ sound steps)) ∙ sym (left_in_list after r2 ws made lists) in
+      sym (left_alike w2 ws made b (settled_sound lib (world_blocked before r blocked) pid x _ sound steps)) ∙ sym (left_in_list after r r2 ws made lists) in
       let same : ◌≡◌ {A = World} (with_waiters w2 (filter (is_left_at_port w2) ws) made b) (world_left after r2 b) =
       (λ i. with_waiters w2 (alike i) (sym lists.made i) b) in
       let moved : ActsAndSettles lib (world_blocked before r blocked) pid x (world_left after r2 b) =
@@ -107,7 +108,7 @@ module _ (lib : Library) (before after : List Process) (r r2 : Objects) (pid : �
   -- a process that isn't blocked, doesn't look at waits and doesn't block does the same beside them as where nothing waits
   pub left_beside : (q : ProcessValue) → get (map process_entry before) pid ≡ Some q → state_passes is_blocked (get (map process_entry before) pid) ≡ false
       → AreBlocked before blocked → pid_of x ≡ pid → tells_blocking x ≡ false
-      → next_looks (next_for lib q) ≡ false → IsActed lib (world_value before r) pid x w2 → ListsBut (waits_by (next_for lib q) x r.waits) r.waits_made r2
+      → next_looks (next_for lib q) ≡ false → IsActed lib (world_value before r) pid x w2 → ListsBut (waits_by (next_for lib q) x r.waits) r.waits_made r r2
       → IsActed lib (world_blocked before r blocked) pid x (world_left after r2 blocked)
   left_beside q there unblocked are same goes looks acted lists =
       left_by (waits_by (next_for lib q) x r.waits) r.waits_made blocked
@@ -126,11 +127,11 @@ module _ (lib : Library) (before after : List Process) (r r2 : Objects) (pid : �
 
 -- a call that looks at waits is done beside them, and nothing goes with it
 pub left_looking : (lib : Library) (before after : List Process) (r r2 : Objects) (pid : ℕ) (q : ProcessValue) (call : CallName) (s : Site) (o : Outcome)
-    (blocked : List ℕ) → IsSoundWorld (world_blocked before r blocked)
+    (blocked : List ℕ) → IsSoundWorld (world_blocked before r blocked) → KeepSleepers r r2
     → get (map process_entry before) pid ≡ Some q → q.state ≡ Ready → next_for lib q ≡ AtCall call s
     → Calls lib (world_blocked before r blocked) pid s o (world_blocked after r2 blocked) → Settles (world_value after r2) (settled_world after r2)
     → IsActed lib (world_blocked before r blocked) pid (item.Call pid call o) (world_left (left_all after r2) r2 blocked)
-left_looking lib before after r r2 pid q call s o blocked sound there ready next calls settles =
+left_looking lib before after r r2 pid q call s o blocked sound asleep there ready next calls settles =
     left_by lib before (left_all after r2) r r2 pid (item.Call pid call o) blocked sound r2.waits r2.waits_made blocked
     (record {
       process = q;
@@ -140,4 +141,4 @@ left_looking lib before after r r2 pid q call s o blocked sound there ready next
       acts = rw next (o, refl, calls);
       settles = settles_waiting (world_value after r2) (settled_world after r2) settles r2.waits r2.waits_made blocked;
     })
-    (record { waits = λ test there. refl; made = refl })
+    (record { waits = λ test there. refl; made = refl; asleep = asleep })

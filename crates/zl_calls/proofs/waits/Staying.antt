@@ -141,6 +141,7 @@ none_ends ps ps2 r r2 handles objects all consistent =
       world = λ blocked. λ i. record (world_blocked (left_all ps2 r2) r2 blocked)
           { waits = sym (all_pass (is_left (world_value (left_all ps2 r2) r2)) r2.waits left) i };
       consistent = consistent;
+      asleep = (refl, refl);
     }
 
 -- in a sound world each wait is left

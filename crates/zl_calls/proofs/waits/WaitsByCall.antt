@@ -1,6 +1,7 @@
 -- What each call leaves of handles and objects, if it takes no handle, and of the list of registered waits: replace ends its own, and others end with
 -- objects and ports alone.
-use Rattle.zl_calls.proofs.Common.{◌≡◌, ◌+◌, ℕ, Bool, true, false, true≢false, false≢true, List, refl, ap, ◌∙◌, Option, Some, None, Result, Ok, Err, inl, inr}
+use Rattle.zl_calls.proofs.Common.{◌≡◌, ◌+◌, ℕ, Bool, true, false, true≢false, false≢true, List, refl, sym, subst, ap, ◌∙◌, Option, Some, None, Result, Ok}
+use Rattle.zl_calls.proofs.Common.{Err, inl, inr}
 use Rattle.zl_calls.proofs.Common.{⊤, get, has_key, has_key-update, update, is_empty, narrowed, then_some, with_rights, IsRefusedBy, Request, Site, site, close}
 use Rattle.zl_calls.proofs.Common.{dup, replace, chan_create, chan_write, event_create, eventpair_create, signal, signal_peer, wait_one, wait_async}
 use Rattle.zl_calls.proofs.Common.{port_create, port_queue, port_poll, port_wait, port_cancel, process_start, process_exit, job_create, job_set_policy}
@@ -14,6 +15,7 @@ use Rattle.zl_code.specs.Common.{task_kill, wait_poll}
 use Rattle.zl_code.specs.declared.history.Outcome.TheVariants as outcome
 use Rattle.zl_code.specs.declared.history.TraceItem.TheVariants as item
 use Rattle.zl_rights.specs.World.{Wait}
+use Rattle.zl_objects.specs.Awaited.{KeepSleepers}
 use Rattle.zl_rights.specs.declared.status.Status.TheVariants as status
 use Rattle.zl_table.specs.Table.{Handles}
 use Rattle.zl_objects.specs.Objects.{end_to, with_pair}
@@ -46,35 +48,38 @@ pub record Stays (p p2 : Process) (r r2 : Objects) : Type 0 where
   pub objects : KeepsObjects r r2
   pub waits : r2.waits ≡ r.waits
   pub made : r2.waits_made ≡ r.waits_made
+  pub asleep : KeepSleepers r r2
 
 module _ (p p2 : Process) (r r2 : Objects) where
   pub same_values : p2.table ≡ p.table → KeepsValues p.table.entries p2.table.entries
   same_values same v at = ap (λ (t : Handles). has_key t.entries v) same ∙ at
 
   -- the objects are these
-  stays : (x : Objects) → r2 ≡ x → x.waits ≡ r.waits → x.waits_made ≡ r.waits_made → KeepsObjects r x → KeepsValues p.table.entries p2.table.entries
-      → Stays p p2 r r2
-  stays x is same made objects values = record {
+  stays : (x : Objects) → r2 ≡ x → x.waits ≡ r.waits → x.waits_made ≡ r.waits_made → KeepSleepers r x → KeepsObjects r x
+      → KeepsValues p.table.entries p2.table.entries → Stays p p2 r r2
+  stays x is same made asleep objects values = record {
     values = values;
     objects = λ k at. ap (λ (y : Objects). has_key y.objects k) is ∙ objects k at;
     waits = ap (λ (y : Objects). y.waits) is ∙ same;
     made = ap (λ (y : Objects). y.waits_made) is ∙ made;
+    asleep = subst (KeepSleepers r) (sym is) asleep;
   }
 
   pub unchanged : p2.table ≡ p.table → r2 ≡ r → Stays p p2 r r2
-  unchanged same is = stays r is refl refl (λ k at. at) (same_values same)
+  unchanged same is = stays r is refl refl (refl, refl) (λ k at. at) (same_values same)
 
   -- one of them is as f leaves it
   changed : (k : ℕ) (f : Object → Object) → r2 ≡ record r { objects = update r.objects k f } → KeepsValues p.table.entries p2.table.entries → Stays p p2 r r2
-  changed k f is = stays (record r { objects = update r.objects k f }) is refl refl (λ j at. has_key-update r.objects k f j ∙ at)
+  changed k f is = stays (record r { objects = update r.objects k f }) is refl refl (refl, refl) (λ j at. has_key-update r.objects k f j ∙ at)
 
   one_made : (b : Body) (made : ℕ) → MakesOne b p.table r made p2.table r2 → Stays p p2 r r2
   one_made b made makes =
-      stays (with_new r b 1) makes.objects refl refl (more_objects r b 1) (one_entered p.table _ made p2.table makes.inserts)
+      stays (with_new r b 1) makes.objects refl refl (refl, refl) (more_objects r b 1) (one_entered p.table _ made p2.table makes.inserts)
 
   pair_made : (pair : Pair) (made : ℕ × ℕ) → MakesPair pair p.table r made p2.table r2 → Stays p p2 r r2
   pair_made pair made makes =
-      stays (with_pair r pair 1) makes.objects refl refl (λ k at. more_objects (with_new r _ 1) _ 1 k (more_objects r (end_to pair (r.next_koid + 1)) 1 k at))
+      stays (with_pair r pair 1) makes.objects refl refl (refl, refl) (λ k at. more_objects (with_new r _ 1) _ 1 k
+      (more_objects r (end_to pair (r.next_koid + 1)) 1 k at))
       (λ v at. one_entered makes.between _ made.1 p2.table makes.second v (one_entered p.table _ made.0 makes.between makes.first v at))
 
   -- where it is refused, nothing changes
@@ -127,10 +132,10 @@ module _ (p p2 : Process) (r r2 : Objects) where
     -- ---- any call that doesn't look at waits
 
     abbrev Listed : Request → Type 0
-    Listed request = ListsBut (waits_after request o p.pid r.waits) r.waits_made r2
+    Listed request = ListsBut (waits_after request o p.pid r.waits) r.waits_made r r2
 
-    lists : r2.waits ≡ r.waits → r2.waits_made ≡ r.waits_made → ListsBut r.waits r.waits_made r2
-    lists same made = record { waits = λ test there. ap (filter test) same; made = made }
+    lists : r2.waits ≡ r.waits → r2.waits_made ≡ r.waits_made → KeepSleepers r r2 → ListsBut r.waits r.waits_made r r2
+    lists same made asleep = record { waits = λ test there. ap (filter test) same; made = made; asleep = asleep }
 
     by_request : (request : Request) → looks_at_waits request ≡ false → ActsSo request → Listed request
     by_request (close h) plain acts = acts.acts.listed.listed
@@ -138,25 +143,32 @@ module _ (p p2 : Process) (r r2 : Objects) where
       where
         replaced : (answer : Result ℕ Status) → o ≡ outcome.Answered (status_of answer) → ReplaceDoes p.pid h asked p.table r answer p2.table r2
             → Listed (replace h asked)
-        replaced (Ok made) ends does = rw ends (record { waits = λ test there. ap (filter test) does.ok.ends.waits; made = does.ok.ends.made })
+        replaced (Ok made) ends does = rw ends (record {
+          waits = λ test there. ap (filter test) does.ok.ends.waits;
+          made = does.ok.ends.made;
+          asleep =
+              does.ok.ends.asleep;
+        })
         replaced (Err s) ends does = rw (ends, refused_replace (get p.table.entries h) h asked p.pid r.waits s does.err) does.closed.listed.listed
     by_request (chan_write end bytes hs) plain acts = written acts.answer acts.acts
       where
         written : (answer : Result ⊤ Status) → ChanWriteDoes end bytes hs p.table r answer p2.table r2 → Listed (chan_write end bytes hs)
-        written (Ok done) does = lists (ap (λ (y : Objects). y.waits) does.ok.objects) (ap (λ (y : Objects). y.waits_made) does.ok.objects)
+        written (Ok done) does =
+            lists (ap (λ (y : Objects). y.waits) does.ok.objects) (ap (λ (y : Objects). y.waits_made) does.ok.objects)
+            (subst (KeepSleepers r) (sym does.ok.objects) (refl, refl))
         written (Err s) does = does.closed.listed.listed
     by_request (process_exit code) plain acts = acts.over.listed.listed
     by_request (wait_async h port key mask) plain acts = absurd (true≢false plain)
     by_request (port_cancel port source key) plain acts = absurd (true≢false plain)
     by_request (process_start process h word) plain acts = absurd acts
     by_request (task_kill task) plain acts = absurd acts
-    by_request request plain acts = let same : Stays p p2 r r2 = request_stays request refl refl acts in lists same.waits same.made
+    by_request request plain acts = let same : Stays p p2 r r2 = request_stays request refl refl acts in lists same.waits same.made same.asleep
 
 -- ---- the call that stands next
 
 -- replace ends its own waits where it is done; but for those no call that doesn't look at waits ends any by itself
 pub acted_lists : (p p2 : Process) (r r2 : Objects) (pid : ℕ) (o : Outcome) (name : CallName) (at : Option Site) → p.pid ≡ pid
     → next_looks (calls_at name at) ≡ false → Acted at p r o p2 r2
-    → ListsBut (waits_by (calls_at name at) (item.Call pid name o) r.waits) r.waits_made r2
+    → ListsBut (waits_by (calls_at name at) (item.Call pid name o) r.waits) r.waits_made r r2
 acted_lists p p2 r r2 pid o name None same plain acts = absurd acts
 acted_lists p p2 r r2 pid o name (Some s) same plain acts = rw (← same) (by_request p p2 r r2 o s.consumed s.destinations s.request plain acts)

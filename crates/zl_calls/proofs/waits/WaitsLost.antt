@@ -22,7 +22,7 @@ filter_within {X} p q (x ∷ xs) within = elim (cases_Bool (q x)) as (λ _. filt
 
 -- where nothing goes
 pub listed_same : (r : Objects) → KeepsListed r r
-listed_same r = record { shrinks = λ k there. there; listed = record { waits = λ test there. refl; made = refl } }
+listed_same r = record { shrinks = λ k there. there; listed = record { waits = λ test there. refl; made = refl; asleep = (refl, refl) } }
 
 -- one after the other
 pub listed_then : (r mid r2 : Objects) → KeepsListed r mid → KeepsListed mid r2 → KeepsListed r r2
@@ -31,6 +31,7 @@ listed_then r mid r2 first later = record {
   listed = record {
     waits = λ test there. later.listed.waits test there ∙ first.listed.waits test (λ x passes. earlier x (there x passes));
     made = later.listed.made ∙ first.listed.made;
+    asleep = (later.listed.asleep.0 ∙ first.listed.asleep.0, later.listed.asleep.1 ∙ first.listed.asleep.1);
   };
 }
   where
@@ -46,6 +47,7 @@ leaves r r2 left shrinks = record {
   listed = record {
     waits = λ test there. ap (filter test) left.waits ∙ filter_within test (is_there r2.objects) r.waits there;
     made = left.made;
+    asleep = left.asleep;
   };
 }
 

@@ -74,4 +74,4 @@ module _ {before after : List Process} {r : Objects} {p p2 : Process} (lib : Lib
       (block_waiting lib (world_value before r) p.pid (process_value p) write.there ready name sleeps.at sleeps.next sleeps.awaited
       (free (process_value p) sleeps.at write.there sleeps.next ∙ sleeps.passes) sleeps.is_awaited (settled_world after r)
       (subst (λ u. Settles u (settled_world after r)) (sym asleep_world) (still_settles after r asleep_keeps)) r.waits r.waits_made blocked)
-      (record { waits = λ test there. refl; made = refl })
+      (record { waits = λ test there. refl; made = refl; asleep = (refl, refl) })

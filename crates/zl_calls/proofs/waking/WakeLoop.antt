@@ -1,7 +1,7 @@
 -- Blocked processes wake one after another, in the order of the list.
 use Rattle.zl_calls.proofs.Common.{◌≡◌, ◌<◌, ◌≤◌, ◌+◌, ◌^◌, ℕ, zero, suc, Bool, true, false, not, ◌==◌, ◌++◌, List, [], ◌∷◌, length, take, map, get_or, refl}
 use Rattle.zl_calls.proofs.Common.{sym, ap, ◌∙◌, subst, if◌then◌else◌, inl, inr, Some, IsTrue, arith, cases_Bool, eq-eqb, state_passes, get, Objects}
-use Rattle.zl_calls.proofs.Common.{process_entry, world_blocked, IsConsistent, AreBlocked, World, fold, times, WakesOne}
+use Rattle.zl_calls.proofs.Common.{process_entry, world_blocked, IsConsistent, AreBlocked, KeepSleepers, World, fold, times, WakesOne}
 use Rattle.std.specs.List.{filter}
 use Rattle.std.specs.Prelude.{drop}
 use Rattle.zl_code.proofs.Common.{Process as ProcessValue, is_blocked, woken}
@@ -16,6 +16,7 @@ pub record IsWaking (ps0 : List Process) (r0 : Objects) (first : List ℕ) (capa
   pub list : AreBlocked ps blocked
   pub count : length ps ≡ length ps0
   pub same_room : capacity ≡ capacity0
+  pub asleep : KeepSleepers r0 r
 
 -- ---- places of a list
 
@@ -99,7 +100,7 @@ module _ (ps : List Process) (blocked : List ℕ) (are : AreBlocked ps blocked) 
 
 module _ (ps0 : List Process) (r0 : Objects) (first : List ℕ) (capacity0 : ℕ) where
   pub begins : IsConsistent ps0 r0 → AreBlocked ps0 first → IsWaking ps0 r0 first capacity0 0 ps0 r0 first capacity0
-  begins consistent are = record { so_far = refl; consistent = consistent; list = are; count = refl; same_room = refl }
+  begins consistent are = record { so_far = refl; consistent = consistent; list = are; count = refl; same_room = refl; asleep = (refl, refl) }
 
   module _ (i : ℕ) (ps : List Process) (r : Objects) (blocked : List ℕ) (capacity : ℕ) (so_far : IsWaking ps0 r0 first capacity0 i ps r blocked capacity) where
     module _ (d pid : ℕ) (within : i < length blocked) (at : get_or blocked i d ≡ pid) (ps2 : List Process) (r2 : Objects) where
@@ -107,8 +108,9 @@ module _ (ps0 : List Process) (r0 : Objects) (first : List ℕ) (capacity0 : ℕ
       turn_is = ap (fold woken (world_blocked ps r blocked)) (drop_at blocked i d within ∙ ap (λ (x : ℕ). x ∷ drop (suc i) blocked) at)
 
       -- it woke, and left the list
-      pub turn_awake : WakesOne pid true ps r ps2 r2 → IsWaking ps0 r0 first capacity0 i ps2 r2 (take i blocked ++ drop (suc i) blocked) capacity
-      turn_awake wakes_it =
+      pub turn_awake : WakesOne pid true ps r ps2 r2 → KeepSleepers r r2 → IsWaking ps0 r0 first capacity0 i ps2 r2 (take i blocked ++ drop (suc i) blocked)
+          capacity
+      turn_awake wakes_it same =
           let gone = removed_is ps blocked so_far.list i d pid within at in
           record {
             so_far = ap (fold woken (world_blocked ps2 r2 (take i blocked ++ drop (suc i) blocked))) (drop_removed blocked i within)
@@ -118,11 +120,12 @@ module _ (ps0 : List Process) (r0 : Objects) (first : List ℕ) (capacity0 : ℕ
             list = subst (AreBlocked ps2) gone (wakes_it.list blocked so_far.list);
             count = wakes_it.count ∙ so_far.count;
             same_room = so_far.same_room;
+            asleep = (same.0 ∙ so_far.asleep.0, same.1 ∙ so_far.asleep.1);
           }
 
       -- it stays blocked
-      pub turn_asleep : WakesOne pid false ps r ps2 r2 → IsWaking ps0 r0 first capacity0 (i + 1) ps2 r2 blocked capacity
-      turn_asleep wakes_it = record {
+      pub turn_asleep : WakesOne pid false ps r ps2 r2 → KeepSleepers r r2 → IsWaking ps0 r0 first capacity0 (i + 1) ps2 r2 blocked capacity
+      turn_asleep wakes_it same = record {
         so_far = ap (fold woken (world_blocked ps2 r2 blocked)) (ap (λ (n : ℕ). drop n blocked) add_one)
             ∙ (ap (λ (w : World). fold woken w (drop (suc i) blocked)) (wakes_it.world blocked)
             ∙ (sym turn_is ∙ so_far.so_far));
@@ -130,6 +133,7 @@ module _ (ps0 : List Process) (r0 : Objects) (first : List ℕ) (capacity0 : ℕ
         list = wakes_it.list blocked so_far.list;
         count = wakes_it.count ∙ so_far.count;
         same_room = so_far.same_room;
+        asleep = (same.0 ∙ so_far.asleep.0, same.1 ∙ so_far.asleep.1);
       }
         where
           add_one : i + 1 ≡ suc i

@@ -4,7 +4,7 @@ use Rattle.zl_calls.proofs.Common.{Some, None, is_some, inl, inr, ◌⊎◌, IsT
 use Rattle.zl_calls.proofs.Common.{get, put, update, get-put, get-update, is_sorted-update, sorted_put, runs, lives, is_process, Objects, body_value}
 use Rattle.zl_calls.proofs.Common.{object_entry, object_value, process_entry, process_value, state_value, world_blocked, world_value, Agrees, IsConsistent}
 use Rattle.zl_calls.proofs.Common.{PortBody, passes, length-set, same_map, Packet, PacketAt, SignalOf, packet_values, body_packed, packet_taken, at_port}
-use Rattle.zl_calls.proofs.Common.{changed_port, changing_port, packets_in, packets_of, signals_at, get_seen, without_front, WakesOne}
+use Rattle.zl_calls.proofs.Common.{changed_port, changing_port, packets_in, packets_of, signals_at, get_seen, without_front, KeepSleepers, WakesOne}
 use Rattle.std.specs.Bool.{then_some}
 use Rattle.std.specs.List.{filter}
 use Rattle.std.specs.Prelude.{slice_get, drop}
@@ -233,3 +233,9 @@ wakes_none ps r pid consistent missing = record {
   consistent = consistent;
   count = refl;
 }
+
+-- it takes a packet at most, so who may be blocked is as before
+pub taken_asleep : (s : StateValue) (r r2 : Objects) → r2 ≡ without_taken s r → KeepSleepers r r2
+taken_asleep (Blocked (PacketAt port) ds) r r2 is = (ap (λ (y : Objects). y.sleepers) is, ap (λ (y : Objects). y.crowded) is)
+taken_asleep (Blocked (SignalOf koid mask) ds) r r2 is = (ap (λ (y : Objects). y.sleepers) is, ap (λ (y : Objects). y.crowded) is)
+taken_asleep _ r r2 is = (ap (λ (y : Objects). y.sleepers) is, ap (λ (y : Objects). y.crowded) is)

@@ -1,5 +1,6 @@
 -- What chan_read_etc does. No public clause cites this module.
-use Rattle.std.specs.Prelude.{ℕ, ◌≡◌, ◌+◌, Bool, true, not, nat_le, nat_lt, List, [], ◌∷◌, ◌++◌, length, Option, Some, Result, Ok, Err, IfOk, IfErr, IsTrue, OnErr, if◌then◌else◌, is_some, slice_get, slice_index}
+use Rattle.std.specs.Prelude.{ℕ, ◌≡◌, ◌+◌, Bool, true, not, nat_le, nat_lt, List, [], ◌∷◌, ◌++◌, length, Option, Some, Result, Ok, Err, IfOk, IfErr, IsTrue}
+use Rattle.std.specs.Prelude.{OnErr, if◌then◌else◌, is_some, slice_get, slice_index}
 use Rattle.zl_code.specs.Common.{Map, get}
 use Rattle.zl_code.specs.Asked.{triples_from}
 use Rattle.zl_code.specs.Calls.{wanted}

@@ -15,10 +15,10 @@ ghost use Rattle.zl_calls.specs.calls.Port.{PortCreateDoes, PortPollDoes, PortQu
 
 use crate::calls::handle::live_at;
 use crate::calls::{check_room, look_up, make_object};
-use crate::process::{Awaited, Process, State};
+use crate::process::{Process, State};
 use crate::waits::{cancel_waits, is_keyed};
 use zl_code::{CallInstr, Outcome};
-use zl_objects::Objects;
+use zl_objects::{Awaited, Objects};
 use zl_port::{Packet, QueueFault, Source};
 use zl_rights::{HValue, Kind, Koid, Pid, Rights, Status};
 use zl_table::Table;

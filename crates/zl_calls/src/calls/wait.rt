@@ -12,10 +12,10 @@ ghost use Rattle.zl_calls.specs.calls.Wait.{polled_at, watched_at};
 
 use crate::calls::handle::live_at;
 use crate::calls::look_up;
-use crate::process::{Awaited, Process, State};
+use crate::process::{Process, State};
 use bitflags::Flags;
 use zl_code::{CallInstr, Outcome};
-use zl_objects::{Objects, Wait};
+use zl_objects::{Awaited, Objects, Wait};
 use zl_rights::{Kind, Koid, Pid, Rights, Signals, Status};
 use zl_table::Table;
 

@@ -87,6 +87,24 @@ returns-in-Some-run_next-clause-list c = (moved c.before).list
 pub returns-clause-list : goal.returns-clause-list
 returns-clause-list c = (stopped c.before.before).list
 
+pub returns-in-Some-clause-fewer : goal.returns-in-Some-clause-fewer
+returns-in-Some-clause-fewer c = (called c.before).fewer
+
+pub returns-in-Some-run_next-clause-fewer : goal.returns-in-Some-run_next-clause-fewer
+returns-in-Some-run_next-clause-fewer c = (moved c.before).fewer
+
+pub returns-clause-fewer : goal.returns-clause-fewer
+returns-clause-fewer c = (stopped c.before.before).fewer
+
+pub returns-in-Some-clause-asleep : goal.returns-in-Some-clause-asleep
+returns-in-Some-clause-asleep c = (called c.before).asleep
+
+pub returns-in-Some-run_next-clause-asleep : goal.returns-in-Some-run_next-clause-asleep
+returns-in-Some-run_next-clause-asleep c = (moved c.before).asleep
+
+pub returns-clause-asleep : goal.returns-clause-asleep
+returns-clause-asleep c = (stopped c.before.before).asleep
+
 pub returns-in-Some-clause-consistent : goal.returns-in-Some-clause-consistent
 returns-in-Some-clause-consistent c = (called c.before).consistent
 
@@ -110,6 +128,7 @@ returns-in-Some-clause-unheld d none =
     let c = d.before in
     called_spares (turn_at c.args.processes.now.list.items c.args.objects.now c.args.blocked.now.items c.args.pid c.in_ok-place.place c.index.result.now
     c.requires.consistent c.requires.list c.requires.sound c.in_ok-place.ensures.first c.index.ensures (sym c.is_ready.ensures ∙ c.if-not-is_ready.false))
-    c.args.library.now (parts c.call_checked.new.processes.list.items c.call_checked.new.objects c.call_checked.new.blocked.items) c.in-Some.outcome c.in-Some.call
+    c.args.library.now (parts c.call_checked.new.processes.list.items c.call_checked.new.objects c.call_checked.new.blocked.items) c.in-Some.outcome
+    c.in-Some.call
     ((c.in-Some.ensures {u = tt}).calls c.index.result.now (here c.args.processes.now.list.items c.args.pid c.in_ok-place.place c.index.result.now
     c.in_ok-place.ensures.first c.index.ensures)) none c.leave.new.processes.items c.leave.ensures (called c).consistent

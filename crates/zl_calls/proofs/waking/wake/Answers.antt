@@ -14,7 +14,7 @@ loop-place-preserved-then-wake_one c =
     c.loop-place.place c.loop-place.processes.list.items c.loop-place.objects c.loop-place.blocked.items (vec_capacity c.loop-place.blocked)
     c.loop-place.invariant
     c.index.result.now c.index.result.now (omega (arith, c.loop-place-test.true, c.len.ensures, c.loop-place.blocked.ok.0)) (sym c.index.ensures)
-    c.wake_one.new.processes.list.items c.wake_one.new.objects (rw c.if-wake_one.true at c.wake_one.ensures))
+    c.wake_one.new.processes.list.items c.wake_one.new.objects (rw c.if-wake_one.true at c.wake_one.ensures.wakes) c.wake_one.ensures.asleep)
 
 pub returns-clause-wakes : goal.returns-clause-wakes
 returns-clause-wakes c =

@@ -1,12 +1,16 @@
-use Rattle.zl_calls.proofs.waking.Woken.{wakes_none, wakes_one}
+use Rattle.zl_calls.proofs.Common.{refl, state_value}
+use Rattle.zl_calls.proofs.waking.Woken.{taken_asleep, wakes_none, wakes_one}
 use Rattle.zl_calls.proofs.waking.wake_one.Goals as goal
 
 pub returns-in-Some : goal.returns-in-Some
 returns-in-Some c =
     rw (c.wake_process.ensures.woke)
-    (wakes_one c.args.processes.now.list.items c.args.objects.now c.requires.consistent c.args.pid c.in-Some.place c.index_mut.result.now
-    c.in-Some.ensures.first c.index_mut.ensures.value c.wake_process.new.process c.wake_process.new.objects
-    c.wake_process.ensures.process c.wake_process.ensures.objects)
+    (record {
+      wakes = wakes_one c.args.processes.now.list.items c.args.objects.now c.requires.consistent c.args.pid c.in-Some.place c.index_mut.result.now
+          c.in-Some.ensures.first c.index_mut.ensures.value c.wake_process.new.process c.wake_process.new.objects
+          c.wake_process.ensures.process c.wake_process.ensures.objects;
+      asleep = taken_asleep (state_value c.index_mut.result.now.state) c.args.objects.now c.wake_process.new.objects c.wake_process.ensures.objects;
+    })
 
 pub invariant_of-processes : goal.invariant_of-processes
 invariant_of-processes c = record {
@@ -16,4 +20,7 @@ invariant_of-processes c = record {
 }
 
 pub returns-in-None : goal.returns-in-None
-returns-in-None c = wakes_none c.args.processes.now.list.items c.args.objects.now c.args.pid c.requires.consistent c.in-None.ensures.found
+returns-in-None c = record {
+  wakes = wakes_none c.args.processes.now.list.items c.args.objects.now c.args.pid c.requires.consistent c.in-None.ensures.found;
+  asleep = (refl, refl);
+}

@@ -1,6 +1,6 @@
 use Rattle.zl_calls.proofs.Common.{◌≡◌, arith, refl, sym, ◌∙◌, site_of, common_steps, reg}
 use Rattle.std.specs.Prelude.{slice_index}
-use Rattle.zl_calls.specs.declared.process.Awaited.TheVariants as awaits
+use Rattle.zl_objects.specs.declared.awaited.Awaited.TheVariants as awaits
 use Rattle.zl_calls.specs.declared.process.State.TheVariants as state
 use Rattle.zl_calls.proofs.calls.Waited.{packet_comes, port_blocks, port_refuses}
 use Rattle.zl_code.specs.declared.history.CallName.TheVariants as name

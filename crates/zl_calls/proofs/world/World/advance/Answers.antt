@@ -4,8 +4,9 @@ use Rattle.zl_calls.specs.declared.process.Process.{Process}
 use Rattle.zl_calls.proofs.stepping.Advancing.{advances, advanced_programs, advanced_sound, cpu_stands, program_stands, read_there, ready_there}
 use Rattle.zl_calls.proofs.stepping.Covered.{advanced_covered}
 use Rattle.zl_calls.proofs.stepping.LocalMoves.{moved_awake, moved_keeps, moved_list, moved_world}
-use Rattle.zl_calls.proofs.stepping.Performing.{AtTurn, turn_at}
+use Rattle.zl_calls.proofs.stepping.Performing.{AtTurn, turn_at, unblocked, write_of}
 use Rattle.zl_calls.proofs.stepping.StepItems.{machine_value}
+use Rattle.zl_calls.proofs.waking.StillBlocked.{written_sought}
 use Rattle.zl_calls.proofs.world.World.advance.Goals as goal
 
 module _ (c : goal.After-self-1) where
@@ -58,6 +59,7 @@ invariant_of-self c = record {
   sound = advanced_sound (turn (written c)) c.self.inside.library c.self.invariant.awake c.args.done.program (program (written c)) c.args.done.ran
       (p2 (written c)) refl (follows (written c));
   are_blocked = moved_list (turn (written c)) (p2 (written c)) refl;
+  sought = written_sought (write_of (turn (written c)) (p2 (written c)) refl) c.self.inside.objects (unblocked (turn (written c))) c.self.invariant.sought;
   room = rw (length-set c.self.inside.processes.list.items c.in-Some.place (p2 (written c))) c.self.invariant.room;
   awake = moved_awake (turn (written c)) (p2 (written c)) refl c.self.invariant.awake;
   programs = advanced_programs (turn (written c)) c.self.inside.library c.self.invariant.awake c.args.done.program (program (written c))

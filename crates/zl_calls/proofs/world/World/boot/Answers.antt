@@ -2,8 +2,9 @@ use Rattle.zl_code.proofs.AwakeRuns.{boot_awake}
 use Rattle.zl_code.proofs.ProgramsKept.{boot_programs}
 use Rattle.zl_code.specs.Boot.{IsBoot}
 use Rattle.zl_verify.proofs.Covering.{boot_covered}
-use Rattle.zl_calls.proofs.Common.{arith, world_blocked}
+use Rattle.zl_calls.proofs.Common.{AreBlocked, arith, world_blocked}
 use Rattle.zl_calls.proofs.booting.BootBlocked.{booted_boots, booted_sound, none_blocked}
+use Rattle.zl_calls.proofs.waking.StillBlocked.{none_sought}
 use Rattle.zl_calls.proofs.world.World.boot.Goals as goal
 
 boots : (c : goal.After-result-1) → IsBoot c.args.library c.args.boot.now.statements.items
@@ -11,6 +12,11 @@ boots : (c : goal.After-result-1) → IsBoot c.args.library c.args.boot.now.stat
 boots c = booted_boots c.args.library c.args.boot.now.statements.items c.in_ok-processes.field-0.processes.items c.in_ok-processes.field-0.objects
     c.in-Ok.blocked.items
     c.in_ok-processes.ensures.ok c.in_ok-processes.ensures.unwatched ((c.in-Ok.ensures {u = tt}).items)
+
+are : (c : goal.After-result-1) → AreBlocked c.in_ok-processes.field-0.processes.items c.in-Ok.blocked.items
+are c = none_blocked c.args.library c.args.boot.now.statements.items c.in_ok-processes.field-0.processes.items c.in_ok-processes.field-0.objects
+    c.in-Ok.blocked.items
+    c.in_ok-processes.ensures.ok ((c.in-Ok.ensures {u = tt}).items)
 
 pub invariant_of-result : goal.invariant_of-result
 invariant_of-result c = record { in_order = c.in_ok-processes.ensures.consistent.processes_in_order }
@@ -22,10 +28,9 @@ invariant_of-result-2 c = record {
       booted_sound c.args.library c.args.boot.now.statements.items c.in_ok-processes.field-0.processes.items c.in_ok-processes.field-0.objects
       c.in-Ok.blocked.items
       c.in_ok-processes.ensures.ok c.in_ok-processes.ensures.unwatched ((c.in-Ok.ensures {u = tt}).items);
-  are_blocked =
-      none_blocked c.args.library c.args.boot.now.statements.items c.in_ok-processes.field-0.processes.items c.in_ok-processes.field-0.objects
-      c.in-Ok.blocked.items
-      c.in_ok-processes.ensures.ok ((c.in-Ok.ensures {u = tt}).items);
+  are_blocked = are c;
+  sought = none_sought c.in_ok-processes.field-0.processes.items c.in_ok-processes.field-0.objects c.in-Ok.blocked.items
+      ((c.in-Ok.ensures {u = tt}).items) (are c);
   awake = boot_awake c.args.library c.args.boot.now.statements.items _ (boots c);
   programs = boot_programs c.args.library c.args.boot.now.statements.items _ (boots c);
   verified = c.len-2.ensures.verified;

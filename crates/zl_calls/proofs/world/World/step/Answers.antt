@@ -1,7 +1,9 @@
-use Rattle.zl_calls.proofs.Common.{◌≡◌, ◌≤◌, ◌∙◌, ℕ, true, arith, length, subst, sym, List, AreBlocked, TakesStep, is_local, then_blocked}
+use Rattle.zl_calls.proofs.Common.{◌≡◌, ◌≤◌, ◌∙◌, ℕ, true, false≢true, arith, length, subst, sym, vec_capacity, List, AreBlocked, TakesStep, is_local}
+use Rattle.zl_calls.proofs.Common.{then_blocked}
 use Rattle.zl_calls.proofs.waking.BlockedLists.{no_more}
-use Rattle.zl_calls.proofs.stepping.Covered.{stepped_covered}
-use Rattle.zl_calls.proofs.stepping.StepItems.{machine_value, local_list, not_ready_in, stepped_awake, stepped_programs, stepped_sound, takes_local, takes_step}
+use Rattle.zl_calls.proofs.waking.StillBlocked.{acted_sought, same_seeks, silent}
+use Rattle.zl_calls.proofs.stepping.StepItems.{machine_value, local_list, not_ready_in, takes_local}
+use Rattle.zl_calls.proofs.stepping.Whole.{asleep_consistent, calmed_step, calmed_whole, nothing_holds, quiet_step, quiet_whole, stepped_whole}
 use Rattle.zl_calls.proofs.world.World.step.Goals as goal
 
 pub returns-in_err-item-clause-not_ready : goal.returns-in_err-item-clause-not_ready
@@ -10,17 +12,38 @@ returns-in_err-item-clause-not_ready c =
     (not_ready_in c.self.inside.library c.self.inside.processes.list.items c.self.inside.objects c.self.inside.blocked.items c.args.pid c.from_residual.result
     c.in_err-item.ensures.not_ready)
 
-steps : (c : goal.After-wake) → TakesStep (machine_value c.self.inside.library c.self.inside.processes.list.items c.self.inside.objects
-    c.self.inside.blocked.items)
-    c.args.pid (machine_value c.self.inside.library c.wake.new.processes.list.items c.wake.new.objects c.wake.new.blocked.items) c.in_ok-item.item
-steps c =
-    takes_step c.self.inside.library c.self.inside.processes.list.items c.self.inside.objects c.self.inside.blocked.items c.args.pid
-    c.act_for.new.processes.list.items c.wake.new.processes.list.items c.act_for.new.objects c.end_behind.new.objects c.fire_waits.new.objects
-    c.wake.new.objects _ c.wake.new.blocked.items c.in_ok-item.item c.in_ok-item.ensures.acts c.end_behind.ensures c.fire_waits.ensures
-    (rw c.add_blocked.ensures.items at c.wake.ensures.wakes)
+-- ---- something waits at an object that the call touched
+
+pub fire_waits-requires : goal.fire_waits-requires
+fire_waits-requires c =
+    asleep_consistent c.self.inside.library c.self.inside.processes.list.items c.self.inside.objects c.self.inside.blocked.items
+    (vec_capacity c.self.inside.blocked)
+    c.args.pid c.in_ok-item.item c.self.invariant
+    c.act_for.new.processes.list.items c.act_for.new.objects c.end_behind.new.objects c.fall_asleep.new.objects
+    c.act_for.new.blocked.items c.in_ok-item.ensures.acts c.in_ok-item.ensures.list c.in_ok-item.ensures.fewer c.in_ok-item.ensures.asleep
+    c.end_behind.ensures c.fall_asleep.ensures
+
+pub calm-requires : goal.calm-requires
+calm-requires c =
+    nothing_holds c.self.inside.library c.self.inside.processes.list.items c.self.inside.objects c.self.inside.blocked.items
+    (vec_capacity c.self.inside.blocked)
+    c.args.pid c.in_ok-item.item c.self.invariant
+    c.act_for.new.processes.list.items c.act_for.new.objects c.end_behind.new.objects c.fall_asleep.new.objects
+    c.act_for.new.blocked.items c.in_ok-item.ensures.acts c.in_ok-item.ensures.list c.in_ok-item.ensures.fewer c.in_ok-item.ensures.asleep
+    c.end_behind.ensures c.fall_asleep.ensures
+    c.fire_waits.new.objects c.fire_waits.ensures c.wake.new.processes.list.items c.wake.new.objects c.wake.new.blocked.items
+    (rw c.add_blocked.ensures.items at c.wake.ensures.wakes) c.wake.ensures.list c.wake.ensures.consistent c.wake.ensures.asleep
 
 pub returns-clause-ran : goal.returns-clause-ran
-returns-clause-ran c = rw (← c.self.view_is) (steps c)
+returns-clause-ran c = rw (← c.self.view_is)
+    (calmed_step c.self.inside.library c.self.inside.processes.list.items c.self.inside.objects c.self.inside.blocked.items (vec_capacity c.self.inside.blocked)
+    c.args.pid c.in_ok-item.item c.self.invariant
+    c.act_for.new.processes.list.items c.act_for.new.objects c.end_behind.new.objects c.fall_asleep.new.objects
+    c.act_for.new.blocked.items c.in_ok-item.ensures.acts c.in_ok-item.ensures.list c.in_ok-item.ensures.fewer c.in_ok-item.ensures.asleep
+    c.end_behind.ensures c.fall_asleep.ensures
+    c.fire_waits.new.objects c.fire_waits.ensures c.wake.new.processes.list.items c.wake.new.objects c.wake.new.blocked.items
+    (rw c.add_blocked.ensures.items at c.wake.ensures.wakes) c.wake.ensures.list c.wake.ensures.consistent c.wake.ensures.asleep
+    c.calm.new.self c.calm.ensures.same c.calm.ensures.sleepers)
 
 pub add_blocked-requires : goal.add_blocked-requires
 add_blocked-requires c =
@@ -29,21 +52,37 @@ add_blocked-requires c =
     omega (arith, few, c.act_for.ensures.room)
 
 pub invariant_of-self-2 : goal.invariant_of-self-2
-invariant_of-self-2 c = record {
-  consistent = c.wake.ensures.consistent;
-  sound = stepped_sound c.self.inside.library c.self.inside.processes.list.items c.wake.new.processes.list.items c.self.inside.objects c.wake.new.objects
-      c.self.inside.blocked.items c.wake.new.blocked.items c.args.pid c.in_ok-item.item (steps c) c.self.invariant.sound;
-  are_blocked = c.wake.ensures.list;
-  room = omega (arith, c.wake.ensures.count, c.wake.ensures.capacity, c.add_blocked.ensures.capacity, c.act_for.ensures.room);
-  awake = stepped_awake c.self.inside.library c.self.inside.processes.list.items c.wake.new.processes.list.items c.self.inside.objects c.wake.new.objects
-      c.self.inside.blocked.items c.wake.new.blocked.items c.args.pid c.in_ok-item.item (steps c);
-  programs = stepped_programs c.self.inside.library c.self.inside.processes.list.items c.wake.new.processes.list.items c.self.inside.objects c.wake.new.objects
-      c.self.inside.blocked.items c.wake.new.blocked.items c.args.pid c.in_ok-item.item (steps c) c.self.invariant.programs;
-  verified = c.self.invariant.verified;
-  covered = stepped_covered c.self.inside.library c.self.invariant.verified c.self.inside.processes.list.items c.wake.new.processes.list.items
-      c.self.inside.objects c.wake.new.objects c.self.inside.blocked.items c.wake.new.blocked.items c.args.pid c.in_ok-item.item (steps c)
-      c.self.invariant.sound c.self.invariant.covered;
-}
+invariant_of-self-2 c =
+    calmed_whole c.self.inside.library c.self.inside.processes.list.items c.self.inside.objects c.self.inside.blocked.items (vec_capacity c.self.inside.blocked)
+    c.args.pid c.in_ok-item.item c.self.invariant
+    c.act_for.new.processes.list.items c.act_for.new.objects c.end_behind.new.objects c.fall_asleep.new.objects
+    c.act_for.new.blocked.items c.in_ok-item.ensures.acts c.in_ok-item.ensures.list c.in_ok-item.ensures.fewer c.in_ok-item.ensures.asleep
+    c.end_behind.ensures c.fall_asleep.ensures
+    c.fire_waits.new.objects c.fire_waits.ensures c.wake.new.processes.list.items c.wake.new.objects c.wake.new.blocked.items
+    (rw c.add_blocked.ensures.items at c.wake.ensures.wakes) c.wake.ensures.list c.wake.ensures.consistent c.wake.ensures.asleep
+    c.calm.new.self c.calm.ensures.same c.calm.ensures.sleepers (vec_capacity c.wake.new.blocked)
+    (omega (arith, c.wake.ensures.count, c.wake.ensures.capacity, c.add_blocked.ensures.capacity, c.act_for.ensures.room))
+
+-- ---- nothing waits there
+
+pub returns-then-is_quiet-clause-ran : goal.returns-then-is_quiet-clause-ran
+returns-then-is_quiet-clause-ran c = rw (← c.self.view_is, c.add_blocked.ensures.items)
+    (quiet_step c.self.inside.library c.self.inside.processes.list.items c.self.inside.objects c.self.inside.blocked.items (vec_capacity c.self.inside.blocked)
+    c.args.pid c.in_ok-item.item c.self.invariant
+    c.act_for.new.processes.list.items c.act_for.new.objects c.end_behind.new.objects c.fall_asleep.new.objects
+    c.act_for.new.blocked.items c.in_ok-item.ensures.acts c.in_ok-item.ensures.list c.in_ok-item.ensures.fewer c.in_ok-item.ensures.asleep
+    c.end_behind.ensures c.fall_asleep.ensures
+    (c.is_quiet.ensures.waits c.if-is_quiet.true) (c.is_quiet.ensures.sleepers c.if-is_quiet.true))
+
+pub invariant_of-self-then-is_quiet : goal.invariant_of-self-then-is_quiet
+invariant_of-self-then-is_quiet c = rw c.add_blocked.ensures.items
+    (quiet_whole c.self.inside.library c.self.inside.processes.list.items c.self.inside.objects c.self.inside.blocked.items (vec_capacity c.self.inside.blocked)
+    c.args.pid c.in_ok-item.item c.self.invariant
+    c.act_for.new.processes.list.items c.act_for.new.objects c.end_behind.new.objects c.fall_asleep.new.objects
+    c.act_for.new.blocked.items c.in_ok-item.ensures.acts c.in_ok-item.ensures.list c.in_ok-item.ensures.fewer c.in_ok-item.ensures.asleep
+    c.end_behind.ensures c.fall_asleep.ensures
+    (c.is_quiet.ensures.waits c.if-is_quiet.true) (c.is_quiet.ensures.sleepers c.if-is_quiet.true) (vec_capacity c.add_blocked.new.blocked)
+    (omega (arith, c.add_blocked.ensures.capacity, c.act_for.ensures.room)))
 
 -- ---- a local instruction, behind which nothing is due
 
@@ -63,19 +102,17 @@ invariant_of-self-then-is_local c =
     = takes_local c.self.inside.library c.self.inside.processes.list.items c.self.inside.objects c.self.inside.blocked.items c.args.pid
     c.act_for.new.processes.list.items c.act_for.new.objects c.act_for.new.blocked.items c.in_ok-item.item local
     c.in_ok-item.ensures.acts (c.in_ok-item.ensures.quiet local c.self.invariant.awake) in
-    record {
-      consistent = c.act_for.ensures.consistent;
-      sound = stepped_sound c.self.inside.library c.self.inside.processes.list.items c.act_for.new.processes.list.items c.self.inside.objects
-          c.act_for.new.objects c.self.inside.blocked.items c.act_for.new.blocked.items c.args.pid c.in_ok-item.item taken c.self.invariant.sound;
-      are_blocked = subst (λ (ks : List ℕ). AreBlocked c.act_for.new.processes.list.items ks)
-          (local_list c.args.pid c.in_ok-item.item c.act_for.new.blocked.items local) c.in_ok-item.ensures.list;
-      room = c.act_for.ensures.room;
-      awake = stepped_awake c.self.inside.library c.self.inside.processes.list.items c.act_for.new.processes.list.items c.self.inside.objects
-          c.act_for.new.objects c.self.inside.blocked.items c.act_for.new.blocked.items c.args.pid c.in_ok-item.item taken;
-      programs = stepped_programs c.self.inside.library c.self.inside.processes.list.items c.act_for.new.processes.list.items c.self.inside.objects
-          c.act_for.new.objects c.self.inside.blocked.items c.act_for.new.blocked.items c.args.pid c.in_ok-item.item taken c.self.invariant.programs;
-      verified = c.self.invariant.verified;
-      covered = stepped_covered c.self.inside.library c.self.invariant.verified c.self.inside.processes.list.items c.act_for.new.processes.list.items
-          c.self.inside.objects c.act_for.new.objects c.self.inside.blocked.items c.act_for.new.blocked.items c.args.pid c.in_ok-item.item taken
-          c.self.invariant.sound c.self.invariant.covered;
-    }
+    let list : AreBlocked c.act_for.new.processes.list.items c.act_for.new.blocked.items =
+    subst (λ (ks : List ℕ). AreBlocked c.act_for.new.processes.list.items ks)
+    (local_list c.args.pid c.in_ok-item.item c.act_for.new.blocked.items local) c.in_ok-item.ensures.list in
+    stepped_whole c.self.inside.library c.self.inside.processes.list.items c.self.inside.objects c.self.inside.blocked.items
+    (vec_capacity c.self.inside.blocked)
+    c.args.pid c.in_ok-item.item c.self.invariant
+    c.act_for.new.processes.list.items c.act_for.new.objects c.act_for.new.blocked.items (vec_capacity c.act_for.new.blocked) taken
+    c.act_for.ensures.consistent list
+    (acted_sought c.self.inside.library c.self.inside.processes.list.items c.act_for.new.processes.list.items c.self.inside.objects c.act_for.new.objects
+    c.act_for.new.objects c.self.inside.blocked.items c.act_for.new.blocked.items c.args.pid c.in_ok-item.item c.self.invariant.sound
+    c.in_ok-item.ensures.acts c.self.invariant.are_blocked c.in_ok-item.ensures.list c.in_ok-item.ensures.fewer c.self.invariant.sought
+    (λ k a apart there. same_seeks c.self.inside.objects c.act_for.new.objects c.in_ok-item.ensures.asleep k a there)
+    (λ told. absurd (false≢true (sym (silent c.in_ok-item.item local) ∙ told))))
+    c.act_for.ensures.room

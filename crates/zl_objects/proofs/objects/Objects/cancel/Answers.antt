@@ -2,9 +2,10 @@ use Rattle.std.proofs.Common.{rules, refl, ◌≡◌, Some, vec_capacity}
 use Rattle.std.specs.BTreeMap.{is_at}
 use Rattle.std.specs.Map.{lookup, set_value}
 use Rattle.std.specs.Ordering.{nat_cmp}
-use Rattle.zl_port.specs.Packets.{is_from, without_packets}
+use Rattle.zl_port.specs.Packets.{Port, is_from, without_packets}
 use Rattle.zl_objects.specs.Ports.{at_port}
 use Rattle.zl_objects.proofs.ByKoid.{written}
+use Rattle.zl_objects.proofs.CalmChanges.{port_calm, some_out}
 use Rattle.zl_objects.proofs.Kept.{port_kept}
 use Rattle.zl_objects.proofs.objects.Objects.cancel.Goals as goal
 
@@ -13,11 +14,19 @@ invariant_of-self-2 c =
     let there : Some c.in-Some.object.now ≡ lookup (is_at (nat_cmp c.args.koid)) c.self.inside.by_koid.entries = search rules in
     let set : (c.get_mut.follows.lender c.cancel.new.self).entries ≡ set_value (is_at (nat_cmp c.args.koid)) c.self.inside.by_koid.entries c.cancel.new.self =
     search rules in
-    port_kept (λ p. without_packets p (is_from c.args.source c.args.key)) (λ p. refl) c.self.inside.by_koid.entries
-    (c.get_mut.follows.lender c.cancel.new.self).entries c.self.inside.next_koid (vec_capacity c.self.inside.dying) c.args.koid c.self.inside.dying.items
-    c.self.invariant
-    (written c.self.inside.by_koid.entries _ c.args.koid (at_port (λ p. without_packets p (is_from c.args.source c.args.key))) c.in-Some.object.now
-    c.cancel.new.self there c.cancel.ensures.rest set)
+    let out : Port → Port = λ p. without_packets p (is_from c.args.source c.args.key) in
+    record {
+      kept =
+          port_kept (λ p. without_packets p (is_from c.args.source c.args.key)) (λ p. refl) c.self.inside.by_koid.entries
+          (c.get_mut.follows.lender c.cancel.new.self).entries c.self.inside.next_koid (vec_capacity c.self.inside.dying) c.args.koid c.self.inside.dying.items
+          c.self.invariant.kept
+          (written c.self.inside.by_koid.entries _ c.args.koid (at_port (λ p. without_packets p (is_from c.args.source c.args.key))) c.in-Some.object.now
+          c.cancel.new.self there c.cancel.ensures.rest set);
+      calm = port_calm out (λ p. some_out _ p.packets) c.self.inside.by_koid.entries
+          (c.get_mut.follows.lender c.cancel.new.self).entries c.args.koid (written c.self.inside.by_koid.entries _ c.args.koid (at_port out)
+          c.in-Some.object.now c.cancel.new.self there c.cancel.ensures.rest set)
+          c.self.invariant.calm;
+    }
 
 pub returns-clause-rest : goal.returns-clause-rest
 returns-clause-rest c =

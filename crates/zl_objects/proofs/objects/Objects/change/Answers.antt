@@ -1,9 +1,18 @@
 use Rattle.std.proofs.Common.{rules, vec_capacity}
 use Rattle.zl_objects.proofs.ByKoid.{by_koid}
+use Rattle.zl_objects.specs.Objects.{raised_changed}
+use Rattle.zl_objects.proofs.CalmChanges.{found_calm, keeps_changed}
 use Rattle.zl_objects.proofs.Kept.{changed_kept}
 use Rattle.zl_objects.proofs.objects.Objects.change.Goals as goal
 
 pub invariant_of-self-2 : goal.invariant_of-self-2
 invariant_of-self-2 c =
-    changed_kept c.self.inside.by_koid.entries (c.get_mut.follows.lender c.change.new.self).entries c.self.inside.next_koid
-    (vec_capacity c.self.inside.dying) c.args.koid c.args.clear.0 c.args.set.0 c.self.inside.dying.items c.self.invariant (search (rules, by_koid))
+    record {
+      kept =
+          changed_kept c.self.inside.by_koid.entries (c.get_mut.follows.lender c.change.new.self).entries c.self.inside.next_koid
+          (vec_capacity c.self.inside.dying) c.args.koid c.args.clear.0 c.args.set.0 c.self.inside.dying.items c.self.invariant.kept (search (rules, by_koid));
+      calm = found_calm c.add_if.ensures.more (raised_changed c.args.clear.0 c.args.set.0) (keeps_changed c.args.clear.0 c.args.set.0)
+          c.self.inside.by_koid.entries
+          (c.get_mut.follows.lender c.change.new.self).entries c.args.koid c.in-Some.object.now c.change.new.self (search rules)
+          c.is_watched.result c.is_watched.ensures c.add_if.ensures.wanted c.change.ensures (search (rules, by_koid)) c.self.invariant.calm;
+    }

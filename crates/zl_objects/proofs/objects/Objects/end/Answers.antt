@@ -3,13 +3,14 @@ use Rattle.std.specs.Vec.{vec_capacity}
 use Rattle.zl_objects.specs.Listed.{wait_value}
 use Rattle.zl_objects.specs.Objects.{Objects, job_in}
 use Rattle.zl_objects.specs.Waits.{LeavesWaits}
+use Rattle.zl_objects.proofs.CalmChanges.{left_calm}
 use Rattle.zl_objects.proofs.Kept.{left_kept}
 use Rattle.zl_objects.proofs.Listed.{all_there}
 use Rattle.zl_objects.proofs.Released.{all_places, all_thin, both_released, cascaded_shorter, cascades_of, waits_left}
 use Rattle.zl_objects.proofs.objects.Objects.end.Goals as goal
 
 pub remove_unkept-requires : goal.remove_unkept-requires
-remove_unkept-requires c = record { none = c.self-in-Some.invariant.whole.none; room = c.self-in-Some.invariant.whole.enough }
+remove_unkept-requires c = record { none = c.self-in-Some.invariant.kept.whole.none; room = c.self-in-Some.invariant.kept.whole.enough }
 
 pub remove_unkept-requires-in-Some : goal.remove_unkept-requires-in-Some
 remove_unkept-requires-in-Some c = record {
@@ -18,7 +19,7 @@ remove_unkept-requires-in-Some c = record {
     arith,
     cascaded_shorter [] c.self-in-Some.inside.by_koid.entries c.remove_unkept.new.by_koid.entries
         (cascades_of [] c.self-in-Some.inside.by_koid.entries c.remove_unkept.new.by_koid.entries (c.args.pid ∷ []) [] c.remove_unkept.ensures.goes),
-    c.self-in-Some.invariant.whole.enough,
+    c.self-in-Some.invariant.kept.whole.enough,
     c.remove_unkept.ensures.capacity,
   );
 }
@@ -26,30 +27,40 @@ remove_unkept-requires-in-Some c = record {
 pub invariant_of-self : goal.invariant_of-self
 invariant_of-self c =
     let released = both_released c.self-in-Some.inside.by_koid.entries c.remove_unkept.new.by_koid.entries c.remove_unkept-in-Some.new.by_koid.entries
-    c.args.pid c.in-Some.job c.remove_unkept.ensures.goes c.remove_unkept-in-Some.ensures.goes c.self-in-Some.inside.next_koid c.self-in-Some.inside.waits_made
+    c.args.pid c.in-Some.job c.remove_unkept.ensures.goes c.remove_unkept-in-Some.ensures.goes c.self-in-Some.inside.sleepers.list.items
+    c.self-in-Some.inside.sleepers.crowded c.self-in-Some.inside.next_koid c.self-in-Some.inside.waits_made
     (map wait_value c.self-in-Some.inside.waits.items) (map wait_value c.keep_there.new.waits.items) in
-    left_kept [] c.self-in-Some.inside.by_koid.entries c.remove_unkept-in-Some.new.by_koid.entries c.self-in-Some.inside.next_koid
-    (vec_capacity c.self-in-Some.inside.dying) (vec_capacity c.remove_unkept-in-Some.new.dying) c.self-in-Some.inside.dying.items
-    c.remove_unkept-in-Some.new.dying.items _
-    released.cascades (all_places c.self-in-Some.inside.by_koid.entries c.remove_unkept.new.by_koid.entries c.remove_unkept-in-Some.new.by_koid.entries
-    c.args.pid c.in-Some.job c.remove_unkept.ensures.goes c.remove_unkept-in-Some.ensures.goes c.self-in-Some.invariant.whole.places)
-    (all_thin c.self-in-Some.inside.by_koid.entries c.remove_unkept.new.by_koid.entries c.remove_unkept-in-Some.new.by_koid.entries c.args.pid c.in-Some.job
-    c.remove_unkept.ensures.goes c.remove_unkept-in-Some.ensures.goes)
-    c.self-in-Some.invariant c.remove_unkept-in-Some.ensures.none (c.remove_unkept-in-Some.ensures.capacity ∙ c.remove_unkept.ensures.capacity)
-    c.keep_there.ensures
+    record {
+      kept =
+          left_kept [] c.self-in-Some.inside.by_koid.entries c.remove_unkept-in-Some.new.by_koid.entries c.self-in-Some.inside.next_koid
+          (vec_capacity c.self-in-Some.inside.dying) (vec_capacity c.remove_unkept-in-Some.new.dying) c.self-in-Some.inside.dying.items
+          c.remove_unkept-in-Some.new.dying.items _
+          released.cascades (all_places c.self-in-Some.inside.by_koid.entries c.remove_unkept.new.by_koid.entries c.remove_unkept-in-Some.new.by_koid.entries
+          c.args.pid c.in-Some.job c.remove_unkept.ensures.goes c.remove_unkept-in-Some.ensures.goes c.self-in-Some.invariant.kept.whole.places)
+          (all_thin c.self-in-Some.inside.by_koid.entries c.remove_unkept.new.by_koid.entries c.remove_unkept-in-Some.new.by_koid.entries c.args.pid
+          c.in-Some.job
+          c.remove_unkept.ensures.goes c.remove_unkept-in-Some.ensures.goes)
+          c.self-in-Some.invariant.kept c.remove_unkept-in-Some.ensures.none (c.remove_unkept-in-Some.ensures.capacity ∙ c.remove_unkept.ensures.capacity)
+          c.keep_there.ensures;
+      calm = left_calm c.add_all.ensures c.self-in-Some.inside.by_koid.entries c.remove_unkept-in-Some.new.by_koid.entries
+          (all_thin c.self-in-Some.inside.by_koid.entries c.remove_unkept.new.by_koid.entries c.remove_unkept-in-Some.new.by_koid.entries c.args.pid
+          c.in-Some.job c.remove_unkept.ensures.goes c.remove_unkept-in-Some.ensures.goes) c.self-in-Some.invariant.calm;
+    }
 
 pub returns-in-Some-clause-ends : goal.returns-in-Some-clause-ends
 returns-in-Some-clause-ends c =
     let job : job_in (get c.args.self.now.objects c.args.pid) ≡ Some c.in-Some.job = rw (← c.self.view_is) (sym c.job_of.ensures ∙ c.in-Some.is) in
     rw job (rw (← c.stop.ensures, ← c.self-in-Some.view_is)
     (both_released c.self-in-Some.inside.by_koid.entries c.remove_unkept.new.by_koid.entries c.remove_unkept-in-Some.new.by_koid.entries
-    c.args.pid c.in-Some.job c.remove_unkept.ensures.goes c.remove_unkept-in-Some.ensures.goes c.self-in-Some.inside.next_koid c.self-in-Some.inside.waits_made
+    c.args.pid c.in-Some.job c.remove_unkept.ensures.goes c.remove_unkept-in-Some.ensures.goes c.self-in-Some.inside.sleepers.list.items
+    c.self-in-Some.inside.sleepers.crowded c.self-in-Some.inside.next_koid c.self-in-Some.inside.waits_made
     (map wait_value c.self-in-Some.inside.waits.items) (map wait_value c.keep_there.new.waits.items)))
 
 pub returns-in-Some-clause-waits : goal.returns-in-Some-clause-waits
 returns-in-Some-clause-waits c =
     let released = both_released c.self-in-Some.inside.by_koid.entries c.remove_unkept.new.by_koid.entries c.remove_unkept-in-Some.new.by_koid.entries
-    c.args.pid c.in-Some.job c.remove_unkept.ensures.goes c.remove_unkept-in-Some.ensures.goes c.self-in-Some.inside.next_koid c.self-in-Some.inside.waits_made
+    c.args.pid c.in-Some.job c.remove_unkept.ensures.goes c.remove_unkept-in-Some.ensures.goes c.self-in-Some.inside.sleepers.list.items
+    c.self-in-Some.inside.sleepers.crowded c.self-in-Some.inside.next_koid c.self-in-Some.inside.waits_made
     (map wait_value c.self-in-Some.inside.waits.items) (map wait_value c.keep_there.new.waits.items) in
     let job : job_in (get c.args.self.now.objects c.args.pid) ≡ Some c.in-Some.job = rw (← c.self.view_is) (sym c.job_of.ensures ∙ c.in-Some.is) in
     rw job (subst (λ (r : Objects). LeavesWaits r (record {
@@ -57,24 +68,28 @@ returns-in-Some-clause-waits c =
       next_koid = c.self-in-Some.inside.next_koid;
       waits = map wait_value c.keep_there.new.waits.items;
       waits_made = c.self-in-Some.inside.waits_made;
+      sleepers = c.self-in-Some.inside.sleepers.list.items;
+      crowded = c.self-in-Some.inside.sleepers.crowded;
     })) (c.self-in-Some.view_is ∙ c.stop.ensures)
     (waits_left [] c.self-in-Some.inside.by_koid.entries c.remove_unkept-in-Some.new.by_koid.entries released.cascades
     (all_places c.self-in-Some.inside.by_koid.entries c.remove_unkept.new.by_koid.entries c.remove_unkept-in-Some.new.by_koid.entries
-    c.args.pid c.in-Some.job c.remove_unkept.ensures.goes c.remove_unkept-in-Some.ensures.goes c.self-in-Some.invariant.whole.places)
+    c.args.pid c.in-Some.job c.remove_unkept.ensures.goes c.remove_unkept-in-Some.ensures.goes c.self-in-Some.invariant.kept.whole.places)
     (all_thin c.self-in-Some.inside.by_koid.entries c.remove_unkept.new.by_koid.entries c.remove_unkept-in-Some.new.by_koid.entries c.args.pid c.in-Some.job
     c.remove_unkept.ensures.goes c.remove_unkept-in-Some.ensures.goes)))
 
 pub returns-in-Some-clause-places : goal.returns-in-Some-clause-places
-returns-in-Some-clause-places c = (invariant_of-self c).whole.places
+returns-in-Some-clause-places c = (invariant_of-self c).kept.whole.places
 
 pub returns-in_default-clause-places : goal.returns-in_default-clause-places
-returns-in_default-clause-places c = rw (← c.self.view_is) c.self.invariant.whole.places
+returns-in_default-clause-places c = rw (← c.self.view_is) c.self.invariant.kept.whole.places
 
 pub returns-in_default-clause-waits : goal.returns-in_default-clause-waits
 returns-in_default-clause-waits c = rw (← c.self.view_is, sym c.job_of.ensures ∙ c.in_default.is) tt
 
 pub returns-in_default-clause-listed : goal.returns-in_default-clause-listed
 returns-in_default-clause-listed c = rw (← c.self.view_is) record {
-  waits = sym (all_there (map wait_value c.self.inside.waits.items) c.self.inside.by_koid.entries c.self.invariant.whole.places c.self.invariant.listed);
+  waits = sym (all_there (map wait_value c.self.inside.waits.items) c.self.inside.by_koid.entries c.self.invariant.kept.whole.places
+      c.self.invariant.kept.listed);
   made = refl;
+  asleep = (refl, refl);
 }

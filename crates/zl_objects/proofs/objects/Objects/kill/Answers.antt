@@ -6,6 +6,7 @@ use Rattle.zl_objects.specs.Jobs.{killing}
 use Rattle.zl_objects.specs.Objects.{Objects}
 use Rattle.zl_objects.specs.Release.{Releases, all_koids}
 use Rattle.zl_objects.specs.Waits.{KeepsWaits}
+use Rattle.zl_objects.proofs.CalmChanges.{left_calm}
 use Rattle.zl_objects.proofs.Kept.{left_kept}
 use Rattle.zl_objects.proofs.Law.{leaves_largest}
 use Rattle.zl_objects.proofs.Released.{cascades_of, released, waits_left}
@@ -14,11 +15,16 @@ use Rattle.zl_objects.proofs.objects.Objects.kill.Goals as goal
 
 pub invariant_of-self : goal.invariant_of-self
 invariant_of-self c =
-    left_kept [] c.self.inside.by_koid.entries c.sweep.new.by_koid.entries c.self.inside.next_koid (vec_capacity c.self.inside.dying)
-    (vec_capacity c.sweep.new.dying) c.self.inside.dying.items c.sweep.new.dying.items _
-    (cascades_of [] c.self.inside.by_koid.entries c.sweep.new.by_koid.entries (all_koids c.self.inside.by_koid.entries) [] c.sweep.ensures.goes)
-    (c.sweep.ensures.goes.places c.self.invariant.whole.places)
-    c.sweep.ensures.goes.thins c.self.invariant c.sweep.ensures.none c.sweep.ensures.capacity c.keep_there.ensures
+    record {
+      kept =
+          left_kept [] c.self.inside.by_koid.entries c.sweep.new.by_koid.entries c.self.inside.next_koid (vec_capacity c.self.inside.dying)
+          (vec_capacity c.sweep.new.dying) c.self.inside.dying.items c.sweep.new.dying.items _
+          (cascades_of [] c.self.inside.by_koid.entries c.sweep.new.by_koid.entries (all_koids c.self.inside.by_koid.entries) [] c.sweep.ensures.goes)
+          (c.sweep.ensures.goes.places c.self.invariant.kept.whole.places)
+          c.sweep.ensures.goes.thins c.self.invariant.kept c.sweep.ensures.none c.sweep.ensures.capacity c.keep_there.ensures;
+      calm = left_calm c.add_all.ensures c.self.inside.by_koid.entries c.sweep.new.by_koid.entries c.sweep.ensures.goes.thins
+          c.self.invariant.calm;
+    }
 
 pub returns-clause-releases : goal.returns-clause-releases
 returns-clause-releases c =
@@ -27,6 +33,8 @@ returns-clause-releases c =
       next_koid = c.self.inside.next_koid;
       waits = map wait_value c.self.inside.waits.items;
       waits_made = c.self.inside.waits_made;
+      sleepers = c.self.inside.sleepers.list.items;
+      crowded = c.self.inside.sleepers.crowded;
     }) ≡ killing c.args.self.now c.args.task = c.self.view_is ∙ c.mark_killed.ensures in
     let koids : all_koids c.self.inside.by_koid.entries ≡ all_koids c.args.self.now.objects =
     ap (λ (r : Objects). all_koids r.objects) same ∙ killed_koids c.args.self.now.objects c.args.task in
@@ -35,17 +43,23 @@ returns-clause-releases c =
       next_koid = c.self.inside.next_koid;
       waits = map wait_value c.keep_there.new.waits.items;
       waits_made = c.self.inside.waits_made;
+      sleepers = c.self.inside.sleepers.list.items;
+      crowded = c.self.inside.sleepers.crowded;
     })) same
     (subst (λ (ks : List ℕ). Releases [] ks (record {
       objects = c.self.inside.by_koid.entries;
       next_koid = c.self.inside.next_koid;
       waits = map wait_value c.self.inside.waits.items;
       waits_made = c.self.inside.waits_made;
+      sleepers = c.self.inside.sleepers.list.items;
+      crowded = c.self.inside.sleepers.crowded;
     }) (record {
       objects = c.sweep.new.by_koid.entries;
       next_koid = c.self.inside.next_koid;
       waits = map wait_value c.keep_there.new.waits.items;
       waits_made = c.self.inside.waits_made;
+      sleepers = c.self.inside.sleepers.list.items;
+      crowded = c.self.inside.sleepers.crowded;
     })) koids
     (released [] (all_koids c.self.inside.by_koid.entries) c.self.inside.by_koid.entries c.sweep.new.by_koid.entries c.self.inside.next_koid
     c.self.inside.waits_made (map wait_value c.self.inside.waits.items) (map wait_value c.keep_there.new.waits.items) (all_koids c.self.inside.by_koid.entries)
@@ -61,12 +75,14 @@ returns-clause-waits c =
       next_koid = c.self.inside.next_koid;
       waits = map wait_value c.self.inside.waits.items;
       waits_made = c.self.inside.waits_made;
+      sleepers = c.self.inside.sleepers.list.items;
+      crowded = c.self.inside.sleepers.crowded;
     }) ≡ killing c.args.self.now c.args.task = c.self.view_is ∙ c.mark_killed.ensures in
     subst (λ (m : Map Object). (k : ℕ) (o : Object) → get c.sweep.new.by_koid.entries k ≡ Some o → KeepsWaits m c.sweep.new.by_koid.entries k o)
     (ap (λ (r : Objects). r.objects) same)
     (waits_left [] c.self.inside.by_koid.entries c.sweep.new.by_koid.entries
     (cascades_of [] c.self.inside.by_koid.entries c.sweep.new.by_koid.entries (all_koids c.self.inside.by_koid.entries) [] c.sweep.ensures.goes)
-    (c.sweep.ensures.goes.places c.self.invariant.whole.places) c.sweep.ensures.goes.thins)
+    (c.sweep.ensures.goes.places c.self.invariant.kept.whole.places) c.sweep.ensures.goes.thins)
 
 pub returns-clause-places : goal.returns-clause-places
-returns-clause-places c = (invariant_of-self c).whole.places
+returns-clause-places c = (invariant_of-self c).kept.whole.places

@@ -1,11 +1,17 @@
 use Rattle.std.proofs.Common.{vec_capacity}
+use Rattle.zl_objects.proofs.CalmChanges.{all_killed_calm}
 use Rattle.zl_objects.proofs.Tasks.{killed_kept}
 use Rattle.zl_objects.proofs.objects.Objects.mark_killed.Goals as goal
 
 pub kill_all-requires : goal.kill_all-requires
-kill_all-requires c = record { below = c.self.invariant.whole.below }
+kill_all-requires c = record { below = c.self.invariant.kept.whole.below }
 
 pub invariant_of-self : goal.invariant_of-self
 invariant_of-self c =
-    killed_kept c.self.inside.by_koid.entries c.kill_all.new.by_koid.entries c.self.inside.next_koid (vec_capacity c.self.inside.dying) c.args.task
-    c.self.inside.dying.items c.self.invariant c.kill_all.ensures
+    record {
+      kept =
+          killed_kept c.self.inside.by_koid.entries c.kill_all.new.by_koid.entries c.self.inside.next_koid (vec_capacity c.self.inside.dying) c.args.task
+          c.self.inside.dying.items c.self.invariant.kept c.kill_all.ensures;
+      calm = all_killed_calm c.add_all.ensures c.self.inside.by_koid.entries c.kill_all.new.by_koid.entries c.args.task c.kill_all.ensures
+          c.self.invariant.calm;
+    }

@@ -8,4 +8,4 @@ pub returns-then-contains_key-clause-kind : goal.returns-then-contains_key-claus
 returns-then-contains_key-clause-kind c =
     let at : peer_at c.self.inside.by_koid.entries c.args.koid ≡ Some c.in_ok-peer.peer = search (rules, by_koid) in
     rw (← c.self.view_is)
-    (peer_of_kind c.self.inside.by_koid.entries c.self.inside.next_koid c.self.invariant.whole.peers c.args.koid c.in_ok-peer.peer at)
+    (peer_of_kind c.self.inside.by_koid.entries c.self.inside.next_koid c.self.invariant.kept.whole.peers c.args.koid c.in_ok-peer.peer at)

@@ -8,4 +8,4 @@ pub returns-then-contains_key-clause-channel : goal.returns-then-contains_key-cl
 returns-then-contains_key-clause-channel c =
     let at : reader_at c.self.inside.by_koid.entries c.args.koid ≡ Some c.in_ok-reader.reader = search (rules, by_koid) in
     rw (← c.self.view_is)
-    (reader_of_channel c.self.inside.by_koid.entries c.self.inside.next_koid c.self.invariant.whole.peers c.args.koid c.in_ok-reader.reader at)
+    (reader_of_channel c.self.inside.by_koid.entries c.self.inside.next_koid c.self.invariant.kept.whole.peers c.args.koid c.in_ok-reader.reader at)

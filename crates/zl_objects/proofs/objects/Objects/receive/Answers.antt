@@ -1,9 +1,16 @@
 use Rattle.std.proofs.Common.{rules, vec_capacity}
 use Rattle.zl_objects.proofs.ByKoid.{by_koid}
+use Rattle.zl_objects.specs.Objects.{received}
+use Rattle.zl_objects.proofs.CalmChanges.{keeps_received, quiet_calm, received_stays}
 use Rattle.zl_objects.proofs.Kept.{received_kept}
 use Rattle.zl_objects.proofs.objects.Objects.receive.Goals as goal
 
 pub invariant_of-self-2 : goal.invariant_of-self-2
 invariant_of-self-2 c =
-    received_kept c.self.inside.by_koid.entries (c.get_mut.follows.lender c.receive.new.self).entries c.self.inside.next_koid
-    (vec_capacity c.self.inside.dying) c.args.koid c.self.inside.dying.items c.self.invariant (search (rules, by_koid))
+    record {
+      kept =
+          received_kept c.self.inside.by_koid.entries (c.get_mut.follows.lender c.receive.new.self).entries c.self.inside.next_koid
+          (vec_capacity c.self.inside.dying) c.args.koid c.self.inside.dying.items c.self.invariant.kept (search (rules, by_koid));
+      calm = quiet_calm received keeps_received received_stays c.self.inside.by_koid.entries (c.get_mut.follows.lender c.receive.new.self).entries
+          c.args.koid (search (rules, by_koid)) c.self.invariant.calm;
+    }

@@ -1,36 +1,45 @@
-use Rattle.std.proofs.Common.{arith, ◌∷◌, [], vec_capacity, map, ◌∙◌}
-use Rattle.zl_objects.specs.Dying.{LetsGo}
+use Rattle.std.proofs.Common.{ℕ, List, arith, eqb-true, length, vec_len, ◌≡◌, ◌∷◌, [], None, vec_capacity, map, refl, sym, ◌∙◌}
+use Rattle.zl_objects.specs.Dying.{IsKept, LetsGo}
 use Rattle.zl_objects.specs.Listed.{wait_value}
+use Rattle.zl_objects.specs.Objects.{held_once_less}
 use Rattle.zl_objects.proofs.Budget.{both_went}
-use Rattle.zl_objects.proofs.Kept.{left_kept}
+use Rattle.zl_objects.proofs.CalmChanges.{keeps_less, left_calm, less_stays, quiet_calm}
+use Rattle.zl_objects.proofs.Kept.{left_kept, less_kept}
 use Rattle.zl_objects.proofs.Law.{leaves_largest}
+use Rattle.zl_objects.proofs.Listed.{all_there}
 use Rattle.zl_objects.proofs.Released.{cascades_of, released, starts, waits_left}
 use Rattle.zl_objects.proofs.objects.Objects.release.Goals as goal
 
 pub let_go-requires : goal.let_go-requires
 let_go-requires c = record {
-  fits = starts c.self.inside.by_koid.entries c.self.inside.next_koid (vec_capacity c.self.inside.dying) c.self.inside.dying.items c.self.invariant.whole;
+  fits = starts c.self.inside.by_koid.entries c.self.inside.next_koid (vec_capacity c.self.inside.dying) c.self.inside.dying.items
+      c.self.invariant.kept.whole;
 }
 
 pub remove_dying-requires : goal.remove_dying-requires
 remove_dying-requires c = record {
   fits = omega (
     arith,
-    starts c.self.inside.by_koid.entries c.self.inside.next_koid (vec_capacity c.self.inside.dying) c.self.inside.dying.items c.self.invariant.whole,
+    starts c.self.inside.by_koid.entries c.self.inside.next_koid (vec_capacity c.self.inside.dying) c.self.inside.dying.items c.self.invariant.kept.whole,
     c.let_go.ensures.goes.cheap,
     c.let_go.ensures.capacity,
   );
 }
 
-pub invariant_of-self : goal.invariant_of-self
-invariant_of-self c =
+pub invariant_of-self-2 : goal.invariant_of-self-2
+invariant_of-self-2 c =
     let went : LetsGo (c.args.koid ∷ []) c.self.inside.by_koid.entries c.self.inside.dying.items c.remove_dying.new.by_koid.entries
     c.remove_dying.new.dying.items = both_went (c.args.koid ∷ []) [] _ _ _ _ _ _ c.let_go.ensures.goes c.remove_dying.ensures.goes in
-    left_kept (c.args.koid ∷ []) c.self.inside.by_koid.entries c.remove_dying.new.by_koid.entries c.self.inside.next_koid (vec_capacity c.self.inside.dying)
-    (vec_capacity c.remove_dying.new.dying) c.self.inside.dying.items c.remove_dying.new.dying.items _
-    (cascades_of (c.args.koid ∷ []) c.self.inside.by_koid.entries c.remove_dying.new.by_koid.entries c.self.inside.dying.items
-    c.remove_dying.new.dying.items went) (went.places c.self.invariant.whole.places) went.thins c.self.invariant c.remove_dying.ensures.none
-    (c.remove_dying.ensures.capacity ∙ c.let_go.ensures.capacity) c.keep_there.ensures
+    record {
+      kept =
+          left_kept (c.args.koid ∷ []) c.self.inside.by_koid.entries c.remove_dying.new.by_koid.entries c.self.inside.next_koid
+          (vec_capacity c.self.inside.dying)
+          (vec_capacity c.remove_dying.new.dying) c.self.inside.dying.items c.remove_dying.new.dying.items _
+          (cascades_of (c.args.koid ∷ []) c.self.inside.by_koid.entries c.remove_dying.new.by_koid.entries c.self.inside.dying.items
+          c.remove_dying.new.dying.items went) (went.places c.self.invariant.kept.whole.places) went.thins c.self.invariant.kept c.remove_dying.ensures.none
+          (c.remove_dying.ensures.capacity ∙ c.let_go.ensures.capacity) c.keep_there.ensures;
+      calm = left_calm c.add_all.ensures c.self.inside.by_koid.entries c.remove_dying.new.by_koid.entries went.thins c.self.invariant.calm;
+    }
 
 pub returns-clause-releases : goal.returns-clause-releases
 returns-clause-releases c =
@@ -38,7 +47,7 @@ returns-clause-releases c =
     c.remove_dying.new.dying.items = both_went (c.args.koid ∷ []) [] _ _ _ _ _ _ c.let_go.ensures.goes c.remove_dying.ensures.goes in
     rw (← c.self.view_is)
     (released (c.args.koid ∷ []) [] c.self.inside.by_koid.entries c.remove_dying.new.by_koid.entries c.self.inside.next_koid c.self.inside.waits_made
-    (map wait_value c.self.inside.waits.items) _ c.self.inside.dying.items c.remove_dying.new.dying.items went c.self.invariant.whole.none
+    (map wait_value c.self.inside.waits.items) _ c.self.inside.dying.items c.remove_dying.new.dying.items went c.self.invariant.kept.whole.none
     c.remove_dying.ensures.none)
 
 pub returns-clause-largest : goal.returns-clause-largest
@@ -50,7 +59,58 @@ returns-clause-waits c =
     c.remove_dying.new.dying.items = both_went (c.args.koid ∷ []) [] _ _ _ _ _ _ c.let_go.ensures.goes c.remove_dying.ensures.goes in
     rw (← c.self.view_is) (waits_left (c.args.koid ∷ []) c.self.inside.by_koid.entries c.remove_dying.new.by_koid.entries
     (cascades_of (c.args.koid ∷ []) c.self.inside.by_koid.entries c.remove_dying.new.by_koid.entries c.self.inside.dying.items c.remove_dying.new.dying.items
-    went) (went.places c.self.invariant.whole.places) went.thins)
+    went) (went.places c.self.invariant.kept.whole.places) went.thins)
 
 pub returns-clause-places : goal.returns-clause-places
-returns-clause-places c = (invariant_of-self c).whole.places
+returns-clause-places c = (invariant_of-self-2 c).kept.whole.places
+
+-- ---- another handle names the object, and nothing goes
+
+no_items : (xs : List ℕ) → ◌≡◌ {A = ℕ} (length xs) 0 → xs ≡ []
+no_items [] none = refl
+no_items (x ∷ xs) none = absurd (omega (arith, none))
+
+none_noted : (c : goal.Then-is_empty) → c.let_go.new.dying.items ≡ []
+none_noted c =
+    let none : vec_len c.let_go.new.dying ≡ 0 = eqb-true (vec_len c.let_go.new.dying) 0 (sym c.is_empty.ensures ∙ c.if-is_empty.true) in
+    no_items c.let_go.new.dying.items (omega (arith, none, c.let_go.new.dying.ok.0))
+
+kept_all : (c : goal.Then-is_empty) → IsKept None c.let_go.new.by_koid.entries c.self.inside.next_koid c.let_go.new.dying.items
+    (vec_capacity c.let_go.new.dying) (map wait_value c.self.inside.waits.items)
+kept_all c =
+    less_kept c.self.inside.by_koid.entries c.let_go.new.by_koid.entries c.self.inside.next_koid (vec_capacity c.self.inside.dying)
+    (vec_capacity c.let_go.new.dying) c.args.koid c.self.inside.dying.items c.let_go.new.dying.items c.self.invariant.kept c.let_go.ensures.objects
+    (none_noted c) c.let_go.ensures.capacity
+
+pub invariant_of-self : goal.invariant_of-self
+invariant_of-self c = record {
+  kept = kept_all c;
+  calm = quiet_calm held_once_less keeps_less less_stays c.self.inside.by_koid.entries c.let_go.new.by_koid.entries c.args.koid c.let_go.ensures.objects
+      c.self.invariant.calm;
+}
+
+pub returns-then-is_empty-clause-releases : goal.returns-then-is_empty-clause-releases
+returns-then-is_empty-clause-releases c =
+    rw (← c.self.view_is)
+    (released (c.args.koid ∷ []) [] c.self.inside.by_koid.entries c.let_go.new.by_koid.entries c.self.inside.next_koid c.self.inside.waits_made
+    (map wait_value c.self.inside.waits.items) _ c.self.inside.dying.items c.let_go.new.dying.items c.let_go.ensures.goes c.self.invariant.kept.whole.none
+    (none_noted c))
+
+pub returns-then-is_empty-clause-largest : goal.returns-then-is_empty-clause-largest
+returns-then-is_empty-clause-largest c = leaves_largest (c.args.koid ∷ []) [] c.args.self.now _ (returns-then-is_empty-clause-releases c)
+
+pub returns-then-is_empty-clause-waits : goal.returns-then-is_empty-clause-waits
+returns-then-is_empty-clause-waits c =
+    rw (← c.self.view_is) (waits_left (c.args.koid ∷ []) c.self.inside.by_koid.entries c.let_go.new.by_koid.entries
+    (cascades_of (c.args.koid ∷ []) c.self.inside.by_koid.entries c.let_go.new.by_koid.entries c.self.inside.dying.items c.let_go.new.dying.items
+    c.let_go.ensures.goes) (c.let_go.ensures.goes.places c.self.invariant.kept.whole.places) c.let_go.ensures.goes.thins)
+
+pub returns-then-is_empty-clause-places : goal.returns-then-is_empty-clause-places
+returns-then-is_empty-clause-places c = (kept_all c).whole.places
+
+pub returns-then-is_empty-clause-listed : goal.returns-then-is_empty-clause-listed
+returns-then-is_empty-clause-listed c = rw (← c.self.view_is) record {
+  waits = sym (all_there (map wait_value c.self.inside.waits.items) c.let_go.new.by_koid.entries (kept_all c).whole.places (kept_all c).listed);
+  made = refl;
+  asleep = (refl, refl);
+}

@@ -1,20 +1,26 @@
 use Rattle.std.proofs.Common.{refl, ◌∷◌, [], vec_capacity, map}
 use Rattle.zl_objects.specs.Listed.{wait_value}
+use Rattle.zl_objects.proofs.CalmChanges.{left_calm}
 use Rattle.zl_objects.proofs.Kept.{left_kept}
 use Rattle.zl_objects.proofs.Law.{leaves_largest}
 use Rattle.zl_objects.proofs.Released.{cascades_of, released, waits_left}
 use Rattle.zl_objects.proofs.objects.Objects.remove_unheld.Goals as goal
 
 pub remove_unkept-requires : goal.remove_unkept-requires
-remove_unkept-requires c = record { none = c.self.invariant.whole.none; room = c.self.invariant.whole.enough }
+remove_unkept-requires c = record { none = c.self.invariant.kept.whole.none; room = c.self.invariant.kept.whole.enough }
 
 pub invariant_of-self : goal.invariant_of-self
 invariant_of-self c =
-    left_kept [] c.self.inside.by_koid.entries c.remove_unkept.new.by_koid.entries c.self.inside.next_koid (vec_capacity c.self.inside.dying)
-    (vec_capacity c.remove_unkept.new.dying) c.self.inside.dying.items c.remove_unkept.new.dying.items _
-    (cascades_of [] c.self.inside.by_koid.entries c.remove_unkept.new.by_koid.entries (c.args.koid ∷ []) [] c.remove_unkept.ensures.goes)
-    (c.remove_unkept.ensures.goes.places c.self.invariant.whole.places)
-    c.remove_unkept.ensures.goes.thins c.self.invariant c.remove_unkept.ensures.none c.remove_unkept.ensures.capacity c.keep_there.ensures
+    record {
+      kept =
+          left_kept [] c.self.inside.by_koid.entries c.remove_unkept.new.by_koid.entries c.self.inside.next_koid (vec_capacity c.self.inside.dying)
+          (vec_capacity c.remove_unkept.new.dying) c.self.inside.dying.items c.remove_unkept.new.dying.items _
+          (cascades_of [] c.self.inside.by_koid.entries c.remove_unkept.new.by_koid.entries (c.args.koid ∷ []) [] c.remove_unkept.ensures.goes)
+          (c.remove_unkept.ensures.goes.places c.self.invariant.kept.whole.places)
+          c.remove_unkept.ensures.goes.thins c.self.invariant.kept c.remove_unkept.ensures.none c.remove_unkept.ensures.capacity c.keep_there.ensures;
+      calm = left_calm c.add_all.ensures c.self.inside.by_koid.entries c.remove_unkept.new.by_koid.entries
+          c.remove_unkept.ensures.goes.thins c.self.invariant.calm;
+    }
 
 pub returns-clause-releases : goal.returns-clause-releases
 returns-clause-releases c =
@@ -29,7 +35,7 @@ pub returns-clause-waits : goal.returns-clause-waits
 returns-clause-waits c =
     rw (← c.self.view_is) (waits_left [] c.self.inside.by_koid.entries c.remove_unkept.new.by_koid.entries
     (cascades_of [] c.self.inside.by_koid.entries c.remove_unkept.new.by_koid.entries (c.args.koid ∷ []) [] c.remove_unkept.ensures.goes)
-    (c.remove_unkept.ensures.goes.places c.self.invariant.whole.places) c.remove_unkept.ensures.goes.thins)
+    (c.remove_unkept.ensures.goes.places c.self.invariant.kept.whole.places) c.remove_unkept.ensures.goes.thins)
 
 pub returns-clause-places : goal.returns-clause-places
-returns-clause-places c = (invariant_of-self c).whole.places
+returns-clause-places c = (invariant_of-self c).kept.whole.places

@@ -2,6 +2,7 @@ use Rattle.std.proofs.Common.{rules, ◌≡◌, Some, vec_capacity}
 use Rattle.std.specs.BTreeMap.{is_at}
 use Rattle.std.specs.Map.{lookup, set_value}
 use Rattle.std.specs.Ordering.{nat_cmp}
+use Rattle.zl_objects.proofs.CalmChanges.{policy_calm}
 use Rattle.zl_objects.proofs.Tasks.{policy_or_same_kept}
 use Rattle.zl_objects.proofs.objects.Objects.set_policy.Goals as goal
 
@@ -10,6 +11,12 @@ invariant_of-self-2 c =
     let there : Some c.in-Some.object.now ≡ lookup (is_at (nat_cmp c.args.job)) c.self.inside.by_koid.entries = search rules in
     let set : (c.get_mut.follows.lender c.set_policy.new.self).entries
     ≡ set_value (is_at (nat_cmp c.args.job)) c.self.inside.by_koid.entries c.set_policy.new.self = search rules in
-    policy_or_same_kept c.args.condition c.args.action c.self.inside.by_koid.entries
-    (c.get_mut.follows.lender c.set_policy.new.self).entries c.self.inside.next_koid (vec_capacity c.self.inside.dying) c.args.job c.self.inside.dying.items
-    c.in-Some.object.now c.set_policy.new.self c.set_policy.result c.self.invariant c.set_policy.ensures.ok c.set_policy.ensures.unchanged there set
+    record {
+      kept =
+          policy_or_same_kept c.args.condition c.args.action c.self.inside.by_koid.entries
+          (c.get_mut.follows.lender c.set_policy.new.self).entries c.self.inside.next_koid (vec_capacity c.self.inside.dying) c.args.job
+          c.self.inside.dying.items
+          c.in-Some.object.now c.set_policy.new.self c.set_policy.result c.self.invariant.kept c.set_policy.ensures.ok c.set_policy.ensures.unchanged there set;
+      calm = policy_calm c.args.condition c.args.action c.self.inside.by_koid.entries (c.get_mut.follows.lender c.set_policy.new.self).entries c.args.job
+          c.in-Some.object.now c.set_policy.new.self c.set_policy.result c.set_policy.ensures.ok c.set_policy.ensures.unchanged there set c.self.invariant.calm;
+    }

@@ -1,9 +1,16 @@
 use Rattle.std.proofs.Common.{rules, vec_capacity}
+use Rattle.zl_objects.specs.Objects.{started}
+use Rattle.zl_objects.proofs.CalmChanges.{keeps_started, quiet_calm, started_stays}
 use Rattle.zl_objects.proofs.ByKoid.{by_koid}
 use Rattle.zl_objects.proofs.Tasks.{started_kept}
 use Rattle.zl_objects.proofs.objects.Objects.start.Goals as goal
 
 pub invariant_of-self-2 : goal.invariant_of-self-2
 invariant_of-self-2 c =
-    started_kept c.self.inside.by_koid.entries (c.get_mut.follows.lender c.start.new.self).entries c.self.inside.next_koid
-    (vec_capacity c.self.inside.dying) c.args.pid c.self.inside.dying.items c.self.invariant (search (rules, by_koid))
+    record {
+      kept =
+          started_kept c.self.inside.by_koid.entries (c.get_mut.follows.lender c.start.new.self).entries c.self.inside.next_koid
+          (vec_capacity c.self.inside.dying) c.args.pid c.self.inside.dying.items c.self.invariant.kept (search (rules, by_koid));
+      calm = quiet_calm started keeps_started started_stays c.self.inside.by_koid.entries (c.get_mut.follows.lender c.start.new.self).entries c.args.pid
+          (search (rules, by_koid)) c.self.invariant.calm;
+    }

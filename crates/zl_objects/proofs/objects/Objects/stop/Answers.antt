@@ -1,9 +1,15 @@
 use Rattle.std.proofs.Common.{rules, vec_capacity}
 use Rattle.zl_objects.proofs.ByKoid.{by_koid}
+use Rattle.zl_objects.proofs.CalmChanges.{stopped_calm}
 use Rattle.zl_objects.proofs.Kept.{stopped_kept}
 use Rattle.zl_objects.proofs.objects.Objects.stop.Goals as goal
 
 pub invariant_of-self-2 : goal.invariant_of-self-2
 invariant_of-self-2 c =
-    stopped_kept c.self.inside.by_koid.entries (c.get_mut.follows.lender c.stop.new.self).entries c.self.inside.next_koid
-    (vec_capacity c.self.inside.dying) c.args.pid c.self.inside.dying.items c.self.invariant (search (rules, by_koid))
+    record {
+      kept =
+          stopped_kept c.self.inside.by_koid.entries (c.get_mut.follows.lender c.stop.new.self).entries c.self.inside.next_koid
+          (vec_capacity c.self.inside.dying) c.args.pid c.self.inside.dying.items c.self.invariant.kept (search (rules, by_koid));
+      calm = stopped_calm c.add_all.ensures c.self.inside.by_koid.entries (c.get_mut.follows.lender c.stop.new.self).entries c.args.pid
+          (search (rules, by_koid)) c.self.invariant.calm;
+    }

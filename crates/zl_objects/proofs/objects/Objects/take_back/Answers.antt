@@ -1,12 +1,19 @@
 use Rattle.std.proofs.Common.{arith, vec_capacity}
+use Rattle.zl_objects.proofs.CalmMade.{popped_calm}
 use Rattle.zl_objects.proofs.Kept.{popped_kept}
 use Rattle.zl_objects.proofs.objects.Objects.take_back.Goals as goal
 
 pub invariant_of-self : goal.invariant_of-self
 invariant_of-self c =
     let popped = c.pop_last.ensures in
-    popped_kept c.self.inside.by_koid c.pop_last.new.self c.self.inside.next_koid c.args.koid
-    (vec_capacity c.self.inside.dying) c.self.inside.dying.items c.pop_last.result c.self.invariant (rw (← c.self.view_is) at c.requires.newest)
-    (rw (← c.self.view_is) at c.requires.alone) (rw (← c.self.view_is) at c.requires.unreserved) (rw (← c.self.view_is) at c.requires.unwatched)
-    (rw (← c.self.view_is) at c.requires.there) (omega (arith, popped.len))
-    popped.variant popped.unchanged popped.value popped.greatest popped.updates popped.removal
+    record {
+      kept =
+          popped_kept c.self.inside.by_koid c.pop_last.new.self c.self.inside.next_koid c.args.koid
+          (vec_capacity c.self.inside.dying) c.self.inside.dying.items c.pop_last.result c.self.invariant.kept (rw (← c.self.view_is) at c.requires.newest)
+          (rw (← c.self.view_is) at c.requires.alone) (rw (← c.self.view_is) at c.requires.unreserved) (rw (← c.self.view_is) at c.requires.unwatched)
+          (rw (← c.self.view_is) at c.requires.there) (omega (arith, popped.len))
+          popped.variant popped.unchanged popped.value popped.greatest popped.updates popped.removal;
+      calm = popped_calm c.add_all.ensures c.self.inside.by_koid c.pop_last.new.self c.self.inside.next_koid c.args.koid c.pop_last.result
+          (rw (← c.self.view_is) at c.requires.newest) (rw (← c.self.view_is) at c.requires.there) (rw (← c.self.view_is) at c.requires.unslept)
+          popped.unchanged popped.updates c.self.invariant.calm;
+    }

@@ -1,0 +1,91 @@
+-- The invariant of the world behind each step, whether something was due or not.
+use Rattle.zl_calls.proofs.Common.{◌≡◌, ◌==◌, ◌≤◌, ◌∙◌, ℕ, Bool, true, false, List, [], ap, sym, length, list_any, Library, Objects, TraceItem, TakesStep}
+use Rattle.zl_calls.proofs.Common.{DoesNext, EndsUnheld, FiresWaits, IsConsistent, AreBlocked, KeepSleepers, Seeks, World, fold, then_blocked, times, wakes}
+use Rattle.zl_calls.proofs.Common.{world_blocked, world_left, subst}
+use Rattle.zl_code.proofs.Common.{woken}
+use Rattle.zl_rights.specs.Wakes.{fired}
+use Rattle.zl_objects.specs.Awaited.{AreSameButSleepers}
+use Rattle.zl_objects.specs.Calm.{holds_now, is_due}
+use Rattle.zl_objects.specs.declared.awaited.Awaited.{Awaited}
+use Rattle.zl_calls.specs.Blocked.{AreSought, IsWhole}
+use Rattle.zl_calls.specs.Blocking.{FallsAsleep}
+use Rattle.zl_calls.specs.World.{Machine, awaited_of}
+use Rattle.zl_calls.specs.declared.process.Process.{Process}
+use Rattle.zl_calls.proofs.objects.SameButWaits.{beside_consistent}
+use Rattle.zl_calls.proofs.stepping.Covered.{stepped_covered}
+use Rattle.zl_calls.proofs.stepping.StepItems.{machine_value, stepped_awake, stepped_programs, stepped_sound, takes_step}
+use Rattle.zl_calls.proofs.waking.Quiet.{none_due, none_holding, quiet_fires, quiet_wakes}
+use Rattle.zl_calls.proofs.waking.StillBlocked.{acted_sought, asleep_world, calmed_consistent, calmed_world, same_seeks, woken_sought}
+
+module _ (lib : Library) (ps : List Process) (r : Objects) (b : List ℕ) (room : ℕ) (pid : ℕ) (x : TraceItem) (whole : IsWhole lib ps r b room) where
+  -- a step leads to such a world again
+  pub stepped_whole : (ps2 : List Process) (r2 : Objects) (b2 : List ℕ) (room2 : ℕ) → TakesStep (machine_value lib ps r b) pid (machine_value lib ps2 r2 b2) x
+      → IsConsistent ps2 r2 → AreBlocked ps2 b2 → AreSought ps2 r2 → length ps2 ≤ room2 → IsWhole lib ps2 r2 b2 room2
+  stepped_whole ps2 r2 b2 room2 steps consistent list sought enough = record {
+    consistent = consistent;
+    sound = stepped_sound lib ps ps2 r r2 b b2 pid x steps whole.sound;
+    are_blocked = list;
+    sought = sought;
+    room = enough;
+    awake = stepped_awake lib ps ps2 r r2 b b2 pid x steps;
+    programs = stepped_programs lib ps ps2 r r2 b b2 pid x steps whole.programs;
+    verified = whole.verified;
+    covered = stepped_covered lib whole.verified ps ps2 r r2 b b2 pid x steps whole.sound whole.covered;
+  }
+
+  -- the process has acted, waits have ended with their handles, and what it waits for is known
+  module _ (ps1 : List Process) (r1 left asleep : Objects) (b1 : List ℕ)
+      (does : DoesNext lib (world_blocked ps r b) pid x (world_left ps1 r1 (then_blocked pid x b1))) (list : AreBlocked ps1 (then_blocked pid x b1))
+      (fewer : (k : ℕ) → times k b1 ≤ times k b) (kept : KeepSleepers r r1) (unheld : EndsUnheld ps1 r1 left) (falls : FallsAsleep ps1 pid x left asleep) where
+    pub asleep_consistent : IsConsistent ps1 asleep
+    asleep_consistent = beside_consistent ps1 left asleep falls.beside unheld.consistent
+
+    pub known : AreSought ps1 asleep
+    known =
+        acted_sought lib ps ps1 r r1 asleep b b1 pid x whole.sound does whole.are_blocked list fewer whole.sought
+        (λ k a apart there. falls.others k a apart
+        (same_seeks r left (unheld.asleep.0 ∙ kept.0, unheld.asleep.1 ∙ kept.1) k a there)) falls.itself
+
+    -- nothing is due
+    module _ (none : list_any (holds_now asleep.objects) asleep.waits ≡ false) (quiet : (k : ℕ) (a : Awaited) → Seeks asleep k a → is_due asleep.objects a ≡
+        false)
+      where
+        pub quiet_step : TakesStep (machine_value lib ps r b) pid (machine_value lib ps1 asleep (then_blocked pid x b1)) x
+        quiet_step =
+            takes_step lib ps r b pid ps1 ps1 r1 left asleep asleep (then_blocked pid x b1) (then_blocked pid x b1) x does unheld
+            ((quiet_fires ps1 asleep asleep_consistent none).world (then_blocked pid x b1)
+            ∙ ap fired (asleep_world ps1 pid x left asleep falls (then_blocked pid x b1)))
+            (sym (quiet_wakes ps1 asleep asleep_consistent (then_blocked pid x b1) (λ k p a ds at is. quiet k (awaited_of a) (known k p a ds at is))
+            (then_blocked pid x b1)))
+
+        pub quiet_whole : (room2 : ℕ) → length ps1 ≤ room2 → IsWhole lib ps1 asleep (then_blocked pid x b1) room2
+        quiet_whole room2 enough = stepped_whole ps1 asleep (then_blocked pid x b1) room2 quiet_step asleep_consistent list known enough
+
+    -- waits fire, and processes wake
+    module _ (fires : Objects) (fired_so : FiresWaits ps1 asleep fires) (ps2 : List Process) (r2 : Objects) (b2 : List ℕ)
+        (wakes_so : world_blocked ps2 r2 b2 ≡ fold woken (world_blocked ps1 fires (then_blocked pid x b1)) (then_blocked pid x b1)) (list2 : AreBlocked ps2 b2)
+        (consistent2 : IsConsistent ps2 r2) (kept2 : KeepSleepers fires r2) where
+      woken_step : TakesStep (machine_value lib ps r b) pid (machine_value lib ps2 r2 b2) x
+      woken_step =
+          takes_step lib ps r b pid ps1 ps2 r1 left fires r2 (then_blocked pid x b1) b2 x does unheld
+          (fired_so.world (then_blocked pid x b1) ∙ ap fired (asleep_world ps1 pid x left asleep falls (then_blocked pid x b1))) wakes_so
+
+      awake : wakes (world_blocked ps2 r2 b2) ≡ world_blocked ps2 r2 b2
+      awake = stepped_awake lib ps ps2 r r2 b b2 pid x woken_step
+
+      pub nothing_holds : list_any (holds_now r2.objects) r2.waits ≡ false
+      nothing_holds = none_holding ps2 r2 consistent2 b2 list2 awake
+
+      -- and the objects are calm
+      module _ (r3 : Objects) (same : AreSameButSleepers r2 r3) (calms : (k : ℕ) (a : Awaited) → is_due r2.objects a ≡ false → Seeks r2 k a → Seeks r3 k a)
+        where
+          pub calmed_step : TakesStep (machine_value lib ps r b) pid (machine_value lib ps2 r3 b2) x
+          calmed_step = subst (λ (w : World). TakesStep (machine_value lib ps r b) pid (record { programs = lib; world = w }) x)
+              (sym (calmed_world ps2 r2 r3 same b2)) woken_step
+
+          pub calmed_whole : (room2 : ℕ) → length ps2 ≤ room2 → IsWhole lib ps2 r3 b2 room2
+          calmed_whole room2 enough =
+              stepped_whole ps2 r3 b2 room2 calmed_step (calmed_consistent ps2 r2 r3 same consistent2) list2
+              (λ k p a ds at is. calms k (awaited_of a) (none_due ps2 r2 consistent2 b2 list2 awake k p a ds at is)
+              (woken_sought ps1 ps2 fires r2 (then_blocked pid x b1) b2 wakes_so list2 kept2
+              (λ j q e es there state. same_seeks asleep fires fired_so.asleep j (awaited_of e) (known j q e es there state)) k p a ds at is)) enough

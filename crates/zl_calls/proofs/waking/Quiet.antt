@@ -1,0 +1,159 @@
+-- Where the objects are quiet, no wait fires and no process wakes.
+use Rattle.zl_calls.proofs.Common.{◌≡◌, ℕ, Bool, true, false, not, List, [], ◌∷◌, map, refl, sym, ap, ◌∙◌, Option, Some, None, IsTrue, false≢true, list_any}
+use Rattle.zl_calls.proofs.Common.{Map}
+use Rattle.zl_calls.proofs.Common.{get, Objects, process_entry, object_value, world_blocked, world_value, IsConsistent, World, fold, get_seen, is_empty}
+use Rattle.zl_calls.proofs.Common.{is_process}
+use Rattle.zl_calls.proofs.Common.{FiresWaits, PacketAt, SignalOf, Packet, packets_in, packets_of, signals_at, Seeks}
+use Rattle.zl_rights.specs.Wakes.{fired, holds, woken, woken_at_port}
+use Rattle.zl_rights.specs.World.{Awaited as AwaitedValue, State, Blocked, Wait}
+use Rattle.zl_code.proofs.Common.{Process as ProcessValue, active, has_child_job, has_child_process, answered, meets}
+use Rattle.zl_objects.specs.declared.object.Body.{Body}
+use Rattle.zl_objects.specs.declared.object.Body.TheVariants as body
+use Rattle.zl_objects.specs.declared.object.Object.{Object}
+use Rattle.zl_objects.specs.declared.awaited.Awaited.{Awaited}
+use Rattle.zl_objects.specs.Calm.{holds_now, is_due}
+use Rattle.zl_calls.specs.Blocked.{AreSought}
+use Rattle.zl_calls.specs.World.{awaited_of}
+use Rattle.zl_calls.specs.declared.process.Process.{Process}
+use Rattle.zl_calls.proofs.objects.Active.{signals_active}
+use Rattle.zl_calls.proofs.waits.Firing.{fired_none}
+use Rattle.zl_calls.proofs.Common.{AreBlocked, eq-eqb, eqb-true, get-put, inl, inr, or_cases, packet_values, same_Some, subst, wakes, ◌==◌}
+use Rattle.zl_rights.specs.World.{PortBody, Ready}
+use Rattle.zl_rights.specs.Wakes.{made_ready, with_body}
+use Rattle.zl_rights.proofs.Settling.{among}
+use Rattle.zl_rights.proofs.Waking.{IsLater, none_holds, turns-later, woken-stays}
+use Rattle.zl_port.specs.Packets.{Port}
+use Rattle.zl_calls.proofs.waking.StillBlocked.{listed_there}
+
+module _ (ps : List Process) (r : Objects) (consistent : IsConsistent ps r) where
+  active_there : (blocked : List ℕ) (k : ℕ) → active (world_blocked ps r blocked) k ≡ signals_at r.objects k
+  unfolding active is_process has_child_job has_child_process
+  active_there blocked k = sym (signals_active ps r consistent k)
+
+  holds_there : (blocked : List ℕ) → holds (world_blocked ps r blocked) ≡ holds_now r.objects
+  unfolding holds
+  holds_there blocked = λ i. λ x. meets (active_there blocked x.object i) x.mask
+
+  -- no wait fires
+  pub quiet_fires : list_any (holds_now r.objects) r.waits ≡ false → FiresWaits ps r r
+  quiet_fires none = record {
+    world = λ blocked.
+        sym (fired_none (world_blocked ps r blocked) (ap (λ (test : Wait → Bool). list_any test r.waits) (holds_there blocked) ∙ none));
+    consistent = consistent;
+    asleep = (refl, refl);
+  }
+
+  module _ (blocked : List ℕ) where
+    no_packet : (xs : List Packet) → not (is_empty xs) ≡ false → xs ≡ []
+    no_packet [] h = refl
+    no_packet (x ∷ xs) h = absurd (false≢true (sym h))
+
+    idle_port : (q : ℕ) (p : ProcessValue) (port : ℕ) (ds : List ℕ) (o : Option Object) → get r.objects port ≡ o → not (is_empty (packets_in o)) ≡ false
+        → woken_at_port (world_blocked ps r blocked) q p port ds (get (world_blocked ps r blocked).objects port) ≡ world_blocked ps r blocked
+    idle_port q p port ds None at quiet = rw (get_seen r.objects port, at) refl
+    idle_port q p port ds (Some o) at quiet = rw (get_seen r.objects port, at) (by_body o.body quiet)
+      where
+        by_body : (b : Body) → not (is_empty (packets_of b)) ≡ false
+            → woken_at_port (world_blocked ps r blocked) q p port ds (Some (object_value (record o { body = b }))) ≡ world_blocked ps r blocked
+        by_body (body.Port own) quiet = rw (no_packet own.packets quiet) refl
+        by_body (body.Job own) quiet = refl
+        by_body (body.Process job l) quiet = refl
+        by_body body.Event quiet = refl
+        by_body (body.ChannelEnd peer queue) quiet = refl
+        by_body (body.PairEnd peer) quiet = refl
+
+    -- a process doesn't wake for which nothing is there
+    idle : (q : ℕ) → ((p : ProcessValue) (a : AwaitedValue) (ds : List ℕ) → get (map process_entry ps) q ≡ Some p → p.state ≡ Blocked a ds
+        → is_due r.objects (awaited_of a) ≡ false) → woken (world_blocked ps r blocked) q ≡ world_blocked ps r blocked
+    unfolding woken made_ready
+    idle q quiet = by_process (get (map process_entry ps) q) refl
+      where
+        by_state : (p : ProcessValue) → get (map process_entry ps) q ≡ Some p → (s : State) → p.state ≡ s
+            → woken (world_blocked ps r blocked) q ≡ world_blocked ps r blocked
+        by_state p there (Blocked (SignalOf k mask) ds) is =
+            let none : meets (signals_at r.objects k) mask ≡ false = quiet p (SignalOf k mask) ds there is in
+            rw (there, is, active_there blocked k, none) refl
+        by_state p there (Blocked (PacketAt k) ds) is = rw (there, is) (idle_port q p k ds (get r.objects k) refl (quiet p (PacketAt k) ds there is))
+        by_state p there _ is = rw (there, is) refl
+
+        by_process : (o : Option ProcessValue) → get (map process_entry ps) q ≡ o → woken (world_blocked ps r blocked) q ≡ world_blocked ps r blocked
+        by_process None there = rw there refl
+        by_process (Some p) there = by_state p there p.state refl
+
+    -- none wakes
+    pub quiet_wakes : ((k : ℕ) (p : ProcessValue) (a : AwaitedValue) (ds : List ℕ) → get (map process_entry ps) k ≡ Some p → p.state ≡ Blocked a ds
+        → is_due r.objects (awaited_of a) ≡ false) → (qs : List ℕ) → fold woken (world_blocked ps r blocked) qs ≡ world_blocked ps r blocked
+    quiet_wakes quiet [] = refl
+    quiet_wakes quiet (q ∷ qs) = ap (λ (w : World). fold woken w qs) (idle q (quiet q)) ∙ quiet_wakes quiet qs
+
+    -- ---- where waking changes nothing
+
+    -- after its turn the process is ready, if what it waits for is there
+    turned : (q : ℕ) (p : ProcessValue) (a : AwaitedValue) (ds : List ℕ) → get (map process_entry ps) q ≡ Some p → p.state ≡ Blocked a ds
+        → woken (world_blocked ps r blocked) q ≡ world_blocked ps r blocked → is_due r.objects (awaited_of a) ≡ false
+    unfolding woken made_ready
+    turned q p a ds there is same = by_awaited a is
+      where
+        ready_there : (w : World) (values : List ℕ) → w.processes ≡ map process_entry ps
+            → made_ready w q p ds values ≡ world_blocked ps r blocked → ⊥
+        ready_there w values still made =
+            let put_there : Some (record p { state = Ready; cpu = answered p.cpu ds values }) ≡ Some p =
+            sym (get-put w.processes q (record p { state = Ready; cpu = answered p.cpu ds values }) q ∙ rw (eq-eqb q q refl) refl)
+            ∙ (ap (λ (v : World). get v.processes q) made ∙ there) in
+            ready_blocked (ap (λ (y : ProcessValue). y.state) (same_Some (record p { state = Ready; cpu = answered p.cpu ds values }) p put_there) ∙ is)
+          where
+            ready_blocked : Ready ≡ Blocked a ds → ⊥
+            ready_blocked h = cc
+
+        by_awaited : (b : AwaitedValue) → p.state ≡ Blocked b ds → is_due r.objects (awaited_of b) ≡ false
+        by_awaited (SignalOf k mask) state = by_test (meets (signals_at r.objects k) mask) refl
+          where
+            by_test : (b : Bool) → meets (signals_at r.objects k) mask ≡ b → b ≡ false
+            by_test false due = refl
+            by_test true due = absurd (ready_there (world_blocked ps r blocked) (0 ∷ active (world_blocked ps r blocked) k ∷ []) refl
+                (sym (rw (there, state, active_there blocked k, due) refl) ∙ same))
+        by_awaited (PacketAt k) state = by_object (get r.objects k) refl
+          where
+            by_packets : (o : Object) → get r.objects k ≡ Some o → (own : Port) → o.body ≡ body.Port own → (xs : List Packet) → own.packets ≡ xs
+                → not (is_empty xs) ≡ false
+            by_packets o at own port [] packets = refl
+            by_packets o at own port (x ∷ xs) packets = absurd (ready_there
+                (with_body (world_blocked ps r blocked) k (object_value o) (PortBody xs)) (0 ∷ packet_values x) refl
+                (sym (rw (there, state, get_seen r.objects k, at, port, packets) refl) ∙ same))
+
+            by_body : (o : Object) → get r.objects k ≡ Some o → (b : Body) → o.body ≡ b → not (is_empty (packets_of b)) ≡ false
+            by_body o at (body.Port own) port = by_packets o at own port own.packets refl
+            by_body o at _ other = refl
+
+            by_object : (o : Option Object) → get r.objects k ≡ o → not (is_empty (packets_in o)) ≡ false
+            by_object None at = refl
+            by_object (Some o) at = by_body o at o.body refl
+
+-- another turn of a process that had one and is still blocked changes nothing
+turns_stay : (u : World) (ps : List ℕ) (q : ℕ) → IsTrue (among ps q) → IsTrue (among (fold woken u ps).blocked q) → woken (fold woken u ps) q ≡ fold woken u ps
+turns_stay u [] q inside blocked = absurd (false≢true inside)
+turns_stay u (p ∷ ps) q inside blocked = elim (or_cases (p == q) (among ps q) inside) as
+    (λ _. woken (fold woken (woken u p) ps) q ≡ fold woken (woken u p) ps) [
+      | inl same ↦ woken-stays u (fold woken (woken u p) ps) q
+          (subst (λ x. IsLater (woken u x) (fold woken (woken u p) ps)) (eqb-true p q same) (turns-later (woken u p) ps)) blocked
+      | inr later ↦ turns_stay (woken u p) ps q later blocked
+    ]
+
+awake_still : (w : World) → wakes w ≡ w → (q : ℕ) → IsTrue (among w.blocked q) → woken w q ≡ w
+unfolding wakes
+awake_still w same q inside = subst (λ (v : World). woken v q ≡ v) same
+    (turns_stay (fired w) w.blocked q inside (ap (λ (v : World). among v.blocked q) same ∙ inside))
+
+-- in a world in which nothing is due no wait holds, and for no blocked process is there what it waits for
+module _ (ps : List Process) (r : Objects) (consistent : IsConsistent ps r) (blocked : List ℕ) (are : AreBlocked ps blocked)
+    (awake : wakes (world_blocked ps r blocked) ≡ world_blocked ps r blocked) where
+  pub none_holding : list_any (holds_now r.objects) r.waits ≡ false
+  none_holding =
+      ap (λ (test : Wait → Bool). list_any test r.waits) (sym (holds_there ps r consistent blocked))
+      ∙ subst (λ (v : World). list_any (holds v) v.waits ≡ false) awake (none_holds (world_blocked ps r blocked))
+
+  pub none_due : (k : ℕ) (p : ProcessValue) (a : AwaitedValue) (ds : List ℕ) → get (map process_entry ps) k ≡ Some p → p.state ≡ Blocked a ds
+      → is_due r.objects (awaited_of a) ≡ false
+  none_due k p a ds at is =
+      turned ps r consistent blocked k p a ds at is
+      (awake_still (world_blocked ps r blocked) awake k (listed_there ps blocked are k p a ds at is))

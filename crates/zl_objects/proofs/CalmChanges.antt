@@ -1,0 +1,383 @@
+-- Nothing is due at an object that isn't marked, after each change of the objects.
+use Rattle.zl_rights.proofs.Common.{◌≡◌, ◌<◌, ◌≤◌, ◌+◌, ◌==◌, ◌||◌, ◌&&◌, ◌⊎◌, ◌++◌, ℕ, Bool, true, false, not, List, [], ◌∷◌, refl, sym, ap, ◌∙◌, Option, Some}
+use Rattle.zl_rights.proofs.Common.{None, inl, inr, IsTrue, arith, eq-eqb, drop, filter, list_any, cond, nat_lt, nat_cmp, cases_Bool, false≢true, or_right}
+use Rattle.zl_rights.proofs.Common.{if◌then◌else◌, is_empty, none-some, same_Some, option_map, Map, get, put, update, each, has_key, All, is_some}
+use Rattle.std.specs.Prelude.{◌^◌, bit_or, Result, Ok, Err, OnOk, OnErr}
+use Rattle.std.specs.Map.{lookup, set_value}
+use Rattle.std.specs.BTreeMap.{is_at}
+use Rattle.zl_rights.specs.declared.policy.Action.{Action}
+use Rattle.zl_rights.specs.declared.policy.Condition.{Condition}
+use Rattle.zl_rights.specs.Numbers.{READABLE, WRITABLE, PEER_CLOSED, TERMINATED}
+use Rattle.zl_rights.specs.Signals.{signal_if}
+use Rattle.zl_rights.specs.World.{Message, Packet}
+use Rattle.zl_rights.proofs.MapLaws.{get-each, get-update}
+use Rattle.zl_signals.specs.declared.watch.Watch.{Watch}
+use Rattle.zl_signals.specs.Waits.{SignalState, without_first}
+use Rattle.zl_port.specs.Packets.{Port}
+use Rattle.zl_objects.specs.declared.awaited.Sleeper.{Sleeper}
+use Rattle.zl_objects.specs.declared.object.Body.{Body}
+use Rattle.zl_objects.specs.declared.object.Body.TheVariants as body
+use Rattle.zl_objects.specs.declared.object.Life.{Life}
+use Rattle.zl_objects.specs.declared.object.Life.TheVariants as life
+use Rattle.zl_objects.specs.declared.object.Object.{Object}
+use Rattle.zl_objects.specs.Calm.{IsCalm, has_packet, is_watched, is_watched_in}
+use Rattle.zl_objects.specs.Dying.{Thins}
+use Rattle.zl_objects.specs.Jobs.{all_killed, is_job_below, is_process_below, is_within, killed_if, with_policy_body, with_policy_set}
+use Rattle.zl_objects.specs.Objects.{held_once_less, held_once_more, is_alive, raised_changed, received, received_body, sent, sent_body, started, started_body}
+use Rattle.zl_objects.specs.Objects.{started_life, stopped}
+use Rattle.zl_objects.specs.Ports.{at_port, changed_port, packets_of}
+use Rattle.zl_objects.specs.Signals.{implied, signals_in}
+use Rattle.zl_objects.specs.Waits.{unwatched, watched}
+use Rattle.zl_objects.proofs.Bodies.{Changed, changed}
+use Rattle.zl_objects.proofs.ByKoid.{looked_up, written, written_back}
+use Rattle.zl_objects.proofs.Calm.{Follows, IsFewer, Keeps, Stays, calm_followed, fewer_both, fewer_if, fewer_same, fewer_unmarked, stays_fewer}
+use Rattle.zl_objects.proofs.Calm.{stays_unwatched}
+use Rattle.zl_objects.proofs.Calm.{updated_calm}
+use Rattle.zl_objects.proofs.Places.{first_out}
+use Rattle.zl_objects.proofs.Whole.{more_quiet, more_same}
+
+-- ---- nothing comes to be due
+
+-- at each object, whichever others are there, by what f does
+abbrev pub IsQuiet : (Object → Object) → Type 0
+IsQuiet f = (m : Map Object) (k : ℕ) (o : Object)
+    → Stays (signals_in m k (Some o)) (signals_in m k (Some (f o))) (has_packet (Some o)) (has_packet (Some (f o))) o (f o)
+
+pub quiet_calm : {marked : ℕ → Bool} {next : ℕ} {sleepers : List Sleeper} (f : Object → Object) → Keeps f → IsQuiet f → (m n : Map Object) (k : ℕ)
+    → n ≡ update m k f → IsCalm marked m next sleepers → IsCalm marked n next sleepers
+quiet_calm {marked} {next} {sleepers} f keeps quiet m n k is =
+    updated_calm f keeps marked marked (λ j h. h) m n next k sleepers (λ o at unmarked. quiet m k o) is
+
+-- its body stays, and its signals and waits
+pub keeps_body : (f : Object → Object) → ((o : Object) → IsTrue o.slept → IsTrue (f o).slept) → ((o : Object) → (f o).body ≡ o.body) → Keeps f
+keeps_body f slept same =
+    record { slept = slept; jobs = λ j o. ap (is_job_below j) (same o); processes = λ j o. ap (is_process_below j) (same o) }
+
+pub quiet_body : (f : Object → Object) → ((o : Object) → (f o).body ≡ o.body) → ((o : Object) → (f o).signals.raised ≡ o.signals.raised)
+    → ((o : Object) (test : Watch → Bool) → list_any test o.signals.waits ≡ false → list_any test (f o).signals.waits ≡ false) → IsQuiet f
+quiet_body f same raised shorter m k o =
+    stays_fewer (signals_in m k (Some o)) (signals_in m k (Some (f o))) (has_packet (Some o)) (has_packet (Some (f o))) o (f o)
+    (fewer_same _ _ (λ i. bit_or (raised o i) (implied m k (same o i))))
+    (λ h. ap (λ (b : Body). not (is_empty (packets_of b))) (same o) ∙ h) (shorter o)
+
+more_slept : (o : Object) → (held_once_more o).slept ≡ o.slept
+more_slept o = elim (nat_lt o.handles (2 ^ 62)) as (λ b. (if b then record o { handles = o.handles + 1 } else o).slept ≡ o.slept) [ true ↦ refl | false ↦ refl ]
+
+pub keeps_more : Keeps held_once_more
+keeps_more = keeps_body held_once_more (λ o h. more_slept o ∙ h) more_same
+
+pub more_stays : IsQuiet held_once_more
+more_stays = quiet_body held_once_more more_same (λ o. ap (λ (s : SignalState). s.raised) (more_quiet o))
+    (λ o test h. ap (λ (s : SignalState). list_any test s.waits) (more_quiet o) ∙ h)
+
+pub keeps_less : Keeps held_once_less
+keeps_less = keeps_body held_once_less (λ o h. h) (λ o. refl)
+
+pub less_stays : IsQuiet held_once_less
+less_stays = quiet_body held_once_less (λ o. refl) (λ o. refl) (λ o test h. h)
+
+-- the first wait that passes has gone
+none_out : (test out : Watch → Bool) (ws : List Watch) → list_any test ws ≡ false → list_any test (without_first out ws) ≡ false
+none_out test out [] h = refl
+none_out test out (x ∷ ws) h = by_test (test x) refl (out x) refl h (λ rest. none_out test out ws rest)
+  where
+    by_test : (a : Bool) → test x ≡ a → (b : Bool) → out x ≡ b → (a || list_any test ws) ≡ false
+        → (list_any test ws ≡ false → list_any test (without_first out ws) ≡ false) → list_any test (without_first out (x ∷ ws)) ≡ false
+    by_test true is b which h later = absurd (false≢true (sym h))
+    by_test false is true which h later = rw (first_out out x ws, which) h
+    by_test false is false which h later = rw (first_out out x ws, which, is) (later h)
+
+pub keeps_unwatched : (out : Watch → Bool) → Keeps (unwatched out)
+keeps_unwatched out = keeps_body (unwatched out) (λ o h. h) (λ o. refl)
+
+pub unwatched_stays : (out : Watch → Bool) → IsQuiet (unwatched out)
+unwatched_stays out = quiet_body (unwatched out) (λ o. refl) (λ o. refl) (λ o test h. none_out test out o.signals.waits h)
+
+-- the first wait that passes has gone from one object
+pub unwatched_calm : {marked : ℕ → Bool} {next : ℕ} {sleepers : List Sleeper} (out : Watch → Bool) (m n : Map Object) (k : ℕ) → n ≡ update m k (unwatched out)
+    → IsCalm marked m next sleepers → IsCalm marked n next sleepers
+unwatched_calm out = quiet_calm (unwatched out) (keeps_unwatched out) (unwatched_stays out)
+
+-- ---- what an object is changes
+
+-- it stays as much a child, and no signal comes on and no packet comes
+record IsQuietBody (g : Body → Body) : Type 0 where
+  jobs : (j : ℕ) (b : Body) → is_job_below j (g b) ≡ is_job_below j b
+  processes : (j : ℕ) (b : Body) → is_process_below j (g b) ≡ is_process_below j b
+  fewer : (m : Map Object) (k : ℕ) (b : Body) → IsFewer (implied m k (g b)) (implied m k b)
+  packets : (b : Body) → not (is_empty (packets_of b)) ≡ false → not (is_empty (packets_of (g b))) ≡ false
+
+keeps_bodies : (g : Body → Body) → ((j : ℕ) (b : Body) → is_job_below j (g b) ≡ is_job_below j b)
+    → ((j : ℕ) (b : Body) → is_process_below j (g b) ≡ is_process_below j b) → Keeps (λ o. record o { body = g o.body })
+keeps_bodies g jobs processes = record { slept = λ o h. h; jobs = λ j o. jobs j o.body; processes = λ j o. processes j o.body }
+
+bodies_stay : (g : Body → Body) → IsQuietBody g → IsQuiet (λ o. record o { body = g o.body })
+bodies_stay g quiet m k o =
+    stays_fewer (signals_in m k (Some o)) (signals_in m k (Some (record o { body = g o.body }))) (has_packet (Some o))
+    (has_packet (Some (record o { body = g o.body }))) o
+    (record o { body = g o.body }) (fewer_both o.signals.raised o.signals.raised (implied m k (g o.body)) (implied m k o.body) (λ mask h. h)
+    (quiet.fewer m k o.body)) (quiet.packets o.body) (λ test h. h)
+
+alive_started : (l : Life) → is_alive (started_life l) ≡ is_alive l
+alive_started life.Created = refl
+alive_started life.Running = refl
+alive_started life.Ended = refl
+
+started_quiet : IsQuietBody started_body
+started_quiet = record { jobs = jobs; processes = processes; fewer = fewer; packets = packets }
+  where
+    jobs : (j : ℕ) (b : Body) → is_job_below j (started_body b) ≡ is_job_below j b
+    jobs j (body.Process job l) = refl
+    jobs j _ = refl
+
+    processes : (j : ℕ) (b : Body) → is_process_below j (started_body b) ≡ is_process_below j b
+    processes j (body.Process job l) = ap (λ x. (job == j) && x) (alive_started l)
+    processes j _ = refl
+
+    fewer : (m : Map Object) (k : ℕ) (b : Body) → IsFewer (implied m k (started_body b)) (implied m k b)
+    fewer m k (body.Process job l) = fewer_same _ _ (ap (λ x. signal_if TERMINATED (not x)) (alive_started l))
+    fewer m k _ = λ mask h. h
+
+    packets : (b : Body) → not (is_empty (packets_of b)) ≡ false → not (is_empty (packets_of (started_body b))) ≡ false
+    packets (body.Process job l) h = h
+    packets _ h = h
+
+pub keeps_started : Keeps started
+keeps_started = keeps_bodies started_body started_quiet.jobs started_quiet.processes
+
+pub started_stays : IsQuiet started
+started_stays = bodies_stay started_body started_quiet
+
+policy_quiet : (c : Condition) (a : Action) → IsQuietBody (with_policy_body c a)
+policy_quiet c a = record { jobs = jobs; processes = processes; fewer = fewer; packets = packets }
+  where
+    jobs : (j : ℕ) (b : Body) → is_job_below j (with_policy_body c a b) ≡ is_job_below j b
+    jobs j (body.Job own) = refl
+    jobs j _ = refl
+
+    processes : (j : ℕ) (b : Body) → is_process_below j (with_policy_body c a b) ≡ is_process_below j b
+    processes j (body.Job own) = refl
+    processes j _ = refl
+
+    fewer : (m : Map Object) (k : ℕ) (b : Body) → IsFewer (implied m k (with_policy_body c a b)) (implied m k b)
+    fewer m k (body.Job own) = λ mask h. h
+    fewer m k _ = λ mask h. h
+
+    packets : (b : Body) → not (is_empty (packets_of b)) ≡ false → not (is_empty (packets_of (with_policy_body c a b))) ≡ false
+    packets (body.Job own) h = h
+    packets _ h = h
+
+received_quiet : IsQuietBody received_body
+received_quiet = record { jobs = jobs; processes = processes; fewer = fewer; packets = packets }
+  where
+    jobs : (j : ℕ) (b : Body) → is_job_below j (received_body b) ≡ is_job_below j b
+    jobs j (body.ChannelEnd peer queue) = refl
+    jobs j _ = refl
+
+    processes : (j : ℕ) (b : Body) → is_process_below j (received_body b) ≡ is_process_below j b
+    processes j (body.ChannelEnd peer queue) = refl
+    processes j _ = refl
+
+    some_left : (queue : List Message) → IsTrue (not (is_empty (drop 1 queue))) → IsTrue (not (is_empty queue))
+    some_left [] h = h
+    some_left (x ∷ queue) h = refl
+
+    fewer : (m : Map Object) (k : ℕ) (b : Body) → IsFewer (implied m k (received_body b)) (implied m k b)
+    fewer m k (body.ChannelEnd peer queue) =
+        fewer_both (signal_if READABLE (not (is_empty (drop 1 queue)))) (signal_if READABLE (not (is_empty queue)))
+        (if has_key m peer then WRITABLE else PEER_CLOSED) (if has_key m peer then WRITABLE else PEER_CLOSED)
+        (fewer_if READABLE (not (is_empty (drop 1 queue))) (not (is_empty queue)) (some_left queue)) (λ mask h. h)
+    fewer m k _ = λ mask h. h
+
+    packets : (b : Body) → not (is_empty (packets_of b)) ≡ false → not (is_empty (packets_of (received_body b))) ≡ false
+    packets (body.ChannelEnd peer queue) h = h
+    packets _ h = h
+
+pub keeps_received : Keeps received
+keeps_received = keeps_bodies received_body received_quiet.jobs received_quiet.processes
+
+pub received_stays : IsQuiet received
+received_stays = bodies_stay received_body received_quiet
+
+module _ (g : Port → Port) where
+  port_jobs : (j : ℕ) (b : Body) → is_job_below j (changed_port g b) ≡ is_job_below j b
+  port_jobs j (body.Port p) = refl
+  port_jobs j _ = refl
+
+  port_processes : (j : ℕ) (b : Body) → is_process_below j (changed_port g b) ≡ is_process_below j b
+  port_processes j (body.Port p) = refl
+  port_processes j _ = refl
+
+  pub keeps_port : Keeps (at_port g)
+  keeps_port = keeps_bodies (changed_port g) port_jobs port_processes
+
+  -- no packet comes
+  pub port_stays : ((p : Port) → not (is_empty p.packets) ≡ false → not (is_empty (g p).packets) ≡ false) → IsQuiet (at_port g)
+  port_stays fewer = bodies_stay (changed_port g) (record { jobs = port_jobs; processes = port_processes; fewer = signals; packets = packets })
+    where
+      signals : (m : Map Object) (k : ℕ) (b : Body) → IsFewer (implied m k (changed_port g b)) (implied m k b)
+      signals m k (body.Port p) = λ mask h. h
+      signals m k _ = λ mask h. h
+
+      packets : (b : Body) → not (is_empty (packets_of b)) ≡ false → not (is_empty (packets_of (changed_port g b))) ≡ false
+      packets (body.Port p) h = fewer p h
+      packets _ h = h
+
+-- no packet has come to the port
+pub port_calm : {marked : ℕ → Bool} {next : ℕ} {sleepers : List Sleeper} (g : Port → Port)
+    → ((p : Port) → not (is_empty p.packets) ≡ false → not (is_empty (g p).packets) ≡ false) → (m n : Map Object) (k : ℕ) → n ≡ update m k (at_port g)
+    → IsCalm marked m next sleepers → IsCalm marked n next sleepers
+port_calm g fewer = quiet_calm (at_port g) (keeps_port g) (port_stays g fewer)
+
+-- the packets that are taken out leave no more
+pub front_out : (xs : List Packet) → not (is_empty xs) ≡ false → not (is_empty (drop 1 xs)) ≡ false
+front_out [] h = h
+front_out (x ∷ xs) h = absurd (false≢true (sym h))
+
+pub some_out : (test : Packet → Bool) (xs : List Packet) → not (is_empty xs) ≡ false → not (is_empty (filter test xs)) ≡ false
+some_out test [] h = h
+some_out test (x ∷ xs) h = absurd (false≢true (sym h))
+
+-- ---- what changes is marked, if something waits there
+
+pub keeps_changed : (clear set : ℕ) → Keeps (raised_changed clear set)
+keeps_changed clear set = record { slept = λ o h. h; jobs = λ j o. refl; processes = λ j o. refl }
+
+pub keeps_sent : (message : Message) → Keeps (sent message)
+keeps_sent message = keeps_bodies (sent_body message) jobs processes
+  where
+    jobs : (j : ℕ) (b : Body) → is_job_below j (sent_body message b) ≡ is_job_below j b
+    jobs j (body.ChannelEnd peer queue) = refl
+    jobs j _ = refl
+
+    processes : (j : ℕ) (b : Body) → is_process_below j (sent_body message b) ≡ is_process_below j b
+    processes j (body.ChannelEnd peer queue) = refl
+    processes j _ = refl
+
+pub keeps_watched : (x : Watch) → Keeps (watched x)
+keeps_watched x = record { slept = λ o h. h; jobs = λ j o. refl; processes = λ j o. refl }
+
+-- what isn't marked wasn't to be
+pub unless_wanted : (is b : Bool) → (b ≡ true → IsTrue is) → is ≡ false → (x : Bool) → b ≡ x → x ≡ false
+unless_wanted is true wanted unmarked x same = absurd (false≢true (sym unmarked ∙ wanted refl))
+unless_wanted is false wanted unmarked x same = sym same
+
+-- nothing waits at the object that was found and written, as it isn't marked
+unwatched_at : (f : Object → Object) (m : Map Object) (k : ℕ) (v w : Object) → Some v ≡ lookup (is_at (nat_cmp k)) m → (b is : Bool) → b ≡ is_watched w
+    → (b ≡ true → IsTrue is) → w ≡ f v → (o : Object) → get m k ≡ Some o → is ≡ false → is_watched (f o) ≡ false
+unwatched_at f m k v w there b is watched wanted written o at unmarked =
+    let same : v ≡ o = same_Some v o (there ∙ (looked_up m k ∙ at)) in
+    ap (λ (x : Object). is_watched (f x)) (sym same) ∙ (ap is_watched (sym written) ∙ unless_wanted is b wanted unmarked (is_watched w) watched)
+
+module _ {marked marked2 : ℕ → Bool} {next : ℕ} {sleepers : List Sleeper} (more : (j : ℕ) → IsTrue (marked j) → IsTrue (marked2 j)) where
+  -- with more marks nothing else is so
+  pub remarked_calm : (m n : Map Object) → n ≡ m → IsCalm marked m next sleepers → IsCalm marked2 n next sleepers
+  remarked_calm m n is calm = rw is (calm_followed marked marked2 m m next next sleepers (omega arith) (fewer_unmarked marked marked2 more)
+      (λ k o at. inl (record {
+        before = o;
+        there = at;
+        slept = λ h. h;
+        unmarked = fewer_unmarked marked marked2 more k;
+        still = λ unmarked. stays_fewer _ _ _ _ o o (λ mask h. h) (λ h. h) (λ test h. h);
+      })) calm)
+
+  -- f was done, and the object is marked unless nothing waits there
+  pub written_calm : (f : Object → Object) → Keeps f → (m n : Map Object) (k : ℕ)
+      → ((o : Object) → get m k ≡ Some o → marked2 k ≡ false → is_watched (f o) ≡ false) → n ≡ update m k f
+      → IsCalm marked m next sleepers → IsCalm marked2 n next sleepers
+  written_calm f keeps m n k watched is =
+      updated_calm f keeps marked marked2 more m n next k sleepers
+      (λ o at unmarked. stays_unwatched _ _ _ _ o (f o) (keeps.slept o) (watched o at unmarked)) is
+
+  module _ (f : Object → Object) (keeps : Keeps f) (m n : Map Object) (k : ℕ) (v w : Object) (there : Some v ≡ lookup (is_at (nat_cmp k)) m)
+      (b : Bool) (watched : b ≡ is_watched w) (wanted : b ≡ true → IsTrue (marked2 k)) where
+    -- the object that was found was written
+    pub found_calm : w ≡ f v → n ≡ update m k f → IsCalm marked m next sleepers → IsCalm marked2 n next sleepers
+    found_calm is set = written_calm f keeps m n k (λ o at unmarked. unwatched_at f m k v w there b (marked2 k) watched wanted is o at unmarked) set
+
+    -- or that was refused
+    pub found_or_same_calm : {A B : Type 0} (r : Result A B) → OnOk r (w ≡ f v) → OnErr r (w ≡ v) → n ≡ set_value (is_at (nat_cmp k)) m w
+        → IsCalm marked m next sleepers → IsCalm marked2 n next sleepers
+    found_or_same_calm (Ok x) is other set = found_calm is (written m n k f v w there is set)
+    found_or_same_calm (Err e) is other set = remarked_calm m n (written_back m n k v w there other set)
+
+  -- the object is marked, whatever waits there
+  pub marked_calm : (f : Object → Object) → Keeps f → (m n : Map Object) (k : ℕ) → IsTrue (marked2 k) → n ≡ update m k f
+      → IsCalm marked m next sleepers → IsCalm marked2 n next sleepers
+  marked_calm f keeps m n k there is =
+      updated_calm f keeps marked marked2 more m n next k sleepers (λ o at unmarked. absurd (false≢true (sym unmarked ∙ there))) is
+
+-- or it was written, and is marked if something waits there then
+pub watched_after : (f : Object → Object) (m : Map Object) (k : ℕ) (b : Bool) (o : Object) → get m k ≡ Some o → b ≡ is_watched_in (get (update m k f) k)
+    → b ≡ is_watched (f o)
+watched_after f m k b o at is = is ∙ rw (get-update m k f k, eq k, at) refl
+  where
+    eq : (j : ℕ) → (j == j) ≡ true
+    eq j = eq-eqb j j refl
+
+-- a policy was set, or that was refused
+pub policy_calm : {A B : Type 0} {marked : ℕ → Bool} {next : ℕ} {sleepers : List Sleeper} (c : Condition) (a : Action) (m n : Map Object) (k : ℕ) (v w : Object)
+    (r : Result A B) → OnOk r (w ≡ with_policy_set c a v) → OnErr r (w ≡ v) → Some v ≡ lookup (is_at (nat_cmp k)) m → n ≡ set_value (is_at (nat_cmp k)) m w
+    → IsCalm marked m next sleepers → IsCalm marked n next sleepers
+policy_calm c a m n k v w (Ok x) is other there set calm =
+    quiet_calm (with_policy_set c a) (keeps_bodies (with_policy_body c a) (policy_quiet c a).jobs (policy_quiet c a).processes)
+    (bodies_stay (with_policy_body c a) (policy_quiet c a)) m n k (written m n k (with_policy_set c a) v w there is set) calm
+policy_calm c a m n k v w (Err e) is other there set calm = rw (written_back m n k v w there other set) calm
+
+-- ---- each object is marked
+
+-- what is left was there before, and as much slept at
+abbrev WereThere : Map Object → Map Object → Type 0
+WereThere m m2 = (k : ℕ) (o2 : Object) → get m2 k ≡ Some o2 → (o : Object) × (get m k ≡ Some o) × (IsTrue o.slept → IsTrue o2.slept)
+
+all_calm : {marked marked2 : ℕ → Bool} {next : ℕ} {sleepers : List Sleeper} → ((k : ℕ) → IsTrue (marked2 k)) → (m m2 : Map Object) → WereThere m m2
+    → IsCalm marked m next sleepers → IsCalm marked2 m2 next sleepers
+all_calm {marked} {marked2} {next} {sleepers} all m m2 were =
+    calm_followed marked marked2 m m2 next next sleepers (omega arith) (λ k unmarked. absurd (false≢true (sym unmarked ∙ all k)))
+    (λ k o2 at. let was : (o : Object) × (get m k ≡ Some o) × (IsTrue o.slept → IsTrue o2.slept) = were k o2 at in
+    inl (record {
+      before = was.0;
+      there = was.1;
+      slept = was.2;
+      unmarked = λ unmarked. absurd (false≢true (sym unmarked ∙ all k));
+      still = λ unmarked. absurd (false≢true (sym unmarked ∙ all k));
+    }))
+
+module _ {marked marked2 : ℕ → Bool} {next : ℕ} {sleepers : List Sleeper} (all : (k : ℕ) → IsTrue (marked2 k)) (m m2 : Map Object) where
+  -- handles went, and what nothing keeps
+  pub left_calm : ((k : ℕ) (o : Object) → get m2 k ≡ Some o → Thins m m2 k o) → IsCalm marked m next sleepers → IsCalm marked2 m2 next sleepers
+  left_calm thins = all_calm all m m2 (λ k o2 at. let was : Thins m m2 k o2 = thins k o2 at in (was.before, was.there, λ h. was.slept ∙ h))
+
+  -- a process has ended
+  pub stopped_calm : (k : ℕ) → m2 ≡ update m k stopped → IsCalm marked m next sleepers → IsCalm marked2 m2 next sleepers
+  stopped_calm k is = rw is (all_calm all m (update m k stopped) (λ j o2 at. were j o2 (changed stopped m k j o2 at)))
+    where
+      were : (j : ℕ) (o2 : Object) → Changed stopped m k j o2 → (o : Object) × (get m j ≡ Some o) × (IsTrue o.slept → IsTrue o2.slept)
+      were j o2 c = (
+        c.before,
+        c.there,
+        λ h. ap (λ (x : Object). x.slept) c.is
+            ∙ (elim (k == j) as (λ b. (if b then stopped c.before else c.before).slept ≡ c.before.slept) [ true ↦ refl | false ↦ refl ] ∙ h),
+      )
+
+  -- what the test passes was killed
+  killed_calm : (kills : ℕ → Bool) → m2 ≡ each (λ j. killed_if (kills j)) m → IsCalm marked m next sleepers → IsCalm marked2 m2 next sleepers
+  killed_calm kills is = rw is (all_calm all m (each (λ j. killed_if (kills j)) m) were)
+    where
+      by_object : (j : ℕ) (o2 : Object) (q : Option Object) → get m j ≡ q → option_map (killed_if (kills j)) q ≡ Some o2
+          → (o : Object) × (get m j ≡ Some o) × (IsTrue o.slept → IsTrue o2.slept)
+      by_object j o2 None is at = absurd (none-some o2 at)
+      by_object j o2 (Some o) is at = (
+        o,
+        is,
+        λ h. ap (λ (x : Object). x.slept) (sym (same_Some (killed_if (kills j) o) o2 at))
+            ∙ (elim (kills j) as (λ b. (killed_if b o).slept ≡ o.slept) [ true ↦ refl | false ↦ refl ] ∙ h),
+      )
+
+      were : WereThere m (each (λ j. killed_if (kills j)) m)
+      were j o2 at = by_object j o2 (get m j) refl (sym (get-each m (λ i. killed_if (kills i)) j) ∙ at)
+
+  -- a job was killed, and what stands below it
+  pub all_killed_calm : (task : ℕ) → m2 ≡ all_killed m task → IsCalm marked m next sleepers → IsCalm marked2 m2 next sleepers
+  unfolding all_killed
+  all_killed_calm task is = killed_calm (is_within m task) is

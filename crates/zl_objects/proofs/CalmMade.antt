@@ -1,0 +1,346 @@
+-- Nothing is due at an object that isn't marked, once objects were made, or taken back, or processes are blocked.
+use Rattle.zl_rights.proofs.Common.{◌≡◌, ◌<◌, ◌≤◌, ◌+◌, ◌==◌, ◌||◌, ◌&&◌, ◌⊎◌, ◌++◌, ℕ, Bool, true, false, not, List, [], ◌∷◌, refl, sym, ap, ◌∙◌, Option, Some}
+use Rattle.zl_rights.proofs.Common.{None, inl, inr, IsTrue, arith, eq-eqb, eqb-true, nat_tests, filter, list_any, nat_cmp, cases_Bool, false≢true, or_left}
+use Rattle.zl_rights.proofs.Common.{or_right}
+use Rattle.zl_rights.proofs.Common.{if◌then◌else◌, none-some, same_Some, IfSome, IfNone, Map, get, put, update, has_key, All, is_some, map}
+use Rattle.std.specs.Prelude.{bit_or}
+use Rattle.std.specs.List.{Contains}
+use Rattle.std.specs.Map.{lookup}
+use Rattle.std.specs.BTreeMap.{BTreeMap, insert_entry, is_at, IsUnchanged, Updates}
+use Rattle.std.proofs.lemmas.Bool.{or_cases}
+use Rattle.std.proofs.lemmas.List.Elements.{Contains-append_left, Contains-append_right, Contains-push}
+use Rattle.std.proofs.lemmas.List.Elements.{All-cons, All-contains, All-filter, All-nil, All-push, All-weaker, filter_passes}
+use Rattle.zl_rights.specs.Numbers.{NO_JOBS, NO_PROCESSES, PEER_CLOSED, READABLE, TERMINATED, WRITABLE}
+use Rattle.zl_rights.specs.Signals.{is_empty, signal_if}
+use Rattle.zl_rights.specs.World.{Wait}
+use Rattle.zl_rights.proofs.MapLaws.{get-put}
+use Rattle.zl_signals.specs.declared.watch.Watch.{Watch}
+use Rattle.zl_signals.specs.Waits.{holds, wait_at}
+use Rattle.zl_objects.specs.declared.awaited.Awaited.{Awaited}
+use Rattle.zl_objects.specs.declared.awaited.Sleeper.{Sleeper}
+use Rattle.zl_objects.specs.declared.object.Body.{Body}
+use Rattle.zl_objects.specs.declared.object.Body.TheVariants as body
+use Rattle.zl_objects.specs.declared.object.Object.{Object}
+use Rattle.zl_objects.specs.declared.object.Pair.{Pair}
+use Rattle.zl_objects.specs.Awaited.{koid_of}
+use Rattle.zl_objects.specs.Calm.{IsAtRest, IsCalm, IsPut, NoneHolds, has_packet, holds_now, is_due, is_watched, slept}
+use Rattle.zl_objects.specs.Dying.{HasPeer}
+use Rattle.zl_objects.specs.Jobs.{has_job_below, has_process_below, is_job_below, is_process_below}
+use Rattle.zl_objects.specs.Listed.{AreListed}
+use Rattle.zl_objects.specs.Objects.{peer_of}
+use Rattle.zl_objects.specs.Signals.{implied, signals_at, signals_in}
+use Rattle.zl_objects.specs.Waits.{waits_in}
+use Rattle.zl_objects.proofs.Bodies.{Changed, changed}
+use Rattle.zl_objects.proofs.ByKoid.{inserted, looked_up, put_last}
+use Rattle.zl_objects.proofs.Calm.{Follows, IsFewer, IsNew, calm_followed, fewer_both, fewer_if, none_given, stays_fewer, stays_unwatched}
+use Rattle.zl_objects.proofs.CalmChanges.{keeps_body, quiet_body, quiet_calm, remarked_calm, unless_wanted}
+use Rattle.zl_objects.proofs.Whole.{below_first, end_of}
+
+-- ---- one object more
+
+any_left : {X : Type 0} (test : X → Bool) (xs ys : List X) → IsTrue (list_any test xs) → IsTrue (list_any test (xs ++ ys))
+any_left test [] ys h = absurd (false≢true h)
+any_left test (x ∷ xs) ys h = by_test (test x) h (λ rest. any_left test xs ys rest)
+  where
+    by_test : (b : Bool) → IsTrue (b || list_any test xs) → (IsTrue (list_any test xs) → IsTrue (list_any test (xs ++ ys)))
+        → IsTrue (b || list_any test (xs ++ ys))
+    by_test true h later = refl
+    by_test false h later = later h
+
+less_often : (a b : Bool) → (IsTrue a → IsTrue b) → IsTrue (not b) → IsTrue (not a)
+less_often false b more h = refl
+less_often true true more h = h
+less_often true false more h = absurd (false≢true (more refl))
+
+module _ (m : Map Object) (next : ℕ) (o : Object) (below : (k : ℕ) → IsTrue (has_key m k) → k < next) where
+  -- no signal comes on where another peer is had, if any
+  implied_fewer : (j : ℕ) (b : Body) → ((p : ℕ) → peer_of b ≡ Some p → (next == p) ≡ false) → IsFewer (implied (put m next o) j b) (implied m j b)
+  unfolding has_job_below has_process_below
+  implied_fewer j (body.Job own) apart =
+      let more : (test : Body → Bool) → IsTrue (list_any (λ e. test e.1.body) m) → IsTrue (list_any (λ e. test e.1.body) (put m next o)) =
+      λ test h. rw (put_last m next o below) (any_left (λ e. test e.1.body) m ((next, o) ∷ []) h) in
+      fewer_both (signal_if TERMINATED own.killed) (signal_if TERMINATED own.killed) _ _ (λ mask h. h)
+      (fewer_both _ _ _ _ (fewer_if NO_JOBS _ _ (less_often _ _ (more (is_job_below j))))
+      (fewer_if NO_PROCESSES _ _ (less_often _ _ (more (is_process_below j)))))
+  implied_fewer j (body.ChannelEnd peer queue) apart = rw (get-put m next o peer, apart peer refl) (λ mask h. h)
+  implied_fewer j (body.PairEnd peer) apart = rw (get-put m next o peer, apart peer refl) (λ mask h. h)
+  implied_fewer j _ apart = λ mask h. h
+
+  -- nothing waits at an object whose peer may come
+  pub inserted_calm : {marked : ℕ → Bool} {sleepers : List Sleeper} → o.signals.waits ≡ []
+      → ((k : ℕ) (q : Object) → get m k ≡ Some q → (is_watched q ≡ false) ⊎ ((p : ℕ) → peer_of q.body ≡ Some p → (next == p) ≡ false))
+      → (n : Map Object) → n ≡ insert_entry nat_cmp m next o → IsCalm marked m next sleepers → IsCalm marked n (next + 1) sleepers
+  inserted_calm {marked} {sleepers} fresh peers n into = rw (into, inserted m next o)
+      (calm_followed marked marked m (put m next o) next (next + 1) sleepers (omega arith) (λ k unmarked. unmarked)
+      (λ k q at. by_key k q (cases_Bool (next == k)) (sym (get-put m next o k) ∙ at) at))
+    where
+      still : (k : ℕ) (q : Object) → get m k ≡ Some q → get (put m next o) k ≡ Some q
+          → (is_watched q ≡ false) ⊎ ((p : ℕ) → peer_of q.body ≡ Some p → (next == p) ≡ false)
+          → Follows marked marked m (put m next o) k q
+      still k q was at (inl unwatched) = record {
+        before = q;
+        there = was;
+        slept = λ h. h;
+        unmarked = λ unmarked. unmarked;
+        still = λ unmarked. stays_unwatched _ _ _ _ q q (λ h. h) unwatched;
+      }
+      still k q was at (inr apart) = record {
+        before = q;
+        there = was;
+        slept = λ h. h;
+        unmarked = λ unmarked. unmarked;
+        still = λ unmarked. rw (was, at)
+            (stays_fewer (signals_in m k (Some q)) (signals_in (put m next o) k (Some q)) _ _ q q
+            (fewer_both q.signals.raised q.signals.raised (implied (put m next o) k q.body) (implied m k q.body) (λ mask h. h)
+            (implied_fewer k q.body apart)) (λ h. h) (λ test h. h));
+      }
+
+      by_key : (k : ℕ) (q : Object) → IsTrue (next == k) ⊎ ((next == k) ≡ false) → (if next == k then Some o else get m k) ≡ Some q
+          → get (put m next o) k ≡ Some q → Follows marked marked m (put m next o) k q ⊎ IsNew marked marked m (put m next o) next k q
+      by_key k q (inl here) is at =
+          let key : next ≡ k = eqb-true next k here in
+          let same : o ≡ q = same_Some o q (rw here at is) in
+          inr (record { later = omega (arith, key); fresh = ap (λ (x : Object). x.signals.waits) (sym same) ∙ fresh })
+      by_key k q (inr apart) is at = let was : get m k ≡ Some q = rw apart at is in inl (still k q was at (peers k q was))
+
+-- ---- the newest is taken back
+
+pub popped_calm : {marked marked2 : ℕ → Bool} {sleepers : List Sleeper} → ((k : ℕ) → IsTrue (marked2 k)) → (m n : BTreeMap ℕ Object) (next koid : ℕ)
+    (r : Option (ℕ × Object)) → next ≡ koid + 1
+    → IsTrue (has_key m.entries koid) → IfSome (get m.entries koid) (λ o. o.slept ≡ false) → IfNone r (IsUnchanged m n)
+    → IfSome r (λ p. Updates nat_cmp m n p.0 None) → IsCalm marked m.entries next sleepers → IsCalm marked2 n.entries koid sleepers
+popped_calm {marked} {marked2} {sleepers} all m n next koid r newest there unslept unchanged updates calm = record {
+  waits = λ k o at unmarked. absurd (false≢true (sym unmarked ∙ all k));
+  resting = All-weaker (IsAtRest marked m.entries next) (IsAtRest marked2 n.entries koid) one sleepers calm.resting;
+}
+  where
+    was : (q : Option (ℕ × Object)) → IfNone q (IsUnchanged m n) → IfSome q (λ p. Updates nat_cmp m n p.0 None) → (j : ℕ) (o : Object)
+        → get n.entries j ≡ Some o → get m.entries j ≡ Some o
+    was None same out j o at = rw same at at
+    was (Some p) same out j o at = by_test (is_at (nat_cmp p.0) j) (sym (out.0 j) ∙ (looked_up n.entries j ∙ at))
+      where
+        by_test : (b : Bool) → (if b then None else lookup (is_at (nat_cmp j)) m.entries) ≡ Some o → get m.entries j ≡ Some o
+        by_test true h = absurd (none-some o h)
+        by_test false h = sym (looked_up m.entries j) ∙ h
+
+    nobody : (q : Option Object) → get m.entries koid ≡ q → IsTrue (is_some q) → IfSome q (λ o. o.slept ≡ false)
+        → ((o : Object) → get m.entries koid ≡ Some o → IsTrue o.slept) → ⊥
+    nobody None is some asleep known = false≢true some
+    nobody (Some o) is some asleep known = false≢true (sym asleep ∙ known o is)
+
+    one : (s : Sleeper) → IsAtRest marked m.entries next s → IsAtRest marked2 n.entries koid s
+    one s rest = record {
+      given = elim (cases_Bool (koid_of s.awaited == koid)) as (λ _. koid_of s.awaited < koid) [
+        | inl here ↦
+            let key : koid_of s.awaited ≡ koid = eqb-true (koid_of s.awaited) koid here in
+            absurd (nobody (get m.entries koid) refl there unslept (λ o at. rest.known o (ap (get m.entries) key ∙ at)))
+        | inr apart ↦ grind (arith, nat_tests, rest.given, newest, apart)
+      ];
+      known = λ o at. rest.known o (was r unchanged updates (koid_of s.awaited) o at);
+      calm = λ unmarked. absurd (false≢true (sym unmarked ∙ all (koid_of s.awaited)));
+    }
+
+-- ---- who may be blocked
+
+-- a process may be blocked at the object
+pub slept_calm : {marked : ℕ → Bool} {next : ℕ} {sleepers : List Sleeper} (m n : Map Object) (k : ℕ) → n ≡ update m k slept → IsCalm marked m next sleepers
+    → IsCalm marked n next sleepers
+slept_calm = quiet_calm slept (keeps_body slept (λ o h. refl) (λ o. refl)) (quiet_body slept (λ o. refl) (λ o. refl) (λ o test h. h))
+
+-- a process is listed, whose object is marked if it is due
+pub put_calm : {marked marked2 : ℕ → Bool} {next : ℕ} → ((j : ℕ) → IsTrue (marked j) → IsTrue (marked2 j)) → (m n : Map Object) (s : Sleeper)
+    (list list2 : List Sleeper) (crowded crowded2 b : Bool) → koid_of s.awaited < next → n ≡ update m (koid_of s.awaited) slept → b ≡ is_due n s.awaited
+    → (b ≡ true → IsTrue (marked2 (koid_of s.awaited))) → IsPut s list crowded list2 crowded2 → IsCalm marked m next list → IsCalm marked2 n next list2
+put_calm {marked} {marked2} {next} more m n s list list2 crowded crowded2 b given is due wanted put calm = by_put put
+  where
+    after : IsCalm marked2 n next list
+    after = remarked_calm more n n refl (slept_calm m n (koid_of s.awaited) is calm)
+
+    known : (o : Object) → get n (koid_of s.awaited) ≡ Some o → IsTrue o.slept
+    known o at =
+        let c : Changed slept m (koid_of s.awaited) (koid_of s.awaited) o = changed slept m (koid_of s.awaited) (koid_of s.awaited) o (rw is at at) in
+        ap (λ (x : Object). x.slept) c.is ∙ rw (eq-eqb (koid_of s.awaited) (koid_of s.awaited) refl) refl
+
+    rests : IsAtRest marked2 n next s
+    rests = record { given = given; known = known; calm = λ unmarked. unless_wanted _ b wanted unmarked _ due }
+
+    others : All (IsAtRest marked2 n next) (filter (λ x. not (x.pid == s.pid)) list)
+    others = All-filter (λ x. not (x.pid == s.pid)) (IsAtRest marked2 n next) list after.resting
+
+    by_put : IsPut s list crowded list2 crowded2 → IsCalm marked2 n next list2
+    by_put (inl room) =
+        rw room.1 (record { waits = after.waits; resting = All-push (IsAtRest marked2 n next) (filter (λ x. not (x.pid == s.pid)) list) s others rests })
+    by_put (inr full) = rw full.1 (record { waits = after.waits; resting = others })
+
+contains_left : {X : Type 0} (test : X → Bool) (xs : List X) → All (λ y. test y ≡ true → Contains (filter test xs) y) xs
+contains_left test [] = All-nil (λ y. test y ≡ true → Contains (filter test []) y)
+contains_left {X} test (x ∷ xs) =
+    All-cons (λ y. test y ≡ true → Contains (filter test (x ∷ xs)) y) x xs (λ passes. rw passes (0, omega arith, refl))
+    (All-weaker (λ y. test y ≡ true → Contains (filter test xs) y) (λ y. test y ≡ true → Contains (filter test (x ∷ xs)) y)
+    (λ y later passes. more y (later passes)) xs (contains_left test xs))
+  where
+    more : (y : X) → Contains (filter test xs) y → Contains (filter test (x ∷ xs)) y
+    more y there = elim (cases_Bool (test x)) as (λ _. Contains (filter test (x ∷ xs)) y) [
+      | inl here ↦ rw here (Contains-append_right (x ∷ []) (filter test xs) y there)
+      | inr gone ↦ rw gone there
+    ]
+
+-- what passes is among those that do
+passes_there : {X : Type 0} (test : X → Bool) (xs : List X) (x : X) → test x ≡ true → Contains xs x → Contains (filter test xs) x
+passes_there test xs x passes there = All-contains (λ y. test y ≡ true → Contains (filter test xs) y) xs x (contains_left test xs) there passes
+
+-- the process is listed, or not all are, and so is another that was
+module _ (s : Sleeper) (list list2 : List Sleeper) (crowded crowded2 : Bool) where
+  pub put_there : IsPut s list crowded list2 crowded2 → IsTrue crowded2 ⊎ Contains list2 s
+  put_there (inl room) = inr (rw room.1 (Contains-push (filter (λ x. not (x.pid == s.pid)) list) s))
+  put_there (inr full) = inl full.0
+
+  pub put_others : IsPut s list crowded list2 crowded2 → (x : Sleeper) → (x.pid == s.pid) ≡ false → IsTrue crowded ⊎ Contains list x
+      → IsTrue crowded2 ⊎ Contains list2 x
+  put_others (inr full) x apart there = inl full.0
+  put_others (inl room) x apart (inl h) = inl (room.0 ∙ h)
+  put_others (inl room) x apart (inr there) = inr (rw room.1 (Contains-append_left (filter (λ y. not (y.pid == s.pid)) list) (s ∷ []) x
+      (passes_there (λ y. not (y.pid == s.pid)) list x (rw apart refl) there)))
+
+-- who isn't due isn't dropped
+kept_there : (marked : ℕ → Bool) (m : Map Object) (list list2 : List Sleeper)
+    → list2 ≡ filter (λ s. not (marked (koid_of s.awaited) && is_due m s.awaited)) list → (x : Sleeper) → is_due m x.awaited ≡ false → Contains list x
+    → Contains list2 x
+kept_there marked m list list2 is x quiet there =
+    rw is (passes_there (λ s. not (marked (koid_of s.awaited) && is_due m s.awaited)) list x (by_test (marked (koid_of x.awaited))) there)
+  where
+    by_test : (b : Bool) → not (b && is_due m x.awaited) ≡ true
+    by_test true = rw quiet refl
+    by_test false = refl
+
+pub dropped_seeks : (marked : ℕ → Bool) (m : Map Object) (list list2 : List Sleeper) (crowded crowded2 : Bool)
+    → list2 ≡ filter (λ s. not (marked (koid_of s.awaited) && is_due m s.awaited)) list → crowded2 ≡ crowded → (x : Sleeper) → is_due m x.awaited ≡ false
+    → IsTrue crowded ⊎ Contains list x → IsTrue crowded2 ⊎ Contains list2 x
+dropped_seeks marked m list list2 crowded crowded2 is same x quiet (inl h) = inl (same ∙ h)
+dropped_seeks marked m list list2 crowded crowded2 is same x quiet (inr there) = inr (kept_there marked m list list2 is x quiet there)
+
+-- ---- the waits in the list and at the objects
+
+any_map : {X Y : Type 0} (test : Y → Bool) (g : X → Y) (xs : List X) → list_any test (map g xs) ≡ list_any (λ x. test (g x)) xs
+any_map test g [] = refl
+any_map test g (x ∷ xs) = ap (λ b. test (g x) || b) (any_map test g xs)
+
+none_filtered : {X : Type 0} (test p : X → Bool) (xs : List X) → list_any test xs ≡ false → list_any test (filter p xs) ≡ false
+none_filtered test p [] h = refl
+none_filtered test p (x ∷ xs) h = by_test (test x) refl (p x) refl h (λ rest. none_filtered test p xs rest)
+  where
+    by_test : (a : Bool) → test x ≡ a → (b : Bool) → p x ≡ b → (a || list_any test xs) ≡ false
+        → (list_any test xs ≡ false → list_any test (filter p xs) ≡ false) → list_any test (filter p (x ∷ xs)) ≡ false
+    by_test true is b which h later = absurd (false≢true (sym h))
+    by_test false is true which h later = rw (which, is) (later h)
+    by_test false is false which h later = rw which (later h)
+
+-- a wait that passes is among those at its object
+any_there : (test : Wait → Bool) (ws : List Wait) → IsTrue (list_any test ws) → (k : ℕ) × IsTrue (list_any test (filter (λ x. x.object == k) ws))
+any_there test [] h = absurd (false≢true h)
+any_there test (x ∷ ws) h = by_test (test x) refl h (λ rest. any_there test ws rest)
+  where
+    by_test : (b : Bool) → test x ≡ b → IsTrue (b || list_any test ws)
+        → (IsTrue (list_any test ws) → (k : ℕ) × IsTrue (list_any test (filter (λ y. y.object == k) ws)))
+        → (k : ℕ) × IsTrue (list_any test (filter (λ y. y.object == k) (x ∷ ws)))
+    by_test true is h later = (x.object, rw (eq-eqb x.object x.object refl) (or_left (test x) _ is))
+    by_test false is h later =
+        let found : (k : ℕ) × IsTrue (list_any test (filter (λ y. y.object == k) ws)) = later h in (
+          found.0,
+          elim (cases_Bool (x.object == found.0)) as (λ _. IsTrue (list_any test (filter (λ y. y.object == found.0) (x ∷ ws)))) [
+            | inl here ↦ rw here (or_right (test x) _ found.1)
+            | inr apart ↦ rw apart found.1
+          ],
+        )
+
+module _ (m : Map Object) (waits : List Wait) (listed : AreListed waits m) where
+  -- none in the list holds, where none at an object does
+  pub none_listed_holds : ((k : ℕ) (o : Object) → get m k ≡ Some o → NoneHolds (signals_at m k) o) → list_any (holds_now m) waits ≡ false
+  none_listed_holds none = by_test (list_any (holds_now m) waits) refl
+    where
+      at_object : (k : ℕ) (q : Option Object) → get m k ≡ q → list_any (holds_now m) (map (wait_at k) (waits_in q)) ≡ false
+      at_object k None is = refl
+      at_object k (Some o) is = any_map (holds_now m) (wait_at k) o.signals.waits ∙ none k o is
+
+      by_test : (b : Bool) → list_any (holds_now m) waits ≡ b → list_any (holds_now m) waits ≡ false
+      by_test false is = is
+      by_test true is =
+          let found : (k : ℕ) × IsTrue (list_any (holds_now m) (filter (λ x. x.object == k) waits)) = any_there (holds_now m) waits is in
+          absurd (false≢true (sym (rw (listed found.0) (at_object found.0 (get m found.0) refl)) ∙ found.1))
+
+  -- and none at an object, where none in the list does
+  pub none_holds_listed : list_any (holds_now m) waits ≡ false → (k : ℕ) (o : Object) → get m k ≡ Some o → NoneHolds (signals_at m k) o
+  none_holds_listed none k o at =
+      let here : list_any (holds_now m) (map (wait_at k) (waits_in (get m k))) ≡ false =
+      rw (sym (listed k)) (none_filtered (holds_now m) (λ x. x.object == k) waits none) in
+      sym (any_map (holds_now m) (wait_at k) o.signals.waits) ∙ (rw at at here)
+
+-- ---- all was looked at
+
+-- no wait holds, and of those who may be blocked those were dropped whose objects are marked and who are due
+pub calmed : {marked marked2 : ℕ → Bool} {next : ℕ} (m : Map Object) (waits : List Wait) (list list2 : List Sleeper) → AreListed waits m
+    → list_any (holds_now m) waits ≡ false
+    → list2 ≡ filter (λ s. not (marked (koid_of s.awaited) && is_due m s.awaited)) list → IsCalm marked m next list → IsCalm marked2 m next list2
+calmed {marked} {marked2} {next} m waits list list2 listed none is calm = rw is (record {
+  waits = λ k o at unmarked. none_holds_listed m waits listed none k o at;
+  resting =
+      let test : Sleeper → Bool = λ s. not (marked (koid_of s.awaited) && is_due m s.awaited) in
+      All-weaker (λ s. IsAtRest marked m next s × (test s ≡ true)) (IsAtRest marked2 m next) (λ s both. record {
+        given = both.0.given;
+        known = both.0.known;
+        calm = λ unmarked. by_test s (marked (koid_of s.awaited)) refl both.0 both.1;
+      }) (filter test list)
+      (λ i d inside. (All-filter test (IsAtRest marked m next) list calm.resting i d inside, filter_passes test list i d inside));
+})
+  where
+    not_due : (b : Bool) → not (true && b) ≡ true → b ≡ false
+    not_due false h = refl
+    not_due true h = absurd (false≢true h)
+
+    by_test : (s : Sleeper) (b : Bool) → marked (koid_of s.awaited) ≡ b → IsAtRest marked m next s → not (b && is_due m s.awaited) ≡ true
+        → is_due m s.awaited ≡ false
+    by_test s false unmarked rest h = rest.calm unmarked
+    by_test s true is rest h = not_due (is_due m s.awaited) h
+
+-- ---- new objects
+
+-- the peer of an end was given, so it isn't the next koid
+given_apart : (m : Map Object) (next later : ℕ) (b : Body) → next ≤ later → HasPeer m next b → (p : ℕ) → peer_of b ≡ Some p → (later == p) ≡ false
+given_apart m next later b most has p is = let given : p < next = (rw is at has).0 in grind (arith, nat_tests, given, most)
+
+pub none_calm : {marked : ℕ → Bool} {next : ℕ} {sleepers : List Sleeper} (m : Map Object) → m ≡ [] → sleepers ≡ [] → IsCalm marked m next sleepers
+unfolding get
+none_calm {marked} {next} m none nobody =
+    record { waits = λ k o at unmarked. absurd (none-some o (rw none at at)); resting = rw nobody (All-nil (IsAtRest marked m next)) }
+
+-- all objects are gone
+pub cleared_calm : {marked : ℕ → Bool} {next : ℕ} {sleepers : List Sleeper} (m n : Map Object) → n ≡ [] → IsCalm marked m next sleepers
+    → IsCalm marked n next sleepers
+unfolding get
+cleared_calm {marked} {next} {sleepers} m n none calm = rw none (record {
+  waits = λ k o at unmarked. absurd (none-some o at);
+  resting = All-weaker (IsAtRest marked m next) (IsAtRest marked [] next) (λ s rest. record {
+    given = rest.given;
+    known = λ o at. absurd (none-some o at);
+    calm = λ unmarked. none_given s.awaited;
+  }) sleepers calm.resting;
+})
+
+module _ {marked : ℕ → Bool} {sleepers : List Sleeper} (m : Map Object) (next : ℕ) (o : Object) (below : (k : ℕ) → IsTrue (has_key m k) → k < next)
+    (peers : (k : ℕ) (q : Object) → get m k ≡ Some q → HasPeer m next q.body) where
+  pub created_calm : o.signals.waits ≡ [] → (n : Map Object) → n ≡ insert_entry nat_cmp m next o → IsCalm marked m next sleepers
+      → IsCalm marked n (next + 1) sleepers
+  created_calm fresh = inserted_calm m next o below fresh (λ k q at. inr (given_apart m next next q.body (omega arith) (peers k q at)))
+
+  -- an end and its peer
+  pub pair_calm : (pair : Pair) (handles : ℕ) (o2 : Object) (n n2 : Map Object) → o ≡ end_of pair (next + 1) handles → o2 ≡ end_of pair next handles
+      → n ≡ insert_entry nat_cmp m next o → n2 ≡ insert_entry nat_cmp n (next + 1) o2 → IsCalm marked m next sleepers → IsCalm marked n2 (next + 1 + 1) sleepers
+  pair_calm pair handles o2 n n2 first second into into2 calm =
+      inserted_calm n (next + 1) o2 (below_first m n next o below into) (rw second refl)
+      (λ k q at. by_key k q (cases_Bool (next == k)) (sym (get-put m next o k) ∙ (rw (into, inserted m next o) at at))) n2 into2
+      (created_calm (rw first refl) n into calm)
+    where
+      by_key : (k : ℕ) (q : Object) → IsTrue (next == k) ⊎ ((next == k) ≡ false) → (if next == k then Some o else get m k) ≡ Some q
+          → (is_watched q ≡ false) ⊎ ((p : ℕ) → peer_of q.body ≡ Some p → (next + 1 == p) ≡ false)
+      by_key k q (inl here) is = inl (rw (← same_Some o q (rw here at is), first) refl)
+      by_key k q (inr apart) is = inr (given_apart m next (next + 1) q.body (omega arith) (peers k q (rw apart at is)))

@@ -1,0 +1,74 @@
+//! Which objects are to be looked at, as something may be due there.
+
+ghost use Rattle.std.specs.Prelude.{ℕ, ◌≡◌, false, true, IfOk, IsTrue};
+ghost use Rattle.zl_objects.specs.Calm.{is_marked};
+
+use std::alloc::{AllocError, Global};
+use zl_rights::Koid;
+
+/// The marked objects. Marking takes no memory: where there is no room for one more, each object
+/// counts as marked.
+#[derive(Drop)]
+pub(crate) struct Marks {
+    koids: Vec<Koid>,
+    all: bool,
+}
+
+impl Marks {
+    /// There is room for so many.
+    const ROOM: usize = 64;
+
+    /// No object is marked.
+    pub fn new(alloc: Global) -> Result<Marks, AllocError>
+        ensures { IfOk result (λ marks. (k : ℕ) → is_marked marks k ≡ false) }
+    {
+        Ok(Marks {
+            koids: Vec::with_capacity(alloc, Marks::ROOM)?,
+            all: false,
+        })
+    }
+
+    /// Marks the object, if that is wanted.
+    pub fn add_if(&mut self, wanted: bool, koid: Koid)
+        ensures wanted { wanted ≡ true → IsTrue (is_marked self.new koid) }
+        ensures more { (k : ℕ) → IsTrue (is_marked self.old k) → IsTrue (is_marked self.new k) }
+    {
+        if !wanted {
+            return;
+        }
+        if self.koids.len() < self.koids.capacity() {
+            self.koids.push_reserved(koid);
+        } else {
+            self.all = true;
+        }
+    }
+
+    /// Whether the object is marked.
+    pub fn has(&self, koid: Koid) -> bool
+        ensures { result ≡ is_marked self.now koid }
+    {
+        self.all || self.koids.contains(&koid)
+    }
+
+    /// Marks each object.
+    pub fn add_all(&mut self)
+        ensures { (k : ℕ) → IsTrue (is_marked self.new k) }
+    {
+        self.all = true;
+    }
+
+    /// Whether no object is marked.
+    pub fn is_empty(&self) -> bool
+        ensures { result ≡ true → (k : ℕ) → is_marked self.now k ≡ false }
+    {
+        !self.all && self.koids.is_empty()
+    }
+
+    /// No object is marked any more.
+    pub fn clear(&mut self)
+        ensures { (k : ℕ) → is_marked self.new k ≡ false }
+    {
+        self.koids.clear();
+        self.all = false;
+    }
+}

@@ -1,0 +1,78 @@
+//! What has to be looked at after a change: whether a wait holds or a blocked process may wake.
+
+ghost use Rattle.std.specs.Prelude.{ℕ, ◌≡◌, ◌==◌, false, true, IsTrue};
+ghost use Rattle.std.specs.List.{list_any};
+ghost use Rattle.zl_rights.specs.Map.{has_key, update};
+ghost use Rattle.zl_objects.specs.declared.awaited.Awaited.{Awaited as AwaitedValue};
+ghost use Rattle.zl_objects.specs.Awaited.{koid_of, AreSameButSleepers, Seeks};
+ghost use Rattle.zl_objects.specs.Calm.{holds_now, is_due, knowing, slept};
+
+use crate::awaited::{Awaited, Sleeper};
+use crate::object::Object;
+use crate::objects::Objects;
+use crate::sleepers::is_due;
+use std::collections::BTreeMap;
+use zl_rights::{Koid, Pid};
+
+#[tactic(auto, using(crate::proofs::ByKoid::by_koid))]
+impl Objects {
+    /// The process may be blocked from now on, and wait for this. What it waited for before is
+    /// forgotten. Where the object isn't there, not all such processes are known any more. It takes
+    /// no memory.
+    ///
+    /// Source: own profile.
+    pub fn sleep(&mut self, pid: Pid, awaited: Awaited)
+        ensures there { Seeks self.new pid awaited }
+        ensures others { (other : ℕ) (a : AwaitedValue) → (other == pid) ≡ false
+            → Seeks self.old other a → Seeks self.new other a }
+        ensures same { AreSameButSleepers (knowing self.old (koid_of awaited)) self.new }
+    {
+        let koid = awaited.koid();
+        if !note_slept(&mut self.by_koid, koid) {
+            self.sleepers.crowded = true;
+            return;
+        }
+        self.marks.add_if(is_due(&self.by_koid, &awaited), koid);
+        self.sleepers.put(Sleeper { pid, awaited });
+    }
+
+    /// Whether it is known that no registered wait holds, and that nothing is there for which a
+    /// blocked process waits. It is where no change has touched an object at which something waits.
+    ///
+    /// Source: own profile.
+    pub fn is_quiet(&self) -> bool
+        ensures waits { result ≡ true
+            → list_any (holds_now self.now.objects) self.now.waits ≡ false }
+        ensures sleepers { result ≡ true → (pid : ℕ) (a : AwaitedValue)
+            → Seeks self.now pid a → is_due self.now.objects a ≡ false }
+    {
+        self.marks.is_empty() && !self.sleepers.crowded
+    }
+
+    /// Each object that was touched has been looked at: no registered wait holds any more. Who is
+    /// listed as blocked and has what it waits for isn't blocked. It takes no memory.
+    ///
+    /// Source: own profile.
+    pub fn calm(&mut self)
+        requires { list_any (holds_now self.old.objects) self.old.waits ≡ false }
+        ensures sleepers { (pid : ℕ) (a : AwaitedValue) → is_due self.old.objects a ≡ false
+            → Seeks self.old pid a → Seeks self.new pid a }
+        ensures same { AreSameButSleepers self.old self.new }
+    {
+        self.sleepers.drop_due(&self.by_koid, &self.marks);
+        self.marks.clear();
+    }
+}
+
+/// A process may be blocked at the object from now on, if it is there. Says whether it is.
+#[tactic(auto, using(crate::proofs::ByKoid::by_koid))]
+fn note_slept(by_koid: &mut BTreeMap<Koid, Object>, koid: Koid) -> bool
+    ensures objects { by_koid.new.entries ≡ update by_koid.old.entries koid slept }
+    ensures there { result ≡ has_key by_koid.old.entries koid }
+{
+    let Some(object) = by_koid.get_mut(&koid) else {
+        return false;
+    };
+    object.slept = true;
+    true
+}

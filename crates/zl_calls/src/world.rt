@@ -287,8 +287,9 @@ impl World {
         Turn::new(self.alloc, pid, program, &process.cpu)
     }
 
-    /// Whether its process stands here with the program and the Cpu with which it began: the same image
-    /// and mark, and the same Cpu, field by field. It takes no memory.
+    /// Whether its process stands here with the Cpu with which it began, the same field by field, and
+    /// with a program of as many instructions as it has places, which has those in the filled ones. It
+    /// takes no memory.
     pub fn fits(&self, done: &Done) -> bool
         ensures { IsTrue result ↔ Fits self.now done.now }
     {
@@ -302,7 +303,7 @@ impl World {
         if !process.cpu.is_same(done.from()) {
             return false;
         }
-        program.is_same(done.program())
+        done.agrees(program.image())
     }
 
     /// The local instructions that were done become steps of the world, one after another: the process

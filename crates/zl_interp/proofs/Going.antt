@@ -1,12 +1,48 @@
--- One instruction more in the code of an image, by a Cpu that is as a typing of the image says.
-use Rattle.zl_code.proofs.Common.{◌≡◌, ◌≢◌, ◌+◌, ◌∙◌, ℕ, List, Some, ap, IsTrue, slice_get, Cpu, Image, Moves, IsStuck, next_at}
+-- One instruction more in the code of an image, by a Cpu that is as a typing of the image says, and for all images that agree with what was filled.
+use Rattle.zl_code.proofs.Common.{◌≡◌, ◌≢◌, ◌+◌, ◌∙◌, ℕ, List, Option, Some, ap, sym, subst, IsTrue, slice_get, slice_set, Cpu, Image, Moves, IsStuck, next_at}
 use Rattle.std.proofs.Common.{add-one}
 use Rattle.zl_code.specs.declared.instr.Instr.{Instr}
 use Rattle.zl_code.specs.Spells.{is_in_range}
 use Rattle.zl_code.specs.Steps.{next_of}
 use Rattle.zl_verify.specs.Covered.{IsAble}
 use Rattle.zl_verify.proofs.LocalSteps.{able_goes, able_still}
-use Rattle.zl_interp.specs.Bursts.{after_locals, moved_to, then_moved}
+use Rattle.zl_interp.specs.Bursts.{Agrees, Done, IsBurst, Leads, after_locals, moved_to, stop_at, then_moved}
+use Rattle.zl_interp.proofs.Filling.{filled_agrees, filled_alike, filled_before}
+
+-- ---- images that agree
+
+-- the place of what stands next is filled then
+module _ (i : Image) (code : List Instr) (same : code ≡ i.code) (places after : List (Option Instr)) (n : ℕ) (from c : Cpu)
+    (so_far : Leads i.code places n from c) (fills : after ≡ slice_set places c.counter (slice_get code c.counter)) where
+  filled : after ≡ slice_set places c.counter (slice_get i.code c.counter)
+  filled = fills ∙ ap (λ x. slice_set places c.counter (slice_get x c.counter)) same
+
+  agrees_now : Agrees i.code after
+  agrees_now = subst (Agrees i.code) (sym filled) (filled_agrees i.code places c.counter so_far.agrees)
+
+  followed : (j : Image) → Agrees j.code after → after_locals j n from ≡ Some c
+  followed j a = so_far.follows j (filled_before i.code places c.counter so_far.agrees j.code (subst (Agrees j.code) filled a))
+
+  alike : (j : Image) → Agrees j.code after → next_at j c ≡ next_at i c
+  unfolding next_at
+  alike j a = ap (λ o. next_of o c) (filled_alike i.code places c.counter so_far.agrees j.code (subst (Agrees j.code) filled a))
+
+  -- so the same stands next in each image that agrees
+  pub next_alike : (d : Cpu) → d ≡ c → (j : Image) → Agrees j.code after → next_at j d ≡ next_at i d
+  next_alike d is = subst (λ e. (j : Image) → Agrees j.code after → next_at j e ≡ next_at i e) (sym is) alike
+
+  pub leads_still : (m : ℕ) (d : Cpu) → n ≡ m → d ≡ c → Leads i.code after m from d
+  leads_still m d as_many is = rw (← as_many, is) (record { agrees = agrees_now; follows = followed })
+
+  -- and where it moves, it does so in each
+  pub leads_on : (d : Cpu) → next_of (slice_get code c.counter) c ≡ Moves d → Leads i.code after (n + 1) from d
+  unfolding next_at
+  leads_on d next = record {
+    agrees = agrees_now;
+    follows = λ j a. rw add-one (ap (then_moved j) (followed j a) ∙ ap moved_to (alike j a ∙ (ap (λ x. next_of (slice_get x c.counter) c) (sym same) ∙ next)));
+  }
+
+-- ---- a Cpu that is as a typing says
 
 module _ (i : Image) (code : List Instr) (c : Cpu) (same : code ≡ i.code) (range : IsTrue (is_in_range i)) (able : IsAble i c) where
   -- it isn't stuck
@@ -14,10 +50,14 @@ module _ (i : Image) (code : List Instr) (c : Cpu) (same : code ≡ i.code) (ran
   unfolding next_at
   goes = rw same (able_goes i c range able)
 
-  module _ (d : Cpu) (next : next_of (slice_get code c.counter) c ≡ Moves d) where
-    moves : next_at i c ≡ Moves d
-    unfolding next_at
-    moves = rw same at next
+  -- and is so behind the instruction
+  pub able_then : (d : Cpu) → next_of (slice_get code c.counter) c ≡ Moves d → IsAble i d
+  unfolding next_at
+  able_then d next = able_still i c d range able (rw same at next)
 
-    pub goes_on : (n : ℕ) (from : Cpu) → after_locals i n from ≡ Some c → (after_locals i (n + 1) from ≡ Some d) × IsAble i d
-    goes_on n from so_far = (rw add-one (ap (then_moved i) so_far ∙ ap moved_to moves), able_still i c d range able moves)
+-- ---- the whole
+
+-- what leads there, and is alike in each image that agrees, is a burst of it
+pub is_burst : (i : Image) (d : Done) → Leads i.code d.places d.ran d.from d.to → ((j : Image) → Agrees j.code d.places → next_at j d.to ≡ next_at i d.to)
+    → d.stop ≡ stop_at (next_at i d.to) → IsBurst d
+is_burst i d leads alike stop = record { follows = leads.follows; stops = λ j a. stop ∙ ap stop_at (sym (alike j a)) }

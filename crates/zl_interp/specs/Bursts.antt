@@ -1,7 +1,10 @@
 -- Local instructions in a row, and where they end.
-use Rattle.std.specs.Prelude.{ℕ, zero, suc, ◌≡◌, Option, Some, None}
+use Rattle.std.specs.Prelude.{ℕ, zero, suc, ◌≡◌, true, IsTrue, List, length, slice_get, Option, Some, None}
+use Rattle.std.specs.Option.{option_map}
 use Rattle.zl_code.specs.Common.{Cpu, Image, Program, Next, AtCall, Moves, IsStuck}
+use Rattle.zl_code.specs.Spells.{instr_bytes, is_instr_in_range}
 use Rattle.zl_code.specs.Steps.{next_at}
+use Rattle.zl_code.specs.declared.instr.Instr.{Instr}
 use Rattle.zl_interp.specs.declared.bursts.Stop.{Stop}
 use Rattle.zl_interp.specs.declared.bursts.Stop.TheVariants as stop
 
@@ -33,16 +36,38 @@ pub record Turn : Type 0 where
   pub program : Program
   pub cpu : Cpu
 
--- what it did: so many local instructions from one Cpu to another, and where it ended
+-- what it did: so many local instructions from one Cpu to another, and where it ended; a place for each instruction of its
+-- program, filled where that was done or stands next
 pub record Done : Type 0 where
   pub pid : ℕ
-  pub program : Program
   pub from : Cpu
   pub to : Cpu
   pub ran : ℕ
   pub stop : Stop
+  pub places : List (Option Instr)
 
--- the instructions of the program lead from the one Cpu to the other, and it ended where it says
+-- the code has as many instructions as there are places, and in each that is filled this one
+pub record Agrees (code : List Instr) (places : List (Option Instr)) : Type 0 where
+  pub long : length code ≡ length places
+  pub filled : (n : ℕ) (x : Instr) → slice_get places n ≡ Some (Some x) → slice_get code n ≡ Some x
+
+-- in each image that agrees they lead from the one Cpu to the other, and it ended where it says
 pub record IsBurst (d : Done) : Type 0 where
-  pub follows : after_locals d.program.image d.ran d.from ≡ Some d.to
-  pub stops : d.stop ≡ stop_at (next_at d.program.image d.to)
+  pub follows : (i : Image) → Agrees i.code d.places → after_locals i d.ran d.from ≡ Some d.to
+  pub stops : (i : Image) → Agrees i.code d.places → d.stop ≡ stop_at (next_at i d.to)
+
+-- ---- how the code gets there; no public clause cites what follows
+
+-- the code agrees, and in each image that does so many local instructions lead from the one Cpu to the other
+pub record Leads (code : List Instr) (places : List (Option Instr)) (n : ℕ) (from to : Cpu) : Type 0 where
+  pub agrees : Agrees code places
+  pub follows : (i : Image) → Agrees i.code places → after_locals i n from ≡ Some to
+
+-- what fills a place can stand in an image
+pub record CanStand (places : List (Option Instr)) : Type 0 where
+  pub stands : (n : ℕ) (x : Instr) → slice_get places n ≡ Some (Some x) → IsTrue (is_instr_in_range true x)
+
+-- as many as there are places, and in each that is filled one with these bytes
+pub record HasBytes (code : List Instr) (places : List (Option Instr)) : Type 0 where
+  pub long : length code ≡ length places
+  pub bytes : (n : ℕ) (x : Instr) → slice_get places n ≡ Some (Some x) → option_map instr_bytes (slice_get code n) ≡ Some (instr_bytes x)

@@ -1,9 +1,12 @@
 //! Bursts: the local instructions that a process does in a row, without its world.
 
-ghost use Rattle.std.specs.Prelude.{◌≡◌, ◌≤◌, Some, IfOk};
+ghost use Rattle.std.specs.Prelude.{◌≡◌, ◌≤◌, ◌<◌, ◌↔◌, Some, IsTrue, IfOk, length, slice_get, slice_set};
 ghost use Rattle.std.specs.Arc.{arc_value};
+ghost use Rattle.zl_code.specs.Image.{Image as ImageValue};
+ghost use Rattle.zl_code.specs.Spells.{instr_bytes};
 ghost use Rattle.zl_code.specs.Steps.{next_at};
-ghost use Rattle.zl_interp.specs.Bursts.{IsBurst, after_locals, stop_at};
+ghost use Rattle.zl_code.specs.declared.instr.Instr.{Instr as InstrValue};
+ghost use Rattle.zl_interp.specs.Bursts.{Agrees, HasBytes, IsBurst, Leads, stop_at};
 ghost use Rattle.zl_interp.specs.Program.{program_value};
 ghost use Rattle.zl_interp.specs.declared.bursts.Stop.TheVariants.{More};
 ghost use Rattle.zl_verify.specs.Covered.{IsAble, IsAbleIn};
@@ -14,7 +17,7 @@ use crate::program::Program;
 use std::alloc::{AllocError, Global};
 use std::marker::Model;
 use std::sync::Arc;
-use zl_code::Image;
+use zl_code::{Image, Instr};
 use zl_rights::Pid;
 
 /// Where a burst ended.
@@ -33,7 +36,7 @@ pub enum Stop {
 /// A process that may go on by itself: its koid, its program, and its Cpu as it stands.
 ///
 /// Where its program was checked, the Cpu is as a typing of it says. There is room for a second Cpu,
-/// so that a burst takes no memory.
+/// and a place for each instruction of the program, so that a burst takes no memory.
 ///
 /// Source: own profile.
 #[derive(Drop)]
@@ -42,12 +45,13 @@ pub struct Turn {
     program: Arc<Program>,
     from: Cpu,
     to: Cpu,
+    places: Vec<Option<Instr>>,
 }
 
 impl Model for Turn {
     ghost use Rattle.std.specs.Prelude.{◌≡◌};
     ghost use Rattle.std.specs.Arc.{arc_value};
-    ghost use Rattle.zl_interp.specs.Bursts.{Turn as TurnValue};
+    ghost use Rattle.zl_interp.specs.Bursts.{Agrees, Turn as TurnValue};
     ghost use Rattle.zl_interp.specs.Program.{program_value};
 
     ghost Value = { TurnValue };
@@ -61,7 +65,8 @@ impl Model for Turn {
     ghost use Rattle.zl_verify.specs.Covered.{IsAbleIn};
 
     ghost invariant = { λ t.
-        (t.to ≡ t.from) × IsAbleIn (program_value (arc_value t.program)) t.from };
+        (t.to ≡ t.from) × IsAbleIn (program_value (arc_value t.program)) t.from
+        × Agrees (program_value (arc_value t.program)).image.code t.places.items };
 }
 
 impl Turn {
@@ -86,6 +91,7 @@ impl Turn {
             program: Arc::try_clone(program)?,
             from: cpu.copy(alloc)?,
             to: cpu.copy(alloc)?,
+            places: empty_places(alloc, program.image())?,
         })
     }
 
@@ -104,46 +110,55 @@ impl Turn {
     }
 }
 
-/// What a process did by itself: how many local instructions in a row, from which Cpu to which, in
-/// which program, and where they ended.
+/// A place for each instruction of the image, and none of them filled. Only memory can be refused.
+fn empty_places(alloc: Global, image: &Image) -> Result<Vec<Option<Instr>>, AllocError>
+    ensures { IfOk result (λ places. Agrees image.now.code places.items) }
+{
+    let mut places = Vec::new(alloc);
+    places.resize(image.len(), None)?;
+    Ok(places)
+}
+
+/// What a process did by itself: how many local instructions in a row, from which Cpu to which, and
+/// where they ended.
 ///
-/// Only `burst` makes one, so it tells of instructions that follow one another in this program.
+/// In place of its program it has the instructions that were done, and the one that stands next. Only
+/// `burst` makes one, so all this is so in each program of the same length with the same
+/// instructions in these places.
 ///
 /// Source: own profile.
 #[derive(Drop)]
 pub struct Done {
     pid: Pid,
-    program: Arc<Program>,
     from: Cpu,
     to: Cpu,
     ran: u32,
     stop: Stop,
+    places: Vec<Option<Instr>>,
 }
 
 impl Model for Done {
-    ghost use Rattle.std.specs.Arc.{arc_value};
-    ghost use Rattle.zl_interp.specs.Bursts.{Done as DoneValue, IsBurst};
-    ghost use Rattle.zl_interp.specs.Program.{program_value};
+    ghost use Rattle.zl_interp.specs.Bursts.{CanStand, Done as DoneValue, IsBurst};
 
     ghost Value = { DoneValue };
 
     ghost view = { λ d. record {
       pid = d.pid;
-      program = program_value (arc_value d.program);
       from = d.from;
       to = d.to;
       ran = d.ran;
       stop = d.stop;
+      places = d.places.items;
     } };
 
     ghost invariant = { λ d. IsBurst (record {
       pid = d.pid;
-      program = program_value (arc_value d.program);
       from = d.from;
       to = d.to;
       ran = d.ran;
       stop = d.stop;
-    }) };
+      places = d.places.items;
+    }) × CanStand d.places.items };
 }
 
 impl Done {
@@ -152,13 +167,6 @@ impl Done {
         ensures { result ≡ self.now.pid }
     {
         self.pid
-    }
-
-    /// The program in which it went on.
-    pub fn program(&self) -> &Program
-        ensures { program_value result.now ≡ self.now.program }
-    {
-        &self.program
     }
 
     /// The Cpu with which it began.
@@ -183,12 +191,63 @@ impl Done {
         self.stop
     }
 
+    /// A place for each instruction of its program, filled where that was done or stands next.
+    pub fn places(&self) -> &[Option<Instr>]
+        ensures { result.now ≡ self.now.places }
+    {
+        &self.places
+    }
+
+    /// Whether the image has as many instructions as there are places, and in each that is filled the
+    /// same one. It takes no memory.
+    pub fn agrees(&self, image: &Image) -> bool
+        ensures { IsTrue result ↔ Agrees image.now.code self.now.places }
+    {
+        has_bytes(image.code(), &self.places)
+    }
+
     /// The Cpu with which it ended.
     pub fn into_cpu(self) -> Cpu
         ensures { result ≡ self.to }
     {
         self.to
     }
+}
+
+/// Whether there are as many instructions as places, and in each that is filled one with these bytes.
+#[inline(never)]
+fn has_bytes(code: &[Instr], places: &[Option<Instr>]) -> bool
+    ensures { IsTrue result ↔ HasBytes code.now places.now }
+{
+    if code.len() != places.len() {
+        return false;
+    }
+    for n in 0..places.len() {
+        if !is_in_place(&code[n], &places[n]) {
+            return false;
+        }
+    }
+    true
+}
+
+/// Whether the place isn't filled, or has the bytes of the instruction.
+#[inline(always)]
+fn is_in_place(instr: &Instr, place: &Option<Instr>) -> bool
+    ensures { IsTrue result ↔ ((x : InstrValue) → place.now ≡ Some x
+        → instr_bytes instr.now ≡ instr_bytes x) }
+{
+    match place {
+        Some(filled) => are_spelled_alike(instr, filled),
+        None => true,
+    }
+}
+
+/// Whether both have the same bytes. It stands apart, as most places of a long program are empty.
+#[inline(never)]
+fn are_spelled_alike(one: &Instr, other: &Instr) -> bool
+    ensures { IsTrue result ↔ instr_bytes one.now ≡ instr_bytes other.now }
+{
+    one.to_bytes() == other.to_bytes()
 }
 
 /// Lets the process of the turn go on by itself, for at most so many local instructions.
@@ -198,8 +257,8 @@ impl Done {
 /// Source: own profile.
 pub fn burst(turn: Turn, most: u32) -> Done
     ensures process { result.pid ≡ turn.pid }
-    ensures program { result.program ≡ turn.program }
     ensures from { result.from ≡ turn.cpu }
+    ensures agrees { Agrees turn.program.image.code result.places }
     ensures follows { IsBurst result }
     ensures within { result.ran ≤ most }
     ensures whole { result.stop ≡ More → result.ran ≡ most }
@@ -209,39 +268,62 @@ pub fn burst(turn: Turn, most: u32) -> Done
         program,
         from,
         mut to,
+        mut places,
     } = turn;
-    let ran = if program.is_checked() {
-        run_on_sure(program.image(), &mut to, most)
-    } else {
-        run_on(program.image(), &mut to, most)
-    };
+    let ran = run(&program, &mut to, &mut places, most);
     let stop = stop_of(&program, &to);
+    // Its clause has that instructions of an image are in their ranges.
+    program.image().len();
     Done {
         pid,
-        program,
         from,
         to,
         ran,
         stop,
+        places,
     }
 }
 
-/// Does local instructions in a row, at most so many, as long as one stands next that can be done.
+/// Does local instructions of the program in a row, with tests just where it wasn't checked.
+fn run(program: &Program, cpu: &mut Cpu, places: &mut [Option<Instr>], most: u32) -> u32
+    requires able { IsAbleIn (program_value program.now) cpu.old }
+    requires agrees { Agrees (program_value program.now).image.code places.old }
+    ensures leads { Leads (program_value program.now).image.code places.new result cpu.old cpu.new }
+    ensures next { (i : ImageValue) → Agrees i.code places.new
+        → next_at i cpu.new ≡ next_at (program_value program.now).image cpu.new }
+    ensures within { result ≤ most }
+    ensures whole { stop_at (next_at (program_value program.now).image cpu.new) ≡ More
+        → result ≡ most }
+{
+    if program.is_checked() {
+        run_on_sure(program.image(), cpu, places, most)
+    } else {
+        run_on(program.image(), cpu, places, most)
+    }
+}
+
+/// Does local instructions in a row, at most so many, as long as one stands next that can be done. The
+/// places of these are filled, and of the one that stands next then.
 #[tactic(auto, unfolding(zl_code::specs::Steps::next_at))]
-fn run_on(image: &Image, cpu: &mut Cpu, most: u32) -> u32
-    ensures follows { after_locals image.now result cpu.old ≡ Some cpu.new }
+fn run_on(image: &Image, cpu: &mut Cpu, places: &mut [Option<Instr>], most: u32) -> u32
+    requires { Agrees image.now.code places.old }
+    ensures leads { Leads image.now.code places.new result cpu.old cpu.new }
+    ensures next { (i : ImageValue) → Agrees i.code places.new
+        → next_at i cpu.new ≡ next_at image.now cpu.new }
     ensures within { result ≤ most }
     ensures whole { stop_at (next_at image.now cpu.new) ≡ More → result ≡ most }
 {
     let code = image.code();
     let mut counter = cpu.counter;
     for ran in 0..most {
+        fill(places, code, counter);
         let Some(next) = step_in(code, cpu, counter) else {
             cpu.counter = counter;
             return ran;
         };
         counter = next;
     }
+    fill(places, code, counter);
     cpu.counter = counter;
     most
 }
@@ -249,21 +331,39 @@ fn run_on(image: &Image, cpu: &mut Cpu, most: u32) -> u32
 /// Does the same for a Cpu that is as a typing of the image says: until a call stands next, each
 /// instruction can be done, so that isn't tested.
 #[tactic(auto, unfolding(zl_code::specs::Steps::next_at))]
-fn run_on_sure(image: &Image, cpu: &mut Cpu, most: u32) -> u32
-    requires { IsAble image.now cpu.old }
-    ensures follows { after_locals image.now result cpu.old ≡ Some cpu.new }
+fn run_on_sure(image: &Image, cpu: &mut Cpu, places: &mut [Option<Instr>], most: u32) -> u32
+    requires able { IsAble image.now cpu.old }
+    requires agrees { Agrees image.now.code places.old }
+    ensures leads { Leads image.now.code places.new result cpu.old cpu.new }
+    ensures next { (i : ImageValue) → Agrees i.code places.new
+        → next_at i cpu.new ≡ next_at image.now cpu.new }
     ensures within { result ≤ most }
     ensures whole { stop_at (next_at image.now cpu.new) ≡ More → result ≡ most }
 {
     let code = image.code();
     let mut counter = cpu.counter;
     for ran in 0..most {
+        fill(places, code, counter);
         let Some(next) = step_sure(code, cpu, counter) else {
             cpu.counter = counter;
             return ran;
         };
         counter = next;
     }
+    fill(places, code, counter);
     cpu.counter = counter;
     most
+}
+
+/// Fills the place of the instruction with this number, if there is one.
+#[inline(always)]
+fn fill(places: &mut [Option<Instr>], code: &[Instr], counter: usize)
+    requires { Agrees code.now places.old }
+    ensures { places.new ≡ slice_set places.old counter (slice_get code.now counter) }
+{
+    if counter < code.len() {
+        if places[counter].is_none() {
+            places[counter] = Some(code[counter]);
+        }
+    }
 }

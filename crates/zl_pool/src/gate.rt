@@ -1,7 +1,7 @@
 //! The way of a worker to a burst.
 
 ghost use Rattle.std.specs.Prelude.{◌≡◌, ◌≤◌};
-ghost use Rattle.zl_interp.specs.Bursts.{IsBurst};
+ghost use Rattle.zl_interp.specs.Bursts.{Agrees, IsBurst};
 ghost use Rattle.zl_interp.specs.declared.bursts.Stop.TheVariants.{More};
 
 use zl_interp::{Done, Turn, burst};
@@ -13,8 +13,8 @@ pub trait Gate: Sync {
     /// As `zl_interp::burst`.
     fn burst(&self, turn: Turn, most: u32) -> Done
         ensures process { result.pid ≡ turn.pid }
-        ensures program { result.program ≡ turn.program }
         ensures from { result.from ≡ turn.cpu }
+        ensures agrees { Agrees turn.program.image.code result.places }
         ensures follows { IsBurst result }
         ensures within { result.ran ≤ most }
         ensures whole { result.stop ≡ More → result.ran ≡ most };

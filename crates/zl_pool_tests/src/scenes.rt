@@ -16,6 +16,8 @@ pub enum Act {
     /// Of the turns of the process that are held the first does its burst, which is handed in. This is
     /// the answer.
     HandIn(Pid, HandIn),
+    /// The first turn of the process that is held is dropped.
+    LetGo(Pid),
     /// A turn of the process in the other system, which is new, does its burst, which is handed in to
     /// that of the scene. This is the answer.
     Foreign(Pid, HandIn),
@@ -82,6 +84,7 @@ fn comes_so(
         Act::Take(pid) => takes(system, held, *pid),
         Act::TakeNothing => Ok(system.take()?.is_none()),
         Act::HandIn(pid, answer) => Ok(hands_in(system, first_of(held, *pid), *answer)),
+        Act::LetGo(pid) => Ok(first_of(held, *pid).is_some()),
         Act::Foreign(pid, answer) => Ok(hands_in(system, foreign(alloc, other, *pid)?, *answer)),
         Act::Step(pid) => Ok(matches!(system.step(*pid), Stepped::Ran)),
         Act::Idle(is_idle) => Ok(system.idle() == *is_idle),

@@ -69,6 +69,160 @@ fn a_burst_of_another_program_of_the_same_length_is_a_stranger(
     play(rt.alloc(), &OTHER_PROGRAM)
 }
 
+/// Counts as `COUNTS`; the last instruction, which no first burst comes to, is another.
+const ANOTHER_LAST: &str = ".raw
+const r4, 1
+close r2, r3
+loop:
+sub r1, r1, r4
+jnz r1, loop
+close r2, r3
+process_exit r1
+";
+
+/// Counts as `COUNTS`, but the first instruction is another.
+const ANOTHER_FIRST: &str = ".raw
+const r4, 2
+close r2, r3
+loop:
+sub r1, r1, r4
+jnz r1, loop
+close r2, r3
+process_exit r3
+";
+
+/// Counts as `COUNTS`, but the call at which the first burst ends is another.
+const ANOTHER_NEXT: &str = ".raw
+const r4, 1
+close r3, r3
+loop:
+sub r1, r1, r4
+jnz r1, loop
+close r2, r3
+process_exit r3
+";
+
+/// `COUNTS` with one instruction more.
+const ONE_MORE: &str = ".raw
+const r4, 1
+close r2, r3
+loop:
+sub r1, r1, r4
+jnz r1, loop
+close r2, r3
+process_exit r3
+process_exit r3
+";
+
+const OTHER_LAST: Scene = Scene {
+    own: &[(COUNTS, 3)],
+    other: &[(ANOTHER_LAST, 3)],
+    in_job: 0,
+    limit: 100,
+    acts: &[
+        Act::Take(FIRST),
+        Act::Foreign(FIRST, HandIn::Taken),
+        Act::Take(FIRST),
+    ],
+    trace: "2 run 1
+2 close OK
+process 2 ready
+end schedule
+",
+};
+
+#[test]
+fn a_burst_that_did_not_come_to_another_instruction_is_taken(rt: HostRuntime) -> Result<(), Fail> {
+    play(rt.alloc(), &OTHER_LAST)
+}
+
+const OTHER_FIRST: Scene = Scene {
+    own: &[(COUNTS, 3)],
+    other: &[(ANOTHER_FIRST, 3)],
+    in_job: 0,
+    limit: 100,
+    acts: &[
+        Act::Take(FIRST),
+        Act::Foreign(FIRST, HandIn::Stranger),
+        Act::Take(FIRST),
+    ],
+    trace: "process 2 ready
+end schedule
+",
+};
+
+#[test]
+fn a_burst_that_did_another_instruction_is_a_stranger(rt: HostRuntime) -> Result<(), Fail> {
+    play(rt.alloc(), &OTHER_FIRST)
+}
+
+const OTHER_NEXT: Scene = Scene {
+    own: &[(COUNTS, 3)],
+    other: &[(ANOTHER_NEXT, 3)],
+    in_job: 0,
+    limit: 100,
+    acts: &[
+        Act::Take(FIRST),
+        Act::Foreign(FIRST, HandIn::Stranger),
+        Act::Take(FIRST),
+    ],
+    trace: "process 2 ready
+end schedule
+",
+};
+
+#[test]
+fn a_burst_behind_which_another_instruction_stands_is_a_stranger(
+    rt: HostRuntime,
+) -> Result<(), Fail> {
+    play(rt.alloc(), &OTHER_NEXT)
+}
+
+const OTHER_LENGTH: Scene = Scene {
+    own: &[(COUNTS, 3)],
+    other: &[(ONE_MORE, 3)],
+    in_job: 0,
+    limit: 100,
+    acts: &[
+        Act::Take(FIRST),
+        Act::Foreign(FIRST, HandIn::Stranger),
+        Act::Take(FIRST),
+    ],
+    trace: "process 2 ready
+end schedule
+",
+};
+
+#[test]
+fn a_burst_of_a_program_of_another_length_is_a_stranger(rt: HostRuntime) -> Result<(), Fail> {
+    play(rt.alloc(), &OTHER_LENGTH)
+}
+
+const LET_GO: Scene = Scene {
+    own: &[(COUNTS, 3)],
+    other: &[(COUNTS, 3)],
+    in_job: 0,
+    limit: 100,
+    acts: &[
+        Act::Take(FIRST),
+        Act::LetGo(FIRST),
+        Act::TakeNothing,
+        Act::Idle(false),
+        Act::Foreign(FIRST, HandIn::Taken),
+        Act::Take(FIRST),
+    ],
+    trace: "2 run 1
+2 close OK
+process 2 ready
+end schedule
+",
+};
+
+#[test]
+fn a_process_whose_turn_was_dropped_stays_out(rt: HostRuntime) -> Result<(), Fail> {
+    play(rt.alloc(), &LET_GO)
+}
+
 const EQUAL_SYSTEM: Scene = Scene {
     own: &[(EXITS, 7)],
     other: &[(EXITS, 7)],

@@ -2,7 +2,6 @@
 use Rattle.std.proofs.Common.{◌≡◌, refl, ℕ, true, false, [], ◌∷◌, None}
 use Rattle.zl_rights.specs.Common.{STUCK, World, Cpu, Process, State, Created, Ready, Blocked, Ended, get, is_process}
 use Rattle.zl_rights.specs.World.{PacketAt}
-use Rattle.zl_code.specs.Image.{Program}
 use Rattle.zl_code.specs.declared.history.TraceItem.TheVariants as item
 use Rattle.zl_sched.proofs.Common.{Done, is_in, is_ready_or_over, others_of, put_back, queued_after, requeued, run_items, unmarked}
 use Rattle.zl_interp.specs.declared.bursts.Stop.{Stop}
@@ -13,9 +12,9 @@ use Rattle.zl_sched.specs.HandIn.{items_of}
 
 -- ---- items
 
-module _ (g : Program) (c : Cpu) where
+module _ (c : Cpu) where
   abbrev did : ℕ → Stop → Done
-  did ran stop = record { pid = 2; program = g; from = c; to = c; ran = ran; stop = stop }
+  did ran stop = record { pid = 2; from = c; to = c; ran = ran; stop = stop; places = [] }
 
   a_call_alone : items_of (did 0 stop.AtCall) ≡ 1
   a_call_alone = refl

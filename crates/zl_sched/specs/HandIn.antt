@@ -58,7 +58,7 @@ Ends false m p last m2 = (x : TraceItem) × (last ≡ x ∷ []) × TakesStep m p
 
 -- ---- handed in
 
--- out and ready, and it stands here with the program and the Cpu with which it began
+-- out and ready, and what was done fits: by instructions of the program that stands here, from the Cpu that does
 pub record IsAwaited (s : System) (d : Done) : Type 0 where
   pub out : is_in d.pid s.out ≡ true
   pub ready : IsTrue (is_ready_in s.machine d.pid)
@@ -74,7 +74,7 @@ LacksRoom s d = s.limit < length s.items + items_of d
 abbrev pub IsGone : System → Done → Type 0
 IsGone s d = (is_in d.pid s.out ≡ true) × (is_process s.machine.world lives d.pid ≡ false)
 
--- out and ready, and it stands here with another program or Cpu
+-- out and ready, and it stands here with another Cpu, or with a program that hasn't these instructions
 abbrev pub IsOther : System → Done → Type 0
 IsOther s d = (is_in d.pid s.out ≡ true) × IsTrue (is_ready_in s.machine d.pid) × (Fits s.machine d → ⊥)
 

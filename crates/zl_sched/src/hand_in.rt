@@ -23,7 +23,8 @@ use zl_rights::Pid;
 pub enum HandIn {
     /// Its items are in the trace.
     Taken,
-    /// The process isn't out, or it lives with another program or another Cpu.
+    /// The process isn't out, or it lives with another Cpu, or with a program of another length or with
+    /// other instructions in the filled places.
     Stranger,
     /// The process was out, and lives no more.
     Gone,
@@ -72,9 +73,10 @@ impl System {
     /// What a process did that is out: the local instructions become one item, if there were any, and
     /// where it is at a call, or stuck, it does that too. It isn't out any more.
     ///
-    /// `Stranger` comes where the process isn't out, or lives with another program or another Cpu than
-    /// that with which it began; `Gone` where it lives no more; else `Limit` where the trace has no room
-    /// for the items, and `NoMemory` where memory is refused. That it was refused no clause says. After
+    /// `Stranger` comes where the process isn't out, or lives with another Cpu than that with which it
+    /// began, or with a program that has more or fewer instructions than places are carried, or another
+    /// one in a place that is filled; `Gone` where it lives no more; else `Limit` where the trace has no
+    /// room for the items, and `NoMemory` where memory is refused. That it was refused no clause says. After
     /// these nothing is different but that a living process which was out is last in the ready list.
     pub fn hand_in(&mut self, done: Done) -> HandIn
         ensures { HandsIn self.old done result self.new }

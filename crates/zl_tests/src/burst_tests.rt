@@ -8,6 +8,7 @@ use std::alloc::{AllocError, Global};
 use std::sync::Arc;
 use std::test::*;
 use zl_asm::assemble_bytes;
+use zl_code::Image;
 use zl_interp::{Cpu, Done, Program, Stop, Turn, burst};
 
 /// Counts to 5 by eleven local instructions, and exits.
@@ -31,12 +32,52 @@ const FALLS: &str = ".raw
 const r2, 9
 ";
 
+/// The same up to the third instruction, which goes on to 9.
+const COUNTS_ON: &str = ".raw
+const r2, 0
+loop:
+addi r2, r2, 1
+jlt r2, 9, loop
+process_exit r2
+";
+
+/// The same with one instruction more.
+const COUNTS_LONGER: &str = ".raw
+const r2, 0
+loop:
+addi r2, r2, 1
+jlt r2, 5, loop
+process_exit r2
+process_exit r2
+";
+
+/// Counts up in the last eight of 64 KB, by four instructions a round.
+const ROUNDS: &str = ".raw
+.memory 65536
+const r2, 65528
+loop:
+ld64 r3, r2, 0
+addi r3, r3, 1
+st64 r2, r3, 0
+jmp loop
+";
+
+fn image(alloc: Global, text: &[u8]) -> Result<Image, Fail> {
+    let image = assemble_bytes(alloc, text)
+        .ok()
+        .ok_or("the text is a program")?;
+    Ok(image)
+}
+
 fn program(alloc: Global, text: &str) -> Result<Arc<Program>, Fail>
     ensures { IfOk result (λ program. (program_value (arc_value program)).checked ≡ false) }
 {
-    let image = assemble_bytes(alloc, text.as_bytes())
-        .ok()
-        .ok_or("the text is a program")?;
+    raw(alloc, image(alloc, text.as_bytes())?)
+}
+
+fn raw(alloc: Global, image: Image) -> Result<Arc<Program>, Fail>
+    ensures { IfOk result (λ program. (program_value (arc_value program)).checked ≡ false) }
+{
     match Arc::new(alloc, Program::Raw(image)) {
         Ok(program) => Ok(program),
         Err(_) => Err(Fail::from("memory was refused")),
@@ -48,7 +89,14 @@ fn started(alloc: Global, program: &Arc<Program>, most: u32) -> Result<Done, All
     requires { (program_value (arc_value program.now)).checked ≡ false }
 {
     let cpu = Cpu::new(alloc, program.image(), 7)?;
-    Ok(burst(Turn::new(alloc, 2, program, &cpu)?, most))
+    went_on(alloc, program, &cpu, most)
+}
+
+/// What a process does of the program that has this Cpu.
+fn went_on(alloc: Global, program: &Arc<Program>, cpu: &Cpu, most: u32) -> Result<Done, AllocError>
+    requires { (program_value (arc_value program.now)).checked ≡ false }
+{
+    Ok(burst(Turn::new(alloc, 2, program, cpu)?, most))
 }
 
 /// How many instructions a process that starts does of the text, and where it ends.
@@ -79,6 +127,97 @@ fn a_burst_ends_where_its_process_is_stuck(rt: HostRuntime) -> Result<(), Fail> 
     assert_eq!(rt; ended(rt.alloc(), READS, 1)?, (1, Stop::Stuck));
     assert_eq!(rt; ended(rt.alloc(), READS, 0)?, (0, Stop::More));
     assert_eq!(rt; ended(rt.alloc(), FALLS, 256)?, (1, Stop::Stuck));
+    Ok(())
+}
+
+/// Which of the first four places are filled.
+fn filled(done: &Done) -> [bool; 4] {
+    [
+        is_filled(done, 0),
+        is_filled(done, 1),
+        is_filled(done, 2),
+        is_filled(done, 3),
+    ]
+}
+
+fn is_filled(done: &Done, place: usize) -> bool {
+    match done.places().get(place) {
+        Some(filled) => filled.is_some(),
+        None => false,
+    }
+}
+
+/// Which are filled once a process that starts did so many instructions of COUNTS.
+fn filled_after(alloc: Global, most: u32) -> Result<[bool; 4], Fail> {
+    let program = program(alloc, COUNTS)?;
+    Ok(filled(&started(alloc, &program, most)?))
+}
+
+#[test]
+fn a_burst_carries_what_it_did_and_what_stands_next(rt: HostRuntime) -> Result<(), Fail> {
+    assert_eq!(rt; filled_after(rt.alloc(), 0)?, [true, false, false, false]);
+    assert_eq!(rt; filled_after(rt.alloc(), 1)?, [true, true, false, false]);
+    assert_eq!(rt; filled_after(rt.alloc(), 2)?, [true, true, true, false]);
+    assert_eq!(rt; filled_after(rt.alloc(), 10)?, [true, true, true, false]);
+    assert_eq!(rt; filled_after(rt.alloc(), 256)?, [true, true, true, true]);
+    Ok(())
+}
+
+/// Whether what a process that starts does of COUNTS, so many instructions, agrees with the text.
+fn agrees(alloc: Global, most: u32, text: &str) -> Result<bool, Fail> {
+    let program = program(alloc, COUNTS)?;
+    let done = started(alloc, &program, most)?;
+    Ok(done.agrees(&image(alloc, text.as_bytes())?))
+}
+
+#[test]
+fn a_burst_agrees_with_what_has_its_instructions(rt: HostRuntime) -> Result<(), Fail> {
+    assert_eq!(rt; agrees(rt.alloc(), 256, COUNTS)?, true);
+    assert_eq!(rt; agrees(rt.alloc(), 1, COUNTS_ON)?, true);
+    assert_eq!(rt; agrees(rt.alloc(), 2, COUNTS_ON)?, false);
+    assert_eq!(rt; agrees(rt.alloc(), 3, COUNTS_ON)?, false);
+    assert_eq!(rt; agrees(rt.alloc(), 1, COUNTS_LONGER)?, false);
+    assert_eq!(rt; agrees(rt.alloc(), 1, FALLS)?, false);
+    Ok(())
+}
+
+/// As many instructions as an image has at most: those of ROUNDS, and calls behind them.
+fn largest(alloc: Global) -> Result<Image, Fail> {
+    let mut text = Vec::new(alloc);
+    text.extend_from_slice(ROUNDS.as_bytes())?;
+    for _ in 5..Image::MOST_INSTRUCTIONS {
+        text.extend_from_slice(b"process_exit r3\n")?;
+    }
+    image(alloc, &text)
+}
+
+/// What a process did last that did so many bursts of nine instructions each.
+fn did_bursts(alloc: Global, program: &Arc<Program>, count: u32) -> Result<Done, AllocError>
+    requires { (program_value (arc_value program.now)).checked ≡ false }
+{
+    let mut cpu = Cpu::new(alloc, program.image(), 7)?;
+    for _ in 1..count {
+        cpu = went_on(alloc, program, &cpu, 9)?.into_cpu();
+    }
+    went_on(alloc, program, &cpu, 9)
+}
+
+#[test]
+fn short_bursts_go_on_in_the_largest_program(rt: HostRuntime) -> Result<(), Fail> {
+    let program = raw(rt.alloc(), largest(rt.alloc())?)?;
+    let first = did_bursts(rt.alloc(), &program, 1)?;
+    assert_eq!(rt; (first.ran(), first.places().len()), (9, 4096));
+    assert_eq!(rt;
+        (filled(&first), is_filled(&first, 4)),
+        ([true, true, true, true], true)
+    );
+    let last = did_bursts(rt.alloc(), &program, 20)?;
+    assert_eq!(rt; (last.ran(), last.stop()), (9, Stop::More));
+    assert_eq!(rt;
+        (filled(&last), is_filled(&last, 4)),
+        ([false, true, true, true], true)
+    );
+    assert_eq!(rt; last.into_cpu().registers().get(3), Some(&45));
     Ok(())
 }
 

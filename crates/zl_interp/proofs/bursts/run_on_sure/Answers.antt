@@ -1,6 +1,6 @@
-use Rattle.std.proofs.Common.{rules}
+use Rattle.std.proofs.Common.{rules, arith, refl}
 use Rattle.zl_code.specs.Local.{goes_to}
-use Rattle.zl_interp.proofs.Going.{goes, goes_on}
+use Rattle.zl_interp.proofs.Going.{able_then, goes, leads_on, leads_still, next_alike}
 use Rattle.zl_interp.proofs.bursts.run_on_sure.Goals as goal
 
 pub step_sure-requires-clause-sure : goal.step_sure-requires-clause-sure
@@ -9,7 +9,30 @@ step_sure-requires-clause-sure c =
     c.loop-ran.invariant.1
 
 pub loop-ran-preserved : goal.loop-ran-preserved
-loop-ran-preserved c =
-    goes_on c.args.image.now c.code-code.result.now (goes_to c.loop-ran.cpu c.loop-ran.counter) c.code-code.ensures.value c.code-code.ensures.in_range
-    c.loop-ran.invariant.1
-    (goes_to c.step_sure.new.cpu c.in-Some.next) (search rules) c.loop-ran.ran c.args.cpu.now c.loop-ran.invariant.0
+loop-ran-preserved c = (
+  leads_on c.args.image.now c.code-code.result.now c.code-code.ensures.value c.loop-ran.places c.fill.new.places c.loop-ran.ran c.args.cpu.now
+      (goes_to c.loop-ran.cpu c.loop-ran.counter) c.loop-ran.invariant.0 c.fill.ensures (goes_to c.step_sure.new.cpu c.in-Some.next) c.in-Some.ensures.moves,
+  able_then c.args.image.now c.code-code.result.now (goes_to c.loop-ran.cpu c.loop-ran.counter) c.code-code.ensures.value c.code-code.ensures.in_range
+      c.loop-ran.invariant.1 (goes_to c.step_sure.new.cpu c.in-Some.next) c.in-Some.ensures.moves,
+)
+
+pub returns-in_default-clause-leads : goal.returns-in_default-clause-leads
+returns-in_default-clause-leads c =
+    leads_still c.args.image.now c.code-code.result.now c.code-code.ensures.value c.loop-ran.places c.fill.new.places c.loop-ran.ran c.args.cpu.now
+    (goes_to c.loop-ran.cpu c.loop-ran.counter) c.loop-ran.invariant.0 c.fill.ensures c.loop-ran.ran _ refl (search rules)
+
+pub returns-in_default-clause-next : goal.returns-in_default-clause-next
+returns-in_default-clause-next c =
+    next_alike c.args.image.now c.code-code.result.now c.code-code.ensures.value c.loop-ran.places c.fill.new.places c.loop-ran.ran c.args.cpu.now
+    (goes_to c.loop-ran.cpu c.loop-ran.counter) c.loop-ran.invariant.0 c.fill.ensures _ (search rules)
+
+pub returns-clause-leads : goal.returns-clause-leads
+returns-clause-leads c =
+    leads_still c.args.image.now c.code-code.result.now c.code-code.ensures.value c.loop-ran.places c.fill-2.new.places c.loop-ran.ran c.args.cpu.now
+    (goes_to c.loop-ran.cpu c.loop-ran.counter) c.loop-ran.invariant.0 c.fill-2.ensures c.args.most _
+    (omega (arith, c.loop-ran-test.false, c.loop-ran.auto.ran-end)) (search rules)
+
+pub returns-clause-next : goal.returns-clause-next
+returns-clause-next c =
+    next_alike c.args.image.now c.code-code.result.now c.code-code.ensures.value c.loop-ran.places c.fill-2.new.places c.loop-ran.ran c.args.cpu.now
+    (goes_to c.loop-ran.cpu c.loop-ran.counter) c.loop-ran.invariant.0 c.fill-2.ensures _ (search rules)

@@ -1,5 +1,5 @@
-use Rattle.zl_calls.proofs.Common.{◌≡◌, ◌∙◌, ◌==◌, true, ap, get, map, on_process, position, refl, slice_get, Some, Cpu, is_ready, process_entry, process_value}
-use Rattle.zl_calls.proofs.Common.{state_value, world_blocked, length-set, after_locals, Stands}
+use Rattle.zl_calls.proofs.Common.{◌≡◌, ◌∙◌, ◌==◌, true, ap, get, map, on_process, position, refl, slice_get, sym, Some, Cpu, Program, is_ready}
+use Rattle.zl_calls.proofs.Common.{process_entry, process_value, state_value, world_blocked, length-set, after_locals, Stands}
 use Rattle.zl_calls.specs.declared.process.Process.{Process}
 use Rattle.zl_calls.proofs.stepping.Advancing.{advances, advanced_programs, advanced_sound, cpu_stands, program_stands, read_there, ready_there}
 use Rattle.zl_calls.proofs.stepping.Covered.{advanced_covered}
@@ -23,17 +23,20 @@ module _ (c : goal.After-self-1) where
   found = read_there c.self.inside.processes.list.items c.args.done.pid c.in-Some.place p
       (rw c.pid.ensures at (c.in-Some.ensures {u = tt}).found) c.index_mut-process.ensures.value
 
-  stands : Stands (machine_value c.self.inside.library c.self.inside.processes.list.items c.self.inside.objects c.self.inside.blocked.items) c.args.done.pid
-      c.args.done.program c.args.done.from
-  stands = rw (← c.self.view_is) at c.requires.fits
+  abbrev g : Program
+  g = c.requires.fits.program
 
-  program : slice_get c.self.inside.library p.program ≡ Some c.args.done.program
+  stands : Stands (machine_value c.self.inside.library c.self.inside.processes.list.items c.self.inside.objects c.self.inside.blocked.items) c.args.done.pid
+      g c.args.done.from
+  stands = rw (← c.self.view_is) at c.requires.fits.stands
+
+  program : slice_get c.self.inside.library p.program ≡ Some g
   program = program_stands c.self.inside.library c.self.inside.processes.list.items c.self.inside.objects c.self.inside.blocked.items c.args.done.pid p found
-      c.args.done.program c.args.done.from stands
+      g c.args.done.from stands
 
   cpu : p.cpu ≡ c.args.done.from
   cpu = cpu_stands c.self.inside.library c.self.inside.processes.list.items c.self.inside.objects c.self.inside.blocked.items c.args.done.pid p found
-      c.args.done.program c.args.done.from stands
+      g c.args.done.from stands
 
   ready : is_ready (state_value p.state) ≡ true
   ready = ready_there c.self.inside.library c.self.inside.processes.list.items c.self.inside.objects c.self.inside.blocked.items c.args.done.pid p found
@@ -43,8 +46,9 @@ module _ (c : goal.After-self-1) where
   turn = turn_at c.self.inside.processes.list.items c.self.inside.objects c.self.inside.blocked.items c.args.done.pid c.in-Some.place p
       c.self.invariant.consistent c.self.invariant.are_blocked c.self.invariant.sound first c.index_mut-process.ensures.value ready
 
-  follows : after_locals c.args.done.program.image c.args.done.ran p.cpu ≡ Some p2.cpu
-  follows = rw (cpu, c.into_cpu.ensures) c.ran.ensures.follows.follows
+  follows : after_locals g.image c.args.done.ran p.cpu ≡ Some p2.cpu
+  follows = ap (after_locals g.image c.args.done.ran) cpu
+      ∙ (c.ran.ensures.follows.follows g.image c.requires.fits.agrees ∙ ap (λ (d : Cpu). Some d) (sym c.into_cpu.ensures))
 
 pub invariant_of-self-inside : goal.invariant_of-self-inside
 invariant_of-self-inside c = record { in_order = (moved_keeps (turn c) (p2 c) refl).processes_in_order }
@@ -56,16 +60,16 @@ written c = c.before.before.before.before
 pub invariant_of-self : goal.invariant_of-self
 invariant_of-self c = record {
   consistent = moved_keeps (turn (written c)) (p2 (written c)) refl;
-  sound = advanced_sound (turn (written c)) c.self.inside.library c.self.invariant.awake c.args.done.program (program (written c)) c.args.done.ran
+  sound = advanced_sound (turn (written c)) c.self.inside.library c.self.invariant.awake (g (written c)) (program (written c)) c.args.done.ran
       (p2 (written c)) refl (follows (written c));
   are_blocked = moved_list (turn (written c)) (p2 (written c)) refl;
   sought = written_sought (write_of (turn (written c)) (p2 (written c)) refl) c.self.inside.objects (unblocked (turn (written c))) c.self.invariant.sought;
   room = rw (length-set c.self.inside.processes.list.items c.in-Some.place (p2 (written c))) c.self.invariant.room;
   awake = moved_awake (turn (written c)) (p2 (written c)) refl c.self.invariant.awake;
-  programs = advanced_programs (turn (written c)) c.self.inside.library c.self.invariant.awake c.args.done.program (program (written c))
+  programs = advanced_programs (turn (written c)) c.self.inside.library c.self.invariant.awake (g (written c)) (program (written c))
       c.args.done.ran (p2 (written c)) refl (follows (written c)) c.self.invariant.programs;
   verified = c.self.invariant.verified;
-  covered = advanced_covered c.self.inside.library c.self.invariant.verified (turn (written c)) c.self.invariant.awake c.args.done.program
+  covered = advanced_covered c.self.inside.library c.self.invariant.verified (turn (written c)) c.self.invariant.awake (g (written c))
       (program (written c)) c.args.done.ran (p2 (written c)) refl (follows (written c)) c.self.invariant.covered;
 }
 
@@ -79,5 +83,5 @@ returns-clause-cpu c =
 pub returns-clause-steps : goal.returns-clause-steps
 returns-clause-steps c =
     rw (← c.self.view_is)
-    (advances (turn (written c)) c.self.inside.library c.self.invariant.awake c.args.done.program (program (written c)) c.args.done.ran
+    (advances (turn (written c)) c.self.inside.library c.self.invariant.awake (g (written c)) (program (written c)) c.args.done.ran
     (p2 (written c)) refl (follows (written c)))

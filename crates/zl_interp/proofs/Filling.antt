@@ -1,0 +1,76 @@
+-- What a place that is filled leaves of the code that agrees.
+use Rattle.zl_code.proofs.Common.{◌≡◌, ◌≢◌, ◌<◌, ◌≤◌, ◌∙◌, ◌⊎◌, inl, inr, ℕ, zero, suc, List, Option, Some, None, length, refl, sym, ap, subst, arith}
+use Rattle.zl_code.proofs.Common.{slice_get, slice_set, same_Some, none-some, get_or, is_some, true, false≢true, [], ◌∷◌}
+use Rattle.std.proofs.lemmas.List.{length-set}
+use Rattle.std.proofs.lemmas.Option.{slice_get-get_or, slice_get_past, slice_get_within}
+use Rattle.zl_code.specs.declared.instr.Instr.{Instr}
+use Rattle.zl_verify.proofs.Places.{below_or_not, equal_or_not, get_put, get_put_other, nowhere}
+use Rattle.zl_interp.specs.Bursts.{Agrees}
+
+-- ---- one that is filled
+
+module _ (code : List Instr) (places : List (Option Instr)) (n : ℕ) (agrees : Agrees code places) where
+  abbrev after : List (Option Instr)
+  after = slice_set places n (slice_get code n)
+
+  long_after : length after ≡ length code
+  long_after = length-set places n (slice_get code n) ∙ sym agrees.long
+
+  -- it holds the instruction
+  here : (x : Instr) → slice_get code n ≡ Some x → slice_get after n ≡ Some (Some x)
+  here x at =
+      let within : n < length code = slice_get_within code n x at in
+      get_put places n (slice_get code n) (omega (arith, within, agrees.long)) ∙ ap Some at
+
+  -- all that is filled then is of the code
+  of_code : (m : ℕ) (x : Instr) → slice_get after m ≡ Some (Some x) → slice_get code m ≡ Some x
+  of_code m x at = by (equal_or_not n m) (below_or_not n (length places))
+    where
+      by : (n ≡ m) ⊎ (n ≢ m) → (n < length places) ⊎ (length places ≤ n) → slice_get code m ≡ Some x
+      by (inl e) (inl within) =
+          same_Some (slice_get code m) (Some x)
+          (sym (ap (λ k. Some (slice_get code k)) e) ∙ (sym (get_put places n (slice_get code n) within) ∙ (ap (slice_get after) e ∙ at)))
+      by (inl e) (inr past) =
+          let nothing : slice_get after m ≡ None = slice_get_past after m (subst (λ k. length after ≤ k) e (omega (arith, past, long_after, agrees.long))) in
+          absurd (none-some (Some x) (sym nothing ∙ at))
+      by (inr apart) there = agrees.filled m x (sym (get_put_other places n m (slice_get code n) apart) ∙ at)
+
+  pub filled_agrees : Agrees code after
+  filled_agrees = record { long = sym long_after; filled = of_code }
+
+  module _ (other : List Instr) (agrees_then : Agrees other after) where
+    -- what agrees then did so before
+    pub filled_before : Agrees other places
+    filled_before = record {
+      long = agrees_then.long ∙ length-set places n (slice_get code n);
+      filled = λ m x at. by m x at (equal_or_not n m);
+    }
+      where
+        by : (m : ℕ) (x : Instr) → slice_get places m ≡ Some (Some x) → (n ≡ m) ⊎ (n ≢ m) → slice_get other m ≡ Some x
+        by m x at (inl e) = subst (λ k. slice_get other k ≡ Some x) e (agrees_then.filled n x (here x (ap (slice_get code) e ∙ agrees.filled m x at)))
+        by m x at (inr apart) = agrees_then.filled m x (get_put_other places n m (slice_get code n) apart ∙ at)
+
+    -- and has the same instruction there
+    pub filled_alike : slice_get other n ≡ slice_get code n
+    filled_alike = by (slice_get code n) refl (below_or_not n (length code))
+      where
+        by : (o : Option Instr) → slice_get code n ≡ o → (n < length code) ⊎ (length code ≤ n) → slice_get other n ≡ slice_get code n
+        by (Some x) at there = agrees_then.filled n x (here x at) ∙ sym at
+        by None at (inl within) = absurd (nowhere code n at within)
+        by None at (inr past) = slice_get_past other n (omega (arith, past, agrees_then.long, long_after)) ∙ sym at
+
+-- ---- one that is filled already
+
+set_same : {X : Type 0} (xs : List X) (n : ℕ) (x : X) → slice_get xs n ≡ Some x → xs ≡ slice_set xs n x
+set_same [] n x at = refl
+set_same (y ∷ xs) zero x at = ap (λ z. z ∷ xs) (same_Some y x at)
+set_same (y ∷ xs) (suc n) x at = ap (λ ys. y ∷ ys) (set_same xs n x at)
+
+-- stays as it is
+pub stays_filled : (code : List Instr) (places : List (Option Instr)) (n : ℕ) (d : Option Instr) → Agrees code places → n < length code
+    → is_some (get_or places n d) ≡ true → places ≡ slice_set places n (slice_get code n)
+stays_filled code places n d agrees within full = by (get_or places n d) (slice_get-get_or places n d (omega (arith, within, agrees.long))) full
+  where
+    by : (o : Option Instr) → slice_get places n ≡ Some o → is_some o ≡ true → places ≡ slice_set places n (slice_get code n)
+    by None at full = absurd (false≢true full)
+    by (Some x) at full = set_same places n (slice_get code n) (at ∙ ap Some (sym (agrees.filled n x at)))

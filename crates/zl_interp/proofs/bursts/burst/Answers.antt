@@ -1,0 +1,22 @@
+use Rattle.std.proofs.Common.{◌≡◌, arith, length}
+use Rattle.std.specs.Arc.{arc_value}
+use Rattle.std.proofs.lemmas.List.{with_items_is}
+use Rattle.zl_code.specs.Image.{Image}
+use Rattle.zl_interp.specs.Program.{program_value}
+use Rattle.zl_interp.proofs.Going.{is_burst}
+use Rattle.zl_interp.proofs.Spelled.{can_stand}
+use Rattle.zl_interp.proofs.bursts.burst.Goals as goal
+
+pub invariant_of-result : goal.invariant_of-result
+invariant_of-result c =
+    let i : Image = (program_value (arc_value c.turn.inside.program)).image in
+    let leads = rw (c.deref.ensures, c.turn.invariant.0) at c.run-ran.ensures.leads in
+    let long : length c.run-ran.new.places ≡ c.turn.inside.places.len =
+    omega (arith, leads.agrees.long, c.turn.invariant.2.long, c.turn.inside.places.ok.0) in
+    rw (with_items_is c.turn.inside.places c.run-ran.new.places long) (
+      is_burst i _ leads (rw c.deref.ensures at c.run-ran.ensures.next) (rw c.deref-2.ensures at c.stop_of-stop.ensures),
+      can_stand i c.run-ran.new.places (rw (c.image.ensures, c.deref-3.ensures) at c.len.ensures.in_range) leads.agrees,
+    )
+
+pub returns-clause-follows : goal.returns-clause-follows
+returns-clause-follows c = (invariant_of-result c).0

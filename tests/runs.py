@@ -1,4 +1,4 @@
-"""What a run on worker threads has, whatever the order of its items: for tests/try-run and tests/shared-runs."""
+"""What a run on worker threads has, whatever the order of its items: for tests/try-run, tests/try-checked and others."""
 import re
 import subprocess
 from dataclasses import dataclass
@@ -53,8 +53,8 @@ def budget_of(words, block):
     return int(stated[2], 16 if stated[1] else 10) if stated else 1
 
 
-def checked_processes(scenario):
-    """The processes of checked programs that the lines of a scenario start, with their budgets."""
+def started_processes(scenario):
+    """The processes that the lines of a scenario start, with the budgets of their programs; none for raw ones."""
     programs, found, koid, opening, block = [], {}, 1, None, []
     for line in scenario.splitlines():
         words = line.split()
@@ -70,9 +70,14 @@ def checked_processes(scenario):
             opening = words
         else:
             koid += {"job": 1, "event": 1, "port": 1, "process": 1, "channel": 2, "eventpair": 2}.get(words[0], 0)
-            if words[0] == "process" and programs[int(words[2])] is not None:
+            if words[0] == "process":
                 found[koid] = programs[int(words[2])]
     return found
+
+
+def checked_processes(scenario):
+    """Those of them that are of checked programs."""
+    return {pid: budget for pid, budget in started_processes(scenario).items() if budget is not None}
 
 
 def breaches(items, budgets):

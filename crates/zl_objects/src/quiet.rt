@@ -37,7 +37,8 @@ impl Objects {
     }
 
     /// Whether it is known that no registered wait holds, and that nothing is there for which a
-    /// blocked process waits. It is where no change has touched an object at which something waits.
+    /// blocked process waits. No tells nothing: it comes also where objects went, or where there was
+    /// no room to list who is blocked.
     ///
     /// Source: own profile.
     pub fn is_quiet(&self) -> bool

@@ -1,6 +1,6 @@
 -- What stands next, by the instruction at the counter.
 use Rattle.zl_code.proofs.Common.{◌≡◌, ◌∙◌, Option, Some, None, IfSome, IfNone, true, false, sym, refl, ap, none-some, same_Some, is_some, false≢true, Cpu}
-use Rattle.zl_code.proofs.Common.{Image, Site, call_row, local_effect, site_of, IsStuck, calls_at, next_at, ◌≢◌}
+use Rattle.zl_code.proofs.Common.{Image, Site, call_row, local_effect, site_of, IsStuck, calls_at, next_at}
 use Rattle.zl_code.specs.declared.history.CallName.{CallName}
 use Rattle.zl_code.specs.declared.instr.CallInstr.{CallInstr}
 use Rattle.zl_code.specs.declared.instr.Instr.{Instr}
@@ -21,7 +21,7 @@ call_of (Some (instr.Unknown bytes)) c x there = absurd (none-some x there)
 
 -- the call at the counter stands next where its operands can be read, and else none does
 module _ (i : Image) (c : Cpu) (x : CallInstr) (there : call_at i c.counter ≡ Some x) where
-  comes : next_at i c ≡ calls_at x.name (site_of x c)
+  pub comes : next_at i c ≡ calls_at x.name (site_of x c)
   unfolding next_at
   comes = call_of (instr_at i c.counter) c x there
 
@@ -39,13 +39,6 @@ module _ (i : Image) (c : Cpu) (x : CallInstr) (there : call_at i c.counter ≡ 
       by None none = refl
       by (Some s) none = absurd (false≢true (sym none))
 
-  -- a Cpu that isn't stuck stands at a call whose memory is there
-  pub memory_there : next_at i c ≢ IsStuck → has_its_memory (call_row x.name).ending x c ≡ true
-  memory_there goes = sym (has_site x c) ∙ by (site_of x c) comes
-    where
-      by : (s : Option Site) → next_at i c ≡ calls_at x.name s → is_some s ≡ true
-      by None next = absurd (goes next)
-      by (Some s) next = refl
 
 moves_name_none : (o : Option Cpu) → call_in (moves o) ≡ None
 moves_name_none None = refl

@@ -16,5 +16,5 @@ mod running;
 
 pub use bursts::{Done, Stop, Turn, burst};
 pub use cpu::Cpu;
-pub use next::{call_at, local_step};
+pub use next::{call_at, has_its_memory, local_step};
 pub use program::{Library, Program};

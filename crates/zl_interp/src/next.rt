@@ -19,35 +19,28 @@ use zl_code::{CallInstr, Ending, Instr, LocalInstr};
 /// The call that stands next for the Cpu, if one does.
 ///
 /// None does where the counter is outside the code, where a local instruction or an unknown one
-/// stands there, and at a call whose range of memory isn't there; where that isn't tested, the Cpu
-/// isn't stuck. Own profile.
-#[inline(always)]
-pub fn call_at<const TESTED: bool>(program: &Program, cpu: &Cpu) -> Option<CallInstr>
-    requires sure { TESTED ≡ false
-        → next_at (program_value program.now).image cpu.now ≢ IsStuck }
+/// stands there, and at a call whose range of memory isn't there. Own profile.
+pub fn call_at(program: &Program, cpu: &Cpu) -> Option<CallInstr>
     ensures found { IfSome result (StandsNext (program_value program.now).image cpu.now) }
     ensures missing { IfNone result
         (call_in (next_at (program_value program.now).image cpu.now) ≡ None) }
     ensures within { OnSome result (cpu.now.counter < most_instructions) }
 {
     let call = program.image().call_at(cpu.counter())?;
-    if has_its_memory::<TESTED>(&call, cpu) {
+    if has_its_memory(&call, cpu) {
         Some(call)
     } else {
         None
     }
 }
 
-/// Whether the range of memory that the call names is there; most calls name none. It is there
-/// where that isn't tested.
-fn has_its_memory<const TESTED: bool>(call: &CallInstr, cpu: &Cpu) -> bool
-    requires sure { TESTED ≡ false
-        → has_its_memory (call_row call.now.name).ending call.now cpu.now ≡ true }
+/// Whether the range of memory that the call names is there; most calls name none.
+///
+/// Own profile.
+#[inline(always)]
+pub fn has_its_memory(call: &CallInstr, cpu: &Cpu) -> bool
     ensures { result ≡ has_its_memory (call_row call.now.name).ending call.now cpu.now }
 {
-    if !TESTED {
-        return true;
-    }
     match call.name.row().columns.ending {
         Ending::Room | Ending::Handles => {
             let address = cpu.register(call.registers[2]);
@@ -61,9 +54,11 @@ fn has_its_memory<const TESTED: bool>(call: &CallInstr, cpu: &Cpu) -> bool
 /// Does the local instruction that stands next for the Cpu.
 ///
 /// `None`, and nothing changes, where none does or where it can't be done: unless a call stands
-/// next, the process is stuck then. Own profile.
+/// next, the process is stuck then. Where that isn't tested, it isn't stuck. Own profile.
 #[inline(always)]
-pub fn local_step(program: &Program, cpu: &mut Cpu) -> Option<()>
+pub fn local_step<const TESTED: bool>(program: &Program, cpu: &mut Cpu) -> Option<()>
+    requires sure { TESTED ≡ false
+        → next_at (program_value program.now).image cpu.old ≢ IsStuck }
     ensures moves { OnSome result
         (next_at (program_value program.now).image cpu.old ≡ Moves cpu.new) }
     ensures stuck { IfNone result
@@ -72,7 +67,7 @@ pub fn local_step(program: &Program, cpu: &mut Cpu) -> Option<()>
 {
     let local = local_at(program, cpu)?;
     let counter = cpu.counter;
-    cpu.counter = run::<true>(cpu, counter, &local)?;
+    cpu.counter = run::<TESTED>(cpu, counter, &local)?;
     Some(())
 }
 
@@ -131,7 +126,7 @@ fn local_at(program: &Program, cpu: &Cpu) -> Option<LocalInstr>
 pub fn stop_of(program: &Program, cpu: &Cpu) -> Stop
     ensures { result ≡ stop_at (next_at (program_value program.now).image cpu.now) }
 {
-    if call_at::<true>(program, cpu).is_some() {
+    if call_at(program, cpu).is_some() {
         return Stop::AtCall;
     }
     match local_at(program, cpu) {

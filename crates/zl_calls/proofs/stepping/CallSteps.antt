@@ -1,13 +1,16 @@
 -- Any call of a process in the midst of all others: from what was done among them to the relation of steps, up to where processes wake.
-use Rattle.zl_calls.proofs.Common.{refl, ◌≡◌, ℕ, slice_get-get_or, Moves, IsStuck, STUCK, Ends, call_in, true, ◌==◌, List, get_or, set, sym, ap}
+use Rattle.zl_calls.proofs.Common.{refl, ◌≡◌, ◌≢◌, ℕ, slice_get-get_or, Moves, IsStuck, STUCK, Ends, call_in, true, ◌==◌, List, get_or, set, sym, ap}
 use Rattle.zl_calls.proofs.Common.{◌∙◌, subst, Some, None, same_Some, position, slice_get, is_ready, Library, Site, AtCall, next_for, calls_at, Objects}
 use Rattle.zl_calls.proofs.Common.{process_value, state_value, world_blocked, CallName, Outcome, StaysAwake, world_left}
 use Rattle.zl_calls.proofs.Common.{CallActs, CalledAmong, acts, Parts, parts}
 use Rattle.zl_code.specs.declared.history.TraceItem.TheVariants as item
 use Rattle.zl_calls.specs.Reaching.{policed, reaches}
 use Rattle.zl_calls.specs.declared.process.Process.{Process}
+use Rattle.zl_verify.specs.Covered.{IsCovered, IsVerified}
+use Rattle.zl_calls.specs.Sure.{is_checked}
 use Rattle.zl_calls.proofs.stepping.LocalMoves.{moved_stays}
 use Rattle.zl_calls.proofs.stepping.Performing.{AtTurn, HasActed, HasLeft, alone_so, here, left_as, moves_so, stops_so, within}
+use Rattle.zl_calls.proofs.stepping.SureCalls.{sure_calls}
 use Rattle.zl_calls.proofs.tasks.ReachSteps.{free, free_beside, reaches_so}
 use Rattle.zl_calls.proofs.policy.PolicedSteps.{policed_so}
 
@@ -53,8 +56,12 @@ module _ {ps : List Process} {r : Objects} {blocked : List ℕ} {pid place : ℕ
       → StaysAwake (world_blocked ps r blocked) (world_left (set ps1 place p2) r1 b1) (world_blocked (set ps1 place p2) r1 b1)
   stays_from p2 cpu = rw (same_list, same_objects, same_blocked) (moved_stays turn p2 (rw same_process at cpu))
 
-  pub stops_from : (p2 : Process) (r2 : Objects) → (call_in (next_for lib (process_value p)) ≡ None)
-      → (call_in (next_for lib (process_value p1)) ≡ None → next_for lib (process_value p1) ≡ IsStuck) → Ends STUCK p1 r1 p2 r2
+  pub stops_from : (p2 : Process) (r2 : Objects) → next_for lib (process_value p1) ≡ IsStuck → Ends STUCK p1 r1 p2 r2
       → HasLeft lib ps (set ps1 place p2) r r2 blocked b1 pid (item.Stuck pid)
-  stops_from p2 r2 none missing ends =
-      rw (same_list, same_blocked) (stops_so turn lib p2 r2 (rw same_process at missing none) (rw (same_process, same_objects) at ends))
+  stops_from p2 r2 stuck ends =
+      rw (same_list, same_blocked) (stops_so turn lib p2 r2 (rw same_process at stuck) (rw (same_process, same_objects) at ends))
+
+  -- nor is the process stuck, if its program was checked
+  pub goes_from : IsVerified lib → IsCovered lib (world_blocked ps r blocked) → is_checked (slice_get lib p1.program) ≡ true
+      → next_for lib (process_value p1) ≢ IsStuck
+  goes_from v covered = rw same_process (λ checked. (sure_calls turn lib v covered p (here ps pid place p turn.found turn.read) checked).goes)

@@ -1,13 +1,18 @@
 -- Where a process stands in the list, and what stands next for it.
 use Rattle.zl_calls.proofs.Common.{◌≡◌, ◌<◌, ◌∙◌, ℕ, List, length, map, get_or, Option, Some, None, refl, sym, ap, slice_get, IfSome, IfNone, IsSome, IsTrue}
-use Rattle.zl_calls.proofs.Common.{false≢true, get, Cpu, Image, is_process, is_ready, Library, Program, Site, site_of, Moves, IsStuck, ◌≢◌, calls_at}
+use Rattle.zl_calls.proofs.Common.{call_row, true, false, arith, subst, ◌^◌, process_value, get_or_from_slice_get, is_some, false≢true, get, Cpu, Image, is_process, is_ready, Library, Program, Site, site_of, Moves, IsStuck, ◌≢◌, calls_at}
 use Rattle.zl_calls.proofs.Common.{next_for, process_entry}
 use Rattle.zl_calls.proofs.Common.{StandsNext, call_in, World, slice_get-map, CallInstr}
 use Rattle.std.specs.Prelude.{OnSome}
 use Rattle.zl_code.proofs.Common.{Process as ProcessValue}
 use Rattle.std.proofs.lemmas.Option.{slice_get_read}
 use Rattle.zl_code.specs.Steps.{next_at}
+use Rattle.zl_code.specs.Asked.{has_its_memory}
+use Rattle.zl_code.specs.Image.{call_at}
 use Rattle.zl_interp.specs.Common.{IsStuckOrCalls}
+use Rattle.zl_interp.proofs.Standing.{comes, no_call}
+use Rattle.zl_verify.proofs.Sites.{has_site}
+use Rattle.zl_calls.specs.World.{CallsNext, stands_next}
 use Rattle.zl_calls.specs.declared.process.Process.{Process}
 
 -- ---- reads of the list
@@ -19,40 +24,64 @@ pid_at ps n p lt is = simp slice_get-map (rw (slice_get_read ps (length ps) n p 
 
 -- the process runs the program g
 module _ (lib : Library) (p : ProcessValue) (g : Program) (runs : slice_get lib p.program ≡ Some g) where
-  -- a call that stands next in it stands next for the process
-  pub calls_next : (o : Option CallInstr) → IfSome o (StandsNext g.image p.cpu) → IfSome o (λ x. next_for lib p ≡ calls_at x.name (site_of x p.cpu))
-  calls_next None stands = tt
-  calls_next (Some x) stands = rw runs (stands.next ∙ ap (calls_at x.name) (sym stands.at_site))
+  -- a call that stands at the counter stands next for the process, if it has a site
+  pub calls_next : (x : CallInstr) → call_at g.image p.cpu.counter ≡ Some x → next_for lib p ≡ calls_at x.name (site_of x p.cpu)
+  calls_next x there = rw runs (comes g.image p.cpu x there)
+
+  -- and where none does, none stands next
+  pub no_call_next : call_at g.image p.cpu.counter ≡ None → call_in (next_for lib p) ≡ None
+  no_call_next none = rw runs (no_call g.image p.cpu none)
+
+  pub named_next : (x : CallInstr) → StandsNext g.image p.cpu x → Some x.name ≡ call_in (next_for lib p)
+  named_next x stands = rw runs (ap call_in (sym stands.next))
 
   -- nor is its Cpu stuck in the program, if the process isn't
   pub goes_in : next_for lib p ≢ IsStuck → next_at g.image p.cpu ≢ IsStuck
   goes_in goes stuck = goes (rw runs stuck)
 
-  pub no_call_next : {A : Type 0} (o : Option A) → IfNone o (call_in (next_at g.image p.cpu) ≡ None) → IfNone o (call_in (next_for lib p) ≡ None)
-  no_call_next None none = rw runs none
-  no_call_next (Some x) none = tt
-
   pub moves_at : {A : Type 0} (o : Option A) (c : Cpu) → OnSome o (next_at g.image p.cpu ≡ Moves c) → OnSome o (next_for lib p ≡ Moves c)
   moves_at None c moves = tt
   moves_at (Some x) c moves = rw runs moves
 
-  pub stuck_at : {A : Type 0} (o : Option A) → IfNone o (IsStuckOrCalls (next_at g.image p.cpu)) → IfNone o (IsStuckOrCalls (next_for lib p))
-  stuck_at None stuck = rw runs stuck
-  stuck_at (Some x) stuck = tt
+  pub stuck_at : {A : Type 0} (o : Option A) → call_in (next_for lib p) ≡ None → IfNone o (IsStuckOrCalls (next_at g.image p.cpu))
+      → IfNone o (next_for lib p ≡ IsStuck)
+  stuck_at None none stuck = rw runs (stuck (rw runs at none))
+  stuck_at (Some x) none stuck = tt
 
--- what is read of a call that stands next
-pub has_site : (i : Image) (c : Cpu) (o : Option CallInstr) → IfSome o (StandsNext i c) → IfSome o (λ x. IsSome (site_of x c))
-has_site i c None stands = tt
-has_site i c (Some x) stands = rw stands.at_site refl
+-- the call stands next for the process, if it has a site
+module _ (lib : Library) (p : ProcessValue) (x : CallInstr) (next : next_for lib p ≡ calls_at x.name (site_of x p.cpu)) where
+  pub none_without_site : has_its_memory (call_row x.name).ending x p.cpu ≡ false → call_in (next_for lib p) ≡ None
+  none_without_site none = ap call_in next ∙ by (site_of x p.cpu) (has_site x p.cpu ∙ none)
+    where
+      by : (s : Option Site) → is_some s ≡ false → call_in (calls_at x.name s) ≡ None
+      by None h = refl
+      by (Some s) h = absurd (false≢true (sym h))
 
--- a call that has a site and stands next is told by its name
-pub named_next : (lib : Library) (p : ProcessValue) (x : CallInstr) → next_for lib p ≡ calls_at x.name (site_of x p.cpu) → IsSome (site_of x p.cpu)
-    → Some x.name ≡ call_in (next_for lib p)
-named_next lib p x next there = by (site_of x p.cpu) there ∙ ap call_in (sym next)
-  where
-    by : (s : Option Site) → IsSome s → Some x.name ≡ call_in (calls_at x.name s)
-    by None there = absurd (false≢true there)
-    by (Some s) there = refl
+  -- it has one where the process isn't stuck
+  pub sure_site : next_for lib p ≢ IsStuck → IsSome (site_of x p.cpu)
+  sure_site goes = by (site_of x p.cpu) next
+    where
+      by : (s : Option Site) → next_for lib p ≡ calls_at x.name s → IsSome s
+      by None is = absurd (goes is)
+      by (Some s) is = refl
+
+-- the process that was read at the place stands at the call
+module _ (lib : Library) (ps : List Process) (place : ℕ) (q : Process) (read : q ≡ get_or ps place q) (x : CallInstr) (next : CallsNext lib q x)
+    (p : Process) (at : slice_get ps place ≡ Some p) where
+  same : (q2 : Process) → q2 ≡ get_or ps place q2 → q2 ≡ p
+  same q2 read2 = read2 ∙ get_or_from_slice_get ps place p q2 at
+
+  pub none_at : (q2 : Process) → q2 ≡ get_or ps place q2 → has_its_memory (call_row x.name).ending x q2.cpu ≡ false → call_in (stands_next lib p) ≡ None
+  none_at q2 read2 none =
+      none_without_site lib (process_value p) x (subst (λ (r : Process). CallsNext lib r x) (same q read) next)
+      (subst (λ (r : Process). has_its_memory (call_row x.name).ending x r.cpu ≡ false) (same q2 read2) none)
+
+  pub site_at : (q2 : Process) → q2 ≡ get_or ps place q2 → has_its_memory (call_row x.name).ending x q2.cpu ≡ true → IsSome (site_of x p.cpu)
+  site_at q2 read2 has =
+      has_site x p.cpu ∙ subst (λ (r : Process). has_its_memory (call_row x.name).ending x r.cpu ≡ true) (same q2 read2) has
+
+  pub counter_at : q.cpu.counter < 4096 → p.cpu.counter < 2 ^ 32
+  counter_at few = let within : p.cpu.counter < 4096 = subst (λ (r : Process). r.cpu.counter < 4096) (same q read) few in omega (arith, within)
 
 -- a process that isn't there isn't ready
 pub absent_is_not_ready : (w : World) (pid : ℕ) → get w.processes pid ≡ None → IsTrue (is_process w is_ready pid) → ⊥

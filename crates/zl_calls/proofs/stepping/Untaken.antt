@@ -1,5 +1,5 @@
 -- A call in the midst of all processes that takes no handle out of a table: behind it no registered wait is to end.
-use Rattle.zl_calls.proofs.Common.{◌≡◌, ℕ, Bool, true, false, false≢true, not, List, [], ◌∷◌, map, refl, sym, ap, ◌∙◌, subst, Option, Some, is_some}
+use Rattle.zl_calls.proofs.Common.{◌≡◌, ℕ, Bool, true, false, false≢true, not, List, [], ◌∷◌, map, refl, sym, ap, ◌∙◌, subst, Option, Some, same_Some, is_some}
 use Rattle.zl_calls.proofs.Common.{Result, Ok, Err, IsTrue, and_from, and_parts, get, has_key, has_key-update, has_seen, slice_set, Library, Request, Site}
 use Rattle.zl_calls.proofs.Common.{site, wait_async, port_cancel, Entry, Status, CallName, Outcome, Handles, Objects, Does, Acts, Acted, action_of, with_new}
 use Rattle.zl_calls.proofs.Common.{WAIT, WRITE, process_entry, process_value, object_entry, world_value, has_handle, IsConsistent, EndsUnheld, is_left}
@@ -27,7 +27,8 @@ use Rattle.zl_calls.proofs.calls.Refused.{is_found}
 use Rattle.zl_calls.proofs.objects.SameButWaits.{watching_beside}
 use Rattle.zl_calls.proofs.policy.PolicedSteps.{same_pid as policed_pid}
 use Rattle.zl_calls.proofs.processes.Departed.{left_all}
-use Rattle.zl_calls.proofs.stepping.Performing.{AtTurn, here, itself}
+use Rattle.zl_calls.proofs.processes.Rooted.{AreRooted, HasObject, all_at, all_written, last_there, none_leave, sound_rooted, still_rooted}
+use Rattle.zl_calls.proofs.stepping.Performing.{AtTurn, here, itself, object_there, ready}
 use Rattle.zl_calls.proofs.waits.Staying.{AreLeft, KeepsHandles, KeepsObjects, KeepsValues, more_keep, more_objects, none_ends, one_entered, sound_left}
 use Rattle.zl_calls.proofs.waits.Staying.{written_keeps}
 use Rattle.zl_calls.proofs.waits.WaitsByCall.{Stays, request_stays, same_values, unchanged}
@@ -109,11 +110,18 @@ record AllStay (ps : List Process) (r : Objects) (all2 : Parts) : Type 0 where
   handles : KeepsHandles ps all2.processes
   objects : KeepsObjects r all2.objects
   waits : AreLeft ps r all2.objects.waits
+  rooted : AreRooted all2.objects all2.processes
 
 -- the caller is told
 told_keeps : (s : Site) (place : ℕ) (told : Told) (all all2 : Parts) → IsToldIn s place told all all2 → KeepsHandles all.processes all2.processes
 told_keeps s place told all all2 is =
     subst (KeepsHandles all.processes) (sym is.processes) (written_keeps all.processes place is.caller _ is.is_there refl (λ v at. at))
+
+told_rooted : (s : Site) (place : ℕ) (told : Told) (all all2 : Parts) → IsToldIn s place told all all2 → AreRooted all.objects all.processes
+    → AreRooted all2.objects all2.processes
+told_rooted s place told all all2 is rooted =
+    subst (λ (x : Objects). AreRooted x all2.processes) (sym is.objects) (subst (AreRooted all.objects) (sym is.processes)
+    (all_written (HasObject all.objects) all.processes place _ (all_at (HasObject all.objects) all.processes rooted place is.caller is.is_there) rooted))
 
 -- the process p stands at the place, under the pid, and is at the call
 module _ {ps : List Process} {r : Objects} {blocked : List ℕ} {pid place : ℕ} {p : Process} (turn : AtTurn ps r blocked pid place p) (lib : Library)
@@ -121,12 +129,25 @@ module _ {ps : List Process} {r : Objects} {blocked : List ℕ} {pid place : ℕ
   before : AreLeft ps r r.waits
   before = sound_left ps r blocked turn.sound
 
+  rooted_before : AreRooted r ps
+  rooted_before = sound_rooted ps r blocked turn.consistent.processes_in_order turn.sound
+
+  own : IsTrue (has_key r.objects p.pid)
+  own = object_there ps r blocked turn.sound p.pid (rw (itself turn).there (rw (ready turn) refl))
+
+  -- one process is written, whose koid stays
+  written_rooted : (p2 : Process) (r2 : Objects) → p2.pid ≡ p.pid → KeepsObjects r r2 → AreRooted r2 (slice_set ps place p2)
+  written_rooted p2 r2 same stay =
+      all_written (HasObject r2) ps place p2 (λ created. subst (λ k. IsTrue (has_key r2.objects k)) (sym same) (stay p.pid own))
+      (still_rooted r r2 stay ps rooted_before)
+
   alone_stay : (p2 : Process) → IsAlone (parts ps r blocked) place p2 all2 → p2.pid ≡ p.pid → Spares ps p p2 r all2.objects → AllStay ps r all2
   alone_stay p2 alone same spares = record {
     handles = subst (KeepsHandles ps) (sym alone.processes)
         (written_keeps ps place p p2 (here ps pid place p turn.found turn.read) same spares.values);
     objects = spares.objects;
     waits = spares.waits;
+    rooted = subst (AreRooted all2.objects) (sym alone.processes) (written_rooted p2 all2.objects same spares.objects);
   }
 
   -- a policy denies it
@@ -143,9 +164,14 @@ module _ {ps : List Process} {r : Objects} {blocked : List ℕ} {pid place : ℕ
     handles = subst (λ (all : Parts). KeepsHandles all.processes all2.processes) does.refused (told_keeps s place _ between all2 is_told);
     objects = λ k at. ap (λ (x : Objects). has_key x.objects k) (is_told.objects ∙ ap (λ (all : Parts). all.objects) does.refused) ∙ at;
     waits = subst (λ (x : Objects). AreLeft ps r x.waits) (sym (is_told.objects ∙ ap (λ (all : Parts). all.objects) does.refused)) before;
+    rooted = told_rooted s place _ between all2 is_told
+        (subst (λ (all : Parts). AreRooted all.objects all.processes) (sym does.refused) rooted_before);
   }
   created s job program (Ok made) between does is_told =
       let done : CreatesProcess lib (parts ps r blocked) place job program made between = does.ok in
+      let same : done.after.pid ≡ p.pid =
+      ap (λ (q : Process). q.pid) (done.is_caller.same) ∙ ap (λ (q : Process). q.pid)
+      (same_Some done.caller p (sym done.is_caller.is_there ∙ here ps pid place p turn.found turn.read)) in
       let is : all2.objects ≡ with_new r _ 1 = is_told.objects ∙ done.makes.objects in
       record {
         handles = λ k v has. told_keeps s place _ between all2 is_told k v (subst (KeepsHandles ps) (sym done.processes)
@@ -154,6 +180,12 @@ module _ {ps : List Process} {r : Objects} {blocked : List ℕ} {pid place : ℕ
             (one_entered done.caller.table _ made done.after.table done.makes.inserts) j w at)) k v has);
         objects = λ k at. ap (λ (x : Objects). has_key x.objects k) is ∙ more_objects r _ 1 k at;
         waits = subst (λ (x : Objects). AreLeft ps r x.waits) (sym is) before;
+        rooted = told_rooted s place _ between all2 is_told (subst (AreRooted between.objects) (sym done.processes)
+            (All-append (HasObject between.objects) (slice_set ps place done.after) (done.new ∷ [])
+            (written_rooted done.after between.objects same (λ k at. ap (λ (x : Objects). has_key x.objects k) done.makes.objects ∙
+            more_objects r _ 1 k at))
+            (All-cons (HasObject between.objects) done.new [] (λ created. subst (λ (x : Objects). IsTrue (has_key x.objects done.new.pid))
+            (sym done.makes.objects) (rw done.pid (last_there r.objects r.next_koid _))) (All-nil (HasObject between.objects)))));
       }
 
   -- ---- any call
@@ -173,12 +205,22 @@ module _ {ps : List Process} {r : Objects} {blocked : List ℕ} {pid place : ℕ
       alone_stay p2 alone (same_pid p p2 r all2.objects o (Some s) acted)
       (acted_spares ps p p2 r all2.objects turn.consistent (itself turn).there before o s keeps acted)
 
+  stay_by_call : (name : CallName) → CalledAmong lib place p (parts ps r blocked) name o all2 → IsTrue (takes_no_handle (item.Call pid name o))
+      → AllStay ps r all2
+  stay_by_call name called none =
+      let both = and_parts (keeps_handles name) (not (is_end o)) none in
+      by_acts called.site (ap keeps_handles (asks_again called.call p.cpu called.site called.at_site ∙ sym called.named) ∙ both.0)
+      (not-true (is_end o) both.1) called.acts
+
+  -- no process that wasn't started is gone behind it
+  pub none_departs : (name : CallName) → CalledAmong lib place p (parts ps r blocked) name o all2 → IsTrue (takes_no_handle (item.Call pid name o))
+      → left_all all2.processes all2.objects ≡ all2.processes
+  none_departs name called none = none_leave all2.objects all2.processes (stay_by_call name called none).rooted
+
   pub called_spares : (name : CallName) → CalledAmong lib place p (parts ps r blocked) name o all2 → IsTrue (takes_no_handle (item.Call pid name o))
       → (after : List Process) → after ≡ left_all all2.processes all2.objects → IsConsistent after all2.objects → EndsUnheld after all2.objects all2.objects
   called_spares name called none after is consistent =
-      let both = and_parts (keeps_handles name) (not (is_end o)) none in
-      let stay : AllStay ps r all2 = by_acts called.site
-      (ap keeps_handles (asks_again called.call p.cpu called.site called.at_site ∙ sym called.named) ∙ both.0) (not-true (is_end o) both.1) called.acts in
+      let stay : AllStay ps r all2 = stay_by_call name called none in
       subst (λ (qs : List Process). EndsUnheld qs all2.objects all2.objects) (sym is)
       (none_ends ps all2.processes r all2.objects stay.handles stay.objects stay.waits
       (subst (λ (qs : List Process). IsConsistent qs all2.objects) is consistent))

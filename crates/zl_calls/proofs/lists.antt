@@ -3,5 +3,4 @@ pub mod Mapping
 pub mod FilterInPlace
 pub mod FilterByFirst
 pub mod Positions
-pub mod Searching
 pub mod Updates

@@ -13,7 +13,6 @@ ghost use Rattle.zl_calls.specs.Untaken.{takes_no_handle as tells_none_taken};
 
 use crate::processes::Processes;
 use crate::stepping::takes_no_handle;
-use bitflags::Flags;
 use zl_code::TraceItem;
 use zl_objects::{Objects, Wait};
 use zl_rights::{HValue, Koid, Pid};
@@ -88,13 +87,9 @@ pub fn fire_waits(processes: &Processes, objects: &mut Objects)
     ensures { FiresWaits processes.now.list.items objects.old objects.new }
 {
     let mut place = 0;
-    while let Some(wait) = objects.wait_at(place) {
-        let active = objects.signals_of(wait.object);
-        if active.intersects(wait.mask) {
-            objects.fire(wait.object, active);
-        } else {
-            place += 1;
-        }
+    while let Some(due) = objects.earliest_due(place) {
+        objects.fire(due.koid, due.active);
+        place = due.place;
     }
 }
 

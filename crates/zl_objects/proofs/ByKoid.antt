@@ -1,14 +1,10 @@
 -- What std's map from koids holds after a read or a write, in the words of the definitions.
-use Rattle.zl_rights.proofs.Common.{◌≡◌, ◌<◌, ◌==◌, ℕ, Bool, true, false, ◌||◌, [], ◌∷◌, ◌++◌, refl, sym, ap, ◌∙◌, cond, Some, None, arith, eq-eqb, IsTrue}
-use Rattle.zl_rights.proofs.Common.{is_some, list_any, nat_cmp, nat_tests, Map, get, put, update, without, has_key}
+use Rattle.zl_rights.proofs.Common.{◌≡◌, ◌<◌, ◌==◌, ℕ, true, false, [], ◌∷◌, ◌++◌, refl, sym, ap, ◌∙◌, cond, Some, None, arith, eq-eqb, IsTrue}
+use Rattle.zl_rights.proofs.Common.{is_some, nat_cmp, nat_tests, Map, get, put, update, without, has_key}
 use Rattle.std.specs.Cmp.{unsigned_tied}
-use Rattle.std.specs.Map.{lookup, set_value, remove_entry, values_of}
+use Rattle.std.specs.Map.{lookup, set_value, remove_entry}
 use Rattle.std.specs.BTreeMap.{is_at, insert_entry}
 use Rattle.zl_table.proofs.MapEdits.{update_missing}
-use Rattle.zl_objects.specs.declared.object.Object.{Object}
-use Rattle.zl_objects.specs.declared.object.Body.{Body}
-use Rattle.zl_objects.specs.Jobs.{has_job_below, has_process_below, is_job_below, is_process_below}
-use Rattle.zl_objects.specs.Objects.{is_child, has_living_child}
 
 -- a key above all others goes to the end
 pub put_last : {X : Type 0} (m : Map X) (k : ℕ) (v : X) → ((j : ℕ) → IsTrue (has_key m j) → j < k) → put m k v ≡ m ++ (k, v) ∷ []
@@ -77,25 +73,6 @@ module _ {X : Type 0} where
       same : (es : Map X) → Some v ≡ lookup (is_at (nat_cmp k)) es → set_value (is_at (nat_cmp k)) es v ≡ es
       same [] there = refl
       same (e ∷ es) there = grind (arith, nat_tests, same es)
-
--- ---- children
-
--- a test of bodies over the values
-any_body : (test : Body → Bool) (m : Map Object) → list_any (λ o. test o.body) (values_of m) ≡ list_any (λ e. test e.1.body) m
-any_body test [] = refl
-any_body test (e ∷ m) = ap (λ b. test e.1.body || b) (any_body test m)
-
-pub living_child : (m : Map Object) (k : ℕ) → list_any (λ o. is_child k o.body) (values_of m) ≡ has_living_child m k
-unfolding has_living_child
-living_child m k = any_body (is_child k) m
-
-pub job_child : (m : Map Object) (k : ℕ) → list_any (λ o. is_job_below k o.body) (values_of m) ≡ has_job_below m k
-unfolding has_job_below
-job_child m k = any_body (is_job_below k) m
-
-pub process_child : (m : Map Object) (k : ℕ) → list_any (λ o. is_process_below k o.body) (values_of m) ≡ has_process_below m k
-unfolding has_process_below
-process_child m k = any_body (is_process_below k) m
 
 -- what the functions over maps cite
 pub ruleset by_koid = (looked_up, written, unwritten, written_back, entry_removed, entry_inserted)

@@ -1,7 +1,7 @@
 -- What comes on at the objects when one of them is written, and that nothing is due at an object that isn't marked.
-use Rattle.zl_rights.proofs.Common.{◌≡◌, ◌<◌, ◌≤◌, ◌==◌, ◌||◌, ◌⊎◌, ℕ, Bool, true, false, not, List, [], ◌∷◌, refl, sym, ap, ◌∙◌, Option, Some, None, inl, inr}
-use Rattle.zl_rights.proofs.Common.{IsTrue, arith, eq-eqb, eqb-true, list_any, bit_and, cases_Bool, false≢true, or_left, or_right, if◌then◌else◌, is_empty}
-use Rattle.zl_rights.proofs.Common.{Map, get, update, All}
+use Rattle.zl_rights.proofs.Common.{◌≡◌, ◌≤◌, ◌==◌, ◌||◌, ◌⊎◌, ℕ, Bool, true, false, not, List, [], ◌∷◌, refl, sym, ap, ◌∙◌, Option, Some, None, inl, inr}
+use Rattle.zl_rights.proofs.Common.{IsTrue, arith, eqb-true, list_any, bit_and, cases_Bool, false≢true, is_empty}
+use Rattle.zl_rights.proofs.Common.{Map, get, update}
 use Rattle.std.specs.Prelude.{bit_or, min, max}
 use Rattle.std.specs.Int.{bit_at}
 use Rattle.std.proofs.lemmas.Nat.{and_le_l, le_or_l, le_or_r}

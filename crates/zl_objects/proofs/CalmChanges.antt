@@ -1,7 +1,7 @@
 -- Nothing is due at an object that isn't marked, after each change of the objects.
-use Rattle.zl_rights.proofs.Common.{◌≡◌, ◌<◌, ◌≤◌, ◌+◌, ◌==◌, ◌||◌, ◌&&◌, ◌⊎◌, ◌++◌, ℕ, Bool, true, false, not, List, [], ◌∷◌, refl, sym, ap, ◌∙◌, Option, Some}
-use Rattle.zl_rights.proofs.Common.{None, inl, inr, IsTrue, arith, eq-eqb, drop, filter, list_any, cond, nat_lt, nat_cmp, cases_Bool, false≢true, or_right}
-use Rattle.zl_rights.proofs.Common.{if◌then◌else◌, is_empty, none-some, same_Some, option_map, Map, get, put, update, each, has_key, All, is_some}
+use Rattle.zl_rights.proofs.Common.{◌≡◌, ◌+◌, ◌==◌, ◌||◌, ◌&&◌, ℕ, Bool, true, false, not, List, [], ◌∷◌, refl, sym, ap, ◌∙◌, Option, Some}
+use Rattle.zl_rights.proofs.Common.{None, inl, IsTrue, arith, eq-eqb, drop, filter, list_any, nat_lt, nat_cmp, false≢true}
+use Rattle.zl_rights.proofs.Common.{if◌then◌else◌, is_empty, none-some, same_Some, option_map, Map, get, update, each, has_key}
 use Rattle.std.specs.Prelude.{◌^◌, bit_or, Result, Ok, Err, OnOk, OnErr}
 use Rattle.std.specs.Map.{lookup, set_value}
 use Rattle.std.specs.BTreeMap.{is_at}
@@ -30,7 +30,7 @@ use Rattle.zl_objects.specs.Signals.{implied, signals_in}
 use Rattle.zl_objects.specs.Waits.{unwatched, watched}
 use Rattle.zl_objects.proofs.Bodies.{Changed, changed}
 use Rattle.zl_objects.proofs.ByKoid.{looked_up, written, written_back}
-use Rattle.zl_objects.proofs.Calm.{Follows, IsFewer, Keeps, Stays, calm_followed, fewer_both, fewer_if, fewer_same, fewer_unmarked, stays_fewer}
+use Rattle.zl_objects.proofs.Calm.{IsFewer, Keeps, Stays, calm_followed, fewer_both, fewer_if, fewer_same, fewer_unmarked, stays_fewer}
 use Rattle.zl_objects.proofs.Calm.{stays_unwatched}
 use Rattle.zl_objects.proofs.Calm.{updated_calm}
 use Rattle.zl_objects.proofs.Places.{first_out}
@@ -315,12 +315,15 @@ watched_after f m k b o at is = is ∙ rw (get-update m k f k, eq k, at) refl
     eq : (j : ℕ) → (j == j) ≡ true
     eq j = eq-eqb j j refl
 
+pub keeps_policy : (c : Condition) (a : Action) → Keeps (with_policy_set c a)
+keeps_policy c a = keeps_bodies (with_policy_body c a) (policy_quiet c a).jobs (policy_quiet c a).processes
+
 -- a policy was set, or that was refused
 pub policy_calm : {A B : Type 0} {marked : ℕ → Bool} {next : ℕ} {sleepers : List Sleeper} (c : Condition) (a : Action) (m n : Map Object) (k : ℕ) (v w : Object)
     (r : Result A B) → OnOk r (w ≡ with_policy_set c a v) → OnErr r (w ≡ v) → Some v ≡ lookup (is_at (nat_cmp k)) m → n ≡ set_value (is_at (nat_cmp k)) m w
     → IsCalm marked m next sleepers → IsCalm marked n next sleepers
 policy_calm c a m n k v w (Ok x) is other there set calm =
-    quiet_calm (with_policy_set c a) (keeps_bodies (with_policy_body c a) (policy_quiet c a).jobs (policy_quiet c a).processes)
+    quiet_calm (with_policy_set c a) (keeps_policy c a)
     (bodies_stay (with_policy_body c a) (policy_quiet c a)) m n k (written m n k (with_policy_set c a) v w there is set) calm
 policy_calm c a m n k v w (Err e) is other there set calm = rw (written_back m n k v w there other set) calm
 

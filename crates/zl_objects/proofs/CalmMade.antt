@@ -3,36 +3,32 @@ use Rattle.zl_rights.proofs.Common.{◌≡◌, ◌<◌, ◌≤◌, ◌+◌, ◌=
 use Rattle.zl_rights.proofs.Common.{None, inl, inr, IsTrue, arith, eq-eqb, eqb-true, nat_tests, filter, list_any, nat_cmp, cases_Bool, false≢true, or_left}
 use Rattle.zl_rights.proofs.Common.{or_right}
 use Rattle.zl_rights.proofs.Common.{if◌then◌else◌, none-some, same_Some, IfSome, IfNone, Map, get, put, update, has_key, All, is_some, map}
-use Rattle.std.specs.Prelude.{bit_or}
 use Rattle.std.specs.List.{Contains}
 use Rattle.std.specs.Map.{lookup}
 use Rattle.std.specs.BTreeMap.{BTreeMap, insert_entry, is_at, IsUnchanged, Updates}
-use Rattle.std.proofs.lemmas.Bool.{or_cases}
 use Rattle.std.proofs.lemmas.List.Elements.{Contains-append_left, Contains-append_right, Contains-push}
 use Rattle.std.proofs.lemmas.List.Elements.{All-cons, All-contains, All-filter, All-nil, All-push, All-weaker, filter_passes}
-use Rattle.zl_rights.specs.Numbers.{NO_JOBS, NO_PROCESSES, PEER_CLOSED, READABLE, TERMINATED, WRITABLE}
-use Rattle.zl_rights.specs.Signals.{is_empty, signal_if}
+use Rattle.zl_rights.specs.Numbers.{NO_JOBS, NO_PROCESSES, TERMINATED}
+use Rattle.zl_rights.specs.Signals.{signal_if}
 use Rattle.zl_rights.specs.World.{Wait}
 use Rattle.zl_rights.proofs.MapLaws.{get-put}
-use Rattle.zl_signals.specs.declared.watch.Watch.{Watch}
-use Rattle.zl_signals.specs.Waits.{holds, wait_at}
-use Rattle.zl_objects.specs.declared.awaited.Awaited.{Awaited}
+use Rattle.zl_signals.specs.Waits.{wait_at}
 use Rattle.zl_objects.specs.declared.awaited.Sleeper.{Sleeper}
 use Rattle.zl_objects.specs.declared.object.Body.{Body}
 use Rattle.zl_objects.specs.declared.object.Body.TheVariants as body
 use Rattle.zl_objects.specs.declared.object.Object.{Object}
 use Rattle.zl_objects.specs.declared.object.Pair.{Pair}
 use Rattle.zl_objects.specs.Awaited.{koid_of}
-use Rattle.zl_objects.specs.Calm.{IsAtRest, IsCalm, IsPut, NoneHolds, has_packet, holds_now, is_due, is_watched, slept}
+use Rattle.zl_objects.specs.Calm.{IsAtRest, IsCalm, IsPut, NoneHolds, holds_now, is_due, is_watched, slept}
 use Rattle.zl_objects.specs.Dying.{HasPeer}
 use Rattle.zl_objects.specs.Jobs.{has_job_below, has_process_below, is_job_below, is_process_below}
-use Rattle.zl_objects.specs.Listed.{AreListed}
 use Rattle.zl_objects.specs.Objects.{peer_of}
 use Rattle.zl_objects.specs.Signals.{implied, signals_at, signals_in}
 use Rattle.zl_objects.specs.Waits.{waits_in}
+use Rattle.zl_objects.proofs.Listed.{AreSeen}
 use Rattle.zl_objects.proofs.Bodies.{Changed, changed}
 use Rattle.zl_objects.proofs.ByKoid.{inserted, looked_up, put_last}
-use Rattle.zl_objects.proofs.Calm.{Follows, IsFewer, IsNew, calm_followed, fewer_both, fewer_if, none_given, stays_fewer, stays_unwatched}
+use Rattle.zl_objects.proofs.Calm.{Follows, IsFewer, IsNew, Keeps, calm_followed, fewer_both, fewer_if, none_given, stays_fewer, stays_unwatched}
 use Rattle.zl_objects.proofs.CalmChanges.{keeps_body, quiet_body, quiet_calm, remarked_calm, unless_wanted}
 use Rattle.zl_objects.proofs.Whole.{below_first, end_of}
 
@@ -142,10 +138,13 @@ popped_calm {marked} {marked2} {sleepers} all m n next koid r newest there unsle
 
 -- ---- who may be blocked
 
+pub keeps_slept : Keeps slept
+keeps_slept = keeps_body slept (λ o h. refl) (λ o. refl)
+
 -- a process may be blocked at the object
 pub slept_calm : {marked : ℕ → Bool} {next : ℕ} {sleepers : List Sleeper} (m n : Map Object) (k : ℕ) → n ≡ update m k slept → IsCalm marked m next sleepers
     → IsCalm marked n next sleepers
-slept_calm = quiet_calm slept (keeps_body slept (λ o h. refl) (λ o. refl)) (quiet_body slept (λ o. refl) (λ o. refl) (λ o test h. h))
+slept_calm = quiet_calm slept keeps_slept (quiet_body slept (λ o. refl) (λ o. refl) (λ o test h. h))
 
 -- a process is listed, whose object is marked if it is due
 pub put_calm : {marked marked2 : ℕ → Bool} {next : ℕ} → ((j : ℕ) → IsTrue (marked j) → IsTrue (marked2 j)) → (m n : Map Object) (s : Sleeper)
@@ -253,7 +252,7 @@ any_there test (x ∷ ws) h = by_test (test x) refl h (λ rest. any_there test w
           ],
         )
 
-module _ (m : Map Object) (waits : List Wait) (listed : AreListed waits m) where
+module _ (m : Map Object) (waits : List Wait) (listed : AreSeen waits m) where
   -- none in the list holds, where none at an object does
   pub none_listed_holds : ((k : ℕ) (o : Object) → get m k ≡ Some o → NoneHolds (signals_at m k) o) → list_any (holds_now m) waits ≡ false
   none_listed_holds none = by_test (list_any (holds_now m) waits) refl
@@ -278,7 +277,7 @@ module _ (m : Map Object) (waits : List Wait) (listed : AreListed waits m) where
 -- ---- all was looked at
 
 -- no wait holds, and of those who may be blocked those were dropped whose objects are marked and who are due
-pub calmed : {marked marked2 : ℕ → Bool} {next : ℕ} (m : Map Object) (waits : List Wait) (list list2 : List Sleeper) → AreListed waits m
+pub calmed : {marked marked2 : ℕ → Bool} {next : ℕ} (m : Map Object) (waits : List Wait) (list list2 : List Sleeper) → AreSeen waits m
     → list_any (holds_now m) waits ≡ false
     → list2 ≡ filter (λ s. not (marked (koid_of s.awaited) && is_due m s.awaited)) list → IsCalm marked m next list → IsCalm marked2 m next list2
 calmed {marked} {marked2} {next} m waits list list2 listed none is calm = rw is (record {

@@ -1,6 +1,6 @@
 -- The invariant of the objects and of the list of all waits, after each change.
 use Rattle.zl_rights.proofs.Common.{◌≡◌, ◌<◌, ◌≤◌, ◌+◌, ◌==◌, ◌&&◌, ℕ, Bool, false, List, [], ◌∷◌, ◌++◌, length, refl, sym, arith, ap, ◌∙◌, Option, Some}
-use Rattle.zl_rights.proofs.Common.{None, IsTrue}
+use Rattle.zl_rights.proofs.Common.{None, IsTrue, map, not, option_map}
 use Rattle.zl_rights.proofs.Common.{filter, find, nat_cmp, Map, get, update, has_key}
 use Rattle.std.specs.Prelude.{◌-◌, ◌↔◌, IfNone, IfSome, IsSome, Result, OnOk, OnErr}
 use Rattle.std.specs.Map.{lookup, set_value}
@@ -12,16 +12,19 @@ use Rattle.zl_signals.specs.Waits.{SignalState, wait_at, without_first}
 use Rattle.zl_port.specs.Packets.{Port, with_place}
 use Rattle.zl_objects.specs.declared.object.Pair.{Pair}
 use Rattle.zl_objects.specs.declared.object.Object.{Object}
+use Rattle.zl_objects.specs.declared.wait.Listed.{Listed}
 use Rattle.zl_objects.specs.declared.wait.Wait.{Wait}
 use Rattle.zl_objects.specs.Objects.{held_once_less, held_once_more, is_end_at, is_end_body, raised_changed, sent, received, stopped}
 use Rattle.zl_objects.specs.Calm.{slept}
 use Rattle.zl_objects.specs.Dying.{IsKept, Thins}
-use Rattle.zl_objects.specs.Listed.{is_there, wait_value, watch_of}
+use Rattle.zl_objects.specs.Listed.{AreListed, entry_of, is_entry_there, listed_at, listed_value, watch_of}
 use Rattle.zl_objects.specs.Ports.{at_port, is_port_at, reserved_in, reserved_of}
 use Rattle.zl_objects.specs.Release.{Cascades}
 use Rattle.zl_objects.specs.Waits.{HavePlaces, unwatched, waits_in, watched}
-use Rattle.zl_objects.proofs.Listed.{inserted_listed, left_listed, none_listed, popped_listed, unwatched_listed, updated_listed, updated_or_listed}
-use Rattle.zl_objects.proofs.Listed.{watched_listed}
+use Rattle.zl_objects.proofs.Listed.{found_listed, inserted_listed, left_listed, none_listed, popped_listed, unwatched_listed, updated_listed}
+use Rattle.zl_objects.proofs.Listed.{updated_or_listed, watched_listed}
+use Rattle.zl_objects.proofs.Lists.{first_map, none_first}
+use Rattle.zl_objects.proofs.Rising.{Rises, goes_by_order}
 use Rattle.zl_objects.proofs.Released.{waits_left, whole_left}
 use Rattle.zl_objects.proofs.Tasks.{killed_kept, started_kept}
 use Rattle.zl_objects.proofs.Whole.{below_first, changed_whole, pair_whole, end_of, gone_whole, inserted_whole, made_whole, less_whole, more_quiet, more_whole}
@@ -29,10 +32,10 @@ use Rattle.zl_objects.proofs.Whole.{none_out_whole, none_whole, popped_whole, po
 use Rattle.zl_objects.proofs.Whole.{sent_or_same_whole}
 use Rattle.zl_objects.proofs.Whole.{stopped_whole, watched_whole}
 
-pub none_kept : (m : Map Object) (next room : ℕ) (d : List ℕ) (waits : List WaitValue) → m ≡ [] → d ≡ [] → waits ≡ [] → IsKept None m next d room waits
+pub none_kept : (m : Map Object) (next room : ℕ) (d : List ℕ) (waits : List Listed) → m ≡ [] → d ≡ [] → waits ≡ [] → IsKept None m next d room waits
 none_kept m next room d waits none empty no_waits = record { whole = none_whole m next room d none empty; listed = none_listed waits m no_waits none }
 
-module _ {waits : List WaitValue} where
+module _ {waits : List Listed} where
   -- ---- one of the objects is written
 
   pub more_kept : (m n : Map Object) (next room k : ℕ) (d : List ℕ) → IsKept None m next d room waits → n ≡ update m k held_once_more
@@ -139,9 +142,9 @@ module _ {waits : List WaitValue} where
   -- ---- waits
 
   -- the wait is registered last of all, and a place is reserved for it
-  pub watched_kept : (order : ℕ) (x : Wait) (m n : Map Object) (next room : ℕ) (d : List ℕ) (waits2 : List WaitValue) → IsTrue (is_port_at m x.port)
+  pub watched_kept : (order : ℕ) (x : Wait) (m n : Map Object) (next room : ℕ) (d : List ℕ) (waits2 : List Listed) → IsTrue (is_port_at m x.port)
       → IsTrue (has_key m x.object) → IsKept None m next d room waits
-      → n ≡ update (update m x.port (at_port with_place)) x.object (watched (watch_of order x)) → waits2 ≡ waits ++ wait_value x ∷ []
+      → n ≡ update (update m x.port (at_port with_place)) x.object (watched (watch_of order x)) → waits2 ≡ waits ++ entry_of order x ∷ []
       → IsKept None n next d room waits2
   watched_kept order x m n next room d waits2 port there kept is more = rw more record {
     whole = watched_whole (watch_of order x) mid n next room x.object d still (made_whole (watch_of order x) m mid next room d port kept.whole refl) is;
@@ -154,28 +157,52 @@ module _ {waits : List WaitValue} where
       still : IsTrue (has_key mid x.object)
       still = has_key-update m x.port (at_port with_place) x.object ∙ there
 
-  -- the earliest wait at the object k that passes is taken out of the list and there
-  module _ (k : ℕ) (test : WaitValue → Bool) (m n : Map Object) (next room : ℕ) (d : List ℕ) (waits2 : List WaitValue) (kept : IsKept None m next d room waits)
-      (less : waits2 ≡ without_first (λ x. (x.object == k) && test x) waits) (out : n ≡ update m k (unwatched (λ x. test (wait_at k x)))) where
-    -- none was found
-    pub none_out_kept : find (λ x. test (wait_at k x)) (waits_in (get m k)) ≡ None → IsKept None n next d room waits2
-    none_out_kept none = record {
-      whole = none_out_whole (λ x. test (wait_at k x)) m n next room k d kept.whole out none;
-      listed = rw less (unwatched_listed k test waits m kept.listed n out);
-    }
+  -- the earliest wait at the object k that passes is taken out there, and of the list the one with its order
+  module _ (k : ℕ) (test : WaitValue → Bool) {m n : Map Object} {next room : ℕ} {d : List ℕ} (kept : IsKept None m next d room waits)
+      (out : n ≡ update m k (unwatched (λ x. test (wait_at k x)))) where
+    abbrev is_taken : WaitValue → Bool
+    is_taken x = (x.object == k) && test x
 
-    -- its place was given back, or holds its packet
-    pub gone_kept : (x : Watch) → find (λ x. test (wait_at k x)) (waits_in (get m k)) ≡ Some x → (g : Port → Port)
-        → ((p : Port) → (g p).reserved ≡ p.reserved - 1) → (n2 : Map Object) → n2 ≡ update n x.port (at_port g) → IsKept None n2 next d room waits2
-    gone_kept x found g fewer n2 is = record {
-      whole = gone_whole (λ x. test (wait_at k x)) m n next room k d kept.whole out x found g fewer n2 is;
-      listed = updated_listed (at_port g) (λ o. refl) waits2 n n2 x.port (rw less (unwatched_listed k test waits m kept.listed n out)) is;
-    }
+    both_out : AreListed (without_first (λ x. is_taken (listed_value x)) waits) n
+    both_out = unwatched_listed k (λ x. test (listed_value x)) waits m kept.listed n out
+
+    first_listed : find (λ x. is_taken (listed_value x)) waits ≡ option_map (listed_at k) (find (λ x. test (wait_at k x)) (waits_in (get m k)))
+    first_listed = found_listed k (λ x. test (listed_value x)) waits m kept.listed
+
+    module _ (none : find (λ x. test (wait_at k x)) (waits_in (get m k)) ≡ None) where
+      none_out : without_first (λ x. is_taken (listed_value x)) waits ≡ waits
+      none_out = none_first (λ x. is_taken (listed_value x)) waits (first_listed ∙ ap (option_map (listed_at k)) none)
+
+      pub none_out_kept : IsKept None n next d room waits
+      none_out_kept = record {
+        whole = none_out_whole (λ x. test (wait_at k x)) m n next room k d kept.whole out none;
+        listed = rw none_out at both_out;
+      }
+
+      pub none_out_seen : map listed_value waits ≡ without_first is_taken (map listed_value waits)
+      none_out_seen = sym (first_map listed_value is_taken waits ∙ ap (λ (xs : List Listed). map listed_value xs) none_out)
+
+    module _ (rising : Rises waits) {x : Watch} (found : find (λ x. test (wait_at k x)) (waits_in (get m k)) ≡ Some x) {waits2 : List Listed}
+        (less : waits2 ≡ filter (λ y. not (y.order == x.order)) waits) where
+      one_out : waits2 ≡ without_first (λ y. is_taken (listed_value y)) waits
+      one_out =
+          less ∙ goes_by_order (λ y. is_taken (listed_value y)) waits (listed_at k x) rising (first_listed ∙ ap (option_map (listed_at k)) found)
+
+      -- its place was given back, or holds its packet
+      pub gone_kept : (g : Port → Port) → ((p : Port) → (g p).reserved ≡ p.reserved - 1) → (n2 : Map Object) → n2 ≡ update n x.port (at_port g)
+          → IsKept None n2 next d room waits2
+      gone_kept g fewer n2 is = record {
+        whole = gone_whole (λ x. test (wait_at k x)) m n next room k d kept.whole out x found g fewer n2 is;
+        listed = updated_listed (at_port g) (λ o. refl) waits2 n n2 x.port (rw one_out both_out) is;
+      }
+
+      pub gone_seen : map listed_value waits2 ≡ without_first is_taken (map listed_value waits)
+      gone_seen = ap (λ (xs : List Listed). map listed_value xs) one_out ∙ sym (first_map listed_value is_taken waits)
 
   -- handles went, and with them waits of which the object or the port went
-  pub left_kept : (ks : List ℕ) (m m2 : Map Object) (next room room2 : ℕ) (d d2 : List ℕ) (waits2 : List WaitValue) → Cascades ks m m2 → HavePlaces m2
+  pub left_kept : (ks : List ℕ) (m m2 : Map Object) (next room room2 : ℕ) (d d2 : List ℕ) (waits2 : List Listed) → Cascades ks m m2 → HavePlaces m2
       → ((k : ℕ) (o : Object) → get m2 k ≡ Some o → Thins m m2 k o) → IsKept None m next d room waits → d2 ≡ [] → room2 ≡ room
-      → waits2 ≡ filter (is_there m2) waits → IsKept None m2 next d2 room2 waits2
+      → waits2 ≡ filter (is_entry_there m2) waits → IsKept None m2 next d2 room2 waits2
   left_kept ks m m2 next room room2 d d2 waits2 cascades places thins kept none same is = record {
     whole = whole_left ks m m2 next room room2 d d2 cascades places kept.whole none same;
     listed = rw is (left_listed waits m m2 (waits_left ks m m2 cascades places thins) kept.listed);

@@ -6,8 +6,10 @@ pub mod CalmChanges
 pub mod CalmMade
 pub mod ByKoid
 pub mod Climbing
+pub mod Earliest
 pub mod Ending
 pub mod Found
+pub mod Index
 pub mod Kept
 pub mod Law
 pub mod Listed
@@ -17,6 +19,8 @@ pub mod Places
 pub mod Refusable
 pub mod Released
 pub mod Removing
+pub mod Rising
+pub mod Searching
 pub mod Showing
 pub mod Sums
 pub mod Sweeps

@@ -1,6 +1,8 @@
 -- Lists of which some elements are left, and lists of which the first element that passes was taken out.
 use Rattle.zl_rights.proofs.Common.{◌≡◌, ◌≤◌, Bool, true, false, ◌&&◌, ◌⊎◌, List, [], ◌∷◌, length, refl, sym, ap, ◌∙◌, cond, Some, inl, inr, IsTrue, arith, map}
+use Rattle.zl_rights.proofs.Common.{◌||◌, None, none-some, same_Some, list_any, take, zero, suc, slice_get}
 use Rattle.zl_rights.proofs.Common.{option_map, filter, find, drop, ℕ, ◌==◌, eq-eqb, cases_Bool, false≢true}
+use Rattle.std.proofs.lemmas.Bool.{or_parts}
 use Rattle.zl_signals.specs.Waits.{without_first}
 use Rattle.zl_objects.proofs.Places.{first_out}
 
@@ -29,6 +31,46 @@ module _ {X Y : Type 0} (f : X → Y) (q : Y → Bool) where
           → cond b (map f xs) (f x ∷ without_first q (map f xs)) ≡ map f (cond b xs (x ∷ without_first (λ y. q (f y)) xs))
       by_test true rest = refl
       by_test false rest = ap (λ (ys : List Y). f x ∷ ys) rest
+
+-- none passes, and none goes
+pub none_first : {X : Type 0} (p : X → Bool) (xs : List X) → find p xs ≡ None → without_first p xs ≡ xs
+none_first p [] none = refl
+none_first {X} p (x ∷ xs) none = first_out p x xs ∙ by_test (p x) none (λ rest. none_first p xs rest)
+  where
+    by_test : (b : Bool) → cond b (Some x) (find p xs) ≡ None → (find p xs ≡ None → without_first p xs ≡ xs) → cond b xs (x ∷ without_first p xs) ≡ x ∷ xs
+    by_test true h later = absurd (none-some x (sym h))
+    by_test false h later = ap (λ (ys : List X). x ∷ ys) (later h)
+
+pub any_taken : {X Y : Type 0} (test : Y → Bool) (f : X → Y) (n : ℕ) (xs : List X)
+    → list_any test (take n (map f xs)) ≡ list_any (λ x. test (f x)) (take n xs)
+any_taken test f zero xs = refl
+any_taken test f (suc n) [] = refl
+any_taken test f (suc n) (x ∷ xs) = ap (λ b. test (f x) || b) (any_taken test f n xs)
+
+-- ---- a walk to the first that passes
+
+module _ {X : Type 0} (test : X → Bool) where
+  pub found_at : (xs : List X) (i : ℕ) (x : X) → slice_get xs i ≡ Some x → list_any test (take i xs) ≡ false → test x ≡ true → find test xs ≡ Some x
+  found_at [] i x at none passes = absurd (none-some x at)
+  found_at (y ∷ xs) zero x at none passes = rw (ap test (same_Some y x at) ∙ passes) at
+  found_at (y ∷ xs) (suc i) x at none passes =
+      let both = or_parts (test y) (list_any test (take i xs)) none in
+      rw both.0 (found_at xs i x at both.1 passes)
+
+  pub none_next : (xs : List X) (i : ℕ) (x : X) → slice_get xs i ≡ Some x → list_any test (take i xs) ≡ false → test x ≡ false
+      → list_any test (take (suc i) xs) ≡ false
+  none_next [] i x at none fails = absurd (none-some x at)
+  none_next (y ∷ xs) zero x at none fails = rw (ap test (same_Some y x at) ∙ fails) refl
+  none_next (y ∷ xs) (suc i) x at none fails =
+      let both = or_parts (test y) (list_any test (take i xs)) none in
+      rw both.0 (none_next xs i x at both.1 fails)
+
+  pub none_found : (xs : List X) (i : ℕ) → slice_get xs i ≡ None → list_any test (take i xs) ≡ false → find test xs ≡ None
+  none_found [] i past none = refl
+  none_found (x ∷ xs) zero past none = absurd (none-some x (sym past))
+  none_found (x ∷ xs) (suc i) past none =
+      let both = or_parts (test x) (list_any test (take i xs)) none in
+      rw both.0 (none_found xs i past both.1)
 
 -- ---- one test and then another
 

@@ -135,11 +135,11 @@ whole_left ks m m2 next room room2 d d2 cascades places whole none same = record
 pub cascades_of : (ks : List ℕ) (m m2 : Map Object) (d d2 : List ℕ) → LetsGo ks m d m2 d2 → Cascades ks m m2
 cascades_of ks m m2 d d2 went = rw (append-nil ks) at (went.leads [] m2 (none_left m2))
 
-pub released : {sleepers : List Sleeper} {crowded : Bool} (ks loose : List ℕ) (m m2 : Map Object) (next made : ℕ) (waits waits2 : List Wait) (d d2 : List ℕ)
-    → LetsGo ks m d m2 d2 → d ≡ loose → d2 ≡ []
+pub released : {sleepers : List Sleeper} {crowded : Bool} (ks loose : List ℕ) (m m2 : Map Object) (next made made2 : ℕ) (waits waits2 : List Wait)
+    (d d2 : List ℕ) → LetsGo ks m d m2 d2 → d ≡ loose → d2 ≡ []
     → Releases ks loose (record { objects = m; next_koid = next; waits = waits; waits_made = made; sleepers = sleepers; crowded = crowded })
-    (record { objects = m2; next_koid = next; waits = waits2; waits_made = made; sleepers = sleepers; crowded = crowded })
-released {sleepers} {crowded} ks loose m m2 next made waits waits2 d d2 went noted none = record {
+    (record { objects = m2; next_koid = next; waits = waits2; waits_made = made2; sleepers = sleepers; crowded = crowded })
+released {sleepers} {crowded} ks loose m m2 next made made2 waits waits2 d d2 went noted none = record {
   cascades = cascades_of ks m m2 d d2 went;
   keeps = λ others kept. rw (none, append-nil others) at (went.notes others (rw noted kept));
   koids = refl;
@@ -162,10 +162,10 @@ waits_left ks m m2 cascades have thins k o at =
 
 -- a process that has ended and then its job are looked at
 module _ (m m1 m2 : Map Object) (pid job : ℕ) (first : LetsGo [] m (pid ∷ []) m1 []) (second : LetsGo [] m1 (job ∷ []) m2 []) where
-  pub both_released : (sleepers : List Sleeper) (crowded : Bool) (next made : ℕ) (waits waits2 : List Wait)
+  pub both_released : (sleepers : List Sleeper) (crowded : Bool) (next made made2 : ℕ) (waits waits2 : List Wait)
       → Releases [] (job ∷ pid ∷ []) (record { objects = m; next_koid = next; waits = waits; waits_made = made; sleepers = sleepers; crowded = crowded })
-      (record { objects = m2; next_koid = next; waits = waits2; waits_made = made; sleepers = sleepers; crowded = crowded })
-  both_released sleepers crowded next made waits waits2 = record {
+      (record { objects = m2; next_koid = next; waits = waits2; waits_made = made2; sleepers = sleepers; crowded = crowded })
+  both_released sleepers crowded next made made2 waits waits2 = record {
     cascades = first.leads [] m2 (second.leads [] m2 (none_left m2));
     keeps = λ others kept. rw (append-nil others) at
         (second.notes others

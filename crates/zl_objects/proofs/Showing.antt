@@ -13,7 +13,7 @@ use Rattle.zl_objects.specs.Signals.{Shows, ShowStates, AreActive, implied, sign
 use Rattle.zl_objects.proofs.Found.{Found, any_found, any_at}
 use Rattle.zl_objects.proofs.Law.{get_seen, has_seen, any_seen}
 
-same_tests : (a b : Bool) → (IsTrue a → IsTrue b) → (IsTrue b → IsTrue a) → a ≡ b
+pub same_tests : (a b : Bool) → (IsTrue a → IsTrue b) → (IsTrue b → IsTrue a) → a ≡ b
 same_tests true true f g = refl
 same_tests true false f g = sym (f refl)
 same_tests false true f g = g refl

@@ -4,13 +4,13 @@ use Rattle.zl_rights.proofs.Common.{nat_cmp, none-some, same_Some, Map, each, ge
 use Rattle.std.specs.Prelude.{Result, Ok, Err, OnOk, OnErr}
 use Rattle.std.specs.Map.{lookup, set_value}
 use Rattle.std.specs.BTreeMap.{is_at}
-use Rattle.zl_rights.specs.World.{Wait as WaitValue}
 use Rattle.zl_rights.specs.declared.policy.Action.{Action}
 use Rattle.zl_rights.specs.declared.policy.Condition.{Condition}
 use Rattle.zl_rights.proofs.MapLaws.{get-each}
 use Rattle.zl_objects.specs.declared.object.Body.{Body}
 use Rattle.zl_objects.specs.declared.object.Body.TheVariants as body
 use Rattle.zl_objects.specs.declared.object.Object.{Object}
+use Rattle.zl_objects.specs.declared.wait.Listed.{Listed}
 use Rattle.zl_objects.specs.Dying.{HasPeer, IsKept, IsWhole}
 use Rattle.zl_objects.specs.Jobs.{all_killed, is_within, killed_body, killed_if, with_policy_body, with_policy_set}
 use Rattle.zl_objects.specs.Objects.{kind_at, kind_in, started, started_body}
@@ -38,7 +38,7 @@ killed_stays b = stays_same b
 
 -- ---- one of them
 
-module _ {waits : List WaitValue} where
+module _ {waits : List Listed} where
   pub started_kept : (m n : Map Object) (next room k : ℕ) (d : List ℕ) → IsKept None m next d room waits → n ≡ update m k started
       → IsKept None n next d room waits
   started_kept m n next room k d kept is = record {
@@ -130,7 +130,7 @@ module _ (kills : ℕ → Bool) where
           let reserved : reserved_in (get (each f m) j) ≡ reserved_in (get m j) = seen_each reserved_in (λ i o. (stays i o).reserved) m j in
           omega (arith, waits_each m j, reserved, whole.places j)
 
-  each_kept : {waits : List WaitValue} (m : Map Object) (next room : ℕ) (d : List ℕ) → IsKept None m next d room waits
+  each_kept : {waits : List Listed} (m : Map Object) (next room : ℕ) (d : List ℕ) → IsKept None m next d room waits
       → IsKept None (each f m) next d room waits
   each_kept {waits} m next room d kept = record {
     whole = each_whole m next room d kept.whole;
@@ -138,7 +138,7 @@ module _ (kills : ℕ → Bool) where
   }
 
 -- a kill
-pub killed_kept : {waits : List WaitValue} (m n : Map Object) (next room task : ℕ) (d : List ℕ) → IsKept None m next d room waits → n ≡ all_killed m task
+pub killed_kept : {waits : List Listed} (m n : Map Object) (next room task : ℕ) (d : List ℕ) → IsKept None m next d room waits → n ≡ all_killed m task
     → IsKept None n next d room waits
 unfolding all_killed
 killed_kept m n next room task d kept is = rw is (each_kept (is_within m task) m next room d kept)

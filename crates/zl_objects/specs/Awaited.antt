@@ -3,7 +3,6 @@ use Rattle.std.specs.Prelude.{ℕ, ◌≡◌, ◌⊎◌, IsTrue}
 use Rattle.std.specs.List.{Contains}
 use Rattle.zl_objects.specs.declared.awaited.Awaited.{Awaited}
 use Rattle.zl_objects.specs.declared.awaited.Awaited.TheVariants as awaits
-use Rattle.zl_objects.specs.declared.awaited.Sleeper.{Sleeper}
 use Rattle.zl_objects.specs.Objects.{Objects}
 
 -- the object at which it waits

@@ -4,15 +4,18 @@ use Rattle.std.specs.List.{All, filter, list_any}
 use Rattle.zl_rights.specs.Map.{Map, get, update}
 use Rattle.zl_rights.specs.Numbers.{meets}
 use Rattle.zl_rights.specs.Signals.{is_empty}
-use Rattle.zl_rights.specs.World.{Packet, Wait}
+use Rattle.zl_rights.specs.World.{Wait}
 use Rattle.zl_signals.specs.Waits.{holds}
 use Rattle.zl_objects.specs.declared.awaited.Awaited.{Awaited}
 use Rattle.zl_objects.specs.declared.awaited.Awaited.TheVariants as awaits
 use Rattle.zl_objects.specs.declared.awaited.Sleeper.{Sleeper}
+use Rattle.zl_objects.specs.declared.children.Children.{Children}
 use Rattle.zl_objects.specs.declared.marks.Marks.{Marks}
 use Rattle.zl_objects.specs.declared.object.Object.{Object}
+use Rattle.zl_objects.specs.declared.wait.Listed.{Listed}
 use Rattle.zl_objects.specs.Awaited.{koid_of}
 use Rattle.zl_objects.specs.Dying.{IsKept}
+use Rattle.zl_objects.specs.Index.{IsIndexed}
 use Rattle.zl_objects.specs.Objects.{Objects}
 use Rattle.zl_objects.specs.Ports.{packets_in}
 use Rattle.zl_objects.specs.Signals.{signals_at}
@@ -87,6 +90,7 @@ pub record IsCalm (marked : ℕ → Bool) (m : Map Object) (next_koid : ℕ) (sl
   pub resting : All (IsAtRest marked m next_koid) sleepers
 
 -- the invariant of the objects, of all waits and of who may be blocked
-pub record IsSteady (marks : Marks) (m : Map Object) (next_koid : ℕ) (dying : List ℕ) (room : ℕ) (waits : List Wait) (sleepers : List Sleeper) : Type 0 where
+pub record IsSteady (marks : Marks) (children : Children) (m : Map Object) (next_koid : ℕ) (dying : List ℕ) (room : ℕ) (waits : List Listed) (sleepers : List Sleeper) : Type 0 where
   pub kept : IsKept None m next_koid dying room waits
   pub calm : IsCalm (is_marked marks) m next_koid sleepers
+  pub indexed : IsIndexed children m

@@ -3,10 +3,10 @@ use Rattle.std.specs.Prelude.{ℕ, ◌≡◌, ◌+◌, ◌<◌, ◌≤◌, Bool,
 use Rattle.std.specs.List.{count_by, filter}
 use Rattle.zl_rights.specs.declared.kind.Kind.{Kind}
 use Rattle.zl_rights.specs.Map.{Map, get, has_key, without}
-use Rattle.zl_rights.specs.World.{Wait}
 use Rattle.zl_signals.specs.declared.watch.Watch.{Watch}
 use Rattle.zl_objects.specs.declared.object.Body.{Body}
 use Rattle.zl_objects.specs.declared.object.Object.{Object}
+use Rattle.zl_objects.specs.declared.wait.Listed.{Listed}
 use Rattle.zl_objects.specs.Objects.{is_kept, kind_at, kind_in, peer_of}
 use Rattle.zl_objects.specs.Release.{AreKeptBut, Cascades}
 use Rattle.zl_objects.specs.Listed.{AreListed}
@@ -71,6 +71,6 @@ pub record IsWhole (more : Option Watch) (m : Map Object) (next_koid : ℕ) (dyi
   pub none : dying ≡ []
 
 -- and the list of all waits has those of each object, in their order
-pub record IsKept (more : Option Watch) (m : Map Object) (next_koid : ℕ) (dying : List ℕ) (room : ℕ) (waits : List Wait) : Type 0 where
+pub record IsKept (more : Option Watch) (m : Map Object) (next_koid : ℕ) (dying : List ℕ) (room : ℕ) (waits : List Listed) : Type 0 where
   pub whole : IsWhole more m next_koid dying room
   pub listed : AreListed waits m

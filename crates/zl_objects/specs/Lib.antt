@@ -8,6 +8,7 @@ pub mod Signals
 pub mod Ports
 pub mod Waits
 pub mod Listed
-pub mod Asked
 pub mod Awaited
 pub mod Calm
+pub mod Index
+pub mod Due

@@ -5,9 +5,10 @@ use Rattle.zl_rights.specs.Map.{Map, get, has_key, update}
 use Rattle.zl_rights.specs.Numbers.{meets}
 use Rattle.zl_rights.specs.World.{Wait as WaitValue}
 use Rattle.zl_signals.specs.declared.watch.Watch.{Watch}
-use Rattle.zl_signals.specs.Waits.{wait_at, without_first}
+use Rattle.zl_signals.specs.Waits.{without_first}
 use Rattle.zl_port.specs.Packets.{with_place}
 use Rattle.zl_objects.specs.declared.object.Object.{Object}
+use Rattle.zl_objects.specs.declared.wait.Listed.{Listed}
 use Rattle.zl_objects.specs.declared.wait.Wait.{Wait}
 use Rattle.zl_objects.specs.Awaited.{KeepSleepers}
 use Rattle.zl_objects.specs.Objects.{Objects}
@@ -24,6 +25,25 @@ wait_value x = record { pid = x.pid; value = x.value; object = x.object; port = 
 abbrev pub watch_of : ℕ → Wait → Watch
 watch_of order x =
     record { pid = x.pid; value = x.value; port = x.port; key = x.key; mask = x.mask; order = order }
+
+-- the wait in the list, where so many were registered before it
+abbrev pub entry_of : ℕ → Wait → Listed
+entry_of order x = record { order = order; wait = x }
+
+-- the entry of the list as the world lists it
+abbrev pub listed_value : Listed → WaitValue
+listed_value x = wait_value x.wait
+
+-- the wait that stands at the object k as the list has it
+abbrev pub listed_at : ℕ → Watch → Listed
+listed_at k x = record {
+  order = x.order;
+  wait = record { pid = x.pid; value = x.value; object = k; port = x.port; key = x.key; mask = x.mask };
+}
+
+-- the entry of the list by its order
+abbrev pub order_entry : Listed → ℕ × Wait
+order_entry x = (x.order, x.wait)
 
 -- ---- which waits of the list
 
@@ -47,6 +67,10 @@ holds_at k signals x = (x.object == k) && meets signals x.mask
 -- the object of the wait is there, and its port
 abbrev pub is_there : Map Object → WaitValue → Bool
 is_there m x = has_key m x.object && has_key m x.port
+
+-- so is it for the entry of the list
+abbrev pub is_entry_there : Map Object → Listed → Bool
+is_entry_there m x = is_there m (listed_value x)
 
 -- ---- changes
 
@@ -75,5 +99,5 @@ pub record LeavesListed (r r2 : Objects) : Type 0 where
 -- ---- what the list and the objects both say
 
 -- the list has the waits of each object as they stand there, in their order
-abbrev pub AreListed : List WaitValue → Map Object → Type 0
-AreListed waits m = (k : ℕ) → filter (λ x. x.object == k) waits ≡ map (wait_at k) (waits_in (get m k))
+abbrev pub AreListed : List Listed → Map Object → Type 0
+AreListed list m = (k : ℕ) → filter (λ x. x.wait.object == k) list ≡ map (listed_at k) (waits_in (get m k))

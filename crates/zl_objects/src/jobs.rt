@@ -3,12 +3,12 @@
 ghost use Rattle.std.specs.Prelude.{◌≡◌, OnErr, OnOk, slice_get};
 ghost use Rattle.zl_rights.specs.Map.{get};
 ghost use Rattle.zl_objects.specs.Objects.{is_child, job_in, keeper_of};
-ghost use Rattle.zl_objects.specs.Jobs.{action_of, as_job, children, depth_of, descendants, has_actions, has_job_below, has_process_below, is_dead, is_job_below, is_process_below, is_within, job_at, lives_body, lives_in, new_in, parent_of, policy_answer, setting_policy, with_policy_set};
+ghost use Rattle.zl_objects.specs.Jobs.{action_of, as_job, children, depth_of, descendants, has_actions, is_dead, is_job_below, is_process_below, is_within, job_at, lives_body, lives_in, new_in, parent_of, policy_answer, setting_policy, with_policy_set};
 
+use crate::children::{has_job_below, has_process_below};
 use crate::killing::{is_below, is_within};
 use crate::object::{Body, Object};
 use crate::objects::Objects;
-use std::collections::BTreeMap;
 use zl_jobs::{Job, JobFault};
 use zl_rights::{Action, Condition, Koid, Mode, Status};
 
@@ -71,7 +71,7 @@ impl Body {
     }
 
     /// Whether it is a living job directly below the job.
-    fn is_job_below(&self, parent: Koid) -> bool
+    pub(crate) fn is_job_below(&self, parent: Koid) -> bool
         ensures { result ≡ is_job_below parent self.now }
     {
         match self {
@@ -81,7 +81,7 @@ impl Body {
     }
 
     /// Whether it is a living process of the job.
-    fn is_process_below(&self, parent: Koid) -> bool
+    pub(crate) fn is_process_below(&self, parent: Koid) -> bool
         ensures { result ≡ is_process_below parent self.now }
     {
         match self {
@@ -149,22 +149,6 @@ impl Body {
             _ => Err(JobFault::BadState),
         }
     }
-}
-
-/// Whether a living job stands directly below the job.
-pub fn has_job_below(by_koid: &BTreeMap<Koid, Object>, job: Koid) -> bool
-    ensures { result ≡ has_job_below by_koid.now.entries job }
-{
-    by_koid.values().any(|object| object.body.is_job_below(job))
-}
-
-/// Whether a living process stands directly below the job.
-pub fn has_process_below(by_koid: &BTreeMap<Koid, Object>, job: Koid) -> bool
-    ensures { result ≡ has_process_below by_koid.now.entries job }
-{
-    by_koid
-        .values()
-        .any(|object| object.body.is_process_below(job))
 }
 
 #[tactic(auto, using(crate::proofs::ByKoid::by_koid, crate::proofs::Kept::kept))]
@@ -246,8 +230,8 @@ impl Objects {
         ensures { result ≡ children self.now.objects job }
     {
         (
-            has_job_below(&self.by_koid, job),
-            has_process_below(&self.by_koid, job),
+            has_job_below(&self.by_koid, &self.children, job),
+            has_process_below(&self.by_koid, &self.children, job),
         )
     }
 

@@ -39,7 +39,7 @@ impl Object {
 
 /// The job directly above the job or the process; 0 where there is none.
 #[tactic(auto, using(crate::proofs::ByKoid::by_koid))]
-fn parent_at(by_koid: &BTreeMap<Koid, Object>, koid: Koid) -> Koid
+pub fn parent_at(by_koid: &BTreeMap<Koid, Object>, koid: Koid) -> Koid
     ensures { result ≡ parent_at by_koid.now.entries koid }
 {
     match by_koid.get(&koid) {

@@ -13,6 +13,8 @@
 #![tactic(auto)]
 
 mod awaited;
+mod children;
+mod due;
 mod jobs;
 mod killing;
 mod listing;
@@ -28,6 +30,7 @@ mod wait;
 mod waits;
 
 pub use awaited::{Awaited, Sleeper};
+pub use due::Due;
 pub use object::{Body, Life, Object, Pair};
 pub use objects::Objects;
 pub use wait::Wait;

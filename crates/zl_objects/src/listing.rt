@@ -1,16 +1,94 @@
 //! The list of all registered waits, the earliest first, beside the waits at the objects.
 
-ghost use Rattle.std.specs.Prelude.{◌≡◌, ◌+◌, map, option_map, slice_get, ◌<◌, ◌^◌, OnSome};
-ghost use Rattle.std.specs.List.{filter, position};
-ghost use Rattle.zl_signals.specs.Waits.{without_first};
-ghost use Rattle.zl_objects.specs.Asked.{takes};
-ghost use Rattle.zl_objects.specs.Listed.{is_there, may_register, wait_value};
+ghost use Rattle.std.specs.Prelude.{[], false, take, IfSome, ◌≡◌, ◌+◌, ◌++◌, ◌∷◌, ◌==◌, ◌<◌, ◌^◌, not, map, option_map, slice_get, IsTrue, OnSome, OnOk};
+ghost use Rattle.std.specs.FinMap.Entries.{is_sorted};
+ghost use Rattle.std.specs.List.{filter, find, list_any, position, All};
+ghost use Rattle.std.specs.Ordering.{nat_cmp};
+ghost use Rattle.std.specs.VecDeque.{deque_capacity, deque_len};
+ghost use Rattle.zl_objects.specs.Calm.{holds_now};
+ghost use Rattle.zl_objects.specs.Due.{is_entry_due};
+ghost use Rattle.zl_objects.specs.Index.{IsIndexed};
+ghost use Rattle.zl_objects.specs.Listed.{entry_of, is_entry_there, is_there, listed_value, may_register, order_entry, wait_value};
 
+use crate::children::Children;
 use crate::object::Object;
 use crate::objects::Objects;
-use crate::wait::{Asked, Wait};
+use crate::signals::signals_at;
+use crate::wait::{Listed, Wait};
+use bitflags::Flags;
+use std::alloc::{AllocError, Global};
 use std::collections::{BTreeMap, VecDeque};
 use zl_rights::Koid;
+
+/// All registered waits, the earliest first, and how many ever were registered.
+#[derive(Drop)]
+pub(crate) struct WaitList {
+    pub entries: VecDeque<Listed>,
+    pub made: u64,
+    ghost rising: { IsTrue (is_sorted nat_cmp (map order_entry entries.items)) },
+    ghost below: { All (λ x. x.order < made) entries.items },
+}
+
+impl WaitList {
+    /// No wait, and none ever was registered.
+    pub fn new(alloc: Global) -> WaitList
+        ensures entries { result.entries.items ≡ [] }
+        ensures made { result.made ≡ 0 }
+    {
+        WaitList {
+            entries: VecDeque::new(alloc),
+            made: 0,
+        }
+    }
+
+    /// There is room for one wait more.
+    pub fn reserve(&mut self) -> Result<(), AllocError>
+        ensures entries { self.new.entries.items ≡ self.old.entries.items }
+        ensures made { self.new.made ≡ self.old.made }
+        ensures room { OnOk result
+            (deque_len self.new.entries < deque_capacity self.new.entries) }
+    {
+        self.entries.reserve(1)
+    }
+
+    /// Lists the wait behind all others. There has to be room for it.
+    pub fn push_reserved(&mut self, wait: Wait)
+        requires room { deque_len self.old.entries < deque_capacity self.old.entries }
+        requires made { self.old.made < 2 ^ 62 }
+        ensures entries { self.new.entries.items
+            ≡ self.old.entries.items ++ entry_of self.old.made wait ∷ [] }
+        ensures made { self.new.made ≡ self.old.made + 1 }
+    {
+        let order = self.made;
+        self.made = order + 1;
+        self.entries.push_back_reserved(Listed { order, wait });
+    }
+
+    /// No wait is registered any more.
+    pub fn clear(&mut self)
+        ensures entries { self.new.entries.items ≡ [] }
+        ensures made { self.new.made ≡ self.old.made }
+    {
+        self.entries.clear();
+    }
+
+    /// The wait at place `n`, from 0.
+    fn get(&self, n: usize) -> Option<Listed>
+        ensures entry { result ≡ slice_get self.now.entries.items n }
+        ensures next { OnSome result (n + 1 < 2 ^ 64) }
+    {
+        Some(*self.entries.get(n)?)
+    }
+
+    /// Where the wait stands before which so many were registered.
+    fn place_of(&self, order: u64) -> Option<usize>
+        ensures { result ≡ position (λ x. x.order == order) self.now.entries.items }
+    {
+        self.entries
+            .binary_search_by_key(&order, |listed| listed.order)
+            .ok()
+    }
+}
 
 impl Objects {
     /// Whether one more wait may be registered: 2^62 may ever be.
@@ -19,7 +97,7 @@ impl Objects {
     pub fn may_register(&self) -> bool
         ensures { result ≡ may_register self.now }
     {
-        self.waits_made < Objects::MOST
+        self.waits.made < Objects::MOST
     }
 
     /// The wait at place `n`, from 0, of all registered waits, the earliest first.
@@ -29,32 +107,64 @@ impl Objects {
         ensures wait { option_map wait_value result ≡ slice_get self.now.waits n }
         ensures next { OnSome result (n + 1 < 2 ^ 64) }
     {
-        Some(*self.waits.get(n)?)
+        Some(self.waits.get(n)?.wait)
     }
 }
 
-/// Takes the earliest wait that is asked for out of the list.
-pub fn unlist(waits: &mut VecDeque<Wait>, asked: Asked)
-    ensures { map wait_value waits.new.items
-        ≡ without_first (takes asked) (map wait_value waits.old.items) }
+/// Takes the wait out of the list before which so many were registered.
+pub fn unlist(waits: &mut WaitList, order: u64)
+    ensures entries { waits.new.entries.items
+        ≡ filter (λ x. not (x.order == order)) waits.old.entries.items }
+    ensures made { waits.new.made ≡ waits.old.made }
 {
-    let Some(place) = place_of(waits, &asked) else {
+    let Some(place) = waits.place_of(order) else {
         return;
     };
-    waits.remove(place);
-}
-
-/// Where the earliest wait stands that is asked for.
-fn place_of(waits: &VecDeque<Wait>, asked: &Asked) -> Option<usize>
-    ensures { result ≡ position (λ x. takes asked.now (wait_value x)) waits.now.items }
-{
-    waits.iter().position(|wait| asked.takes(wait))
+    waits.entries.remove(place);
 }
 
 /// Keeps the waits of which the object and the port are there.
-pub fn keep_there(waits: &mut VecDeque<Wait>, by_koid: &BTreeMap<Koid, Object>)
-    ensures { map wait_value waits.new.items
-        ≡ filter (is_there by_koid.now.entries) (map wait_value waits.old.items) }
+pub fn keep_there(waits: &mut WaitList, by_koid: &BTreeMap<Koid, Object>)
+    ensures entries { waits.new.entries.items
+        ≡ filter (is_entry_there by_koid.now.entries) waits.old.entries.items }
+    ensures waits { map listed_value waits.new.entries.items
+        ≡ filter (is_there by_koid.now.entries) (map listed_value waits.old.entries.items) }
+    ensures made { waits.new.made ≡ waits.old.made }
 {
-    waits.retain(|wait| by_koid.contains_key(&wait.object) && by_koid.contains_key(&wait.port));
+    waits.entries.retain(|listed| {
+        by_koid.contains_key(&listed.wait.object) && by_koid.contains_key(&listed.wait.port)
+    });
+}
+
+/// The object of the earliest wait that holds, behind its place. Of the first `from` none may hold.
+pub fn first_holding(
+    waits: &WaitList,
+    by_koid: &BTreeMap<Koid, Object>,
+    children: &Children,
+    from: usize,
+) -> Option<(usize, Koid)>
+    requires indexed { IsIndexed children.now by_koid.now.entries }
+    requires before { list_any (is_entry_due by_koid.now.entries) (take from waits.now.entries.items)
+        ≡ false }
+    ensures object { option_map (λ due. due.1) result ≡ option_map (λ x. x.wait.object)
+        (find (is_entry_due by_koid.now.entries) waits.now.entries.items) }
+    ensures before { IfSome result (λ due. list_any (is_entry_due by_koid.now.entries)
+        (take due.0 waits.now.entries.items) ≡ false) }
+{
+    let mut place = from;
+    while let Some(listed) = waits.get(place) {
+        if is_holding(by_koid, children, &listed.wait) {
+            return Some((place, listed.wait.object));
+        }
+        place += 1;
+    }
+    None
+}
+
+/// Whether the wait holds.
+fn is_holding(by_koid: &BTreeMap<Koid, Object>, children: &Children, wait: &Wait) -> bool
+    requires { IsIndexed children.now by_koid.now.entries }
+    ensures { result ≡ holds_now by_koid.now.entries (wait_value wait.now) }
+{
+    signals_at(by_koid, children, wait.object).intersects(wait.mask)
 }

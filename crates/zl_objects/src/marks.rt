@@ -1,6 +1,7 @@
 //! Which objects are to be looked at, as something may be due there.
 
-ghost use Rattle.std.specs.Prelude.{ℕ, ◌≡◌, false, true, IfOk, IsTrue};
+ghost use Rattle.std.specs.Prelude.{ℕ, ◌≡◌, ◌==◌, false, true, IfOk, IfSome, IsTrue};
+ghost use Rattle.std.specs.List.{list_any};
 ghost use Rattle.zl_objects.specs.Calm.{is_marked};
 
 use std::alloc::{AllocError, Global};
@@ -33,7 +34,7 @@ impl Marks {
         ensures wanted { wanted ≡ true → IsTrue (is_marked self.new koid) }
         ensures more { (k : ℕ) → IsTrue (is_marked self.old k) → IsTrue (is_marked self.new k) }
     {
-        if !wanted {
+        if !wanted || self.has(koid) {
             return;
         }
         if self.koids.len() < self.koids.capacity() {
@@ -48,6 +49,18 @@ impl Marks {
         ensures { result ≡ is_marked self.now koid }
     {
         self.all || self.koids.contains(&koid)
+    }
+
+    /// The marked objects, unless each object is marked.
+    pub fn koids(&self) -> Option<&[Koid]>
+        ensures { IfSome result (λ koids. (k : ℕ)
+            → is_marked self.now k ≡ list_any (λ j. j == k) koids.now) }
+    {
+        if self.all {
+            None
+        } else {
+            Some(self.koids.as_slice())
+        }
     }
 
     /// Marks each object.

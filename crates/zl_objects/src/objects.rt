@@ -9,15 +9,15 @@ ghost use Rattle.zl_objects.specs.Seen.{LeavesLargest};
 ghost use Rattle.zl_objects.specs.Listed.{LeavesListed};
 ghost use Rattle.zl_objects.specs.Waits.{waits_in, HavePlaces, LeavesWaits};
 
-use crate::killing::kill_all;
-use crate::listing::keep_there;
+use crate::children::Children;
+use crate::killing::{kill_all, parent_at};
+use crate::listing::{WaitList, keep_there};
 use crate::marks::Marks;
 use crate::object::{Body, Object, Pair};
 use crate::releasing::{let_go, remove_dying, remove_unkept, sweep};
 use crate::sleepers::Sleepers;
-use crate::wait::Wait;
 use std::alloc::{AllocError, Global};
-use std::collections::{BTreeMap, VecDeque};
+use std::collections::BTreeMap;
 use std::marker::Model;
 use zl_channel::{Message, PushFault};
 use zl_jobs::Job;
@@ -30,14 +30,14 @@ use zl_signals::SignalState;
 #[derive(Drop)]
 pub struct Objects {
     pub(crate) by_koid: BTreeMap<Koid, Object>,
+    // The jobs and processes of each job.
+    pub(crate) children: Children,
     next_koid: Koid,
     // The objects that are to be looked at, as no handle names them. There is room for each object,
     // so that none takes memory to go.
     dying: Vec<Koid>,
-    // All waits, the earliest registered first; each stands at its object too.
-    pub(crate) waits: VecDeque<Wait>,
-    // How many waits ever were registered.
-    pub(crate) waits_made: u64,
+    // Each wait stands at its object too.
+    pub(crate) waits: WaitList,
     // Who may be blocked.
     pub(crate) sleepers: Sleepers,
     // At all other objects nothing is due.
@@ -48,22 +48,22 @@ impl Model for Objects {
     ghost use Rattle.std.specs.Prelude.{map, vec_capacity};
     ghost use Rattle.zl_objects.specs.Objects.{Objects as ObjectsValue};
     ghost use Rattle.zl_objects.specs.Calm.{IsSteady};
-    ghost use Rattle.zl_objects.specs.Listed.{wait_value};
+    ghost use Rattle.zl_objects.specs.Listed.{listed_value};
 
     ghost Value = { ObjectsValue };
 
     ghost view = { λ o. record {
       objects = o.by_koid.entries;
       next_koid = o.next_koid;
-      waits = map wait_value o.waits.items;
-      waits_made = o.waits_made;
+      waits = map listed_value o.waits.entries.items;
+      waits_made = o.waits.made;
       sleepers = o.sleepers.list.items;
       crowded = o.sleepers.crowded;
     } };
 
     ghost invariant = { λ o.
-        IsSteady o.marks o.by_koid.entries o.next_koid o.dying.items (vec_capacity o.dying)
-        (map wait_value o.waits.items) o.sleepers.list.items };
+        IsSteady o.marks o.children o.by_koid.entries o.next_koid o.dying.items (vec_capacity o.dying)
+        o.waits.entries.items o.sleepers.list.items };
 }
 
 #[tactic(auto, using(crate::proofs::ByKoid::by_koid, crate::proofs::Kept::kept))]
@@ -80,10 +80,10 @@ impl Objects {
     {
         let mut objects = Objects {
             by_koid: BTreeMap::new(alloc),
+            children: Children::new(alloc),
             next_koid: Objects::ROOT_JOB,
             dying: Vec::new(alloc),
-            waits: VecDeque::new(alloc),
-            waits_made: 0,
+            waits: WaitList::new(alloc),
             sleepers: Sleepers::new(alloc)?,
             marks: Marks::new(alloc)?,
         };
@@ -129,18 +129,23 @@ impl Objects {
             (λ koid. get self.new.objects koid ≡ Some (new_object body handles)) }
         ensures unchanged { OnErr result (self.new ≡ self.old) }
     {
-        self.dying.reserve(self.by_koid.len() + 1)?;
+        let count = self.by_koid.len() + 1;
+        self.dying.reserve(count)?;
+        self.sleepers
+            .make_room_if(matches!(body, Body::Process { .. }), count)?;
         let koid = self.next_koid;
-        let alloc = *self.dying.allocator();
-        self.by_koid.insert(
-            koid,
-            Object {
-                body,
-                signals: SignalState::new(alloc),
-                handles,
-                slept: false,
-            },
-        )?;
+        let parent = body.parent();
+        self.children.add(body.keeper(), koid)?;
+        let object = Object {
+            body,
+            signals: SignalState::new(self.alloc()),
+            handles,
+            slept: false,
+        };
+        if self.by_koid.insert(koid, object).is_err() {
+            self.children.remove(parent, koid);
+            return Err(AllocError);
+        }
         self.next_koid = koid + 1;
         Ok(koid)
     }
@@ -187,6 +192,7 @@ impl Objects {
         requires unslept { IfSome (get self.old.objects koid) (λ object. object.slept ≡ false) }
         ensures { self.new ≡ without_newest self.old koid }
     {
+        self.children.remove(parent_at(&self.by_koid, koid), koid);
         self.by_koid.pop_last();
         self.next_koid = koid;
         // What its job had before is active there again.
@@ -203,6 +209,7 @@ impl Objects {
         ensures { self.new ≡ record self.old { objects = []; waits = [] } }
     {
         self.by_koid.clear();
+        self.children.clear();
         self.waits.clear();
     }
 
@@ -359,7 +366,7 @@ impl Objects {
             return;
         }
         self.marks.add_all();
-        remove_dying(&mut self.by_koid, &mut self.dying);
+        remove_dying(&mut self.by_koid, &mut self.children, &mut self.dying);
         keep_there(&mut self.waits, &self.by_koid);
     }
 
@@ -372,7 +379,7 @@ impl Objects {
         ensures places { HavePlaces self.new.objects }
         ensures listed { LeavesListed self.old self.new }
     {
-        remove_unkept(&mut self.by_koid, &mut self.dying, koid);
+        remove_unkept(&mut self.by_koid, &mut self.children, &mut self.dying, koid);
         keep_there(&mut self.waits, &self.by_koid);
         self.marks.add_all();
     }
@@ -388,8 +395,8 @@ impl Objects {
     {
         if let Some(job) = job_of(&self.by_koid, pid) {
             self.stop(pid);
-            remove_unkept(&mut self.by_koid, &mut self.dying, pid);
-            remove_unkept(&mut self.by_koid, &mut self.dying, job);
+            remove_unkept(&mut self.by_koid, &mut self.children, &mut self.dying, pid);
+            remove_unkept(&mut self.by_koid, &mut self.children, &mut self.dying, job);
             keep_there(&mut self.waits, &self.by_koid);
             self.marks.add_all();
         }
@@ -412,7 +419,12 @@ impl Objects {
     {
         self.mark_killed(task);
         self.marks.add_all();
-        sweep(&mut self.by_koid, &mut self.dying, self.next_koid);
+        sweep(
+            &mut self.by_koid,
+            &mut self.children,
+            &mut self.dying,
+            self.next_koid,
+        );
         keep_there(&mut self.waits, &self.by_koid);
     }
 

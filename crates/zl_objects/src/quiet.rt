@@ -32,7 +32,8 @@ impl Objects {
             self.sleepers.crowded = true;
             return;
         }
-        self.marks.add_if(is_due(&self.by_koid, &awaited), koid);
+        self.marks
+            .add_if(is_due(&self.by_koid, &self.children, &awaited), koid);
         self.sleepers.put(Sleeper { pid, awaited });
     }
 
@@ -60,7 +61,8 @@ impl Objects {
             → Seeks self.old pid a → Seeks self.new pid a }
         ensures same { AreSameButSleepers self.old self.new }
     {
-        self.sleepers.drop_due(&self.by_koid, &self.marks);
+        self.sleepers
+            .drop_due(&self.by_koid, &self.children, &self.marks);
         self.marks.clear();
     }
 }

@@ -6,13 +6,15 @@
 ghost use Rattle.std.specs.Prelude.{◌≡◌, ◌≤◌, ◌<◌, ◌+◌, ◌++◌, ◌∷◌, [], if◌then◌else◌, is_some, length, nat_lt, ℕ, vec_capacity, IsTrue};
 ghost use Rattle.std.specs.Option.{option_to_list};
 ghost use Rattle.zl_rights.specs.Map.{each, get, has_key, update};
-ghost use Rattle.zl_objects.specs.Objects.{has_living_child, held_once_less, is_kept, keeper_in};
+ghost use Rattle.zl_objects.specs.Objects.{held_once_less, is_kept, keeper_in};
 ghost use Rattle.zl_objects.specs.Release.{all_koids, koids_of, named_in};
 ghost use Rattle.zl_objects.specs.Dying.{budget, is_last, is_unkept, left_at, unkept_at, LetsGo};
+ghost use Rattle.zl_objects.specs.Index.{IsIndexed};
 ghost use Rattle.zl_objects.specs.Ports.{reserved_in};
 ghost use Rattle.zl_objects.specs.Waits.{ending_port, giving_back, without_port_waits};
 
-use crate::killing::next_from;
+use crate::children::{Children, has_living_child};
+use crate::killing::{next_from, parent_at};
 use crate::object::{Body, Object};
 use crate::waits::give_back;
 use std::collections::BTreeMap;
@@ -69,22 +71,21 @@ fn let_go_queue(by_koid: &mut BTreeMap<Koid, Object>, dying: &mut Vec<Koid>, mut
     }
 }
 
-/// Whether the job has a living child.
-fn has_living_child(by_koid: &BTreeMap<Koid, Object>, job: Koid) -> bool
-    ensures { result ≡ has_living_child by_koid.now.entries job }
-{
-    by_koid.values().any(|object| object.body.is_child(job))
-}
-
 /// Whether a handle names the object, or it is a process that runs or a job with a living child.
-fn is_kept(by_koid: &BTreeMap<Koid, Object>, koid: Koid, object: &Object) -> bool
+fn is_kept(
+    by_koid: &BTreeMap<Koid, Object>,
+    children: &Children,
+    koid: Koid,
+    object: &Object,
+) -> bool
+    requires { IsIndexed children.now by_koid.now.entries }
     ensures { result ≡ is_kept by_koid.now.entries koid object.now }
 {
     if object.handles > 0 {
         return true;
     }
     match &object.body {
-        Body::Job(_) => has_living_child(by_koid, koid),
+        Body::Job(_) => has_living_child(by_koid, children, koid),
         Body::Process { life, .. } => life.is_running(),
         Body::Event | Body::ChannelEnd { .. } | Body::Port(_) | Body::PairEnd { .. } => false,
     }
@@ -92,24 +93,30 @@ fn is_kept(by_koid: &BTreeMap<Koid, Object>, koid: Koid, object: &Object) -> boo
 
 /// Whether the object is there and nothing keeps it.
 #[tactic(auto, using(crate::proofs::ByKoid::by_koid))]
-fn is_unkept(by_koid: &BTreeMap<Koid, Object>, koid: Koid) -> bool
+fn is_unkept(by_koid: &BTreeMap<Koid, Object>, children: &Children, koid: Koid) -> bool
+    requires { IsIndexed children.now by_koid.now.entries }
     ensures { result ≡ is_unkept by_koid.now.entries koid (get by_koid.now.entries koid) }
 {
     match by_koid.get(&koid) {
-        Some(object) => !is_kept(by_koid, koid, object),
+        Some(object) => !is_kept(by_koid, children, koid, object),
         None => false,
     }
 }
 
 /// Takes the object out, unless something keeps it.
 #[tactic(auto, using(crate::proofs::ByKoid::by_koid))]
-fn take_unkept(by_koid: &mut BTreeMap<Koid, Object>, koid: Koid) -> Option<Object>
+fn take_unkept(
+    by_koid: &mut BTreeMap<Koid, Object>,
+    children: &Children,
+    koid: Koid,
+) -> Option<Object>
+    requires { IsIndexed children.now by_koid.old.entries }
     ensures taken { result ≡ unkept_at by_koid.old.entries koid }
     ensures left { by_koid.new.entries ≡ left_at by_koid.old.entries koid }
     ensures count { length by_koid.new.entries + (if is_some result then 1 else 0)
         ≡ length by_koid.old.entries }
 {
-    if is_unkept(by_koid, koid) {
+    if is_unkept(by_koid, children, koid) {
         by_koid.remove(&koid)
     } else {
         None
@@ -180,9 +187,16 @@ fn note_keeper(dying: &mut Vec<Koid>, keeper: Option<Koid>)
 
 /// The object that was noted goes with its queue and its waits, unless something keeps it, and the
 /// job of which it was a living child is noted.
-fn remove_noted(by_koid: &mut BTreeMap<Koid, Object>, dying: &mut Vec<Koid>, koid: Koid)
+fn remove_noted(
+    by_koid: &mut BTreeMap<Koid, Object>,
+    children: &mut Children,
+    dying: &mut Vec<Koid>,
+    koid: Koid,
+)
+    requires indexed { IsIndexed children.old by_koid.old.entries }
     requires fits { budget by_koid.old.entries (dying.old.items ++ koid ∷ [])
         ≤ vec_capacity dying.old }
+    ensures indexed { IsIndexed children.new by_koid.new.entries }
     ensures goes { LetsGo [] by_koid.old.entries (dying.old.items ++ koid ∷ [])
         by_koid.new.entries dying.new.items }
     ensures less { budget by_koid.new.entries dying.new.items + length by_koid.new.entries
@@ -191,10 +205,12 @@ fn remove_noted(by_koid: &mut BTreeMap<Koid, Object>, dying: &mut Vec<Koid>, koi
 {
     let reserved = has_reserved(by_koid, koid);
     let keeper = keeper_at(by_koid, koid);
-    let Some(gone) = take_unkept(by_koid, koid) else {
+    let parent = parent_at(by_koid, koid);
+    let Some(gone) = take_unkept(by_koid, children, koid) else {
         return;
     };
     let Object { body, signals, .. } = gone;
+    children.remove(parent, koid);
     end_waits(by_koid, koid, reserved, signals);
     note_keeper(dying, keeper);
     if let Body::ChannelEnd { queue, .. } = body {
@@ -203,37 +219,57 @@ fn remove_noted(by_koid: &mut BTreeMap<Koid, Object>, dying: &mut Vec<Koid>, koi
 }
 
 /// The noted objects go, and what goes with them.
-pub fn remove_dying(by_koid: &mut BTreeMap<Koid, Object>, dying: &mut Vec<Koid>)
+pub fn remove_dying(
+    by_koid: &mut BTreeMap<Koid, Object>,
+    children: &mut Children,
+    dying: &mut Vec<Koid>,
+)
+    requires indexed { IsIndexed children.old by_koid.old.entries }
     requires fits { budget by_koid.old.entries dying.old.items ≤ vec_capacity dying.old }
+    ensures indexed { IsIndexed children.new by_koid.new.entries }
     ensures goes { LetsGo []
         by_koid.old.entries dying.old.items by_koid.new.entries dying.new.items }
     ensures none { dying.new.items ≡ [] }
     ensures capacity { vec_capacity dying.new ≡ vec_capacity dying.old }
 {
     while let Some(koid) = dying.pop() {
-        remove_noted(by_koid, dying, koid);
+        remove_noted(by_koid, children, dying, koid);
     }
 }
 
 /// The object goes, unless something keeps it, and what goes with it.
-pub fn remove_unkept(by_koid: &mut BTreeMap<Koid, Object>, dying: &mut Vec<Koid>, koid: Koid)
+pub fn remove_unkept(
+    by_koid: &mut BTreeMap<Koid, Object>,
+    children: &mut Children,
+    dying: &mut Vec<Koid>,
+    koid: Koid,
+)
+    requires indexed { IsIndexed children.old by_koid.old.entries }
     requires none { dying.old.items ≡ [] }
     requires room { length by_koid.old.entries ≤ vec_capacity dying.old }
+    ensures indexed { IsIndexed children.new by_koid.new.entries }
     ensures goes { LetsGo [] by_koid.old.entries (koid ∷ []) by_koid.new.entries [] }
     ensures none { dying.new.items ≡ [] }
     ensures capacity { vec_capacity dying.new ≡ vec_capacity dying.old }
 {
-    if is_unkept(by_koid, koid) {
+    if is_unkept(by_koid, children, koid) {
         dying.push_reserved(koid);
-        remove_dying(by_koid, dying);
+        remove_dying(by_koid, children, dying);
     }
 }
 
 /// Each object that nothing keeps goes, and what goes with it. All koids lie below the end.
-pub fn sweep(by_koid: &mut BTreeMap<Koid, Object>, dying: &mut Vec<Koid>, end: Koid)
+pub fn sweep(
+    by_koid: &mut BTreeMap<Koid, Object>,
+    children: &mut Children,
+    dying: &mut Vec<Koid>,
+    end: Koid,
+)
+    requires indexed { IsIndexed children.old by_koid.old.entries }
     requires below { (k : ℕ) → IsTrue (has_key by_koid.old.entries k) → k < end }
     requires none { dying.old.items ≡ [] }
     requires room { length by_koid.old.entries ≤ vec_capacity dying.old }
+    ensures indexed { IsIndexed children.new by_koid.new.entries }
     ensures goes { LetsGo [] by_koid.old.entries (all_koids by_koid.old.entries)
         by_koid.new.entries [] }
     ensures none { dying.new.items ≡ [] }
@@ -241,7 +277,7 @@ pub fn sweep(by_koid: &mut BTreeMap<Koid, Object>, dying: &mut Vec<Koid>, end: K
 {
     let mut from = 0;
     while let Some(koid) = next_from(by_koid, from) {
-        remove_unkept(by_koid, dying, koid);
+        remove_unkept(by_koid, children, dying, koid);
         from = koid + 1;
     }
 }

@@ -2,9 +2,10 @@
 
 ghost use Rattle.std.specs.Prelude.{◌≡◌};
 ghost use Rattle.zl_rights.specs.Signals.{signal_if};
+ghost use Rattle.zl_objects.specs.Index.{IsIndexed};
 ghost use Rattle.zl_objects.specs.Signals.{implied, signals_at, AreActive};
 
-use crate::jobs::{has_job_below, has_process_below};
+use crate::children::{Children, has_job_below, has_process_below};
 use crate::object::{Body, Object};
 use crate::objects::Objects;
 use bitflags::Flags;
@@ -25,34 +26,43 @@ impl Objects {
         ensures signals { result.0 ≡ signals_at self.now.objects koid }
         ensures active { AreActive self.now.objects koid result.0 }
     {
-        signals_at(&self.by_koid, koid)
+        signals_at(&self.by_koid, &self.children, koid)
     }
 }
 
 /// The signals that are active at the object, none where it isn't there.
 #[tactic(auto, using(crate::proofs::ByKoid::by_koid))]
-pub fn signals_at(by_koid: &BTreeMap<Koid, Object>, koid: Koid) -> Signals
+pub fn signals_at(by_koid: &BTreeMap<Koid, Object>, children: &Children, koid: Koid) -> Signals
+    requires { IsIndexed children.now by_koid.now.entries }
     ensures { result.0 ≡ signals_at by_koid.now.entries koid }
 {
     match by_koid.get(&koid) {
         Some(object) => object
             .signals
             .raised()
-            .union(implied(by_koid, koid, &object.body)),
+            .union(implied(by_koid, children, koid, &object.body)),
         None => Signals::empty(),
     }
 }
 
 /// The signals that follow from the objects.
 #[tactic(auto, using(crate::proofs::ByKoid::by_koid))]
-fn implied(by_koid: &BTreeMap<Koid, Object>, koid: Koid, body: &Body) -> Signals
+fn implied(
+    by_koid: &BTreeMap<Koid, Object>,
+    children: &Children,
+    koid: Koid,
+    body: &Body,
+) -> Signals
+    requires { IsIndexed children.now by_koid.now.entries }
     ensures { result.0 ≡ implied by_koid.now.entries koid body.now }
 {
     match body {
         Body::Job(job) => {
             let terminated = signal_if(Signals::TERMINATED, job.is_killed());
-            let no_jobs = signal_if(Signals::NO_JOBS, !has_job_below(by_koid, koid));
-            let no_processes = signal_if(Signals::NO_PROCESSES, !has_process_below(by_koid, koid));
+            let has_job = has_job_below(by_koid, children, koid);
+            let has_process = has_process_below(by_koid, children, koid);
+            let no_jobs = signal_if(Signals::NO_JOBS, !has_job);
+            let no_processes = signal_if(Signals::NO_PROCESSES, !has_process);
             terminated.union(no_jobs.union(no_processes))
         }
         Body::Process { life, .. } => signal_if(Signals::TERMINATED, !life.is_alive()),

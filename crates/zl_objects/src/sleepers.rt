@@ -4,8 +4,10 @@ ghost use Rattle.std.specs.Prelude.{◌≡◌, ◌==◌, false, not, IfOk, IsTru
 ghost use Rattle.std.specs.List.{filter};
 ghost use Rattle.zl_rights.specs.Map.{get};
 ghost use Rattle.zl_objects.specs.Calm.{has_packet, is_dropped, is_due, IsPut};
+ghost use Rattle.zl_objects.specs.Index.{IsIndexed};
 
 use crate::awaited::{Awaited, Sleeper};
+use crate::children::Children;
 use crate::marks::Marks;
 use crate::object::Object;
 use crate::signals::signals_at;
@@ -23,7 +25,7 @@ pub(crate) struct Sleepers {
 }
 
 impl Sleepers {
-    /// There is room for so many.
+    /// There is room for so many from the beginning.
     const ROOM: usize = 64;
 
     /// None may be blocked.
@@ -35,6 +37,17 @@ impl Sleepers {
             list: Vec::with_capacity(alloc, Sleepers::ROOM)?,
             crowded: false,
         })
+    }
+
+    /// Makes room for so many more, if that is wanted.
+    pub fn make_room_if(&mut self, wanted: bool, count: usize) -> Result<(), AllocError>
+        ensures list { self.new.list.items ≡ self.old.list.items }
+        ensures crowded { self.new.crowded ≡ self.old.crowded }
+    {
+        if wanted {
+            self.list.reserve(count)?;
+        }
+        Ok(())
     }
 
     /// Lists the process in the place of what it waited for before.
@@ -51,31 +64,43 @@ impl Sleepers {
     }
 
     /// Drops those at marked objects for which what they wait for is there: they aren't blocked.
-    pub fn drop_due(&mut self, by_koid: &BTreeMap<Koid, Object>, marks: &Marks)
+    pub fn drop_due(&mut self, by_koid: &BTreeMap<Koid, Object>, children: &Children, marks: &Marks)
+        requires { IsIndexed children.now by_koid.now.entries }
         ensures list { self.new.list.items
             ≡ filter (λ s. not (is_dropped marks.now by_koid.now.entries s)) self.old.list.items }
         ensures crowded { self.new.crowded ≡ self.old.crowded }
     {
         self.list
-            .retain(|sleeper| !is_dropped(by_koid, marks, sleeper));
+            .retain(|sleeper| !is_dropped(by_koid, children, marks, sleeper));
     }
 }
 
 /// Whether its object is marked, and what it waits for is there.
-fn is_dropped(by_koid: &BTreeMap<Koid, Object>, marks: &Marks, sleeper: &Sleeper) -> bool
+fn is_dropped(
+    by_koid: &BTreeMap<Koid, Object>,
+    children: &Children,
+    marks: &Marks,
+    sleeper: &Sleeper,
+) -> bool
+    requires { IsIndexed children.now by_koid.now.entries }
     ensures { result ≡ is_dropped marks.now by_koid.now.entries sleeper.now }
 {
-    marks.has(sleeper.awaited.koid()) && is_due(by_koid, &sleeper.awaited)
+    marks.has(sleeper.awaited.koid()) && is_due(by_koid, children, &sleeper.awaited)
 }
 
 /// Whether what is waited for is there.
 #[tactic(auto, using(crate::proofs::ByKoid::by_koid))]
-pub(crate) fn is_due(by_koid: &BTreeMap<Koid, Object>, awaited: &Awaited) -> bool
+pub(crate) fn is_due(
+    by_koid: &BTreeMap<Koid, Object>,
+    children: &Children,
+    awaited: &Awaited,
+) -> bool
+    requires { IsIndexed children.now by_koid.now.entries }
     ensures { result ≡ is_due by_koid.now.entries awaited.now }
 {
     match awaited {
         Awaited::SignalOf { koid, mask } => {
-            u64::from(signals_at(by_koid, *koid).bits()) & mask != 0
+            u64::from(signals_at(by_koid, children, *koid).bits()) & mask != 0
         }
         Awaited::PacketAt(port) => has_packet(by_koid, *port),
     }

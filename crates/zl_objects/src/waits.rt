@@ -13,7 +13,7 @@ ghost use Rattle.zl_objects.specs.Waits.{firing, next_in, packet_of, unwatched, 
 use crate::listing::unlist;
 use crate::object::Object;
 use crate::objects::Objects;
-use crate::wait::{Asked, Wait};
+use crate::wait::Wait;
 use bitflags::Flags;
 use std::alloc::{AllocError, AllocFailed};
 use std::collections::BTreeMap;
@@ -97,12 +97,9 @@ impl Objects {
         ensures ok { OnOk result (self.new ≡ watching self.old wait) }
         ensures unchanged { OnErr result (self.new ≡ self.old) }
     {
-        self.waits.push_back(wait)?;
-        if stand(&mut self.by_koid, wait, self.waits_made).is_err() {
-            self.waits.pop_back();
-            return Err(AllocError);
-        }
-        self.waits_made += 1;
+        self.waits.reserve()?;
+        stand(&mut self.by_koid, wait, self.waits.made)?;
+        self.waits.push_reserved(wait);
         // A signal that is active already counts too.
         self.marks.add_if(true, wait.object);
         Ok(())
@@ -118,8 +115,8 @@ impl Objects {
         ensures rest { self.new ≡ unwatching (unlisting (is_made_at koid pid value) self.old) koid
             (is_by_handle pid value) }
     {
-        unlist(&mut self.waits, Asked::ByHandle(koid, pid, value));
         let wait = take_handle(&mut self.by_koid, koid, pid, value)?;
+        unlist(&mut self.waits, wait.order);
         give_back(&mut self.by_koid, wait.port);
         Some(wait)
     }
@@ -133,8 +130,8 @@ impl Objects {
         ensures rest { self.new ≡ unwatching (unlisting (is_given_from koid port) self.old) koid
             (is_at_port port) }
     {
-        unlist(&mut self.waits, Asked::AtPort(koid, port));
         let wait = take_port(&mut self.by_koid, koid, port)?;
+        unlist(&mut self.waits, wait.order);
         give_back(&mut self.by_koid, wait.port);
         Some(wait)
     }
@@ -157,8 +154,8 @@ impl Objects {
             (unlisting (is_keyed_at koid pid value port key) self.old) koid
             (is_keyed pid value port key) }
     {
-        unlist(&mut self.waits, Asked::Keyed(koid, pid, value, port, key));
         let wait = take_key(&mut self.by_koid, koid, pid, value, port, key)?;
+        unlist(&mut self.waits, wait.order);
         give_back(&mut self.by_koid, wait.port);
         Some(wait)
     }
@@ -185,8 +182,8 @@ impl Objects {
             ≡ find (holds_at koid active.0) self.old.waits }
         ensures rest { self.new ≡ firing (unlisting (holds_at koid active.0) self.old) koid active.0 }
     {
-        unlist(&mut self.waits, Asked::Holding(koid, active));
         let wait = take_holding(&mut self.by_koid, koid, active)?;
+        unlist(&mut self.waits, wait.order);
         queue_signal(&mut self.by_koid, wait.port, packet_of(koid, active, &wait));
         self.marks
             .add_if(is_watched(&self.by_koid, wait.port), wait.port);

@@ -3,7 +3,7 @@
 use bitflags::Flags;
 use std::alloc::AllocError;
 use std::test::Fail;
-use zl_objects::{Awaited, Body, Objects, Wait};
+use zl_objects::{Awaited, Body, Life, Objects, Wait};
 use zl_rights::{Koid, Signals};
 
 /// A new event with two handles.
@@ -12,6 +12,18 @@ fn new_event(objects: &mut Objects) -> Result<Koid, AllocError> {
         return Err(AllocError);
     }
     objects.create(Body::Event, 2)
+}
+
+/// A new process of the root job.
+fn new_process(objects: &mut Objects) -> Result<Koid, AllocError> {
+    if !objects.has_koids(1) {
+        return Err(AllocError);
+    }
+    let process = Body::Process {
+        job: Objects::ROOT_JOB,
+        life: Life::Created,
+    };
+    objects.create(process, 1)
 }
 
 /// Raises a signal at the object.
@@ -107,5 +119,17 @@ fn with_more_blocked_processes_than_have_room_all_is_looked_at(
     assert!(rt; objects.is_quiet());
     objects.sleep(66, Awaited::PacketAt(event));
     assert!(rt; !objects.is_quiet());
+    Ok(())
+}
+
+#[test]
+fn each_process_that_was_made_has_room_among_the_blocked(rt: HostRuntime) -> Result<(), Fail> {
+    let mut objects = Objects::new(rt.alloc())?;
+    let event = new_event(&mut objects)?;
+    for _ in 0..70 {
+        let pid = new_process(&mut objects)?;
+        objects.sleep(pid, Awaited::PacketAt(event));
+    }
+    assert!(rt; objects.is_quiet());
     Ok(())
 }

@@ -1,13 +1,12 @@
 -- Registered waits fire one after another, in the order of the list.
 use Rattle.zl_calls.proofs.Common.{KeepSleepers}
-use Rattle.zl_calls.proofs.Common.{◌≡◌, ◌<◌, ◌≤◌, ◌+◌, ℕ, zero, suc, Bool, true, false, ◌&&◌, ◌==◌, ◌++◌, List, [], ◌∷◌, length, take, map, slice_get, refl}
+use Rattle.zl_calls.proofs.Common.{◌≡◌, ◌<◌, ℕ, Bool, true, false, ◌&&◌, ◌==◌, ◌++◌, List, [], ◌∷◌, ◌||◌, length, map, refl}
 use Rattle.zl_calls.proofs.Common.{sym, ap, ◌∙◌, subst, cond, inl, inr, Option, Some, None, arith, cases_Bool, eqb-true, eq-eqb, none-some, same_Some}
-use Rattle.zl_calls.proofs.Common.{option_map, list_any, length-append, and_from, position_or_len, is_process, Map, update, get, fired, Objects, IsConsistent}
-use Rattle.zl_calls.proofs.Common.{object_entry, object_value, world_blocked, world_value, World, or_parts, slice_get_within, packet_of, Packet, list_any-and}
+use Rattle.zl_calls.proofs.Common.{option_map, list_any, length-append, and_from, and_parts, false≢true, is_process, Map, update, get, fired, Objects}
+use Rattle.zl_calls.proofs.Common.{IsConsistent, object_entry, object_value, world_blocked, world_value, World, packet_of, Packet, zero, suc, take, or_parts}
 use Rattle.zl_calls.proofs.Common.{Watch, without_first, Port, with_packet, without_place, repacked, unlisting, at_port, changed_port, changing_port}
 use Rattle.zl_calls.proofs.Common.{signals_at, at_port_of, unwatched, unwatching, waits_in, AreBeside, FiresWaits}
 use Rattle.std.specs.List.{find}
-use Rattle.std.specs.Prelude.{◌-◌, drop}
 use Rattle.zl_rights.specs.Numbers.{meets}
 use Rattle.zl_rights.specs.Signals.{active, has_child_job, has_child_process}
 use Rattle.zl_rights.specs.Wakes.{holds}
@@ -16,7 +15,9 @@ use Rattle.zl_signals.specs.Waits.{holds as holds_there, wait_at}
 use Rattle.zl_objects.specs.declared.object.Body.{Body}
 use Rattle.zl_objects.specs.declared.object.Body.TheVariants as body
 use Rattle.zl_objects.specs.declared.object.Object.{Object}
+use Rattle.zl_objects.specs.Calm.{holds_now}
 use Rattle.zl_objects.specs.Listed.{holds_at}
+use Rattle.zl_objects.proofs.Places.{first_out}
 use Rattle.zl_objects.specs.Waits.{firing, packet_of as packet_given}
 use Rattle.zl_calls.specs.declared.process.Process.{Process}
 use Rattle.zl_calls.proofs.objects.Active.{signals_active}
@@ -27,66 +28,74 @@ use Rattle.zl_calls.proofs.lists.Updates.{sorted_seen, update_seen, update_twice
 
 -- those before the place in the list don't hold; all fire to the same world as from the objects that were first
 pub record IsFiring (ps : List Process) (first : Objects) (place : ℕ) (r : Objects) : Type 0 where
+  pub before : list_any (holds_now r.objects) (take place r.waits) ≡ false
   pub consistent : IsConsistent ps r
   pub so_far : (blocked : List ℕ) → fired (world_blocked ps r blocked) ≡ fired (world_blocked ps first blocked)
-  pub before : list_any (holds (world_value ps r)) (take place r.waits) ≡ false
   pub asleep : KeepSleepers first r
 
--- ---- an element of a list, where none before it passes
+-- ---- the first that passes
 
-cut_later : {X : Type 0} (n : ℕ) (x : X) (xs : List X) → take (1 + n) (x ∷ xs) ++ drop (1 + n + 1) (x ∷ xs) ≡ x ∷ (take n xs ++ drop (n + 1) xs)
-cut_later n x xs =
-    let one : ◌≡◌ {A = ℕ} (1 + n) (suc n) = omega arith in
-    let two : ◌≡◌ {A = ℕ} (1 + n + 1) (suc (n + 1)) = omega arith in
-    λ i. take (one i) (x ∷ xs) ++ drop (two i) (x ∷ xs)
+module _ {X : Type 0} (p q : X → Bool) where
+  -- x is the first of the list that passes p, and passes q too
+  record IsFirst (xs : List X) (x : X) : Type 0 where
+    before : List X
+    behind : List X
+    list : xs ≡ before ++ x ∷ behind
+    none : list_any p before ≡ false
+    passes : p x ≡ true
+    found : find q xs ≡ Some x
+    out : without_first q xs ≡ before ++ behind
 
-module _ {X : Type 0} where
-  at_split : (xs : List X) (i : ℕ) (x : X) → slice_get xs i ≡ Some x → xs ≡ take i xs ++ x ∷ drop (suc i) xs
-  at_split [] i x at = absurd (none-some x at)
-  at_split (y ∷ xs) zero x at = ap (λ z. z ∷ xs) (same_Some y x at)
-  at_split (y ∷ xs) (suc i) x at = ap (λ (ys : List X). y ∷ ys) (at_split xs i x at)
+  first_split : (xs : List X) (x : X) → ((y : X) → q y ≡ true → p y ≡ true) → (p x ≡ true → q x ≡ true) → find p xs ≡ Some x → IsFirst xs x
+  first_split [] x only too found = absurd (none-some x found)
+  first_split (y ∷ ys) x only too found = by_test (p y) refl found (λ rest. first_split ys x only too rest)
+    where
+      by_test : (b : Bool) → p y ≡ b → cond b (Some y) (find p ys) ≡ Some x → (find p ys ≡ Some x → IsFirst ys x) → IsFirst (y ∷ ys) x
+      by_test true is same later =
+          let one : y ≡ x = same_Some y x same in
+          let passes : p x ≡ true = ap p (sym one) ∙ is in
+          let also : q y ≡ true = ap q one ∙ too passes in
+          record {
+            before = [];
+            behind = ys;
+            list = ap (λ (z : X). z ∷ ys) one;
+            none = refl;
+            passes = passes;
+            found = rw also same;
+            out = first_out q y ys ∙ rw also refl;
+          }
+      by_test false is rest later =
+          let split : IsFirst ys x = later rest in
+          let other : q y ≡ false = elim (cases_Bool (q y)) as (λ _. q y ≡ false) [
+            | inl here ↦ absurd (false≢true (sym is ∙ only y here))
+            | inr apart ↦ apart
+          ] in
+          record {
+            before = y ∷ split.before;
+            behind = split.behind;
+            list = ap (λ (zs : List X). y ∷ zs) split.list;
+            none = rw is split.none;
+            passes = split.passes;
+            found = rw other split.found;
+            out = first_out q y ys ∙ rw other (ap (λ (zs : List X). y ∷ zs) split.out);
+          }
 
-  take_again : (xs ys : List X) (i : ℕ) → i ≤ length xs → take i (take i xs ++ ys) ≡ take i xs
-  take_again xs ys zero within = refl
-  take_again [] ys (suc i) within = absurd (omega (arith, within))
-  take_again (x ∷ xs) ys (suc i) within = ap (λ (zs : List X). x ∷ zs) (take_again xs ys i (omega (arith, within)))
+-- nothing passes so far, also where one that passes has gone
+still_none : {X : Type 0} (p : X → Bool) (n : ℕ) (xs ys : List X) (x : X) → p x ≡ true → list_any p (take n (xs ++ x ∷ ys)) ≡ false
+    → list_any p (take n (xs ++ ys)) ≡ false
+still_none p zero xs ys x passes none = refl
+still_none p (suc n) [] ys x passes none = absurd (false≢true (sym (or_parts (p x) (list_any p (take n ys)) none).0 ∙ passes))
+still_none p (suc n) (z ∷ zs) ys x passes none =
+    let both = or_parts (p z) (list_any p (take n (zs ++ x ∷ ys))) none in
+    rw both.0 (still_none p n zs ys x passes both.1)
 
-  module _ (test : X → Bool) where
-    first_out : (x : X) (xs : List X) → without_first test (x ∷ xs) ≡ cond (test x) xs (x ∷ without_first test xs)
-    first_out x xs = elim (cases_Bool (test x)) as (λ _. without_first test (x ∷ xs) ≡ cond (test x) xs (x ∷ without_first test xs)) [
-      | inl here ↦ rw here refl
-      | inr apart ↦ rw apart (cut_later (position_or_len test xs) x xs)
-    ]
-
-    taken_out : (xs : List X) (i : ℕ) (x : X) → slice_get xs i ≡ Some x → list_any test (take i xs) ≡ false → test x ≡ true
-        → without_first test xs ≡ take i xs ++ drop (suc i) xs
-    taken_out [] i x at none passes = absurd (none-some x at)
-    taken_out (y ∷ xs) zero x at none passes = first_out y xs ∙ rw (ap test (same_Some y x at) ∙ passes) refl
-    taken_out (y ∷ xs) (suc i) x at none passes =
-        let both = or_parts (test y) (list_any test (take i xs)) none in
-        first_out y xs ∙ rw both.0 (ap (λ (ys : List X). y ∷ ys) (taken_out xs i x at both.1 passes))
-
-    found_at : (xs : List X) (i : ℕ) (x : X) → slice_get xs i ≡ Some x → list_any test (take i xs) ≡ false → test x ≡ true → find test xs ≡ Some x
-    found_at [] i x at none passes = absurd (none-some x at)
-    found_at (y ∷ xs) zero x at none passes = rw (ap test (same_Some y x at) ∙ passes) at
-    found_at (y ∷ xs) (suc i) x at none passes =
-        let both = or_parts (test y) (list_any test (take i xs)) none in
-        rw both.0 (found_at xs i x at both.1 passes)
-
-    none_next : (xs : List X) (i : ℕ) (x : X) → slice_get xs i ≡ Some x → list_any test (take i xs) ≡ false → test x ≡ false
-        → list_any test (take (suc i) xs) ≡ false
-    none_next [] i x at none fails = absurd (none-some x at)
-    none_next (y ∷ xs) zero x at none fails = rw (ap test (same_Some y x at) ∙ fails) refl
-    none_next (y ∷ xs) (suc i) x at none fails =
-        let both = or_parts (test y) (list_any test (take i xs)) none in
-        rw both.0 (none_next xs i x at both.1 fails)
-
-    none_at_all : (xs : List X) (i : ℕ) → slice_get xs i ≡ None → list_any test (take i xs) ≡ false → list_any test xs ≡ false
-    none_at_all [] i past none = refl
-    none_at_all (x ∷ xs) zero past none = absurd (none-some x (sym past))
-    none_at_all (x ∷ xs) (suc i) past none =
-        let both = or_parts (test x) (list_any test (take i xs)) none in
-        rw both.0 (none_at_all xs i past both.1)
+none_passes : {X : Type 0} (p : X → Bool) (xs : List X) → find p xs ≡ None → list_any p xs ≡ false
+none_passes p [] none = refl
+none_passes {X} p (x ∷ xs) none = by_test (p x) none (λ rest. none_passes p xs rest)
+  where
+    by_test : (b : Bool) → cond b (Some x) (find p xs) ≡ None → (find p xs ≡ None → list_any p xs ≡ false) → (b || list_any p xs) ≡ false
+    by_test true h later = absurd (none-some x (sym h))
+    by_test false h later = later h
 
 -- ---- the waits that hold
 
@@ -113,37 +122,31 @@ at_object w k = λ i. λ (x : Wait). by_key x.object x.mask i
       | inr apart ↦ rw apart refl
     ]
 
-none_at : (w : World) (k : ℕ) (xs : List Wait) → list_any (holds w) xs ≡ false → list_any (holds_at k (active w k)) xs ≡ false
-none_at w k xs none = ap (λ (test : Wait → Bool). list_any test xs) (at_object w k) ∙ list_any-and (holds w) (λ x. x.object == k) xs none
-
 -- ---- the loop
 
+-- the objects alone tell which hold
+told_by_objects : (ps : List Process) (r : Objects) → IsConsistent ps r → holds (world_value ps r) ≡ holds_now r.objects
+unfolding holds
+told_by_objects ps r consistent = λ i. λ (x : Wait). meets (sym (signals_active ps r consistent x.object) i) x.mask
+
 module _ (ps : List Process) (first : Objects) (place : ℕ) (r : Objects) (so_far : IsFiring ps first place r) where
+  abbrev is_held : Wait → Bool
+  is_held = holds (world_value ps r)
+
   -- signals of the object k
   module _ (k a : ℕ) (is : a ≡ signals_at r.objects k) where
     active_here : a ≡ active (world_value ps r) k
     active_here = is ∙ signals_active ps r so_far.consistent k
 
-    none_first : list_any (holds_at k a) (take place r.waits) ≡ false
-    none_first =
-        subst (λ (n : ℕ). list_any (holds_at k n) (take place r.waits) ≡ false) (sym active_here)
-        (none_at (world_value ps r) k (take place r.waits) so_far.before)
+    held_here : (x : Wait) → holds_at k a x ≡ ((x.object == k) && is_held x)
+    held_here x = ap (λ (n : ℕ). holds_at k n x) active_here ∙ ap (λ (test : Wait → Bool). test x) (at_object (world_value ps r) k)
 
     abbrev fired_here : Objects
     fired_here = firing (unlisting (holds_at k a) r) k a
 
-    -- the wait at the place is the earliest there that holds
-    module _ (y : Watch) (at : slice_get r.waits place ≡ Some (wait_at k y)) (now : meets a y.mask.0 ≡ true)
+    -- the wait is the earliest of all that holds
+    module _ (y : Watch) (split : IsFirst is_held (holds_at k a) r.waits (wait_at k y))
         (earliest : find (holds_there a) (waits_in (get r.objects k)) ≡ Some y) where
-      abbrev before_it : List Wait
-      before_it = take place r.waits
-
-      abbrev behind_it : List Wait
-      behind_it = drop (suc place) r.waits
-
-      waits_are : fired_here.waits ≡ before_it ++ behind_it
-      waits_are = taken_out (holds_at k a) r.waits place (wait_at k y) at none_first (and_from (k == k) (meets a y.mask.0) (eq-eqb k k refl) now)
-
       -- the place is given back first, and then the packet comes
       abbrev without_it : Objects
       without_it = unwatching (unlisting (holds_at k a) r) k (holds_there a)
@@ -198,97 +201,84 @@ module _ (ps : List Process) (first : Objects) (place : ℕ) (r : Objects) (so_f
             (packed_seen with_it (λ qs. qs ++ packet_given k a y ∷ []) (λ x. refl))
             ∙ (λ i. update (beside_seen ps r without_it beside_it i) y.port (repacked (λ (qs : List Packet). qs ++ packet_same i ∷ []))))
 
-        world_is : world_blocked ps fired_here blocked ≡ after_one w before_it behind_it (wait_at k y)
-        world_is = λ i. record w { objects = seen i; waits = waits_are i }
+        world_is : world_blocked ps fired_here blocked ≡ after_one w split.before split.behind (wait_at k y)
+        world_is = λ i. record w { objects = seen i; waits = split.out i }
 
         now_held : holds w (wait_at k y) ≡ true
-        unfolding holds
-        now_held = ap (λ (n : ℕ). meets n y.mask.0) (active_blocked ps r blocked k ∙ sym active_here) ∙ now
+        now_held = ap (λ (test : Wait → Bool). test (wait_at k y)) (holds_blocked ps r blocked) ∙ split.passes
 
         same_fired : fired (world_blocked ps fired_here blocked) ≡ fired (world_blocked ps first blocked)
         same_fired = ap fired world_is
-            ∙ (fired_one w before_it behind_it (wait_at k y) (at_split r.waits place (wait_at k y) at)
-            (ap (λ (test : Wait → Bool). list_any test before_it) (holds_blocked ps r blocked) ∙ so_far.before) now_held
+            ∙ (fired_one w split.before split.behind (wait_at k y) split.list
+            (ap (λ (test : Wait → Bool). list_any test split.before) (holds_blocked ps r blocked) ∙ split.none) now_held
             (sorted_seen object_value r.objects ∙ so_far.consistent.kept.in_order)
             ∙ so_far.so_far blocked)
 
-      same_holds : holds (world_value ps fired_here) ≡ holds (world_value ps r)
+      same_holds : holds_now fired_here.objects ≡ holds_now r.objects
       same_holds =
-          sym (holds_blocked ps fired_here [])
-          ∙ (ap holds (world_is []) ∙ (one_holds (world_blocked ps r []) before_it behind_it (wait_at k y) ∙ holds_blocked ps r []))
+          sym (told_by_objects ps fired_here fired_consistent)
+          ∙ (sym (holds_blocked ps fired_here [])
+          ∙ (ap holds (world_is []) ∙ (one_holds (world_blocked ps r []) split.before split.behind (wait_at k y)
+          ∙ (holds_blocked ps r [] ∙ told_by_objects ps r so_far.consistent))))
 
-      fired_turn : IsFiring ps first place fired_here
-      fired_turn = record {
+      fired_turn : (next : ℕ) → list_any (holds_now r.objects) (take next r.waits) ≡ false → IsFiring ps first next fired_here
+      fired_turn next none = record {
+        before = (λ i. list_any (same_holds i) (take next (split.out i)))
+            ∙ still_none (holds_now r.objects) next split.before split.behind (wait_at k y)
+            (ap (λ (test : Wait → Bool). test (wait_at k y)) (sym (told_by_objects ps r so_far.consistent)) ∙ split.passes)
+            (ap (λ (ws : List Wait). list_any (holds_now r.objects) (take next ws)) (sym split.list) ∙ none);
         consistent = fired_consistent;
         so_far = same_fired;
-        before = (λ i. list_any (same_holds i) (take place (waits_are i)))
-            ∙ (ap (list_any (holds (world_value ps r))) (take_again r.waits behind_it place (omega (arith, slice_get_within r.waits place (wait_at k y) at)))
-            ∙ so_far.before);
         asleep = so_far.asleep;
       }
 
-  -- ---- a turn
+    -- ---- a turn
 
-  -- the wait x stands at the place
-  module _ (x : Wait) (at : slice_get r.waits place ≡ Some x) (a : ℕ) (is : a ≡ signals_at r.objects x.object) where
-    -- it holds, and is taken out
-    module _ (now : meets a x.mask ≡ true) where
-      passes_here : holds_at x.object a x ≡ true
-      passes_here = and_from (x.object == x.object) (meets a x.mask) (eq-eqb x.object x.object refl) now
-
-      pub turn_fired : (taken : Option Watch) → taken ≡ find (holds_there a) (waits_in (get r.objects x.object))
-          → option_map (wait_at x.object) taken ≡ find (holds_at x.object a) r.waits
-          → IsFiring ps first place (firing (unlisting (holds_at x.object a) r) x.object a)
-      turn_fired taken earliest listed =
-          by_taken taken earliest (listed ∙ found_at (holds_at x.object a) r.waits place x at (none_first x.object a is) passes_here)
+    module _ (due : Some k ≡ option_map (λ (x : Wait). x.object) (find (holds_now r.objects) r.waits)) where
+      next : (x : Wait) × IsFirst is_held (holds_at k a) r.waits x
+      next = by_found (find (holds_now r.objects) r.waits) refl due
         where
-          by_taken : (o : Option Watch) → o ≡ find (holds_there a) (waits_in (get r.objects x.object)) → option_map (wait_at x.object) o ≡ Some x
-              → IsFiring ps first place (firing (unlisting (holds_at x.object a) r) x.object a)
-          by_taken None none some = absurd (none-some x some)
-          by_taken (Some y) earliest some =
-              let same : wait_at x.object y ≡ x = same_Some (wait_at x.object y) x some in
-              fired_turn x.object a is y (at ∙ ap (λ (z : Wait). Some z) (sym same)) (ap (λ (z : Wait). meets a z.mask) same ∙ now) (sym earliest)
-
-      pub fewer_left : length (firing (unlisting (holds_at x.object a) r) x.object a).waits - place < length r.waits - place
-      fewer_left =
-          let out : length (without_first (holds_at x.object a) r.waits) ≡ length (take place r.waits ++ drop (suc place) r.waits)
-          = ap (λ (xs : List Wait). length xs) (taken_out (holds_at x.object a) r.waits place x at (none_first x.object a is) passes_here) in
-          let whole : length r.waits ≡ length (take place r.waits ++ x ∷ drop (suc place) r.waits) =
-          ap (λ (xs : List Wait). length xs) (at_split r.waits place x at) in
-          omega (
-            arith,
-            out,
-            whole,
-            slice_get_within r.waits place x at,
-            length-append (take place r.waits) (drop (suc place) r.waits),
-            length-append (take place r.waits) (x ∷ drop (suc place) r.waits),
+          by_found : (o : Option Wait) → find (holds_now r.objects) r.waits ≡ o → Some k ≡ option_map (λ (x : Wait). x.object) o
+              → (x : Wait) × IsFirst is_held (holds_at k a) r.waits x
+          by_found None none same = absurd (none-some k (sym same))
+          by_found (Some x) found same = (
+            x,
+            first_split is_held (holds_at k a) r.waits x (λ y here. (and_parts (y.object == k) (is_held y) (sym (held_here y) ∙ here)).1)
+                (λ passes. held_here x ∙ and_from (x.object == k) (is_held x) (eq-eqb x.object k (sym (same_Some k x.object same))) passes)
+                (ap (λ (test : Wait → Bool). find test r.waits) (told_by_objects ps r so_far.consistent) ∙ found),
           )
 
-    -- it doesn't hold, and stays
-    pub turn_kept : meets a x.mask ≡ false → IsFiring ps first (place + 1) r
-    unfolding holds
-    turn_kept fails =
-        let next : place + 1 ≡ suc place = omega arith in
-        record {
-          consistent = so_far.consistent;
-          so_far = so_far.so_far;
-          before = ap (λ (n : ℕ). list_any (holds (world_value ps r)) (take n r.waits)) next
-              ∙ none_next (holds (world_value ps r)) r.waits place x at so_far.before
-              (ap (λ (n : ℕ). meets n x.mask) (sym (active_here x.object a is)) ∙ fails);
-          asleep = so_far.asleep;
-        }
+      pub turn_fired : (taken : Option Watch) → taken ≡ find (holds_there a) (waits_in (get r.objects k))
+          → option_map (wait_at k) taken ≡ find (holds_at k a) r.waits → (place2 : ℕ)
+          → list_any (holds_now r.objects) (take place2 r.waits) ≡ false → IsFiring ps first place2 fired_here
+      turn_fired taken earliest listed place2 none = by_taken taken earliest (listed ∙ next.1.found)
+        where
+          by_taken : (o : Option Watch) → o ≡ find (holds_there a) (waits_in (get r.objects k)) → option_map (wait_at k) o ≡ Some next.0
+              → IsFiring ps first place2 fired_here
+          by_taken None none some = absurd (none-some next.0 some)
+          by_taken (Some y) earliest some =
+              fired_turn y (subst (IsFirst is_held (holds_at k a) r.waits) (sym (same_Some (wait_at k y) next.0 some)) next.1) (sym earliest) place2 none
 
-  -- all waits have had their turn
-  pub all_fired : slice_get r.waits place ≡ None → FiresWaits ps first r
-  all_fired past = record {
+      pub fewer_left : length fired_here.waits < length r.waits
+      fewer_left = omega (
+        arith,
+        ap (λ (xs : List Wait). length xs) next.1.out,
+        ap (λ (xs : List Wait). length xs) next.1.list,
+        length-append next.1.before next.1.behind,
+        length-append next.1.before (next.0 ∷ next.1.behind),
+      )
+
+  -- none holds any more
+  pub all_fired : None ≡ option_map (λ (x : Wait). x.object) (find (holds_now r.objects) r.waits) → FiresWaits ps first r
+  all_fired none = record {
     world = λ blocked. sym (fired_none (world_blocked ps r blocked) (ap (λ (test : Wait → Bool). list_any test r.waits) (holds_blocked ps r blocked)
-        ∙ none_at_all (holds (world_value ps r)) r.waits place past so_far.before)) ∙ so_far.so_far blocked;
+        ∙ none_passes is_held r.waits (ap (λ (test : Wait → Bool). find test r.waits) (told_by_objects ps r so_far.consistent)
+        ∙ by_found (find (holds_now r.objects) r.waits) none)))
+        ∙ so_far.so_far blocked;
     consistent = so_far.consistent;
     asleep = so_far.asleep;
   }
-
--- ---- the place
-
-module _ (r : Objects) (place : ℕ) (x : Wait) (at : slice_get r.waits place ≡ Some x) where
-  pub fewer_behind : length r.waits - (place + 1) < length r.waits - place
-  fewer_behind = omega (arith, slice_get_within r.waits place x at)
+    where
+      by_found : (o : Option Wait) → None ≡ option_map (λ (x : Wait). x.object) o → o ≡ None
+      by_found None h = refl
+      by_found (Some x) h = absurd (none-some x.object h)

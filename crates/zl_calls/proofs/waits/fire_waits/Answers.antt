@@ -1,34 +1,27 @@
-use Rattle.zl_calls.proofs.Common.{arith, sym, ◌∙◌, wait_value}
-use Rattle.zl_calls.proofs.waits.FiringWorlds.{all_fired, fewer_behind, fewer_left, turn_fired, turn_kept}
+use Rattle.zl_calls.proofs.Common.{refl}
+use Rattle.zl_calls.proofs.waits.FiringWorlds.{all_fired, fewer_left, turn_fired}
 use Rattle.zl_calls.proofs.waits.fire_waits.Goals as goal
 
-pub loop-wait-smaller-then-intersects : goal.loop-wait-smaller-then-intersects
-loop-wait-smaller-then-intersects c =
+pub loop-due-init : goal.loop-due-init
+loop-due-init c = record { before = refl; consistent = c.requires; so_far = λ blocked. refl; asleep = (refl, refl) }
+
+pub earliest_due-requires : goal.earliest_due-requires
+earliest_due-requires c = c.loop-due.invariant.before
+
+pub loop-due-smaller : goal.loop-due-smaller
+loop-due-smaller c =
     rw (c.fire.ensures.rest)
-    (fewer_left c.args.processes.now.list.items c.args.objects.now c.loop-wait.place c.loop-wait.objects c.loop-wait.invariant (wait_value c.in-Some.wait)
-    (sym c.in-Some.ensures.wait)
-    c.signals_of-active.result.0 c.signals_of-active.ensures.signals (sym (c.intersects.ensures tt) ∙ c.if-intersects.true))
+    (fewer_left c.args.processes.now.list.items c.args.objects.now c.loop-due.place c.loop-due.objects c.loop-due.invariant c.in-Some.due.koid
+    c.in-Some.due.active.0 (c.in-Some.ensures {u = tt}).active (c.in-Some.ensures {u = tt}).object)
 
-pub loop-wait-preserved-then-intersects : goal.loop-wait-preserved-then-intersects
-loop-wait-preserved-then-intersects c =
+pub loop-due-preserved : goal.loop-due-preserved
+loop-due-preserved c =
     rw (c.fire.ensures.rest)
-    (turn_fired c.args.processes.now.list.items c.args.objects.now c.loop-wait.place c.loop-wait.objects c.loop-wait.invariant (wait_value c.in-Some.wait)
-    (sym c.in-Some.ensures.wait)
-    c.signals_of-active.result.0 c.signals_of-active.ensures.signals (sym (c.intersects.ensures tt) ∙ c.if-intersects.true) c.fire.result
-    c.fire.ensures.earliest c.fire.ensures.listed)
-
-pub overflow_add-place : goal.overflow_add-place
-overflow_add-place c = omega (arith, c.in-Some.ensures.next)
-
-pub loop-wait-smaller : goal.loop-wait-smaller
-loop-wait-smaller c = fewer_behind c.loop-wait.objects c.loop-wait.place (wait_value c.in-Some.wait) (sym c.in-Some.ensures.wait)
-
-pub loop-wait-preserved : goal.loop-wait-preserved
-loop-wait-preserved c =
-    turn_kept c.args.processes.now.list.items c.args.objects.now c.loop-wait.place c.loop-wait.objects c.loop-wait.invariant (wait_value c.in-Some.wait)
-    (sym c.in-Some.ensures.wait)
-    c.signals_of-active.result.0 c.signals_of-active.ensures.signals (sym (c.intersects.ensures tt) ∙ c.if-intersects.false)
+    (turn_fired c.args.processes.now.list.items c.args.objects.now c.loop-due.place c.loop-due.objects c.loop-due.invariant c.in-Some.due.koid
+    c.in-Some.due.active.0 (c.in-Some.ensures {u = tt}).active (c.in-Some.ensures {u = tt}).object c.fire.result c.fire.ensures.earliest
+    c.fire.ensures.listed c.in-Some.due.place (c.in-Some.ensures {u = tt}).before)
 
 pub returns : goal.returns
-returns c = all_fired c.args.processes.now.list.items c.args.objects.now c.loop-wait.place c.loop-wait.objects c.loop-wait.invariant (sym
-    c.in_default.ensures.wait)
+returns c =
+    all_fired c.args.processes.now.list.items c.args.objects.now c.loop-due.place c.loop-due.objects c.loop-due.invariant
+    (c.in_default.ensures {u = tt}).object

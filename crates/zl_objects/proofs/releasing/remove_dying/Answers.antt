@@ -7,6 +7,7 @@ pub remove_noted-requires : goal.remove_noted-requires
 remove_noted-requires c =
     let popped : c.loop-koid.dying.items ≡ c.pop.new.self.items ++ c.in-Some.koid ∷ [] = rw c.in-Some.is at c.pop.ensures.items in
     record {
+      indexed = c.loop-koid.invariant.indexed;
       fits = subst (λ (d : List ℕ). budget c.loop-koid.by_koid.entries d ≤ vec_capacity c.pop.new.self) popped
           (omega (arith, c.loop-koid.invariant.goes.cheap, c.loop-koid.invariant.capacity, c.pop.ensures.capacity, c.requires.fits));
     }
@@ -21,6 +22,7 @@ pub loop-koid-preserved : goal.loop-koid-preserved
 loop-koid-preserved c =
     let popped : c.loop-koid.dying.items ≡ c.pop.new.self.items ++ c.in-Some.koid ∷ [] = rw c.in-Some.is at c.pop.ensures.items in
     record {
+      indexed = c.remove_noted.ensures.indexed;
       goes = both_went [] [] c.args.by_koid.now.entries c.loop-koid.by_koid.entries c.remove_noted.new.by_koid.entries c.args.dying.now.items
           c.loop-koid.dying.items c.remove_noted.new.dying.items c.loop-koid.invariant.goes (rw popped c.remove_noted.ensures.goes);
       capacity = c.remove_noted.ensures.capacity ∙ (c.pop.ensures.capacity ∙ c.loop-koid.invariant.capacity);

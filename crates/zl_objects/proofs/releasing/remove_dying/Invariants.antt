@@ -1,10 +1,12 @@
 use Rattle.std.proofs.Common.{◌≡◌, ◌+◌, [], length, vec_capacity}
 use Rattle.zl_objects.specs.Dying.{LetsGo, budget}
+use Rattle.zl_objects.specs.Index.{IsIndexed}
 use Rattle.zl_objects.proofs.releasing.remove_dying.Given as goal
 
 abbrev pub invariant-loop-koid : goal.invariant-loop-koid
 invariant-loop-koid l = record {
   goes : LetsGo [] l.initial.by_koid.entries l.initial.dying.items l.by_koid.entries l.dying.items;
+  indexed : IsIndexed l.children l.by_koid.entries;
   capacity : vec_capacity l.dying ≡ vec_capacity l.initial.dying;
 }
 

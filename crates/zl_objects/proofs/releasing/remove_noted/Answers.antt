@@ -1,4 +1,4 @@
-use Rattle.zl_rights.proofs.Common.{arith, ◌≡◌, ◌+◌, ◌++◌, [], length, ℕ, Option, ap, sym, subst, ◌∙◌, without, None}
+use Rattle.zl_rights.proofs.Common.{arith, refl, ◌≡◌, ◌+◌, ◌++◌, [], length, ℕ, Option, ap, sym, subst, ◌∙◌, without, None}
 use Rattle.std.specs.Option.{option_to_list}
 use Rattle.std.specs.Vec.{vec_capacity}
 use Rattle.zl_objects.specs.Objects.{keeper_in, keeper_of, queue_of}
@@ -8,6 +8,7 @@ use Rattle.zl_objects.specs.Waits.{ending_waits}
 use Rattle.zl_objects.proofs.Budget.{IsTaken, fewer_ending, kept_went, less_ending, less_noted, none_left_at, none_taken, none_went, no_queue, one_taken}
 use Rattle.zl_objects.proofs.Budget.{room_noted, taken, unkept_went}
 use Rattle.zl_objects.proofs.Ending.{ended_by}
+use Rattle.zl_objects.proofs.Index.{gone_indexed, left_indexed}
 use Rattle.zl_objects.proofs.Released.{cascaded_shorter, cascades_of}
 use Rattle.zl_objects.proofs.releasing.remove_noted.Goals as goal
 
@@ -89,6 +90,15 @@ returns-in-ChannelEnd-clause-less c =
           c.let_go_queue.new.by_koid.entries (c.args.dying.now.items ++ option_to_list (keeper_of c.in-Some.gone.body)) c.let_go_queue.new.dying.items went),
     )
 
+pub returns-in-ChannelEnd-clause-indexed : goal.returns-in-ChannelEnd-clause-indexed
+returns-in-ChannelEnd-clause-indexed c =
+    let was : IsTaken c.args.by_koid.now.entries c.args.koid c.in-Some.gone =
+    taken c.args.by_koid.now.entries c.args.koid c.in-Some.gone (sym c.take_unkept.ensures.taken ∙ c.in-Some.is) in
+    left_indexed (named_in c.in-ChannelEnd.queue) (gone_indexed c.args.koid c.in-Some.gone c.requires.indexed c.remove.ensures
+    (c.end_waits.ensures ∙ ended_by c.args.by_koid.now.entries c.take_unkept.new.by_koid.entries c.args.koid c.in-Some.gone c.has_reserved-reserved.result
+    was.there (c.take_unkept.ensures.left ∙ was.left) c.has_reserved-reserved.ensures))
+    (cascades_of (named_in c.in-ChannelEnd.queue) _ _ _ _ c.let_go_queue.ensures.goes)
+
 pub returns : goal.returns
 returns c =
     let was : IsTaken c.args.by_koid.now.entries c.args.koid c.in-Some.gone =
@@ -114,4 +124,5 @@ returns c =
         fewer_ending c.args.by_koid.now.entries c.args.dying.now.items c.args.koid c.in-Some.gone was.there,
       );
       capacity = c.note_keeper.ensures.capacity;
+      indexed = gone_indexed c.args.koid c.in-Some.gone c.requires.indexed c.remove.ensures refl;
     })

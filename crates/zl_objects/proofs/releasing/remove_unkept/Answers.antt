@@ -14,6 +14,7 @@ pub remove_dying-requires : goal.remove_dying-requires
 remove_dying-requires c =
     let noted : c.push_reserved.new.self.items ≡ c.args.koid ∷ [] = c.push_reserved.ensures.items ∙ rw c.requires.none refl in
     record {
+      indexed = c.requires.indexed;
       fits = rw noted (omega (
         arith,
         test_fits c.args.by_koid.now.entries c.args.koid (sym c.is_unkept.ensures ∙ c.if-is_unkept.true),

@@ -3,10 +3,11 @@ use Rattle.zl_objects.proofs.Sweeps.{sweep_begins, sweep_ends, sweep_goes_on, sw
 use Rattle.zl_objects.proofs.releasing.sweep.Goals as goal
 
 pub loop-koid-init : goal.loop-koid-init
-loop-koid-init c = record { sweeps = sweep_begins c.args.by_koid.now.entries; none = c.requires.none; capacity = refl }
+loop-koid-init c = record { indexed = c.requires.indexed; sweeps = sweep_begins c.args.by_koid.now.entries; none = c.requires.none; capacity = refl }
 
 pub remove_unkept-requires : goal.remove_unkept-requires
 remove_unkept-requires c = record {
+  indexed = c.loop-koid.invariant.indexed;
   none = c.loop-koid.invariant.none;
   room = omega (
     arith,
@@ -28,6 +29,7 @@ overflow_add-from c = omega (
 
 pub loop-koid-preserved : goal.loop-koid-preserved
 loop-koid-preserved c = record {
+  indexed = c.remove_unkept.ensures.indexed;
   sweeps = sweep_goes_on c.args.by_koid.now.entries c.loop-koid.by_koid.entries c.remove_unkept.new.by_koid.entries c.loop-koid.from c.in-Some.koid
       c.loop-koid.invariant.sweeps (c.in-Some.ensures {u = tt}).next c.remove_unkept.ensures.goes;
   none = c.remove_unkept.ensures.none;

@@ -1,10 +1,12 @@
 use Rattle.std.proofs.Common.{◌≡◌, ◌-◌, ◌^◌, [], vec_capacity}
+use Rattle.zl_objects.specs.Index.{IsIndexed}
 use Rattle.zl_objects.proofs.Sweeps.{Sweeps}
 use Rattle.zl_objects.proofs.releasing.sweep.Given as goal
 
 abbrev pub invariant-loop-koid : goal.invariant-loop-koid
 invariant-loop-koid l = record {
   sweeps : Sweeps l.from l.initial.by_koid.entries l.by_koid.entries;
+  indexed : IsIndexed l.children l.by_koid.entries;
   none : l.dying.items ≡ [];
   capacity : vec_capacity l.dying ≡ vec_capacity l.initial.dying;
 }

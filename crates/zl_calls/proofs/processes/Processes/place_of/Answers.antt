@@ -1,7 +1,7 @@
 use Rattle.zl_calls.proofs.Common.{rules, ◌∙◌, process_value}
 use Rattle.std.proofs.lemmas.List.Sorted.{answers_always}
 use Rattle.zl_calls.specs.declared.process.Process.{Process}
-use Rattle.zl_calls.proofs.lists.Searching.{searched}
+use Rattle.zl_objects.proofs.Searching.{searched}
 use Rattle.zl_calls.proofs.processes.Written.{place_is}
 use Rattle.zl_calls.proofs.processes.Processes.place_of.Goals as goal
 

@@ -7,6 +7,7 @@ use Rattle.zl_objects.specs.Ports.{at_port}
 use Rattle.zl_objects.proofs.ByKoid.{written}
 use Rattle.zl_objects.proofs.CalmChanges.{port_calm, some_out}
 use Rattle.zl_objects.proofs.Kept.{port_kept}
+use Rattle.zl_objects.proofs.Index.{port_indexed}
 use Rattle.zl_objects.proofs.objects.Objects.cancel.Goals as goal
 
 pub invariant_of-self-2 : goal.invariant_of-self-2
@@ -26,6 +27,8 @@ invariant_of-self-2 c =
           (c.get_mut.follows.lender c.cancel.new.self).entries c.args.koid (written c.self.inside.by_koid.entries _ c.args.koid (at_port out)
           c.in-Some.object.now c.cancel.new.self there c.cancel.ensures.rest set)
           c.self.invariant.calm;
+      indexed = port_indexed out c.args.koid c.self.invariant.indexed
+          (written c.self.inside.by_koid.entries _ c.args.koid (at_port out) c.in-Some.object.now c.cancel.new.self there c.cancel.ensures.rest set);
     }
 
 pub returns-clause-rest : goal.returns-clause-rest

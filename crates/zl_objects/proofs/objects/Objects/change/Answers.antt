@@ -3,6 +3,7 @@ use Rattle.zl_objects.proofs.ByKoid.{by_koid}
 use Rattle.zl_objects.specs.Objects.{raised_changed}
 use Rattle.zl_objects.proofs.CalmChanges.{found_calm, keeps_changed}
 use Rattle.zl_objects.proofs.Kept.{changed_kept}
+use Rattle.zl_objects.proofs.Index.{kept_indexed}
 use Rattle.zl_objects.proofs.objects.Objects.change.Goals as goal
 
 pub invariant_of-self-2 : goal.invariant_of-self-2
@@ -15,4 +16,6 @@ invariant_of-self-2 c =
           c.self.inside.by_koid.entries
           (c.get_mut.follows.lender c.change.new.self).entries c.args.koid c.in-Some.object.now c.change.new.self (search rules)
           c.is_watched.result c.is_watched.ensures c.add_if.ensures.wanted c.change.ensures (search (rules, by_koid)) c.self.invariant.calm;
+      indexed = kept_indexed (raised_changed c.args.clear.0 c.args.set.0) (keeps_changed c.args.clear.0 c.args.set.0) c.args.koid
+          c.self.invariant.indexed (search (rules, by_koid));
     }

@@ -1,15 +1,21 @@
-use Rattle.std.proofs.Common.{arith, ap, vec_capacity}
+use Rattle.std.proofs.Common.{arith, ap, sym, vec_capacity}
 use Rattle.zl_signals.specs.Waits.{SignalState}
 use Rattle.zl_objects.proofs.CalmMade.{created_calm}
+use Rattle.zl_objects.proofs.Index.{inserted_indexed}
 use Rattle.zl_objects.proofs.Kept.{inserted_kept}
+use Rattle.zl_objects.proofs.Whole.{unless_err}
 use Rattle.zl_objects.proofs.objects.Objects.create.Goals as goal
 
-pub invariant_of-self-2 : goal.invariant_of-self-2
-invariant_of-self-2 c = record {
-  kept = inserted_kept c.self.inside.by_koid.entries c.insert.new.self.entries c.self.inside.next_koid (vec_capacity c.self.inside.dying)
-      (vec_capacity c.reserve.new.self) c.self.inside.dying.items c.reserve.new.self.items _ c.self.invariant.kept c.requires.alone c.requires.unreserved
-      (ap (λ (s : SignalState). s.waits) c.new.ensures) c.reserve.ensures.items (omega (arith, c.in_ok-reserve.ensures.ok, c.len.ensures.len))
-      c.in_ok-insert.ensures.entries;
-  calm = created_calm c.self.inside.by_koid.entries c.self.inside.next_koid _ c.self.invariant.kept.whole.below c.self.invariant.kept.whole.peers
-      (ap (λ (s : SignalState). s.waits) c.new.ensures) c.insert.new.self.entries c.in_ok-insert.ensures.entries c.self.invariant.calm;
-}
+pub invariant_of-self-3 : goal.invariant_of-self-3
+invariant_of-self-3 c =
+    let entered = unless_err c.insert.result _ c.insert.ensures.entries (sym (c.if-is_err.ensures {u = tt}).value) in
+    record {
+      kept = inserted_kept c.self.inside.by_koid.entries c.insert.new.self.entries c.self.inside.next_koid (vec_capacity c.self.inside.dying)
+          (vec_capacity c.reserve.new.self) c.self.inside.dying.items c.reserve.new.self.items _ c.self.invariant.kept c.requires.alone c.requires.unreserved
+          (ap (λ (s : SignalState). s.waits) c.new.ensures) c.reserve.ensures.items
+          (omega (arith, c.in_ok-reserve.ensures.ok, c.len-count.ensures.len)) entered;
+      calm = rw c.make_room_if.ensures.list (created_calm c.self.inside.by_koid.entries c.self.inside.next_koid _ c.self.invariant.kept.whole.below
+          c.self.invariant.kept.whole.peers (ap (λ (s : SignalState). s.waits) c.new.ensures) c.insert.new.self.entries entered c.self.invariant.calm);
+      indexed = inserted_indexed c.self.inside.next_koid _ c.self.invariant.indexed c.add.ensures.others (rw c.keeper.ensures at c.in_ok-add.ensures.added)
+          entered;
+    }

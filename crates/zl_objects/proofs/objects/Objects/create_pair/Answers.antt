@@ -1,6 +1,7 @@
 use Rattle.std.proofs.Common.{◌≡◌, ◌+◌, arith, nat_cmp, refl, sym, vec_capacity}
 use Rattle.std.specs.BTreeMap.{insert_entry}
 use Rattle.zl_objects.proofs.CalmMade.{pair_calm}
+use Rattle.zl_objects.proofs.Index.{pair_indexed}
 use Rattle.zl_objects.proofs.Kept.{pair_kept, roomy_kept}
 use Rattle.zl_objects.proofs.Whole.{pair_created, end_taken, if_err, unless_err}
 use Rattle.zl_objects.proofs.objects.Objects.create_pair.Goals as goal
@@ -20,6 +21,8 @@ invariant_of-self-2 c =
           c.self.invariant.kept.whole.peers
           c.args.pair c.args.handles c.new_end-2.result c.insert.new.self.entries c.insert-2.new.self.entries c.new_end.ensures c.new_end-2.ensures
           c.in_ok-insert.ensures.entries entered c.self.invariant.calm;
+      indexed = pair_indexed c.args.pair c.args.handles c.self.inside.next_koid c.new_end.result c.new_end-2.result c.self.invariant.indexed c.new_end.ensures
+          c.new_end-2.ensures c.in_ok-insert.ensures.entries entered;
     }
 
 pub returns-clause-created : goal.returns-clause-created
@@ -51,4 +54,5 @@ invariant_of-self-then-is_err c =
           (vec_capacity c.reserve.new.self) c.self.inside.dying.items c.reserve.new.self.items c.self.invariant.kept same
           c.reserve.ensures.items c.reserve.ensures.capacity;
       calm = rw same c.self.invariant.calm;
+      indexed = rw same c.self.invariant.indexed;
     }

@@ -1,19 +1,24 @@
 use Rattle.zl_rights.proofs.Common.{◌≡◌, ◌∷◌, Some, get, arith, map, refl, subst, sym, [], ◌∙◌}
 use Rattle.std.specs.Vec.{vec_capacity}
-use Rattle.zl_objects.specs.Listed.{wait_value}
+use Rattle.zl_objects.specs.Listed.{listed_value}
 use Rattle.zl_objects.specs.Objects.{Objects, job_in}
 use Rattle.zl_objects.specs.Waits.{LeavesWaits}
 use Rattle.zl_objects.proofs.CalmChanges.{left_calm}
 use Rattle.zl_objects.proofs.Kept.{left_kept}
-use Rattle.zl_objects.proofs.Listed.{all_there}
+use Rattle.zl_objects.proofs.Listed.{all_seen}
 use Rattle.zl_objects.proofs.Released.{all_places, all_thin, both_released, cascaded_shorter, cascades_of, waits_left}
 use Rattle.zl_objects.proofs.objects.Objects.end.Goals as goal
 
 pub remove_unkept-requires : goal.remove_unkept-requires
-remove_unkept-requires c = record { none = c.self-in-Some.invariant.kept.whole.none; room = c.self-in-Some.invariant.kept.whole.enough }
+remove_unkept-requires c = record {
+  indexed = c.self-in-Some.invariant.indexed;
+  none = c.self-in-Some.invariant.kept.whole.none;
+  room = c.self-in-Some.invariant.kept.whole.enough;
+}
 
 pub remove_unkept-requires-in-Some : goal.remove_unkept-requires-in-Some
 remove_unkept-requires-in-Some c = record {
+  indexed = c.remove_unkept.ensures.indexed;
   none = c.remove_unkept.ensures.none;
   room = omega (
     arith,
@@ -28,8 +33,8 @@ pub invariant_of-self : goal.invariant_of-self
 invariant_of-self c =
     let released = both_released c.self-in-Some.inside.by_koid.entries c.remove_unkept.new.by_koid.entries c.remove_unkept-in-Some.new.by_koid.entries
     c.args.pid c.in-Some.job c.remove_unkept.ensures.goes c.remove_unkept-in-Some.ensures.goes c.self-in-Some.inside.sleepers.list.items
-    c.self-in-Some.inside.sleepers.crowded c.self-in-Some.inside.next_koid c.self-in-Some.inside.waits_made
-    (map wait_value c.self-in-Some.inside.waits.items) (map wait_value c.keep_there.new.waits.items) in
+    c.self-in-Some.inside.sleepers.crowded c.self-in-Some.inside.next_koid c.self-in-Some.inside.waits.made c.keep_there.new.waits.made
+    (map listed_value c.self-in-Some.inside.waits.entries.items) (map listed_value c.keep_there.new.waits.entries.items) in
     record {
       kept =
           left_kept [] c.self-in-Some.inside.by_koid.entries c.remove_unkept-in-Some.new.by_koid.entries c.self-in-Some.inside.next_koid
@@ -41,10 +46,11 @@ invariant_of-self c =
           c.in-Some.job
           c.remove_unkept.ensures.goes c.remove_unkept-in-Some.ensures.goes)
           c.self-in-Some.invariant.kept c.remove_unkept-in-Some.ensures.none (c.remove_unkept-in-Some.ensures.capacity ∙ c.remove_unkept.ensures.capacity)
-          c.keep_there.ensures;
+          c.keep_there.ensures.entries;
       calm = left_calm c.add_all.ensures c.self-in-Some.inside.by_koid.entries c.remove_unkept-in-Some.new.by_koid.entries
           (all_thin c.self-in-Some.inside.by_koid.entries c.remove_unkept.new.by_koid.entries c.remove_unkept-in-Some.new.by_koid.entries c.args.pid
           c.in-Some.job c.remove_unkept.ensures.goes c.remove_unkept-in-Some.ensures.goes) c.self-in-Some.invariant.calm;
+      indexed = c.remove_unkept-in-Some.ensures.indexed;
     }
 
 pub returns-in-Some-clause-ends : goal.returns-in-Some-clause-ends
@@ -53,21 +59,21 @@ returns-in-Some-clause-ends c =
     rw job (rw (← c.stop.ensures, ← c.self-in-Some.view_is)
     (both_released c.self-in-Some.inside.by_koid.entries c.remove_unkept.new.by_koid.entries c.remove_unkept-in-Some.new.by_koid.entries
     c.args.pid c.in-Some.job c.remove_unkept.ensures.goes c.remove_unkept-in-Some.ensures.goes c.self-in-Some.inside.sleepers.list.items
-    c.self-in-Some.inside.sleepers.crowded c.self-in-Some.inside.next_koid c.self-in-Some.inside.waits_made
-    (map wait_value c.self-in-Some.inside.waits.items) (map wait_value c.keep_there.new.waits.items)))
+    c.self-in-Some.inside.sleepers.crowded c.self-in-Some.inside.next_koid c.self-in-Some.inside.waits.made c.keep_there.new.waits.made
+    (map listed_value c.self-in-Some.inside.waits.entries.items) (map listed_value c.keep_there.new.waits.entries.items)))
 
 pub returns-in-Some-clause-waits : goal.returns-in-Some-clause-waits
 returns-in-Some-clause-waits c =
     let released = both_released c.self-in-Some.inside.by_koid.entries c.remove_unkept.new.by_koid.entries c.remove_unkept-in-Some.new.by_koid.entries
     c.args.pid c.in-Some.job c.remove_unkept.ensures.goes c.remove_unkept-in-Some.ensures.goes c.self-in-Some.inside.sleepers.list.items
-    c.self-in-Some.inside.sleepers.crowded c.self-in-Some.inside.next_koid c.self-in-Some.inside.waits_made
-    (map wait_value c.self-in-Some.inside.waits.items) (map wait_value c.keep_there.new.waits.items) in
+    c.self-in-Some.inside.sleepers.crowded c.self-in-Some.inside.next_koid c.self-in-Some.inside.waits.made c.keep_there.new.waits.made
+    (map listed_value c.self-in-Some.inside.waits.entries.items) (map listed_value c.keep_there.new.waits.entries.items) in
     let job : job_in (get c.args.self.now.objects c.args.pid) ≡ Some c.in-Some.job = rw (← c.self.view_is) (sym c.job_of.ensures ∙ c.in-Some.is) in
     rw job (subst (λ (r : Objects). LeavesWaits r (record {
       objects = c.remove_unkept-in-Some.new.by_koid.entries;
       next_koid = c.self-in-Some.inside.next_koid;
-      waits = map wait_value c.keep_there.new.waits.items;
-      waits_made = c.self-in-Some.inside.waits_made;
+      waits = map listed_value c.keep_there.new.waits.entries.items;
+      waits_made = c.keep_there.new.waits.made;
       sleepers = c.self-in-Some.inside.sleepers.list.items;
       crowded = c.self-in-Some.inside.sleepers.crowded;
     })) (c.self-in-Some.view_is ∙ c.stop.ensures)
@@ -88,7 +94,7 @@ returns-in_default-clause-waits c = rw (← c.self.view_is, sym c.job_of.ensures
 
 pub returns-in_default-clause-listed : goal.returns-in_default-clause-listed
 returns-in_default-clause-listed c = rw (← c.self.view_is) record {
-  waits = sym (all_there (map wait_value c.self.inside.waits.items) c.self.inside.by_koid.entries c.self.invariant.kept.whole.places
+  waits = sym (all_seen c.self.inside.waits.entries.items c.self.inside.by_koid.entries c.self.invariant.kept.whole.places
       c.self.invariant.kept.listed);
   made = refl;
   asleep = (refl, refl);

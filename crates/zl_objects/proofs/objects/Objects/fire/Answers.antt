@@ -1,12 +1,12 @@
-use Rattle.std.proofs.Common.{refl, sym, ap, map, option_map, vec_capacity, ◌∙◌}
+use Rattle.std.proofs.Common.{refl, rules, sym, ap, option_map, vec_capacity, ◌∙◌}
 use Rattle.zl_rights.specs.Numbers.{meets}
 use Rattle.zl_port.specs.Packets.{Port, with_packet, without_place}
 use Rattle.zl_signals.specs.Waits.{holds, wait_at}
-use Rattle.zl_objects.specs.Listed.{wait_value}
 use Rattle.zl_objects.specs.Ports.{at_port}
 use Rattle.zl_objects.proofs.CalmChanges.{keeps_port, unless_wanted, unwatched_calm, watched_after, written_calm}
-use Rattle.zl_objects.proofs.Kept.{gone_kept, none_out_kept}
-use Rattle.zl_objects.proofs.Listed.{found_listed}
+use Rattle.zl_objects.proofs.Index.{port_indexed, unwatched_indexed}
+use Rattle.zl_objects.proofs.Kept.{gone_kept, gone_seen, none_out_kept, none_out_seen}
+use Rattle.zl_objects.proofs.Listed.{found_seen}
 use Rattle.zl_objects.proofs.Places.{place_there}
 use Rattle.zl_objects.proofs.Whole.{one_out_whole}
 use Rattle.zl_objects.proofs.objects.Objects.fire.Goals as goal
@@ -14,12 +14,11 @@ use Rattle.zl_objects.proofs.objects.Objects.fire.Goals as goal
 pub invariant_of-self : goal.invariant_of-self
 invariant_of-self c =
     record {
-      kept =
-          none_out_kept c.args.koid (λ x. meets c.args.active.0 x.mask) c.self.inside.by_koid.entries c.take_holding.new.by_koid.entries c.self.inside.next_koid
-          (vec_capacity c.self.inside.dying) c.self.inside.dying.items _ c.self.invariant.kept c.unlist.ensures c.take_holding.ensures.rest
+      kept = none_out_kept c.args.koid (λ x. meets c.args.active.0 x.mask) c.self.invariant.kept c.take_holding.ensures.rest
           (sym c.take_holding.ensures.earliest ∙ c.in_err-wait.was {u = tt});
       calm = unwatched_calm (holds c.args.active.0) c.self.inside.by_koid.entries
           c.take_holding.new.by_koid.entries c.args.koid c.take_holding.ensures.rest c.self.invariant.calm;
+      indexed = unwatched_indexed (holds c.args.active.0) c.args.koid c.self.invariant.indexed c.take_holding.ensures.rest;
     }
 
 pub queue_signal-requires : goal.queue_signal-requires
@@ -34,27 +33,40 @@ invariant_of-self-2 c =
     let gives : Port → Port = λ p. with_packet (without_place p) c.packet_of.result in
     record {
       kept =
-          gone_kept c.args.koid (λ x. meets c.args.active.0 x.mask) c.self.inside.by_koid.entries c.take_holding.new.by_koid.entries c.self.inside.next_koid
-          (vec_capacity c.self.inside.dying) c.self.inside.dying.items _ c.self.invariant.kept c.unlist.ensures c.take_holding.ensures.rest c.in_ok-wait.wait
-          (sym c.take_holding.ensures.earliest ∙ c.in_ok-wait.was {u = tt}) (λ p. with_packet (without_place p) c.packet_of.result)
-          (λ p. refl) c.queue_signal.new.by_koid.entries c.queue_signal.ensures;
+          gone_kept c.args.koid (λ x. meets c.args.active.0 x.mask) c.self.invariant.kept c.take_holding.ensures.rest c.self.inside.waits.rising
+          (sym c.take_holding.ensures.earliest ∙ c.in_ok-wait.was {u = tt}) c.unlist.ensures.entries gives (λ p. refl) c.queue_signal.new.by_koid.entries
+          c.queue_signal.ensures;
       calm = written_calm c.add_if.ensures.more (at_port gives) (keeps_port gives) c.take_holding.new.by_koid.entries c.queue_signal.new.by_koid.entries
           c.in_ok-wait.wait.port (λ o at unmarked. unless_wanted _ c.is_watched.result c.add_if.ensures.wanted unmarked _ (watched_after (at_port gives)
           c.take_holding.new.by_koid.entries c.in_ok-wait.wait.port c.is_watched.result o at (rw c.queue_signal.ensures at c.is_watched.ensures)))
           c.queue_signal.ensures
           (unwatched_calm (holds c.args.active.0) c.self.inside.by_koid.entries
           c.take_holding.new.by_koid.entries c.args.koid c.take_holding.ensures.rest c.self.invariant.calm);
+      indexed = port_indexed gives c.in_ok-wait.wait.port
+          (unwatched_indexed (holds c.args.active.0) c.args.koid c.self.invariant.indexed c.take_holding.ensures.rest) c.queue_signal.ensures;
     }
+
+pub returns-in_err-wait-clause-rest : goal.returns-in_err-wait-clause-rest
+returns-in_err-wait-clause-rest c =
+    let seen = none_out_seen c.args.koid (λ x. meets c.args.active.0 x.mask) c.self.invariant.kept c.take_holding.ensures.rest
+    (sym c.take_holding.ensures.earliest ∙ c.in_err-wait.was {u = tt}) in
+    search rules
+
+pub returns-clause-rest : goal.returns-clause-rest
+returns-clause-rest c =
+    let seen = gone_seen c.args.koid (λ x. meets c.args.active.0 x.mask) c.self.invariant.kept c.take_holding.ensures.rest c.self.inside.waits.rising
+    (sym c.take_holding.ensures.earliest ∙ c.in_ok-wait.was {u = tt}) c.unlist.ensures.entries in
+    search rules
 
 pub returns-in_err-wait-clause-listed : goal.returns-in_err-wait-clause-listed
 returns-in_err-wait-clause-listed c =
     rw (← c.self.view_is)
     (ap (option_map (wait_at c.args.koid)) (c.from_residual.ensures ∙ (sym (c.in_err-wait.was {u = tt}) ∙ c.take_holding.ensures.earliest))
-    ∙ sym (found_listed c.args.koid (λ x. meets c.args.active.0 x.mask) (map wait_value c.self.inside.waits.items) c.self.inside.by_koid.entries
+    ∙ sym (found_seen c.args.koid (λ x. meets c.args.active.0 x.mask) c.self.inside.waits.entries.items c.self.inside.by_koid.entries
     c.self.invariant.kept.listed))
 
 pub returns-clause-listed : goal.returns-clause-listed
 returns-clause-listed c =
     rw (← c.self.view_is) (ap (option_map (wait_at c.args.koid)) (sym (c.in_ok-wait.was {u = tt}) ∙ c.take_holding.ensures.earliest)
-    ∙ sym (found_listed c.args.koid (λ x. meets c.args.active.0 x.mask) (map wait_value c.self.inside.waits.items) c.self.inside.by_koid.entries
+    ∙ sym (found_seen c.args.koid (λ x. meets c.args.active.0 x.mask) c.self.inside.waits.entries.items c.self.inside.by_koid.entries
     c.self.invariant.kept.listed))

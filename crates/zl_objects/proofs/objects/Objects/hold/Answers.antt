@@ -3,6 +3,7 @@ use Rattle.zl_objects.proofs.ByKoid.{by_koid}
 use Rattle.zl_objects.specs.Objects.{held_once_more}
 use Rattle.zl_objects.proofs.CalmChanges.{keeps_more, more_stays, quiet_calm}
 use Rattle.zl_objects.proofs.Kept.{more_kept}
+use Rattle.zl_objects.proofs.Index.{kept_indexed}
 use Rattle.zl_objects.proofs.objects.Objects.hold.Goals as goal
 
 pub invariant_of-self-2 : goal.invariant_of-self-2
@@ -13,4 +14,5 @@ invariant_of-self-2 c =
           (vec_capacity c.self.inside.dying) c.args.koid c.self.inside.dying.items c.self.invariant.kept (search (rules, by_koid));
       calm = quiet_calm held_once_more keeps_more more_stays c.self.inside.by_koid.entries (c.get_mut.follows.lender c.hold_more.new.self).entries
           c.args.koid (search (rules, by_koid)) c.self.invariant.calm;
+      indexed = kept_indexed held_once_more keeps_more c.args.koid c.self.invariant.indexed (search (rules, by_koid));
     }

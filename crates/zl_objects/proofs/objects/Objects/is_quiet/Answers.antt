@@ -1,9 +1,11 @@
 use Rattle.std.proofs.Common.{map}
-use Rattle.zl_objects.specs.Listed.{wait_value}
+use Rattle.zl_objects.specs.Listed.{listed_value}
 use Rattle.zl_objects.proofs.CalmMade.{none_listed_holds}
+use Rattle.zl_objects.proofs.Listed.{seen_listed}
 use Rattle.zl_objects.proofs.objects.Objects.is_quiet.Goals as goal
 
 pub returns-then-is_empty-clause-waits : goal.returns-then-is_empty-clause-waits
 returns-then-is_empty-clause-waits c = λ quiet. rw (← c.self.view_is)
-    (none_listed_holds c.self.inside.by_koid.entries (map wait_value c.self.inside.waits.items) c.self.invariant.kept.listed
+    (none_listed_holds c.self.inside.by_koid.entries (map listed_value c.self.inside.waits.entries.items)
+    (seen_listed c.self.inside.waits.entries.items c.self.inside.by_koid.entries c.self.invariant.kept.listed)
     (λ k o at. c.self.invariant.calm.waits k o at (c.is_empty.ensures c.if-is_empty.true k)))

@@ -1,7 +1,7 @@
 use Rattle.zl_rights.proofs.Common.{◌≡◌, ◌∙◌, ℕ, List, [], Some, Map, ap, get, map, refl, subst}
 use Rattle.std.specs.Vec.{vec_capacity}
 use Rattle.zl_objects.specs.declared.object.Object.{Object}
-use Rattle.zl_objects.specs.Listed.{wait_value}
+use Rattle.zl_objects.specs.Listed.{listed_value}
 use Rattle.zl_objects.specs.Jobs.{killing}
 use Rattle.zl_objects.specs.Objects.{Objects}
 use Rattle.zl_objects.specs.Release.{Releases, all_koids}
@@ -21,9 +21,10 @@ invariant_of-self c =
           (vec_capacity c.sweep.new.dying) c.self.inside.dying.items c.sweep.new.dying.items _
           (cascades_of [] c.self.inside.by_koid.entries c.sweep.new.by_koid.entries (all_koids c.self.inside.by_koid.entries) [] c.sweep.ensures.goes)
           (c.sweep.ensures.goes.places c.self.invariant.kept.whole.places)
-          c.sweep.ensures.goes.thins c.self.invariant.kept c.sweep.ensures.none c.sweep.ensures.capacity c.keep_there.ensures;
+          c.sweep.ensures.goes.thins c.self.invariant.kept c.sweep.ensures.none c.sweep.ensures.capacity c.keep_there.ensures.entries;
       calm = left_calm c.add_all.ensures c.self.inside.by_koid.entries c.sweep.new.by_koid.entries c.sweep.ensures.goes.thins
           c.self.invariant.calm;
+      indexed = c.sweep.ensures.indexed;
     }
 
 pub returns-clause-releases : goal.returns-clause-releases
@@ -31,8 +32,8 @@ returns-clause-releases c =
     let same : (record {
       objects = c.self.inside.by_koid.entries;
       next_koid = c.self.inside.next_koid;
-      waits = map wait_value c.self.inside.waits.items;
-      waits_made = c.self.inside.waits_made;
+      waits = map listed_value c.self.inside.waits.entries.items;
+      waits_made = c.self.inside.waits.made;
       sleepers = c.self.inside.sleepers.list.items;
       crowded = c.self.inside.sleepers.crowded;
     }) ≡ killing c.args.self.now c.args.task = c.self.view_is ∙ c.mark_killed.ensures in
@@ -41,28 +42,29 @@ returns-clause-releases c =
     subst (λ (r : Objects). Releases [] (all_koids c.args.self.now.objects) r (record {
       objects = c.sweep.new.by_koid.entries;
       next_koid = c.self.inside.next_koid;
-      waits = map wait_value c.keep_there.new.waits.items;
-      waits_made = c.self.inside.waits_made;
+      waits = map listed_value c.keep_there.new.waits.entries.items;
+      waits_made = c.keep_there.new.waits.made;
       sleepers = c.self.inside.sleepers.list.items;
       crowded = c.self.inside.sleepers.crowded;
     })) same
     (subst (λ (ks : List ℕ). Releases [] ks (record {
       objects = c.self.inside.by_koid.entries;
       next_koid = c.self.inside.next_koid;
-      waits = map wait_value c.self.inside.waits.items;
-      waits_made = c.self.inside.waits_made;
+      waits = map listed_value c.self.inside.waits.entries.items;
+      waits_made = c.self.inside.waits.made;
       sleepers = c.self.inside.sleepers.list.items;
       crowded = c.self.inside.sleepers.crowded;
     }) (record {
       objects = c.sweep.new.by_koid.entries;
       next_koid = c.self.inside.next_koid;
-      waits = map wait_value c.keep_there.new.waits.items;
-      waits_made = c.self.inside.waits_made;
+      waits = map listed_value c.keep_there.new.waits.entries.items;
+      waits_made = c.keep_there.new.waits.made;
       sleepers = c.self.inside.sleepers.list.items;
       crowded = c.self.inside.sleepers.crowded;
     })) koids
     (released [] (all_koids c.self.inside.by_koid.entries) c.self.inside.by_koid.entries c.sweep.new.by_koid.entries c.self.inside.next_koid
-    c.self.inside.waits_made (map wait_value c.self.inside.waits.items) (map wait_value c.keep_there.new.waits.items) (all_koids c.self.inside.by_koid.entries)
+    c.self.inside.waits.made c.keep_there.new.waits.made (map listed_value c.self.inside.waits.entries.items)
+    (map listed_value c.keep_there.new.waits.entries.items) (all_koids c.self.inside.by_koid.entries)
     [] c.sweep.ensures.goes refl refl))
 
 pub returns-clause-largest : goal.returns-clause-largest
@@ -73,8 +75,8 @@ returns-clause-waits c =
     let same : (record {
       objects = c.self.inside.by_koid.entries;
       next_koid = c.self.inside.next_koid;
-      waits = map wait_value c.self.inside.waits.items;
-      waits_made = c.self.inside.waits_made;
+      waits = map listed_value c.self.inside.waits.entries.items;
+      waits_made = c.self.inside.waits.made;
       sleepers = c.self.inside.sleepers.list.items;
       crowded = c.self.inside.sleepers.crowded;
     }) ≡ killing c.args.self.now c.args.task = c.self.view_is ∙ c.mark_killed.ensures in

@@ -1,5 +1,6 @@
 use Rattle.std.proofs.Common.{vec_capacity}
 use Rattle.zl_objects.proofs.CalmChanges.{all_killed_calm}
+use Rattle.zl_objects.proofs.Index.{killed_indexed}
 use Rattle.zl_objects.proofs.Tasks.{killed_kept}
 use Rattle.zl_objects.proofs.objects.Objects.mark_killed.Goals as goal
 
@@ -14,4 +15,5 @@ invariant_of-self c =
           c.self.inside.dying.items c.self.invariant.kept c.kill_all.ensures;
       calm = all_killed_calm c.add_all.ensures c.self.inside.by_koid.entries c.kill_all.new.by_koid.entries c.args.task c.kill_all.ensures
           c.self.invariant.calm;
+      indexed = killed_indexed c.args.task c.self.invariant.indexed c.kill_all.ensures;
     }

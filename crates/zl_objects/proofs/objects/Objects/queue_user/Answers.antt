@@ -8,6 +8,7 @@ use Rattle.zl_objects.proofs.ByKoid.{written}
 use Rattle.zl_objects.proofs.Refusable.{when_ok}
 use Rattle.zl_objects.proofs.CalmChanges.{found_or_same_calm, keeps_port}
 use Rattle.zl_objects.proofs.Kept.{port_or_same_kept}
+use Rattle.zl_objects.proofs.Index.{kept_or_indexed}
 use Rattle.zl_objects.proofs.objects.Objects.queue_user.Goals as goal
 
 pub invariant_of-self-2 : goal.invariant_of-self-2
@@ -28,6 +29,9 @@ invariant_of-self-2 c =
           c.is_watched.result c.is_watched.ensures c.add_if.ensures.wanted c.queue_user-queued.result c.queue_user-queued.ensures.ok
           c.queue_user-queued.ensures.unchanged set
           c.self.invariant.calm;
+      indexed = kept_or_indexed (at_port (λ p. with_packet p (user_packet c.args.key c.args.value))) (keeps_port _) c.args.koid
+          c.in-Some.object.now c.queue_user-queued.new.self c.queue_user-queued.result c.self.invariant.indexed c.queue_user-queued.ensures.ok
+          c.queue_user-queued.ensures.unchanged there set;
     }
 
 pub returns-clause-ok : goal.returns-clause-ok

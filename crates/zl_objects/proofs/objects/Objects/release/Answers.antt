@@ -1,12 +1,13 @@
 use Rattle.std.proofs.Common.{ℕ, List, arith, eqb-true, length, vec_len, ◌≡◌, ◌∷◌, [], None, vec_capacity, map, refl, sym, ◌∙◌}
 use Rattle.zl_objects.specs.Dying.{IsKept, LetsGo}
-use Rattle.zl_objects.specs.Listed.{wait_value}
+use Rattle.zl_objects.specs.Listed.{listed_value}
 use Rattle.zl_objects.specs.Objects.{held_once_less}
 use Rattle.zl_objects.proofs.Budget.{both_went}
 use Rattle.zl_objects.proofs.CalmChanges.{keeps_less, left_calm, less_stays, quiet_calm}
+use Rattle.zl_objects.proofs.Index.{kept_indexed}
 use Rattle.zl_objects.proofs.Kept.{left_kept, less_kept}
 use Rattle.zl_objects.proofs.Law.{leaves_largest}
-use Rattle.zl_objects.proofs.Listed.{all_there}
+use Rattle.zl_objects.proofs.Listed.{all_seen}
 use Rattle.zl_objects.proofs.Released.{cascades_of, released, starts, waits_left}
 use Rattle.zl_objects.proofs.objects.Objects.release.Goals as goal
 
@@ -18,6 +19,7 @@ let_go-requires c = record {
 
 pub remove_dying-requires : goal.remove_dying-requires
 remove_dying-requires c = record {
+  indexed = kept_indexed held_once_less keeps_less c.args.koid c.self.invariant.indexed c.let_go.ensures.objects;
   fits = omega (
     arith,
     starts c.self.inside.by_koid.entries c.self.inside.next_koid (vec_capacity c.self.inside.dying) c.self.inside.dying.items c.self.invariant.kept.whole,
@@ -37,8 +39,9 @@ invariant_of-self-2 c =
           (vec_capacity c.remove_dying.new.dying) c.self.inside.dying.items c.remove_dying.new.dying.items _
           (cascades_of (c.args.koid ∷ []) c.self.inside.by_koid.entries c.remove_dying.new.by_koid.entries c.self.inside.dying.items
           c.remove_dying.new.dying.items went) (went.places c.self.invariant.kept.whole.places) went.thins c.self.invariant.kept c.remove_dying.ensures.none
-          (c.remove_dying.ensures.capacity ∙ c.let_go.ensures.capacity) c.keep_there.ensures;
+          (c.remove_dying.ensures.capacity ∙ c.let_go.ensures.capacity) c.keep_there.ensures.entries;
       calm = left_calm c.add_all.ensures c.self.inside.by_koid.entries c.remove_dying.new.by_koid.entries went.thins c.self.invariant.calm;
+      indexed = c.remove_dying.ensures.indexed;
     }
 
 pub returns-clause-releases : goal.returns-clause-releases
@@ -46,8 +49,8 @@ returns-clause-releases c =
     let went : LetsGo (c.args.koid ∷ []) c.self.inside.by_koid.entries c.self.inside.dying.items c.remove_dying.new.by_koid.entries
     c.remove_dying.new.dying.items = both_went (c.args.koid ∷ []) [] _ _ _ _ _ _ c.let_go.ensures.goes c.remove_dying.ensures.goes in
     rw (← c.self.view_is)
-    (released (c.args.koid ∷ []) [] c.self.inside.by_koid.entries c.remove_dying.new.by_koid.entries c.self.inside.next_koid c.self.inside.waits_made
-    (map wait_value c.self.inside.waits.items) _ c.self.inside.dying.items c.remove_dying.new.dying.items went c.self.invariant.kept.whole.none
+    (released (c.args.koid ∷ []) [] c.self.inside.by_koid.entries c.remove_dying.new.by_koid.entries c.self.inside.next_koid c.self.inside.waits.made _
+    (map listed_value c.self.inside.waits.entries.items) _ c.self.inside.dying.items c.remove_dying.new.dying.items went c.self.invariant.kept.whole.none
     c.remove_dying.ensures.none)
 
 pub returns-clause-largest : goal.returns-clause-largest
@@ -76,7 +79,7 @@ none_noted c =
     no_items c.let_go.new.dying.items (omega (arith, none, c.let_go.new.dying.ok.0))
 
 kept_all : (c : goal.Then-is_empty) → IsKept None c.let_go.new.by_koid.entries c.self.inside.next_koid c.let_go.new.dying.items
-    (vec_capacity c.let_go.new.dying) (map wait_value c.self.inside.waits.items)
+    (vec_capacity c.let_go.new.dying) c.self.inside.waits.entries.items
 kept_all c =
     less_kept c.self.inside.by_koid.entries c.let_go.new.by_koid.entries c.self.inside.next_koid (vec_capacity c.self.inside.dying)
     (vec_capacity c.let_go.new.dying) c.args.koid c.self.inside.dying.items c.let_go.new.dying.items c.self.invariant.kept c.let_go.ensures.objects
@@ -87,13 +90,15 @@ invariant_of-self c = record {
   kept = kept_all c;
   calm = quiet_calm held_once_less keeps_less less_stays c.self.inside.by_koid.entries c.let_go.new.by_koid.entries c.args.koid c.let_go.ensures.objects
       c.self.invariant.calm;
+  indexed = kept_indexed held_once_less keeps_less c.args.koid c.self.invariant.indexed c.let_go.ensures.objects;
 }
 
 pub returns-then-is_empty-clause-releases : goal.returns-then-is_empty-clause-releases
 returns-then-is_empty-clause-releases c =
     rw (← c.self.view_is)
-    (released (c.args.koid ∷ []) [] c.self.inside.by_koid.entries c.let_go.new.by_koid.entries c.self.inside.next_koid c.self.inside.waits_made
-    (map wait_value c.self.inside.waits.items) _ c.self.inside.dying.items c.let_go.new.dying.items c.let_go.ensures.goes c.self.invariant.kept.whole.none
+    (released (c.args.koid ∷ []) [] c.self.inside.by_koid.entries c.let_go.new.by_koid.entries c.self.inside.next_koid c.self.inside.waits.made _
+    (map listed_value c.self.inside.waits.entries.items) _ c.self.inside.dying.items c.let_go.new.dying.items c.let_go.ensures.goes
+    c.self.invariant.kept.whole.none
     (none_noted c))
 
 pub returns-then-is_empty-clause-largest : goal.returns-then-is_empty-clause-largest
@@ -110,7 +115,7 @@ returns-then-is_empty-clause-places c = (kept_all c).whole.places
 
 pub returns-then-is_empty-clause-listed : goal.returns-then-is_empty-clause-listed
 returns-then-is_empty-clause-listed c = rw (← c.self.view_is) record {
-  waits = sym (all_there (map wait_value c.self.inside.waits.items) c.let_go.new.by_koid.entries (kept_all c).whole.places (kept_all c).listed);
+  waits = sym (all_seen c.self.inside.waits.entries.items c.let_go.new.by_koid.entries (kept_all c).whole.places (kept_all c).listed);
   made = refl;
   asleep = (refl, refl);
 }

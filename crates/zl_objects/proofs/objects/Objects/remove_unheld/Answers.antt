@@ -1,5 +1,5 @@
 use Rattle.std.proofs.Common.{refl, ◌∷◌, [], vec_capacity, map}
-use Rattle.zl_objects.specs.Listed.{wait_value}
+use Rattle.zl_objects.specs.Listed.{listed_value}
 use Rattle.zl_objects.proofs.CalmChanges.{left_calm}
 use Rattle.zl_objects.proofs.Kept.{left_kept}
 use Rattle.zl_objects.proofs.Law.{leaves_largest}
@@ -7,7 +7,7 @@ use Rattle.zl_objects.proofs.Released.{cascades_of, released, waits_left}
 use Rattle.zl_objects.proofs.objects.Objects.remove_unheld.Goals as goal
 
 pub remove_unkept-requires : goal.remove_unkept-requires
-remove_unkept-requires c = record { none = c.self.invariant.kept.whole.none; room = c.self.invariant.kept.whole.enough }
+remove_unkept-requires c = record { indexed = c.self.invariant.indexed; none = c.self.invariant.kept.whole.none; room = c.self.invariant.kept.whole.enough }
 
 pub invariant_of-self : goal.invariant_of-self
 invariant_of-self c =
@@ -17,16 +17,17 @@ invariant_of-self c =
           (vec_capacity c.remove_unkept.new.dying) c.self.inside.dying.items c.remove_unkept.new.dying.items _
           (cascades_of [] c.self.inside.by_koid.entries c.remove_unkept.new.by_koid.entries (c.args.koid ∷ []) [] c.remove_unkept.ensures.goes)
           (c.remove_unkept.ensures.goes.places c.self.invariant.kept.whole.places)
-          c.remove_unkept.ensures.goes.thins c.self.invariant.kept c.remove_unkept.ensures.none c.remove_unkept.ensures.capacity c.keep_there.ensures;
+          c.remove_unkept.ensures.goes.thins c.self.invariant.kept c.remove_unkept.ensures.none c.remove_unkept.ensures.capacity c.keep_there.ensures.entries;
       calm = left_calm c.add_all.ensures c.self.inside.by_koid.entries c.remove_unkept.new.by_koid.entries
           c.remove_unkept.ensures.goes.thins c.self.invariant.calm;
+      indexed = c.remove_unkept.ensures.indexed;
     }
 
 pub returns-clause-releases : goal.returns-clause-releases
 returns-clause-releases c =
     rw (← c.self.view_is)
-    (released [] (c.args.koid ∷ []) c.self.inside.by_koid.entries c.remove_unkept.new.by_koid.entries c.self.inside.next_koid c.self.inside.waits_made
-    (map wait_value c.self.inside.waits.items) _ (c.args.koid ∷ []) [] c.remove_unkept.ensures.goes refl refl)
+    (released [] (c.args.koid ∷ []) c.self.inside.by_koid.entries c.remove_unkept.new.by_koid.entries c.self.inside.next_koid c.self.inside.waits.made _
+    (map listed_value c.self.inside.waits.entries.items) _ (c.args.koid ∷ []) [] c.remove_unkept.ensures.goes refl refl)
 
 pub returns-clause-largest : goal.returns-clause-largest
 returns-clause-largest c = leaves_largest [] (c.args.koid ∷ []) c.args.self.now _ (returns-clause-releases c)

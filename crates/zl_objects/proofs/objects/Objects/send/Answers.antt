@@ -7,6 +7,7 @@ use Rattle.zl_objects.proofs.ByKoid.{written, written_back}
 use Rattle.zl_objects.proofs.Refusable.{when_err, when_ok}
 use Rattle.zl_objects.proofs.CalmChanges.{found_or_same_calm, keeps_sent}
 use Rattle.zl_objects.proofs.Kept.{sent_or_same_kept}
+use Rattle.zl_objects.proofs.Index.{kept_or_indexed}
 use Rattle.zl_objects.proofs.objects.Objects.send.Goals as goal
 
 pub invariant_of-self-2 : goal.invariant_of-self-2
@@ -25,6 +26,8 @@ invariant_of-self-2 c =
           (c.get_mut.follows.lender c.send-sent.new.self).entries c.args.koid c.in-Some.end.now c.send-sent.new.self there
           c.is_watched.result c.is_watched.ensures c.add_if.ensures.wanted c.send-sent.result c.send-sent.ensures.ok c.send-sent.ensures.unchanged set
           c.self.invariant.calm;
+      indexed = kept_or_indexed (sent c.args.message) (keeps_sent c.args.message) c.args.koid c.in-Some.end.now c.send-sent.new.self
+          c.send-sent.result c.self.invariant.indexed c.send-sent.ensures.ok c.send-sent.ensures.unchanged there set;
     }
 
 pub returns-clause-sent : goal.returns-clause-sent

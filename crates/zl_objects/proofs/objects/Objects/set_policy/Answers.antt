@@ -2,8 +2,10 @@ use Rattle.std.proofs.Common.{rules, ◌≡◌, Some, vec_capacity}
 use Rattle.std.specs.BTreeMap.{is_at}
 use Rattle.std.specs.Map.{lookup, set_value}
 use Rattle.std.specs.Ordering.{nat_cmp}
-use Rattle.zl_objects.proofs.CalmChanges.{policy_calm}
+use Rattle.zl_objects.specs.Jobs.{with_policy_set}
+use Rattle.zl_objects.proofs.CalmChanges.{keeps_policy, policy_calm}
 use Rattle.zl_objects.proofs.Tasks.{policy_or_same_kept}
+use Rattle.zl_objects.proofs.Index.{kept_or_indexed}
 use Rattle.zl_objects.proofs.objects.Objects.set_policy.Goals as goal
 
 pub invariant_of-self-2 : goal.invariant_of-self-2
@@ -19,4 +21,7 @@ invariant_of-self-2 c =
           c.in-Some.object.now c.set_policy.new.self c.set_policy.result c.self.invariant.kept c.set_policy.ensures.ok c.set_policy.ensures.unchanged there set;
       calm = policy_calm c.args.condition c.args.action c.self.inside.by_koid.entries (c.get_mut.follows.lender c.set_policy.new.self).entries c.args.job
           c.in-Some.object.now c.set_policy.new.self c.set_policy.result c.set_policy.ensures.ok c.set_policy.ensures.unchanged there set c.self.invariant.calm;
+      indexed = kept_or_indexed (with_policy_set c.args.condition c.args.action) (keeps_policy c.args.condition c.args.action) c.args.job
+          c.in-Some.object.now c.set_policy.new.self c.set_policy.result c.self.invariant.indexed c.set_policy.ensures.ok c.set_policy.ensures.unchanged
+          there set;
     }

@@ -2,9 +2,14 @@ use Rattle.std.proofs.Common.{◌≡◌, ◌∙◌, sym, vec_capacity}
 use Rattle.zl_rights.specs.Map.{update}
 use Rattle.zl_objects.specs.Awaited.{koid_of}
 use Rattle.zl_objects.specs.Calm.{slept}
-use Rattle.zl_objects.proofs.CalmMade.{put_calm, put_others, put_there, slept_calm}
+use Rattle.zl_objects.proofs.CalmMade.{keeps_slept, put_calm, put_others, put_there, slept_calm}
+use Rattle.zl_objects.proofs.Index.{kept_indexed}
 use Rattle.zl_objects.proofs.Kept.{slept_kept}
 use Rattle.zl_objects.proofs.objects.Objects.sleep.Goals as goal
+
+pub is_due-requires : goal.is_due-requires
+is_due-requires c =
+    kept_indexed slept keeps_slept (koid_of c.args.awaited) c.self.invariant.indexed (rw c.koid-koid.ensures at c.note_slept.ensures.objects)
 
 pub invariant_of-self-2 : goal.invariant_of-self-2
 invariant_of-self-2 c =
@@ -20,6 +25,7 @@ invariant_of-self-2 c =
           (c.self.invariant.kept.whole.below (koid_of c.args.awaited) (rw c.koid-koid.ensures at
           (sym c.note_slept.ensures.there ∙ c.if-not-note_slept.false))) noted c.is_due.ensures
           (rw c.koid-koid.ensures at c.add_if.ensures.wanted) c.put.ensures c.self.invariant.calm;
+      indexed = kept_indexed slept keeps_slept (koid_of c.args.awaited) c.self.invariant.indexed noted;
     }
 
 -- the object isn't there
@@ -32,6 +38,7 @@ invariant_of-self c =
           slept_kept c.self.inside.by_koid.entries c.note_slept.new.by_koid.entries c.self.inside.next_koid (vec_capacity c.self.inside.dying)
           (koid_of c.args.awaited) c.self.inside.dying.items c.self.invariant.kept noted;
       calm = slept_calm c.self.inside.by_koid.entries c.note_slept.new.by_koid.entries (koid_of c.args.awaited) noted c.self.invariant.calm;
+      indexed = kept_indexed slept keeps_slept (koid_of c.args.awaited) c.self.invariant.indexed noted;
     }
 
 pub returns-clause-there : goal.returns-clause-there

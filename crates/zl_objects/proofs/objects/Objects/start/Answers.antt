@@ -3,6 +3,7 @@ use Rattle.zl_objects.specs.Objects.{started}
 use Rattle.zl_objects.proofs.CalmChanges.{keeps_started, quiet_calm, started_stays}
 use Rattle.zl_objects.proofs.ByKoid.{by_koid}
 use Rattle.zl_objects.proofs.Tasks.{started_kept}
+use Rattle.zl_objects.proofs.Index.{kept_indexed}
 use Rattle.zl_objects.proofs.objects.Objects.start.Goals as goal
 
 pub invariant_of-self-2 : goal.invariant_of-self-2
@@ -13,4 +14,5 @@ invariant_of-self-2 c =
           (vec_capacity c.self.inside.dying) c.args.pid c.self.inside.dying.items c.self.invariant.kept (search (rules, by_koid));
       calm = quiet_calm started keeps_started started_stays c.self.inside.by_koid.entries (c.get_mut.follows.lender c.start.new.self).entries c.args.pid
           (search (rules, by_koid)) c.self.invariant.calm;
+      indexed = kept_indexed started keeps_started c.args.pid c.self.invariant.indexed (search (rules, by_koid));
     }

@@ -1,14 +1,13 @@
 -- A binary search among elements whose keys rise ends at the first with the key.
-use Rattle.zl_calls.proofs.Common.{◌≡◌, ◌≢◌, ℕ, zero, suc, ◌<◌, ◌≤◌, Bool, ◌==◌, List, [], ◌∷◌, length, map, get_or, refl, sym, ap, ◌∙◌, cond, Option, Some}
-use Rattle.zl_calls.proofs.Common.{None, Result, Ok, Err, inl, inr, arith, IsTrue, eq-eqb, nat_lt, position, nat_cmp, is_sorted, cases_lt, ne_eqb, lt-ltb}
-use Rattle.zl_calls.proofs.Common.{nat_tests, length-map, get_or-map, position_or_len, sorted_parts}
+use Rattle.zl_rights.proofs.Common.{◌≡◌, ◌≢◌, ℕ, zero, suc, ◌<◌, ◌≤◌, Bool, ◌==◌, List, [], ◌∷◌, length, map, get_or, refl, sym, ap, ◌∙◌, cond, Option, Some}
+use Rattle.zl_rights.proofs.Common.{None, Result, Ok, Err, inl, inr, arith, IsTrue, eq-eqb, nat_lt, position, nat_cmp, is_sorted, cases_lt, ne_eqb, lt-ltb}
+use Rattle.zl_rights.proofs.Common.{nat_tests, length-map, get_or-map, Map, below_all}
+use Rattle.std.specs.List.{position_or_len}
 use Rattle.std.specs.Result.{result_ok}
 use Rattle.std.specs.List.Sorted.{IsSearchInRange, IsBinarySearchResult, IsNonDecreasingBy}
 use Rattle.std.specs.Ordering.{ordering_index}
 use Rattle.std.proofs.lemmas.Cmp.{ranked}
-use Rattle.zl_table.proofs.MapEdits.{below_parts}
-use Rattle.zl_rights.proofs.Common.{Map, below_all}
-use Rattle.zl_calls.proofs.lists.Positions.{entry}
+use Rattle.zl_table.proofs.MapEdits.{below_parts, sorted_parts}
 
 module _ {X : Type 0} where
   -- a key below all is below the key at each place
@@ -31,7 +30,7 @@ module _ {X : Type 0} where
 
 module _ {X Y : Type 0} (key : X → ℕ) (value : X → Y) (k : ℕ) where
   abbrev keyed : X → ℕ × Y
-  keyed = entry key value
+  keyed x = (key x, value x)
 
   abbrev is_sought : X → Bool
   is_sought x = key x == k

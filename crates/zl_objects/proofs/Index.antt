@@ -1,0 +1,317 @@
+-- The index of living children: what it finds, and that it fits the objects after each change.
+use Rattle.zl_rights.proofs.Common.{◌≡◌, ◌<◌, ◌+◌, ◌-◌, ◌^◌, ◌==◌, ◌&&◌, ◌||◌, ◌⊎◌, ◌++◌, ℕ, Bool, true, false, not, List, [], ◌∷◌, refl, sym, ap, ◌∙◌}
+use Rattle.zl_rights.proofs.Common.{Option, Some, None, inl, inr, IsTrue, IfSome, OnOk, Result, Ok, Err, arith, and_parts, and_from, eqb-true, filter}
+use Rattle.zl_rights.proofs.Common.{list_any, nat_lt, nat_cmp, nat_tests, below_all, is_sorted, cases_Bool, false≢true, or_left, or_right, none-some, same_Some}
+use Rattle.zl_rights.proofs.Common.{if◌then◌else◌, Map, each, get, has_key, option_map, update, without, IfNone}
+use Rattle.std.specs.Prelude.{OnErr}
+use Rattle.std.specs.BTreeMap.{BTreeMap, insert_entry, is_at, IsUnchanged}
+use Rattle.std.specs.BTreeMap.Range.{range_contains}
+use Rattle.std.specs.BTreeSet.{Updates, contains}
+use Rattle.std.specs.Cmp.{unsigned_tied}
+use Rattle.std.specs.declared.ops.Bound.TheVariants.{Included}
+use Rattle.std.specs.Map.{lookup, set_value}
+use Rattle.std.specs.Ordering.{is_lt}
+use Rattle.std.proofs.lemmas.Bool.{or_cases}
+use Rattle.std.proofs.lemmas.Map.Views.{any-filter_same}
+use Rattle.zl_rights.proofs.MapLaws.{get-each, get-put}
+use Rattle.zl_rights.proofs.Settling.{list_any-weaker}
+use Rattle.zl_table.proofs.MapEdits.{is_sorted-update, sorted_put, sorted_without}
+use Rattle.zl_port.specs.Packets.{Port}
+use Rattle.zl_signals.specs.declared.watch.Watch.{Watch}
+use Rattle.zl_objects.specs.declared.children.Children.{Children}
+use Rattle.zl_objects.specs.declared.object.Body.{Body}
+use Rattle.zl_objects.specs.declared.object.Body.TheVariants as body
+use Rattle.zl_objects.specs.declared.object.Object.{Object}
+use Rattle.zl_objects.specs.declared.object.Pair.{Pair}
+use Rattle.zl_objects.specs.declared.object.Pair.TheVariants as pair
+use Rattle.zl_objects.specs.Index.{IsIndexed, OthersStayListed, StayListed, lists, pair_cmp, passes_in}
+use Rattle.zl_objects.specs.Jobs.{all_killed, is_job_below, is_process_below, is_within, killed, killed_if}
+use Rattle.zl_objects.specs.Objects.{end_to, held_once_less, is_alive, is_child, is_koid, keeper_of, stopped}
+use Rattle.zl_objects.specs.Ports.{at_port}
+use Rattle.zl_objects.specs.Release.{Cascades, none_left, let_go, goes, waits_end}
+use Rattle.zl_objects.specs.Waits.{ending_waits, unwatched}
+use Rattle.zl_objects.proofs.Bare.{of_body, sorted_same}
+use Rattle.zl_objects.proofs.Bodies.{Changed, changed, found_left}
+use Rattle.zl_objects.proofs.ByKoid.{inserted, written, written_back}
+use Rattle.zl_objects.proofs.Calm.{Keeps}
+use Rattle.zl_objects.proofs.CalmChanges.{keeps_port, keeps_unwatched}
+use Rattle.zl_objects.proofs.Ending.{ending_bare}
+use Rattle.zl_objects.proofs.Found.{Found, any_at, any_found}
+use Rattle.zl_objects.proofs.Released.{Was, cascaded_was}
+use Rattle.zl_objects.proofs.Showing.{same_tests}
+use Rattle.zl_objects.proofs.Whole.{end_of}
+
+-- ---- what is listed
+
+module _ (old new : Children) (job koid : ℕ) where
+  listed_if : (j k : ℕ) → (IsTrue (contains pair_cmp old.pairs (j, k)) → IsTrue (contains pair_cmp new.pairs (j, k))) → IsTrue (lists old j k)
+      → IsTrue (lists new j k)
+  listed_if j k more h =
+      let parts = and_parts (nat_lt k (2 ^ 64)) (contains pair_cmp old.pairs (j, k)) h in
+      and_from (nat_lt k (2 ^ 64)) (contains pair_cmp new.pairs (j, k)) parts.0 (more parts.1)
+
+  pub added_more : Updates pair_cmp old.pairs new.pairs (job, koid) true → StayListed old new
+  added_more updates j k = listed_if j k (λ h. updates.0 (j, k) ∙ by_test (is_at (pair_cmp (job, koid)) (j, k)) h)
+    where
+      by_test : (b : Bool) → IsTrue (contains pair_cmp old.pairs (j, k)) → IsTrue (if b then true else contains pair_cmp old.pairs (j, k))
+      by_test true h = refl
+      by_test false h = h
+
+  pub removed_others : Updates pair_cmp old.pairs new.pairs (job, koid) false → OthersStayListed koid old new
+  removed_others updates j k apart =
+      let other : is_at (pair_cmp (job, koid)) (j, k) ≡ false = grind (arith, nat_tests, unsigned_tied job j, unsigned_tied koid k, apart) in
+      listed_if j k (λ h. updates.0 (j, k) ∙ rw other h)
+
+-- ---- what is found under a job
+
+-- a pair in the range of the job whose child is k is the pair of the job and k
+abbrev pub in_range : ℕ → ℕ × ℕ → Bool
+in_range j x = range_contains pair_cmp (Included (j, 0)) (Included (j, 2 ^ 64 - 1)) x
+
+pair_found : (j k : ℕ) (x : ℕ × ℕ) → k < 2 ^ 64 → IsTrue (is_at (pair_cmp (j, k)) x) → IsTrue (in_range j x) × (x.1 ≡ k)
+pair_found j k x small here = (
+  grind (arith, nat_tests, unsigned_tied j x.0, unsigned_tied k x.1),
+  grind (arith, nat_tests, unsigned_tied j x.0, unsigned_tied k x.1),
+)
+
+any_listed : (p : ℕ → Bool) (j k : ℕ) → k < 2 ^ 64 → IsTrue (p k) → (xs : List (ℕ × ℕ)) → IsTrue (list_any (is_at (pair_cmp (j, k))) xs)
+    → IsTrue (list_any (λ x. p x.1) (filter (in_range j) xs))
+any_listed p j k small passes xs some =
+    list_any-weaker (is_at (pair_cmp (j, k))) (λ x. p x.1) (λ x here. ap p (pair_found j k x small here).1 ∙ passes) (filter (in_range j) xs)
+    (any-filter_same (is_at (pair_cmp (j, k))) (in_range j) true (λ x here. (pair_found j k x small here).0) xs ∙ some)
+
+any_there : (test : Body → Bool) (m : Map Object) (xs : List (ℕ × ℕ)) → IsTrue (list_any (λ x. passes_in test (get m x.1)) xs)
+    → IsTrue (list_any (λ e. test e.1.body) m)
+any_there test m [] some = absurd (false≢true some)
+any_there test m (x ∷ xs) some = elim (or_cases (passes_in test (get m x.1)) _ some) as (λ _. IsTrue (list_any (λ e. test e.1.body) m)) [
+  | inl here ↦ by_object (get m x.1) refl here
+  | inr later ↦ any_there test m xs later
+]
+  where
+    by_object : (q : Option Object) → get m x.1 ≡ q → IsTrue (passes_in test q) → IsTrue (list_any (λ e. test e.1.body) m)
+    by_object None is passes = absurd (false≢true passes)
+    by_object (Some o) is passes = any_at (λ e. test e.1.body) m x.1 o is passes
+
+-- a test of the living children of a job alone finds the same under the job as among all objects
+pub any_child : (test : Body → Bool) (children : Children) (m : Map Object) (job : ℕ) → IsIndexed children m
+    → ((b : Body) → IsTrue (test b) → IsTrue (is_child job b))
+    → list_any (λ x. passes_in test (get m x.1)) (filter (in_range job) children.pairs.keys) ≡ list_any (λ e. test e.1.body) m
+any_child test children m job indexed only =
+    same_tests (list_any (λ x. passes_in test (get m x.1)) (filter (in_range job) children.pairs.keys)) (list_any (λ e. test e.1.body) m)
+    (any_there test m (filter (in_range job) children.pairs.keys)) back
+  where
+    back : IsTrue (list_any (λ e. test e.1.body) m) → IsTrue (list_any (λ x. passes_in test (get m x.1)) (filter (in_range job) children.pairs.keys))
+    back some =
+        let found : Found (λ e. test e.1.body) m = any_found (λ e. test e.1.body) m indexed.in_order some in
+        let listed =
+        and_parts (nat_lt found.key (2 ^ 64)) (contains pair_cmp children.pairs (job, found.key))
+        (indexed.listed found.key job found.value found.at (only found.value.body found.passes)) in
+        any_listed (λ k. passes_in test (get m k)) job found.key (grind (arith, nat_tests, listed.0)) (rw found.at found.passes) children.pairs.keys listed.1
+
+-- ---- what is a child
+
+child_is : (j : ℕ) (b : Body) → is_child j b ≡ (is_job_below j b || is_process_below j b)
+child_is j (body.Job own) = by_test own.killed
+  where
+    by_test : (k : Bool) → is_koid j (if k then None else Some own.parent) ≡ (((own.parent == j) && not k) || false)
+    by_test true = grind (arith, nat_tests)
+    by_test false = grind (arith, nat_tests)
+child_is j (body.Process job l) = by_test (is_alive l)
+  where
+    by_test : (b : Bool) → is_koid j (if b then Some job else None) ≡ ((job == j) && b)
+    by_test true = grind (arith, nat_tests)
+    by_test false = grind (arith, nat_tests)
+child_is j _ = refl
+
+pub job_is_child : (j : ℕ) (b : Body) → IsTrue (is_job_below j b) → IsTrue (is_child j b)
+job_is_child j b h = child_is j b ∙ or_left (is_job_below j b) _ h
+
+pub process_is_child : (j : ℕ) (b : Body) → IsTrue (is_process_below j b) → IsTrue (is_child j b)
+process_is_child j b h = child_is j b ∙ or_right (is_job_below j b) _ h
+
+-- it makes no child
+abbrev pub MakesNone : (Object → Object) → Type 0
+MakesNone f = (j : ℕ) (o : Object) → IsTrue (is_child j (f o).body) → IsTrue (is_child j o.body)
+
+keeps_none : (f : Object → Object) → Keeps f → MakesNone f
+keeps_none f keeps j o h = child_is j o.body ∙ (ap (λ b. b || is_process_below j o.body) (sym (keeps.jobs j o))
+    ∙ (ap (λ b. is_job_below j (f o).body || b) (sym (keeps.processes j o)) ∙ (sym (child_is j (f o).body) ∙ h)))
+
+pub stopped_none : MakesNone stopped
+stopped_none j o = by_body o.body
+  where
+    by_body : (b : Body) → IsTrue (is_child j (stopped (record o { body = b })).body) → IsTrue (is_child j b)
+    by_body (body.Process job l) h = absurd (false≢true h)
+    by_body _ h = h
+
+killed_none : (kills : Bool) → MakesNone (killed_if kills)
+killed_none false j o h = h
+killed_none true j o h = by_body o.body h
+  where
+    by_body : (b : Body) → IsTrue (is_child j (killed (record o { body = b })).body) → IsTrue (is_child j b)
+    by_body (body.Job own) h = absurd (false≢true h)
+    by_body (body.Process job l) h = absurd (false≢true h)
+    by_body _ h = h
+
+-- ---- after each change
+
+sorted_each : (f : ℕ → Object → Object) (m : Map Object) → is_sorted nat_cmp (each f m) ≡ is_sorted nat_cmp m
+unfolding each
+sorted_each f [] = refl
+sorted_each f (e ∷ m) = λ i. below_each m i && sorted_each f m i
+  where
+    below_each : (n : Map Object) → below_all nat_cmp e.0 (each f n) ≡ below_all nat_cmp e.0 n
+    below_each [] = refl
+    below_each (d ∷ n) = ap (λ b. is_lt (nat_cmp e.0 d.0) && b) (below_each n)
+
+module _ {children : Children} where
+  pub none_indexed : (m : Map Object) → m ≡ [] → IsIndexed children m
+  unfolding get
+  none_indexed m none = rw none (record { in_order = refl; listed = λ k j o at child. absurd (none-some o at) })
+
+  -- one of the objects is written
+  pub updated_indexed : {m n : Map Object} (f : Object → Object) → MakesNone f → (k : ℕ) → IsIndexed children m → n ≡ update m k f → IsIndexed children n
+  updated_indexed {m} {n} f none k indexed is = rw is (record {
+    in_order = is_sorted-update m k f ∙ indexed.in_order;
+    listed = λ i j o at child. by_key i j o (changed f m k i o at) child;
+  })
+    where
+      by_key : (i j : ℕ) (o : Object) → Changed f m k i o → IsTrue (is_child j o.body) → IsTrue (lists children j i)
+      by_key i j o c child =
+          indexed.listed i j c.before c.there (by_test (k == i) (ap (λ (x : Object). is_child j x.body) (sym c.is) ∙ child))
+        where
+          by_test : (b : Bool) → IsTrue (is_child j (if b then f c.before else c.before).body) → IsTrue (is_child j c.before.body)
+          by_test true h = none j c.before h
+          by_test false h = h
+
+  -- and stays as much a child
+  pub kept_indexed : {m n : Map Object} (f : Object → Object) → Keeps f → (k : ℕ) → IsIndexed children m → n ≡ update m k f → IsIndexed children n
+  kept_indexed f keeps = updated_indexed f (keeps_none f keeps)
+
+  pub port_indexed : {m n : Map Object} (g : Port → Port) (k : ℕ) → IsIndexed children m → n ≡ update m k (at_port g) → IsIndexed children n
+  port_indexed g = kept_indexed (at_port g) (keeps_port g)
+
+  pub unwatched_indexed : {m n : Map Object} (out : Watch → Bool) (k : ℕ) → IsIndexed children m → n ≡ update m k (unwatched out) → IsIndexed children n
+  unwatched_indexed out = kept_indexed (unwatched out) (keeps_unwatched out)
+
+  -- or that was refused
+  pub kept_or_indexed : {A B : Type 0} {m n : Map Object} (f : Object → Object) → Keeps f → (k : ℕ) (v w : Object) (r : Result A B) → IsIndexed children m
+      → OnOk r (w ≡ f v) → OnErr r (w ≡ v) → Some v ≡ lookup (is_at (nat_cmp k)) m → n ≡ set_value (is_at (nat_cmp k)) m w → IsIndexed children n
+  kept_or_indexed {A} {B} {m} {n} f keeps k v w (Ok x) indexed is other there set = kept_indexed f keeps k indexed (written m n k f v w there is set)
+  kept_or_indexed {A} {B} {m} {n} f keeps k v w (Err e) indexed is other there set = rw (written_back m n k v w there other set) indexed
+
+  -- a job was killed, and what stands below it
+  pub killed_indexed : {m n : Map Object} (task : ℕ) → IsIndexed children m → n ≡ all_killed m task → IsIndexed children n
+  unfolding all_killed
+  killed_indexed {m} {n} task indexed is = rw is (record {
+    in_order = sorted_each (λ j. killed_if (is_within m task j)) m ∙ indexed.in_order;
+    listed = λ k j o at child. by_object k j o (get m k) refl (sym (get-each m (λ i. killed_if (is_within m task i)) k) ∙ at) child;
+  })
+    where
+      by_object : (k j : ℕ) (o : Object) (q : Option Object) → get m k ≡ q → option_map (killed_if (is_within m task k)) q ≡ Some o
+          → IsTrue (is_child j o.body) → IsTrue (lists children j k)
+      by_object k j o None was at child = absurd (none-some o at)
+      by_object k j o (Some before) was at child = indexed.listed k j before was (killed_none (is_within m task k) j before
+          (ap (λ (x : Object). is_child j x.body) (same_Some (killed_if (is_within m task k) before) o at) ∙ child))
+
+  -- handles went, and what nothing keeps
+  pub left_indexed : {m m2 : Map Object} (ks : List ℕ) → IsIndexed children m → Cascades ks m m2 → IsIndexed children m2
+  left_indexed {m} {m2} ks indexed cascades = record {
+    in_order = in_order ks m m2 cascades indexed.in_order;
+    listed = λ k j o at child.
+        let was : Was m k o = cascaded_was ks m m2 cascades k o at in
+        indexed.listed k j was.before was.there
+        (sym (of_body (is_child j) (λ packets reserved. refl) o.body was.before.body was.body) ∙ child);
+  }
+    where
+      in_order : (ks : List ℕ) (m m2 : Map Object) → Cascades ks m m2 → IsTrue (is_sorted nat_cmp m) → IsTrue (is_sorted nat_cmp m2)
+      in_order _ _ _ (none_left m) h = h
+      in_order _ _ _ (let_go k ks m m2 more) h = in_order ks _ m2 more (is_sorted-update m k held_once_less ∙ h)
+      in_order _ _ _ (goes k o ks m m2 there unkept more) h = in_order _ _ m2 more (sorted_without m k h)
+      in_order _ _ _ (waits_end ks m mid m2 same more) h = in_order ks mid m2 more (sorted_same m mid same ∙ h)
+
+module _ {children children2 : Children} where
+  -- one object more, which is listed if it is a child
+  pub inserted_indexed : {m n : Map Object} (next : ℕ) (o : Object) → IsIndexed children m
+      → StayListed children children2 → IfSome (keeper_of o.body) (λ j. IsTrue (lists children2 j next))
+      → n ≡ insert_entry nat_cmp m next o → IsIndexed children2 n
+  inserted_indexed {m} {n} next o indexed more added is = rw (is, inserted m next o) (record {
+    in_order = sorted_put m next o indexed.in_order;
+    listed = λ k j q at child. by_key k j q (cases_Bool (next == k)) (sym (get-put m next o k) ∙ at) child;
+  })
+    where
+      own : (j : ℕ) (q : Option ℕ) → IfSome q (λ i. IsTrue (lists children2 i next)) → IsTrue (is_koid j q) → IsTrue (lists children2 j next)
+      own j None h child = absurd (false≢true child)
+      own j (Some i) h child = ap (λ x. lists children2 x next) (sym (eqb-true i j child)) ∙ h
+
+      by_key : (k j : ℕ) (q : Object) → IsTrue (next == k) ⊎ ((next == k) ≡ false) → (if next == k then Some o else get m k) ≡ Some q
+          → IsTrue (is_child j q.body) → IsTrue (lists children2 j k)
+      by_key k j q (inl here) at child =
+          ap (lists children2 j) (sym (eqb-true next k here))
+          ∙ own j (keeper_of o.body) added (ap (λ (x : Object). is_child j x.body) (same_Some o q (rw here at at)) ∙ child)
+      by_key k j q (inr apart) at child = more j k (indexed.listed k j q (rw apart at at) child)
+
+  -- one object less, with what is listed for it
+  pub removed_indexed : {m n : Map Object} (k : ℕ) → IsIndexed children m
+      → OthersStayListed k children children2 → n ≡ without m k → IsIndexed children2 n
+  removed_indexed {m} {n} k indexed others is = rw is (record {
+    in_order = sorted_without m k indexed.in_order;
+    listed = λ i j o at child. let left = found_left m k i o at in others j i left.0 (indexed.listed i j o left.1 child);
+  })
+
+  -- and the waits there end
+  pub gone_indexed : {m n : Map Object} (k : ℕ) (o : Object) → IsIndexed children m
+      → OthersStayListed k children children2 → n ≡ ending_waits k o (without m k)
+      → IsIndexed children2 n
+  gone_indexed {m} {n} k o indexed others is =
+      rw is (left_indexed [] (removed_indexed k indexed others refl) (waits_end [] _ _ _ (ending_bare k o (without m k)) (none_left _)))
+
+  -- the newest
+  pub popped_indexed : (m n : BTreeMap ℕ Object) (k : ℕ) (r : Option (ℕ × Object)) → IsIndexed children m.entries
+      → OthersStayListed k children children2 → ((i : ℕ) → IsTrue (has_key n.entries i) → i < k)
+      → IfNone r (IsUnchanged m n) → IfSome r (λ p. m.entries ≡ n.entries ++ p ∷ []) → IsIndexed children2 n.entries
+  unfolding get
+  popped_indexed m n k r indexed others below unchanged removal =
+      let left = parts r unchanged removal in record {
+        in_order = left.0;
+        listed = λ i j o at child. others j i (apart i (below i (rw at refl))) (indexed.listed i j o (left.1 i o at) child);
+      }
+    where
+      apart : (i : ℕ) → i < k → (k == i) ≡ false
+      apart i lower = grind (arith, nat_tests, lower)
+
+      before : (xs ys : Map Object) (i : ℕ) (o : Object) → get xs i ≡ Some o → get (xs ++ ys) i ≡ Some o
+      before [] ys i o at = absurd (none-some o at)
+      before (e ∷ xs) ys i o at = elim (cases_Bool (e.0 == i)) as (λ _. get ((e ∷ xs) ++ ys) i ≡ Some o) [
+        | inl here ↦ rw here (rw here at at)
+        | inr other ↦ rw other (before xs ys i o (rw other at at))
+      ]
+
+      below_first : (i : ℕ) (xs ys : Map Object) → IsTrue (below_all nat_cmp i (xs ++ ys)) → IsTrue (below_all nat_cmp i xs)
+      below_first i [] ys h = refl
+      below_first i (e ∷ xs) ys h =
+          let parts = and_parts (is_lt (nat_cmp i e.0)) _ h in
+          and_from (is_lt (nat_cmp i e.0)) _ parts.0 (below_first i xs ys parts.1)
+
+      first_sorted : (xs ys : Map Object) → IsTrue (is_sorted nat_cmp (xs ++ ys)) → IsTrue (is_sorted nat_cmp xs)
+      first_sorted [] ys h = refl
+      first_sorted (e ∷ xs) ys h =
+          let parts = and_parts (below_all nat_cmp e.0 (xs ++ ys)) _ h in
+          and_from (below_all nat_cmp e.0 xs) _ (below_first e.0 xs ys parts.0) (first_sorted xs ys parts.1)
+
+      parts : (q : Option (ℕ × Object)) → IfNone q (IsUnchanged m n) → IfSome q (λ p. m.entries ≡ n.entries ++ p ∷ [])
+          → IsTrue (is_sorted nat_cmp n.entries) × ((i : ℕ) (o : Object) → get n.entries i ≡ Some o → get m.entries i ≡ Some o)
+      parts None same out = rw same (indexed.in_order, λ i o at. at)
+      parts (Some p) same out = (first_sorted n.entries (p ∷ []) (rw out at indexed.in_order), λ i o at. rw out (before n.entries (p ∷ []) i o at))
+
+-- an end of a channel or of an event pair is no child
+pub pair_indexed : {children : Children} {m n n2 : Map Object} (p : Pair) (handles next : ℕ) (o o2 : Object) → IsIndexed children m
+    → o ≡ end_of p (next + 1) handles → o2 ≡ end_of p next handles → n ≡ insert_entry nat_cmp m next o → n2 ≡ insert_entry nat_cmp n (next + 1) o2
+    → IsIndexed children n2
+pair_indexed {children} p handles next o o2 indexed first second into into2 =
+    inserted_indexed (next + 1) o2 (inserted_indexed next o indexed (λ j k h. h) (rw first (no_child _ p (next + 1))) into) (λ j k h. h)
+    (rw second (no_child _ p next)) into2
+  where
+    no_child : (P : ℕ → Type 0) (p : Pair) (peer : ℕ) → IfSome (keeper_of (end_to p peer)) P
+    no_child P pair.Channel peer = tt
+    no_child P pair.Eventpair peer = tt

@@ -1,0 +1,15 @@
+use Rattle.zl_rights.proofs.Common.{rules, ◌∙◌, filter, get}
+use Rattle.std.proofs.lemmas.Iterator.Consumers.{YieldsList-from_rest}
+use Rattle.std.proofs.lemmas.Iterator.Search.{any_from_yields_List}
+use Rattle.zl_objects.specs.Index.{passes_in}
+use Rattle.zl_objects.specs.Jobs.{has_process_below, is_process_below}
+use Rattle.zl_objects.proofs.Index.{any_child, in_range, process_is_child}
+use Rattle.zl_objects.proofs.children.has_process_below.Goals as goal
+
+pub returns : goal.returns
+unfolding has_process_below
+returns c =
+    any_from_yields_List (λ x. passes_in (is_process_below c.args.job) (get c.args.by_koid.now.entries x.1)) _ _ _ c.any.ensures.ran
+    (YieldsList-from_rest (filter (in_range c.args.job) c.args.children.now.pairs.keys) (rw (c.new.ensures.start, c.new.ensures.end) at
+    (c.range.ensures.between c.new.ensures.exhausted))) (λ x b q k. search rules)
+    ∙ any_child (is_process_below c.args.job) c.args.children.now c.args.by_koid.now.entries c.args.job c.requires (process_is_child c.args.job)

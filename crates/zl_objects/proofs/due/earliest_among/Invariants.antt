@@ -1,0 +1,7 @@
+use Rattle.std.specs.Prelude.{◌≡◌, None, drop}
+use Rattle.zl_objects.specs.Due.{earliest_from, order_at}
+use Rattle.zl_objects.proofs.due.earliest_among.Given as goal
+
+abbrev pub invariant-loop-koid : goal.invariant-loop-koid
+invariant-loop-koid l =
+    earliest_from (order_at l.by_koid.entries) l.earliest (drop l.koid-index l.koids) ≡ earliest_from (order_at l.by_koid.entries) None l.koids

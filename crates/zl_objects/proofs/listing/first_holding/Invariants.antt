@@ -1,0 +1,10 @@
+use Rattle.std.specs.Prelude.{◌≡◌, ◌-◌, false, length, take}
+use Rattle.std.specs.List.{list_any}
+use Rattle.zl_objects.specs.Due.{is_entry_due}
+use Rattle.zl_objects.proofs.listing.first_holding.Given as goal
+
+abbrev pub invariant-loop-listed : goal.invariant-loop-listed
+invariant-loop-listed l = list_any (is_entry_due l.by_koid.entries) (take l.place l.waits.entries.items) ≡ false
+
+abbrev pub decreases-loop-listed : goal.decreases-loop-listed
+decreases-loop-listed l = length l.waits.entries.items - l.place

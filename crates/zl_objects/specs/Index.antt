@@ -1,0 +1,38 @@
+-- The index of living children beside the objects. No public clause cites this module.
+use Rattle.std.specs.Prelude.{ℕ, ◌≡◌, ◌^◌, Bool, false, ◌&&◌, ◌==◌, nat_lt, IsTrue, Option, Some, None}
+use Rattle.std.specs.BTreeSet.{contains}
+use Rattle.std.specs.declared.cmp.Ordering.{Ordering}
+use Rattle.std.specs.Ordering.{nat_cmp, ordering_then}
+use Rattle.std.specs.FinMap.Entries.{is_sorted}
+use Rattle.zl_rights.specs.Map.{Map, get}
+use Rattle.zl_objects.specs.declared.children.Children.{Children}
+use Rattle.zl_objects.specs.declared.object.Body.{Body}
+use Rattle.zl_objects.specs.declared.object.Object.{Object}
+use Rattle.zl_objects.specs.Objects.{is_child}
+
+-- a job comes before another, and under a job its children come in the order of their koids
+abbrev pub pair_cmp : ℕ × ℕ → ℕ × ℕ → Ordering
+pair_cmp x y = ordering_then (nat_cmp x.0 y.0) (nat_cmp x.1 y.1)
+
+-- k is listed under the job
+abbrev pub lists : Children → ℕ → ℕ → Bool
+lists children job k = nat_lt k (2 ^ 64) && contains pair_cmp children.pairs (job, k)
+
+-- what is listed stays so
+abbrev pub StayListed : Children → Children → Type 0
+StayListed children children2 = (job k : ℕ) → IsTrue (lists children job k) → IsTrue (lists children2 job k)
+
+-- but perhaps for one child
+abbrev pub OthersStayListed : ℕ → Children → Children → Type 0
+OthersStayListed koid children children2 =
+    (job k : ℕ) → (koid == k) ≡ false → IsTrue (lists children job k) → IsTrue (lists children2 job k)
+
+-- the body of what was found passes the test
+abbrev pub passes_in : (Body → Bool) → Option Object → Bool
+passes_in test None = false
+passes_in test (Some o) = test o.body
+
+-- the objects are in the order of their koids, and each living child is listed under its job, and perhaps others are
+pub record IsIndexed (children : Children) (m : Map Object) : Type 0 where
+  pub in_order : IsTrue (is_sorted nat_cmp m)
+  pub listed : (k j : ℕ) (o : Object) → get m k ≡ Some o → IsTrue (is_child j o.body) → IsTrue (lists children j k)

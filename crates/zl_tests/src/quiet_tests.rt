@@ -31,6 +31,43 @@ fn signal(objects: &mut Objects, koid: Koid) {
     objects.change(koid, Signals::empty(), Signals::SIGNALED);
 }
 
+/// A new port with one handle.
+fn new_port(objects: &mut Objects) -> Result<Koid, AllocError> {
+    if !objects.has_koids(1) {
+        return Err(AllocError);
+    }
+    let body = objects.new_port();
+    objects.create(body, 1)
+}
+
+/// Registers a wait of process 2 for the signal, by its handle 1.
+fn watch(objects: &mut Objects, object: Koid, port: Koid) -> Result<(), AllocError> {
+    let are_there = objects.kind_of(object).is_some() && objects.is_port(port);
+    if !are_there || !objects.may_register() {
+        return Err(AllocError);
+    }
+    objects.watch(Wait {
+        pid: 2,
+        value: 1,
+        object,
+        port,
+        key: 0,
+        mask: Signals::SIGNALED,
+    })
+}
+
+/// Says that what was touched was looked at, if no wait is registered, or a single one that doesn't
+/// hold. Answers whether it said so.
+fn look(objects: &mut Objects) -> bool {
+    if let Some(wait) = objects.wait_at(0) {
+        if objects.wait_at(1).is_some() || objects.signals_of(wait.object).intersects(wait.mask) {
+            return false;
+        }
+    }
+    objects.calm();
+    true
+}
+
 #[test]
 fn objects_at_which_nothing_waits_stay_quiet(rt: HostRuntime) -> Result<(), Fail> {
     let mut objects = Objects::new(rt.alloc())?;
@@ -72,24 +109,9 @@ fn a_process_that_blocks_on_what_is_there_is_looked_at(rt: HostRuntime) -> Resul
 #[test]
 fn an_object_is_looked_at_as_a_wait_is_registered(rt: HostRuntime) -> Result<(), Fail> {
     let mut objects = Objects::new(rt.alloc())?;
-    let event = new_event(&mut objects)?;
-    if !objects.has_koids(1) || !objects.may_register() {
-        return Ok(());
-    }
-    let body = objects.new_port();
-    let port = objects.create(body, 1)?;
+    let (event, port) = (new_event(&mut objects)?, new_port(&mut objects)?);
     assert!(rt; objects.is_quiet());
-    if objects.kind_of(event).is_none() || !objects.is_port(port) || !objects.may_register() {
-        return Ok(());
-    }
-    objects.watch(Wait {
-        pid: 2,
-        value: 1,
-        object: event,
-        port,
-        key: 0,
-        mask: Signals::SIGNALED,
-    })?;
+    watch(&mut objects, event, port)?;
     assert!(rt; !objects.is_quiet());
     Ok(())
 }
@@ -130,6 +152,74 @@ fn each_process_that_was_made_has_room_among_the_blocked(rt: HostRuntime) -> Res
         let pid = new_process(&mut objects)?;
         objects.sleep(pid, Awaited::PacketAt(event));
     }
+    assert!(rt; objects.is_quiet());
+    Ok(())
+}
+
+#[test]
+fn an_object_with_a_wait_that_doesnt_hold_is_quiet_once_it_was_looked_at(
+    rt: HostRuntime,
+) -> Result<(), Fail> {
+    let mut objects = Objects::new(rt.alloc())?;
+    let (event, port) = (new_event(&mut objects)?, new_port(&mut objects)?);
+    watch(&mut objects, event, port)?;
+    assert!(rt; look(&mut objects));
+    assert!(rt; objects.is_quiet());
+    signal(&mut objects, event);
+    assert!(rt; !objects.is_quiet() && !look(&mut objects));
+    let active = objects.signals_of(event);
+    assert!(rt; objects.fire(event, active).is_some());
+    assert!(rt; look(&mut objects));
+    assert!(rt; objects.is_quiet());
+    Ok(())
+}
+
+#[test]
+fn objects_are_quiet_once_it_was_looked_at_what_went(rt: HostRuntime) -> Result<(), Fail> {
+    let mut objects = Objects::new(rt.alloc())?;
+    let event = new_event(&mut objects)?;
+    objects.release(event);
+    objects.release(event);
+    assert!(rt; !objects.is_quiet());
+    assert!(rt; look(&mut objects));
+    assert!(rt; objects.is_quiet());
+    Ok(())
+}
+
+#[test]
+fn who_still_waits_is_known_once_its_object_was_looked_at(rt: HostRuntime) -> Result<(), Fail> {
+    let mut objects = Objects::new(rt.alloc())?;
+    let event = new_event(&mut objects)?;
+    let mask = u64::from(Signals::SIGNALED.bits());
+    objects.sleep(7, Awaited::SignalOf { koid: event, mask });
+    objects.change(event, Signals::empty(), Signals::USER_0);
+    assert!(rt; !objects.is_quiet());
+    assert!(rt; look(&mut objects));
+    assert!(rt; objects.is_quiet());
+    signal(&mut objects, event);
+    assert!(rt; !objects.is_quiet());
+    Ok(())
+}
+
+/// As many processes as there is room for, from this one on, wait for the signal at the object.
+fn block_all(objects: &mut Objects, first: u64, koid: Koid) {
+    let mask = u64::from(Signals::SIGNALED.bits());
+    for pid in first..first.saturating_add(64) {
+        objects.sleep(pid, Awaited::SignalOf { koid, mask });
+    }
+}
+
+#[test]
+fn there_is_room_for_others_once_it_was_looked_at_who_waited(rt: HostRuntime) -> Result<(), Fail> {
+    let mut objects = Objects::new(rt.alloc())?;
+    let (event, other) = (new_event(&mut objects)?, new_event(&mut objects)?);
+    block_all(&mut objects, 2, event);
+    assert!(rt; objects.is_quiet());
+    signal(&mut objects, event);
+    assert!(rt; !objects.is_quiet());
+    assert!(rt; look(&mut objects));
+    assert!(rt; objects.is_quiet());
+    block_all(&mut objects, 66, other);
     assert!(rt; objects.is_quiet());
     Ok(())
 }

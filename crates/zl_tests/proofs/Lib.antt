@@ -1,2 +1,3 @@
 pub mod Typed
 mod RowsEveryCall
+mod RowsMost

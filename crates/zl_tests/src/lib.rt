@@ -1,6 +1,6 @@
-//! Tests of `zl_objects`, `zl_code`, `zl_verify`, `zl_asm`, `zl_interp` and `zl_sched`, of what none of
-//! their clauses says and nobody sees of the program from outside, and a run of a checked process
-//! through each call, worked out by the definitions.
+//! Tests of `zl_table`, `zl_objects`, `zl_code`, `zl_verify`, `zl_asm`, `zl_interp` and `zl_sched`, of
+//! what none of their clauses says and nobody sees of the program from outside; and by the definitions
+//! a run of a checked process through each call, and worlds with as many handles and waits as may be.
 //!
 //! It stands on them and has nothing of its own: a crate with tests is proved twice, with them and
 //! without, and nothing waits for this one.
@@ -18,5 +18,7 @@ mod object_tests;
 mod quiet_tests;
 #[cfg(test)]
 mod system_tests;
+#[cfg(test)]
+mod table_tests;
 #[cfg(test)]
 mod text_tests;

@@ -39,7 +39,6 @@ module _ (i : Image) (c : Cpu) (x : CallInstr) (there : call_at i c.counter ≡ 
       by None none = refl
       by (Some s) none = absurd (false≢true (sym none))
 
-
 moves_name_none : (o : Option Cpu) → call_in (moves o) ≡ None
 moves_name_none None = refl
 moves_name_none (Some c) = refl

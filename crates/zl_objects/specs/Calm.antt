@@ -90,7 +90,8 @@ pub record IsCalm (marked : ℕ → Bool) (m : Map Object) (next_koid : ℕ) (sl
   pub resting : All (IsAtRest marked m next_koid) sleepers
 
 -- the invariant of the objects, of all waits and of who may be blocked
-pub record IsSteady (marks : Marks) (children : Children) (m : Map Object) (next_koid : ℕ) (dying : List ℕ) (room : ℕ) (waits : List Listed) (sleepers : List Sleeper) : Type 0 where
+pub record IsSteady (marks : Marks) (children : Children) (m : Map Object) (next_koid : ℕ) (dying : List ℕ) (room : ℕ) (waits : List Listed)
+    (sleepers : List Sleeper) : Type 0 where
   pub kept : IsKept None m next_koid dying room waits
   pub calm : IsCalm (is_marked marks) m next_koid sleepers
   pub indexed : IsIndexed children m

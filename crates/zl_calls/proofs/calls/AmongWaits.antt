@@ -1,5 +1,5 @@
 -- A call that looks at registered waits: it is done beside them and any blocked processes, or refused with nothing changed.
-use Rattle.zl_calls.proofs.Common.{◌≡◌, ℕ, Bool, List, [], sym, ap, ◌∙◌, subst, Option, Result, Ok, Err, Library, Site, grows}
+use Rattle.zl_calls.proofs.Common.{◌≡◌, ℕ, Bool, List, [], sym, ap, ◌∙◌, subst, Option, Result, Ok, Err, Library, Site}
 use Rattle.zl_calls.proofs.Common.{refusal, replied, taken, Handles, Objects, Does, Replies, status_of, values_of, world_blocked, world_value, IsConsistent}
 use Rattle.zl_calls.proofs.Common.{World, Status, Outcome, replied_among, with_waiters, may_want}
 use Rattle.zl_rights.specs.World.{Wait}

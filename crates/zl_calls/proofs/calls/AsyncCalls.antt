@@ -1,5 +1,5 @@
 -- The call wait_async, from its table and objects to a step beside the registered waits.
-use Rattle.zl_calls.proofs.Common.{◌≡◌, ℕ, true, not, List, [], ◌∷◌, ◌++◌, ◌+◌, refl, sym, ap, ◌∙◌, subst, Some}
+use Rattle.zl_calls.proofs.Common.{◌≡◌, ℕ, not, List, [], ◌∷◌, ◌++◌, ◌+◌, refl, sym, ap, ◌∙◌, subst, Some}
 use Rattle.zl_calls.proofs.Common.{get, Ready, Library, Site, site, refusal, handle_operands, any, listed}
 use Rattle.zl_calls.proofs.Common.{may_choose, new_handles, insert_all, remove_all, taken_handles, effect, gives_ok, gives_refused, AtCall, next_for, Values}
 use Rattle.zl_calls.proofs.Common.{replied, Objects, IsAnswered, Replies, told_by, no_value, process_value, state_value, world_blocked, world_value}

@@ -1,5 +1,5 @@
 -- The call port_cancel, from its table and objects to a step beside the registered waits.
-use Rattle.zl_calls.proofs.Common.{◌≡◌, ℕ, false, not, ◌||◌, List, [], ◌∷◌, refl, ◌∙◌, list_any, get, Ready}
+use Rattle.zl_calls.proofs.Common.{◌≡◌, ℕ, not, ◌||◌, List, [], ◌∷◌, refl, ◌∙◌, list_any, get, Ready}
 use Rattle.zl_calls.proofs.Common.{Library, Site, site, refusal, handle_operands, any, listed, may_choose, new_handles}
 use Rattle.zl_calls.proofs.Common.{insert_all, remove_all, taken_handles, effect, on_object, gives_ok, gives_refused, AtCall, next_for, Values, replied}
 use Rattle.zl_calls.proofs.Common.{Objects, IsAnswered, Replies, told_by, no_value, process_value, state_value, world_blocked, world_value}

@@ -1,6 +1,6 @@
 -- That a call is done: it is a step up to where processes wake, and the invariant holds afterwards.
 use Rattle.zl_calls.proofs.Common.{◌≡◌, ℕ, Bool, List, [], ap, sym, ◌∙◌, subst, Option, Result, Ok, Err, Ready, Library, Site, refusal, AtCall, next_for, Calls}
-use Rattle.zl_calls.proofs.Common.{grows, replied, taken, Handles, Objects, Does, Replies, status_of, values_of, process_value, state_value, world_blocked}
+use Rattle.zl_calls.proofs.Common.{replied, taken, Handles, Objects, Does, Replies, status_of, values_of, process_value, state_value, world_blocked}
 use Rattle.zl_calls.proofs.Common.{world_value, IsConsistent, World, IsActed, IsAnswered, told_by, Status, CallName, Outcome, Told, may_want}
 use Rattle.zl_rights.specs.declared.status.Status.TheVariants as status
 use Rattle.zl_code.specs.declared.history.Outcome.TheVariants as outcome

@@ -1,5 +1,5 @@
 -- The call event_create, and those that change signals, signal and signal_peer, each from its table and objects to a step.
-use Rattle.zl_calls.proofs.Common.{◌≡◌, ℕ, false, not, List, [], ◌∷◌, map, refl, sym, ap, ◌∙◌, Some, None, is_some, Map, get, Library, Site, site, event_create}
+use Rattle.zl_calls.proofs.Common.{◌≡◌, ℕ, not, List, [], ◌∷◌, map, refl, sym, ap, ◌∙◌, Some, None, is_some, Map, get, Library, Site, site, event_create}
 use Rattle.zl_calls.proofs.Common.{has_room, has_koids, refusal, handle_operands, listed, may_choose, new_handles, insert_all, remove_all, taken_handles}
 use Rattle.zl_calls.proofs.Common.{effect, gives_ok, gives_refused, Values, replied, ⊤, bits, within, SIGNAL, kind_of, signal, body_of, body_in, on_object}
 use Rattle.zl_calls.proofs.Common.{object_changed, Objects, raised_changed, changing, told_by, one_value, Replies, no_value, process_value, object_entry}

@@ -1,6 +1,6 @@
 -- A call that makes one object: how it is refused, and what is left of the world and of the invariant. Each call that makes one goes by it.
 use Rattle.zl_calls.proofs.Common.{Inserts, ◌≡◌, ◌<◌, ◌+◌, ◌^◌, ◌&&◌, ℕ, Bool, true, false, not, List, [], ◌∷◌, map, length, refl, ap, ◌∙◌, Some, None, IsTrue}
-use Rattle.zl_calls.proofs.Common.{nat_le, nat_tests, arith, none-some, sym, then_some, first_some, Map, get, Library, Site, Values, refusal, grows, taken}
+use Rattle.zl_calls.proofs.Common.{nat_le, nat_tests, arith, none-some, sym, then_some, first_some, Map, get, Library, Site, Values, refusal, taken}
 use Rattle.zl_calls.proofs.Common.{answer_if, with_object, replied, may_get, new_entry, on_process, process_with, is_process, Objects, new_object, with_new}
 use Rattle.zl_calls.proofs.Common.{Replies, told_by, one_value, has_room_in, process_entry, process_value, body_value, world_value, Agrees, is_in_job}
 use Rattle.zl_calls.proofs.Common.{IsConsistent, IsNamed, World, Entry, CallBy, MakeDoes, MakesOne, room_refusal, may_want, wants_place}

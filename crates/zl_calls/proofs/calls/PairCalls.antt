@@ -1,7 +1,7 @@
 -- Calls that make both ends of a pair, chan_create and eventpair_create: how they are refused, and what is left of the world and of the invariant.
 use Rattle.zl_calls.proofs.Common.{◌≡◌, ◌≤◌, ◌+◌, ◌^◌, ℕ, Bool, true, false, not, ◌&&◌, ◌==◌, List, [], ◌∷◌, map, length, refl, sym, ap, ◌∙◌, subst, cond, None}
 use Rattle.zl_calls.proofs.Common.{IsTrue, arith, nat_le, nat_tests, ne_eqb, Some, none-some, and_parts, count_by, sum_by-cons, then_some, Map, get, put}
-use Rattle.zl_calls.proofs.Common.{CallBy, Library, Site, answer_if, body_value, eventpair_create, first_some, grows, may_get_all, on_process, process_with}
+use Rattle.zl_calls.proofs.Common.{CallBy, Library, Site, answer_if, body_value, eventpair_create, first_some, may_get_all, on_process, process_with}
 use Rattle.zl_calls.proofs.Common.{site, has_room, has_koids, handles_to, refusal, handle_operands, listed, may_choose, new_handles}
 use Rattle.zl_calls.proofs.Common.{insert_all, remove_all, taken_handles, effect, with_object, gives_ok, gives_refused, Values, replied, taken}
 use Rattle.zl_calls.proofs.Common.{new_entry, IsTable, Inserts, Handles, Objects, new_object, with_new, told_by, Replies, process_entry, process_value}

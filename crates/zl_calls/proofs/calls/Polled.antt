@@ -1,5 +1,5 @@
 -- What is taken from a port: its first packet, or nothing, and then nothing has changed.
-use Rattle.zl_calls.proofs.Common.{◌≡◌, ℕ, false, ◌==◌, List, [], ◌∷◌, refl, sym, ap, ◌∙◌, inl, inr, Some, None, Ok, Err, cases_Bool, eqb-true, none-some}
+use Rattle.zl_calls.proofs.Common.{◌≡◌, ℕ, ◌==◌, List, [], ◌∷◌, refl, sym, ap, ◌∙◌, inl, inr, Some, None, Ok, Err, cases_Bool, eqb-true, none-some}
 use Rattle.zl_calls.proofs.Common.{slice_get, then_some, is_empty, Map, get, update, Handles, Objects, Does, IsRefusedBy, Entry, READ, Packet, without_front}
 use Rattle.zl_calls.proofs.Common.{at_port, changed_port, changing_port, packets_in, packets_of, TakesPacket, poll_refusal, port_at, wants_nothing}
 use Rattle.std.specs.Prelude.{drop}

@@ -1,5 +1,5 @@
 -- The calls on ports, port_create, port_queue, port_poll and port_wait, each from its table and objects to a step.
-use Rattle.zl_calls.proofs.Common.{◌≡◌, ℕ, true, false, List, [], ◌∷◌, refl, sym, ap, ◌∙◌, Some, None, Ok, on_object, none-some}
+use Rattle.zl_calls.proofs.Common.{◌≡◌, ℕ, List, [], ◌∷◌, refl, sym, ap, ◌∙◌, Some, None, Ok, on_object, none-some}
 use Rattle.zl_calls.proofs.Common.{slice_get, same_Some, ◌++◌, is_empty, get, Library, Site, site, has_room, has_koids, refusal}
 use Rattle.zl_calls.proofs.Common.{handle_operands, listed, may_choose, new_handles, insert_all, remove_all, taken_handles, effect, gives_ok, gives_refused}
 use Rattle.zl_calls.proofs.Common.{Values, replied, ⊤, body_of, Objects, told_by, no_value, one_value, Replies}

@@ -1,7 +1,7 @@
 -- A call that takes handles: they leave the table of its caller, and close where the call is refused.
 use Rattle.zl_calls.proofs.Common.{◌≡◌, ◌+◌, ℕ, Bool, true, false, ◌==◌, List, [], ◌∷◌, ◌++◌, map, refl, sym, ap, ◌∙◌, subst, cond, if◌then◌else◌, Option, Some}
 use Rattle.zl_calls.proofs.Common.{None, Result, Ok, Err, inl, inr, ◌⊎◌, IsTrue, arith, eq-eqb, eqb-true, is_some, count_by, sum_by-cons, cases_Bool}
-use Rattle.zl_calls.proofs.Common.{false≢true, none-some, nat_cmp, is_sorted, Map, get, put, has_key, update, without, Ready, Library, Site, refusal, grows}
+use Rattle.zl_calls.proofs.Common.{false≢true, none-some, nat_cmp, is_sorted, Map, get, put, has_key, update, without, Ready, Library, Site, refusal}
 use Rattle.zl_calls.proofs.Common.{taken_handles, remove_all, on_process, process_without, replied, cpu_answered, AtCall, next_for, get-put, get-without}
 use Rattle.zl_calls.proofs.Common.{sorted_put, sorted_without, length-without, Handles, IsTable, Objects, Releases, koids_of, Replies, status_of, values_of}
 use Rattle.zl_calls.proofs.Common.{process_entry, process_value, state_value, world_value, IsConsistent, IsNamed, World, IsSound, option_to_list, Entry, Status}

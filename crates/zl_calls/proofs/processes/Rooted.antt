@@ -1,8 +1,8 @@
 -- Processes that weren't started, and their objects: where nothing goes, none of them does.
 use Rattle.zl_calls.proofs.Common.{◌≡◌, ◌++◌, ◌==◌, ℕ, zero, suc, Bool, true, false, if◌then◌else◌, false≢true, List, [], ◌∷◌, map, refl, ap, subst, eq-eqb}
 use Rattle.zl_calls.proofs.Common.{nat_cmp}
-use Rattle.zl_calls.proofs.Common.{Option, Some, none-some, same_Some, is_some, IsTrue, All, All-head, All-nil, All-tail, slice_get, slice_set, is_sorted}
-use Rattle.zl_calls.proofs.Common.{Map, get, has_key, is_created, lives, state_passes, Objects, process_entry, process_value, state_value, world_blocked}
+use Rattle.zl_calls.proofs.Common.{Some, none-some, same_Some, is_some, IsTrue, All, All-head, All-nil, All-tail, slice_get, slice_set, is_sorted}
+use Rattle.zl_calls.proofs.Common.{Map, get, has_key, is_created, lives, Objects, process_entry, state_value, world_blocked}
 use Rattle.zl_code.proofs.Common.{All-cons}
 use Rattle.std.proofs.lemmas.List.Elements.{All-weaker}
 use Rattle.zl_code.specs.Sound.{IsSound as IsSoundWorld}

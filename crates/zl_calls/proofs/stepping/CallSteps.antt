@@ -1,6 +1,6 @@
 -- Any call of a process in the midst of all others: from what was done among them to the relation of steps, up to where processes wake.
-use Rattle.zl_calls.proofs.Common.{refl, ◌≡◌, ◌≢◌, ℕ, slice_get-get_or, Moves, IsStuck, STUCK, Ends, call_in, true, ◌==◌, List, get_or, set, sym, ap}
-use Rattle.zl_calls.proofs.Common.{◌∙◌, subst, Some, None, same_Some, position, slice_get, is_ready, Library, Site, AtCall, next_for, calls_at, Objects}
+use Rattle.zl_calls.proofs.Common.{refl, ◌≡◌, ◌≢◌, ℕ, slice_get-get_or, Moves, IsStuck, STUCK, Ends, true, ◌==◌, List, get_or, set, sym, ap}
+use Rattle.zl_calls.proofs.Common.{◌∙◌, subst, Some, same_Some, position, slice_get, is_ready, Library, Site, AtCall, next_for, calls_at, Objects}
 use Rattle.zl_calls.proofs.Common.{process_value, state_value, world_blocked, CallName, Outcome, StaysAwake, world_left}
 use Rattle.zl_calls.proofs.Common.{CallActs, CalledAmong, acts, Parts, parts}
 use Rattle.zl_code.specs.declared.history.TraceItem.TheVariants as item

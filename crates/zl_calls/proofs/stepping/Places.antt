@@ -1,6 +1,6 @@
 -- Where a process stands in the list, and what stands next for it.
-use Rattle.zl_calls.proofs.Common.{◌≡◌, ◌<◌, ◌∙◌, ℕ, List, length, map, get_or, Option, Some, None, refl, sym, ap, slice_get, IfSome, IfNone, IsSome, IsTrue}
-use Rattle.zl_calls.proofs.Common.{call_row, true, false, arith, subst, ◌^◌, process_value, get_or_from_slice_get, is_some, false≢true, get, Cpu, Image}
+use Rattle.zl_calls.proofs.Common.{◌≡◌, ◌<◌, ◌∙◌, ℕ, List, length, map, get_or, Option, Some, None, refl, sym, ap, slice_get, IfNone, IsSome, IsTrue}
+use Rattle.zl_calls.proofs.Common.{call_row, true, false, arith, subst, ◌^◌, process_value, get_or_from_slice_get, is_some, false≢true, get, Cpu}
 use Rattle.zl_calls.proofs.Common.{is_process, is_ready, Library, Program, Site, site_of, Moves, IsStuck, ◌≢◌, calls_at}
 use Rattle.zl_calls.proofs.Common.{next_for, process_entry}
 use Rattle.zl_calls.proofs.Common.{StandsNext, call_in, World, slice_get-map, CallInstr}

@@ -1,5 +1,5 @@
 -- The invariant of the world behind each step, whether something was due or not.
-use Rattle.zl_calls.proofs.Common.{◌≡◌, ◌==◌, ◌≤◌, ◌∙◌, ℕ, Bool, true, false, List, [], ap, sym, length, list_any, Library, Objects, TraceItem, TakesStep}
+use Rattle.zl_calls.proofs.Common.{◌≡◌, ◌≤◌, ◌∙◌, ℕ, false, List, ap, sym, length, list_any, Library, Objects, TraceItem, TakesStep}
 use Rattle.zl_calls.proofs.Common.{DoesNext, EndsUnheld, FiresWaits, IsConsistent, AreBlocked, KeepSleepers, Seeks, World, fold, then_blocked, times, wakes}
 use Rattle.zl_calls.proofs.Common.{world_blocked, world_left, subst}
 use Rattle.zl_code.proofs.Common.{woken}
@@ -9,7 +9,7 @@ use Rattle.zl_objects.specs.Calm.{holds_now, is_due}
 use Rattle.zl_objects.specs.declared.awaited.Awaited.{Awaited}
 use Rattle.zl_calls.specs.Blocked.{AreSought, IsWhole}
 use Rattle.zl_calls.specs.Blocking.{FallsAsleep}
-use Rattle.zl_calls.specs.World.{Machine, awaited_of}
+use Rattle.zl_calls.specs.World.{awaited_of}
 use Rattle.zl_calls.specs.declared.process.Process.{Process}
 use Rattle.zl_calls.proofs.objects.SameButWaits.{beside_consistent}
 use Rattle.zl_calls.proofs.stepping.Covered.{stepped_covered}

@@ -1,5 +1,5 @@
 -- Handles that a call takes: they leave the table one after another, and close where the call is refused.
-use Rattle.zl_calls.proofs.Common.{false, koids_of, map-append, take, ◌-◌, ◌≡◌, ◌<◌, ◌≤◌, ◌+◌, ℕ, List, [], ◌∷◌, length, refl, sym, subst, ◌∙◌, ap, Option}
+use Rattle.zl_calls.proofs.Common.{koids_of, map-append, take, ◌-◌, ◌≡◌, ◌<◌, ◌≤◌, ◌+◌, ℕ, List, [], ◌∷◌, length, refl, sym, subst, ◌∙◌, ap, Option}
 use Rattle.zl_calls.proofs.Common.{Some, None, arith, ◌++◌, append-nil, Map, get, Objects, none_left, Releases, AreKeptBut, Err, Entry, option_to_list}
 use Rattle.zl_calls.proofs.Common.{releases_then, ClosesEach, DoesTaking, taken_from, without_handle, without_handles, Closes, Replaces, replace_refusal}
 use Rattle.zl_calls.proofs.Common.{KeepsListed, wants_nothing}

@@ -1,5 +1,5 @@
 -- The call process_create in the midst of all processes: from what it did to a step, up to where processes wake.
-use Rattle.zl_calls.proofs.Common.{◌≡◌, ℕ, zero, suc, true, List, [], ◌∷◌, ◌++◌, refl, sym, ap, ◌∙◌, subst, Some, None, Result, Ok, Err, IsActed}
+use Rattle.zl_calls.proofs.Common.{◌≡◌, ℕ, zero, suc, List, [], ◌∷◌, ◌++◌, refl, sym, ap, ◌∙◌, subst, Some, None, Result, Ok, Err, IsActed}
 use Rattle.zl_calls.proofs.Common.{none-some, same_Some, slice_get, slice_set, set, Library, Site, site, refusal, handle_operands}
 use Rattle.zl_calls.proofs.Common.{remove_all, taken_handles, gives_refused, AtCall, next_for, cpu_answered, Objects, with_new, told_by, one_value, Replies}
 use Rattle.zl_calls.proofs.Common.{status_of, process_value, world_value, AreBlocked, IsConsistent, IsRefusedBy, process_create}

@@ -1,5 +1,5 @@
 -- What process_create does where memory or a place is wanted, from what its parts do.
-use Rattle.zl_calls.proofs.Common.{◌≡◌, ℕ, List, [], ◌∷◌, refl, sym, ap, ◌∙◌, subst, Option, Some, None, Result, Ok, Err, none-some, option_or}
+use Rattle.zl_calls.proofs.Common.{◌≡◌, ℕ, List, [], ◌∷◌, sym, ap, ◌∙◌, subst, Option, Some, None, Result, Ok, Err, none-some, option_or}
 use Rattle.zl_calls.proofs.Common.{then_some, is_some, Map, get_or, slice_get, slice_set, Bool, true, false, not, Handles, IsRefusedBy, IsTrue, Library}
 use Rattle.zl_calls.proofs.Common.{Objects, wants_place}
 use Rattle.zl_calls.proofs.Common.{get_or_from_slice_get, Status, looked_up, MANAGE_PROCESS, Entry, is_dead, job_at, MakeDoes, room_refusal, ProcessCreateDoes}

@@ -1,8 +1,7 @@
 -- Who is blocked once a process has acted was so before, on the same, but for that process; so what each waits for stays known.
-use Rattle.zl_calls.proofs.Common.{◌≡◌, ◌==◌, ◌⊎◌, ◌≤◌, ◌++◌, ℕ, Bool, true, false, not, List, [], ◌∷◌, map, refl, sym, ap, ◌∙◌, subst, Option, Some, None, inl}
-use Rattle.zl_calls.proofs.Common.{inr, IsTrue, get, Objects, process_entry, state_value, process_value, world_blocked, AreBlocked, World, fold, length}
-use Rattle.zl_calls.proofs.Common.{is_ready}
-use Rattle.zl_calls.proofs.Common.{Library, TraceItem, state_passes, cases_Bool, false≢true, none-some, same_Some, lives, times, DoesNext, world_left, Ready}
+use Rattle.zl_calls.proofs.Common.{◌≡◌, ◌==◌, ◌⊎◌, ◌≤◌, ℕ, Bool, true, false, List, [], ◌∷◌, map, refl, sym, ap, ◌∙◌, subst, Option, Some, None, inl}
+use Rattle.zl_calls.proofs.Common.{inr, IsTrue, get, Objects, process_entry, state_value, world_blocked, AreBlocked, World, fold, length}
+use Rattle.zl_calls.proofs.Common.{Library, TraceItem, state_passes, cases_Bool, false≢true, same_Some, lives, times, DoesNext, world_left}
 use Rattle.zl_calls.proofs.Common.{KeepSleepers, Seeks, then_blocked, arith, eq-eqb, if◌then◌else◌, eqb-true, IsConsistent, is_local, or_right}
 use Rattle.zl_code.proofs.Common.{each, or_left}
 use Rattle.std.specs.List.{filter}

@@ -1,5 +1,5 @@
 -- What calls do with registered waits: wait_async and port_cancel. No public clause cites this module.
-use Rattle.std.specs.Prelude.{ℕ, ◌≡◌, true, false, ◌||◌, not, [], Option, Some, None, Result, Ok, Err, ⊤}
+use Rattle.std.specs.Prelude.{ℕ, ◌≡◌, ◌||◌, not, [], Option, Some, None, Result, Ok, Err, ⊤}
 use Rattle.std.specs.Bool.{then_some}
 use Rattle.std.specs.List.{list_any}
 use Rattle.std.specs.Option.{option_or}

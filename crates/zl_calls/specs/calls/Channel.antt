@@ -1,5 +1,5 @@
 -- What calls on channels do: chan_create, chan_write and chan_read_etc. No public clause cites this module.
-use Rattle.std.specs.Prelude.{ℕ, ◌≡◌, true, ◌||◌, not, nat_lt, [], ◌∷◌, ◌++◌, List, length, Option, Some, None, Result, Ok, Err, ⊤, if◌then◌else◌, is_some, IsTrue}
+use Rattle.std.specs.Prelude.{ℕ, ◌≡◌, ◌||◌, not, nat_lt, [], ◌∷◌, ◌++◌, List, length, Option, Some, None, Result, Ok, Err, ⊤, if◌then◌else◌, is_some, IsTrue}
 use Rattle.std.specs.Option.{option_or}
 use Rattle.std.specs.Bool.{then_some}
 use Rattle.zl_code.specs.Common.{Map}

@@ -2,7 +2,7 @@
 use Rattle.std.specs.Bool.{then_some}
 use Rattle.std.specs.Option.{option_or}
 use Rattle.zl_code.specs.Common.{bits, within, SIGNAL, SIGNALED, Map, get}
-use Rattle.std.specs.Prelude.{ℕ, ◌≡◌, Bool, false, ◌&&◌, not, [], ◌∷◌, Option, Some, None, Result, Ok, Err, ⊤, if◌then◌else◌, is_some, bit_or}
+use Rattle.std.specs.Prelude.{ℕ, ◌≡◌, Bool, ◌&&◌, not, [], ◌∷◌, Option, Some, None, Result, Ok, Err, ⊤, if◌then◌else◌, is_some, bit_or}
 use Rattle.zl_rights.specs.declared.kind.Kind.{Kind}
 use Rattle.zl_rights.specs.declared.kind.Kind.TheVariants as kind
 use Rattle.zl_rights.specs.declared.status.Status.{Status}

@@ -1,5 +1,5 @@
 -- What calls on handles do: close, dup and replace. No public clause cites this module.
-use Rattle.std.specs.Prelude.{ℕ, ◌≡◌, ◌<◌, IsTrue, true, ◌||◌, not, [], ◌∷◌, length, Option, Some, None, Result, false, ⊤, ◌==◌, if◌then◌else◌}
+use Rattle.std.specs.Prelude.{ℕ, ◌≡◌, ◌<◌, IsTrue, ◌||◌, not, [], ◌∷◌, length, Option, Some, None, Result, ⊤, ◌==◌, if◌then◌else◌}
 use Rattle.std.specs.Bool.{then_some}
 use Rattle.std.specs.Option.{option_or}
 use Rattle.zl_code.specs.Common.{bits, within, narrowed, DUPLICATE, Map, get, has_key, update, is_empty, with_rights}

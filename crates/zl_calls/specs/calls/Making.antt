@@ -1,5 +1,5 @@
 -- What a call does that makes one object, or the two ends of a pair, where nothing else refuses it. No public clause cites this module.
-use Rattle.std.specs.Prelude.{ℕ, ◌≡◌, ◌<◌, ◌+◌, ◌^◌, true, ◌&&◌, not, nat_le, length, Option, None, Result}
+use Rattle.std.specs.Prelude.{ℕ, ◌≡◌, ◌<◌, ◌+◌, ◌^◌, ◌&&◌, not, nat_le, length, Option, None, Result}
 use Rattle.std.specs.Bool.{then_some}
 use Rattle.zl_code.specs.Common.{Map}
 use Rattle.zl_code.specs.Effects.{new_entry}

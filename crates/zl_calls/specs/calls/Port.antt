@@ -1,5 +1,5 @@
 -- What calls on ports do: port_create, port_queue, port_poll and port_wait. No public clause cites this module.
-use Rattle.std.specs.Prelude.{ℕ, ◌≡◌, Bool, true, false, [], ◌∷◌, List, Option, Some, None, Result, Ok, Err, ⊤, slice_get}
+use Rattle.std.specs.Prelude.{ℕ, ◌≡◌, Bool, [], ◌∷◌, List, Option, Some, None, Result, Ok, Err, ⊤, slice_get}
 use Rattle.std.specs.Bool.{then_some}
 use Rattle.std.specs.Result.{result_err}
 use Rattle.zl_code.specs.Common.{Map, get, is_empty}

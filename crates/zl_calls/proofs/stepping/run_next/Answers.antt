@@ -1,1 +1,0 @@
-use Rattle.zl_calls.proofs.stepping.run_next.Goals as goal

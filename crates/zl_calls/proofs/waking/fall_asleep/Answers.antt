@@ -1,4 +1,4 @@
-use Rattle.zl_calls.proofs.Common.{false≢true, none-some, sym, ◌∙◌}
+use Rattle.zl_calls.proofs.Common.{false≢true, sym, ◌∙◌}
 use Rattle.zl_calls.proofs.waking.StillBlocked.{known_asleep, not_asleep}
 use Rattle.zl_calls.proofs.waking.fall_asleep.Goals as goal
 

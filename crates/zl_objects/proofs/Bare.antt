@@ -1,6 +1,7 @@
 -- Objects that are the same but for waits and reserved places: what doesn't see these.
 use Rattle.zl_rights.proofs.Common.{◌≡◌, ℕ, ◌&&◌, ◌||◌, List, [], ◌∷◌, length, map, refl, sym, ap, ◌∙◌, subst, cond, Option, Some, None, arith, nat_lt, is_some}
 use Rattle.zl_rights.proofs.Common.{suc, option_map, count_by, sum_by-cons, below_all, is_sorted, nat_cmp, none-some, same_Some, Map, get, has_key, each}
+use Rattle.zl_rights.proofs.Common.{Bool, list_any}
 use Rattle.std.specs.Ordering.{is_lt}
 use Rattle.zl_rights.specs.World.{World}
 use Rattle.zl_rights.proofs.MapLaws.{get-each}
@@ -75,9 +76,13 @@ named_bare [] = refl
 named_bare (e ∷ m) =
     omega (arith, sum_by-cons (λ x. cond (is_named x) 1 0) (e.0, bare e.1) (all_bare m), sum_by-cons (λ x. cond (is_named x) 1 0) e m, named_bare m)
 
+any_bare : (test : Body → Bool) → ((b : Body) → test (unreserved b) ≡ test b) → (m : Map Object)
+    → list_any (λ e. test e.1.body) (all_bare m) ≡ list_any (λ e. test e.1.body) m
+any_bare test same m = list_any-each (λ e. test e.1.body) (λ j. bare) (λ j o. same o.body) m
+
 child_bare : (m : Map Object) (k : ℕ) → has_living_child (all_bare m) k ≡ has_living_child m k
 unfolding has_living_child
-child_bare m k = list_any-each (λ e. is_child k e.1.body) (λ j. bare) (λ j o. by_body o.body) m
+child_bare m k = any_bare (is_child k) by_body m
   where
     by_body : (b : Body) → is_child k (unreserved b) ≡ is_child k b
     by_body (body.Job own) = refl
@@ -126,6 +131,9 @@ module _ (m m2 : Map Object) (same : AreSameButWaits m m2) where
 
   pub named_same : count_by is_named m2 ≡ count_by is_named m
   named_same = carried (λ n. count_by is_named n) named_bare
+
+  pub any_same : (test : Body → Bool) → ((b : Body) → test (unreserved b) ≡ test b) → list_any (λ e. test e.1.body) m2 ≡ list_any (λ e. test e.1.body) m
+  any_same test same = carried (λ n. list_any (λ e. test e.1.body) n) (any_bare test same)
 
   pub has_same : (k : ℕ) → has_key m2 k ≡ has_key m k
   has_same k = carried (λ n. has_key n k) (λ n. has_bare n k)

@@ -76,7 +76,7 @@ has_left m k j has = by_object (get (without m k) j) refl has
     by_object (Some q) is h = rw ((found_left m k j q is).1) refl
 
 -- a test that the entry fails is passed as often without it
-any_without_at : {X : Type 0} (test : ℕ × X → Bool) (m : Map X) (k : ℕ) (x : X) → IsTrue (is_sorted nat_cmp m) → get m k ≡ Some x → test (k, x) ≡ false
+pub any_without_at : {X : Type 0} (test : ℕ × X → Bool) (m : Map X) (k : ℕ) (x : X) → IsTrue (is_sorted nat_cmp m) → get m k ≡ Some x → test (k, x) ≡ false
     → list_any test (without m k) ≡ list_any test m
 unfolding get without
 any_without_at test [] k x sorted there out = refl

@@ -83,7 +83,13 @@ kept_still m k j q before same unkept = rw (← same, ← alone_updated held_onc
 less_thins : (m : Map Object) (k j : ℕ) (o : Object) → get (update m k held_once_less) j ≡ Some o → Thins m (update m k held_once_less) j o
 less_thins m k j o at =
     let c : Changed held_once_less m k j o = changed held_once_less m k j o at in
-    record { before = c.before; there = c.there; waits = λ test left. ap (λ s. filter test s.waits) (signals_same c); slept = slept_same c }
+    record {
+      before = c.before;
+      there = c.there;
+      waits = λ test left. ap (λ s. filter test s.waits) (signals_same c);
+      fewer = λ test none. ap (λ s. list_any test s.waits) (signals_same c) ∙ none;
+      slept = slept_same c;
+    }
   where
     slept_same : (c : Changed held_once_less m k j o) → o.slept ≡ c.before.slept
     slept_same c =
@@ -148,7 +154,7 @@ other_went m dying k other = record {
 -- ---- one after another
 
 thin_refl : (m : Map Object) (k : ℕ) (o : Object) → get m k ≡ Some o → Thins m m k o
-thin_refl m k o at = record { before = o; there = at; waits = λ test left. refl; slept = refl }
+thin_refl m k o at = record { before = o; there = at; waits = λ test left. refl; fewer = λ test none. none; slept = refl }
 
 -- what thins, and then thins again
 pub thin_then : (m m2 m3 : Map Object) → ((k : ℕ) (o : Object) → get m2 k ≡ Some o → Thins m m2 k o)
@@ -160,6 +166,7 @@ thin_then m m2 m3 first later k o at =
       before = old.before;
       there = old.there;
       waits = λ test left. new.waits test left ∙ old.waits test (λ x takes. there_before x.port (get m3 x.port) refl (left x takes));
+      fewer = λ test none. new.fewer test (old.fewer test none);
       slept = new.slept ∙ old.slept;
     }
   where

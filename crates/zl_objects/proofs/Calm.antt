@@ -21,6 +21,7 @@ use Rattle.zl_objects.specs.declared.object.Object.{Object}
 use Rattle.zl_objects.specs.Awaited.{koid_of}
 use Rattle.zl_objects.specs.Calm.{IsAtRest, IsCalm, NoneHolds, has_packet, is_due, is_given, is_watched}
 use Rattle.zl_objects.specs.Jobs.{has_job_below, has_process_below, is_job_below, is_process_below}
+use Rattle.zl_objects.specs.Objects.{peer_of}
 use Rattle.zl_objects.specs.Signals.{implied, signals_at, signals_in}
 use Rattle.zl_objects.proofs.Bodies.{Changed, changed}
 
@@ -179,11 +180,12 @@ fewer_unmarked marked marked2 more k unmarked = by_test (marked k) refl
 
 -- ---- one object is written
 
--- it stays as much a child, and as much slept at
+-- it stays as much a child, the end of the same peer, and as much slept at
 pub record Keeps (f : Object → Object) : Type 0 where
   pub slept : (o : Object) → IsTrue o.slept → IsTrue (f o).slept
   pub jobs : (j : ℕ) (o : Object) → is_job_below j (f o).body ≡ is_job_below j o.body
   pub processes : (j : ℕ) (o : Object) → is_process_below j (f o).body ≡ is_process_below j o.body
+  pub peer : (o : Object) → peer_of (f o).body ≡ peer_of o.body
 
 module _ (f : Object → Object) where
   below_updated : (test : Body → Bool) → ((o : Object) → test (f o).body ≡ test o.body) → (m : Map Object) (k : ℕ)

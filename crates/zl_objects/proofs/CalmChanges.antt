@@ -20,11 +20,10 @@ use Rattle.zl_objects.specs.declared.object.Body.TheVariants as body
 use Rattle.zl_objects.specs.declared.object.Life.{Life}
 use Rattle.zl_objects.specs.declared.object.Life.TheVariants as life
 use Rattle.zl_objects.specs.declared.object.Object.{Object}
-use Rattle.zl_objects.specs.Calm.{IsCalm, has_packet, is_watched, is_watched_in}
-use Rattle.zl_objects.specs.Dying.{Thins}
+use Rattle.zl_objects.specs.Calm.{IsCalm, StaysCalm, has_packet, is_watched, is_watched_in}
 use Rattle.zl_objects.specs.Jobs.{all_killed, is_job_below, is_process_below, is_within, killed_if, with_policy_body, with_policy_set}
 use Rattle.zl_objects.specs.Objects.{held_once_less, held_once_more, is_alive, raised_changed, received, received_body, sent, sent_body, started, started_body}
-use Rattle.zl_objects.specs.Objects.{started_life, stopped}
+use Rattle.zl_objects.specs.Objects.{peer_of, started_life, stopped}
 use Rattle.zl_objects.specs.Ports.{at_port, changed_port, packets_of}
 use Rattle.zl_objects.specs.Signals.{implied, signals_in}
 use Rattle.zl_objects.specs.Waits.{unwatched, watched}
@@ -34,7 +33,8 @@ use Rattle.zl_objects.proofs.Calm.{IsFewer, Keeps, Stays, calm_followed, fewer_b
 use Rattle.zl_objects.proofs.Calm.{stays_unwatched}
 use Rattle.zl_objects.proofs.Calm.{updated_calm}
 use Rattle.zl_objects.proofs.Places.{first_out}
-use Rattle.zl_objects.proofs.Whole.{more_quiet, more_same}
+use Rattle.zl_objects.proofs.Tasks.{policy_same, started_same}
+use Rattle.zl_objects.proofs.Whole.{more_quiet, more_same, received_same, same_peer, sent_same}
 
 -- ---- nothing comes to be due
 
@@ -51,7 +51,7 @@ quiet_calm {marked} {next} {sleepers} f keeps quiet m n k is =
 -- its body stays, and its signals and waits
 pub keeps_body : (f : Object → Object) → ((o : Object) → IsTrue o.slept → IsTrue (f o).slept) → ((o : Object) → (f o).body ≡ o.body) → Keeps f
 keeps_body f slept same =
-    record { slept = slept; jobs = λ j o. ap (is_job_below j) (same o); processes = λ j o. ap (is_process_below j) (same o) }
+    record { slept = slept; jobs = λ j o. ap (is_job_below j) (same o); processes = λ j o. ap (is_process_below j) (same o); peer = λ o. ap peer_of (same o) }
 
 pub quiet_body : (f : Object → Object) → ((o : Object) → (f o).body ≡ o.body) → ((o : Object) → (f o).signals.raised ≡ o.signals.raised)
     → ((o : Object) (test : Watch → Bool) → list_any test o.signals.waits ≡ false → list_any test (f o).signals.waits ≡ false) → IsQuiet f
@@ -75,6 +75,10 @@ keeps_less = keeps_body held_once_less (λ o h. h) (λ o. refl)
 
 pub less_stays : IsQuiet held_once_less
 less_stays = quiet_body held_once_less (λ o. refl) (λ o. refl) (λ o test h. h)
+
+-- one handle less
+pub less_calm : (m n : Map Object) (k : ℕ) → n ≡ update m k held_once_less → StaysCalm m n
+less_calm m n k is marked next sleepers = quiet_calm held_once_less keeps_less less_stays m n k is
 
 -- the first wait that passes has gone
 none_out : (test out : Watch → Bool) (ws : List Watch) → list_any test ws ≡ false → list_any test (without_first out ws) ≡ false
@@ -108,8 +112,9 @@ record IsQuietBody (g : Body → Body) : Type 0 where
   packets : (b : Body) → not (is_empty (packets_of b)) ≡ false → not (is_empty (packets_of (g b))) ≡ false
 
 keeps_bodies : (g : Body → Body) → ((j : ℕ) (b : Body) → is_job_below j (g b) ≡ is_job_below j b)
-    → ((j : ℕ) (b : Body) → is_process_below j (g b) ≡ is_process_below j b) → Keeps (λ o. record o { body = g o.body })
-keeps_bodies g jobs processes = record { slept = λ o h. h; jobs = λ j o. jobs j o.body; processes = λ j o. processes j o.body }
+    → ((j : ℕ) (b : Body) → is_process_below j (g b) ≡ is_process_below j b) → ((b : Body) → peer_of (g b) ≡ peer_of b)
+    → Keeps (λ o. record o { body = g o.body })
+keeps_bodies g jobs processes peer = record { slept = λ o h. h; jobs = λ j o. jobs j o.body; processes = λ j o. processes j o.body; peer = λ o. peer o.body }
 
 bodies_stay : (g : Body → Body) → IsQuietBody g → IsQuiet (λ o. record o { body = g o.body })
 bodies_stay g quiet m k o =
@@ -143,7 +148,7 @@ started_quiet = record { jobs = jobs; processes = processes; fewer = fewer; pack
     packets _ h = h
 
 pub keeps_started : Keeps started
-keeps_started = keeps_bodies started_body started_quiet.jobs started_quiet.processes
+keeps_started = keeps_bodies started_body started_quiet.jobs started_quiet.processes (λ b. (started_same b).peer)
 
 pub started_stays : IsQuiet started
 started_stays = bodies_stay started_body started_quiet
@@ -194,7 +199,7 @@ received_quiet = record { jobs = jobs; processes = processes; fewer = fewer; pac
     packets _ h = h
 
 pub keeps_received : Keeps received
-keeps_received = keeps_bodies received_body received_quiet.jobs received_quiet.processes
+keeps_received = keeps_bodies received_body received_quiet.jobs received_quiet.processes (λ b. (received_same b).peer)
 
 pub received_stays : IsQuiet received
 received_stays = bodies_stay received_body received_quiet
@@ -209,7 +214,7 @@ module _ (g : Port → Port) where
   port_processes j _ = refl
 
   pub keeps_port : Keeps (at_port g)
-  keeps_port = keeps_bodies (changed_port g) port_jobs port_processes
+  keeps_port = keeps_bodies (changed_port g) port_jobs port_processes (same_peer g)
 
   -- no packet comes
   pub port_stays : ((p : Port) → not (is_empty p.packets) ≡ false → not (is_empty (g p).packets) ≡ false) → IsQuiet (at_port g)
@@ -241,10 +246,10 @@ some_out test (x ∷ xs) h = absurd (false≢true (sym h))
 -- ---- what changes is marked, if something waits there
 
 pub keeps_changed : (clear set : ℕ) → Keeps (raised_changed clear set)
-keeps_changed clear set = record { slept = λ o h. h; jobs = λ j o. refl; processes = λ j o. refl }
+keeps_changed clear set = keeps_body (raised_changed clear set) (λ o h. h) (λ o. refl)
 
 pub keeps_sent : (message : Message) → Keeps (sent message)
-keeps_sent message = keeps_bodies (sent_body message) jobs processes
+keeps_sent message = keeps_bodies (sent_body message) jobs processes (λ b. (sent_same message b).peer)
   where
     jobs : (j : ℕ) (b : Body) → is_job_below j (sent_body message b) ≡ is_job_below j b
     jobs j (body.ChannelEnd peer queue) = refl
@@ -255,7 +260,7 @@ keeps_sent message = keeps_bodies (sent_body message) jobs processes
     processes j _ = refl
 
 pub keeps_watched : (x : Watch) → Keeps (watched x)
-keeps_watched x = record { slept = λ o h. h; jobs = λ j o. refl; processes = λ j o. refl }
+keeps_watched x = keeps_body (watched x) (λ o h. h) (λ o. refl)
 
 -- what isn't marked wasn't to be
 pub unless_wanted : (is b : Bool) → (b ≡ true → IsTrue is) → is ≡ false → (x : Bool) → b ≡ x → x ≡ false
@@ -316,7 +321,7 @@ watched_after f m k b o at is = is ∙ rw (get-update m k f k, eq k, at) refl
     eq j = eq-eqb j j refl
 
 pub keeps_policy : (c : Condition) (a : Action) → Keeps (with_policy_set c a)
-keeps_policy c a = keeps_bodies (with_policy_body c a) (policy_quiet c a).jobs (policy_quiet c a).processes
+keeps_policy c a = keeps_bodies (with_policy_body c a) (policy_quiet c a).jobs (policy_quiet c a).processes (λ b. (policy_same c a b).peer)
 
 -- a policy was set, or that was refused
 pub policy_calm : {A B : Type 0} {marked : ℕ → Bool} {next : ℕ} {sleepers : List Sleeper} (c : Condition) (a : Action) (m n : Map Object) (k : ℕ) (v w : Object)
@@ -347,10 +352,6 @@ all_calm {marked} {marked2} {next} {sleepers} all m m2 were =
     }))
 
 module _ {marked marked2 : ℕ → Bool} {next : ℕ} {sleepers : List Sleeper} (all : (k : ℕ) → IsTrue (marked2 k)) (m m2 : Map Object) where
-  -- handles went, and what nothing keeps
-  pub left_calm : ((k : ℕ) (o : Object) → get m2 k ≡ Some o → Thins m m2 k o) → IsCalm marked m next sleepers → IsCalm marked2 m2 next sleepers
-  left_calm thins = all_calm all m m2 (λ k o2 at. let was : Thins m m2 k o2 = thins k o2 at in (was.before, was.there, λ h. was.slept ∙ h))
-
   -- a process has ended
   pub stopped_calm : (k : ℕ) → m2 ≡ update m k stopped → IsCalm marked m next sleepers → IsCalm marked2 m2 next sleepers
   stopped_calm k is = rw is (all_calm all m (update m k stopped) (λ j o2 at. were j o2 (changed stopped m k j o2 at)))

@@ -30,6 +30,7 @@ use Rattle.zl_objects.proofs.Bodies.{Changed, changed}
 use Rattle.zl_objects.proofs.ByKoid.{inserted, looked_up, put_last}
 use Rattle.zl_objects.proofs.Calm.{Follows, IsFewer, IsNew, Keeps, calm_followed, fewer_both, fewer_if, none_given, stays_fewer, stays_unwatched}
 use Rattle.zl_objects.proofs.CalmChanges.{keeps_body, quiet_body, quiet_calm, remarked_calm, unless_wanted}
+use Rattle.zl_objects.proofs.Ending.{none_filtered}
 use Rattle.zl_objects.proofs.Whole.{below_first, end_of}
 
 -- ---- one object more
@@ -224,16 +225,6 @@ any_map : {X Y : Type 0} (test : Y → Bool) (g : X → Y) (xs : List X) → lis
 any_map test g [] = refl
 any_map test g (x ∷ xs) = ap (λ b. test (g x) || b) (any_map test g xs)
 
-none_filtered : {X : Type 0} (test p : X → Bool) (xs : List X) → list_any test xs ≡ false → list_any test (filter p xs) ≡ false
-none_filtered test p [] h = refl
-none_filtered test p (x ∷ xs) h = by_test (test x) refl (p x) refl h (λ rest. none_filtered test p xs rest)
-  where
-    by_test : (a : Bool) → test x ≡ a → (b : Bool) → p x ≡ b → (a || list_any test xs) ≡ false
-        → (list_any test xs ≡ false → list_any test (filter p xs) ≡ false) → list_any test (filter p (x ∷ xs)) ≡ false
-    by_test true is b which h later = absurd (false≢true (sym h))
-    by_test false is true which h later = rw (which, is) (later h)
-    by_test false is false which h later = rw which (later h)
-
 -- a wait that passes is among those at its object
 any_there : (test : Wait → Bool) (ws : List Wait) → IsTrue (list_any test ws) → (k : ℕ) × IsTrue (list_any test (filter (λ x. x.object == k) ws))
 any_there test [] h = absurd (false≢true h)
@@ -304,7 +295,7 @@ calmed {marked} {marked2} {next} m waits list list2 listed none is calm = rw is 
 -- ---- new objects
 
 -- the peer of an end was given, so it isn't the next koid
-given_apart : (m : Map Object) (next later : ℕ) (b : Body) → next ≤ later → HasPeer m next b → (p : ℕ) → peer_of b ≡ Some p → (later == p) ≡ false
+pub given_apart : (m : Map Object) (next later : ℕ) (b : Body) → next ≤ later → HasPeer m next b → (p : ℕ) → peer_of b ≡ Some p → (later == p) ≡ false
 given_apart m next later b most has p is = let given : p < next = (rw is at has).0 in grind (arith, nat_tests, given, most)
 
 pub none_calm : {marked : ℕ → Bool} {next : ℕ} {sleepers : List Sleeper} (m : Map Object) → m ≡ [] → sleepers ≡ [] → IsCalm marked m next sleepers

@@ -1,7 +1,8 @@
 -- The waits that end with an object that goes: its own, and those that give their packets to it.
-use Rattle.zl_rights.proofs.Common.{◌≡◌, ◌+◌, ◌<◌, ◌⊎◌, ℕ, Bool, true, false, not, ◌==◌, List, [], ◌∷◌, drop, filter, length, refl, sym, ap, ◌∙◌, subst, cond}
-use Rattle.zl_rights.proofs.Common.{Option, Some, None, inl, inr, IsTrue, arith, eq-eqb, nat_lt, if◌then◌else◌, option_map, slice_get, count_by, sum_by}
-use Rattle.zl_rights.proofs.Common.{sum_by-cons, cases_Bool, eqb-true, false≢true, none-some, same_Some, nat_tests, Map, get, has_key, update, without, each}
+use Rattle.zl_rights.proofs.Common.{◌≡◌, ◌+◌, ◌<◌, ◌⊎◌, ℕ, Bool, true, false, not, ◌==◌, ◌||◌, List, [], ◌∷◌, drop, filter, length, refl, sym, ap, ◌∙◌, subst}
+use Rattle.zl_rights.proofs.Common.{Option, Some, None, inl, inr, IsTrue, arith, eq-eqb, nat_lt, if◌then◌else◌, list_any, option_map, slice_get, count_by}
+use Rattle.zl_rights.proofs.Common.{cond, sum_by, sum_by-cons, cases_Bool, eqb-true, false≢true, none-some, same_Some, nat_tests, Map, get, has_key}
+use Rattle.zl_rights.proofs.Common.{each, update, without}
 use Rattle.std.specs.Prelude.{◌-◌}
 use Rattle.zl_rights.proofs.MapLaws.{get-each, get-update}
 use Rattle.zl_table.proofs.MapEdits.{get-without}
@@ -84,6 +85,16 @@ filter_within test p within (x ∷ xs) = elim (cases_Bool (p x)) as (λ _. filte
   ]
 ]
 
+pub none_filtered : {X : Type 0} (test p : X → Bool) (xs : List X) → list_any test xs ≡ false → list_any test (filter p xs) ≡ false
+none_filtered test p [] h = refl
+none_filtered test p (x ∷ xs) h = by_test (test x) refl (p x) refl h (λ rest. none_filtered test p xs rest)
+  where
+    by_test : (a : Bool) → test x ≡ a → (b : Bool) → p x ≡ b → (a || list_any test xs) ≡ false
+        → (list_any test xs ≡ false → list_any test (filter p xs) ≡ false) → list_any test (filter p (x ∷ xs)) ≡ false
+    by_test true is b which h later = absurd (false≢true (sym h))
+    by_test false is true which h later = rw (which, is) (later h)
+    by_test false is false which h later = rw which (later h)
+
 -- the same signals and waits as before, and as much slept at
 record IsStill (m : Map Object) (k : ℕ) (o : Object) : Type 0 where
   before : Object
@@ -130,12 +141,15 @@ module _ (m m2 : Map Object) (k : ℕ) (gone : has_key m2 k ≡ false) where
         waits = λ test left.
             ap (λ (x : Object). filter test x.signals.waits) (sym (same_Some (without_port_waits k q) o read))
             ∙ filter_within test (λ x. not (is_at_port k x)) (apart test left) q.signals.waits;
+        fewer = λ test none.
+            ap (λ (x : Object). list_any test x.signals.waits) (sym (same_Some (without_port_waits k q) o read))
+            ∙ none_filtered test (λ x. not (is_at_port k x)) q.signals.waits none;
         slept = ap (λ (x : Object). x.slept) (sym (same_Some (without_port_waits k q) o read));
       }
 
       by_test : (b : Bool) → get (if b then each (λ i. without_port_waits k) m else m) j ≡ Some o → Thins m m2 j o
       by_test true read = by_object (get m j) refl (sym (get-each m (λ i. without_port_waits k) j) ∙ read)
-      by_test false read = record { before = o; there = read; waits = λ test left. refl; slept = refl }
+      by_test false read = record { before = o; there = read; waits = λ test left. refl; fewer = λ test none. none; slept = refl }
 
 -- where k has gone, the waits of the others are left whose port isn't k
 pub ending_thins : (m : Map Object) (k : ℕ) (gone : Object) (j : ℕ) (o : Object) → has_key (ending_waits k gone (without m k)) k ≡ false
@@ -149,6 +163,7 @@ ending_thins m k gone j o out at =
       before = first.before;
       there = (found_left m k j first.before first.there).1;
       waits = λ test left. later.waits test left ∙ ap (λ s. filter test s.waits) first.same;
+      fewer = λ test none. later.fewer test (ap (λ s. list_any test s.waits) first.same ∙ none);
       slept = later.slept ∙ first.slept;
     }
 

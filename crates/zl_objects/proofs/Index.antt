@@ -1,8 +1,8 @@
 -- The index of living children: what it finds, and that it fits the objects after each change.
-use Rattle.zl_rights.proofs.Common.{◌≡◌, ◌<◌, ◌+◌, ◌-◌, ◌^◌, ◌==◌, ◌&&◌, ◌||◌, ◌⊎◌, ◌++◌, ℕ, Bool, true, false, not, List, [], ◌∷◌, refl, sym, ap, ◌∙◌}
+use Rattle.zl_rights.proofs.Common.{◌≡◌, ◌<◌, ◌≤◌, ◌+◌, ◌-◌, ◌^◌, ◌==◌, ◌&&◌, ◌||◌, ◌⊎◌, ◌++◌, ℕ, Bool, true, false, not, List, [], ◌∷◌, refl, sym, ap, ◌∙◌}
 use Rattle.zl_rights.proofs.Common.{Option, Some, None, inl, inr, IsTrue, IfSome, OnOk, Result, Ok, Err, arith, and_parts, and_from, eqb-true, filter}
 use Rattle.zl_rights.proofs.Common.{list_any, nat_lt, nat_cmp, nat_tests, below_all, is_sorted, cases_Bool, false≢true, or_left, or_right, none-some, same_Some}
-use Rattle.zl_rights.proofs.Common.{if◌then◌else◌, Map, each, get, has_key, option_map, update, without, IfNone}
+use Rattle.zl_rights.proofs.Common.{eq-eqb, if◌then◌else◌, Map, each, get, has_key, option_map, put, update, without, IfNone}
 use Rattle.std.specs.Prelude.{OnErr}
 use Rattle.std.specs.BTreeMap.{BTreeMap, insert_entry, is_at, IsUnchanged}
 use Rattle.std.specs.BTreeMap.Range.{range_contains}
@@ -24,9 +24,10 @@ use Rattle.zl_objects.specs.declared.object.Body.TheVariants as body
 use Rattle.zl_objects.specs.declared.object.Object.{Object}
 use Rattle.zl_objects.specs.declared.object.Pair.{Pair}
 use Rattle.zl_objects.specs.declared.object.Pair.TheVariants as pair
-use Rattle.zl_objects.specs.Index.{IsIndexed, OthersStayListed, StayListed, lists, pair_cmp, passes_in}
+use Rattle.zl_objects.specs.Dying.{HasPeer}
+use Rattle.zl_objects.specs.Index.{ArePaired, IsIndexed, OthersStayListed, StayListed, lists, pair_cmp, passes_in}
 use Rattle.zl_objects.specs.Jobs.{all_killed, is_job_below, is_process_below, is_within, killed, killed_if}
-use Rattle.zl_objects.specs.Objects.{end_to, held_once_less, is_alive, is_child, is_koid, keeper_of, stopped}
+use Rattle.zl_objects.specs.Objects.{end_to, held_once_less, is_alive, is_child, is_end_body, is_koid, keeper_of, peer_of, stopped}
 use Rattle.zl_objects.specs.Ports.{at_port}
 use Rattle.zl_objects.specs.Release.{Cascades, none_left, let_go, goes, waits_end}
 use Rattle.zl_objects.specs.Waits.{ending_waits, unwatched}
@@ -35,11 +36,13 @@ use Rattle.zl_objects.proofs.Bodies.{Changed, changed, found_left}
 use Rattle.zl_objects.proofs.ByKoid.{inserted, written, written_back}
 use Rattle.zl_objects.proofs.Calm.{Keeps}
 use Rattle.zl_objects.proofs.CalmChanges.{keeps_port, keeps_unwatched}
+use Rattle.zl_objects.proofs.CalmMade.{given_apart}
 use Rattle.zl_objects.proofs.Ending.{ending_bare}
 use Rattle.zl_objects.proofs.Found.{Found, any_at, any_found}
 use Rattle.zl_objects.proofs.Released.{Was, cascaded_was}
 use Rattle.zl_objects.proofs.Showing.{same_tests}
-use Rattle.zl_objects.proofs.Whole.{end_of}
+use Rattle.zl_objects.proofs.Tasks.{killed_same}
+use Rattle.zl_objects.proofs.Whole.{end_of, end_peer}
 
 -- ---- what is listed
 
@@ -153,6 +156,78 @@ killed_none true j o h = by_body o.body h
     by_body (body.Process job l) h = absurd (false≢true h)
     by_body _ h = h
 
+-- ---- ends and their peers
+
+-- what is left was there before, and the end of the same peer
+abbrev WereEnds : Map Object → Map Object → Type 0
+WereEnds m m2 = (k : ℕ) (o2 : Object) → get m2 k ≡ Some o2 → (o : Object) × (get m k ≡ Some o) × (peer_of o2.body ≡ peer_of o.body)
+
+still_paired : (m m2 : Map Object) → WereEnds m m2 → ArePaired m → ArePaired m2
+still_paired m m2 were paired k p o q at there is =
+    let end : (x : Object) × (get m k ≡ Some x) × (peer_of o.body ≡ peer_of x.body) = were k o at in
+    let peer : (x : Object) × (get m p ≡ Some x) × (peer_of q.body ≡ peer_of x.body) = were p q there in
+    peer.2 ∙ paired k p end.0 peer.0 end.1 peer.1 (sym end.2 ∙ is)
+
+-- the ends whose peer a new object with this body is are its peers
+abbrev IsPairedWith : Map Object → ℕ → Body → Type 0
+IsPairedWith m next b = (k : ℕ) (q : Object) → get m k ≡ Some q
+    → (peer_of q.body ≡ Some next → peer_of b ≡ Some k) × (peer_of b ≡ Some k → peer_of q.body ≡ Some next)
+
+put_paired : (m : Map Object) (next : ℕ) (o : Object) → IsPairedWith m next o.body → ArePaired m → ArePaired (put m next o)
+put_paired m next o ends paired k p x q at there is =
+    by_keys (cases_Bool (next == k)) (cases_Bool (next == p)) (sym (get-put m next o k) ∙ at) (sym (get-put m next o p) ∙ there)
+  where
+    by_keys : IsTrue (next == k) ⊎ ((next == k) ≡ false) → IsTrue (next == p) ⊎ ((next == p) ≡ false) → (if next == k then Some o else get m k) ≡ Some x
+        → (if next == p then Some o else get m p) ≡ Some q → peer_of q.body ≡ Some k
+    by_keys (inl a) (inl b) one other =
+        let same : q ≡ x = sym (same_Some o q (rw b at other)) ∙ same_Some o x (rw a at one) in
+        let key : p ≡ k = sym (eqb-true next p b) ∙ eqb-true next k a in
+        ap (λ (y : Object). peer_of y.body) same ∙ (is ∙ ap (λ (n : ℕ). Some n) key)
+    by_keys (inl a) (inr b) one other =
+        let new : peer_of o.body ≡ Some p = ap (λ (y : Object). peer_of y.body) (same_Some o x (rw a at one)) ∙ is in
+        (ends p q (rw b at other)).1 new ∙ ap (λ (n : ℕ). Some n) (eqb-true next k a)
+    by_keys (inr a) (inl b) one other =
+        ap (λ (y : Object). peer_of y.body) (sym (same_Some o q (rw b at other)))
+        ∙ (ends k x (rw a at one)).0 (is ∙ ap (λ (n : ℕ). Some n) (sym (eqb-true next p b)))
+    by_keys (inr a) (inr b) one other = paired k p x q (rw a at one) (rw b at other) is
+
+module _ (m : Map Object) (next : ℕ) (peers : (k : ℕ) (q : Object) → get m k ≡ Some q → HasPeer m next q.body) where
+  not_given : (k later : ℕ) (q : Object) → next ≤ later → get m k ≡ Some q → peer_of q.body ≡ Some later → ⊥
+  not_given k later q most at is =
+      false≢true (sym (given_apart m next later q.body most (peers k q at) later is) ∙ eq-eqb later later refl)
+
+  -- it is no end
+  pub alone_paired : (b : Body) → is_end_body b ≡ false → IsPairedWith m next b
+  alone_paired b alone k q at = (λ is. absurd (not_given k next q (omega arith) at is), λ is. absurd (none-some k (sym (no_peer b alone) ∙ is)))
+    where
+      no_peer : (b : Body) → is_end_body b ≡ false → peer_of b ≡ None
+      no_peer (body.ChannelEnd p queue) h = absurd (false≢true (sym h))
+      no_peer (body.PairEnd p) h = absurd (false≢true (sym h))
+      no_peer _ h = refl
+
+  -- both ends of a pair
+  module _ (pair : Pair) where
+    first_paired : ((j : ℕ) → IsTrue (has_key m j) → j < next) → IsPairedWith m next (end_to pair (next + 1))
+    first_paired below k q at = (
+      λ is. absurd (not_given k next q (omega arith) at is),
+      λ is. absurd (omega (arith, below k (rw at refl), same_Some (next + 1) k (sym (end_peer pair (next + 1)) ∙ is))),
+    )
+
+    second_paired : (handles : ℕ) → IsPairedWith (put m next (end_of pair (next + 1) handles)) (next + 1) (end_to pair next)
+    second_paired handles k q at = by_key (cases_Bool (next == k)) (sym (get-put m next (end_of pair (next + 1) handles) k) ∙ at)
+      where
+        by_key : IsTrue (next == k) ⊎ ((next == k) ≡ false) → (if next == k then Some (end_of pair (next + 1) handles) else get m k) ≡ Some q
+            → (peer_of q.body ≡ Some (next + 1) → peer_of (end_to pair next) ≡ Some k)
+            × (peer_of (end_to pair next) ≡ Some k → peer_of q.body ≡ Some (next + 1))
+        by_key (inl here) is = (
+          λ h. end_peer pair next ∙ ap (λ (n : ℕ). Some n) (eqb-true next k here),
+          λ h. ap (λ (y : Object). peer_of y.body) (sym (same_Some (end_of pair (next + 1) handles) q (rw here at is))) ∙ end_peer pair (next + 1),
+        )
+        by_key (inr apart) is = (
+          λ h. absurd (not_given k (next + 1) q (omega arith) (rw apart at is) h),
+          λ h. absurd (false≢true (sym apart ∙ eq-eqb next k (same_Some next k (sym (end_peer pair next) ∙ h)))),
+        )
+
 -- ---- after each change
 
 sorted_each : (f : ℕ → Object → Object) (m : Map Object) → is_sorted nat_cmp (each f m) ≡ is_sorted nat_cmp m
@@ -167,13 +242,15 @@ sorted_each f (e ∷ m) = λ i. below_each m i && sorted_each f m i
 module _ {children : Children} where
   pub none_indexed : (m : Map Object) → m ≡ [] → IsIndexed children m
   unfolding get
-  none_indexed m none = rw none (record { in_order = refl; listed = λ k j o at child. absurd (none-some o at) })
+  none_indexed m none = rw none (record { in_order = refl; listed = λ k j o at child. absurd (none-some o at); paired = λ k p o q at. absurd (none-some o at) })
 
   -- one of the objects is written
-  pub updated_indexed : {m n : Map Object} (f : Object → Object) → MakesNone f → (k : ℕ) → IsIndexed children m → n ≡ update m k f → IsIndexed children n
-  updated_indexed {m} {n} f none k indexed is = rw is (record {
+  pub updated_indexed : {m n : Map Object} (f : Object → Object) → MakesNone f → ((o : Object) → peer_of (f o).body ≡ peer_of o.body)
+      → (k : ℕ) → IsIndexed children m → n ≡ update m k f → IsIndexed children n
+  updated_indexed {m} {n} f none peer k indexed is = rw is (record {
     in_order = is_sorted-update m k f ∙ indexed.in_order;
     listed = λ i j o at child. by_key i j o (changed f m k i o at) child;
+    paired = still_paired m (update m k f) (λ i o at. end i o (changed f m k i o at)) indexed.paired;
   })
     where
       by_key : (i j : ℕ) (o : Object) → Changed f m k i o → IsTrue (is_child j o.body) → IsTrue (lists children j i)
@@ -184,9 +261,17 @@ module _ {children : Children} where
           by_test true h = none j c.before h
           by_test false h = h
 
+      end : (i : ℕ) (o2 : Object) → Changed f m k i o2 → (o : Object) × (get m i ≡ Some o) × (peer_of o2.body ≡ peer_of o.body)
+      end i o2 c = (
+        c.before,
+        c.there,
+        ap (λ (x : Object). peer_of x.body) c.is
+            ∙ elim (k == i) as (λ b. peer_of (if b then f c.before else c.before).body ≡ peer_of c.before.body) [ true ↦ peer c.before | false ↦ refl ],
+      )
+
   -- and stays as much a child
   pub kept_indexed : {m n : Map Object} (f : Object → Object) → Keeps f → (k : ℕ) → IsIndexed children m → n ≡ update m k f → IsIndexed children n
-  kept_indexed f keeps = updated_indexed f (keeps_none f keeps)
+  kept_indexed f keeps = updated_indexed f (keeps_none f keeps) keeps.peer
 
   pub port_indexed : {m n : Map Object} (g : Port → Port) (k : ℕ) → IsIndexed children m → n ≡ update m k (at_port g) → IsIndexed children n
   port_indexed g = kept_indexed (at_port g) (keeps_port g)
@@ -206,8 +291,20 @@ module _ {children : Children} where
   killed_indexed {m} {n} task indexed is = rw is (record {
     in_order = sorted_each (λ j. killed_if (is_within m task j)) m ∙ indexed.in_order;
     listed = λ k j o at child. by_object k j o (get m k) refl (sym (get-each m (λ i. killed_if (is_within m task i)) k) ∙ at) child;
+    paired = still_paired m (each (λ j. killed_if (is_within m task j)) m)
+        (λ k o at. end k o (get m k) refl (sym (get-each m (λ i. killed_if (is_within m task i)) k) ∙ at)) indexed.paired;
   })
     where
+      end : (k : ℕ) (o2 : Object) (q : Option Object) → get m k ≡ q → option_map (killed_if (is_within m task k)) q ≡ Some o2
+          → (o : Object) × (get m k ≡ Some o) × (peer_of o2.body ≡ peer_of o.body)
+      end k o2 None was at = absurd (none-some o2 at)
+      end k o2 (Some o) was at = (
+        o,
+        was,
+        ap (λ (x : Object). peer_of x.body) (sym (same_Some (killed_if (is_within m task k) o) o2 at))
+            ∙ elim (is_within m task k) as (λ b. peer_of (killed_if b o).body ≡ peer_of o.body) [ true ↦ (killed_same o.body).peer | false ↦ refl ],
+      )
+
       by_object : (k j : ℕ) (o : Object) (q : Option Object) → get m k ≡ q → option_map (killed_if (is_within m task k)) q ≡ Some o
           → IsTrue (is_child j o.body) → IsTrue (lists children j k)
       by_object k j o None was at child = absurd (none-some o at)
@@ -222,6 +319,9 @@ module _ {children : Children} where
         let was : Was m k o = cascaded_was ks m m2 cascades k o at in
         indexed.listed k j was.before was.there
         (sym (of_body (is_child j) (λ packets reserved. refl) o.body was.before.body was.body) ∙ child);
+    paired = still_paired m m2 (λ k o at.
+        let was : Was m k o = cascaded_was ks m m2 cascades k o at in
+        (was.before, was.there, of_body peer_of (λ packets reserved. refl) o.body was.before.body was.body)) indexed.paired;
   }
     where
       in_order : (ks : List ℕ) (m m2 : Map Object) → Cascades ks m m2 → IsTrue (is_sorted nat_cmp m) → IsTrue (is_sorted nat_cmp m2)
@@ -234,10 +334,11 @@ module _ {children children2 : Children} where
   -- one object more, which is listed if it is a child
   pub inserted_indexed : {m n : Map Object} (next : ℕ) (o : Object) → IsIndexed children m
       → StayListed children children2 → IfSome (keeper_of o.body) (λ j. IsTrue (lists children2 j next))
-      → n ≡ insert_entry nat_cmp m next o → IsIndexed children2 n
-  inserted_indexed {m} {n} next o indexed more added is = rw (is, inserted m next o) (record {
+      → IsPairedWith m next o.body → n ≡ insert_entry nat_cmp m next o → IsIndexed children2 n
+  inserted_indexed {m} {n} next o indexed more added ends is = rw (is, inserted m next o) (record {
     in_order = sorted_put m next o indexed.in_order;
     listed = λ k j q at child. by_key k j q (cases_Bool (next == k)) (sym (get-put m next o k) ∙ at) child;
+    paired = put_paired m next o ends indexed.paired;
   })
     where
       own : (j : ℕ) (q : Option ℕ) → IfSome q (λ i. IsTrue (lists children2 i next)) → IsTrue (is_koid j q) → IsTrue (lists children2 j next)
@@ -257,6 +358,7 @@ module _ {children children2 : Children} where
   removed_indexed {m} {n} k indexed others is = rw is (record {
     in_order = sorted_without m k indexed.in_order;
     listed = λ i j o at child. let left = found_left m k i o at in others j i left.0 (indexed.listed i j o left.1 child);
+    paired = still_paired m (without m k) (λ i o at. (o, (found_left m k i o at).1, refl)) indexed.paired;
   })
 
   -- and the waits there end
@@ -275,6 +377,7 @@ module _ {children children2 : Children} where
       let left = parts r unchanged removal in record {
         in_order = left.0;
         listed = λ i j o at child. others j i (apart i (below i (rw at refl))) (indexed.listed i j o (left.1 i o at) child);
+        paired = still_paired m.entries n.entries (λ i o at. (o, left.1 i o at, refl)) indexed.paired;
       }
     where
       apart : (i : ℕ) → i < k → (k == i) ≡ false
@@ -306,11 +409,13 @@ module _ {children children2 : Children} where
 
 -- an end of a channel or of an event pair is no child
 pub pair_indexed : {children : Children} {m n n2 : Map Object} (p : Pair) (handles next : ℕ) (o o2 : Object) → IsIndexed children m
+    → ((j : ℕ) → IsTrue (has_key m j) → j < next) → ((k : ℕ) (q : Object) → get m k ≡ Some q → HasPeer m next q.body)
     → o ≡ end_of p (next + 1) handles → o2 ≡ end_of p next handles → n ≡ insert_entry nat_cmp m next o → n2 ≡ insert_entry nat_cmp n (next + 1) o2
     → IsIndexed children n2
-pair_indexed {children} p handles next o o2 indexed first second into into2 =
-    inserted_indexed (next + 1) o2 (inserted_indexed next o indexed (λ j k h. h) (rw first (no_child _ p (next + 1))) into) (λ j k h. h)
-    (rw second (no_child _ p next)) into2
+pair_indexed {children} {m} p handles next o o2 indexed below peers first second into into2 =
+    inserted_indexed (next + 1) o2 (inserted_indexed next o indexed (λ j k h. h) (rw first (no_child _ p (next + 1)))
+    (rw first (first_paired m next peers p below)) into) (λ j k h. h)
+    (rw second (no_child _ p next)) (rw (into, inserted m next o, first, second) (second_paired m next peers p handles)) into2
   where
     no_child : (P : ℕ → Type 0) (p : Pair) (peer : ℕ) → IfSome (keeper_of (end_to p peer)) P
     no_child P pair.Channel peer = tt

@@ -9,6 +9,7 @@ pub mod Climbing
 pub mod Earliest
 pub mod Ending
 pub mod Found
+pub mod Gone
 pub mod Index
 pub mod Kept
 pub mod Law

@@ -23,18 +23,18 @@ use Rattle.zl_objects.proofs.Whole.{Stays, rebodied_whole, roomy_whole, stays_sa
 
 -- ---- bodies
 
-started_stays : (b : Body) → Stays b (started_body b)
-started_stays (body.Process job life) = record { kind = refl; reserved = refl; peer = refl }
-started_stays b = stays_same b
+pub started_same : (b : Body) → Stays b (started_body b)
+started_same (body.Process job life) = record { kind = refl; reserved = refl; peer = refl }
+started_same b = stays_same b
 
-policy_stays : (c : Condition) (a : Action) (b : Body) → Stays b (with_policy_body c a b)
-policy_stays c a (body.Job own) = record { kind = refl; reserved = refl; peer = refl }
-policy_stays c a b = stays_same b
+pub policy_same : (c : Condition) (a : Action) (b : Body) → Stays b (with_policy_body c a b)
+policy_same c a (body.Job own) = record { kind = refl; reserved = refl; peer = refl }
+policy_same c a b = stays_same b
 
-killed_stays : (b : Body) → Stays b (killed_body b)
-killed_stays (body.Job own) = record { kind = refl; reserved = refl; peer = refl }
-killed_stays (body.Process job life) = record { kind = refl; reserved = refl; peer = refl }
-killed_stays b = stays_same b
+pub killed_same : (b : Body) → Stays b (killed_body b)
+killed_same (body.Job own) = record { kind = refl; reserved = refl; peer = refl }
+killed_same (body.Process job life) = record { kind = refl; reserved = refl; peer = refl }
+killed_same b = stays_same b
 
 -- ---- one of them
 
@@ -42,7 +42,7 @@ module _ {waits : List Listed} where
   pub started_kept : (m n : Map Object) (next room k : ℕ) (d : List ℕ) → IsKept None m next d room waits → n ≡ update m k started
       → IsKept None n next d room waits
   started_kept m n next room k d kept is = record {
-    whole = rebodied_whole started_body started_stays m n next room k d kept.whole is;
+    whole = rebodied_whole started_body started_same m n next room k d kept.whole is;
     listed = updated_listed started (λ o. refl) waits m n k kept.listed is;
   }
 
@@ -57,7 +57,7 @@ module _ {waits : List Listed} where
     where
       by_result : {A B : Type 0} (r : Result A B) → OnOk r (w ≡ with_policy_set c a v) → OnErr r (w ≡ v) → IsWhole None n next d room
       by_result (Ok x) is other =
-          rebodied_whole (with_policy_body c a) (policy_stays c a) m n next room k d kept.whole (written m n k (with_policy_set c a) v w there is set)
+          rebodied_whole (with_policy_body c a) (policy_same c a) m n next room k d kept.whole (written m n k (with_policy_set c a) v w there is set)
       by_result (Err e) is other = roomy_whole m n next room room d d kept.whole (written_back m n k v w there other set) refl (omega arith)
 
 -- ---- all of them
@@ -71,7 +71,7 @@ module _ (kills : ℕ → Bool) where
   same_waits j o = elim (kills j) as (λ b. (killed_if b o).signals.waits ≡ o.signals.waits) [ true ↦ refl | false ↦ refl ]
 
   stays : (j : ℕ) (o : Object) → Stays o.body (f j o).body
-  stays j o = elim (kills j) as (λ b. Stays o.body (killed_if b o).body) [ true ↦ killed_stays o.body | false ↦ stays_same o.body ]
+  stays j o = elim (kills j) as (λ b. Stays o.body (killed_if b o).body) [ true ↦ killed_same o.body | false ↦ stays_same o.body ]
 
   -- what is seen of each object, where the change keeps it
   seen_each : {X : Type 0} (g : Option Object → X) → ((j : ℕ) (o : Object) → g (Some (f j o)) ≡ g (Some o)) → (m : Map Object) (k : ℕ)

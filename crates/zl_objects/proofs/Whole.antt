@@ -112,7 +112,7 @@ same_kind : (g : Port → Port) (b : Body) → kind_in (changed_port g b) ≡ ki
 same_kind g (body.Job own) = refl
 same_kind g _ = refl
 
-same_peer : (g : Port → Port) (b : Body) → peer_of (changed_port g b) ≡ peer_of b
+pub same_peer : (g : Port → Port) (b : Body) → peer_of (changed_port g b) ≡ peer_of b
 same_peer g (body.Job own) = refl
 same_peer g _ = refl
 
@@ -172,29 +172,29 @@ rebodied_whole g same =
     (λ o. (same o.body).reserved)
 
 -- the end of a process
+pub stopped_same : (b : Body) → Stays b (stopped_body b)
+stopped_same (body.Process job l) = record { kind = refl; reserved = refl; peer = refl }
+stopped_same b = stays_same b
+
 pub stopped_whole : (m n : Map Object) (next room k : ℕ) (d : List ℕ) → IsWhole None m next d room → n ≡ update m k stopped → IsWhole None n next d room
-stopped_whole = rebodied_whole stopped_body by_body
-  where
-    by_body : (b : Body) → Stays b (stopped_body b)
-    by_body (body.Process job l) = record { kind = refl; reserved = refl; peer = refl }
-    by_body b = stays_same b
+stopped_whole = rebodied_whole stopped_body stopped_same
 
 -- one message more
+pub sent_same : (message : Message) (b : Body) → Stays b (sent_body message b)
+sent_same message (body.ChannelEnd peer queue) = record { kind = refl; reserved = refl; peer = refl }
+sent_same message b = stays_same b
+
 pub sent_whole : (m n : Map Object) (next room k : ℕ) (d : List ℕ) (message : Message) → IsWhole None m next d room → n ≡ update m k (sent message)
     → IsWhole None n next d room
-sent_whole m n next room k d message = rebodied_whole (sent_body message) by_body m n next room k d
-  where
-    by_body : (b : Body) → Stays b (sent_body message b)
-    by_body (body.ChannelEnd peer queue) = record { kind = refl; reserved = refl; peer = refl }
-    by_body b = stays_same b
+sent_whole m n next room k d message = rebodied_whole (sent_body message) (sent_same message) m n next room k d
 
 -- one message less
+pub received_same : (b : Body) → Stays b (received_body b)
+received_same (body.ChannelEnd peer queue) = record { kind = refl; reserved = refl; peer = refl }
+received_same b = stays_same b
+
 pub received_whole : (m n : Map Object) (next room k : ℕ) (d : List ℕ) → IsWhole None m next d room → n ≡ update m k received → IsWhole None n next d room
-received_whole = rebodied_whole received_body by_body
-  where
-    by_body : (b : Body) → Stays b (received_body b)
-    by_body (body.ChannelEnd peer queue) = record { kind = refl; reserved = refl; peer = refl }
-    by_body b = stays_same b
+received_whole = rebodied_whole received_body received_same
 
 -- ---- one object more
 
@@ -253,7 +253,7 @@ end_reserved : (pair : Pair) (peer : ℕ) → reserved_of (end_to pair peer) ≡
 end_reserved pair.Channel peer = refl
 end_reserved pair.Eventpair peer = refl
 
-end_peer : (pair : Pair) (peer : ℕ) → peer_of (end_to pair peer) ≡ Some peer
+pub end_peer : (pair : Pair) (peer : ℕ) → peer_of (end_to pair peer) ≡ Some peer
 end_peer pair.Channel peer = refl
 end_peer pair.Eventpair peer = refl
 

@@ -89,6 +89,14 @@ pub record IsCalm (marked : ℕ → Bool) (m : Map Object) (next_koid : ℕ) (sl
   pub waits : (k : ℕ) (o : Object) → get m k ≡ Some o → marked k ≡ false → NoneHolds (signals_at m k) o
   pub resting : All (IsAtRest marked m next_koid) sleepers
 
+-- where nothing was due at an object that isn't marked, nothing is once marks and objects have changed
+abbrev pub KeepsCalm : (ℕ → Bool) → Map Object → (ℕ → Bool) → Map Object → Type 0
+KeepsCalm marked m marked2 m2 = (next_koid : ℕ) (sleepers : List Sleeper) → IsCalm marked m next_koid sleepers → IsCalm marked2 m2 next_koid sleepers
+
+-- so is it, whatever is marked
+abbrev pub StaysCalm : Map Object → Map Object → Type 0
+StaysCalm m m2 = (marked : ℕ → Bool) → KeepsCalm marked m marked m2
+
 -- the invariant of the objects, of all waits and of who may be blocked
 pub record IsSteady (marks : Marks) (children : Children) (m : Map Object) (next_koid : ℕ) (dying : List ℕ) (room : ℕ) (waits : List Listed)
     (sleepers : List Sleeper) : Type 0 where

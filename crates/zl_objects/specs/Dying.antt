@@ -1,6 +1,6 @@
 -- How what goes is noted, without memory. No public clause cites this module.
 use Rattle.std.specs.Prelude.{ℕ, ◌≡◌, ◌+◌, ◌<◌, ◌≤◌, Bool, false, ◌==◌, nat_lt, not, IsTrue, List, [], ◌++◌, length, Option, Some, None, IfSome, if◌then◌else◌}
-use Rattle.std.specs.List.{count_by, filter}
+use Rattle.std.specs.List.{count_by, filter, list_any}
 use Rattle.zl_rights.specs.declared.kind.Kind.{Kind}
 use Rattle.zl_rights.specs.Map.{Map, get, has_key, without}
 use Rattle.zl_signals.specs.declared.watch.Watch.{Watch}
@@ -38,11 +38,13 @@ is_named e = nat_lt 0 e.1.handles
 unfoldable pub budget : Map Object → List ℕ → ℕ
 budget m dying = length dying + count_by is_named m
 
--- of the waits at the object, those are left of which a test knows that their ports are left, and processes were blocked at it as before
+-- of the waits at the object, those are left of which a test knows that their ports are left, and no others are there; and processes
+-- were blocked at it as before
 pub record Thins (m m2 : Map Object) (k : ℕ) (o : Object) : Type 0 where
   pub before : Object
   pub there : get m k ≡ Some before
   pub waits : (test : Watch → Bool) → ((x : Watch) → IsTrue (test x) → IsTrue (has_key m2 x.port)) → filter test o.signals.waits ≡ filter test before.signals.waits
+  pub fewer : (test : Watch → Bool) → list_any test before.signals.waits ≡ false → list_any test o.signals.waits ≡ false
   pub slept : o.slept ≡ before.slept
 
 -- handles to these koids went, what nothing keeps was noted, and waits ended with their ports alone

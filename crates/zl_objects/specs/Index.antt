@@ -8,7 +8,7 @@ use Rattle.zl_rights.specs.Map.{Map, get}
 use Rattle.zl_objects.specs.declared.children.Children.{Children}
 use Rattle.zl_objects.specs.declared.object.Body.{Body}
 use Rattle.zl_objects.specs.declared.object.Object.{Object}
-use Rattle.zl_objects.specs.Objects.{is_child}
+use Rattle.zl_objects.specs.Objects.{is_child, peer_of}
 
 -- a job comes before another, and under a job its children come in the order of their koids
 abbrev pub pair_cmp : ℕ × ℕ → ℕ × ℕ → Ordering
@@ -32,7 +32,12 @@ abbrev pub passes_in : (Body → Bool) → Option Object → Bool
 passes_in test None = false
 passes_in test (Some o) = test o.body
 
--- the objects are in the order of their koids, and each living child is listed under its job, and perhaps others are
+-- each end is the peer of its peer
+abbrev pub ArePaired : Map Object → Type 0
+ArePaired m = (k p : ℕ) (o q : Object) → get m k ≡ Some o → get m p ≡ Some q → peer_of o.body ≡ Some p → peer_of q.body ≡ Some k
+
+-- the objects are in the order of their koids, each living child is listed under its job, and perhaps others are, and ends are paired
 pub record IsIndexed (children : Children) (m : Map Object) : Type 0 where
   pub in_order : IsTrue (is_sorted nat_cmp m)
   pub listed : (k j : ℕ) (o : Object) → get m k ≡ Some o → IsTrue (is_child j o.body) → IsTrue (lists children j k)
+  pub paired : ArePaired m

@@ -18,6 +18,7 @@ mod due;
 mod jobs;
 mod killing;
 mod listing;
+mod lives;
 mod marks;
 mod object;
 mod objects;

@@ -1,20 +1,19 @@
 ghost use Rattle.std.specs.Prelude.{[], Err, Some, false, ◌≡◌, ◌↔◌, ◌+◌, ◌<◌, ◌^◌, ◌∷◌, IsTrue, IfErr, IfOk, IfSome, OnErr, OnOk, slice_get};
 ghost use Rattle.zl_rights.specs.Map.{get, has_key};
-ghost use Rattle.zl_objects.specs.Objects.{changing, end_to, has_koids, has_place, holding, is_channel_at, is_end_at, is_end_body, is_job_at, job_in, kind_at, new_object, next_of, peer_at, queue_in, reader_at, receiving, root_alone, sending, starting, stopping, with_pair, with_new, without_newest};
+ghost use Rattle.zl_objects.specs.Objects.{changing, end_to, has_koids, has_place, holding, is_channel_at, is_end_at, is_end_body, is_job_at, kind_at, new_object, next_of, peer_at, queue_in, reader_at, receiving, root_alone, sending, with_pair, with_new, without_newest};
 ghost use Rattle.zl_channel.specs.Queue.{front_handles, front_sizes, is_too_large, refused_message};
 ghost use Rattle.zl_objects.specs.Ports.{reserved_in, reserved_of};
-ghost use Rattle.zl_objects.specs.Jobs.{killing};
-ghost use Rattle.zl_objects.specs.Release.{all_koids, Ends, Releases};
+ghost use Rattle.zl_objects.specs.Release.{Releases};
 ghost use Rattle.zl_objects.specs.Seen.{LeavesLargest};
 ghost use Rattle.zl_objects.specs.Listed.{LeavesListed};
 ghost use Rattle.zl_objects.specs.Waits.{waits_in, HavePlaces, LeavesWaits};
 
 use crate::children::Children;
-use crate::killing::{kill_all, parent_at};
+use crate::killing::parent_at;
 use crate::listing::{WaitList, keep_there};
 use crate::marks::Marks;
 use crate::object::{Body, Object, Pair};
-use crate::releasing::{let_go, remove_dying, remove_unkept, sweep};
+use crate::releasing::{let_go, remove_dying, remove_unkept};
 use crate::sleepers::Sleepers;
 use std::alloc::{AllocError, Global};
 use std::collections::BTreeMap;
@@ -32,10 +31,10 @@ pub struct Objects {
     pub(crate) by_koid: BTreeMap<Koid, Object>,
     // The jobs and processes of each job.
     pub(crate) children: Children,
-    next_koid: Koid,
+    pub(crate) next_koid: Koid,
     // The objects that are to be looked at, as no handle names them. There is room for each object,
     // so that none takes memory to go.
-    dying: Vec<Koid>,
+    pub(crate) dying: Vec<Koid>,
     // Each wait stands at its object too.
     pub(crate) waits: WaitList,
     // Who may be blocked.
@@ -365,8 +364,12 @@ impl Objects {
         if self.dying.is_empty() {
             return;
         }
-        self.marks.add_all();
-        remove_dying(&mut self.by_koid, &mut self.children, &mut self.dying);
+        remove_dying(
+            &mut self.by_koid,
+            &mut self.children,
+            &mut self.dying,
+            &mut self.marks,
+        );
         keep_there(&mut self.waits, &self.by_koid);
     }
 
@@ -379,93 +382,15 @@ impl Objects {
         ensures places { HavePlaces self.new.objects }
         ensures listed { LeavesListed self.old self.new }
     {
-        remove_unkept(&mut self.by_koid, &mut self.children, &mut self.dying, koid);
-        keep_there(&mut self.waits, &self.by_koid);
-        self.marks.add_all();
-    }
-
-    /// The process has ended, and what isn't held any more goes, with the waits as in `release`. It
-    /// takes no memory.
-    pub fn end(&mut self, pid: Koid)
-        ensures ends { Ends pid self.old self.new }
-        ensures waits { IfSome (job_in (get self.old.objects pid))
-            (λ job. LeavesWaits (stopping self.old pid) self.new) }
-        ensures places { HavePlaces self.new.objects }
-        ensures listed { LeavesListed self.old self.new }
-    {
-        if let Some(job) = job_of(&self.by_koid, pid) {
-            self.stop(pid);
-            remove_unkept(&mut self.by_koid, &mut self.children, &mut self.dying, pid);
-            remove_unkept(&mut self.by_koid, &mut self.children, &mut self.dying, job);
-            keep_there(&mut self.waits, &self.by_koid);
-            self.marks.add_all();
-        }
-    }
-
-    /// The job is killed, and each job below it, and the processes below it are over; or the
-    /// process is over, if it is one. What isn't held any more goes, with the waits as in `release`.
-    /// It takes no memory. The handles of the processes are to be closed by `release`. 0 is no koid:
-    /// nothing is killed for it.
-    ///
-    /// Source: the page "zx_task_kill" of the Fuchsia documentation.
-    pub fn kill(&mut self, task: Koid)
-        ensures releases { Releases [] (all_koids self.old.objects)
-            (killing self.old task) self.new }
-        ensures largest { LeavesLargest [] (all_koids self.old.objects)
-            (killing self.old task) self.new }
-        ensures waits { LeavesWaits (killing self.old task) self.new }
-        ensures places { HavePlaces self.new.objects }
-        ensures listed { LeavesListed self.old self.new }
-    {
-        self.mark_killed(task);
-        self.marks.add_all();
-        sweep(
+        remove_unkept(
             &mut self.by_koid,
             &mut self.children,
             &mut self.dying,
-            self.next_koid,
+            &mut self.marks,
+            koid,
         );
         keep_there(&mut self.waits, &self.by_koid);
     }
-
-    /// The job or the process is killed, and what stands below it. All objects stay.
-    fn mark_killed(&mut self, task: Koid)
-        ensures { self.new ≡ killing self.old task }
-    {
-        kill_all(&mut self.by_koid, task, self.next_koid);
-        self.marks.add_all();
-    }
-
-    /// The process is started, if it was made and not started yet.
-    ///
-    /// Source: the page "zx_process_start" of the Fuchsia documentation.
-    pub fn start(&mut self, pid: Koid)
-        ensures { self.new ≡ starting self.old pid }
-    {
-        let Some(object) = self.by_koid.get_mut(&pid) else {
-            return;
-        };
-        object.start();
-    }
-
-    /// The process is over.
-    fn stop(&mut self, pid: Koid)
-        ensures { self.new ≡ stopping self.old pid }
-    {
-        let Some(object) = self.by_koid.get_mut(&pid) else {
-            return;
-        };
-        object.stop();
-        self.marks.add_all();
-    }
-}
-
-/// The job of the process.
-#[tactic(auto, using(crate::proofs::ByKoid::by_koid))]
-fn job_of(by_koid: &BTreeMap<Koid, Object>, pid: Koid) -> Option<Koid>
-    ensures { result ≡ job_in (get by_koid.now.entries pid) }
-{
-    by_koid.get(&pid)?.body.job()
 }
 
 /// An end at which nothing is to be read, and which so many handles name.

@@ -38,8 +38,8 @@ impl Objects {
     }
 
     /// Whether it is known that no registered wait holds, and that nothing is there for which a
-    /// blocked process waits. No tells nothing: it comes also where objects went, or where there was
-    /// no room to list who is blocked.
+    /// blocked process waits. No tells nothing: it comes also where an object was touched at which
+    /// something waits that isn't there, or where there was no room to list who is blocked.
     ///
     /// Source: own profile.
     pub fn is_quiet(&self) -> bool

@@ -3,10 +3,11 @@
 //! An object that may have to go is noted in `dying`, which has room for each object. It stays with
 //! its queue until it is looked at again.
 
-ghost use Rattle.std.specs.Prelude.{◌≡◌, ◌≤◌, ◌<◌, ◌+◌, ◌++◌, ◌∷◌, [], if◌then◌else◌, is_some, length, nat_lt, ℕ, vec_capacity, IsTrue};
+ghost use Rattle.std.specs.Prelude.{◌≡◌, ◌≤◌, ◌<◌, ◌+◌, ◌++◌, ◌∷◌, [], if◌then◌else◌, is_some, length, nat_lt, ℕ, vec_capacity, IfSome, IsTrue};
 ghost use Rattle.std.specs.Option.{option_to_list};
 ghost use Rattle.zl_rights.specs.Map.{each, get, has_key, update};
-ghost use Rattle.zl_objects.specs.Objects.{held_once_less, is_kept, keeper_in};
+ghost use Rattle.zl_objects.specs.Calm.{is_marked, is_watched_in, KeepsCalm, StaysCalm};
+ghost use Rattle.zl_objects.specs.Objects.{held_once_less, is_kept, keeper_in, peer_in};
 ghost use Rattle.zl_objects.specs.Release.{all_koids, koids_of, named_in};
 ghost use Rattle.zl_objects.specs.Dying.{budget, is_last, is_unkept, left_at, unkept_at, LetsGo};
 ghost use Rattle.zl_objects.specs.Index.{IsIndexed};
@@ -15,8 +16,9 @@ ghost use Rattle.zl_objects.specs.Waits.{ending_port, giving_back, without_port_
 
 use crate::children::{Children, has_living_child};
 use crate::killing::{next_from, parent_at};
+use crate::marks::Marks;
 use crate::object::{Body, Object};
-use crate::waits::give_back;
+use crate::waits::{give_back, is_watched};
 use std::collections::BTreeMap;
 use zl_channel::ChannelEnd;
 use zl_rights::{Entry, Koid};
@@ -52,6 +54,7 @@ fn let_go_all(by_koid: &mut BTreeMap<Koid, Object>, dying: &mut Vec<Koid>, handl
     requires fits { budget by_koid.old.entries dying.old.items ≤ vec_capacity dying.old }
     ensures goes { LetsGo (koids_of handles.now)
         by_koid.old.entries dying.old.items by_koid.new.entries dying.new.items }
+    ensures calm { StaysCalm by_koid.old.entries by_koid.new.entries }
     ensures capacity { vec_capacity dying.new ≡ vec_capacity dying.old }
 {
     for handle in handles {
@@ -64,6 +67,7 @@ fn let_go_queue(by_koid: &mut BTreeMap<Koid, Object>, dying: &mut Vec<Koid>, mut
     requires fits { budget by_koid.old.entries dying.old.items ≤ vec_capacity dying.old }
     ensures goes { LetsGo (named_in queue)
         by_koid.old.entries dying.old.items by_koid.new.entries dying.new.items }
+    ensures calm { StaysCalm by_koid.old.entries by_koid.new.entries }
     ensures capacity { vec_capacity dying.new ≡ vec_capacity dying.old }
 {
     while let Some(message) = queue.take() {
@@ -174,6 +178,25 @@ fn keeper_at(by_koid: &BTreeMap<Koid, Object>, koid: Koid) -> Option<Koid>
     by_koid.get(&koid)?.body.keeper()
 }
 
+/// The other end of what is an end of a channel or of an event pair.
+#[tactic(auto, using(crate::proofs::ByKoid::by_koid))]
+fn peer_at(by_koid: &BTreeMap<Koid, Object>, koid: Koid) -> Option<Koid>
+    ensures { result ≡ peer_in (get by_koid.now.entries koid) }
+{
+    by_koid.get(&koid)?.body.peer()
+}
+
+/// The object that was found is marked, if something waits there.
+pub fn mark_watched(by_koid: &BTreeMap<Koid, Object>, marks: &mut Marks, found: Option<Koid>)
+    ensures wanted { IfSome found (λ k. IsTrue (is_watched_in (get by_koid.now.entries k))
+        → IsTrue (is_marked marks.new k)) }
+    ensures more { (k : ℕ) → IsTrue (is_marked marks.old k) → IsTrue (is_marked marks.new k) }
+{
+    if let Some(koid) = found {
+        marks.add_if(is_watched(by_koid, koid), koid);
+    }
+}
+
 /// The job that was found is noted, if there is one.
 fn note_keeper(dying: &mut Vec<Koid>, keeper: Option<Koid>)
     requires room { length dying.old.items < vec_capacity dying.old }
@@ -186,11 +209,12 @@ fn note_keeper(dying: &mut Vec<Koid>, keeper: Option<Koid>)
 }
 
 /// The object that was noted goes with its queue and its waits, unless something keeps it, and the
-/// job of which it was a living child is noted.
+/// job of which it was a living child is noted. Signals come there, and at its peer.
 fn remove_noted(
     by_koid: &mut BTreeMap<Koid, Object>,
     children: &mut Children,
     dying: &mut Vec<Koid>,
+    marks: &mut Marks,
     koid: Koid,
 )
     requires indexed { IsIndexed children.old by_koid.old.entries }
@@ -201,10 +225,13 @@ fn remove_noted(
         by_koid.new.entries dying.new.items }
     ensures less { budget by_koid.new.entries dying.new.items + length by_koid.new.entries
         < budget by_koid.old.entries (dying.old.items ++ koid ∷ []) + length by_koid.old.entries }
+    ensures calm { KeepsCalm (is_marked marks.old) by_koid.old.entries
+        (is_marked marks.new) by_koid.new.entries }
     ensures capacity { vec_capacity dying.new ≡ vec_capacity dying.old }
 {
     let reserved = has_reserved(by_koid, koid);
     let keeper = keeper_at(by_koid, koid);
+    let peer = peer_at(by_koid, koid);
     let parent = parent_at(by_koid, koid);
     let Some(gone) = take_unkept(by_koid, children, koid) else {
         return;
@@ -213,6 +240,8 @@ fn remove_noted(
     children.remove(parent, koid);
     end_waits(by_koid, koid, reserved, signals);
     note_keeper(dying, keeper);
+    mark_watched(by_koid, marks, keeper);
+    mark_watched(by_koid, marks, peer);
     if let Body::ChannelEnd { queue, .. } = body {
         let_go_queue(by_koid, dying, queue);
     }
@@ -223,17 +252,20 @@ pub fn remove_dying(
     by_koid: &mut BTreeMap<Koid, Object>,
     children: &mut Children,
     dying: &mut Vec<Koid>,
+    marks: &mut Marks,
 )
     requires indexed { IsIndexed children.old by_koid.old.entries }
     requires fits { budget by_koid.old.entries dying.old.items ≤ vec_capacity dying.old }
     ensures indexed { IsIndexed children.new by_koid.new.entries }
     ensures goes { LetsGo []
         by_koid.old.entries dying.old.items by_koid.new.entries dying.new.items }
+    ensures calm { KeepsCalm (is_marked marks.old) by_koid.old.entries
+        (is_marked marks.new) by_koid.new.entries }
     ensures none { dying.new.items ≡ [] }
     ensures capacity { vec_capacity dying.new ≡ vec_capacity dying.old }
 {
     while let Some(koid) = dying.pop() {
-        remove_noted(by_koid, children, dying, koid);
+        remove_noted(by_koid, children, dying, marks, koid);
     }
 }
 
@@ -242,6 +274,7 @@ pub fn remove_unkept(
     by_koid: &mut BTreeMap<Koid, Object>,
     children: &mut Children,
     dying: &mut Vec<Koid>,
+    marks: &mut Marks,
     koid: Koid,
 )
     requires indexed { IsIndexed children.old by_koid.old.entries }
@@ -249,12 +282,14 @@ pub fn remove_unkept(
     requires room { length by_koid.old.entries ≤ vec_capacity dying.old }
     ensures indexed { IsIndexed children.new by_koid.new.entries }
     ensures goes { LetsGo [] by_koid.old.entries (koid ∷ []) by_koid.new.entries [] }
+    ensures calm { KeepsCalm (is_marked marks.old) by_koid.old.entries
+        (is_marked marks.new) by_koid.new.entries }
     ensures none { dying.new.items ≡ [] }
     ensures capacity { vec_capacity dying.new ≡ vec_capacity dying.old }
 {
     if is_unkept(by_koid, children, koid) {
         dying.push_reserved(koid);
-        remove_dying(by_koid, children, dying);
+        remove_dying(by_koid, children, dying, marks);
     }
 }
 
@@ -263,6 +298,7 @@ pub fn sweep(
     by_koid: &mut BTreeMap<Koid, Object>,
     children: &mut Children,
     dying: &mut Vec<Koid>,
+    marks: &mut Marks,
     end: Koid,
 )
     requires indexed { IsIndexed children.old by_koid.old.entries }
@@ -272,12 +308,14 @@ pub fn sweep(
     ensures indexed { IsIndexed children.new by_koid.new.entries }
     ensures goes { LetsGo [] by_koid.old.entries (all_koids by_koid.old.entries)
         by_koid.new.entries [] }
+    ensures calm { KeepsCalm (is_marked marks.old) by_koid.old.entries
+        (is_marked marks.new) by_koid.new.entries }
     ensures none { dying.new.items ≡ [] }
     ensures capacity { vec_capacity dying.new ≡ vec_capacity dying.old }
 {
     let mut from = 0;
     while let Some(koid) = next_from(by_koid, from) {
-        remove_unkept(by_koid, children, dying, koid);
+        remove_unkept(by_koid, children, dying, marks, koid);
         from = koid + 1;
     }
 }

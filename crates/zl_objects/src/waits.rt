@@ -264,7 +264,7 @@ fn queue_signal(by_koid: &mut BTreeMap<Koid, Object>, port: Koid, packet: Packet
 
 /// Whether something waits at the object, if it is there.
 #[tactic(auto, using(crate::proofs::ByKoid::by_koid))]
-fn is_watched(by_koid: &BTreeMap<Koid, Object>, koid: Koid) -> bool
+pub fn is_watched(by_koid: &BTreeMap<Koid, Object>, koid: Koid) -> bool
     ensures { result ≡ is_watched_in (get by_koid.now.entries koid) }
 {
     match by_koid.get(&koid) {

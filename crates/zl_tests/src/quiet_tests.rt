@@ -3,7 +3,7 @@
 use bitflags::Flags;
 use std::alloc::AllocError;
 use std::test::Fail;
-use zl_objects::{Awaited, Body, Life, Objects, Wait};
+use zl_objects::{Awaited, Body, Life, Objects, Pair, Wait};
 use zl_rights::{Koid, Signals};
 
 /// A new event with two handles.
@@ -24,6 +24,14 @@ fn new_process(objects: &mut Objects) -> Result<Koid, AllocError> {
         life: Life::Created,
     };
     objects.create(process, 1)
+}
+
+/// Both ends of a new event pair, with a handle each.
+fn new_pair(objects: &mut Objects) -> Result<(Koid, Koid), AllocError> {
+    if !objects.has_koids(2) {
+        return Err(AllocError);
+    }
+    objects.create_pair(Pair::Eventpair, 1)
 }
 
 /// Raises a signal at the object.
@@ -117,12 +125,49 @@ fn an_object_is_looked_at_as_a_wait_is_registered(rt: HostRuntime) -> Result<(),
 }
 
 #[test]
-fn where_an_object_goes_all_is_looked_at(rt: HostRuntime) -> Result<(), Fail> {
+fn where_an_object_goes_others_stay_quiet(rt: HostRuntime) -> Result<(), Fail> {
     let mut objects = Objects::new(rt.alloc())?;
-    let event = new_event(&mut objects)?;
-    objects.release(event);
+    let (event, other) = (new_event(&mut objects)?, new_event(&mut objects)?);
+    let port = new_port(&mut objects)?;
+    watch(&mut objects, event, port)?;
+    assert!(rt; look(&mut objects));
+    objects.release(other);
+    objects.release(other);
+    assert!(rt; objects.kind_of(other).is_none() && objects.is_quiet());
+    Ok(())
+}
+
+#[test]
+fn where_an_end_goes_its_peer_is_looked_at(rt: HostRuntime) -> Result<(), Fail> {
+    let mut objects = Objects::new(rt.alloc())?;
+    let ((end, peer), port) = (new_pair(&mut objects)?, new_port(&mut objects)?);
+    watch(&mut objects, peer, port)?;
+    assert!(rt; look(&mut objects));
+    objects.release(end);
+    assert!(rt; !objects.is_quiet());
+    assert!(rt; look(&mut objects));
     assert!(rt; objects.is_quiet());
-    objects.release(event);
+    Ok(())
+}
+
+#[test]
+fn where_an_end_goes_at_whose_peer_nothing_waits_all_stay_quiet(
+    rt: HostRuntime,
+) -> Result<(), Fail> {
+    let mut objects = Objects::new(rt.alloc())?;
+    let (end, _) = new_pair(&mut objects)?;
+    objects.release(end);
+    assert!(rt; objects.kind_of(end).is_none() && objects.is_quiet());
+    Ok(())
+}
+
+#[test]
+fn where_a_process_goes_its_job_is_looked_at(rt: HostRuntime) -> Result<(), Fail> {
+    let mut objects = Objects::new(rt.alloc())?;
+    let (process, port) = (new_process(&mut objects)?, new_port(&mut objects)?);
+    watch(&mut objects, Objects::ROOT_JOB, port)?;
+    assert!(rt; look(&mut objects));
+    objects.release(process);
     assert!(rt; !objects.is_quiet());
     Ok(())
 }
@@ -169,18 +214,6 @@ fn an_object_with_a_wait_that_doesnt_hold_is_quiet_once_it_was_looked_at(
     assert!(rt; !objects.is_quiet() && !look(&mut objects));
     let active = objects.signals_of(event);
     assert!(rt; objects.fire(event, active).is_some());
-    assert!(rt; look(&mut objects));
-    assert!(rt; objects.is_quiet());
-    Ok(())
-}
-
-#[test]
-fn objects_are_quiet_once_it_was_looked_at_what_went(rt: HostRuntime) -> Result<(), Fail> {
-    let mut objects = Objects::new(rt.alloc())?;
-    let event = new_event(&mut objects)?;
-    objects.release(event);
-    objects.release(event);
-    assert!(rt; !objects.is_quiet());
     assert!(rt; look(&mut objects));
     assert!(rt; objects.is_quiet());
     Ok(())

@@ -13,6 +13,7 @@ loop-message-preserved c =
           (sym c.take.ensures.first ∙ c.in-Some.is) c.take.ensures.rest handles
           c.loop-message.by_koid.entries c.let_go_all.new.by_koid.entries m c.loop-message.dying.items c.let_go_all.new.dying.items d
           c.let_go_all.ensures.goes later);
+      calm = λ marked next sleepers calm. c.let_go_all.ensures.calm marked next sleepers (c.loop-message.invariant.calm marked next sleepers calm);
       capacity = c.let_go_all.ensures.capacity ∙ c.loop-message.invariant.capacity;
     }
 
@@ -26,5 +27,6 @@ loop-message-preserved-in-Some c =
           (sym c.take.ensures.first ∙ c.in-Some.is) c.take.ensures.rest handles
           c.loop-message.by_koid.entries c.let_go_all.new.by_koid.entries m c.loop-message.dying.items c.let_go_all.new.dying.items d
           c.let_go_all.ensures.goes later);
+      calm = λ marked next sleepers calm. c.let_go_all.ensures.calm marked next sleepers (c.loop-message.invariant.calm marked next sleepers calm);
       capacity = c.let_go_all.ensures.capacity ∙ c.loop-message.invariant.capacity;
     }

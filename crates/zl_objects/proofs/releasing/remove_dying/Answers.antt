@@ -25,5 +25,6 @@ loop-koid-preserved c =
       indexed = c.remove_noted.ensures.indexed;
       goes = both_went [] [] c.args.by_koid.now.entries c.loop-koid.by_koid.entries c.remove_noted.new.by_koid.entries c.args.dying.now.items
           c.loop-koid.dying.items c.remove_noted.new.dying.items c.loop-koid.invariant.goes (rw popped c.remove_noted.ensures.goes);
+      calm = λ next sleepers calm. c.remove_noted.ensures.calm next sleepers (c.loop-koid.invariant.calm next sleepers calm);
       capacity = c.remove_noted.ensures.capacity ∙ (c.pop.ensures.capacity ∙ c.loop-koid.invariant.capacity);
     }

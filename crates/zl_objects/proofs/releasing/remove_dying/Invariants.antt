@@ -1,5 +1,6 @@
 use Rattle.std.proofs.Common.{◌≡◌, ◌+◌, [], length, vec_capacity}
 use Rattle.zl_objects.specs.Dying.{LetsGo, budget}
+use Rattle.zl_objects.specs.Calm.{KeepsCalm, is_marked}
 use Rattle.zl_objects.specs.Index.{IsIndexed}
 use Rattle.zl_objects.proofs.releasing.remove_dying.Given as goal
 
@@ -7,6 +8,7 @@ abbrev pub invariant-loop-koid : goal.invariant-loop-koid
 invariant-loop-koid l = record {
   goes : LetsGo [] l.initial.by_koid.entries l.initial.dying.items l.by_koid.entries l.dying.items;
   indexed : IsIndexed l.children l.by_koid.entries;
+  calm : KeepsCalm (is_marked l.initial.marks) l.initial.by_koid.entries (is_marked l.marks) l.by_koid.entries;
   capacity : vec_capacity l.dying ≡ vec_capacity l.initial.dying;
 }
 

@@ -8,6 +8,7 @@ use Rattle.zl_objects.specs.Waits.{ending_waits}
 use Rattle.zl_objects.proofs.Budget.{IsTaken, fewer_ending, kept_went, less_ending, less_noted, none_left_at, none_taken, none_went, no_queue, one_taken}
 use Rattle.zl_objects.proofs.Budget.{room_noted, taken, unkept_went}
 use Rattle.zl_objects.proofs.Ending.{ended_by}
+use Rattle.zl_objects.proofs.Gone.{gone_calm}
 use Rattle.zl_objects.proofs.Index.{gone_indexed, left_indexed}
 use Rattle.zl_objects.proofs.Released.{cascaded_shorter, cascades_of}
 use Rattle.zl_objects.proofs.releasing.remove_noted.Goals as goal
@@ -99,6 +100,16 @@ returns-in-ChannelEnd-clause-indexed c =
     was.there (c.take_unkept.ensures.left ∙ was.left) c.has_reserved-reserved.ensures))
     (cascades_of (named_in c.in-ChannelEnd.queue) _ _ _ _ c.let_go_queue.ensures.goes)
 
+pub returns-in-ChannelEnd-clause-calm : goal.returns-in-ChannelEnd-clause-calm
+returns-in-ChannelEnd-clause-calm c =
+    let was : IsTaken c.args.by_koid.now.entries c.args.koid c.in-Some.gone =
+    taken c.args.by_koid.now.entries c.args.koid c.in-Some.gone (sym c.take_unkept.ensures.taken ∙ c.in-Some.is) in
+    λ next sleepers calm. c.let_go_queue.ensures.calm _ next sleepers (gone_calm c.args.by_koid.now.entries c.end_waits.new.by_koid.entries c.args.koid
+    c.in-Some.gone c.requires.indexed was.there
+    (c.end_waits.ensures ∙ ended_by c.args.by_koid.now.entries c.take_unkept.new.by_koid.entries c.args.koid c.in-Some.gone c.has_reserved-reserved.result
+    was.there (c.take_unkept.ensures.left ∙ was.left) c.has_reserved-reserved.ensures) c.mark_watched.ensures.more c.mark_watched-2.ensures.more
+    (rw c.keeper_at-keeper.ensures at c.mark_watched.ensures.wanted) (rw c.peer_at-peer.ensures at c.mark_watched-2.ensures.wanted) next sleepers calm)
+
 pub returns : goal.returns
 returns c =
     let was : IsTaken c.args.by_koid.now.entries c.args.koid c.in-Some.gone =
@@ -123,6 +134,9 @@ returns c =
         less_ending c.args.by_koid.now.entries c.args.dying.now.items c.args.koid c.in-Some.gone,
         fewer_ending c.args.by_koid.now.entries c.args.dying.now.items c.args.koid c.in-Some.gone was.there,
       );
+      calm = gone_calm c.args.by_koid.now.entries (ending_waits c.args.koid c.in-Some.gone (without c.args.by_koid.now.entries c.args.koid)) c.args.koid
+          c.in-Some.gone c.requires.indexed was.there refl c.mark_watched.ensures.more c.mark_watched-2.ensures.more
+          (rw (c.keeper_at-keeper.ensures, ended) at c.mark_watched.ensures.wanted) (rw (c.peer_at-peer.ensures, ended) at c.mark_watched-2.ensures.wanted);
       capacity = c.note_keeper.ensures.capacity;
       indexed = gone_indexed c.args.koid c.in-Some.gone c.requires.indexed c.remove.ensures refl;
     })

@@ -3,7 +3,13 @@ use Rattle.zl_objects.proofs.Sweeps.{sweep_begins, sweep_ends, sweep_goes_on, sw
 use Rattle.zl_objects.proofs.releasing.sweep.Goals as goal
 
 pub loop-koid-init : goal.loop-koid-init
-loop-koid-init c = record { indexed = c.requires.indexed; sweeps = sweep_begins c.args.by_koid.now.entries; none = c.requires.none; capacity = refl }
+loop-koid-init c = record {
+  indexed = c.requires.indexed;
+  sweeps = sweep_begins c.args.by_koid.now.entries;
+  none = c.requires.none;
+  calm = λ next sleepers calm. calm;
+  capacity = refl;
+}
 
 pub remove_unkept-requires : goal.remove_unkept-requires
 remove_unkept-requires c = record {
@@ -33,6 +39,7 @@ loop-koid-preserved c = record {
   sweeps = sweep_goes_on c.args.by_koid.now.entries c.loop-koid.by_koid.entries c.remove_unkept.new.by_koid.entries c.loop-koid.from c.in-Some.koid
       c.loop-koid.invariant.sweeps (c.in-Some.ensures {u = tt}).next c.remove_unkept.ensures.goes;
   none = c.remove_unkept.ensures.none;
+  calm = λ next sleepers calm. c.remove_unkept.ensures.calm next sleepers (c.loop-koid.invariant.calm next sleepers calm);
   capacity = c.remove_unkept.ensures.capacity ∙ c.loop-koid.invariant.capacity;
 }
 

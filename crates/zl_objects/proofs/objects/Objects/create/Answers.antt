@@ -1,7 +1,7 @@
 use Rattle.std.proofs.Common.{arith, ap, sym, vec_capacity}
 use Rattle.zl_signals.specs.Waits.{SignalState}
 use Rattle.zl_objects.proofs.CalmMade.{created_calm}
-use Rattle.zl_objects.proofs.Index.{inserted_indexed}
+use Rattle.zl_objects.proofs.Index.{alone_paired, inserted_indexed}
 use Rattle.zl_objects.proofs.Kept.{inserted_kept}
 use Rattle.zl_objects.proofs.Whole.{unless_err}
 use Rattle.zl_objects.proofs.objects.Objects.create.Goals as goal
@@ -17,5 +17,5 @@ invariant_of-self-3 c =
       calm = rw c.make_room_if.ensures.list (created_calm c.self.inside.by_koid.entries c.self.inside.next_koid _ c.self.invariant.kept.whole.below
           c.self.invariant.kept.whole.peers (ap (λ (s : SignalState). s.waits) c.new.ensures) c.insert.new.self.entries entered c.self.invariant.calm);
       indexed = inserted_indexed c.self.inside.next_koid _ c.self.invariant.indexed c.add.ensures.others (rw c.keeper.ensures at c.in_ok-add.ensures.added)
-          entered;
+          (alone_paired c.self.inside.by_koid.entries c.self.inside.next_koid c.self.invariant.kept.whole.peers _ c.requires.alone) entered;
     }

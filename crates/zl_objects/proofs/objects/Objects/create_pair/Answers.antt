@@ -21,8 +21,8 @@ invariant_of-self-2 c =
           c.self.invariant.kept.whole.peers
           c.args.pair c.args.handles c.new_end-2.result c.insert.new.self.entries c.insert-2.new.self.entries c.new_end.ensures c.new_end-2.ensures
           c.in_ok-insert.ensures.entries entered c.self.invariant.calm;
-      indexed = pair_indexed c.args.pair c.args.handles c.self.inside.next_koid c.new_end.result c.new_end-2.result c.self.invariant.indexed c.new_end.ensures
-          c.new_end-2.ensures c.in_ok-insert.ensures.entries entered;
+      indexed = pair_indexed c.args.pair c.args.handles c.self.inside.next_koid c.new_end.result c.new_end-2.result c.self.invariant.indexed
+          c.self.invariant.kept.whole.below c.self.invariant.kept.whole.peers c.new_end.ensures c.new_end-2.ensures c.in_ok-insert.ensures.entries entered;
     }
 
 pub returns-clause-created : goal.returns-clause-created

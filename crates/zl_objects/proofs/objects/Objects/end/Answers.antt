@@ -3,7 +3,6 @@ use Rattle.std.specs.Vec.{vec_capacity}
 use Rattle.zl_objects.specs.Listed.{listed_value}
 use Rattle.zl_objects.specs.Objects.{Objects, job_in}
 use Rattle.zl_objects.specs.Waits.{LeavesWaits}
-use Rattle.zl_objects.proofs.CalmChanges.{left_calm}
 use Rattle.zl_objects.proofs.Kept.{left_kept}
 use Rattle.zl_objects.proofs.Listed.{all_seen}
 use Rattle.zl_objects.proofs.Released.{all_places, all_thin, both_released, cascaded_shorter, cascades_of, waits_left}
@@ -47,9 +46,7 @@ invariant_of-self c =
           c.remove_unkept.ensures.goes c.remove_unkept-in-Some.ensures.goes)
           c.self-in-Some.invariant.kept c.remove_unkept-in-Some.ensures.none (c.remove_unkept-in-Some.ensures.capacity ∙ c.remove_unkept.ensures.capacity)
           c.keep_there.ensures.entries;
-      calm = left_calm c.add_all.ensures c.self-in-Some.inside.by_koid.entries c.remove_unkept-in-Some.new.by_koid.entries
-          (all_thin c.self-in-Some.inside.by_koid.entries c.remove_unkept.new.by_koid.entries c.remove_unkept-in-Some.new.by_koid.entries c.args.pid
-          c.in-Some.job c.remove_unkept.ensures.goes c.remove_unkept-in-Some.ensures.goes) c.self-in-Some.invariant.calm;
+      calm = c.remove_unkept-in-Some.ensures.calm _ _ (c.remove_unkept.ensures.calm _ _ c.self-in-Some.invariant.calm);
       indexed = c.remove_unkept-in-Some.ensures.indexed;
     }
 

@@ -6,7 +6,6 @@ use Rattle.zl_objects.specs.Jobs.{killing}
 use Rattle.zl_objects.specs.Objects.{Objects}
 use Rattle.zl_objects.specs.Release.{Releases, all_koids}
 use Rattle.zl_objects.specs.Waits.{KeepsWaits}
-use Rattle.zl_objects.proofs.CalmChanges.{left_calm}
 use Rattle.zl_objects.proofs.Kept.{left_kept}
 use Rattle.zl_objects.proofs.Law.{leaves_largest}
 use Rattle.zl_objects.proofs.Released.{cascades_of, released, waits_left}
@@ -22,8 +21,7 @@ invariant_of-self c =
           (cascades_of [] c.self.inside.by_koid.entries c.sweep.new.by_koid.entries (all_koids c.self.inside.by_koid.entries) [] c.sweep.ensures.goes)
           (c.sweep.ensures.goes.places c.self.invariant.kept.whole.places)
           c.sweep.ensures.goes.thins c.self.invariant.kept c.sweep.ensures.none c.sweep.ensures.capacity c.keep_there.ensures.entries;
-      calm = left_calm c.add_all.ensures c.self.inside.by_koid.entries c.sweep.new.by_koid.entries c.sweep.ensures.goes.thins
-          c.self.invariant.calm;
+      calm = c.sweep.ensures.calm _ _ c.self.invariant.calm;
       indexed = c.sweep.ensures.indexed;
     }
 

@@ -3,7 +3,7 @@ use Rattle.zl_objects.specs.Dying.{IsKept, LetsGo}
 use Rattle.zl_objects.specs.Listed.{listed_value}
 use Rattle.zl_objects.specs.Objects.{held_once_less}
 use Rattle.zl_objects.proofs.Budget.{both_went}
-use Rattle.zl_objects.proofs.CalmChanges.{keeps_less, left_calm, less_stays, quiet_calm}
+use Rattle.zl_objects.proofs.CalmChanges.{keeps_less, less_calm}
 use Rattle.zl_objects.proofs.Index.{kept_indexed}
 use Rattle.zl_objects.proofs.Kept.{left_kept, less_kept}
 use Rattle.zl_objects.proofs.Law.{leaves_largest}
@@ -40,7 +40,8 @@ invariant_of-self-2 c =
           (cascades_of (c.args.koid ∷ []) c.self.inside.by_koid.entries c.remove_dying.new.by_koid.entries c.self.inside.dying.items
           c.remove_dying.new.dying.items went) (went.places c.self.invariant.kept.whole.places) went.thins c.self.invariant.kept c.remove_dying.ensures.none
           (c.remove_dying.ensures.capacity ∙ c.let_go.ensures.capacity) c.keep_there.ensures.entries;
-      calm = left_calm c.add_all.ensures c.self.inside.by_koid.entries c.remove_dying.new.by_koid.entries went.thins c.self.invariant.calm;
+      calm = c.remove_dying.ensures.calm _ _ (less_calm c.self.inside.by_koid.entries c.let_go.new.by_koid.entries c.args.koid c.let_go.ensures.objects _ _ _
+          c.self.invariant.calm);
       indexed = c.remove_dying.ensures.indexed;
     }
 
@@ -88,8 +89,7 @@ kept_all c =
 pub invariant_of-self : goal.invariant_of-self
 invariant_of-self c = record {
   kept = kept_all c;
-  calm = quiet_calm held_once_less keeps_less less_stays c.self.inside.by_koid.entries c.let_go.new.by_koid.entries c.args.koid c.let_go.ensures.objects
-      c.self.invariant.calm;
+  calm = less_calm c.self.inside.by_koid.entries c.let_go.new.by_koid.entries c.args.koid c.let_go.ensures.objects _ _ _ c.self.invariant.calm;
   indexed = kept_indexed held_once_less keeps_less c.args.koid c.self.invariant.indexed c.let_go.ensures.objects;
 }
 

@@ -1,6 +1,5 @@
 use Rattle.std.proofs.Common.{refl, ◌∷◌, [], vec_capacity, map}
 use Rattle.zl_objects.specs.Listed.{listed_value}
-use Rattle.zl_objects.proofs.CalmChanges.{left_calm}
 use Rattle.zl_objects.proofs.Kept.{left_kept}
 use Rattle.zl_objects.proofs.Law.{leaves_largest}
 use Rattle.zl_objects.proofs.Released.{cascades_of, released, waits_left}
@@ -18,8 +17,7 @@ invariant_of-self c =
           (cascades_of [] c.self.inside.by_koid.entries c.remove_unkept.new.by_koid.entries (c.args.koid ∷ []) [] c.remove_unkept.ensures.goes)
           (c.remove_unkept.ensures.goes.places c.self.invariant.kept.whole.places)
           c.remove_unkept.ensures.goes.thins c.self.invariant.kept c.remove_unkept.ensures.none c.remove_unkept.ensures.capacity c.keep_there.ensures.entries;
-      calm = left_calm c.add_all.ensures c.self.inside.by_koid.entries c.remove_unkept.new.by_koid.entries
-          c.remove_unkept.ensures.goes.thins c.self.invariant.calm;
+      calm = c.remove_unkept.ensures.calm _ _ c.self.invariant.calm;
       indexed = c.remove_unkept.ensures.indexed;
     }
 

@@ -4,6 +4,7 @@ use Rattle.zl_objects.proofs.ByKoid.{by_koid}
 use Rattle.zl_objects.proofs.CalmChanges.{stopped_calm}
 use Rattle.zl_objects.proofs.Kept.{stopped_kept}
 use Rattle.zl_objects.proofs.Index.{stopped_none, updated_indexed}
+use Rattle.zl_objects.proofs.Whole.{stopped_same}
 use Rattle.zl_objects.proofs.objects.Objects.stop.Goals as goal
 
 pub invariant_of-self-2 : goal.invariant_of-self-2
@@ -14,5 +15,5 @@ invariant_of-self-2 c =
           (vec_capacity c.self.inside.dying) c.args.pid c.self.inside.dying.items c.self.invariant.kept (search (rules, by_koid));
       calm = stopped_calm c.add_all.ensures c.self.inside.by_koid.entries (c.get_mut.follows.lender c.stop.new.self).entries c.args.pid
           (search (rules, by_koid)) c.self.invariant.calm;
-      indexed = updated_indexed stopped stopped_none c.args.pid c.self.invariant.indexed (search (rules, by_koid));
+      indexed = updated_indexed stopped stopped_none (λ o. (stopped_same o.body).peer) c.args.pid c.self.invariant.indexed (search (rules, by_koid));
     }

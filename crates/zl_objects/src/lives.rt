@@ -1,0 +1,115 @@
+//! How processes start and end, and how jobs and processes are killed.
+
+ghost use Rattle.std.specs.Prelude.{[], ◌≡◌, IfSome};
+ghost use Rattle.zl_rights.specs.Map.{get};
+ghost use Rattle.zl_objects.specs.Jobs.{killing};
+ghost use Rattle.zl_objects.specs.Listed.{LeavesListed};
+ghost use Rattle.zl_objects.specs.Objects.{job_in, starting, stopping};
+ghost use Rattle.zl_objects.specs.Release.{all_koids, Ends, Releases};
+ghost use Rattle.zl_objects.specs.Seen.{LeavesLargest};
+ghost use Rattle.zl_objects.specs.Waits.{HavePlaces, LeavesWaits};
+
+use crate::killing::kill_all;
+use crate::listing::keep_there;
+use crate::object::Object;
+use crate::objects::Objects;
+use crate::releasing::{remove_unkept, sweep};
+use std::collections::BTreeMap;
+use zl_rights::Koid;
+
+#[tactic(auto, using(crate::proofs::ByKoid::by_koid, crate::proofs::Kept::kept))]
+impl Objects {
+    /// The process has ended, and what isn't held any more goes, with the waits as in `release`. It
+    /// takes no memory.
+    pub fn end(&mut self, pid: Koid)
+        ensures ends { Ends pid self.old self.new }
+        ensures waits { IfSome (job_in (get self.old.objects pid))
+            (λ job. LeavesWaits (stopping self.old pid) self.new) }
+        ensures places { HavePlaces self.new.objects }
+        ensures listed { LeavesListed self.old self.new }
+    {
+        if let Some(job) = job_of(&self.by_koid, pid) {
+            self.stop(pid);
+            remove_unkept(
+                &mut self.by_koid,
+                &mut self.children,
+                &mut self.dying,
+                &mut self.marks,
+                pid,
+            );
+            remove_unkept(
+                &mut self.by_koid,
+                &mut self.children,
+                &mut self.dying,
+                &mut self.marks,
+                job,
+            );
+            keep_there(&mut self.waits, &self.by_koid);
+        }
+    }
+
+    /// The job is killed, and each job below it, and the processes below it are over; or the
+    /// process is over, if it is one. What isn't held any more goes, with the waits as in `release`.
+    /// It takes no memory. The handles of the processes are to be closed by `release`. 0 is no koid:
+    /// nothing is killed for it.
+    ///
+    /// Source: the page "zx_task_kill" of the Fuchsia documentation.
+    pub fn kill(&mut self, task: Koid)
+        ensures releases { Releases [] (all_koids self.old.objects)
+            (killing self.old task) self.new }
+        ensures largest { LeavesLargest [] (all_koids self.old.objects)
+            (killing self.old task) self.new }
+        ensures waits { LeavesWaits (killing self.old task) self.new }
+        ensures places { HavePlaces self.new.objects }
+        ensures listed { LeavesListed self.old self.new }
+    {
+        self.mark_killed(task);
+        sweep(
+            &mut self.by_koid,
+            &mut self.children,
+            &mut self.dying,
+            &mut self.marks,
+            self.next_koid,
+        );
+        keep_there(&mut self.waits, &self.by_koid);
+    }
+
+    /// The job or the process is killed, and what stands below it. All objects stay.
+    fn mark_killed(&mut self, task: Koid)
+        ensures { self.new ≡ killing self.old task }
+    {
+        kill_all(&mut self.by_koid, task, self.next_koid);
+        self.marks.add_all();
+    }
+
+    /// The process is started, if it was made and not started yet.
+    ///
+    /// Source: the page "zx_process_start" of the Fuchsia documentation.
+    pub fn start(&mut self, pid: Koid)
+        ensures { self.new ≡ starting self.old pid }
+    {
+        let Some(object) = self.by_koid.get_mut(&pid) else {
+            return;
+        };
+        object.start();
+    }
+
+    /// The process is over.
+    fn stop(&mut self, pid: Koid)
+        ensures { self.new ≡ stopping self.old pid }
+    {
+        let Some(object) = self.by_koid.get_mut(&pid) else {
+            return;
+        };
+        object.stop();
+        self.marks.add_all();
+    }
+}
+
+/// The job of the process.
+#[tactic(auto, using(crate::proofs::ByKoid::by_koid))]
+fn job_of(by_koid: &BTreeMap<Koid, Object>, pid: Koid) -> Option<Koid>
+    ensures { result ≡ job_in (get by_koid.now.entries pid) }
+{
+    by_koid.get(&pid)?.body.job()
+}

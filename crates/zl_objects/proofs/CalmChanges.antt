@@ -20,19 +20,19 @@ use Rattle.zl_objects.specs.declared.object.Body.TheVariants as body
 use Rattle.zl_objects.specs.declared.object.Life.{Life}
 use Rattle.zl_objects.specs.declared.object.Life.TheVariants as life
 use Rattle.zl_objects.specs.declared.object.Object.{Object}
-use Rattle.zl_objects.specs.Calm.{IsCalm, StaysCalm, has_packet, is_watched, is_watched_in}
+use Rattle.zl_objects.specs.Calm.{IsCalm, StayStill, has_packet, is_watched, is_watched_in}
 use Rattle.zl_objects.specs.Jobs.{all_killed, is_job_below, is_process_below, is_within, killed_if, with_policy_body, with_policy_set}
 use Rattle.zl_objects.specs.Objects.{held_once_less, held_once_more, is_alive, raised_changed, received, received_body, sent, sent_body, started, started_body}
 use Rattle.zl_objects.specs.Objects.{peer_of, started_life, stopped}
 use Rattle.zl_objects.specs.Ports.{at_port, changed_port, packets_of}
 use Rattle.zl_objects.specs.Signals.{implied, signals_in}
-use Rattle.zl_objects.specs.Waits.{unwatched, watched}
+use Rattle.zl_objects.specs.Waits.{unwatched, waits_in, watched}
 use Rattle.zl_objects.proofs.Bodies.{Changed, changed}
 use Rattle.zl_objects.proofs.ByKoid.{looked_up, written, written_back}
 use Rattle.zl_objects.proofs.Calm.{IsFewer, Keeps, Stays, calm_followed, fewer_both, fewer_if, fewer_same, fewer_unmarked, stays_fewer}
 use Rattle.zl_objects.proofs.Calm.{stays_unwatched}
 use Rattle.zl_objects.proofs.Calm.{updated_calm}
-use Rattle.zl_objects.proofs.Places.{first_out}
+use Rattle.zl_objects.proofs.Places.{first_out, seen_updated}
 use Rattle.zl_objects.proofs.Tasks.{policy_same, started_same}
 use Rattle.zl_objects.proofs.Whole.{more_quiet, more_same, received_same, same_peer, sent_same}
 
@@ -77,8 +77,17 @@ pub less_stays : IsQuiet held_once_less
 less_stays = quiet_body held_once_less (λ o. refl) (λ o. refl) (λ o test h. h)
 
 -- one handle less
-pub less_calm : (m n : Map Object) (k : ℕ) → n ≡ update m k held_once_less → StaysCalm m n
-less_calm m n k is marked next sleepers = quiet_calm held_once_less keeps_less less_stays m n k is
+pub less_still : (m n : Map Object) (k : ℕ) → n ≡ update m k held_once_less → StayStill m n
+less_still m n k is = record {
+  calm = λ marked next sleepers. quiet_calm held_once_less keeps_less less_stays m n k is;
+  waits = rw is (seen_updated waits_in held_once_less (λ o. refl) m k);
+}
+
+pub still_then : (m m2 m3 : Map Object) → StayStill m m2 → StayStill m2 m3 → StayStill m m3
+still_then m m2 m3 first later = record {
+  calm = λ marked next sleepers calm. later.calm marked next sleepers (first.calm marked next sleepers calm);
+  waits = λ k. later.waits k ∙ first.waits k;
+}
 
 -- the first wait that passes has gone
 none_out : (test out : Watch → Bool) (ws : List Watch) → list_any test ws ≡ false → list_any test (without_first out ws) ≡ false

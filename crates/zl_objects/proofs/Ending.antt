@@ -2,7 +2,8 @@
 use Rattle.zl_rights.proofs.Common.{◌≡◌, ◌+◌, ◌<◌, ◌⊎◌, ℕ, Bool, true, false, not, ◌==◌, ◌||◌, List, [], ◌∷◌, drop, filter, length, refl, sym, ap, ◌∙◌, subst}
 use Rattle.zl_rights.proofs.Common.{Option, Some, None, inl, inr, IsTrue, arith, eq-eqb, nat_lt, if◌then◌else◌, list_any, option_map, slice_get, count_by}
 use Rattle.zl_rights.proofs.Common.{cond, sum_by, sum_by-cons, cases_Bool, eqb-true, false≢true, none-some, same_Some, nat_tests, Map, get, has_key}
-use Rattle.zl_rights.proofs.Common.{each, update, without}
+use Rattle.zl_rights.proofs.Common.{each, is_empty, update, without}
+use Rattle.std.proofs.lemmas.Bool.{or_parts}
 use Rattle.std.specs.Prelude.{◌-◌}
 use Rattle.zl_rights.proofs.MapLaws.{get-each, get-update}
 use Rattle.zl_table.proofs.MapEdits.{get-without}
@@ -14,7 +15,8 @@ use Rattle.zl_objects.specs.declared.object.Body.TheVariants as body
 use Rattle.zl_objects.specs.declared.object.Object.{Object}
 use Rattle.zl_objects.specs.Dying.{Thins}
 use Rattle.zl_objects.specs.Ports.{at_port, changed_port, reserved_in, reserved_of, unreserved}
-use Rattle.zl_objects.specs.Waits.{AreSameButWaits, HavePlaces, bare, ending_port, ending_waits, giving_back, waits_at, waits_for, without_port_waits}
+use Rattle.zl_objects.specs.Waits.{AreSameButWaits, HavePlaces, HaveSameWaits, bare, ending_port, ending_waits, ends_waits, giving_back, waits_at}
+use Rattle.zl_objects.specs.Waits.{waits_for, waits_in, without_port_waits}
 use Rattle.zl_objects.proofs.Bodies.{Changed, changed, found_left}
 use Rattle.zl_objects.proofs.Sums.{sum_same, sum_taken, sum_updated}
 
@@ -35,9 +37,24 @@ none_to_give [] m none = refl
 none_to_give (x ∷ xs) m none = absurd (none-some x (sym none))
 
 -- what was read of the object before it went
-pub ended_by : (m n : Map Object) (k : ℕ) (o : Object) (reserved : Bool) → get m k ≡ Some o → n ≡ without m k → reserved ≡ nat_lt 0 (reserved_in (get m k))
+pub ended_by : (m n : Map Object) (k : ℕ) (o : Object) (reserved : Bool) → n ≡ without m k → reserved ≡ nat_lt 0 (reserved_of o.body)
     → ending_port k reserved (giving_back o.signals.waits n) ≡ ending_waits k o (without m k)
-ended_by m n k o reserved there left is = λ i. ending_port k ((is ∙ ap (λ q. nat_lt 0 (reserved_in q)) there) i) (giving_back o.signals.waits (left i))
+ended_by m n k o reserved left is = λ i. ending_port k (is i) (giving_back o.signals.waits (left i))
+
+-- where no waits end with it, all others stay
+pub none_ended : (m n : Map Object) (k : ℕ) (o : Object) → get m k ≡ Some o → n ≡ ending_waits k o (without m k) → ends_waits o ≡ false → HaveSameWaits m n
+none_ended m n k o there is none j =
+    let parts = or_parts (nat_lt 0 (reserved_of o.body)) (not (is_empty o.signals.waits)) none in
+    let no_waits : o.signals.waits ≡ [] = empty o.signals.waits parts.1 in
+    let left : n ≡ without m k = is ∙ rw (parts.0, no_waits) refl in
+    elim (cases_Bool (k == j)) as (λ _. waits_in (get n j) ≡ waits_in (get m j)) [
+      | inl here ↦ rw (left, get-without m k j, here, ← eqb-true k j here, there) (sym no_waits)
+      | inr apart ↦ rw (left, get-without m k j, apart) refl
+    ]
+  where
+    empty : (xs : List Watch) → not (is_empty xs) ≡ false → xs ≡ []
+    empty [] h = refl
+    empty (x ∷ xs) h = absurd (false≢true (sym h))
 
 -- ---- nothing but waits and places changes
 

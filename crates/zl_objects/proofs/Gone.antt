@@ -14,7 +14,7 @@ use Rattle.zl_objects.specs.Dying.{Thins}
 use Rattle.zl_objects.specs.Index.{IsIndexed}
 use Rattle.zl_objects.specs.declared.children.Children.{Children}
 use Rattle.zl_objects.specs.Jobs.{has_job_below, has_process_below, is_job_below, is_process_below}
-use Rattle.zl_objects.specs.Objects.{is_child, is_koid, keeper_in, peer_in, peer_of}
+use Rattle.zl_objects.specs.Objects.{is_child, is_koid, keeper_of, peer_of}
 use Rattle.zl_objects.specs.Ports.{packets_of, unreserved}
 use Rattle.zl_objects.specs.Signals.{implied, signals_at}
 use Rattle.zl_objects.specs.Waits.{AreSameButWaits, ending_waits}
@@ -70,8 +70,8 @@ module _ {children : Children} (m n : Map Object) (k : ℕ) (gone : Object) (ind
   -- the job of which it was a child is marked, and then its peer, if something waits there
   module _ {marked marked2 marked3 : ℕ → Bool} (more : (j : ℕ) → IsTrue (marked j) → IsTrue (marked2 j))
       (more2 : (j : ℕ) → IsTrue (marked2 j) → IsTrue (marked3 j))
-      (keeper : IfSome (keeper_in (get m k)) (λ j. IsTrue (is_watched_in (get n j)) → IsTrue (marked2 j)))
-      (peer : IfSome (peer_in (get m k)) (λ j. IsTrue (is_watched_in (get n j)) → IsTrue (marked3 j))) where
+      (keeper : IfSome (keeper_of gone.body) (λ j. IsTrue (is_watched_in (get n j)) → IsTrue (marked2 j)))
+      (peer : IfSome (peer_of gone.body) (λ j. IsTrue (is_watched_in (get n j)) → IsTrue (marked3 j))) where
     all_more : (j : ℕ) → IsTrue (marked j) → IsTrue (marked3 j)
     all_more j h = more2 j (more j h)
 
@@ -91,15 +91,15 @@ module _ {children : Children} (m n : Map Object) (k : ℕ) (gone : Object) (ind
       -- what is marked, if something waits there, isn't unmarked
       no_child : IsTrue (is_watched o) → marked3 j ≡ false → is_child j gone.body ≡ false
       no_child watched unmarked = elim (cases_Bool (is_child j gone.body)) as (λ _. is_child j gone.body ≡ false) [
-        | inl child ↦ absurd (false≢true (sym unmarked ∙ more2 j (of_keeper _ (keeper_in (get m k)) j (rw there child) keeper (rw at watched))))
+        | inl child ↦ absurd (false≢true (sym unmarked ∙ more2 j (of_keeper _ (keeper_of gone.body) j child keeper (rw at watched))))
         | inr apart ↦ apart
       ]
 
       no_peer : IsTrue (is_watched o) → marked3 j ≡ false → (p : ℕ) → peer_of thin.before.body ≡ Some p → (k == p) ≡ false
       no_peer watched unmarked p is = elim (cases_Bool (k == p)) as (λ _. (k == p) ≡ false) [
         | inl here ↦
-            let back : peer_in (get m k) ≡ Some j =
-            ap peer_in there ∙ indexed.paired j k thin.before gone thin.there there (is ∙ ap (λ (i : ℕ). Some i) (sym (eqb-true k p here))) in
+            let back : peer_of gone.body ≡ Some j =
+            indexed.paired j k thin.before gone thin.there there (is ∙ ap (λ (i : ℕ). Some i) (sym (eqb-true k p here))) in
             absurd (false≢true (sym unmarked ∙ (rw back at peer) (rw at watched)))
         | inr apart ↦ apart
       ]

@@ -19,6 +19,7 @@ use Rattle.zl_objects.specs.Index.{IsIndexed}
 use Rattle.zl_objects.specs.Objects.{Objects}
 use Rattle.zl_objects.specs.Ports.{packets_in}
 use Rattle.zl_objects.specs.Signals.{signals_at}
+use Rattle.zl_objects.specs.Waits.{HaveSameWaits}
 
 -- ---- what is due
 
@@ -93,9 +94,10 @@ pub record IsCalm (marked : ℕ → Bool) (m : Map Object) (next_koid : ℕ) (sl
 abbrev pub KeepsCalm : (ℕ → Bool) → Map Object → (ℕ → Bool) → Map Object → Type 0
 KeepsCalm marked m marked2 m2 = (next_koid : ℕ) (sleepers : List Sleeper) → IsCalm marked m next_koid sleepers → IsCalm marked2 m2 next_koid sleepers
 
--- so is it, whatever is marked
-abbrev pub StaysCalm : Map Object → Map Object → Type 0
-StaysCalm m m2 = (marked : ℕ → Bool) → KeepsCalm marked m marked m2
+-- so is it, whatever is marked, and the waits stay
+pub record StayStill (m m2 : Map Object) : Type 0 where
+  pub calm : (marked : ℕ → Bool) → KeepsCalm marked m marked m2
+  pub waits : HaveSameWaits m m2
 
 -- the invariant of the objects, of all waits and of who may be blocked
 pub record IsSteady (marks : Marks) (children : Children) (m : Map Object) (next_koid : ℕ) (dying : List ℕ) (room : ℕ) (waits : List Listed)

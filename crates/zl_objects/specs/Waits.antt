@@ -1,7 +1,8 @@
 -- The waits that are registered at the objects, and what operations make of them.
-use Rattle.std.specs.Prelude.{ℕ, ◌≡◌, Bool, false, nat_lt, ◌+◌, cond, ◌==◌, List, [], ◌∷◌, Option, Some, None, if◌then◌else◌}
+use Rattle.std.specs.Prelude.{ℕ, ◌≡◌, Bool, false, not, ◌||◌, nat_lt, ◌+◌, cond, ◌==◌, List, [], ◌∷◌, Option, Some, None, if◌then◌else◌}
 use Rattle.std.specs.List.{find, filter, count_by, sum_by}
 use Rattle.zl_rights.specs.Map.{Map, each, get, has_key, update}
+use Rattle.zl_rights.specs.Signals.{is_empty}
 use Rattle.zl_rights.specs.World.{Packet}
 use Rattle.zl_signals.specs.declared.watch.Watch.{Watch}
 use Rattle.zl_signals.specs.Waits.{holds, is_at_port, next_order, with_wait, without_port, without_wait}
@@ -97,6 +98,14 @@ ending_port k reserved m = if reserved then each (λ j. without_port_waits k) m 
 -- the objects that are left, once the waits have ended that end with the object k
 abbrev pub ending_waits : ℕ → Object → Map Object → Map Object
 ending_waits k o m = ending_port k (nat_lt 0 (reserved_of o.body)) (giving_back o.signals.waits m)
+
+-- the same waits are registered at each object
+abbrev pub HaveSameWaits : Map Object → Map Object → Type 0
+HaveSameWaits m m2 = (k : ℕ) → waits_in (get m2 k) ≡ waits_in (get m k)
+
+-- waits end with the object: its own, or those that give their packets to it
+abbrev pub ends_waits : Object → Bool
+ends_waits o = nat_lt 0 (reserved_of o.body) || not (is_empty o.signals.waits)
 
 -- ---- what is left
 

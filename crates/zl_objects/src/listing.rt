@@ -8,7 +8,8 @@ ghost use Rattle.std.specs.VecDeque.{deque_capacity, deque_len};
 ghost use Rattle.zl_objects.specs.Calm.{holds_now};
 ghost use Rattle.zl_objects.specs.Due.{is_entry_due};
 ghost use Rattle.zl_objects.specs.Index.{IsIndexed};
-ghost use Rattle.zl_objects.specs.Listed.{entry_of, is_entry_there, is_there, listed_value, may_register, order_entry, wait_value};
+ghost use Rattle.zl_objects.specs.Listed.{AreListed, entry_of, is_entry_there, is_there, listed_value, may_register, order_entry, wait_value};
+ghost use Rattle.zl_objects.specs.Waits.{HavePlaces};
 
 use crate::children::Children;
 use crate::object::Object;
@@ -123,14 +124,19 @@ pub fn unlist(waits: &mut WaitList, order: u64)
     waits.entries.remove(place);
 }
 
-/// Keeps the waits of which the object and the port are there.
-pub fn keep_there(waits: &mut WaitList, by_koid: &BTreeMap<Koid, Object>)
+/// Keeps the waits of which the object and the port are there. All are, unless waits have ended.
+pub fn keep_there(waits: &mut WaitList, by_koid: &BTreeMap<Koid, Object>, ended: bool)
+    requires places { HavePlaces by_koid.now.entries }
+    requires listed { ended ≡ false → AreListed waits.old.entries.items by_koid.now.entries }
     ensures entries { waits.new.entries.items
         ≡ filter (is_entry_there by_koid.now.entries) waits.old.entries.items }
     ensures waits { map listed_value waits.new.entries.items
         ≡ filter (is_there by_koid.now.entries) (map listed_value waits.old.entries.items) }
     ensures made { waits.new.made ≡ waits.old.made }
 {
+    if !ended {
+        return;
+    }
     waits.entries.retain(|listed| {
         by_koid.contains_key(&listed.wait.object) && by_koid.contains_key(&listed.wait.port)
     });

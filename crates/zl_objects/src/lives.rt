@@ -30,21 +30,21 @@ impl Objects {
     {
         if let Some(job) = job_of(&self.by_koid, pid) {
             self.stop(pid);
-            remove_unkept(
+            let mut ended = remove_unkept(
                 &mut self.by_koid,
                 &mut self.children,
                 &mut self.dying,
                 &mut self.marks,
                 pid,
             );
-            remove_unkept(
+            ended |= remove_unkept(
                 &mut self.by_koid,
                 &mut self.children,
                 &mut self.dying,
                 &mut self.marks,
                 job,
             );
-            keep_there(&mut self.waits, &self.by_koid);
+            keep_there(&mut self.waits, &self.by_koid, ended);
         }
     }
 
@@ -64,14 +64,14 @@ impl Objects {
         ensures listed { LeavesListed self.old self.new }
     {
         self.mark_killed(task);
-        sweep(
+        let ended = sweep(
             &mut self.by_koid,
             &mut self.children,
             &mut self.dying,
             &mut self.marks,
             self.next_koid,
         );
-        keep_there(&mut self.waits, &self.by_koid);
+        keep_there(&mut self.waits, &self.by_koid, ended);
     }
 
     /// The job or the process is killed, and what stands below it. All objects stay.

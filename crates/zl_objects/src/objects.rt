@@ -364,13 +364,13 @@ impl Objects {
         if self.dying.is_empty() {
             return;
         }
-        remove_dying(
+        let ended = remove_dying(
             &mut self.by_koid,
             &mut self.children,
             &mut self.dying,
             &mut self.marks,
         );
-        keep_there(&mut self.waits, &self.by_koid);
+        keep_there(&mut self.waits, &self.by_koid, ended);
     }
 
     /// The object goes if nothing keeps it, and what isn't held any more then. It takes no memory. The
@@ -382,14 +382,14 @@ impl Objects {
         ensures places { HavePlaces self.new.objects }
         ensures listed { LeavesListed self.old self.new }
     {
-        remove_unkept(
+        let ended = remove_unkept(
             &mut self.by_koid,
             &mut self.children,
             &mut self.dying,
             &mut self.marks,
             koid,
         );
-        keep_there(&mut self.waits, &self.by_koid);
+        keep_there(&mut self.waits, &self.by_koid, ended);
     }
 }
 

@@ -3,19 +3,18 @@
 //! An object that may have to go is noted in `dying`, which has room for each object. It stays with
 //! its queue until it is looked at again.
 
-ghost use Rattle.std.specs.Prelude.{◌≡◌, ◌≤◌, ◌<◌, ◌+◌, ◌++◌, ◌∷◌, [], if◌then◌else◌, is_some, length, nat_lt, ℕ, vec_capacity, IfSome, IsTrue};
+ghost use Rattle.std.specs.Prelude.{◌≡◌, ◌≤◌, ◌<◌, ◌+◌, ◌++◌, ◌∷◌, [], false, if◌then◌else◌, is_some, length, ℕ, vec_capacity, IfSome, IsTrue};
 ghost use Rattle.std.specs.Option.{option_to_list};
 ghost use Rattle.zl_rights.specs.Map.{each, get, has_key, update};
-ghost use Rattle.zl_objects.specs.Calm.{is_marked, is_watched_in, KeepsCalm, StaysCalm};
-ghost use Rattle.zl_objects.specs.Objects.{held_once_less, is_kept, keeper_in, peer_in};
+ghost use Rattle.zl_objects.specs.Calm.{is_marked, is_watched_in, KeepsCalm, StayStill};
+ghost use Rattle.zl_objects.specs.Objects.{held_once_less, is_kept};
 ghost use Rattle.zl_objects.specs.Release.{all_koids, koids_of, named_in};
 ghost use Rattle.zl_objects.specs.Dying.{budget, is_last, is_unkept, left_at, unkept_at, LetsGo};
 ghost use Rattle.zl_objects.specs.Index.{IsIndexed};
-ghost use Rattle.zl_objects.specs.Ports.{reserved_in};
-ghost use Rattle.zl_objects.specs.Waits.{ending_port, giving_back, without_port_waits};
+ghost use Rattle.zl_objects.specs.Waits.{ending_port, giving_back, without_port_waits, HaveSameWaits};
 
 use crate::children::{Children, has_living_child};
-use crate::killing::{next_from, parent_at};
+use crate::killing::next_from;
 use crate::marks::Marks;
 use crate::object::{Body, Object};
 use crate::waits::{give_back, is_watched};
@@ -54,7 +53,7 @@ fn let_go_all(by_koid: &mut BTreeMap<Koid, Object>, dying: &mut Vec<Koid>, handl
     requires fits { budget by_koid.old.entries dying.old.items ≤ vec_capacity dying.old }
     ensures goes { LetsGo (koids_of handles.now)
         by_koid.old.entries dying.old.items by_koid.new.entries dying.new.items }
-    ensures calm { StaysCalm by_koid.old.entries by_koid.new.entries }
+    ensures still { StayStill by_koid.old.entries by_koid.new.entries }
     ensures capacity { vec_capacity dying.new ≡ vec_capacity dying.old }
 {
     for handle in handles {
@@ -67,7 +66,7 @@ fn let_go_queue(by_koid: &mut BTreeMap<Koid, Object>, dying: &mut Vec<Koid>, mut
     requires fits { budget by_koid.old.entries dying.old.items ≤ vec_capacity dying.old }
     ensures goes { LetsGo (named_in queue)
         by_koid.old.entries dying.old.items by_koid.new.entries dying.new.items }
-    ensures calm { StaysCalm by_koid.old.entries by_koid.new.entries }
+    ensures still { StayStill by_koid.old.entries by_koid.new.entries }
     ensures capacity { vec_capacity dying.new ≡ vec_capacity dying.old }
 {
     while let Some(message) = queue.take() {
@@ -147,17 +146,6 @@ fn end_port(by_koid: &mut BTreeMap<Koid, Object>, port: Koid)
     });
 }
 
-/// Whether it is a port where a place is reserved.
-#[tactic(auto, using(crate::proofs::ByKoid::by_koid))]
-pub fn has_reserved(by_koid: &BTreeMap<Koid, Object>, koid: Koid) -> bool
-    ensures { result ≡ nat_lt 0 (reserved_in (get by_koid.now.entries koid)) }
-{
-    match by_koid.get(&koid) {
-        Some(object) => object.body.has_reserved(),
-        None => false,
-    }
-}
-
 /// The waits at an object that has gone end. If it was a port with a reserved place, so do those
 /// that give their packets to it.
 fn end_waits(by_koid: &mut BTreeMap<Koid, Object>, koid: Koid, reserved: bool, signals: SignalState)
@@ -168,22 +156,6 @@ fn end_waits(by_koid: &mut BTreeMap<Koid, Object>, koid: Koid, reserved: bool, s
     if reserved {
         end_port(by_koid, koid);
     }
-}
-
-/// The job of which the object is a living child, if it is one.
-#[tactic(auto, using(crate::proofs::ByKoid::by_koid))]
-fn keeper_at(by_koid: &BTreeMap<Koid, Object>, koid: Koid) -> Option<Koid>
-    ensures { result ≡ keeper_in (get by_koid.now.entries koid) }
-{
-    by_koid.get(&koid)?.body.keeper()
-}
-
-/// The other end of what is an end of a channel or of an event pair.
-#[tactic(auto, using(crate::proofs::ByKoid::by_koid))]
-fn peer_at(by_koid: &BTreeMap<Koid, Object>, koid: Koid) -> Option<Koid>
-    ensures { result ≡ peer_in (get by_koid.now.entries koid) }
-{
-    by_koid.get(&koid)?.body.peer()
 }
 
 /// The object that was found is marked, if something waits there.
@@ -209,14 +181,15 @@ fn note_keeper(dying: &mut Vec<Koid>, keeper: Option<Koid>)
 }
 
 /// The object that was noted goes with its queue and its waits, unless something keeps it, and the
-/// job of which it was a living child is noted. Signals come there, and at its peer.
+/// job of which it was a living child is noted. Signals come there, and at its peer. Says whether
+/// waits ended.
 fn remove_noted(
     by_koid: &mut BTreeMap<Koid, Object>,
     children: &mut Children,
     dying: &mut Vec<Koid>,
     marks: &mut Marks,
     koid: Koid,
-)
+) -> bool
     requires indexed { IsIndexed children.old by_koid.old.entries }
     requires fits { budget by_koid.old.entries (dying.old.items ++ koid ∷ [])
         ≤ vec_capacity dying.old }
@@ -227,33 +200,34 @@ fn remove_noted(
         < budget by_koid.old.entries (dying.old.items ++ koid ∷ []) + length by_koid.old.entries }
     ensures calm { KeepsCalm (is_marked marks.old) by_koid.old.entries
         (is_marked marks.new) by_koid.new.entries }
+    ensures waits { result ≡ false → HaveSameWaits by_koid.old.entries by_koid.new.entries }
     ensures capacity { vec_capacity dying.new ≡ vec_capacity dying.old }
 {
-    let reserved = has_reserved(by_koid, koid);
-    let keeper = keeper_at(by_koid, koid);
-    let peer = peer_at(by_koid, koid);
-    let parent = parent_at(by_koid, koid);
     let Some(gone) = take_unkept(by_koid, children, koid) else {
-        return;
+        return false;
     };
+    children.remove(gone.body.parent(), koid);
+    let (keeper, peer) = (gone.body.keeper(), gone.body.peer());
+    let (ended, reserved) = (gone.ends_waits(), gone.body.has_reserved());
     let Object { body, signals, .. } = gone;
-    children.remove(parent, koid);
     end_waits(by_koid, koid, reserved, signals);
     note_keeper(dying, keeper);
     mark_watched(by_koid, marks, keeper);
     mark_watched(by_koid, marks, peer);
     if let Body::ChannelEnd { queue, .. } = body {
         let_go_queue(by_koid, dying, queue);
+        return ended;
     }
+    ended
 }
 
-/// The noted objects go, and what goes with them.
+/// The noted objects go, and what goes with them. Says whether waits ended.
 pub fn remove_dying(
     by_koid: &mut BTreeMap<Koid, Object>,
     children: &mut Children,
     dying: &mut Vec<Koid>,
     marks: &mut Marks,
-)
+) -> bool
     requires indexed { IsIndexed children.old by_koid.old.entries }
     requires fits { budget by_koid.old.entries dying.old.items ≤ vec_capacity dying.old }
     ensures indexed { IsIndexed children.new by_koid.new.entries }
@@ -261,22 +235,25 @@ pub fn remove_dying(
         by_koid.old.entries dying.old.items by_koid.new.entries dying.new.items }
     ensures calm { KeepsCalm (is_marked marks.old) by_koid.old.entries
         (is_marked marks.new) by_koid.new.entries }
+    ensures waits { result ≡ false → HaveSameWaits by_koid.old.entries by_koid.new.entries }
     ensures none { dying.new.items ≡ [] }
     ensures capacity { vec_capacity dying.new ≡ vec_capacity dying.old }
 {
+    let mut ended = false;
     while let Some(koid) = dying.pop() {
-        remove_noted(by_koid, children, dying, marks, koid);
+        ended |= remove_noted(by_koid, children, dying, marks, koid);
     }
+    ended
 }
 
-/// The object goes, unless something keeps it, and what goes with it.
+/// The object goes, unless something keeps it, and what goes with it. Says whether waits ended.
 pub fn remove_unkept(
     by_koid: &mut BTreeMap<Koid, Object>,
     children: &mut Children,
     dying: &mut Vec<Koid>,
     marks: &mut Marks,
     koid: Koid,
-)
+) -> bool
     requires indexed { IsIndexed children.old by_koid.old.entries }
     requires none { dying.old.items ≡ [] }
     requires room { length by_koid.old.entries ≤ vec_capacity dying.old }
@@ -284,23 +261,26 @@ pub fn remove_unkept(
     ensures goes { LetsGo [] by_koid.old.entries (koid ∷ []) by_koid.new.entries [] }
     ensures calm { KeepsCalm (is_marked marks.old) by_koid.old.entries
         (is_marked marks.new) by_koid.new.entries }
+    ensures waits { result ≡ false → HaveSameWaits by_koid.old.entries by_koid.new.entries }
     ensures none { dying.new.items ≡ [] }
     ensures capacity { vec_capacity dying.new ≡ vec_capacity dying.old }
 {
     if is_unkept(by_koid, children, koid) {
         dying.push_reserved(koid);
-        remove_dying(by_koid, children, dying, marks);
+        return remove_dying(by_koid, children, dying, marks);
     }
+    false
 }
 
-/// Each object that nothing keeps goes, and what goes with it. All koids lie below the end.
+/// Each object that nothing keeps goes, and what goes with it. All koids lie below the end. Says
+/// whether waits ended.
 pub fn sweep(
     by_koid: &mut BTreeMap<Koid, Object>,
     children: &mut Children,
     dying: &mut Vec<Koid>,
     marks: &mut Marks,
     end: Koid,
-)
+) -> bool
     requires indexed { IsIndexed children.old by_koid.old.entries }
     requires below { (k : ℕ) → IsTrue (has_key by_koid.old.entries k) → k < end }
     requires none { dying.old.items ≡ [] }
@@ -310,12 +290,15 @@ pub fn sweep(
         by_koid.new.entries [] }
     ensures calm { KeepsCalm (is_marked marks.old) by_koid.old.entries
         (is_marked marks.new) by_koid.new.entries }
+    ensures waits { result ≡ false → HaveSameWaits by_koid.old.entries by_koid.new.entries }
     ensures none { dying.new.items ≡ [] }
     ensures capacity { vec_capacity dying.new ≡ vec_capacity dying.old }
 {
+    let mut ended = false;
     let mut from = 0;
     while let Some(koid) = next_from(by_koid, from) {
-        remove_unkept(by_koid, children, dying, marks, koid);
+        ended |= remove_unkept(by_koid, children, dying, marks, koid);
         from = koid + 1;
     }
+    ended
 }

@@ -1,5 +1,5 @@
 use Rattle.std.proofs.Common.{◌≡◌, take, vec_capacity}
-use Rattle.zl_objects.specs.Calm.{StaysCalm}
+use Rattle.zl_objects.specs.Calm.{StayStill}
 use Rattle.zl_objects.specs.Release.{koids_of}
 use Rattle.zl_objects.specs.Dying.{LetsGo}
 use Rattle.zl_objects.proofs.releasing.let_go_all.Given as goal
@@ -7,6 +7,6 @@ use Rattle.zl_objects.proofs.releasing.let_go_all.Given as goal
 abbrev pub invariant-loop-handle : goal.invariant-loop-handle
 invariant-loop-handle l = record {
   goes : LetsGo (koids_of (take l.handle-index l.handles)) l.initial.by_koid.entries l.initial.dying.items l.by_koid.entries l.dying.items;
-  calm : StaysCalm l.initial.by_koid.entries l.by_koid.entries;
+  still : StayStill l.initial.by_koid.entries l.by_koid.entries;
   capacity : vec_capacity l.dying ≡ vec_capacity l.initial.dying;
 }

@@ -1,6 +1,7 @@
 use Rattle.std.proofs.Common.{arith, ◌≡◌, ◌∙◌, sym, ap}
 use Rattle.zl_rights.specs.World.{Message}
 use Rattle.zl_objects.proofs.Budget.{message_went}
+use Rattle.zl_objects.proofs.CalmChanges.{still_then}
 use Rattle.zl_objects.proofs.releasing.let_go_queue.Goals as goal
 
 pub loop-message-preserved : goal.loop-message-preserved
@@ -13,7 +14,7 @@ loop-message-preserved c =
           (sym c.take.ensures.first ∙ c.in-Some.is) c.take.ensures.rest handles
           c.loop-message.by_koid.entries c.let_go_all.new.by_koid.entries m c.loop-message.dying.items c.let_go_all.new.dying.items d
           c.let_go_all.ensures.goes later);
-      calm = λ marked next sleepers calm. c.let_go_all.ensures.calm marked next sleepers (c.loop-message.invariant.calm marked next sleepers calm);
+      still = still_then _ _ _ c.loop-message.invariant.still c.let_go_all.ensures.still;
       capacity = c.let_go_all.ensures.capacity ∙ c.loop-message.invariant.capacity;
     }
 
@@ -27,6 +28,6 @@ loop-message-preserved-in-Some c =
           (sym c.take.ensures.first ∙ c.in-Some.is) c.take.ensures.rest handles
           c.loop-message.by_koid.entries c.let_go_all.new.by_koid.entries m c.loop-message.dying.items c.let_go_all.new.dying.items d
           c.let_go_all.ensures.goes later);
-      calm = λ marked next sleepers calm. c.let_go_all.ensures.calm marked next sleepers (c.loop-message.invariant.calm marked next sleepers calm);
+      still = still_then _ _ _ c.loop-message.invariant.still c.let_go_all.ensures.still;
       capacity = c.let_go_all.ensures.capacity ∙ c.loop-message.invariant.capacity;
     }

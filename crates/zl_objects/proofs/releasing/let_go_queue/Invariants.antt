@@ -1,7 +1,7 @@
 use Rattle.std.proofs.Common.{◌≡◌, ◌≤◌, ℕ, List, length, vec_capacity}
 use Rattle.zl_rights.specs.Map.{Map}
 use Rattle.zl_objects.specs.declared.object.Object.{Object}
-use Rattle.zl_objects.specs.Calm.{StaysCalm}
+use Rattle.zl_objects.specs.Calm.{StayStill}
 use Rattle.zl_objects.specs.Release.{named_in}
 use Rattle.zl_objects.specs.Dying.{LetsGo, budget}
 use Rattle.zl_objects.proofs.releasing.let_go_queue.Given as goal
@@ -11,7 +11,7 @@ invariant-loop-message l = record {
   cheap : budget l.by_koid.entries l.dying.items ≤ budget l.initial.by_koid.entries l.initial.dying.items;
   goes : (m : Map Object) (d : List ℕ) → LetsGo (named_in l.queue) l.by_koid.entries l.dying.items m d
       → LetsGo (named_in l.initial.queue) l.initial.by_koid.entries l.initial.dying.items m d;
-  calm : StaysCalm l.initial.by_koid.entries l.by_koid.entries;
+  still : StayStill l.initial.by_koid.entries l.by_koid.entries;
   capacity : vec_capacity l.dying ≡ vec_capacity l.initial.dying;
 }
 

@@ -1,6 +1,7 @@
-use Rattle.std.proofs.Common.{◌≡◌, ◌+◌, [], length, vec_capacity}
+use Rattle.std.proofs.Common.{◌≡◌, ◌+◌, [], false, length, vec_capacity}
 use Rattle.zl_objects.specs.Dying.{LetsGo, budget}
 use Rattle.zl_objects.specs.Calm.{KeepsCalm, is_marked}
+use Rattle.zl_objects.specs.Waits.{HaveSameWaits}
 use Rattle.zl_objects.specs.Index.{IsIndexed}
 use Rattle.zl_objects.proofs.releasing.remove_dying.Given as goal
 
@@ -9,6 +10,7 @@ invariant-loop-koid l = record {
   goes : LetsGo [] l.initial.by_koid.entries l.initial.dying.items l.by_koid.entries l.dying.items;
   indexed : IsIndexed l.children l.by_koid.entries;
   calm : KeepsCalm (is_marked l.initial.marks) l.initial.by_koid.entries (is_marked l.marks) l.by_koid.entries;
+  waits : l.ended ≡ false → HaveSameWaits l.initial.by_koid.entries l.by_koid.entries;
   capacity : vec_capacity l.dying ≡ vec_capacity l.initial.dying;
 }
 

@@ -1,13 +1,13 @@
 use Rattle.zl_rights.proofs.Common.{arith, refl, ◌≡◌, ◌+◌, ◌++◌, [], length, ℕ, Option, ap, sym, subst, ◌∙◌, without, None}
 use Rattle.std.specs.Option.{option_to_list}
 use Rattle.std.specs.Vec.{vec_capacity}
-use Rattle.zl_objects.specs.Objects.{keeper_in, keeper_of, queue_of}
+use Rattle.zl_objects.specs.Objects.{keeper_of, queue_of}
 use Rattle.zl_objects.specs.Release.{named_in}
 use Rattle.zl_objects.specs.Dying.{unkept_at, LetsGo}
 use Rattle.zl_objects.specs.Waits.{ending_waits}
 use Rattle.zl_objects.proofs.Budget.{IsTaken, fewer_ending, kept_went, less_ending, less_noted, none_left_at, none_taken, none_went, no_queue, one_taken}
 use Rattle.zl_objects.proofs.Budget.{room_noted, taken, unkept_went}
-use Rattle.zl_objects.proofs.Ending.{ended_by}
+use Rattle.zl_objects.proofs.Ending.{ended_by, none_ended}
 use Rattle.zl_objects.proofs.Gone.{gone_calm}
 use Rattle.zl_objects.proofs.Index.{gone_indexed, left_indexed}
 use Rattle.zl_objects.proofs.Released.{cascaded_shorter, cascades_of}
@@ -35,9 +35,9 @@ let_go_queue-requires c =
     taken c.args.by_koid.now.entries c.args.koid c.in-Some.gone (sym c.take_unkept.ensures.taken ∙ c.in-Some.is) in
     let ended : c.end_waits.new.by_koid.entries ≡ ending_waits c.args.koid c.in-Some.gone (without c.args.by_koid.now.entries c.args.koid) =
     c.end_waits.ensures ∙ ended_by c.args.by_koid.now.entries c.take_unkept.new.by_koid.entries c.args.koid c.in-Some.gone c.has_reserved-reserved.result
-    was.there (c.take_unkept.ensures.left ∙ was.left) c.has_reserved-reserved.ensures in
+    (c.take_unkept.ensures.left ∙ was.left) c.has_reserved-reserved.ensures in
     let noted : c.note_keeper.new.dying.items ≡ c.args.dying.now.items ++ option_to_list (keeper_of c.in-Some.gone.body) =
-    c.note_keeper.ensures.noted ∙ ap (λ (q : Option ℕ). c.args.dying.now.items ++ option_to_list q) (c.keeper_at-keeper.ensures ∙ ap keeper_in was.there) in
+    c.note_keeper.ensures.noted ∙ ap (λ (q : Option ℕ). c.args.dying.now.items ++ option_to_list q) c.keeper-keeper.ensures in
     record {
       fits = rw (ended, noted) (omega (
         arith,
@@ -53,9 +53,9 @@ returns-in-ChannelEnd-clause-goes c =
     taken c.args.by_koid.now.entries c.args.koid c.in-Some.gone (sym c.take_unkept.ensures.taken ∙ c.in-Some.is) in
     let ended : c.end_waits.new.by_koid.entries ≡ ending_waits c.args.koid c.in-Some.gone (without c.args.by_koid.now.entries c.args.koid) =
     c.end_waits.ensures ∙ ended_by c.args.by_koid.now.entries c.take_unkept.new.by_koid.entries c.args.koid c.in-Some.gone c.has_reserved-reserved.result
-    was.there (c.take_unkept.ensures.left ∙ was.left) c.has_reserved-reserved.ensures in
+    (c.take_unkept.ensures.left ∙ was.left) c.has_reserved-reserved.ensures in
     let noted : c.note_keeper.new.dying.items ≡ c.args.dying.now.items ++ option_to_list (keeper_of c.in-Some.gone.body) =
-    c.note_keeper.ensures.noted ∙ ap (λ (q : Option ℕ). c.args.dying.now.items ++ option_to_list q) (c.keeper_at-keeper.ensures ∙ ap keeper_in was.there) in
+    c.note_keeper.ensures.noted ∙ ap (λ (q : Option ℕ). c.args.dying.now.items ++ option_to_list q) c.keeper-keeper.ensures in
     let went : LetsGo (named_in c.in-ChannelEnd.queue) (ending_waits c.args.koid c.in-Some.gone (without c.args.by_koid.now.entries c.args.koid))
     (c.args.dying.now.items ++ option_to_list (keeper_of c.in-Some.gone.body)) c.let_go_queue.new.by_koid.entries c.let_go_queue.new.dying.items =
     rw (ended, noted) at c.let_go_queue.ensures.goes in
@@ -74,9 +74,9 @@ returns-in-ChannelEnd-clause-less c =
     taken c.args.by_koid.now.entries c.args.koid c.in-Some.gone (sym c.take_unkept.ensures.taken ∙ c.in-Some.is) in
     let ended : c.end_waits.new.by_koid.entries ≡ ending_waits c.args.koid c.in-Some.gone (without c.args.by_koid.now.entries c.args.koid) =
     c.end_waits.ensures ∙ ended_by c.args.by_koid.now.entries c.take_unkept.new.by_koid.entries c.args.koid c.in-Some.gone c.has_reserved-reserved.result
-    was.there (c.take_unkept.ensures.left ∙ was.left) c.has_reserved-reserved.ensures in
+    (c.take_unkept.ensures.left ∙ was.left) c.has_reserved-reserved.ensures in
     let noted : c.note_keeper.new.dying.items ≡ c.args.dying.now.items ++ option_to_list (keeper_of c.in-Some.gone.body) =
-    c.note_keeper.ensures.noted ∙ ap (λ (q : Option ℕ). c.args.dying.now.items ++ option_to_list q) (c.keeper_at-keeper.ensures ∙ ap keeper_in was.there) in
+    c.note_keeper.ensures.noted ∙ ap (λ (q : Option ℕ). c.args.dying.now.items ++ option_to_list q) c.keeper-keeper.ensures in
     let went : LetsGo (named_in c.in-ChannelEnd.queue) (ending_waits c.args.koid c.in-Some.gone (without c.args.by_koid.now.entries c.args.koid))
     (c.args.dying.now.items ++ option_to_list (keeper_of c.in-Some.gone.body)) c.let_go_queue.new.by_koid.entries c.let_go_queue.new.dying.items =
     rw (ended, noted) at c.let_go_queue.ensures.goes in
@@ -97,18 +97,26 @@ returns-in-ChannelEnd-clause-indexed c =
     taken c.args.by_koid.now.entries c.args.koid c.in-Some.gone (sym c.take_unkept.ensures.taken ∙ c.in-Some.is) in
     left_indexed (named_in c.in-ChannelEnd.queue) (gone_indexed c.args.koid c.in-Some.gone c.requires.indexed c.remove.ensures
     (c.end_waits.ensures ∙ ended_by c.args.by_koid.now.entries c.take_unkept.new.by_koid.entries c.args.koid c.in-Some.gone c.has_reserved-reserved.result
-    was.there (c.take_unkept.ensures.left ∙ was.left) c.has_reserved-reserved.ensures))
+    (c.take_unkept.ensures.left ∙ was.left) c.has_reserved-reserved.ensures))
     (cascades_of (named_in c.in-ChannelEnd.queue) _ _ _ _ c.let_go_queue.ensures.goes)
 
 pub returns-in-ChannelEnd-clause-calm : goal.returns-in-ChannelEnd-clause-calm
 returns-in-ChannelEnd-clause-calm c =
     let was : IsTaken c.args.by_koid.now.entries c.args.koid c.in-Some.gone =
     taken c.args.by_koid.now.entries c.args.koid c.in-Some.gone (sym c.take_unkept.ensures.taken ∙ c.in-Some.is) in
-    λ next sleepers calm. c.let_go_queue.ensures.calm _ next sleepers (gone_calm c.args.by_koid.now.entries c.end_waits.new.by_koid.entries c.args.koid
+    λ next sleepers calm. c.let_go_queue.ensures.still.calm _ next sleepers (gone_calm c.args.by_koid.now.entries c.end_waits.new.by_koid.entries c.args.koid
     c.in-Some.gone c.requires.indexed was.there
     (c.end_waits.ensures ∙ ended_by c.args.by_koid.now.entries c.take_unkept.new.by_koid.entries c.args.koid c.in-Some.gone c.has_reserved-reserved.result
-    was.there (c.take_unkept.ensures.left ∙ was.left) c.has_reserved-reserved.ensures) c.mark_watched.ensures.more c.mark_watched-2.ensures.more
-    (rw c.keeper_at-keeper.ensures at c.mark_watched.ensures.wanted) (rw c.peer_at-peer.ensures at c.mark_watched-2.ensures.wanted) next sleepers calm)
+    (c.take_unkept.ensures.left ∙ was.left) c.has_reserved-reserved.ensures) c.mark_watched.ensures.more c.mark_watched-2.ensures.more
+    (rw c.keeper-keeper.ensures at c.mark_watched.ensures.wanted) (rw c.peer-peer.ensures at c.mark_watched-2.ensures.wanted) next sleepers calm)
+
+pub returns-in-ChannelEnd-clause-waits : goal.returns-in-ChannelEnd-clause-waits
+returns-in-ChannelEnd-clause-waits c =
+    let was : IsTaken c.args.by_koid.now.entries c.args.koid c.in-Some.gone =
+    taken c.args.by_koid.now.entries c.args.koid c.in-Some.gone (sym c.take_unkept.ensures.taken ∙ c.in-Some.is) in
+    λ none k. c.let_go_queue.ensures.still.waits k ∙ none_ended c.args.by_koid.now.entries c.end_waits.new.by_koid.entries c.args.koid c.in-Some.gone was.there
+    (c.end_waits.ensures ∙ ended_by c.args.by_koid.now.entries c.take_unkept.new.by_koid.entries c.args.koid c.in-Some.gone c.has_reserved-reserved.result
+    (c.take_unkept.ensures.left ∙ was.left) c.has_reserved-reserved.ensures) (sym c.ends_waits-ended.ensures ∙ none) k
 
 pub returns : goal.returns
 returns c =
@@ -116,9 +124,9 @@ returns c =
     taken c.args.by_koid.now.entries c.args.koid c.in-Some.gone (sym c.take_unkept.ensures.taken ∙ c.in-Some.is) in
     let ended : c.end_waits.new.by_koid.entries ≡ ending_waits c.args.koid c.in-Some.gone (without c.args.by_koid.now.entries c.args.koid) =
     c.end_waits.ensures ∙ ended_by c.args.by_koid.now.entries c.take_unkept.new.by_koid.entries c.args.koid c.in-Some.gone c.has_reserved-reserved.result
-    was.there (c.take_unkept.ensures.left ∙ was.left) c.has_reserved-reserved.ensures in
+    (c.take_unkept.ensures.left ∙ was.left) c.has_reserved-reserved.ensures in
     let noted : c.note_keeper.new.dying.items ≡ c.args.dying.now.items ++ option_to_list (keeper_of c.in-Some.gone.body) =
-    c.note_keeper.ensures.noted ∙ ap (λ (q : Option ℕ). c.args.dying.now.items ++ option_to_list q) (c.keeper_at-keeper.ensures ∙ ap keeper_in was.there) in
+    c.note_keeper.ensures.noted ∙ ap (λ (q : Option ℕ). c.args.dying.now.items ++ option_to_list q) c.keeper-keeper.ensures in
     let once : length (without c.args.by_koid.now.entries c.args.koid) + 1 ≡ length c.args.by_koid.now.entries =
     one_taken c.args.by_koid.now.entries c.args.koid c.take_unkept.new.by_koid.entries c.take_unkept.result c.in-Some.gone
     c.take_unkept.ensures.left was c.in-Some.is c.take_unkept.ensures.count in
@@ -136,7 +144,8 @@ returns c =
       );
       calm = gone_calm c.args.by_koid.now.entries (ending_waits c.args.koid c.in-Some.gone (without c.args.by_koid.now.entries c.args.koid)) c.args.koid
           c.in-Some.gone c.requires.indexed was.there refl c.mark_watched.ensures.more c.mark_watched-2.ensures.more
-          (rw (c.keeper_at-keeper.ensures, ended) at c.mark_watched.ensures.wanted) (rw (c.peer_at-peer.ensures, ended) at c.mark_watched-2.ensures.wanted);
+          (rw (c.keeper-keeper.ensures, ended) at c.mark_watched.ensures.wanted) (rw (c.peer-peer.ensures, ended) at c.mark_watched-2.ensures.wanted);
+      waits = λ none. none_ended c.args.by_koid.now.entries _ c.args.koid c.in-Some.gone was.there refl (sym c.ends_waits-ended.ensures ∙ none);
       capacity = c.note_keeper.ensures.capacity;
       indexed = gone_indexed c.args.koid c.in-Some.gone c.requires.indexed c.remove.ensures refl;
     })

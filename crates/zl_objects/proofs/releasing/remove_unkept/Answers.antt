@@ -28,5 +28,5 @@ returns-then-is_unkept-clause-goes c =
     let noted : c.push_reserved.new.self.items ≡ c.args.koid ∷ [] = c.push_reserved.ensures.items ∙ rw c.requires.none refl in
     rw (noted, c.remove_dying.ensures.none) at c.remove_dying.ensures.goes
 
-pub returns-else-is_unkept-clause-goes : goal.returns-else-is_unkept-clause-goes
-returns-else-is_unkept-clause-goes c = test_kept c.args.by_koid.now.entries c.args.koid (sym c.is_unkept.ensures ∙ c.if-is_unkept.false)
+pub returns-clause-goes : goal.returns-clause-goes
+returns-clause-goes c = test_kept c.args.by_koid.now.entries c.args.koid (sym c.is_unkept.ensures ∙ c.if-is_unkept.false)

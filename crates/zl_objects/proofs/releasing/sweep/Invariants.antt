@@ -1,5 +1,6 @@
-use Rattle.std.proofs.Common.{◌≡◌, ◌-◌, ◌^◌, [], vec_capacity}
+use Rattle.std.proofs.Common.{◌≡◌, ◌-◌, ◌^◌, [], false, vec_capacity}
 use Rattle.zl_objects.specs.Calm.{KeepsCalm, is_marked}
+use Rattle.zl_objects.specs.Waits.{HaveSameWaits}
 use Rattle.zl_objects.specs.Index.{IsIndexed}
 use Rattle.zl_objects.proofs.Sweeps.{Sweeps}
 use Rattle.zl_objects.proofs.releasing.sweep.Given as goal
@@ -10,6 +11,7 @@ invariant-loop-koid l = record {
   indexed : IsIndexed l.children l.by_koid.entries;
   none : l.dying.items ≡ [];
   calm : KeepsCalm (is_marked l.initial.marks) l.initial.by_koid.entries (is_marked l.marks) l.by_koid.entries;
+  waits : l.ended ≡ false → HaveSameWaits l.initial.by_koid.entries l.by_koid.entries;
   capacity : vec_capacity l.dying ≡ vec_capacity l.initial.dying;
 }
 

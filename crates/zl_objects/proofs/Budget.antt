@@ -347,10 +347,6 @@ module _ (m : Map Object) (k : ℕ) where
             record { there = is ∙ ap (λ (x : Object). Some x) same; unkept = ap (is_kept m k) (sym same) ∙ unkept; left = rw (is, unkept) refl }
       ]
 
-pub popped_less : (m : Map Object) (d left : List ℕ) (k : ℕ) → d ≡ left ++ k ∷ [] → budget m d ≡ budget m left + 1
-unfolding budget
-popped_less m d left k is = rw is (omega (arith, length-append left (k ∷ [])))
-
 -- ---- handles one after another
 
 pub handle_went : (es : List Entry) (i : ℕ) (e : Entry) → i < length es → (m m2 m3 : Map Object) (d d2 d3 : List ℕ) → LetsGo (koids_of (take i es)) m d m2 d2
@@ -368,10 +364,6 @@ message_went (x ∷ q) q2 first es there rest handles m m2 m3 d d2 d3 front behi
     let is : es ≡ x.handles = handles ∙ ap (λ (y : Message). y.handles) (sym same) in
     let left : q2 ≡ q = rest in
     rw (flat_map-cons (λ (y : Message). koids_of y.handles) x q, ← is, ← left) (both_went (koids_of es) (named_in q2) m m2 m3 d d2 d3 front behind)
-
-pub first_shorter : (q q2 : List Message) (first : Message) → slice_get q 0 ≡ Some first → q2 ≡ drop 1 q → length q2 < length q
-first_shorter [] q2 first there rest = absurd (none-some first there)
-first_shorter (x ∷ q) q2 first there rest = let left : q2 ≡ q = rest in rw left (omega arith)
 
 -- an object without a queue
 pub no_queue : (b : Body) → ((peer : ℕ) (queue : List Message) → b ≡ body.ChannelEnd peer queue → ⊥) → queue_of b ≡ []

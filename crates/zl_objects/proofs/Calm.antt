@@ -188,30 +188,34 @@ pub record Keeps (f : Object → Object) : Type 0 where
   pub peer : (o : Object) → peer_of (f o).body ≡ peer_of o.body
 
 module _ (f : Object → Object) where
-  below_updated : (test : Body → Bool) → ((o : Object) → test (f o).body ≡ test o.body) → (m : Map Object) (k : ℕ)
+  below_updated : (test : Body → Bool) (m : Map Object) (k : ℕ) → ((o : Object) → get m k ≡ Some o → test (f o).body ≡ test o.body)
       → list_any (λ e. test e.1.body) (update m k f) ≡ list_any (λ e. test e.1.body) m
-  unfolding update
-  below_updated test same [] k = refl
-  below_updated test same (e ∷ m) k =
+  unfolding get update
+  below_updated test [] k same = refl
+  below_updated test (e ∷ m) k same =
       elim (cases_Bool (e.0 == k)) as (λ _. list_any (λ x. test x.1.body) (update (e ∷ m) k f) ≡ list_any (λ x. test x.1.body) (e ∷ m)) [
-        | inl here ↦ rw (here, same e.1) refl
-        | inr apart ↦ rw apart (ap (λ b. test e.1.body || b) (below_updated test same m k))
+        | inl here ↦ rw (here, same e.1 (rw here refl)) refl
+        | inr apart ↦ rw apart (ap (λ b. test e.1.body || b) (below_updated test m k (λ o at. same o (rw apart at))))
       ]
 
-  module _ (keeps : Keeps f) where
-    implied_updated : (m : Map Object) (k j : ℕ) (b : Body) → implied (update m k f) j b ≡ implied m j b
-    unfolding has_job_below has_process_below
-    implied_updated m k j (body.Job own) =
-        λ i. bit_or (signal_if TERMINATED own.killed)
-        (bit_or (signal_if NO_JOBS (not (below_updated (is_job_below j) (keeps.jobs j) m k i)))
-        (signal_if NO_PROCESSES (not (below_updated (is_process_below j) (keeps.processes j) m k i))))
-    implied_updated m k j (body.ChannelEnd peer queue) = rw (has_key-update m k f peer) refl
-    implied_updated m k j (body.PairEnd peer) = rw (has_key-update m k f peer) refl
-    implied_updated m k j _ = refl
+  -- the signals of an object stay, of which the one at k is as much a child
+  pub implied_updated : (m : Map Object) (k j : ℕ) (b : Body)
+      → ((o : Object) → get m k ≡ Some o → is_job_below j (f o).body ≡ is_job_below j o.body)
+      → ((o : Object) → get m k ≡ Some o → is_process_below j (f o).body ≡ is_process_below j o.body) → implied (update m k f) j b ≡ implied m j b
+  unfolding has_job_below has_process_below
+  implied_updated m k j (body.Job own) jobs processes =
+      λ i. bit_or (signal_if TERMINATED own.killed)
+      (bit_or (signal_if NO_JOBS (not (below_updated (is_job_below j) m k jobs i)))
+      (signal_if NO_PROCESSES (not (below_updated (is_process_below j) m k processes i))))
+  implied_updated m k j (body.ChannelEnd peer queue) jobs processes = rw (has_key-update m k f peer) refl
+  implied_updated m k j (body.PairEnd peer) jobs processes = rw (has_key-update m k f peer) refl
+  implied_updated m k j _ jobs processes = refl
 
+  module _ (keeps : Keeps f) where
     signals_updated : (m : Map Object) (k j : ℕ) (q : Option Object) → get (update m k f) j ≡ q → signals_at (update m k f) j ≡ signals_in m j q
     signals_updated m k j None is = rw is refl
-    signals_updated m k j (Some o) is = rw is (ap (bit_or o.signals.raised) (implied_updated m k j o.body))
+    signals_updated m k j (Some o) is = rw is (ap (bit_or o.signals.raised)
+        (implied_updated m k j o.body (λ x there. keeps.jobs j x) (λ x there. keeps.processes j x)))
 
     -- at other objects nothing comes to be due, and at this one by what f does
     pub updated_calm : (marked marked2 : ℕ → Bool) → ((j : ℕ) → IsTrue (marked j) → IsTrue (marked2 j)) → (m n : Map Object) (next k : ℕ)

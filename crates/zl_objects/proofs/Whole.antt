@@ -233,12 +233,6 @@ inserted_whole m n next room room2 d d2 o whole alone empty fresh same more into
     by_key k q (inl here) read = subst (λ (x : Object). HasPeer (put m next o) (next + 1) x.body) (same_Some o q (rw here at read)) (no_end o.body alone)
     by_key k q (inr apart) read = later_peer m next o q.body whole.below (whole.peers k q (rw apart at read))
 
-pub created_there : (m n : Map Object) (k : ℕ) (o : Object) → n ≡ insert_entry nat_cmp m k o → get n k ≡ Some o
-created_there m n k o into = rw (into, inserted m k o, get-put m k o k, same) refl
-  where
-    same : (k == k) ≡ true
-    same = eq-eqb k k refl
-
 -- ---- both ends of a channel or of an event pair more
 
 -- a new end of the pair that has this peer
@@ -364,11 +358,6 @@ unless_err (Err e) P h out = absurd (false≢true (sym out))
 pub if_err : {A B : Type 0} (r : Result A B) (P : Type 0) → OnErr r P → is_err r ≡ true → P
 if_err (Ok x) P h out = absurd (false≢true out)
 if_err (Err e) P h out = h
-
--- what holds holds of a fault
-pub kept_err : {A B : Type 0} (r : Result A B) (P : Type 0) → P → OnErr r P
-kept_err (Ok x) P h = tt
-kept_err (Err e) P h = h
 
 -- other room
 pub roomy_whole : (m n : Map Object) (next room room2 : ℕ) (d d2 : List ℕ) → IsWhole None m next d room → n ≡ m → d2 ≡ d → room ≤ room2

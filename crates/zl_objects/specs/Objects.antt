@@ -227,11 +227,6 @@ keeper_of (body.Job job) = if job.killed then None else Some job.parent
 keeper_of (body.Process job l) = if is_alive l then Some job else None
 keeper_of _ = None
 
--- the job of which the object that was found is a living child, if it is one
-abbrev pub keeper_in : Option Object → Option ℕ
-keeper_in None = None
-keeper_in (Some o) = keeper_of o.body
-
 -- it was found, and is k
 abbrev pub is_koid : ℕ → Option ℕ → Bool
 is_koid k None = false

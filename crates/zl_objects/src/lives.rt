@@ -1,6 +1,6 @@
 //! How processes start and end, and how jobs and processes are killed.
 
-ghost use Rattle.std.specs.Prelude.{[], ◌≡◌, IfSome};
+ghost use Rattle.std.specs.Prelude.{[], ◌≡◌, IfSome, Some};
 ghost use Rattle.zl_rights.specs.Map.{get};
 ghost use Rattle.zl_objects.specs.Jobs.{killing};
 ghost use Rattle.zl_objects.specs.Listed.{LeavesListed};
@@ -13,7 +13,7 @@ use crate::killing::kill_all;
 use crate::listing::keep_there;
 use crate::object::Object;
 use crate::objects::Objects;
-use crate::releasing::{remove_unkept, sweep};
+use crate::releasing::{mark_watched, remove_unkept, sweep};
 use std::collections::BTreeMap;
 use zl_rights::Koid;
 
@@ -29,7 +29,7 @@ impl Objects {
         ensures listed { LeavesListed self.old self.new }
     {
         if let Some(job) = job_of(&self.by_koid, pid) {
-            self.stop(pid);
+            self.stop(pid, job);
             let mut ended = remove_unkept(
                 &mut self.by_koid,
                 &mut self.children,
@@ -94,15 +94,17 @@ impl Objects {
         object.start();
     }
 
-    /// The process is over.
-    fn stop(&mut self, pid: Koid)
+    /// The process of the job is over.
+    fn stop(&mut self, pid: Koid, job: Koid)
+        requires { job_in (get self.old.objects pid) ≡ Some job }
         ensures { self.new ≡ stopping self.old pid }
     {
         let Some(object) = self.by_koid.get_mut(&pid) else {
             return;
         };
         object.stop();
-        self.marks.add_all();
+        mark_watched(&self.by_koid, &mut self.marks, Some(pid));
+        mark_watched(&self.by_koid, &mut self.marks, Some(job));
     }
 }
 

@@ -13,7 +13,8 @@ invariant_of-self-2 c =
       kept =
           stopped_kept c.self.inside.by_koid.entries (c.get_mut.follows.lender c.stop.new.self).entries c.self.inside.next_koid
           (vec_capacity c.self.inside.dying) c.args.pid c.self.inside.dying.items c.self.invariant.kept (search (rules, by_koid));
-      calm = stopped_calm c.add_all.ensures c.self.inside.by_koid.entries (c.get_mut.follows.lender c.stop.new.self).entries c.args.pid
-          (search (rules, by_koid)) c.self.invariant.calm;
+      calm = stopped_calm c.mark_watched.ensures.more c.mark_watched-2.ensures.more c.self.inside.by_koid.entries
+          (c.get_mut.follows.lender c.stop.new.self).entries c.args.pid c.args.job (search (rules, by_koid)) (rw (← c.self.view_is) at c.requires)
+          c.mark_watched.ensures.wanted c.mark_watched-2.ensures.wanted _ _ c.self.invariant.calm;
       indexed = updated_indexed stopped stopped_none (λ o. (stopped_same o.body).peer) c.args.pid c.self.invariant.indexed (search (rules, by_koid));
     }

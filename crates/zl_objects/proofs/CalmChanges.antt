@@ -1,7 +1,7 @@
 -- Nothing is due at an object that isn't marked, after each change of the objects.
-use Rattle.zl_rights.proofs.Common.{◌≡◌, ◌+◌, ◌==◌, ◌||◌, ◌&&◌, ℕ, Bool, true, false, not, List, [], ◌∷◌, refl, sym, ap, ◌∙◌, Option, Some}
-use Rattle.zl_rights.proofs.Common.{None, inl, inr, ◌⊎◌, cases_Bool, eqb-true, IsTrue, arith, eq-eqb, drop, filter, list_any, nat_lt, nat_cmp, false≢true}
-use Rattle.zl_rights.proofs.Common.{subst, if◌then◌else◌, is_empty, none-some, same_Some, option_map, Map, get, update, each, has_key}
+use Rattle.zl_rights.proofs.Common.{◌≡◌, ◌+◌, ◌==◌, ◌||◌, ◌&&◌, ℕ, Bool, true, false, not, List, [], ◌∷◌, refl, sym, ap, ◌∙◌, Some}
+use Rattle.zl_rights.proofs.Common.{inl, IsTrue, arith, eq-eqb, drop, filter, list_any, nat_lt, nat_cmp, false≢true}
+use Rattle.zl_rights.proofs.Common.{if◌then◌else◌, is_empty, same_Some, Map, get, update, has_key}
 use Rattle.std.specs.Prelude.{◌^◌, bit_or, Result, Ok, Err, OnOk, OnErr}
 use Rattle.std.specs.Map.{lookup, set_value}
 use Rattle.std.specs.BTreeMap.{is_at}
@@ -10,7 +10,7 @@ use Rattle.zl_rights.specs.declared.policy.Condition.{Condition}
 use Rattle.zl_rights.specs.Numbers.{READABLE, WRITABLE, PEER_CLOSED, TERMINATED}
 use Rattle.zl_rights.specs.Signals.{signal_if}
 use Rattle.zl_rights.specs.World.{Message, Packet}
-use Rattle.zl_rights.proofs.MapLaws.{get-each, get-update}
+use Rattle.zl_rights.proofs.MapLaws.{get-update}
 use Rattle.zl_signals.specs.declared.watch.Watch.{Watch}
 use Rattle.zl_signals.specs.Waits.{SignalState, without_first}
 use Rattle.zl_port.specs.Packets.{Port}
@@ -20,18 +20,17 @@ use Rattle.zl_objects.specs.declared.object.Body.TheVariants as body
 use Rattle.zl_objects.specs.declared.object.Life.{Life}
 use Rattle.zl_objects.specs.declared.object.Life.TheVariants as life
 use Rattle.zl_objects.specs.declared.object.Object.{Object}
-use Rattle.zl_objects.specs.Calm.{IsCalm, KeepsCalm, StayStill, has_packet, is_watched, is_watched_in}
-use Rattle.zl_objects.specs.Jobs.{all_killed, is_job_below, is_process_below, is_within, killed_if, with_policy_body, with_policy_set}
+use Rattle.zl_objects.specs.Calm.{IsCalm, StayStill, has_packet, is_watched, is_watched_in}
+use Rattle.zl_objects.specs.Jobs.{is_job_below, is_process_below, with_policy_body, with_policy_set}
 use Rattle.zl_objects.specs.Objects.{held_once_less, held_once_more, is_alive, raised_changed, received, received_body, sent, sent_body, started, started_body}
-use Rattle.zl_objects.specs.Objects.{job_in, job_of, peer_of, started_life, stopped, stopped_body}
+use Rattle.zl_objects.specs.Objects.{peer_of, started_life}
 use Rattle.zl_objects.specs.Ports.{at_port, changed_port, packets_of}
-use Rattle.zl_objects.specs.Signals.{implied, signals_at, signals_in}
+use Rattle.zl_objects.specs.Signals.{implied, signals_in}
 use Rattle.zl_objects.specs.Waits.{unwatched, waits_in, watched}
-use Rattle.zl_objects.proofs.Bodies.{Changed, changed}
 use Rattle.zl_objects.proofs.ByKoid.{looked_up, written, written_back}
 use Rattle.zl_objects.proofs.Calm.{IsFewer, Keeps, Stays, calm_followed, fewer_both, fewer_if, fewer_same, fewer_unmarked, stays_fewer}
 use Rattle.zl_objects.proofs.Calm.{stays_unwatched}
-use Rattle.zl_objects.proofs.Calm.{Follows, implied_updated, updated_calm}
+use Rattle.zl_objects.proofs.Calm.{updated_calm}
 use Rattle.zl_objects.proofs.Places.{first_out, seen_updated}
 use Rattle.zl_objects.proofs.Tasks.{policy_same, started_same}
 use Rattle.zl_objects.proofs.Whole.{more_quiet, more_same, received_same, same_peer, sent_same}
@@ -340,101 +339,3 @@ policy_calm c a m n k v w (Ok x) is other there set calm =
     quiet_calm (with_policy_set c a) (keeps_policy c a)
     (bodies_stay (with_policy_body c a) (policy_quiet c a)) m n k (written m n k (with_policy_set c a) v w there is set) calm
 policy_calm c a m n k v w (Err e) is other there set calm = rw (written_back m n k v w there other set) calm
-
--- ---- each object is marked
-
--- what is left was there before, and as much slept at
-abbrev WereThere : Map Object → Map Object → Type 0
-WereThere m m2 = (k : ℕ) (o2 : Object) → get m2 k ≡ Some o2 → (o : Object) × (get m k ≡ Some o) × (IsTrue o.slept → IsTrue o2.slept)
-
-all_calm : {marked marked2 : ℕ → Bool} {next : ℕ} {sleepers : List Sleeper} → ((k : ℕ) → IsTrue (marked2 k)) → (m m2 : Map Object) → WereThere m m2
-    → IsCalm marked m next sleepers → IsCalm marked2 m2 next sleepers
-all_calm {marked} {marked2} {next} {sleepers} all m m2 were =
-    calm_followed marked marked2 m m2 next next sleepers (omega arith) (λ k unmarked. absurd (false≢true (sym unmarked ∙ all k)))
-    (λ k o2 at. let was : (o : Object) × (get m k ≡ Some o) × (IsTrue o.slept → IsTrue o2.slept) = were k o2 at in
-    inl (record {
-      before = was.0;
-      there = was.1;
-      slept = was.2;
-      unmarked = λ unmarked. absurd (false≢true (sym unmarked ∙ all k));
-      still = λ unmarked. absurd (false≢true (sym unmarked ∙ all k));
-    }))
-
-module _ {marked marked2 : ℕ → Bool} {next : ℕ} {sleepers : List Sleeper} (all : (k : ℕ) → IsTrue (marked2 k)) (m m2 : Map Object) where
-  -- what the test passes was killed
-  killed_calm : (kills : ℕ → Bool) → m2 ≡ each (λ j. killed_if (kills j)) m → IsCalm marked m next sleepers → IsCalm marked2 m2 next sleepers
-  killed_calm kills is = rw is (all_calm all m (each (λ j. killed_if (kills j)) m) were)
-    where
-      by_object : (j : ℕ) (o2 : Object) (q : Option Object) → get m j ≡ q → option_map (killed_if (kills j)) q ≡ Some o2
-          → (o : Object) × (get m j ≡ Some o) × (IsTrue o.slept → IsTrue o2.slept)
-      by_object j o2 None is at = absurd (none-some o2 at)
-      by_object j o2 (Some o) is at = (
-        o,
-        is,
-        λ h. ap (λ (x : Object). x.slept) (sym (same_Some (killed_if (kills j) o) o2 at))
-            ∙ (elim (kills j) as (λ b. (killed_if b o).slept ≡ o.slept) [ true ↦ refl | false ↦ refl ] ∙ h),
-      )
-
-      were : WereThere m (each (λ j. killed_if (kills j)) m)
-      were j o2 at = by_object j o2 (get m j) refl (sym (get-each m (λ i. killed_if (kills i)) j) ∙ at)
-
-  -- a job was killed, and what stands below it
-  pub all_killed_calm : (task : ℕ) → m2 ≡ all_killed m task → IsCalm marked m next sleepers → IsCalm marked2 m2 next sleepers
-  unfolding all_killed
-  all_killed_calm task is = killed_calm (is_within m task) is
-
--- ---- a process ends
-
-stopped_jobs : (j : ℕ) (b : Body) → is_job_below j (stopped_body b) ≡ is_job_below j b
-stopped_jobs j (body.Process own l) = refl
-stopped_jobs j _ = refl
-
--- no other job has a process less
-stopped_processes : (job j : ℕ) → (job == j) ≡ false → (b : Body) → job_of b ≡ Some job → is_process_below j (stopped_body b) ≡ is_process_below j b
-stopped_processes job j apart (body.Process own l) of = rw (same_Some own job of, apart) refl
-stopped_processes job j apart _ of = refl
-
--- it is marked, and then its job, if something waits there
-module _ {marked marked2 marked3 : ℕ → Bool} (more : (j : ℕ) → IsTrue (marked j) → IsTrue (marked2 j))
-    (more2 : (j : ℕ) → IsTrue (marked2 j) → IsTrue (marked3 j)) (m n : Map Object) (k job : ℕ) (is : n ≡ update m k stopped)
-    (of : job_in (get m k) ≡ Some job) (own : IsTrue (is_watched_in (get n k)) → IsTrue (marked2 k))
-    (parent : IsTrue (is_watched_in (get n job)) → IsTrue (marked3 job)) where
-  stopped_follows : (j : ℕ) (o : Object) → get n j ≡ Some o → Changed stopped m k j o → Follows marked marked3 m n j o
-  stopped_follows j o at c = record {
-    before = c.before;
-    there = c.there;
-    slept = λ h. slept ∙ h;
-    unmarked = fewer_unmarked marked marked3 (λ i h. more2 i (more i h)) j;
-    still = λ unmarked. by_watched unmarked (cases_Bool (is_watched o)) (cases_Bool (k == j)) (cases_Bool (job == j));
-  }
-    where
-      slept : o.slept ≡ c.before.slept
-      slept =
-          ap (λ (x : Object). x.slept) c.is
-          ∙ elim (k == j) as (λ b. (if b then stopped c.before else c.before).slept ≡ c.before.slept) [ true ↦ refl | false ↦ refl ]
-
-      watched_at : (i : ℕ) → IsTrue (i == j) → IsTrue (is_watched o) → IsTrue (is_watched_in (get n i))
-      watched_at i here some = rw (eqb-true i j here, at) some
-
-      of_job : (x : Object) → get m k ≡ Some x → job_of x.body ≡ Some job
-      of_job x there = ap job_in (sym there) ∙ of
-
-      by_watched : marked3 j ≡ false → IsTrue (is_watched o) ⊎ (is_watched o ≡ false) → IsTrue (k == j) ⊎ ((k == j) ≡ false)
-          → IsTrue (job == j) ⊎ ((job == j) ≡ false)
-          → Stays (signals_at m j) (signals_at n j) (has_packet (get m j)) (has_packet (get n j)) c.before o
-      by_watched unmarked (inr none) this that = stays_unwatched _ _ _ _ c.before o (λ h. slept ∙ h) none
-      by_watched unmarked (inl some) (inl here) that =
-          absurd (false≢true (sym unmarked ∙ more2 j (subst (λ i. IsTrue (marked2 i)) (eqb-true k j here) (own (watched_at k here some)))))
-      by_watched unmarked (inl some) (inr apart) (inl here) =
-          absurd (false≢true (sym unmarked ∙ subst (λ i. IsTrue (marked3 i)) (eqb-true job j here) (parent (watched_at job here some))))
-      by_watched unmarked (inl some) (inr apart) (inr other) =
-          let same : o ≡ c.before = c.is ∙ rw apart refl in
-          let signals : signals_at n j ≡ signals_at m j =
-          rw (at, c.there, same, is) (ap (bit_or c.before.signals.raised) (implied_updated stopped m k j c.before.body
-          (λ x there. stopped_jobs j x.body) (λ x there. stopped_processes job j other x.body (of_job x there)))) in
-          stays_fewer _ _ _ _ c.before o (fewer_same _ _ signals) (λ h. ap (λ q. has_packet q) (at ∙ (ap (λ (x : Object). Some x) same ∙ sym c.there)) ∙ h)
-          (λ test h. ap (λ (x : Object). list_any test x.signals.waits) same ∙ h)
-
-  pub stopped_calm : KeepsCalm marked m marked3 n
-  stopped_calm next sleepers = calm_followed marked marked3 m n next next sleepers (omega arith) (fewer_unmarked marked marked3 (λ i h. more2 i (more i h)))
-      (λ j o at. inl (stopped_follows j o at (changed stopped m k j o (rw is at at))))

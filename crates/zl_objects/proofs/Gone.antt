@@ -1,5 +1,5 @@
 -- Nothing comes to be due at an object that isn't marked, where others have gone.
-use Rattle.zl_rights.proofs.Common.{◌≡◌, ◌==◌, ℕ, Bool, false, not, refl, sym, ap, ◌∙◌, subst, Option, Some, None, inl, inr, IfSome, IsTrue}
+use Rattle.zl_rights.proofs.Common.{◌≡◌, ◌==◌, ℕ, Bool, false, not, refl, sym, ap, ◌∙◌, Some, inl, inr, IfSome, IsTrue}
 use Rattle.zl_rights.proofs.Common.{arith, eqb-true, list_any, is_empty, cases_Bool, false≢true, same_Some, Map, get, has_key}
 use Rattle.zl_rights.proofs.Common.{without}
 use Rattle.std.specs.Prelude.{bit_or}
@@ -14,20 +14,16 @@ use Rattle.zl_objects.specs.Dying.{Thins}
 use Rattle.zl_objects.specs.Index.{IsIndexed}
 use Rattle.zl_objects.specs.declared.children.Children.{Children}
 use Rattle.zl_objects.specs.Jobs.{has_job_below, has_process_below, is_job_below, is_process_below}
-use Rattle.zl_objects.specs.Objects.{is_child, is_koid, keeper_of, peer_of}
+use Rattle.zl_objects.specs.Objects.{is_child, keeper_of, peer_of}
 use Rattle.zl_objects.specs.Ports.{packets_of, unreserved}
 use Rattle.zl_objects.specs.Signals.{implied, signals_at}
 use Rattle.zl_objects.specs.Waits.{AreSameButWaits, ending_waits}
 use Rattle.zl_objects.proofs.Bare.{IsAlike, alike, any_same, has_same, of_body}
 use Rattle.zl_objects.proofs.Bodies.{any_without_at, found_left}
+use Rattle.zl_objects.proofs.CalmEnds.{of_keeper}
 use Rattle.zl_objects.proofs.Calm.{Follows, Stays, calm_followed, fewer_same, fewer_unmarked, stays_fewer, stays_unwatched}
 use Rattle.zl_objects.proofs.Ending.{ending_bare, ending_gone, ending_thins}
 use Rattle.zl_objects.proofs.Index.{job_is_child, process_is_child}
-
--- what holds of the koid that was found
-of_keeper : (P : ℕ → Type 0) (q : Option ℕ) (j : ℕ) → IsTrue (is_koid j q) → IfSome q P → P j
-of_keeper P None j h holds = absurd (false≢true h)
-of_keeper P (Some i) j h holds = subst P (eqb-true i j h) holds
 
 module _ {children : Children} (m n : Map Object) (k : ℕ) (gone : Object) (indexed : IsIndexed children m) (there : get m k ≡ Some gone)
     (ended : n ≡ ending_waits k gone (without m k)) where

@@ -147,7 +147,7 @@ stopped_none j o = by_body o.body
     by_body (body.Process job l) h = absurd (false≢true h)
     by_body _ h = h
 
-killed_none : (kills : Bool) → MakesNone (killed_if kills)
+pub killed_none : (kills : Bool) → MakesNone (killed_if kills)
 killed_none false j o h = h
 killed_none true j o h = by_body o.body h
   where

@@ -3,6 +3,7 @@ pub mod Bodies
 pub mod Budget
 pub mod Calm
 pub mod CalmChanges
+pub mod CalmEnds
 pub mod CalmMade
 pub mod ByKoid
 pub mod Climbing

@@ -6,10 +6,13 @@ ghost use Rattle.std.specs.Ordering.{nat_cmp};
 ghost use Rattle.std.specs.Prelude.{◌≡◌, ◌<◌, ℕ, IsTrue};
 ghost use Rattle.zl_rights.specs.Map.{get, has_key, update};
 ghost use Rattle.zl_jobs.specs.Jobs.{MOST_LEVELS};
+ghost use Rattle.zl_objects.specs.Calm.{is_marked, KeepsCalm};
 ghost use Rattle.zl_objects.specs.Jobs.{all_killed, is_below, is_below_by, is_within, killed, killed_if, parent_at};
 ghost use Rattle.zl_objects.specs.Walks.{IsNext};
 
+use crate::marks::Marks;
 use crate::object::{Body, Object};
+use crate::releasing::mark_watched;
 use std::collections::BTreeMap;
 use std::ops::Bound;
 use zl_jobs::Job;
@@ -89,25 +92,36 @@ pub fn next_from(by_koid: &BTreeMap<Koid, Object>, from: Koid) -> Option<Koid>
 }
 
 /// The job or the process is killed, and all that stands below it. All koids lie below the end.
-pub fn kill_all(by_koid: &mut BTreeMap<Koid, Object>, task: Koid, end: Koid)
+pub fn kill_all(by_koid: &mut BTreeMap<Koid, Object>, marks: &mut Marks, task: Koid, end: Koid)
     requires below { (k : ℕ) → IsTrue (has_key by_koid.old.entries k) → k < end }
-    ensures { by_koid.new.entries ≡ all_killed by_koid.old.entries task }
+    ensures killed { by_koid.new.entries ≡ all_killed by_koid.old.entries task }
+    ensures calm { KeepsCalm (is_marked marks.old) by_koid.old.entries
+        (is_marked marks.new) by_koid.new.entries }
 {
     let mut from = 0;
     while let Some(koid) = next_from(by_koid, from) {
         let kills = is_within(by_koid, task, koid);
-        kill_if(by_koid, koid, kills);
+        kill_if(by_koid, marks, koid, kills);
         from = koid + 1;
     }
 }
 
-/// The job or the process is killed, if that is wanted.
+/// The job or the process is killed, if that is wanted. Signals come there, and at the job of which
+/// it was a living child.
 #[tactic(auto, using(crate::proofs::ByKoid::by_koid))]
-fn kill_if(by_koid: &mut BTreeMap<Koid, Object>, koid: Koid, kills: bool)
-    ensures { by_koid.new.entries ≡ update by_koid.old.entries koid (killed_if kills) }
+fn kill_if(by_koid: &mut BTreeMap<Koid, Object>, marks: &mut Marks, koid: Koid, kills: bool)
+    ensures killed { by_koid.new.entries ≡ update by_koid.old.entries koid (killed_if kills) }
+    ensures calm { KeepsCalm (is_marked marks.old) by_koid.old.entries
+        (is_marked marks.new) by_koid.new.entries }
 {
     let Some(object) = by_koid.get_mut(&koid) else {
         return;
     };
+    let keeper = object.body.keeper();
     object.kill_if(kills);
+    if !kills {
+        return;
+    }
+    mark_watched(by_koid, marks, Some(koid));
+    mark_watched(by_koid, marks, keeper);
 }

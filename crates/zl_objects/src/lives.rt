@@ -1,6 +1,6 @@
 //! How processes start and end, and how jobs and processes are killed.
 
-ghost use Rattle.std.specs.Prelude.{[], ◌≡◌, IfSome, Some};
+ghost use Rattle.std.specs.Prelude.{[], ◌≡◌, IfSome};
 ghost use Rattle.zl_rights.specs.Map.{get};
 ghost use Rattle.zl_objects.specs.Jobs.{killing};
 ghost use Rattle.zl_objects.specs.Listed.{LeavesListed};
@@ -29,7 +29,7 @@ impl Objects {
         ensures listed { LeavesListed self.old self.new }
     {
         if let Some(job) = job_of(&self.by_koid, pid) {
-            self.stop(pid, job);
+            self.stop(pid);
             let mut ended = remove_unkept(
                 &mut self.by_koid,
                 &mut self.children,
@@ -78,8 +78,7 @@ impl Objects {
     fn mark_killed(&mut self, task: Koid)
         ensures { self.new ≡ killing self.old task }
     {
-        kill_all(&mut self.by_koid, task, self.next_koid);
-        self.marks.add_all();
+        kill_all(&mut self.by_koid, &mut self.marks, task, self.next_koid);
     }
 
     /// The process is started, if it was made and not started yet.
@@ -94,17 +93,17 @@ impl Objects {
         object.start();
     }
 
-    /// The process of the job is over.
-    fn stop(&mut self, pid: Koid, job: Koid)
-        requires { job_in (get self.old.objects pid) ≡ Some job }
+    /// The process is over.
+    fn stop(&mut self, pid: Koid)
         ensures { self.new ≡ stopping self.old pid }
     {
         let Some(object) = self.by_koid.get_mut(&pid) else {
             return;
         };
+        let keeper = object.body.keeper();
         object.stop();
         mark_watched(&self.by_koid, &mut self.marks, Some(pid));
-        mark_watched(&self.by_koid, &mut self.marks, Some(job));
+        mark_watched(&self.by_koid, &mut self.marks, keeper);
     }
 }
 

@@ -207,6 +207,29 @@ fn where_a_process_ends_its_job_is_looked_at(rt: HostRuntime) -> Result<(), Fail
 }
 
 #[test]
+fn where_a_process_is_killed_others_stay_quiet(rt: HostRuntime) -> Result<(), Fail> {
+    let mut objects = Objects::new(rt.alloc())?;
+    let (event, process) = (new_event(&mut objects)?, new_process(&mut objects)?);
+    let port = new_port(&mut objects)?;
+    watch(&mut objects, event, port)?;
+    assert!(rt; look(&mut objects));
+    objects.kill(process);
+    assert!(rt; !objects.lives(process) && objects.is_quiet());
+    Ok(())
+}
+
+#[test]
+fn where_a_process_is_killed_its_job_is_looked_at(rt: HostRuntime) -> Result<(), Fail> {
+    let mut objects = Objects::new(rt.alloc())?;
+    let (process, port) = (new_process(&mut objects)?, new_port(&mut objects)?);
+    watch(&mut objects, Objects::ROOT_JOB, port)?;
+    assert!(rt; look(&mut objects));
+    objects.kill(process);
+    assert!(rt; !objects.is_quiet());
+    Ok(())
+}
+
+#[test]
 fn with_more_blocked_processes_than_have_room_all_is_looked_at(
     rt: HostRuntime,
 ) -> Result<(), Fail> {

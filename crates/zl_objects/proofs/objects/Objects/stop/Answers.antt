@@ -1,7 +1,7 @@
-use Rattle.std.proofs.Common.{rules, vec_capacity}
+use Rattle.std.proofs.Common.{refl, rules, vec_capacity}
 use Rattle.zl_objects.specs.Objects.{stopped}
 use Rattle.zl_objects.proofs.ByKoid.{by_koid}
-use Rattle.zl_objects.proofs.CalmChanges.{stopped_calm}
+use Rattle.zl_objects.proofs.CalmEnds.{ended_calm}
 use Rattle.zl_objects.proofs.Kept.{stopped_kept}
 use Rattle.zl_objects.proofs.Index.{stopped_none, updated_indexed}
 use Rattle.zl_objects.proofs.Whole.{stopped_same}
@@ -13,8 +13,8 @@ invariant_of-self-2 c =
       kept =
           stopped_kept c.self.inside.by_koid.entries (c.get_mut.follows.lender c.stop.new.self).entries c.self.inside.next_koid
           (vec_capacity c.self.inside.dying) c.args.pid c.self.inside.dying.items c.self.invariant.kept (search (rules, by_koid));
-      calm = stopped_calm c.mark_watched.ensures.more c.mark_watched-2.ensures.more c.self.inside.by_koid.entries
-          (c.get_mut.follows.lender c.stop.new.self).entries c.args.pid c.args.job (search (rules, by_koid)) (rw (← c.self.view_is) at c.requires)
-          c.mark_watched.ensures.wanted c.mark_watched-2.ensures.wanted _ _ c.self.invariant.calm;
+      calm = ended_calm stopped stopped_none (λ o. refl) c.mark_watched.ensures.more c.mark_watched-2.ensures.more c.self.inside.by_koid.entries
+          (c.get_mut.follows.lender c.stop.new.self).entries c.args.pid (search (rules, by_koid)) c.mark_watched.ensures.wanted c.in-Some.object.now
+          (search (rules, by_koid)) (rw c.keeper-keeper.ensures at c.mark_watched-2.ensures.wanted) _ _ c.self.invariant.calm;
       indexed = updated_indexed stopped stopped_none (λ o. (stopped_same o.body).peer) c.args.pid c.self.invariant.indexed (search (rules, by_koid));
     }

@@ -5,6 +5,7 @@ pub mod Consistent
 pub mod Blocked
 pub mod Blocking
 pub mod Waking
+pub mod Woke
 pub mod Acting
 pub mod Making
 pub mod Makes

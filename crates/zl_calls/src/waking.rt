@@ -15,6 +15,7 @@ ghost use Rattle.zl_objects.specs.Awaited.{KeepSleepers};
 ghost use Rattle.zl_calls.specs.Blocking.{FallsAsleep, awaited_by, tells_asleep, then_blocked};
 ghost use Rattle.zl_calls.specs.Consistent.{IsConsistent};
 ghost use Rattle.zl_calls.specs.Waking.{WakesOne, awake, awake_in, given_awake, seen_active, without_taken};
+ghost use Rattle.zl_calls.specs.Woke.{HaveLeft, and_one};
 ghost use Rattle.zl_rights.specs.World.{Process as ProcessValue};
 ghost use Rattle.zl_calls.specs.Calling.{world_in};
 ghost use Rattle.zl_calls.specs.World.{packet_registers, process_entry, signal_registers, state_value};
@@ -25,6 +26,19 @@ use bitflags::Flags;
 use zl_code::{Outcome, TraceItem};
 use zl_objects::{Awaited, Objects};
 use zl_rights::{Koid, Pid};
+
+/// Who woke behind a step.
+///
+/// Source: own profile.
+#[derive(Clone, Copy, PartialEq, Eq, Debug)]
+pub enum Woke {
+    /// No process.
+    Nobody,
+    /// This process alone.
+    One(Pid),
+    /// Several. No clause says whom, or how many.
+    More,
+}
 
 /// The process becomes the last of the blocked, if the item tells of a call that blocked.
 pub fn add_blocked(blocked: &mut Vec<Pid>, pid: Pid, item: &TraceItem)
@@ -73,9 +87,9 @@ fn awaited_by(processes: &Processes, pid: Pid) -> Option<Awaited>
 }
 
 /// Each blocked process in turn, the longest blocked first: where what it waits for is there, it
-/// gets its answer and leaves the list. It takes no memory.
+/// gets its answer and leaves the list. It tells who did, and takes no memory.
 #[inline(always)]
-pub fn wake(processes: &mut Processes, objects: &mut Objects, blocked: &mut Vec<Pid>)
+pub fn wake(processes: &mut Processes, objects: &mut Objects, blocked: &mut Vec<Pid>) -> Woke
     requires consistent { IsConsistent processes.old.list.items objects.old }
     requires list { AreBlocked processes.old.list.items blocked.old.items }
     ensures wakes { world_in processes.new objects.new blocked.new
@@ -85,14 +99,30 @@ pub fn wake(processes: &mut Processes, objects: &mut Objects, blocked: &mut Vec<
     ensures count { length processes.new.list.items ≡ length processes.old.list.items }
     ensures capacity { vec_capacity blocked.new ≡ vec_capacity blocked.old }
     ensures asleep { KeepSleepers objects.old objects.new }
+    ensures told { HaveLeft blocked.old.items result blocked.new.items }
 {
+    let mut woke = Woke::Nobody;
     let mut place = 0;
     while place < blocked.len() {
-        if wake_one(processes, objects, blocked[place]) {
+        let pid = blocked[place];
+        if wake_one(processes, objects, pid) {
             blocked.remove(place);
+            woke = and_one(woke, pid);
         } else {
             place += 1;
         }
+    }
+    woke
+}
+
+/// These, and one more.
+fn and_one(woke: Woke, pid: Pid) -> Woke
+    ensures { result ≡ and_one woke pid }
+{
+    match woke {
+        Woke::Nobody => Woke::One(pid),
+        Woke::One(_) => Woke::More,
+        Woke::More => Woke::More,
     }
 }
 

@@ -10,14 +10,15 @@ ghost use Rattle.zl_code.specs.Starting.{program_of};
 ghost use Rattle.zl_code.specs.Steps.{Runs};
 ghost use Rattle.zl_calls.specs.World.{call_for, state_in, is_ready_in};
 ghost use Rattle.zl_calls.specs.Makes.{IsReached};
-ghost use Rattle.zl_calls.specs.Steps.{Performs, StepsTo, TakesStep, local_item, takes_memory};
+ghost use Rattle.zl_calls.specs.Steps.{Performs, StepsTo, local_item, takes_memory};
 ghost use Rattle.zl_calls.specs.Turns.{Fits, IsTurn, advanced, steps_done};
+ghost use Rattle.zl_calls.specs.Woke.{StepsAndWakes};
 
 use crate::booting::{Made, booted};
 use crate::processes::Processes;
 use crate::stepping::{act_for, is_local, next_name};
 use crate::waits::{end_behind, fire_waits};
-use crate::waking::{add_blocked, fall_asleep, wake};
+use crate::waking::{Woke, add_blocked, fall_asleep, wake};
 use std::alloc::{AllocError, Global};
 use std::marker::Model;
 use zl_code::{Boot, BootCause, BootFault, CallName, Image, Outcome, ProcState, TraceItem};
@@ -192,14 +193,14 @@ impl World {
     /// is, as `perform` does, or a local one, as `local` does. Behind a call registered waits end with
     /// their handles, those that hold fire in the order of registration, and blocked processes wake in
     /// the order in which they blocked; behind a local instruction, and where nothing waits at an
-    /// object that the call touched, there are none.
+    /// object that the call touched, there are none. It tells the item of the step, and who woke.
     ///
     /// Nothing where the process isn't ready, or there is none of this koid.
     /// Source: that of `perform` and `local`.
     // A run along a schedule calls it for each turn.
     #[inline(always)]
-    pub fn step(&mut self, pid: Pid) -> Option<TraceItem>
-        ensures ran { IfSome result (TakesStep self.old pid self.new) }
+    pub fn step(&mut self, pid: Pid) -> Option<(TraceItem, Woke)>
+        ensures ran { IfSome result (λ did. StepsAndWakes self.old pid self.new did.0 did.1) }
         ensures not_ready { IfNone result (is_ready_in self.old pid ≡ false) }
         ensures unchanged { IfNone result (self.new ≡ self.old) }
     {
@@ -212,18 +213,18 @@ impl World {
             pid,
         )?;
         if is_local(&item) {
-            return Some(item);
+            return Some((item, Woke::Nobody));
         }
         add_blocked(&mut self.blocked, pid, &item);
         end_behind(&item, &self.processes, &mut self.objects);
         fall_asleep(&self.processes, &mut self.objects, pid, &item);
         if self.objects.is_quiet() {
-            return Some(item);
+            return Some((item, Woke::Nobody));
         }
         fire_waits(&self.processes, &mut self.objects);
-        wake(&mut self.processes, &mut self.objects, &mut self.blocked);
+        let woke = wake(&mut self.processes, &mut self.objects, &mut self.blocked);
         self.objects.calm();
-        Some(item)
+        Some((item, woke))
     }
 
     /// Does the system call at which the process is, with all that follows from it.
@@ -241,7 +242,7 @@ impl World {
         ensures no_memory { result ≡ Outcome.Answered Status.NoMemory
             → IfSome (call_for self.old pid) (λ call. IsTrue (takes_memory call)) }
     {
-        let Some(item) = self.step(pid) else {
+        let Some((item, _)) = self.step(pid) else {
             unreachable!()
         };
         match item {
@@ -260,7 +261,7 @@ impl World {
         requires no_call { call_for self.old pid ≡ None }
         ensures { StepsTo self.old (local_item pid result) self.new }
     {
-        let Some(item) = self.step(pid) else {
+        let Some((item, _)) = self.step(pid) else {
             unreachable!()
         };
         match item {

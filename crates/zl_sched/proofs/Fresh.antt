@@ -1,26 +1,25 @@
 -- A process that a step makes isn't ready after it.
-use Rattle.zl_sched.proofs.Common.{Body, CallBy, Entry, Object, Outcome, Packet, PortBody, Refused, Request, Settles, SignalOf, Site, TraceItem, Values}
-use Rattle.zl_sched.proofs.Common.{Wants, active, after_ok, after_refusal, created_process, effect, entering_at, fired, fold, get-each, get-put}
-use Rattle.zl_sched.proofs.Common.{get-update, insert_all, made_ready, meets, new_handles, on_object, on_process, option_map, process_create, process_settled}
-use Rattle.zl_sched.proofs.Common.{process_start, process_with, process_without, receiver_of, refusal, remove_all, replied, state_without, stored_by, storing}
-use Rattle.zl_sched.proofs.Common.{taken, taken_handles, task_kill, wakes, with_body, with_object, without_others, woken_at_port, woken_by, woken_by_first}
-use Rattle.zl_sched.proofs.Common.{woken_from, woken_if_there}
-use Rattle.zl_code.proofs.Common.{◌≡◌, ℕ, Bool, true, false, ◌==◌, List, [], ◌∷◌, refl, ap, sym, ◌∙◌, Option, Some, None, if◌then◌else◌, cases_Bool}
-use Rattle.zl_code.proofs.Common.{eqb-true, inl, inr, get, World, Process, State, Created, Ready, Blocked, Gone}
-use Rattle.zl_code.proofs.Common.{is_process, is_ready, state_passes}
-use Rattle.zl_code.proofs.Common.{PacketAt, Library}
+use Rattle.zl_sched.proofs.Common.{CallBy, Entry, Outcome, Refused, Request, Settles, Site, TraceItem, Values}
+use Rattle.zl_sched.proofs.Common.{Wants, after_ok, after_refusal, created_process, effect, entering_at, get-each, get-put}
+use Rattle.zl_sched.proofs.Common.{get-update, insert_all, new_handles, on_object, on_process, option_map, process_create}
+use Rattle.zl_sched.proofs.Common.{process_start, process_with, process_without, receiver_of, refusal, remove_all, replied, stored_by, storing}
+use Rattle.zl_sched.proofs.Common.{taken, taken_handles, task_kill, wakes, with_object}
+use Rattle.zl_code.proofs.Common.{◌≡◌, ℕ, Bool, true, false, ◌==◌, List, [], ◌∷◌, refl, ap, sym, ◌∙◌, Option, Some, None, if◌then◌else◌}
+use Rattle.zl_code.proofs.Common.{eqb-true, inl, inr, get, World, Process, State, Created, Gone}
+use Rattle.zl_code.proofs.Common.{is_blocked, is_process, is_ready, state_passes}
+use Rattle.zl_code.proofs.Common.{Library}
 use Rattle.zl_code.proofs.Common.{Choice, ok_outcome, object_at}
 use Rattle.zl_code.proofs.Common.{with_effect}
 use Rattle.zl_code.proofs.Common.{process_ended, ended, Next, Moves, AtCall, IsStuck, Acts, Step, next_for}
 use Rattle.zl_code.proofs.Common.{none-some, false≢true}
 use Rattle.zl_rights.specs.World.{Awaited}
-use Rattle.zl_rights.specs.Wakes.{woken}
 use Rattle.zl_rights.specs.declared.status.Status.TheVariants as status
 use Rattle.zl_code.specs.declared.history.Outcome.TheVariants as outcome
 use Rattle.zl_code.specs.CallTable.{awaited_by}
 use Rattle.zl_code.specs.Jobs.{is_within, process_killed, with_killed}
 use Rattle.zl_code.specs.Starting.{started_with}
 use Rattle.zl_code.specs.Effects.{waiting}
+use Rattle.zl_sched.proofs.StillReady.{AsOrWoken, settled_so, waking}
 
 -- made and not started, and perhaps dropped
 abbrev is_new : State → Bool
@@ -139,84 +138,34 @@ module _ (q : ℕ) where
 
   -- ---- settling and waking
 
-  fresh_settled : (u v : World) → Settles u v → IsFresh u → IsFresh v
-  unfolding without_others
-  fresh_settled u v (K, largest, is) fresh = rw (is, get-each u.processes (process_settled K) q) (by_process (get u.processes q) fresh)
-    where
-      by_state : (kept : Bool) (s : State) → is_new s ≡ true → is_new (state_without kept s) ≡ true
-      by_state true Created h = refl
-      by_state false Created h = refl
-      by_state kept Gone h = refl
-      by_state kept _ h = absurd (false≢true h)
-
-      by_process : (o : Option Process) → is_fresh o ≡ true → is_fresh (option_map (process_settled K q) o) ≡ true
-      by_process None h = refl
-      by_process (Some x) h = by_state (K q) x.state h
-
-  module _ (u : World) (p : ℕ) (y : Process) (there : get u.processes p ≡ Some y) (fresh : IsFresh u) where
-    fresh_readied : (v : World) (ds values : List ℕ) → v.processes ≡ u.processes → is_new y.state ≡ false → IsFresh (made_ready v p y ds values)
-    unfolding made_ready
-    fresh_readied v ds values same old = elim (cases_Bool (p == q)) as (λ _. IsFresh (made_ready v p y ds values)) [
-      | inl here ↦ absurd (false≢true (sym old ∙ (sym (ap is_fresh there) ∙ (ap (λ (k : ℕ). is_fresh (get u.processes k)) (eqb-true p q here) ∙ fresh))))
-      | inr apart ↦ rw (get-put v.processes p _ q, apart, same) fresh
-    ]
-
-    fresh_by_first : (k : ℕ) (ds : List ℕ) (o : Object) (packets : List Packet) → is_new y.state ≡ false → IsFresh (woken_by_first u p y k ds o packets)
-    fresh_by_first k ds o [] old = fresh
-    fresh_by_first k ds o (first ∷ rest) old = fresh_readied (with_body u k o (PortBody rest)) ds _ refl old
-
-    fresh_by_body : (k : ℕ) (ds : List ℕ) (o : Object) (b : Body) → is_new y.state ≡ false → IsFresh (woken_by u p y k ds o b)
-    fresh_by_body k ds o (PortBody packets) old = fresh_by_first k ds o packets old
-    fresh_by_body k ds o _ old = fresh
-
-    fresh_by_port : (k : ℕ) (ds : List ℕ) (o : Option Object) → is_new y.state ≡ false → IsFresh (woken_at_port u p y k ds o)
-    fresh_by_port k ds None old = fresh
-    fresh_by_port k ds (Some o) old = fresh_by_body k ds o o.body old
-
-    fresh_by_state : (s : State) → y.state ≡ s → IsFresh (woken_from u p y s)
-    fresh_by_state (Blocked (SignalOf k mask) ds) is =
-        elim (meets (active u k) mask) as (λ b. IsFresh (if b then made_ready u p y ds (0 ∷ active u k ∷ []) else u)) [
-          | true ↦ fresh_readied u ds _ refl (ap is_new is)
-          | false ↦ fresh
-        ]
-    fresh_by_state (Blocked (PacketAt k) ds) is = fresh_by_port k ds (get u.objects k) (ap is_new is)
-    fresh_by_state _ is = fresh
-
-  fresh_woken : (u : World) (p : ℕ) → IsFresh u → IsFresh (woken u p)
-  unfolding woken
-  fresh_woken u p fresh = by_process (get u.processes p) refl
-    where
-      by_process : (o : Option Process) → get u.processes p ≡ o → IsFresh (woken_if_there u p o)
-      by_process None at = fresh
-      by_process (Some y) at = fresh_by_state u p y at fresh y.state refl
-
-  fresh_turns : (u : World) (ps : List ℕ) → IsFresh u → IsFresh (fold woken u ps)
-  fresh_turns u [] fresh = fresh
-  fresh_turns u (p ∷ ps) fresh = fresh_turns (woken u p) ps (fresh_woken u p fresh)
-
-  fresh_wakes : (u : World) → IsFresh u → IsFresh (wakes u)
-  unfolding wakes fired
-  fresh_wakes u fresh = fresh_turns (fired u) u.blocked fresh
-
-  not_ready : (u : World) → IsFresh u → is_process u is_ready q ≡ false
+  fails : (test : State → Bool) → test Created ≡ false → test Gone ≡ false → (u : World) → IsFresh u → is_process u test q ≡ false
   unfolding is_process
-  not_ready u fresh = by_process (get u.processes q) fresh
+  fails test made gone u fresh = by_process (get u.processes q) fresh
     where
-      by_state : (s : State) → is_new s ≡ true → is_ready s ≡ false
-      by_state Ready h = absurd (false≢true h)
-      by_state _ h = refl
+      by_state : (s : State) → is_new s ≡ true → test s ≡ false
+      by_state Created h = made
+      by_state Gone h = gone
+      by_state _ h = absurd (false≢true h)
 
-      by_process : (o : Option Process) → is_fresh o ≡ true → state_passes is_ready o ≡ false
+      by_process : (o : Option Process) → is_fresh o ≡ true → state_passes test o ≡ false
       by_process None h = refl
       by_process (Some x) h = by_state x.state h
+
+  fresh_ends : (acted settled : World) → Settles acted settled → IsFresh acted → is_process (wakes settled) is_ready q ≡ false
+  fresh_ends acted settled settles fresh = by_turns (waking q settled)
+    where
+      by_turns : AsOrWoken q settled (wakes settled) → is_process (wakes settled) is_ready q ≡ false
+      by_turns (inl same) = same is_ready ∙ (settled_so q acted settled settles is_ready refl refl ∙ fails is_ready refl refl acted fresh)
+      by_turns (inr (was, is)) =
+          absurd (false≢true (sym (settled_so q acted settled settles is_blocked refl refl ∙ fails is_blocked refl refl acted fresh) ∙ was))
 
 -- who wasn't made before a step isn't ready after it
 pub made_not_ready : (lib : Library) (w : World) (p : ℕ) (x : TraceItem) (after : World) → Step lib w p x after → (q : ℕ) → get w.processes q ≡ None
     → is_process after is_ready q ≡ false
 made_not_ready lib w p x after step q free =
     let apart : (p == q) ≡ false = apart_from (p == q) refl in
-    not_ready q after (rw step.ends_awake (fresh_wakes q step.settled
-    (fresh_settled q step.acted step.settled step.settles (fresh_acted q lib w p apart free (next_for lib step.process) x step.acted step.acts))))
+    rw step.ends_awake
+    (fresh_ends q step.acted step.settled step.settles (fresh_acted q lib w p apart free (next_for lib step.process) x step.acted step.acts))
   where
     apart_from : (b : Bool) → (p == q) ≡ b → (p == q) ≡ false
     apart_from false e = e

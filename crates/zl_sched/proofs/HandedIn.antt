@@ -1,21 +1,24 @@
 -- What is handed in is a legal history more, and the list with its marks behind it is that of the definitions and has room.
-use Rattle.zl_sched.proofs.Common.{Bool, Done, GoesFrom, HasRoom, IsAwaited, IsLegalHistory, IsSound, IsTrue, IsWhole, List, Listed, Machine, None, State}
-use Rattle.zl_sched.proofs.Common.{System, TraceItem, [], ap, arith, false, get, if◌then◌else◌, is_in, is_process, is_ready, leaves_ready, length}
-use Rattle.zl_sched.proofs.Common.{length-append, list_all, none_filtered, others_of, pid_of, put_back, queued_after, refl, requeued, run_items, run_sound}
-use Rattle.zl_sched.proofs.Common.{step_sound, subst, sym, true, unmarked, ℕ, ◌&&◌, ◌++◌, ◌+◌, ◌∙◌, ◌∷◌, ◌≡◌, ◌≤◌}
-use Rattle.std.specs.Prelude.{not, ◌==◌}
-use Rattle.std.specs.List.{filter}
+use Rattle.zl_sched.proofs.Common.{Bool, Done, GoesFrom, HasRoom, IsAwaited, IsLegalHistory, IsSound, IsWhole, List, Listed, Machine, None, State}
+use Rattle.zl_sched.proofs.Common.{System, TraceItem, [], ap, arith, false, get, if◌then◌else◌, is_in, is_process, is_ready, length}
+use Rattle.zl_sched.proofs.Common.{length-append, others_of, pid_of, put_back, queued_after, refl, requeued, run_items, run_sound}
+use Rattle.zl_sched.proofs.Common.{step_sound, subst, sym, true, unmarked, ℕ, ◌++◌, ◌+◌, ◌∙◌, ◌∷◌, ◌≡◌, ◌≤◌}
+use Rattle.std.specs.Prelude.{◌==◌}
 use Rattle.zl_code.specs.declared.history.TraceItem.TheVariants as item
 use Rattle.zl_code.proofs.Common.{lives}
 use Rattle.zl_calls.specs.Turns.{advanced}
-use Rattle.zl_sched.specs.HandIn.{Accepts, Ends, LeavesAll, is_more}
-use Rattle.zl_sched.proofs.StillReady.{ready_as_before}
+use Rattle.zl_sched.specs.HandIn.{Accepts, Changes, Ends, is_more}
+use Rattle.zl_sched.specs.Queueing.{IsTold, change_of}
+use Rattle.zl_sched.specs.Ready.{times}
+use Rattle.zl_sched.specs.declared.change.Change.{Change}
+use Rattle.zl_sched.specs.declared.change.Change.TheVariants as change
+use Rattle.zl_sched.proofs.StillReady.{IsChanged, changed, changed_from, unchanged}
 use Rattle.zl_sched.proofs.Fresh.{made_not_ready}
 use Rattle.zl_sched.proofs.Legal.{history_then, nothing_legal, run_legal, step_legal}
 use Rattle.zl_sched.proofs.MarksKept.{state_kept, place_still}
 use Rattle.zl_sched.proofs.MarksMoved.{OthersStay, others_left, step_stays, local_stays, stays_then, before, after_listed, after_room, not_listed, takes_listed}
 use Rattle.zl_sched.proofs.MarksMoved.{forgets_listed, puts_back_listed}
-use Rattle.zl_sched.proofs.Queued.{Before, moved_is, requeued_is}
+use Rattle.zl_sched.proofs.Queued.{Before, requeued_is, told}
 
 -- ---- the list and the marks alone change
 
@@ -67,18 +70,13 @@ ends_length : (more : Bool) (m : Machine) (p : ℕ) (last : List TraceItem) (m2 
 ends_length true m p last m2 (none, same) = ap length none
 ends_length false m p last m2 (x, is, taken) = ap length is
 
-ends_same : (more : Bool) (m : Machine) (p : ℕ) (last : List TraceItem) (m2 : Machine) → IsSound m.world → Ends more m p last m2 → LeavesAll m last m2 → (k : ℕ)
-    → is_process m2.world is_ready k ≡ is_process m.world is_ready k
-ends_same true m p last m2 sound (none, same) leaves k = ap (λ (x : Machine). is_process x.world is_ready k) same
-ends_same false m p last m2 sound (x, is, taken) leaves k =
-    ready_as_before m.programs m.world (pid_of x) x m2.world sound taken.steps.step (first_of is leaves.0) leaves.1 k
-  where
-    first_of : last ≡ x ∷ [] → IsTrue (list_all leaves_ready last) → leaves_ready x ≡ true
-    first_of is all = alone (leaves_ready x) (rw is at all)
-      where
-        alone : (b : Bool) → IsTrue (b && true) → b ≡ true
-        alone true e = refl
-        alone false e = e
+ends_changed : (more : Bool) (m : Machine) (p : ℕ) (last : List TraceItem) (m2 : Machine) (ends : Ends more m p last m2) (c : Change) → IsSound m.world
+    → is_process m.world is_ready p ≡ true → Changes more m p last m2 ends c → IsChanged m.world p m2.world c
+ends_changed true m p last m2 (none, same) c sound ready is =
+    rw is (subst (λ (x : Machine). IsChanged m.world p x.world change.Nobody) (sym same) (unchanged m.world p ready))
+ends_changed false m p last m2 (x, is, taken) c sound ready (who, left, told) =
+    rw told (subst (λ (k : ℕ). IsChanged m.world k m2.world (change_of x who)) taken.pid_is
+    (changed m.programs m.world (pid_of x) x m2.world sound taken.steps.step who left))
 
 run_length : (p n : ℕ) → length (run_items p n) ≡ (if n == 0 then 0 else 1)
 run_length p n = by (n == 0)
@@ -90,8 +88,8 @@ run_length p n = by (n == 0)
 -- ---- a process that is out did something
 
 -- it stands here with the first Cpu, and is ready
-module _ (s : System) (whole : IsWhole s) (d : Done) (awaited : IsAwaited s d) (same : Bool) (m2 : Machine) (items2 : List TraceItem)
-    (goes : GoesFrom s.machine s.items d same m2 items2) where
+module _ (s : System) (whole : IsWhole s) (d : Done) (awaited : IsAwaited s d) (c : Change) (m2 : Machine) (items2 : List TraceItem)
+    (goes : GoesFrom s.machine s.items d c m2 items2) where
   abbrev mid : Machine
   mid = advanced s.machine d
 
@@ -136,15 +134,13 @@ module _ (s : System) (whole : IsWhole s) (d : Done) (awaited : IsAwaited s d) (
   pub requeued_room : length (requeued m2.world d.pid left s.ready) ≤ length s.machine.world.processes
   requeued_room = subst (λ (ys : List ℕ). length ys ≤ length s.machine.world.processes) (sym requeued_so) (omega (arith, accepted_room))
 
-  -- where all are as ready as before, it goes last
-  pub goes_last : same ≡ true → requeued m2.world d.pid left s.ready ≡ s.ready ++ (d.pid ∷ [])
-  goes_last is =
-      let as_ready : (k : ℕ)
-      → is_process m2.world is_ready k ≡ is_process s.machine.world is_ready k = λ k. ends_same (is_more d.stop) mid d.pid goes.last m2 mid_sound goes.ends
-      (goes.leaves is) k ∙ keeps is_ready k in
-      let apart : filter (λ q. not (q == d.pid)) s.ready ≡ s.ready = none_filtered d.pid s.ready
-      (not_listed s.machine.world s.ready s.out whole.listed d.pid awaited.out awaited.ready) in
-      requeued_so ∙ (sym (moved_is s.machine.world m2.world d.pid s.ready left so as_ready) ∙ ap (λ (ys : List ℕ). ys ++ (d.pid ∷ [])) apart)
+  pub absent : times d.pid s.ready ≡ 0
+  absent = not_listed s.machine.world s.ready s.out whole.listed d.pid awaited.out awaited.ready
+
+  pub goes_told : IsTold m2.world d.pid left s.ready c
+  goes_told = told s.machine.world m2.world d.pid s.ready left so after_sound c
+      (changed_from mid.world s.machine.world d.pid m2.world c (λ k apart. keeps is_ready k)
+      (ends_changed (is_more d.stop) mid d.pid goes.last m2 goes.ends c mid_sound (keeps is_ready d.pid ∙ awaited.ready) goes.changes))
 
   pub accepted_whole : HasRoom s d → (ready2 : List ℕ) → ready2 ≡ requeued m2.world d.pid left s.ready
       → IsWhole (record s { machine = m2; items = items2; ready = ready2; out = left })

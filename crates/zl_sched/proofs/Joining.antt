@@ -1,7 +1,7 @@
 -- Processes that come to a list one after another, where they pass a test.
-use Rattle.zl_sched.proofs.Common.{Bool, List, Some, [], ap, append-nil, append_assoc, arith, false, is_process, is_ready, itself_ready, length}
-use Rattle.zl_sched.proofs.Common.{length-append, one_if, refl, requeued, slice_get, still_ready, subst, sym, take, take-append_seam, true, ℕ, ◌++◌, ◌+◌, ◌<◌}
-use Rattle.zl_sched.proofs.Common.{◌∙◌, ◌∷◌, ◌≡◌, ◌≤◌}
+use Rattle.zl_sched.proofs.Common.{Bool, List, Some, ap, append_assoc, arith, is_process, is_ready, itself_ready, length}
+use Rattle.zl_sched.proofs.Common.{length-append, one_if, refl, requeued, slice_get, still_ready, subst, sym, take, take-append_seam, ℕ, ◌++◌, ◌+◌}
+use Rattle.zl_sched.proofs.Common.{◌∙◌, ◌≡◌, ◌≤◌}
 use Rattle.std.specs.List.{filter}
 use Rattle.zl_code.proofs.Common.{World}
 use Rattle.zl_sched.specs.Queueing.{joining}
@@ -29,11 +29,6 @@ module _ (f : ℕ → Bool) (a xs : List ℕ) (n x : ℕ) (items : List ℕ) (so
 pub front_fits : (xs ys zs : List ℕ) (places : ℕ) → length (xs ++ (ys ++ zs)) ≤ places → length (xs ++ ys) ≤ places
 front_fits xs ys zs places room = omega (arith, room, length-append xs (ys ++ zs), length-append ys zs, length-append xs ys)
 
-pub last_fits : (xs ys : List ℕ) (p places : ℕ) → length (xs ++ (ys ++ (p ∷ []))) ≤ places → length (xs ++ ys) < places
-last_fits xs ys p places room =
-    let one : length (p ∷ []) ≡ 1 = refl in
-    omega (arith, room, one, length-append xs (ys ++ (p ∷ [])), length-append ys (p ∷ []), length-append xs ys)
-
 -- ---- the list after a step, of which some were kept and others joined them
 
 module _ (w : World) (p : ℕ) (out list kept joined : List ℕ) (is_kept : kept ≡ still_ready w p list) (is_joined : joined ≡ kept ++ joining w p out kept) where
@@ -45,16 +40,9 @@ module _ (w : World) (p : ℕ) (out list kept joined : List ℕ) (is_kept : kept
       subst (λ (ys : List ℕ). length ys ≤ places) (sym joined_is ∙ is_joined)
       (front_fits (still_ready w p list) (joining w p out (still_ready w p list)) (itself_ready w p) places room)
 
-  pub push_fits : (places : ℕ) → length (requeued w p out list) ≤ places → is_process w is_ready p ≡ true → length joined < places
-  push_fits places room ready =
-      subst (λ (ys : List ℕ). length ys < places) (sym joined_is) (last_fits (still_ready w p list) (joining w p out (still_ready w p list)) p places
-      (subst (λ (ys : List ℕ). length (still_ready w p list ++ (joining w p out (still_ready w p list) ++ ys)) ≤ places) itself room))
-    where
-      itself : itself_ready w p ≡ p ∷ []
-      itself = rw ready refl
+  pub requeued_all : (b : Bool) → b ≡ is_process w is_ready p → joined ++ one_if b p ≡ requeued w p out list
+  requeued_all b is = rw (joined_is, is) (append_assoc (still_ready w p list) (joining w p out (still_ready w p list)) (itself_ready w p))
 
-  pub requeued_with : is_process w is_ready p ≡ true → joined ++ (p ∷ []) ≡ requeued w p out list
-  requeued_with ready = rw (joined_is, ready) (append_assoc (still_ready w p list) (joining w p out (still_ready w p list)) (p ∷ []))
-
-  pub requeued_without : is_process w is_ready p ≡ false → joined ≡ requeued w p out list
-  requeued_without busy = rw (joined_is, busy) (ap (λ (ys : List ℕ). still_ready w p list ++ ys) (sym (append-nil (joining w p out (still_ready w p list)))))
+  pub push_fits : (places : ℕ) → length (requeued w p out list) ≤ places → (b : Bool) → b ≡ is_process w is_ready p
+      → length joined + length (one_if b p) ≤ places
+  push_fits places room b is = omega (arith, room, length-append joined (one_if b p), ap length (requeued_all b is))

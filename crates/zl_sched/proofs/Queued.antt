@@ -1,18 +1,82 @@
 -- The ready list after a step: the code's is that of the definitions, holds each ready process that isn't out once, and has room.
 use Rattle.zl_sched.proofs.Common.{Bool, IsSound, IsTrue, List, None, Option, Some, [], ap, append-nil, arith, cases_Bool, drop, false, filter-append, get}
 use Rattle.zl_sched.proofs.Common.{get_or, if◌then◌else◌, inl, inr, is_in, is_process, is_ready, itself_ready, joins, length, length-append}
-use Rattle.zl_sched.proofs.Common.{length-filter_both, list_any, none_filtered, one_if, pids_of, queued_after, refl, requeued, slice_get, state_passes}
-use Rattle.zl_sched.proofs.Common.{still_ready, subst, sym, take, take-append-drop, take_more, true, ℕ, ◌&&◌, ◌++◌, ◌+◌, ◌-◌, ◌<◌, ◌∙◌, ◌∷◌, ◌≡◌, ◌≤◌}
+use Rattle.zl_sched.proofs.Common.{length-filter_both, list_any, none_filtered, one_if, pids_of, queued_after, refl, replicate, requeued, slice_get}
+use Rattle.zl_sched.proofs.Common.{state_passes}
+use Rattle.zl_sched.proofs.Common.{still_ready, subst, suc, sym, take, take-append-drop, take_more, true, ℕ, ◌&&◌, ◌++◌, ◌+◌, ◌-◌, ◌<◌, ◌∙◌, ◌∷◌, ◌≡◌, ◌≤◌}
 use Rattle.std.specs.Prelude.{not, ◌==◌, nat_lt}
-use Rattle.std.specs.List.{filter}
+use Rattle.std.specs.List.{filter, position, position_or_len}
 use Rattle.std.proofs.lemmas.List.{take_all}
 use Rattle.zl_rights.proofs.Common.{nat_tests, false≢true}
 use Rattle.std.proofs.lemmas.Map.Views.{any-filter_same}
-use Rattle.zl_code.proofs.Common.{World, Process, is_some, has_key, eq-eqb, eqb-true}
+use Rattle.zl_code.proofs.Common.{World, Process, is_some, has_key, eq-eqb, eqb-true, none-some}
 use Rattle.zl_sched.specs.Ready.{ready_by_koid, times, became_ready}
+use Rattle.zl_sched.specs.Queueing.{IsTold, woken_but}
+use Rattle.zl_sched.specs.declared.change.Change.{Change}
+use Rattle.zl_sched.specs.declared.change.Change.TheVariants as change
+use Rattle.zl_sched.proofs.StillReady.{IsChanged, OthersReady}
 use Rattle.std.proofs.lemmas.Option.{slice_get_within, get_or_from_slice_get}
 use Rattle.zl_sched.proofs.Counted.{times-filter, times-append, any_counted, key_once, no_longer}
 use Rattle.zl_sched.proofs.Marked.{AreBut, no_mark, other_way}
+
+-- ---- filters
+
+and_false : (b : Bool) → (b && false) ≡ false
+and_false true = refl
+and_false false = refl
+
+none_passes : (xs : List ℕ) → filter (λ k. false) xs ≡ []
+none_passes [] = refl
+none_passes (x ∷ xs) = none_passes xs
+
+one_passes : (q : ℕ) (xs : List ℕ) → times q xs ≡ 1 → filter (λ k. k == q) xs ≡ q ∷ []
+one_passes q xs once = all_alike xs ∙ ap (λ (n : ℕ). replicate n q) once
+  where
+    by_test : (x : ℕ) (ys : List ℕ) (b : Bool) → (x == q) ≡ b → ys ≡ replicate (length ys) q
+        → (if b then x ∷ ys else ys) ≡ replicate (length (if b then x ∷ ys else ys)) q
+    by_test x ys true here e = (λ i. eqb-true x q here i ∷ e i)
+    by_test x ys false here e = e
+
+    all_alike : (ys : List ℕ) → filter (λ k. k == q) ys ≡ replicate (times q ys) q
+    all_alike [] = refl
+    all_alike (x ∷ ys) = by_test x (filter (λ k. k == q) ys) (x == q) refl (all_alike ys)
+
+-- tests that agree on what stands in the list
+alike : (f g : ℕ → Bool) (xs : List ℕ) → ((k : ℕ) → 0 < times k xs → f k ≡ g k) → filter f xs ≡ filter g xs
+alike f g [] same = refl
+alike f g (x ∷ xs) same = rw (same x at_front) (by_test (g x) (alike f g xs (λ k some. same k (further k some (x == k)))))
+  where
+    at_front : 0 < times x (x ∷ xs)
+    at_front = rw (eq-eqb x x refl) (omega arith)
+
+    further : (k : ℕ) → 0 < times k xs → (c : Bool) → 0 < length (if c then x ∷ filter (λ q. q == k) xs else filter (λ q. q == k) xs)
+    further k some true = omega arith
+    further k some false = some
+
+    by_test : (c : Bool) → filter f xs ≡ filter g xs → (if c then x ∷ filter f xs else filter f xs) ≡ (if c then x ∷ filter g xs else filter g xs)
+    by_test true e = ap (λ (ys : List ℕ). x ∷ ys) e
+    by_test false e = e
+
+-- where the process isn't found, it doesn't stand
+pub not_found : (p : ℕ) (xs : List ℕ) → position (λ q. q == p) xs ≡ None → times p xs ≡ 0
+not_found p xs none = by_length (nat_lt (position_or_len (λ q. q == p) xs) (length xs)) refl none
+  where
+    past : (ys : List ℕ) → length ys ≤ position_or_len (λ q. q == p) ys → times p ys ≡ 0
+    past [] all = refl
+    past (y ∷ ys) all = by_test (y == p) all (past ys)
+      where
+        by_test : (b : Bool) → suc (length ys) ≤ (if not b then 1 + position_or_len (λ q. q == p) ys else 0)
+            → (length ys ≤ position_or_len (λ q. q == p) ys → times p ys ≡ 0)
+            → ◌≡◌ {A = ℕ} (length (if b then y ∷ filter (λ q. q == p) ys else filter (λ q. q == p) ys)) 0
+        by_test true all rest = absurd (omega (arith, all))
+        by_test false all rest = rest (omega (arith, all))
+
+    by_length : (b : Bool) → nat_lt (position_or_len (λ q. q == p) xs) (length xs) ≡ b
+        → (if b then Some (position_or_len (λ q. q == p) xs) else None) ≡ None → times p xs ≡ 0
+    by_length true is none = absurd (none-some _ (sym none))
+    by_length false is none = past xs (grind (arith, nat_tests, is))
+
+-- ---- who is ready
 
 -- who passes is there
 ready_key : (w : World) (k : ℕ) → is_process w is_ready k ≡ true → IsTrue (has_key w.processes k)
@@ -151,58 +215,62 @@ module _ (w after : World) (p : ℕ) (list out : List ℕ) (b : Before w after p
       at_most k (Some x) e = omega
           (arith, by_mark k (is_process after is_ready k) (is_in k out) refl refl, one_each (is_process after is_ready k) (is_in k out))
 
-  -- ---- where all are as ready as before
+  -- ---- where the others are as ready as before, but for who woke
 
-  module _ (same : (k : ℕ) → is_process after is_ready k ≡ is_process w is_ready k) where
-    stays : (xs : List ℕ) → ((k : ℕ) → 0 < times k xs → is_process w is_ready k ≡ true)
-        → filter (λ q. is_process w is_ready q && not (q == p)) xs ≡ filter (λ q. not (q == p)) xs
-    stays [] all = refl
-    stays (x ∷ xs) all =
-        let first : is_process w is_ready x ≡ true = all x (at_front x) in
-        rw first (by_test (not (x == p)) (stays xs (λ k some. all k (further k some (x == k) refl))))
-      where
-        at_front : (x : ℕ) → 0 < times x (x ∷ xs)
-        at_front x = rw (eq-eqb x x refl) (omega arith)
+  ready_itself : (k : ℕ) → (k == p) ≡ true → is_process w is_ready k ≡ true
+  ready_itself k here = ap (λ (j : ℕ). is_process w is_ready j) (eqb-true k p here) ∙ b.ready
 
-        further : (k : ℕ) → 0 < times k xs → (c : Bool) → (x == k) ≡ c → 0 < times k (x ∷ xs)
-        further k some true e = rw e (omega arith)
-        further k some false e = rw e some
+  in_list : (k : ℕ) → (k == p) ≡ false → 0 < times k list → is_process w is_ready k ≡ true
+  in_list k apart some = by_test (is_process w is_ready k) (not (is_in k out)) (subst (λ (n : ℕ). 0 < n) (b.others k apart) some)
+    where
+      by_test : (c d : Bool) → 0 < (if c && d then 1 else 0) → c ≡ true
+      by_test true d h = refl
+      by_test false d h = absurd (omega (arith, h))
 
-        by_test : (c : Bool) → filter (λ q. is_process w is_ready q && not (q == p)) xs ≡ filter (λ q. not (q == p)) xs
-            → (if c then x ∷ filter (λ q. is_process w is_ready q && not (q == p)) xs else filter
-            (λ q. is_process w is_ready q && not (q == p)) xs) ≡ (if c then x ∷ filter (λ q. not (q == p)) xs else filter (λ q. not (q == p)) xs)
-        by_test true e = ap (λ (ys : List ℕ). x ∷ ys) e
-        by_test false e = e
+  still : (who : Option ℕ) → OthersReady w p after who → still_ready after p list ≡ filter (λ q. not (q == p)) list
+  still who o = alike (λ q. is_process after is_ready q && not (q == p)) (λ q. not (q == p)) list by_place
+    where
+      by_place : (k : ℕ) → 0 < times k list → (is_process after is_ready k && not (k == p)) ≡ not (k == p)
+      by_place k some = elim (cases_Bool (k == p)) as (λ _. (is_process after is_ready k && not (k == p)) ≡ not (k == p)) [
+        | inl here ↦ rw here (and_false (is_process after is_ready k))
+        | inr apart ↦ rw (apart, o.stay k apart (in_list k apart some)) refl
+      ]
 
-    none_joins : (xs : List ℕ) → filter (λ q. is_process w is_ready q && not (is_process w is_ready q)) xs ≡ []
-    none_joins [] = refl
-    none_joins (x ∷ xs) = elim (cases_Bool (is_process w is_ready x)) as (λ _. filter (λ q. is_process w is_ready q && not (is_process w is_ready q))
-        (x ∷ xs) ≡ []) [
-          | inl now ↦ rw now (none_joins xs)
-          | inr not_now ↦ rw not_now (none_joins xs)
-        ]
+  -- who comes, if the others that come are just those that pass
+  comes_by : (f : ℕ → Bool) → f p ≡ false → ((k : ℕ) → (k == p) ≡ false → (is_process after is_ready k && not (is_process w is_ready k)) ≡ f k)
+      → became_ready w after ≡ filter f (pids_of after)
+  comes_by f itself others = λ i. filter (λ k. by_place k i) (pids_of after)
+    where
+      by_place : (k : ℕ) → (is_process after is_ready k && not (is_process w is_ready k)) ≡ f k
+      by_place k = elim (cases_Bool (k == p)) as (λ _. (is_process after is_ready k && not (is_process w is_ready k)) ≡ f k) [
+        | inl here ↦ rw (ready_itself k here, eqb-true k p here, itself) (and_false (is_process after is_ready p))
+        | inr apart ↦ others k apart
+      ]
 
-    in_list : (k : ℕ) → 0 < times k list → is_process w is_ready k ≡ true
-    in_list k some = elim (cases_Bool (k == p)) as (λ _. is_process w is_ready k ≡ true) [
-      | inl here ↦ ap (λ (j : ℕ). is_process w is_ready j) (eqb-true k p here) ∙ b.ready
-      | inr apart ↦ by_test (is_process w is_ready k) (not (is_in k out)) (subst (λ (n : ℕ). 0 < n) (b.others k apart) some)
-    ]
-      where
-        by_test : (c d : Bool) → 0 < (if c && d then 1 else 0) → c ≡ true
-        by_test true d h = refl
-        by_test false d h = absurd (omega (arith, h))
+  joined : IsSound after → (who : Option ℕ) → OthersReady w p after who → became_ready w after ≡ woken_but p who
+  joined sound None o = comes_by (λ k. false) refl o.come ∙ none_passes (pids_of after)
+  joined sound (Some q) o = elim (cases_Bool (q == p)) as (λ _. became_ready w after ≡ one_if (not (q == p)) q) [
+    | inl here ↦ rw here
+        (comes_by (λ k. false) refl (λ k apart. o.come k apart ∙ (ap (λ (j : ℕ). k == j) (eqb-true q p here) ∙ apart)) ∙ none_passes (pids_of after))
+    | inr apart ↦
+        let now : is_process after is_ready q ≡ true = first_of (is_process after is_ready q) _ (o.come q apart ∙ eq-eqb q q refl) in
+        rw apart
+        (comes_by (λ k. k == q) (other_way q p apart) o.come
+        ∙ one_passes q (pids_of after) (key_once q after.processes sound.handles.processes (ready_key after q now)))
+  ]
+    where
+      first_of : (c d : Bool) → (c && d) ≡ true → c ≡ true
+      first_of true d e = refl
+      first_of false d e = absurd (false≢true e)
 
-    pub moved_is : filter (λ q. not (q == p)) list ++ (p ∷ []) ≡ queued_after w p after list
-    moved_is = sym (rw (still, joined, itself) refl)
-      where
-        still : still_ready after p list ≡ filter (λ q. not (q == p)) list
-        still = (λ i. filter (λ q. same q i && not (q == p)) list) ∙ stays list in_list
+  few_told : IsSound after → (who : Option ℕ) → OthersReady w p after who
+      → requeued after p out list ≡ filter (λ q. not (q == p)) list ++ (woken_but p who ++ itself_ready after p)
+  few_told sound who o = requeued_is ∙ (λ i. still who o i ++ (joined sound who o i ++ itself_ready after p))
 
-        joined : became_ready w after ≡ []
-        joined = (λ i. filter (λ q. same q i && not (is_process w is_ready q)) (pids_of after)) ∙ none_joins (pids_of after)
-
-        itself : itself_ready after p ≡ p ∷ []
-        itself = rw (same p ∙ b.ready) refl
+  pub told : IsSound after → (c : Change) → IsChanged w p after c → IsTold after p out list c
+  told sound change.Nobody (o, ready) = few_told sound None o ∙ rw ready refl
+  told sound (change.Few who) o = few_told sound who o
+  told sound change.Any o = tt
 
 -- the last of a list in which it stands once stays where it is
 pub last_stays : (p : ℕ) (xs : List ℕ) → times p (xs ++ (p ∷ [])) ≡ 1 → xs ++ (p ∷ []) ≡ filter (λ q. not (q == p)) (xs ++ (p ∷ [])) ++ (p ∷ [])

@@ -1,146 +1,153 @@
--- Where a step starts, kills and ends no process, and as many are blocked after it, all are as ready as before.
-use Rattle.zl_code.proofs.Common.{◌≡◌, ◌<◌, ◌≤◌, ◌+◌, ◌⊎◌, ℕ, Bool, true, false, not, ◌==◌, List, [], ◌∷◌, length, refl, ap, sym, ◌∙◌, subst, arith, cases_Bool}
+-- Where a step starts and kills no other process, the others are as ready after it as before, but for those that woke.
+use Rattle.zl_code.proofs.Common.{◌≡◌, ◌<◌, ◌⊎◌, ℕ, Bool, true, false, not, ◌==◌, ◌&&◌, List, [], ◌∷◌, refl, ap, sym, ◌∙◌, subst, arith, cases_Bool, ⊤}
 use Rattle.zl_sched.proofs.Common.{Body, CallBy, Entry, IsSound, Object, Outcome, Packet, PortBody, Refused, Request, Settles, SignalOf, Site, TraceItem}
 use Rattle.zl_sched.proofs.Common.{Values, Wants, active, after_ok, after_refusal, created_process, effect, entering_at, fired, fold, get-each, get-put}
-use Rattle.zl_sched.proofs.Common.{get-update, insert_all, leaves_ready, length-filter_both, made_ready, meets, new_handles, on_object, on_process}
+use Rattle.zl_sched.proofs.Common.{get-update, insert_all, leaves_ready, made_ready, meets, new_handles, on_object, on_process}
 use Rattle.zl_sched.proofs.Common.{option_map, process_create, process_settled, process_start, process_with, process_without, receiver_of, refusal}
-use Rattle.zl_sched.proofs.Common.{remove_all, replied, state_without, stored_by, storing, taken, taken_handles, task_kill, wakes, with_body, with_object}
-use Rattle.zl_sched.proofs.Common.{without_others, woken_at_port, woken_by, woken_by_first, woken_from, woken_if_there}
+use Rattle.zl_sched.proofs.Common.{remove_all, replied, state_without, step_sound, stored_by, storing, taken, taken_handles, task_kill, wakes, with_body}
+use Rattle.zl_sched.proofs.Common.{with_object, without_others, woken_at_port, woken_by, woken_by_first, woken_from, woken_if_there}
 use Rattle.zl_code.proofs.Common.{eqb-true, false≢true, Option, Some, None, is_some, has_key, IsTrue, if◌then◌else◌, inl, inr, get}
-use Rattle.zl_code.proofs.Common.{World, Process, State, Created, Blocked, Gone, is_process, is_ready, is_blocked}
-use Rattle.zl_code.proofs.Common.{without, state_passes}
+use Rattle.zl_code.proofs.Common.{World, Process, State, Created, Ready, Blocked, Gone, is_process, is_ready, is_blocked}
+use Rattle.zl_code.proofs.Common.{without, state_passes, ok_outcome, with_effect, ended, process_ended, waiting}
 use Rattle.zl_code.proofs.Common.{PacketAt, Library}
 use Rattle.zl_code.proofs.Common.{Choice}
 use Rattle.zl_code.proofs.Common.{Next, Moves, AtCall}
-use Rattle.zl_code.proofs.Common.{IsStuck, Acts, Step, next_for, filter}
+use Rattle.zl_code.proofs.Common.{IsStuck, Acts, Step, next_for}
 use Rattle.std.proofs.lemmas.Bool.{not-true}
 use Rattle.zl_rights.specs.Wakes.{woken}
+use Rattle.zl_rights.specs.World.{Awaited}
 use Rattle.zl_rights.specs.declared.status.Status.{Status}
 use Rattle.zl_rights.specs.declared.status.Status.TheVariants as status
 use Rattle.zl_code.specs.declared.history.Outcome.TheVariants as outcome
-use Rattle.zl_code.specs.CallTable.{name_of}
-use Rattle.zl_code.proofs.Changes.{times}
+use Rattle.zl_code.specs.declared.history.TraceItem.TheVariants as item
+use Rattle.zl_code.specs.declared.history.CallName.{CallName}
+use Rattle.zl_code.specs.CallTable.{awaited_by, name_of}
+use Rattle.zl_code.proofs.Changes.{times, times-other, times-same}
+use Rattle.zl_code.proofs.SoundRuns.{settled_sound}
 use Rattle.zl_calls.proofs.Above.{asked_next}
-use Rattle.zl_sched.specs.Queueing.{may_start_or_kill}
+use Rattle.zl_calls.specs.Woke.{HaveLeft}
+use Rattle.zl_calls.specs.declared.waking.Woke.{Woke}
+use Rattle.zl_calls.specs.declared.waking.Woke.TheVariants as woke
+use Rattle.zl_sched.specs.Queueing.{change_of, few_if, leaves_others, may_start_or_kill}
+use Rattle.zl_sched.specs.declared.change.Change.{Change}
+use Rattle.zl_sched.specs.declared.change.Change.TheVariants as change
+use Rattle.zl_sched.proofs.Marked.{other_way}
+use Rattle.zl_sched.proofs.MarksKept.{state_kept}
 
--- ---- one turn of waking
+-- ---- what a turn of waking makes of k
 
--- what a turn of p makes of u: nothing, or p was blocked and leaves the list
-abbrev IsTurn : World → ℕ → World → Type 0
-IsTurn u p v = (v ≡ u) ⊎ (IsTrue (is_process u is_blocked p) × (v.blocked ≡ filter (λ q. not (q == p)) u.blocked))
+-- k is in v as in u, or it was blocked in u and is ready in v
+abbrev pub AsOrWoken : ℕ → World → World → Type 0
+AsOrWoken k u v = ((test : State → Bool) → is_process v test k ≡ is_process u test k)
+    ⊎ (IsTrue (is_process u is_blocked k) × ((test : State → Bool) → is_process v test k ≡ test Ready))
 
-module _ (u : World) (p : ℕ) (y : Process) (there : get u.processes p ≡ Some y) where
-  was_blocked : is_blocked y.state ≡ true → IsTrue (is_process u is_blocked p)
-  unfolding is_process
-  was_blocked is = rw (there, is) refl
+module _ (k : ℕ) (u : World) (p : ℕ) (y : Process) (there : get u.processes p ≡ Some y) where
+  as_it_was : AsOrWoken k u u
+  as_it_was = inl (λ test. refl)
 
-  turn_ready : (v : World) (ds values : List ℕ) → v.blocked ≡ u.blocked → is_blocked y.state ≡ true → IsTurn u p (made_ready v p y ds values)
-  unfolding made_ready
-  turn_ready v ds values same is = inr (was_blocked is, ap (filter (λ q. not (q == p))) same)
+  turn_ready : (v : World) (ds values : List ℕ) → v.processes ≡ u.processes → is_blocked y.state ≡ true → AsOrWoken k u (made_ready v p y ds values)
+  unfolding made_ready is_process
+  turn_ready v ds values same is = elim (cases_Bool (p == k)) as (λ _. AsOrWoken k u (made_ready v p y ds values)) [
+    | inl here ↦ inr (
+      ap (state_passes is_blocked) (subst (λ (j : ℕ). get u.processes j ≡ Some y) (eqb-true p k here) there) ∙ is,
+      λ test. rw (get-put v.processes p _ k, here) refl,
+    )
+    | inr apart ↦ inl (λ test. rw (get-put v.processes p _ k, apart, same) refl)
+  ]
 
-  turn_by_first : (k : ℕ) (ds : List ℕ) (o : Object) (packets : List Packet) → is_blocked y.state ≡ true → IsTurn u p (woken_by_first u p y k ds o packets)
-  turn_by_first k ds o [] is = inl refl
-  turn_by_first k ds o (first ∷ rest) is = turn_ready (with_body u k o (PortBody rest)) ds _ refl is
+  turn_by_first : (j : ℕ) (ds : List ℕ) (o : Object) (packets : List Packet) → is_blocked y.state ≡ true → AsOrWoken k u (woken_by_first u p y j ds o packets)
+  turn_by_first j ds o [] is = as_it_was
+  turn_by_first j ds o (first ∷ rest) is = turn_ready (with_body u j o (PortBody rest)) ds _ refl is
 
-  turn_by_body : (k : ℕ) (ds : List ℕ) (o : Object) (b : Body) → is_blocked y.state ≡ true → IsTurn u p (woken_by u p y k ds o b)
-  turn_by_body k ds o (PortBody packets) is = turn_by_first k ds o packets is
-  turn_by_body k ds o _ is = inl refl
+  turn_by_body : (j : ℕ) (ds : List ℕ) (o : Object) (b : Body) → is_blocked y.state ≡ true → AsOrWoken k u (woken_by u p y j ds o b)
+  turn_by_body j ds o (PortBody packets) is = turn_by_first j ds o packets is
+  turn_by_body j ds o _ is = as_it_was
 
-  turn_by_port : (k : ℕ) (ds : List ℕ) (o : Option Object) → is_blocked y.state ≡ true → IsTurn u p (woken_at_port u p y k ds o)
-  turn_by_port k ds None is = inl refl
-  turn_by_port k ds (Some o) is = turn_by_body k ds o o.body is
+  turn_by_port : (j : ℕ) (ds : List ℕ) (o : Option Object) → is_blocked y.state ≡ true → AsOrWoken k u (woken_at_port u p y j ds o)
+  turn_by_port j ds None is = as_it_was
+  turn_by_port j ds (Some o) is = turn_by_body j ds o o.body is
 
-  turn_by_state : (s : State) → y.state ≡ s → IsTurn u p (woken_from u p y s)
-  turn_by_state (Blocked (SignalOf k mask) ds) is =
-      elim (meets (active u k) mask) as (λ b. IsTurn u p (if b then made_ready u p y ds (0 ∷ active u k ∷ []) else u)) [
+  turn_by_state : (s : State) → y.state ≡ s → AsOrWoken k u (woken_from u p y s)
+  turn_by_state (Blocked (SignalOf j mask) ds) is =
+      elim (meets (active u j) mask) as (λ b. AsOrWoken k u (if b then made_ready u p y ds (0 ∷ active u j ∷ []) else u)) [
         | true ↦ turn_ready u ds _ refl (ap is_blocked is)
-        | false ↦ inl refl
+        | false ↦ as_it_was
       ]
-  turn_by_state (Blocked (PacketAt k) ds) is = turn_by_port k ds (get u.objects k) (ap is_blocked is)
-  turn_by_state _ is = inl refl
+  turn_by_state (Blocked (PacketAt j) ds) is = turn_by_port j ds (get u.objects j) (ap is_blocked is)
+  turn_by_state _ is = as_it_was
 
-turn : (u : World) (p : ℕ) → IsTurn u p (woken u p)
+turn : (k : ℕ) (u : World) (p : ℕ) → AsOrWoken k u (woken u p)
 unfolding woken
-turn u p = by_process (get u.processes p) refl
+turn k u p = by_process (get u.processes p) refl
   where
-    by_process : (o : Option Process) → get u.processes p ≡ o → IsTurn u p (woken_if_there u p o)
-    by_process None at = inl refl
-    by_process (Some y) at = turn_by_state u p y at y.state refl
+    by_process : (o : Option Process) → get u.processes p ≡ o → AsOrWoken k u (woken_if_there u p o)
+    by_process None at = inl (λ test. refl)
+    by_process (Some y) at = turn_by_state k u p y at y.state refl
 
--- ---- all turns
+-- who woke isn't blocked, and doesn't wake again
+woken_then : (k : ℕ) (u v w : World) → AsOrWoken k u v → AsOrWoken k v w → AsOrWoken k u w
+woken_then k u v w (inl a) (inl b) = inl (λ test. b test ∙ a test)
+woken_then k u v w (inl a) (inr (was, is)) = inr (sym (a is_blocked) ∙ was, is)
+woken_then k u v w (inr (was, is)) (inl b) = inr (was, λ test. b test ∙ is test)
+woken_then k u v w (inr (was, is)) (inr (again, more)) = absurd (false≢true (sym (is is_blocked) ∙ again))
 
-without_one : (p : ℕ) (blocked : List ℕ) → times p blocked + length (filter (λ q. not (q == p)) blocked) ≡ length blocked
-without_one p blocked = length-filter_both (λ q. q == p) (λ q. not (q == p)) (λ q. refl) blocked
+turns : (k : ℕ) (u : World) (ps : List ℕ) → AsOrWoken k u (fold woken u ps)
+turns k u [] = inl (λ test. refl)
+turns k u (p ∷ ps) = woken_then k u (woken u p) (fold woken (woken u p) ps) (turn k u p) (turns k (woken u p) ps)
 
-no_more_blocked : (u : World) (ps : List ℕ) → length (fold woken u ps).blocked ≤ length u.blocked
-no_more_blocked u [] = omega arith
-no_more_blocked u (p ∷ ps) =
-    let rest : length (fold woken (woken u p) ps).blocked ≤ length (woken u p).blocked = no_more_blocked (woken u p) ps in
-    elim (turn u p) as (λ _. length (fold woken (woken u p) ps).blocked ≤ length u.blocked) [
-      | inl same ↦ let as_long : length (woken u p).blocked ≡ length u.blocked = ap (λ (v : World). length v.blocked) same in omega (arith, rest, as_long)
-      | inr woke ↦ let shorter : length (woken u p).blocked ≡ length (filter (λ q. not (q == p)) u.blocked) = ap length woke.1 in
-          omega (arith, rest, shorter, without_one p u.blocked)
+pub waking : (k : ℕ) (u : World) → AsOrWoken k u (wakes u)
+unfolding wakes fired is_process
+waking k u = turns k (fired u) u.blocked
+
+-- ---- who isn't blocked any more
+
+-- this one
+abbrev pub is_one : Option ℕ → ℕ → Bool
+is_one None k = false
+is_one (Some q) k = k == q
+
+abbrev woke_one : Option ℕ → Woke
+woke_one None = woke.Nobody
+woke_one (Some q) = woke.One q
+
+-- k was blocked and isn't, as the lists tell, in which each blocked process stands once
+left_so : (who : Option ℕ) (before after : List ℕ) (k : ℕ) (was is : Bool) → times k before ≡ (if was then 1 else 0) → times k after ≡ (if is then 1 else 0)
+    → HaveLeft before (woke_one who) after → (was && not is) ≡ is_one who k
+left_so who before after k was is b a left = by_lists who left
+  where
+    as_often : (x y : Bool) → ◌≡◌ {A = ℕ} (if x then 1 else 0) (if y then 1 else 0) → (x && not y) ≡ false
+    as_often true true e = refl
+    as_often true false e = absurd (omega (arith, e))
+    as_often false y e = refl
+
+    no_more : (x y : Bool) → ◌≡◌ {A = ℕ} 1 (if x then 1 else 0) → ◌≡◌ {A = ℕ} 0 (if y then 1 else 0) → (x && not y) ≡ true
+    no_more true false e f = refl
+    no_more true true e f = absurd (omega (arith, f))
+    no_more false y e f = absurd (omega (arith, e))
+
+    by_lists : (o : Option ℕ) → HaveLeft before (woke_one o) after → (was && not is) ≡ is_one o k
+    by_lists None same = as_often was is (sym b ∙ (sym (ap (times k) same) ∙ a))
+    by_lists (Some q) (once, others) = elim (cases_Bool (k == q)) as (λ _. (was && not is) ≡ (k == q)) [
+      | inl here ↦
+          let same : k ≡ q = eqb-true k q here in
+          no_more was is (sym once ∙ (ap (λ (j : ℕ). times j before) (sym same) ∙ b))
+          (sym (times-same q before) ∙ (sym (ap (times q) others) ∙ (ap (λ (j : ℕ). times j after) (sym same) ∙ a))) ∙ sym here
+      | inr apart ↦ as_often was is (sym b ∙ (sym (times-other q k (other_way k q apart) before) ∙ (sym (ap (times k) others) ∙ a))) ∙ sym apart
     ]
-
--- each blocked process is in the list
-abbrev AreListed : World → Type 0
-AreListed u = (k : ℕ) → IsTrue (is_process u is_blocked k) → times k u.blocked ≡ 1
-
-none_woke : (u : World) (ps : List ℕ) → AreListed u → length (fold woken u ps).blocked ≡ length u.blocked → fold woken u ps ≡ u
-none_woke u [] listed as_long = refl
-none_woke u (p ∷ ps) listed as_long = elim (turn u p) as (λ _. fold woken (woken u p) ps ≡ u) [
-  | inl same ↦ ap (λ (v : World). fold woken v ps) same ∙ none_woke u ps listed (sym (ap (λ (v : World). length (fold woken v ps).blocked) same) ∙ as_long)
-  | inr woke ↦
-      let rest : length (fold woken (woken u p) ps).blocked ≤ length (woken u p).blocked = no_more_blocked (woken u p) ps in
-      let shorter : length (woken u p).blocked ≡ length (filter (λ q. not (q == p)) u.blocked) = ap length woke.1 in
-      absurd (omega (arith, rest, shorter, without_one p u.blocked, listed p woke.0, as_long))
-]
 
 -- ---- what a process does
 
--- in both worlds the same processes pass, and the same are blocked
-record Left (u w : World) : Type 0 where
-  same : (test : State → Bool) → test Created ≡ false → test Gone ≡ false → (k : ℕ) → is_process u test k ≡ is_process w test k
-  blocked : u.blocked ≡ w.blocked
+-- k passes the same in both worlds
+abbrev pub Left : ℕ → World → World → Type 0
+Left k u w = (test : State → Bool) → test Created ≡ false → test Gone ≡ false → is_process u test k ≡ is_process w test k
 
-left_then : (u v w : World) → Left u v → Left v w → Left u w
-left_then u v w a b = record { same = λ test made gone k. a.same test made gone k ∙ b.same test made gone k; blocked = a.blocked ∙ b.blocked }
-
-left_alone : (w : World) → Left w w
-left_alone w = record { same = λ test made gone k. refl; blocked = refl }
-
-moved : (w : World) (p : ℕ) (f : Process → Process) → ((x : Process) → (f x).state ≡ x.state) → Left (on_process w p f) w
-unfolding is_process on_process
-moved w p f keeps = record { same = λ test made gone k. rw (get-update w.processes p f k) (by_test test (p == k) (get w.processes k)); blocked = refl }
-  where
-    by_test : (test : State → Bool) (b : Bool) (o : Option Process) → state_passes test (if b then option_map f o else o) ≡ state_passes test o
-    by_test test false o = refl
-    by_test test true None = refl
-    by_test test true (Some x) = ap test (keeps x)
+left_then : (k : ℕ) (u v w : World) → Left k u v → Left k v w → Left k u w
+left_then k u v w a b test made gone = a test made gone ∙ b test made gone
 
 without_keeps : (h : ℕ) (x : Process) → (process_without h x).state ≡ x.state
 without_keeps h x =
     elim (has_key x.handles h)
     as (λ b. (if b then record x { handles = without x.handles h; last = Some h } else x).state ≡ x.state) [ true ↦ refl | false ↦ refl ]
-
-removed : (w : World) (p : ℕ) (hs : List ℕ) → Left (remove_all w p hs) w
-unfolding remove_all
-removed w p [] = left_alone w
-removed w p (h ∷ hs) = left_then _ _ w (removed (on_process w p (process_without h)) p hs) (moved w p (process_without h) (without_keeps h))
-
-entered : (w : World) (p : ℕ) (es : List Entry) (vs : List ℕ) → Left (insert_all w p es vs) w
-unfolding insert_all
-entered w p [] vs = left_alone w
-entered w p (e ∷ es) [] = left_alone w
-entered w p (e ∷ es) (v ∷ vs) = left_then _ _ w (entered (on_process w p (process_with v e)) p es vs) (moved w p (process_with v e) (λ x. refl))
-
-stored : (w : World) (p : ℕ) (at : ℕ × List ℕ) → Left (storing w p at) w
-stored w p (address, []) = left_alone w
-stored w p (address, b ∷ bytes) = moved w p _ (λ x. refl)
-
-answers : (w : World) (p : ℕ) (s : Site) (answer : Status) (values : List ℕ) → Left (replied w p s answer values) w
-unfolding replied
-answers w p s answer values = moved w p _ (λ x. refl)
 
 -- the request neither starts nor kills
 abbrev spares : Request → Bool
@@ -148,27 +155,16 @@ spares (process_start process h word) = false
 spares (task_kill task) = false
 spares r = true
 
--- a process that is made passes no more than one that isn't there
-made : (lib : Library) (w u : World) (program k : ℕ) (test : State → Bool) → test Created ≡ false → get u.processes w.next_koid ≡ None
-    → state_passes test (if w.next_koid == k then Some (created_process lib program) else get u.processes k) ≡ state_passes test (get u.processes k)
-made lib w u program k test fresh free =
-    elim (cases_Bool (w.next_koid == k))
-    as (λ _. state_passes test (if w.next_koid == k then Some (created_process lib program) else get u.processes k) ≡ state_passes test (get u.processes k)) [
-      | inl here ↦ rw here (fresh ∙ sym (ap (state_passes test) (subst (λ (j : ℕ). get u.processes j ≡ None) (eqb-true w.next_koid k here) free)))
-      | inr apart ↦ rw apart refl
-    ]
+-- a request whose name neither starts nor kills
+spares_so : (r : Request) → may_start_or_kill (name_of r) ≡ false → spares r ≡ true
+spares_so (process_start process h word) spared = absurd (false≢true (sym spared))
+spares_so (task_kill task) spared = absurd (false≢true (sym spared))
+spares_so _ spared = refl
 
-effected : (lib : Library) (w u : World) (p : ℕ) (request : Request) (vs : List ℕ) → get u.processes w.next_koid ≡ None → spares request ≡ true
-    → Left (effect lib w u p request vs) u
-unfolding effect with_object on_object is_process
-effected lib w u p (process_create job program) vs free left =
-    record {
-      same = λ test fresh gone k. rw (get-put u.processes w.next_koid (created_process lib program) k) (made lib w u program k test fresh free);
-      blocked = refl;
-    }
-effected lib w u p (process_start process h word) vs free left = absurd (false≢true left)
-effected lib w u p (task_kill task) vs free left = absurd (false≢true left)
-effected lib w u p _ vs free left = record { same = λ test fresh gone k. refl; blocked = refl }
+-- the caller goes on behind its answer
+abbrev goes_on : Outcome → Bool
+goes_on (outcome.Answered answer) = true
+goes_on _ = false
 
 -- handles that leave a table make no process
 still_free : (w : World) (p k : ℕ) (hs : List ℕ) → get w.processes k ≡ None → get (remove_all w p hs).processes k ≡ None
@@ -181,54 +177,154 @@ still_free w p k (h ∷ hs) free =
     by_test true = refl
     by_test false = refl
 
-module _ (lib : Library) (w : World) (p : ℕ) (free : get w.processes w.next_koid ≡ None) where
-  refused_so : (s : Site) (answer : Status) → Left (after_refusal w p s (outcome.Answered answer)) w
-  refused_so s answer = left_then _ _ w (answers (taken w p s) p s answer _) (removed w p (taken_handles s.request))
+module _ (k : ℕ) where
+  moved : (w : World) (p : ℕ) (f : Process → Process) → ((x : Process) → (f x).state ≡ x.state) → Left k (on_process w p f) w
+  moved w p f keeps test made gone = state_kept w p f keeps test k
 
-  done_so : (s : Site) (vs : List ℕ) (answer : Status) → spares s.request ≡ true → Left (after_ok lib w p s vs (outcome.Answered answer)) w
-  done_so s vs answer left =
-      let taking : Left (taken w p s) w = removed w p (taken_handles s.request) in
-      let doing : Left (effect lib w (taken w p s) p s.request vs) (taken w p s) =
-      effected lib w (taken w p s) p s.request vs (still_free w p w.next_koid (taken_handles s.request) free) left in
-      let giving = entered (effect lib w (taken w p s) p s.request vs) (receiver_of w p s.request) (new_handles w p s.request) (entering_at s.request vs) in
-      left_then _ _ w (answers _ p s status.Ok _)
-      (left_then _ _ w (stored _ p (stored_by w p s.request)) (left_then _ _ w giving (left_then _ _ w doing taking)))
+  elsewhere : (w : World) (p : ℕ) (f : Process → Process) → (p == k) ≡ false → Left k (on_process w p f) w
+  unfolding is_process on_process
+  elsewhere w p f apart test made gone = rw (get-update w.processes p f k, apart) refl
 
-  called_so : (s : Site) (choice : Choice) (r : Option Outcome) (answer : Status) (w2 : World) → spares s.request ≡ true
-      → CallBy lib w p s choice r (outcome.Answered answer) w2 → Left w2 w
-  called_so s Refused None answer w2 left c = absurd c
-  called_so s Refused (Some o) answer w2 left c = rw c.1 (subst (λ x. Left (after_refusal w p s x) w) c.0 (refused_so s answer))
-  called_so s (Wants want) None answer w2 left c = rw c.2 (refused_so s want)
-  called_so s (Wants want) (Some o) answer w2 left c = absurd c
-  called_so s (Values vs) None answer w2 left c = rw c.2 (subst (λ x. Left (after_ok lib w p s vs x) w) c.1 (done_so s vs answer left))
-  called_so s (Values vs) (Some o) answer w2 left c = absurd c
+  ends : (w : World) (p : ℕ) (code : _) → (p == k) ≡ false → Left k (ended w p code) w
+  unfolding is_process ended
+  ends w p code apart = elsewhere w p (process_ended code) apart
 
--- ---- which call it is
+  blocks : (w : World) (p : ℕ) (ds : List ℕ) (o : Option Awaited) → (p == k) ≡ false → Left k (waiting w p ds o) w
+  unfolding is_process
+  blocks w p ds None apart = λ test made gone. refl
+  blocks w p ds (Some awaited) apart = elsewhere w p _ apart
 
--- a request whose name neither starts nor kills
-spares_so : (r : Request) → may_start_or_kill (name_of r) ≡ false → spares r ≡ true
-spares_so (process_start process h word) spared = absurd (false≢true (sym spared))
-spares_so (task_kill task) spared = absurd (false≢true (sym spared))
-spares_so _ spared = refl
+  removed : (w : World) (p : ℕ) (hs : List ℕ) → Left k (remove_all w p hs) w
+  unfolding remove_all
+  removed w p [] = λ test made gone. refl
+  removed w p (h ∷ hs) = left_then k _ _ w (removed (on_process w p (process_without h)) p hs) (moved w p (process_without h) (without_keeps h))
 
--- ---- settling
+  entered : (w : World) (p : ℕ) (es : List Entry) (vs : List ℕ) → Left k (insert_all w p es vs) w
+  unfolding insert_all
+  entered w p [] vs = λ test made gone. refl
+  entered w p (e ∷ es) [] = λ test made gone. refl
+  entered w p (e ∷ es) (v ∷ vs) = left_then k _ _ w (entered (on_process w p (process_with v e)) p es vs) (moved w p (process_with v e) (λ x. refl))
 
-settled_so : (u v : World) → Settles u v → Left v u
-unfolding is_process without_others
-settled_so u v (K, largest, is) = rw is
-    (record { same = λ test fresh gone k. rw (get-each u.processes (process_settled K) k) (by_process test fresh gone k (get u.processes k)); blocked = refl })
-  where
-    by_state : (test : State → Bool) → test Created ≡ false → test Gone ≡ false → (kept : Bool) (s : State) → test (state_without kept s) ≡ test s
-    by_state test fresh gone true Created = refl
-    by_state test fresh gone false Created = gone ∙ sym fresh
-    by_state test fresh gone kept _ = refl
+  stored : (w : World) (p : ℕ) (at : ℕ × List ℕ) → Left k (storing w p at) w
+  stored w p (address, []) = λ test made gone. refl
+  stored w p (address, b ∷ bytes) = moved w p _ (λ x. refl)
 
-    by_process : (test : State → Bool) → test Created ≡ false → test Gone ≡ false → (k : ℕ) (o : Option Process)
-        → state_passes test (option_map (process_settled K k) o) ≡ state_passes test o
-    by_process test fresh gone k None = refl
-    by_process test fresh gone k (Some x) = by_state test fresh gone (K k) x.state
+  answers : (w : World) (p : ℕ) (s : Site) (answer : Status) (values : List ℕ) → Left k (replied w p s answer values) w
+  unfolding replied
+  answers w p s answer values = moved w p _ (λ x. refl)
+
+  -- a process that is made passes no more than one that isn't there
+  made_so : (lib : Library) (w u : World) (program : ℕ) (test : State → Bool) → test Created ≡ false → get u.processes w.next_koid ≡ None
+      → state_passes test (if w.next_koid == k then Some (created_process lib program) else get u.processes k) ≡ state_passes test (get u.processes k)
+  made_so lib w u program test fresh free =
+      elim (cases_Bool (w.next_koid == k))
+      as (λ _. state_passes test (if w.next_koid == k then Some (created_process lib program) else get u.processes k) ≡ state_passes test (get u.processes k)) [
+        | inl here ↦ rw here (fresh ∙ sym (ap (state_passes test) (subst (λ (j : ℕ). get u.processes j ≡ None) (eqb-true w.next_koid k here) free)))
+        | inr apart ↦ rw apart refl
+      ]
+
+  effected : (lib : Library) (w u : World) (p : ℕ) (request : Request) (vs : List ℕ) → get u.processes w.next_koid ≡ None → spares request ≡ true
+      → Left k (effect lib w u p request vs) u
+  unfolding effect with_object on_object is_process
+  effected lib w u p (process_create job program) vs free left test fresh gone =
+      rw (get-put u.processes w.next_koid (created_process lib program) k) (made_so lib w u program test fresh free)
+  effected lib w u p (process_start process h word) vs free left test fresh gone = absurd (false≢true left)
+  effected lib w u p (task_kill task) vs free left test fresh gone = absurd (false≢true left)
+  effected lib w u p _ vs free left test fresh gone = refl
+
+  pub settled_so : (u v : World) → Settles u v → Left k v u
+  unfolding is_process without_others
+  settled_so u v (K, largest, is) test fresh gone = rw is (rw (get-each u.processes (process_settled K) k) (by_process (get u.processes k)))
+    where
+      by_state : (kept : Bool) (s : State) → test (state_without kept s) ≡ test s
+      by_state true Created = refl
+      by_state false Created = gone ∙ sym fresh
+      by_state kept _ = refl
+
+      by_process : (o : Option Process) → state_passes test (option_map (process_settled K k) o) ≡ state_passes test o
+      by_process None = refl
+      by_process (Some x) = by_state (K k) x.state
+
+  -- ---- what its call does, unless k is a caller that ends or blocks
+
+  module _ (lib : Library) (w : World) (p : ℕ) (free : get w.processes w.next_koid ≡ None) where
+    refused_so : (s : Site) (o : Outcome) → (goes_on o ≡ false → (p == k) ≡ false) → Left k (after_refusal w p s o) w
+    refused_so s (outcome.Answered answer) apart = left_then k _ _ w (answers (taken w p s) p s answer _) (removed w p (taken_handles s.request))
+    refused_so s (outcome.Ended code) apart = ends w p code (apart refl)
+    refused_so s outcome.Blocked apart = λ test made gone. refl
+
+    effect_so : (s : Site) (vs : List ℕ) → spares s.request ≡ true → Left k (with_effect lib w (taken w p s) p s.request vs) w
+    effect_so s vs left =
+        left_then k _ _ w (stored _ p (stored_by w p s.request))
+        (left_then k _ _ w (entered _ (receiver_of w p s.request) (new_handles w p s.request) (entering_at s.request vs))
+        (left_then k _ _ w (effected lib w (taken w p s) p s.request vs (still_free w p w.next_koid (taken_handles s.request) free) left)
+        (removed w p (taken_handles s.request))))
+
+    done_so : (s : Site) (vs : List ℕ) (o : Outcome) → spares s.request ≡ true → (goes_on o ≡ false → (p == k) ≡ false) → Left k (after_ok lib w p s vs o) w
+    done_so s vs (outcome.Answered answer) left apart = left_then k _ _ w (answers _ p s status.Ok _) (effect_so s vs left)
+    done_so s vs (outcome.Ended code) left apart = left_then k _ _ w (ends _ p code (apart refl)) (effect_so s vs left)
+    done_so s vs outcome.Blocked left apart = blocks w p s.destinations (awaited_by w p s.request) (apart refl)
+
+    called_so : (s : Site) (choice : Choice) (r : Option Outcome) (o : Outcome) (w2 : World) → spares s.request ≡ true
+        → (goes_on o ≡ false → (p == k) ≡ false) → CallBy lib w p s choice r o w2 → Left k w2 w
+    called_so s Refused None o w2 left apart c = absurd c
+    called_so s Refused (Some r) o w2 left apart c = rw c.1 (refused_so s r (λ stops. apart (ap goes_on c.0 ∙ stops)))
+    called_so s (Wants want) None o w2 left apart c = rw c.2 (refused_so s (outcome.Answered want) (λ stops. absurd (false≢true (sym stops))))
+    called_so s (Wants want) (Some r) o w2 left apart c = absurd c
+    called_so s (Values vs) None o w2 left apart c = rw c.2 (done_so s vs (ok_outcome w p s.request) left (λ stops. apart (ap goes_on c.1 ∙ stops)))
+    called_so s (Values vs) (Some r) o w2 left apart c = absurd c
 
 -- ---- the step
+
+-- But for p, those stay ready in after that are ready in w, and who woke comes, who wasn't.
+pub record OthersReady (w : World) (p : ℕ) (after : World) (who : Option ℕ) : Type 0 where
+  pub stay : (k : ℕ) → (k == p) ≡ false → is_process w is_ready k ≡ true → is_process after is_ready k ≡ true
+  pub come : (k : ℕ) → (k == p) ≡ false → (is_process after is_ready k && not (is_process w is_ready k)) ≡ is_one who k
+
+-- the change of a step of p from w to after is so much
+abbrev pub IsChanged : World → ℕ → World → Change → Type 0
+IsChanged w p after change.Nobody = OthersReady w p after None × (is_process after is_ready p ≡ true)
+IsChanged w p after (change.Few who) = OthersReady w p after who
+IsChanged w p after change.Any = ⊤
+
+-- likewise from a world in which the others are as ready
+others_from : (u w : World) (p : ℕ) (after : World) (who : Option ℕ) → ((k : ℕ) → (k == p) ≡ false → is_process u is_ready k ≡ is_process w is_ready k)
+    → OthersReady u p after who → OthersReady w p after who
+others_from u w p after who same o = record {
+  stay = λ k apart now. o.stay k apart (same k apart ∙ now);
+  come = λ k apart. ap (λ (b : Bool). is_process after is_ready k && not b) (sym (same k apart)) ∙ o.come k apart;
+}
+
+pub changed_from : (u w : World) (p : ℕ) (after : World) (c : Change) → ((k : ℕ) → (k == p) ≡ false → is_process u is_ready k ≡ is_process w is_ready k)
+    → IsChanged u p after c → IsChanged w p after c
+changed_from u w p after change.Nobody same (o, ready) = (others_from u w p after None same o, ready)
+changed_from u w p after (change.Few who) same o = others_from u w p after who same o
+changed_from u w p after change.Any same o = tt
+
+and_not : (b : Bool) → (b && not b) ≡ false
+and_not true = refl
+and_not false = refl
+
+pub unchanged : (w : World) (p : ℕ) → is_process w is_ready p ≡ true → IsChanged w p w change.Nobody
+unchanged w p ready = (record { stay = λ k apart now. now; come = λ k apart. and_not (is_process w is_ready k) }, ready)
+
+stops_so : (p : ℕ) (call : CallName) (o : Outcome) → goes_on o ≡ false → leaves_ready (item.Call p call o) ≡ false
+stops_so p call (outcome.Answered answer) stops = absurd (false≢true (sym stops))
+stops_so p call _ stops = refl
+
+spares_more : (x : TraceItem) → leaves_ready x ≡ true → leaves_others x ≡ true
+spares_more (item.Run p count) leaves = refl
+spares_more (item.Call p call (outcome.Answered answer)) leaves = leaves
+spares_more (item.Call p call _) leaves = absurd (false≢true leaves)
+spares_more (item.Stuck p) leaves = refl
+
+busy_so : (o : Option Process) → state_passes is_blocked o ≡ true → state_passes is_ready o ≡ false
+busy_so None blocked = refl
+busy_so (Some x) blocked = by_state x.state blocked
+  where
+    by_state : (s : State) → is_blocked s ≡ true → is_ready s ≡ false
+    by_state Ready blocked = absurd (false≢true blocked)
+    by_state _ blocked = refl
 
 module _ (lib : Library) (w : World) (p : ℕ) (x : TraceItem) (after : World) (sound : IsSound w) (step : Step lib w p x after) where
   no_process : get w.processes w.next_koid ≡ None
@@ -238,31 +334,70 @@ module _ (lib : Library) (w : World) (p : ℕ) (x : TraceItem) (after : World) (
       by_process None at = refl
       by_process (Some y) at = let below : w.next_koid < w.next_koid = sound.processes w.next_koid (ap is_some at) in absurd (omega (arith, below))
 
-  acted_so : (n : Next) → next_for lib step.process ≡ n → Acts lib w p n x step.acted → leaves_ready x ≡ true → Left step.acted w
-  acted_so (Moves c) at a leaves = rw a.1 (moved w p (λ y. record y { cpu = c }) (λ y. refl))
-  acted_so (AtCall call s) at (outcome.Answered answer, is, calls) leaves =
-      let spared : not (may_start_or_kill call) ≡ true = sym (ap leaves_ready is) ∙ leaves in
-      called_so lib w p no_process s calls.0 (refusal lib w p s.request) answer step.acted
-      (spares_so s.request (ap may_start_or_kill (asked_next step.process.cpu call s _ at) ∙ not-true (may_start_or_kill call) spared)) calls.1
-  acted_so (AtCall call s) at (outcome.Blocked, is, calls) leaves = absurd (false≢true (sym (ap leaves_ready is) ∙ leaves))
-  acted_so (AtCall call s) at (outcome.Ended code, is, calls) leaves = absurd (false≢true (sym (ap leaves_ready is) ∙ leaves))
-  acted_so IsStuck at a leaves = absurd (false≢true (sym (ap leaves_ready a.0) ∙ leaves))
+  acted_so : (k : ℕ) (n : Next) → next_for lib step.process ≡ n → Acts lib w p n x step.acted → leaves_others x ≡ true
+      → (leaves_ready x ≡ false → (p == k) ≡ false) → Left k step.acted w
+  acted_so k (Moves c) at a others apart = rw a.1 (moved k w p (λ y. record y { cpu = c }) (λ y. refl))
+  acted_so k (AtCall call s) at (o, is, calls) others apart =
+      let spared : not (may_start_or_kill call) ≡ true = sym (ap leaves_others is) ∙ others in
+      called_so k lib w p no_process s calls.0 (refusal lib w p s.request) o step.acted
+      (spares_so s.request (ap may_start_or_kill (asked_next step.process.cpu call s _ at) ∙ not-true (may_start_or_kill call) spared))
+      (λ stops. apart (ap leaves_ready is ∙ stops_so p call o stops)) calls.1
+  acted_so k IsStuck at a others apart = rw a.1 (ends k w p _ (apart (ap leaves_ready a.0)))
 
-  module _ (leaves : leaves_ready x ≡ true) (as_long : length after.blocked ≡ length w.blocked) where
-    before : Left (fired step.settled) w
-    unfolding fired is_process
-    before =
-        let settled = left_then _ _ w (settled_so step.acted step.settled step.settles) (acted_so (next_for lib step.process) refl step.acts leaves) in
-        record { same = settled.same; blocked = settled.blocked }
+  settled_is : IsSound step.settled
+  settled_is = settled_sound lib w p x step.settled sound (record {
+    process = step.process;
+    is_there = step.is_there;
+    is_ready = step.is_ready;
+    acted = step.acted;
+    acts = step.acts;
+    settles = step.settles;
+  })
 
-    listed : AreListed (fired step.settled)
-    listed k blocked = ap (times k) before.blocked ∙ (sound.blocked k ∙ rw (sym (before.same is_blocked refl refl k) ∙ blocked) refl)
+  -- up to where processes wake
+  module _ (others : leaves_others x ≡ true) where
+    same_before : (k : ℕ) → (leaves_ready x ≡ false → (p == k) ≡ false) → is_process step.settled is_ready k ≡ is_process w is_ready k
+    same_before k apart =
+        left_then k _ _ w (settled_so k step.acted step.settled step.settles)
+        (acted_so k (next_for lib step.process) refl step.acts others apart) is_ready refl refl
 
-    after_is : after ≡ fired step.settled
-    unfolding wakes
-    after_is =
-        step.ends_awake ∙ none_woke (fired step.settled) step.settled.blocked listed
-        (ap (λ (u : World). length u.blocked) (sym step.ends_awake) ∙ (as_long ∙ sym (ap length before.blocked)))
+    stay_so : (k : ℕ) → is_process step.settled is_ready k ≡ true → is_process after is_ready k ≡ true
+    stay_so k ready = subst (λ (u : World). is_process u is_ready k ≡ true) (sym step.ends_awake) (by_turns (waking k step.settled))
+      where
+        by_turns : AsOrWoken k step.settled (wakes step.settled) → is_process (wakes step.settled) is_ready k ≡ true
+        by_turns (inl same) = same is_ready ∙ ready
+        by_turns (inr (was, is)) = is is_ready
 
-    pub ready_as_before : (k : ℕ) → is_process after is_ready k ≡ is_process w is_ready k
-    ready_as_before k = ap (λ (u : World). is_process u is_ready k) after_is ∙ before.same is_ready refl refl k
+    come_so : (who : Option ℕ) → HaveLeft step.settled.blocked (woke_one who) after.blocked → (k : ℕ)
+        → (is_process after is_ready k && not (is_process step.settled is_ready k)) ≡ is_one who k
+    unfolding is_process
+    come_so who left k =
+        by_turns after (subst (AsOrWoken k step.settled) (sym step.ends_awake) (waking k step.settled))
+        ∙ left_so who step.settled.blocked after.blocked k _ _ (settled_is.blocked k) ((step_sound lib w p x after sound step).blocked k) left
+      where
+        by_turns : (v : World) → AsOrWoken k step.settled v
+            → (is_process v is_ready k && not (is_process step.settled is_ready k)) ≡ (is_process step.settled is_blocked k && not (is_process v is_blocked k))
+        by_turns v (inl same) = rw (same is_ready, same is_blocked)
+            (and_not (is_process step.settled is_ready k) ∙ sym (and_not (is_process step.settled is_blocked k)))
+        by_turns v (inr (was, is)) = rw (is is_ready, is is_blocked, was, busy_so (get step.settled.processes k) was) refl
+
+    few : (who : Option ℕ) → HaveLeft step.settled.blocked (woke_one who) after.blocked → OthersReady w p after who
+    few who left = others_from step.settled w p after who (λ k apart. same_before k (λ _. other_way k p apart))
+        (record { stay = λ k apart. stay_so k; come = λ k apart. come_so who left k })
+
+    itself : leaves_ready x ≡ true → is_process after is_ready p ≡ true
+    unfolding is_process
+    itself leaves = stay_so p (same_before p (λ stops. absurd (false≢true (sym stops ∙ leaves))) ∙ rw (step.is_there, step.is_ready) refl)
+
+  few_or : (who : Option ℕ) → HaveLeft step.settled.blocked (woke_one who) after.blocked → (b : Bool) → leaves_others x ≡ b → IsChanged w p after (few_if b who)
+  few_or who left true others = few others who left
+  few_or who left false others = tt
+
+  pub changed : (who : Woke) → HaveLeft step.settled.blocked who after.blocked → IsChanged w p after (change_of x who)
+  changed woke.Nobody left = by_item (leaves_ready x) refl
+    where
+      by_item : (b : Bool) → leaves_ready x ≡ b → IsChanged w p after (if b then change.Nobody else few_if (leaves_others x) None)
+      by_item true leaves = (few (spares_more x leaves) None left, itself (spares_more x leaves) leaves)
+      by_item false leaves = few_or None left (leaves_others x) refl
+  changed (woke.One q) left = few_or (Some q) left (leaves_others x) refl
+  changed woke.More left = tt

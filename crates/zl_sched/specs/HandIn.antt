@@ -1,6 +1,5 @@
 -- A process that is taken out to go on by itself, and what it did handed in.
 use Rattle.std.specs.Prelude.{ℕ, ◌≡◌, ◌≢◌, ◌<◌, ◌≤◌, ◌+◌, ◌==◌, ◌⊎◌, Bool, true, false, List, [], ◌∷◌, ◌++◌, length, IsTrue, if◌then◌else◌}
-use Rattle.std.specs.List.{list_all}
 use Rattle.zl_code.specs.Common.{is_process, lives}
 use Rattle.zl_code.specs.Steps.{Runs}
 use Rattle.zl_code.specs.declared.history.TraceItem.{TraceItem}
@@ -11,12 +10,16 @@ use Rattle.zl_interp.specs.declared.bursts.Stop.TheVariants as stop
 use Rattle.zl_calls.specs.World.{Machine, is_ready_in}
 use Rattle.zl_calls.specs.Steps.{TakesStep}
 use Rattle.zl_calls.specs.Turns.{IsTurn, Fits, advanced, steps_done}
+use Rattle.zl_calls.specs.Woke.{HaveLeft}
+use Rattle.zl_calls.specs.declared.waking.Woke.{Woke}
 use Rattle.zl_sched.specs.declared.hand_in.HandIn.{HandIn}
 use Rattle.zl_sched.specs.declared.hand_in.HandIn.TheVariants as hand
 use Rattle.zl_sched.specs.declared.hand_in.Judged.{Judged}
 use Rattle.zl_sched.specs.declared.hand_in.Judged.TheVariants as judged
 use Rattle.zl_sched.specs.Ready.{is_in, others_of, queued_after}
-use Rattle.zl_sched.specs.Queueing.{leaves_ready}
+use Rattle.zl_sched.specs.declared.change.Change.{Change}
+use Rattle.zl_sched.specs.declared.change.Change.TheVariants as change
+use Rattle.zl_sched.specs.Queueing.{change_of}
 use Rattle.zl_sched.specs.System.{System}
 
 -- ---- taken out
@@ -119,21 +122,22 @@ Judges s d judged.Other = IsOther s d
 Judges s d judged.Full = IsAwaited s d × LacksRoom s d
 Judges s d judged.Fits = IsAwaited s d × HasRoom s d
 
--- by these items, and with as many blocked, all are as ready as before
-abbrev pub LeavesAll : Machine → List TraceItem → Machine → Type 0
-LeavesAll m last m2 = IsTrue (list_all leaves_ready last) × (length m2.world.blocked ≡ length m.world.blocked)
+-- what comes behind the local instructions changes so much of who is ready, as far as its item and who woke tell
+abbrev pub Changes : (more : Bool) (m : Machine) (p : ℕ) (last : List TraceItem) (m2 : Machine) → Ends more m p last m2 → Change → Type 0
+Changes true m p last m2 ends c = c ≡ change.Nobody
+Changes false m p last m2 (x, is, taken) c = (who : Woke) × HaveLeft taken.steps.step.settled.blocked who m2.world.blocked × (c ≡ change_of x who)
 
--- what comes behind the local instructions, with the trace, and whether all are as ready as before
-pub record EndsFrom (more : Bool) (m : Machine) (items : List TraceItem) (p : ℕ) (same : Bool) (m2 : Machine) (items2 : List TraceItem) : Type 0 where
+-- what comes behind the local instructions, with the trace, and what it changes of who is ready
+pub record EndsFrom (more : Bool) (m : Machine) (items : List TraceItem) (p : ℕ) (c : Change) (m2 : Machine) (items2 : List TraceItem) : Type 0 where
   pub last : List TraceItem
   pub items_are : items2 ≡ items ++ last
   pub ends : Ends more m p last m2
-  pub leaves : same ≡ true → LeavesAll m last m2
+  pub changes : Changes more m p last m2 ends c
 
 -- the same with the local instructions before it
-pub record GoesFrom (m : Machine) (items : List TraceItem) (d : Done) (same : Bool) (m2 : Machine) (items2 : List TraceItem) : Type 0 where
+pub record GoesFrom (m : Machine) (items : List TraceItem) (d : Done) (c : Change) (m2 : Machine) (items2 : List TraceItem) : Type 0 where
   pub steps : Runs m.programs m.world (steps_done d) (advanced m d).world
   pub last : List TraceItem
   pub items_are : items2 ≡ items ++ (run_items d.pid d.ran ++ last)
   pub ends : Ends (is_more d.stop) (advanced m d) d.pid last m2
-  pub leaves : same ≡ true → LeavesAll (advanced m d) last m2
+  pub changes : Changes (is_more d.stop) (advanced m d) d.pid last m2 ends c

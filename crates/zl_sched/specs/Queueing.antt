@@ -1,5 +1,5 @@
 -- How the ready list is brought up to date. No public clause cites this module.
-use Rattle.std.specs.Prelude.{true, false, ℕ, Bool, ◌&&◌, not, ◌==◌, List, [], ◌∷◌, ◌++◌, if◌then◌else◌}
+use Rattle.std.specs.Prelude.{true, false, ℕ, ◌≡◌, ⊤, Bool, ◌&&◌, not, ◌==◌, List, [], ◌∷◌, ◌++◌, Option, Some, None, if◌then◌else◌}
 use Rattle.std.specs.List.{filter, list_any}
 use Rattle.zl_code.specs.Common.{World, is_process, is_ready}
 use Rattle.zl_code.specs.declared.history.CallName.{CallName}
@@ -7,7 +7,11 @@ use Rattle.zl_code.specs.declared.history.CallName.TheVariants as name
 use Rattle.zl_code.specs.declared.history.Outcome.TheVariants as outcome
 use Rattle.zl_code.specs.declared.history.TraceItem.{TraceItem}
 use Rattle.zl_code.specs.declared.history.TraceItem.TheVariants as item
-use Rattle.zl_sched.specs.Ready.{pids_of, is_in, still_ready, itself_ready}
+use Rattle.zl_calls.specs.declared.waking.Woke.{Woke}
+use Rattle.zl_calls.specs.declared.waking.Woke.TheVariants as woke
+use Rattle.zl_sched.specs.declared.change.Change.{Change}
+use Rattle.zl_sched.specs.declared.change.Change.TheVariants as change
+use Rattle.zl_sched.specs.Ready.{pids_of, is_in, others_of, still_ready, itself_ready}
 
 -- the process alone, where it is so
 abbrev pub one_if : Bool → ℕ → List ℕ
@@ -31,8 +35,34 @@ may_start_or_kill name.ProcessStart = true
 may_start_or_kill name.TaskKill = true
 may_start_or_kill _ = false
 
+-- the item of a step that starts and ends no other process: but for those that it wakes, the same others are ready
+abbrev pub leaves_others : TraceItem → Bool
+leaves_others (item.Call pid call outcome) = not (may_start_or_kill call)
+leaves_others _ = true
+
 -- the item of a step that starts and ends no process, and blocks none: but for those that it wakes, the same are ready
 abbrev pub leaves_ready : TraceItem → Bool
 leaves_ready (item.Run pid count) = true
 leaves_ready (item.Call pid call (outcome.Answered answer)) = not (may_start_or_kill call)
 leaves_ready _ = false
+
+-- only the process of the step and this one, or anybody
+abbrev pub few_if : Bool → Option ℕ → Change
+few_if is_so who = if is_so then change.Few who else change.Any
+
+-- what the step of the item changes of who is ready, behind which these woke
+abbrev pub change_of : TraceItem → Woke → Change
+change_of x woke.Nobody = if leaves_ready x then change.Nobody else few_if (leaves_others x) None
+change_of x (woke.One pid) = few_if (leaves_others x) (Some pid)
+change_of x woke.More = change.Any
+
+-- who woke, but for p
+abbrev pub woken_but : ℕ → Option ℕ → List ℕ
+woken_but p None = []
+woken_but p (Some q) = one_if (not (q == p)) q
+
+-- what the change of a step of p tells of the list behind it
+abbrev pub IsTold : World → ℕ → List ℕ → List ℕ → Change → Type 0
+IsTold after p out list change.Nobody = requeued after p out list ≡ others_of p list ++ (p ∷ [])
+IsTold after p out list (change.Few who) = requeued after p out list ≡ others_of p list ++ (woken_but p who ++ itself_ready after p)
+IsTold after p out list change.Any = ⊤

@@ -8,8 +8,9 @@ ghost use Rattle.zl_code.specs.Common.{is_process, lives};
 ghost use Rattle.zl_sched.specs.Ready.{is_in};
 ghost use Rattle.zl_sched.specs.HandIn.{Accepts, EndsFrom, GoesFrom, HandsIn, HasRoom, IsAwaited, Judges, LacksTurn, TakesNone, TakesOne, is_more as ends_with_more, items_of, put_back, run_items, unmarked};
 
+use crate::change::{Change, change_of};
 use crate::ready::{is_out, is_ready, queue, unmark};
-use crate::system::{System, leaves_ready, make_room};
+use crate::system::{System, make_room};
 use std::alloc::AllocError;
 use zl_calls::World;
 use zl_code::TraceItem;
@@ -175,9 +176,9 @@ impl System {
             return false;
         }
         let pid = done.pid();
-        let is_same = go(&mut self.world, &mut self.items, done);
+        let change = go(&mut self.world, &mut self.items, done);
         unmark(&mut self.out, pid);
-        queue(&mut self.ready, &self.out, &self.world, pid, is_same);
+        queue(&mut self.ready, &self.out, &self.world, pid, change);
         true
     }
 }
@@ -202,9 +203,9 @@ fn is_more(stop: Stop) -> bool
     }
 }
 
-/// The local instructions that were done, and the step behind them, with their items. It says whether
-/// all processes are as ready as before.
-fn go(world: &mut World, items: &mut Vec<TraceItem>, done: Done) -> bool
+/// The local instructions that were done, and the step behind them, with their items. It tells what
+/// they changed of who is ready.
+fn go(world: &mut World, items: &mut Vec<TraceItem>, done: Done) -> Change
     requires ready { IsTrue (is_ready_in world.old done.pid) }
     requires fits { Fits world.old done }
     requires room { length items.old.items + 2 ≤ vec_capacity items.old }
@@ -217,22 +218,21 @@ fn go(world: &mut World, items: &mut Vec<TraceItem>, done: Done) -> bool
     end(world, items, pid, is_last)
 }
 
-/// The step behind the local instructions, if they don't come last. It says whether all processes are as
-/// ready as before.
-fn end(world: &mut World, items: &mut Vec<TraceItem>, pid: Pid, is_last: bool) -> bool
+/// The step behind the local instructions, if they don't come last. It tells what that changed of who is
+/// ready.
+fn end(world: &mut World, items: &mut Vec<TraceItem>, pid: Pid, is_last: bool) -> Change
     requires ready { IsTrue (is_ready_in world.old pid) }
     requires room { length items.old.items + 1 ≤ vec_capacity items.old }
     ensures { EndsFrom is_last world.old items.old.items pid result world.new items.new.items }
 {
     if is_last {
-        return true;
+        return Change::Nobody;
     }
-    let blocked = world.blocked_count();
-    let Some(item) = world.step(pid) else {
+    let Some((item, woke)) = world.step(pid) else {
         unreachable!()
     };
     items.push_reserved(item);
-    leaves_ready(&item) && world.blocked_count() == blocked
+    change_of(&item, woke)
 }
 
 /// The item of so many local instructions, if there were any.

@@ -15,6 +15,7 @@
 //! legal history.
 #![tactic(auto)]
 
+mod change;
 mod fake;
 mod hand_in;
 mod kernel;

@@ -2,11 +2,12 @@
 //! of those that are out.
 
 ghost use Rattle.std.specs.Prelude.{IfOk, ◌≡◌, ◌==◌, ◌≤◌, ◌+◌, ◌++◌, ◌∷◌, [], true, not, length, vec_capacity};
-ghost use Rattle.std.specs.List.{filter};
+ghost use Rattle.std.specs.List.{filter, position};
 ghost use Rattle.zl_calls.specs.World.{is_ready_in};
-ghost use Rattle.zl_sched.specs.Queueing.{joining, joins, one_if, requeued};
-ghost use Rattle.zl_sched.specs.Ready.{is_in, others_of, ready_by_koid as are_ready_by_koid};
+ghost use Rattle.zl_sched.specs.Queueing.{IsTold, joining, joins, one_if, requeued, woken_but};
+ghost use Rattle.zl_sched.specs.Ready.{is_in, itself_ready, others_of, ready_by_koid as are_ready_by_koid};
 
+use crate::change::Change;
 use std::alloc::{AllocError, Global};
 use zl_calls::World;
 use zl_code::ProcState;
@@ -50,8 +51,44 @@ pub fn ready_by_koid(alloc: Global, world: &World) -> Result<Vec<Pid>, AllocErro
     Ok(ready)
 }
 
+/// The list after a step of a process in it that made this change.
+#[inline(always)]
+pub fn move_on(ready: &mut Vec<Pid>, out: &[Pid], world: &World, pid: Pid, change: Change)
+    requires told { IsTold world.now.world pid out.now ready.old.items change }
+    requires once { length (filter (λ q. q == pid) ready.old.items) ≡ 1 }
+    requires room { length (requeued world.now.world pid out.now ready.old.items)
+        ≤ vec_capacity ready.old }
+    ensures items { ready.new.items ≡ requeued world.now.world pid out.now ready.old.items }
+    ensures capacity { vec_capacity ready.new ≡ vec_capacity ready.old }
+{
+    match change {
+        Change::Nobody => move_last(ready, pid),
+        Change::Few(woke) => {
+            take_out(ready, pid);
+            come(ready, world, pid, woke);
+        }
+        Change::Any => requeue(ready, out, world, pid),
+    }
+}
+
+/// The same for a process that isn't in the list.
+pub fn queue(ready: &mut Vec<Pid>, out: &[Pid], world: &World, pid: Pid, change: Change)
+    requires told { IsTold world.now.world pid out.now ready.old.items change }
+    requires apart { length (filter (λ q. q == pid) ready.old.items) ≡ 0 }
+    requires room { length (requeued world.now.world pid out.now ready.old.items)
+        ≤ vec_capacity ready.old }
+    ensures items { ready.new.items ≡ requeued world.now.world pid out.now ready.old.items }
+    ensures capacity { vec_capacity ready.new ≡ vec_capacity ready.old }
+{
+    match change {
+        Change::Nobody => ready.push_reserved(pid),
+        Change::Few(woke) => come(ready, world, pid, woke),
+        Change::Any => requeue(ready, out, world, pid),
+    }
+}
+
 /// The process leaves its place in the list and goes last. Nothing is moved where it is the last.
-pub fn move_last(ready: &mut Vec<Pid>, pid: Pid)
+fn move_last(ready: &mut Vec<Pid>, pid: Pid)
     requires once { length (filter (λ q. q == pid) ready.old.items) ≡ 1 }
     requires room { length ready.old.items ≤ vec_capacity ready.old }
     ensures items { ready.new.items
@@ -62,15 +99,59 @@ pub fn move_last(ready: &mut Vec<Pid>, pid: Pid)
     if len > 0 && ready[len - 1] == pid {
         return;
     }
-    ready.retain(|other| *other != pid);
+    take_out(ready, pid);
     ready.push_reserved(pid);
+}
+
+/// The process leaves its place in the list, in which it stands once.
+fn take_out(ready: &mut Vec<Pid>, pid: Pid)
+    requires { length (filter (λ q. q == pid) ready.old.items) ≡ 1 }
+    ensures items { ready.new.items ≡ filter (λ q. not (q == pid)) ready.old.items }
+    ensures capacity { vec_capacity ready.new ≡ vec_capacity ready.old }
+{
+    let Some(place) = place_of(ready, pid) else {
+        return;
+    };
+    ready.remove(place);
+}
+
+/// Where the process first stands in the list.
+fn place_of(ready: &[Pid], pid: Pid) -> Option<usize>
+    ensures { result ≡ position (λ q. q == pid) ready.now }
+{
+    ready.iter().position(|other| *other == pid)
+}
+
+/// Who woke comes last, but for the process, and then the process, if it is ready.
+fn come(ready: &mut Vec<Pid>, world: &World, pid: Pid, woke: Option<Pid>)
+    requires room { length (ready.old.items
+        ++ (woken_but pid woke ++ itself_ready world.now.world pid)) ≤ vec_capacity ready.old }
+    ensures items { ready.new.items
+        ≡ ready.old.items ++ (woken_but pid woke ++ itself_ready world.now.world pid) }
+    ensures capacity { vec_capacity ready.new ≡ vec_capacity ready.old }
+{
+    push_woken(ready, pid, woke);
+    push_if(ready, is_ready(world, pid), pid);
+}
+
+/// Who woke comes last, but for the process.
+fn push_woken(ready: &mut Vec<Pid>, pid: Pid, woke: Option<Pid>)
+    requires room { length ready.old.items + length (woken_but pid woke)
+        ≤ vec_capacity ready.old }
+    ensures items { ready.new.items ≡ ready.old.items ++ woken_but pid woke }
+    ensures capacity { vec_capacity ready.new ≡ vec_capacity ready.old }
+{
+    let Some(other) = woke else {
+        return;
+    };
+    push_if(ready, other != pid, other);
 }
 
 /// The list after a step of the process: those that aren't ready leave it, and the process itself its
 /// place; those that are new in it go last by koid, and then the process, if it is ready.
-// Apart from the steps that leave the same ready, which are nearly all.
+// Apart from the steps that change little, which are nearly all.
 #[inline(never)]
-pub fn requeue(ready: &mut Vec<Pid>, out: &[Pid], world: &World, pid: Pid)
+fn requeue(ready: &mut Vec<Pid>, out: &[Pid], world: &World, pid: Pid)
     requires room { length (requeued world.now.world pid out.now ready.old.items)
         ≤ vec_capacity ready.old }
     ensures items { ready.new.items ≡ requeued world.now.world pid out.now ready.old.items }
@@ -78,25 +159,7 @@ pub fn requeue(ready: &mut Vec<Pid>, out: &[Pid], world: &World, pid: Pid)
 {
     ready.retain(|other| is_ready(world, *other) && *other != pid);
     join(ready, out, world, pid);
-    if is_ready(world, pid) {
-        ready.push_reserved(pid);
-    }
-}
-
-/// The same for a process that isn't in the list; where all are as ready as before, it goes last.
-pub fn queue(ready: &mut Vec<Pid>, out: &[Pid], world: &World, pid: Pid, is_same: bool)
-    requires same { is_same ≡ true
-        → requeued world.now.world pid out.now ready.old.items ≡ ready.old.items ++ pid ∷ [] }
-    requires room { length (requeued world.now.world pid out.now ready.old.items)
-        ≤ vec_capacity ready.old }
-    ensures items { ready.new.items ≡ requeued world.now.world pid out.now ready.old.items }
-    ensures capacity { vec_capacity ready.new ≡ vec_capacity ready.old }
-{
-    if is_same {
-        ready.push_reserved(pid);
-    } else {
-        requeue(ready, out, world, pid);
-    }
+    push_if(ready, is_ready(world, pid), pid);
 }
 
 /// The ready processes that are neither in the list nor out come to it by koid, but for this one.

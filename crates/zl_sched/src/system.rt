@@ -4,15 +4,15 @@ ghost use Rattle.zl_code.specs.declared.boot.BootCause.TheVariants.{NoMemory};
 ghost use Rattle.zl_code.specs.Boot.{BootRefusal};
 ghost use Rattle.zl_calls.specs.Makes.{IsReached};
 ghost use Rattle.zl_sched.specs.Follows.{turns_of};
-ghost use Rattle.zl_sched.specs.Queueing.{leaves_ready as item_leaves_ready};
 ghost use Rattle.zl_sched.specs.Ready.{Listed, is_in};
 ghost use Rattle.zl_sched.specs.System.{AreSafe, HasBooted, IsIdle, IsLegal, Turns, Walks, may_step, room_of};
 
-use crate::ready::{is_out, is_ready, move_last, ready_by_koid, requeue};
+use crate::change::change_of;
+use crate::ready::{is_out, is_ready, move_on, ready_by_koid};
 use std::alloc::{AllocError, Global};
 use std::marker::Model;
 use zl_calls::World;
-use zl_code::{Boot, BootCause, BootFault, CallName, Outcome, TraceItem};
+use zl_code::{Boot, BootCause, BootFault, TraceItem};
 use zl_interp::Library;
 use zl_rights::Pid;
 
@@ -190,16 +190,17 @@ impl System {
         if make_room(&mut self.ready, &self.world).is_err() {
             return self.refused(pid, Stepped::NoMemory);
         }
-        let blocked = self.world.blocked_count();
-        let Some(item) = self.world.step(pid) else {
+        let Some((item, woke)) = self.world.step(pid) else {
             return Stepped::NotReady;
         };
         self.items.push(item).unwrap();
-        if leaves_ready(&item) && self.world.blocked_count() == blocked {
-            move_last(&mut self.ready, pid);
-        } else {
-            requeue(&mut self.ready, &self.out, &self.world, pid);
-        }
+        move_on(
+            &mut self.ready,
+            &self.out,
+            &self.world,
+            pid,
+            change_of(&item, woke),
+        );
         Stepped::Ran
     }
 
@@ -258,19 +259,4 @@ pub(crate) fn make_room(ready: &mut Vec<Pid>, world: &World) -> Result<(), Alloc
     ensures capacity { vec_capacity ready.old ≤ vec_capacity ready.new }
 {
     ready.reserve(world.process_count())
-}
-
-/// Whether the step that the item tells of started and ended no process, and blocked none.
-pub(crate) fn leaves_ready(item: &TraceItem) -> bool
-    ensures { result ≡ item_leaves_ready item.now }
-{
-    match item {
-        TraceItem::Run { .. } => true,
-        TraceItem::Call {
-            call,
-            outcome: Outcome::Answered(_),
-            ..
-        } => { !matches!(call, CallName::ProcessStart | CallName::TaskKill) }
-        _ => false,
-    }
 }

@@ -85,7 +85,7 @@ fn repeat_step(world: &mut World, pid: Pid, item: TraceItem) -> bool
     ensures other { result ≡ false → StepDiffers world.old.programs world.old.world item }
 {
     match world.step(pid) {
-        Some(own) => own.is_same(item),
+        Some((own, _)) => own.is_same(item),
         None => false,
     }
 }

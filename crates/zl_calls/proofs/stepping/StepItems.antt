@@ -21,6 +21,9 @@ use Rattle.zl_calls.specs.declared.process.Process.{Process}
 use Rattle.zl_code.proofs.AwakeRuns.{step_awake}
 use Rattle.zl_code.specs.Sound.{IsSound}
 use Rattle.zl_calls.specs.World.{Machine, call_of}
+use Rattle.zl_calls.specs.Woke.{HaveLeft, StepsAndWakes}
+use Rattle.zl_calls.specs.declared.waking.Woke.{Woke}
+use Rattle.zl_calls.specs.declared.waking.Woke.TheVariants as woke
 use Rattle.zl_rights.specs.Wakes.{fired, woken}
 
 -- ---- the process that acts, and the item
@@ -148,6 +151,32 @@ local_list pid (item.Stuck at) blocked local = absurd (false≢true local)
 abbrev pub machine_value : Library → List Process → Objects → List ℕ → Machine
 machine_value lib ps r blocked = record { programs = lib; world = world_blocked ps r blocked }
 
+-- the process acted up to where processes wake, and then these did
+does_step : (m : Machine) (pid : ℕ) (m2 : Machine) (x : TraceItem) (who : Woke) (settled : WorldValue) → m2.programs ≡ m.programs
+    → DoesNext m.programs m.world pid x settled → m2.world ≡ wakes settled → HaveLeft settled.blocked who m2.world.blocked
+    → StepsAndWakes m pid m2 x who
+unfolding is_process
+does_step m pid m2 x who settled programs does awake told = record {
+  takes = record {
+    pid_is = does.pid_is;
+    ready = rw (does.acted.is_there, does.acted.is_ready) refl;
+    steps = record {
+      programs = programs;
+      step = record {
+        process = does.acted.process;
+        is_there = subst (λ (k : ℕ). get m.world.processes k ≡ Some does.acted.process) (sym does.pid_is) does.acted.is_there;
+        is_ready = does.acted.is_ready;
+        acted = does.acted.acted;
+        acts = subst (λ (k : ℕ). Acts m.programs m.world k (next_for m.programs does.acted.process) x does.acted.acted) (sym does.pid_is) does.acted.acts;
+        settled = settled;
+        settles = does.acted.settles;
+        ends_awake = awake;
+      };
+    };
+  };
+  left = told;
+}
+
 module _ (lib : Library) (ps : List Process) (r : Objects) (blocked : List ℕ) (pid : ℕ) where
   pub not_ready_in : {A : Type 0} (o : Option A) → state_passes is_ready (get (map process_entry ps) pid) ≡ false
       → IfNone o (is_ready_in (machine_value lib ps r blocked) pid ≡ false)
@@ -155,53 +184,24 @@ module _ (lib : Library) (ps : List Process) (r : Objects) (blocked : List ℕ) 
   not_ready_in None unready = unready
   not_ready_in (Some x) unready = tt
 
-  pub takes_step : (ps2 ps3 : List Process) (r2 left fires r3 : Objects) (blocked2 blocked3 : List ℕ) (x : TraceItem)
+  pub takes_step : (ps2 ps3 : List Process) (r2 left fires r3 : Objects) (blocked2 blocked3 : List ℕ) (x : TraceItem) (who : Woke)
       → DoesNext lib (world_blocked ps r blocked) pid x (world_left ps2 r2 blocked2)
       → EndsUnheld ps2 r2 left → world_blocked ps2 fires blocked2 ≡ fired (world_blocked ps2 left blocked2)
-      → world_blocked ps3 r3 blocked3 ≡ fold woken (world_blocked ps2 fires blocked2) blocked2
-      → TakesStep (machine_value lib ps r blocked) pid (machine_value lib ps3 r3 blocked3) x
-  unfolding is_process wakes fired
-  takes_step ps2 ps3 r2 left fires r3 blocked2 blocked3 x does unheld fired_so awake = record {
-    pid_is = does.pid_is;
-    ready = rw (does.acted.is_there, does.acted.is_ready) refl;
-    steps = record {
-      programs = refl;
-      step = subst (λ (k : ℕ). Step lib (world_blocked ps r blocked) k x (world_blocked ps3 r3 blocked3)) (sym does.pid_is) (record {
-        process = does.acted.process;
-        is_there = does.acted.is_there;
-        is_ready = does.acted.is_ready;
-        acted = does.acted.acted;
-        acts = does.acted.acts;
-        settled = world_left ps2 r2 blocked2;
-        settles = does.acted.settles;
-        ends_awake = awake ∙ ap (λ (w : WorldValue). fold woken w blocked2) (fired_so ∙ ap fired (unheld.world blocked2));
-      });
-    };
-  }
+      → world_blocked ps3 r3 blocked3 ≡ fold woken (world_blocked ps2 fires blocked2) blocked2 → HaveLeft blocked2 who blocked3
+      → StepsAndWakes (machine_value lib ps r blocked) pid (machine_value lib ps3 r3 blocked3) x who
+  unfolding wakes fired
+  takes_step ps2 ps3 r2 left fires r3 blocked2 blocked3 x who does unheld fired_so awake told = does_step (machine_value lib ps r blocked) pid
+      (machine_value lib ps3 r3 blocked3) x who (world_left ps2 r2 blocked2) refl does
+      (awake ∙ ap (λ (w : WorldValue). fold woken w blocked2) (fired_so ∙ ap fired (unheld.world blocked2))) told
 
   -- the same of a local instruction, behind which nothing is due
   pub takes_local : (ps2 : List Process) (r2 : Objects) (blocked2 : List ℕ) (x : TraceItem) → is_local x ≡ true
       → DoesNext lib (world_blocked ps r blocked) pid x (world_left ps2 r2 (then_blocked pid x blocked2))
       → wakes (world_left ps2 r2 blocked2) ≡ world_blocked ps2 r2 blocked2
-      → TakesStep (machine_value lib ps r blocked) pid (machine_value lib ps2 r2 blocked2) x
-  unfolding is_process
-  takes_local ps2 r2 blocked2 x local does quiet = record {
-    pid_is = does.pid_is;
-    ready = rw (does.acted.is_there, does.acted.is_ready) refl;
-    steps = record {
-      programs = refl;
-      step = subst (λ (k : ℕ). Step lib (world_blocked ps r blocked) k x (world_blocked ps2 r2 blocked2)) (sym does.pid_is) (record {
-        process = does.acted.process;
-        is_there = does.acted.is_there;
-        is_ready = does.acted.is_ready;
-        acted = does.acted.acted;
-        acts = does.acted.acts;
-        settled = world_left ps2 r2 (then_blocked pid x blocked2);
-        settles = does.acted.settles;
-        ends_awake = sym quiet ∙ ap (λ (b : List ℕ). wakes (world_left ps2 r2 b)) (sym (local_list pid x blocked2 local));
-      });
-    };
-  }
+      → StepsAndWakes (machine_value lib ps r blocked) pid (machine_value lib ps2 r2 blocked2) x woke.Nobody
+  takes_local ps2 r2 blocked2 x local does quiet = does_step (machine_value lib ps r blocked) pid (machine_value lib ps2 r2 blocked2) x woke.Nobody
+      (world_left ps2 r2 (then_blocked pid x blocked2)) refl does
+      (sym quiet ∙ ap (λ (b : List ℕ). wakes (world_left ps2 r2 b)) (sym (local_list pid x blocked2 local))) (sym (local_list pid x blocked2 local))
 
 -- behind such a step nothing is due
 pub stepped_awake : (lib : Library) (ps ps2 : List Process) (r r2 : Objects) (blocked blocked2 : List ℕ) (pid : ℕ) (x : TraceItem)

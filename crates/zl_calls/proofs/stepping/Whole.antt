@@ -1,7 +1,7 @@
 -- The invariant of the world behind each step, whether something was due or not.
 use Rattle.zl_calls.proofs.Common.{◌≡◌, ◌≤◌, ◌∙◌, ℕ, false, List, ap, sym, length, list_any, Library, Objects, TraceItem, TakesStep}
 use Rattle.zl_calls.proofs.Common.{DoesNext, EndsUnheld, FiresWaits, IsConsistent, AreBlocked, KeepSleepers, Seeks, World, fold, then_blocked, times, wakes}
-use Rattle.zl_calls.proofs.Common.{world_blocked, world_left, subst}
+use Rattle.zl_calls.proofs.Common.{world_blocked, world_left, refl, subst}
 use Rattle.zl_code.proofs.Common.{woken}
 use Rattle.zl_rights.specs.Wakes.{fired}
 use Rattle.zl_objects.specs.Awaited.{AreSameButSleepers}
@@ -10,7 +10,10 @@ use Rattle.zl_objects.specs.declared.awaited.Awaited.{Awaited}
 use Rattle.zl_calls.specs.Blocked.{AreSought, IsWhole}
 use Rattle.zl_calls.specs.Blocking.{FallsAsleep}
 use Rattle.zl_calls.specs.World.{awaited_of}
+use Rattle.zl_calls.specs.Woke.{HaveLeft, StepsAndWakes}
 use Rattle.zl_calls.specs.declared.process.Process.{Process}
+use Rattle.zl_calls.specs.declared.waking.Woke.{Woke}
+use Rattle.zl_calls.specs.declared.waking.Woke.TheVariants as woke
 use Rattle.zl_calls.proofs.objects.SameButWaits.{beside_consistent}
 use Rattle.zl_calls.proofs.stepping.Covered.{stepped_covered}
 use Rattle.zl_calls.proofs.stepping.StepItems.{machine_value, stepped_awake, stepped_programs, stepped_sound, takes_step}
@@ -50,28 +53,28 @@ module _ (lib : Library) (ps : List Process) (r : Objects) (b : List ℕ) (room 
     module _ (none : list_any (holds_now asleep.objects) asleep.waits ≡ false) (quiet : (k : ℕ) (a : Awaited) → Seeks asleep k a → is_due asleep.objects a ≡
         false)
       where
-        pub quiet_step : TakesStep (machine_value lib ps r b) pid (machine_value lib ps1 asleep (then_blocked pid x b1)) x
+        pub quiet_step : StepsAndWakes (machine_value lib ps r b) pid (machine_value lib ps1 asleep (then_blocked pid x b1)) x woke.Nobody
         quiet_step =
-            takes_step lib ps r b pid ps1 ps1 r1 left asleep asleep (then_blocked pid x b1) (then_blocked pid x b1) x does unheld
+            takes_step lib ps r b pid ps1 ps1 r1 left asleep asleep (then_blocked pid x b1) (then_blocked pid x b1) x woke.Nobody does unheld
             ((quiet_fires ps1 asleep asleep_consistent none).world (then_blocked pid x b1)
             ∙ ap fired (asleep_world ps1 pid x left asleep falls (then_blocked pid x b1)))
             (sym (quiet_wakes ps1 asleep asleep_consistent (then_blocked pid x b1) (λ k p a ds at is. quiet k (awaited_of a) (known k p a ds at is))
-            (then_blocked pid x b1)))
+            (then_blocked pid x b1))) refl
 
         pub quiet_whole : (room2 : ℕ) → length ps1 ≤ room2 → IsWhole lib ps1 asleep (then_blocked pid x b1) room2
-        quiet_whole room2 enough = stepped_whole ps1 asleep (then_blocked pid x b1) room2 quiet_step asleep_consistent list known enough
+        quiet_whole room2 enough = stepped_whole ps1 asleep (then_blocked pid x b1) room2 quiet_step.takes asleep_consistent list known enough
 
     -- waits fire, and processes wake
     module _ (fires : Objects) (fired_so : FiresWaits ps1 asleep fires) (ps2 : List Process) (r2 : Objects) (b2 : List ℕ)
         (wakes_so : world_blocked ps2 r2 b2 ≡ fold woken (world_blocked ps1 fires (then_blocked pid x b1)) (then_blocked pid x b1)) (list2 : AreBlocked ps2 b2)
-        (consistent2 : IsConsistent ps2 r2) (kept2 : KeepSleepers fires r2) where
-      woken_step : TakesStep (machine_value lib ps r b) pid (machine_value lib ps2 r2 b2) x
+        (consistent2 : IsConsistent ps2 r2) (kept2 : KeepSleepers fires r2) (w : Woke) (told : HaveLeft (then_blocked pid x b1) w b2) where
+      woken_step : StepsAndWakes (machine_value lib ps r b) pid (machine_value lib ps2 r2 b2) x w
       woken_step =
-          takes_step lib ps r b pid ps1 ps2 r1 left fires r2 (then_blocked pid x b1) b2 x does unheld
-          (fired_so.world (then_blocked pid x b1) ∙ ap fired (asleep_world ps1 pid x left asleep falls (then_blocked pid x b1))) wakes_so
+          takes_step lib ps r b pid ps1 ps2 r1 left fires r2 (then_blocked pid x b1) b2 x w does unheld
+          (fired_so.world (then_blocked pid x b1) ∙ ap fired (asleep_world ps1 pid x left asleep falls (then_blocked pid x b1))) wakes_so told
 
       awake : wakes (world_blocked ps2 r2 b2) ≡ world_blocked ps2 r2 b2
-      awake = stepped_awake lib ps ps2 r r2 b b2 pid x woken_step
+      awake = stepped_awake lib ps ps2 r r2 b b2 pid x woken_step.takes
 
       pub nothing_holds : list_any (holds_now r2.objects) r2.waits ≡ false
       nothing_holds = none_holding ps2 r2 consistent2 b2 list2 awake
@@ -79,13 +82,13 @@ module _ (lib : Library) (ps : List Process) (r : Objects) (b : List ℕ) (room 
       -- and the objects are calm
       module _ (r3 : Objects) (same : AreSameButSleepers r2 r3) (calms : (k : ℕ) (a : Awaited) → is_due r2.objects a ≡ false → Seeks r2 k a → Seeks r3 k a)
         where
-          pub calmed_step : TakesStep (machine_value lib ps r b) pid (machine_value lib ps2 r3 b2) x
-          calmed_step = subst (λ (w : World). TakesStep (machine_value lib ps r b) pid (record { programs = lib; world = w }) x)
+          pub calmed_step : StepsAndWakes (machine_value lib ps r b) pid (machine_value lib ps2 r3 b2) x w
+          calmed_step = subst (λ (v : World). StepsAndWakes (machine_value lib ps r b) pid (record { programs = lib; world = v }) x w)
               (sym (calmed_world ps2 r2 r3 same b2)) woken_step
 
           pub calmed_whole : (room2 : ℕ) → length ps2 ≤ room2 → IsWhole lib ps2 r3 b2 room2
           calmed_whole room2 enough =
-              stepped_whole ps2 r3 b2 room2 calmed_step (calmed_consistent ps2 r2 r3 same consistent2) list2
+              stepped_whole ps2 r3 b2 room2 calmed_step.takes (calmed_consistent ps2 r2 r3 same consistent2) list2
               (λ k p a ds at is. calms k (awaited_of a) (none_due ps2 r2 consistent2 b2 list2 awake k p a ds at is)
               (woken_sought ps1 ps2 fires r2 (then_blocked pid x b1) b2 wakes_so list2 kept2
               (λ j q e es there state. same_seeks asleep fires fired_so.asleep j (awaited_of e) (known j q e es there state)) k p a ds at is)) enough

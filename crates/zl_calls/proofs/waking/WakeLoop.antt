@@ -5,18 +5,22 @@ use Rattle.zl_calls.proofs.Common.{process_entry, world_blocked, IsConsistent, A
 use Rattle.std.specs.List.{filter}
 use Rattle.std.specs.Prelude.{drop}
 use Rattle.zl_code.proofs.Common.{Process as ProcessValue, is_blocked, woken}
+use Rattle.zl_calls.specs.Woke.{HaveLeft, and_one}
 use Rattle.zl_calls.specs.declared.process.Process.{Process}
+use Rattle.zl_calls.specs.declared.waking.Woke.{Woke}
+use Rattle.zl_calls.specs.declared.waking.Woke.TheVariants as woke
 use Rattle.zl_calls.proofs.waking.BlockedLists.{none_filtered}
 
 -- those before the place in the list have had their turn; the list was first at the start
 pub record IsWaking (ps0 : List Process) (r0 : Objects) (first : List ℕ) (capacity0 place : ℕ) (ps : List Process) (r : Objects) (blocked : List ℕ)
-    (capacity : ℕ) : Type 0 where
+    (capacity : ℕ) (who : Woke) : Type 0 where
   pub so_far : fold woken (world_blocked ps r blocked) (drop place blocked) ≡ fold woken (world_blocked ps0 r0 first) first
   pub consistent : IsConsistent ps r
   pub list : AreBlocked ps blocked
   pub count : length ps ≡ length ps0
   pub same_room : capacity ≡ capacity0
   pub asleep : KeepSleepers r0 r
+  pub told : HaveLeft first who blocked
 
 -- ---- places of a list
 
@@ -54,7 +58,7 @@ once_there (x ∷ xs) (suc i) d p within at =
     rw (times_cons p x xs) (omega (arith, later))
 
 -- the one at the place is the only one that is filtered out
-removed_one : (xs : List ℕ) (i d p : ℕ) → i < length xs → get_or xs i d ≡ p → times p xs ≤ 1 → filter (λ q. not (q == p)) xs ≡ take i xs ++ drop (suc i) xs
+pub removed_one : (xs : List ℕ) (i d p : ℕ) → i < length xs → get_or xs i d ≡ p → times p xs ≤ 1 → filter (λ q. not (q == p)) xs ≡ take i xs ++ drop (suc i) xs
 removed_one [] i d p within at once = absurd (omega (arith, within))
 removed_one (x ∷ xs) zero d p within at once =
     let here : (x == p) ≡ true = eq-eqb x p at in
@@ -93,23 +97,35 @@ module _ (ps : List Process) (blocked : List ℕ) (are : AreBlocked ps blocked) 
       by_test true once = omega (arith, once)
       by_test false once = omega (arith, once)
 
+  pub one_there : times pid blocked ≡ 1
+  one_there = omega (arith, at_most_once, once_there blocked i d pid within at)
+
   pub removed_is : filter (λ q. not (q == pid)) blocked ≡ take i blocked ++ drop (suc i) blocked
   removed_is = removed_one blocked i d pid within at at_most_once
+
+-- one more left the list, in which it stood once
+one_left : (first blocked blocked2 : List ℕ) (pid : ℕ) (w : Woke) → HaveLeft first w blocked → times pid blocked ≡ 1
+    → blocked2 ≡ filter (λ q. not (q == pid)) blocked → HaveLeft first (and_one w pid) blocked2
+one_left first blocked blocked2 pid woke.Nobody told once is =
+    (ap (times pid) (sym told) ∙ once, is ∙ ap (filter (λ q. not (q == pid))) told)
+one_left first blocked blocked2 pid (woke.One q) told once is = tt
+one_left first blocked blocked2 pid woke.More told once is = tt
 
 -- ---- the loop
 
 module _ (ps0 : List Process) (r0 : Objects) (first : List ℕ) (capacity0 : ℕ) where
-  pub begins : IsConsistent ps0 r0 → AreBlocked ps0 first → IsWaking ps0 r0 first capacity0 0 ps0 r0 first capacity0
-  begins consistent are = record { so_far = refl; consistent = consistent; list = are; count = refl; same_room = refl; asleep = (refl, refl) }
+  pub begins : IsConsistent ps0 r0 → AreBlocked ps0 first → IsWaking ps0 r0 first capacity0 0 ps0 r0 first capacity0 woke.Nobody
+  begins consistent are = record { so_far = refl; consistent = consistent; list = are; count = refl; same_room = refl; asleep = (refl, refl); told = refl }
 
-  module _ (i : ℕ) (ps : List Process) (r : Objects) (blocked : List ℕ) (capacity : ℕ) (so_far : IsWaking ps0 r0 first capacity0 i ps r blocked capacity) where
+  module _ (i : ℕ) (ps : List Process) (r : Objects) (blocked : List ℕ) (capacity : ℕ) (w : Woke)
+      (so_far : IsWaking ps0 r0 first capacity0 i ps r blocked capacity w) where
     module _ (d pid : ℕ) (within : i < length blocked) (at : get_or blocked i d ≡ pid) (ps2 : List Process) (r2 : Objects) where
       turn_is : fold woken (world_blocked ps r blocked) (drop i blocked) ≡ fold woken (woken (world_blocked ps r blocked) pid) (drop (suc i) blocked)
       turn_is = ap (fold woken (world_blocked ps r blocked)) (drop_at blocked i d within ∙ ap (λ (x : ℕ). x ∷ drop (suc i) blocked) at)
 
       -- it woke, and left the list
       pub turn_awake : WakesOne pid true ps r ps2 r2 → KeepSleepers r r2 → IsWaking ps0 r0 first capacity0 i ps2 r2 (take i blocked ++ drop (suc i) blocked)
-          capacity
+          capacity (and_one w pid)
       turn_awake wakes_it same =
           let gone = removed_is ps blocked so_far.list i d pid within at in
           record {
@@ -121,10 +137,11 @@ module _ (ps0 : List Process) (r0 : Objects) (first : List ℕ) (capacity0 : ℕ
             count = wakes_it.count ∙ so_far.count;
             same_room = so_far.same_room;
             asleep = (same.0 ∙ so_far.asleep.0, same.1 ∙ so_far.asleep.1);
+            told = one_left first blocked _ pid w so_far.told (one_there ps blocked so_far.list i d pid within at) (sym gone);
           }
 
       -- it stays blocked
-      pub turn_asleep : WakesOne pid false ps r ps2 r2 → KeepSleepers r r2 → IsWaking ps0 r0 first capacity0 (i + 1) ps2 r2 blocked capacity
+      pub turn_asleep : WakesOne pid false ps r ps2 r2 → KeepSleepers r r2 → IsWaking ps0 r0 first capacity0 (i + 1) ps2 r2 blocked capacity w
       turn_asleep wakes_it same = record {
         so_far = ap (fold woken (world_blocked ps2 r2 blocked)) (ap (λ (n : ℕ). drop n blocked) add_one)
             ∙ (ap (λ (w : World). fold woken w (drop (suc i) blocked)) (wakes_it.world blocked)
@@ -134,6 +151,7 @@ module _ (ps0 : List Process) (r0 : Objects) (first : List ℕ) (capacity0 : ℕ
         count = wakes_it.count ∙ so_far.count;
         same_room = so_far.same_room;
         asleep = (same.0 ∙ so_far.asleep.0, same.1 ∙ so_far.asleep.1);
+        told = so_far.told;
       }
         where
           add_one : i + 1 ≡ suc i

@@ -124,8 +124,8 @@ fn push_own(hints: &mut String, world: &mut World, item: TraceItem) -> Result<()
     let mut count = 0u32;
     for _ in 0..most {
         match world.step(pid) {
-            Some(TraceItem::Run { .. }) => count = count.saturating_add(1),
-            Some(own) if count == 0 => {
+            Some((TraceItem::Run { .. }, _)) => count = count.saturating_add(1),
+            Some((own, _)) if count == 0 => {
                 hints.push_str("; here it is ")?;
                 return push_words(hints, own);
             }

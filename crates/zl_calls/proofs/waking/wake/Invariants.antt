@@ -6,7 +6,7 @@ use Rattle.zl_calls.proofs.waking.wake.Given as goal
 abbrev pub invariant-loop-place : goal.invariant-loop-place
 invariant-loop-place l =
     IsWaking l.fn.processes.list.items l.fn.objects l.fn.blocked.items (vec_capacity l.fn.blocked) l.place l.processes.list.items l.objects l.blocked.items
-    (vec_capacity l.blocked)
+    (vec_capacity l.blocked) l.woke
 
 abbrev pub decreases-loop-place : goal.decreases-loop-place
 decreases-loop-place l = vec_len l.blocked - l.place

@@ -1,4 +1,6 @@
-use Rattle.zl_sched.proofs.Common.{◌∙◌, refl}
+use Rattle.zl_sched.proofs.Common.{List, TraceItem, ap, append_assoc, refl, run_items, ◌++◌, ◌∙◌}
+use Rattle.zl_calls.specs.Turns.{advanced}
+use Rattle.zl_sched.specs.HandIn.{EndsFrom, is_more}
 use Rattle.zl_code.specs.Common.{is_ready}
 use Rattle.zl_sched.proofs.MarksKept.{state_kept}
 use Rattle.zl_sched.proofs.hand_in.go.Goals as goal
@@ -7,3 +9,16 @@ pub end-requires-clause-ready : goal.end-requires-clause-ready
 end-requires-clause-ready c =
     rw (c.advance.ensures.cpu, c.pid-pid.ensures)
     (state_kept c.args.world.now.world c.args.done.pid (λ p. record p { cpu = c.args.done.to }) (λ y. refl) is_ready c.args.done.pid ∙ c.requires.ready)
+
+pub returns : goal.returns
+returns c =
+    let behind : EndsFrom (is_more c.args.done.stop) (advanced c.args.world.now c.args.done) c.push_run.new.items.items c.args.done.pid c.end.result
+    c.end.new.world c.end.new.items.items = rw (c.is_more-is_last.ensures, c.stop.ensures, c.advance.ensures.cpu, c.pid-pid.ensures) at c.end.ensures in
+    record {
+      steps = rw c.advance.ensures.cpu at c.advance.ensures.steps;
+      last = behind.last;
+      items_are = behind.items_are ∙ (ap (λ (xs : List TraceItem). xs ++ behind.last) (rw (c.pid-pid.ensures, c.ran.ensures.count) at c.push_run.ensures.items)
+          ∙ append_assoc c.args.items.now.items (run_items c.args.done.pid c.args.done.ran) behind.last);
+      ends = behind.ends;
+      changes = behind.changes;
+    }

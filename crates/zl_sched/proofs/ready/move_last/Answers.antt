@@ -1,6 +1,4 @@
-use Rattle.zl_sched.proofs.Common.{List, [], ap, arith, filter_same, get_or, length, refl, rules, subst, sym, ℕ, ◌++◌, ◌-◌, ◌∙◌, ◌∷◌, ◌≡◌}
-use Rattle.std.specs.Prelude.{not, ◌==◌}
-use Rattle.std.specs.List.{filter}
+use Rattle.zl_sched.proofs.Common.{List, [], ap, arith, get_or, length, refl, subst, sym, ℕ, ◌++◌, ◌-◌, ◌∙◌, ◌∷◌, ◌≡◌}
 use Rattle.zl_sched.proofs.Queued.{last_stays_at, room_left}
 use Rattle.zl_sched.proofs.ready.move_last.Goals as goal
 
@@ -17,15 +15,17 @@ returns-then-index-pid c =
 
 pub push_reserved-requires : goal.push_reserved-requires
 push_reserved-requires c =
-    let left : c.retain.new.self.items ≡ filter (λ q. not (q == c.args.pid)) c.args.ready.now.items = filter_same _ _ _
-    (λ x b f' k. search rules) _ _ c.retain.ensures.filtered in
-    omega (arith, c.requires.room, c.retain.ensures.capacity, ap length left, room_left c.args.pid c.args.ready.now.items c.requires.once)
+    omega (
+      arith,
+      c.requires.room,
+      c.take_out.ensures.capacity,
+      ap length c.take_out.ensures.items,
+      room_left c.args.pid c.args.ready.now.items c.requires.once,
+      c.take_out.new.ready.ok.0,
+    )
 
 pub returns : goal.returns
-returns c =
-    let left : c.retain.new.self.items ≡ filter (λ q. not (q == c.args.pid)) c.args.ready.now.items = filter_same _ _ _
-    (λ x b f' k. search rules) _ _ c.retain.ensures.filtered in
-    record {
-      items = rw (c.push_reserved.ensures.items) (ap (λ (xs : List ℕ). xs ++ (c.args.pid ∷ [])) left);
-      capacity = c.push_reserved.ensures.capacity ∙ c.retain.ensures.capacity;
-    }
+returns c = record {
+  items = rw (c.push_reserved.ensures.items) (ap (λ (xs : List ℕ). xs ++ (c.args.pid ∷ [])) c.take_out.ensures.items);
+  capacity = c.push_reserved.ensures.capacity ∙ c.take_out.ensures.capacity;
+}

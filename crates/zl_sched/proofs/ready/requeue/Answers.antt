@@ -1,5 +1,5 @@
-use Rattle.zl_sched.proofs.Common.{arith, filter_same, length, refl, rules, still_ready, sym, vec_capacity, ◌<◌, ◌∙◌, ◌≡◌}
-use Rattle.zl_sched.proofs.Joining.{join_fits, push_fits, requeued_with, requeued_without}
+use Rattle.zl_sched.proofs.Common.{arith, filter_same, refl, rules, still_ready, vec_capacity, ◌∙◌, ◌≡◌}
+use Rattle.zl_sched.proofs.Joining.{join_fits, push_fits, requeued_all}
 use Rattle.zl_sched.proofs.ready.requeue.Goals as goal
 
 pub join-requires : goal.join-requires
@@ -11,33 +11,23 @@ join-requires c =
           (vec_capacity c.retain.new.self) (omega (arith, c.requires.room, c.retain.ensures.capacity));
     }
 
-pub push_reserved-requires : goal.push_reserved-requires
-push_reserved-requires c =
-    let kept : c.retain.new.self.items ≡ still_ready c.args.world.now.world c.args.pid c.args.ready.now.items = filter_same _ _ _
-    (λ x b f' k. search rules) _ _ c.retain.ensures.filtered in
-    let fits : length c.join.new.ready.items < vec_capacity c.join.new.ready
-    = push_fits c.args.world.now.world c.args.pid c.args.out.now c.args.ready.now.items c.retain.new.self.items c.join.new.ready.items kept
-    c.join.ensures.items (vec_capacity c.join.new.ready)
-    (omega (arith, c.requires.room, c.retain.ensures.capacity, c.join.ensures.capacity)) (sym (c.if-is_ready.ensures {u = tt})) in
-    omega (arith, fits, c.join.new.ready.ok.0)
-
-pub returns-then-is_ready : goal.returns-then-is_ready
-returns-then-is_ready c =
+pub push_if-requires : goal.push_if-requires
+push_if-requires c =
     let kept : c.retain.new.self.items ≡ still_ready c.args.world.now.world c.args.pid c.args.ready.now.items = filter_same _ _ _
     (λ x b f' k. search rules) _ _ c.retain.ensures.filtered in
     record {
-      items = c.push_reserved.ensures.items
-          ∙ requeued_with c.args.world.now.world c.args.pid c.args.out.now c.args.ready.now.items c.retain.new.self.items c.join.new.ready.items kept
-          c.join.ensures.items (sym (c.if-is_ready.ensures {u = tt}));
-      capacity = c.push_reserved.ensures.capacity ∙ (c.join.ensures.capacity ∙ c.retain.ensures.capacity);
+      room = push_fits c.args.world.now.world c.args.pid c.args.out.now c.args.ready.now.items c.retain.new.self.items c.join.new.ready.items kept
+          c.join.ensures.items (vec_capacity c.join.new.ready)
+          (omega (arith, c.requires.room, c.retain.ensures.capacity, c.join.ensures.capacity)) c.is_ready.result c.is_ready.ensures;
     }
 
-pub returns-else-is_ready : goal.returns-else-is_ready
-returns-else-is_ready c =
+pub returns : goal.returns
+returns c =
     let kept : c.retain.new.self.items ≡ still_ready c.args.world.now.world c.args.pid c.args.ready.now.items = filter_same _ _ _
     (λ x b f' k. search rules) _ _ c.retain.ensures.filtered in
     record {
-      items = requeued_without c.args.world.now.world c.args.pid c.args.out.now c.args.ready.now.items c.retain.new.self.items c.join.new.ready.items
-          kept c.join.ensures.items (sym (c.if-is_ready.ensures {u = tt}));
-      capacity = c.join.ensures.capacity ∙ c.retain.ensures.capacity;
+      items = c.push_if.ensures.items
+          ∙ requeued_all c.args.world.now.world c.args.pid c.args.out.now c.args.ready.now.items c.retain.new.self.items c.join.new.ready.items kept
+          c.join.ensures.items c.is_ready.result c.is_ready.ensures;
+      capacity = c.push_if.ensures.capacity ∙ (c.join.ensures.capacity ∙ c.retain.ensures.capacity);
     }

@@ -8,4 +8,4 @@ unreachable-requires c = false≢true (rw (unready_no_call c.args.self.now c.arg
 
 pub returns-clause-no_memory : goal.returns-clause-no_memory
 returns-clause-no_memory c = wants_memory c.args.self.now c.step.new.self c.args.pid c.in-Call.pid c.in-Call.call c.in-Call.outcome
-    (subst (λ (x : TraceItem). TakesStep c.args.self.now c.args.pid c.step.new.self x) c.in-Call.is ((c.in-Some.ensures {u = tt}).ran))
+    (subst (λ (x : TraceItem). TakesStep c.args.self.now c.args.pid c.step.new.self x) c.in-Call.is ((c.in-Some.ensures {u = tt}).ran.takes))

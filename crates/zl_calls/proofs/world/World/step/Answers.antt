@@ -31,8 +31,9 @@ calm-requires c =
     c.act_for.new.processes.list.items c.act_for.new.objects c.end_behind.new.objects c.fall_asleep.new.objects
     c.act_for.new.blocked.items c.in_ok-item.ensures.acts c.in_ok-item.ensures.list c.in_ok-item.ensures.fewer c.in_ok-item.ensures.asleep
     c.end_behind.ensures c.fall_asleep.ensures
-    c.fire_waits.new.objects c.fire_waits.ensures c.wake.new.processes.list.items c.wake.new.objects c.wake.new.blocked.items
-    (rw c.add_blocked.ensures.items at c.wake.ensures.wakes) c.wake.ensures.list c.wake.ensures.consistent c.wake.ensures.asleep
+    c.fire_waits.new.objects c.fire_waits.ensures c.wake-woke.new.processes.list.items c.wake-woke.new.objects c.wake-woke.new.blocked.items
+    (rw c.add_blocked.ensures.items at c.wake-woke.ensures.wakes) c.wake-woke.ensures.list c.wake-woke.ensures.consistent c.wake-woke.ensures.asleep
+    c.wake-woke.result (rw c.add_blocked.ensures.items at c.wake-woke.ensures.told)
 
 pub returns-clause-ran : goal.returns-clause-ran
 returns-clause-ran c = rw (← c.self.view_is)
@@ -41,8 +42,9 @@ returns-clause-ran c = rw (← c.self.view_is)
     c.act_for.new.processes.list.items c.act_for.new.objects c.end_behind.new.objects c.fall_asleep.new.objects
     c.act_for.new.blocked.items c.in_ok-item.ensures.acts c.in_ok-item.ensures.list c.in_ok-item.ensures.fewer c.in_ok-item.ensures.asleep
     c.end_behind.ensures c.fall_asleep.ensures
-    c.fire_waits.new.objects c.fire_waits.ensures c.wake.new.processes.list.items c.wake.new.objects c.wake.new.blocked.items
-    (rw c.add_blocked.ensures.items at c.wake.ensures.wakes) c.wake.ensures.list c.wake.ensures.consistent c.wake.ensures.asleep
+    c.fire_waits.new.objects c.fire_waits.ensures c.wake-woke.new.processes.list.items c.wake-woke.new.objects c.wake-woke.new.blocked.items
+    (rw c.add_blocked.ensures.items at c.wake-woke.ensures.wakes) c.wake-woke.ensures.list c.wake-woke.ensures.consistent c.wake-woke.ensures.asleep
+    c.wake-woke.result (rw c.add_blocked.ensures.items at c.wake-woke.ensures.told)
     c.calm.new.self c.calm.ensures.same c.calm.ensures.sleepers)
 
 pub add_blocked-requires : goal.add_blocked-requires
@@ -58,10 +60,11 @@ invariant_of-self-2 c =
     c.act_for.new.processes.list.items c.act_for.new.objects c.end_behind.new.objects c.fall_asleep.new.objects
     c.act_for.new.blocked.items c.in_ok-item.ensures.acts c.in_ok-item.ensures.list c.in_ok-item.ensures.fewer c.in_ok-item.ensures.asleep
     c.end_behind.ensures c.fall_asleep.ensures
-    c.fire_waits.new.objects c.fire_waits.ensures c.wake.new.processes.list.items c.wake.new.objects c.wake.new.blocked.items
-    (rw c.add_blocked.ensures.items at c.wake.ensures.wakes) c.wake.ensures.list c.wake.ensures.consistent c.wake.ensures.asleep
-    c.calm.new.self c.calm.ensures.same c.calm.ensures.sleepers (vec_capacity c.wake.new.blocked)
-    (omega (arith, c.wake.ensures.count, c.wake.ensures.capacity, c.add_blocked.ensures.capacity, c.act_for.ensures.room))
+    c.fire_waits.new.objects c.fire_waits.ensures c.wake-woke.new.processes.list.items c.wake-woke.new.objects c.wake-woke.new.blocked.items
+    (rw c.add_blocked.ensures.items at c.wake-woke.ensures.wakes) c.wake-woke.ensures.list c.wake-woke.ensures.consistent c.wake-woke.ensures.asleep
+    c.wake-woke.result (rw c.add_blocked.ensures.items at c.wake-woke.ensures.told)
+    c.calm.new.self c.calm.ensures.same c.calm.ensures.sleepers (vec_capacity c.wake-woke.new.blocked)
+    (omega (arith, c.wake-woke.ensures.count, c.wake-woke.ensures.capacity, c.add_blocked.ensures.capacity, c.act_for.ensures.room))
 
 -- ---- nothing waits there
 
@@ -99,9 +102,9 @@ invariant_of-self-then-is_local c =
     let local : is_local c.in_ok-item.item ≡ true = sym c.is_local.ensures ∙ c.if-is_local.true in
     let taken : TakesStep (machine_value c.self.inside.library c.self.inside.processes.list.items c.self.inside.objects c.self.inside.blocked.items) c.args.pid
     (machine_value c.self.inside.library c.act_for.new.processes.list.items c.act_for.new.objects c.act_for.new.blocked.items) c.in_ok-item.item
-    = takes_local c.self.inside.library c.self.inside.processes.list.items c.self.inside.objects c.self.inside.blocked.items c.args.pid
+    = (takes_local c.self.inside.library c.self.inside.processes.list.items c.self.inside.objects c.self.inside.blocked.items c.args.pid
     c.act_for.new.processes.list.items c.act_for.new.objects c.act_for.new.blocked.items c.in_ok-item.item local
-    c.in_ok-item.ensures.acts (c.in_ok-item.ensures.quiet local c.self.invariant.awake) in
+    c.in_ok-item.ensures.acts (c.in_ok-item.ensures.quiet local c.self.invariant.awake)).takes in
     let list : AreBlocked c.act_for.new.processes.list.items c.act_for.new.blocked.items =
     subst (λ (ks : List ℕ). AreBlocked c.act_for.new.processes.list.items ks)
     (local_list c.args.pid c.in_ok-item.item c.act_for.new.blocked.items local) c.in_ok-item.ensures.list in

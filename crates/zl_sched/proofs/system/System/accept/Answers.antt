@@ -1,30 +1,40 @@
 use Rattle.zl_sched.proofs.Common.{GoesFrom, HasRoom, IsAwaited, System, ap, arith, done, length, others_of, requeued, vec_capacity, ◌∙◌, ◌≡◌, ◌≤◌}
-use Rattle.zl_sched.proofs.HandedIn.{accepted_room, accepted_so, accepted_whole, goes_last, requeued_room, requeued_so}
+use Rattle.zl_sched.proofs.HandedIn.{absent, accepted_room, accepted_so, accepted_whole, goes_told, requeued_room, requeued_so}
 use Rattle.zl_sched.proofs.Held.{held}
 use Rattle.zl_sched.proofs.system.System.accept.Goals as goal
 
-pub queue-requires-clause-same : goal.queue-requires-clause-same
-queue-requires-clause-same c is =
+pub queue-requires-clause-told : goal.queue-requires-clause-told
+queue-requires-clause-told c =
     let before : System = held c.self.inside.world c.self.inside.items.items c.self.inside.boot.statements.items c.self.inside.boot.limit
     c.self.inside.ready.items c.self.inside.out.items in
     let awaited : IsAwaited before c.args.done = rw (← c.self.view_is) at c.requires.awaited in
-    let went : GoesFrom before.machine before.items c.args.done c.go-is_same.result c.go-is_same.new.world
-    c.go-is_same.new.items.items = rw c.reserve.ensures.items at c.go-is_same.ensures in
+    let went : GoesFrom before.machine before.items c.args.done c.go-change.result c.go-change.new.world
+    c.go-change.new.items.items = rw c.reserve.ensures.items at c.go-change.ensures in
     let left : c.deref.result.now ≡ others_of c.args.done.pid before.out = c.deref.ensures.value ∙ rw c.pid-pid.ensures at c.unmark.ensures.items in
     rw (c.pid-pid.ensures, left, c.make_room.ensures.items)
-    (goes_last before c.self.invariant.0 c.args.done awaited c.go-is_same.result c.go-is_same.new.world c.go-is_same.new.items.items went is)
+    (goes_told before c.self.invariant.0 c.args.done awaited c.go-change.result c.go-change.new.world c.go-change.new.items.items went)
+
+pub queue-requires-clause-apart : goal.queue-requires-clause-apart
+queue-requires-clause-apart c =
+    let before : System = held c.self.inside.world c.self.inside.items.items c.self.inside.boot.statements.items c.self.inside.boot.limit
+    c.self.inside.ready.items c.self.inside.out.items in
+    let awaited : IsAwaited before c.args.done = rw (← c.self.view_is) at c.requires.awaited in
+    let went : GoesFrom before.machine before.items c.args.done c.go-change.result c.go-change.new.world
+    c.go-change.new.items.items = rw c.reserve.ensures.items at c.go-change.ensures in
+    rw (c.pid-pid.ensures, c.make_room.ensures.items)
+    (absent before c.self.invariant.0 c.args.done awaited c.go-change.result c.go-change.new.world c.go-change.new.items.items went)
 
 pub queue-requires-clause-room : goal.queue-requires-clause-room
 queue-requires-clause-room c =
     let before : System = held c.self.inside.world c.self.inside.items.items c.self.inside.boot.statements.items c.self.inside.boot.limit
     c.self.inside.ready.items c.self.inside.out.items in
     let awaited : IsAwaited before c.args.done = rw (← c.self.view_is) at c.requires.awaited in
-    let went : GoesFrom before.machine before.items c.args.done c.go-is_same.result c.go-is_same.new.world
-    c.go-is_same.new.items.items = rw c.reserve.ensures.items at c.go-is_same.ensures in
+    let went : GoesFrom before.machine before.items c.args.done c.go-change.result c.go-change.new.world
+    c.go-change.new.items.items = rw c.reserve.ensures.items at c.go-change.ensures in
     let left : c.deref.result.now ≡ others_of c.args.done.pid before.out = c.deref.ensures.value ∙ rw c.pid-pid.ensures at c.unmark.ensures.items in
     let places : length before.machine.world.processes ≤ vec_capacity c.make_room.new.ready = done _ _
     (c.if-is_err-2.ensures {u = tt}).value c.make_room.ensures.room in
-    let room = requeued_room before c.self.invariant.0 c.args.done awaited c.go-is_same.result c.go-is_same.new.world c.go-is_same.new.items.items went in
+    let room = requeued_room before c.self.invariant.0 c.args.done awaited c.go-change.result c.go-change.new.world c.go-change.new.items.items went in
     rw (c.pid-pid.ensures, left, c.make_room.ensures.items) (omega (arith, room, places))
 
 pub invariant_of-self-2 : goal.invariant_of-self-2
@@ -33,17 +43,17 @@ invariant_of-self-2 c =
     c.self.inside.ready.items c.self.inside.out.items in
     let awaited : IsAwaited before c.args.done = rw (← c.self.view_is) at c.requires.awaited in
     let room : HasRoom before c.args.done = rw (← c.self.view_is) at c.requires.room in
-    let went : GoesFrom before.machine before.items c.args.done c.go-is_same.result c.go-is_same.new.world
-    c.go-is_same.new.items.items = rw c.reserve.ensures.items at c.go-is_same.ensures in
+    let went : GoesFrom before.machine before.items c.args.done c.go-change.result c.go-change.new.world
+    c.go-change.new.items.items = rw c.reserve.ensures.items at c.go-change.ensures in
     let out : c.unmark.new.out.items ≡ others_of c.args.done.pid before.out = rw c.pid-pid.ensures at c.unmark.ensures.items in
     let left : c.deref.result.now ≡ others_of c.args.done.pid before.out = c.deref.ensures.value ∙ out in
-    let queue : c.queue.new.ready.items ≡ requeued c.go-is_same.new.world.world c.args.done.pid (others_of c.args.done.pid before.out) before.ready
+    let queue : c.queue.new.ready.items ≡ requeued c.go-change.new.world.world c.args.done.pid (others_of c.args.done.pid before.out) before.ready
     = rw (c.pid-pid.ensures, left, c.make_room.ensures.items) at c.queue.ensures.items in
     let places : length before.machine.world.processes ≤ vec_capacity c.make_room.new.ready = done _ _
     (c.if-is_err-2.ensures {u = tt}).value c.make_room.ensures.room in
-    let fits = accepted_room before c.self.invariant.0 c.args.done awaited c.go-is_same.result c.go-is_same.new.world c.go-is_same.new.items.items went in
-    let is = queue ∙ requeued_so before c.self.invariant.0 c.args.done awaited c.go-is_same.result c.go-is_same.new.world c.go-is_same.new.items.items went in (
-      rw out (accepted_whole before c.self.invariant.0 c.args.done awaited c.go-is_same.result c.go-is_same.new.world c.go-is_same.new.items.items went room
+    let fits = accepted_room before c.self.invariant.0 c.args.done awaited c.go-change.result c.go-change.new.world c.go-change.new.items.items went in
+    let is = queue ∙ requeued_so before c.self.invariant.0 c.args.done awaited c.go-change.result c.go-change.new.world c.go-change.new.items.items went in (
+      rw out (accepted_whole before c.self.invariant.0 c.args.done awaited c.go-change.result c.go-change.new.world c.go-change.new.items.items went room
           c.queue.new.ready.items queue),
       omega (arith, fits, places, ap length out, ap length is, c.queue.ensures.capacity),
     )
@@ -54,12 +64,12 @@ returns c =
     c.self.inside.ready.items c.self.inside.out.items in
     let awaited : IsAwaited before c.args.done = rw (← c.self.view_is) at c.requires.awaited in
     let room : HasRoom before c.args.done = rw (← c.self.view_is) at c.requires.room in
-    let went : GoesFrom before.machine before.items c.args.done c.go-is_same.result c.go-is_same.new.world
-    c.go-is_same.new.items.items = rw c.reserve.ensures.items at c.go-is_same.ensures in
+    let went : GoesFrom before.machine before.items c.args.done c.go-change.result c.go-change.new.world
+    c.go-change.new.items.items = rw c.reserve.ensures.items at c.go-change.ensures in
     let out : c.unmark.new.out.items ≡ others_of c.args.done.pid before.out = rw c.pid-pid.ensures at c.unmark.ensures.items in
     let left : c.deref.result.now ≡ others_of c.args.done.pid before.out = c.deref.ensures.value ∙ out in
-    let queue : c.queue.new.ready.items ≡ requeued c.go-is_same.new.world.world c.args.done.pid (others_of c.args.done.pid before.out) before.ready
+    let queue : c.queue.new.ready.items ≡ requeued c.go-change.new.world.world c.args.done.pid (others_of c.args.done.pid before.out) before.ready
     = rw (c.pid-pid.ensures, left, c.make_room.ensures.items) at c.queue.ensures.items in
     rw (← c.self.view_is)
-    (rw out (accepted_so before c.self.invariant.0 c.args.done awaited c.go-is_same.result c.go-is_same.new.world c.go-is_same.new.items.items went room
+    (rw out (accepted_so before c.self.invariant.0 c.args.done awaited c.go-change.result c.go-change.new.world c.go-change.new.items.items went room
     c.queue.new.ready.items queue))

@@ -1,0 +1,16 @@
+use Rattle.zl_sched.proofs.Common.{[], append-nil, refl, sym, ◌∷◌}
+use Rattle.zl_sched.proofs.hand_in.end.Goals as goal
+
+pub returns-then-is_last : goal.returns-then-is_last
+returns-then-is_last c =
+    rw c.if-is_last.true (record { last = []; items_are = sym (append-nil c.args.items.now.items); ends = (refl, refl); changes = refl })
+
+pub returns : goal.returns
+returns c =
+    let did = (c.in-Some.ensures {u = tt}).ran in
+    rw c.if-is_last.false (record {
+      last = c.in-Some.item ∷ [];
+      items_are = c.push_reserved.ensures.items;
+      ends = (c.in-Some.item, refl, did.takes);
+      changes = (c.in-Some.woke, did.left, c.change_of.ensures);
+    })

@@ -2,10 +2,9 @@
 use Rattle.zl_rights.proofs.Common.{◌≡◌, ◌<◌, ◌≤◌, ◌+◌, ◌==◌, ◌||◌, ◌&&◌, ◌⊎◌, ◌++◌, ℕ, Bool, true, false, not, List, [], ◌∷◌, refl, sym, ap, ◌∙◌, Option, Some}
 use Rattle.zl_rights.proofs.Common.{None, inl, inr, IsTrue, arith, eq-eqb, eqb-true, nat_tests, filter, list_any, nat_cmp, cases_Bool, false≢true, or_left}
 use Rattle.zl_rights.proofs.Common.{or_right}
-use Rattle.zl_rights.proofs.Common.{if◌then◌else◌, none-some, same_Some, IfSome, IfNone, Map, get, put, update, has_key, All, is_some, map}
+use Rattle.zl_rights.proofs.Common.{if◌then◌else◌, none-some, same_Some, Map, get, put, update, has_key, All, map}
 use Rattle.std.specs.List.{Contains}
-use Rattle.std.specs.Map.{lookup}
-use Rattle.std.specs.BTreeMap.{BTreeMap, insert_entry, is_at, IsUnchanged, Updates}
+use Rattle.std.specs.BTreeMap.{insert_entry}
 use Rattle.std.proofs.lemmas.List.Elements.{Contains-append_left, Contains-append_right, Contains-push}
 use Rattle.std.proofs.lemmas.List.Elements.{All-cons, All-contains, All-filter, All-nil, All-push, All-weaker, filter_passes}
 use Rattle.zl_rights.specs.Numbers.{NO_JOBS, NO_PROCESSES, TERMINATED}
@@ -27,7 +26,7 @@ use Rattle.zl_objects.specs.Signals.{implied, signals_at, signals_in}
 use Rattle.zl_objects.specs.Waits.{waits_in}
 use Rattle.zl_objects.proofs.Listed.{AreSeen}
 use Rattle.zl_objects.proofs.Bodies.{Changed, changed}
-use Rattle.zl_objects.proofs.ByKoid.{inserted, looked_up, put_last}
+use Rattle.zl_objects.proofs.ByKoid.{inserted, put_last}
 use Rattle.zl_objects.proofs.Calm.{Follows, IsFewer, IsNew, Keeps, calm_followed, fewer_both, fewer_if, none_given, stays_fewer, stays_unwatched}
 use Rattle.zl_objects.proofs.CalmChanges.{keeps_body, quiet_body, quiet_calm, remarked_calm, unless_wanted}
 use Rattle.zl_objects.proofs.Ending.{none_filtered}
@@ -99,43 +98,6 @@ module _ (m : Map Object) (next : ℕ) (o : Object) (below : (k : ℕ) → IsTru
           let same : o ≡ q = same_Some o q (rw here at is) in
           inr (record { later = omega (arith, key); fresh = ap (λ (x : Object). x.signals.waits) (sym same) ∙ fresh })
       by_key k q (inr apart) is at = let was : get m k ≡ Some q = rw apart at is in inl (still k q was at (peers k q was))
-
--- ---- the newest is taken back
-
-pub popped_calm : {marked marked2 : ℕ → Bool} {sleepers : List Sleeper} → ((k : ℕ) → IsTrue (marked2 k)) → (m n : BTreeMap ℕ Object) (next koid : ℕ)
-    (r : Option (ℕ × Object)) → next ≡ koid + 1
-    → IsTrue (has_key m.entries koid) → IfSome (get m.entries koid) (λ o. o.slept ≡ false) → IfNone r (IsUnchanged m n)
-    → IfSome r (λ p. Updates nat_cmp m n p.0 None) → IsCalm marked m.entries next sleepers → IsCalm marked2 n.entries koid sleepers
-popped_calm {marked} {marked2} {sleepers} all m n next koid r newest there unslept unchanged updates calm = record {
-  waits = λ k o at unmarked. absurd (false≢true (sym unmarked ∙ all k));
-  resting = All-weaker (IsAtRest marked m.entries next) (IsAtRest marked2 n.entries koid) one sleepers calm.resting;
-}
-  where
-    was : (q : Option (ℕ × Object)) → IfNone q (IsUnchanged m n) → IfSome q (λ p. Updates nat_cmp m n p.0 None) → (j : ℕ) (o : Object)
-        → get n.entries j ≡ Some o → get m.entries j ≡ Some o
-    was None same out j o at = rw same at at
-    was (Some p) same out j o at = by_test (is_at (nat_cmp p.0) j) (sym (out.0 j) ∙ (looked_up n.entries j ∙ at))
-      where
-        by_test : (b : Bool) → (if b then None else lookup (is_at (nat_cmp j)) m.entries) ≡ Some o → get m.entries j ≡ Some o
-        by_test true h = absurd (none-some o h)
-        by_test false h = sym (looked_up m.entries j) ∙ h
-
-    nobody : (q : Option Object) → get m.entries koid ≡ q → IsTrue (is_some q) → IfSome q (λ o. o.slept ≡ false)
-        → ((o : Object) → get m.entries koid ≡ Some o → IsTrue o.slept) → ⊥
-    nobody None is some asleep known = false≢true some
-    nobody (Some o) is some asleep known = false≢true (sym asleep ∙ known o is)
-
-    one : (s : Sleeper) → IsAtRest marked m.entries next s → IsAtRest marked2 n.entries koid s
-    one s rest = record {
-      given = elim (cases_Bool (koid_of s.awaited == koid)) as (λ _. koid_of s.awaited < koid) [
-        | inl here ↦
-            let key : koid_of s.awaited ≡ koid = eqb-true (koid_of s.awaited) koid here in
-            absurd (nobody (get m.entries koid) refl there unslept (λ o at. rest.known o (ap (get m.entries) key ∙ at)))
-        | inr apart ↦ grind (arith, nat_tests, rest.given, newest, apart)
-      ];
-      known = λ o at. rest.known o (was r unchanged updates (koid_of s.awaited) o at);
-      calm = λ unmarked. absurd (false≢true (sym unmarked ∙ all (koid_of s.awaited)));
-    }
 
 -- ---- who may be blocked
 

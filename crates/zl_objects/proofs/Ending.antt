@@ -41,20 +41,24 @@ pub ended_by : (m n : Map Object) (k : ℕ) (o : Object) (reserved : Bool) → n
     → ending_port k reserved (giving_back o.signals.waits n) ≡ ending_waits k o (without m k)
 ended_by m n k o reserved left is = λ i. ending_port k (is i) (giving_back o.signals.waits (left i))
 
--- where no waits end with it, all others stay
-pub none_ended : (m n : Map Object) (k : ℕ) (o : Object) → get m k ≡ Some o → n ≡ ending_waits k o (without m k) → ends_waits o ≡ false → HaveSameWaits m n
-none_ended m n k o there is none j =
-    let parts = or_parts (nat_lt 0 (reserved_of o.body)) (not (is_empty o.signals.waits)) none in
-    let no_waits : o.signals.waits ≡ [] = empty o.signals.waits parts.1 in
-    let left : n ≡ without m k = is ∙ rw (parts.0, no_waits) refl in
-    elim (cases_Bool (k == j)) as (λ _. waits_in (get n j) ≡ waits_in (get m j)) [
-      | inl here ↦ rw (left, get-without m k j, here, ← eqb-true k j here, there) (sym no_waits)
-      | inr apart ↦ rw (left, get-without m k j, apart) refl
-    ]
+no_waits : (o : Object) → ends_waits o ≡ false → o.signals.waits ≡ []
+no_waits o none = empty o.signals.waits (or_parts (nat_lt 0 (reserved_of o.body)) (not (is_empty o.signals.waits)) none).1
   where
     empty : (xs : List Watch) → not (is_empty xs) ≡ false → xs ≡ []
     empty [] h = refl
     empty (x ∷ xs) h = absurd (false≢true (sym h))
+
+-- where no waits end with it, all stay
+pub none_ends : (m : Map Object) (k : ℕ) (o : Object) → ends_waits o ≡ false → ending_waits k o m ≡ m
+none_ends m k o none = rw ((or_parts (nat_lt 0 (reserved_of o.body)) (not (is_empty o.signals.waits)) none).0, no_waits o none) refl
+
+pub none_ended : (m n : Map Object) (k : ℕ) (o : Object) → get m k ≡ Some o → n ≡ ending_waits k o (without m k) → ends_waits o ≡ false → HaveSameWaits m n
+none_ended m n k o there is none j =
+    let left : n ≡ without m k = is ∙ none_ends (without m k) k o none in
+    elim (cases_Bool (k == j)) as (λ _. waits_in (get n j) ≡ waits_in (get m j)) [
+      | inl here ↦ rw (left, get-without m k j, here, ← eqb-true k j here, there) (sym (no_waits o none))
+      | inr apart ↦ rw (left, get-without m k j, apart) refl
+    ]
 
 -- ---- nothing but waits and places changes
 

@@ -63,13 +63,6 @@ impl Marks {
         }
     }
 
-    /// Marks each object.
-    pub fn add_all(&mut self)
-        ensures { (k : ℕ) → IsTrue (is_marked self.new k) }
-    {
-        self.all = true;
-    }
-
     /// Whether no object is marked.
     pub fn is_empty(&self) -> bool
         ensures { result ≡ true → (k : ℕ) → is_marked self.now k ≡ false }

@@ -13,7 +13,7 @@ use crate::killing::parent_at;
 use crate::listing::{WaitList, keep_there};
 use crate::marks::Marks;
 use crate::object::{Body, Object, Pair};
-use crate::releasing::{let_go, remove_dying, remove_unkept};
+use crate::releasing::{let_go, mark_watched, remove_dying, remove_unkept};
 use crate::sleepers::Sleepers;
 use std::alloc::{AllocError, Global};
 use std::collections::BTreeMap;
@@ -191,11 +191,12 @@ impl Objects {
         requires unslept { IfSome (get self.old.objects koid) (λ object. object.slept ≡ false) }
         ensures { self.new ≡ without_newest self.old koid }
     {
-        self.children.remove(parent_at(&self.by_koid, koid), koid);
+        let job = parent_at(&self.by_koid, koid);
+        self.children.remove(job, koid);
         self.by_koid.pop_last();
         self.next_koid = koid;
         // What its job had before is active there again.
-        self.marks.add_all();
+        mark_watched(&self.by_koid, &mut self.marks, Some(job));
     }
 
     /// What new objects take their memory from.

@@ -1,6 +1,6 @@
 use Rattle.std.proofs.Common.{None, arith, vec_capacity}
 use Rattle.zl_objects.specs.Dying.{IsKept}
-use Rattle.zl_objects.proofs.CalmMade.{popped_calm}
+use Rattle.zl_objects.proofs.Gone.{popped_calm}
 use Rattle.zl_objects.proofs.Index.{popped_indexed}
 use Rattle.zl_objects.proofs.Kept.{popped_kept}
 use Rattle.zl_objects.proofs.objects.Objects.take_back.Goals as goal
@@ -17,9 +17,11 @@ invariant_of-self c =
     popped.variant popped.unchanged popped.value popped.greatest popped.updates popped.removal in
     record {
       kept = kept;
-      calm = popped_calm c.add_all.ensures c.self.inside.by_koid c.pop_last.new.self c.self.inside.next_koid c.args.koid c.pop_last.result
-          (rw (← c.self.view_is) at c.requires.newest) (rw (← c.self.view_is) at c.requires.there) (rw (← c.self.view_is) at c.requires.unslept)
-          popped.unchanged popped.updates c.self.invariant.calm;
+      calm = popped_calm c.mark_watched.ensures.more c.self.inside.by_koid c.pop_last.new.self c.self.inside.next_koid c.args.koid c.pop_last.result
+          c.self.invariant.indexed (rw (← c.self.view_is) at c.requires.newest) (rw (← c.self.view_is) at c.requires.alone)
+          (rw (← c.self.view_is) at c.requires.unreserved) (rw (← c.self.view_is) at c.requires.unwatched) (rw (← c.self.view_is) at c.requires.there)
+          (rw (← c.self.view_is) at c.requires.unslept) kept.whole.below popped.unchanged popped.removal
+          (rw c.parent_at-job.ensures at c.mark_watched.ensures.wanted) c.self.invariant.calm;
       indexed = popped_indexed c.self.inside.by_koid c.pop_last.new.self c.args.koid c.pop_last.result c.self.invariant.indexed c.remove.ensures
           kept.whole.below popped.unchanged popped.removal;
     }

@@ -1,0 +1,153 @@
+//! In what order processes stand in the ready list behind a step that changes little of it.
+
+use crate::scenes::{Act, Scene, play};
+use crate::systems::{AWAITS, CALLS, EXITS, FIRST, SECOND};
+use std::test::*;
+use zl_rights::Pid;
+use zl_sched::HandIn;
+
+const THIRD: Pid = 4;
+
+const FOURTH: Pid = 5;
+
+/// Waits for the first user signal of the process of its handle, and exits with the word.
+const WAITS_FOR_SIGNAL: &str = ".raw
+const r4, 16777216
+wait_one r2, r0, r4, r5
+process_exit r1
+";
+
+/// Raises that signal, and exits with the word.
+const RAISES: &str = ".raw
+const r4, 16777216
+signal r2, r0, r3, r4
+process_exit r1
+";
+
+/// The second process blocks, and leaves the list; the others keep their order.
+const ONE_BLOCKS: Scene = Scene {
+    own: &[(CALLS, 1), (WAITS_FOR_SIGNAL, 2), (CALLS, 3)],
+    other: &[],
+    in_job: 0,
+    limit: 100,
+    acts: &[
+        Act::Step(SECOND),
+        Act::Step(FIRST),
+        Act::Step(SECOND),
+        Act::Take(THIRD),
+        Act::Take(FIRST),
+        Act::TakeNothing,
+    ],
+    trace: "3 run 1
+2 close OK
+3 wait_one blocked
+process 2 ready
+process 3 blocked
+process 4 ready
+end schedule
+",
+};
+
+#[test]
+fn one_that_blocks_leaves_the_list(rt: HostRuntime) -> Result<(), Fail> {
+    play(rt.alloc(), &ONE_BLOCKS)
+}
+
+/// The third process wakes the second, which comes behind the ready ones and before its waker.
+const ONE_WAKES: Scene = Scene {
+    own: &[(CALLS, 1), (WAITS_FOR_SIGNAL, 2), (RAISES, 3), (CALLS, 4)],
+    other: &[],
+    in_job: 0,
+    limit: 100,
+    acts: &[
+        Act::Step(SECOND),
+        Act::Step(SECOND),
+        Act::Step(THIRD),
+        Act::Step(THIRD),
+        Act::Take(FIRST),
+        Act::Take(FOURTH),
+        Act::Take(SECOND),
+        Act::Take(THIRD),
+        Act::TakeNothing,
+    ],
+    trace: "3 run 1
+3 wait_one blocked
+4 run 1
+4 signal OK
+process 2 ready
+process 3 ready
+process 4 ready
+process 5 ready
+end schedule
+",
+};
+
+#[test]
+fn one_that_wakes_comes_before_its_waker(rt: HostRuntime) -> Result<(), Fail> {
+    play(rt.alloc(), &ONE_WAKES)
+}
+
+/// The same where the two are out, and what they did is handed in.
+const ONE_WAKES_BY_A_BURST: Scene = Scene {
+    own: &[(CALLS, 1), (WAITS_FOR_SIGNAL, 2), (RAISES, 3), (CALLS, 4)],
+    other: &[],
+    in_job: 0,
+    limit: 100,
+    acts: &[
+        Act::Step(FIRST),
+        Act::Take(SECOND),
+        Act::Take(THIRD),
+        Act::HandIn(SECOND, HandIn::Taken),
+        Act::HandIn(THIRD, HandIn::Taken),
+        Act::Take(FOURTH),
+        Act::Take(FIRST),
+        Act::Take(SECOND),
+        Act::Take(THIRD),
+        Act::TakeNothing,
+    ],
+    trace: "2 close OK
+3 run 1
+3 wait_one blocked
+4 run 1
+4 signal OK
+process 2 ready
+process 3 ready
+process 4 ready
+process 5 ready
+end schedule
+",
+};
+
+#[test]
+fn one_that_wakes_by_a_burst_comes_before_its_waker(rt: HostRuntime) -> Result<(), Fail> {
+    play(rt.alloc(), &ONE_WAKES_BY_A_BURST)
+}
+
+/// The first process exits, which wakes the second alone: it comes last.
+const ONE_WAKES_BY_AN_END: Scene = Scene {
+    own: &[(EXITS, 1), (AWAITS, 2), (CALLS, 3)],
+    other: &[],
+    in_job: 0,
+    limit: 100,
+    acts: &[
+        Act::Step(SECOND),
+        Act::Step(SECOND),
+        Act::Step(FIRST),
+        Act::Take(THIRD),
+        Act::Take(SECOND),
+        Act::TakeNothing,
+    ],
+    trace: "3 run 1
+3 wait_one blocked
+2 process_exit ended 1
+process 2 ended 1
+process 3 ready
+process 4 ready
+end schedule
+",
+};
+
+#[test]
+fn one_that_wakes_by_an_end_comes_last(rt: HostRuntime) -> Result<(), Fail> {
+    play(rt.alloc(), &ONE_WAKES_BY_AN_END)
+}

@@ -6,4 +6,4 @@ pub mod Departed
 pub mod Idle
 pub mod Answering
 pub mod InOrder
-pub mod Rooted
+pub mod Started

@@ -9,6 +9,7 @@ pub mod LocalRuns
 pub mod StepItems
 pub mod Advancing
 pub mod Covered
-pub mod Untaken
+pub mod HandlesStay
+pub mod TakenKnown
 pub mod SureCalls
 pub mod Whole

@@ -4,3 +4,4 @@ pub mod Granted
 pub mod Taking
 pub mod Entered
 pub mod EnteredTables
+pub mod TakenBy

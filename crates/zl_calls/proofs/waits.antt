@@ -1,5 +1,6 @@
 -- Registered waits: which are left, which end, and how they fire.
 pub mod Ending
+pub mod TakenEnds
 pub mod Firing
 pub mod FiringWorlds
 pub mod LeftWaits

@@ -2,7 +2,9 @@
 use Rattle.std.specs.Prelude.{ℕ, ◌≡◌, ◌<◌, ◌≤◌, true, List, length, map, Some, IsTrue, slice_get}
 use Rattle.std.specs.Global.{Vec}
 use Rattle.std.specs.Vec.{vec_capacity}
-use Rattle.zl_code.specs.Common.{World, has_key}
+use Rattle.std.specs.List.{All}
+use Rattle.zl_code.specs.Common.{Map, World, get, has_key}
+use Rattle.zl_rights.specs.declared.entry.Entry.{Entry}
 use Rattle.zl_rights.specs.Signals.{is_ready}
 use Rattle.zl_objects.specs.Objects.{Objects}
 use Rattle.zl_calls.specs.Registered.{world_left}
@@ -49,3 +51,7 @@ pub record MayCall (all : Parts) (place : ℕ) : Type 0 where
   pub calling : IsCalling all.processes place
   pub few : length all.blocked ≤ length all.processes
   pub given : AreGiven all
+
+-- each wait that the process made by a live handle is at the object that the handle names
+abbrev pub OwnWaits : ℕ → Map Entry → Objects → Type 0
+OwnWaits pid entries r = All (λ x. x.pid ≡ pid → (e : Entry) → get entries x.value ≡ Some e → x.object ≡ e.koid) r.waits

@@ -18,5 +18,5 @@ pub mod FieldFaults
 pub mod Reaching
 pub mod Sure
 pub mod Turns
-pub mod Untaken
 pub mod Calling
+pub mod Taken

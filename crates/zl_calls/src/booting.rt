@@ -20,7 +20,7 @@ ghost use Rattle.zl_calls.specs.Gives.{allowed, rights_if, IsBare, Gives};
 
 use crate::calls::job::has_children;
 use crate::calls::process::{is_declared, lacks_need};
-use crate::leaving::leave;
+use crate::leaving::leave_from;
 use crate::process::{Process, State};
 use bitflags::Flags;
 use std::alloc::{AllocError, Global};
@@ -403,7 +403,7 @@ impl Made {
         for koid in (0..self.objects.end_of_koids()).rev() {
             self.objects.remove_unheld(koid);
         }
-        leave(&mut self.processes, &self.objects);
+        leave_from(&mut self.processes, &self.objects, 0);
     }
 }
 

@@ -14,6 +14,7 @@ mod policy;
 mod process;
 mod processes;
 mod stepping;
+mod taken;
 mod tasks;
 mod waits;
 mod waking;

@@ -1,10 +1,11 @@
 //! Every process ever made, each under its koid.
 
-ghost use Rattle.std.specs.Prelude.{◌≡◌, ◌==◌, None, IsTrue, MatchOption, map};
+ghost use Rattle.std.specs.Prelude.{◌≡◌, ◌<◌, ◌==◌, ◌++◌, [], ◌∷◌, length, vec_capacity, None, IsTrue, MatchOption, map};
 ghost use Rattle.std.specs.List.{position};
 ghost use Rattle.std.specs.Ordering.{nat_cmp};
 ghost use Rattle.std.specs.FinMap.Entries.{is_sorted};
 ghost use Rattle.zl_rights.specs.Map.{get};
+ghost use Rattle.zl_calls.specs.Leaving.{NoneUnstarted};
 ghost use Rattle.zl_calls.specs.World.{process_entry, IsPlaceOf};
 
 use crate::process::Process;
@@ -14,10 +15,25 @@ use zl_rights::Pid;
 #[derive(Drop)]
 pub struct Processes {
     pub list: Vec<Process>,
+    // All before this place were started, or are gone.
+    pub unstarted: usize,
     ghost in_order: { IsTrue (is_sorted nat_cmp (map process_entry list.items)) },
+    ghost started: { NoneUnstarted unstarted list.items },
 }
 
 impl Processes {
+    /// One more comes behind the others. There is a place for it, and its koid is above theirs.
+    pub fn push_reserved(&mut self, process: Process)
+        requires room { length self.old.list.items < vec_capacity self.old.list }
+        requires in_order { IsTrue (is_sorted nat_cmp
+            (map process_entry (self.old.list.items ++ process ∷ []))) }
+        ensures items { self.new.list.items ≡ self.old.list.items ++ process ∷ [] }
+        ensures capacity { vec_capacity self.new.list ≡ vec_capacity self.old.list }
+    {
+        self.unstarted = self.unstarted.min(self.list.len());
+        self.list.push_reserved(process);
+    }
+
     /// Where the process stands.
     #[inline(always)]
     pub fn place_of(&self, pid: Pid) -> Option<usize>

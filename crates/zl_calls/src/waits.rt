@@ -1,34 +1,31 @@
 //! How registered waits end and fire, one after another in the order in which they were registered.
 
-ghost use Rattle.std.specs.Prelude.{◌≡◌, map, IsTrue};
+ghost use Rattle.std.specs.Prelude.{◌≡◌, map, false, IsTrue};
 ghost use Rattle.zl_rights.specs.Map.{get};
 ghost use Rattle.zl_rights.specs.Settle.{has_handle};
 ghost use Rattle.zl_objects.specs.Listed.{wait_value};
 ghost use Rattle.zl_calls.specs.World.{process_entry, world_value};
-ghost use Rattle.std.specs.List.{list_any};
+ghost use Rattle.std.specs.List.{All, list_any};
 ghost use Rattle.zl_code.specs.Waiting.{is_by_handle, is_keyed};
 ghost use Rattle.zl_calls.specs.Consistent.{IsConsistent};
 ghost use Rattle.zl_calls.specs.Registered.{EndsUnheld, EndsWaits, FiresWaits, is_left};
-ghost use Rattle.zl_calls.specs.Untaken.{takes_no_handle as tells_none_taken};
+ghost use Rattle.zl_objects.specs.Listed.{is_made_at, is_there};
+ghost use Rattle.zl_calls.specs.Taken.{AreKnown, ends_processes as tells_of_ends, is_over_by};
 
 use crate::processes::Processes;
-use crate::stepping::takes_no_handle;
+use crate::stepping::ends_processes;
+use crate::taken::{Taken, TakenHandle};
 use zl_code::TraceItem;
 use zl_objects::{Objects, Wait};
 use zl_rights::{HValue, Koid, Pid};
 
-/// The waits end that the process made by its handle of this value. It takes no memory.
-pub fn end_handle(objects: &mut Objects, pid: Pid, value: HValue)
+/// The waits end that the process made by its handle of this value, which names the object. It takes no
+/// memory.
+pub fn end_handle(objects: &mut Objects, koid: Koid, pid: Pid, value: HValue)
+    requires { All (λ x. IsTrue (is_by_handle pid value x) → x.object ≡ koid) objects.old.waits }
     ensures { EndsWaits (is_by_handle pid value) objects.old objects.new }
 {
-    let mut place = 0;
-    while let Some(wait) = objects.wait_at(place) {
-        if is_by_handle(&wait, pid, value) {
-            objects.unwatch_handle(wait.object, pid, value);
-        } else {
-            place += 1;
-        }
-    }
+    end_made_at(objects, koid, pid, value);
 }
 
 /// The waits end that the process made by its handle of this value for a packet with the key to the
@@ -51,7 +48,7 @@ pub fn cancel_waits(objects: &mut Objects, pid: Pid, value: HValue, port: Koid, 
 }
 
 /// The waits end whose handle, object or port is gone. It takes no memory.
-fn end_unheld(processes: &Processes, objects: &mut Objects)
+pub fn end_unheld(processes: &Processes, objects: &mut Objects)
     requires { IsConsistent processes.now.list.items objects.old }
     ensures { EndsUnheld processes.now.list.items objects.old objects.new }
 {
@@ -65,18 +62,63 @@ fn end_unheld(processes: &Processes, objects: &mut Objects)
     }
 }
 
-/// The waits end whose handle, object or port is gone: none behind a step that took no handle. It
-/// takes no memory.
+/// The waits end whose handle, object or port is gone, behind a call of the process. It takes no memory.
 #[inline(always)]
-pub fn end_behind(item: &TraceItem, processes: &Processes, objects: &mut Objects)
+pub fn end_behind(
+    item: &TraceItem,
+    taken: &Taken,
+    processes: &Processes,
+    objects: &mut Objects,
+    pid: Pid,
+)
     requires consistent { IsConsistent processes.now.list.items objects.old }
-    requires unheld { IsTrue (tells_none_taken item.now) → EndsUnheld processes.now.list.items
-        objects.old objects.old }
+    requires known { tells_of_ends item.now ≡ false
+        → All (λ x. IsTrue (is_there objects.old.objects x)) objects.old.waits
+        → AreKnown processes.now.list.items objects.old taken.now pid }
     ensures { EndsUnheld processes.now.list.items objects.old objects.new }
 {
-    if !takes_no_handle(item) {
-        end_unheld(processes, objects);
+    if objects.has_waits() {
+        end_taken(item, taken, processes, objects, pid);
     }
+}
+
+/// The same: those end that were made by handles which the call took, unless it ended processes.
+fn end_taken(
+    item: &TraceItem,
+    taken: &Taken,
+    processes: &Processes,
+    objects: &mut Objects,
+    pid: Pid,
+)
+    requires consistent { IsConsistent processes.now.list.items objects.old }
+    requires known { tells_of_ends item.now ≡ false
+        → AreKnown processes.now.list.items objects.old taken.now pid }
+    ensures { EndsUnheld processes.now.list.items objects.old objects.new }
+{
+    if ends_processes(item) || taken.all {
+        end_unheld(processes, objects);
+        return;
+    }
+    for handle in taken.handles.as_slice() {
+        end_if_gone(processes, objects, pid, handle);
+    }
+}
+
+/// The waits end that the process made by the handle, if that is gone.
+fn end_if_gone(processes: &Processes, objects: &mut Objects, pid: Pid, handle: &TakenHandle)
+    ensures { EndsWaits (is_over_by processes.now.list.items pid handle.now)
+        objects.old objects.new }
+{
+    if !has_handle(processes, pid, handle.value) {
+        end_made_at(objects, handle.koid, pid, handle.value);
+    }
+}
+
+/// The waits end at the object that the process made by its handle of this value.
+fn end_made_at(objects: &mut Objects, koid: Koid, pid: Pid, value: HValue)
+    ensures { EndsWaits (is_made_at koid pid value) objects.old objects.new }
+{
+    while let Some(_) = objects.unwatch_handle(koid, pid, value) {}
 }
 
 /// Each wait that holds, in the order of registration, gives its packet and is gone. It takes no

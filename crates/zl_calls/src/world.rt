@@ -17,7 +17,7 @@ ghost use Rattle.zl_calls.specs.Woke.{StepsAndWakes};
 use crate::booting::{Made, booted};
 use crate::processes::Processes;
 use crate::stepping::{act_for, is_local, next_name};
-use crate::waits::{end_behind, fire_waits};
+use crate::waits::fire_waits;
 use crate::waking::{Woke, add_blocked, fall_asleep, wake};
 use std::alloc::{AllocError, Global};
 use std::marker::Model;
@@ -110,7 +110,10 @@ impl World {
         Ok(World {
             alloc,
             library,
-            processes: Processes { list: processes },
+            processes: Processes {
+                list: processes,
+                unstarted: 0,
+            },
             objects,
             blocked,
         })
@@ -216,7 +219,6 @@ impl World {
             return Some((item, Woke::Nobody));
         }
         add_blocked(&mut self.blocked, pid, &item);
-        end_behind(&item, &self.processes, &mut self.objects);
         fall_asleep(&self.processes, &mut self.objects, pid, &item);
         if self.objects.is_quiet() {
             return Some((item, Woke::Nobody));

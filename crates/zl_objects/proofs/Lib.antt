@@ -27,6 +27,7 @@ pub mod Showing
 pub mod Sums
 pub mod Sweeps
 pub mod Tasks
+pub mod WaitsThere
 pub mod Walks
 pub mod Whole
 pub mod Worked

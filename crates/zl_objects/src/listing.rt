@@ -5,6 +5,7 @@ ghost use Rattle.std.specs.FinMap.Entries.{is_sorted};
 ghost use Rattle.std.specs.List.{filter, find, list_any, position, All};
 ghost use Rattle.std.specs.Ordering.{nat_cmp};
 ghost use Rattle.std.specs.VecDeque.{deque_capacity, deque_len};
+ghost use Rattle.zl_rights.specs.Signals.{is_empty};
 ghost use Rattle.zl_objects.specs.Calm.{holds_now};
 ghost use Rattle.zl_objects.specs.Due.{is_entry_due};
 ghost use Rattle.zl_objects.specs.Index.{IsIndexed};
@@ -99,6 +100,16 @@ impl Objects {
         ensures { result ≡ may_register self.now }
     {
         self.waits.made < Objects::MOST
+    }
+
+    /// Whether a wait is registered. Of each the object and the port are there.
+    ///
+    /// Source: own profile.
+    pub fn has_waits(&self) -> bool
+        ensures any { result ≡ not (is_empty self.now.waits) }
+        ensures there { All (λ x. IsTrue (is_there self.now.objects x)) self.now.waits }
+    {
+        !self.waits.entries.is_empty()
     }
 
     /// The wait at place `n`, from 0, of all registered waits, the earliest first.

@@ -112,6 +112,8 @@ impl Objects {
     /// handle.
     pub fn unwatch_handle(&mut self, koid: Koid, pid: Pid, value: HValue) -> Option<Watch>
         ensures earliest { result ≡ find (is_by_handle pid value) (waits_in (get self.old.objects koid)) }
+        ensures listed { option_map (wait_at koid) result
+            ≡ find (is_made_at koid pid value) self.old.waits }
         ensures rest { self.new ≡ unwatching (unlisting (is_made_at koid pid value) self.old) koid
             (is_by_handle pid value) }
     {

@@ -141,7 +141,7 @@ all_taken P (h ∷ hs) t each = by_entry (get t.entries h) refl (all_taken P hs 
     by_entry (Some e) is rest = All-cons P e (taken_from (without_handle t h) hs) (each h e is) rest
 
 -- the handles of the list are those that the call takes
-takes_listed : (c : ℕ) (bytes hs : List ℕ) → taken_handles (chan_write c bytes hs) ≡ hs
+pub takes_listed : (c : ℕ) (bytes hs : List ℕ) → taken_handles (chan_write c bytes hs) ≡ hs
 unfolding taken_handles handle_operands
 takes_listed c bytes hs = of_list hs
   where

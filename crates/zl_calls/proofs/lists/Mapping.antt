@@ -1,5 +1,5 @@
 -- A list of which one item after another becomes what a function makes of it.
-use Rattle.zl_calls.proofs.Common.{◌≡◌, ◌+◌, ◌<◌, ℕ, zero, suc, List, [], ◌∷◌, ◌++◌, map, length, take, refl, ap, ◌∙◌, sym, arith}
+use Rattle.zl_calls.proofs.Common.{◌≡◌, ◌+◌, ◌<◌, ◌≤◌, ℕ, zero, suc, List, [], ◌∷◌, ◌++◌, map, length, take, refl, ap, ◌∙◌, sym, arith}
 use Rattle.std.specs.Prelude.{drop, slice_index_or, slice_set}
 
 -- the items before the place are made, and making those behind it makes all
@@ -30,9 +30,11 @@ one_mapped f before now n x y so_far within is made =
       long = same_length now n y ∙ so_far.long;
     }
 
-none_behind : {A : Type 0} (f : A → A) (xs : List A) → take (length xs) xs ++ map f (drop (length xs) xs) ≡ xs
-none_behind f [] = refl
-none_behind f (x ∷ xs) = ap (λ ys. x ∷ ys) (none_behind f xs)
+none_behind : {A : Type 0} (f : A → A) (xs : List A) (n : ℕ) → length xs ≤ n → take n xs ++ map f (drop n xs) ≡ xs
+none_behind f [] zero past = refl
+none_behind f [] (suc n) past = refl
+none_behind f (x ∷ xs) zero past = absurd (omega (arith, past))
+none_behind f (x ∷ xs) (suc n) past = ap (λ ys. x ∷ ys) (none_behind f xs n (omega (arith, past)))
 
-pub all_mapped : {A : Type 0} (f : A → A) (before now : List A) (n : ℕ) → IsMapped f before now n → n ≡ length now → now ≡ map f before
-all_mapped f before now n made all = sym (none_behind f now) ∙ ((λ i. take (sym all i) now ++ map f (drop (sym all i) now)) ∙ made.so_far)
+pub all_mapped : {A : Type 0} (f : A → A) (before now : List A) (n : ℕ) → IsMapped f before now n → length now ≤ n → now ≡ map f before
+all_mapped f before now n made all = sym (none_behind f now n all) ∙ made.so_far

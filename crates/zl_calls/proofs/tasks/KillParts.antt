@@ -16,7 +16,9 @@ use Rattle.zl_code.specs.Sound.{is_blocked}
 use Rattle.zl_objects.specs.Jobs.{all_killed}
 use Rattle.zl_objects.specs.Release.{Releases}
 use Rattle.zl_calls.proofs.waits.WaitsLost.{listed_gone, listed_then}
+use Rattle.zl_calls.specs.Leaving.{NoneUnstarted}
 use Rattle.zl_calls.proofs.processes.InOrder.{all_in_order, closed_in_order}
+use Rattle.zl_calls.proofs.processes.Started.{closed_started, ended_started, map_started}
 
 -- ---- koids stay
 
@@ -168,6 +170,9 @@ module _ (n : ℕ) (ps d e d2 ps2 : List Process) (r : Objects) (koid : ℕ) (lo
   in_order_back sorted =
       subst (λ (qs : List Process). IsTrue (is_sorted nat_cmp (map process_entry qs))) (sym all_ended) (in_order_ended r koid ps sorted)
 
+  pub started_back : (u : ℕ) → NoneUnstarted u ps → NoneUnstarted u (take n (e ++ drop (length e) ps))
+  started_back u none = subst (NoneUnstarted u) (sym all_ended) (map_started (ended_within r koid) (ended_started r koid) ps u none)
+
   module _ (between r2 : Objects) (closes : ClosesAllEnded d2 between ps2 r2) where
     closes_all : ClosesAllEnded (map (ended_within r koid) ps) between ps2 r2
     closes_all = subst (λ (qs : List Process). ClosesAllEnded qs between ps2 r2) (same2 ∙ all_ended) closes
@@ -186,6 +191,11 @@ module _ (n : ℕ) (ps d e d2 ps2 : List Process) (r : Objects) (koid : ℕ) (lo
     closed_order_back sorted =
         subst (λ (qs : List Process). IsTrue (is_sorted nat_cmp (map process_entry qs))) (sym written)
         (closed_in_order (map (ended_within r koid) ps) ps2 between r2 closes_all (in_order_ended r koid ps sorted))
+
+    pub closed_started_back : (u : ℕ) → NoneUnstarted u ps → NoneUnstarted u (take n (ps2 ++ drop (length ps2) (take n (e ++ drop (length e) ps))))
+    closed_started_back u none =
+        subst (NoneUnstarted u) (sym written)
+        (closed_started (map (ended_within r koid) ps) ps2 between r2 closes_all u (map_started (ended_within r koid) (ended_started r koid) ps u none))
 
     pub still_as_many : length (take n (ps2 ++ drop (length ps2) (take n (e ++ drop (length e) ps)))) ≡ length ps
     still_as_many = ap (λ (qs : List Process). length qs) written ∙ as_many

@@ -10,6 +10,8 @@ use Rattle.zl_interp.specs.Common.{register_set}
 use Rattle.zl_calls.specs.Reaching.{creates}
 use Rattle.zl_calls.specs.calls.Task.{EndsOrAnswers, ending_of}
 use Rattle.zl_calls.specs.calls.Task.{told_unless_over}
+use Rattle.zl_code.specs.Starting.{is_created}
+use Rattle.zl_calls.specs.Leaving.{IsStarted}
 use Rattle.zl_calls.specs.declared.process.Process.{Process}
 use Rattle.zl_calls.specs.declared.process.State.{State}
 use Rattle.zl_calls.specs.declared.process.State.TheVariants as state
@@ -86,6 +88,13 @@ told_pid status answer p p2 told = by_state p.state told
     by_state : (x : State) → p2 ≡ told_unless_over status answer x p → p2.pid ≡ p.pid
     by_state (state.Ended code) is = ap (λ (q : Process). q.pid) is
     by_state _ is = ap (λ (q : Process). q.pid) is
+
+pub told_started : (status : ℕ) (answer : Result ⊤ Status) (p p2 : Process) → p2 ≡ told_unless_over status answer p.state p → IsStarted p → IsStarted p2
+told_started status answer p p2 told started = by_state p.state told
+  where
+    by_state : (x : State) → p2 ≡ told_unless_over status answer x p → IsStarted p2
+    by_state (state.Ended code) is = ap (λ (q : Process). is_created (state_value q.state)) is ∙ started
+    by_state _ is = ap (λ (q : Process). is_created (state_value q.state)) is ∙ started
 
 -- ---- each of them
 

@@ -1,8 +1,8 @@
 -- What each call leaves of handles and objects, if it takes no handle, and of the list of registered waits: replace ends its own, and others end with
 -- objects and ports alone.
-use Rattle.zl_calls.proofs.Common.{◌≡◌, ◌+◌, ℕ, Bool, true, false, true≢false, false≢true, List, refl, sym, subst, ap, ◌∙◌, Option, Some, None, Result, Ok}
+use Rattle.zl_calls.proofs.Common.{◌≡◌, ℕ, Bool, true, false, true≢false, false≢true, List, refl, sym, subst, ap, ◌∙◌, Option, Some, None, Result, Ok}
 use Rattle.zl_calls.proofs.Common.{Err, inl, inr}
-use Rattle.zl_calls.proofs.Common.{⊤, get, has_key, has_key-update, update, is_empty, narrowed, then_some, with_rights, IsRefusedBy, Request, Site, site, close}
+use Rattle.zl_calls.proofs.Common.{⊤, get, update, is_empty, narrowed, then_some, with_rights, IsRefusedBy, Request, Site, site, close}
 use Rattle.zl_calls.proofs.Common.{dup, replace, chan_create, chan_write, event_create, eventpair_create, signal, signal_peer, wait_one, wait_async}
 use Rattle.zl_calls.proofs.Common.{port_create, port_queue, port_poll, port_wait, port_cancel, process_start, process_exit, job_create, job_set_policy}
 use Rattle.zl_calls.proofs.Common.{calls_at, next_looks, waits_by, looks_at_waits, Objects, with_new, Entry, Status, CallName, Outcome, Does, status_of, Acted}
@@ -18,17 +18,16 @@ use Rattle.zl_rights.specs.World.{Wait}
 use Rattle.zl_objects.specs.Awaited.{KeepSleepers}
 use Rattle.zl_rights.specs.declared.status.Status.TheVariants as status
 use Rattle.zl_table.specs.Table.{Handles}
-use Rattle.zl_objects.specs.Objects.{end_to, with_pair}
+use Rattle.zl_objects.specs.Objects.{with_pair}
 use Rattle.zl_objects.specs.declared.object.Body.{Body}
 use Rattle.zl_objects.specs.declared.object.Object.{Object}
 use Rattle.zl_objects.specs.declared.object.Pair.{Pair}
-use Rattle.zl_calls.specs.Untaken.{keeps_handles}
+use Rattle.zl_calls.specs.Taken.{keeps_handles}
 use Rattle.zl_calls.specs.calls.Channel.{ChanWriteDoes}
 use Rattle.zl_calls.specs.calls.Handle.{replace_refusal_of}
 use Rattle.zl_calls.specs.calls.Making.{MakesPair}
 use Rattle.zl_calls.specs.declared.process.Process.{Process}
 use Rattle.zl_calls.proofs.calls.Refused.{nothing_wanted}
-use Rattle.zl_calls.proofs.waits.Staying.{KeepsObjects, KeepsValues, all_entered, more_objects, one_entered}
 
 -- a refusal of replace isn't OK
 refused_replace : (e : Option Entry) (h asked pid : ℕ) (ws : List Wait) (s : Status) → IsRefusedBy wants_nothing (replace_refusal_of asked e) s
@@ -42,89 +41,79 @@ refused_replace (Some e) h asked pid ws s err = by_test (is_empty (with_rights e
 
 -- ---- a call that takes no handle, and doesn't look at waits
 
--- it leaves each handle and object where it was, and the list
-pub record Stays (p p2 : Process) (r r2 : Objects) : Type 0 where
-  pub values : KeepsValues p.table.entries p2.table.entries
-  pub objects : KeepsObjects r r2
+-- it leaves the list as it was
+pub record Stays (r r2 : Objects) : Type 0 where
   pub waits : r2.waits ≡ r.waits
   pub made : r2.waits_made ≡ r.waits_made
   pub asleep : KeepSleepers r r2
 
 module _ (p p2 : Process) (r r2 : Objects) where
-  pub same_values : p2.table ≡ p.table → KeepsValues p.table.entries p2.table.entries
-  same_values same v at = ap (λ (t : Handles). has_key t.entries v) same ∙ at
-
   -- the objects are these
-  stays : (x : Objects) → r2 ≡ x → x.waits ≡ r.waits → x.waits_made ≡ r.waits_made → KeepSleepers r x → KeepsObjects r x
-      → KeepsValues p.table.entries p2.table.entries → Stays p p2 r r2
-  stays x is same made asleep objects values = record {
-    values = values;
-    objects = λ k at. ap (λ (y : Objects). has_key y.objects k) is ∙ objects k at;
+  stays : (x : Objects) → r2 ≡ x → x.waits ≡ r.waits → x.waits_made ≡ r.waits_made → KeepSleepers r x → Stays r r2
+  stays x is same made asleep = record {
     waits = ap (λ (y : Objects). y.waits) is ∙ same;
     made = ap (λ (y : Objects). y.waits_made) is ∙ made;
     asleep = subst (KeepSleepers r) (sym is) asleep;
   }
 
-  pub unchanged : p2.table ≡ p.table → r2 ≡ r → Stays p p2 r r2
-  unchanged same is = stays r is refl refl (refl, refl) (λ k at. at) (same_values same)
+  unchanged : r2 ≡ r → Stays r r2
+  unchanged is = stays r is refl refl (refl, refl)
 
   -- one of them is as f leaves it
-  changed : (k : ℕ) (f : Object → Object) → r2 ≡ record r { objects = update r.objects k f } → KeepsValues p.table.entries p2.table.entries → Stays p p2 r r2
-  changed k f is = stays (record r { objects = update r.objects k f }) is refl refl (refl, refl) (λ j at. has_key-update r.objects k f j ∙ at)
+  changed : (k : ℕ) (f : Object → Object) → r2 ≡ record r { objects = update r.objects k f } → Stays r r2
+  changed k f is = stays (record r { objects = update r.objects k f }) is refl refl (refl, refl)
 
-  one_made : (b : Body) (made : ℕ) → MakesOne b p.table r made p2.table r2 → Stays p p2 r r2
+  one_made : (b : Body) (made : ℕ) → MakesOne b p.table r made p2.table r2 → Stays r r2
   one_made b made makes =
-      stays (with_new r b 1) makes.objects refl refl (refl, refl) (more_objects r b 1) (one_entered p.table _ made p2.table makes.inserts)
+      stays (with_new r b 1) makes.objects refl refl (refl, refl)
 
-  pair_made : (pair : Pair) (made : ℕ × ℕ) → MakesPair pair p.table r made p2.table r2 → Stays p p2 r r2
+  pair_made : (pair : Pair) (made : ℕ × ℕ) → MakesPair pair p.table r made p2.table r2 → Stays r r2
   pair_made pair made makes =
-      stays (with_pair r pair 1) makes.objects refl refl (refl, refl) (λ k at. more_objects (with_new r _ 1) _ 1 k
-      (more_objects r (end_to pair (r.next_koid + 1)) 1 k at))
-      (λ v at. one_entered makes.between _ made.1 p2.table makes.second v (one_entered p.table _ made.0 makes.between makes.first v at))
+      stays (with_pair r pair 1) makes.objects refl refl (refl, refl)
 
   -- where it is refused, nothing changes
   does_stay : {A : Type 0} (Done : A → Handles → Objects → Type 0) (wants : Status → Bool) (refusal : Option Status) (answer : Result A Status)
-      → Does Done wants refusal p.table r answer p2.table r2 → ((x : A) → Done x p2.table r2 → Stays p p2 r r2) → Stays p p2 r r2
+      → Does Done wants refusal p.table r answer p2.table r2 → ((x : A) → Done x p2.table r2 → Stays r r2) → Stays r r2
   does_stay Done wants refusal (Ok x) does done = done x does.ok
-  does_stay Done wants refusal (Err s) does done = unchanged does.same_table does.same_objects
+  does_stay Done wants refusal (Err s) does done = unchanged does.same_objects
 
   module _ (o : Outcome) (consumed destinations : List ℕ) where
     abbrev ActsSo : Request → Type 0
     ActsSo request = Acts (action_of p.pid request) (site request consumed destinations) p r o p2 r2
 
-    pub request_stays : (request : Request) → keeps_handles (name_of request) ≡ true → looks_at_waits request ≡ false → ActsSo request → Stays p p2 r r2
+    pub request_stays : (request : Request) → keeps_handles (name_of request) ≡ true → looks_at_waits request ≡ false → ActsSo request → Stays r r2
     request_stays (close h) keeps plain acts = absurd (false≢true keeps)
     request_stays (replace h asked) keeps plain acts = absurd (false≢true keeps)
     request_stays (chan_write end bytes hs) keeps plain acts = absurd (false≢true keeps)
     request_stays (process_exit code) keeps plain acts = absurd (false≢true keeps)
     request_stays (dup h asked) keeps plain acts =
-        does_stay _ _ _ acts.answer acts.acts (λ x done. changed _ _ done.objects (one_entered _ _ _ _ done.inserts))
+        does_stay _ _ _ acts.answer acts.acts (λ x done. changed _ _ done.objects)
     request_stays chan_create keeps plain acts = does_stay _ _ _ acts.answer acts.acts (pair_made _)
     request_stays eventpair_create keeps plain acts = does_stay _ _ _ acts.answer acts.acts (pair_made _)
     request_stays (chan_read_etc h address room places) keeps plain acts = read acts.answer acts.acts
       where
-        read : (answer : Result Received ReadFault) → ChanReadDoes h room places p.table r answer p2.table r2 → Stays p p2 r r2
-        read (Ok x) does = changed _ _ does.ok.objects (all_entered _ _ _ _ does.ok.inserts)
-        read (Err s) does = unchanged does.same_table does.same_objects
+        read : (answer : Result Received ReadFault) → ChanReadDoes h room places p.table r answer p2.table r2 → Stays r r2
+        read (Ok x) does = changed _ _ does.ok.objects
+        read (Err s) does = unchanged does.same_objects
     request_stays event_create keeps plain acts = does_stay _ _ _ acts.answer acts.acts (one_made _)
     request_stays port_create keeps plain acts = does_stay _ _ _ acts.answer acts.acts (one_made _)
     request_stays (job_create j) keeps plain acts = does_stay _ _ _ acts.answer acts.acts (λ x done. one_made _ x done.makes)
     request_stays (signal h clear set) keeps plain acts =
-        does_stay _ _ _ acts.answer acts.acts (λ x done. changed _ _ done.objects (same_values done.table))
+        does_stay _ _ _ acts.answer acts.acts (λ x done. changed _ _ done.objects)
     request_stays (signal_peer h clear set) keeps plain acts =
-        does_stay _ _ _ acts.answer acts.acts (λ x done. changed _ _ done.objects (same_values done.table))
-    request_stays (wait_one h mask) keeps plain (inl acts) = does_stay _ _ _ acts.answer acts.acts (λ x done. unchanged done.table done.objects)
-    request_stays (wait_one h mask) keeps plain (inr blocks) = unchanged (ap (λ (q : Process). q.table) blocks.process) blocks.objects
-    request_stays (wait_poll h mask) keeps plain acts = unchanged acts.acts.table acts.acts.objects
+        does_stay _ _ _ acts.answer acts.acts (λ x done. changed _ _ done.objects)
+    request_stays (wait_one h mask) keeps plain (inl acts) = does_stay _ _ _ acts.answer acts.acts (λ x done. unchanged done.objects)
+    request_stays (wait_one h mask) keeps plain (inr blocks) = unchanged blocks.objects
+    request_stays (wait_poll h mask) keeps plain acts = unchanged acts.acts.objects
     request_stays (port_queue port key value) keeps plain acts =
-        does_stay _ _ _ acts.answer acts.acts (λ x done. changed _ _ done.objects (same_values done.table))
+        does_stay _ _ _ acts.answer acts.acts (λ x done. changed _ _ done.objects)
     request_stays (port_wait port) keeps plain (inl acts) =
-        does_stay _ _ _ acts.answer acts.acts (λ x done. changed _ _ done.objects (same_values done.table))
-    request_stays (port_wait port) keeps plain (inr blocks) = unchanged (ap (λ (q : Process). q.table) blocks.process) blocks.objects
+        does_stay _ _ _ acts.answer acts.acts (λ x done. changed _ _ done.objects)
+    request_stays (port_wait port) keeps plain (inr blocks) = unchanged blocks.objects
     request_stays (port_poll port) keeps plain acts =
-        does_stay _ _ _ acts.answer acts.acts (λ x done. changed _ _ done.objects (same_values done.table))
+        does_stay _ _ _ acts.answer acts.acts (λ x done. changed _ _ done.objects)
     request_stays (job_set_policy j mode condition action) keeps plain acts =
-        does_stay _ _ _ acts.answer acts.acts (λ x done. changed _ _ done.objects (same_values done.table))
+        does_stay _ _ _ acts.answer acts.acts (λ x done. changed _ _ done.objects)
     request_stays (wait_async h port key mask) keeps plain acts = absurd (true≢false plain)
     request_stays (port_cancel port source key) keeps plain acts = absurd (true≢false plain)
     request_stays _ keeps plain acts = absurd acts
@@ -162,7 +151,7 @@ module _ (p p2 : Process) (r r2 : Objects) where
     by_request (port_cancel port source key) plain acts = absurd (true≢false plain)
     by_request (process_start process h word) plain acts = absurd acts
     by_request (task_kill task) plain acts = absurd acts
-    by_request request plain acts = let same : Stays p p2 r r2 = request_stays request refl refl acts in lists same.waits same.made same.asleep
+    by_request request plain acts = let same : Stays r r2 = request_stays request refl refl acts in lists same.waits same.made same.asleep
 
 -- ---- the call that stands next
 

@@ -6,6 +6,7 @@ ghost use Rattle.zl_rights.specs.LookUp.{looked_up};
 ghost use Rattle.zl_rights.specs.Map.{get, has_key};
 ghost use Rattle.zl_rights.specs.Numbers.{DUPLICATE};
 ghost use Rattle.zl_calls.specs.calls.Answer.{ClosesEach, status_of, without_handle};
+ghost use Rattle.zl_calls.specs.Calling.{OwnWaits};
 ghost use Rattle.zl_calls.specs.calls.Handle.{CloseDoes, DupDoes, ReplaceDoes, close_answer};
 
 use crate::calls::{insert, look_up};
@@ -111,6 +112,7 @@ pub fn replace<const TESTED: bool>(
     asked: u32,
 ) -> Result<HValue, Status>
     requires sure { TESTED ≡ false → IsTrue (has_key table.old.entries value) }
+    requires own { OwnWaits pid table.old.entries objects.old }
     ensures { ReplaceDoes pid value asked table.old objects.old result table.new objects.new }
 {
     let Some((place, entry)) = live_at::<TESTED>(table, value) else {
@@ -119,7 +121,7 @@ pub fn replace<const TESTED: bool>(
     match narrow(entry.rights, asked) {
         Ok(rights) => {
             table.rewrite(place, rights);
-            end_handle(objects, pid, place);
+            end_handle(objects, entry.koid, pid, place);
             Ok(place)
         }
         Err(refused) => {

@@ -91,7 +91,7 @@ pub fn process_create<const TESTED: bool>(
     };
     match make_object(&mut processes.list[place].table, objects, body) {
         Ok(made) => {
-            processes.list.push_reserved(Process {
+            processes.push_reserved(Process {
                 pid,
                 program: program as usize,
                 state: State::Created,

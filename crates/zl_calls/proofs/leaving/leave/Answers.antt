@@ -1,20 +1,14 @@
-use Rattle.zl_calls.proofs.Common.{◌≡◌, ◌<◌, length, arith}
+use Rattle.zl_calls.proofs.Common.{refl}
 use Rattle.zl_calls.specs.Leaving.{left_beside}
-use Rattle.zl_calls.proofs.lists.Mapping.{all_mapped, none_mapped, one_mapped}
+use Rattle.zl_calls.proofs.processes.InOrder.{all_in_order}
+use Rattle.zl_calls.proofs.processes.Started.{left_started_too, map_started}
 use Rattle.zl_calls.proofs.leaving.leave.Goals as goal
 
-pub loop-place-init : goal.loop-place-init
-loop-place-init c = none_mapped (left_beside c.args.objects.now.objects) c.args.processes.now.items
-
-pub loop-place-preserved : goal.loop-place-preserved
-loop-place-preserved c =
-    let within : c.loop-place.place < length c.loop-place.processes.items =
-    omega (arith, c.loop-place-test.true, c.len-place-end.ensures, c.args.processes.now.ok.0, c.loop-place.invariant.long) in
-    one_mapped (left_beside c.args.objects.now.objects) c.args.processes.now.items c.loop-place.processes.items c.loop-place.place c.index_mut.result.now
-    c.leave_one.new.process c.loop-place.invariant within c.index_mut.ensures.value c.leave_one.ensures
-
-pub returns : goal.returns
-returns c =
-    let all : c.loop-place.place ≡ length c.loop-place.processes.items =
-    omega (arith, c.loop-place-test.false, c.loop-place.auto.place-end, c.len-place-end.ensures, c.args.processes.now.ok.0, c.loop-place.invariant.long) in
-    all_mapped (left_beside c.args.objects.now.objects) c.args.processes.now.items c.loop-place.processes.items c.loop-place.place c.loop-place.invariant all
+pub invariant_of-processes : goal.invariant_of-processes
+invariant_of-processes c = record {
+  in_order = rw c.leave_from.ensures
+      (all_in_order (left_beside c.args.objects.now.objects) (λ q. refl) c.args.processes.now.list.items c.args.processes.now.in_order);
+  started = rw c.leave_from.ensures
+      (map_started (left_beside c.args.objects.now.objects) (left_started_too c.args.objects.now) c.args.processes.now.list.items
+      c.first_unstarted-place.result c.first_unstarted-place.ensures);
+}

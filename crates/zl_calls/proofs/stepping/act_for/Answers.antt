@@ -1,8 +1,12 @@
-use Rattle.zl_calls.proofs.Common.{◌≡◌, true, set, sym, ◌∙◌, parts, is_ready, state_value}
+use Rattle.zl_calls.specs.declared.process.Process.{Process}
+use Rattle.zl_calls.proofs.processes.InOrder.{set_in_order}
+use Rattle.zl_calls.proofs.processes.Started.{set_started}
+use Rattle.zl_calls.proofs.Common.{ap, is_created, ◌≡◌, true, set, sym, ◌∙◌, parts, is_ready, state_value}
 use Rattle.zl_calls.proofs.waking.BlockedLists.{no_more}
 use Rattle.zl_calls.proofs.stepping.CallSteps.{called_so, caller_ready, goes_from, moves_from, stays_from, stops_from}
 use Rattle.zl_calls.proofs.stepping.Performing.{HasActed, here, turn_at, within}
-use Rattle.zl_calls.proofs.stepping.Untaken.{called_spares, none_departs}
+use Rattle.zl_calls.proofs.stepping.TakenKnown.{ended_acts, own_waits, taken_known}
+use Rattle.zl_calls.proofs.waits.TakenEnds.{ended_again}
 use Rattle.zl_calls.proofs.stepping.SureCalls.{sure_calls}
 use Rattle.zl_code.specs.declared.history.TraceItem.TheVariants as item
 use Rattle.zl_calls.proofs.stepping.act_for.Goals as goal
@@ -20,15 +24,17 @@ call_next-requires c =
         few = no_more c.args.processes.now.list.items c.args.blocked.now.items c.requires.list;
         given = c.requires.consistent.given_processes;
       };
+      own = own_waits (turn_at c.args.processes.now.list.items c.args.objects.now c.args.blocked.now.items c.args.pid c.in_ok-place.place
+          c.index.result.now c.requires.consistent c.requires.list c.requires.sound c.in_ok-place.ensures.first c.index.ensures ready);
       sure = sure_calls (turn_at c.args.processes.now.list.items c.args.objects.now c.args.blocked.now.items c.args.pid c.in_ok-place.place
           c.index.result.now c.requires.consistent c.requires.list c.requires.sound c.in_ok-place.ensures.first c.index.ensures ready)
           c.args.library.now c.requires.verified c.requires.covered;
     }
 
-called : (c : goal.After-leave_behind) → HasActed c.args.library.now c.args.processes.now.list.items c.leave_behind.new.processes.items c.args.objects.now
+called : (c : goal.After-end_behind-arg-1) → HasActed c.args.library.now c.args.processes.now.list.items c.leave.new.processes.list.items c.args.objects.now
     c.call_next.new.objects c.args.blocked.now.items c.call_next.new.blocked.items
     c.args.pid (item.Call c.args.pid c.in-Some.call c.in-Some.outcome)
-called c = rw c.leave_behind.ensures
+called c = rw c.leave.ensures
     (called_so (turn_at c.args.processes.now.list.items c.args.objects.now c.args.blocked.now.items c.args.pid c.in_ok-place.place c.index.result.now
     c.requires.consistent c.requires.list c.requires.sound c.in_ok-place.ensures.first c.index.ensures (sym c.is_ready.ensures ∙ c.if-not-is_ready.false))
     c.args.library.now (parts c.call_next.new.processes.list.items c.call_next.new.objects c.call_next.new.blocked.items)
@@ -36,7 +42,7 @@ called c = rw c.leave_behind.ensures
     ((c.in-Some.ensures {u = tt}).calls c.index.result.now (here c.args.processes.now.list.items c.args.pid c.in_ok-place.place c.index.result.now
     c.in_ok-place.ensures.first c.index.ensures)))
 
-moved : (c : goal.After-processes-in-Some-run_next-1) → HasActed c.args.library.now c.args.processes.now.list.items
+moved : (c : goal.After-processes-1) → HasActed c.args.library.now c.args.processes.now.list.items
     (set c.call_next.new.processes.list.items c.in_ok-place.place c.run_next.new.process) c.args.objects.now c.call_next.new.objects
     c.args.blocked.now.items c.call_next.new.blocked.items c.args.pid (item.Run c.args.pid 1)
 moved c =
@@ -47,10 +53,10 @@ moved c =
     (c.in_default.ensures {u = tt}).same_objects (c.in_default.ensures {u = tt}).same_blocked c.index_mut-process.result.now c.index_mut-process.ensures.value
     c.run_next.new.process (c.in-Some-run_next.ensures {u = tt}).runs (c.in-Some-run_next.ensures {u = tt}).cpu
 
-stopped : (c : goal.After-leave) → HasActed c.args.library.now c.args.processes.now.list.items c.leave.new.processes.items c.args.objects.now
+stopped : (c : goal.After-end_unheld-arg-1) → HasActed c.args.library.now c.args.processes.now.list.items c.leave-2.new.processes.list.items c.args.objects.now
     c.end.new.objects
     c.args.blocked.now.items c.call_next.new.blocked.items c.args.pid (item.Stuck c.args.pid)
-stopped c = rw c.leave.ensures
+stopped c = rw c.leave-2.ensures
     (stops_from (turn_at c.args.processes.now.list.items c.args.objects.now c.args.blocked.now.items c.args.pid c.in_ok-place.place c.index.result.now
     c.requires.consistent c.requires.list c.requires.sound c.in_ok-place.ensures.first c.index.ensures (sym c.is_ready.ensures ∙ c.if-not-is_ready.false))
     c.args.library.now
@@ -58,26 +64,66 @@ stopped c = rw c.leave.ensures
     (c.in_default.ensures {u = tt}).same_objects (c.in_default.ensures {u = tt}).same_blocked c.index_mut-process.result.now c.index_mut-process.ensures.value
     c.end.new.process c.end.new.objects (c.in_default-run_next.ensures {u = tt}).stuck (rw (c.in_default-run_next.ensures {u = tt}).unchanged at c.end.ensures))
 
-pub invariant_of-processes : goal.invariant_of-processes
-invariant_of-processes c = record { in_order = (called c).consistent.processes_in_order }
+pub end_behind-requires-clause-consistent : goal.end_behind-requires-clause-consistent
+end_behind-requires-clause-consistent c = (called c).consistent
 
-pub invariant_of-processes-in-Some-run_next : goal.invariant_of-processes-in-Some-run_next
-invariant_of-processes-in-Some-run_next c = record { in_order = (moved c).consistent.processes_in_order }
+pub end_behind-requires-clause-known : goal.end_behind-requires-clause-known
+end_behind-requires-clause-known c plain present =
+    rw c.leave.ensures
+    (taken_known (turn_at c.args.processes.now.list.items c.args.objects.now c.args.blocked.now.items c.args.pid c.in_ok-place.place c.index.result.now
+    c.requires.consistent c.requires.list c.requires.sound c.in_ok-place.ensures.first c.index.ensures (sym c.is_ready.ensures ∙ c.if-not-is_ready.false))
+    c.args.library.now (parts c.call_next.new.processes.list.items c.call_next.new.objects c.call_next.new.blocked.items)
+    c.in-Some.outcome present c.in-Some.call
+    ((c.in-Some.ensures {u = tt}).calls c.index.result.now (here c.args.processes.now.list.items c.args.pid c.in_ok-place.place c.index.result.now
+    c.in_ok-place.ensures.first c.index.ensures)) plain c.in-Some.taken
+    ((c.in-Some.ensures {u = tt}).taken c.index.result.now (here c.args.processes.now.list.items c.args.pid c.in_ok-place.place c.index.result.now
+    c.in_ok-place.ensures.first c.index.ensures)) (called_so (turn_at c.args.processes.now.list.items c.args.objects.now c.args.blocked.now.items c.args.pid
+    c.in_ok-place.place c.index.result.now
+    c.requires.consistent c.requires.list c.requires.sound c.in_ok-place.ensures.first c.index.ensures (sym c.is_ready.ensures ∙ c.if-not-is_ready.false))
+    c.args.library.now (parts c.call_next.new.processes.list.items c.call_next.new.objects c.call_next.new.blocked.items)
+    c.in-Some.outcome c.in-Some.call
+    ((c.in-Some.ensures {u = tt}).calls c.index.result.now (here c.args.processes.now.list.items c.args.pid c.in_ok-place.place c.index.result.now
+    c.in_ok-place.ensures.first c.index.ensures))))
+
+pub end_unheld-requires : goal.end_unheld-requires
+end_unheld-requires c = (stopped c).consistent
+
+pub invariant_of-processes : goal.invariant_of-processes
+invariant_of-processes c = record {
+  in_order = set_in_order c.index_mut-process.result.now c.run_next.new.process (ap (λ (p : Process). p.pid) c.run_next.ensures.cpu)
+      c.call_next.new.processes.list.items c.in_ok-place.place c.index_mut-process.ensures.value c.call_next.new.processes.in_order;
+  started = set_started c.index_mut-process.result.now c.run_next.new.process
+      (λ h. ap (λ (p : Process). is_created (state_value p.state)) c.run_next.ensures.cpu ∙ h)
+      c.call_next.new.processes.list.items c.in_ok-place.place c.index_mut-process.ensures.value _ c.call_next.new.processes.started;
+}
 
 pub invariant_of-processes-2 : goal.invariant_of-processes-2
-invariant_of-processes-2 c = record { in_order = (stopped c).consistent.processes_in_order }
+invariant_of-processes-2 c = record {
+  in_order = set_in_order c.index_mut-process.result.now c.end.new.process
+      (ap (λ (p : Process). p.pid) c.end.ensures.process ∙ ap (λ (p : Process). p.pid) c.run_next.ensures.cpu)
+      c.call_next.new.processes.list.items c.in_ok-place.place c.index_mut-process.ensures.value c.call_next.new.processes.in_order;
+  started = set_started c.index_mut-process.result.now c.end.new.process
+      (λ h. ap (λ (p : Process). is_created (state_value p.state)) c.end.ensures.process)
+      c.call_next.new.processes.list.items c.in_ok-place.place c.index_mut-process.ensures.value _ c.call_next.new.processes.started;
+}
 
 pub returns-in-Some-clause-acts : goal.returns-in-Some-clause-acts
-returns-in-Some-clause-acts c = (called c.before).acts
+returns-in-Some-clause-acts c =
+    ended_acts c.args.library.now c.args.processes.now.list.items c.leave.new.processes.list.items c.args.objects.now c.call_next.new.objects
+    c.end_behind.new.objects c.args.blocked.now.items c.call_next.new.blocked.items c.args.pid (item.Call c.args.pid c.in-Some.call c.in-Some.outcome)
+    c.end_behind.ensures (called c.before.before.before).acts
 
 pub returns-in-Some-run_next-clause-acts : goal.returns-in-Some-run_next-clause-acts
 returns-in-Some-run_next-clause-acts c = (moved c.before).acts
 
 pub returns-clause-acts : goal.returns-clause-acts
-returns-clause-acts c = (stopped c.before.before).acts
+returns-clause-acts c =
+    ended_acts c.args.library.now c.args.processes.now.list.items c.leave-2.new.processes.list.items c.args.objects.now c.end.new.objects
+    c.end_unheld.new.objects c.args.blocked.now.items c.call_next.new.blocked.items c.args.pid (item.Stuck c.args.pid) c.end_unheld.ensures
+    (stopped c.before.before).acts
 
 pub returns-in-Some-clause-list : goal.returns-in-Some-clause-list
-returns-in-Some-clause-list c = (called c.before).list
+returns-in-Some-clause-list c = (called c.before.before.before).list
 
 pub returns-in-Some-run_next-clause-list : goal.returns-in-Some-run_next-clause-list
 returns-in-Some-run_next-clause-list c = (moved c.before).list
@@ -86,7 +132,7 @@ pub returns-clause-list : goal.returns-clause-list
 returns-clause-list c = (stopped c.before.before).list
 
 pub returns-in-Some-clause-fewer : goal.returns-in-Some-clause-fewer
-returns-in-Some-clause-fewer c = (called c.before).fewer
+returns-in-Some-clause-fewer c = (called c.before.before.before).fewer
 
 pub returns-in-Some-run_next-clause-fewer : goal.returns-in-Some-run_next-clause-fewer
 returns-in-Some-run_next-clause-fewer c = (moved c.before).fewer
@@ -95,22 +141,24 @@ pub returns-clause-fewer : goal.returns-clause-fewer
 returns-clause-fewer c = (stopped c.before.before).fewer
 
 pub returns-in-Some-clause-asleep : goal.returns-in-Some-clause-asleep
-returns-in-Some-clause-asleep c = (called c.before).asleep
+returns-in-Some-clause-asleep c =
+    let first = (called c.before.before.before).asleep in (c.end_behind.ensures.asleep.0 ∙ first.0, c.end_behind.ensures.asleep.1 ∙ first.1)
 
 pub returns-in-Some-run_next-clause-asleep : goal.returns-in-Some-run_next-clause-asleep
 returns-in-Some-run_next-clause-asleep c = (moved c.before).asleep
 
 pub returns-clause-asleep : goal.returns-clause-asleep
-returns-clause-asleep c = (stopped c.before.before).asleep
+returns-clause-asleep c =
+    let first = (stopped c.before.before).asleep in (c.end_unheld.ensures.asleep.0 ∙ first.0, c.end_unheld.ensures.asleep.1 ∙ first.1)
 
 pub returns-in-Some-clause-consistent : goal.returns-in-Some-clause-consistent
-returns-in-Some-clause-consistent c = (called c.before).consistent
+returns-in-Some-clause-consistent c = c.end_behind.ensures.consistent
 
 pub returns-in-Some-run_next-clause-consistent : goal.returns-in-Some-run_next-clause-consistent
 returns-in-Some-run_next-clause-consistent c = (moved c.before).consistent
 
 pub returns-clause-consistent : goal.returns-clause-consistent
-returns-clause-consistent c = (stopped c.before.before).consistent
+returns-clause-consistent c = c.end_unheld.ensures.consistent
 
 pub returns-in-Some-run_next-clause-quiet : goal.returns-in-Some-run_next-clause-quiet
 returns-in-Some-run_next-clause-quiet c local =
@@ -122,14 +170,12 @@ returns-in-Some-run_next-clause-quiet c local =
     c.run_next.new.process (c.in-Some-run_next.ensures {u = tt}).cpu
 
 pub returns-in-Some-clause-unheld : goal.returns-in-Some-clause-unheld
-returns-in-Some-clause-unheld d none =
-    let c = d.before in
-    called_spares (turn_at c.args.processes.now.list.items c.args.objects.now c.args.blocked.now.items c.args.pid c.in_ok-place.place c.index.result.now
-    c.requires.consistent c.requires.list c.requires.sound c.in_ok-place.ensures.first c.index.ensures (sym c.is_ready.ensures ∙ c.if-not-is_ready.false))
-    c.args.library.now (parts c.call_next.new.processes.list.items c.call_next.new.objects c.call_next.new.blocked.items) c.in-Some.outcome
-    c.in-Some.call
-    ((c.in-Some.ensures {u = tt}).calls c.index.result.now (here c.args.processes.now.list.items c.args.pid c.in_ok-place.place c.index.result.now
-    c.in_ok-place.ensures.first c.index.ensures)) none c.leave_behind.new.processes.items c.leave_behind.ensures (called c).consistent
+returns-in-Some-clause-unheld d apart =
+    let c = d.before in ended_again c.leave.new.processes.list.items c.call_next.new.objects c.end_behind.new.objects c.end_behind.ensures
+
+pub returns-clause-unheld : goal.returns-clause-unheld
+returns-clause-unheld d apart =
+    let c = d.before in ended_again c.leave-2.new.processes.list.items c.end.new.objects c.end_unheld.new.objects c.end_unheld.ensures
 
 pub run_next-requires-clause-sure : goal.run_next-requires-clause-sure
 run_next-requires-clause-sure c =
@@ -138,14 +184,3 @@ run_next-requires-clause-sure c =
     c.args.library.now c.call_next.new.processes.list.items c.call_next.new.objects c.call_next.new.blocked.items
     (c.in_default.ensures {u = tt}).same_processes (c.in_default.ensures {u = tt}).same_objects (c.in_default.ensures {u = tt}).same_blocked
     c.index_mut-process.result.now c.index_mut-process.ensures.value c.requires.verified c.requires.covered
-
-pub leave_behind-requires : goal.leave_behind-requires
-leave_behind-requires c = record {
-  none = none_departs (turn_at c.args.processes.now.list.items c.args.objects.now c.args.blocked.now.items c.args.pid c.in_ok-place.place
-      c.index.result.now c.requires.consistent c.requires.list c.requires.sound c.in_ok-place.ensures.first c.index.ensures
-      (sym c.is_ready.ensures ∙ c.if-not-is_ready.false))
-      c.args.library.now (parts c.call_next.new.processes.list.items c.call_next.new.objects c.call_next.new.blocked.items) c.in-Some.outcome
-      c.in-Some.call
-      ((c.in-Some.ensures {u = tt}).calls c.index.result.now (here c.args.processes.now.list.items c.args.pid c.in_ok-place.place c.index.result.now
-      c.in_ok-place.ensures.first c.index.ensures));
-}

@@ -1,8 +1,9 @@
-use Rattle.zl_calls.proofs.Common.{◌≡◌, ◌∙◌, ap, set, slice_get, Some, List}
+use Rattle.zl_calls.proofs.Common.{◌≡◌, ◌∙◌, ap, set, slice_get, slice_get-get_or, sym, Some, List}
 use Rattle.zl_calls.specs.declared.process.Process.{Process}
 use Rattle.zl_calls.proofs.stepping.Calling.{acted_acts, again_there, policed_acts, policed_order, reached_acts, same_caller}
 use Rattle.zl_calls.proofs.calls.Performed.{same_pid}
 use Rattle.zl_calls.proofs.processes.InOrder.{set_in_order}
+use Rattle.zl_calls.proofs.processes.Started.{acted_started, judged_started, set_started}
 use Rattle.zl_calls.proofs.lists.Updates.{set_same}
 use Rattle.zl_calls.proofs.stepping.do_call.Goals as goal
 
@@ -14,6 +15,12 @@ invariant_of-processes g c = record {
       c.requires.may.calling.within c.index_mut.ensures.value c.args.call.now c.requires.there
       c.by_policy.result c.by_policy.new.process c.by_policy.new.objects c.by_policy.ensures.policed c.by_policy.ensures.same_process
       c.args.processes.now.in_order;
+  started = set_started c.index_mut.result.now c.by_policy.new.process
+      (judged_started c.index_mut.result.now c.by_policy.new.process c.args.objects.now c.by_policy.new.objects _
+      (c.requires.there c.index_mut.result.now (slice_get-get_or c.args.processes.now.list.items c.args.place c.index_mut.result.now
+      c.requires.may.calling.within ∙ ap (λ (x : Process). Some x) (sym c.index_mut.ensures.value)))
+      c.by_policy.result c.by_policy.ensures.policed c.by_policy.ensures.same_process)
+      c.args.processes.now.list.items c.args.place c.index_mut.ensures.value _ c.args.processes.now.started;
 }
 
 pub invariant_of-processes-2 : goal.invariant_of-processes-2
@@ -21,6 +28,9 @@ invariant_of-processes-2 g c = record {
   in_order = set_in_order c.index_mut-2.result.now c.act.new.process
       (same_pid c.index_mut-2.result.now c.act.new.process c.reach.new.objects c.act.new.objects c.act.result _ c.act.ensures)
       c.reach.new.processes.list.items c.args.place c.index_mut-2.ensures.value c.reach.new.processes.in_order;
+  started = set_started c.index_mut-2.result.now c.act.new.process (λ h. acted_started c.index_mut-2.result.now c.act.new.process
+      c.reach.new.objects c.act.new.objects c.act.result h _ c.act.ensures)
+      c.reach.new.processes.list.items c.args.place c.index_mut-2.ensures.value _ c.reach.new.processes.started;
 }
 
 -- ---- what it does
@@ -56,6 +66,8 @@ act-requires g c =
     c.requires.may.calling.within c.index_mut.ensures.value
     c.reach.new.processes.list.items c.index_mut-2.result.now ((c.in_default-reach.ensures {u = tt}).same_processes ∙ kept) c.index_mut-2.ensures.value in
     record {
+      own = rw ((c.in_default-reach.ensures {u = tt}).same_objects, (c.in_default.ensures {u = tt}).same_objects)
+          (c.requires.own c.index_mut-2.result.now here);
       counter = c.requires.counter c.index_mut-2.result.now here;
       there = c.requires.there c.index_mut-2.result.now here;
       alone = (c.in_default-reach.ensures {u = tt}).missing c.index_mut-2.result.now (ap (λ (xs : List Process). slice_get xs c.args.place) kept ∙ here);

@@ -2,9 +2,11 @@ use Rattle.zl_calls.proofs.Common.{ap, arith, ◌≡◌, ◌∙◌, Some, slice_
 use Rattle.std.specs.Prelude.{slice_index}
 use Rattle.zl_code.specs.Request.{site_of}
 use Rattle.zl_calls.specs.declared.process.Process.{Process}
-use Rattle.zl_calls.proofs.tasks.ReachParts.{counter_still, create_reaches, created_still, kill_reaches, start_reaches, still_within, told_pid}
+use Rattle.zl_calls.proofs.tasks.ReachParts.{counter_still, create_reaches, created_still, kill_reaches, start_reaches, still_within, told_pid, told_started}
 use Rattle.zl_calls.proofs.tasks.StartParts.{stands_at}
 use Rattle.zl_calls.proofs.processes.InOrder.{set_in_order}
+use Rattle.zl_calls.proofs.Common.{is_created, state_value}
+use Rattle.zl_calls.proofs.processes.Started.{set_started}
 use Rattle.zl_calls.proofs.Common.{[], ◌∷◌, None, TRANSFER, WRITE, handle_operands, looked_up, operands_fault, refl}
 use Rattle.zl_rights.specs.declared.kind.Kind.TheVariants as kind
 use Rattle.zl_code.specs.declared.history.CallName.TheVariants as name
@@ -16,12 +18,17 @@ pub invariant_of-processes : goal.invariant_of-processes
 invariant_of-processes g c = record {
   in_order = set_in_order c.index_mut.result.now _ (ap (λ (p : Process). p.pid) c.answer_made.ensures.process)
       c.process_create-made.new.processes.list.items c.args.place c.index_mut.ensures.value c.process_create-made.new.processes.in_order;
+  started = set_started c.index_mut.result.now _ (λ h. ap (λ (p : Process). is_created (state_value p.state)) c.answer_made.ensures.process ∙ h)
+      c.process_create-made.new.processes.list.items c.args.place c.index_mut.ensures.value _ c.process_create-made.new.processes.started;
 }
 
 pub invariant_of-processes-in-ProcessStart : goal.invariant_of-processes-in-ProcessStart
 invariant_of-processes-in-ProcessStart g c = record {
   in_order = set_in_order c.index_mut-in-ProcessStart.result.now _ (ap (λ (p : Process). p.pid) c.answer_taking.ensures.process)
       c.process_start-answer.new.processes.list.items c.args.place c.index_mut-in-ProcessStart.ensures.value c.process_start-answer.new.processes.in_order;
+  started = set_started c.index_mut-in-ProcessStart.result.now _
+      (λ h. ap (λ (p : Process). is_created (state_value p.state)) c.answer_taking.ensures.process ∙ h)
+      c.process_start-answer.new.processes.list.items c.args.place c.index_mut-in-ProcessStart.ensures.value _ c.process_start-answer.new.processes.started;
 }
 
 pub invariant_of-processes-in-TaskKill : goal.invariant_of-processes-in-TaskKill
@@ -29,6 +36,9 @@ invariant_of-processes-in-TaskKill g c = record {
   in_order = set_in_order c.index_mut-in-TaskKill.result.now _ (told_pid _ c.task_kill-answer.result c.index_mut-in-TaskKill.result.now
       _ c.answer_unless_over.ensures.told) c.task_kill-answer.new.processes.list.items c.args.place c.index_mut-in-TaskKill.ensures.value
       c.task_kill-answer.new.processes.in_order;
+  started = set_started c.index_mut-in-TaskKill.result.now _ (told_started _ c.task_kill-answer.result c.index_mut-in-TaskKill.result.now
+      _ c.answer_unless_over.ensures.told) c.task_kill-answer.new.processes.list.items c.args.place c.index_mut-in-TaskKill.ensures.value _
+      c.task_kill-answer.new.processes.started;
 }
 
 pub index_mut-requires : goal.index_mut-requires

@@ -1,5 +1,6 @@
 use Rattle.zl_calls.proofs.Common.{refl, state_value}
 use Rattle.zl_calls.proofs.waking.Woken.{taken_asleep, wakes_none, wakes_one}
+use Rattle.zl_calls.proofs.processes.Started.{awake_started, set_started}
 use Rattle.zl_calls.proofs.waking.wake_one.Goals as goal
 
 pub returns-in-Some : goal.returns-in-Some
@@ -17,6 +18,9 @@ invariant_of-processes c = record {
   in_order = (wakes_one c.args.processes.now.list.items c.args.objects.now c.requires.consistent c.args.pid c.in-Some.place c.index_mut.result.now
       c.in-Some.ensures.first c.index_mut.ensures.value c.wake_process.new.process c.wake_process.new.objects
       c.wake_process.ensures.process c.wake_process.ensures.objects).consistent.processes_in_order;
+  started = set_started c.index_mut.result.now c.wake_process.new.process
+      (λ h. rw c.wake_process.ensures.process (awake_started _ c.index_mut.result.now h))
+      c.args.processes.now.list.items c.in-Some.place c.index_mut.ensures.value _ c.args.processes.now.started;
 }
 
 pub returns-in-None : goal.returns-in-None

@@ -21,13 +21,13 @@ loop-koid-preserved c =
 pub returns-clause-settles : goal.returns-clause-settles
 returns-clause-settles c =
     let all : ◌≡◌ {A = ℕ} c.loop-koid.koid 0 = omega (arith, c.loop-koid-test.false) in
-    rw (c.leave.ensures, c.loop-koid.invariant.processes)
+    rw (c.leave_from.ensures, c.loop-koid.invariant.processes)
     ((all_swept c.args.self.now.processes.items c.args.self.now.objects c.loop-koid.self.objects c.requires (rw all at c.loop-koid.invariant.swept)).settles)
 
 pub returns-clause-consistent : goal.returns-clause-consistent
 returns-clause-consistent c =
     let all : ◌≡◌ {A = ℕ} c.loop-koid.koid 0 = omega (arith, c.loop-koid-test.false) in
-    rw (c.leave.ensures, c.loop-koid.invariant.processes)
+    rw (c.leave_from.ensures, c.loop-koid.invariant.processes)
     (left_keeps c.args.self.now.processes.items c.loop-koid.self.objects
     (all_swept c.args.self.now.processes.items c.args.self.now.objects c.loop-koid.self.objects c.requires (rw all at c.loop-koid.invariant.swept)).consistent)
 

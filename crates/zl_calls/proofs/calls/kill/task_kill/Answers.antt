@@ -1,5 +1,5 @@
 use Rattle.zl_calls.proofs.Common.{arith, ◌≡◌, [], length, refl}
-use Rattle.zl_calls.proofs.tasks.KillParts.{closed_order_back, in_order_back, killed_back, still_back}
+use Rattle.zl_calls.proofs.tasks.KillParts.{closed_order_back, closed_started_back, in_order_back, killed_back, started_back, still_back}
 use Rattle.zl_calls.proofs.calls.kill.task_kill.Goals as goal
 
 pub invariant_of-processes : goal.invariant_of-processes
@@ -8,6 +8,8 @@ invariant_of-processes g c =
     record {
       in_order = in_order_back c.args.processes.now.list.len c.args.processes.now.list.items c.deref_mut.result.now c.end_within.new.processes _ []
           c.args.objects.now c.in_ok-task.task.koid long c.deref_mut.ensures.value c.end_within.ensures refl c.args.processes.now.in_order;
+      started = started_back c.args.processes.now.list.len c.args.processes.now.list.items c.deref_mut.result.now c.end_within.new.processes _ []
+          c.args.objects.now c.in_ok-task.task.koid long c.deref_mut.ensures.value c.end_within.ensures refl _ c.args.processes.now.started;
     }
 
 pub invariant_of-processes-2 : goal.invariant_of-processes-2
@@ -18,6 +20,10 @@ invariant_of-processes-2 g c =
           c.deref_mut-2.result.now c.close_ended.new.processes c.args.objects.now
           c.in_ok-task.task.koid long c.deref_mut.ensures.value c.end_within.ensures c.deref_mut-2.ensures.value c.kill.new.self
           c.close_ended.new.objects c.close_ended.ensures.closes c.args.processes.now.in_order;
+      started = closed_started_back c.args.processes.now.list.len c.args.processes.now.list.items c.deref_mut.result.now c.end_within.new.processes
+          c.deref_mut-2.result.now c.close_ended.new.processes c.args.objects.now
+          c.in_ok-task.task.koid long c.deref_mut.ensures.value c.end_within.ensures c.deref_mut-2.ensures.value c.kill.new.self
+          c.close_ended.new.objects c.close_ended.ensures.closes _ c.args.processes.now.started;
     }
 
 pub returns-clause-does : goal.returns-clause-does

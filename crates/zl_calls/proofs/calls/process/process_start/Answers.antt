@@ -2,6 +2,8 @@ use Rattle.zl_calls.proofs.Common.{ap, arith, ◌<◌, [], length, refl}
 use Rattle.zl_calls.specs.declared.process.Process.{Process}
 use Rattle.zl_calls.proofs.tasks.StartParts.{caller_inside, caller_still, refused_so, refused_still, started_inside, starts_so, written_twice}
 use Rattle.zl_calls.proofs.processes.InOrder.{set_in_order}
+use Rattle.zl_calls.proofs.Common.{is_created, state_value}
+use Rattle.zl_calls.proofs.processes.Started.{set_started}
 use Rattle.zl_calls.proofs.calls.process.process_start.Goals as goal
 
 pub invariant_of-processes : goal.invariant_of-processes
@@ -10,12 +12,18 @@ invariant_of-processes g c = record {
       c.index_mut-child.ensures.value
       (set_in_order c.index_mut.result.now (record c.index_mut.result.now { table = c.take_out.new.table }) refl c.enter.new.processes.list.items c.args.place
       c.index_mut.ensures.value c.enter.new.processes.in_order);
+  started = set_started c.index_mut-child.result.now _ (λ h. ap (λ (p : Process). is_created (state_value p.state)) c.begin.ensures.process) _
+      c.in-Ok.started.place c.index_mut-child.ensures.value _
+      (set_started c.index_mut.result.now (record c.index_mut.result.now { table = c.take_out.new.table }) (λ h. h) c.enter.new.processes.list.items
+      c.args.place c.index_mut.ensures.value _ c.enter.new.processes.started);
 }
 
 pub invariant_of-processes-in-Err : goal.invariant_of-processes-in-Err
 invariant_of-processes-in-Err g c = record {
   in_order = set_in_order c.index_mut-in-Err.result.now (record c.index_mut-in-Err.result.now { table = c.close_each.new.table }) refl
       c.enter.new.processes.list.items c.args.place c.index_mut-in-Err.ensures.value c.enter.new.processes.in_order;
+  started = set_started c.index_mut-in-Err.result.now (record c.index_mut-in-Err.result.now { table = c.close_each.new.table }) (λ h. h)
+      c.enter.new.processes.list.items c.args.place c.index_mut-in-Err.ensures.value _ c.enter.new.processes.started;
 }
 
 pub index_mut-requires : goal.index_mut-requires

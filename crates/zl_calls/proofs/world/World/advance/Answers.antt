@@ -7,6 +7,7 @@ use Rattle.zl_calls.proofs.stepping.LocalMoves.{moved_awake, moved_keeps, moved_
 use Rattle.zl_calls.proofs.stepping.Performing.{AtTurn, turn_at, unblocked, write_of}
 use Rattle.zl_calls.proofs.stepping.StepItems.{machine_value}
 use Rattle.zl_calls.proofs.waking.StillBlocked.{written_sought}
+use Rattle.zl_calls.proofs.processes.Started.{set_started}
 use Rattle.zl_calls.proofs.world.World.advance.Goals as goal
 
 module _ (c : goal.After-self-1) where
@@ -51,7 +52,11 @@ module _ (c : goal.After-self-1) where
       ∙ (c.ran.ensures.follows.follows g.image c.requires.fits.agrees ∙ ap (λ (d : Cpu). Some d) (sym c.into_cpu.ensures))
 
 pub invariant_of-self-inside : goal.invariant_of-self-inside
-invariant_of-self-inside c = record { in_order = (moved_keeps (turn c) (p2 c) refl).processes_in_order }
+invariant_of-self-inside c = record {
+  in_order = (moved_keeps (turn c) (p2 c) refl).processes_in_order;
+  started = set_started c.index_mut-process.result.now (p2 c) (λ h. h) c.self.inside.processes.list.items c.in-Some.place c.index_mut-process.ensures.value _
+      c.self.inside.processes.started;
+}
 
 -- the world with that counter, before it is put back
 abbrev written : goal.After-drop-process-2 → goal.After-self-1

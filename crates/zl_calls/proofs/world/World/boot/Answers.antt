@@ -2,7 +2,8 @@ use Rattle.zl_code.proofs.AwakeRuns.{boot_awake}
 use Rattle.zl_code.proofs.ProgramsKept.{boot_programs}
 use Rattle.zl_code.specs.Boot.{IsBoot}
 use Rattle.zl_verify.proofs.Covering.{boot_covered}
-use Rattle.zl_calls.proofs.Common.{AreBlocked, arith, world_blocked}
+use Rattle.zl_calls.proofs.Common.{All-nil, AreBlocked, arith, world_blocked}
+use Rattle.zl_calls.specs.Leaving.{IsStarted}
 use Rattle.zl_calls.proofs.booting.BootBlocked.{booted_boots, booted_sound, none_blocked}
 use Rattle.zl_calls.proofs.waking.StillBlocked.{none_sought}
 use Rattle.zl_calls.proofs.world.World.boot.Goals as goal
@@ -19,7 +20,7 @@ are c = none_blocked c.args.library c.args.boot.now.statements.items c.in_ok-pro
     c.in_ok-processes.ensures.ok ((c.in-Ok.ensures {u = tt}).items)
 
 pub invariant_of-result : goal.invariant_of-result
-invariant_of-result c = record { in_order = c.in_ok-processes.ensures.consistent.processes_in_order }
+invariant_of-result c = record { in_order = c.in_ok-processes.ensures.consistent.processes_in_order; started = All-nil IsStarted }
 
 pub invariant_of-result-2 : goal.invariant_of-result-2
 invariant_of-result-2 c = record {

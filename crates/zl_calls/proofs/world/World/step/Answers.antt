@@ -19,18 +19,18 @@ fire_waits-requires c =
     asleep_consistent c.self.inside.library c.self.inside.processes.list.items c.self.inside.objects c.self.inside.blocked.items
     (vec_capacity c.self.inside.blocked)
     c.args.pid c.in_ok-item.item c.self.invariant
-    c.act_for.new.processes.list.items c.act_for.new.objects c.end_behind.new.objects c.fall_asleep.new.objects
+    c.act_for.new.processes.list.items c.act_for.new.objects c.act_for.new.objects c.fall_asleep.new.objects
     c.act_for.new.blocked.items c.in_ok-item.ensures.acts c.in_ok-item.ensures.list c.in_ok-item.ensures.fewer c.in_ok-item.ensures.asleep
-    c.end_behind.ensures c.fall_asleep.ensures
+    (c.in_ok-item.ensures.unheld (sym c.is_local.ensures ∙ c.if-is_local.false)) c.fall_asleep.ensures
 
 pub calm-requires : goal.calm-requires
 calm-requires c =
     nothing_holds c.self.inside.library c.self.inside.processes.list.items c.self.inside.objects c.self.inside.blocked.items
     (vec_capacity c.self.inside.blocked)
     c.args.pid c.in_ok-item.item c.self.invariant
-    c.act_for.new.processes.list.items c.act_for.new.objects c.end_behind.new.objects c.fall_asleep.new.objects
+    c.act_for.new.processes.list.items c.act_for.new.objects c.act_for.new.objects c.fall_asleep.new.objects
     c.act_for.new.blocked.items c.in_ok-item.ensures.acts c.in_ok-item.ensures.list c.in_ok-item.ensures.fewer c.in_ok-item.ensures.asleep
-    c.end_behind.ensures c.fall_asleep.ensures
+    (c.in_ok-item.ensures.unheld (sym c.is_local.ensures ∙ c.if-is_local.false)) c.fall_asleep.ensures
     c.fire_waits.new.objects c.fire_waits.ensures c.wake-woke.new.processes.list.items c.wake-woke.new.objects c.wake-woke.new.blocked.items
     (rw c.add_blocked.ensures.items at c.wake-woke.ensures.wakes) c.wake-woke.ensures.list c.wake-woke.ensures.consistent c.wake-woke.ensures.asleep
     c.wake-woke.result (rw c.add_blocked.ensures.items at c.wake-woke.ensures.told)
@@ -39,9 +39,9 @@ pub returns-clause-ran : goal.returns-clause-ran
 returns-clause-ran c = rw (← c.self.view_is)
     (calmed_step c.self.inside.library c.self.inside.processes.list.items c.self.inside.objects c.self.inside.blocked.items (vec_capacity c.self.inside.blocked)
     c.args.pid c.in_ok-item.item c.self.invariant
-    c.act_for.new.processes.list.items c.act_for.new.objects c.end_behind.new.objects c.fall_asleep.new.objects
+    c.act_for.new.processes.list.items c.act_for.new.objects c.act_for.new.objects c.fall_asleep.new.objects
     c.act_for.new.blocked.items c.in_ok-item.ensures.acts c.in_ok-item.ensures.list c.in_ok-item.ensures.fewer c.in_ok-item.ensures.asleep
-    c.end_behind.ensures c.fall_asleep.ensures
+    (c.in_ok-item.ensures.unheld (sym c.is_local.ensures ∙ c.if-is_local.false)) c.fall_asleep.ensures
     c.fire_waits.new.objects c.fire_waits.ensures c.wake-woke.new.processes.list.items c.wake-woke.new.objects c.wake-woke.new.blocked.items
     (rw c.add_blocked.ensures.items at c.wake-woke.ensures.wakes) c.wake-woke.ensures.list c.wake-woke.ensures.consistent c.wake-woke.ensures.asleep
     c.wake-woke.result (rw c.add_blocked.ensures.items at c.wake-woke.ensures.told)
@@ -57,9 +57,9 @@ pub invariant_of-self-2 : goal.invariant_of-self-2
 invariant_of-self-2 c =
     calmed_whole c.self.inside.library c.self.inside.processes.list.items c.self.inside.objects c.self.inside.blocked.items (vec_capacity c.self.inside.blocked)
     c.args.pid c.in_ok-item.item c.self.invariant
-    c.act_for.new.processes.list.items c.act_for.new.objects c.end_behind.new.objects c.fall_asleep.new.objects
+    c.act_for.new.processes.list.items c.act_for.new.objects c.act_for.new.objects c.fall_asleep.new.objects
     c.act_for.new.blocked.items c.in_ok-item.ensures.acts c.in_ok-item.ensures.list c.in_ok-item.ensures.fewer c.in_ok-item.ensures.asleep
-    c.end_behind.ensures c.fall_asleep.ensures
+    (c.in_ok-item.ensures.unheld (sym c.is_local.ensures ∙ c.if-is_local.false)) c.fall_asleep.ensures
     c.fire_waits.new.objects c.fire_waits.ensures c.wake-woke.new.processes.list.items c.wake-woke.new.objects c.wake-woke.new.blocked.items
     (rw c.add_blocked.ensures.items at c.wake-woke.ensures.wakes) c.wake-woke.ensures.list c.wake-woke.ensures.consistent c.wake-woke.ensures.asleep
     c.wake-woke.result (rw c.add_blocked.ensures.items at c.wake-woke.ensures.told)
@@ -72,18 +72,18 @@ pub returns-then-is_quiet-clause-ran : goal.returns-then-is_quiet-clause-ran
 returns-then-is_quiet-clause-ran c = rw (← c.self.view_is, c.add_blocked.ensures.items)
     (quiet_step c.self.inside.library c.self.inside.processes.list.items c.self.inside.objects c.self.inside.blocked.items (vec_capacity c.self.inside.blocked)
     c.args.pid c.in_ok-item.item c.self.invariant
-    c.act_for.new.processes.list.items c.act_for.new.objects c.end_behind.new.objects c.fall_asleep.new.objects
+    c.act_for.new.processes.list.items c.act_for.new.objects c.act_for.new.objects c.fall_asleep.new.objects
     c.act_for.new.blocked.items c.in_ok-item.ensures.acts c.in_ok-item.ensures.list c.in_ok-item.ensures.fewer c.in_ok-item.ensures.asleep
-    c.end_behind.ensures c.fall_asleep.ensures
+    (c.in_ok-item.ensures.unheld (sym c.is_local.ensures ∙ c.if-is_local.false)) c.fall_asleep.ensures
     (c.is_quiet.ensures.waits c.if-is_quiet.true) (c.is_quiet.ensures.sleepers c.if-is_quiet.true))
 
 pub invariant_of-self-then-is_quiet : goal.invariant_of-self-then-is_quiet
 invariant_of-self-then-is_quiet c = rw c.add_blocked.ensures.items
     (quiet_whole c.self.inside.library c.self.inside.processes.list.items c.self.inside.objects c.self.inside.blocked.items (vec_capacity c.self.inside.blocked)
     c.args.pid c.in_ok-item.item c.self.invariant
-    c.act_for.new.processes.list.items c.act_for.new.objects c.end_behind.new.objects c.fall_asleep.new.objects
+    c.act_for.new.processes.list.items c.act_for.new.objects c.act_for.new.objects c.fall_asleep.new.objects
     c.act_for.new.blocked.items c.in_ok-item.ensures.acts c.in_ok-item.ensures.list c.in_ok-item.ensures.fewer c.in_ok-item.ensures.asleep
-    c.end_behind.ensures c.fall_asleep.ensures
+    (c.in_ok-item.ensures.unheld (sym c.is_local.ensures ∙ c.if-is_local.false)) c.fall_asleep.ensures
     (c.is_quiet.ensures.waits c.if-is_quiet.true) (c.is_quiet.ensures.sleepers c.if-is_quiet.true) (vec_capacity c.add_blocked.new.blocked)
     (omega (arith, c.add_blocked.ensures.capacity, c.act_for.ensures.room)))
 

@@ -1,0 +1,6 @@
+use Rattle.zl_calls.proofs.Common.{take, All}
+use Rattle.zl_calls.specs.Taken.{IsNoted}
+use Rattle.zl_calls.proofs.taken.Taken.note_each.Given as goal
+
+abbrev pub invariant-loop-value : goal.invariant-loop-value
+invariant-loop-value l = All (IsNoted l.table.entries l.self) (take l.value-index l.values)

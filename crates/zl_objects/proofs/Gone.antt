@@ -1,32 +1,28 @@
 -- Nothing comes to be due at an object that isn't marked, where others have gone.
-use Rattle.zl_rights.proofs.Common.{◌≡◌, ◌==◌, ◌<◌, ◌+◌, ◌++◌, ◌∷◌, [], ℕ, Bool, true, false, not, refl, sym, ap, ◌∙◌, Option, Some, None, inl, inr}
+use Rattle.zl_rights.proofs.Common.{◌≡◌, ◌==◌, ℕ, Bool, false, not, refl, sym, ap, ◌∙◌, Some, inl, inr}
 use Rattle.zl_rights.proofs.Common.{arith, eqb-true, list_any, is_empty, cases_Bool, false≢true, same_Some, Map, get, has_key}
-use Rattle.zl_rights.proofs.Common.{IfNone, IfSome, IsTrue, List, cond, eq-eqb, if◌then◌else◌, is_some, nat_tests, without}
+use Rattle.zl_rights.proofs.Common.{IfSome, IsTrue, without}
 use Rattle.std.specs.Prelude.{bit_or}
 use Rattle.zl_rights.specs.Numbers.{NO_JOBS, NO_PROCESSES, TERMINATED}
 use Rattle.zl_rights.specs.Signals.{signal_if}
 use Rattle.zl_table.proofs.MapEdits.{get-without}
-use Rattle.std.specs.BTreeMap.{BTreeMap, IsUnchanged}
-use Rattle.std.proofs.lemmas.List.Elements.{All-weaker}
-use Rattle.zl_objects.specs.declared.awaited.Sleeper.{Sleeper}
 use Rattle.zl_objects.specs.declared.object.Body.{Body}
 use Rattle.zl_objects.specs.declared.object.Body.TheVariants as body
 use Rattle.zl_objects.specs.declared.object.Object.{Object}
-use Rattle.zl_objects.specs.Calm.{IsAtRest, IsCalm, KeepsCalm, has_packet, is_watched, is_watched_in}
+use Rattle.zl_objects.specs.Calm.{KeepsCalm, has_packet, is_watched, is_watched_in}
 use Rattle.zl_objects.specs.Dying.{Thins}
 use Rattle.zl_objects.specs.Index.{IsIndexed}
 use Rattle.zl_objects.specs.declared.children.Children.{Children}
-use Rattle.zl_objects.specs.Jobs.{has_job_below, has_process_below, is_job_below, is_process_below, parent_at, parent_of}
-use Rattle.zl_objects.specs.Objects.{is_alive, is_child, is_end_at, is_end_body, keeper_of, peer_of}
-use Rattle.zl_objects.specs.Awaited.{koid_of}
-use Rattle.zl_objects.specs.Ports.{packets_of, reserved_in, unreserved}
+use Rattle.zl_objects.specs.Jobs.{has_job_below, has_process_below, is_job_below, is_process_below}
+use Rattle.zl_objects.specs.Objects.{is_child, keeper_of, peer_of}
+use Rattle.zl_objects.specs.Ports.{packets_of, unreserved}
 use Rattle.zl_objects.specs.Signals.{implied, signals_at}
-use Rattle.zl_objects.specs.Waits.{AreSameButWaits, ending_waits, ends_waits, waits_in}
+use Rattle.zl_objects.specs.Waits.{AreSameButWaits, ending_waits}
 use Rattle.zl_objects.proofs.Bare.{IsAlike, alike, any_same, has_same, of_body}
 use Rattle.zl_objects.proofs.Bodies.{any_without_at, found_left}
 use Rattle.zl_objects.proofs.CalmEnds.{of_keeper}
 use Rattle.zl_objects.proofs.Calm.{Follows, Stays, calm_followed, fewer_same, fewer_unmarked, stays_fewer, stays_unwatched}
-use Rattle.zl_objects.proofs.Ending.{ending_bare, ending_gone, ending_thins, none_ends}
+use Rattle.zl_objects.proofs.Ending.{ending_bare, ending_gone, ending_thins}
 use Rattle.zl_objects.proofs.Index.{job_is_child, process_is_child}
 
 module _ {children : Children} (m n : Map Object) (k : ℕ) (gone : Object) (indexed : IsIndexed children m) (there : get m k ≡ Some gone)
@@ -131,83 +127,3 @@ module _ {children : Children} (m n : Map Object) (k : ℕ) (gone : Object) (ind
     pub gone_calm : KeepsCalm marked m marked3 n
     gone_calm next sleepers =
         calm_followed marked marked3 m n next next sleepers (omega arith) (fewer_unmarked marked marked3 all_more) (λ j o at. inl (follows j o at))
-
--- ---- the newest is taken back
-
--- above the koids of all others
-last_out : (n : Map Object) (p : ℕ × Object) → ((i : ℕ) → IsTrue (has_key n i) → i < p.0) → without (n ++ p ∷ []) p.0 ≡ n
-unfolding get without
-last_out [] p below = rw (eq-eqb p.0 p.0 refl) refl
-last_out (e ∷ n) p below =
-    let first : e.0 < p.0 = below e.0 (rw (eq-eqb e.0 e.0 refl) refl) in
-    let apart : (e.0 == p.0) ≡ false = grind (arith, nat_tests, first) in
-    rw apart (ap (λ (m : Map Object). e ∷ m) (last_out n p (λ i there. below i (later i there))))
-  where
-    later : (j : ℕ) → IsTrue (has_key n j) → IsTrue (has_key (e ∷ n) j)
-    later j there = elim (e.0 == j) as (λ b. IsTrue (is_some (cond b (Some e.1) (get n j)))) [ true ↦ refl | false ↦ there ]
-
-not_last : (n : Map Object) (p : ℕ × Object) (k : ℕ) → (p.0 == k) ≡ false → get (n ++ p ∷ []) k ≡ get n k
-unfolding get
-not_last [] p k apart = rw apart refl
-not_last (e ∷ n) p k apart = ap (λ (q : Option Object). cond (e.0 == k) (Some e.1) q) (not_last n p k apart)
-
-popped_out : (m n : BTreeMap ℕ Object) (koid : ℕ) (r : Option (ℕ × Object)) → IsTrue (has_key m.entries koid)
-    → ((i : ℕ) → IsTrue (has_key n.entries i) → i < koid) → IfNone r (IsUnchanged m n) → IfSome r (λ p. m.entries ≡ n.entries ++ p ∷ [])
-    → n.entries ≡ without m.entries koid
-popped_out m n koid None there below same removal = absurd (let less : koid < koid = below koid (rw same there) in omega (arith, less))
-popped_out m n koid (Some p) there below same removal = rw (removal, ← key) (sym (last_out n.entries p (λ i h. rw key (below i h))))
-  where
-    key : p.0 ≡ koid
-    key = elim (cases_Bool (p.0 == koid)) as (λ _. p.0 ≡ koid) [
-      | inl here ↦ eqb-true p.0 koid here
-      | inr apart ↦ absurd (let less : koid < koid = below koid (rw (← not_last n.entries p koid apart, ← removal) there) in omega (arith, less))
-    ]
-
-keeper_is : (P : ℕ → Type 0) (b : Body) → P (parent_of b) → IfSome (keeper_of b) P
-keeper_is P (body.Job own) h = elim own.killed as (λ b. IfSome (if b then None else Some own.parent) P) [ true ↦ tt | false ↦ h ]
-keeper_is P (body.Process job l) h = elim (is_alive l) as (λ b. IfSome (if b then Some job else None) P) [ true ↦ h | false ↦ tt ]
-keeper_is P _ h = tt
-
-no_end : (P : ℕ → Type 0) (b : Body) → is_end_body b ≡ false → IfSome (peer_of b) P
-no_end P (body.ChannelEnd p queue) h = absurd (false≢true (sym h))
-no_end P (body.PairEnd p) h = absurd (false≢true (sym h))
-no_end P _ h = tt
-
--- it was no end, no wait and no process were at it, and its job is marked, if something waits there
-pub popped_calm : {children : Children} {marked marked2 : ℕ → Bool} {sleepers : List Sleeper} → ((j : ℕ) → IsTrue (marked j) → IsTrue (marked2 j))
-    → (m n : BTreeMap ℕ Object) (next koid : ℕ) (r : Option (ℕ × Object)) → IsIndexed children m.entries → next ≡ koid + 1
-    → is_end_at m.entries koid ≡ false → reserved_in (get m.entries koid) ≡ 0 → waits_in (get m.entries koid) ≡ [] → IsTrue (has_key m.entries koid)
-    → IfSome (get m.entries koid) (λ o. o.slept ≡ false) → ((i : ℕ) → IsTrue (has_key n.entries i) → i < koid) → IfNone r (IsUnchanged m n)
-    → IfSome r (λ p. m.entries ≡ n.entries ++ p ∷ [])
-    → (IsTrue (is_watched_in (get n.entries (parent_at m.entries koid))) → IsTrue (marked2 (parent_at m.entries koid)))
-    → IsCalm marked m.entries next sleepers → IsCalm marked2 n.entries koid sleepers
-popped_calm {children} {marked} {marked2} {sleepers} more m n next koid r indexed newest alone unreserved unwatched there unslept below same removal job calm =
-    by_object (get m.entries koid) refl
-  where
-    one : (o : Object) → get m.entries koid ≡ Some o → (s : Sleeper) → IsAtRest marked m.entries next s × IsAtRest marked2 n.entries next s
-        → IsAtRest marked2 n.entries koid s
-    one o at s both = record {
-      given = elim (cases_Bool (koid_of s.awaited == koid)) as (λ _. koid_of s.awaited < koid) [
-        | inl here ↦
-            let known : IsTrue o.slept = both.0.known o (ap (get m.entries) (eqb-true (koid_of s.awaited) koid here) ∙ at) in
-            absurd (false≢true (sym (rw at at unslept) ∙ known))
-        | inr apart ↦ grind (arith, nat_tests, both.0.given, newest, apart)
-      ];
-      known = both.1.known;
-      calm = both.1.calm;
-    }
-
-    by_object : (q : Option Object) → get m.entries koid ≡ q → IsCalm marked2 n.entries koid sleepers
-    by_object None is = absurd (false≢true (rw is at there))
-    by_object (Some o) is =
-        let none : ends_waits o ≡ false = rw (rw is at unreserved, rw is at unwatched) refl in
-        let ended : n.entries ≡ ending_waits koid o (without m.entries koid) =
-        popped_out m n koid r there below same removal ∙ sym (none_ends (without m.entries koid) koid o none) in
-        let after : IsCalm marked2 n.entries next sleepers =
-        gone_calm m.entries n.entries koid o indexed is ended more (λ j h. h) (keeper_is _ o.body (rw is at job)) (no_end _ o.body (rw is at alone))
-        next sleepers calm in
-        record {
-          waits = after.waits;
-          resting = All-weaker (λ s. IsAtRest marked m.entries next s × IsAtRest marked2 n.entries next s) (IsAtRest marked2 n.entries koid) (one o is) sleepers
-              (λ i d inside. (calm.resting i d inside, after.resting i d inside));
-        }

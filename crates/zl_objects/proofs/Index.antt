@@ -1,10 +1,10 @@
 -- The index of living children: what it finds, and that it fits the objects after each change.
-use Rattle.zl_rights.proofs.Common.{◌≡◌, ◌<◌, ◌≤◌, ◌+◌, ◌-◌, ◌^◌, ◌==◌, ◌&&◌, ◌||◌, ◌⊎◌, ◌++◌, ℕ, Bool, true, false, not, List, [], ◌∷◌, refl, sym, ap, ◌∙◌}
+use Rattle.zl_rights.proofs.Common.{◌≡◌, ◌<◌, ◌≤◌, ◌+◌, ◌-◌, ◌^◌, ◌==◌, ◌&&◌, ◌||◌, ◌⊎◌, ℕ, Bool, true, false, not, List, [], ◌∷◌, refl, sym, ap, ◌∙◌}
 use Rattle.zl_rights.proofs.Common.{Option, Some, None, inl, inr, IsTrue, IfSome, OnOk, Result, Ok, Err, arith, and_parts, and_from, eqb-true, filter}
 use Rattle.zl_rights.proofs.Common.{list_any, nat_lt, nat_cmp, nat_tests, below_all, is_sorted, cases_Bool, false≢true, or_left, or_right, none-some, same_Some}
-use Rattle.zl_rights.proofs.Common.{eq-eqb, if◌then◌else◌, Map, each, get, has_key, option_map, put, update, without, IfNone}
+use Rattle.zl_rights.proofs.Common.{eq-eqb, if◌then◌else◌, Map, each, get, has_key, option_map, put, update, without}
 use Rattle.std.specs.Prelude.{OnErr}
-use Rattle.std.specs.BTreeMap.{BTreeMap, insert_entry, is_at, IsUnchanged}
+use Rattle.std.specs.BTreeMap.{insert_entry, is_at}
 use Rattle.std.specs.BTreeMap.Range.{range_contains}
 use Rattle.std.specs.BTreeSet.{Updates, contains}
 use Rattle.std.specs.Cmp.{unsigned_tied}
@@ -367,45 +367,6 @@ module _ {children children2 : Children} where
       → IsIndexed children2 n
   gone_indexed {m} {n} k o indexed others is =
       rw is (left_indexed [] (removed_indexed k indexed others refl) (waits_end [] _ _ _ (ending_bare k o (without m k)) (none_left _)))
-
-  -- the newest
-  pub popped_indexed : (m n : BTreeMap ℕ Object) (k : ℕ) (r : Option (ℕ × Object)) → IsIndexed children m.entries
-      → OthersStayListed k children children2 → ((i : ℕ) → IsTrue (has_key n.entries i) → i < k)
-      → IfNone r (IsUnchanged m n) → IfSome r (λ p. m.entries ≡ n.entries ++ p ∷ []) → IsIndexed children2 n.entries
-  unfolding get
-  popped_indexed m n k r indexed others below unchanged removal =
-      let left = parts r unchanged removal in record {
-        in_order = left.0;
-        listed = λ i j o at child. others j i (apart i (below i (rw at refl))) (indexed.listed i j o (left.1 i o at) child);
-        paired = still_paired m.entries n.entries (λ i o at. (o, left.1 i o at, refl)) indexed.paired;
-      }
-    where
-      apart : (i : ℕ) → i < k → (k == i) ≡ false
-      apart i lower = grind (arith, nat_tests, lower)
-
-      before : (xs ys : Map Object) (i : ℕ) (o : Object) → get xs i ≡ Some o → get (xs ++ ys) i ≡ Some o
-      before [] ys i o at = absurd (none-some o at)
-      before (e ∷ xs) ys i o at = elim (cases_Bool (e.0 == i)) as (λ _. get ((e ∷ xs) ++ ys) i ≡ Some o) [
-        | inl here ↦ rw here (rw here at at)
-        | inr other ↦ rw other (before xs ys i o (rw other at at))
-      ]
-
-      below_first : (i : ℕ) (xs ys : Map Object) → IsTrue (below_all nat_cmp i (xs ++ ys)) → IsTrue (below_all nat_cmp i xs)
-      below_first i [] ys h = refl
-      below_first i (e ∷ xs) ys h =
-          let parts = and_parts (is_lt (nat_cmp i e.0)) _ h in
-          and_from (is_lt (nat_cmp i e.0)) _ parts.0 (below_first i xs ys parts.1)
-
-      first_sorted : (xs ys : Map Object) → IsTrue (is_sorted nat_cmp (xs ++ ys)) → IsTrue (is_sorted nat_cmp xs)
-      first_sorted [] ys h = refl
-      first_sorted (e ∷ xs) ys h =
-          let parts = and_parts (below_all nat_cmp e.0 (xs ++ ys)) _ h in
-          and_from (below_all nat_cmp e.0 xs) _ (below_first e.0 xs ys parts.0) (first_sorted xs ys parts.1)
-
-      parts : (q : Option (ℕ × Object)) → IfNone q (IsUnchanged m n) → IfSome q (λ p. m.entries ≡ n.entries ++ p ∷ [])
-          → IsTrue (is_sorted nat_cmp n.entries) × ((i : ℕ) (o : Object) → get n.entries i ≡ Some o → get m.entries i ≡ Some o)
-      parts None same out = rw same (indexed.in_order, λ i o at. at)
-      parts (Some p) same out = (first_sorted n.entries (p ∷ []) (rw out at indexed.in_order), λ i o at. rw out (before n.entries (p ∷ []) i o at))
 
 -- an end of a channel or of an event pair is no child
 pub pair_indexed : {children : Children} {m n n2 : Map Object} (p : Pair) (handles next : ℕ) (o o2 : Object) → IsIndexed children m

@@ -1,10 +1,10 @@
 -- The invariant of the objects and of the list of all waits, after each change.
-use Rattle.zl_rights.proofs.Common.{◌≡◌, ◌<◌, ◌≤◌, ◌+◌, ◌==◌, ◌&&◌, ℕ, Bool, false, List, [], ◌∷◌, ◌++◌, length, refl, sym, arith, ap, ◌∙◌, Option, Some}
+use Rattle.zl_rights.proofs.Common.{◌≡◌, ◌≤◌, ◌+◌, ◌==◌, ◌&&◌, ℕ, Bool, false, List, [], ◌∷◌, ◌++◌, length, refl, sym, arith, ap, ◌∙◌, Some}
 use Rattle.zl_rights.proofs.Common.{None, IsTrue, map, not, option_map}
 use Rattle.zl_rights.proofs.Common.{filter, find, nat_cmp, Map, get, update, has_key}
-use Rattle.std.specs.Prelude.{◌-◌, ◌↔◌, IfNone, IfSome, IsSome, Result, OnOk, OnErr}
+use Rattle.std.specs.Prelude.{◌-◌, Result, OnOk, OnErr}
 use Rattle.std.specs.Map.{lookup, set_value}
-use Rattle.std.specs.BTreeMap.{BTreeMap, is_at, insert_entry, IsUnchanged, IsUpperBound, Updates}
+use Rattle.std.specs.BTreeMap.{is_at, insert_entry}
 use Rattle.zl_rights.specs.World.{Message, Wait as WaitValue}
 use Rattle.zl_table.proofs.MapEdits.{has_key-update}
 use Rattle.zl_signals.specs.declared.watch.Watch.{Watch}
@@ -14,21 +14,20 @@ use Rattle.zl_objects.specs.declared.object.Pair.{Pair}
 use Rattle.zl_objects.specs.declared.object.Object.{Object}
 use Rattle.zl_objects.specs.declared.wait.Listed.{Listed}
 use Rattle.zl_objects.specs.declared.wait.Wait.{Wait}
-use Rattle.zl_objects.specs.Objects.{held_once_less, held_once_more, is_end_at, is_end_body, raised_changed, sent, received, stopped}
+use Rattle.zl_objects.specs.Objects.{held_once_less, held_once_more, is_end_body, raised_changed, sent, received, stopped}
 use Rattle.zl_objects.specs.Calm.{slept}
-use Rattle.zl_objects.specs.Dying.{IsKept, Thins}
+use Rattle.zl_objects.specs.Dying.{IsKept}
 use Rattle.zl_objects.specs.Listed.{AreListed, entry_of, is_entry_there, listed_at, listed_value, watch_of}
-use Rattle.zl_objects.specs.Ports.{at_port, is_port_at, reserved_in, reserved_of}
-use Rattle.zl_objects.specs.Release.{Cascades}
-use Rattle.zl_objects.specs.Waits.{HavePlaces, unwatched, waits_in, watched}
-use Rattle.zl_objects.proofs.Listed.{found_listed, inserted_listed, left_listed, none_listed, popped_listed, unwatched_listed, updated_listed}
+use Rattle.zl_objects.specs.Ports.{at_port, is_port_at, reserved_of}
+use Rattle.zl_objects.specs.Waits.{unwatched, waits_in, watched}
+use Rattle.zl_objects.proofs.Listed.{found_listed, inserted_listed, left_listed, none_listed, unwatched_listed, updated_listed}
 use Rattle.zl_objects.proofs.Listed.{updated_or_listed, watched_listed}
 use Rattle.zl_objects.proofs.Lists.{first_map, none_first}
 use Rattle.zl_objects.proofs.Rising.{Rises, goes_by_order}
-use Rattle.zl_objects.proofs.Released.{waits_left, whole_left}
+use Rattle.zl_objects.proofs.Released.{IsLeft, waits_left, whole_left}
 use Rattle.zl_objects.proofs.Tasks.{killed_kept, started_kept}
 use Rattle.zl_objects.proofs.Whole.{below_first, changed_whole, pair_whole, end_of, gone_whole, inserted_whole, made_whole, less_whole, more_quiet, more_whole}
-use Rattle.zl_objects.proofs.Whole.{none_out_whole, none_whole, popped_whole, port_or_same_whole, port_whole, received_whole, roomy_whole, slept_whole}
+use Rattle.zl_objects.proofs.Whole.{none_out_whole, none_whole, port_or_same_whole, port_whole, received_whole, roomy_whole, slept_whole}
 use Rattle.zl_objects.proofs.Whole.{sent_or_same_whole}
 use Rattle.zl_objects.proofs.Whole.{stopped_whole, watched_whole}
 
@@ -127,18 +126,6 @@ module _ {waits : List Listed} where
         (inserted_listed waits m n next o kept.whole.below (rw first refl) kept.listed into) into2;
   }
 
-  -- it was no end, and no wait was at it
-  pub popped_kept : (m n : BTreeMap ℕ Object) (next koid room : ℕ) (d : List ℕ) (r : Option (ℕ × Object)) → IsKept None m.entries next d room waits
-      → next ≡ koid + 1 → is_end_at m.entries koid ≡ false → reserved_in (get m.entries koid) ≡ 0 → waits_in (get m.entries koid) ≡ []
-      → IsTrue (has_key m.entries koid) → length n.entries ≤ length m.entries
-      → IsSome r ↔ (0 < length m.entries) → IfNone r (IsUnchanged m n) → IfSome r (λ p. lookup (is_at (nat_cmp p.0)) m.entries ≡ Some p.1)
-      → IfSome r (λ p. IsUpperBound nat_cmp m p.0) → IfSome r (λ p. Updates nat_cmp m n p.0 None) → IfSome r (λ p. m.entries ≡ n.entries ++ p ∷ [])
-      → IsKept None n.entries koid d room waits
-  popped_kept m n next koid room d r kept newest alone unreserved unwatched there fewer some unchanged value greatest updates removal = record {
-    whole = popped_whole m n next koid room d r kept.whole newest alone unreserved unwatched there fewer some unchanged value greatest updates removal;
-    listed = popped_listed waits m n next koid r kept.whole.below newest unwatched there unchanged value greatest updates kept.listed;
-  }
-
   -- ---- waits
 
   -- the wait is registered last of all, and a place is reserved for it
@@ -200,12 +187,11 @@ module _ {waits : List Listed} where
       gone_seen = ap (λ (xs : List Listed). map listed_value xs) one_out ∙ sym (first_map listed_value is_taken waits)
 
   -- handles went, and with them waits of which the object or the port went
-  pub left_kept : (ks : List ℕ) (m m2 : Map Object) (next room room2 : ℕ) (d d2 : List ℕ) (waits2 : List Listed) → Cascades ks m m2 → HavePlaces m2
-      → ((k : ℕ) (o : Object) → get m2 k ≡ Some o → Thins m m2 k o) → IsKept None m next d room waits → d2 ≡ [] → room2 ≡ room
-      → waits2 ≡ filter (is_entry_there m2) waits → IsKept None m2 next d2 room2 waits2
-  left_kept ks m m2 next room room2 d d2 waits2 cascades places thins kept none same is = record {
-    whole = whole_left ks m m2 next room room2 d d2 cascades places kept.whole none same;
-    listed = rw is (left_listed waits m m2 (waits_left ks m m2 cascades places thins) kept.listed);
+  pub left_kept : {ks : List ℕ} {m m2 : Map Object} {next room room2 : ℕ} {d d2 : List ℕ} {waits2 : List Listed} → IsLeft ks m m2
+      → IsKept None m next d room waits → d2 ≡ [] → room2 ≡ room → waits2 ≡ filter (is_entry_there m2) waits → IsKept None m2 next d2 room2 waits2
+  left_kept {ks} {m} {m2} {next} {room} {room2} {d} {d2} left kept none same is = record {
+    whole = whole_left ks m m2 next room room2 d d2 left.cascades (left.places kept.whole.places) kept.whole none same;
+    listed = rw is (left_listed waits m m2 (waits_left left kept.whole.places) kept.listed);
   }
 
 -- what the methods of objects cite

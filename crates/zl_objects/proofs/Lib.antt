@@ -18,6 +18,7 @@ pub mod Listed
 pub mod Lists
 pub mod Peers
 pub mod Places
+pub mod Popped
 pub mod Refusable
 pub mod Released
 pub mod Removing

@@ -1,12 +1,11 @@
 -- The list of all waits beside those at the objects, after each change of the objects.
-use Rattle.zl_rights.proofs.Common.{◌≡◌, ◌<◌, ◌+◌, ◌==◌, ◌&&◌, ◌⊎◌, ℕ, Bool, false, List, [], ◌∷◌, ◌++◌, refl, sym, ap, ◌∙◌, subst, Option, Some, None, inl}
+use Rattle.zl_rights.proofs.Common.{◌≡◌, ◌<◌, ◌==◌, ◌&&◌, ◌⊎◌, ℕ, Bool, false, List, [], ◌∷◌, ◌++◌, refl, sym, ap, ◌∙◌, subst, Option, Some, None, inl}
 use Rattle.zl_rights.proofs.Common.{inr, arith, append-nil, eq-eqb, eqb-true, IsTrue, if◌then◌else◌, map, map-append, option_map, filter, find, and_parts}
-use Rattle.zl_rights.proofs.Common.{nat_cmp, cases_Bool, false≢true, nat_tests, Map, get, put, update, has_key}
+use Rattle.zl_rights.proofs.Common.{nat_cmp, cases_Bool, false≢true, Map, get, put, update, has_key}
 use Rattle.std.proofs.lemmas.List.Elements.{filter-append}
-use Rattle.std.specs.Prelude.{IfSome, IfNone, Result, Ok, Err, OnOk, OnErr}
-use Rattle.std.specs.Cmp.{unsigned_tied}
+use Rattle.std.specs.Prelude.{Result, Ok, Err, OnOk, OnErr}
 use Rattle.std.specs.Map.{lookup, set_value}
-use Rattle.std.specs.BTreeMap.{BTreeMap, is_at, insert_entry, IsUnchanged, IsUpperBound, Updates}
+use Rattle.std.specs.BTreeMap.{is_at, insert_entry}
 use Rattle.zl_rights.specs.World.{Wait as WaitValue}
 use Rattle.zl_rights.proofs.MapLaws.{get-put, get-update}
 use Rattle.zl_signals.specs.declared.watch.Watch.{Watch}
@@ -16,7 +15,7 @@ use Rattle.zl_objects.specs.declared.wait.Listed.{Listed}
 use Rattle.zl_objects.specs.declared.wait.Wait.{Wait}
 use Rattle.zl_objects.specs.Listed.{AreListed, entry_of, is_entry_there, is_there, listed_at, listed_value, watch_of}
 use Rattle.zl_objects.specs.Waits.{HavePlaces, KeepsWaits, waits_in, watched, unwatched}
-use Rattle.zl_objects.proofs.ByKoid.{inserted, looked_up, written, written_back}
+use Rattle.zl_objects.proofs.ByKoid.{inserted, written, written_back}
 use Rattle.zl_objects.proofs.Ending.{all_ports_there}
 use Rattle.zl_objects.proofs.Lists.{all_left, filter_apart, filter_both, filter_first, filter_map, filter_none, find_first, find_map, first_map}
 use Rattle.zl_objects.proofs.Places.{seen_updated}
@@ -61,32 +60,6 @@ module _ (waits : List Listed) where
           ap waits_in (get-put m next o k) ∙ elim (cases_Bool (next == k)) as (λ _. waits_in (if next == k then Some o else get m k) ≡ waits_in (get m k)) [
             | inl here ↦ rw here (fresh ∙ (sym (before (get m next) refl) ∙ ap (λ (i : ℕ). waits_in (get m i)) (eqb-true next k here)))
             | inr apart ↦ rw apart refl
-          ]
-
-  -- the newest object has gone, and no wait was at it
-  pub popped_listed : (m n : BTreeMap ℕ Object) (next koid : ℕ) (r : Option (ℕ × Object)) → ((k : ℕ) → IsTrue (has_key m.entries k) → k < next)
-      → next ≡ koid + 1 → waits_in (get m.entries koid) ≡ [] → IsTrue (has_key m.entries koid)
-      → IfNone r (IsUnchanged m n) → IfSome r (λ p. lookup (is_at (nat_cmp p.0)) m.entries ≡ Some p.1) → IfSome r (λ p. IsUpperBound nat_cmp m p.0)
-      → IfSome r (λ p. Updates nat_cmp m n p.0 None)
-      → AreListed waits m.entries → AreListed waits n.entries
-  popped_listed m n next koid None below newest none there unchanged value greatest updates listed = rw unchanged listed
-  popped_listed m n next koid (Some p) below newest none there unchanged value greatest updates listed = same_listed waits m.entries n.entries same listed
-    where
-      last : p.0 < next
-      last = below p.0 (rw (← looked_up m.entries p.0, value) refl)
-
-      -- it was the one with this koid
-      is_koid : p.0 ≡ koid
-      is_koid = grind (arith, nat_tests, last, newest, greatest koid (rw (looked_up m.entries koid) there), unsigned_tied p.0 koid)
-
-      same : (k : ℕ) → waits_in (get n.entries k) ≡ waits_in (get m.entries k)
-      same k =
-          ap waits_in (sym (looked_up n.entries k) ∙ updates.0 k) ∙ elim (cases_Bool (is_at (nat_cmp p.0) k))
-          as (λ _. waits_in (if is_at (nat_cmp p.0) k then None else lookup (is_at (nat_cmp k)) m.entries) ≡ waits_in (get m.entries k)) [
-            | inl here ↦
-                let key : koid ≡ k = grind (arith, nat_tests, is_koid, here, unsigned_tied p.0 k) in
-                rw here (sym none ∙ ap (λ (i : ℕ). waits_in (get m.entries i)) key)
-            | inr apart ↦ rw apart (ap waits_in (looked_up m.entries k))
           ]
 
 -- ---- one wait more

@@ -145,19 +145,27 @@ released {sleepers} {crowded} ks loose m m2 next made made2 waits waits2 d d2 we
   koids = refl;
 }
 
--- where waits ended with their ports alone, and each port that is left has places for those that are left
-pub waits_left : (ks : List ℕ) (m m2 : Map Object) → Cascades ks m m2 → HavePlaces m2 → ((k : ℕ) (o : Object) → get m2 k ≡ Some o → Thins m m2 k o)
-    → (k : ℕ) (o : Object) → get m2 k ≡ Some o → KeepsWaits m m2 k o
-waits_left ks m m2 cascades have thins k o at =
-    let was : Was m k o = cascaded_was ks m m2 cascades k o at in
-    let thin : Thins m m2 k o = thins k o at in
+-- handles went, and waits ended with their ports alone
+pub record IsLeft (ks : List ℕ) (m m2 : Map Object) : Type 0 where
+  pub cascades : Cascades ks m m2
+  pub places : HavePlaces m → HavePlaces m2
+  pub thins : (k : ℕ) (o : Object) → get m2 k ≡ Some o → Thins m m2 k o
+
+pub left_by : {ks : List ℕ} {m m2 : Map Object} {d d2 : List ℕ} → LetsGo ks m d m2 d2 → IsLeft ks m m2
+left_by {ks} {m} {m2} {d} {d2} went = record { cascades = cascades_of ks m m2 d d2 went; places = went.places; thins = went.thins }
+
+-- each port that is left has places for the waits that are left
+pub waits_left : {ks : List ℕ} {m m2 : Map Object} → IsLeft ks m m2 → HavePlaces m → (k : ℕ) (o : Object) → get m2 k ≡ Some o → KeepsWaits m m2 k o
+waits_left {ks} {m} {m2} left have k o at =
+    let was : Was m k o = cascaded_was ks m m2 left.cascades k o at in
+    let thin : Thins m m2 k o = left.thins k o at in
     let one : was.before ≡ thin.before = same_Some was.before thin.before (sym was.there ∙ thin.there) in
     record {
       before = thin.before;
       there = thin.there;
       body = was.body ∙ ap (λ (x : Object). unreserved x.body) one;
       raised = was.raised ∙ ap (λ (x : Object). x.signals.raised) one;
-      waits = sym (all_ports_there m2 have k o at) ∙ thin.waits (λ x. has_key m2 x.port) (λ x there. there);
+      waits = sym (all_ports_there m2 (left.places have) k o at) ∙ thin.waits (λ x. has_key m2 x.port) (λ x there. there);
     }
 
 -- a process that has ended and then its job are looked at
@@ -173,12 +181,12 @@ module _ (m m1 m2 : Map Object) (pid job : ℕ) (first : LetsGo [] m (pid ∷ []
     koids = refl;
   }
 
-  -- the places and the waits once both are through
-  pub all_places : HavePlaces m → HavePlaces m2
-  all_places have = second.places (first.places have)
-
-  pub all_thin : (k : ℕ) (o : Object) → get m2 k ≡ Some o → Thins m m2 k o
-  all_thin = thin_then m m1 m2 first.thins second.thins
+  pub both_left : IsLeft [] m m2
+  both_left = record {
+    cascades = first.leads [] m2 (second.leads [] m2 (none_left m2));
+    places = λ have. second.places (first.places have);
+    thins = thin_then m m1 m2 first.thins second.thins;
+  }
 
 -- ---- for callers
 

@@ -1,17 +1,13 @@
 -- The invariant of the objects, after each change.
 use Rattle.zl_rights.proofs.Common.{◌≡◌, ◌<◌, ◌≤◌, ◌+◌, ◌^◌, ◌==◌, ◌⊎◌, ℕ, Bool, true, false, List, [], ◌∷◌, ◌++◌, length, refl, sym, ap, ◌∙◌, subst, cond}
 use Rattle.zl_rights.proofs.Common.{Option, Some, None, inl, inr, arith, eq-eqb, IsTrue, is_some, nat_lt, if◌then◌else◌, find, count_by, nat_cmp, cases_Bool}
-use Rattle.zl_rights.proofs.Common.{false≢true, nat_tests, none-some, same_Some, Map, get, put, update, has_key, length-append, sum_by-cons, option_map}
-use Rattle.zl_rights.proofs.Common.{eqb-true}
-use Rattle.std.proofs.lemmas.List.Sums.{sum_by-append}
-use Rattle.std.specs.Prelude.{◌-◌, ◌↔◌, IfNone, IfSome, IsSome, Result, Ok, Err, OnOk, OnErr, is_err}
+use Rattle.zl_rights.proofs.Common.{false≢true, nat_tests, none-some, same_Some, Map, get, put, update, has_key, length-append, option_map}
+use Rattle.std.specs.Prelude.{◌-◌, Result, Ok, Err, OnOk, OnErr, is_err}
 use Rattle.std.specs.Cmp.{unsigned_tied}
 use Rattle.std.specs.Map.{lookup, set_value, remove_entry}
-use Rattle.std.specs.BTreeMap.{BTreeMap, is_at, insert_entry, IsUnchanged, IsUpperBound, Updates}
+use Rattle.std.specs.BTreeMap.{is_at, insert_entry}
 use Rattle.zl_rights.specs.World.{Message}
 use Rattle.zl_rights.proofs.MapLaws.{get-put, get-update}
-use Rattle.zl_rights.specs.declared.kind.Kind.{Kind}
-use Rattle.zl_rights.specs.declared.kind.Kind.TheVariants as kind
 use Rattle.zl_signals.specs.declared.watch.Watch.{Watch}
 use Rattle.zl_signals.specs.Waits.{SignalState, is_at_port}
 use Rattle.zl_port.specs.Packets.{Port, with_place}
@@ -21,17 +17,17 @@ use Rattle.zl_objects.specs.declared.object.Body.TheVariants as body
 use Rattle.zl_objects.specs.declared.object.Pair.{Pair}
 use Rattle.zl_objects.specs.declared.object.Pair.TheVariants as pair
 use Rattle.zl_objects.specs.declared.object.Object.{Object}
-use Rattle.zl_objects.specs.Objects.{end_to, held_once_less, held_once_more, is_end_at, is_end_in, is_end_body, kind_at, kind_in, kind_of_pair, peer_of}
+use Rattle.zl_objects.specs.Objects.{end_to, held_once_less, held_once_more, is_end_body, kind_at, kind_in, kind_of_pair, peer_of}
 use Rattle.zl_objects.specs.Objects.{raised_changed}
 use Rattle.zl_objects.specs.Objects.{received, received_body}
 use Rattle.zl_objects.specs.Objects.{sent, sent_body, stopped, stopped_body, new_object}
 use Rattle.zl_objects.specs.Calm.{slept}
 use Rattle.zl_objects.specs.Dying.{HasPeer, HasPeerOf, IsWhole}
-use Rattle.zl_objects.specs.Ports.{at_port, changed_port, is_port_at, reserved_in, reserved_of}
-use Rattle.zl_objects.specs.Waits.{HavePlaces, HavePlacesWith, waits_at, waits_for, waits_in, watched, unwatched}
+use Rattle.zl_objects.specs.Ports.{at_port, changed_port, is_port_at, reserved_of}
+use Rattle.zl_objects.specs.Waits.{HavePlaces, HavePlacesWith, waits_for, waits_in, watched, unwatched}
 use Rattle.zl_objects.proofs.Peers.{peer_stays}
 use Rattle.zl_objects.proofs.Places.{places_made, places_put, places_taken, places_unwatched, places_updated, places_used, seen_updated}
-use Rattle.zl_objects.proofs.ByKoid.{inserted, entry_inserted, looked_up, written, written_back}
+use Rattle.zl_objects.proofs.ByKoid.{inserted, entry_inserted, written, written_back}
 
 pub none_whole : (m : Map Object) (next room : ℕ) (d : List ℕ) → m ≡ [] → d ≡ [] → IsWhole None m next d room
 unfolding get
@@ -401,126 +397,3 @@ module _ (test : Watch → Bool) (m n : Map Object) (next room k : ℕ) (d : Lis
     pub gone_whole : (g : Port → Port) → ((p : Port) → (g p).reserved ≡ p.reserved - 1) → (n2 : Map Object) → n2 ≡ update n x.port (at_port g)
         → IsWhole None n2 next d room
     gone_whole g less n2 is = used_whole g less x n n2 next room d one_out_whole is
-
--- ---- the newest object less
-
--- the kind of an end
-abbrev is_end_kind : Kind → Bool
-is_end_kind kind.Channel = true
-is_end_kind kind.Eventpair = true
-is_end_kind _ = false
-
--- what is of such a kind is an end
-of_kind : (kind : Kind) → is_end_kind kind ≡ true → (o : Option Object) → option_map (λ (x : Object). kind_in x.body) o ≡ Some kind → is_end_in o ≡ true
-of_kind kind is_end None is = absurd (none-some kind is)
-of_kind kind is_end (Some o) is = by_body o.body (ap is_end_kind (same_Some (kind_in o.body) kind is) ∙ is_end)
-  where
-    by_body : (b : Body) → is_end_kind (kind_in b) ≡ true → is_end_body b ≡ true
-    by_body (body.Job own) h = h
-    by_body _ h = h
-
-no_entries : (es : Map Object) → (0 < length es → false ≡ true) → es ≡ []
-no_entries [] some = refl
-no_entries (e ∷ es) some = absurd (false≢true (some (omega arith)))
-
--- the object with the greatest koid is gone; it was no end, so it was no peer
-pub popped_whole : (m n : BTreeMap ℕ Object) (next koid room : ℕ) (d : List ℕ) (r : Option (ℕ × Object)) → IsWhole None m.entries next d room
-    → next ≡ koid + 1 → is_end_at m.entries koid ≡ false → reserved_in (get m.entries koid) ≡ 0 → waits_in (get m.entries koid) ≡ []
-    → IsTrue (has_key m.entries koid) → length n.entries ≤ length m.entries
-    → IsSome r ↔ (0 < length m.entries) → IfNone r (IsUnchanged m n) → IfSome r (λ p. lookup (is_at (nat_cmp p.0)) m.entries ≡ Some p.1)
-    → IfSome r (λ p. IsUpperBound nat_cmp m p.0) → IfSome r (λ p. Updates nat_cmp m n p.0 None) → IfSome r (λ p. m.entries ≡ n.entries ++ p ∷ [])
-    → IsWhole None n.entries koid d room
-unfolding get
-popped_whole m n next koid room d None whole newest alone unreserved unwatched there fewer some unchanged value greatest updates removal =
-    rw unchanged (none_whole m.entries koid room d (no_entries m.entries some.1) whole.none)
-popped_whole m n next koid room d (Some p) whole newest alone unreserved unwatched there fewer some unchanged value greatest updates removal = record {
-  below = λ j at. lower j (rw (read j) at at);
-  peers = λ j o at. peers j o at;
-  places = places;
-  enough = omega (arith, fewer, whole.enough);
-  none = whole.none;
-}
-  where
-    last : p.0 < next
-    last = whole.below p.0 (rw (← looked_up m.entries p.0, value) refl)
-
-    read : (j : ℕ) → get n.entries j ≡ (if is_at (nat_cmp p.0) j then None else lookup (is_at (nat_cmp j)) m.entries)
-    read j = rw (← looked_up n.entries j, updates.0 j) refl
-
-    lower : (j : ℕ) → IsTrue (is_some (cond (is_at (nat_cmp p.0) j) None (lookup (is_at (nat_cmp j)) m.entries))) → j < koid
-    lower j at = elim (cases_Bool (is_at (nat_cmp p.0) j)) as (λ _. j < koid) [
-      | inl here ↦ absurd (false≢true (rw here at at))
-      | inr apart ↦ grind (arith, nat_tests, last, newest, greatest j (rw apart at at), unsigned_tied p.0 j)
-    ]
-
-    -- what is left was there before
-    was : (j : ℕ) (o : Object) → get n.entries j ≡ Some o → get m.entries j ≡ Some o
-    was j o at = by_test (is_at (nat_cmp p.0) j) (rw (read j) at at)
-      where
-        by_test : (b : Bool) → (if b then None else lookup (is_at (nat_cmp j)) m.entries) ≡ Some o → get m.entries j ≡ Some o
-        by_test true h = absurd (none-some o h)
-        by_test false h = sym (looked_up m.entries j) ∙ h
-
-    -- the newest object was no peer
-    not_newest : (kind : Kind) → is_end_kind kind ≡ true → (q : ℕ) → HasPeerOf kind m.entries next q → q < koid
-    not_newest kind is_end q has = elim (cases_Bool (q == koid)) as (λ _. q < koid) [
-      | inl same ↦
-          let key : q ≡ koid = eqb-true q koid same in
-          absurd (false≢true (sym alone ∙ (ap (is_end_at m.entries) (sym key) ∙ of_kind kind is_end (get m.entries q) (has.1 (rw key there)))))
-      | inr apart ↦ grind (arith, nat_tests, has.0, newest, apart)
-    ]
-
-    kind_left : (kind : Kind) (q : ℕ) (o : Option Object) → get n.entries q ≡ o → HasPeerOf kind m.entries next q → IsTrue (is_some o)
-        → kind_at n.entries q ≡ Some kind
-    kind_left kind q None is has at = absurd (false≢true at)
-    kind_left kind q (Some o) is has at = rw is (rw (was q o is) at (has.1 (rw (was q o is) refl)))
-
-    peers : (j : ℕ) (o : Object) → get n.entries j ≡ Some o → HasPeer n.entries koid o.body
-    peers j o at = by_body o.body (whole.peers j o (was j o at))
-      where
-        by_end : (b : Body) → is_end_kind (kind_in b) ≡ true → HasPeer m.entries next b → HasPeer n.entries koid b
-        by_end b is_end = peer_stays m.entries n.entries next koid b
-            (λ q has. (not_newest (kind_in b) is_end q has, λ at. kind_left (kind_in b) q (get n.entries q) refl has at))
-
-        by_body : (b : Body) → HasPeer m.entries next b → HasPeer n.entries koid b
-        by_body (body.ChannelEnd q queue) has = by_end (body.ChannelEnd q queue) refl has
-        by_body (body.PairEnd q) has = by_end (body.PairEnd q) refl has
-        by_body _ has = has
-
-    -- it was the one with this koid
-    is_koid : p.0 ≡ koid
-    is_koid = grind (arith, nat_tests, last, newest, greatest koid (rw (looked_up m.entries koid) there), unsigned_tied p.0 koid)
-
-    -- and no wait was at it
-    no_waits : p.1.signals.waits ≡ []
-    no_waits = ap waits_in (sym value ∙ (looked_up m.entries p.0 ∙ ap (get m.entries) is_koid)) ∙ unwatched
-
-    waits : (j : ℕ) → waits_at n.entries j ≡ waits_at m.entries j
-    waits j =
-        let none : ◌≡◌ {A = ℕ} (waits_for j p.1) 0 = rw no_waits refl in
-        let n_of : ℕ × Object → ℕ = λ e. waits_for j e.1 in
-        rw removal (omega (arith, sum_by-append n_of n.entries (p ∷ []), sum_by-cons n_of p [], none))
-
-    same : (j : ℕ) → (koid == j) ≡ false → get n.entries j ≡ get m.entries j
-    same j apart = rw (read j, tied j apart) (looked_up m.entries j)
-      where
-        tied : (j : ℕ) → (koid == j) ≡ false → is_at (nat_cmp p.0) j ≡ false
-        tied j apart = grind (arith, nat_tests, is_koid, apart, unsigned_tied p.0 j)
-
-    places : HavePlaces n.entries
-    places j = by_key (cases_Bool (koid == j))
-      where
-        gone : get n.entries koid ≡ None
-        gone = rw (read koid, tied) refl
-          where
-            tied : is_at (nat_cmp p.0) koid ≡ true
-            tied = grind (arith, nat_tests, is_koid, unsigned_tied p.0 koid)
-
-        by_key : IsTrue (koid == j) ⊎ ((koid == j) ≡ false) → waits_at n.entries j + 0 ≡ reserved_in (get n.entries j)
-        by_key (inl here) =
-            let none : ◌≡◌ {A = ℕ} (reserved_in (get n.entries koid)) 0 = ap reserved_in gone in
-            subst (λ (i : ℕ). waits_at n.entries i + 0 ≡ reserved_in (get n.entries i)) (eqb-true koid j here)
-            (omega (arith, waits koid, whole.places koid, unreserved, none))
-        by_key (inr apart) =
-            let reserved : reserved_in (get n.entries j) ≡ reserved_in (get m.entries j) = ap reserved_in (same j apart) in
-            omega (arith, waits j, whole.places j, reserved)

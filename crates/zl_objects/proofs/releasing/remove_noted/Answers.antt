@@ -47,8 +47,8 @@ let_go_queue-requires c =
       ));
     }
 
-pub returns-in-ChannelEnd-clause-goes : goal.returns-in-ChannelEnd-clause-goes
-returns-in-ChannelEnd-clause-goes c =
+pub returns-in-ChannelEnd : goal.returns-in-ChannelEnd
+returns-in-ChannelEnd c =
     let was : IsTaken c.args.by_koid.now.entries c.args.koid c.in-Some.gone =
     taken c.args.by_koid.now.entries c.args.koid c.in-Some.gone (sym c.take_unkept.ensures.taken ∙ c.in-Some.is) in
     let ended : c.end_waits.new.by_koid.entries ≡ ending_waits c.args.koid c.in-Some.gone (without c.args.by_koid.now.entries c.args.koid) =
@@ -62,61 +62,28 @@ returns-in-ChannelEnd-clause-goes c =
     let once : length (without c.args.by_koid.now.entries c.args.koid) + 1 ≡ length c.args.by_koid.now.entries =
     one_taken c.args.by_koid.now.entries c.args.koid c.take_unkept.new.by_koid.entries c.take_unkept.result c.in-Some.gone
     c.take_unkept.ensures.left was c.in-Some.is c.take_unkept.ensures.count in
-    unkept_went c.args.by_koid.now.entries c.args.dying.now.items c.args.koid c.in-Some.gone c.let_go_queue.new.by_koid.entries
-    c.let_go_queue.new.dying.items was.there was.unkept once (subst
-    (λ queue. LetsGo (named_in queue) (ending_waits c.args.koid c.in-Some.gone (without c.args.by_koid.now.entries c.args.koid))
-    (c.args.dying.now.items ++ option_to_list (keeper_of c.in-Some.gone.body)) c.let_go_queue.new.by_koid.entries c.let_go_queue.new.dying.items)
-    (sym (ap queue_of c.in-ChannelEnd.is)) went)
-
-pub returns-in-ChannelEnd-clause-less : goal.returns-in-ChannelEnd-clause-less
-returns-in-ChannelEnd-clause-less c =
-    let was : IsTaken c.args.by_koid.now.entries c.args.koid c.in-Some.gone =
-    taken c.args.by_koid.now.entries c.args.koid c.in-Some.gone (sym c.take_unkept.ensures.taken ∙ c.in-Some.is) in
-    let ended : c.end_waits.new.by_koid.entries ≡ ending_waits c.args.koid c.in-Some.gone (without c.args.by_koid.now.entries c.args.koid) =
-    c.end_waits.ensures ∙ ended_by c.args.by_koid.now.entries c.take_unkept.new.by_koid.entries c.args.koid c.in-Some.gone c.has_reserved-reserved.result
-    (c.take_unkept.ensures.left ∙ was.left) c.has_reserved-reserved.ensures in
-    let noted : c.note_keeper.new.dying.items ≡ c.args.dying.now.items ++ option_to_list (keeper_of c.in-Some.gone.body) =
-    c.note_keeper.ensures.noted ∙ ap (λ (q : Option ℕ). c.args.dying.now.items ++ option_to_list q) c.keeper-keeper.ensures in
-    let went : LetsGo (named_in c.in-ChannelEnd.queue) (ending_waits c.args.koid c.in-Some.gone (without c.args.by_koid.now.entries c.args.koid))
-    (c.args.dying.now.items ++ option_to_list (keeper_of c.in-Some.gone.body)) c.let_go_queue.new.by_koid.entries c.let_go_queue.new.dying.items =
-    rw (ended, noted) at c.let_go_queue.ensures.goes in
-    omega (
-      arith,
-      less_ending c.args.by_koid.now.entries c.args.dying.now.items c.args.koid c.in-Some.gone,
-      went.cheap,
-      fewer_ending c.args.by_koid.now.entries c.args.dying.now.items c.args.koid c.in-Some.gone was.there,
-      cascaded_shorter (named_in c.in-ChannelEnd.queue)
-          (ending_waits c.args.koid c.in-Some.gone (without c.args.by_koid.now.entries c.args.koid)) c.let_go_queue.new.by_koid.entries
-          (cascades_of (named_in c.in-ChannelEnd.queue) (ending_waits c.args.koid c.in-Some.gone (without c.args.by_koid.now.entries c.args.koid))
-          c.let_go_queue.new.by_koid.entries (c.args.dying.now.items ++ option_to_list (keeper_of c.in-Some.gone.body)) c.let_go_queue.new.dying.items went),
-    )
-
-pub returns-in-ChannelEnd-clause-indexed : goal.returns-in-ChannelEnd-clause-indexed
-returns-in-ChannelEnd-clause-indexed c =
-    let was : IsTaken c.args.by_koid.now.entries c.args.koid c.in-Some.gone =
-    taken c.args.by_koid.now.entries c.args.koid c.in-Some.gone (sym c.take_unkept.ensures.taken ∙ c.in-Some.is) in
-    left_indexed (named_in c.in-ChannelEnd.queue) (gone_indexed c.args.koid c.in-Some.gone c.requires.indexed c.remove.ensures
-    (c.end_waits.ensures ∙ ended_by c.args.by_koid.now.entries c.take_unkept.new.by_koid.entries c.args.koid c.in-Some.gone c.has_reserved-reserved.result
-    (c.take_unkept.ensures.left ∙ was.left) c.has_reserved-reserved.ensures))
-    (cascades_of (named_in c.in-ChannelEnd.queue) _ _ _ _ c.let_go_queue.ensures.goes)
-
-pub returns-in-ChannelEnd-clause-calm : goal.returns-in-ChannelEnd-clause-calm
-returns-in-ChannelEnd-clause-calm c =
-    let was : IsTaken c.args.by_koid.now.entries c.args.koid c.in-Some.gone =
-    taken c.args.by_koid.now.entries c.args.koid c.in-Some.gone (sym c.take_unkept.ensures.taken ∙ c.in-Some.is) in
-    λ next sleepers calm. c.let_go_queue.ensures.still.calm _ next sleepers (gone_calm c.args.by_koid.now.entries c.end_waits.new.by_koid.entries c.args.koid
-    c.in-Some.gone c.requires.indexed was.there
-    (c.end_waits.ensures ∙ ended_by c.args.by_koid.now.entries c.take_unkept.new.by_koid.entries c.args.koid c.in-Some.gone c.has_reserved-reserved.result
-    (c.take_unkept.ensures.left ∙ was.left) c.has_reserved-reserved.ensures) c.mark_watched.ensures.more c.mark_watched-2.ensures.more
-    (rw c.keeper-keeper.ensures at c.mark_watched.ensures.wanted) (rw c.peer-peer.ensures at c.mark_watched-2.ensures.wanted) next sleepers calm)
-
-pub returns-in-ChannelEnd-clause-waits : goal.returns-in-ChannelEnd-clause-waits
-returns-in-ChannelEnd-clause-waits c =
-    let was : IsTaken c.args.by_koid.now.entries c.args.koid c.in-Some.gone =
-    taken c.args.by_koid.now.entries c.args.koid c.in-Some.gone (sym c.take_unkept.ensures.taken ∙ c.in-Some.is) in
-    λ none k. c.let_go_queue.ensures.still.waits k ∙ none_ended c.args.by_koid.now.entries c.end_waits.new.by_koid.entries c.args.koid c.in-Some.gone was.there
-    (c.end_waits.ensures ∙ ended_by c.args.by_koid.now.entries c.take_unkept.new.by_koid.entries c.args.koid c.in-Some.gone c.has_reserved-reserved.result
-    (c.take_unkept.ensures.left ∙ was.left) c.has_reserved-reserved.ensures) (sym c.ends_waits-ended.ensures ∙ none) k
+    record {
+      goes = unkept_went c.args.by_koid.now.entries c.args.dying.now.items c.args.koid c.in-Some.gone c.let_go_queue.new.by_koid.entries
+          c.let_go_queue.new.dying.items was.there was.unkept once (subst
+          (λ queue. LetsGo (named_in queue) (ending_waits c.args.koid c.in-Some.gone (without c.args.by_koid.now.entries c.args.koid))
+          (c.args.dying.now.items ++ option_to_list (keeper_of c.in-Some.gone.body)) c.let_go_queue.new.by_koid.entries c.let_go_queue.new.dying.items)
+          (sym (ap queue_of c.in-ChannelEnd.is)) went);
+      less = omega (
+        arith,
+        less_ending c.args.by_koid.now.entries c.args.dying.now.items c.args.koid c.in-Some.gone,
+        went.cheap,
+        fewer_ending c.args.by_koid.now.entries c.args.dying.now.items c.args.koid c.in-Some.gone was.there,
+        cascaded_shorter (named_in c.in-ChannelEnd.queue) _ c.let_go_queue.new.by_koid.entries (cascades_of (named_in c.in-ChannelEnd.queue) _ _ _ _ went),
+      );
+      calm = λ next sleepers calm. c.let_go_queue.ensures.still.calm _ next sleepers (gone_calm c.args.by_koid.now.entries c.end_waits.new.by_koid.entries
+          c.args.koid c.in-Some.gone c.requires.indexed was.there ended c.mark_watched.ensures.more c.mark_watched-2.ensures.more
+          (rw c.keeper-keeper.ensures at c.mark_watched.ensures.wanted) (rw c.peer-peer.ensures at c.mark_watched-2.ensures.wanted) next sleepers calm);
+      waits = λ none k. c.let_go_queue.ensures.still.waits k ∙ none_ended c.args.by_koid.now.entries c.end_waits.new.by_koid.entries c.args.koid
+          c.in-Some.gone was.there ended (sym c.ends_waits-ended.ensures ∙ none) k;
+      capacity = c.let_go_queue.ensures.capacity ∙ c.note_keeper.ensures.capacity;
+      indexed = left_indexed (named_in c.in-ChannelEnd.queue) (gone_indexed c.args.koid c.in-Some.gone c.requires.indexed c.remove.ensures ended)
+          (cascades_of (named_in c.in-ChannelEnd.queue) _ _ _ _ c.let_go_queue.ensures.goes);
+    }
 
 pub returns : goal.returns
 returns c =

@@ -1,12 +1,9 @@
-use Rattle.zl_rights.proofs.Common.{◌≡◌, ◌∷◌, Some, get, arith, map, refl, subst, sym, [], ◌∙◌}
+use Rattle.zl_rights.proofs.Common.{ap, ◌≡◌, ◌∷◌, Some, get, arith, refl, sym, [], ◌∙◌}
 use Rattle.std.proofs.lemmas.Bool.{or_parts}
-use Rattle.std.specs.Vec.{vec_capacity}
-use Rattle.zl_objects.specs.Listed.{listed_value}
 use Rattle.zl_objects.specs.Objects.{Objects, job_in}
-use Rattle.zl_objects.specs.Waits.{LeavesWaits}
 use Rattle.zl_objects.proofs.Kept.{left_kept}
 use Rattle.zl_objects.proofs.Listed.{all_seen, same_listed}
-use Rattle.zl_objects.proofs.Released.{all_places, all_thin, both_released, cascaded_shorter, cascades_of, waits_left}
+use Rattle.zl_objects.proofs.Released.{both_left, both_released, cascaded_shorter, cascades_of, waits_left}
 use Rattle.zl_objects.proofs.objects.Objects.end.Goals as goal
 
 pub remove_unkept-ended-requires : goal.remove_unkept-ended-requires
@@ -32,8 +29,7 @@ remove_unkept-ended-requires-in-Some c = record {
 
 pub keep_there-requires : goal.keep_there-requires
 keep_there-requires c = record {
-  places = all_places c.self-in-Some.inside.by_koid.entries c.remove_unkept-ended.new.by_koid.entries c.remove_unkept-ended-in-Some.new.by_koid.entries
-      c.args.pid c.in-Some.job c.remove_unkept-ended.ensures.goes c.remove_unkept-ended-in-Some.ensures.goes c.self-in-Some.invariant.kept.whole.places;
+  places = c.remove_unkept-ended-in-Some.ensures.goes.places (c.remove_unkept-ended.ensures.goes.places c.self-in-Some.invariant.kept.whole.places);
   listed = λ none.
       let parts = or_parts c.remove_unkept-ended.result c.remove_unkept-ended-in-Some.result none in
       same_listed _ c.self-in-Some.inside.by_koid.entries c.remove_unkept-ended-in-Some.new.by_koid.entries
@@ -42,24 +38,9 @@ keep_there-requires c = record {
 
 pub invariant_of-self : goal.invariant_of-self
 invariant_of-self c =
-    let released = both_released c.self-in-Some.inside.by_koid.entries c.remove_unkept-ended.new.by_koid.entries
-    c.remove_unkept-ended-in-Some.new.by_koid.entries
-    c.args.pid c.in-Some.job c.remove_unkept-ended.ensures.goes c.remove_unkept-ended-in-Some.ensures.goes c.self-in-Some.inside.sleepers.list.items
-    c.self-in-Some.inside.sleepers.crowded c.self-in-Some.inside.next_koid c.self-in-Some.inside.waits.made c.keep_there.new.waits.made
-    (map listed_value c.self-in-Some.inside.waits.entries.items) (map listed_value c.keep_there.new.waits.entries.items) in
     record {
-      kept =
-          left_kept [] c.self-in-Some.inside.by_koid.entries c.remove_unkept-ended-in-Some.new.by_koid.entries c.self-in-Some.inside.next_koid
-          (vec_capacity c.self-in-Some.inside.dying) (vec_capacity c.remove_unkept-ended-in-Some.new.dying) c.self-in-Some.inside.dying.items
-          c.remove_unkept-ended-in-Some.new.dying.items _
-          released.cascades (all_places c.self-in-Some.inside.by_koid.entries c.remove_unkept-ended.new.by_koid.entries
-          c.remove_unkept-ended-in-Some.new.by_koid.entries
-          c.args.pid c.in-Some.job c.remove_unkept-ended.ensures.goes c.remove_unkept-ended-in-Some.ensures.goes c.self-in-Some.invariant.kept.whole.places)
-          (all_thin c.self-in-Some.inside.by_koid.entries c.remove_unkept-ended.new.by_koid.entries c.remove_unkept-ended-in-Some.new.by_koid.entries c.args.pid
-          c.in-Some.job
-          c.remove_unkept-ended.ensures.goes c.remove_unkept-ended-in-Some.ensures.goes)
-          c.self-in-Some.invariant.kept c.remove_unkept-ended-in-Some.ensures.none (c.remove_unkept-ended-in-Some.ensures.capacity ∙
-          c.remove_unkept-ended.ensures.capacity)
+      kept = left_kept (both_left _ _ _ _ _ c.remove_unkept-ended.ensures.goes c.remove_unkept-ended-in-Some.ensures.goes) c.self-in-Some.invariant.kept
+          c.remove_unkept-ended-in-Some.ensures.none (c.remove_unkept-ended-in-Some.ensures.capacity ∙ c.remove_unkept-ended.ensures.capacity)
           c.keep_there.ensures.entries;
       calm = c.remove_unkept-ended-in-Some.ensures.calm _ _ (c.remove_unkept-ended.ensures.calm _ _ c.self-in-Some.invariant.calm);
       indexed = c.remove_unkept-ended-in-Some.ensures.indexed;
@@ -69,33 +50,14 @@ pub returns-in-Some-clause-ends : goal.returns-in-Some-clause-ends
 returns-in-Some-clause-ends c =
     let job : job_in (get c.args.self.now.objects c.args.pid) ≡ Some c.in-Some.job = rw (← c.self.view_is) (sym c.job_of.ensures ∙ c.in-Some.is) in
     rw job (rw (← c.stop.ensures, ← c.self-in-Some.view_is)
-    (both_released c.self-in-Some.inside.by_koid.entries c.remove_unkept-ended.new.by_koid.entries c.remove_unkept-ended-in-Some.new.by_koid.entries
-    c.args.pid c.in-Some.job c.remove_unkept-ended.ensures.goes c.remove_unkept-ended-in-Some.ensures.goes c.self-in-Some.inside.sleepers.list.items
-    c.self-in-Some.inside.sleepers.crowded c.self-in-Some.inside.next_koid c.self-in-Some.inside.waits.made c.keep_there.new.waits.made
-    (map listed_value c.self-in-Some.inside.waits.entries.items) (map listed_value c.keep_there.new.waits.entries.items)))
+    (both_released _ _ _ _ _ c.remove_unkept-ended.ensures.goes c.remove_unkept-ended-in-Some.ensures.goes _ _ _ _ _ _ _))
 
 pub returns-in-Some-clause-waits : goal.returns-in-Some-clause-waits
 returns-in-Some-clause-waits c =
-    let released = both_released c.self-in-Some.inside.by_koid.entries c.remove_unkept-ended.new.by_koid.entries
-    c.remove_unkept-ended-in-Some.new.by_koid.entries
-    c.args.pid c.in-Some.job c.remove_unkept-ended.ensures.goes c.remove_unkept-ended-in-Some.ensures.goes c.self-in-Some.inside.sleepers.list.items
-    c.self-in-Some.inside.sleepers.crowded c.self-in-Some.inside.next_koid c.self-in-Some.inside.waits.made c.keep_there.new.waits.made
-    (map listed_value c.self-in-Some.inside.waits.entries.items) (map listed_value c.keep_there.new.waits.entries.items) in
     let job : job_in (get c.args.self.now.objects c.args.pid) ≡ Some c.in-Some.job = rw (← c.self.view_is) (sym c.job_of.ensures ∙ c.in-Some.is) in
-    rw job (subst (λ (r : Objects). LeavesWaits r (record {
-      objects = c.remove_unkept-ended-in-Some.new.by_koid.entries;
-      next_koid = c.self-in-Some.inside.next_koid;
-      waits = map listed_value c.keep_there.new.waits.entries.items;
-      waits_made = c.keep_there.new.waits.made;
-      sleepers = c.self-in-Some.inside.sleepers.list.items;
-      crowded = c.self-in-Some.inside.sleepers.crowded;
-    })) (c.self-in-Some.view_is ∙ c.stop.ensures)
-    (waits_left [] c.self-in-Some.inside.by_koid.entries c.remove_unkept-ended-in-Some.new.by_koid.entries released.cascades
-    (all_places c.self-in-Some.inside.by_koid.entries c.remove_unkept-ended.new.by_koid.entries c.remove_unkept-ended-in-Some.new.by_koid.entries
-    c.args.pid c.in-Some.job c.remove_unkept-ended.ensures.goes c.remove_unkept-ended-in-Some.ensures.goes c.self-in-Some.invariant.kept.whole.places)
-    (all_thin c.self-in-Some.inside.by_koid.entries c.remove_unkept-ended.new.by_koid.entries c.remove_unkept-ended-in-Some.new.by_koid.entries
-    c.args.pid c.in-Some.job
-    c.remove_unkept-ended.ensures.goes c.remove_unkept-ended-in-Some.ensures.goes)))
+    rw job (rw (← ap (λ (r : Objects). r.objects) (c.self-in-Some.view_is ∙ c.stop.ensures))
+    (waits_left (both_left _ _ _ _ _ c.remove_unkept-ended.ensures.goes c.remove_unkept-ended-in-Some.ensures.goes)
+    c.self-in-Some.invariant.kept.whole.places))
 
 pub returns-in-Some-clause-places : goal.returns-in-Some-clause-places
 returns-in-Some-clause-places c = (invariant_of-self c).kept.whole.places

@@ -8,7 +8,7 @@ use Rattle.zl_objects.proofs.Index.{kept_indexed}
 use Rattle.zl_objects.proofs.Kept.{left_kept, less_kept}
 use Rattle.zl_objects.proofs.Law.{leaves_largest}
 use Rattle.zl_objects.proofs.Listed.{all_seen, same_listed}
-use Rattle.zl_objects.proofs.Released.{cascades_of, released, starts, waits_left}
+use Rattle.zl_objects.proofs.Released.{left_by, released, starts, waits_left}
 use Rattle.zl_objects.proofs.objects.Objects.release.Goals as goal
 
 pub let_go-requires : goal.let_go-requires
@@ -41,13 +41,7 @@ invariant_of-self-2 c =
     let went : LetsGo (c.args.koid ∷ []) c.self.inside.by_koid.entries c.self.inside.dying.items c.remove_dying-ended.new.by_koid.entries
     c.remove_dying-ended.new.dying.items = both_went (c.args.koid ∷ []) [] _ _ _ _ _ _ c.let_go.ensures.goes c.remove_dying-ended.ensures.goes in
     record {
-      kept =
-          left_kept (c.args.koid ∷ []) c.self.inside.by_koid.entries c.remove_dying-ended.new.by_koid.entries c.self.inside.next_koid
-          (vec_capacity c.self.inside.dying)
-          (vec_capacity c.remove_dying-ended.new.dying) c.self.inside.dying.items c.remove_dying-ended.new.dying.items _
-          (cascades_of (c.args.koid ∷ []) c.self.inside.by_koid.entries c.remove_dying-ended.new.by_koid.entries c.self.inside.dying.items
-          c.remove_dying-ended.new.dying.items went) (went.places c.self.invariant.kept.whole.places) went.thins c.self.invariant.kept
-          c.remove_dying-ended.ensures.none
+      kept = left_kept (left_by went) c.self.invariant.kept c.remove_dying-ended.ensures.none
           (c.remove_dying-ended.ensures.capacity ∙ c.let_go.ensures.capacity) c.keep_there.ensures.entries;
       calm = c.remove_dying-ended.ensures.calm _ _ ((less_still c.self.inside.by_koid.entries c.let_go.new.by_koid.entries c.args.koid
           c.let_go.ensures.objects).calm _ _ _
@@ -71,10 +65,7 @@ pub returns-clause-waits : goal.returns-clause-waits
 returns-clause-waits c =
     let went : LetsGo (c.args.koid ∷ []) c.self.inside.by_koid.entries c.self.inside.dying.items c.remove_dying-ended.new.by_koid.entries
     c.remove_dying-ended.new.dying.items = both_went (c.args.koid ∷ []) [] _ _ _ _ _ _ c.let_go.ensures.goes c.remove_dying-ended.ensures.goes in
-    rw (← c.self.view_is) (waits_left (c.args.koid ∷ []) c.self.inside.by_koid.entries c.remove_dying-ended.new.by_koid.entries
-    (cascades_of (c.args.koid ∷ []) c.self.inside.by_koid.entries c.remove_dying-ended.new.by_koid.entries c.self.inside.dying.items
-    c.remove_dying-ended.new.dying.items
-    went) (went.places c.self.invariant.kept.whole.places) went.thins)
+    rw (← c.self.view_is) (waits_left (left_by went) c.self.invariant.kept.whole.places)
 
 pub returns-clause-places : goal.returns-clause-places
 returns-clause-places c = (invariant_of-self-2 c).kept.whole.places
@@ -116,10 +107,7 @@ pub returns-then-is_empty-clause-largest : goal.returns-then-is_empty-clause-lar
 returns-then-is_empty-clause-largest c = leaves_largest (c.args.koid ∷ []) [] c.args.self.now _ (returns-then-is_empty-clause-releases c)
 
 pub returns-then-is_empty-clause-waits : goal.returns-then-is_empty-clause-waits
-returns-then-is_empty-clause-waits c =
-    rw (← c.self.view_is) (waits_left (c.args.koid ∷ []) c.self.inside.by_koid.entries c.let_go.new.by_koid.entries
-    (cascades_of (c.args.koid ∷ []) c.self.inside.by_koid.entries c.let_go.new.by_koid.entries c.self.inside.dying.items c.let_go.new.dying.items
-    c.let_go.ensures.goes) (c.let_go.ensures.goes.places c.self.invariant.kept.whole.places) c.let_go.ensures.goes.thins)
+returns-then-is_empty-clause-waits c = rw (← c.self.view_is) (waits_left (left_by c.let_go.ensures.goes) c.self.invariant.kept.whole.places)
 
 pub returns-then-is_empty-clause-places : goal.returns-then-is_empty-clause-places
 returns-then-is_empty-clause-places c = (kept_all c).whole.places

@@ -1,9 +1,9 @@
-use Rattle.std.proofs.Common.{refl, ◌∷◌, [], vec_capacity, map}
+use Rattle.std.proofs.Common.{refl, ◌∷◌, [], map}
 use Rattle.zl_objects.specs.Listed.{listed_value}
 use Rattle.zl_objects.proofs.Kept.{left_kept}
 use Rattle.zl_objects.proofs.Law.{leaves_largest}
 use Rattle.zl_objects.proofs.Listed.{same_listed}
-use Rattle.zl_objects.proofs.Released.{cascades_of, released, waits_left}
+use Rattle.zl_objects.proofs.Released.{left_by, released, waits_left}
 use Rattle.zl_objects.proofs.objects.Objects.remove_unheld.Goals as goal
 
 pub remove_unkept-ended-requires : goal.remove_unkept-ended-requires
@@ -20,13 +20,8 @@ keep_there-requires c = record {
 pub invariant_of-self : goal.invariant_of-self
 invariant_of-self c =
     record {
-      kept =
-          left_kept [] c.self.inside.by_koid.entries c.remove_unkept-ended.new.by_koid.entries c.self.inside.next_koid (vec_capacity c.self.inside.dying)
-          (vec_capacity c.remove_unkept-ended.new.dying) c.self.inside.dying.items c.remove_unkept-ended.new.dying.items _
-          (cascades_of [] c.self.inside.by_koid.entries c.remove_unkept-ended.new.by_koid.entries (c.args.koid ∷ []) [] c.remove_unkept-ended.ensures.goes)
-          (c.remove_unkept-ended.ensures.goes.places c.self.invariant.kept.whole.places)
-          c.remove_unkept-ended.ensures.goes.thins c.self.invariant.kept c.remove_unkept-ended.ensures.none c.remove_unkept-ended.ensures.capacity
-          c.keep_there.ensures.entries;
+      kept = left_kept (left_by c.remove_unkept-ended.ensures.goes) c.self.invariant.kept c.remove_unkept-ended.ensures.none
+          c.remove_unkept-ended.ensures.capacity c.keep_there.ensures.entries;
       calm = c.remove_unkept-ended.ensures.calm _ _ c.self.invariant.calm;
       indexed = c.remove_unkept-ended.ensures.indexed;
     }
@@ -41,10 +36,7 @@ pub returns-clause-largest : goal.returns-clause-largest
 returns-clause-largest c = leaves_largest [] (c.args.koid ∷ []) c.args.self.now _ (returns-clause-releases c)
 
 pub returns-clause-waits : goal.returns-clause-waits
-returns-clause-waits c =
-    rw (← c.self.view_is) (waits_left [] c.self.inside.by_koid.entries c.remove_unkept-ended.new.by_koid.entries
-    (cascades_of [] c.self.inside.by_koid.entries c.remove_unkept-ended.new.by_koid.entries (c.args.koid ∷ []) [] c.remove_unkept-ended.ensures.goes)
-    (c.remove_unkept-ended.ensures.goes.places c.self.invariant.kept.whole.places) c.remove_unkept-ended.ensures.goes.thins)
+returns-clause-waits c = rw (← c.self.view_is) (waits_left (left_by c.remove_unkept-ended.ensures.goes) c.self.invariant.kept.whole.places)
 
 pub returns-clause-places : goal.returns-clause-places
 returns-clause-places c = (invariant_of-self c).kept.whole.places

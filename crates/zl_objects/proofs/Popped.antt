@@ -1,0 +1,165 @@
+-- What is left once the newest object was taken back, which was no end, and at which nothing was registered.
+use Rattle.zl_rights.proofs.Common.{◌≡◌, ◌==◌, ◌<◌, ◌+◌, ◌++◌, ◌∷◌, ◌⊎◌, [], ℕ, Bool, true, false, refl, sym, ap, ◌∙◌, Option, Some, None, inl, inr, List}
+use Rattle.zl_rights.proofs.Common.{IfSome, IsTrue, and_parts, arith, below_all, cases_Bool, eq-eqb, eqb-true, false≢true, if◌then◌else◌}
+use Rattle.zl_rights.proofs.Common.{is_sorted, length, length-append, nat_cmp, nat_tests, none-some, Map, get, has_key, without}
+use Rattle.std.specs.Prelude.{◌↔◌, IsSome}
+use Rattle.std.specs.BTreeMap.{BTreeMap, IsUpperBound, is_at}
+use Rattle.std.specs.Cmp.{unsigned_tied}
+use Rattle.std.specs.Map.{lookup}
+use Rattle.std.specs.Ordering.{is_lt}
+use Rattle.std.proofs.lemmas.List.Elements.{All-weaker}
+use Rattle.zl_table.proofs.MapEdits.{get-without, sorted_parts}
+use Rattle.zl_objects.specs.declared.awaited.Sleeper.{Sleeper}
+use Rattle.zl_objects.specs.declared.children.Children.{Children}
+use Rattle.zl_objects.specs.declared.marks.Marks.{Marks}
+use Rattle.zl_objects.specs.declared.object.Body.{Body}
+use Rattle.zl_objects.specs.declared.object.Body.TheVariants as body
+use Rattle.zl_objects.specs.declared.object.Object.{Object}
+use Rattle.zl_objects.specs.declared.wait.Listed.{Listed}
+use Rattle.zl_objects.specs.Awaited.{koid_of}
+use Rattle.zl_objects.specs.Calm.{IsAtRest, IsCalm, IsSteady, is_marked, is_watched_in}
+use Rattle.zl_objects.specs.Dying.{HasPeerOf, IsWhole}
+use Rattle.zl_objects.specs.Index.{IsIndexed, OthersStayListed}
+use Rattle.zl_objects.specs.Jobs.{parent_at, parent_of}
+use Rattle.zl_objects.specs.Objects.{is_alive, is_end_at, is_end_body, keeper_of, kind_in, peer_of}
+use Rattle.zl_objects.specs.Ports.{reserved_in}
+use Rattle.zl_objects.specs.Waits.{ending_waits, ends_waits, waits_in}
+use Rattle.zl_objects.proofs.Bodies.{found_left}
+use Rattle.zl_objects.proofs.ByKoid.{looked_up}
+use Rattle.zl_objects.proofs.Ending.{ending_places, none_ended, none_ends}
+use Rattle.zl_objects.proofs.Gone.{gone_calm}
+use Rattle.zl_objects.proofs.Index.{removed_indexed}
+use Rattle.zl_objects.proofs.Listed.{same_listed}
+
+-- ---- the last entry goes
+
+lower : (n : Map Object) (p : ℕ × Object) (k : ℕ) → IsTrue (below_all nat_cmp k (n ++ p ∷ [])) → k < p.0
+lower [] p k h = grind (arith, nat_tests, h)
+lower (e ∷ n) p k h = lower n p k (and_parts (is_lt (nat_cmp k e.0)) _ h).1
+
+last_out : (n : Map Object) (p : ℕ × Object) → IsTrue (is_sorted nat_cmp (n ++ p ∷ [])) → without (n ++ p ∷ []) p.0 ≡ n
+unfolding without
+last_out [] p sorted = rw (eq-eqb p.0 p.0 refl) refl
+last_out (e ∷ n) p sorted =
+    let parts = sorted_parts e (n ++ p ∷ []) sorted in
+    let apart : (e.0 == p.0) ≡ false = grind (arith, nat_tests, lower n p e.0 parts.0) in
+    rw apart (ap (λ (m : Map Object). e ∷ m) (last_out n p parts.1))
+
+filled : (m : Map Object) (k : ℕ) → IsTrue (has_key m k) → 0 < length m
+unfolding get
+filled [] k there = absurd (false≢true there)
+filled (e ∷ m) k there = omega arith
+
+-- it is the newest
+newest_out : (m n : BTreeMap ℕ Object) (next koid : ℕ) (r : Option (ℕ × Object)) → IsTrue (is_sorted nat_cmp m.entries)
+    → ((k : ℕ) → IsTrue (has_key m.entries k) → k < next) → next ≡ koid + 1 → IsTrue (has_key m.entries koid) → IsSome r ↔ (0 < length m.entries)
+    → IfSome r (λ p. lookup (is_at (nat_cmp p.0)) m.entries ≡ Some p.1) → IfSome r (λ p. IsUpperBound nat_cmp m p.0)
+    → IfSome r (λ p. m.entries ≡ n.entries ++ p ∷ []) → (n.entries ≡ without m.entries koid) × (length n.entries + 1 ≡ length m.entries)
+newest_out m n next koid None sorted below newest there some value greatest removal = absurd (false≢true (some.1 (filled m.entries koid there)))
+newest_out m n next koid (Some p) sorted below newest there some value greatest removal = (
+  rw (removal, ← key) (sym (last_out n.entries p (rw removal at sorted))),
+  rw removal (omega (arith, length-append n.entries (p ∷ []))),
+)
+  where
+    last : p.0 < next
+    last = below p.0 (rw (← looked_up m.entries p.0, value) refl)
+
+    key : p.0 ≡ koid
+    key = grind (arith, nat_tests, last, newest, greatest koid (rw (looked_up m.entries koid) there), unsigned_tied p.0 koid)
+
+-- ---- the invariant
+
+keeper_is : (P : ℕ → Type 0) (b : Body) → P (parent_of b) → IfSome (keeper_of b) P
+keeper_is P (body.Job own) h = elim own.killed as (λ b. IfSome (if b then None else Some own.parent) P) [ true ↦ tt | false ↦ h ]
+keeper_is P (body.Process job l) h = elim (is_alive l) as (λ b. IfSome (if b then Some job else None) P) [ true ↦ h | false ↦ tt ]
+keeper_is P _ h = tt
+
+no_peer : (b : Body) → is_end_body b ≡ false → peer_of b ≡ None
+no_peer (body.ChannelEnd p queue) h = absurd (false≢true (sym h))
+no_peer (body.PairEnd p) h = absurd (false≢true (sym h))
+no_peer _ h = refl
+
+module _ {children : Children} (m n : Map Object) (koid : ℕ) (o : Object) (at : get m koid ≡ Some o) (alone : is_end_body o.body ≡ false)
+    (none : ends_waits o ≡ false) (indexed : IsIndexed children m) (left : n ≡ without m koid) (once : length n + 1 ≡ length m) where
+  ended : n ≡ ending_waits koid o (without m koid)
+  ended = left ∙ sym (none_ends (without m koid) koid o none)
+
+  same_left : (j : ℕ) → (koid == j) ≡ false → get n j ≡ get m j
+  same_left j apart = rw (left, get-without m koid j, apart) refl
+
+  below_newest : (next j : ℕ) → next ≡ koid + 1 → j < next → (koid == j) ≡ false → j < koid
+  below_newest next j newest lower apart = grind (arith, nat_tests, newest, lower, apart)
+
+  popped_whole : (next room : ℕ) (d : List ℕ) → next ≡ koid + 1 → IsWhole None m next d room → IsWhole None n koid d room
+  popped_whole next room d newest whole = record {
+    below = λ j there. below j there (cases_Bool (koid == j));
+    peers = λ j q here. let was = found_left m koid j q (rw left at here) in by_peer j q was.1 (peer_of q.body) refl (whole.peers j q was.1);
+    places = rw ended (ending_places m koid o at (rw (← left) once) whole.places);
+    enough = omega (arith, once, whole.enough);
+    none = whole.none;
+  }
+    where
+      below : (j : ℕ) → IsTrue (has_key n j) → IsTrue (koid == j) ⊎ ((koid == j) ≡ false) → j < koid
+      below j there (inl here) = absurd (false≢true (rw (left, get-without m koid j, here) at there))
+      below j there (inr apart) = below_newest next j newest (whole.below j (rw (same_left j apart) at there)) apart
+
+      by_peer : (j : ℕ) (q : Object) → get m j ≡ Some q → (x : Option ℕ) → peer_of q.body ≡ x → IfSome x (HasPeerOf (kind_in q.body) m next)
+          → IfSome x (HasPeerOf (kind_in q.body) n koid)
+      by_peer j q was None is has = tt
+      by_peer j q was (Some p) is has = elim (cases_Bool (koid == p)) as (λ _. HasPeerOf (kind_in q.body) n koid p) [
+        | inl here ↦ absurd (none-some j (sym (no_peer o.body alone)
+            ∙ indexed.paired j koid q o was at (is ∙ ap (λ (i : ℕ). Some i) (sym (eqb-true koid p here)))))
+        | inr apart ↦ (below_newest next p newest has.0 apart, λ there. rw (same_left p apart) (has.1 (rw (same_left p apart) at there)))
+      ]
+
+  popped_calm : {marked marked2 : ℕ → Bool} {sleepers : List Sleeper} → ((j : ℕ) → IsTrue (marked j) → IsTrue (marked2 j)) → (next : ℕ) → next ≡ koid + 1
+      → o.slept ≡ false → (IsTrue (is_watched_in (get n (parent_of o.body))) → IsTrue (marked2 (parent_of o.body))) → IsCalm marked m next sleepers
+      → IsCalm marked2 n koid sleepers
+  popped_calm {marked} {marked2} {sleepers} more next newest unslept job calm =
+      let after : IsCalm marked2 n next sleepers =
+      gone_calm m n koid o indexed at ended more (λ j h. h) (keeper_is _ o.body job) (rw (no_peer o.body alone) tt) next sleepers calm in
+      record {
+        waits = after.waits;
+        resting = All-weaker (λ s. IsAtRest marked m next s × IsAtRest marked2 n next s) (IsAtRest marked2 n koid) one sleepers
+            (λ i d inside. (calm.resting i d inside, after.resting i d inside));
+      }
+    where
+      one : (s : Sleeper) → IsAtRest marked m next s × IsAtRest marked2 n next s → IsAtRest marked2 n koid s
+      one s both = record {
+        given = elim (cases_Bool (koid == koid_of s.awaited)) as (λ _. koid_of s.awaited < koid) [
+          | inl here ↦
+              absurd (false≢true (sym unslept ∙ both.0.known o (ap (get m) (sym (eqb-true koid (koid_of s.awaited) here)) ∙ at)))
+          | inr apart ↦ below_newest next (koid_of s.awaited) newest both.0.given apart
+        ];
+        known = both.1.known;
+        calm = both.1.calm;
+      }
+
+pub taken_back : {marks marks2 : Marks} {children children2 : Children} {waits : List Listed} {sleepers : List Sleeper} {d : List ℕ} {room : ℕ}
+    (m n : BTreeMap ℕ Object) (next koid : ℕ) (r : Option (ℕ × Object)) → IsSteady marks children m.entries next d room waits sleepers → next ≡ koid + 1
+    → is_end_at m.entries koid ≡ false → reserved_in (get m.entries koid) ≡ 0 → waits_in (get m.entries koid) ≡ [] → IsTrue (has_key m.entries koid)
+    → IfSome (get m.entries koid) (λ o. o.slept ≡ false) → OthersStayListed koid children children2 → IsSome r ↔ (0 < length m.entries)
+    → IfSome r (λ p. lookup (is_at (nat_cmp p.0)) m.entries ≡ Some p.1) → IfSome r (λ p. IsUpperBound nat_cmp m p.0)
+    → IfSome r (λ p. m.entries ≡ n.entries ++ p ∷ []) → ((j : ℕ) → IsTrue (is_marked marks j) → IsTrue (is_marked marks2 j))
+    → (IsTrue (is_watched_in (get n.entries (parent_at m.entries koid))) → IsTrue (is_marked marks2 (parent_at m.entries koid)))
+    → IsSteady marks2 children2 n.entries koid d room waits sleepers
+taken_back {marks} {marks2} {children} {children2} {waits} {sleepers} {d} {room} m n next koid r steady newest alone unreserved unwatched there unslept others
+    some value greatest removal more job = by_object (get m.entries koid) refl
+  where
+    out : (n.entries ≡ without m.entries koid) × (length n.entries + 1 ≡ length m.entries)
+    out = newest_out m n next koid r steady.indexed.in_order steady.kept.whole.below newest there some value greatest removal
+
+    by_object : (q : Option Object) → get m.entries koid ≡ q → IsSteady marks2 children2 n.entries koid d room waits sleepers
+    by_object None is = absurd (false≢true (rw is at there))
+    by_object (Some o) is =
+        let none : ends_waits o ≡ false = rw (rw is at unreserved, rw is at unwatched) refl in
+        record {
+          kept = record {
+            whole = popped_whole m.entries n.entries koid o is (rw is at alone) none steady.indexed out.0 out.1 next room d newest steady.kept.whole;
+            listed = same_listed waits m.entries n.entries (none_ended m.entries n.entries koid o is
+                (ended m.entries n.entries koid o is (rw is at alone) none steady.indexed out.0 out.1) none) steady.kept.listed;
+          };
+          calm = popped_calm m.entries n.entries koid o is (rw is at alone) none steady.indexed out.0 out.1 more next newest (rw is at unslept) (rw is at job)
+              steady.calm;
+          indexed = removed_indexed koid steady.indexed others out.0;
+        }

@@ -215,9 +215,9 @@ module _ (ps : List Process) (pid : ℕ) where
         not_left : IsTrue (is_gone ps pid x.value) → is_left (world_value ps r) (record x { pid = pid }) ≡ false
         not_left gone = elim (cases_Bool (has_handle (get (map process_entry ps) pid) x.value))
             as (λ _. is_left (world_value ps r) (record x { pid = pid }) ≡ false) [
-          | inl there ↦ absurd (false≢true (ap not (sym there) ∙ gone))
-          | inr none ↦ rw none refl
-        ]
+              | inl there ↦ absurd (false≢true (ap not (sym there) ∙ gone))
+              | inr none ↦ rw none refl
+            ]
 
     pub known_end : (r2 : Objects) → IsConsistent ps r → AreKnown ps r t pid → EndsWaits (is_over t.handles.items) r r2 → EndsUnheld ps r r2
     known_end r2 consistent known over = record {

@@ -21,11 +21,11 @@ pub struct TakenHandle {
     pub koid: Koid,
 }
 
-/// Handles of the caller. There is room for as many as a call can list; should there be none for one
-/// more, each counts as noted.
+/// Handles of the caller. One lies in the value itself, and more take memory; where that is refused, each
+/// counts as noted.
 #[derive(Drop)]
 pub struct Taken {
-    pub handles: SmallVec<TakenHandle, 8>,
+    pub handles: SmallVec<TakenHandle, 1>,
     pub all: bool,
 }
 

@@ -36,7 +36,7 @@ pub enum Woke {
     Nobody,
     /// This process alone.
     One(Pid),
-    /// Several. No clause says whom, or how many.
+    /// Perhaps several. No clause says whom, or how many.
     More,
 }
 

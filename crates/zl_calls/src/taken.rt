@@ -21,11 +21,11 @@ pub struct TakenHandle {
     pub koid: Koid,
 }
 
-/// Handles of the caller. One lies in the value itself, and more take memory; where that is refused, each
-/// counts as noted.
+/// Handles of the caller, of the last call behind which they were asked for. There is room for as many
+/// as a call can list; should there be none for one more, each counts as noted.
 #[derive(Drop)]
 pub struct Taken {
-    pub handles: SmallVec<TakenHandle, 1>,
+    pub handles: SmallVec<TakenHandle, 8>,
     pub all: bool,
 }
 
@@ -38,23 +38,23 @@ impl Taken {
         }
     }
 
-    /// Those that the call takes, of the process at which it stands.
-    pub fn by(alloc: Global, process: &Process, call: &CallInstr) -> Taken
-        ensures { NotesFor (site_of call.now process.now.cpu) process.now.table.entries result }
+    /// Notes those that the call takes, of the process at which it stands, in place of what is noted.
+    pub fn note_call(&mut self, process: &Process, call: &CallInstr)
+        ensures { NotesFor (site_of call.now process.now.cpu) process.now.table.entries self.new }
     {
-        let mut taken = Taken::none(alloc);
+        self.handles.clear();
+        self.all = false;
         let [_, second, third, ..] = call.registers;
         match call.name {
-            CallName::Close => taken.note(&process.table, process.cpu.register(second)),
-            CallName::Replace => taken.note(&process.table, process.cpu.register(second)),
-            CallName::ProcessStart => taken.note(&process.table, process.cpu.register(third)),
+            CallName::Close => self.note(&process.table, process.cpu.register(second)),
+            CallName::Replace => self.note(&process.table, process.cpu.register(second)),
+            CallName::ProcessStart => self.note(&process.table, process.cpu.register(third)),
             CallName::ChanWrite => {
                 let (values, count) = process.cpu.listed(&call.handles());
-                taken.note_each(&process.table, &values[..count]);
+                self.note_each(&process.table, &values[..count]);
             }
             _ => {}
         }
-        taken
     }
 
     /// The handle at the value, if it is live.

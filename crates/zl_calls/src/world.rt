@@ -17,6 +17,7 @@ ghost use Rattle.zl_calls.specs.Woke.{StepsAndWakes};
 use crate::booting::{Made, booted};
 use crate::processes::Processes;
 use crate::stepping::{act_for, is_local, next_name};
+use crate::taken::Taken;
 use crate::waits::fire_waits;
 use crate::waking::{Woke, add_blocked, fall_asleep, wake};
 use std::alloc::{AllocError, Global};
@@ -39,6 +40,8 @@ pub struct World {
     // The processes that are blocked, the longest blocked first. There is room for each process, so
     // that none takes memory to block.
     blocked: Vec<Pid>,
+    // What the last call took, made once as each step would fill it with zeros.
+    taken: Taken,
 }
 
 impl Model for World {
@@ -116,6 +119,7 @@ impl World {
             },
             objects,
             blocked,
+            taken: Taken::none(alloc),
         })
     }
 
@@ -213,6 +217,7 @@ impl World {
             &mut self.processes,
             &mut self.objects,
             &mut self.blocked,
+            &mut self.taken,
             pid,
         )?;
         if is_local(&item) {

@@ -75,7 +75,7 @@ end_behind-requires-clause-known c plain present =
     c.args.library.now (parts c.call_next.new.processes.list.items c.call_next.new.objects c.call_next.new.blocked.items)
     c.in-Some.outcome present c.in-Some.call
     ((c.in-Some.ensures {u = tt}).calls c.index.result.now (here c.args.processes.now.list.items c.args.pid c.in_ok-place.place c.index.result.now
-    c.in_ok-place.ensures.first c.index.ensures)) plain c.in-Some.taken
+    c.in_ok-place.ensures.first c.index.ensures)) plain c.call_next.new.taken
     ((c.in-Some.ensures {u = tt}).taken c.index.result.now (here c.args.processes.now.list.items c.args.pid c.in_ok-place.place c.index.result.now
     c.in_ok-place.ensures.first c.index.ensures)) (called_so (turn_at c.args.processes.now.list.items c.args.objects.now c.args.blocked.now.items c.args.pid
     c.in_ok-place.place c.index.result.now
@@ -111,7 +111,7 @@ pub returns-in-Some-clause-acts : goal.returns-in-Some-clause-acts
 returns-in-Some-clause-acts c =
     ended_acts c.args.library.now c.args.processes.now.list.items c.leave.new.processes.list.items c.args.objects.now c.call_next.new.objects
     c.end_behind.new.objects c.args.blocked.now.items c.call_next.new.blocked.items c.args.pid (item.Call c.args.pid c.in-Some.call c.in-Some.outcome)
-    c.end_behind.ensures (called c.before.before.before).acts
+    c.end_behind.ensures (called c.before).acts
 
 pub returns-in-Some-run_next-clause-acts : goal.returns-in-Some-run_next-clause-acts
 returns-in-Some-run_next-clause-acts c = (moved c.before).acts
@@ -123,7 +123,7 @@ returns-clause-acts c =
     (stopped c.before.before).acts
 
 pub returns-in-Some-clause-list : goal.returns-in-Some-clause-list
-returns-in-Some-clause-list c = (called c.before.before.before).list
+returns-in-Some-clause-list c = (called c.before).list
 
 pub returns-in-Some-run_next-clause-list : goal.returns-in-Some-run_next-clause-list
 returns-in-Some-run_next-clause-list c = (moved c.before).list
@@ -132,7 +132,7 @@ pub returns-clause-list : goal.returns-clause-list
 returns-clause-list c = (stopped c.before.before).list
 
 pub returns-in-Some-clause-fewer : goal.returns-in-Some-clause-fewer
-returns-in-Some-clause-fewer c = (called c.before.before.before).fewer
+returns-in-Some-clause-fewer c = (called c.before).fewer
 
 pub returns-in-Some-run_next-clause-fewer : goal.returns-in-Some-run_next-clause-fewer
 returns-in-Some-run_next-clause-fewer c = (moved c.before).fewer
@@ -142,7 +142,7 @@ returns-clause-fewer c = (stopped c.before.before).fewer
 
 pub returns-in-Some-clause-asleep : goal.returns-in-Some-clause-asleep
 returns-in-Some-clause-asleep c =
-    let first = (called c.before.before.before).asleep in (c.end_behind.ensures.asleep.0 ∙ first.0, c.end_behind.ensures.asleep.1 ∙ first.1)
+    let first = (called c.before).asleep in (c.end_behind.ensures.asleep.0 ∙ first.0, c.end_behind.ensures.asleep.1 ∙ first.1)
 
 pub returns-in-Some-run_next-clause-asleep : goal.returns-in-Some-run_next-clause-asleep
 returns-in-Some-run_next-clause-asleep c = (moved c.before).asleep
@@ -170,8 +170,8 @@ returns-in-Some-run_next-clause-quiet c local =
     c.run_next.new.process (c.in-Some-run_next.ensures {u = tt}).cpu
 
 pub returns-in-Some-clause-unheld : goal.returns-in-Some-clause-unheld
-returns-in-Some-clause-unheld d apart =
-    let c = d.before in ended_again c.leave.new.processes.list.items c.call_next.new.objects c.end_behind.new.objects c.end_behind.ensures
+returns-in-Some-clause-unheld c apart =
+    ended_again c.leave.new.processes.list.items c.call_next.new.objects c.end_behind.new.objects c.end_behind.ensures
 
 pub returns-clause-unheld : goal.returns-clause-unheld
 returns-clause-unheld d apart =

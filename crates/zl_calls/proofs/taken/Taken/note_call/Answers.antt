@@ -1,4 +1,4 @@
-use Rattle.zl_calls.proofs.Common.{◌≡◌, ◌∙◌, [], All-nil, arith, common_steps, handle_operands, map, reg, subst, sym, taken_handles, All}
+use Rattle.zl_calls.proofs.Common.{◌≡◌, ◌∙◌, [], All-nil, arith, common_steps, false, handle_operands, map, reg, subst, sym, taken_handles, All}
 use Rattle.std.specs.Prelude.{slice_index}
 use Rattle.std.proofs.lemmas.List.Elements.{All-cons}
 use Rattle.zl_code.specs.Asked.{used}
@@ -6,7 +6,7 @@ use Rattle.zl_code.specs.declared.history.CallName.TheVariants as name
 use Rattle.zl_calls.specs.Taken.{IsNoted}
 use Rattle.zl_calls.proofs.calls.WriteCalls.{takes_listed}
 use Rattle.zl_calls.proofs.tables.TakenBy.{notes_at, notes_none}
-use Rattle.zl_calls.proofs.taken.Taken.by.Goals as goal
+use Rattle.zl_calls.proofs.taken.Taken.note_call.Goals as goal
 
 pub returns-in-Close : goal.returns-in-Close
 unfolding taken_handles handle_operands
@@ -41,5 +41,5 @@ returns-in-ChanWrite c =
 
 pub returns-in_default : goal.returns-in_default
 returns-in_default c =
-    notes_none c.args.call.now c.args.process.now.cpu c.args.process.now.table.entries c.none-taken.result c.in_default.not-Close c.in_default.not-Replace
-    c.in_default.not-ChanWrite c.in_default.not-ProcessStart
+    notes_none c.args.call.now c.args.process.now.cpu c.args.process.now.table.entries (record { handles = c.clear.new.self; all = false })
+    c.in_default.not-Close c.in_default.not-Replace c.in_default.not-ChanWrite c.in_default.not-ProcessStart

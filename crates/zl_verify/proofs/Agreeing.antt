@@ -1,33 +1,22 @@
 -- The rule of each local instruction and its effect agree.
-use Rattle.std.proofs.Common.{◌≡◌, ◌≢◌, ℕ, zero, suc, ◌+◌, ◌-◌, ◌*◌, ◌<◌, ◌≤◌, ◌⊎◌, Bool, true, false, not, ◌&&◌, ◌||◌, ◌==◌, List, [], ◌∷◌, length, take, drop}
-use Rattle.std.proofs.Common.{refl, sym, ap, subst, Option, Some, None, Result, Ok, Err, arith, inl, inr, slice_set, eq-eqb}
-use Rattle.std.specs.Prelude.{if◌then◌else◌, nat_lt, nat_le, slice_get, slice_index_or, bit_and, bit_or, bit_xor, ◌%◌, ◌/◌, ◌^◌}
-use Rattle.std.proofs.lemmas.Bool.Decides.{nat_tests}
-use Rattle.std.proofs.lemmas.Nat.{and_le_l, and_le_r, or_lt, xor_lt, le-div, pow_pos}
-use Rattle.std.proofs.Math.Nat.{mod-le, mod-lt, div-mul-le_self}
-use Rattle.zl_rights.specs.Common.{Cpu}
-use Rattle.zl_rights.specs.declared.entry.Entry.{Entry}
-use Rattle.zl_rights.specs.Numbers.{bits, within, KNOWN_RIGHTS}
-use Rattle.zl_code.specs.declared.image.SlotArray.{SlotArray}
-use Rattle.zl_code.specs.declared.instr.LocalInstr.{LocalInstr}
-use Rattle.zl_code.specs.declared.instr.LocalInstr.TheVariants as local
-use Rattle.zl_code.specs.Image.{Image}
-use Rattle.zl_code.specs.Spells.{number_of, are_registers, is_32_bits, is_local_in_range, local_parts}
-use Rattle.zl_code.specs.Local.{reg, sets, wrapped, is_in_memory, loads as loads_from, stores as stores_to, swaps, goes_if, local_effect}
-use Rattle.zl_abs.specs.declared.value.AbsVal.{AbsVal}
-use Rattle.zl_abs.specs.declared.value.AbsVal.TheVariants.{Word, Has, KindOf, RightsOf}
-use Rattle.zl_abs.specs.declared.cause.Cause.{Cause}
-use Rattle.zl_abs.specs.declared.cause.Cause.TheVariants as cause
+use Rattle.zl_verify.proofs.Common.{◌≡◌, ◌≢◌, ℕ, zero, suc, ◌+◌, ◌-◌, ◌*◌, ◌<◌, ◌≤◌, ◌⊎◌, Bool, true, false, not, ◌&&◌, ◌||◌, ◌==◌, List, [], ◌∷◌, length, take}
+use Rattle.zl_verify.proofs.Common.{drop, refl, sym, ap, subst, Option, Some, None, Result, Ok, Err, arith, inl, inr, slice_set, eq-eqb, if◌then◌else◌, nat_lt}
+use Rattle.zl_verify.proofs.Common.{nat_le, slice_get, slice_index_or, bit_and, bit_or, bit_xor, ◌/◌, ◌^◌, nat_tests, and_le_l, or_lt, mod-lt, Cpu, Entry, bits}
+use Rattle.zl_verify.proofs.Common.{within, KNOWN_RIGHTS, SlotArray, LocalInstr, Image, number_of, are_registers, is_local_in_range, local_parts, reg, sets}
+use Rattle.zl_verify.proofs.Common.{is_in_memory, swaps, local_effect, AbsVal, Word, Has, KindOf, RightsOf, Cause, ANY, is_has, capped, smaller, kind_below}
+use Rattle.zl_verify.proofs.Common.{State, IsState, value_at, with_value, rounded, and_then, passes, writes, word_at, shifted, in_memory, loads, stores}
+use Rattle.zl_verify.proofs.Common.{may_move, moved, slot_fault, swaps_by, swaps_in, unless, zero_ways, equal_ways, below_ways, has_ways, local_rule, target_of}
+use Rattle.zl_verify.proofs.Common.{both, Table, IsHandle, Describes, one_if, is_it, owns, Holds, IsMemory}
+use Rattle.std.specs.Prelude.{◌%◌}
+use Rattle.std.proofs.lemmas.Nat.{and_le_r, xor_lt, le-div, pow_pos}
+use Rattle.std.proofs.Math.Nat.{mod-le, div-mul-le_self}
+use Rattle.zl_code.specs.Spells.{is_32_bits}
+use Rattle.zl_code.specs.Local.{wrapped, loads as loads_from, stores as stores_to, goes_if}
 use Rattle.zl_abs.specs.Outcome.{Outcome}
-use Rattle.zl_abs.specs.Values.{ANY, is_has, capped, smaller, kind_below}
-use Rattle.zl_abs.specs.States.{State, IsState, value_at, with_value}
-use Rattle.zl_abs.specs.Bounds.{least_from, rounded}
-use Rattle.zl_abs.specs.Rule.{and_then, passes, writes, word_at}
-use Rattle.zl_abs.specs.LocalRules.{computes, shifted, in_memory, loads, stores, copies, may_move, moved, takes, slot_fault, swaps_by, swaps_in, unless}
-use Rattle.zl_abs.specs.LocalRules.{zero_ways, equal_ways, below_ways, has_ways, local_rule}
-use Rattle.zl_abs.specs.Typing.{target_of}
-use Rattle.zl_abs.proofs.Order.{both}
-use Rattle.zl_verify.specs.Conforms.{Table, IsHandle, Describes, one_if, is_it, owns, Holds, IsMemory}
+use Rattle.zl_abs.specs.Bounds.{least_from}
+use Rattle.zl_abs.specs.LocalRules.{computes, copies, takes}
+use Rattle.zl_code.specs.declared.instr.LocalInstr.TheVariants as local
+use Rattle.zl_abs.specs.declared.cause.Cause.TheVariants as cause
 use Rattle.zl_verify.proofs.Writing.{write_word, write_copy}
 use Rattle.zl_verify.proofs.Weakening.{handle_below}
 use Rattle.zl_verify.proofs.Moving.{take_holds, swap_holds, array_there}

@@ -1,34 +1,19 @@
 -- In a boot world each process is as a statement started it, and properly where its program is checked.
-use Rattle.std.proofs.Common.{◌≡◌, ℕ, ◌+◌, ◌≤◌, ◌⊎◌, Bool, true, false, ◌==◌, List, [], ◌∷◌, refl, sym, ap, ◌∙◌, subst, arith, IsTrue, Option, Some, None}
-use Rattle.std.proofs.Common.{option_map, inl, inr}
-use Rattle.std.specs.Prelude.{if◌then◌else◌, slice_get}
-use Rattle.std.specs.List.{AllByRecursion}
-use Rattle.std.proofs.lemmas.Bool.{cases_Bool, eqb-true, not-false}
-use Rattle.std.proofs.lemmas.Option.{none-some, same_Some}
-use Rattle.zl_rights.specs.declared.entry.Entry.{Entry}
-use Rattle.zl_rights.specs.declared.policy.Condition.{Condition}
-use Rattle.zl_rights.specs.Common.{get, lives, Settles, process_settled, without_others, World, Process, Body, EventBody, PairEnd, PortBody, ChannelEnd}
-use Rattle.zl_rights.specs.Common.{ProcessBody}
-use Rattle.zl_rights.specs.Signals.{has_child_job, has_child_process}
-use Rattle.zl_rights.proofs.MapLaws.{get-put, get-each}
+use Rattle.zl_verify.proofs.Common.{◌≡◌, ℕ, ◌+◌, ◌≤◌, ◌⊎◌, Bool, true, false, ◌==◌, List, [], ◌∷◌, refl, sym, ap, ◌∙◌, subst, arith, IsTrue, Option, Some, None}
+use Rattle.zl_verify.proofs.Common.{option_map, inl, inr, if◌then◌else◌, slice_get, AllByRecursion, cases_Bool, eqb-true, none-some, same_Some, Entry}
+use Rattle.zl_verify.proofs.Common.{Condition, get, lives, Settles, process_settled, without_others, World, Process, Body, EventBody, PairEnd, PortBody}
+use Rattle.zl_verify.proofs.Common.{ChannelEnd, ProcessBody, has_child_job, has_child_process, get-put, get-each, Statement, Image, Library, Program, is_among}
+use Rattle.zl_verify.proofs.Common.{with_object, on_object, process_with, may_get_all, job_within, created_process, program_in, program_of, Boots, setting}
+use Rattle.zl_verify.proofs.Common.{are_declared, may_boot, boot_effect, handles_given, origin, process_with_all, body_of, creates, IsSound, word_of}
+use Rattle.zl_verify.proofs.Common.{IsSizedBoot, IsProperStart, IsStarted, boot_sound, ANY}
+use Rattle.std.proofs.lemmas.Bool.{not-false}
 use Rattle.zl_code.specs.declared.boot.Grant.{Grant}
-use Rattle.zl_code.specs.declared.boot.Statement.{Statement}
-use Rattle.zl_code.specs.declared.boot.Statement.TheVariants as statement
-use Rattle.zl_code.specs.Image.{Image, Library, Program, is_among}
-use Rattle.zl_code.specs.Effects.{with_object, on_object, process_with, may_get_all}
-use Rattle.zl_code.specs.Jobs.{job_within}
-use Rattle.zl_code.specs.Starting.{created_process, program_in, program_of}
-use Rattle.zl_code.specs.Boot.{Boots, setting, are_declared, are_misfits, may_boot, boot_fault, boot_effect, handles_given, origin, process_with_all}
-use Rattle.zl_code.specs.Boot.{started_process}
-use Rattle.zl_code.specs.Tests.{body_of}
-use Rattle.zl_code.specs.Operands.{creates}
-use Rattle.zl_code.specs.Sound.{IsSound}
-use Rattle.zl_code.specs.Headline.{word_of, IsSizedBoot, IsProperStart, IsStarted}
+use Rattle.zl_code.specs.Boot.{are_misfits, boot_fault, started_process}
 use Rattle.zl_code.proofs.CanStart.{CanStart, can_start}
 use Rattle.zl_code.proofs.StepChanges.{no_child_booted, job_is_there}
-use Rattle.zl_code.proofs.SoundRuns.{IsBooting, origin_booting, still_booting, boot_sound}
-use Rattle.zl_abs.specs.Values.{ANY}
+use Rattle.zl_code.proofs.SoundRuns.{IsBooting, origin_booting, still_booting}
 use Rattle.zl_verify.specs.WakeLaws.{IsBooted}
+use Rattle.zl_code.specs.declared.boot.Statement.TheVariants as statement
 use Rattle.zl_verify.proofs.OwnEffect.{AreAlike, alike_then, same_objects, made_alike, more_koids, neither_one, set_alike, same_policy}
 use Rattle.zl_verify.proofs.Woken.{settled_allowed}
 use Rattle.zl_verify.proofs.UnstartedRuns.{made_allows}

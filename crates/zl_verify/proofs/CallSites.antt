@@ -1,26 +1,13 @@
 -- Where the rule of a call holds, what the call asks for can be read.
-use Rattle.std.proofs.Common.{◌≡◌, ℕ, ◌+◌, ◌≤◌, Bool, true, false, not, List, length, refl, subst, Option, Some, None, Result, Ok, Err, arith, slice_index}
-use Rattle.std.proofs.lemmas.Option.{same_Some}
-use Rattle.std.specs.Prelude.{if◌then◌else◌, nat_le}
-use Rattle.std.proofs.lemmas.Bool.Decides.{nat_tests}
-use Rattle.zl_rights.specs.Common.{Cpu}
-use Rattle.zl_code.specs.declared.instr.CallInstr.{CallInstr}
-use Rattle.zl_code.specs.declared.layout.Ending.{Ending}
+use Rattle.zl_verify.proofs.Common.{◌≡◌, ℕ, ◌+◌, ◌≤◌, Bool, true, false, not, List, length, refl, subst, Option, Some, None, Result, Ok, Err, arith}
+use Rattle.zl_verify.proofs.Common.{slice_index, same_Some, if◌then◌else◌, nat_le, nat_tests, Cpu, CallInstr, Ending, Image, call_row, reg, is_in_memory}
+use Rattle.zl_verify.proofs.Common.{has_its_memory, AbsVal, Word, Has, KindOf, RightsOf, Cause, ANY, State, value_at, and_then, passes, range_fits, are_words}
+use Rattle.zl_verify.proofs.Common.{is_declared, examined_all, finished, state_after, Uses, uses_of, goes_on, stops, call_rule, Table, Holds, IsMemory}
+use Rattle.zl_abs.specs.Values.{bound_of}
+use Rattle.zl_abs.specs.States.{bound_at}
+use Rattle.zl_abs.specs.CallRules.{sum_fits, answers, range_in}
 use Rattle.zl_code.specs.declared.layout.Ending.TheVariants as ending
-use Rattle.zl_code.specs.Image.{Image}
-use Rattle.zl_code.specs.Instructions.{call_row}
-use Rattle.zl_code.specs.Local.{reg, is_in_memory}
-use Rattle.zl_code.specs.Asked.{has_its_memory}
-use Rattle.zl_abs.specs.declared.value.AbsVal.{AbsVal}
-use Rattle.zl_abs.specs.declared.value.AbsVal.TheVariants.{Word, Has, KindOf, RightsOf}
-use Rattle.zl_abs.specs.declared.cause.Cause.{Cause}
 use Rattle.zl_abs.specs.declared.cause.Cause.TheVariants as cause
-use Rattle.zl_abs.specs.Values.{ANY, bound_of}
-use Rattle.zl_abs.specs.States.{State, value_at, bound_at}
-use Rattle.zl_abs.specs.Rule.{and_then, passes}
-use Rattle.zl_abs.specs.CallRules.{sum_fits, range_fits, are_words, is_declared, answers, examined_all, finished, state_after, range_in, Uses, uses_of, goes_on}
-use Rattle.zl_abs.specs.CallRules.{stops, call_rule}
-use Rattle.zl_verify.specs.Conforms.{Table, Holds, IsMemory}
 
 -- the rule holds
 abbrev pub IsGiven : {A : Type 0} → Result A Cause → Type 0

@@ -1,27 +1,12 @@
 -- A process that conforms is never refused for a handle, no policy ends it, and it keeps its budget, till it ends itself or another kills it.
-use Rattle.std.proofs.Common.{◌≡◌, ◌≢◌, ℕ, ◌+◌, ◌-◌, ◌<◌, ◌≤◌, ◌⊎◌, true, false, ◌==◌, List, [], ◌∷◌, ◌++◌, refl, sym, ap, ◌∙◌, subst, Option, Some, None, inl}
-use Rattle.std.proofs.Common.{inr, arith}
-use Rattle.std.specs.Prelude.{nat_le, slice_get, IsSomeAnd}
-use Rattle.std.specs.List.{AllByRecursion}
-use Rattle.std.proofs.lemmas.Bool.{cases_Bool, eqb-true}
-use Rattle.std.proofs.lemmas.Bool.Decides.{nat_tests}
-use Rattle.std.proofs.lemmas.Option.{same_Some}
-use Rattle.zl_rights.specs.Common.{get, runs, World, Process, Ready, Blocked, Ended}
-use Rattle.zl_rights.specs.World.{Awaited}
-use Rattle.zl_rights.specs.Numbers.{KILLED}
-use Rattle.zl_rights.specs.Signals.{has_ended}
-use Rattle.zl_code.specs.declared.boot.Statement.{Statement}
-use Rattle.zl_code.specs.declared.history.TraceItem.{TraceItem}
-use Rattle.zl_code.specs.Image.{Image, Library, call_at}
-use Rattle.zl_code.specs.Spells.{is_in_range}
-use Rattle.zl_code.specs.Steps.{Step, pid_of, Runs}
-use Rattle.zl_code.specs.Headline.{IsSizedBoot, executed, left_behind, KeepsBudget}
-use Rattle.zl_abs.specs.States.{State}
-use Rattle.zl_abs.specs.Typing.{IsTyping}
-use Rattle.zl_verify.specs.Conforms.{Conforms}
-use Rattle.zl_verify.specs.Steps.{is_pause, IsBelow, AllBelow, IsStepBound, OneOf}
-use Rattle.zl_verify.specs.WakeLaws.{IsFitStep, stays, wakes, OthersLeave, left_so, was_killed}
-use Rattle.zl_verify.specs.RunLaws.{IsFineItem, IsUnderWay, HasEnded}
+use Rattle.zl_verify.proofs.Common.{◌≡◌, ◌≢◌, ℕ, ◌+◌, ◌-◌, ◌<◌, ◌≤◌, ◌⊎◌, true, false, ◌==◌, List, [], ◌∷◌, ◌++◌, refl, sym, ap, ◌∙◌, subst, Option, Some, None}
+use Rattle.zl_verify.proofs.Common.{inl, inr, arith, nat_le, slice_get, AllByRecursion, cases_Bool, eqb-true, nat_tests, same_Some, get, runs, World, Process}
+use Rattle.zl_verify.proofs.Common.{Ready, Blocked, Ended, Awaited, KILLED, has_ended, Statement, TraceItem, Image, Library, call_at, is_in_range, Step, pid_of}
+use Rattle.zl_verify.proofs.Common.{Runs, IsSizedBoot, executed, State, IsTyping, Conforms, is_pause, IsBelow, AllBelow, IsStepBound, OneOf, IsFitStep, stays}
+use Rattle.zl_verify.proofs.Common.{OthersLeave, left_so, was_killed, IsFineItem, IsUnderWay, HasEnded}
+use Rattle.std.specs.Prelude.{IsSomeAnd}
+use Rattle.zl_code.specs.Headline.{left_behind, KeepsBudget}
+use Rattle.zl_verify.specs.WakeLaws.{wakes}
 use Rattle.zl_verify.proofs.Counting.{has_edge}
 use Rattle.zl_verify.proofs.Woken.{fit_of, sound_before}
 use Rattle.zl_verify.proofs.Others.{others_end, over_after_act}

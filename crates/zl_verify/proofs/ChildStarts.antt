@@ -1,49 +1,22 @@
 -- A process that another starts is started properly, where its program is checked.
-use Rattle.std.proofs.Common.{◌≡◌, ℕ, ◌≤◌, Bool, true, false, not, ◌&&◌, ◌==◌, List, [], ◌∷◌, ◌++◌, refl, sym, ap, ◌∙◌, subst, Option, Some, None, option_map}
-use Rattle.std.proofs.Common.{Ok, Err, arith}
-use Rattle.std.specs.Prelude.{if◌then◌else◌, slice_get}
-use Rattle.std.specs.List.{AllByRecursion}
-use Rattle.std.specs.Option.{option_to_list}
-use Rattle.std.proofs.lemmas.Bool.Decides.{nat_tests}
-use Rattle.std.proofs.lemmas.Option.{same_Some}
-use Rattle.zl_rights.specs.declared.entry.Entry.{Entry}
-use Rattle.zl_rights.specs.declared.kind.Kind.{Kind}
-use Rattle.zl_rights.specs.declared.policy.Action.{Action}
-use Rattle.zl_rights.specs.declared.policy.Action.TheVariants as action
-use Rattle.zl_rights.specs.declared.policy.Condition.{Condition}
-use Rattle.zl_rights.specs.declared.policy.Condition.TheVariants as condition
-use Rattle.zl_rights.specs.declared.status.Status.{Status}
-use Rattle.zl_rights.specs.declared.status.Status.TheVariants as status
-use Rattle.zl_rights.specs.Common.{bits, within, get, is_process, World, Process, Ready}
-use Rattle.zl_rights.specs.Signals.{state_passes}
+use Rattle.zl_verify.proofs.Common.{◌≡◌, ℕ, ◌≤◌, Bool, true, false, not, ◌&&◌, ◌==◌, List, [], ◌∷◌, ◌++◌, refl, sym, ap, ◌∙◌, subst, Option, Some, None}
+use Rattle.zl_verify.proofs.Common.{option_map, Ok, Err, arith, if◌then◌else◌, slice_get, AllByRecursion, option_to_list, nat_tests, same_Some, Entry, Kind}
+use Rattle.zl_verify.proofs.Common.{Action, Condition, Status, bits, within, get, is_process, World, Process, Ready, state_passes, takes, Statement, Outcome}
+use Rattle.zl_verify.proofs.Common.{TraceItem, Start, Image, Library, Program, first_some, entry_at, object_at, action_of, parent_of, Operand, creates, operand}
+use Rattle.zl_verify.proofs.Common.{operand_after, seen_after, contains, examined, unless_allowed, by_policy, on_process, process_with, may_get, may_get_all}
+use Rattle.zl_verify.proofs.Common.{is_created, started_with, program_in, program_of, are_declared, refusal, handle_operands, condition_of, Request}
+use Rattle.zl_verify.proofs.Common.{process_start, listed, effect, new_handles, gives_ok, Site, site, Calls, CallBy, Choice, Refused, Wants, Values, may_want}
+use Rattle.zl_verify.proofs.Common.{taken_handles, taken, may_choose, replied, with_effect, AtCall, Acts, Runs, next_in, pid_of, IsSound, IsSizedBoot}
+use Rattle.zl_verify.proofs.Common.{StartsChild, IsStarted, ANY, AreUnstarted, IsRunStep, IsFitStep}
 use Rattle.zl_rights.specs.LookUp.{granted}
-use Rattle.zl_rights.specs.Numbers.{takes}
-use Rattle.zl_code.specs.declared.boot.Statement.{Statement}
-use Rattle.zl_code.specs.declared.history.CallName.TheVariants as name
-use Rattle.zl_code.specs.declared.history.Outcome.{Outcome}
-use Rattle.zl_code.specs.declared.history.Outcome.TheVariants as outcome
-use Rattle.zl_code.specs.declared.history.TraceItem.{TraceItem}
-use Rattle.zl_code.specs.declared.history.TraceItem.TheVariants as item
-use Rattle.zl_code.specs.declared.image.Start.{Start}
-use Rattle.zl_code.specs.Image.{Image, Library, Program}
-use Rattle.zl_code.specs.First.{first_some}
-use Rattle.zl_code.specs.Tests.{entry_at, object_at, action_of, parent_of}
-use Rattle.zl_code.specs.Operands.{Operand, creates, ends_if_kill, faults, by_look_up, operand, operand_after, seen_after, contains, examined, unless_allowed}
-use Rattle.zl_code.specs.Operands.{by_policy}
-use Rattle.zl_code.specs.Effects.{on_process, process_with, may_get, may_get_all}
-use Rattle.zl_code.specs.Starting.{is_created, started_with, program_in, program_of}
+use Rattle.zl_code.specs.Operands.{ends_if_kill, faults, by_look_up}
 use Rattle.zl_code.specs.Jobs.{is_only_start, misfits}
-use Rattle.zl_code.specs.Boot.{are_declared}
-use Rattle.zl_code.specs.Refusals.{refusal, handle_operands, condition_of}
-use Rattle.zl_code.specs.CallTable.{Request, process_start, listed, effect, new_handles, gives_ok}
-use Rattle.zl_code.specs.Request.{Site, site}
-use Rattle.zl_code.specs.Calls.{Calls, CallBy, Choice, Refused, Wants, Values, may_want, taken_handles, taken, may_choose, replied, with_effect}
-use Rattle.zl_code.specs.Steps.{AtCall, Acts, Runs, next_in, pid_of}
-use Rattle.zl_code.specs.Sound.{IsSound}
-use Rattle.zl_code.specs.Headline.{IsSizedBoot, StartsChild, IsStarted}
-use Rattle.zl_abs.specs.Values.{ANY}
-use Rattle.zl_verify.specs.Covered.{AreUnstarted}
-use Rattle.zl_verify.specs.WakeLaws.{IsRunStep, IsFitStep}
+use Rattle.zl_rights.specs.declared.policy.Action.TheVariants as action
+use Rattle.zl_rights.specs.declared.policy.Condition.TheVariants as condition
+use Rattle.zl_rights.specs.declared.status.Status.TheVariants as status
+use Rattle.zl_code.specs.declared.history.CallName.TheVariants as name
+use Rattle.zl_code.specs.declared.history.Outcome.TheVariants as outcome
+use Rattle.zl_code.specs.declared.history.TraceItem.TheVariants as item
 use Rattle.zl_verify.proofs.Ordinary.{is_good, AreOrdinary, listed_ordinary}
 use Rattle.zl_verify.proofs.Working.{listed_none, test_fails}
 use Rattle.zl_verify.proofs.OwnEffect.{starts_created, no_child, same_policy}

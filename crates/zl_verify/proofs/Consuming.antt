@@ -1,18 +1,8 @@
 -- A register gives its handle away, or gets a new one, or what is told of one.
-use Rattle.std.proofs.Common.{◌≡◌, ◌≢◌, ℕ, ◌+◌, ◌<◌, ◌≤◌, ◌⊎◌, Bool, true, false, ◌==◌, List, length, refl, sym, ap, ◌∙◌, subst, Option, Some, None, cond}
-use Rattle.std.proofs.Common.{arith, inl, inr, slice_set, slice_index}
-use Rattle.std.specs.Prelude.{is_some, if◌then◌else◌}
-use Rattle.std.proofs.lemmas.Bool.{cases_eq, eqb-true}
-use Rattle.std.proofs.lemmas.Bool.Decides.{nat_tests}
-use Rattle.std.proofs.lemmas.List.{get_or-set_other}
-use Rattle.zl_rights.specs.declared.entry.Entry.{Entry}
-use Rattle.zl_rights.specs.declared.kind.Kind.{Kind}
-use Rattle.zl_rights.specs.declared.rights.Rights.{Rights}
-use Rattle.zl_code.specs.declared.image.SlotArray.{SlotArray}
-use Rattle.zl_abs.specs.declared.value.AbsVal.TheVariants.{Word, Has, KindOf, RightsOf}
-use Rattle.zl_abs.specs.Values.{ANY, is_has}
-use Rattle.zl_abs.specs.States.{State, IsState, value_at, with_value}
-use Rattle.zl_verify.specs.Conforms.{Table, kind_in, rights_in, IsAs, Describes, one_if, owns, Holds}
+use Rattle.zl_verify.proofs.Common.{◌≡◌, ◌≢◌, ℕ, ◌+◌, ◌<◌, ◌≤◌, ◌⊎◌, Bool, true, false, ◌==◌, List, length, refl, sym, ap, ◌∙◌, subst, Option, Some, None, cond}
+use Rattle.zl_verify.proofs.Common.{arith, inl, inr, slice_set, slice_index, is_some, if◌then◌else◌, cases_eq, eqb-true, nat_tests, get_or-set_other, Entry}
+use Rattle.zl_verify.proofs.Common.{Kind, Rights, SlotArray, Word, Has, KindOf, RightsOf, ANY, is_has, State, IsState, value_at, with_value, Table, kind_in}
+use Rattle.zl_verify.proofs.Common.{rights_in, IsAs, Describes, one_if, owns, Holds}
 use Rattle.zl_verify.proofs.Owners.{owns_it, owns_apart, owns_free, owns_0, one_at_most, owners-set, owners-zero, keepers-zero}
 use Rattle.zl_verify.proofs.Writing.{nothing_at_0, others, write, write_plain}
 use Rattle.zl_verify.proofs.Tagging.{test_apart}

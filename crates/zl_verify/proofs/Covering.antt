@@ -1,23 +1,10 @@
 -- What is true of each world of a run for its checked programs: a boot makes it so, and each step keeps it.
-use Rattle.std.proofs.Common.{◌≡◌, ℕ, ◌⊎◌, true, false, ◌==◌, refl, sym, ap, ◌∙◌, subst, List, Option, Some, None, inl, inr}
-use Rattle.std.specs.Prelude.{slice_get}
-use Rattle.std.proofs.lemmas.Bool.{cases_Bool, eqb-true}
-use Rattle.std.proofs.lemmas.Option.{same_Some}
-use Rattle.zl_rights.specs.Common.{get, runs, World, Process, State as Life, Ended}
-use Rattle.zl_rights.specs.Signals.{has_ended, state_passes}
-use Rattle.zl_code.specs.declared.boot.Statement.{Statement}
-use Rattle.zl_code.specs.declared.history.TraceItem.{TraceItem}
-use Rattle.zl_code.specs.Image.{Image, Library, Program}
-use Rattle.zl_code.specs.Spells.{is_in_range}
-use Rattle.zl_code.specs.Sound.{IsSound}
-use Rattle.zl_code.specs.Starting.{program_in}
-use Rattle.zl_code.specs.Steps.{Step, pid_of}
-use Rattle.zl_code.specs.Headline.{IsSizedBoot, IsStarted}
+use Rattle.zl_verify.proofs.Common.{◌≡◌, ℕ, ◌⊎◌, true, false, ◌==◌, refl, sym, ap, ◌∙◌, subst, List, Option, Some, None, inl, inr, slice_get, cases_Bool}
+use Rattle.zl_verify.proofs.Common.{eqb-true, same_Some, get, runs, World, Process, Life, Ended, has_ended, state_passes, Statement, TraceItem, Image, Library}
+use Rattle.zl_verify.proofs.Common.{Program, is_in_range, IsSound, program_in, Step, pid_of, IsSizedBoot, IsStarted, Conforms, IsVerified, IsUnderWay}
+use Rattle.zl_verify.proofs.Common.{IsFitStep}
 use Rattle.zl_code.proofs.SoundRuns.{step_keeps_processes}
-use Rattle.zl_verify.specs.Conforms.{Conforms}
-use Rattle.zl_verify.specs.Covered.{IsVerified, IsAsTyped, IsCovered}
-use Rattle.zl_verify.specs.RunLaws.{IsUnderWay}
-use Rattle.zl_verify.specs.WakeLaws.{IsFitStep}
+use Rattle.zl_verify.specs.Covered.{IsAsTyped, IsCovered}
 use Rattle.zl_verify.proofs.SizedRuns.{boot_sized, step_sized}
 use Rattle.zl_verify.proofs.Starting.{starts_conforming}
 use Rattle.zl_verify.proofs.CheckedRuns.{StandsIn, stands_still}

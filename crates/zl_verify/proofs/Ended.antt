@@ -1,21 +1,9 @@
 -- A process that has ended stays as it is, and one that is ready is as it was once others are awake.
-use Rattle.std.proofs.Common.{◌≡◌, ℕ, ◌⊎◌, Bool, true, false, ◌==◌, List, [], ◌∷◌, refl, sym, ap, ◌∙◌, subst, Option, Some, None, inl, inr}
-use Rattle.std.specs.Prelude.{if◌then◌else◌}
-use Rattle.std.specs.List.{fold}
-use Rattle.std.specs.Option.{option_map}
-use Rattle.std.proofs.lemmas.Bool.{cases_Bool, eqb-true}
-use Rattle.std.proofs.lemmas.Option.{same_Some}
-use Rattle.zl_rights.specs.Common.{answered, get, put, Settles, process_settled, without_others, fired, wakes, World, Process, State as Life, Created, Ready}
-use Rattle.zl_rights.specs.Common.{Blocked, Ended, Object, Body, PortBody}
-use Rattle.zl_rights.specs.World.{Awaited, SignalOf, PacketAt, Packet}
-use Rattle.zl_rights.specs.Signals.{active, has_ended}
-use Rattle.zl_rights.specs.Numbers.{meets}
-use Rattle.zl_rights.specs.Settle.{state_without}
-use Rattle.zl_rights.specs.Wakes.{made_ready, packet_values, with_body, woken_by_first, woken_by, woken_at_port, woken_from, woken_if_there, woken}
-use Rattle.zl_rights.proofs.MapLaws.{get-put, get-each}
-use Rattle.zl_code.specs.declared.history.TraceItem.{TraceItem}
-use Rattle.zl_code.specs.Image.{Library}
-use Rattle.zl_code.specs.Steps.{Step}
+use Rattle.zl_verify.proofs.Common.{◌≡◌, ℕ, ◌⊎◌, Bool, true, false, ◌==◌, List, [], ◌∷◌, refl, sym, ap, ◌∙◌, subst, Option, Some, None, inl, inr, if◌then◌else◌}
+use Rattle.zl_verify.proofs.Common.{fold, option_map, cases_Bool, eqb-true, same_Some, answered, get, put, Settles, process_settled, without_others, fired}
+use Rattle.zl_verify.proofs.Common.{wakes, World, Process, Life, Created, Ready, Blocked, Ended, Object, Body, PortBody, Awaited, SignalOf, PacketAt, Packet}
+use Rattle.zl_verify.proofs.Common.{active, has_ended, meets, state_without, made_ready, packet_values, with_body, woken_by_first, woken_by, woken_at_port}
+use Rattle.zl_verify.proofs.Common.{woken_from, woken_if_there, woken, get-put, get-each, TraceItem, Library, Step}
 use Rattle.zl_code.specs.Sound.{is_blocked}
 
 module _ (p : ℕ) (q : Process) (awake : is_blocked q.state ≡ false) where

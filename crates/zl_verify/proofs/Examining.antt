@@ -1,34 +1,14 @@
 -- Handle operands that pass by the rule aren't refused by the call, and those that are consumed leave the table.
-use Rattle.std.proofs.Common.{◌≡◌, ◌≢◌, ℕ, ◌<◌, ◌≤◌, ◌⊎◌, Bool, true, false, ◌&&◌, ◌||◌, not, ◌==◌, List, [], ◌∷◌, map, drop, length, refl, sym, ap, ◌∙◌, subst}
-use Rattle.std.proofs.Common.{Option, Some, None, Ok, cond, arith, inl, inr, slice_set, slice_index, ⊎_elim}
-use Rattle.std.specs.Prelude.{if◌then◌else◌}
-use Rattle.std.specs.List.{filter, list_all, list_any, AllByRecursion}
-use Rattle.std.proofs.lemmas.Bool.{cases_eq, eqb-true}
-use Rattle.std.proofs.lemmas.Bool.Decides.{nat_tests}
-use Rattle.std.proofs.lemmas.List.{get_or-set_other}
-use Rattle.zl_rights.specs.declared.entry.Entry.{Entry}
-use Rattle.zl_rights.specs.declared.kind.Kind.{Kind}
-use Rattle.zl_rights.specs.declared.rights.Rights.{Rights}
-use Rattle.zl_rights.specs.Common.{World}
-use Rattle.zl_rights.specs.Numbers.{bits, within, takes, kind_number}
-use Rattle.zl_rights.specs.World.{written}
-use Rattle.zl_code.specs.First.{first_some}
-use Rattle.zl_code.specs.Limits.{register_count}
-use Rattle.zl_code.specs.declared.image.SlotArray.{SlotArray}
-use Rattle.zl_code.specs.declared.history.Outcome.{Outcome}
-use Rattle.zl_code.specs.Tests.{entry_at}
-use Rattle.zl_code.specs.Operands.{Operand, contains, operand, operand_after, seen_after}
+use Rattle.zl_verify.proofs.Common.{◌≡◌, ◌≢◌, ℕ, ◌<◌, ◌≤◌, ◌⊎◌, Bool, true, false, ◌&&◌, ◌||◌, not, ◌==◌, List, [], ◌∷◌, map, drop, length, refl, sym, ap, ◌∙◌}
+use Rattle.zl_verify.proofs.Common.{subst, Option, Some, None, Ok, cond, arith, inl, inr, slice_set, slice_index, if◌then◌else◌, filter, list_all, list_any}
+use Rattle.zl_verify.proofs.Common.{AllByRecursion, cases_eq, eqb-true, nat_tests, get_or-set_other, Entry, Kind, Rights, World, bits, within, takes}
+use Rattle.zl_verify.proofs.Common.{kind_number, written, first_some, register_count, SlotArray, Outcome, entry_at, Operand, contains, operand, operand_after}
+use Rattle.zl_verify.proofs.Common.{seen_after, AbsVal, Word, Has, KindOf, RightsOf, Cause, untagged, kind_below, State, IsState, value_at, with_value}
+use Rattle.zl_verify.proofs.Common.{and_then, fault_of, examined_all, within_trans, Table, IsAs, IsHandle, Describes, Holds}
+use Rattle.std.proofs.Common.{⊎_elim}
 use Rattle.zl_code.specs.Operands.{examined as examined_at}
-use Rattle.zl_abs.specs.declared.value.AbsVal.{AbsVal}
-use Rattle.zl_abs.specs.declared.value.AbsVal.TheVariants.{Word, Has, KindOf, RightsOf}
-use Rattle.zl_abs.specs.declared.cause.Cause.{Cause}
+use Rattle.zl_abs.specs.CallRules.{takes_any, taken_from, examined_by}
 use Rattle.zl_abs.specs.declared.cause.Cause.TheVariants as cause
-use Rattle.zl_abs.specs.Values.{untagged, kind_below}
-use Rattle.zl_abs.specs.States.{State, IsState, value_at, with_value}
-use Rattle.zl_abs.specs.Rule.{and_then}
-use Rattle.zl_abs.specs.CallRules.{takes_any, fault_of, taken_from, examined_by, examined_all}
-use Rattle.zl_abs.proofs.Order.{within_trans}
-use Rattle.zl_verify.specs.Conforms.{Table, IsAs, IsHandle, Describes, Holds}
 use Rattle.zl_verify.proofs.Owners.{value_at-with, value_at-here}
 use Rattle.zl_verify.proofs.Tagging.{states_with}
 use Rattle.zl_verify.proofs.Consuming.{removed, consume, consume_0}

@@ -1,21 +1,10 @@
 -- The states of blocks make a typing of all instructions, the least where they are the least.
-use Rattle.std.proofs.Common.{◌≡◌, ℕ, zero, suc, ◌+◌, ◌-◌, ◌<◌, List, [], ◌∷◌, length, Option, Some, None, refl, sym, ap, ◌∙◌, subst, IsTrue, arith}
-use Rattle.std.specs.Prelude.{Result, Ok, Err, IfOk}
-use Rattle.std.proofs.lemmas.Option.{same_Some}
-use Rattle.zl_code.specs.Image.{Image}
-use Rattle.zl_code.specs.Spells.{is_in_range}
-use Rattle.zl_abs.specs.declared.cause.Cause.{Cause}
-use Rattle.zl_abs.specs.States.{State, start_state}
-use Rattle.zl_abs.specs.Bounds.{bounds_of}
-use Rattle.zl_abs.specs.Rule.{and_then, Edge}
-use Rattle.zl_abs.specs.Fine.{IsFine, AllFine}
-use Rattle.zl_abs.specs.Typing.{rule, IsAbove, AllLead, Holds, IsTyping}
-use Rattle.zl_abs.proofs.FineRules.{rule_fine}
-use Rattle.zl_abs.proofs.StateOrder.{all_below_refl}
-use Rattle.zl_verify.specs.Lists.{at}
-use Rattle.zl_verify.specs.Checks.{IsLeastTyping}
-use Rattle.zl_verify.specs.Blocks.{Blocks, AreBlocks, start_of, Out, leaves_last, leaves_first, leaves, out, block, inner_last, inner, inner_of, passed_on}
-use Rattle.zl_verify.specs.Blocks.{known_by, flows, known, listed, states_of}
+use Rattle.zl_verify.proofs.Common.{◌≡◌, ℕ, zero, suc, ◌+◌, ◌-◌, ◌<◌, List, [], ◌∷◌, length, Option, Some, None, refl, sym, ap, ◌∙◌, subst, IsTrue, arith}
+use Rattle.zl_verify.proofs.Common.{Result, Ok, Err, IfOk, same_Some, Image, is_in_range, Cause, State, start_state, bounds_of, and_then, Edge, IsFine, AllFine}
+use Rattle.zl_verify.proofs.Common.{rule, IsAbove, AllLead, IsTyping, rule_fine, all_below_refl, at, IsLeastTyping, Blocks, AreBlocks, start_of, Out}
+use Rattle.zl_verify.proofs.Common.{leaves_last, leaves_first, leaves, out, block, inner, inner_of, passed_on, known_by, flows, known, states_of}
+use Rattle.zl_abs.specs.Typing.{Holds}
+use Rattle.zl_verify.specs.Blocks.{inner_last, listed}
 use Rattle.zl_verify.proofs.Places.{mapped}
 use Rattle.zl_verify.proofs.Parting.{AreParted, rule_parted}
 use Rattle.zl_verify.proofs.Lowers.{typed_at}

@@ -1,30 +1,14 @@
 -- What answers give fits: a status, handles at free values, and handles with their kinds and rights.
-use Rattle.std.proofs.Common.{◌≡◌, ℕ, zero, suc, ◌+◌, ◌*◌, ◌<◌, ◌≤◌, Bool, true, false, ◌&&◌, not, ◌==◌, List, [], ◌∷◌, length, refl, sym, ap, ◌∙◌, subst}
-use Rattle.std.proofs.Common.{IsTrue, Option, Some, None, arith, inl, inr, slice_set, slice_index}
-use Rattle.std.specs.Prelude.{is_some, nat_lt, bit_and}
-use Rattle.std.specs.List.{list_all, AllByRecursion}
-use Rattle.std.proofs.lemmas.Bool.{eqb-true}
-use Rattle.std.proofs.lemmas.Bool.Decides.{nat_tests}
-use Rattle.std.proofs.lemmas.List.{get_or-set_same, get_or-set_other, length-set}
-use Rattle.std.proofs.lemmas.Nat.{and_comm, and_le_l}
-use Rattle.zl_rights.specs.declared.entry.Entry.{Entry}
-use Rattle.zl_rights.specs.declared.kind.Kind.{Kind}
+use Rattle.zl_verify.proofs.Common.{◌≡◌, ℕ, zero, suc, ◌+◌, ◌*◌, ◌<◌, ◌≤◌, Bool, true, false, ◌&&◌, not, ◌==◌, List, [], ◌∷◌, length, refl, sym, ap, ◌∙◌, subst}
+use Rattle.zl_verify.proofs.Common.{IsTrue, Option, Some, None, arith, inl, inr, slice_set, slice_index, is_some, nat_lt, bit_and, list_all, AllByRecursion}
+use Rattle.zl_verify.proofs.Common.{eqb-true, nat_tests, get_or-set_same, get_or-set_other, and_le_l, Entry, Kind, Rights, Status, get, has_key, Process, bits}
+use Rattle.zl_verify.proofs.Common.{rights_of, kind_number, within, status_magnitude, get-put, process_with, may_get, may_get_after, may_get_all, told_of}
+use Rattle.zl_verify.proofs.Common.{is_value, AbsVal, Word, Has, KindOf, RightsOf, ANY, State, can_be_named, value_at, with_value, triple_results, both}
+use Rattle.zl_verify.proofs.Common.{within_is, Table, kind_in, rights_in, IsAs}
+use Rattle.std.proofs.lemmas.List.{length-set}
+use Rattle.std.proofs.lemmas.Nat.{and_comm}
 use Rattle.zl_rights.specs.declared.kind.Kind.TheVariants as kind
-use Rattle.zl_rights.specs.declared.rights.Rights.{Rights}
-use Rattle.zl_rights.specs.declared.status.Status.{Status}
 use Rattle.zl_rights.specs.declared.status.Status.TheVariants as status
-use Rattle.zl_rights.specs.Common.{get, has_key, Process}
-use Rattle.zl_rights.specs.Numbers.{bits, rights_of, kind_number, within, status_magnitude}
-use Rattle.zl_rights.proofs.MapLaws.{get-put}
-use Rattle.zl_code.specs.Effects.{process_with, may_get, may_get_after, may_get_all, told_of}
-use Rattle.zl_code.specs.Sound.{is_value}
-use Rattle.zl_abs.specs.declared.value.AbsVal.{AbsVal}
-use Rattle.zl_abs.specs.declared.value.AbsVal.TheVariants.{Word, Has, KindOf, RightsOf}
-use Rattle.zl_abs.specs.Values.{ANY}
-use Rattle.zl_abs.specs.States.{State, can_be_named, value_at, with_value}
-use Rattle.zl_abs.specs.CallRules.{triple_results}
-use Rattle.zl_abs.proofs.Order.{both, within_is}
-use Rattle.zl_verify.specs.Conforms.{Table, kind_in, rights_in, IsAs}
 use Rattle.zl_verify.proofs.Owners.{value_at-with, value_at-here}
 use Rattle.zl_verify.proofs.Writing.{long_with}
 use Rattle.zl_verify.proofs.Consuming.{added}

@@ -1,38 +1,18 @@
 -- A process that doesn't run: what a step makes of it, which starts it at most.
-use Rattle.std.proofs.Common.{◌≡◌, ℕ, ◌⊎◌, Bool, true, false, ◌==◌, List, [], ◌∷◌, refl, sym, ap, ◌∙◌, subst, Option, Some, None, option_map, inl, inr}
-use Rattle.std.specs.Prelude.{if◌then◌else◌, slice_get}
-use Rattle.std.specs.List.{fold}
-use Rattle.std.proofs.lemmas.Bool.{cases_Bool, eqb-true}
-use Rattle.zl_rights.specs.declared.entry.Entry.{Entry}
+use Rattle.zl_verify.proofs.Common.{◌≡◌, ℕ, ◌⊎◌, Bool, true, false, ◌==◌, List, [], ◌∷◌, refl, sym, ap, ◌∙◌, subst, Option, Some, None, option_map, inl, inr}
+use Rattle.zl_verify.proofs.Common.{if◌then◌else◌, slice_get, fold, cases_Bool, eqb-true, Entry, answered, get, put, is_process, lives, runs, Settles}
+use Rattle.zl_verify.proofs.Common.{process_settled, without_others, fired, wakes, World, Process, Life, Created, Ready, Blocked, Object, Body, PortBody}
+use Rattle.zl_verify.proofs.Common.{Awaited, SignalOf, PacketAt, Packet, active, state_passes, meets, state_without, made_ready, packet_values, with_body}
+use Rattle.zl_verify.proofs.Common.{woken_by_first, woken_by, woken_at_port, woken_from, woken_if_there, woken, get-put, get-each, CallName, Outcome, TraceItem}
+use Rattle.zl_verify.proofs.Common.{Library, Program, object_at, on_process, on_object, with_object, insert_all, ended, waiting, is_created, created_process}
+use Rattle.zl_verify.proofs.Common.{started_with, is_within, process_killed, with_killed, refusal, Request, process_start, process_create, task_kill, name_of}
+use Rattle.zl_verify.proofs.Common.{effect, new_handles, receiver_of, entering_at, stored_by, gives_ok, gives_refused, awaited_by, Site, Choice, Refused, Wants}
+use Rattle.zl_verify.proofs.Common.{Values, CallBy, taken_handles, taken, replied, with_effect, after_refusal, after_ok, ok_outcome, Next, Moves, AtCall}
+use Rattle.zl_verify.proofs.Common.{IsStuck, next_in, next_for, Acts, Step, StartsChild, asks_again}
 use Rattle.zl_rights.specs.declared.status.Status.TheVariants as status
-use Rattle.zl_rights.specs.Common.{answered, get, put, is_process, lives, runs, Settles, process_settled, without_others, fired, wakes, World, Process}
-use Rattle.zl_rights.specs.Common.{State as Life, Created, Ready, Blocked, Object, Body, PortBody}
-use Rattle.zl_rights.specs.World.{Awaited, SignalOf, PacketAt, Packet}
-use Rattle.zl_rights.specs.Signals.{active, state_passes}
-use Rattle.zl_rights.specs.Numbers.{meets}
-use Rattle.zl_rights.specs.Settle.{state_without}
-use Rattle.zl_rights.specs.Wakes.{made_ready, packet_values, with_body, woken_by_first, woken_by, woken_at_port, woken_from, woken_if_there, woken}
-use Rattle.zl_rights.proofs.MapLaws.{get-put, get-each}
-use Rattle.zl_code.specs.declared.history.CallName.{CallName}
 use Rattle.zl_code.specs.declared.history.CallName.TheVariants as name
-use Rattle.zl_code.specs.declared.history.Outcome.{Outcome}
 use Rattle.zl_code.specs.declared.history.Outcome.TheVariants as outcome
-use Rattle.zl_code.specs.declared.history.TraceItem.{TraceItem}
 use Rattle.zl_code.specs.declared.history.TraceItem.TheVariants as item
-use Rattle.zl_code.specs.Image.{Library, Program}
-use Rattle.zl_code.specs.Tests.{object_at}
-use Rattle.zl_code.specs.Effects.{on_process, on_object, with_object, insert_all, ended, waiting}
-use Rattle.zl_code.specs.Starting.{is_created, created_process, started_with}
-use Rattle.zl_code.specs.Jobs.{is_within, process_killed, with_killed}
-use Rattle.zl_code.specs.Refusals.{refusal}
-use Rattle.zl_code.specs.CallTable.{Request, process_start, process_create, task_kill, name_of, effect}
-use Rattle.zl_code.specs.CallTable.{new_handles, receiver_of, entering_at, stored_by, gives_ok}
-use Rattle.zl_code.specs.CallTable.{gives_refused, awaited_by}
-use Rattle.zl_code.specs.Request.{Site}
-use Rattle.zl_code.specs.Calls.{Choice, Refused, Wants, Values, CallBy, taken_handles, taken, replied, with_effect, after_refusal, after_ok, ok_outcome}
-use Rattle.zl_code.specs.Steps.{Next, Moves, AtCall, IsStuck, next_in, next_for, Acts, Step}
-use Rattle.zl_code.specs.Headline.{StartsChild}
-use Rattle.zl_code.proofs.CallRows.{asks_again}
 use Rattle.zl_verify.proofs.OwnEffect.{starts_created}
 use Rattle.zl_verify.proofs.AtCalls.{IsAtCall, at_call}
 use Rattle.zl_verify.proofs.OwnTable.{changed_elsewhere, inserted_elsewhere}

@@ -1,33 +1,16 @@
 -- Where the rule of an instruction holds, it leads to another, but for the exit.
-use Rattle.std.proofs.Common.{◌≡◌, ◌≢◌, ℕ, ◌+◌, Bool, true, false, ◌&&◌, ◌||◌, not, List, [], ◌∷◌, ◌++◌, length, Option, Some, None, Result, Ok, Err, IfOk}
-use Rattle.std.proofs.Common.{refl, subst, arith, eqb, ltb}
-use Rattle.std.specs.Prelude.{is_some, if◌then◌else◌}
-use Rattle.std.proofs.lemmas.Bool.Decides.{nat_tests}
-use Rattle.zl_rights.specs.Numbers.{same_kind}
-use Rattle.zl_rights.specs.declared.kind.Kind.{Kind}
-use Rattle.zl_code.specs.declared.instr.Instr.{Instr}
-use Rattle.zl_code.specs.declared.instr.Instr.TheVariants as instr
-use Rattle.zl_code.specs.declared.instr.LocalInstr.{LocalInstr}
-use Rattle.zl_code.specs.declared.instr.LocalInstr.TheVariants as local
-use Rattle.zl_code.specs.declared.instr.CallInstr.{CallInstr}
-use Rattle.zl_code.specs.declared.history.CallName.{CallName}
-use Rattle.zl_code.specs.declared.history.CallName.TheVariants as name
-use Rattle.zl_code.specs.Headline.{is_pause_name}
-use Rattle.zl_code.specs.Image.{Image, instr_at, call_at, call_in}
-use Rattle.zl_abs.specs.declared.value.AbsVal.{AbsVal}
-use Rattle.zl_abs.specs.declared.value.AbsVal.TheVariants.{Word, Has, KindOf, RightsOf}
-use Rattle.zl_abs.specs.declared.cause.Cause.{Cause}
-use Rattle.zl_abs.specs.declared.cause.Cause.TheVariants as cause
+use Rattle.zl_verify.proofs.Common.{◌≡◌, ◌≢◌, ℕ, ◌+◌, Bool, true, false, ◌&&◌, ◌||◌, not, List, [], ◌∷◌, ◌++◌, length, Option, Some, None, Result, Ok, Err}
+use Rattle.zl_verify.proofs.Common.{IfOk, refl, subst, arith, eqb, ltb, is_some, if◌then◌else◌, nat_tests, same_kind, Kind, Instr, LocalInstr, CallInstr}
+use Rattle.zl_verify.proofs.Common.{CallName, is_pause_name, Image, instr_at, call_at, call_in, AbsVal, Word, Has, KindOf, RightsOf, Cause, capped, State}
+use Rattle.zl_verify.proofs.Common.{value_at, refined, bounds_of, and_then, Edge, edge_to, edges, becomes, known_zero, known_there, known_kind, known_other}
+use Rattle.zl_verify.proofs.Common.{kind_numbered, kind_ways, equal_ways, zero_ways, below_ways, has_ways, unless, local_rule, Uses, uses_of, state_after}
+use Rattle.zl_verify.proofs.Common.{goes_on, call_rule, target_of, rule_by, rule_with, rule, is_pause}
 use Rattle.zl_abs.specs.Outcome.{Outcome}
-use Rattle.zl_abs.specs.Values.{capped}
-use Rattle.zl_abs.specs.States.{State, value_at, refined}
-use Rattle.zl_abs.specs.Bounds.{bounds_of}
-use Rattle.zl_abs.specs.Rule.{and_then, Edge, edge_to, edges}
-use Rattle.zl_abs.specs.LocalRules.{becomes, known_zero, known_there, known_kind, known_other, kind_numbered, kind_ways, equal_ways, zero_ways, below_ways}
-use Rattle.zl_abs.specs.LocalRules.{has_ways, unless, local_rule}
-use Rattle.zl_abs.specs.CallRules.{Uses, uses_of, state_after, goes_on, call_rule_by, call_rule}
-use Rattle.zl_abs.specs.Typing.{target_of, rule_by, rule_with, rule}
-use Rattle.zl_verify.specs.Steps.{is_pause}
+use Rattle.zl_abs.specs.CallRules.{call_rule_by}
+use Rattle.zl_code.specs.declared.instr.Instr.TheVariants as instr
+use Rattle.zl_code.specs.declared.instr.LocalInstr.TheVariants as local
+use Rattle.zl_code.specs.declared.history.CallName.TheVariants as name
+use Rattle.zl_abs.specs.declared.cause.Cause.TheVariants as cause
 use Rattle.zl_verify.proofs.PassingOn.{then_on, one, passes_on}
 
 -- one of the two edges is followed

@@ -1,3 +1,4 @@
+pub mod Common
 pub mod Places
 pub mod Numbering
 pub mod Rising

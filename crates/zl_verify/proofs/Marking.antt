@@ -1,14 +1,9 @@
 -- What is marked and numbered makes the blocks of an image.
-use Rattle.std.proofs.Common.{◌≡◌, ◌≢◌, ℕ, zero, suc, ◌+◌, ◌<◌, ◌≤◌, Bool, true, false, List, [], ◌∷◌, ◌++◌, length, Option, Some, None, refl, sym, ap, ◌∙◌}
-use Rattle.std.proofs.Common.{subst, ◌⊎◌, inl, inr, arith}
-use Rattle.std.specs.Prelude.{slice_get, slice_set, replicate}
-use Rattle.std.proofs.lemmas.Option.{same_Some}
-use Rattle.std.proofs.Math.ListN.{length-set, length-replicate}
-use Rattle.zl_code.specs.Image.{Image}
+use Rattle.zl_verify.proofs.Common.{◌≡◌, ◌≢◌, ℕ, zero, suc, ◌+◌, ◌<◌, ◌≤◌, Bool, true, false, List, [], ◌∷◌, ◌++◌, length, Option, Some, None, refl, sym, ap}
+use Rattle.zl_verify.proofs.Common.{◌∙◌, subst, ◌⊎◌, inl, inr, arith, slice_get, slice_set, replicate, same_Some, length-set, length-replicate, Image, at}
+use Rattle.zl_verify.proofs.Common.{Blocks, AreBlocks, AreMarked, AreNumbered}
 use Rattle.zl_abs.specs.Targets.{jump_of}
-use Rattle.zl_verify.specs.Lists.{within, at}
-use Rattle.zl_verify.specs.Blocks.{Blocks, AreBlocks}
-use Rattle.zl_verify.specs.Marks.{AreMarked, AreNumbered}
+use Rattle.zl_verify.specs.Lists.{within}
 use Rattle.zl_verify.proofs.Places.{get_put, get_put_other, equal_or_not, there}
 
 pub same_past : {X : Type 0} (xs : List X) (n : ℕ) (v : X) → length xs ≤ n → xs ≡ slice_set xs n v

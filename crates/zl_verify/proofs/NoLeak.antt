@@ -1,23 +1,12 @@
 -- The table of a process that conforms has just its handles, each in one place, and so it is in every run.
-use Rattle.std.proofs.Common.{◌≡◌, ℕ, zero, suc, ◌+◌, ◌<◌, ◌≤◌, Bool, true, false, ◌&&◌, ◌==◌, List, [], ◌∷◌, ◌++◌, length, refl, sym, ap, ◌∙◌, subst, Option}
-use Rattle.std.proofs.Common.{inl, inr, arith, ◌↔◌, ◌⊎◌}
-use Rattle.std.specs.Prelude.{nat_lt, if◌then◌else◌, slice_index_or, is_some}
-use Rattle.std.specs.List.{AllByRecursion, Contains, IsDistinct, concat, filter}
-use Rattle.std.proofs.lemmas.Bool.Decides.{nat_tests}
+use Rattle.zl_verify.proofs.Common.{◌≡◌, ℕ, zero, suc, ◌+◌, ◌<◌, ◌≤◌, Bool, true, false, ◌&&◌, ◌==◌, List, [], ◌∷◌, ◌++◌, length, refl, sym, ap, ◌∙◌, subst}
+use Rattle.zl_verify.proofs.Common.{Option, inl, inr, arith, ◌↔◌, ◌⊎◌, nat_lt, if◌then◌else◌, slice_index_or, is_some, AllByRecursion, Contains, IsDistinct}
+use Rattle.zl_verify.proofs.Common.{filter, nat_tests, sum_by-cons, same_Some, get, lives, World, Process, Ended, Life, has_ended, Image, is_in_range, is_has}
+use Rattle.zl_verify.proofs.Common.{State, IsTyping, one_if, is_it, owns, owners, keepers, Conforms, values_in_registers, values_in_slots, handle_values}
+use Rattle.zl_verify.proofs.Common.{HoldsJustItsHandles, IsUnderWay, HasEnded}
+use Rattle.std.specs.List.{concat}
 use Rattle.std.proofs.lemmas.List.Elements.{filter-append}
-use Rattle.std.proofs.lemmas.List.Sums.{sum_by-cons}
-use Rattle.std.proofs.lemmas.Option.{same_Some}
-use Rattle.zl_rights.specs.Common.{get, lives, World, Process, Ended}
-use Rattle.zl_rights.specs.World.{State as Life}
-use Rattle.zl_rights.specs.Signals.{has_ended}
-use Rattle.zl_code.specs.Image.{Image}
-use Rattle.zl_code.specs.Spells.{is_in_range}
-use Rattle.zl_abs.specs.Values.{is_has}
-use Rattle.zl_abs.specs.States.{State}
-use Rattle.zl_abs.specs.Typing.{IsTyping}
-use Rattle.zl_verify.specs.Conforms.{one_if, is_it, owns, owners, keepers, Conforms}
-use Rattle.zl_verify.specs.NoLeak.{values_in_registers, values_in_slots, handle_values, HoldsJustItsHandles, NeverLeaks}
-use Rattle.zl_verify.specs.RunLaws.{IsUnderWay, HasEnded}
+use Rattle.zl_verify.specs.NoLeak.{NeverLeaks}
 use Rattle.zl_verify.proofs.CheckedRuns.{stays_so}
 use Rattle.zl_verify.proofs.Headline.{in_range, started_under_way}
 use Rattle.zl_verify.proofs.Owners.{one_at_most, places_with}

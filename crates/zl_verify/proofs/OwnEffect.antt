@@ -1,41 +1,21 @@
 -- What a call leaves of its caller, and of the policy that the caller is under.
-use Rattle.std.proofs.Common.{◌≡◌, ℕ, ◌+◌, ◌<◌, ◌≤◌, ◌⊎◌, Bool, true, false, ◌&&◌, ◌||◌, ◌==◌, List, [], ◌∷◌, refl, sym, ap, ◌∙◌, subst, Option, Some, None}
-use Rattle.std.proofs.Common.{option_map, arith, inl, inr}
-use Rattle.std.specs.Prelude.{is_some, if◌then◌else◌, unwrap_or, ℤ}
-use Rattle.std.specs.Bool.{then_some}
-use Rattle.std.proofs.lemmas.Bool.{cases_Bool, eqb-true}
-use Rattle.std.proofs.lemmas.Bool.Decides.{nat_tests}
-use Rattle.std.proofs.lemmas.Option.{none-some, same_Some}
-use Rattle.zl_rights.specs.Common.{condition_number, get, lives, is_process, World, Process, Ready, Object, Body, ChannelEnd, EventBody, PairEnd, PortBody}
-use Rattle.zl_rights.specs.Common.{JobBody}
-use Rattle.zl_rights.specs.Common.{ProcessBody}
-use Rattle.zl_rights.specs.Numbers.{KILLED}
-use Rattle.zl_rights.specs.Signals.{has_ended, has_child_job, has_child_process}
-use Rattle.zl_rights.specs.Policies.{Setting, setting_of}
-use Rattle.zl_rights.specs.World.{Message, Packet}
-use Rattle.zl_rights.specs.declared.entry.Entry.{Entry}
+use Rattle.zl_verify.proofs.Common.{◌≡◌, ℕ, ◌+◌, ◌<◌, ◌≤◌, ◌⊎◌, Bool, true, false, ◌&&◌, ◌||◌, ◌==◌, List, [], ◌∷◌, refl, sym, ap, ◌∙◌, subst, Option, Some}
+use Rattle.zl_verify.proofs.Common.{None, option_map, arith, inl, inr, is_some, if◌then◌else◌, unwrap_or, ℤ, then_some, cases_Bool, eqb-true, nat_tests}
+use Rattle.zl_verify.proofs.Common.{none-some, same_Some, condition_number, get, lives, is_process, World, Process, Ready, Object, Body, ChannelEnd, EventBody}
+use Rattle.zl_verify.proofs.Common.{PairEnd, PortBody, JobBody, ProcessBody, KILLED, has_ended, has_child_job, has_child_process, Setting, setting_of, Message}
+use Rattle.zl_verify.proofs.Common.{Packet, Entry, Condition, get-put, get-update, get-each, Library, object_at, body_in, body_of, parent_in, parent_of}
+use Rattle.zl_verify.proofs.Common.{policy_in, action_of, unless_allowed, creates, on_process, on_object, with_object, insert_all, storing, is_created}
+use Rattle.zl_verify.proofs.Common.{created_process, started_with, is_within, body_killed, object_killed, process_killed, with_killed, body_with_policy}
+use Rattle.zl_verify.proofs.Common.{job_within, Request, chan_create, chan_write, chan_read_etc, event_create, eventpair_create, signal, signal_peer}
+use Rattle.zl_verify.proofs.Common.{port_create, port_queue, port_wait, port_poll, port_cancel, process_create, process_start, process_exit, task_kill}
+use Rattle.zl_verify.proofs.Common.{job_create, job_set_policy, listed, effect, new_handles, receiver_of, entering_at, stored_by, ends_caller, refusal}
+use Rattle.zl_verify.proofs.Common.{with_effect, IsSound}
+use Rattle.zl_code.specs.Effects.{message_sent, message_read}
+use Rattle.zl_code.specs.Jobs.{is_dead, has_child, policy_changed}
+use Rattle.zl_code.specs.Waiting.{without_keyed, repacked}
+use Rattle.zl_code.proofs.NamesKept.{list_any-get}
 use Rattle.zl_rights.specs.declared.status.Status.TheVariants as status
 use Rattle.zl_rights.specs.declared.policy.Action.TheVariants as action
-use Rattle.zl_rights.specs.declared.policy.Condition.{Condition}
-use Rattle.zl_rights.proofs.MapLaws.{get-put, get-update, get-each}
-use Rattle.zl_code.specs.Image.{Library}
-use Rattle.zl_code.specs.Tests.{object_at, body_in, body_of, parent_in, parent_of, policy_in, action_of}
-use Rattle.zl_code.specs.Operands.{unless_allowed, creates}
-use Rattle.zl_code.specs.Effects.{on_process, on_object, with_object, insert_all, storing, message_sent, message_read}
-use Rattle.zl_code.specs.Starting.{is_created, created_process, started_with}
-use Rattle.zl_code.specs.Jobs.{is_dead, has_child, is_within, body_killed, object_killed, process_killed, with_killed, body_with_policy, policy_changed}
-use Rattle.zl_code.specs.Jobs.{job_within}
-use Rattle.zl_code.specs.Waiting.{without_keyed, repacked}
-use Rattle.zl_code.specs.CallTable.{Request, chan_create, chan_write, chan_read_etc, event_create, eventpair_create, signal, signal_peer, port_create}
-use Rattle.zl_code.specs.CallTable.{port_queue}
-use Rattle.zl_code.specs.CallTable.{port_wait}
-use Rattle.zl_code.specs.CallTable.{port_poll, port_cancel}
-use Rattle.zl_code.specs.CallTable.{process_create, process_start, process_exit, task_kill, job_create, job_set_policy, listed, effect, new_handles}
-use Rattle.zl_code.specs.CallTable.{receiver_of, entering_at, stored_by, ends_caller}
-use Rattle.zl_code.specs.Refusals.{refusal}
-use Rattle.zl_code.specs.Calls.{with_effect}
-use Rattle.zl_code.specs.Sound.{IsSound}
-use Rattle.zl_code.proofs.NamesKept.{list_any-get}
 use Rattle.zl_verify.proofs.Giving.{getting_all}
 use Rattle.zl_verify.proofs.OwnTable.{changed_elsewhere, inserted_here, inserted_elsewhere, own_handles, storing_in, stored_here}
 use Rattle.zl_verify.proofs.Working.{listed_none, test_fails, test_passes}

@@ -1,19 +1,8 @@
 -- The caller's process once handles left its table, and once they entered it.
-use Rattle.std.proofs.Common.{◌≡◌, ℕ, Bool, true, false, ◌==◌, List, [], ◌∷◌, map, refl, sym, ap, ◌∙◌, Option, Some, None, cond, slice_index}
-use Rattle.std.specs.Prelude.{is_some, if◌then◌else◌}
-use Rattle.std.specs.List.{filter}
-use Rattle.std.proofs.lemmas.Bool.{cases_Bool, eqb-true}
-use Rattle.std.proofs.lemmas.Bool.Decides.{nat_tests}
-use Rattle.std.proofs.Common.{arith, ◌⊎◌, inl, inr}
-use Rattle.zl_rights.specs.declared.entry.Entry.{Entry}
-use Rattle.zl_rights.specs.Common.{Map, get, without, has_key, World, Process}
-use Rattle.zl_rights.proofs.MapLaws.{get-update}
-use Rattle.zl_code.specs.Operands.{Operand}
-use Rattle.zl_code.specs.CallTable.{Request, process_start, new_handles, choosing}
-use Rattle.zl_code.specs.Effects.{on_process, insert_all, remove_all, process_with, process_without, storing, may_get_all}
-use Rattle.zl_code.specs.Local.{overwritten}
-use Rattle.zl_code.proofs.Entering.{get_without, gone_without}
-use Rattle.zl_verify.specs.Conforms.{Table}
+use Rattle.zl_verify.proofs.Common.{◌≡◌, ℕ, Bool, true, false, ◌==◌, List, [], ◌∷◌, map, refl, sym, ap, ◌∙◌, Option, Some, None, cond, slice_index, is_some}
+use Rattle.zl_verify.proofs.Common.{if◌then◌else◌, filter, cases_Bool, eqb-true, nat_tests, arith, ◌⊎◌, inl, inr, Entry, Map, get, without, has_key, World}
+use Rattle.zl_verify.proofs.Common.{Process, get-update, Operand, Request, process_start, new_handles, choosing, on_process, insert_all, remove_all}
+use Rattle.zl_verify.proofs.Common.{process_with, process_without, storing, may_get_all, overwritten, get_without, gone_without, Table}
 use Rattle.zl_verify.proofs.Consuming.{removed}
 use Rattle.zl_verify.proofs.Examining.{unseen, unseen_more, seen_all, valued}
 use Rattle.zl_verify.proofs.Giving.{getting_all}

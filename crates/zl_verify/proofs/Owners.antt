@@ -1,18 +1,8 @@
 -- How many places own a handle, once one place is written.
-use Rattle.std.proofs.Common.{◌≡◌, ◌≢◌, ℕ, zero, suc, ◌+◌, ◌<◌, ◌≤◌, Bool, true, false, ◌&&◌, ◌==◌, List, [], ◌∷◌, map, length, refl, sym, ap, ◌∙◌, Option}
-use Rattle.std.proofs.Common.{arith, slice_set, slice_index}
-use Rattle.std.specs.Prelude.{nat_lt, if◌then◌else◌, slice_index_or}
-use Rattle.std.specs.List.{sum_by}
-use Rattle.std.proofs.lemmas.List.{get_or-set_same, get_or-set_other}
-use Rattle.std.proofs.lemmas.List.Sums.{sum_by-set, sum_by-cons}
-use Rattle.std.proofs.lemmas.Bool.Decides.{nat_tests}
-use Rattle.zl_rights.specs.declared.kind.Kind.{Kind}
-use Rattle.zl_rights.specs.declared.rights.Rights.{Rights}
-use Rattle.zl_abs.specs.declared.value.AbsVal.{AbsVal}
-use Rattle.zl_abs.specs.declared.value.AbsVal.TheVariants.{Word, Has, KindOf, RightsOf}
-use Rattle.zl_abs.specs.Values.{ANY, is_has, untagged}
-use Rattle.zl_abs.specs.States.{State, value_at, with_value}
-use Rattle.zl_verify.specs.Conforms.{one_if, is_it, owns, owners, keepers, place_at}
+use Rattle.zl_verify.proofs.Common.{◌≡◌, ◌≢◌, ℕ, zero, suc, ◌+◌, ◌<◌, ◌≤◌, Bool, true, false, ◌&&◌, ◌==◌, List, [], ◌∷◌, map, length, refl, sym, ap, ◌∙◌}
+use Rattle.zl_verify.proofs.Common.{Option, arith, slice_set, slice_index, nat_lt, if◌then◌else◌, slice_index_or, sum_by, get_or-set_same, get_or-set_other}
+use Rattle.zl_verify.proofs.Common.{sum_by-set, sum_by-cons, nat_tests, Kind, Rights, AbsVal, Word, Has, KindOf, RightsOf, ANY, is_has, untagged, State}
+use Rattle.zl_verify.proofs.Common.{value_at, with_value, one_if, is_it, owns, owners, keepers, place_at}
 
 -- ---- one place
 

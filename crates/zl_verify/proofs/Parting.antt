@@ -1,23 +1,12 @@
 -- The edges of an instruction lead to where it jumps, and behind it: all but the last to a block, and that one to a
 -- block or to the next instruction.
-use Rattle.std.proofs.Common.{◌≡◌, ℕ, ◌+◌, ◌<◌, Bool, true, false, List, [], ◌∷◌, ◌++◌, length, Option, Some, None, refl, sym, ◌∙◌, subst, arith}
-use Rattle.std.specs.Prelude.{Result, Ok, Err, IfOk, nat_lt, if◌then◌else◌}
-use Rattle.std.proofs.lemmas.Bool.Decides.{nat_tests}
-use Rattle.zl_code.specs.declared.instr.Instr.{Instr}
-use Rattle.zl_code.specs.declared.instr.Instr.TheVariants as instr
-use Rattle.zl_code.specs.Image.{Image, instr_at, local_in}
-use Rattle.zl_abs.specs.declared.cause.Cause.{Cause}
-use Rattle.zl_abs.specs.declared.cause.Cause.TheVariants as cause
-use Rattle.zl_abs.specs.States.{State}
-use Rattle.zl_abs.specs.Bounds.{bounds_of}
+use Rattle.zl_verify.proofs.Common.{◌≡◌, ℕ, ◌+◌, ◌<◌, Bool, true, false, List, [], ◌∷◌, ◌++◌, length, Option, Some, None, refl, sym, ◌∙◌, subst, arith, Result}
+use Rattle.zl_verify.proofs.Common.{Ok, Err, IfOk, nat_lt, if◌then◌else◌, nat_tests, Instr, Image, instr_at, local_in, Cause, State, bounds_of, and_then, Edge}
+use Rattle.zl_verify.proofs.Common.{edge_to, edges, local_rule, call_rule, rule, rule_by, rule_with, target_of, at, Blocks, AreBlocks}
 use Rattle.zl_abs.specs.Ways.{Ways}
-use Rattle.zl_abs.specs.Rule.{and_then, Edge, edge_to, edges}
-use Rattle.zl_abs.specs.LocalRules.{local_rule}
-use Rattle.zl_abs.specs.CallRules.{call_rule}
 use Rattle.zl_abs.specs.Targets.{jump_in}
-use Rattle.zl_abs.specs.Typing.{rule, rule_by, rule_with, target_of}
-use Rattle.zl_verify.specs.Lists.{at}
-use Rattle.zl_verify.specs.Blocks.{Blocks, AreBlocks}
+use Rattle.zl_code.specs.declared.instr.Instr.TheVariants as instr
+use Rattle.zl_abs.specs.declared.cause.Cause.TheVariants as cause
 use Rattle.zl_verify.proofs.Places.{there}
 
 -- a block begins there

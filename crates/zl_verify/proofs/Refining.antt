@@ -1,28 +1,18 @@
 -- A register is known better, and what the edges of a test know.
-use Rattle.std.proofs.Common.{◌≡◌, ◌≢◌, ℕ, zero, suc, ◌+◌, ◌-◌, ◌<◌, ◌≤◌, ◌⊎◌, Bool, true, false, not, ◌&&◌, ◌==◌, List, [], ◌∷◌, length, refl, sym, ap, ◌∙◌}
-use Rattle.std.proofs.Common.{subst, Option, Some, None, Result, Ok, Err, arith, inl, inr, slice_set, slice_index, eq-eqb}
-use Rattle.std.proofs.lemmas.Option.{same_Some}
-use Rattle.std.specs.Prelude.{is_some, if◌then◌else◌, nat_lt, bit_or}
-use Rattle.std.proofs.lemmas.Bool.{cases_eq, eqb-true}
-use Rattle.std.proofs.lemmas.Bool.Decides.{nat_tests}
+use Rattle.zl_verify.proofs.Common.{◌≡◌, ◌≢◌, ℕ, zero, suc, ◌+◌, ◌-◌, ◌<◌, ◌≤◌, ◌⊎◌, Bool, true, false, not, ◌&&◌, ◌==◌, List, [], ◌∷◌, length, refl, sym, ap}
+use Rattle.zl_verify.proofs.Common.{◌∙◌, subst, Option, Some, None, Result, Ok, Err, arith, inl, inr, slice_set, slice_index, eq-eqb, same_Some, is_some}
+use Rattle.zl_verify.proofs.Common.{if◌then◌else◌, nat_lt, bit_or, cases_eq, eqb-true, nat_tests, Entry, Kind, Rights, bits, rights_of, within, kind_number}
+use Rattle.zl_verify.proofs.Common.{same_kind, KNOWN_RIGHTS, SlotArray, AbsVal, Word, Has, KindOf, RightsOf, Cause, ANY, is_has, capped, smaller, State}
+use Rattle.zl_verify.proofs.Common.{IsState, can_be_named, value_at, refined, kind_numbered, known_zero, known_there, known_kind, known_other, becomes}
+use Rattle.zl_verify.proofs.Common.{kind_ways, equal_ways, zero_ways, below_ways, has_ways, unless, within_trans, Table, kind_in, rights_in, IsAs, IsHandle}
+use Rattle.zl_verify.proofs.Common.{Describes, one_if, owns, owners, keepers, Holds}
 use Rattle.std.proofs.lemmas.List.{length-set}
-use Rattle.zl_rights.specs.declared.entry.Entry.{Entry}
-use Rattle.zl_rights.specs.declared.kind.Kind.{Kind}
-use Rattle.zl_rights.specs.declared.kind.Kind.TheVariants as kind
-use Rattle.zl_rights.specs.declared.rights.Rights.{Rights}
-use Rattle.zl_rights.specs.Numbers.{all_kinds, bits, rights_of, within, kind_number, same_kind, KNOWN_RIGHTS}
-use Rattle.zl_code.specs.declared.image.SlotArray.{SlotArray}
+use Rattle.zl_rights.specs.Numbers.{all_kinds}
 use Rattle.zl_code.specs.Spells.{kind_among}
-use Rattle.zl_abs.specs.declared.value.AbsVal.{AbsVal}
-use Rattle.zl_abs.specs.declared.value.AbsVal.TheVariants.{Word, Has, KindOf, RightsOf}
-use Rattle.zl_abs.specs.declared.cause.Cause.{Cause}
 use Rattle.zl_abs.specs.Outcome.{Outcome}
-use Rattle.zl_abs.specs.Values.{ANY, is_has, capped, smaller}
-use Rattle.zl_abs.specs.States.{State, IsState, can_be_named, value_at, refined}
-use Rattle.zl_abs.specs.LocalRules.{kind_numbered, known_zero, known_there, known_kind, known_other, known_rights, becomes, kind_ways, equal_ways, zero_ways}
-use Rattle.zl_abs.specs.LocalRules.{below_ways, has_ways, unless}
-use Rattle.zl_abs.proofs.Order.{same_kind_refl, within_trans}
-use Rattle.zl_verify.specs.Conforms.{Table, kind_in, rights_in, IsAs, IsHandle, Describes, one_if, owns, owners, keepers, Holds}
+use Rattle.zl_abs.specs.LocalRules.{known_rights}
+use Rattle.zl_abs.proofs.Order.{same_kind_refl}
+use Rattle.zl_rights.specs.declared.kind.Kind.TheVariants as kind
 use Rattle.zl_verify.proofs.Owners.{owns_free, owns_0, owners-set, set_same, set_apart, has_inside}
 use Rattle.zl_verify.proofs.Writing.{nothing_at_0, live_apart}
 use Rattle.zl_verify.proofs.RightsGained.{within_both, rights_none}

@@ -1,29 +1,11 @@
 -- What a refused call gives fits what its rule says, whatever the status.
-use Rattle.std.proofs.Common.{◌≡◌, ℕ, ◌+◌, ◌*◌, ◌≤◌, Bool, true, false, ◌&&◌, ◌==◌, List, [], ◌∷◌, length, refl, sym, ◌∙◌, subst, Some, None, arith}
-use Rattle.std.proofs.Common.{slice_index, slice_set}
-use Rattle.std.proofs.lemmas.Bool.{eqb-true}
+use Rattle.zl_verify.proofs.Common.{◌≡◌, ℕ, ◌+◌, ◌*◌, ◌≤◌, Bool, true, false, ◌&&◌, ◌==◌, List, [], ◌∷◌, length, refl, sym, ◌∙◌, subst, Some, None, arith}
+use Rattle.zl_verify.proofs.Common.{slice_index, slice_set, eqb-true, World, Cpu, status_magnitude, Status, register_count, reg, CallName, CallInstr, number_at}
+use Rattle.zl_verify.proofs.Common.{is_call_in_range, chan_read_etc, wait_poll, gives_refused, Site, site_of, IsSound, object_at, AbsVal, Word, Has, KindOf}
+use Rattle.zl_verify.proofs.Common.{RightsOf, State, value_at, with_value, narrowed_value, triple_results, uses_of, both, QueuesAreSized, Table}
 use Rattle.std.proofs.lemmas.List.{length-set}
-use Rattle.zl_rights.specs.Common.{World, Cpu}
-use Rattle.zl_rights.specs.Numbers.{status_magnitude}
-use Rattle.zl_rights.specs.declared.status.Status.{Status}
 use Rattle.zl_rights.specs.declared.status.Status.TheVariants as status
-use Rattle.zl_code.specs.Limits.{register_count}
-use Rattle.zl_code.specs.Local.{reg}
-use Rattle.zl_code.specs.declared.history.CallName.{CallName}
 use Rattle.zl_code.specs.declared.history.CallName.TheVariants as name
-use Rattle.zl_code.specs.declared.instr.CallInstr.{CallInstr}
-use Rattle.zl_code.specs.Spells.{number_at, is_call_in_range}
-use Rattle.zl_code.specs.CallTable.{chan_read_etc, wait_poll, gives_refused}
-use Rattle.zl_code.specs.Request.{Site, site_of}
-use Rattle.zl_code.specs.Sound.{IsSound}
-use Rattle.zl_code.specs.Tests.{object_at}
-use Rattle.zl_abs.specs.declared.value.AbsVal.{AbsVal}
-use Rattle.zl_abs.specs.declared.value.AbsVal.TheVariants.{Word, Has, KindOf, RightsOf}
-use Rattle.zl_abs.specs.States.{State, value_at, with_value}
-use Rattle.zl_abs.specs.CallRules.{narrowed_value, triple_results, uses_of}
-use Rattle.zl_abs.proofs.Order.{both}
-use Rattle.zl_verify.specs.CallLaws.{QueuesAreSized}
-use Rattle.zl_verify.specs.Conforms.{Table}
 use Rattle.zl_verify.proofs.Writing.{long_with}
 use Rattle.zl_verify.proofs.Sites.{call, AtSite, of_site}
 use Rattle.zl_verify.proofs.Aligned.{places_end}

@@ -1,22 +1,12 @@
 -- A worked example: a process of a program with one handle and one slot array conforms where it starts.
-use Rattle.std.proofs.Common.{◌≡◌, ℕ, zero, suc, ◌+◌, ◌<◌, ◌≤◌, Bool, true, false, ◌&&◌, ◌==◌, List, [], ◌∷◌, replicate, refl, sym, subst, Option, Some, None}
-use Rattle.std.proofs.Common.{arith, inl, inr, slice_index}
-use Rattle.std.specs.Prelude.{nat_lt, if◌then◌else◌, is_some, slice_get}
-use Rattle.zl_rights.specs.Common.{get, World, Process, Ready}
-use Rattle.zl_rights.specs.Numbers.{rights_of, READ}
+use Rattle.zl_verify.proofs.Common.{◌≡◌, ℕ, zero, suc, ◌+◌, ◌<◌, ◌≤◌, Bool, true, false, ◌&&◌, ◌==◌, List, [], ◌∷◌, replicate, refl, sym, subst, Option, Some}
+use Rattle.zl_verify.proofs.Common.{None, arith, inl, inr, slice_index, nat_lt, if◌then◌else◌, is_some, slice_get, get, World, Process, Ready, rights_of, READ}
+use Rattle.zl_verify.proofs.Common.{Entry, SlotArray, Image, creates, Word, Has, ANY, State, value_at, with_value, with_all, start_state, Table, IsHandle}
+use Rattle.zl_verify.proofs.Common.{Describes, one_if, is_it, owns, owners, keepers, place_at, Holds, Conforms, called}
 use Rattle.zl_rights.specs.declared.kind.Kind.TheVariants as kind
-use Rattle.zl_rights.specs.declared.entry.Entry.{Entry}
-use Rattle.zl_code.specs.declared.image.SlotArray.{SlotArray}
 use Rattle.zl_code.specs.declared.instr.Instr.TheVariants as instr
 use Rattle.zl_code.specs.declared.instr.LocalInstr.TheVariants as local
 use Rattle.zl_code.specs.declared.history.CallName.TheVariants as name
-use Rattle.zl_code.specs.Image.{Image}
-use Rattle.zl_code.specs.Operands.{creates}
-use Rattle.zl_abs.specs.declared.value.AbsVal.TheVariants.{Word, Has}
-use Rattle.zl_abs.specs.Values.{ANY}
-use Rattle.zl_abs.specs.States.{State, value_at, with_value, with_all, start_state}
-use Rattle.zl_verify.specs.Conforms.{Table, IsHandle, Describes, one_if, is_it, owns, owners, keepers, place_at, Holds, Conforms}
-use Rattle.zl_code.proofs.Called.{called}
 
 -- the channel goes into the slot array, and the process exits
 abbrev image : Image

@@ -1,59 +1,33 @@
 -- Whatever a call does, and however it is answered, its world stays sized.
-use Rattle.std.proofs.Common.{◌≡◌, ℕ, suc, ◌+◌, ◌≤◌, Bool, true, false, not, ◌||◌, ◌==◌, List, [], ◌∷◌, ◌++◌, length, drop, slice_index, refl, sym, ap, ◌∙◌}
-use Rattle.std.proofs.Common.{subst, Option, Some, None, arith, inl, inr, ◌⊎◌}
-use Rattle.std.specs.Prelude.{⊤, is_some, if◌then◌else◌, nat_lt, slice_get, bit_and, bit_xor}
-use Rattle.std.specs.List.{AllByRecursion, filter}
-use Rattle.std.specs.Option.{option_to_list}
-use Rattle.std.proofs.lemmas.Bool.{cases_Bool, eqb-true}
-use Rattle.std.proofs.lemmas.Bool.Decides.{nat_tests}
-use Rattle.std.proofs.lemmas.Nat.{and_le_l}
-use Rattle.std.proofs.lemmas.Option.{same_Some}
-use Rattle.zl_rights.specs.declared.entry.Entry.{Entry}
-use Rattle.zl_rights.specs.declared.status.Status.{Status}
-use Rattle.zl_rights.specs.declared.status.Status.TheVariants as status
-use Rattle.zl_rights.specs.Common.{get, has_key, lives, without, within, runs, queue_of, World, Cpu, Process, Object, Body, ChannelEnd, EventBody, JobBody}
-use Rattle.zl_rights.specs.Common.{PairEnd}
-use Rattle.zl_rights.specs.Common.{PortBody, ProcessBody, Ended}
-use Rattle.zl_rights.specs.World.{written, Message, Packet}
-use Rattle.zl_rights.specs.Numbers.{status_magnitude, changed, KILLED}
-use Rattle.zl_rights.specs.Policies.{Setting, setting_of}
+use Rattle.zl_verify.proofs.Common.{◌≡◌, ℕ, suc, ◌+◌, ◌≤◌, Bool, true, false, not, ◌||◌, ◌==◌, List, [], ◌∷◌, ◌++◌, length, drop, slice_index, refl, sym, ap}
+use Rattle.zl_verify.proofs.Common.{◌∙◌, subst, Option, Some, None, arith, inl, inr, ◌⊎◌, ⊤, is_some, if◌then◌else◌, nat_lt, slice_get, bit_and, bit_xor}
+use Rattle.zl_verify.proofs.Common.{AllByRecursion, filter, option_to_list, cases_Bool, eqb-true, nat_tests, and_le_l, same_Some, Entry, Status, get, has_key}
+use Rattle.zl_verify.proofs.Common.{lives, without, within, runs, queue_of, World, Cpu, Process, Object, Body, ChannelEnd, EventBody, JobBody, PairEnd}
+use Rattle.zl_verify.proofs.Common.{PortBody, ProcessBody, Ended, written, Message, Packet, status_magnitude, KILLED, Setting, setting_of, Outcome, CallName}
+use Rattle.zl_verify.proofs.Common.{CallInstr, Library, reg, object_at, body_of, entry_at, queue_at, first_bytes, first_handles, packets_in, packets_at}
+use Rattle.zl_verify.proofs.Common.{first_values, created_process, started_with, job_within, body_with_policy, body_killed, object_killed, process_killed}
+use Rattle.zl_verify.proofs.Common.{is_within, with_killed, on_process, insert_all, remove_all, with_object, process_with, process_without, may_get_after}
+use Rattle.zl_verify.proofs.Common.{may_get_all, told_of, Request, replace, chan_create, chan_write, chan_read_etc, event_create, eventpair_create, signal}
+use Rattle.zl_verify.proofs.Common.{signal_peer, wait_one, wait_poll, wait_async, port_create, port_queue, port_wait, port_poll, port_cancel, process_create}
+use Rattle.zl_verify.proofs.Common.{process_start, task_kill, job_create, job_set_policy, listed, new_handles, receiver_of, choosing, entering_at, effect}
+use Rattle.zl_verify.proofs.Common.{stored_by, gives_ok, gives_refused, awaited_by, refusal, Site, site_of, taken_handles, may_choose, taken, cpu_answered}
+use Rattle.zl_verify.proofs.Common.{replied, with_effect, after_refusal, after_ok, ok_outcome, CallBy, Choice, Refused, Wants, Values, Calls, IsSound, is_value}
+use Rattle.zl_verify.proofs.Common.{get_without, gone_without, Each, ANY, both, IsSizedMessage, IsSizedPacket, IsSizedCpu, IsSized, IsSizedObject}
+use Rattle.zl_rights.specs.Numbers.{changed}
 use Rattle.zl_rights.specs.Packets.{user_packet, is_from}
-use Rattle.zl_code.specs.declared.history.Outcome.{Outcome}
+use Rattle.zl_code.specs.Tests.{settable_of, may_change, peer_at, entries_at, is_too_large}
+use Rattle.zl_code.specs.Waiting.{is_keyed, is_by_handle, body_packed, source_at, wait_of}
+use Rattle.zl_code.specs.Effects.{gets_all, body_with_message, body_after_read}
+use Rattle.zl_code.specs.Sound.{IsSoundTable}
+use Rattle.zl_rights.specs.declared.status.Status.TheVariants as status
 use Rattle.zl_code.specs.declared.history.Outcome.TheVariants as outcome
-use Rattle.zl_code.specs.declared.history.CallName.{CallName}
 use Rattle.zl_code.specs.declared.history.CallName.TheVariants as name
-use Rattle.zl_code.specs.declared.instr.CallInstr.{CallInstr}
-use Rattle.zl_code.specs.Image.{Library}
-use Rattle.zl_code.specs.Local.{reg}
-use Rattle.zl_code.specs.Tests.{settable_of, may_change, object_at, body_of, peer_at, entry_at, entries_at, is_too_large, queue_at, first_bytes, first_handles}
-use Rattle.zl_code.specs.Waiting.{packets_in, packets_at, first_values, is_keyed, is_by_handle, body_packed, source_at, wait_of}
-use Rattle.zl_code.specs.Starting.{created_process, started_with}
-use Rattle.zl_code.specs.Jobs.{job_within, body_with_policy, body_killed, object_killed, process_killed, is_within, with_killed}
-use Rattle.zl_code.specs.Effects.{on_process, insert_all, remove_all, with_object, process_with, process_without, may_get_after, may_get_all, gets_all, told_of}
-use Rattle.zl_code.specs.Effects.{body_with_message, body_after_read}
-use Rattle.zl_code.specs.CallTable.{Request, replace, chan_create, chan_write, chan_read_etc, event_create, eventpair_create, signal, signal_peer, wait_one}
-use Rattle.zl_code.specs.CallTable.{wait_poll}
-use Rattle.zl_code.specs.CallTable.{wait_async, port_create, port_queue, port_wait, port_poll, port_cancel, process_create, process_start, task_kill}
-use Rattle.zl_code.specs.CallTable.{job_create, job_set_policy, listed, new_handles, receiver_of, choosing, entering_at, effect, stored_by, gives_ok}
-use Rattle.zl_code.specs.CallTable.{gives_refused, awaited_by}
-use Rattle.zl_code.specs.Refusals.{refusal}
-use Rattle.zl_code.specs.Request.{Site, site_of}
-use Rattle.zl_code.specs.Calls.{taken_handles, may_choose, taken, cpu_answered, replied, with_effect, after_refusal, after_ok, ok_outcome, CallBy, Choice}
-use Rattle.zl_code.specs.Calls.{Refused, Wants, Values, Calls}
-use Rattle.zl_code.specs.Sound.{IsSound, IsSoundTable, is_value}
-use Rattle.zl_code.proofs.Entering.{get_without, gone_without}
-use Rattle.zl_code.proofs.MapKept.{Each}
-use Rattle.zl_abs.specs.Values.{ANY}
-use Rattle.zl_abs.proofs.Order.{both}
-use Rattle.zl_verify.specs.CallLaws.{IsSizedMessage, IsSizedPacket}
-use Rattle.zl_verify.specs.SizedLaws.{IsSizedCpu}
 use Rattle.zl_verify.proofs.Memories.{AreBytes, all_taken, all_dropped}
 use Rattle.zl_verify.proofs.Calm.{both_few, within_few, first_sizes, first_are_bytes, first_rights, packets_at_sized}
 use Rattle.zl_verify.proofs.Giving.{status_few, kind_few, HasFewRights}
 use Rattle.zl_verify.proofs.Sites.{call, AtSite, of_site}
 use Rattle.zl_verify.proofs.Working.{listed_none, test_fails, test_passes}
 use Rattle.zl_verify.proofs.SizedCpus.{AreSmall, registers_written, answered_sized, blank_sized, started_sized}
-use Rattle.zl_verify.specs.SizedLaws.{IsSized, IsSizedObject}
 use Rattle.zl_verify.proofs.SizedWorlds.{IsSizedProcess, IsSizedAt, all_filtered, all_behind, each_update, each_each, queues_sized, active_sized, process_sized}
 use Rattle.zl_verify.proofs.SizedWorlds.{new_process_sized, removed_sized, inserted_sized, stored_sized, ended_sized, waiting_sized, object_sized}
 use Rattle.zl_verify.proofs.SizedWorlds.{new_object_sized, fewer_waits, wait_sized}

@@ -1,27 +1,19 @@
 -- Worlds in which registers, memories and what is queued are sized; what changes a world leaves it so, and so do settling and waking.
-use Rattle.std.proofs.Common.{◌≡◌, ℕ, ◌≤◌, Bool, true, false, not, ◌&&◌, ◌==◌, List, [], ◌∷◌, ◌++◌, map, refl, sym, ◌∙◌, subst, Option, Some, None, arith}
-use Rattle.std.specs.Prelude.{ℤ, cond, if◌then◌else◌}
-use Rattle.std.specs.List.{AllByRecursion, filter, fold}
-use Rattle.std.specs.Option.{option_map}
-use Rattle.std.proofs.lemmas.Option.{same_Some, none-some}
-use Rattle.zl_rights.specs.declared.entry.Entry.{Entry}
-use Rattle.zl_rights.specs.Common.{lives, each, get, update, without, has_key, Settles, process_settled, without_others, fired, wakes, Map, World, Process}
-use Rattle.zl_rights.specs.Common.{State, Blocked, Ended, Object, Body, PortBody}
-use Rattle.zl_rights.specs.World.{Awaited, SignalOf, PacketAt, Packet, Wait}
-use Rattle.zl_rights.specs.Signals.{active}
-use Rattle.zl_rights.specs.Numbers.{meets}
+use Rattle.zl_verify.proofs.Common.{◌≡◌, ℕ, ◌≤◌, Bool, true, false, not, ◌&&◌, ◌==◌, List, [], ◌∷◌, ◌++◌, map, refl, sym, ◌∙◌, subst, Option, Some, None, arith}
+use Rattle.zl_verify.proofs.Common.{ℤ, cond, if◌then◌else◌, AllByRecursion, filter, fold, option_map, same_Some, none-some, Entry, lives, get, without, has_key}
+use Rattle.zl_verify.proofs.Common.{Settles, process_settled, without_others, fired, wakes, Map, World, Process, Blocked, Ended, Object, Body, PortBody}
+use Rattle.zl_verify.proofs.Common.{Awaited, SignalOf, PacketAt, Packet, active, meets, body_with_packets, packets_for, made_ready, packet_values, with_body}
+use Rattle.zl_verify.proofs.Common.{woken_by_first, woken_by, woken_at_port, woken_from, woken_if_there, woken, get-update, get-each, on_process, on_object}
+use Rattle.zl_verify.proofs.Common.{process_with, process_without, insert_all, remove_all, with_object, process_ended, ended, storing, waiting, overwritten}
+use Rattle.zl_verify.proofs.Common.{Each, ANY, IsSizedPacket, QueuesAreSized, IsSizedCpu, IsSizedObject, IsSized}
+use Rattle.zl_rights.specs.Common.{each, update, State}
+use Rattle.zl_rights.specs.World.{Wait}
 use Rattle.zl_rights.specs.Settle.{is_made_by_handle}
-use Rattle.zl_rights.specs.Wakes.{holds, packet_of, body_with_packets, packets_for, made_ready, packet_values, with_body, woken_by_first, woken_by}
-use Rattle.zl_rights.specs.Wakes.{woken_at_port, woken_from, woken_if_there, woken}
-use Rattle.zl_rights.proofs.MapLaws.{get-update, get-each}
-use Rattle.zl_code.specs.Effects.{on_process, on_object, process_with, process_without, insert_all, remove_all, with_object, with_process, process_ended, ended}
-use Rattle.zl_code.specs.Effects.{storing, waiting}
-use Rattle.zl_code.specs.Local.{overwritten}
+use Rattle.zl_rights.specs.Wakes.{holds, packet_of}
+use Rattle.zl_code.specs.Effects.{with_process}
 use Rattle.zl_code.specs.Waiting.{registered}
-use Rattle.zl_code.proofs.MapKept.{Each, each_put, each_where_key}
-use Rattle.zl_abs.specs.Values.{ANY}
-use Rattle.zl_verify.specs.CallLaws.{IsSizedPacket, QueuesAreSized}
-use Rattle.zl_verify.specs.SizedLaws.{IsSizedCpu, IsSizedObject, IsSizedWait, IsSized}
+use Rattle.zl_code.proofs.MapKept.{each_put, each_where_key}
+use Rattle.zl_verify.specs.SizedLaws.{IsSizedWait}
 use Rattle.zl_verify.proofs.Memories.{AreBytes, bytes_over}
 use Rattle.zl_verify.proofs.Calm.{active_few}
 use Rattle.zl_verify.proofs.SizedCpus.{AreSmall, answered_sized}

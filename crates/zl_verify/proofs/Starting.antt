@@ -1,37 +1,14 @@
 -- A process that starts properly is as a typing of its image says at instruction 0.
-use Rattle.std.proofs.Common.{◌≡◌, ◌≢◌, ℕ, zero, suc, ◌+◌, ◌<◌, ◌≤◌, Bool, true, false, ◌&&◌, ◌||◌, ◌==◌, List, [], ◌∷◌, map, length, refl, sym, ap, ◌∙◌, subst}
-use Rattle.std.proofs.Common.{Option, Some, None, arith, inl, inr, slice_set, slice_index}
-use Rattle.std.specs.Prelude.{replicate}
-use Rattle.std.specs.List.{sum_by}
-use Rattle.std.specs.Option.{option_to_list}
-use Rattle.std.proofs.lemmas.Bool.Decides.{nat_tests}
+use Rattle.zl_verify.proofs.Common.{◌≡◌, ◌≢◌, ℕ, zero, suc, ◌+◌, ◌<◌, ◌≤◌, Bool, true, false, ◌&&◌, ◌||◌, ◌==◌, List, [], ◌∷◌, map, length, refl, sym, ap, ◌∙◌}
+use Rattle.zl_verify.proofs.Common.{subst, Option, Some, None, arith, inl, inr, slice_set, slice_index, replicate, sum_by, option_to_list, nat_tests}
+use Rattle.zl_verify.proofs.Common.{sum_by-cons, none-some, Entry, bits, within, get, World, Cpu, Process, same_kind, takes, Kind, written, SlotArray, Start}
+use Rattle.zl_verify.proofs.Common.{Image, Library, register_count, is_in_range, process_with, may_get, may_get_all, are_declared, process_with_all, blank_cpu}
+use Rattle.zl_verify.proofs.Common.{created_process, set_from, with_handles, cpu_given, IsProperStart, ranges, AbsVal, Word, ANY, kind_below, State, IsState}
+use Rattle.zl_verify.proofs.Common.{value_at, with_value, with_all, start_state, IsAbove, IsTyping, is_result, are_distinct, has_one, both, one_if, is_it}
+use Rattle.zl_verify.proofs.Common.{owners, keepers, place_at, Holds, IsAs, IsMemory, Conforms}
 use Rattle.std.proofs.lemmas.List.{length-replicate}
-use Rattle.std.proofs.lemmas.List.Sums.{sum_by-cons}
-use Rattle.std.proofs.lemmas.Option.{none-some}
-use Rattle.zl_rights.specs.declared.entry.Entry.{Entry}
-use Rattle.zl_rights.specs.Common.{bits, within, get, World, Cpu, Process}
-use Rattle.zl_rights.specs.Numbers.{same_kind, takes}
-use Rattle.zl_rights.specs.declared.kind.Kind.{Kind}
-use Rattle.zl_rights.specs.World.{written}
-use Rattle.zl_code.specs.declared.image.SlotArray.{SlotArray}
-use Rattle.zl_code.specs.declared.image.Start.{Start}
-use Rattle.zl_code.specs.Image.{Image, Library}
-use Rattle.zl_code.specs.Limits.{register_count}
-use Rattle.zl_code.specs.Spells.{is_in_range}
-use Rattle.zl_code.specs.Effects.{process_with, may_get, may_get_all}
-use Rattle.zl_code.specs.Boot.{are_declared, process_with_all}
 use Rattle.zl_code.specs.Jobs.{is_declared}
-use Rattle.zl_code.specs.Starting.{blank_cpu, created_process, set_from, with_handles, cpu_given}
-use Rattle.zl_code.specs.Headline.{IsProperStart}
-use Rattle.zl_code.proofs.ImageRanges.{ranges}
-use Rattle.zl_abs.specs.declared.value.AbsVal.{AbsVal}
-use Rattle.zl_abs.specs.declared.value.AbsVal.TheVariants.{Word}
-use Rattle.zl_abs.specs.Values.{ANY, kind_below}
-use Rattle.zl_abs.specs.States.{State, IsState, value_at, with_value, with_all, start_value, starts_from, start_results, start_state}
-use Rattle.zl_abs.specs.Typing.{IsAbove, IsTyping}
-use Rattle.zl_abs.specs.CallRules.{is_result, are_distinct, has_one}
-use Rattle.zl_abs.proofs.Order.{both}
-use Rattle.zl_verify.specs.Conforms.{one_if, is_it, owners, keepers, place_at, Holds, IsAs, IsMemory, Conforms}
+use Rattle.zl_abs.specs.States.{start_value, starts_from, start_results}
 use Rattle.zl_verify.proofs.Owners.{owns_0}
 use Rattle.zl_verify.proofs.Weakening.{weaken}
 use Rattle.zl_verify.proofs.Fitting.{Fits, AreInside, results}

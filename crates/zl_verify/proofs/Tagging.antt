@@ -1,10 +1,6 @@
 -- A written register keeps that tags name registers that are 0 or have a handle.
-use Rattle.std.proofs.Common.{◌≡◌, ◌≢◌, ℕ, ◌<◌, ◌⊎◌, true, false, ◌==◌, length, refl, ◌∙◌, IsTrue, inl, inr}
-use Rattle.std.proofs.lemmas.Bool.{cases_Bool, cases_eq, eqb-true, eqb-false}
-use Rattle.zl_abs.specs.declared.value.AbsVal.{AbsVal}
-use Rattle.zl_abs.specs.declared.value.AbsVal.TheVariants.{Word, Has, KindOf, RightsOf}
-use Rattle.zl_abs.specs.Values.{untagged}
-use Rattle.zl_abs.specs.States.{State, IsState, can_be_named, is_named_well, value_at, with_value}
+use Rattle.zl_verify.proofs.Common.{◌≡◌, ◌≢◌, ℕ, ◌<◌, ◌⊎◌, true, false, ◌==◌, length, refl, ◌∙◌, IsTrue, inl, inr, cases_Bool, cases_eq, eqb-true, eqb-false}
+use Rattle.zl_verify.proofs.Common.{AbsVal, Word, Has, KindOf, RightsOf, untagged, State, IsState, can_be_named, is_named_well, value_at, with_value}
 use Rattle.zl_verify.proofs.Owners.{value_at-with, value_at-here}
 use Rattle.zl_verify.proofs.Writing.{long_with}
 

@@ -1,36 +1,16 @@
 -- A process that was made and isn't started yet is as it was made, and its job allows what its program needs; what a step does keeps this.
-use Rattle.std.proofs.Common.{◌≡◌, ℕ, ◌<◌, ◌⊎◌, Bool, true, false, ◌==◌, List, [], ◌∷◌, refl, sym, ap, ◌∙◌, subst, Option, Some, None, option_map, arith, inl}
-use Rattle.std.proofs.Common.{inr}
-use Rattle.std.specs.Prelude.{ℤ, if◌then◌else◌}
-use Rattle.std.proofs.lemmas.Bool.{cases_Bool, eqb-true}
-use Rattle.std.proofs.lemmas.Bool.Decides.{nat_tests}
-use Rattle.std.proofs.lemmas.Option.{same_Some}
-use Rattle.zl_rights.specs.declared.entry.Entry.{Entry}
+use Rattle.zl_verify.proofs.Common.{◌≡◌, ℕ, ◌<◌, ◌⊎◌, Bool, true, false, ◌==◌, List, [], ◌∷◌, refl, sym, ap, ◌∙◌, subst, Option, Some, None, option_map, arith}
+use Rattle.zl_verify.proofs.Common.{inl, inr, ℤ, if◌then◌else◌, cases_Bool, eqb-true, nat_tests, same_Some, Entry, get, put, World, Process, Life, Created}
+use Rattle.zl_verify.proofs.Common.{Ready, Blocked, Ended, ProcessBody, KILLED, has_ended, Awaited, get-put, get-update, get-each, Outcome, TraceItem, Library}
+use Rattle.zl_verify.proofs.Common.{object_at, on_process, on_object, with_object, process_with, process_ended, insert_all, ended, waiting, is_created}
+use Rattle.zl_verify.proofs.Common.{created_process, started_with, is_within, process_killed, with_killed, refusal, Request, process_create, process_start}
+use Rattle.zl_verify.proofs.Common.{task_kill, effect, new_handles, receiver_of, entering_at, stored_by, gives_ok, gives_refused, awaited_by, ends_caller, Site}
+use Rattle.zl_verify.proofs.Common.{Choice, Refused, Wants, Values, CallBy, taken_handles, taken, cpu_answered, replied, with_effect, after_refusal, after_ok}
+use Rattle.zl_verify.proofs.Common.{ok_outcome, Next, Moves, AtCall, IsStuck, Acts, left_behind}
 use Rattle.zl_rights.specs.declared.status.Status.TheVariants as status
-use Rattle.zl_rights.specs.Common.{get, put, World, Process, State as Life, Created, Ready, Blocked, Ended, ProcessBody}
-use Rattle.zl_rights.specs.Numbers.{KILLED}
-use Rattle.zl_rights.specs.Signals.{has_ended}
-use Rattle.zl_rights.specs.World.{Awaited}
-use Rattle.zl_rights.proofs.MapLaws.{get-put, get-update, get-each}
-use Rattle.zl_code.specs.declared.history.Outcome.{Outcome}
 use Rattle.zl_code.specs.declared.history.Outcome.TheVariants as outcome
-use Rattle.zl_code.specs.declared.history.TraceItem.{TraceItem}
-use Rattle.zl_code.specs.Image.{Library}
-use Rattle.zl_code.specs.Tests.{object_at}
-use Rattle.zl_code.specs.Effects.{on_process, on_object, with_object, process_with, process_ended, insert_all, ended, waiting}
-use Rattle.zl_code.specs.Starting.{is_created, created_process, started_with}
-use Rattle.zl_code.specs.Jobs.{is_within, process_killed, with_killed}
-use Rattle.zl_code.specs.Refusals.{refusal}
-use Rattle.zl_code.specs.CallTable.{Request, process_create, process_start, task_kill, effect, new_handles, receiver_of, entering_at, stored_by, gives_ok}
-use Rattle.zl_code.specs.CallTable.{gives_refused, awaited_by, ends_caller}
-use Rattle.zl_code.specs.Request.{Site}
-use Rattle.zl_code.specs.Calls.{Choice, Refused, Wants, Values, CallBy, taken_handles, taken, cpu_answered, replied, with_effect, after_refusal, after_ok}
-use Rattle.zl_code.specs.Calls.{ok_outcome}
-use Rattle.zl_code.specs.Steps.{Next, Moves, AtCall, IsStuck, Acts}
-use Rattle.zl_code.proofs.Entering.{left_behind}
 use Rattle.zl_verify.proofs.Giving.{getting_all}
-use Rattle.zl_verify.proofs.OwnTable.{changed_here, changed_elsewhere, inserted_elsewhere, own_handles, losing_all, losing_same, removed_here}
-use Rattle.zl_verify.proofs.OwnTable.{getting_same}
+use Rattle.zl_verify.proofs.OwnTable.{changed_here, changed_elsewhere, inserted_elsewhere, own_handles, losing_all, losing_same, removed_here, getting_same}
 use Rattle.zl_verify.proofs.Storing.{storing_same}
 use Rattle.zl_verify.proofs.OwnEffect.{IsDone, caller_after, caller_ending, inserted_objects, stored_objects}
 use Rattle.zl_verify.proofs.Others.{left_other, stored_other, ended_other, waiting_other, replied_other}

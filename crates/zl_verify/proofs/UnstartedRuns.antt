@@ -1,36 +1,17 @@
 -- In every world of a run from a boot world, a process that isn't started yet is as it was made, and its job allows what its program needs.
-use Rattle.std.proofs.Common.{◌≡◌, ℕ, ◌<◌, ◌⊎◌, Bool, true, false, not, ◌&&◌, ◌||◌, ◌==◌, List, [], ◌∷◌, refl, sym, ap, ◌∙◌, subst, Option, Some, None}
-use Rattle.std.proofs.Common.{option_map, arith, inl, inr}
-use Rattle.std.specs.Prelude.{is_some, if◌then◌else◌, slice_get, unwrap_or}
-use Rattle.std.specs.List.{fold, list_any}
-use Rattle.std.proofs.lemmas.Bool.{cases_Bool, eqb-true}
-use Rattle.std.proofs.lemmas.Bool.Decides.{nat_tests}
-use Rattle.std.proofs.lemmas.Option.{same_Some}
-use Rattle.zl_rights.specs.declared.entry.Entry.{Entry}
-use Rattle.zl_rights.specs.declared.policy.Action.{Action}
-use Rattle.zl_rights.specs.declared.policy.Action.TheVariants as action
-use Rattle.zl_rights.specs.declared.policy.Condition.{Condition}
-use Rattle.zl_rights.specs.declared.status.Status.TheVariants as status
-use Rattle.zl_rights.specs.Common.{condition_number, answered, get, put, lives, Settles, process_settled, without_others, fired, wakes, World, Process}
-use Rattle.zl_rights.specs.Common.{State as Life, Created, Ready, Blocked, Object, Body, PortBody, ProcessBody}
-use Rattle.zl_rights.specs.World.{SignalOf, PacketAt, Packet}
-use Rattle.zl_rights.specs.Signals.{active}
-use Rattle.zl_rights.specs.Numbers.{meets}
-use Rattle.zl_rights.specs.Settle.{state_without}
-use Rattle.zl_rights.specs.Wakes.{made_ready, packet_values, with_body, woken_by_first, woken_by, woken_at_port, woken_from, woken_if_there, woken}
-use Rattle.zl_rights.proofs.MapLaws.{get-put, get-each}
-use Rattle.zl_code.specs.declared.history.TraceItem.{TraceItem}
-use Rattle.zl_code.specs.Image.{Library, Program, is_among}
-use Rattle.zl_code.specs.Tests.{koid_in, object_at, body_in, body_of, parent_in, parent_of, policy_in, action_of}
-use Rattle.zl_code.specs.Operands.{unless_allowed, creates}
-use Rattle.zl_code.specs.Starting.{is_created, created_process}
+use Rattle.zl_verify.proofs.Common.{◌≡◌, ℕ, ◌<◌, ◌⊎◌, Bool, true, false, not, ◌&&◌, ◌||◌, ◌==◌, List, [], ◌∷◌, refl, sym, ap, ◌∙◌, subst, Option, Some, None}
+use Rattle.zl_verify.proofs.Common.{option_map, arith, inl, inr, is_some, if◌then◌else◌, slice_get, unwrap_or, fold, list_any, cases_Bool, eqb-true, nat_tests}
+use Rattle.zl_verify.proofs.Common.{same_Some, Entry, Action, Condition, condition_number, answered, get, put, lives, Settles, process_settled, without_others}
+use Rattle.zl_verify.proofs.Common.{fired, wakes, World, Process, Life, Created, Ready, Blocked, Object, Body, PortBody, ProcessBody, SignalOf, PacketAt}
+use Rattle.zl_verify.proofs.Common.{Packet, active, meets, state_without, made_ready, packet_values, with_body, woken_by_first, woken_by, woken_at_port}
+use Rattle.zl_verify.proofs.Common.{woken_from, woken_if_there, woken, get-put, get-each, TraceItem, Library, Program, is_among, object_at, body_in, body_of}
+use Rattle.zl_verify.proofs.Common.{parent_in, parent_of, policy_in, action_of, unless_allowed, creates, is_created, created_process, refusal, IsSound}
+use Rattle.zl_verify.proofs.Common.{process_create, listed, Step, next_for, AreUnstarted, IsFitStep}
+use Rattle.zl_code.specs.Tests.{koid_in}
 use Rattle.zl_code.specs.Jobs.{is_allowing, lacks_need}
-use Rattle.zl_code.specs.Refusals.{refusal}
-use Rattle.zl_code.specs.Sound.{IsSound}
-use Rattle.zl_code.specs.CallTable.{process_create, listed}
-use Rattle.zl_code.specs.Steps.{Step, next_for}
-use Rattle.zl_verify.specs.Covered.{IsUnstarted, AreUnstarted}
-use Rattle.zl_verify.specs.WakeLaws.{IsFitStep}
+use Rattle.zl_verify.specs.Covered.{IsUnstarted}
+use Rattle.zl_rights.specs.declared.policy.Action.TheVariants as action
+use Rattle.zl_rights.specs.declared.status.Status.TheVariants as status
 use Rattle.zl_verify.proofs.Working.{listed_none, test_fails}
 use Rattle.zl_verify.proofs.OwnEffect.{other_koid, same_policy}
 use Rattle.zl_verify.proofs.Others.{keys_below, left_by_step}

@@ -1,20 +1,11 @@
 -- What a state describes, a state above describes too.
-use Rattle.std.proofs.Common.{◌≡◌, ℕ, suc, ◌+◌, ◌≤◌, Bool, true, false, ◌||◌, not, ◌==◌, List, [], ◌∷◌, length, refl, sym, ap, ◌∙◌, subst, IsTrue, Option, Some}
-use Rattle.std.proofs.Common.{None, arith, inl, inr, slice_index}
-use Rattle.std.proofs.lemmas.Bool.{eqb-true}
-use Rattle.std.proofs.lemmas.Bool.Decides.{nat_tests}
-use Rattle.zl_rights.specs.declared.entry.Entry.{Entry}
-use Rattle.zl_rights.specs.declared.kind.Kind.{Kind}
-use Rattle.zl_rights.specs.declared.rights.Rights.{Rights}
-use Rattle.zl_rights.specs.Numbers.{bits, within}
-use Rattle.zl_code.specs.declared.image.SlotArray.{SlotArray}
-use Rattle.zl_abs.specs.declared.value.AbsVal.{AbsVal}
-use Rattle.zl_abs.specs.declared.value.AbsVal.TheVariants.{Word, Has, KindOf, RightsOf}
-use Rattle.zl_abs.specs.Values.{ANY, below, kind_below}
-use Rattle.zl_abs.specs.States.{State, value_at, all_below}
-use Rattle.zl_abs.proofs.Order.{both, parts, kind_trans, within_trans}
+use Rattle.zl_verify.proofs.Common.{◌≡◌, ℕ, suc, ◌+◌, ◌≤◌, Bool, true, false, ◌||◌, not, ◌==◌, List, [], ◌∷◌, length, refl, sym, ap, ◌∙◌, subst, IsTrue, Option}
+use Rattle.zl_verify.proofs.Common.{Some, None, arith, inl, inr, slice_index, eqb-true, nat_tests, Entry, Kind, Rights, bits, within, SlotArray, AbsVal, Word}
+use Rattle.zl_verify.proofs.Common.{Has, KindOf, RightsOf, ANY, kind_below, State, value_at, all_below, both, within_trans, Table, IsAs, IsHandle, Describes}
+use Rattle.zl_verify.proofs.Common.{one_if, owns, owners, keepers, Holds}
+use Rattle.zl_abs.specs.Values.{below}
+use Rattle.zl_abs.proofs.Order.{parts, kind_trans}
 use Rattle.zl_abs.proofs.Lowering.{value_below}
-use Rattle.zl_verify.specs.Conforms.{Table, IsAs, IsHandle, Describes, one_if, owns, owners, keepers, Holds}
 use Rattle.zl_verify.proofs.Owners.{owns_0}
 
 pub as_below : (k j : Option Kind) (q p : Rights) (o : Option Entry) → kind_below k j ≡ true → within (bits p) (bits q) ≡ true → IsAs k q o → IsAs j p o

@@ -1,34 +1,18 @@
 -- What settling and waking leave of a process that is as its typing says, and of what its job allows it.
-use Rattle.std.proofs.Common.{◌≡◌, ℕ, ◌⊎◌, Bool, true, false, ◌==◌, List, [], ◌∷◌, refl, sym, ap, ◌∙◌, subst, IsTrue, Option, Some, None, inl, inr}
-use Rattle.std.specs.Prelude.{if◌then◌else◌, unwrap_or}
-use Rattle.std.specs.List.{AllByRecursion, fold}
-use Rattle.std.specs.Option.{option_map}
-use Rattle.std.proofs.lemmas.Bool.{cases_Bool, eqb-true}
-use Rattle.std.proofs.lemmas.Option.{same_Some, none-some}
-use Rattle.zl_rights.specs.Common.{condition_number, answered, get, where_key, lives, runs, Koids, Settles, process_settled, without_others, fired, wakes}
-use Rattle.zl_rights.specs.Common.{World, Process, State as Life, Created, Ready, Blocked, Object, Body, JobBody, PortBody, ProcessBody}
-use Rattle.zl_rights.specs.World.{Awaited, SignalOf, PacketAt, Packet}
-use Rattle.zl_rights.specs.Signals.{active}
-use Rattle.zl_rights.specs.Numbers.{meets}
-use Rattle.zl_rights.specs.Settle.{state_without}
-use Rattle.zl_rights.specs.Wakes.{body_with_packets, packets_for, made_ready, packet_values, with_body, woken_by_first, woken_by, woken_at_port, woken_from}
-use Rattle.zl_rights.specs.Wakes.{woken_if_there, woken}
+use Rattle.zl_verify.proofs.Common.{◌≡◌, ℕ, ◌⊎◌, Bool, true, false, ◌==◌, List, [], ◌∷◌, refl, sym, ap, ◌∙◌, subst, IsTrue, Option, Some, None, inl, inr}
+use Rattle.zl_verify.proofs.Common.{if◌then◌else◌, unwrap_or, AllByRecursion, fold, option_map, cases_Bool, eqb-true, same_Some, none-some, condition_number}
+use Rattle.zl_verify.proofs.Common.{answered, get, lives, runs, Settles, process_settled, without_others, fired, wakes, World, Process, Life, Created, Ready}
+use Rattle.zl_verify.proofs.Common.{Blocked, Object, Body, JobBody, PortBody, ProcessBody, Awaited, SignalOf, PacketAt, Packet, active, meets, state_without}
+use Rattle.zl_verify.proofs.Common.{body_with_packets, packets_for, made_ready, packet_values, with_body, woken_by_first, woken_by, woken_at_port, woken_from}
+use Rattle.zl_verify.proofs.Common.{woken_if_there, woken, Condition, get-put, get-each, TraceItem, Image, Library, is_among, is_in_range, body_in, body_of}
+use Rattle.zl_verify.proofs.Common.{parent_in, parent_of, policy_in, action_of, unless_allowed, creates, IsSound, step_sound, State, IsTyping, Conforms}
+use Rattle.zl_verify.proofs.Common.{IsSizedPacket, IsSized, IsSizedObject, IsRunStep, IsFitStep, EndsStep, stays}
+use Rattle.zl_rights.specs.Common.{where_key, Koids}
+use Rattle.zl_rights.proofs.MapLaws.{get-where_key-in, get-where_key-out}
+use Rattle.zl_code.specs.Sound.{HasItsObject}
+use Rattle.zl_code.proofs.SoundRuns.{run_sound}
+use Rattle.zl_verify.specs.WakeLaws.{wakes as is_woken}
 use Rattle.zl_rights.specs.declared.policy.Action.TheVariants as action
-use Rattle.zl_rights.specs.declared.policy.Condition.{Condition}
-use Rattle.zl_rights.proofs.MapLaws.{get-put, get-each, get-where_key-in, get-where_key-out}
-use Rattle.zl_code.specs.declared.history.TraceItem.{TraceItem}
-use Rattle.zl_code.specs.Image.{Image, Library, is_among}
-use Rattle.zl_code.specs.Spells.{is_in_range}
-use Rattle.zl_code.specs.Tests.{body_in, body_of, parent_in, parent_of, policy_in, action_of}
-use Rattle.zl_code.specs.Operands.{unless_allowed, creates}
-use Rattle.zl_code.specs.Sound.{IsSound, HasItsObject}
-use Rattle.zl_code.proofs.SoundRuns.{step_sound, run_sound}
-use Rattle.zl_abs.specs.States.{State}
-use Rattle.zl_abs.specs.Typing.{IsTyping}
-use Rattle.zl_verify.specs.Conforms.{Conforms}
-use Rattle.zl_verify.specs.CallLaws.{IsSizedPacket}
-use Rattle.zl_verify.specs.SizedLaws.{IsSized, IsSizedObject}
-use Rattle.zl_verify.specs.WakeLaws.{IsRunStep, IsFitStep, EndsStep, stays, wakes as is_woken}
 use Rattle.zl_verify.proofs.Calm.{active_few}
 use Rattle.zl_verify.proofs.SizedWorlds.{settled_sized, fired_sized, woken_sized}
 use Rattle.zl_verify.proofs.SizedRuns.{acted_sized, world_sized}

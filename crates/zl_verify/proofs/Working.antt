@@ -1,49 +1,23 @@
 -- What a call that is answered OK gives fits what its rule says.
-use Rattle.std.proofs.Common.{◌≡◌, ℕ, zero, suc, ◌+◌, ◌*◌, ◌<◌, ◌≤◌, Bool, true, false, ◌&&◌, not, ◌==◌, List, [], ◌∷◌, length, refl, sym, ap, ◌∙◌, subst}
-use Rattle.std.proofs.Common.{Option, Some, None, Ok, arith, inl, inr, slice_index, slice_set}
-use Rattle.std.specs.Prelude.{if◌then◌else◌, nat_le, bit_and}
-use Rattle.std.specs.List.{AllByRecursion}
-use Rattle.std.proofs.lemmas.Bool.Decides.{nat_tests}
+use Rattle.zl_verify.proofs.Common.{◌≡◌, ℕ, zero, suc, ◌+◌, ◌*◌, ◌<◌, ◌≤◌, Bool, true, false, ◌&&◌, not, ◌==◌, List, [], ◌∷◌, length, refl, sym, ap, ◌∙◌, subst}
+use Rattle.zl_verify.proofs.Common.{Option, Some, None, Ok, arith, inl, inr, slice_index, slice_set, if◌then◌else◌, nat_le, bit_and, AllByRecursion, nat_tests}
+use Rattle.zl_verify.proofs.Common.{bits, default_rights_of, rights_of, within, get, is_empty, World, Process, Packet, active, KNOWN_RIGHTS, Entry, Kind}
+use Rattle.zl_verify.proofs.Common.{Status, first_some, Library, register_count, Outcome, SlotArray, CallName, CallInstr, reg, number_at, answer_if, entry_at}
+use Rattle.zl_verify.proofs.Common.{object_at, first_bytes, first_handles, queue_at, Operand, any, examined, by_policy, first_values, packets_at, process_with}
+use Rattle.zl_verify.proofs.Common.{may_get_all, told_of, Request, dup, replace, chan_read_etc, process_start, listed, new_handles, entering_at, gives_ok}
+use Rattle.zl_verify.proofs.Common.{needs, taking, handle_operands, condition_of, refusal, taken_handles, may_choose, Site, site_of, IsSound, AbsVal, Word, Has}
+use Rattle.zl_verify.proofs.Common.{KindOf, RightsOf, ANY, rounded, State, value_at, with_value, fault_of, examined_all, narrowed_value, triple_results, Uses}
+use Rattle.zl_verify.proofs.Common.{uses_of, both, within_is, IsSizedPacket, QueuesAreSized, Table, IsAs, Describes}
 use Rattle.std.proofs.lemmas.List.{length-set}
 use Rattle.std.proofs.lemmas.Nat.{and_assoc}
 use Rattle.std.specs.Int.Bits.{and_self}
-use Rattle.zl_rights.specs.Common.{bits, default_rights_of, rights_of, within, get, is_empty, World, Process}
-use Rattle.zl_rights.specs.World.{Packet}
-use Rattle.zl_rights.specs.Signals.{active}
-use Rattle.zl_rights.specs.Numbers.{KNOWN_RIGHTS, SAME_RIGHTS, DUPLICATE}
-use Rattle.zl_rights.specs.declared.entry.Entry.{Entry}
-use Rattle.zl_rights.specs.declared.kind.Kind.{Kind}
+use Rattle.zl_rights.specs.Numbers.{SAME_RIGHTS, DUPLICATE}
+use Rattle.zl_code.specs.Tests.{with_rights, copy_of}
+use Rattle.zl_code.specs.Effects.{new_entry}
+use Rattle.zl_abs.specs.CallRules.{new}
 use Rattle.zl_rights.specs.declared.kind.Kind.TheVariants as kind
-use Rattle.zl_rights.specs.declared.status.Status.{Status}
 use Rattle.zl_rights.specs.declared.status.Status.TheVariants as status
-use Rattle.zl_code.specs.First.{first_some}
-use Rattle.zl_code.specs.Image.{Library}
-use Rattle.zl_code.specs.Limits.{register_count}
-use Rattle.zl_code.specs.declared.history.Outcome.{Outcome}
-use Rattle.zl_code.specs.declared.image.SlotArray.{SlotArray}
-use Rattle.zl_code.specs.declared.history.CallName.{CallName}
 use Rattle.zl_code.specs.declared.history.CallName.TheVariants as name
-use Rattle.zl_code.specs.declared.instr.CallInstr.{CallInstr}
-use Rattle.zl_code.specs.Local.{reg}
-use Rattle.zl_code.specs.Spells.{number_at}
-use Rattle.zl_code.specs.Tests.{answer_if, with_rights, copy_of, entry_at, object_at, first_bytes, first_handles, queue_at}
-use Rattle.zl_code.specs.Operands.{Operand, any, examined, by_policy}
-use Rattle.zl_code.specs.Waiting.{first_values, packets_at}
-use Rattle.zl_code.specs.Effects.{process_with, new_entry, may_get_all, told_of}
-use Rattle.zl_code.specs.CallTable.{Request, dup, replace, chan_read_etc, process_start, listed, new_handles, entering_at, gives_ok}
-use Rattle.zl_code.specs.Refusals.{needs, taking, handle_operands, condition_of, refusal}
-use Rattle.zl_code.specs.Calls.{taken_handles, may_choose}
-use Rattle.zl_code.specs.Request.{Site, site_of}
-use Rattle.zl_code.specs.Sound.{IsSound}
-use Rattle.zl_abs.specs.declared.value.AbsVal.{AbsVal}
-use Rattle.zl_abs.specs.declared.value.AbsVal.TheVariants.{Word, Has, KindOf, RightsOf}
-use Rattle.zl_abs.specs.Values.{ANY}
-use Rattle.zl_abs.specs.Bounds.{rounded}
-use Rattle.zl_abs.specs.States.{State, value_at, with_value}
-use Rattle.zl_abs.specs.CallRules.{fault_of, examined_all, narrowed_value, new, triple_results, Uses, uses_of}
-use Rattle.zl_abs.proofs.Order.{both, within_is}
-use Rattle.zl_verify.specs.CallLaws.{IsSizedPacket, QueuesAreSized}
-use Rattle.zl_verify.specs.Conforms.{Table, IsAs, Describes}
 use Rattle.zl_verify.proofs.Writing.{long_with}
 use Rattle.zl_verify.proofs.Agreeing.{above}
 use Rattle.zl_verify.proofs.Examining.{parts}

@@ -1,19 +1,10 @@
 -- One register is written, and the table may change at one value.
-use Rattle.std.proofs.Common.{◌≡◌, ◌≢◌, ℕ, ◌+◌, ◌<◌, ◌≤◌, ◌⊎◌, Bool, true, false, ◌==◌, List, length, refl, sym, ap, ◌∙◌, subst, IsTrue, Option, Some, None}
-use Rattle.std.proofs.Common.{arith, inl, inr, slice_set, slice_index}
-use Rattle.std.specs.Prelude.{is_some}
-use Rattle.std.proofs.lemmas.Bool.{cases_Bool, cases_eq, eqb-false}
-use Rattle.std.proofs.lemmas.Bool.Decides.{nat_tests}
-use Rattle.std.proofs.lemmas.List.{get_or-set_same, get_or-set_other, length-set, length-map}
-use Rattle.zl_rights.specs.declared.entry.Entry.{Entry}
-use Rattle.zl_rights.specs.declared.kind.Kind.{Kind}
-use Rattle.zl_rights.specs.declared.rights.Rights.{Rights}
-use Rattle.zl_code.specs.declared.image.SlotArray.{SlotArray}
-use Rattle.zl_abs.specs.declared.value.AbsVal.{AbsVal}
-use Rattle.zl_abs.specs.declared.value.AbsVal.TheVariants.{Word, Has, KindOf, RightsOf}
-use Rattle.zl_abs.specs.Values.{ANY, is_has, untagged}
-use Rattle.zl_abs.specs.States.{State, IsState, can_be_named, is_named_well, value_at, with_value}
-use Rattle.zl_verify.specs.Conforms.{Table, kind_in, rights_in, IsAs, IsHandle, Describes, one_if, owns, owners, keepers, place_at, Holds}
+use Rattle.zl_verify.proofs.Common.{◌≡◌, ◌≢◌, ℕ, ◌+◌, ◌<◌, ◌≤◌, ◌⊎◌, Bool, true, false, ◌==◌, List, length, refl, sym, ap, ◌∙◌, subst, IsTrue, Option, Some}
+use Rattle.zl_verify.proofs.Common.{None, arith, inl, inr, slice_set, slice_index, is_some, cases_Bool, cases_eq, eqb-false, nat_tests, get_or-set_same}
+use Rattle.zl_verify.proofs.Common.{get_or-set_other, length-map, Entry, Kind, Rights, SlotArray, AbsVal, Word, Has, KindOf, RightsOf, ANY, is_has, untagged}
+use Rattle.zl_verify.proofs.Common.{State, IsState, can_be_named, is_named_well, value_at, with_value, Table, kind_in, rights_in, IsAs, IsHandle, Describes}
+use Rattle.zl_verify.proofs.Common.{one_if, owns, owners, keepers, place_at, Holds}
+use Rattle.std.proofs.lemmas.List.{length-set}
 use Rattle.zl_verify.proofs.Owners.{owns_it, owns_free, owners-set, owners-with, owners-at, owners-zero, value_at-with, value_at-here, keepers-at, keepers-zero}
 
 -- ---- what holds anyway

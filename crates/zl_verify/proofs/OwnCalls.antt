@@ -5,10 +5,10 @@ use Rattle.zl_verify.proofs.Common.{Blocked, Awaited, SignalOf, Packet, status_m
 use Rattle.zl_verify.proofs.Common.{Library, call_at, call_in, is_among, is_in_range, HandlesAreSound, AtCall, IsStuck, next_at, reg, on_process, waiting}
 use Rattle.zl_verify.proofs.Common.{object_at, creates, by_policy, examined, packets_at, Request, name_of, process_exit, task_kill, listed, entering_at}
 use Rattle.zl_verify.proofs.Common.{stored_by, gives_ok, gives_refused, awaited_by, ends_caller, outcome_of, is_within, condition_of, handle_operands, refusal}
-use Rattle.zl_verify.proofs.Common.{Site, site, site_of, Calls, CallBy, Choice, Refused, Wants, Values, may_want, taken_handles, may_choose, taken}
-use Rattle.zl_verify.proofs.Common.{cpu_answered, replied, with_effect, after_refusal, after_ok, is_fault, asks_again, left_behind, State, with_all, and_then}
-use Rattle.zl_verify.proofs.Common.{edges, passes, bounds_of, Uses, uses_of, goes_on, stops, rule_with, IsTyping, targets_of, OneOf, Holds, IsMemory, waits_for}
-use Rattle.zl_verify.proofs.Common.{WaitsAt, Conforms, StandsAtCall, ends_of, IsAnswered, IsWaiting, IsOwnEnd, exits, kills}
+use Rattle.zl_verify.proofs.Common.{Site, site, site_of, Calls, Refused, Wants, Values, may_want, taken_handles, may_choose, taken, cpu_answered, replied}
+use Rattle.zl_verify.proofs.Common.{with_effect, after_refusal, after_ok, is_fault, asks_again, left_behind, State, with_all, and_then, edges, passes}
+use Rattle.zl_verify.proofs.Common.{bounds_of, Uses, uses_of, goes_on, stops, rule_with, IsTyping, targets_of, OneOf, Holds, IsMemory, waits_for, WaitsAt}
+use Rattle.zl_verify.proofs.Common.{Conforms, StandsAtCall, ends_of, IsAnswered, IsWaiting, IsOwnEnd, exits, kills}
 use Rattle.std.proofs.lemmas.Bool.{false≢true}
 use Rattle.zl_code.specs.Effects.{signed_word}
 use Rattle.zl_code.specs.Waiting.{is_active_at, packet_awaited}
@@ -17,6 +17,7 @@ use Rattle.zl_verify.specs.CallLaws.{CanCall}
 use Rattle.zl_rights.specs.declared.status.Status.TheVariants as status
 use Rattle.zl_code.specs.declared.history.CallName.TheVariants as name
 use Rattle.zl_code.specs.declared.history.Outcome.TheVariants as outcome
+use Rattle.zl_verify.proofs.CallEnds.{call_ends}
 use Rattle.zl_verify.proofs.Writing.{nothing_at_0}
 use Rattle.zl_verify.proofs.Refining.{Known}
 use Rattle.zl_verify.proofs.LocalSteps.{reached, not_stuck}
@@ -276,17 +277,10 @@ module _ (i : Image) (t : ℕ → Option State) (w : World) (p : ℕ) (q : Proce
     unfolding refusal
     refused_ordinary = rw (not_refused ruled.before, ruled.before.allowed) (first_ordinary (listed lib w p s.request) (listed_ordinary lib w p s.request))
 
-    by_choice : (choice : Choice) (r : Option Outcome) → refusal lib w p s.request ≡ r → IsOrdinary r → (answer : Outcome) (w2 : World)
-        → CallBy lib w p s choice r answer w2 → Ends answer w2
-    by_choice Refused None none o answer w2 h = absurd h
-    by_choice Refused (Some x) none o answer w2 (is, same) = rw (is, same) (by_refusal x o)
-    by_choice (Wants want) None none o answer w2 (may, is, same) = rw (is, same) (by_want want may)
-    by_choice (Wants want) (Some x) none o answer w2 h = absurd h
-    by_choice (Values vs) None none o answer w2 (may, is, same) = rw (is, same) (by_waiting none vs may (awaited_by w p s.request) refl)
-    by_choice (Values vs) (Some x) none o answer w2 h = absurd h
-
     promised_answering : (answer : Outcome) (w2 : World) → Calls lib w p s answer w2 → Ends answer w2
-    promised_answering answer w2 (choice, h) = by_choice choice (refusal lib w p s.request) refl refused_ordinary answer w2 h
+    promised_answering =
+        call_ends lib w p s Ends (λ o is. by_refusal o (subst IsOrdinary is refused_ordinary)) by_want
+        (λ none vs may. by_waiting none vs may (awaited_by w p s.request) refl)
 
   promised_exiting : (number : ℕ) → s.request ≡ process_exit number → (answer : Outcome) (w2 : World) → Calls lib w p s answer w2
       → Promised i t w p q called s answer w2

@@ -11,8 +11,8 @@ use Rattle.zl_verify.proofs.Common.{may_get_all, told_of, Request, replace, chan
 use Rattle.zl_verify.proofs.Common.{signal_peer, wait_one, wait_poll, wait_async, port_create, port_queue, port_wait, port_poll, port_cancel, process_create}
 use Rattle.zl_verify.proofs.Common.{process_start, task_kill, job_create, job_set_policy, listed, new_handles, receiver_of, choosing, entering_at, effect}
 use Rattle.zl_verify.proofs.Common.{stored_by, gives_ok, gives_refused, awaited_by, refusal, Site, site_of, taken_handles, may_choose, taken, cpu_answered}
-use Rattle.zl_verify.proofs.Common.{replied, with_effect, after_refusal, after_ok, ok_outcome, CallBy, Choice, Refused, Wants, Values, Calls, IsSound, is_value}
-use Rattle.zl_verify.proofs.Common.{get_without, gone_without, Each, ANY, both, IsSizedMessage, IsSizedPacket, IsSizedCpu, IsSized, IsSizedObject}
+use Rattle.zl_verify.proofs.Common.{replied, with_effect, after_refusal, after_ok, ok_outcome, Calls, IsSound, is_value, get_without, gone_without, Each, ANY}
+use Rattle.zl_verify.proofs.Common.{both, IsSizedMessage, IsSizedPacket, IsSizedCpu, IsSized, IsSizedObject}
 use Rattle.zl_rights.specs.Numbers.{changed}
 use Rattle.zl_rights.specs.Packets.{user_packet, is_from}
 use Rattle.zl_code.specs.Tests.{settable_of, may_change, peer_at, entries_at, is_too_large}
@@ -22,6 +22,7 @@ use Rattle.zl_code.specs.Sound.{IsSoundTable}
 use Rattle.zl_rights.specs.declared.status.Status.TheVariants as status
 use Rattle.zl_code.specs.declared.history.Outcome.TheVariants as outcome
 use Rattle.zl_code.specs.declared.history.CallName.TheVariants as name
+use Rattle.zl_verify.proofs.CallEnds.{call_ends}
 use Rattle.zl_verify.proofs.Memories.{AreBytes, all_taken, all_dropped}
 use Rattle.zl_verify.proofs.Calm.{both_few, within_few, first_sizes, first_are_bytes, first_rights, packets_at_sized}
 use Rattle.zl_verify.proofs.Giving.{status_few, kind_few, HasFewRights}
@@ -339,14 +340,7 @@ module _ (lib : Library) (w : World) (p : ℕ) (sound : IsSound w) (s : IsSized 
   ok_sized passes vs may (outcome.Ended code) = ended_sized _ p code (done_sized passes vs (values_small vs may))
   ok_sized passes vs may outcome.Blocked = waiting_sized w p t.destinations (awaited_by w p t.request) s
 
-  by_choice : (choice : Choice) (r : Option Outcome) → refusal lib w p t.request ≡ r → (answer : Outcome) (w2 : World)
-      → CallBy lib w p t choice r answer w2 → IsSized w2
-  by_choice Refused None is answer w2 c = absurd c
-  by_choice Refused (Some o) is answer w2 c = rw c.1 (refused_sized o)
-  by_choice (Wants want) None is answer w2 c = rw c.2 (refused_sized (outcome.Answered want))
-  by_choice (Wants want) (Some o) is answer w2 c = absurd c
-  by_choice (Values vs) None is answer w2 c = rw c.2 (ok_sized is vs c.0 (ok_outcome w p t.request))
-  by_choice (Values vs) (Some o) is answer w2 c = absurd c
-
   pub call_sized : (answer : Outcome) (w2 : World) → Calls lib w p t answer w2 → IsSized w2
-  call_sized answer w2 (choice, c) = by_choice choice (refusal lib w p t.request) refl answer w2 c
+  call_sized =
+      call_ends lib w p t (λ o v. IsSized v) (λ o is. refused_sized o) (λ want may. refused_sized (outcome.Answered want))
+      (λ passes vs may. ok_sized passes vs may (ok_outcome w p t.request))

@@ -1,12 +1,11 @@
 -- Worlds in which registers, memories and what is queued are sized; what changes a world leaves it so, and so do settling and waking.
 use Rattle.zl_verify.proofs.Common.{◌≡◌, ℕ, ◌≤◌, Bool, true, false, not, ◌&&◌, ◌==◌, List, [], ◌∷◌, ◌++◌, map, refl, sym, ◌∙◌, subst, Option, Some, None, arith}
-use Rattle.zl_verify.proofs.Common.{ℤ, cond, if◌then◌else◌, AllByRecursion, filter, fold, option_map, same_Some, none-some, Entry, lives, get, without, has_key}
+use Rattle.zl_verify.proofs.Common.{ℤ, cond, if◌then◌else◌, AllByRecursion, filter, option_map, same_Some, none-some, Entry, lives, get, without, has_key}
 use Rattle.zl_verify.proofs.Common.{Settles, process_settled, without_others, fired, wakes, Map, World, Process, Blocked, Ended, Object, Body, PortBody}
-use Rattle.zl_verify.proofs.Common.{Awaited, SignalOf, PacketAt, Packet, active, meets, body_with_packets, packets_for, made_ready, packet_values, with_body}
-use Rattle.zl_verify.proofs.Common.{woken_by_first, woken_by, woken_at_port, woken_from, woken_if_there, woken, get-update, get-each, on_process, on_object}
-use Rattle.zl_verify.proofs.Common.{process_with, process_without, insert_all, remove_all, with_object, process_ended, ended, storing, waiting, overwritten}
-use Rattle.zl_verify.proofs.Common.{Each, ANY, IsSizedPacket, QueuesAreSized, IsSizedCpu, IsSizedObject, IsSized}
-use Rattle.zl_rights.specs.Common.{each, update, State}
+use Rattle.zl_verify.proofs.Common.{Awaited, Packet, active, body_with_packets, packets_for, made_ready, packet_values, with_body, woken, get-update, get-each}
+use Rattle.zl_verify.proofs.Common.{on_process, on_object, process_with, process_without, insert_all, remove_all, with_object, process_ended, ended, storing}
+use Rattle.zl_verify.proofs.Common.{waiting, overwritten, Each, ANY, IsSizedPacket, QueuesAreSized, IsSizedCpu, IsSizedObject, IsSized}
+use Rattle.zl_rights.specs.Common.{each, update}
 use Rattle.zl_rights.specs.World.{Wait}
 use Rattle.zl_rights.specs.Settle.{is_made_by_handle}
 use Rattle.zl_rights.specs.Wakes.{holds, packet_of}
@@ -14,6 +13,7 @@ use Rattle.zl_code.specs.Effects.{with_process}
 use Rattle.zl_code.specs.Waiting.{registered}
 use Rattle.zl_code.proofs.MapKept.{each_put, each_where_key}
 use Rattle.zl_verify.specs.SizedLaws.{IsSizedWait}
+use Rattle.zl_verify.proofs.Waking.{turn_by, wakes_by}
 use Rattle.zl_verify.proofs.Memories.{AreBytes, bytes_over}
 use Rattle.zl_verify.proofs.Calm.{active_few}
 use Rattle.zl_verify.proofs.SizedCpus.{AreSmall, answered_sized}
@@ -176,10 +176,9 @@ ready_sized w p q ds vs fits few s =
     record { cpus = each_put IsSizedProcess w.processes s.cpus p _ (answered_sized q.cpu ds vs fits few); kept = s.kept; waits = s.waits }
 
 module _ (w : World) (s : IsSized w) (p : ℕ) where
-  by_packets : (q : Process) → IsSizedCpu q.cpu → (k : ℕ) (ds : List ℕ) (o : Object) (packets : List Packet) → IsSizedObject (PortBody packets) o.raised
-      → IsSized (woken_by_first w p q k ds o packets)
-  by_packets q fits k ds o [] held = s
-  by_packets q fits k ds o (x ∷ rest) held =
+  by_packet : (q : Process) → IsSizedCpu q.cpu → (k : ℕ) (ds : List ℕ) (o : Object) (x : Packet) (rest : List Packet)
+      → IsSizedObject (PortBody (x ∷ rest)) o.raised → IsSized (made_ready (with_body w k o (PortBody rest)) p q ds (0 ∷ packet_values x))
+  by_packet q fits k ds o x rest held =
       let (first, others) = held.packets in
       ready_sized (with_body w k o (PortBody rest)) p q ds (0 ∷ packet_values x) fits
       (omega arith, (first.key, (small first.kind, (first.trigger, (first.observed, tt)))))
@@ -192,35 +191,12 @@ module _ (w : World) (s : IsSized w) (p : ℕ) where
       small : {n : ℕ} → n ≤ 1 → n ≤ ANY
       small le = omega arith
 
-  by_body : (q : Process) → IsSizedCpu q.cpu → (k : ℕ) (ds : List ℕ) (o : Object) (b : Body) → IsSizedObject b o.raised → IsSized (woken_by w p q k ds o b)
-  by_body q fits k ds o (PortBody packets) held = by_packets q fits k ds o packets held
-  by_body q fits k ds o _ held = s
-
-  by_object : (q : Process) → IsSizedCpu q.cpu → (k : ℕ) (ds : List ℕ) (o : Option Object) → get w.objects k ≡ o → IsSized (woken_at_port w p q k ds o)
-  by_object q fits k ds None at = s
-  by_object q fits k ds (Some o) at = by_body q fits k ds o o.body (s.kept k o at)
-
-  by_state : (q : Process) → IsSizedCpu q.cpu → (life : State) → IsSized (woken_from w p q life)
-  by_state q fits (Blocked (SignalOf k mask) ds) = by (meets (active w k) mask)
-    where
-      by : (b : Bool) → IsSized (if b then made_ready w p q ds (0 ∷ active w k ∷ []) else w)
-      by true = ready_sized w p q ds (0 ∷ active w k ∷ []) fits (omega arith, (active_sized w s k, tt)) s
-      by false = s
-  by_state q fits (Blocked (PacketAt k) ds) = by_object q fits k ds (get w.objects k) refl
-  by_state q fits _ = s
-
   pub woken_sized : IsSized (woken w p)
-  unfolding woken
-  woken_sized = by (get w.processes p) refl
-    where
-      by : (o : Option Process) → get w.processes p ≡ o → IsSized (woken_if_there w p o)
-      by None is = s
-      by (Some q) is = by_state q (s.cpus p q is) q.state
-
-turns_sized : (w : World) (ps : List ℕ) → IsSized w → IsSized (fold woken w ps)
-turns_sized w [] s = s
-turns_sized w (p ∷ ps) s = turns_sized (woken w p) ps (woken_sized w s p)
+  woken_sized =
+      turn_by IsSized w p s
+      (λ q at k mask ds blocked. ready_sized w p q ds (0 ∷ active w k ∷ []) (s.cpus p q at) (omega arith, (active_sized w s k, tt)) s)
+      (λ q at k ds blocked o there x rest port.
+      by_packet q (s.cpus p q at) k ds o x rest (subst (λ b. IsSizedObject b o.raised) port (s.kept k o there)))
 
 pub wakes_sized : (w : World) → IsSized w → IsSized (wakes w)
-unfolding wakes
-wakes_sized w s = turns_sized (fired w) w.blocked (fired_sized w s)
+wakes_sized w s = wakes_by IsSized (λ u p s. woken_sized u s p) w (fired_sized w s)

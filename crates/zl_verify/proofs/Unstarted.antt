@@ -5,10 +5,11 @@ use Rattle.zl_verify.proofs.Common.{Ready, Blocked, Ended, ProcessBody, KILLED, 
 use Rattle.zl_verify.proofs.Common.{object_at, on_process, on_object, with_object, process_with, process_ended, insert_all, ended, waiting, is_created}
 use Rattle.zl_verify.proofs.Common.{created_process, started_with, is_within, process_killed, with_killed, refusal, Request, process_create, process_start}
 use Rattle.zl_verify.proofs.Common.{task_kill, effect, new_handles, receiver_of, entering_at, stored_by, gives_ok, gives_refused, awaited_by, ends_caller, Site}
-use Rattle.zl_verify.proofs.Common.{Choice, Refused, Wants, Values, CallBy, taken_handles, taken, cpu_answered, replied, with_effect, after_refusal, after_ok}
-use Rattle.zl_verify.proofs.Common.{ok_outcome, Next, Moves, AtCall, IsStuck, Acts, left_behind}
+use Rattle.zl_verify.proofs.Common.{taken_handles, taken, cpu_answered, replied, with_effect, after_refusal, after_ok, ok_outcome, Next, Moves, AtCall, IsStuck}
+use Rattle.zl_verify.proofs.Common.{Acts, left_behind, Calls}
 use Rattle.zl_rights.specs.declared.status.Status.TheVariants as status
 use Rattle.zl_code.specs.declared.history.Outcome.TheVariants as outcome
+use Rattle.zl_verify.proofs.CallEnds.{call_ends}
 use Rattle.zl_verify.proofs.Giving.{getting_all}
 use Rattle.zl_verify.proofs.OwnTable.{changed_here, changed_elsewhere, inserted_elsewhere, own_handles, losing_all, losing_same, removed_here, getting_same}
 use Rattle.zl_verify.proofs.Storing.{storing_same}
@@ -238,21 +239,17 @@ module _ (lib : Library) (w : World) (p : ℕ) (caller : Process) (there : get w
         }
     when_ok passes vs outcome.Blocked = when_waits t.destinations (awaited_by w p t.request)
 
-    when_called : (choice : Choice) (r : Option Outcome) → refusal lib w p t.request ≡ r → (answer : Outcome) (w2 : World)
-        → CallBy lib w p t choice r answer w2 → AllCome w2
-    when_called Refused None is answer w2 h = absurd h
-    when_called Refused (Some o) is answer w2 h = rw h.1 (when_refused t o)
-    when_called (Wants want) None is answer w2 h = rw h.2 (when_refused t (outcome.Answered want))
-    when_called (Wants want) (Some o) is answer w2 h = absurd h
-    when_called (Values vs) None is answer w2 h = rw h.2 (when_ok is vs (ok_outcome w p t.request))
-    when_called (Values vs) (Some o) is answer w2 h = absurd h
+    when_called : (answer : Outcome) (w2 : World) → Calls lib w p t answer w2 → AllCome w2
+    when_called =
+        call_ends lib w p t (λ o v. AllCome v) (λ o is. when_refused t o) (λ want may. when_refused t (outcome.Answered want))
+        (λ passes vs may. when_ok passes vs (ok_outcome w p t.request))
 
   pub when_acted : (n : Next) (x : TraceItem) (w2 : World) → Acts lib w p n x w2 → AllCome w2
   unfolding ended
   when_acted (Moves e) x w2 a =
       rw a.1 (only_p (on_process w p (λ y. record y { cpu = e })) (λ y. record y { cpu = e }) caller (λ q apart. changed_elsewhere w p _ q apart)
       (changed_here w p _ caller there) (ap is_created ready))
-  when_acted (AtCall called t) x w2 (o, e, h) = when_called t h.0 (refusal lib w p t.request) refl o w2 h.1
+  when_acted (AtCall called t) x w2 (o, e, h) = when_called t o w2 h
   when_acted IsStuck x w2 a =
       rw a.1 (only_p (ended w p _) (process_ended _) caller (λ q apart. ended_other p q apart w _) (changed_here w p (process_ended _) caller there)
       (ended_old _ caller))

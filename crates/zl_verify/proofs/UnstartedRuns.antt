@@ -1,17 +1,17 @@
 -- In every world of a run from a boot world, a process that isn't started yet is as it was made, and its job allows what its program needs.
 use Rattle.zl_verify.proofs.Common.{◌≡◌, ℕ, ◌<◌, ◌⊎◌, Bool, true, false, not, ◌&&◌, ◌||◌, ◌==◌, List, [], ◌∷◌, refl, sym, ap, ◌∙◌, subst, Option, Some, None}
-use Rattle.zl_verify.proofs.Common.{option_map, arith, inl, inr, is_some, if◌then◌else◌, slice_get, unwrap_or, fold, list_any, cases_Bool, eqb-true, nat_tests}
+use Rattle.zl_verify.proofs.Common.{option_map, arith, inl, inr, is_some, if◌then◌else◌, slice_get, unwrap_or, list_any, cases_Bool, eqb-true, nat_tests}
 use Rattle.zl_verify.proofs.Common.{same_Some, Entry, Action, Condition, condition_number, answered, get, put, lives, Settles, process_settled, without_others}
-use Rattle.zl_verify.proofs.Common.{fired, wakes, World, Process, Life, Created, Ready, Blocked, Object, Body, PortBody, ProcessBody, SignalOf, PacketAt}
-use Rattle.zl_verify.proofs.Common.{Packet, active, meets, state_without, made_ready, packet_values, with_body, woken_by_first, woken_by, woken_at_port}
-use Rattle.zl_verify.proofs.Common.{woken_from, woken_if_there, woken, get-put, get-each, TraceItem, Library, Program, is_among, object_at, body_in, body_of}
-use Rattle.zl_verify.proofs.Common.{parent_in, parent_of, policy_in, action_of, unless_allowed, creates, is_created, created_process, refusal, IsSound}
-use Rattle.zl_verify.proofs.Common.{process_create, listed, Step, next_for, AreUnstarted, IsFitStep}
+use Rattle.zl_verify.proofs.Common.{fired, wakes, World, Process, Life, Created, Ready, Object, ProcessBody, state_without, made_ready, woken, get-put}
+use Rattle.zl_verify.proofs.Common.{get-each, TraceItem, Library, Program, is_among, object_at, body_in, body_of, parent_in, parent_of, policy_in, action_of}
+use Rattle.zl_verify.proofs.Common.{unless_allowed, creates, is_created, created_process, refusal, IsSound, process_create, listed, Step, next_for}
+use Rattle.zl_verify.proofs.Common.{AreUnstarted, IsFitStep}
 use Rattle.zl_code.specs.Tests.{koid_in}
 use Rattle.zl_code.specs.Jobs.{is_allowing, lacks_need}
 use Rattle.zl_verify.specs.Covered.{IsUnstarted}
 use Rattle.zl_rights.specs.declared.policy.Action.TheVariants as action
 use Rattle.zl_rights.specs.declared.status.Status.TheVariants as status
+use Rattle.zl_verify.proofs.Waking.{turn_by_answer, wakes_by}
 use Rattle.zl_verify.proofs.Working.{listed_none, test_fails}
 use Rattle.zl_verify.proofs.OwnEffect.{other_koid, same_policy}
 use Rattle.zl_verify.proofs.Others.{keys_below, left_by_step}
@@ -178,43 +178,12 @@ module _ (k : ℕ) (y : Process) (new : is_created y.state ≡ true) where
       by (inl e) = let bad : false ≡ true = ap (λ (z : Process). is_created z.state) (same_Some awake y (rw e at stands)) ∙ new in cc
       by (inr e) = ap (λ ps. get ps k) (sym same) ∙ rw e at stands
 
-  module _ (u : World) (m : ℕ) where
-    by_packets : (x : Process) (koid : ℕ) (ds : List ℕ) (o : Object) (packets : List Packet) → WasThere u (woken_by_first u m x koid ds o packets)
-    by_packets x koid ds o [] at = at
-    by_packets x koid ds o (z ∷ rest) at = readied u (with_body u koid o (PortBody rest)) refl m x ds (0 ∷ packet_values z) at
-
-    by_body : (x : Process) (koid : ℕ) (ds : List ℕ) (o : Object) (b : Body) → WasThere u (woken_by u m x koid ds o b)
-    by_body x koid ds o (PortBody packets) at = by_packets x koid ds o packets at
-    by_body x koid ds o _ at = at
-
-    by_object : (x : Process) (koid : ℕ) (ds : List ℕ) (o : Option Object) → WasThere u (woken_at_port u m x koid ds o)
-    by_object x koid ds None at = at
-    by_object x koid ds (Some o) at = by_body x koid ds o o.body at
-
-    by_signal : (x : Process) (koid : ℕ) (ds : List ℕ) (b : Bool) → WasThere u (if b then made_ready u m x ds (0 ∷ active u koid ∷ []) else u)
-    by_signal x koid ds true at = readied u u refl m x ds (0 ∷ active u koid ∷ []) at
-    by_signal x koid ds false at = at
-
-    by_state : (x : Process) (l : Life) → WasThere u (woken_from u m x l)
-    by_state x (Blocked (SignalOf koid mask) ds) at = by_signal x koid ds (meets (active u koid) mask) at
-    by_state x (Blocked (PacketAt koid) ds) at = by_object x koid ds (get u.objects koid) at
-    by_state x _ at = at
-
-    turn : WasThere u (woken u m)
-    unfolding woken
-    turn = by (get u.processes m)
-      where
-        by : (o : Option Process) → WasThere u (woken_if_there u m o)
-        by None at = at
-        by (Some x) at = by_state x x.state at
-
-  turns : (u : World) (ms : List ℕ) → WasThere u (fold woken u ms)
-  turns u [] at = at
-  turns u (m ∷ ms) at = turn u m (turns (woken u m) ms at)
+  turn : (u : World) (m : ℕ) → WasThere u (woken u m)
+  turn u m = turn_by_answer (WasThere u) u m (λ at. at) (λ v same x there awaited ds vs blocked. readied u v same m x ds vs)
 
   awake_before : (w : World) → WasThere w (wakes w)
-  unfolding wakes fired
-  awake_before w at = turns (fired w) w.blocked at
+  unfolding fired
+  awake_before w = wakes_by (WasThere w) (λ u m before at. before (turn u m at)) w (λ at. at)
 
 -- ---- runs
 

@@ -35,10 +35,9 @@ module _ (i : Image) (c : Cpu) where
       no_call (Some d) e = cc
 
       by : (o : Option Instr) → instr_at i c.counter ≡ o → next_of o c ≡ AtCall called s → IsAtCall i c called s
-      by None is e = cc
       by (Some (instr.Local x)) is e = absurd (no_call (local_effect x c) e)
       by (Some (instr.Call x)) is e = one x is (site_of x c) refl e
-      by (Some (instr.Unknown bytes)) is e = cc
+      by _ is e = cc
 
   -- a call that isn't stuck is read
   pub reads : (call : CallInstr) → call_at i c.counter ≡ Some call → (next_at i c ≡ IsStuck) ⊎ ((s : Site) × (next_at i c ≡ AtCall call.name s))
@@ -50,10 +49,8 @@ module _ (i : Image) (c : Cpu) where
       one x same (Some s) = inr (s, ap (λ y. AtCall y.name s) same)
 
       by : (o : Option Instr) → call_in o ≡ Some call → (next_of o c ≡ IsStuck) ⊎ ((s : Site) × (next_of o c ≡ AtCall call.name s))
-      by None e = cc
-      by (Some (instr.Local x)) e = cc
       by (Some (instr.Call x)) e = let same : x ≡ call = cc in one x same (site_of x c)
-      by (Some (instr.Unknown bytes)) e = cc
+      by _ e = cc
 
 -- ---- its rule
 

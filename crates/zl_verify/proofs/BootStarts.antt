@@ -115,13 +115,7 @@ statement_starts lib w (statement.Process job program word handles) vs few fine 
         subst (λ k. IsWellBooted lib after k q) (eqb-true w.next_koid p here)
         (subst (IsWellBooted lib after w.next_koid) (same_Some made q (rw here at stands)) (new_well lib w job program word handles vs few fine may sound))
     by (inr other) = before lib w (statement.Process job program word handles) vs fine sound all p q (rw other at stands)
-statement_starts lib w (statement.Job parent) vs few fine may sound all p q there = before lib w (statement.Job parent) vs fine sound all p q there
-statement_starts lib w (statement.Policy job condition action) vs few fine may sound all p q there =
-    before lib w (statement.Policy job condition action) vs fine sound all p q there
-statement_starts lib w statement.Event vs few fine may sound all p q there = before lib w statement.Event vs fine sound all p q there
-statement_starts lib w statement.Port vs few fine may sound all p q there = before lib w statement.Port vs fine sound all p q there
-statement_starts lib w statement.Channel vs few fine may sound all p q there = before lib w statement.Channel vs fine sound all p q there
-statement_starts lib w statement.Eventpair vs few fine may sound all p q there = before lib w statement.Eventpair vs fine sound all p q there
+statement_starts lib w s vs few fine may sound all p q there = before lib w s vs fine sound all p q there
 
 -- ---- all statements, and the end of the boot
 

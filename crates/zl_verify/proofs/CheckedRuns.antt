@@ -77,27 +77,21 @@ module _ (lib : Library) (i : Image) (t : ℕ → Option State) (range : is_in_r
       by (inr e) = (fine_other p x e, other_stands w (pid_of x) x w2 b p e s)
 
   module _ (statements : List Statement) (boot : World) (begins : IsSizedBoot lib statements boot) (p : ℕ) where
-    run_fine : (more items : List TraceItem) (w after : World) → Runs lib boot items w → StandsIn w p → Runs lib w more after
-        → AllByRecursion (IsFineItem p) more
-    run_fine [] items w after run s e = tt
-    run_fine (x ∷ more) items w after run s (mid, step, rest) =
-        let (fine, later) = stands_still w x mid (fit_of lib w (pid_of x) x mid
-        (record { statements = statements; boot = boot; items = items; begins = begins; run = run; step = step })) p s in
-        (fine, run_fine more (items ++ (x ∷ [])) mid after (one_more lib boot items w x mid run step) later rest)
-
-    run_stands : (more items : List TraceItem) (w after : World) → Runs lib boot items w → StandsIn w p → Runs lib w more after → StandsIn after p
-    run_stands [] items w after run s e = rw e s
+    run_stands : (more items : List TraceItem) (w after : World) → Runs lib boot items w → StandsIn w p → Runs lib w more after
+        → AllByRecursion (IsFineItem p) more × StandsIn after p
+    run_stands [] items w after run s e = (tt, rw e s)
     run_stands (x ∷ more) items w after run s (mid, step, rest) =
         let (fine, later) = stands_still w x mid (fit_of lib w (pid_of x) x mid
         (record { statements = statements; boot = boot; items = items; begins = begins; run = run; step = step })) p s in
-        run_stands more (items ++ (x ∷ [])) mid after (one_more lib boot items w x mid run step) later rest
+        let (all, last) = run_stands more (items ++ (x ∷ [])) mid after (one_more lib boot items w x mid run step) later rest in
+        ((fine, all), last)
 
     pub stays_so : (items more : List TraceItem) (w after : World) → Runs lib boot items w → IsUnderWay lib i t w p → Runs lib w more after → StandsIn after p
-    stays_so items more w after run u rest = run_stands more items w after run (inl u) rest
+    stays_so items more w after run u rest = (run_stands more items w after run (inl u) rest).1
 
     pub never_refused : (items more : List TraceItem) (w after : World) → Runs lib boot items w → IsUnderWay lib i t w p → Runs lib w more after
         → AllByRecursion (IsFineItem p) more
-    never_refused items more w after run u rest = run_fine more items w after run (inl u) rest
+    never_refused items more w after run u rest = (run_stands more items w after run (inl u) rest).0
 
   -- ---- the budget
 

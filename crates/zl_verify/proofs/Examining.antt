@@ -3,8 +3,8 @@ use Rattle.zl_verify.proofs.Common.{◌≡◌, ◌≢◌, ℕ, ◌<◌, ◌≤�
 use Rattle.zl_verify.proofs.Common.{subst, Option, Some, None, Ok, cond, arith, inl, inr, slice_set, slice_index, if◌then◌else◌, filter, list_all, list_any}
 use Rattle.zl_verify.proofs.Common.{AllByRecursion, cases_eq, eqb-true, nat_tests, get_or-set_other, Entry, Kind, Rights, World, bits, within, takes}
 use Rattle.zl_verify.proofs.Common.{kind_number, written, first_some, register_count, SlotArray, Outcome, entry_at, Operand, contains, operand, operand_after}
-use Rattle.zl_verify.proofs.Common.{seen_after, AbsVal, Word, Has, KindOf, RightsOf, Cause, untagged, kind_below, State, IsState, value_at, with_value}
-use Rattle.zl_verify.proofs.Common.{and_then, fault_of, examined_all, within_trans, Table, IsAs, IsHandle, Describes, Holds}
+use Rattle.zl_verify.proofs.Common.{seen_after, AbsVal, Word, Has, Cause, untagged, kind_below, State, IsState, value_at, with_value, and_then, fault_of}
+use Rattle.zl_verify.proofs.Common.{examined_all, within_trans, Table, IsAs, IsHandle, Describes, Holds}
 use Rattle.std.proofs.Common.{⊎_elim}
 use Rattle.zl_code.specs.Operands.{examined as examined_at}
 use Rattle.zl_abs.specs.CallRules.{takes_any, taken_from, examined_by}
@@ -52,11 +52,7 @@ has_passes o maybe kind rights = by maybe o.may_be_zero (takes_any o.kinds kind)
         → HasPasses o m kind rights
     by true true true t true n z e = record { zero = λ m. z; kinds = t; needed = n }
     by false z true t true n is e = record { zero = λ m. cc; kinds = t; needed = n }
-    by true false t is n also z e = cc
-    by true true false t n is z e = cc
-    by true true true t false n z e = cc
-    by false z false t n is also e = cc
-    by false z true t false n is e = cc
+    by _ _ _ t _ n z e = cc
 
 pub passes_live : (f : Table) (xs : List ℕ) (o : Operand) (a : AbsVal) (x : ℕ) → fault_of o a ≡ None → Describes f xs a x → IsLive f o x
 passes_live f xs o (Word m) x e d = inl (zero_word o.may_be_zero m x (word_passes o m e) d).0
@@ -69,8 +65,7 @@ passes_live f xs o (Has maybe kind rights) x e d = by (has_passes o maybe kind r
     by : HasPasses o maybe kind rights → IsHandle f maybe kind rights x → IsLive f o x
     by k (inl (m, z)) = inl (rw (k.zero m, z) refl)
     by k (inr l) = live k (f x) refl l
-passes_live f xs o (KindOf t) x e d = cc
-passes_live f xs o (RightsOf t) x e d = cc
+passes_live f xs o _ x e d = cc
 
 -- ---- one operand after another
 
@@ -106,8 +101,7 @@ taken_registers os = map (λ o. o.value) (filter (λ o. o.is_taken) os)
 
 first_two : (a b : Option Outcome) → a ≡ None → b ≡ None → first_some (a ∷ b ∷ []) ≡ None
 first_two None None e g = refl
-first_two None (Some o) e g = cc
-first_two (Some o) b e g = cc
+first_two _ _ e g = cc
 
 operand_passes : (w : World) (p : ℕ) (kinds : List Kind) (needed x : ℕ) (e : Entry) → entry_at w p x ≡ Some e → takes kinds e.kind ≡ true
     → within needed (bits e.rights) ≡ true → operand w p kinds needed x ≡ None

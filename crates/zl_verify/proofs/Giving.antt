@@ -4,7 +4,7 @@ use Rattle.zl_verify.proofs.Common.{IsTrue, Option, Some, None, arith, inl, inr,
 use Rattle.zl_verify.proofs.Common.{eqb-true, nat_tests, get_or-set_same, get_or-set_other, and_le_l, Entry, Kind, Rights, Status, get, has_key, Process, bits}
 use Rattle.zl_verify.proofs.Common.{rights_of, kind_number, within, status_magnitude, get-put, process_with, may_get, may_get_after, may_get_all, told_of}
 use Rattle.zl_verify.proofs.Common.{is_value, AbsVal, Word, Has, KindOf, RightsOf, ANY, State, can_be_named, value_at, with_value, triple_results, both}
-use Rattle.zl_verify.proofs.Common.{within_is, Table, kind_in, rights_in, IsAs}
+use Rattle.zl_verify.proofs.Common.{within_is, Table, kind_in, rights_in, IsAs, eq-eqb}
 use Rattle.std.proofs.lemmas.List.{length-set}
 use Rattle.std.proofs.lemmas.Nat.{and_comm}
 use Rattle.zl_rights.specs.declared.kind.Kind.TheVariants as kind
@@ -42,8 +42,7 @@ zeros_fit f s xs [] z = refl
 zeros_fit f s xs ((r, Word n) ∷ ds) z = (f, (omega arith, omega arith, refl), zeros_fit f (with_value s r (Word n)) (slice_set xs r 0) ds z)
 zeros_fit f s xs ((r, Has maybe kind rights) ∷ ds) z =
     let two = both maybe (are_zeroable ds) z in (f, inl (two.0, refl, refl), zeros_fit f (with_value s r (Has maybe kind rights)) (slice_set xs r 0) ds two.1)
-zeros_fit f s xs ((r, KindOf t) ∷ ds) z = cc
-zeros_fit f s xs ((r, RightsOf t) ∷ ds) z = cc
+zeros_fit f s xs ((r, _) ∷ ds) z = cc
 
 -- ---- new handles
 
@@ -55,7 +54,7 @@ IsFreeLast q = (v : ℕ) → q.last ≡ Some v → IsTrue (is_value v) × (has_k
 abbrev pub IsFresh : Process → ℕ → Type 0
 IsFresh q v = (0 < v) × (v < 65536) × (get q.handles v ≡ None)
 
-none_at : (o : Option Entry) → is_some o ≡ false → o ≡ None
+pub none_at : (o : Option Entry) → is_some o ≡ false → o ≡ None
 none_at None t = refl
 none_at (Some y) t = cc
 
@@ -116,14 +115,7 @@ handles_fit ((r, Has maybe kind rights) ∷ ds) (e ∷ es) (v ∷ vs) q s xs sou
       inr (e, omega arith, some, unused, fits, getting v e q),
       handles_fit ds es vs (process_with v e q) _ _ (free_with q v e) two.1 more,
     )
-handles_fit [] (e ∷ es) vs q s xs sound may a = absurd a
-handles_fit ((r, Has maybe kind rights) ∷ ds) [] vs q s xs sound may a = absurd a
-handles_fit ((r, Word n) ∷ ds) [] vs q s xs sound may a = absurd a
-handles_fit ((r, Word n) ∷ ds) (e ∷ es) vs q s xs sound may a = absurd a
-handles_fit ((r, KindOf t) ∷ ds) [] vs q s xs sound may a = absurd a
-handles_fit ((r, KindOf t) ∷ ds) (e ∷ es) vs q s xs sound may a = absurd a
-handles_fit ((r, RightsOf t) ∷ ds) [] vs q s xs sound may a = absurd a
-handles_fit ((r, RightsOf t) ∷ ds) (e ∷ es) vs q s xs sound may a = absurd a
+handles_fit _ _ vs q s xs sound may a = absurd a
 
 -- ---- handles with their kinds and rights
 
@@ -138,10 +130,7 @@ kind_few kind.Process = omega arith
 kind_few _ = omega arith
 
 added_itself : (v : ℕ) (e : Entry) (f : Table) → added v e f v ≡ Some e
-added_itself v e f = rw (itself v) refl
-  where
-    itself : (v : ℕ) → (v == v) ≡ true
-    itself v = grind (arith, nat_tests)
+added_itself v e f = rw (eq-eqb v v refl) refl
 
 -- the state and the registers behind a triple
 abbrev after_triple : ℕ → State → AbsVal → State

@@ -39,9 +39,6 @@ zero_or_there s a r _ = refl
 kind_or_other : (s : State) (a imm r : ℕ) (k : Option Kind) (v : AbsVal)
     → HasWay (record { jumped = becomes a imm (known_kind s r k v); passed = known_other s k v })
 kind_or_other s a imm r None v = refl
-kind_or_other s a imm r (Some k) (Word m) = refl
-kind_or_other s a imm r (Some k) (KindOf q) = refl
-kind_or_other s a imm r (Some k) (RightsOf q) = refl
 kind_or_other s a imm r (Some k) (Has maybe None q) = refl
 kind_or_other s a imm r (Some k) (Has maybe (Some j) q) = by maybe (same_kind k j) (refined s r (Has false (Some k) q))
   where
@@ -49,6 +46,7 @@ kind_or_other s a imm r (Some k) (Has maybe (Some j) q) = by maybe (same_kind k 
     by m true u = refl
     by true false u = refl
     by false false u = refl
+kind_or_other s a imm r (Some k) _ = refl
 
 kind_on : (s : State) (a imm r : ℕ) → HasWay (kind_ways s a imm r)
 kind_on s a imm r = by (eqb imm 0)
@@ -81,9 +79,7 @@ equal_on s a imm (Word m) = by (ltb m (capped imm)) (eqb m 0 && eqb imm 0) (apar
 
 zero_on : (s : State) (a : ℕ) (v : AbsVal) → IfOk (zero_ways s a v) HasWay
 zero_on s a (Has maybe k r) = or_true _
-zero_on s a (Word m) = equal_on s a 0 (Word m)
-zero_on s a (KindOf r) = equal_on s a 0 (KindOf r)
-zero_on s a (RightsOf r) = equal_on s a 0 (RightsOf r)
+zero_on s a v = equal_on s a 0 v
 
 below_on : (s : State) (a imm : ℕ) → IfOk (below_ways s a imm) HasWay
 below_on s a imm = one HasWay s a _ (λ m. either (eqb imm 0) (ltb m imm) s _ (apart m imm))
@@ -155,10 +151,9 @@ unfolding rule_with
 rule_on bounds i n s e = by (instr_at i n) e
   where
     by : (o : Option Instr) → is_pause (call_in o) ≡ false → IfOk (rule_by bounds i n s o) IsThere
-    by None h = tt
     by (Some (instr.Local x)) h = edges_on (length i.code) n (target_of x) (local_rule bounds i x s) (local_on bounds i x s)
     by (Some (instr.Call x)) h = edges_on (length i.code) n 0 (call_rule bounds i x s) (call_on bounds i x s h)
-    by (Some (instr.Unknown bytes)) h = tt
+    by _ h = tt
 
 -- where the rule holds of what is no pause, an edge is followed
 pub leads_on : (i : Image) (n : ℕ) (s : State) (es : List Edge) → is_pause (call_at i n) ≡ false → rule i n s ≡ Ok es → es ≢ []

@@ -146,10 +146,9 @@ module _ (i : Image) (t : ℕ → Option State) (range : IsTrue (is_in_range i))
       no_move call (Some s) e = cc
 
       by : (o : Option Instr) → instr_at i c0.counter ≡ o → next_of o c0 ≡ Moves c → OneOf (λ n. c.counter ≡ n) (leads i t c0.counter) × StandsBy i t f c
-      by None is e = cc
       by (Some (instr.Local x)) is e = one x is (local_effect x c0) refl e
       by (Some (instr.Call x)) is e = absurd (no_move x.name (site_of x c0) e)
-      by (Some (instr.Unknown bytes)) is e = cc
+      by _ is e = cc
 
   call_goes : (x : CallInstr) → instr_at i c0.counter ≡ Some (instr.Call x) → (o : Option Site) → site_of x c0 ≡ o → calls_at x.name o ≢ IsStuck
   call_goes x is (Some s) site e = cc

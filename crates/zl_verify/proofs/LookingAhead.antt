@@ -99,11 +99,10 @@ module _ (steps : ℕ → Option ℕ) (k : ℕ) where
   rule_ahead i n s = by (instr_at i n)
     where
       by : (o : Option Instr) → AllBelow steps k (onward i n (local_in o)) → AllBelow steps k (targets_of (rule_by (bounds_of i.code) i n s o))
-      by None g = tt
       by (Some (instr.Local x)) g =
           through (length i.code) n (jump_in (Some x)) (target_of x) (local_rule (bounds_of i.code) i x s) (local_suits (bounds_of i.code) i x s) g
       by (Some (instr.Call x)) g = through (length i.code) n None 0 (call_rule (bounds_of i.code) i x s) (call_suits (bounds_of i.code) i x s) g
-      by (Some (instr.Unknown bytes)) g = tt
+      by _ g = tt
 
   leads_ahead : (i : Image) (n : ℕ) (o : Option State) → AllBelow steps k (ahead i n) → AllBelow steps k (leads_by i n o)
   leads_ahead i n None g = tt

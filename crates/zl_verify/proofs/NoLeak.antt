@@ -3,7 +3,7 @@ use Rattle.zl_verify.proofs.Common.{◌≡◌, ℕ, zero, suc, ◌+◌, ◌<◌,
 use Rattle.zl_verify.proofs.Common.{Option, inl, inr, arith, ◌↔◌, ◌⊎◌, nat_lt, if◌then◌else◌, slice_index_or, is_some, AllByRecursion, Contains, IsDistinct}
 use Rattle.zl_verify.proofs.Common.{filter, nat_tests, sum_by-cons, same_Some, get, lives, World, Process, Ended, Life, has_ended, Image, is_in_range, is_has}
 use Rattle.zl_verify.proofs.Common.{State, IsTyping, one_if, is_it, owns, owners, keepers, Conforms, values_in_registers, values_in_slots, handle_values}
-use Rattle.zl_verify.proofs.Common.{HoldsJustItsHandles, IsUnderWay, HasEnded}
+use Rattle.zl_verify.proofs.Common.{HoldsJustItsHandles, IsUnderWay, HasEnded, eq-eqb}
 use Rattle.std.specs.List.{concat}
 use Rattle.std.proofs.lemmas.List.Elements.{filter-append}
 use Rattle.zl_verify.specs.NoLeak.{NeverLeaks}
@@ -74,11 +74,8 @@ contained v (x ∷ xs) h = by (x == v) refl (contained v xs)
 counted_at : (v : ℕ) (xs : List ℕ) (k : ℕ) → k < length xs → slice_index_or xs k v ≡ v → 1 ≤ times v xs
 counted_at v [] k inside is = absurd (omega arith)
 counted_at v (x ∷ xs) zero inside is =
-    let here : one_if (x == v) ≡ 1 = rw is (itself v) in
+    let here : one_if (x == v) ≡ 1 = rw is (ap one_if (eq-eqb v v refl)) in
     omega arith
-  where
-    itself : (v : ℕ) → one_if (v == v) ≡ 1
-    itself v = grind (arith, nat_tests)
 counted_at v (x ∷ xs) (suc k) inside is = let n = counted_at v xs k (omega arith) is in omega arith
 
 apart_from : (v : ℕ) (xs : List ℕ) → times v xs ≡ 0 → AllByRecursion (λ x. (v == x) ≡ false) xs

@@ -62,7 +62,6 @@ only_exits lib w p n cs ds answer w2 (Wants want, h) = absurd (no_want want h.0)
   where
     no_want : (a : Status) → wanted false false a ≡ true → ⊥
     no_want status.NoMemory e = false≢true e
-    no_want status.NoResources e = false≢true e
     no_want _ e = false≢true e
 only_exits lib w p n cs ds answer w2 (Values vs, h) = h.1
 
@@ -235,8 +234,7 @@ module _ (i : Image) (t : ℕ → Option State) (w : World) (p : ℕ) (q : Proce
 
     by_refusal : (o : Outcome) → IsOrdinary (Some o) → Ends o (after_refusal w p s o)
     by_refusal (outcome.Answered answer) (fine, bad) = (fine, after_refused answer bad)
-    by_refusal outcome.Blocked h = absurd h
-    by_refusal (outcome.Ended code) h = absurd h
+    by_refusal _ h = absurd h
 
     -- a want is no fault
     by_want : (want : Status) → IsTrue (may_want w p s.request want) → Ends (outcome.Answered want) (after_refusal w p s (outcome.Answered want))

@@ -9,7 +9,7 @@ use Rattle.zl_verify.proofs.Common.{created_process, started_with, is_within, bo
 use Rattle.zl_verify.proofs.Common.{job_within, Request, chan_create, chan_write, chan_read_etc, event_create, eventpair_create, signal, signal_peer}
 use Rattle.zl_verify.proofs.Common.{port_create, port_queue, port_wait, port_poll, port_cancel, process_create, process_start, process_exit, task_kill}
 use Rattle.zl_verify.proofs.Common.{job_create, job_set_policy, listed, effect, new_handles, receiver_of, entering_at, stored_by, ends_caller, refusal}
-use Rattle.zl_verify.proofs.Common.{with_effect, IsSound}
+use Rattle.zl_verify.proofs.Common.{with_effect, IsSound, eq-eqb}
 use Rattle.zl_code.specs.Effects.{message_sent, message_read}
 use Rattle.zl_code.specs.Jobs.{is_dead, has_child, policy_changed}
 use Rattle.zl_code.specs.Waiting.{without_keyed, repacked}
@@ -296,10 +296,7 @@ child_in : (w : World) (p : ℕ) (q : Process) (job : ℕ) → get w.processes p
 unfolding has_child_process is_process
 child_in w p q job there living body =
     let (x, at, is) = some_body (get w.objects p) (ProcessBody job) body in
-    list_any-get _ w.objects p x at (rw (is, there, living) (itself job))
-  where
-    itself : (n : ℕ) → ((n == n) && true) ≡ true
-    itself n = grind (arith, nat_tests)
+    list_any-get _ w.objects p x at (rw (is, there, living, eq-eqb job job refl) refl)
 
 pub same_policy : (w w2 : World) (p : ℕ) (q : Process) → IsSound w → get w.processes p ≡ Some q → lives q.state ≡ true → AreAlike w w w2 → (c : Condition)
     → creates w2 p c ≡ creates w p c

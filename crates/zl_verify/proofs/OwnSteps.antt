@@ -172,14 +172,12 @@ module _ (lib : Library) (i : Image) (t : ℕ → Option State) (range : is_in_r
           ends_with None (Some other) code is = let same : other ≡ code = cc in ap Some same
 
       exited : (code : ℤ) (choice : Choice) (r : Option Outcome) → CallBy lib w p s choice r (outcome.Ended code) b.step.acted → HasEnded b.step.acted p
-      exited code Refused None c = absurd c
       exited code Refused (Some (outcome.Answered answer)) c = let bad = c.0 in cc
       exited code Refused (Some outcome.Blocked) c = let bad = c.0 in cc
       exited code Refused (Some (outcome.Ended other)) c = subst (λ v. HasEnded v p) (sym c.1) (ended_there w p own b.step.is_there (inl b.step.is_ready) other)
       exited code (Wants want) None c = let bad = c.1 in cc
-      exited code (Wants want) (Some o) c = absurd c
       exited code (Values vs) None c = subst (λ v. HasEnded v p) (sym (c.2 ∙ ap (after_ok lib w p s vs) (sym c.1))) (exited_at vs code (sym c.1))
-      exited code (Values vs) (Some o) c = absurd c
+      exited code _ _ c = absurd c
 
       pause_here : is_pause (call_at i own.cpu.counter) ≡ is_pause_name called
       pause_here = let at = at_call i own.cpu called s next in ap (λ o. is_pause (call_in o)) at.stands ∙ ap is_pause_name at.named

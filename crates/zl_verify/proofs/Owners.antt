@@ -10,6 +10,13 @@ pub owns_it : (maybe : Bool) (kind : Option Kind) (rights : Rights) (y : ℕ) �
 unfolding owns
 owns_it maybe kind rights y h = grind (arith, nat_tests)
 
+pub not_0 : (v : ℕ) → one_if (is_it v 0) ≡ 0
+not_0 v = by (0 == v)
+  where
+    by : (b : Bool) → one_if (b && nat_lt 0 0) ≡ 0
+    by true = refl
+    by false = refl
+
 pub it_is_itself : (y : ℕ) → y ≢ 0 → is_it y y ≡ true
 it_is_itself y h = grind (arith, nat_tests)
 
@@ -144,13 +151,6 @@ one_of v k places some e =
     inside k [] h = absurd (h refl)
     inside zero (x ∷ xs) h = omega arith
     inside (suc k) (x ∷ xs) h = let n = inside k xs h in omega arith
-
-    not_0 : (v : ℕ) → one_if (is_it v 0) ≡ 0
-    not_0 v = by (0 == v)
-      where
-        by : (b : Bool) → one_if (b && nat_lt 0 0) ≡ 0
-        by true = refl
-        by false = refl
 
 pub keepers-at : (v n k : ℕ) (slots : List (List ℕ)) → v ≢ 0 → place_at slots n k ≡ v → 1 ≤ keepers v slots
 unfolding keepers

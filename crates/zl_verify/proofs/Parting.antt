@@ -62,7 +62,6 @@ unfolding rule_with
 rule_parted i bs a n s = by (instr_at i n) refl
   where
     by : (o : Option Instr) → instr_at i n ≡ o → IfOk (rule_by (bounds_of i.code) i n s o) (AreParted bs.numbers n)
-    by None e = tt
     by (Some (instr.Local x)) e =
         let j : jump_in (local_in (instr_at i n)) ≡ target_of x = rw e refl in
         then_parted bs.numbers n (local_rule (bounds_of i.code) i x s) (edges (length i.code) n (target_of x))
@@ -71,4 +70,4 @@ rule_parted i bs a n s = by (instr_at i n) refl
     by (Some (instr.Call x)) e =
         then_parted bs.numbers n (call_rule (bounds_of i.code) i x s) (edges (length i.code) n 0)
         (λ w. edges_parted bs.numbers (length i.code) n 0 (λ h z. let q : None ≡ Some 0 = sym z ∙ a.first in cc) w)
-    by (Some (instr.Unknown x)) e = tt
+    by _ e = tt

@@ -1,8 +1,8 @@
 -- What a refused call gives fits what its rule says, whatever the status.
 use Rattle.zl_verify.proofs.Common.{◌≡◌, ℕ, ◌+◌, ◌*◌, ◌≤◌, Bool, true, false, ◌&&◌, ◌==◌, List, [], ◌∷◌, length, refl, sym, ◌∙◌, subst, Some, None, arith}
 use Rattle.zl_verify.proofs.Common.{slice_index, slice_set, eqb-true, World, Cpu, status_magnitude, Status, register_count, reg, CallName, CallInstr, number_at}
-use Rattle.zl_verify.proofs.Common.{is_call_in_range, chan_read_etc, wait_poll, gives_refused, Site, site_of, IsSound, object_at, AbsVal, Word, Has, KindOf}
-use Rattle.zl_verify.proofs.Common.{RightsOf, State, value_at, with_value, narrowed_value, triple_results, uses_of, both, QueuesAreSized, Table}
+use Rattle.zl_verify.proofs.Common.{is_call_in_range, chan_read_etc, wait_poll, gives_refused, Site, site_of, IsSound, object_at, AbsVal, Word, Has, State}
+use Rattle.zl_verify.proofs.Common.{value_at, with_value, narrowed_value, triple_results, uses_of, both, QueuesAreSized, Table}
 use Rattle.std.proofs.lemmas.List.{length-set}
 use Rattle.zl_rights.specs.declared.status.Status.TheVariants as status
 use Rattle.zl_code.specs.declared.history.CallName.TheVariants as name
@@ -33,9 +33,7 @@ alone_fits f s xs ((a, Word m) ∷ ds) n few h =
     let two = both (m == 30) (are_zeroable ds) h in
     let is : m ≡ 30 = eqb-true m 30 two.0 in
     (f, (rw is few, omega arith, refl), zeros_fit f (with_value s a (Word m)) (slice_set xs a n) ds two.1)
-alone_fits f s xs ((a, Has maybe kind rights) ∷ ds) n few h = cc
-alone_fits f s xs ((a, KindOf t) ∷ ds) n few h = cc
-alone_fits f s xs ((a, RightsOf t) ∷ ds) n few h = cc
+alone_fits f s xs ((a, _) ∷ ds) n few h = cc
 
 narrowed_zero : (a : ℕ) (v : AbsVal) (imm : ℕ) → are_zeroable ((a, narrowed_value v imm) ∷ []) ≡ true
 narrowed_zero a (Has maybe kind rights) imm = refl

@@ -9,7 +9,9 @@ use Rattle.zl_rights.specs.declared.kind.Kind.TheVariants as kind
 use Rattle.zl_code.specs.declared.instr.Instr.TheVariants as instr
 use Rattle.zl_code.specs.declared.instr.LocalInstr.TheVariants as local
 use Rattle.zl_code.specs.declared.history.CallName.TheVariants as name
-use Rattle.zl_verify.proofs.RowsConforms.{zeros_small, zeros_described, zeros_own, not_0}
+use Rattle.zl_verify.proofs.RowsConforms.{zeros_small, zeros_described}
+use Rattle.zl_verify.proofs.Owners.{not_0}
+use Rattle.zl_verify.proofs.Starting.{owners_none}
 
 -- ---- the example
 
@@ -57,7 +59,7 @@ known = known_with (Has false (Some kind.Channel) (rights_of READ))
 owned : (v : ℕ) → owners v known cpu.registers + keepers v cpu.slots ≡ one_if (is_some (get handles v))
 unfolding owners owns keepers get
 owned v =
-    let rest = zeros_own v 27 in
+    let rest = owners_none v 27 in
     let none = not_0 v in
     by (17 == v) (23 == v) refl refl (owners v (replicate 27 (Word 0)) (replicate 27 0)) (one_if (is_it v 0)) rest none
   where

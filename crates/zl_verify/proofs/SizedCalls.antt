@@ -125,9 +125,7 @@ module _ (w : World) (p : ℕ) (s : IsSized w) where
   unfolding gives_refused
   refused_small (chan_read_etc c address room places) status.BufferTooSmall = let few = sizes_small c in (few.0, (few.1, tt))
   refused_small (wait_poll h mask) status.TimedOut = (active_sized w s (object_at w p h), tt)
-  refused_small (chan_read_etc c address room places) _ = tt
-  refused_small (wait_poll h mask) _ = tt
-  refused_small _ st = tt
+  refused_small _ _ = tt
 
   given_small : IsSound w → (r : Request) → IsSizedRequest r → (vs : List ℕ) → AreSmall vs → AreSmall (gives_ok w p r vs)
   unfolding gives_ok

@@ -36,10 +36,9 @@ next_sized i c range h = by (instr_at i c.counter) (in_range_at i.raw i.code c.c
     called x (Some t) is = request_sized c h x t is
 
     by : (o : Option Instr) → IfSome o (λ x. is_instr_in_range i.raw x ≡ true) → IsSizedNext (next_of o c)
-    by None r = tt
     by (Some (instr.Local x)) r = moved (local_effect x c) (local_sized c h x r)
     by (Some (instr.Call x)) r = called x (site_of x c) refl
-    by (Some (instr.Unknown bytes)) r = tt
+    by _ r = tt
 
 library_sized : (lib : Library) → AllByRecursion (λ g. IsTrue (is_in_range g.image)) lib → (n : ℕ) (c : Cpu) → IsSizedCpu c
     → IsSizedNext (next_in (slice_get lib n) c)

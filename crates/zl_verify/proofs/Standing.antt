@@ -33,11 +33,7 @@ module _ (i : Image) (s : State) (x : CallInstr) (u : Uses) (r : State) (w : Way
       (λ t. Ok (if goes_on x.name then passes t else stops)) ≡ Ok w
       → HasRule i s x u r w
   by_tests true true true true false bs ds es fs h = record { operands = operands; range = bs; declared = ds; distinct = es; free = fs; leads = same_Ok _ w h }
-  by_tests false b d e f bs ds es fs h = cc
-  by_tests true false d e f bs ds es fs h = cc
-  by_tests true true false e f bs ds es fs h = cc
-  by_tests true true true false f bs ds es fs h = cc
-  by_tests true true true true true bs ds es fs h = cc
+  by_tests _ _ _ _ _ bs ds es fs h = cc
 
   finished_by : and_then (finished i s r u) (λ t. Ok (if goes_on x.name then passes t else stops)) ≡ Ok w → HasRule i s x u r w
   finished_by h =

@@ -1,12 +1,12 @@
 -- A process that was made and isn't started yet is as it was made, and its job allows what its program needs; what a step does keeps this.
-use Rattle.zl_verify.proofs.Common.{◌≡◌, ℕ, ◌<◌, ◌⊎◌, Bool, true, false, ◌==◌, List, [], ◌∷◌, refl, sym, ap, ◌∙◌, subst, Option, Some, None, option_map, arith}
-use Rattle.zl_verify.proofs.Common.{inl, inr, ℤ, if◌then◌else◌, cases_Bool, eqb-true, nat_tests, same_Some, Entry, get, put, World, Process, Life, Created}
-use Rattle.zl_verify.proofs.Common.{Ready, Blocked, Ended, ProcessBody, KILLED, has_ended, Awaited, get-put, get-update, get-each, Outcome, TraceItem, Library}
-use Rattle.zl_verify.proofs.Common.{object_at, on_process, on_object, with_object, process_with, process_ended, insert_all, ended, waiting, is_created}
-use Rattle.zl_verify.proofs.Common.{created_process, started_with, is_within, process_killed, with_killed, refusal, Request, process_create, process_start}
-use Rattle.zl_verify.proofs.Common.{task_kill, effect, new_handles, receiver_of, entering_at, stored_by, gives_ok, gives_refused, awaited_by, ends_caller, Site}
-use Rattle.zl_verify.proofs.Common.{taken_handles, taken, cpu_answered, replied, with_effect, after_refusal, after_ok, ok_outcome, Next, Moves, AtCall, IsStuck}
-use Rattle.zl_verify.proofs.Common.{Acts, left_behind, Calls}
+use Rattle.zl_verify.proofs.Common.{◌≡◌, ℕ, ◌<◌, ◌⊎◌, Bool, true, false, ◌==◌, List, [], ◌∷◌, refl, sym, ap, ◌∙◌, subst, Option, Some, None, option_map, inl}
+use Rattle.zl_verify.proofs.Common.{inr, ℤ, if◌then◌else◌, cases_Bool, eqb-true, same_Some, Entry, get, put, World, Process, Life, Created, Ready, Blocked}
+use Rattle.zl_verify.proofs.Common.{Ended, ProcessBody, KILLED, has_ended, Awaited, get-put, get-update, get-each, Outcome, TraceItem, Library, object_at}
+use Rattle.zl_verify.proofs.Common.{on_process, on_object, with_object, process_with, process_ended, insert_all, ended, waiting, is_created, created_process}
+use Rattle.zl_verify.proofs.Common.{started_with, is_within, process_killed, with_killed, refusal, Request, process_create, process_start, task_kill, effect}
+use Rattle.zl_verify.proofs.Common.{new_handles, receiver_of, entering_at, stored_by, gives_ok, gives_refused, awaited_by, ends_caller, Site, taken_handles}
+use Rattle.zl_verify.proofs.Common.{taken, cpu_answered, replied, with_effect, after_refusal, after_ok, ok_outcome, Next, Moves, AtCall, IsStuck, Acts}
+use Rattle.zl_verify.proofs.Common.{left_behind, Calls, eq-eqb}
 use Rattle.zl_rights.specs.declared.status.Status.TheVariants as status
 use Rattle.zl_code.specs.declared.history.Outcome.TheVariants as outcome
 use Rattle.zl_verify.proofs.CallEnds.{call_ends}
@@ -22,9 +22,6 @@ use Rattle.zl_verify.proofs.Others.{left_other, stored_other, ended_other, waiti
 data Origin (lib : Library) (w u : World) (q : ℕ) (r : Request) (y : Process) : Type 0 where
   from_before : get u.processes q ≡ Some y → Origin lib w u q r y
   from_call : (h program : ℕ) → r ≡ process_create h program → q ≡ w.next_koid → y ≡ created_process lib program → Origin lib w u q r y
-
-itself : (k : ℕ) → (k == k) ≡ true
-itself k = grind (arith, nat_tests)
 
 unmapped : (vs : List ℕ) (o : Option Process) → option_map (getting_all [] vs) o ≡ o
 unmapped vs None = refl
@@ -42,7 +39,7 @@ inserted_at (e ∷ es) [] w k = by (get w.processes k)
     by (Some x) = refl
 inserted_at (e ∷ es) (v ∷ vs) w k =
     inserted_at es vs (on_process w k (process_with v e)) k
-    ∙ (ap (option_map (getting_all es vs)) (get-update w.processes k (process_with v e) k ∙ rw (itself k) refl) ∙ by (get w.processes k))
+    ∙ (ap (option_map (getting_all es vs)) (get-update w.processes k (process_with v e) k ∙ rw (eq-eqb k k refl) refl) ∙ by (get w.processes k))
   where
     by : (o : Option Process) → option_map (getting_all es vs) (option_map (process_with v e) o) ≡ option_map (getting_all (e ∷ es) (v ∷ vs)) o
     by None = refl
@@ -50,7 +47,7 @@ inserted_at (e ∷ es) (v ∷ vs) w k =
 
 pub changed_at : (w : World) (k : ℕ) (f : Process → Process) → get (on_process w k f).processes k ≡ option_map f (get w.processes k)
 unfolding on_process
-changed_at w k f = get-update w.processes k f k ∙ rw (itself k) refl
+changed_at w k f = get-update w.processes k f k ∙ rw (eq-eqb k k refl) refl
 
 -- what ends isn't created
 ended_old : (code : ℤ) (x : Process) → is_created (process_ended code x).state ≡ false

@@ -1,11 +1,11 @@
 -- In every world of a run from a boot world, a process that isn't started yet is as it was made, and its job allows what its program needs.
 use Rattle.zl_verify.proofs.Common.{◌≡◌, ℕ, ◌<◌, ◌⊎◌, Bool, true, false, not, ◌&&◌, ◌||◌, ◌==◌, List, [], ◌∷◌, refl, sym, ap, ◌∙◌, subst, Option, Some, None}
-use Rattle.zl_verify.proofs.Common.{option_map, arith, inl, inr, is_some, if◌then◌else◌, slice_get, unwrap_or, list_any, cases_Bool, eqb-true, nat_tests}
-use Rattle.zl_verify.proofs.Common.{same_Some, Entry, Action, Condition, condition_number, answered, get, put, lives, Settles, process_settled, without_others}
-use Rattle.zl_verify.proofs.Common.{fired, wakes, World, Process, Life, Created, Ready, Object, ProcessBody, state_without, made_ready, woken, get-put}
-use Rattle.zl_verify.proofs.Common.{get-each, TraceItem, Library, Program, is_among, object_at, body_in, body_of, parent_in, parent_of, policy_in, action_of}
-use Rattle.zl_verify.proofs.Common.{unless_allowed, creates, is_created, created_process, refusal, IsSound, process_create, listed, Step, next_for}
-use Rattle.zl_verify.proofs.Common.{AreUnstarted, IsFitStep}
+use Rattle.zl_verify.proofs.Common.{option_map, arith, inl, inr, is_some, if◌then◌else◌, slice_get, unwrap_or, list_any, cases_Bool, eqb-true, same_Some, Entry}
+use Rattle.zl_verify.proofs.Common.{Action, Condition, condition_number, answered, get, put, lives, Settles, process_settled, without_others, fired, wakes}
+use Rattle.zl_verify.proofs.Common.{World, Process, Life, Created, Ready, Object, ProcessBody, state_without, made_ready, woken, get-put, get-each, TraceItem}
+use Rattle.zl_verify.proofs.Common.{Library, Program, is_among, object_at, body_in, body_of, parent_in, parent_of, policy_in, action_of, unless_allowed}
+use Rattle.zl_verify.proofs.Common.{creates, is_created, created_process, refusal, IsSound, process_create, listed, Step, next_for, AreUnstarted, IsFitStep}
+use Rattle.zl_verify.proofs.Common.{eq-eqb}
 use Rattle.zl_code.specs.Tests.{koid_in}
 use Rattle.zl_code.specs.Jobs.{is_allowing, lacks_need}
 use Rattle.zl_verify.specs.Covered.{IsUnstarted}
@@ -17,9 +17,6 @@ use Rattle.zl_verify.proofs.OwnEffect.{other_koid, same_policy}
 use Rattle.zl_verify.proofs.Others.{keys_below, left_by_step}
 use Rattle.zl_verify.proofs.Woken.{allowed_after}
 use Rattle.zl_verify.proofs.Unstarted.{Comes, was, made, AllCome, when_acted}
-
-itself : (k : ℕ) → (k == k) ≡ true
-itself k = grind (arith, nat_tests)
 
 -- ---- what its job allows
 
@@ -94,7 +91,9 @@ module _ (lib : Library) (w u : World) (job program : ℕ) (below : job < w.next
       at k = ap (λ m. get m k) objects ∙ get-put w.objects w.next_koid new k
 
       above : parent_of u w.next_koid ≡ job
-      above = let here : get u.objects w.next_koid ≡ Some new = at w.next_koid ∙ rw (itself w.next_koid) refl in ap (λ o. parent_in (body_in o)) here
+      above =
+          let here : get u.objects w.next_koid ≡ Some new = at w.next_koid ∙ rw (eq-eqb w.next_koid w.next_koid refl) refl in
+          ap (λ o. parent_in (body_in o)) here
 
       policy : policy_in (body_of u job) ≡ policy_in (body_of w job)
       policy = let still : get u.objects job ≡ get w.objects job = at job ∙ rw (other_koid w.next_koid job below) refl in ap (λ o. policy_in (body_in o)) still

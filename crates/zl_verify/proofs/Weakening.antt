@@ -30,11 +30,7 @@ described-below f xs (KindOf r) (KindOf t) x e few d = subst (λ u. Describes f 
 described-below f xs (KindOf r) (Word n) x e few d = grind (arith, nat_tests)
 described-below f xs (RightsOf r) (RightsOf t) x e few d = subst (λ u. Describes f xs (RightsOf u) x) (eqb-true r t e) d
 described-below f xs (RightsOf r) (Word n) x e few d = grind (arith, nat_tests)
-described-below f xs (Has maybe k q) (Word n) x e few d = cc
-described-below f xs _ (KindOf t) x e few d = cc
-described-below f xs _ (RightsOf t) x e few d = cc
-described-below f xs (KindOf r) _ x e few d = cc
-described-below f xs (RightsOf r) _ x e few d = cc
+described-below f xs _ _ x e few d = cc
 
 -- a place that can only hold 0 holds 0
 abbrev IsZeroThere : AbsVal → ℕ → Type 0
@@ -45,33 +41,27 @@ owns-below : (v : ℕ) (a b : AbsVal) (x : ℕ) → IsTrue (below a b) → IsZer
 unfolding below owns
 owns-below v (Word m) (Has maybe k q) x e z = rw (z (eqb-true m 0 (both (m == 0) maybe e).0)) (sym (owns_0 v (Has maybe k q)))
 owns-below v (Has a k q) (Has b j p) x e z = refl
-owns-below v (Has maybe k q) (Word n) x e z = cc
-owns-below v (Has maybe k q) (KindOf t) x e z = cc
-owns-below v (Has maybe k q) (RightsOf t) x e z = cc
+owns-below v (Has maybe k q) _ x e z = cc
 owns-below v _ (Has maybe k q) x e z = cc
-owns-below v (KindOf r) _ x e z = refl
-owns-below v (RightsOf r) _ x e z = refl
-owns-below v (Word m) _ x e z = refl
+owns-below v _ _ x e z = refl
 
 owners-below : (v : ℕ) (s t : State) (xs : List ℕ) → IsTrue (all_below s t) → ((r : ℕ) → IsZeroThere (value_at s r) (slice_index xs r))
     → owners v s xs ≡ owners v t xs
 unfolding all_below owners
 owners-below v [] [] xs e z = refl
-owners-below v [] (b ∷ t) xs e z = cc
-owners-below v (a ∷ s) [] xs e z = cc
 owners-below v (a ∷ s) (b ∷ t) [] e z = refl
 owners-below v (a ∷ s) (b ∷ t) (x ∷ xs) e z =
     let p = both (below a b) (all_below s t) e in
     let one = owns-below v a b x p.0 (z 0) in
     let rest = owners-below v s t xs p.1 (λ r. z (suc r)) in
     omega arith
+owners-below v _ _ xs e z = cc
 
 length_below : (s t : State) → IsTrue (all_below s t) → length s ≡ length t
 unfolding all_below
 length_below [] [] e = refl
-length_below [] (b ∷ t) e = cc
-length_below (a ∷ s) [] e = cc
 length_below (a ∷ s) (b ∷ t) e = let k = length_below s t (both (below a b) (all_below s t) e).1 in omega arith
+length_below _ _ e = cc
 
 small_is : (m x : ℕ) → x ≤ m → m ≡ 0 → x ≡ 0
 small_is m x le z = omega arith

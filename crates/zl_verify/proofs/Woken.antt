@@ -2,7 +2,7 @@
 use Rattle.zl_verify.proofs.Common.{◌≡◌, ℕ, ◌⊎◌, true, false, ◌==◌, List, [], ◌∷◌, refl, sym, ap, ◌∙◌, subst, IsTrue, Option, Some, None, inl, inr}
 use Rattle.zl_verify.proofs.Common.{if◌then◌else◌, unwrap_or, option_map, cases_Bool, eqb-true, same_Some, none-some, condition_number, answered, get, lives}
 use Rattle.zl_verify.proofs.Common.{runs, Settles, process_settled, without_others, fired, wakes, World, Process, Life, Created, Ready, Blocked, Object, Body}
-use Rattle.zl_verify.proofs.Common.{JobBody, PortBody, ProcessBody, Awaited, SignalOf, PacketAt, Packet, active, state_without, body_with_packets, packets_for}
+use Rattle.zl_verify.proofs.Common.{PortBody, ProcessBody, Awaited, SignalOf, PacketAt, Packet, active, state_without, body_with_packets, packets_for}
 use Rattle.zl_verify.proofs.Common.{made_ready, packet_values, with_body, woken, Condition, get-put, get-each, TraceItem, Image, Library, is_among, is_in_range}
 use Rattle.zl_verify.proofs.Common.{body_in, body_of, parent_in, parent_of, policy_in, action_of, unless_allowed, creates, IsSound, step_sound, State, IsTyping}
 use Rattle.zl_verify.proofs.Common.{Conforms, IsSized, IsSizedObject, IsRunStep, IsFitStep, EndsStep, stays}
@@ -97,7 +97,6 @@ module _ (w w2 : World) (a : AreBare w w2) where
 none_bare : (o : Option Body) → bare o ≡ None → o ≡ None
 none_bare None e = refl
 none_bare (Some (PortBody packets)) e = cc
-none_bare (Some (JobBody a b c d)) e = cc
 none_bare (Some _) e = cc
 
 -- what is there after settling and waking, with this, was there before

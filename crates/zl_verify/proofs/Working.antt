@@ -6,8 +6,8 @@ use Rattle.zl_verify.proofs.Common.{Status, first_some, Library, register_count,
 use Rattle.zl_verify.proofs.Common.{object_at, first_bytes, first_handles, queue_at, Operand, any, examined, by_policy, first_values, packets_at, process_with}
 use Rattle.zl_verify.proofs.Common.{may_get_all, told_of, Request, dup, replace, chan_read_etc, process_start, listed, new_handles, entering_at, gives_ok}
 use Rattle.zl_verify.proofs.Common.{needs, taking, handle_operands, condition_of, refusal, taken_handles, may_choose, Site, site_of, IsSound, AbsVal, Word, Has}
-use Rattle.zl_verify.proofs.Common.{KindOf, RightsOf, ANY, rounded, State, value_at, with_value, fault_of, examined_all, narrowed_value, triple_results, Uses}
-use Rattle.zl_verify.proofs.Common.{uses_of, both, within_is, IsSizedPacket, QueuesAreSized, Table, IsAs, Describes}
+use Rattle.zl_verify.proofs.Common.{ANY, rounded, State, value_at, with_value, fault_of, examined_all, narrowed_value, triple_results, Uses, uses_of, both}
+use Rattle.zl_verify.proofs.Common.{within_is, IsSizedPacket, QueuesAreSized, Table, IsAs, Describes, eq-eqb}
 use Rattle.std.proofs.lemmas.List.{length-set}
 use Rattle.std.proofs.lemmas.Nat.{and_assoc}
 use Rattle.std.specs.Int.Bits.{and_self}
@@ -61,8 +61,6 @@ named_as : (a : AbsVal) (f : Table) (xs : List ℕ) (x : ℕ) (o : Operand) → 
     → (asked d : ℕ) (e : Option Entry) → f x ≡ e
     → is_empty (copy_of e asked) ≡ false → AllAs ((d, narrowed_value a asked) ∷ []) (copy_of e asked)
 named_as (Word m) f xs x o some ok l asked d e is one = cc (rw some at ok)
-named_as (KindOf r) f xs x o some ok l asked d e is one = cc
-named_as (RightsOf r) f xs x o some ok l asked d e is one = cc
 named_as (Has maybe kind rights) f xs x o some ok (inl (m, z)) asked d e is one = cc (rw (m, some) at ok)
 named_as (Has maybe kind rights) f xs x o some ok (inr l) asked d None is one = cc
 named_as (Has maybe kind rights) f xs x o some ok (inr l) asked d (Some y) is one =
@@ -74,6 +72,7 @@ named_as (Has maybe kind rights) f xs x o some ok (inr l) asked d (Some y) is on
     by true c (k, r) e = ((k, r), tt)
     by false true (k, r) e = ((k, within_part asked KNOWN_RIGHTS), tt)
     by false false h e = cc
+named_as _ f xs x o some ok l asked d e is one = cc
 
 -- a handle that is copied stands at a value other than 0
 some_value : (x : ℕ) (f : Table) (e : Option Entry) (asked : ℕ) → f 0 ≡ None → f x ≡ e → is_empty (copy_of e asked) ≡ false → 0 < x
@@ -83,10 +82,7 @@ some_value (suc n) f e asked none is one = omega arith
 
 -- a handle that left its table isn't there
 is_gone : (q : Process) (x : ℕ) → get (losing_all (x ∷ []) q).handles x ≡ None
-is_gone q x = ap (λ f. f x) (losing x q) ∙ rw (itself x) refl
-  where
-    itself : (x : ℕ) → (x == x) ≡ true
-    itself x = grind (arith, nat_tests)
+is_gone q x = ap (λ f. f x) (losing x q) ∙ rw (eq-eqb x x refl) refl
 
 -- the value of a handle that is replaced comes back, with other rights
 replaced_as : (a : AbsVal) (f : Table) (xs : List ℕ) (x : ℕ) (o : Operand) → o.may_be_zero ≡ false → fault_of o a ≡ None → Describes f xs a x
@@ -103,9 +99,7 @@ replaced_as a f xs x o some ok l asked d e is one none few q1 gone s ys = by a (
     by a [] one all = cc
     by (Has maybe kind rights) (y ∷ []) one (fits, more) = (get (process_with x y q1).handles, inr (y, few, live, gone, fits, getting x y q1), refl)
     by (Has maybe kind rights) (y ∷ z ∷ es) one (fits, more) = absurd more
-    by (Word m) (y ∷ es) one all = absurd all
-    by (KindOf r) (y ∷ es) one all = absurd all
-    by (RightsOf r) (y ∷ es) one all = absurd all
+    by _ (y ∷ es) one all = absurd all
 
 -- ---- packets and messages
 

@@ -5,7 +5,8 @@ use Rattle.zl_verify.proofs.Common.{get_or-set_other, length-map, Entry, Kind, R
 use Rattle.zl_verify.proofs.Common.{State, IsState, can_be_named, is_named_well, value_at, with_value, Table, kind_in, rights_in, IsAs, IsHandle, Describes}
 use Rattle.zl_verify.proofs.Common.{one_if, owns, owners, keepers, place_at, Holds}
 use Rattle.std.proofs.lemmas.List.{length-set}
-use Rattle.zl_verify.proofs.Owners.{owns_it, owns_free, owners-set, owners-with, owners-at, owners-zero, value_at-with, value_at-here, keepers-at, keepers-zero}
+use Rattle.zl_verify.proofs.Owners.{owns_0, owns_it, owns_free, owners-set, owners-with, owners-at, owners-zero, value_at-with, value_at-here, keepers-at}
+use Rattle.zl_verify.proofs.Owners.{keepers-zero}
 
 -- ---- what holds anyway
 
@@ -26,10 +27,6 @@ long_with s r a = length-map (slice_set s r a) (untagged r) ∙ length-set s r a
 -- how many own v, beside register r
 abbrev pub others : ℕ → State → List ℕ → List (List ℕ) → ℕ → ℕ
 others r s xs slots v = owners v (slice_set s r (Word 0)) (slice_set xs r 0) + keepers v slots
-
-owns_not : (v : ℕ) → one_if (owns v (Word 0) 0) ≡ 0
-unfolding owns
-owns_not v = refl
 
 module _ {f : Table} {s : State} {xs : List ℕ} {arrays : List SlotArray} {slots : List (List ℕ)} (h : Holds f s xs arrays slots) (states : IsState s)
     (g : Table) (r : ℕ) (lt : r < length s) (zero-too : g 0 ≡ None)
@@ -115,7 +112,7 @@ module _ {f : Table} {s : State} {xs : List ℕ} {arrays : List SlotArray} {slot
       once_at v =
           let one = owners-with v r s xs a x h.width lt in
           let none = owners-set v r s xs (Word 0) 0 h.width lt in
-          let not = owns_not v in
+          let not = owns_0 v (Word 0) in
           let now = counts v in
           omega arith
 
@@ -126,7 +123,7 @@ module _ {f : Table} {s : State} {xs : List ℕ} {arrays : List SlotArray} {slot
   free_and : (v : ℕ) → others r s xs slots v ≡ one_if (is_some (f v))
   free_and v =
       let none = owners-set v r s xs (Word 0) 0 h.width lt in
-      let not = owns_not v in
+      let not = owns_0 v (Word 0) in
       let loose = owns_free v (value_at s r) (slice_index xs r) free in
       let once = h.once v in
       omega arith

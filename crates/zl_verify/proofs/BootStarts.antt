@@ -21,7 +21,7 @@ use Rattle.zl_verify.proofs.UnstartedRuns.{made_allows}
 -- ---- handles as they are declared
 
 -- the program is checked, and has this image
-abbrev Checks : Option Program → Image → Type 0
+abbrev pub Checks : Option Program → Image → Type 0
 Checks o i = o ≡ Some (record { checked = true; image = i })
 
 none_misfits : (o : Option Program) (i : Image) (es : List Entry) → Checks o i → are_misfits o es ≡ false → are_declared i.starts es ≡ true

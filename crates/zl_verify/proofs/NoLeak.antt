@@ -1,15 +1,16 @@
 -- The table of a process that conforms has just its handles, each in one place, and so it is in every run.
 use Rattle.zl_verify.proofs.Common.{◌≡◌, ℕ, zero, suc, ◌+◌, ◌<◌, ◌≤◌, Bool, true, false, ◌&&◌, ◌==◌, List, [], ◌∷◌, ◌++◌, length, refl, sym, ap, ◌∙◌, subst}
 use Rattle.zl_verify.proofs.Common.{Option, inl, inr, arith, ◌↔◌, ◌⊎◌, nat_lt, if◌then◌else◌, slice_index_or, is_some, AllByRecursion, Contains, IsDistinct}
-use Rattle.zl_verify.proofs.Common.{filter, nat_tests, sum_by-cons, same_Some, get, lives, World, Process, Ended, Life, has_ended, Image, is_in_range, is_has}
-use Rattle.zl_verify.proofs.Common.{State, IsTyping, one_if, is_it, owns, owners, keepers, Conforms, values_in_registers, values_in_slots, handle_values}
-use Rattle.zl_verify.proofs.Common.{HoldsJustItsHandles, IsUnderWay, HasEnded, eq-eqb}
+use Rattle.zl_verify.proofs.Common.{filter, nat_tests, sum_by-cons, same_Some, get, World, Process, has_ended, Image, is_in_range, is_has, State, IsTyping}
+use Rattle.zl_verify.proofs.Common.{one_if, is_it, owns, owners, keepers, Conforms, values_in_registers, values_in_slots, handle_values, HoldsJustItsHandles}
+use Rattle.zl_verify.proofs.Common.{IsUnderWay, HasEnded, eq-eqb}
 use Rattle.std.specs.List.{concat}
 use Rattle.std.proofs.lemmas.List.Elements.{filter-append}
 use Rattle.zl_verify.specs.NoLeak.{NeverLeaks}
 use Rattle.zl_verify.proofs.CheckedRuns.{stays_so}
 use Rattle.zl_verify.proofs.Headline.{in_range, started_under_way}
 use Rattle.zl_verify.proofs.Owners.{one_at_most, places_with}
+use Rattle.zl_verify.proofs.Woken.{not_over}
 
 -- ---- how often a number stands in a list
 
@@ -125,11 +126,6 @@ holds_just_its_handles i t w p q k = record { state = k.state; stands = k.stands
         by false n h = absurd (omega arith)
 
 -- ---- every run
-
--- what has ended doesn't live
-not_over : (s : Life) → lives s ≡ true → has_ended s ≡ true → ⊥
-not_over (Ended code) l h = cc
-not_over _ l h = cc
 
 pub no_leak : (i : Image) (t : ℕ → Option State) → IsTyping i t → NeverLeaks i t
 no_leak i t typing lib statements boot w after items more p begins run started rest q there living =

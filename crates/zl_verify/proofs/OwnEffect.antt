@@ -10,9 +10,9 @@ use Rattle.zl_verify.proofs.Common.{job_within, Request, chan_create, chan_write
 use Rattle.zl_verify.proofs.Common.{port_create, port_queue, port_wait, port_poll, port_cancel, process_create, process_start, process_exit, task_kill}
 use Rattle.zl_verify.proofs.Common.{job_create, job_set_policy, listed, effect, new_handles, receiver_of, entering_at, stored_by, ends_caller, refusal}
 use Rattle.zl_verify.proofs.Common.{with_effect, IsSound, eq-eqb}
-use Rattle.zl_code.specs.Effects.{message_sent, message_read}
+use Rattle.zl_code.specs.Effects.{body_with_message, body_after_read}
 use Rattle.zl_code.specs.Jobs.{is_dead, has_child, policy_changed}
-use Rattle.zl_code.specs.Waiting.{without_keyed, repacked}
+use Rattle.zl_code.specs.Waiting.{without_keyed, body_packed}
 use Rattle.zl_code.proofs.NamesKept.{list_any-get}
 use Rattle.zl_rights.specs.declared.status.Status.TheVariants as status
 use Rattle.zl_rights.specs.declared.policy.Action.TheVariants as action
@@ -211,26 +211,17 @@ none_in_job lib w p j mode condition action passes =
     (neither_one (is_dead (body_of w job)) (has_child w job)
     (test_fails _ status.BadState (listed_none lib w p (job_set_policy j mode condition action) passes).1.0))
 
-sends_alike : (m : Message) (o : Object) → IsAlike (message_sent m o).body o.body
-sends_alike m o = by o.body
-  where
-    by : (b : Body) → IsAlike (message_sent m (record o { body = b })).body b
-    by (ChannelEnd peer queue) = (refl, refl)
-    by _ = (refl, refl)
+sends_alike : (m : Message) (b : Body) → IsAlike (body_with_message m b) b
+sends_alike m (ChannelEnd peer queue) = (refl, refl)
+sends_alike m _ = (refl, refl)
 
-reads_alike : (o : Object) → IsAlike (message_read o).body o.body
-reads_alike o = by o.body
-  where
-    by : (b : Body) → IsAlike (message_read (record o { body = b })).body b
-    by (ChannelEnd peer queue) = (refl, refl)
-    by _ = (refl, refl)
+reads_alike : (b : Body) → IsAlike (body_after_read b) b
+reads_alike (ChannelEnd peer queue) = (refl, refl)
+reads_alike _ = (refl, refl)
 
-packs_alike : (f : List Packet → List Packet) (o : Object) → IsAlike (repacked f o).body o.body
-packs_alike f o = by o.body
-  where
-    by : (b : Body) → IsAlike (repacked f (record o { body = b })).body b
-    by (PortBody packets) = (refl, refl)
-    by _ = (refl, refl)
+packs_alike : (f : List Packet → List Packet) (b : Body) → IsAlike (body_packed f b) b
+packs_alike f (PortBody packets) = (refl, refl)
+packs_alike f _ = (refl, refl)
 
 pub more_koids : (v u : World) (b : Body) → v.next_koid ≤ u.next_koid → v.next_koid ≤ (with_object u b).next_koid
 unfolding with_object
@@ -242,8 +233,8 @@ unfolding effect on_process
 effect_alike chan_create lib w u p passes le vs =
     let first : Body = ChannelEnd (w.next_koid + 1) [] in
     alike_then w u (with_object u first) _ (made_alike w u first le) (made_alike w (with_object u first) (ChannelEnd w.next_koid []) (more_koids w u first le))
-effect_alike (chan_write c bytes hs) lib w u p passes le vs = changed_alike w u _ _ (sends_alike _)
-effect_alike (chan_read_etc c address room places) lib w u p passes le vs = changed_alike w u _ _ reads_alike
+effect_alike (chan_write c bytes hs) lib w u p passes le vs = changed_alike w u _ _ (λ o. sends_alike _ o.body)
+effect_alike (chan_read_etc c address room places) lib w u p passes le vs = changed_alike w u _ _ (λ o. reads_alike o.body)
 effect_alike event_create lib w u p passes le vs = made_alike w u EventBody le
 effect_alike eventpair_create lib w u p passes le vs =
     let first : Body = PairEnd (w.next_koid + 1) in
@@ -251,12 +242,12 @@ effect_alike eventpair_create lib w u p passes le vs =
 effect_alike (signal h clear set) lib w u p passes le vs = changed_alike w u _ _ (λ o. (refl, refl))
 effect_alike (signal_peer h clear set) lib w u p passes le vs = changed_alike w u _ _ (λ o. (refl, refl))
 effect_alike port_create lib w u p passes le vs = made_alike w u (PortBody []) le
-effect_alike (port_queue port key value) lib w u p passes le vs = changed_alike w u _ _ (packs_alike _)
-effect_alike (port_wait port) lib w u p passes le vs = changed_alike w u _ _ (packs_alike _)
-effect_alike (port_poll port) lib w u p passes le vs = changed_alike w u _ _ (packs_alike _)
+effect_alike (port_queue port key value) lib w u p passes le vs = changed_alike w u _ _ (λ o. packs_alike _ o.body)
+effect_alike (port_wait port) lib w u p passes le vs = changed_alike w u _ _ (λ o. packs_alike _ o.body)
+effect_alike (port_poll port) lib w u p passes le vs = changed_alike w u _ _ (λ o. packs_alike _ o.body)
 effect_alike (port_cancel port source key) lib w u p passes le vs =
     let rest : World = without_keyed u p source (object_at w p port) key in
-    alike_then w u rest _ (same_objects w u rest refl) (changed_alike w rest _ _ (packs_alike _))
+    alike_then w u rest _ (same_objects w u rest refl) (changed_alike w rest _ _ (λ o. packs_alike _ o.body))
 effect_alike (process_create job program) lib w u p passes le vs =
     let more : World = with_object u (ProcessBody (object_at w p job)) in
     alike_then w u more _ (made_alike w u (ProcessBody (object_at w p job)) le) (same_objects w more _ refl)

@@ -30,7 +30,7 @@ use Rattle.zl_verify.proofs.Sites.{call, AtSite, of_site}
 use Rattle.zl_verify.proofs.Working.{listed_none, test_fails, test_passes}
 use Rattle.zl_verify.proofs.SizedCpus.{AreSmall, registers_written, answered_sized, blank_sized, started_sized}
 use Rattle.zl_verify.proofs.SizedWorlds.{IsSizedProcess, IsSizedAt, all_filtered, all_behind, each_update, each_each, queues_sized, active_sized, process_sized}
-use Rattle.zl_verify.proofs.SizedWorlds.{new_process_sized, removed_sized, inserted_sized, stored_sized, ended_sized, waiting_sized, object_sized}
+use Rattle.zl_verify.proofs.SizedWorlds.{one_sized, new_process_sized, removed_sized, inserted_sized, stored_sized, ended_sized, waiting_sized, object_sized}
 use Rattle.zl_verify.proofs.SizedWorlds.{new_object_sized, fewer_waits, wait_sized}
 
 -- ---- what is asked for
@@ -211,11 +211,7 @@ empty_sized b queue packets = record { messages = rw queue tt; packets = rw pack
 
 killed_process : (b : Bool) (q : Process) → IsSizedCpu q.cpu → IsSizedCpu (process_killed b q).cpu
 killed_process false q s = s
-killed_process true q s = by (lives q.state)
-  where
-    by : (b : Bool) → IsSizedCpu (if b then record q { state = Ended KILLED; handles = []; last = None } else q).cpu
-    by true = s
-    by false = s
+killed_process true q s = one_sized (lives q.state) (record q { state = Ended KILLED; handles = []; last = None }) q s s
 
 killed_object : (b : Bool) (o : Object) → IsSizedObject o.body o.raised → IsSizedObject (object_killed b o).body (object_killed b o).raised
 killed_object false o s = s

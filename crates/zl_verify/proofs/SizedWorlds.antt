@@ -80,12 +80,13 @@ process_sized w p f keeps s = record { cpus = each_update IsSizedProcess w.proce
 pub new_process_sized : (w : World) (k : ℕ) (q : Process) → IsSizedCpu q.cpu → IsSized w → IsSized (with_process w k q)
 new_process_sized w k q new s = record { cpus = each_put IsSizedProcess w.processes s.cpus k q new; kept = s.kept; waits = s.waits }
 
+-- one of two processes, each of which is sized
+pub one_sized : (b : Bool) (x y : Process) → IsSizedCpu x.cpu → IsSizedCpu y.cpu → IsSizedCpu (if b then x else y).cpu
+one_sized true x y s k = s
+one_sized false x y s k = k
+
 without_sized : (h : ℕ) (q : Process) → IsSizedCpu q.cpu → IsSizedCpu (process_without h q).cpu
-without_sized h q s = by (has_key q.handles h)
-  where
-    by : (b : Bool) → IsSizedCpu (if b then record q { handles = without q.handles h; last = Some h } else q).cpu
-    by true = s
-    by false = s
+without_sized h q s = one_sized (has_key q.handles h) (record q { handles = without q.handles h; last = Some h }) q s s
 
 pub removed_sized : (w : World) (p : ℕ) (hs : List ℕ) → IsSized w → IsSized (remove_all w p hs)
 unfolding remove_all
@@ -106,11 +107,8 @@ stored_sized w p (address, b ∷ bytes) are s =
 
 pub ended_sized : (w : World) (p : ℕ) (code : ℤ) → IsSized w → IsSized (ended w p code)
 unfolding ended
-ended_sized w p code s = process_sized w p (process_ended code) (λ q k. by q k (lives q.state)) s
-  where
-    by : (q : Process) → IsSizedCpu q.cpu → (b : Bool) → IsSizedCpu (if b then record q { state = Ended code; handles = []; last = None } else q).cpu
-    by q k true = k
-    by q k false = k
+ended_sized w p code s =
+    process_sized w p (process_ended code) (λ q k. one_sized (lives q.state) (record q { state = Ended code; handles = []; last = None }) q k k) s
 
 pub waiting_sized : (w : World) (p : ℕ) (ds : List ℕ) (awaited : Option Awaited) → IsSized w → IsSized (waiting w p ds awaited)
 waiting_sized w p ds None s = s

@@ -5,7 +5,7 @@ use Rattle.zl_verify.proofs.Common.{runs, Settles, process_settled, without_othe
 use Rattle.zl_verify.proofs.Common.{PortBody, ProcessBody, Awaited, SignalOf, PacketAt, Packet, active, state_without, body_with_packets, packets_for}
 use Rattle.zl_verify.proofs.Common.{made_ready, packet_values, with_body, woken, Condition, get-put, get-each, TraceItem, Image, Library, is_among, is_in_range}
 use Rattle.zl_verify.proofs.Common.{body_in, body_of, parent_in, parent_of, policy_in, action_of, unless_allowed, creates, IsSound, step_sound, State, IsTyping}
-use Rattle.zl_verify.proofs.Common.{Conforms, IsSized, IsSizedObject, IsRunStep, IsFitStep, EndsStep, stays}
+use Rattle.zl_verify.proofs.Common.{Conforms, IsSized, IsSizedObject, IsRunStep, IsFitStep, EndsStep, stays, has_ended, Ended}
 use Rattle.zl_rights.specs.Common.{where_key, Koids}
 use Rattle.zl_rights.proofs.MapLaws.{get-where_key-in, get-where_key-out}
 use Rattle.zl_code.specs.Sound.{HasItsObject}
@@ -210,6 +210,11 @@ settled_there u v (K, largest, is) p q there running =
     by (Blocked awaited ds) e = refl
     by Created e = cc
     by _ e = cc
+
+-- what has ended doesn't live
+pub not_over : (l : Life) → lives l ≡ true → has_ended l ≡ true → ⊥
+not_over (Ended code) living over = cc
+not_over _ living over = cc
 
 pub lives_then : (l : Life) → runs l ≡ true → lives l ≡ true
 lives_then Ready e = refl

@@ -166,12 +166,18 @@ module _ (f : Table) (a : ℕ) (s : State) (xs : List ℕ) (inside : a < length 
       named2 : can_be_named (value_at (with_value (with_value s a (Has maybe kind rights)) (a + 1) (KindOf a)) a) ≡ true
       named2 = rw (value_at-with (with_value s a (Has maybe kind rights)) (a + 1) a (KindOf a) apart1, value_at-here s a (Has maybe kind rights) inside) refl
 
+-- three writes keep the lengths
+pub long_thrice : (s : State) (a d e : ℕ) (x y z : AbsVal) → length (with_value (with_value (with_value s a x) d y) e z) ≡ length s
+long_thrice s a d e x y z = long_with (with_value (with_value s a x) d y) e z ∙ (long_with (with_value s a x) d y ∙ long_with s a x)
+
+pub wide_thrice : (xs : List ℕ) (a d e x y z : ℕ) → length (slice_set (slice_set (slice_set xs a x) d y) e z) ≡ length xs
+wide_thrice xs a d e x y z = length-set (slice_set (slice_set xs a x) d y) e z ∙ (length-set (slice_set xs a x) d y ∙ length-set xs a x)
+
 long_after : (a : ℕ) (s : State) (h : AbsVal) → length (after_triple a s h) ≡ length s
-long_after a s h =
-    long_with (with_value (with_value s a h) (a + 1) (KindOf a)) (a + 2) (RightsOf a) ∙ (long_with (with_value s a h) (a + 1) (KindOf a) ∙ long_with s a h)
+long_after a s h = long_thrice s a (a + 1) (a + 2) h (KindOf a) (RightsOf a)
 
 wide_after : (a : ℕ) (xs : List ℕ) (v k r : ℕ) → length (written_triple a xs v k r) ≡ length xs
-wide_after a xs v k r = length-set (slice_set (slice_set xs a v) (a + 1) k) (a + 2) r ∙ (length-set (slice_set xs a v) (a + 1) k ∙ length-set xs a v)
+wide_after a xs v k r = wide_thrice xs a (a + 1) (a + 2) v k r
 
 -- a handle's rights fit a register
 abbrev pub HasFewRights : Entry → Type 0

@@ -7,8 +7,8 @@ use Rattle.zl_verify.proofs.Common.{rights_in, IsHandle, Describes, one_if, is_i
 use Rattle.std.proofs.lemmas.List.{length-set, map-set, set-get_or, get_or-map}
 use Rattle.zl_abs.specs.Values.{retagged}
 use Rattle.zl_abs.specs.LocalRules.{slot_value}
-use Rattle.zl_verify.proofs.Owners.{owns_free, owners-map, owners-set, owners-with, value_at-map, value_at-with, value_at-here, set_same, set_apart}
-use Rattle.zl_verify.proofs.Owners.{keepers-set}
+use Rattle.zl_verify.proofs.Owners.{by_register, owns_free, owners-map, owners-set, owners-with, value_at-map, value_at-with, value_at-here, set_same}
+use Rattle.zl_verify.proofs.Owners.{set_apart, keepers-set}
 use Rattle.zl_verify.proofs.Writing.{nothing_at_0, long_with, other_described}
 
 -- ---- take
@@ -16,16 +16,8 @@ use Rattle.zl_verify.proofs.Writing.{nothing_at_0, long_with, other_described}
 is_has-retagged : (b a : ℕ) (c : AbsVal) → is_has (retagged b a c) ≡ is_has c
 is_has-retagged b a (Word m) = refl
 is_has-retagged b a (Has maybe kind rights) = refl
-is_has-retagged b a (KindOf t) = by (t == b)
-  where
-    by : (x : Bool) → is_has (if x then KindOf a else KindOf t) ≡ false
-    by true = refl
-    by false = refl
-is_has-retagged b a (RightsOf t) = by (t == b)
-  where
-    by : (x : Bool) → is_has (if x then RightsOf a else RightsOf t) ≡ false
-    by true = refl
-    by false = refl
+is_has-retagged b a (KindOf t) = by_register (λ c. is_has c ≡ false) t b (KindOf a) (KindOf t) refl (λ apart. refl)
+is_has-retagged b a (RightsOf t) = by_register (λ c. is_has c ≡ false) t b (RightsOf a) (RightsOf t) refl (λ apart. refl)
 
 -- what moves is no tag
 stays : (a b : ℕ) (c : AbsVal) → may_move c ≡ true → retagged b a (untagged a c) ≡ c

@@ -2,7 +2,7 @@
 use Rattle.zl_verify.proofs.Common.{◌≡◌, ◌≢◌, ℕ, zero, suc, ◌+◌, ◌<◌, ◌≤◌, Bool, true, false, ◌&&◌, ◌==◌, List, [], ◌∷◌, map, length, refl, sym, ap, ◌∙◌}
 use Rattle.zl_verify.proofs.Common.{Option, arith, slice_set, slice_index, nat_lt, if◌then◌else◌, slice_index_or, sum_by, get_or-set_same, get_or-set_other}
 use Rattle.zl_verify.proofs.Common.{sum_by-set, sum_by-cons, nat_tests, Kind, Rights, AbsVal, Word, Has, KindOf, RightsOf, ANY, is_has, untagged, State}
-use Rattle.zl_verify.proofs.Common.{value_at, with_value, one_if, is_it, owns, owners, keepers, place_at}
+use Rattle.zl_verify.proofs.Common.{value_at, with_value, one_if, is_it, owns, owners, keepers, place_at, cases_Bool, eqb-false, inl, inr, ◌⊎◌}
 
 -- ---- one place
 
@@ -47,6 +47,14 @@ owns_0 v a = by (is_has a) (0 == v)
 
 -- ---- values at a written state
 
+-- one value where t is r, and the other elsewhere
+pub by_register : (P : AbsVal → Type 0) (t r : ℕ) (x y : AbsVal) → P x → (t ≢ r → P y) → P (if t == r then x else y)
+by_register P t r x y same other = by (cases_Bool (t == r))
+  where
+    by : ((t == r) ≡ true) ⊎ ((t == r) ≡ false) → P (if t == r then x else y)
+    by (inl e) = rw e same
+    by (inr e) = rw e (other (eqb-false t r e))
+
 pub set_same : (s : State) (r : ℕ) (a : AbsVal) → r < length s → value_at (slice_set s r a) r ≡ a
 set_same s r a lt = get_or-set_same s r a (Word 0) lt
 
@@ -77,16 +85,8 @@ has_inside (a ∷ s) (suc r) e = let k = has_inside s r e in omega arith
 pub is_has-untagged : (r : ℕ) (a : AbsVal) → is_has (untagged r a) ≡ is_has a
 is_has-untagged r (Word m) = refl
 is_has-untagged r (Has b k q) = refl
-is_has-untagged r (KindOf t) = by (t == r)
-  where
-    by : (b : Bool) → is_has (if b then Word ANY else KindOf t) ≡ false
-    by true = refl
-    by false = refl
-is_has-untagged r (RightsOf t) = by (t == r)
-  where
-    by : (b : Bool) → is_has (if b then Word ANY else RightsOf t) ≡ false
-    by true = refl
-    by false = refl
+is_has-untagged r (KindOf t) = by_register (λ a. is_has a ≡ false) t r (Word ANY) (KindOf t) refl (λ apart. refl)
+is_has-untagged r (RightsOf t) = by_register (λ a. is_has a ≡ false) t r (Word ANY) (RightsOf t) refl (λ apart. refl)
 
 pub owners-map : (f : AbsVal → AbsVal) → ((a : AbsVal) → is_has (f a) ≡ is_has a) → (v : ℕ) (s : State) (xs : List ℕ) → owners v (map f s) xs ≡ owners v s xs
 unfolding owners owns

@@ -3,14 +3,12 @@ use Rattle.zl_verify.proofs.Common.{◌≡◌, ℕ, ◌+◌, ◌*◌, ◌≤◌,
 use Rattle.zl_verify.proofs.Common.{slice_index, slice_set, eqb-true, World, Cpu, status_magnitude, Status, register_count, reg, CallName, CallInstr, number_at}
 use Rattle.zl_verify.proofs.Common.{is_call_in_range, chan_read_etc, wait_poll, gives_refused, Site, site_of, IsSound, object_at, AbsVal, Word, Has, State}
 use Rattle.zl_verify.proofs.Common.{value_at, with_value, narrowed_value, triple_results, uses_of, both, QueuesAreSized, Table}
-use Rattle.std.proofs.lemmas.List.{length-set}
 use Rattle.zl_rights.specs.declared.status.Status.TheVariants as status
 use Rattle.zl_code.specs.declared.history.CallName.TheVariants as name
-use Rattle.zl_verify.proofs.Writing.{long_with}
 use Rattle.zl_verify.proofs.Sites.{call, AtSite, of_site}
 use Rattle.zl_verify.proofs.Aligned.{places_end}
 use Rattle.zl_verify.proofs.Fitting.{Fits, first_value, more_values}
-use Rattle.zl_verify.proofs.Giving.{status_few, are_zeroable, zeros_fit, no_triples_fit}
+use Rattle.zl_verify.proofs.Giving.{long_thrice, wide_thrice, status_few, are_zeroable, zeros_fit, no_triples_fit}
 use Rattle.zl_verify.proofs.Calm.{signals_few, first_sizes}
 
 -- a register for each value of the state, and no handle at 0
@@ -70,14 +68,10 @@ read_fits f s xs over a d e g places n vs few one two rest room = (
     xs3 = slice_set (slice_set (slice_set xs a n) d (first_value vs)) e (first_value (more_values vs))
 
     long : length s3 ≡ length s
-    long =
-        long_with (with_value (with_value s a (Word 30)) d (Word 65536)) e (Word 64)
-        ∙ (long_with (with_value s a (Word 30)) d (Word 65536) ∙ long_with s a (Word 30))
+    long = long_thrice s a d e (Word 30) (Word 65536) (Word 64)
 
     wide3 : length xs3 ≡ length xs
-    wide3 =
-        length-set (slice_set (slice_set xs a n) d (first_value vs)) e (first_value (more_values vs))
-        ∙ (length-set (slice_set xs a n) d (first_value vs) ∙ length-set xs a n)
+    wide3 = wide_thrice xs a d e n (first_value vs) (first_value (more_values vs))
 
 module _ (w : World) (p : ℕ) (sound : IsSound w) (sized : QueuesAreSized w) (st : Status) where
   poll_few : (h mask : ℕ) → (st : Status) → first_value (gives_refused w p (wait_poll h mask) st) ≤ 0xffff_ffff

@@ -8,7 +8,6 @@ use Rattle.zl_verify.proofs.Common.{may_get_all, told_of, Request, dup, replace,
 use Rattle.zl_verify.proofs.Common.{needs, taking, handle_operands, condition_of, refusal, taken_handles, may_choose, Site, site_of, IsSound, AbsVal, Word, Has}
 use Rattle.zl_verify.proofs.Common.{ANY, rounded, State, value_at, with_value, fault_of, examined_all, narrowed_value, triple_results, Uses, uses_of, both}
 use Rattle.zl_verify.proofs.Common.{within_is, IsSizedPacket, QueuesAreSized, Table, IsAs, Describes, eq-eqb}
-use Rattle.std.proofs.lemmas.List.{length-set}
 use Rattle.std.proofs.lemmas.Nat.{and_assoc}
 use Rattle.std.specs.Int.Bits.{and_self}
 use Rattle.zl_rights.specs.Numbers.{SAME_RIGHTS, DUPLICATE}
@@ -18,11 +17,10 @@ use Rattle.zl_abs.specs.CallRules.{new}
 use Rattle.zl_rights.specs.declared.kind.Kind.TheVariants as kind
 use Rattle.zl_rights.specs.declared.status.Status.TheVariants as status
 use Rattle.zl_code.specs.declared.history.CallName.TheVariants as name
-use Rattle.zl_verify.proofs.Writing.{long_with}
 use Rattle.zl_verify.proofs.Agreeing.{above}
 use Rattle.zl_verify.proofs.Examining.{parts}
 use Rattle.zl_verify.proofs.Fitting.{Fits}
-use Rattle.zl_verify.proofs.Giving.{status_fits, zeros_fit, IsFreeLast, AllAs, getting, getting_all, handles_fit, triples_fit}
+use Rattle.zl_verify.proofs.Giving.{long_thrice, wide_thrice, status_fits, zeros_fit, IsFreeLast, AllAs, getting, getting_all, handles_fit, triples_fit}
 use Rattle.zl_verify.proofs.OwnTable.{losing_all, losing, own_handles, MayGetOwn}
 use Rattle.zl_verify.proofs.Sites.{call, AtSite, of_site}
 use Rattle.zl_verify.proofs.Aligned.{places_end}
@@ -219,14 +217,10 @@ module _ (lib : Library) (w : World) (p : ℕ) (q : Process) (sound : IsSound w)
       xs3 = slice_set (slice_set (slice_set xs a 0) d (length (first_bytes (queue_at w p h)))) e (length (first_handles (queue_at w p h)))
 
       long3 : length s3 ≡ length s
-      long3 =
-          long_with (with_value (with_value s a (Word 30)) d (Word 65536)) e (Word 64)
-          ∙ (long_with (with_value s a (Word 30)) d (Word 65536) ∙ long_with s a (Word 30))
+      long3 = long_thrice s a d e (Word 30) (Word 65536) (Word 64)
 
       wide3 : length xs3 ≡ length xs
-      wide3 =
-          length-set (slice_set (slice_set xs a 0) d (length (first_bytes (queue_at w p h)))) e (length (first_handles (queue_at w p h)))
-          ∙ (length-set (slice_set xs a 0) d (length (first_bytes (queue_at w p h))) ∙ length-set xs a 0)
+      wide3 = wide_thrice xs a d e 0 (length (first_bytes (queue_at w p h))) (length (first_handles (queue_at w p h)))
 
   module _ (before : State) (arrays : List SlotArray) (bounds : List ℕ) where
     -- the answer OK of the call at the site fits

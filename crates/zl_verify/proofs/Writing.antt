@@ -1,12 +1,12 @@
 -- One register is written, and the table may change at one value.
 use Rattle.zl_verify.proofs.Common.{◌≡◌, ◌≢◌, ℕ, ◌+◌, ◌<◌, ◌≤◌, ◌⊎◌, Bool, true, false, ◌==◌, List, length, refl, sym, ap, ◌∙◌, subst, IsTrue, Option, Some}
-use Rattle.zl_verify.proofs.Common.{None, arith, inl, inr, slice_set, slice_index, is_some, cases_Bool, cases_eq, eqb-false, nat_tests, get_or-set_same}
-use Rattle.zl_verify.proofs.Common.{get_or-set_other, length-map, Entry, Kind, Rights, SlotArray, AbsVal, Word, Has, KindOf, RightsOf, ANY, is_has, untagged}
-use Rattle.zl_verify.proofs.Common.{State, IsState, can_be_named, is_named_well, value_at, with_value, Table, kind_in, rights_in, IsAs, IsHandle, Describes}
-use Rattle.zl_verify.proofs.Common.{one_if, owns, owners, keepers, place_at, Holds}
+use Rattle.zl_verify.proofs.Common.{None, arith, inl, inr, slice_set, slice_index, is_some, cases_eq, nat_tests, get_or-set_same, get_or-set_other, length-map}
+use Rattle.zl_verify.proofs.Common.{Entry, Kind, Rights, SlotArray, AbsVal, Word, Has, KindOf, RightsOf, ANY, is_has, untagged, State, IsState, can_be_named}
+use Rattle.zl_verify.proofs.Common.{is_named_well, value_at, with_value, Table, kind_in, rights_in, IsAs, IsHandle, Describes, one_if, owns, owners, keepers}
+use Rattle.zl_verify.proofs.Common.{place_at, Holds}
 use Rattle.std.proofs.lemmas.List.{length-set}
 use Rattle.zl_verify.proofs.Owners.{owns_0, owns_it, owns_free, owners-set, owners-with, owners-at, owners-zero, value_at-with, value_at-here, keepers-at}
-use Rattle.zl_verify.proofs.Owners.{keepers-zero}
+use Rattle.zl_verify.proofs.Owners.{keepers-zero, by_register}
 
 -- ---- what holds anyway
 
@@ -62,16 +62,12 @@ module _ {f : Table} {s : State} {xs : List ℕ} {arrays : List SlotArray} {slot
   other_described q x apart (Has maybe kind rights) is fine (inl z) = inl z
   other_described q x apart (Has maybe kind rights) is fine (inr l) =
       inr (subst (IsAs kind rights) (sym (same_has q apart maybe kind rights (slice_index xs q) is refl (inr l))) l)
-  other_described q x apart (KindOf t) is fine d = by (cases_Bool (t == r))
-    where
-      by : ((t == r) ≡ true) ⊎ ((t == r) ≡ false) → Describes g (slice_set xs r x) (untagged r (KindOf t)) (slice_index xs q)
-      by (inl e) = rw e (h.small q)
-      by (inr e) = rw e (d ∙ ap kind_in (sym (tag_same t x (eqb-false t r e) fine)))
-  other_described q x apart (RightsOf t) is fine d = by (cases_Bool (t == r))
-    where
-      by : ((t == r) ≡ true) ⊎ ((t == r) ≡ false) → Describes g (slice_set xs r x) (untagged r (RightsOf t)) (slice_index xs q)
-      by (inl e) = rw e (h.small q)
-      by (inr e) = rw e (d ∙ ap rights_in (sym (tag_same t x (eqb-false t r e) fine)))
+  other_described q x apart (KindOf t) is fine d =
+      by_register (λ a. Describes g (slice_set xs r x) a (slice_index xs q)) t r (Word ANY) (KindOf t) (h.small q)
+      (λ beside. d ∙ ap kind_in (sym (tag_same t x beside fine)))
+  other_described q x apart (RightsOf t) is fine d =
+      by_register (λ a. Describes g (slice_set xs r x) a (slice_index xs q)) t r (Word ANY) (RightsOf t) (h.small q)
+      (λ beside. d ∙ ap rights_in (sym (tag_same t x beside fine)))
 
   kept_same : (n k : ℕ) (kind : Option Kind) (rights : Rights) → IsHandle f true kind rights (place_at slots n k)
       → IsHandle g true kind rights (place_at slots n k)
@@ -146,13 +142,9 @@ module _ {f : Table} {s : State} {xs : List ℕ} {arrays : List SlotArray} {slot
           → Describes f (slice_set xs r (slice_index xs b)) (untagged r a) (slice_index xs b)
       copied (Word m) e d = d
       copied (Has maybe kind rights) e d = cc
-      copied (KindOf t) e d = by (cases_Bool (t == r))
-        where
-          by : ((t == r) ≡ true) ⊎ ((t == r) ≡ false) → Describes f (slice_set xs r (slice_index xs b)) (untagged r (KindOf t)) (slice_index xs b)
-          by (inl e) = rw e (h.small b)
-          by (inr e) = rw e (d ∙ ap (λ k. kind_in (f k)) (sym (get_or-set_other xs r t (slice_index xs b) 0 (eqb-false t r e))))
-      copied (RightsOf t) e d = by (cases_Bool (t == r))
-        where
-          by : ((t == r) ≡ true) ⊎ ((t == r) ≡ false) → Describes f (slice_set xs r (slice_index xs b)) (untagged r (RightsOf t)) (slice_index xs b)
-          by (inl e) = rw e (h.small b)
-          by (inr e) = rw e (d ∙ ap (λ k. rights_in (f k)) (sym (get_or-set_other xs r t (slice_index xs b) 0 (eqb-false t r e))))
+      copied (KindOf t) e d =
+          by_register (λ a. Describes f (slice_set xs r (slice_index xs b)) a (slice_index xs b)) t r (Word ANY) (KindOf t) (h.small b)
+          (λ beside. d ∙ ap (λ k. kind_in (f k)) (sym (get_or-set_other xs r t (slice_index xs b) 0 beside)))
+      copied (RightsOf t) e d =
+          by_register (λ a. Describes f (slice_set xs r (slice_index xs b)) a (slice_index xs b)) t r (Word ANY) (RightsOf t) (h.small b)
+          (λ beside. d ∙ ap (λ k. rights_in (f k)) (sym (get_or-set_other xs r t (slice_index xs b) 0 beside)))

@@ -1,5 +1,5 @@
 -- A process that has ended stays as it is, and one that is ready is as it was once others are awake.
-use Rattle.zl_verify.proofs.Common.{◌≡◌, ℕ, ◌⊎◌, true, false, ◌==◌, List, [], ◌∷◌, refl, sym, ap, ◌∙◌, subst, Some, inl, inr, option_map, cases_Bool, eqb-true}
+use Rattle.zl_verify.proofs.Common.{◌≡◌, ℕ, ◌⊎◌, true, false, ◌==◌, List, refl, sym, ap, ◌∙◌, subst, Some, inl, inr, option_map, cases_Bool, eqb-true}
 use Rattle.zl_verify.proofs.Common.{same_Some, answered, get, put, Settles, process_settled, without_others, fired, wakes, World, Process, Life, Created, Ready}
 use Rattle.zl_verify.proofs.Common.{Blocked, Ended, Awaited, has_ended, state_without, made_ready, get-put, get-each, TraceItem, Library, Step}
 use Rattle.zl_code.specs.Sound.{is_blocked}

@@ -1,5 +1,5 @@
 -- A process that doesn't run: what a step makes of it, which starts it at most.
-use Rattle.zl_verify.proofs.Common.{◌≡◌, ℕ, ◌⊎◌, Bool, true, false, ◌==◌, List, [], ◌∷◌, refl, sym, ap, ◌∙◌, subst, Option, Some, None, option_map, inl, inr}
+use Rattle.zl_verify.proofs.Common.{◌≡◌, ℕ, ◌⊎◌, Bool, true, false, ◌==◌, List, refl, sym, ap, ◌∙◌, subst, Option, Some, None, option_map, inl, inr}
 use Rattle.zl_verify.proofs.Common.{if◌then◌else◌, slice_get, cases_Bool, eqb-true, Entry, answered, get, put, is_process, lives, runs, Settles}
 use Rattle.zl_verify.proofs.Common.{process_settled, without_others, fired, wakes, World, Process, Life, Created, Ready, Blocked, Awaited, state_passes}
 use Rattle.zl_verify.proofs.Common.{state_without, made_ready, get-put, get-each, CallName, Outcome, TraceItem, Library, Program, object_at, on_process}

@@ -1,5 +1,5 @@
 -- What a call leaves of its caller, and of the policy that the caller is under.
-use Rattle.zl_verify.proofs.Common.{◌≡◌, ℕ, ◌+◌, ◌<◌, ◌≤◌, ◌⊎◌, Bool, true, false, ◌&&◌, ◌||◌, ◌==◌, List, [], ◌∷◌, refl, sym, ap, ◌∙◌, subst, Option, Some}
+use Rattle.zl_verify.proofs.Common.{◌≡◌, ℕ, ◌+◌, ◌<◌, ◌≤◌, ◌⊎◌, Bool, true, false, ◌||◌, ◌==◌, List, [], ◌∷◌, refl, sym, ap, ◌∙◌, subst, Option, Some}
 use Rattle.zl_verify.proofs.Common.{None, option_map, arith, inl, inr, is_some, if◌then◌else◌, unwrap_or, ℤ, then_some, cases_Bool, eqb-true, nat_tests}
 use Rattle.zl_verify.proofs.Common.{none-some, same_Some, condition_number, get, lives, is_process, World, Process, Ready, Object, Body, ChannelEnd, EventBody}
 use Rattle.zl_verify.proofs.Common.{PairEnd, PortBody, JobBody, ProcessBody, KILLED, has_ended, has_child_job, has_child_process, Setting, setting_of, Message}

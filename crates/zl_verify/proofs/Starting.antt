@@ -1,5 +1,5 @@
 -- A process that starts properly is as a typing of its image says at instruction 0.
-use Rattle.zl_verify.proofs.Common.{◌≡◌, ◌≢◌, ℕ, zero, suc, ◌+◌, ◌<◌, ◌≤◌, Bool, true, false, ◌&&◌, ◌||◌, ◌==◌, List, [], ◌∷◌, map, length, refl, sym, ap, ◌∙◌}
+use Rattle.zl_verify.proofs.Common.{◌≡◌, ◌≢◌, ℕ, zero, suc, ◌+◌, ◌<◌, ◌≤◌, Bool, true, false, ◌||◌, ◌==◌, List, [], ◌∷◌, map, length, refl, sym, ap, ◌∙◌}
 use Rattle.zl_verify.proofs.Common.{subst, Option, Some, None, arith, inl, inr, slice_set, slice_index, replicate, sum_by, option_to_list, nat_tests}
 use Rattle.zl_verify.proofs.Common.{sum_by-cons, none-some, Entry, bits, within, get, World, Cpu, Process, same_kind, takes, Kind, written, SlotArray, Start}
 use Rattle.zl_verify.proofs.Common.{Image, Library, register_count, is_in_range, process_with, may_get, may_get_all, are_declared, process_with_all, blank_cpu}

@@ -1,5 +1,5 @@
 -- One register is written, and the table may change at one value.
-use Rattle.zl_verify.proofs.Common.{◌≡◌, ◌≢◌, ℕ, ◌+◌, ◌<◌, ◌≤◌, ◌⊎◌, Bool, true, false, ◌==◌, List, length, refl, sym, ap, ◌∙◌, subst, IsTrue, Option, Some}
+use Rattle.zl_verify.proofs.Common.{◌≡◌, ◌≢◌, ℕ, ◌+◌, ◌<◌, ◌≤◌, ◌⊎◌, Bool, true, false, List, length, refl, sym, ap, ◌∙◌, subst, IsTrue, Option, Some}
 use Rattle.zl_verify.proofs.Common.{None, arith, inl, inr, slice_set, slice_index, is_some, cases_eq, nat_tests, get_or-set_same, get_or-set_other, length-map}
 use Rattle.zl_verify.proofs.Common.{Entry, Kind, Rights, SlotArray, AbsVal, Word, Has, KindOf, RightsOf, ANY, is_has, untagged, State, IsState, can_be_named}
 use Rattle.zl_verify.proofs.Common.{is_named_well, value_at, with_value, Table, kind_in, rights_in, IsAs, IsHandle, Describes, one_if, owns, owners, keepers}

@@ -1,11 +1,11 @@
 -- In a boot world each process is as a statement started it, and properly where its program is checked.
 use Rattle.zl_verify.proofs.Common.{◌≡◌, ℕ, ◌+◌, ◌≤◌, ◌⊎◌, Bool, true, false, ◌==◌, List, [], ◌∷◌, refl, sym, ap, ◌∙◌, subst, arith, IsTrue, Option, Some, None}
 use Rattle.zl_verify.proofs.Common.{option_map, inl, inr, if◌then◌else◌, slice_get, AllByRecursion, cases_Bool, eqb-true, none-some, same_Some, Entry}
-use Rattle.zl_verify.proofs.Common.{Condition, get, lives, Settles, process_settled, without_others, World, Process, Body, EventBody, PairEnd, PortBody}
-use Rattle.zl_verify.proofs.Common.{ChannelEnd, ProcessBody, has_child_job, has_child_process, get-put, get-each, Statement, Image, Library, Program, is_among}
-use Rattle.zl_verify.proofs.Common.{with_object, on_object, process_with, may_get_all, job_within, created_process, program_in, program_of, Boots, setting}
-use Rattle.zl_verify.proofs.Common.{are_declared, may_boot, boot_effect, handles_given, origin, process_with_all, body_of, creates, IsSound, word_of}
-use Rattle.zl_verify.proofs.Common.{IsSizedBoot, IsProperStart, IsStarted, boot_sound, ANY}
+use Rattle.zl_verify.proofs.Common.{Condition, get, lives, Settles, process_settled, without_others, World, Process, EventBody, PairEnd, PortBody, ChannelEnd}
+use Rattle.zl_verify.proofs.Common.{ProcessBody, has_child_job, has_child_process, get-put, get-each, Statement, Image, Library, Program, is_among, with_object}
+use Rattle.zl_verify.proofs.Common.{on_object, process_with, may_get_all, job_within, created_process, program_in, program_of, Boots, setting, are_declared}
+use Rattle.zl_verify.proofs.Common.{may_boot, boot_effect, handles_given, origin, process_with_all, body_of, creates, IsSound, word_of, IsSizedBoot}
+use Rattle.zl_verify.proofs.Common.{IsProperStart, IsStarted, boot_sound, ANY}
 use Rattle.std.proofs.lemmas.Bool.{not-false}
 use Rattle.zl_code.specs.declared.boot.Grant.{Grant}
 use Rattle.zl_code.specs.Boot.{are_misfits, boot_fault, started_process}
@@ -14,7 +14,7 @@ use Rattle.zl_code.proofs.StepChanges.{no_child_booted, job_is_there}
 use Rattle.zl_code.proofs.SoundRuns.{IsBooting, origin_booting, still_booting}
 use Rattle.zl_verify.specs.WakeLaws.{IsBooted}
 use Rattle.zl_code.specs.declared.boot.Statement.TheVariants as statement
-use Rattle.zl_verify.proofs.OwnEffect.{AreAlike, alike_then, same_objects, made_alike, more_koids, neither_one, set_alike, same_policy}
+use Rattle.zl_verify.proofs.OwnEffect.{AreAlike, alike_then, same_objects, made_alike, pair_alike, neither_one, set_alike, same_policy}
 use Rattle.zl_verify.proofs.Woken.{settled_allowed}
 use Rattle.zl_verify.proofs.UnstartedRuns.{made_allows}
 
@@ -59,14 +59,8 @@ boot_alike lib w (statement.Policy job condition action) vs fine =
     set_alike w w job (setting condition action) (neither_one (has_child_job w job) (has_child_process w job) (no_child_booted lib w job condition action fine))
 boot_alike lib w statement.Event vs fine = made_alike w w EventBody (omega arith)
 boot_alike lib w statement.Port vs fine = made_alike w w (PortBody []) (omega arith)
-boot_alike lib w statement.Channel vs fine =
-    let first : Body = ChannelEnd (w.next_koid + 1) [] in
-    alike_then w w (with_object w first) _ (made_alike w w first (omega arith))
-    (made_alike w (with_object w first) (ChannelEnd w.next_koid []) (more_koids w w first (omega arith)))
-boot_alike lib w statement.Eventpair vs fine =
-    let first : Body = PairEnd (w.next_koid + 1) in
-    alike_then w w (with_object w first) _ (made_alike w w first (omega arith))
-    (made_alike w (with_object w first) (PairEnd w.next_koid) (more_koids w w first (omega arith)))
+boot_alike lib w statement.Channel vs fine = pair_alike w w (ChannelEnd (w.next_koid + 1) []) (ChannelEnd w.next_koid []) (omega arith)
+boot_alike lib w statement.Eventpair vs fine = pair_alike w w (PairEnd (w.next_koid + 1)) (PairEnd w.next_koid) (omega arith)
 
 -- one that was there before the statement
 before : (lib : Library) (w : World) (s : Statement) (vs : List ℕ) → boot_fault lib w s ≡ None → IsSound w → AreStarts lib w → (p : ℕ) (q : Process)

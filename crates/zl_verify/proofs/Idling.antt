@@ -201,8 +201,7 @@ module _ (lib : Library) (w : World) (p : ℕ) (x : TraceItem) (w2 : World) (ste
         there : IsAtCall g.image step.process.cpu called t
         there = at_call g.image step.process.cpu called t next
 
-        by : IsIdle step.acted q ⊎ ((process : ℕ) × (h : ℕ) × (word : ℕ) × (t.request ≡ process_start process h word) × (object_at w p process ≡ q)
-            × (is_process w is_created q ≡ true) × (o ≡ outcome.Answered status.Ok)) → IsKept
+        by : IsIdle step.acted q ⊎ IsStart p q apart lib w idle t o → IsKept
         by (inl i) = inl i
         by (inr (process, k, word, asked, child, created, is)) = inr (starting called t (ap (λ y. next_in y step.process.cpu) at ∙ next)
             (sym there.named ∙ (sym (asks_again there.call step.process.cpu t there.site) ∙ ap name_of asked)) process k word asked child

@@ -1,15 +1,14 @@
 -- What a call leaves of its caller, and of the policy that the caller is under.
-use Rattle.zl_verify.proofs.Common.{◌≡◌, ℕ, ◌+◌, ◌<◌, ◌≤◌, ◌⊎◌, Bool, true, false, ◌||◌, ◌==◌, List, [], ◌∷◌, refl, sym, ap, ◌∙◌, subst, Option, Some}
-use Rattle.zl_verify.proofs.Common.{None, option_map, arith, inl, inr, is_some, if◌then◌else◌, unwrap_or, ℤ, then_some, cases_Bool, eqb-true, nat_tests}
-use Rattle.zl_verify.proofs.Common.{none-some, same_Some, condition_number, get, lives, is_process, World, Process, Ready, Object, Body, ChannelEnd, EventBody}
-use Rattle.zl_verify.proofs.Common.{PairEnd, PortBody, JobBody, ProcessBody, KILLED, has_ended, has_child_job, has_child_process, Setting, setting_of, Message}
-use Rattle.zl_verify.proofs.Common.{Packet, Entry, Condition, get-put, get-update, get-each, Library, object_at, body_in, body_of, parent_in, parent_of}
-use Rattle.zl_verify.proofs.Common.{policy_in, action_of, unless_allowed, creates, on_process, on_object, with_object, insert_all, storing, is_created}
-use Rattle.zl_verify.proofs.Common.{created_process, started_with, is_within, body_killed, object_killed, process_killed, with_killed, body_with_policy}
-use Rattle.zl_verify.proofs.Common.{job_within, Request, chan_create, chan_write, chan_read_etc, event_create, eventpair_create, signal, signal_peer}
-use Rattle.zl_verify.proofs.Common.{port_create, port_queue, port_wait, port_poll, port_cancel, process_create, process_start, process_exit, task_kill}
-use Rattle.zl_verify.proofs.Common.{job_create, job_set_policy, listed, effect, new_handles, receiver_of, entering_at, stored_by, ends_caller, refusal}
-use Rattle.zl_verify.proofs.Common.{with_effect, IsSound, eq-eqb}
+use Rattle.zl_verify.proofs.Common.{◌≡◌, ℕ, ◌+◌, ◌<◌, ◌≤◌, ◌⊎◌, Bool, true, false, ◌||◌, ◌==◌, List, [], ◌∷◌, refl, sym, ap, ◌∙◌, subst, Option, Some, None}
+use Rattle.zl_verify.proofs.Common.{option_map, arith, inl, inr, is_some, if◌then◌else◌, unwrap_or, ℤ, then_some, cases_Bool, eqb-true, nat_tests, none-some}
+use Rattle.zl_verify.proofs.Common.{same_Some, condition_number, get, lives, is_process, World, Process, Ready, Object, Body, ChannelEnd, EventBody, PairEnd}
+use Rattle.zl_verify.proofs.Common.{PortBody, JobBody, ProcessBody, KILLED, has_ended, has_child_job, has_child_process, Setting, setting_of, Message, Packet}
+use Rattle.zl_verify.proofs.Common.{Entry, Condition, get-put, get-update, get-each, Library, object_at, body_in, body_of, parent_in, parent_of, policy_in}
+use Rattle.zl_verify.proofs.Common.{action_of, unless_allowed, creates, on_process, on_object, with_object, insert_all, storing, is_created, created_process}
+use Rattle.zl_verify.proofs.Common.{started_with, is_within, body_killed, object_killed, process_killed, with_killed, body_with_policy, job_within, Request}
+use Rattle.zl_verify.proofs.Common.{chan_create, chan_write, chan_read_etc, event_create, eventpair_create, signal, signal_peer, port_create, port_queue}
+use Rattle.zl_verify.proofs.Common.{port_wait, port_poll, port_cancel, process_create, process_start, process_exit, task_kill, job_create, job_set_policy}
+use Rattle.zl_verify.proofs.Common.{listed, effect, new_handles, receiver_of, entering_at, stored_by, ends_caller, refusal, with_effect, IsSound, eq-eqb}
 use Rattle.zl_code.specs.Effects.{body_with_message, body_after_read}
 use Rattle.zl_code.specs.Jobs.{is_dead, has_child, policy_changed}
 use Rattle.zl_code.specs.Waiting.{without_keyed, body_packed}
@@ -223,22 +222,22 @@ packs_alike : (f : List Packet → List Packet) (b : Body) → IsAlike (body_pac
 packs_alike f (PortBody packets) = (refl, refl)
 packs_alike f _ = (refl, refl)
 
-pub more_koids : (v u : World) (b : Body) → v.next_koid ≤ u.next_koid → v.next_koid ≤ (with_object u b).next_koid
+more_koids : (v u : World) (b : Body) → v.next_koid ≤ u.next_koid → v.next_koid ≤ (with_object u b).next_koid
 unfolding with_object
 more_koids v u b le = omega arith
+
+-- a pair of objects is made
+pub pair_alike : (v u : World) (a b : Body) → v.next_koid ≤ u.next_koid → AreAlike v u (with_object (with_object u a) b)
+pair_alike v u a b le = alike_then v u (with_object u a) _ (made_alike v u a le) (made_alike v (with_object u a) b (more_koids v u a le))
 
 effect_alike : (r : Request) (lib : Library) (w u : World) (p : ℕ) → refusal lib w p r ≡ None → w.next_koid ≤ u.next_koid → (vs : List ℕ)
     → AreAlike w u (effect lib w u p r vs)
 unfolding effect on_process
-effect_alike chan_create lib w u p passes le vs =
-    let first : Body = ChannelEnd (w.next_koid + 1) [] in
-    alike_then w u (with_object u first) _ (made_alike w u first le) (made_alike w (with_object u first) (ChannelEnd w.next_koid []) (more_koids w u first le))
+effect_alike chan_create lib w u p passes le vs = pair_alike w u (ChannelEnd (w.next_koid + 1) []) (ChannelEnd w.next_koid []) le
 effect_alike (chan_write c bytes hs) lib w u p passes le vs = changed_alike w u _ _ (λ o. sends_alike _ o.body)
 effect_alike (chan_read_etc c address room places) lib w u p passes le vs = changed_alike w u _ _ (λ o. reads_alike o.body)
 effect_alike event_create lib w u p passes le vs = made_alike w u EventBody le
-effect_alike eventpair_create lib w u p passes le vs =
-    let first : Body = PairEnd (w.next_koid + 1) in
-    alike_then w u (with_object u first) _ (made_alike w u first le) (made_alike w (with_object u first) (PairEnd w.next_koid) (more_koids w u first le))
+effect_alike eventpair_create lib w u p passes le vs = pair_alike w u (PairEnd (w.next_koid + 1)) (PairEnd w.next_koid) le
 effect_alike (signal h clear set) lib w u p passes le vs = changed_alike w u _ _ (λ o. (refl, refl))
 effect_alike (signal_peer h clear set) lib w u p passes le vs = changed_alike w u _ _ (λ o. (refl, refl))
 effect_alike port_create lib w u p passes le vs = made_alike w u (PortBody []) le

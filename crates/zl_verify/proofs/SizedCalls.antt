@@ -29,9 +29,9 @@ use Rattle.zl_verify.proofs.Giving.{status_few, kind_few, HasFewRights}
 use Rattle.zl_verify.proofs.Sites.{call, AtSite, of_site}
 use Rattle.zl_verify.proofs.Working.{listed_none, test_fails, test_passes}
 use Rattle.zl_verify.proofs.SizedCpus.{AreSmall, registers_written, answered_sized, blank_sized, started_sized}
-use Rattle.zl_verify.proofs.SizedWorlds.{IsSizedProcess, IsSizedAt, all_filtered, all_behind, each_update, each_each, queues_sized, active_sized, process_sized}
-use Rattle.zl_verify.proofs.SizedWorlds.{one_sized, new_process_sized, removed_sized, inserted_sized, stored_sized, ended_sized, waiting_sized, object_sized}
-use Rattle.zl_verify.proofs.SizedWorlds.{new_object_sized, fewer_waits, wait_sized}
+use Rattle.zl_verify.proofs.SizedWorlds.{pair_sized, IsSizedProcess, IsSizedAt, all_filtered, all_behind, each_update, each_each, queues_sized, active_sized}
+use Rattle.zl_verify.proofs.SizedWorlds.{process_sized, one_sized, new_process_sized, removed_sized, inserted_sized, stored_sized, ended_sized, waiting_sized}
+use Rattle.zl_verify.proofs.SizedWorlds.{object_sized, new_object_sized, fewer_waits, wait_sized}
 
 -- ---- what is asked for
 
@@ -239,8 +239,7 @@ module _ (lib : Library) (w : World) (p : ℕ) (u : World) (s : IsSized u) (vs :
   unfolding effect listed
   effect_sized (replace h rights) fits passes = fewer_waits u (λ x. not (is_by_handle p h x)) s
   effect_sized chan_create fits passes =
-      new_object_sized (with_object u (ChannelEnd (w.next_koid + 1) [])) (ChannelEnd w.next_koid []) (empty_sized _ refl refl)
-      (new_object_sized u (ChannelEnd (w.next_koid + 1) []) (empty_sized _ refl refl) s)
+      pair_sized u (ChannelEnd (w.next_koid + 1) []) (ChannelEnd w.next_koid []) (empty_sized _ refl refl) (empty_sized _ refl refl) s
   effect_sized (chan_write c bytes hs) fits passes =
       object_sized u (peer_at w p c) _
       (λ o k. message_comes _ (message_sized w p bytes hs fits (test_fails _ status.OutOfRange (listed_none lib w p (chan_write c bytes hs) passes).1.0))
@@ -248,8 +247,7 @@ module _ (lib : Library) (w : World) (p : ℕ) (u : World) (s : IsSized u) (vs :
   effect_sized (chan_read_etc c address room places) fits passes = object_sized u (object_at w p c) _ (λ o k. message_goes o.body o.raised k) s
   effect_sized event_create fits passes = new_object_sized u EventBody (empty_sized _ refl refl) s
   effect_sized eventpair_create fits passes =
-      new_object_sized (with_object u (PairEnd (w.next_koid + 1))) (PairEnd w.next_koid) (empty_sized _ refl refl)
-      (new_object_sized u (PairEnd (w.next_koid + 1)) (empty_sized _ refl refl) s)
+      pair_sized u (PairEnd (w.next_koid + 1)) (PairEnd w.next_koid) (empty_sized _ refl refl) (empty_sized _ refl refl) s
   effect_sized (signal h clear set) fits passes =
       object_sized u (object_at w p h) _
       (λ o k. signals_changed (body_of w (object_at w p h)) clear set (test_passes _ status.InvalidArgs (listed_none lib w p (signal h clear set) passes).0)

@@ -12,7 +12,7 @@ use Rattle.zl_code.specs.declared.boot.Statement.TheVariants as statement
 use Rattle.zl_code.specs.declared.instr.Instr.TheVariants as instr
 use Rattle.zl_verify.proofs.LocalSteps.{in_range_at}
 use Rattle.zl_verify.proofs.SizedCpus.{blank_sized, started_sized, local_sized}
-use Rattle.zl_verify.proofs.SizedWorlds.{object_sized, process_sized, new_process_sized, ended_sized, new_object_sized, settled_sized, wakes_sized}
+use Rattle.zl_verify.proofs.SizedWorlds.{pair_sized, object_sized, process_sized, new_process_sized, ended_sized, new_object_sized, settled_sized, wakes_sized}
 use Rattle.zl_verify.proofs.SizedCalls.{policy_set_sized, IsSizedRequest, request_sized, chosen_small, empty_sized, call_sized}
 
 -- ---- what stands next
@@ -98,11 +98,9 @@ statement_sized lib w (statement.Policy job condition action) vs few may s =
 statement_sized lib w statement.Event vs few may s = new_object_sized w EventBody (empty_sized _ refl refl) s
 statement_sized lib w statement.Port vs few may s = new_object_sized w (PortBody []) (empty_sized _ refl refl) s
 statement_sized lib w statement.Channel vs few may s =
-    new_object_sized (with_object w (ChannelEnd (w.next_koid + 1) [])) (ChannelEnd w.next_koid []) (empty_sized _ refl refl)
-    (new_object_sized w (ChannelEnd (w.next_koid + 1) []) (empty_sized _ refl refl) s)
+    pair_sized w (ChannelEnd (w.next_koid + 1) []) (ChannelEnd w.next_koid []) (empty_sized _ refl refl) (empty_sized _ refl refl) s
 statement_sized lib w statement.Eventpair vs few may s =
-    new_object_sized (with_object w (PairEnd (w.next_koid + 1))) (PairEnd w.next_koid) (empty_sized _ refl refl)
-    (new_object_sized w (PairEnd (w.next_koid + 1)) (empty_sized _ refl refl) s)
+    pair_sized w (PairEnd (w.next_koid + 1)) (PairEnd w.next_koid) (empty_sized _ refl refl) (empty_sized _ refl refl) s
 
 boots_sized : (lib : Library) (w : World) (statements : List Statement) (after : World) → AllByRecursion (λ s. word_of s ≤ ANY) statements → IsSized w
     → Boots lib w statements after → IsSized after

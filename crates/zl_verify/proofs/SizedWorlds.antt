@@ -126,6 +126,9 @@ unfolding with_object
 new_object_sized w b new s =
     record { cpus = s.cpus; kept = each_put IsSizedAt w.objects s.kept w.next_koid (record { body = b; raised = 0 }) new; waits = s.waits }
 
+pub pair_sized : (w : World) (a b : Body) → IsSizedObject a 0 → IsSizedObject b 0 → IsSized w → IsSized (with_object (with_object w a) b)
+pair_sized w a b first second s = new_object_sized (with_object w a) b second (new_object_sized w a first s)
+
 pub fewer_waits : (w : World) (test : Wait → Bool) → IsSized w → IsSized (record w { waits = filter test w.waits })
 fewer_waits w test s = record { cpus = s.cpus; kept = s.kept; waits = all_filtered IsSizedWait test w.waits s.waits }
 

@@ -1,38 +1,28 @@
 -- The rule of each local instruction and its effect agree.
-use Rattle.std.proofs.Common.{◌≡◌, ◌≢◌, ℕ, zero, suc, ◌+◌, ◌-◌, ◌*◌, ◌<◌, ◌≤◌, ◌⊎◌, Bool, true, false, not, ◌&&◌, ◌||◌, ◌==◌, List, [], ◌∷◌, length, take, drop}
-use Rattle.std.proofs.Common.{refl, sym, ap, subst, Option, Some, None, Result, Ok, Err, arith, inl, inr, slice_set, eq-eqb}
-use Rattle.std.specs.Prelude.{if◌then◌else◌, nat_lt, nat_le, slice_get, slice_index_or, bit_and, bit_or, bit_xor, ◌%◌, ◌/◌, ◌^◌}
-use Rattle.std.proofs.lemmas.Bool.Decides.{nat_tests}
-use Rattle.std.proofs.lemmas.Nat.{and_le_l, and_le_r, or_lt, xor_lt, le-div, pow_pos}
-use Rattle.std.proofs.Math.Nat.{mod-le, mod-lt, div-mul-le_self}
-use Rattle.zl_rights.specs.Common.{Cpu}
-use Rattle.zl_rights.specs.declared.entry.Entry.{Entry}
-use Rattle.zl_rights.specs.Numbers.{bits, within, KNOWN_RIGHTS}
-use Rattle.zl_code.specs.declared.image.SlotArray.{SlotArray}
-use Rattle.zl_code.specs.declared.instr.LocalInstr.{LocalInstr}
-use Rattle.zl_code.specs.declared.instr.LocalInstr.TheVariants as local
-use Rattle.zl_code.specs.Image.{Image}
-use Rattle.zl_code.specs.Spells.{number_of, are_registers, is_32_bits, is_local_in_range, local_parts}
-use Rattle.zl_code.specs.Local.{reg, sets, wrapped, is_in_memory, loads as loads_from, stores as stores_to, swaps, goes_if, local_effect}
-use Rattle.zl_abs.specs.declared.value.AbsVal.{AbsVal}
-use Rattle.zl_abs.specs.declared.value.AbsVal.TheVariants.{Word, Has, KindOf, RightsOf}
-use Rattle.zl_abs.specs.declared.cause.Cause.{Cause}
-use Rattle.zl_abs.specs.declared.cause.Cause.TheVariants as cause
+use Rattle.zl_verify.proofs.Common.{◌≡◌, ◌≢◌, ℕ, zero, suc, ◌+◌, ◌-◌, ◌*◌, ◌<◌, ◌≤◌, ◌⊎◌, Bool, true, false, not, ◌&&◌, ◌||◌, ◌==◌, List, [], ◌∷◌, length, take}
+use Rattle.zl_verify.proofs.Common.{drop, refl, sym, ap, subst, Option, Some, None, Result, Ok, Err, arith, inl, inr, slice_set, eq-eqb, if◌then◌else◌, nat_lt}
+use Rattle.zl_verify.proofs.Common.{nat_le, slice_get, slice_index_or, bit_and, bit_or, bit_xor, ◌/◌, ◌^◌, nat_tests, and_le_l, or_lt, mod-lt, Cpu, Entry, bits}
+use Rattle.zl_verify.proofs.Common.{within, KNOWN_RIGHTS, SlotArray, LocalInstr, Image, number_of, are_registers, is_local_in_range, local_parts, reg, sets}
+use Rattle.zl_verify.proofs.Common.{is_in_memory, swaps, local_effect, AbsVal, Word, Has, Cause, ANY, is_has, capped, smaller, kind_below, State, IsState}
+use Rattle.zl_verify.proofs.Common.{value_at, with_value, rounded, and_then, passes, writes, word_at, shifted, in_memory, loads, stores, may_move, moved}
+use Rattle.zl_verify.proofs.Common.{slot_fault, swaps_by, swaps_in, unless, zero_ways, equal_ways, below_ways, has_ways, local_rule, target_of, both, Table}
+use Rattle.zl_verify.proofs.Common.{IsHandle, Describes, one_if, is_it, owns, Holds, IsMemory}
+use Rattle.std.specs.Prelude.{◌%◌}
+use Rattle.std.proofs.lemmas.Nat.{and_le_r, xor_lt, le-div, pow_pos}
+use Rattle.std.proofs.Math.Nat.{mod-le, div-mul-le_self}
+use Rattle.zl_code.specs.Spells.{is_32_bits}
+use Rattle.zl_code.specs.Local.{wrapped, loads as loads_from, stores as stores_to, goes_if}
 use Rattle.zl_abs.specs.Outcome.{Outcome}
-use Rattle.zl_abs.specs.Values.{ANY, is_has, capped, smaller, kind_below}
-use Rattle.zl_abs.specs.States.{State, IsState, value_at, with_value}
-use Rattle.zl_abs.specs.Bounds.{least_from, rounded}
-use Rattle.zl_abs.specs.Rule.{and_then, passes, writes, word_at}
-use Rattle.zl_abs.specs.LocalRules.{computes, shifted, in_memory, loads, stores, copies, may_move, moved, takes, slot_fault, swaps_by, swaps_in, unless}
-use Rattle.zl_abs.specs.LocalRules.{zero_ways, equal_ways, below_ways, has_ways, local_rule}
-use Rattle.zl_abs.specs.Typing.{target_of}
-use Rattle.zl_abs.proofs.Order.{both}
-use Rattle.zl_verify.specs.Conforms.{Table, IsHandle, Describes, one_if, is_it, owns, Holds, IsMemory}
+use Rattle.zl_abs.specs.Bounds.{least_from}
+use Rattle.zl_abs.specs.LocalRules.{computes, copies, takes}
+use Rattle.zl_code.specs.declared.instr.LocalInstr.TheVariants as local
+use Rattle.zl_abs.specs.declared.cause.Cause.TheVariants as cause
 use Rattle.zl_verify.proofs.Writing.{write_word, write_copy}
 use Rattle.zl_verify.proofs.Weakening.{handle_below}
 use Rattle.zl_verify.proofs.Moving.{take_holds, swap_holds, array_there}
 use Rattle.zl_verify.proofs.Refining.{Known, Splits, unless_splits, zero_splits, equal_splits, below_splits, has_splits}
 use Rattle.zl_verify.proofs.Memories.{byte_less, word_less, stored}
+use Rattle.zl_verify.proofs.Owners.{not_0}
 
 -- ---- numbers
 
@@ -121,16 +111,9 @@ slot_goes : (f : Table) (xs : List ℕ) (t : SlotArray) (v : AbsVal) (x : ℕ) �
 unfolding owns
 slot_goes f xs t (Word m) x e d = by (m == 0) refl e
   where
-    none : (y : ℕ) → one_if (is_it y 0) ≡ 0
-    none y = test (0 == y)
-      where
-        test : (b : Bool) → one_if (b && nat_lt 0 0) ≡ 0
-        test true = refl
-        test false = refl
-
     by : (b : Bool) → (m == 0) ≡ b → (if b then None else Some cause.NotLive) ≡ None
         → IsHandle f true t.kind t.rights x × ((y : ℕ) → one_if (owns y (Word m) x) ≡ one_if (is_it y x))
-    by true is e = let z : x ≡ 0 = grind (arith, nat_tests) in (inl (refl, z), λ y. rw z (sym (none y)))
+    by true is e = let z : x ≡ 0 = grind (arith, nat_tests) in (inl (refl, z), λ y. rw z (sym (not_0 y)))
     by false is e = cc
 slot_goes f xs t (Has maybe k q) x e d = by (kind_below k t.kind) refl (within (bits t.rights) (bits q)) refl e
   where
@@ -142,10 +125,8 @@ slot_goes f xs t (Has maybe k q) x e d = by (kind_below k t.kind) refl (within (
         → (if not b then Some cause.WrongKind else if not c then Some cause.LacksRight else None) ≡ None
         → IsHandle f true t.kind t.rights x × ((y : ℕ) → one_if (owns y (Has maybe k q) x) ≡ one_if (is_it y x))
     by true kind true rights e = (handle_below f maybe true k t.kind q t.rights x (any maybe) kind rights d, λ y. refl)
-    by true kind false rights e = cc
-    by false kind c rights e = cc
-slot_goes f xs t (KindOf r) x e d = cc
-slot_goes f xs t (RightsOf r) x e d = cc
+    by _ kind _ rights e = cc
+slot_goes f xs t _ x e d = cc
 
 get_there : (slots : List (List ℕ)) (n : ℕ) → n < length slots → slice_get slots n ≡ Some (slice_index_or slots n [])
 get_there [] n less = absurd (omega arith)
@@ -189,8 +170,7 @@ module _ {f : Table} {i : Image} {s : State} (c : Cpu) (h : Holds f s c.register
       by : (v : AbsVal) → value_at s b ≡ v → Ends (and_then (word_at s b) g) o
       by (Word m) is = rw is (k m (rw is at (h.described b)) (ap is_has is))
       by (Has maybe j q) is = rw is tt
-      by (KindOf r) is = rw is (k ANY (h.small b) (ap is_has is))
-      by (RightsOf r) is = rw is (k ANY (h.small b) (ap is_has is))
+      by _ is = rw is (k ANY (h.small b) (ap is_has is))
 
   copied : (a b : ℕ) → a < 32 → Ends (copies s a b) (Some (sets c a (reg c b)))
   copied a b less = with_word b _ _ (λ m le plain. by plain (is_has (value_at s a)) refl)

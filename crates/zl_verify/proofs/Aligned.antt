@@ -1,30 +1,20 @@
 -- What a call does and what its rule says are the same columns of the table, at values and at registers.
-use Rattle.std.proofs.Common.{◌≡◌, ℕ, zero, suc, ◌+◌, ◌*◌, ◌<◌, ◌≤◌, Bool, true, false, ◌&&◌, List, [], ◌∷◌, ◌++◌, map, zip, drop, refl, ap, Option, Some}
-use Rattle.std.proofs.Common.{None, arith, slice_index, cond}
-use Rattle.std.specs.Prelude.{nat_lt, nat_le}
-use Rattle.std.specs.List.{list_all, AllByRecursion}
-use Rattle.std.proofs.lemmas.Bool.Decides.{nat_tests}
-use Rattle.zl_rights.specs.Common.{Cpu}
-use Rattle.zl_rights.specs.declared.kind.Kind.TheVariants as kind
+use Rattle.zl_verify.proofs.Common.{◌≡◌, ℕ, zero, suc, ◌+◌, ◌*◌, ◌<◌, ◌≤◌, Bool, true, false, ◌&&◌, List, [], ◌∷◌, ◌++◌, map, drop, refl, ap, Option, Some}
+use Rattle.zl_verify.proofs.Common.{None, arith, slice_index, cond, nat_lt, nat_le, list_all, AllByRecursion, nat_tests, Cpu, register_count, CallName}
+use Rattle.zl_verify.proofs.Common.{CallInstr, Ending, call_row, number_at, is_call_in_range, are_registers, Site, site_of, Operand, any, needs, taking}
+use Rattle.zl_verify.proofs.Common.{handle_operands, condition_of, AbsVal, Word, State, Uses, uses_of, triple_results, both}
+use Rattle.std.proofs.Common.{zip}
 use Rattle.zl_rights.specs.Numbers.{WRITE, TRANSFER}
-use Rattle.zl_code.specs.Limits.{register_count, most_handles}
-use Rattle.zl_code.specs.declared.history.CallName.{CallName}
-use Rattle.zl_code.specs.declared.history.CallName.TheVariants as name
-use Rattle.zl_code.specs.declared.instr.CallInstr.{CallInstr}
-use Rattle.zl_code.specs.declared.layout.Ending.{Ending}
-use Rattle.zl_code.specs.declared.layout.Ending.TheVariants as ending
-use Rattle.zl_code.specs.Instructions.{Field, names, consumes, closes, call_row}
-use Rattle.zl_code.specs.Spells.{number_at, names_registers, call_reading, is_call_in_range, are_registers}
+use Rattle.zl_code.specs.Limits.{most_handles}
+use Rattle.zl_code.specs.Instructions.{Field, names, consumes, closes}
+use Rattle.zl_code.specs.Spells.{names_registers, call_reading}
 use Rattle.zl_code.specs.Asked.{used, those, is_written, listed_in, triples_from}
-use Rattle.zl_code.specs.Request.{Site, site_of}
-use Rattle.zl_code.specs.Operands.{Operand, any}
-use Rattle.zl_code.specs.Refusals.{needs, taking, operand_by, handle_operands, condition_of}
+use Rattle.zl_code.specs.Refusals.{operand_by}
 use Rattle.zl_code.proofs.ImageCalls.{whole}
-use Rattle.zl_abs.specs.declared.value.AbsVal.{AbsVal}
-use Rattle.zl_abs.specs.declared.value.AbsVal.TheVariants.{Word}
-use Rattle.zl_abs.specs.States.{State}
-use Rattle.zl_abs.specs.CallRules.{operands_at, operands_listed, Uses, uses_of, values_of, triple_results, received_in}
-use Rattle.zl_abs.proofs.Order.{both}
+use Rattle.zl_abs.specs.CallRules.{operands_at, operands_listed, values_of, received_in}
+use Rattle.zl_rights.specs.declared.kind.Kind.TheVariants as kind
+use Rattle.zl_code.specs.declared.history.CallName.TheVariants as name
+use Rattle.zl_code.specs.declared.layout.Ending.TheVariants as ending
 use Rattle.zl_verify.proofs.Examining.{valued, taken_registers, AreOperands, bars_zero}
 use Rattle.zl_verify.proofs.Fitting.{AreInside}
 use Rattle.zl_verify.proofs.Sites.{call, AtSite, of_site}

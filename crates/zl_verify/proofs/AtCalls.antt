@@ -1,28 +1,9 @@
 -- A process that conforms and stands at a call: the call, its site, and its rule, which holds there.
-use Rattle.std.proofs.Common.{◌≡◌, ℕ, ◌⊎◌, true, length, refl, ap, ◌∙◌, Option, Some, None, Result, Ok, Err, inl, inr}
-use Rattle.std.specs.Prelude.{if◌then◌else◌}
-use Rattle.zl_rights.specs.Common.{World, Cpu, Process}
-use Rattle.zl_rights.specs.declared.policy.Condition.{Condition}
-use Rattle.zl_code.specs.declared.history.CallName.{CallName}
-use Rattle.zl_code.specs.declared.instr.Instr.{Instr}
+use Rattle.zl_verify.proofs.Common.{◌≡◌, ℕ, ◌⊎◌, true, length, refl, ap, ◌∙◌, Option, Some, None, Result, Ok, Err, inl, inr, if◌then◌else◌, World, Cpu, Process}
+use Rattle.zl_verify.proofs.Common.{Condition, CallName, Instr, CallInstr, Image, instr_at, call_at, call_in, is_call_in_range, local_effect, Site, site_of}
+use Rattle.zl_verify.proofs.Common.{AtCall, IsStuck, moves, calls_at, next_of, next_at, by_policy, ranges, Cause, bounds_of, State, with_all, and_then, edges}
+use Rattle.zl_verify.proofs.Common.{passes, Ways, is_declared, uses_of, goes_on, stops, call_rule, rule_with, RuleHolds, StandsAtCall}
 use Rattle.zl_code.specs.declared.instr.Instr.TheVariants as instr
-use Rattle.zl_code.specs.declared.instr.CallInstr.{CallInstr}
-use Rattle.zl_code.specs.Image.{Image, instr_at, call_at, call_in}
-use Rattle.zl_code.specs.Spells.{is_call_in_range}
-use Rattle.zl_code.specs.Local.{local_effect}
-use Rattle.zl_code.specs.Request.{Site, site_of}
-use Rattle.zl_code.specs.Steps.{AtCall, IsStuck, moves, calls_at, next_of, next_at}
-use Rattle.zl_code.specs.Operands.{by_policy}
-use Rattle.zl_code.proofs.ImageRanges.{ranges}
-use Rattle.zl_abs.specs.declared.cause.Cause.{Cause}
-use Rattle.zl_abs.specs.Bounds.{bounds_of}
-use Rattle.zl_abs.specs.States.{State, with_all}
-use Rattle.zl_abs.specs.Rule.{and_then, edges, passes}
-use Rattle.zl_abs.specs.Outcome.{Outcome as Ways}
-use Rattle.zl_abs.specs.CallRules.{is_declared, uses_of, goes_on, stops, call_rule}
-use Rattle.zl_abs.specs.Typing.{rule_with}
-use Rattle.zl_abs.specs.Typing.{Holds as RuleHolds}
-use Rattle.zl_verify.specs.CallLaws.{StandsAtCall}
 use Rattle.zl_verify.proofs.LocalSteps.{in_range_at}
 use Rattle.zl_verify.proofs.Aligned.{aligned}
 use Rattle.zl_verify.proofs.Standing.{has_rule, Stands}
@@ -54,10 +35,9 @@ module _ (i : Image) (c : Cpu) where
       no_call (Some d) e = cc
 
       by : (o : Option Instr) → instr_at i c.counter ≡ o → next_of o c ≡ AtCall called s → IsAtCall i c called s
-      by None is e = cc
       by (Some (instr.Local x)) is e = absurd (no_call (local_effect x c) e)
       by (Some (instr.Call x)) is e = one x is (site_of x c) refl e
-      by (Some (instr.Unknown bytes)) is e = cc
+      by _ is e = cc
 
   -- a call that isn't stuck is read
   pub reads : (call : CallInstr) → call_at i c.counter ≡ Some call → (next_at i c ≡ IsStuck) ⊎ ((s : Site) × (next_at i c ≡ AtCall call.name s))
@@ -69,10 +49,8 @@ module _ (i : Image) (c : Cpu) where
       one x same (Some s) = inr (s, ap (λ y. AtCall y.name s) same)
 
       by : (o : Option Instr) → call_in o ≡ Some call → (next_of o c ≡ IsStuck) ⊎ ((s : Site) × (next_of o c ≡ AtCall call.name s))
-      by None e = cc
-      by (Some (instr.Local x)) e = cc
       by (Some (instr.Call x)) e = let same : x ≡ call = cc in one x same (site_of x c)
-      by (Some (instr.Unknown bytes)) e = cc
+      by _ e = cc
 
 -- ---- its rule
 

@@ -1,38 +1,15 @@
 -- A process that waits as its typing says gets an answer that fits: then it stands at the end of a followed edge, as the typing says there.
-use Rattle.std.proofs.Common.{◌≡◌, ℕ, ◌≤◌, Bool, true, List, [], ◌∷◌, length, refl, sym, ap, ◌∙◌, subst, Option, Some, None, Result, Ok, Err, inr, arith}
-use Rattle.std.proofs.Common.{slice_set, slice_index}
-use Rattle.std.specs.Prelude.{if◌then◌else◌}
-use Rattle.zl_rights.specs.Common.{answered, get, World, Process, Ready, Blocked}
-use Rattle.zl_rights.specs.World.{State as Life, SignalOf, PacketAt, Packet}
-use Rattle.zl_rights.specs.Wakes.{packet_values}
+use Rattle.zl_verify.proofs.Common.{◌≡◌, ℕ, ◌≤◌, Bool, true, List, [], ◌∷◌, length, refl, sym, ap, ◌∙◌, subst, Option, Some, None, Result, Ok, Err, inr, arith}
+use Rattle.zl_verify.proofs.Common.{slice_set, slice_index, if◌then◌else◌, answered, get, World, Process, Ready, Blocked, Life, SignalOf, PacketAt, Packet}
+use Rattle.zl_verify.proofs.Common.{packet_values, Instr, CallInstr, CallName, Image, instr_at, call_at, call_in, is_in_range, is_call_in_range, reg, by_policy}
+use Rattle.zl_verify.proofs.Common.{wait_one, port_wait, handle_operands, condition_of, Site, site, site_of, taken_handles, cpu_answered, ranges, Word, Cause}
+use Rattle.zl_verify.proofs.Common.{ANY, bounds_of, rounded, State, with_value, with_all, and_then, edges, passes, Ways, Uses, uses_of, goes_on, stops}
+use Rattle.zl_verify.proofs.Common.{call_rule, rule_with, IsTyping, RuleHolds, targets_of, OneOf, Holds, IsMemory, waits_for, WaitsAt, Conforms, IsSizedPacket}
+use Rattle.zl_verify.proofs.Common.{ends_of}
+use Rattle.zl_verify.specs.Conforms.{answered_in}
 use Rattle.zl_rights.specs.declared.status.Status.TheVariants as status
-use Rattle.zl_code.specs.declared.instr.Instr.{Instr}
 use Rattle.zl_code.specs.declared.instr.Instr.TheVariants as instr
-use Rattle.zl_code.specs.declared.instr.CallInstr.{CallInstr}
-use Rattle.zl_code.specs.declared.history.CallName.{CallName}
 use Rattle.zl_code.specs.declared.history.CallName.TheVariants as name
-use Rattle.zl_code.specs.Image.{Image, instr_at, call_at, call_in}
-use Rattle.zl_code.specs.Spells.{is_in_range, is_call_in_range}
-use Rattle.zl_code.specs.Local.{reg}
-use Rattle.zl_code.specs.Operands.{by_policy}
-use Rattle.zl_code.specs.CallTable.{wait_one, port_wait}
-use Rattle.zl_code.specs.Refusals.{handle_operands, condition_of}
-use Rattle.zl_code.specs.Request.{Site, site, site_of}
-use Rattle.zl_code.specs.Calls.{taken_handles, cpu_answered}
-use Rattle.zl_code.proofs.ImageRanges.{ranges}
-use Rattle.zl_abs.specs.declared.value.AbsVal.TheVariants.{Word}
-use Rattle.zl_abs.specs.declared.cause.Cause.{Cause}
-use Rattle.zl_abs.specs.Values.{ANY}
-use Rattle.zl_abs.specs.Bounds.{bounds_of, rounded}
-use Rattle.zl_abs.specs.States.{State, with_value, with_all}
-use Rattle.zl_abs.specs.Rule.{and_then, edges, passes}
-use Rattle.zl_abs.specs.Outcome.{Outcome as Ways}
-use Rattle.zl_abs.specs.CallRules.{Uses, uses_of, goes_on, stops, call_rule}
-use Rattle.zl_abs.specs.Typing.{rule_with, IsTyping}
-use Rattle.zl_abs.specs.Typing.{Holds as RuleHolds}
-use Rattle.zl_verify.specs.Steps.{targets_of, OneOf}
-use Rattle.zl_verify.specs.Conforms.{Holds, IsMemory, waits_for, answered_in, WaitsAt, Conforms}
-use Rattle.zl_verify.specs.CallLaws.{IsSizedPacket, ends_of}
 use Rattle.zl_verify.proofs.LocalSteps.{in_range_at, reached}
 use Rattle.zl_verify.proofs.Refining.{Known}
 use Rattle.zl_verify.proofs.Agreeing.{Arrives}

@@ -1,42 +1,27 @@
 -- In a boot world each process is as a statement started it, and properly where its program is checked.
-use Rattle.std.proofs.Common.{◌≡◌, ℕ, ◌+◌, ◌≤◌, ◌⊎◌, Bool, true, false, ◌==◌, List, [], ◌∷◌, refl, sym, ap, ◌∙◌, subst, arith, IsTrue, Option, Some, None}
-use Rattle.std.proofs.Common.{option_map, inl, inr}
-use Rattle.std.specs.Prelude.{if◌then◌else◌, slice_get}
-use Rattle.std.specs.List.{AllByRecursion}
-use Rattle.std.proofs.lemmas.Bool.{cases_Bool, eqb-true, not-false}
-use Rattle.std.proofs.lemmas.Option.{none-some, same_Some}
-use Rattle.zl_rights.specs.declared.entry.Entry.{Entry}
-use Rattle.zl_rights.specs.declared.policy.Condition.{Condition}
-use Rattle.zl_rights.specs.Common.{get, lives, Settles, process_settled, without_others, World, Process, Body, EventBody, PairEnd, PortBody, ChannelEnd}
-use Rattle.zl_rights.specs.Common.{ProcessBody}
-use Rattle.zl_rights.specs.Signals.{has_child_job, has_child_process}
-use Rattle.zl_rights.proofs.MapLaws.{get-put, get-each}
+use Rattle.zl_verify.proofs.Common.{◌≡◌, ℕ, ◌+◌, ◌≤◌, ◌⊎◌, Bool, true, false, ◌==◌, List, [], ◌∷◌, refl, sym, ap, ◌∙◌, subst, arith, IsTrue, Option, Some, None}
+use Rattle.zl_verify.proofs.Common.{option_map, inl, inr, if◌then◌else◌, slice_get, AllByRecursion, cases_Bool, eqb-true, none-some, same_Some, Entry}
+use Rattle.zl_verify.proofs.Common.{Condition, get, lives, Settles, process_settled, without_others, World, Process, EventBody, PairEnd, PortBody, ChannelEnd}
+use Rattle.zl_verify.proofs.Common.{ProcessBody, has_child_job, has_child_process, get-put, get-each, Statement, Image, Library, Program, is_among, with_object}
+use Rattle.zl_verify.proofs.Common.{on_object, process_with, may_get_all, job_within, created_process, program_in, program_of, Boots, setting, are_declared}
+use Rattle.zl_verify.proofs.Common.{may_boot, boot_effect, handles_given, origin, process_with_all, body_of, creates, IsSound, word_of, IsSizedBoot}
+use Rattle.zl_verify.proofs.Common.{IsProperStart, IsStarted, boot_sound, ANY}
+use Rattle.std.proofs.lemmas.Bool.{not-false}
 use Rattle.zl_code.specs.declared.boot.Grant.{Grant}
-use Rattle.zl_code.specs.declared.boot.Statement.{Statement}
-use Rattle.zl_code.specs.declared.boot.Statement.TheVariants as statement
-use Rattle.zl_code.specs.Image.{Image, Library, Program, is_among}
-use Rattle.zl_code.specs.Effects.{with_object, on_object, process_with, may_get_all}
-use Rattle.zl_code.specs.Jobs.{job_within}
-use Rattle.zl_code.specs.Starting.{created_process, program_in, program_of}
-use Rattle.zl_code.specs.Boot.{Boots, setting, are_declared, are_misfits, may_boot, boot_fault, boot_effect, handles_given, origin, process_with_all}
-use Rattle.zl_code.specs.Boot.{started_process}
-use Rattle.zl_code.specs.Tests.{body_of}
-use Rattle.zl_code.specs.Operands.{creates}
-use Rattle.zl_code.specs.Sound.{IsSound}
-use Rattle.zl_code.specs.Headline.{word_of, IsSizedBoot, IsProperStart, IsStarted}
+use Rattle.zl_code.specs.Boot.{are_misfits, boot_fault, started_process}
 use Rattle.zl_code.proofs.CanStart.{CanStart, can_start}
 use Rattle.zl_code.proofs.StepChanges.{no_child_booted, job_is_there}
-use Rattle.zl_code.proofs.SoundRuns.{IsBooting, origin_booting, still_booting, boot_sound}
-use Rattle.zl_abs.specs.Values.{ANY}
+use Rattle.zl_code.proofs.SoundRuns.{IsBooting, origin_booting, still_booting}
 use Rattle.zl_verify.specs.WakeLaws.{IsBooted}
-use Rattle.zl_verify.proofs.OwnEffect.{AreAlike, alike_then, same_objects, made_alike, more_koids, neither_one, set_alike, same_policy}
+use Rattle.zl_code.specs.declared.boot.Statement.TheVariants as statement
+use Rattle.zl_verify.proofs.OwnEffect.{AreAlike, alike_then, same_objects, made_alike, pair_alike, neither_one, set_alike, same_policy}
 use Rattle.zl_verify.proofs.Woken.{settled_allowed}
 use Rattle.zl_verify.proofs.UnstartedRuns.{made_allows}
 
 -- ---- handles as they are declared
 
 -- the program is checked, and has this image
-abbrev Checks : Option Program → Image → Type 0
+abbrev pub Checks : Option Program → Image → Type 0
 Checks o i = o ≡ Some (record { checked = true; image = i })
 
 none_misfits : (o : Option Program) (i : Image) (es : List Entry) → Checks o i → are_misfits o es ≡ false → are_declared i.starts es ≡ true
@@ -74,14 +59,8 @@ boot_alike lib w (statement.Policy job condition action) vs fine =
     set_alike w w job (setting condition action) (neither_one (has_child_job w job) (has_child_process w job) (no_child_booted lib w job condition action fine))
 boot_alike lib w statement.Event vs fine = made_alike w w EventBody (omega arith)
 boot_alike lib w statement.Port vs fine = made_alike w w (PortBody []) (omega arith)
-boot_alike lib w statement.Channel vs fine =
-    let first : Body = ChannelEnd (w.next_koid + 1) [] in
-    alike_then w w (with_object w first) _ (made_alike w w first (omega arith))
-    (made_alike w (with_object w first) (ChannelEnd w.next_koid []) (more_koids w w first (omega arith)))
-boot_alike lib w statement.Eventpair vs fine =
-    let first : Body = PairEnd (w.next_koid + 1) in
-    alike_then w w (with_object w first) _ (made_alike w w first (omega arith))
-    (made_alike w (with_object w first) (PairEnd w.next_koid) (more_koids w w first (omega arith)))
+boot_alike lib w statement.Channel vs fine = pair_alike w w (ChannelEnd (w.next_koid + 1) []) (ChannelEnd w.next_koid []) (omega arith)
+boot_alike lib w statement.Eventpair vs fine = pair_alike w w (PairEnd (w.next_koid + 1)) (PairEnd w.next_koid) (omega arith)
 
 -- one that was there before the statement
 before : (lib : Library) (w : World) (s : Statement) (vs : List ℕ) → boot_fault lib w s ≡ None → IsSound w → AreStarts lib w → (p : ℕ) (q : Process)
@@ -130,13 +109,7 @@ statement_starts lib w (statement.Process job program word handles) vs few fine 
         subst (λ k. IsWellBooted lib after k q) (eqb-true w.next_koid p here)
         (subst (IsWellBooted lib after w.next_koid) (same_Some made q (rw here at stands)) (new_well lib w job program word handles vs few fine may sound))
     by (inr other) = before lib w (statement.Process job program word handles) vs fine sound all p q (rw other at stands)
-statement_starts lib w (statement.Job parent) vs few fine may sound all p q there = before lib w (statement.Job parent) vs fine sound all p q there
-statement_starts lib w (statement.Policy job condition action) vs few fine may sound all p q there =
-    before lib w (statement.Policy job condition action) vs fine sound all p q there
-statement_starts lib w statement.Event vs few fine may sound all p q there = before lib w statement.Event vs fine sound all p q there
-statement_starts lib w statement.Port vs few fine may sound all p q there = before lib w statement.Port vs fine sound all p q there
-statement_starts lib w statement.Channel vs few fine may sound all p q there = before lib w statement.Channel vs fine sound all p q there
-statement_starts lib w statement.Eventpair vs few fine may sound all p q there = before lib w statement.Eventpair vs fine sound all p q there
+statement_starts lib w s vs few fine may sound all p q there = before lib w s vs fine sound all p q there
 
 -- ---- all statements, and the end of the boot
 

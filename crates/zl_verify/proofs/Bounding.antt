@@ -1,26 +1,15 @@
 -- What the numbers of a typing's instructions say of its step bound, and of those of other typings.
-use Rattle.std.proofs.Common.{◌≡◌, ℕ, zero, suc, ◌+◌, ◌<◌, ◌≤◌, Bool, true, false, List, [], ◌∷◌, map, length, Option, Some, None, refl, sym, ap, ◌∙◌, subst}
-use Rattle.std.proofs.Common.{inl, inr, arith}
-use Rattle.std.specs.Prelude.{Result, Ok, Err, if◌then◌else◌, slice_get, get_or, nat_le, nat_lt}
-use Rattle.std.specs.List.{position, position_or_len}
-use Rattle.std.proofs.lemmas.Bool.Decides.{nat_tests}
+use Rattle.zl_verify.proofs.Common.{◌≡◌, ℕ, zero, suc, ◌+◌, ◌<◌, ◌≤◌, Bool, true, false, List, [], ◌∷◌, map, length, Option, Some, None, refl, sym, ap, ◌∙◌}
+use Rattle.zl_verify.proofs.Common.{subst, inl, inr, arith, Result, Ok, Err, if◌then◌else◌, slice_get, get_or, nat_le, nat_lt, position, nat_tests}
+use Rattle.zl_verify.proofs.Common.{slice_get-get_or, Image, call_at, Cause, Edge, bounds_of, State, IsAmong, AreAmong, RuleBelow, rule, IsAbove, IsTyping}
+use Rattle.zl_verify.proofs.Common.{rule_below, at, is_pause, targets_of, leads_by, leads, IsBelow, AllBelow, IsStepBound, OneOf, Follow, IsOver, places_at}
+use Rattle.zl_verify.proofs.Common.{AreNumbers, is_over, AreTargets, Targets, IsLeastTyping}
+use Rattle.std.specs.List.{position_or_len}
 use Rattle.std.proofs.lemmas.List.Quantifiers.{position-Some}
 use Rattle.std.proofs.lemmas.List.Sums.{fails_before_first}
-use Rattle.std.proofs.lemmas.Option.{slice_get-get_or}
-use Rattle.zl_code.specs.Image.{Image, call_at}
-use Rattle.zl_abs.specs.declared.cause.Cause.{Cause}
-use Rattle.zl_abs.specs.Rule.{Edge}
-use Rattle.zl_abs.specs.Bounds.{bounds_of}
-use Rattle.zl_abs.specs.States.{State}
-use Rattle.zl_abs.specs.Laws.{IsAmong, AreAmong, RuleBelow}
-use Rattle.zl_abs.specs.Typing.{rule, IsAbove, Holds, IsTyping}
-use Rattle.zl_abs.proofs.RuleLowering.{rule_below}
-use Rattle.zl_verify.specs.Lists.{within, at}
-use Rattle.zl_verify.specs.Steps.{is_pause, targets_of, leads_by, leads, IsBelow, AllBelow, IsStepBound, OneOf, Follow, IsOver}
-use Rattle.zl_verify.specs.Numbers.{places_at, AreNumbers, is_over}
-use Rattle.zl_verify.specs.Leading.{AreTargets}
-use Rattle.zl_verify.specs.declared.steps.Targets.{Targets}
-use Rattle.zl_verify.specs.Checks.{IsLeastTyping, IsOverBudget}
+use Rattle.zl_abs.specs.Typing.{Holds}
+use Rattle.zl_verify.specs.Lists.{within}
+use Rattle.zl_verify.specs.Checks.{IsOverBudget}
 use Rattle.zl_verify.proofs.Places.{mapped}
 use Rattle.zl_verify.proofs.Numbering.{fewer}
 use Rattle.zl_verify.proofs.Leading.{same_places}

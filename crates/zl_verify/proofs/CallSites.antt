@@ -1,26 +1,13 @@
 -- Where the rule of a call holds, what the call asks for can be read.
-use Rattle.std.proofs.Common.{◌≡◌, ℕ, ◌+◌, ◌≤◌, Bool, true, false, not, List, length, refl, subst, Option, Some, None, Result, Ok, Err, arith, slice_index}
-use Rattle.std.proofs.lemmas.Option.{same_Some}
-use Rattle.std.specs.Prelude.{if◌then◌else◌, nat_le}
-use Rattle.std.proofs.lemmas.Bool.Decides.{nat_tests}
-use Rattle.zl_rights.specs.Common.{Cpu}
-use Rattle.zl_code.specs.declared.instr.CallInstr.{CallInstr}
-use Rattle.zl_code.specs.declared.layout.Ending.{Ending}
+use Rattle.zl_verify.proofs.Common.{◌≡◌, ℕ, ◌+◌, ◌≤◌, Bool, true, false, not, List, length, refl, subst, Option, Some, Result, Ok, Err, arith, slice_index}
+use Rattle.zl_verify.proofs.Common.{same_Some, if◌then◌else◌, nat_le, nat_tests, Cpu, CallInstr, Ending, Image, call_row, reg, is_in_memory, has_its_memory}
+use Rattle.zl_verify.proofs.Common.{AbsVal, Word, Has, Cause, ANY, State, value_at, and_then, passes, range_fits, are_words, is_declared, examined_all}
+use Rattle.zl_verify.proofs.Common.{finished, state_after, Uses, uses_of, goes_on, stops, call_rule, Table, Holds, IsMemory}
+use Rattle.zl_abs.specs.Values.{bound_of}
+use Rattle.zl_abs.specs.States.{bound_at}
+use Rattle.zl_abs.specs.CallRules.{sum_fits, answers, range_in}
 use Rattle.zl_code.specs.declared.layout.Ending.TheVariants as ending
-use Rattle.zl_code.specs.Image.{Image}
-use Rattle.zl_code.specs.Instructions.{call_row}
-use Rattle.zl_code.specs.Local.{reg, is_in_memory}
-use Rattle.zl_code.specs.Asked.{has_its_memory}
-use Rattle.zl_abs.specs.declared.value.AbsVal.{AbsVal}
-use Rattle.zl_abs.specs.declared.value.AbsVal.TheVariants.{Word, Has, KindOf, RightsOf}
-use Rattle.zl_abs.specs.declared.cause.Cause.{Cause}
 use Rattle.zl_abs.specs.declared.cause.Cause.TheVariants as cause
-use Rattle.zl_abs.specs.Values.{ANY, bound_of}
-use Rattle.zl_abs.specs.States.{State, value_at, bound_at}
-use Rattle.zl_abs.specs.Rule.{and_then, passes}
-use Rattle.zl_abs.specs.CallRules.{sum_fits, range_fits, are_words, is_declared, answers, examined_all, finished, state_after, range_in, Uses, uses_of, goes_on}
-use Rattle.zl_abs.specs.CallRules.{stops, call_rule}
-use Rattle.zl_verify.specs.Conforms.{Table, Holds, IsMemory}
 
 -- the rule holds
 abbrev pub IsGiven : {A : Type 0} → Result A Cause → Type 0
@@ -53,8 +40,7 @@ module _ {f : Table} {i : Image} {s : State} (c : Cpu) (h : Holds f s c.register
       by : (v : AbsVal) → value_at s r ≡ v → bound_of v ≡ Some m → reg c r ≤ m
       by (Word n) is e = let le : reg c r ≤ n = rw is at (h.described r) in subst (λ k. reg c r ≤ k) (same_Some n m e) le
       by (Has maybe k q) is e = cc
-      by (KindOf t) is e = subst (λ k. reg c r ≤ k) (same_Some ANY m e) (h.small r)
-      by (RightsOf t) is e = subst (λ k. reg c r ≤ k) (same_Some ANY m e) (h.small r)
+      by _ is e = subst (λ k. reg c r ≤ k) (same_Some ANY m e) (h.small r)
 
   sum_there : (a b : ℕ) → sum_fits i.memory (bound_at s a) (bound_at s b) ≡ true → is_in_memory c (reg c a) (reg c b) ≡ true
   sum_there a b = by (bound_at s a) refl (bound_at s b) refl
@@ -68,8 +54,7 @@ module _ {f : Table} {i : Image} {s : State} (c : Cpu) (h : Holds f s c.register
         where
           fits : (x y m n top long : ℕ) → x ≤ m → y ≤ n → long ≡ top → nat_le (m + n) top ≡ true → nat_le (x + y) long ≡ true
           fits x y m n top long p q z e = grind (arith, nat_tests)
-      by None is y is2 e = cc
-      by (Some m) is None is2 e = cc
+      by _ is _ is2 e = cc
 
   range_there : (x : CallInstr) (e : Ending) → range_fits i s (range_in e x.registers) ≡ true → has_its_memory e x c ≡ true
   range_there x ending.Room k = sum_there (slice_index x.registers 2) (slice_index x.registers 3) k

@@ -1,24 +1,16 @@
 -- What calls tell their callers fits registers: active signals, sizes of messages, and packets.
-use Rattle.std.proofs.Common.{◌≡◌, ℕ, ◌<◌, ◌≤◌, Bool, true, false, not, List, [], ◌∷◌, length, refl, Option, Some, None, arith}
-use Rattle.std.specs.Prelude.{bit_or, bit_and, slice_index, if◌then◌else◌}
-use Rattle.std.specs.List.{AllByRecursion, list_all}
-use Rattle.std.proofs.lemmas.Nat.{and_le_l, or_lt}
-use Rattle.zl_rights.specs.declared.entry.Entry.{Entry}
-use Rattle.zl_rights.specs.declared.kind.Kind.{Kind}
-use Rattle.zl_rights.specs.declared.kind.Kind.TheVariants as kind
-use Rattle.zl_rights.specs.Common.{bits, within, default_rights_of, get, World, Object, Body, ChannelEnd, EventBody, PairEnd, PortBody, JobBody, ProcessBody}
-use Rattle.zl_rights.specs.Common.{queue_of}
-use Rattle.zl_rights.specs.World.{Message}
-use Rattle.zl_rights.specs.Signals.{active, active_of, implied, signal_if, is_empty, has_child_job, has_child_process, is_process, has_ended}
-use Rattle.zl_rights.specs.Map.{has_key}
+use Rattle.zl_verify.proofs.Common.{◌≡◌, ℕ, ◌<◌, ◌≤◌, Bool, true, false, not, List, [], ◌∷◌, length, refl, Option, Some, None, arith, bit_or, bit_and}
+use Rattle.zl_verify.proofs.Common.{slice_index, if◌then◌else◌, AllByRecursion, list_all, and_le_l, or_lt, Entry, Kind, bits, within, default_rights_of, get}
+use Rattle.zl_verify.proofs.Common.{World, Object, Body, ChannelEnd, EventBody, PairEnd, PortBody, JobBody, ProcessBody, queue_of, Message, active, is_empty}
+use Rattle.zl_verify.proofs.Common.{has_child_job, has_child_process, is_process, has_ended, has_key, body_in, body_of, object_at, queue_at, first_bytes}
+use Rattle.zl_verify.proofs.Common.{first_handles, packets_in, packets_at, IsSound, ANY, both, IsSizedMessage, IsSizedPacket, QueuesAreSized}
+use Rattle.zl_rights.specs.Signals.{active_of, implied, signal_if}
 use Rattle.zl_rights.specs.Numbers.{READABLE, WRITABLE, PEER_CLOSED, TERMINATED, NO_JOBS, NO_PROCESSES}
-use Rattle.zl_code.specs.Tests.{body_in, body_of, object_at, queue_in, queue_at, first_bytes, first_handles}
-use Rattle.zl_code.specs.Waiting.{packets_in, packets_at}
+use Rattle.zl_code.specs.Tests.{queue_in}
 use Rattle.zl_code.specs.Handles.{has_default_rights}
-use Rattle.zl_code.specs.Sound.{IsSound, raisable}
-use Rattle.zl_abs.specs.Values.{ANY}
-use Rattle.zl_abs.proofs.Order.{is_within, both}
-use Rattle.zl_verify.specs.CallLaws.{IsSizedMessage, IsSizedPacket, QueuesAreSized}
+use Rattle.zl_code.specs.Sound.{raisable}
+use Rattle.zl_abs.proofs.Order.{is_within}
+use Rattle.zl_rights.specs.declared.kind.Kind.TheVariants as kind
 use Rattle.zl_verify.proofs.Giving.{HasFewRights}
 
 -- ---- signals

@@ -1,27 +1,12 @@
 -- A process that conforms is never refused for a handle, no policy ends it, and it keeps its budget, till it ends itself or another kills it.
-use Rattle.std.proofs.Common.{◌≡◌, ◌≢◌, ℕ, ◌+◌, ◌-◌, ◌<◌, ◌≤◌, ◌⊎◌, true, false, ◌==◌, List, [], ◌∷◌, ◌++◌, refl, sym, ap, ◌∙◌, subst, Option, Some, None, inl}
-use Rattle.std.proofs.Common.{inr, arith}
-use Rattle.std.specs.Prelude.{nat_le, slice_get, IsSomeAnd}
-use Rattle.std.specs.List.{AllByRecursion}
-use Rattle.std.proofs.lemmas.Bool.{cases_Bool, eqb-true}
-use Rattle.std.proofs.lemmas.Bool.Decides.{nat_tests}
-use Rattle.std.proofs.lemmas.Option.{same_Some}
-use Rattle.zl_rights.specs.Common.{get, runs, World, Process, Ready, Blocked, Ended}
-use Rattle.zl_rights.specs.World.{Awaited}
-use Rattle.zl_rights.specs.Numbers.{KILLED}
-use Rattle.zl_rights.specs.Signals.{has_ended}
-use Rattle.zl_code.specs.declared.boot.Statement.{Statement}
-use Rattle.zl_code.specs.declared.history.TraceItem.{TraceItem}
-use Rattle.zl_code.specs.Image.{Image, Library, call_at}
-use Rattle.zl_code.specs.Spells.{is_in_range}
-use Rattle.zl_code.specs.Steps.{Step, pid_of, Runs}
-use Rattle.zl_code.specs.Headline.{IsSizedBoot, executed, left_behind, KeepsBudget}
-use Rattle.zl_abs.specs.States.{State}
-use Rattle.zl_abs.specs.Typing.{IsTyping}
-use Rattle.zl_verify.specs.Conforms.{Conforms}
-use Rattle.zl_verify.specs.Steps.{is_pause, IsBelow, AllBelow, IsStepBound, OneOf}
-use Rattle.zl_verify.specs.WakeLaws.{IsFitStep, stays, wakes, OthersLeave, left_so, was_killed}
-use Rattle.zl_verify.specs.RunLaws.{IsFineItem, IsUnderWay, HasEnded}
+use Rattle.zl_verify.proofs.Common.{◌≡◌, ◌≢◌, ℕ, ◌+◌, ◌-◌, ◌<◌, ◌≤◌, ◌⊎◌, true, false, ◌==◌, List, [], ◌∷◌, ◌++◌, refl, sym, ap, ◌∙◌, subst, Option, Some, None}
+use Rattle.zl_verify.proofs.Common.{inl, inr, arith, nat_le, slice_get, AllByRecursion, cases_Bool, eqb-true, nat_tests, same_Some, get, runs, World, Process}
+use Rattle.zl_verify.proofs.Common.{Ready, Blocked, Ended, Awaited, KILLED, has_ended, Statement, TraceItem, Image, Library, call_at, is_in_range, Step, pid_of}
+use Rattle.zl_verify.proofs.Common.{Runs, IsSizedBoot, executed, State, IsTyping, Conforms, is_pause, IsBelow, AllBelow, IsStepBound, OneOf, IsFitStep, stays}
+use Rattle.zl_verify.proofs.Common.{OthersLeave, left_so, was_killed, IsFineItem, IsUnderWay, HasEnded}
+use Rattle.std.specs.Prelude.{IsSomeAnd}
+use Rattle.zl_code.specs.Headline.{left_behind, KeepsBudget}
+use Rattle.zl_verify.specs.WakeLaws.{wakes}
 use Rattle.zl_verify.proofs.Counting.{has_edge}
 use Rattle.zl_verify.proofs.Woken.{fit_of, sound_before}
 use Rattle.zl_verify.proofs.Others.{others_end, over_after_act}
@@ -92,27 +77,21 @@ module _ (lib : Library) (i : Image) (t : ℕ → Option State) (range : is_in_r
       by (inr e) = (fine_other p x e, other_stands w (pid_of x) x w2 b p e s)
 
   module _ (statements : List Statement) (boot : World) (begins : IsSizedBoot lib statements boot) (p : ℕ) where
-    run_fine : (more items : List TraceItem) (w after : World) → Runs lib boot items w → StandsIn w p → Runs lib w more after
-        → AllByRecursion (IsFineItem p) more
-    run_fine [] items w after run s e = tt
-    run_fine (x ∷ more) items w after run s (mid, step, rest) =
-        let (fine, later) = stands_still w x mid (fit_of lib w (pid_of x) x mid
-        (record { statements = statements; boot = boot; items = items; begins = begins; run = run; step = step })) p s in
-        (fine, run_fine more (items ++ (x ∷ [])) mid after (one_more lib boot items w x mid run step) later rest)
-
-    run_stands : (more items : List TraceItem) (w after : World) → Runs lib boot items w → StandsIn w p → Runs lib w more after → StandsIn after p
-    run_stands [] items w after run s e = rw e s
+    run_stands : (more items : List TraceItem) (w after : World) → Runs lib boot items w → StandsIn w p → Runs lib w more after
+        → AllByRecursion (IsFineItem p) more × StandsIn after p
+    run_stands [] items w after run s e = (tt, rw e s)
     run_stands (x ∷ more) items w after run s (mid, step, rest) =
         let (fine, later) = stands_still w x mid (fit_of lib w (pid_of x) x mid
         (record { statements = statements; boot = boot; items = items; begins = begins; run = run; step = step })) p s in
-        run_stands more (items ++ (x ∷ [])) mid after (one_more lib boot items w x mid run step) later rest
+        let (all, last) = run_stands more (items ++ (x ∷ [])) mid after (one_more lib boot items w x mid run step) later rest in
+        ((fine, all), last)
 
     pub stays_so : (items more : List TraceItem) (w after : World) → Runs lib boot items w → IsUnderWay lib i t w p → Runs lib w more after → StandsIn after p
-    stays_so items more w after run u rest = run_stands more items w after run (inl u) rest
+    stays_so items more w after run u rest = (run_stands more items w after run (inl u) rest).1
 
     pub never_refused : (items more : List TraceItem) (w after : World) → Runs lib boot items w → IsUnderWay lib i t w p → Runs lib w more after
         → AllByRecursion (IsFineItem p) more
-    never_refused items more w after run u rest = run_fine more items w after run (inl u) rest
+    never_refused items more w after run u rest = (run_stands more items w after run (inl u) rest).0
 
   -- ---- the budget
 

@@ -1,55 +1,29 @@
 -- A process that another starts is started properly, where its program is checked.
-use Rattle.std.proofs.Common.{◌≡◌, ℕ, ◌≤◌, Bool, true, false, not, ◌&&◌, ◌==◌, List, [], ◌∷◌, ◌++◌, refl, sym, ap, ◌∙◌, subst, Option, Some, None, option_map}
-use Rattle.std.proofs.Common.{Ok, Err, arith}
-use Rattle.std.specs.Prelude.{if◌then◌else◌, slice_get}
-use Rattle.std.specs.List.{AllByRecursion}
-use Rattle.std.specs.Option.{option_to_list}
-use Rattle.std.proofs.lemmas.Bool.Decides.{nat_tests}
-use Rattle.std.proofs.lemmas.Option.{same_Some}
-use Rattle.zl_rights.specs.declared.entry.Entry.{Entry}
-use Rattle.zl_rights.specs.declared.kind.Kind.{Kind}
-use Rattle.zl_rights.specs.declared.policy.Action.{Action}
-use Rattle.zl_rights.specs.declared.policy.Action.TheVariants as action
-use Rattle.zl_rights.specs.declared.policy.Condition.{Condition}
-use Rattle.zl_rights.specs.declared.policy.Condition.TheVariants as condition
-use Rattle.zl_rights.specs.declared.status.Status.{Status}
-use Rattle.zl_rights.specs.declared.status.Status.TheVariants as status
-use Rattle.zl_rights.specs.Common.{bits, within, get, is_process, World, Process, Ready}
-use Rattle.zl_rights.specs.Signals.{state_passes}
+use Rattle.zl_verify.proofs.Common.{◌≡◌, ℕ, ◌≤◌, Bool, true, false, not, ◌&&◌, ◌==◌, List, [], ◌∷◌, ◌++◌, refl, sym, ap, ◌∙◌, subst, Option, Some, None}
+use Rattle.zl_verify.proofs.Common.{option_map, Ok, Err, if◌then◌else◌, slice_get, AllByRecursion, option_to_list, same_Some, Entry, Kind, Action, Condition}
+use Rattle.zl_verify.proofs.Common.{Status, bits, within, get, is_process, World, Process, Ready, state_passes, takes, Statement, Outcome, TraceItem, Start}
+use Rattle.zl_verify.proofs.Common.{Image, Library, Program, first_some, entry_at, object_at, action_of, parent_of, Operand, creates, operand, operand_after}
+use Rattle.zl_verify.proofs.Common.{seen_after, contains, examined, unless_allowed, by_policy, on_process, process_with, may_get, may_get_all, is_created}
+use Rattle.zl_verify.proofs.Common.{started_with, program_in, program_of, are_declared, refusal, handle_operands, condition_of, Request, process_start, listed}
+use Rattle.zl_verify.proofs.Common.{effect, new_handles, gives_ok, Site, site, Calls, CallBy, Choice, Refused, Wants, Values, may_want, taken_handles, taken}
+use Rattle.zl_verify.proofs.Common.{may_choose, replied, with_effect, AtCall, Acts, Runs, next_in, pid_of, IsSound, IsSizedBoot, StartsChild, IsStarted, ANY}
+use Rattle.zl_verify.proofs.Common.{AreUnstarted, IsRunStep, IsFitStep}
 use Rattle.zl_rights.specs.LookUp.{granted}
-use Rattle.zl_rights.specs.Numbers.{takes}
-use Rattle.zl_code.specs.declared.boot.Statement.{Statement}
-use Rattle.zl_code.specs.declared.history.CallName.TheVariants as name
-use Rattle.zl_code.specs.declared.history.Outcome.{Outcome}
-use Rattle.zl_code.specs.declared.history.Outcome.TheVariants as outcome
-use Rattle.zl_code.specs.declared.history.TraceItem.{TraceItem}
-use Rattle.zl_code.specs.declared.history.TraceItem.TheVariants as item
-use Rattle.zl_code.specs.declared.image.Start.{Start}
-use Rattle.zl_code.specs.Image.{Image, Library, Program}
-use Rattle.zl_code.specs.First.{first_some}
-use Rattle.zl_code.specs.Tests.{entry_at, object_at, action_of, parent_of}
-use Rattle.zl_code.specs.Operands.{Operand, creates, ends_if_kill, faults, by_look_up, operand, operand_after, seen_after, contains, examined, unless_allowed}
-use Rattle.zl_code.specs.Operands.{by_policy}
-use Rattle.zl_code.specs.Effects.{on_process, process_with, may_get, may_get_all}
-use Rattle.zl_code.specs.Starting.{is_created, started_with, program_in, program_of}
+use Rattle.zl_code.specs.Operands.{ends_if_kill, faults, by_look_up}
 use Rattle.zl_code.specs.Jobs.{is_only_start, misfits}
-use Rattle.zl_code.specs.Boot.{are_declared}
-use Rattle.zl_code.specs.Refusals.{refusal, handle_operands, condition_of}
-use Rattle.zl_code.specs.CallTable.{Request, process_start, listed, effect, new_handles, gives_ok}
-use Rattle.zl_code.specs.Request.{Site, site}
-use Rattle.zl_code.specs.Calls.{Calls, CallBy, Choice, Refused, Wants, Values, may_want, taken_handles, taken, may_choose, replied, with_effect}
-use Rattle.zl_code.specs.Steps.{AtCall, Acts, Runs, next_in, pid_of}
-use Rattle.zl_code.specs.Sound.{IsSound}
-use Rattle.zl_code.specs.Headline.{IsSizedBoot, StartsChild, IsStarted}
-use Rattle.zl_abs.specs.Values.{ANY}
-use Rattle.zl_verify.specs.Covered.{AreUnstarted}
-use Rattle.zl_verify.specs.WakeLaws.{IsRunStep, IsFitStep}
+use Rattle.zl_rights.specs.declared.policy.Action.TheVariants as action
+use Rattle.zl_rights.specs.declared.policy.Condition.TheVariants as condition
+use Rattle.zl_rights.specs.declared.status.Status.TheVariants as status
+use Rattle.zl_code.specs.declared.history.CallName.TheVariants as name
+use Rattle.zl_code.specs.declared.history.Outcome.TheVariants as outcome
+use Rattle.zl_code.specs.declared.history.TraceItem.TheVariants as item
 use Rattle.zl_verify.proofs.Ordinary.{is_good, AreOrdinary, listed_ordinary}
 use Rattle.zl_verify.proofs.Working.{listed_none, test_fails}
 use Rattle.zl_verify.proofs.OwnEffect.{starts_created, no_child, same_policy}
 use Rattle.zl_verify.proofs.AtCalls.{at_call}
 use Rattle.zl_verify.proofs.Others.{left_other, replied_other, left_by_step}
 use Rattle.zl_verify.proofs.Giving.{getting_all}
+use Rattle.zl_verify.proofs.OwnTable.{other_way}
 use Rattle.zl_verify.proofs.SizedCalls.{IsSizedRequest, request_sized}
 use Rattle.zl_verify.proofs.Woken.{fit_of, sound_before, settled_there, allowed_after}
 use Rattle.zl_verify.proofs.Ended.{awake_still}
@@ -75,8 +49,7 @@ first_not_ok (Some o ∷ os) h = h.0
 
 fault_not_ok : (a : Action) (s : Status) → is_good s ≡ false → IsNotOk (Some (ends_if_kill a (outcome.Answered s)))
 fault_not_ok action.Kill s e = tt
-fault_not_ok action.Allow s e = e
-fault_not_ok action.Deny s e = e
+fault_not_ok _ s e = e
 
 module _ (w : World) (p : ℕ) where
   looked_not_ok : (e : Option Entry) (kinds : List Kind) (needed : ℕ) → IsNotOk (by_look_up w p (granted e kinds needed))
@@ -116,8 +89,7 @@ module _ (w : World) (p : ℕ) where
   all_not_ok [] h = tt
   all_not_ok (None ∷ os) h = (tt, all_not_ok os h.1)
   all_not_ok (Some (outcome.Answered s) ∷ os) h = (h.0.1, all_not_ok os h.1)
-  all_not_ok (Some outcome.Blocked ∷ os) h = absurd h.0
-  all_not_ok (Some (outcome.Ended code) ∷ os) h = absurd h.0
+  all_not_ok (Some _ ∷ os) h = absurd h.0
 
   refusal_not_ok : (lib : Library) (r : Request) → IsNotOk (refusal lib w p r)
   unfolding refusal
@@ -134,12 +106,8 @@ record IsOnly (ss : List Start) (o : Option Entry) : Type 0 where
   declared : are_declared ss (entry ∷ []) ≡ true
 
 only_one : (ss : List Start) (o : Option Entry) → is_only_start ss o ≡ true → IsOnly ss o
-only_one [] None e = cc
-only_one [] (Some x) e = cc
-only_one (s ∷ []) None e = cc
-only_one (s ∷ r ∷ ss) None e = cc
-only_one (s ∷ r ∷ ss) (Some x) e = cc
 only_one (s ∷ []) (Some x) e = record { entry = x; there = refl; declared = rw e refl }
+only_one _ _ e = cc
 
 fits_declared : (o : Option Program) (i : Image) (e : Option Entry) → o ≡ Some (record { checked = true; image = i }) → misfits o e ≡ false
     → is_only_start i.starts e ≡ true
@@ -189,9 +157,6 @@ found_created w k e = by (get w.processes k) refl e
     by None is e = cc
     by (Some x) is e = (x, is, e)
 
-other_way : (a b : ℕ) → (a == b) ≡ false → (b == a) ≡ false
-other_way a b e = grind (arith, nat_tests)
-
 module _ (lib : Library) (w : World) (p : ℕ) (caller : Process) (there : get w.processes p ≡ Some caller) (ready : caller.state ≡ Ready) (process h word : ℕ)
     (cs ds : List ℕ) (i : Image)
     (program : program_of lib w (object_at w p process) ≡ Some (record { checked = true; image = i })) where
@@ -240,15 +205,13 @@ module _ (lib : Library) (w : World) (p : ℕ) (caller : Process) (there : get w
   by_choice : (choice : Choice) (r : Option Outcome) → refusal lib w p (process_start process h word) ≡ r → IsNotOk r → (u : World)
       → CallBy lib w p start choice r (outcome.Answered status.Ok) u → IsReadyChild lib i w u child word
   unfolding gives_ok
-  by_choice Refused None is ok u c = absurd c
   by_choice Refused (Some o) is ok u c = let bad : true ≡ false = subst (λ y. IsNotOk (Some y)) (sym c.0) ok in cc
   by_choice (Wants want) None is ok u c =
       let ends = c.1 in
       let same : want ≡ status.Ok = cc in
       let bad : false ≡ true = subst (λ x. may_want w p (process_start process h word) x ≡ true) same c.0 in cc
-  by_choice (Wants want) (Some o) is ok u c = absurd c
   by_choice (Values vs) None is ok u c = started is vs c.0 u c.2
-  by_choice (Values vs) (Some o) is ok u c = absurd c
+  by_choice _ _ is ok u c = absurd c
 
   ready_child : (u : World) → Calls lib w p start (outcome.Answered status.Ok) u → IsReadyChild lib i w u child word
   ready_child u (choice, c) = by_choice choice (refusal lib w p (process_start process h word)) refl (refusal_not_ok w p lib (process_start process h word)) u c

@@ -1,18 +1,8 @@
 -- A register gives its handle away, or gets a new one, or what is told of one.
-use Rattle.std.proofs.Common.{◌≡◌, ◌≢◌, ℕ, ◌+◌, ◌<◌, ◌≤◌, ◌⊎◌, Bool, true, false, ◌==◌, List, length, refl, sym, ap, ◌∙◌, subst, Option, Some, None, cond}
-use Rattle.std.proofs.Common.{arith, inl, inr, slice_set, slice_index}
-use Rattle.std.specs.Prelude.{is_some, if◌then◌else◌}
-use Rattle.std.proofs.lemmas.Bool.{cases_eq, eqb-true}
-use Rattle.std.proofs.lemmas.Bool.Decides.{nat_tests}
-use Rattle.std.proofs.lemmas.List.{get_or-set_other}
-use Rattle.zl_rights.specs.declared.entry.Entry.{Entry}
-use Rattle.zl_rights.specs.declared.kind.Kind.{Kind}
-use Rattle.zl_rights.specs.declared.rights.Rights.{Rights}
-use Rattle.zl_code.specs.declared.image.SlotArray.{SlotArray}
-use Rattle.zl_abs.specs.declared.value.AbsVal.TheVariants.{Word, Has, KindOf, RightsOf}
-use Rattle.zl_abs.specs.Values.{ANY, is_has}
-use Rattle.zl_abs.specs.States.{State, IsState, value_at, with_value}
-use Rattle.zl_verify.specs.Conforms.{Table, kind_in, rights_in, IsAs, Describes, one_if, owns, Holds}
+use Rattle.zl_verify.proofs.Common.{◌≡◌, ◌≢◌, ℕ, ◌+◌, ◌<◌, ◌≤◌, ◌⊎◌, Bool, true, false, ◌==◌, List, length, refl, sym, ap, ◌∙◌, subst, Option, Some, None, cond}
+use Rattle.zl_verify.proofs.Common.{arith, inl, inr, slice_set, slice_index, is_some, if◌then◌else◌, cases_eq, eqb-true, nat_tests, get_or-set_other, Entry}
+use Rattle.zl_verify.proofs.Common.{Kind, Rights, SlotArray, Word, Has, KindOf, RightsOf, ANY, is_has, State, IsState, value_at, with_value, Table, kind_in}
+use Rattle.zl_verify.proofs.Common.{rights_in, IsAs, Describes, one_if, owns, Holds, eq-eqb}
 use Rattle.zl_verify.proofs.Owners.{owns_it, owns_apart, owns_free, owns_0, one_at_most, owners-set, owners-zero, keepers-zero}
 use Rattle.zl_verify.proofs.Writing.{nothing_at_0, others, write, write_plain}
 use Rattle.zl_verify.proofs.Tagging.{test_apart}
@@ -24,10 +14,6 @@ removed h f k = if h == k then None else f k
 abbrev pub added : ℕ → Entry → Table → Table
 added v e f k = if v == k then Some e else f k
 
-owns_not : (v : ℕ) → one_if (owns v (Word 0) 0) ≡ 0
-unfolding owns
-owns_not v = refl
-
 none_and_some : (n : ℕ) → n ≡ 0 → 1 ≤ n → ⊥
 none_and_some n z m = omega arith
 
@@ -36,7 +22,7 @@ module _ {f : Table} {s : State} {xs : List ℕ} {arrays : List SlotArray} {slot
   others_and : (v : ℕ) → others r s xs slots v + one_if (owns v (value_at s r) (slice_index xs r)) ≡ one_if (is_some (f v))
   others_and v =
       let none = owners-set v r s xs (Word 0) 0 h.width lt in
-      let not = owns_not v in
+      let not = owns_0 v (Word 0) in
       let once = h.once v in
       omega arith
 
@@ -68,8 +54,9 @@ module _ {f : Table} {s : State} {xs : List ℕ} {arrays : List SlotArray} {slot
       same y many = same_by y (slice_index xs r == y) refl many
 
       counts_by : (v : ℕ) (b : Bool) → (slice_index xs r == v) ≡ b → others r s xs slots v + one_if (owns v (Word 0) 0) ≡ one_if (is_some (cond b None (f v)))
-      counts_by v true e = let none = gone v e in let not = owns_not v in omega arith
-      counts_by v false e = let both = others_and v in let other = owns_apart v (value_at s r) (slice_index xs r) e in let not = owns_not v in omega arith
+      counts_by v true e = let none = gone v e in let not = owns_0 v (Word 0) in omega arith
+      counts_by v false e =
+          let both = others_and v in let other = owns_apart v (value_at s r) (slice_index xs r) e in let not = owns_0 v (Word 0) in omega arith
 
       counts : (v : ℕ) → others r s xs slots v + one_if (owns v (Word 0) 0) ≡ one_if (is_some (removed (slice_index xs r) f v))
       counts v = counts_by v (slice_index xs r == v) refl
@@ -98,9 +85,6 @@ module _ {f : Table} {s : State} {xs : List ℕ} {arrays : List SlotArray} {slot
         apart : (x == 0) ≡ false
         apart = grind (arith, nat_tests)
 
-        itself : (x == x) ≡ true
-        itself = grind (arith, nat_tests)
-
         zero : added x e f 0 ≡ None
         zero = rw apart (nothing_at_0 h)
 
@@ -115,7 +99,7 @@ module _ {f : Table} {s : State} {xs : List ℕ} {arrays : List SlotArray} {slot
         same y many = same_by y (x == y) refl many
 
         here : Describes (added x e f) (slice_set xs r x) (Has maybe kind rights) x
-        here = inr (rw itself fits)
+        here = inr (rw (eq-eqb x x refl) fits)
 
         not_0 : x ≡ 0 → ⊥
         not_0 z = omega arith

@@ -1,13 +1,8 @@
 -- What is over by counting instructions is over by counting edges, and the other way round.
-use Rattle.std.proofs.Common.{◌≡◌, ◌≢◌, ℕ, zero, suc, Bool, true, false, List, [], ◌∷◌, length, Option, Some, None, Result, Ok, Err, refl, sym, subst, inl, inr}
-use Rattle.std.proofs.Common.{arith, ◌↔◌}
-use Rattle.std.specs.Prelude.{if◌then◌else◌}
-use Rattle.zl_code.specs.Image.{Image, call_at}
-use Rattle.zl_abs.specs.declared.cause.Cause.{Cause}
-use Rattle.zl_abs.specs.Rule.{Edge}
-use Rattle.zl_abs.specs.States.{State}
-use Rattle.zl_abs.specs.Typing.{rule, Holds, IsTyping}
-use Rattle.zl_verify.specs.Steps.{is_pause, targets_of, leads_by, leads, OneOf, Follow, IsOver}
+use Rattle.zl_verify.proofs.Common.{◌≡◌, ◌≢◌, ℕ, zero, suc, Bool, true, false, List, [], ◌∷◌, length, Option, Some, None, Result, Ok, Err, refl, sym, subst}
+use Rattle.zl_verify.proofs.Common.{inl, inr, arith, ◌↔◌, if◌then◌else◌, Image, call_at, Cause, Edge, State, rule, IsTyping, is_pause, targets_of, leads_by}
+use Rattle.zl_verify.proofs.Common.{leads, OneOf, Follow, IsOver}
+use Rattle.zl_abs.specs.Typing.{Holds}
 use Rattle.zl_verify.specs.Over.{Counts, AllCount, IsOverByCount}
 use Rattle.zl_verify.proofs.Numbering.{fewer}
 use Rattle.zl_verify.proofs.LeadingOn.{leads_on}

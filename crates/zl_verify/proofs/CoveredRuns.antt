@@ -1,18 +1,9 @@
 -- Each covered process of a history goes well from its start on.
-use Rattle.std.proofs.Common.{◌≡◌, ℕ, true, List, refl, sym, subst, Option, Some, None}
-use Rattle.std.specs.Prelude.{slice_get}
-use Rattle.std.specs.List.{flat_map}
-use Rattle.std.proofs.lemmas.Option.{none-some}
-use Rattle.zl_rights.specs.Common.{get, World, Process}
-use Rattle.zl_code.specs.declared.boot.Statement.{Statement}
-use Rattle.zl_code.specs.declared.history.TraceItem.{TraceItem}
-use Rattle.zl_code.specs.Image.{Image, Library, Program}
-use Rattle.zl_code.specs.Starting.{program_in, program_of}
-use Rattle.zl_code.specs.Steps.{single}
-use Rattle.zl_code.specs.Headline.{IsSizedBoot, IsStarted, WasStarted, by_boot, by_call, CoveredGoWell}
+use Rattle.zl_verify.proofs.Common.{◌≡◌, ℕ, true, List, refl, sym, subst, Option, Some, None, slice_get, flat_map, none-some, get, World, Process, Statement}
+use Rattle.zl_verify.proofs.Common.{TraceItem, Image, Library, Program, program_in, program_of, single, IsSizedBoot, IsStarted, IsVerified}
+use Rattle.zl_code.specs.Headline.{WasStarted, by_boot, by_call, CoveredGoWell}
 use Rattle.zl_code.proofs.JoinedItems.{joined_go_well}
 use Rattle.zl_verify.specs.Checks.{HasStepBound}
-use Rattle.zl_verify.specs.Covered.{IsVerified}
 use Rattle.zl_verify.proofs.BootStarts.{boot_is_proper}
 use Rattle.zl_verify.proofs.ChildStarts.{child_starts_in_run}
 use Rattle.zl_verify.proofs.Headline.{headline}

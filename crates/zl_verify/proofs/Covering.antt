@@ -1,39 +1,18 @@
 -- What is true of each world of a run for its checked programs: a boot makes it so, and each step keeps it.
-use Rattle.std.proofs.Common.{◌≡◌, ℕ, ◌⊎◌, true, false, ◌==◌, refl, sym, ap, ◌∙◌, subst, List, Option, Some, None, inl, inr}
-use Rattle.std.specs.Prelude.{slice_get}
-use Rattle.std.proofs.lemmas.Bool.{cases_Bool, eqb-true}
-use Rattle.std.proofs.lemmas.Option.{same_Some}
-use Rattle.zl_rights.specs.Common.{get, runs, World, Process, State as Life, Ended}
-use Rattle.zl_rights.specs.Signals.{has_ended, state_passes}
-use Rattle.zl_code.specs.declared.boot.Statement.{Statement}
-use Rattle.zl_code.specs.declared.history.TraceItem.{TraceItem}
-use Rattle.zl_code.specs.Image.{Image, Library, Program}
-use Rattle.zl_code.specs.Spells.{is_in_range}
-use Rattle.zl_code.specs.Sound.{IsSound}
-use Rattle.zl_code.specs.Starting.{program_in}
-use Rattle.zl_code.specs.Steps.{Step, pid_of}
-use Rattle.zl_code.specs.Headline.{IsSizedBoot, IsStarted}
+use Rattle.zl_verify.proofs.Common.{◌≡◌, ℕ, ◌⊎◌, true, false, ◌==◌, refl, sym, ap, ◌∙◌, subst, List, Option, Some, None, inl, inr, slice_get, cases_Bool}
+use Rattle.zl_verify.proofs.Common.{eqb-true, same_Some, get, runs, World, Process, has_ended, state_passes, Statement, TraceItem, Image, Library, is_in_range}
+use Rattle.zl_verify.proofs.Common.{IsSound, program_in, Step, pid_of, IsSizedBoot, IsStarted, Conforms, IsVerified, IsUnderWay, IsFitStep}
 use Rattle.zl_code.proofs.SoundRuns.{step_keeps_processes}
-use Rattle.zl_verify.specs.Conforms.{Conforms}
-use Rattle.zl_verify.specs.Covered.{IsVerified, IsAsTyped, IsCovered}
-use Rattle.zl_verify.specs.RunLaws.{IsUnderWay}
-use Rattle.zl_verify.specs.WakeLaws.{IsFitStep}
+use Rattle.zl_verify.specs.Covered.{IsAsTyped, IsCovered}
 use Rattle.zl_verify.proofs.SizedRuns.{boot_sized, step_sized}
 use Rattle.zl_verify.proofs.Starting.{starts_conforming}
 use Rattle.zl_verify.proofs.CheckedRuns.{StandsIn, stands_still}
 use Rattle.zl_verify.proofs.UnstartedRuns.{step_unstarted}
-use Rattle.zl_verify.proofs.BootStarts.{boot_is_proper}
+use Rattle.zl_verify.proofs.BootStarts.{Checks, boot_is_proper}
 use Rattle.zl_verify.proofs.ChildStarts.{boot_unstarted, child_starts, found_created}
 use Rattle.zl_verify.proofs.Headline.{program_in as image_in}
 use Rattle.zl_verify.proofs.Idling.{IsIdle, IsStarting, stays_idle}
-
--- the program was checked, and has this image
-abbrev Checks : Option Program → Image → Type 0
-Checks o i = o ≡ Some (record { checked = true; image = i })
-
-not_over : (l : Life) → runs l ≡ true → has_ended l ≡ true → ⊥
-not_over (Ended code) r h = cc
-not_over _ r h = cc
+use Rattle.zl_verify.proofs.Woken.{not_over, lives_then}
 
 module _ (lib : Library) (v : IsVerified lib) where
   in_range : (n : ℕ) (i : Image) → Checks (slice_get lib n) i → is_in_range i ≡ true
@@ -87,8 +66,8 @@ module _ (lib : Library) (v : IsVerified lib) where
             conforms = subst (Conforms i k.typing w2 q) (same_Some u.process y (sym u.there ∙ there))
                 u.conforms;
           }
-          by (inr o) = absurd (not_over y.state running (subst (λ (u : Process). has_ended u.state ≡ true) (same_Some o.process y (sym o.there ∙ there))
-              o.over))
+          by (inr o) = absurd (not_over y.state (lives_then y.state running)
+              (subst (λ (u : Process). has_ended u.state ≡ true) (same_Some o.process y (sym o.there ∙ there)) o.over))
 
       still_idle : IsIdle w2 q → ⊥
       still_idle idle = let bad : true ≡ false = sym running ∙ (sym (ap (state_passes runs) there) ∙ idle) in cc

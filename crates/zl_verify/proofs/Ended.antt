@@ -1,22 +1,9 @@
 -- A process that has ended stays as it is, and one that is ready is as it was once others are awake.
-use Rattle.std.proofs.Common.{◌≡◌, ℕ, ◌⊎◌, Bool, true, false, ◌==◌, List, [], ◌∷◌, refl, sym, ap, ◌∙◌, subst, Option, Some, None, inl, inr}
-use Rattle.std.specs.Prelude.{if◌then◌else◌}
-use Rattle.std.specs.List.{fold}
-use Rattle.std.specs.Option.{option_map}
-use Rattle.std.proofs.lemmas.Bool.{cases_Bool, eqb-true}
-use Rattle.std.proofs.lemmas.Option.{same_Some}
-use Rattle.zl_rights.specs.Common.{answered, get, put, Settles, process_settled, without_others, fired, wakes, World, Process, State as Life, Created, Ready}
-use Rattle.zl_rights.specs.Common.{Blocked, Ended, Object, Body, PortBody}
-use Rattle.zl_rights.specs.World.{Awaited, SignalOf, PacketAt, Packet}
-use Rattle.zl_rights.specs.Signals.{active, has_ended}
-use Rattle.zl_rights.specs.Numbers.{meets}
-use Rattle.zl_rights.specs.Settle.{state_without}
-use Rattle.zl_rights.specs.Wakes.{made_ready, packet_values, with_body, woken_by_first, woken_by, woken_at_port, woken_from, woken_if_there, woken}
-use Rattle.zl_rights.proofs.MapLaws.{get-put, get-each}
-use Rattle.zl_code.specs.declared.history.TraceItem.{TraceItem}
-use Rattle.zl_code.specs.Image.{Library}
-use Rattle.zl_code.specs.Steps.{Step}
+use Rattle.zl_verify.proofs.Common.{◌≡◌, ℕ, ◌⊎◌, true, false, ◌==◌, List, refl, sym, ap, ◌∙◌, subst, Some, inl, inr, option_map, cases_Bool, eqb-true}
+use Rattle.zl_verify.proofs.Common.{same_Some, answered, get, put, Settles, process_settled, without_others, fired, wakes, World, Process, Life, Created, Ready}
+use Rattle.zl_verify.proofs.Common.{Blocked, Ended, Awaited, has_ended, state_without, made_ready, get-put, get-each, TraceItem, Library, Step}
 use Rattle.zl_code.specs.Sound.{is_blocked}
+use Rattle.zl_verify.proofs.Waking.{turn_by_answer, wakes_by}
 
 module _ (p : ℕ) (q : Process) (awake : is_blocked q.state ≡ false) where
   module _ (u : World) (there : get u.processes p ≡ Some q) (m : ℕ) where
@@ -33,46 +20,13 @@ module _ (p : ℕ) (q : Process) (awake : is_blocked q.state ≡ false) where
             cc
         by (inr e) = get-put v.processes m (record y { state = Ready; cpu = answered y.cpu ds vs }) p ∙ rw e (ap (λ ps. get ps p) same ∙ there)
 
-    by_packets : (y : Process) → get u.processes m ≡ Some y → (koid : ℕ) (ds : List ℕ) → y.state ≡ Blocked (PacketAt koid) ds
-        → (o : Object) (packets : List Packet) → get (woken_by_first u m y koid ds o packets).processes p ≡ Some q
-    by_packets y at koid ds blocked o [] = there
-    by_packets y at koid ds blocked o (x ∷ rest) = readied (with_body u koid o (PortBody rest)) refl y at (PacketAt koid) ds (0 ∷ packet_values x) blocked
-
-    by_body : (y : Process) → get u.processes m ≡ Some y → (koid : ℕ) (ds : List ℕ) → y.state ≡ Blocked (PacketAt koid) ds → (o : Object) (b : Body)
-        → get (woken_by u m y koid ds o b).processes p ≡ Some q
-    by_body y at koid ds blocked o (PortBody packets) = by_packets y at koid ds blocked o packets
-    by_body y at koid ds blocked o _ = there
-
-    by_object : (y : Process) → get u.processes m ≡ Some y → (koid : ℕ) (ds : List ℕ) → y.state ≡ Blocked (PacketAt koid) ds → (o : Option Object)
-        → get (woken_at_port u m y koid ds o).processes p ≡ Some q
-    by_object y at koid ds blocked None = there
-    by_object y at koid ds blocked (Some o) = by_body y at koid ds blocked o o.body
-
-    by_signal : (y : Process) → get u.processes m ≡ Some y → (koid mask : ℕ) (ds : List ℕ) → y.state ≡ Blocked (SignalOf koid mask) ds → (b : Bool)
-        → get (if b then made_ready u m y ds (0 ∷ active u koid ∷ []) else u).processes p ≡ Some q
-    by_signal y at koid mask ds blocked true = readied u refl y at (SignalOf koid mask) ds (0 ∷ active u koid ∷ []) blocked
-    by_signal y at koid mask ds blocked false = there
-
-    by_state : (y : Process) → get u.processes m ≡ Some y → (l : Life) → y.state ≡ l → get (woken_from u m y l).processes p ≡ Some q
-    by_state y at (Blocked (SignalOf koid mask) ds) is = by_signal y at koid mask ds is (meets (active u koid) mask)
-    by_state y at (Blocked (PacketAt koid) ds) is = by_object y at koid ds is (get u.objects koid)
-    by_state y at _ is = there
-
-    turn : get (woken u m).processes p ≡ Some q
-    unfolding woken
-    turn = by (get u.processes m) refl
-      where
-        by : (o : Option Process) → get u.processes m ≡ o → get (woken_if_there u m o).processes p ≡ Some q
-        by None is = there
-        by (Some y) is = by_state y is y.state refl
-
-  turns : (u : World) → get u.processes p ≡ Some q → (ms : List ℕ) → get (fold woken u ms).processes p ≡ Some q
-  turns u there [] = there
-  turns u there (m ∷ ms) = turns (woken u m) (turn u there m) ms
+  -- it stands at p
+  abbrev StandsIn : World → Type 0
+  StandsIn u = get u.processes p ≡ Some q
 
   pub awake_still : (w : World) → get w.processes p ≡ Some q → get (wakes w).processes p ≡ Some q
-  unfolding wakes fired
-  awake_still w there = turns (fired w) there w.blocked
+  unfolding fired
+  awake_still w there = wakes_by StandsIn (λ u m there. turn_by_answer StandsIn u m there (readied u there m)) w there
 
 not_blocked : (l : Life) → has_ended l ≡ true → is_blocked l ≡ false
 not_blocked (Blocked awaited ds) e = cc

@@ -1,25 +1,14 @@
 -- The search ends: what is left to rise, and what waits. States stay fine on the way.
-use Rattle.std.proofs.Common.{◌≡◌, ◌≢◌, ℕ, ◌+◌, ◌-◌, ◌*◌, ◌<◌, ◌≤◌, Bool, true, false, List, [], ◌∷◌, Option, Some, None, refl, sym, ap, ◌∙◌, subst, IsTrue}
-use Rattle.std.proofs.Common.{length, ◌⊎◌, inl, inr, arith, get_or}
-use Rattle.std.specs.Prelude.{slice_get, slice_set, if◌then◌else◌, Result, Ok, IfOk}
-use Rattle.std.specs.List.{sum_by}
-use Rattle.std.specs.Option.{option_map, option_and_then}
-use Rattle.std.proofs.lemmas.Option.{same_Some, get_or_from_slice_get}
-use Rattle.std.proofs.lemmas.List.Sums.{sum_by-set}
-use Rattle.std.proofs.Math.ListN.{length-set}
+use Rattle.zl_verify.proofs.Common.{◌≡◌, ◌≢◌, ℕ, ◌+◌, ◌-◌, ◌*◌, ◌<◌, ◌≤◌, Bool, true, false, List, [], ◌∷◌, Option, Some, None, refl, sym, ap, ◌∙◌, subst}
+use Rattle.zl_verify.proofs.Common.{IsTrue, length, ◌⊎◌, inl, inr, arith, get_or, slice_get, slice_set, if◌then◌else◌, Result, Ok, IfOk, sum_by, option_map}
+use Rattle.zl_verify.proofs.Common.{option_and_then, same_Some, get_or_from_slice_get, sum_by-set, length-set, Image, is_in_range, Cause, State, all_below}
+use Rattle.zl_verify.proofs.Common.{all_joined, Edge, IsFine, AllFine, at, raised_over, raised, raised_all, cleared, Blocks, block, start_of}
 use Rattle.std.proofs.Math.Nat.{mul-le-mul_right}
-use Rattle.zl_code.specs.Image.{Image}
-use Rattle.zl_code.specs.Spells.{is_in_range}
-use Rattle.zl_abs.specs.declared.cause.Cause.{Cause}
-use Rattle.zl_abs.specs.States.{State, all_below, all_joined}
-use Rattle.zl_abs.specs.Rule.{Edge}
-use Rattle.zl_abs.specs.Fine.{IsFine, AllFine}
 use Rattle.zl_abs.proofs.FineStates.{fine_joined}
 use Rattle.zl_abs.proofs.Room.{room, TOP, room_top, room_falls}
-use Rattle.zl_verify.specs.Lists.{within, at}
+use Rattle.zl_verify.specs.Lists.{within}
 use Rattle.zl_verify.specs.Numbers.{one_if}
-use Rattle.zl_verify.specs.Search.{Table, put, raised_over, raised, raised_all, cleared}
-use Rattle.zl_verify.specs.Blocks.{Blocks, block, start_of}
+use Rattle.zl_verify.specs.Search.{Table, put}
 use Rattle.zl_verify.proofs.Leaving.{out_fine}
 use Rattle.zl_verify.proofs.Places.{there, get_put, get_put_other, equal_or_not}
 

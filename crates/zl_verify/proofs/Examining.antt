@@ -1,34 +1,14 @@
 -- Handle operands that pass by the rule aren't refused by the call, and those that are consumed leave the table.
-use Rattle.std.proofs.Common.{◌≡◌, ◌≢◌, ℕ, ◌<◌, ◌≤◌, ◌⊎◌, Bool, true, false, ◌&&◌, ◌||◌, not, ◌==◌, List, [], ◌∷◌, map, drop, length, refl, sym, ap, ◌∙◌, subst}
-use Rattle.std.proofs.Common.{Option, Some, None, Ok, cond, arith, inl, inr, slice_set, slice_index, ⊎_elim}
-use Rattle.std.specs.Prelude.{if◌then◌else◌}
-use Rattle.std.specs.List.{filter, list_all, list_any, AllByRecursion}
-use Rattle.std.proofs.lemmas.Bool.{cases_eq, eqb-true}
-use Rattle.std.proofs.lemmas.Bool.Decides.{nat_tests}
-use Rattle.std.proofs.lemmas.List.{get_or-set_other}
-use Rattle.zl_rights.specs.declared.entry.Entry.{Entry}
-use Rattle.zl_rights.specs.declared.kind.Kind.{Kind}
-use Rattle.zl_rights.specs.declared.rights.Rights.{Rights}
-use Rattle.zl_rights.specs.Common.{World}
-use Rattle.zl_rights.specs.Numbers.{bits, within, takes, kind_number}
-use Rattle.zl_rights.specs.World.{written}
-use Rattle.zl_code.specs.First.{first_some}
-use Rattle.zl_code.specs.Limits.{register_count}
-use Rattle.zl_code.specs.declared.image.SlotArray.{SlotArray}
-use Rattle.zl_code.specs.declared.history.Outcome.{Outcome}
-use Rattle.zl_code.specs.Tests.{entry_at}
-use Rattle.zl_code.specs.Operands.{Operand, contains, operand, operand_after, seen_after}
+use Rattle.zl_verify.proofs.Common.{◌≡◌, ◌≢◌, ℕ, ◌<◌, ◌≤◌, ◌⊎◌, Bool, true, false, ◌&&◌, ◌||◌, not, ◌==◌, List, [], ◌∷◌, map, drop, length, refl, sym, ap, ◌∙◌}
+use Rattle.zl_verify.proofs.Common.{subst, Option, Some, None, Ok, cond, arith, inl, inr, slice_set, slice_index, if◌then◌else◌, filter, list_all, list_any}
+use Rattle.zl_verify.proofs.Common.{AllByRecursion, cases_eq, eqb-true, nat_tests, get_or-set_other, Entry, Kind, Rights, World, bits, within, takes}
+use Rattle.zl_verify.proofs.Common.{kind_number, written, first_some, register_count, SlotArray, Outcome, entry_at, Operand, contains, operand, operand_after}
+use Rattle.zl_verify.proofs.Common.{seen_after, AbsVal, Word, Has, Cause, untagged, kind_below, State, IsState, value_at, with_value, and_then, fault_of}
+use Rattle.zl_verify.proofs.Common.{examined_all, within_trans, Table, IsAs, IsHandle, Describes, Holds}
+use Rattle.std.proofs.Common.{⊎_elim}
 use Rattle.zl_code.specs.Operands.{examined as examined_at}
-use Rattle.zl_abs.specs.declared.value.AbsVal.{AbsVal}
-use Rattle.zl_abs.specs.declared.value.AbsVal.TheVariants.{Word, Has, KindOf, RightsOf}
-use Rattle.zl_abs.specs.declared.cause.Cause.{Cause}
+use Rattle.zl_abs.specs.CallRules.{takes_any, taken_from, examined_by}
 use Rattle.zl_abs.specs.declared.cause.Cause.TheVariants as cause
-use Rattle.zl_abs.specs.Values.{untagged, kind_below}
-use Rattle.zl_abs.specs.States.{State, IsState, value_at, with_value}
-use Rattle.zl_abs.specs.Rule.{and_then}
-use Rattle.zl_abs.specs.CallRules.{takes_any, fault_of, taken_from, examined_by, examined_all}
-use Rattle.zl_abs.proofs.Order.{within_trans}
-use Rattle.zl_verify.specs.Conforms.{Table, IsAs, IsHandle, Describes, Holds}
 use Rattle.zl_verify.proofs.Owners.{value_at-with, value_at-here}
 use Rattle.zl_verify.proofs.Tagging.{states_with}
 use Rattle.zl_verify.proofs.Consuming.{removed, consume, consume_0}
@@ -72,11 +52,7 @@ has_passes o maybe kind rights = by maybe o.may_be_zero (takes_any o.kinds kind)
         → HasPasses o m kind rights
     by true true true t true n z e = record { zero = λ m. z; kinds = t; needed = n }
     by false z true t true n is e = record { zero = λ m. cc; kinds = t; needed = n }
-    by true false t is n also z e = cc
-    by true true false t n is z e = cc
-    by true true true t false n z e = cc
-    by false z false t n is also e = cc
-    by false z true t false n is e = cc
+    by _ _ _ t _ n z e = cc
 
 pub passes_live : (f : Table) (xs : List ℕ) (o : Operand) (a : AbsVal) (x : ℕ) → fault_of o a ≡ None → Describes f xs a x → IsLive f o x
 passes_live f xs o (Word m) x e d = inl (zero_word o.may_be_zero m x (word_passes o m e) d).0
@@ -89,8 +65,7 @@ passes_live f xs o (Has maybe kind rights) x e d = by (has_passes o maybe kind r
     by : HasPasses o maybe kind rights → IsHandle f maybe kind rights x → IsLive f o x
     by k (inl (m, z)) = inl (rw (k.zero m, z) refl)
     by k (inr l) = live k (f x) refl l
-passes_live f xs o (KindOf t) x e d = cc
-passes_live f xs o (RightsOf t) x e d = cc
+passes_live f xs o _ x e d = cc
 
 -- ---- one operand after another
 
@@ -126,8 +101,7 @@ taken_registers os = map (λ o. o.value) (filter (λ o. o.is_taken) os)
 
 first_two : (a b : Option Outcome) → a ≡ None → b ≡ None → first_some (a ∷ b ∷ []) ≡ None
 first_two None None e g = refl
-first_two None (Some o) e g = cc
-first_two (Some o) b e g = cc
+first_two _ _ e g = cc
 
 operand_passes : (w : World) (p : ℕ) (kinds : List Kind) (needed x : ℕ) (e : Entry) → entry_at w p x ≡ Some e → takes kinds e.kind ≡ true
     → within needed (bits e.rights) ≡ true → operand w p kinds needed x ≡ None

@@ -1,21 +1,10 @@
 -- The states of blocks make a typing of all instructions, the least where they are the least.
-use Rattle.std.proofs.Common.{◌≡◌, ℕ, zero, suc, ◌+◌, ◌-◌, ◌<◌, List, [], ◌∷◌, length, Option, Some, None, refl, sym, ap, ◌∙◌, subst, IsTrue, arith}
-use Rattle.std.specs.Prelude.{Result, Ok, Err, IfOk}
-use Rattle.std.proofs.lemmas.Option.{same_Some}
-use Rattle.zl_code.specs.Image.{Image}
-use Rattle.zl_code.specs.Spells.{is_in_range}
-use Rattle.zl_abs.specs.declared.cause.Cause.{Cause}
-use Rattle.zl_abs.specs.States.{State, start_state}
-use Rattle.zl_abs.specs.Bounds.{bounds_of}
-use Rattle.zl_abs.specs.Rule.{and_then, Edge}
-use Rattle.zl_abs.specs.Fine.{IsFine, AllFine}
-use Rattle.zl_abs.specs.Typing.{rule, IsAbove, AllLead, Holds, IsTyping}
-use Rattle.zl_abs.proofs.FineRules.{rule_fine}
-use Rattle.zl_abs.proofs.StateOrder.{all_below_refl}
-use Rattle.zl_verify.specs.Lists.{at}
-use Rattle.zl_verify.specs.Checks.{IsLeastTyping}
-use Rattle.zl_verify.specs.Blocks.{Blocks, AreBlocks, start_of, Out, leaves_last, leaves_first, leaves, out, block, inner_last, inner, inner_of, passed_on}
-use Rattle.zl_verify.specs.Blocks.{known_by, flows, known, listed, states_of}
+use Rattle.zl_verify.proofs.Common.{◌≡◌, ℕ, zero, suc, ◌+◌, ◌-◌, ◌<◌, List, [], ◌∷◌, length, Option, Some, None, refl, sym, ap, ◌∙◌, subst, IsTrue, arith}
+use Rattle.zl_verify.proofs.Common.{Result, Ok, Err, IfOk, same_Some, Image, is_in_range, Cause, State, start_state, bounds_of, and_then, Edge, IsFine, AllFine}
+use Rattle.zl_verify.proofs.Common.{rule, IsAbove, AllLead, IsTyping, rule_fine, all_below_refl, at, IsLeastTyping, Blocks, AreBlocks, start_of, Out}
+use Rattle.zl_verify.proofs.Common.{leaves_last, leaves_first, leaves, out, block, inner, inner_of, passed_on, known_by, flows, known, states_of, none-some}
+use Rattle.zl_abs.specs.Typing.{Holds}
+use Rattle.zl_verify.specs.Blocks.{inner_last, listed}
 use Rattle.zl_verify.proofs.Places.{mapped}
 use Rattle.zl_verify.proofs.Parting.{AreParted, rule_parted}
 use Rattle.zl_verify.proofs.Lowers.{typed_at}
@@ -35,9 +24,6 @@ at_listed (suc k) f zero h = refl
 at_listed (suc k) f (suc n) h = at_listed k (λ m. f (suc m)) n (omega arith)
 
 -- ---- what is known at each instruction
-
-some_none : {X : Type 0} (x : X) → None ≡ Some x → ⊥
-some_none x e = cc
 
 module _ (i : Image) (range : IsTrue (is_in_range i)) (bs : Blocks) (a : AreBlocks i bs) (kept : List (Option State))
     (settled : (b : ℕ) (s : State) → at kept b ≡ Some s → Holds (at kept) (block i bs b s))
@@ -62,12 +48,12 @@ module _ (i : Image) (range : IsTrue (is_in_range i)) (bs : Blocks) (a : AreBloc
   inner_holds : (go : State → Out) (x : State) (es : List Edge) → Holds (at kept) (leaves bs.numbers go es) → inner bs.numbers es ≡ Some x
       → Holds (at kept) (go x)
   unfolding leaves inner
-  inner_holds go x [] h e = absurd (some_none x e)
+  inner_holds go x [] h e = absurd (none-some x e)
   inner_holds go x (e ∷ []) h q = by (at bs.numbers (e.0)) h q
     where
       by : (o : Option ℕ) → Holds (at kept) (leaves_last go (e.1) o) → inner_last (e.1) o ≡ Some x → Holds (at kept) (go x)
       by None g p = subst (λ (z : State). Holds (at kept) (go z)) (same_Some (e.1) x p) g
-      by (Some b) g p = absurd (some_none x p)
+      by (Some b) g p = absurd (none-some x p)
   inner_holds go x (e ∷ f ∷ es) h q = inner_holds go x (f ∷ es) (by (at bs.numbers (e.0)) h) q
     where
       by : (o : Option ℕ) → Holds (at kept) (leaves_first (e.1) (leaves bs.numbers go (f ∷ es)) o) → Holds (at kept) (leaves bs.numbers go (f ∷ es))
@@ -76,28 +62,28 @@ module _ (i : Image) (range : IsTrue (is_in_range i)) (bs : Blocks) (a : AreBloc
 
   inner_fine : (x : State) (es : List Edge) → AllFine es → inner bs.numbers es ≡ Some x → IsFine x
   unfolding inner
-  inner_fine x [] h e = absurd (some_none x e)
+  inner_fine x [] h e = absurd (none-some x e)
   inner_fine x (e ∷ []) h q = by (at bs.numbers (e.0)) q
     where
       by : (o : Option ℕ) → inner_last (e.1) o ≡ Some x → IsFine x
       by None p = subst IsFine (same_Some (e.1) x p) (h.0)
-      by (Some b) p = absurd (some_none x p)
+      by (Some b) p = absurd (none-some x p)
   inner_fine x (e ∷ f ∷ es) h q = inner_fine x (f ∷ es) (h.1) q
 
   inner_lower : (y : ℕ → Option State) (n : ℕ) (x : State) (es : List Edge) → AllLead y es → AreParted bs.numbers n es → inner bs.numbers es ≡ Some x
       → IsAbove (y (n + 1)) x
   unfolding inner AreParted
-  inner_lower y n x [] h p e = absurd (some_none x e)
+  inner_lower y n x [] h p e = absurd (none-some x e)
   inner_lower y n x (e ∷ []) h p q = by (at bs.numbers (e.0)) refl q
     where
       by : (o : Option ℕ) → at bs.numbers (e.0) ≡ o → inner_last (e.1) o ≡ Some x → IsAbove (y (n + 1)) x
       by None z w = subst (λ (m : ℕ). IsAbove (y m) x) (p z) (subst (λ (v : State). IsAbove (y (e.0)) v) (same_Some (e.1) x w) (h.0))
-      by (Some b) z w = absurd (some_none x w)
+      by (Some b) z w = absurd (none-some x w)
   inner_lower y n x (e ∷ f ∷ es) h p q = inner_lower y n x (f ∷ es) (h.1) (p.1) q
 
   next_suits : (n : ℕ) (u x : State) → Suits n u → (r : Result (List Edge) Cause) → rule i n u ≡ r → inner_of bs.numbers r ≡ Some x → Suits (n + 1) x
   unfolding out
-  next_suits n u x h (Err c) r e = absurd (some_none x e)
+  next_suits n u x h (Err c) r e = absurd (none-some x e)
   next_suits n u x h (Ok es) r e = record {
     leads = λ j l. inner_holds (λ t. out bs.numbers i j (n + 1) t) x es
         (subst (λ (q : Result (List Edge) Cause). Holds (at kept) (and_then q (leaves bs.numbers (λ t. out bs.numbers i j (n + 1) t)))) r
@@ -128,12 +114,12 @@ module _ (i : Image) (range : IsTrue (is_in_range i)) (bs : Blocks) (a : AreBloc
 
   flow_suits : (n : ℕ) (s : State) → flows i bs.numbers kept n ≡ Some s → Suits n s
   unfolding flows
-  flow_suits zero s e = absurd (some_none s e)
+  flow_suits zero s e = absurd (none-some s e)
   flow_suits (suc n) s e = by (λ u p. known_suits n (λ x q. flow_suits n x q) u p) (known i bs.numbers kept n) refl e
     where
       by : ((u : State) → known i bs.numbers kept n ≡ Some u → Suits n u) → (o : Option State) → known i bs.numbers kept n ≡ o
           → passed_on i bs.numbers n o ≡ Some s → Suits (suc n) s
-      by suits None q p = absurd (some_none s p)
+      by suits None q p = absurd (none-some s p)
       by suits (Some u) q p = let z : n + 1 ≡ suc n = omega arith in subst (λ (m : ℕ). Suits m s) z (next_suits n u s (suits u q) (rule i n u) refl p)
 
   suits : (n : ℕ) (s : State) → known i bs.numbers kept n ≡ Some s → Suits n s

@@ -1,18 +1,8 @@
 -- The destinations of an answer get their values one after another, and are then as the rule says.
-use Rattle.std.proofs.Common.{◌≡◌, ℕ, ◌<◌, ◌≤◌, ◌⊎◌, Bool, true, false, ◌&&◌, ◌||◌, not, ◌==◌, List, [], ◌∷◌, map, length, refl, sym, subst, Some, None, inl}
-use Rattle.std.proofs.Common.{inr, slice_set, slice_index}
-use Rattle.std.specs.List.{AllByRecursion}
-use Rattle.std.proofs.lemmas.Bool.{eqb-false}
-use Rattle.zl_rights.specs.declared.entry.Entry.{Entry}
-use Rattle.zl_rights.specs.World.{written}
-use Rattle.zl_code.specs.Limits.{register_count}
-use Rattle.zl_code.specs.declared.image.SlotArray.{SlotArray}
-use Rattle.zl_abs.specs.declared.value.AbsVal.{AbsVal}
-use Rattle.zl_abs.specs.declared.value.AbsVal.TheVariants.{Word, Has, KindOf, RightsOf}
-use Rattle.zl_abs.specs.Values.{ANY, is_has}
-use Rattle.zl_abs.specs.States.{State, IsState, can_be_named, value_at, with_value, with_all}
-use Rattle.zl_abs.specs.CallRules.{is_result, are_distinct, has_one}
-use Rattle.zl_verify.specs.Conforms.{Table, kind_in, rights_in, IsAs, Holds}
+use Rattle.zl_verify.proofs.Common.{◌≡◌, ℕ, ◌<◌, ◌≤◌, ◌⊎◌, Bool, true, false, ◌&&◌, ◌||◌, not, ◌==◌, List, [], ◌∷◌, map, length, refl, sym, subst, Some, None}
+use Rattle.zl_verify.proofs.Common.{inl, inr, slice_set, slice_index, AllByRecursion, eqb-false, Entry, written, register_count, SlotArray, AbsVal, Word, Has}
+use Rattle.zl_verify.proofs.Common.{KindOf, RightsOf, ANY, is_has, State, IsState, can_be_named, value_at, with_value, with_all, is_result, are_distinct}
+use Rattle.zl_verify.proofs.Common.{has_one, Table, kind_in, rights_in, IsAs, Holds}
 use Rattle.zl_verify.proofs.Owners.{value_at-with, is_has-untagged}
 use Rattle.zl_verify.proofs.Writing.{write_word}
 use Rattle.zl_verify.proofs.Tagging.{test_apart, named_with, states_with}

@@ -1,30 +1,14 @@
 -- What answers give fits: a status, handles at free values, and handles with their kinds and rights.
-use Rattle.std.proofs.Common.{◌≡◌, ℕ, zero, suc, ◌+◌, ◌*◌, ◌<◌, ◌≤◌, Bool, true, false, ◌&&◌, not, ◌==◌, List, [], ◌∷◌, length, refl, sym, ap, ◌∙◌, subst}
-use Rattle.std.proofs.Common.{IsTrue, Option, Some, None, arith, inl, inr, slice_set, slice_index}
-use Rattle.std.specs.Prelude.{is_some, nat_lt, bit_and}
-use Rattle.std.specs.List.{list_all, AllByRecursion}
-use Rattle.std.proofs.lemmas.Bool.{eqb-true}
-use Rattle.std.proofs.lemmas.Bool.Decides.{nat_tests}
-use Rattle.std.proofs.lemmas.List.{get_or-set_same, get_or-set_other, length-set}
-use Rattle.std.proofs.lemmas.Nat.{and_comm, and_le_l}
-use Rattle.zl_rights.specs.declared.entry.Entry.{Entry}
-use Rattle.zl_rights.specs.declared.kind.Kind.{Kind}
+use Rattle.zl_verify.proofs.Common.{◌≡◌, ℕ, zero, suc, ◌+◌, ◌*◌, ◌<◌, ◌≤◌, Bool, true, false, ◌&&◌, not, ◌==◌, List, [], ◌∷◌, length, refl, sym, ap, ◌∙◌, subst}
+use Rattle.zl_verify.proofs.Common.{IsTrue, Option, Some, None, arith, inl, inr, slice_set, slice_index, is_some, nat_lt, bit_and, list_all, AllByRecursion}
+use Rattle.zl_verify.proofs.Common.{eqb-true, nat_tests, get_or-set_same, get_or-set_other, and_le_l, Entry, Kind, Rights, Status, get, has_key, Process, bits}
+use Rattle.zl_verify.proofs.Common.{rights_of, kind_number, within, status_magnitude, get-put, process_with, may_get, may_get_after, may_get_all, told_of}
+use Rattle.zl_verify.proofs.Common.{is_value, AbsVal, Word, Has, KindOf, RightsOf, ANY, State, can_be_named, value_at, with_value, triple_results, both}
+use Rattle.zl_verify.proofs.Common.{within_is, Table, kind_in, rights_in, IsAs, eq-eqb}
+use Rattle.std.proofs.lemmas.List.{length-set}
+use Rattle.std.proofs.lemmas.Nat.{and_comm}
 use Rattle.zl_rights.specs.declared.kind.Kind.TheVariants as kind
-use Rattle.zl_rights.specs.declared.rights.Rights.{Rights}
-use Rattle.zl_rights.specs.declared.status.Status.{Status}
 use Rattle.zl_rights.specs.declared.status.Status.TheVariants as status
-use Rattle.zl_rights.specs.Common.{get, has_key, Process}
-use Rattle.zl_rights.specs.Numbers.{bits, rights_of, kind_number, within, status_magnitude}
-use Rattle.zl_rights.proofs.MapLaws.{get-put}
-use Rattle.zl_code.specs.Effects.{process_with, may_get, may_get_after, may_get_all, told_of}
-use Rattle.zl_code.specs.Sound.{is_value}
-use Rattle.zl_abs.specs.declared.value.AbsVal.{AbsVal}
-use Rattle.zl_abs.specs.declared.value.AbsVal.TheVariants.{Word, Has, KindOf, RightsOf}
-use Rattle.zl_abs.specs.Values.{ANY}
-use Rattle.zl_abs.specs.States.{State, can_be_named, value_at, with_value}
-use Rattle.zl_abs.specs.CallRules.{triple_results}
-use Rattle.zl_abs.proofs.Order.{both, within_is}
-use Rattle.zl_verify.specs.Conforms.{Table, kind_in, rights_in, IsAs}
 use Rattle.zl_verify.proofs.Owners.{value_at-with, value_at-here}
 use Rattle.zl_verify.proofs.Writing.{long_with}
 use Rattle.zl_verify.proofs.Consuming.{added}
@@ -58,8 +42,7 @@ zeros_fit f s xs [] z = refl
 zeros_fit f s xs ((r, Word n) ∷ ds) z = (f, (omega arith, omega arith, refl), zeros_fit f (with_value s r (Word n)) (slice_set xs r 0) ds z)
 zeros_fit f s xs ((r, Has maybe kind rights) ∷ ds) z =
     let two = both maybe (are_zeroable ds) z in (f, inl (two.0, refl, refl), zeros_fit f (with_value s r (Has maybe kind rights)) (slice_set xs r 0) ds two.1)
-zeros_fit f s xs ((r, KindOf t) ∷ ds) z = cc
-zeros_fit f s xs ((r, RightsOf t) ∷ ds) z = cc
+zeros_fit f s xs ((r, _) ∷ ds) z = cc
 
 -- ---- new handles
 
@@ -71,7 +54,7 @@ IsFreeLast q = (v : ℕ) → q.last ≡ Some v → IsTrue (is_value v) × (has_k
 abbrev pub IsFresh : Process → ℕ → Type 0
 IsFresh q v = (0 < v) × (v < 65536) × (get q.handles v ≡ None)
 
-none_at : (o : Option Entry) → is_some o ≡ false → o ≡ None
+pub none_at : (o : Option Entry) → is_some o ≡ false → o ≡ None
 none_at None t = refl
 none_at (Some y) t = cc
 
@@ -132,14 +115,7 @@ handles_fit ((r, Has maybe kind rights) ∷ ds) (e ∷ es) (v ∷ vs) q s xs sou
       inr (e, omega arith, some, unused, fits, getting v e q),
       handles_fit ds es vs (process_with v e q) _ _ (free_with q v e) two.1 more,
     )
-handles_fit [] (e ∷ es) vs q s xs sound may a = absurd a
-handles_fit ((r, Has maybe kind rights) ∷ ds) [] vs q s xs sound may a = absurd a
-handles_fit ((r, Word n) ∷ ds) [] vs q s xs sound may a = absurd a
-handles_fit ((r, Word n) ∷ ds) (e ∷ es) vs q s xs sound may a = absurd a
-handles_fit ((r, KindOf t) ∷ ds) [] vs q s xs sound may a = absurd a
-handles_fit ((r, KindOf t) ∷ ds) (e ∷ es) vs q s xs sound may a = absurd a
-handles_fit ((r, RightsOf t) ∷ ds) [] vs q s xs sound may a = absurd a
-handles_fit ((r, RightsOf t) ∷ ds) (e ∷ es) vs q s xs sound may a = absurd a
+handles_fit _ _ vs q s xs sound may a = absurd a
 
 -- ---- handles with their kinds and rights
 
@@ -154,10 +130,7 @@ kind_few kind.Process = omega arith
 kind_few _ = omega arith
 
 added_itself : (v : ℕ) (e : Entry) (f : Table) → added v e f v ≡ Some e
-added_itself v e f = rw (itself v) refl
-  where
-    itself : (v : ℕ) → (v == v) ≡ true
-    itself v = grind (arith, nat_tests)
+added_itself v e f = rw (eq-eqb v v refl) refl
 
 -- the state and the registers behind a triple
 abbrev after_triple : ℕ → State → AbsVal → State
@@ -193,12 +166,18 @@ module _ (f : Table) (a : ℕ) (s : State) (xs : List ℕ) (inside : a < length 
       named2 : can_be_named (value_at (with_value (with_value s a (Has maybe kind rights)) (a + 1) (KindOf a)) a) ≡ true
       named2 = rw (value_at-with (with_value s a (Has maybe kind rights)) (a + 1) a (KindOf a) apart1, value_at-here s a (Has maybe kind rights) inside) refl
 
+-- three writes keep the lengths
+pub long_thrice : (s : State) (a d e : ℕ) (x y z : AbsVal) → length (with_value (with_value (with_value s a x) d y) e z) ≡ length s
+long_thrice s a d e x y z = long_with (with_value (with_value s a x) d y) e z ∙ (long_with (with_value s a x) d y ∙ long_with s a x)
+
+pub wide_thrice : (xs : List ℕ) (a d e x y z : ℕ) → length (slice_set (slice_set (slice_set xs a x) d y) e z) ≡ length xs
+wide_thrice xs a d e x y z = length-set (slice_set (slice_set xs a x) d y) e z ∙ (length-set (slice_set xs a x) d y ∙ length-set xs a x)
+
 long_after : (a : ℕ) (s : State) (h : AbsVal) → length (after_triple a s h) ≡ length s
-long_after a s h =
-    long_with (with_value (with_value s a h) (a + 1) (KindOf a)) (a + 2) (RightsOf a) ∙ (long_with (with_value s a h) (a + 1) (KindOf a) ∙ long_with s a h)
+long_after a s h = long_thrice s a (a + 1) (a + 2) h (KindOf a) (RightsOf a)
 
 wide_after : (a : ℕ) (xs : List ℕ) (v k r : ℕ) → length (written_triple a xs v k r) ≡ length xs
-wide_after a xs v k r = length-set (slice_set (slice_set xs a v) (a + 1) k) (a + 2) r ∙ (length-set (slice_set xs a v) (a + 1) k ∙ length-set xs a v)
+wide_after a xs v k r = wide_thrice xs a (a + 1) (a + 2) v k r
 
 -- a handle's rights fit a register
 abbrev pub HasFewRights : Entry → Type 0

@@ -1,19 +1,10 @@
 -- The headline of an image with a typing and a step bound, from the laws of runs.
-use Rattle.std.proofs.Common.{◌≡◌, ℕ, zero, suc, true, List, [], ◌∷◌, ap, subst, Option, Some, IsTrue}
-use Rattle.std.specs.Prelude.{slice_get}
-use Rattle.std.specs.List.{AllByRecursion}
-use Rattle.std.proofs.lemmas.Option.{none-some, same_Some}
-use Rattle.zl_rights.specs.Common.{runs, World, Process}
+use Rattle.zl_verify.proofs.Common.{◌≡◌, ℕ, zero, suc, true, List, [], ◌∷◌, ap, subst, Option, Some, IsTrue, slice_get, AllByRecursion, none-some, same_Some}
+use Rattle.zl_verify.proofs.Common.{runs, World, Process, TraceItem, Image, Library, Program, is_in_range, IsStarted, State, IsTyping, IsFineItem, IsUnderWay}
+use Rattle.zl_verify.proofs.Common.{IsStepBound}
+use Rattle.zl_code.specs.Headline.{EndsItself, HasNoFault, IsNeverRefused, IsNotStuck}
 use Rattle.zl_code.specs.declared.history.Outcome.TheVariants as outcome
-use Rattle.zl_code.specs.declared.history.TraceItem.{TraceItem}
 use Rattle.zl_code.specs.declared.history.TraceItem.TheVariants as item
-use Rattle.zl_code.specs.Image.{Image, Library, Program}
-use Rattle.zl_code.specs.Spells.{is_in_range}
-use Rattle.zl_code.specs.Headline.{EndsItself, HasNoFault, IsNeverRefused, IsNotStuck, IsStarted}
-use Rattle.zl_abs.specs.States.{State}
-use Rattle.zl_abs.specs.Typing.{IsTyping}
-use Rattle.zl_verify.specs.RunLaws.{IsFineItem, IsUnderWay}
-use Rattle.zl_verify.specs.Steps.{IsStepBound}
 use Rattle.zl_verify.proofs.CheckedRuns.{budget_kept, never_refused}
 use Rattle.zl_verify.proofs.Starting.{starts_conforming}
 

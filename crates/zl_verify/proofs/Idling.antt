@@ -1,38 +1,19 @@
 -- A process that doesn't run: what a step makes of it, which starts it at most.
-use Rattle.std.proofs.Common.{◌≡◌, ℕ, ◌⊎◌, Bool, true, false, ◌==◌, List, [], ◌∷◌, refl, sym, ap, ◌∙◌, subst, Option, Some, None, option_map, inl, inr}
-use Rattle.std.specs.Prelude.{if◌then◌else◌, slice_get}
-use Rattle.std.specs.List.{fold}
-use Rattle.std.proofs.lemmas.Bool.{cases_Bool, eqb-true}
-use Rattle.zl_rights.specs.declared.entry.Entry.{Entry}
+use Rattle.zl_verify.proofs.Common.{◌≡◌, ℕ, ◌⊎◌, Bool, true, false, ◌==◌, List, refl, sym, ap, ◌∙◌, subst, Option, Some, None, option_map, inl, inr}
+use Rattle.zl_verify.proofs.Common.{if◌then◌else◌, slice_get, cases_Bool, eqb-true, Entry, answered, get, put, is_process, lives, runs, Settles}
+use Rattle.zl_verify.proofs.Common.{process_settled, without_others, fired, wakes, World, Process, Life, Created, Ready, Blocked, Awaited, state_passes}
+use Rattle.zl_verify.proofs.Common.{state_without, made_ready, get-put, get-each, CallName, Outcome, TraceItem, Library, Program, object_at, on_process}
+use Rattle.zl_verify.proofs.Common.{on_object, with_object, insert_all, ended, waiting, is_created, created_process, started_with, is_within, process_killed}
+use Rattle.zl_verify.proofs.Common.{with_killed, refusal, Request, process_start, process_create, task_kill, name_of, effect, new_handles, receiver_of}
+use Rattle.zl_verify.proofs.Common.{entering_at, stored_by, gives_ok, gives_refused, awaited_by, Site, taken_handles, taken, replied, with_effect}
+use Rattle.zl_verify.proofs.Common.{after_refusal, after_ok, ok_outcome, Next, Moves, AtCall, IsStuck, next_in, next_for, Acts, Step, StartsChild, asks_again}
+use Rattle.zl_verify.proofs.Common.{Calls}
 use Rattle.zl_rights.specs.declared.status.Status.TheVariants as status
-use Rattle.zl_rights.specs.Common.{answered, get, put, is_process, lives, runs, Settles, process_settled, without_others, fired, wakes, World, Process}
-use Rattle.zl_rights.specs.Common.{State as Life, Created, Ready, Blocked, Object, Body, PortBody}
-use Rattle.zl_rights.specs.World.{Awaited, SignalOf, PacketAt, Packet}
-use Rattle.zl_rights.specs.Signals.{active, state_passes}
-use Rattle.zl_rights.specs.Numbers.{meets}
-use Rattle.zl_rights.specs.Settle.{state_without}
-use Rattle.zl_rights.specs.Wakes.{made_ready, packet_values, with_body, woken_by_first, woken_by, woken_at_port, woken_from, woken_if_there, woken}
-use Rattle.zl_rights.proofs.MapLaws.{get-put, get-each}
-use Rattle.zl_code.specs.declared.history.CallName.{CallName}
 use Rattle.zl_code.specs.declared.history.CallName.TheVariants as name
-use Rattle.zl_code.specs.declared.history.Outcome.{Outcome}
 use Rattle.zl_code.specs.declared.history.Outcome.TheVariants as outcome
-use Rattle.zl_code.specs.declared.history.TraceItem.{TraceItem}
 use Rattle.zl_code.specs.declared.history.TraceItem.TheVariants as item
-use Rattle.zl_code.specs.Image.{Library, Program}
-use Rattle.zl_code.specs.Tests.{object_at}
-use Rattle.zl_code.specs.Effects.{on_process, on_object, with_object, insert_all, ended, waiting}
-use Rattle.zl_code.specs.Starting.{is_created, created_process, started_with}
-use Rattle.zl_code.specs.Jobs.{is_within, process_killed, with_killed}
-use Rattle.zl_code.specs.Refusals.{refusal}
-use Rattle.zl_code.specs.CallTable.{Request, process_start, process_create, task_kill, name_of, effect}
-use Rattle.zl_code.specs.CallTable.{new_handles, receiver_of, entering_at, stored_by, gives_ok}
-use Rattle.zl_code.specs.CallTable.{gives_refused, awaited_by}
-use Rattle.zl_code.specs.Request.{Site}
-use Rattle.zl_code.specs.Calls.{Choice, Refused, Wants, Values, CallBy, taken_handles, taken, replied, with_effect, after_refusal, after_ok, ok_outcome}
-use Rattle.zl_code.specs.Steps.{Next, Moves, AtCall, IsStuck, next_in, next_for, Acts, Step}
-use Rattle.zl_code.specs.Headline.{StartsChild}
-use Rattle.zl_code.proofs.CallRows.{asks_again}
+use Rattle.zl_verify.proofs.CallEnds.{call_ends}
+use Rattle.zl_verify.proofs.Waking.{turn_by_answer, wakes_by}
 use Rattle.zl_verify.proofs.OwnEffect.{starts_created}
 use Rattle.zl_verify.proofs.AtCalls.{IsAtCall, at_call}
 use Rattle.zl_verify.proofs.OwnTable.{changed_elsewhere, inserted_elsewhere}
@@ -77,46 +58,9 @@ module _ (q : ℕ) where
         by (inr e) = ap (state_passes runs) (get-put v.processes m (record y { state = Ready; cpu = answered y.cpu ds vs }) q
             ∙ rw e (ap (λ ps. get ps q) same)) ∙ idle
 
-    by_packets : (y : Process) → get u.processes m ≡ Some y → (koid : ℕ) (ds : List ℕ) → y.state ≡ Blocked (PacketAt koid) ds
-        → (o : Object) (packets : List Packet) → IsIdle (woken_by_first u m y koid ds o packets) q
-    by_packets y at koid ds blocked o [] = idle
-    by_packets y at koid ds blocked o (x ∷ rest) = readied (with_body u koid o (PortBody rest)) refl y at (PacketAt koid) ds (0 ∷ packet_values x) blocked
-
-    by_body : (y : Process) → get u.processes m ≡ Some y → (koid : ℕ) (ds : List ℕ) → y.state ≡ Blocked (PacketAt koid) ds → (o : Object) (b : Body)
-        → IsIdle (woken_by u m y koid ds o b) q
-    by_body y at koid ds blocked o (PortBody packets) = by_packets y at koid ds blocked o packets
-    by_body y at koid ds blocked o _ = idle
-
-    by_object : (y : Process) → get u.processes m ≡ Some y → (koid : ℕ) (ds : List ℕ) → y.state ≡ Blocked (PacketAt koid) ds → (o : Option Object)
-        → IsIdle (woken_at_port u m y koid ds o) q
-    by_object y at koid ds blocked None = idle
-    by_object y at koid ds blocked (Some o) = by_body y at koid ds blocked o o.body
-
-    by_signal : (y : Process) → get u.processes m ≡ Some y → (koid mask : ℕ) (ds : List ℕ) → y.state ≡ Blocked (SignalOf koid mask) ds → (b : Bool)
-        → IsIdle (if b then made_ready u m y ds (0 ∷ active u koid ∷ []) else u) q
-    by_signal y at koid mask ds blocked true = readied u refl y at (SignalOf koid mask) ds (0 ∷ active u koid ∷ []) blocked
-    by_signal y at koid mask ds blocked false = idle
-
-    by_state : (y : Process) → get u.processes m ≡ Some y → (l : Life) → y.state ≡ l → IsIdle (woken_from u m y l) q
-    by_state y at (Blocked (SignalOf koid mask) ds) is = by_signal y at koid mask ds is (meets (active u koid) mask)
-    by_state y at (Blocked (PacketAt koid) ds) is = by_object y at koid ds is (get u.objects koid)
-    by_state y at _ is = idle
-
-    turn : IsIdle (woken u m) q
-    unfolding woken
-    turn = by (get u.processes m) refl
-      where
-        by : (o : Option Process) → get u.processes m ≡ o → IsIdle (woken_if_there u m o) q
-        by None is = idle
-        by (Some y) is = by_state y is y.state refl
-
-  turns : (u : World) → IsIdle u q → (ms : List ℕ) → IsIdle (fold woken u ms) q
-  turns u idle [] = idle
-  turns u idle (m ∷ ms) = turns (woken u m) (turn u idle m) ms
-
   idle_awake : (w : World) → IsIdle w q → IsIdle (wakes w) q
-  unfolding wakes fired
-  idle_awake w idle = turns (fired w) idle w.blocked
+  unfolding fired
+  idle_awake w idle = wakes_by (λ u. IsIdle u q) (λ u m idle. turn_by_answer (λ v. IsIdle v q) u m idle (readied u idle m)) w idle
 
   -- who doesn't run right after the act of a step doesn't at its end
   pub idle_still : (lib : Library) (w : World) (m : ℕ) (x : TraceItem) (w2 : World) → (step : Step lib w m x w2) → IsIdle step.acted q → IsIdle w2 q
@@ -202,16 +146,13 @@ module _ (p q : ℕ) (apart : (p == q) ≡ false) (lib : Library) (w : World) wh
       IsStart o = (process : ℕ) × (h : ℕ) × (word : ℕ) × (t.request ≡ process_start process h word) × (object_at w p process ≡ q)
           × (is_process w is_created q ≡ true) × (o ≡ outcome.Answered status.Ok)
 
-      when_called : (choice : Choice) (r : Option Outcome) → refusal lib w p t.request ≡ r → (answer : Outcome) (w2 : World)
-          → CallBy lib w p t choice r answer w2 → IsIdle w2 q ⊎ IsStart answer
-      when_called Refused None is answer w2 h = absurd h
-      when_called Refused (Some o) is answer w2 h = rw h.1 (inl (when_refused t o))
-      when_called (Wants want) None is answer w2 h = rw h.2 (inl (when_refused t (outcome.Answered want)))
-      when_called (Wants want) (Some o) is answer w2 h = absurd h
-      when_called (Values vs) None is answer w2 h = by (when_ok vs (ok_outcome w p t.request))
+      when_passed : refusal lib w p t.request ≡ None → (vs : List ℕ)
+          → IsIdle (after_ok lib w p t vs (ok_outcome w p t.request)) q ⊎ IsStart (ok_outcome w p t.request)
+      when_passed passes vs = by (when_ok vs (ok_outcome w p t.request))
         where
-          by : Idles t.request (after_ok lib w p t vs (ok_outcome w p t.request)) → IsIdle w2 q ⊎ IsStart answer
-          by (idles i) = inl (subst (λ v. IsIdle v q) (sym h.2) i)
+          by : Idles t.request (after_ok lib w p t vs (ok_outcome w p t.request))
+              → IsIdle (after_ok lib w p t vs (ok_outcome w p t.request)) q ⊎ IsStart (ok_outcome w p t.request)
+          by (idles i) = inl i
           by (starts process k word asked child) = inr (
             process,
             k,
@@ -219,10 +160,14 @@ module _ (p q : ℕ) (apart : (p == q) ≡ false) (lib : Library) (w : World) wh
             asked,
             child,
             subst (λ j. is_process w is_created j ≡ true) child
-                (starts_created lib w p process k word (subst (λ r. refusal lib w p r ≡ None) asked is)),
-            h.1 ∙ ap (ok_outcome w p) asked,
+                (starts_created lib w p process k word (subst (λ r. refusal lib w p r ≡ None) asked passes)),
+            ap (ok_outcome w p) asked,
           )
-      when_called (Values vs) (Some o) is answer w2 h = absurd h
+
+      when_called : (answer : Outcome) (w2 : World) → Calls lib w p t answer w2 → IsIdle w2 q ⊎ IsStart answer
+      when_called =
+          call_ends lib w p t (λ o v. IsIdle v q ⊎ IsStart o) (λ o is. inl (when_refused t o)) (λ want may. inl (when_refused t (outcome.Answered want)))
+          (λ passes vs may. when_passed passes vs)
 
 module _ (lib : Library) (w : World) (p : ℕ) (x : TraceItem) (w2 : World) (step : Step lib w p x w2) (q : ℕ) (apart : (p == q) ≡ false) (idle : IsIdle w q)
   where
@@ -251,13 +196,12 @@ module _ (lib : Library) (w : World) (p : ℕ) (x : TraceItem) (w2 : World) (ste
     by_program o at IsStuck next a = inl (same_idle q w step.acted (ap (λ v. get v.processes q) a.1 ∙ ended_other p q apart w _) idle)
     by_program None at (AtCall called t) next a = cc
     by_program (Some g) at (AtCall called t) next (o, told, h) =
-        by (when_called p q apart lib w idle t h.0 (refusal lib w p t.request) refl o step.acted h.1)
+        by (when_called p q apart lib w idle t o step.acted h)
       where
         there : IsAtCall g.image step.process.cpu called t
         there = at_call g.image step.process.cpu called t next
 
-        by : IsIdle step.acted q ⊎ ((process : ℕ) × (h : ℕ) × (word : ℕ) × (t.request ≡ process_start process h word) × (object_at w p process ≡ q)
-            × (is_process w is_created q ≡ true) × (o ≡ outcome.Answered status.Ok)) → IsKept
+        by : IsIdle step.acted q ⊎ IsStart p q apart lib w idle t o → IsKept
         by (inl i) = inl i
         by (inr (process, k, word, asked, child, created, is)) = inr (starting called t (ap (λ y. next_in y step.process.cpu) at ∙ next)
             (sym there.named ∙ (sym (asks_again there.call step.process.cpu t there.site) ∙ ap name_of asked)) process k word asked child

@@ -1,23 +1,16 @@
 -- Where the instructions of a typing lead, from the edges that the code hands out.
-use Rattle.std.proofs.Common.{◌≡◌, ◌≢◌, ℕ, suc, ◌+◌, ◌<◌, ◌≤◌, Bool, true, false, List, [], ◌∷◌, ◌++◌, map, length, Option, Some, None, refl, sym, ap, ◌∙◌}
-use Rattle.std.proofs.Common.{subst, ◌⊎◌, inl, inr, arith}
-use Rattle.std.specs.Prelude.{Result, Ok, Err, if◌then◌else◌, slice_get, slice_set}
-use Rattle.std.proofs.Math.ListN.{length-set}
-use Rattle.std.specs.Option.{option_to_list}
-use Rattle.zl_code.specs.Image.{Image, call_at}
-use Rattle.zl_abs.specs.declared.cause.Cause.{Cause}
+use Rattle.zl_verify.proofs.Common.{◌≡◌, ◌≢◌, ℕ, suc, ◌+◌, ◌<◌, ◌≤◌, Bool, true, false, List, [], ◌∷◌, ◌++◌, map, length, Option, Some, None, refl, sym, ap}
+use Rattle.zl_verify.proofs.Common.{◌∙◌, subst, ◌⊎◌, inl, inr, arith, Result, Ok, Err, if◌then◌else◌, slice_get, slice_set, length-set, option_to_list, Image}
+use Rattle.zl_verify.proofs.Common.{call_at, Cause, State, rule, IsAbove, AllLead, IsTyping, at, is_pause, targets_of, leads_by, leads, places, places_by}
+use Rattle.zl_verify.proofs.Common.{places_at, AllInside, IsClosed, unless_pause, AreTargets, inner, inner_of, known_by, flows, passed_on, known, states_of}
+use Rattle.zl_verify.proofs.Common.{Targets}
 use Rattle.zl_abs.specs.declared.steps.Step.{Step}
 use Rattle.zl_abs.specs.declared.steps.Steps.{Steps}
 use Rattle.zl_abs.specs.Rule.{Edge as Lead}
 use Rattle.zl_abs.specs.Changes.{step_in}
-use Rattle.zl_abs.specs.States.{State}
-use Rattle.zl_abs.specs.Typing.{rule, IsAbove, AllLead, Holds, IsTyping}
-use Rattle.zl_verify.specs.Lists.{within, at}
-use Rattle.zl_verify.specs.Steps.{is_pause, targets_of, leads_by, leads}
-use Rattle.zl_verify.specs.Numbers.{places, places_by, places_at, AllInside, IsClosed}
-use Rattle.zl_verify.specs.Leading.{flow_in, target_in, unless_pause, AreTargets}
-use Rattle.zl_verify.specs.Blocks.{inner, inner_of, known_by, flows, passed_on, known, states_of}
-use Rattle.zl_verify.specs.declared.steps.Targets.{Targets}
+use Rattle.zl_abs.specs.Typing.{Holds}
+use Rattle.zl_verify.specs.Lists.{within}
+use Rattle.zl_verify.specs.Leading.{flow_in, target_in}
 use Rattle.zl_verify.proofs.Places.{get_put, get_put_other, get_past, equal_or_not, below_or_not, mapped}
 use Rattle.zl_verify.proofs.Filling.{length_listed, at_listed}
 

@@ -1,33 +1,16 @@
 -- Where the rule of an instruction holds, it leads to another, but for the exit.
-use Rattle.std.proofs.Common.{◌≡◌, ◌≢◌, ℕ, ◌+◌, Bool, true, false, ◌&&◌, ◌||◌, not, List, [], ◌∷◌, ◌++◌, length, Option, Some, None, Result, Ok, Err, IfOk}
-use Rattle.std.proofs.Common.{refl, subst, arith, eqb, ltb}
-use Rattle.std.specs.Prelude.{is_some, if◌then◌else◌}
-use Rattle.std.proofs.lemmas.Bool.Decides.{nat_tests}
-use Rattle.zl_rights.specs.Numbers.{same_kind}
-use Rattle.zl_rights.specs.declared.kind.Kind.{Kind}
-use Rattle.zl_code.specs.declared.instr.Instr.{Instr}
-use Rattle.zl_code.specs.declared.instr.Instr.TheVariants as instr
-use Rattle.zl_code.specs.declared.instr.LocalInstr.{LocalInstr}
-use Rattle.zl_code.specs.declared.instr.LocalInstr.TheVariants as local
-use Rattle.zl_code.specs.declared.instr.CallInstr.{CallInstr}
-use Rattle.zl_code.specs.declared.history.CallName.{CallName}
-use Rattle.zl_code.specs.declared.history.CallName.TheVariants as name
-use Rattle.zl_code.specs.Headline.{is_pause_name}
-use Rattle.zl_code.specs.Image.{Image, instr_at, call_at, call_in}
-use Rattle.zl_abs.specs.declared.value.AbsVal.{AbsVal}
-use Rattle.zl_abs.specs.declared.value.AbsVal.TheVariants.{Word, Has, KindOf, RightsOf}
-use Rattle.zl_abs.specs.declared.cause.Cause.{Cause}
-use Rattle.zl_abs.specs.declared.cause.Cause.TheVariants as cause
+use Rattle.zl_verify.proofs.Common.{◌≡◌, ◌≢◌, ℕ, ◌+◌, Bool, true, false, ◌&&◌, ◌||◌, not, List, [], ◌∷◌, ◌++◌, length, Option, Some, None, Result, Ok, Err}
+use Rattle.zl_verify.proofs.Common.{IfOk, refl, subst, arith, eqb, ltb, is_some, if◌then◌else◌, nat_tests, same_kind, Kind, Instr, LocalInstr, CallInstr}
+use Rattle.zl_verify.proofs.Common.{CallName, is_pause_name, Image, instr_at, call_at, call_in, AbsVal, Word, Has, KindOf, RightsOf, Cause, capped, State}
+use Rattle.zl_verify.proofs.Common.{value_at, refined, bounds_of, and_then, Edge, edge_to, edges, becomes, known_zero, known_there, known_kind, known_other}
+use Rattle.zl_verify.proofs.Common.{kind_numbered, kind_ways, equal_ways, zero_ways, below_ways, has_ways, unless, local_rule, Uses, uses_of, state_after}
+use Rattle.zl_verify.proofs.Common.{goes_on, call_rule, target_of, rule_by, rule_with, rule, is_pause}
 use Rattle.zl_abs.specs.Outcome.{Outcome}
-use Rattle.zl_abs.specs.Values.{capped}
-use Rattle.zl_abs.specs.States.{State, value_at, refined}
-use Rattle.zl_abs.specs.Bounds.{bounds_of}
-use Rattle.zl_abs.specs.Rule.{and_then, Edge, edge_to, edges}
-use Rattle.zl_abs.specs.LocalRules.{becomes, known_zero, known_there, known_kind, known_other, kind_numbered, kind_ways, equal_ways, zero_ways, below_ways}
-use Rattle.zl_abs.specs.LocalRules.{has_ways, unless, local_rule}
-use Rattle.zl_abs.specs.CallRules.{Uses, uses_of, state_after, goes_on, call_rule_by, call_rule}
-use Rattle.zl_abs.specs.Typing.{target_of, rule_by, rule_with, rule}
-use Rattle.zl_verify.specs.Steps.{is_pause}
+use Rattle.zl_abs.specs.CallRules.{call_rule_by}
+use Rattle.zl_code.specs.declared.instr.Instr.TheVariants as instr
+use Rattle.zl_code.specs.declared.instr.LocalInstr.TheVariants as local
+use Rattle.zl_code.specs.declared.history.CallName.TheVariants as name
+use Rattle.zl_abs.specs.declared.cause.Cause.TheVariants as cause
 use Rattle.zl_verify.proofs.PassingOn.{then_on, one, passes_on}
 
 -- one of the two edges is followed
@@ -56,9 +39,6 @@ zero_or_there s a r _ = refl
 kind_or_other : (s : State) (a imm r : ℕ) (k : Option Kind) (v : AbsVal)
     → HasWay (record { jumped = becomes a imm (known_kind s r k v); passed = known_other s k v })
 kind_or_other s a imm r None v = refl
-kind_or_other s a imm r (Some k) (Word m) = refl
-kind_or_other s a imm r (Some k) (KindOf q) = refl
-kind_or_other s a imm r (Some k) (RightsOf q) = refl
 kind_or_other s a imm r (Some k) (Has maybe None q) = refl
 kind_or_other s a imm r (Some k) (Has maybe (Some j) q) = by maybe (same_kind k j) (refined s r (Has false (Some k) q))
   where
@@ -66,6 +46,7 @@ kind_or_other s a imm r (Some k) (Has maybe (Some j) q) = by maybe (same_kind k 
     by m true u = refl
     by true false u = refl
     by false false u = refl
+kind_or_other s a imm r (Some k) _ = refl
 
 kind_on : (s : State) (a imm r : ℕ) → HasWay (kind_ways s a imm r)
 kind_on s a imm r = by (eqb imm 0)
@@ -98,9 +79,7 @@ equal_on s a imm (Word m) = by (ltb m (capped imm)) (eqb m 0 && eqb imm 0) (apar
 
 zero_on : (s : State) (a : ℕ) (v : AbsVal) → IfOk (zero_ways s a v) HasWay
 zero_on s a (Has maybe k r) = or_true _
-zero_on s a (Word m) = equal_on s a 0 (Word m)
-zero_on s a (KindOf r) = equal_on s a 0 (KindOf r)
-zero_on s a (RightsOf r) = equal_on s a 0 (RightsOf r)
+zero_on s a v = equal_on s a 0 v
 
 below_on : (s : State) (a imm : ℕ) → IfOk (below_ways s a imm) HasWay
 below_on s a imm = one HasWay s a _ (λ m. either (eqb imm 0) (ltb m imm) s _ (apart m imm))
@@ -172,10 +151,9 @@ unfolding rule_with
 rule_on bounds i n s e = by (instr_at i n) e
   where
     by : (o : Option Instr) → is_pause (call_in o) ≡ false → IfOk (rule_by bounds i n s o) IsThere
-    by None h = tt
     by (Some (instr.Local x)) h = edges_on (length i.code) n (target_of x) (local_rule bounds i x s) (local_on bounds i x s)
     by (Some (instr.Call x)) h = edges_on (length i.code) n 0 (call_rule bounds i x s) (call_on bounds i x s h)
-    by (Some (instr.Unknown bytes)) h = tt
+    by _ h = tt
 
 -- where the rule holds of what is no pause, an edge is followed
 pub leads_on : (i : Image) (n : ℕ) (s : State) (es : List Edge) → is_pause (call_at i n) ≡ false → rule i n s ≡ Ok es → es ≢ []

@@ -1,19 +1,11 @@
 -- What comes of a block: it leads to the states of every typing above its own, and to fine states.
-use Rattle.std.proofs.Common.{◌≡◌, ℕ, zero, suc, ◌+◌, ◌-◌, ◌<◌, ◌≤◌, List, [], ◌∷◌, length, Option, Some, None, refl, sym, ap, ◌∙◌, subst, IsTrue, arith}
-use Rattle.std.specs.Prelude.{Ok, Err, IfOk, slice_get}
-use Rattle.std.specs.Option.{option_map, option_and_then}
-use Rattle.zl_code.specs.Image.{Image}
-use Rattle.zl_code.specs.Spells.{is_in_range}
-use Rattle.zl_abs.specs.States.{State}
-use Rattle.zl_abs.specs.Bounds.{bounds_of}
-use Rattle.zl_abs.specs.Rule.{and_then, Edge}
-use Rattle.zl_abs.specs.Fine.{IsFine, AllFine}
-use Rattle.zl_abs.specs.Typing.{rule, IsAbove, AllLead, Holds, IsTyping}
-use Rattle.zl_abs.proofs.FineRules.{rule_fine}
-use Rattle.zl_verify.specs.Lists.{at}
-use Rattle.zl_verify.specs.Search.{Table, raised, raised_all, turned_over}
-use Rattle.zl_verify.specs.Blocks.{Blocks, AreBlocks, start_of, start_or, Out, leaves_last, leaves_first, leaves, out, out_from, block, Went, went_last}
-use Rattle.zl_verify.specs.Blocks.{went_first, went, stepped}
+use Rattle.zl_verify.proofs.Common.{◌≡◌, ℕ, zero, suc, ◌+◌, ◌-◌, ◌<◌, ◌≤◌, List, [], ◌∷◌, length, Option, Some, None, refl, sym, ap, ◌∙◌, subst, IsTrue, arith}
+use Rattle.zl_verify.proofs.Common.{Ok, Err, IfOk, slice_get, option_map, option_and_then, Image, is_in_range, State, bounds_of, and_then, Edge, IsFine}
+use Rattle.zl_verify.proofs.Common.{AllFine, rule, IsAbove, AllLead, IsTyping, rule_fine, at, raised, raised_all, turned_over, Blocks, AreBlocks, start_of, Out}
+use Rattle.zl_verify.proofs.Common.{leaves_last, leaves_first, leaves, out, out_from, block}
+use Rattle.zl_abs.specs.Typing.{Holds}
+use Rattle.zl_verify.specs.Search.{Table}
+use Rattle.zl_verify.specs.Blocks.{start_or, Went, went_last, went_first, went, stepped}
 use Rattle.zl_verify.proofs.Places.{there}
 use Rattle.zl_verify.proofs.Parting.{AreParted, rule_parted}
 use Rattle.zl_verify.proofs.Lowers.{typed_at, inside}

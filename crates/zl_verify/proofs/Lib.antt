@@ -1,3 +1,6 @@
+pub mod Common
+pub mod Waking
+pub mod CallEnds
 pub mod Places
 pub mod Numbering
 pub mod Rising

@@ -1,43 +1,17 @@
 -- The law of the local steps of a process that conforms.
-use Rattle.std.proofs.Common.{◌≡◌, ◌≢◌, ℕ, zero, suc, ◌+◌, ◌⊎◌, Bool, true, false, List, [], ◌∷◌, ◌++◌, length, refl, sym, ap, ◌∙◌, subst, IsTrue, Option, Some}
-use Rattle.std.proofs.Common.{None, Result, Ok, Err, IfSome, inl, inr}
-use Rattle.std.specs.Prelude.{if◌then◌else◌, is_some, slice_get, nat_lt}
-use Rattle.std.specs.List.{list_all}
-use Rattle.zl_rights.specs.Common.{bits, within, default_rights_of, get, World, Cpu, Process, Ready}
-use Rattle.zl_rights.specs.Numbers.{KNOWN_RIGHTS}
-use Rattle.zl_rights.specs.declared.entry.Entry.{Entry}
-use Rattle.zl_rights.specs.declared.kind.Kind.{Kind}
-use Rattle.zl_rights.specs.declared.kind.Kind.TheVariants as kind
-use Rattle.zl_rights.specs.declared.policy.Condition.{Condition}
-use Rattle.zl_code.specs.declared.instr.Instr.{Instr}
-use Rattle.zl_code.specs.declared.instr.Instr.TheVariants as instr
-use Rattle.zl_code.specs.declared.instr.LocalInstr.{LocalInstr}
-use Rattle.zl_code.specs.declared.instr.CallInstr.{CallInstr}
-use Rattle.zl_code.specs.Image.{Image, instr_at, call_at, is_among}
-use Rattle.zl_code.specs.Spells.{is_in_range, is_instr_in_range, is_local_in_range}
-use Rattle.zl_code.specs.Local.{local_effect}
-use Rattle.zl_code.specs.Request.{Site, site_of}
-use Rattle.zl_code.specs.Steps.{Next, Moves, IsStuck, moves, calls_at, next_of, next_at}
-use Rattle.zl_code.specs.Effects.{on_process}
-use Rattle.zl_code.specs.Operands.{creates}
-use Rattle.zl_code.specs.Handles.{HandlesAreSound}
-use Rattle.zl_code.specs.declared.history.CallName.{CallName}
-use Rattle.zl_code.proofs.ImageRanges.{ranges}
-use Rattle.zl_abs.specs.declared.cause.Cause.{Cause}
-use Rattle.zl_abs.specs.declared.cause.Cause.TheVariants as cause
-use Rattle.zl_abs.specs.States.{State}
-use Rattle.zl_abs.specs.Bounds.{bounds_of}
-use Rattle.zl_abs.specs.Rule.{and_then, Edge, edge_to, edges}
-use Rattle.zl_abs.specs.LocalRules.{local_rule}
-use Rattle.zl_abs.specs.CallRules.{call_rule}
+use Rattle.zl_verify.proofs.Common.{◌≡◌, ◌≢◌, ℕ, zero, suc, ◌+◌, ◌⊎◌, Bool, true, false, List, [], ◌∷◌, ◌++◌, length, refl, sym, ap, ◌∙◌, subst, IsTrue, Option}
+use Rattle.zl_verify.proofs.Common.{Some, None, Result, Ok, Err, IfSome, inl, inr, if◌then◌else◌, is_some, slice_get, nat_lt, list_all, bits, within}
+use Rattle.zl_verify.proofs.Common.{default_rights_of, get, World, Cpu, Process, Ready, KNOWN_RIGHTS, Entry, Kind, Condition, Instr, LocalInstr, CallInstr}
+use Rattle.zl_verify.proofs.Common.{Image, instr_at, call_at, is_among, is_in_range, is_instr_in_range, is_local_in_range, local_effect, Site, site_of, Next}
+use Rattle.zl_verify.proofs.Common.{Moves, IsStuck, moves, calls_at, next_of, next_at, on_process, creates, HandlesAreSound, CallName, ranges, Cause, State}
+use Rattle.zl_verify.proofs.Common.{bounds_of, and_then, Edge, edge_to, edges, local_rule, call_rule, target_of, rule_by, rule_with, IsAbove, IsTyping}
+use Rattle.zl_verify.proofs.Common.{RuleHolds, both, within_trans, targets_of, leads, OneOf, Table, Holds, IsMemory, WaitsAt, Conforms}
 use Rattle.zl_abs.specs.Outcome.{Outcome}
-use Rattle.zl_abs.specs.Typing.{target_of, rule_by, rule_with, IsAbove, IsTyping}
-use Rattle.zl_abs.specs.Typing.{Holds as RuleHolds}
-use Rattle.zl_abs.proofs.Order.{both, within_trans}
-use Rattle.zl_verify.specs.Steps.{targets_of, leads, OneOf}
-use Rattle.zl_verify.specs.Conforms.{Table, Holds, IsMemory, WaitsAt, Conforms}
 use Rattle.zl_verify.specs.Covered.{StandsBy, IsAble}
 use Rattle.zl_verify.specs.LocalLaws.{GoesOn}
+use Rattle.zl_rights.specs.declared.kind.Kind.TheVariants as kind
+use Rattle.zl_code.specs.declared.instr.Instr.TheVariants as instr
+use Rattle.zl_abs.specs.declared.cause.Cause.TheVariants as cause
 use Rattle.zl_verify.proofs.Weakening.{weaken}
 use Rattle.zl_verify.proofs.Refining.{Known}
 use Rattle.zl_verify.proofs.Agreeing.{Arrives, agrees}
@@ -172,10 +146,9 @@ module _ (i : Image) (t : ℕ → Option State) (range : IsTrue (is_in_range i))
       no_move call (Some s) e = cc
 
       by : (o : Option Instr) → instr_at i c0.counter ≡ o → next_of o c0 ≡ Moves c → OneOf (λ n. c.counter ≡ n) (leads i t c0.counter) × StandsBy i t f c
-      by None is e = cc
       by (Some (instr.Local x)) is e = one x is (local_effect x c0) refl e
       by (Some (instr.Call x)) is e = absurd (no_move x.name (site_of x c0) e)
-      by (Some (instr.Unknown bytes)) is e = cc
+      by _ is e = cc
 
   call_goes : (x : CallInstr) → instr_at i c0.counter ≡ Some (instr.Call x) → (o : Option Site) → site_of x c0 ≡ o → calls_at x.name o ≢ IsStuck
   call_goes x is (Some s) site e = cc

@@ -1,34 +1,17 @@
 -- The edges that are followed from an instruction, at any state, are among those of the code alone, so what bounds
 -- these bounds those.
-use Rattle.std.proofs.Common.{◌≡◌, ◌≢◌, ℕ, ◌+◌, ◌<◌, ◌≤◌, Bool, true, false, List, [], ◌∷◌, ◌++◌, map, length, Option, Some, None, Result, Ok, Err, IfOk, refl}
-use Rattle.std.proofs.Common.{sym, ap, ◌∙◌, subst, ◌⊎◌, inl, inr, arith}
-use Rattle.std.specs.Prelude.{nat_lt, slice_set, if◌then◌else◌}
-use Rattle.std.specs.List.{position}
-use Rattle.std.specs.Option.{option_to_list}
-use Rattle.std.proofs.lemmas.Bool.Decides.{nat_tests}
-use Rattle.std.proofs.Math.ListN.{length-set}
-use Rattle.zl_code.specs.declared.instr.Instr.{Instr}
-use Rattle.zl_code.specs.declared.instr.Instr.TheVariants as instr
-use Rattle.zl_code.specs.declared.instr.LocalInstr.{LocalInstr}
-use Rattle.zl_code.specs.declared.instr.LocalInstr.TheVariants as local
-use Rattle.zl_code.specs.declared.instr.CallInstr.{CallInstr}
-use Rattle.zl_code.specs.Spells.{local_parts}
-use Rattle.zl_code.specs.Image.{Image, instr_at, local_in, local_at, call_at}
-use Rattle.zl_abs.specs.declared.cause.Cause.{Cause}
-use Rattle.zl_abs.specs.declared.cause.Cause.TheVariants as cause
+use Rattle.zl_verify.proofs.Common.{◌≡◌, ◌≢◌, ℕ, ◌+◌, ◌<◌, ◌≤◌, Bool, true, false, List, [], ◌∷◌, ◌++◌, map, length, Option, Some, None, Result, Ok, Err, IfOk}
+use Rattle.zl_verify.proofs.Common.{refl, sym, ap, ◌∙◌, subst, ◌⊎◌, inl, inr, arith, nat_lt, slice_set, if◌then◌else◌, position, option_to_list, nat_tests}
+use Rattle.zl_verify.proofs.Common.{length-set, Instr, LocalInstr, CallInstr, local_parts, Image, instr_at, local_in, call_at, Cause, State, bounds_of}
+use Rattle.zl_verify.proofs.Common.{and_then, passes, Edge, edge_to, edges, local_rule, uses_of, state_after, goes_on, stops, call_rule, target_of, rule_by}
+use Rattle.zl_verify.proofs.Common.{rule_with, rule, at, is_pause, targets_of, leads_by, IsBelow, AllBelow, places, places_by, places_at, AllInside, IsClosed}
+use Rattle.zl_verify.proofs.Common.{AreNumbers, is_over, unless_pause, jump_in, AreAhead, Targets}
+use Rattle.zl_code.specs.Image.{local_at}
 use Rattle.zl_abs.specs.Outcome.{Outcome}
-use Rattle.zl_abs.specs.States.{State}
-use Rattle.zl_abs.specs.Bounds.{bounds_of}
-use Rattle.zl_abs.specs.Rule.{and_then, passes, Edge, edge_to, edges}
-use Rattle.zl_abs.specs.LocalRules.{local_rule}
-use Rattle.zl_abs.specs.CallRules.{uses_of, state_after, goes_on, stops, call_rule}
-use Rattle.zl_abs.specs.Typing.{target_of, rule_by, rule_with, rule}
-use Rattle.zl_verify.specs.Lists.{at}
-use Rattle.zl_verify.specs.Steps.{is_pause, targets_of, leads_by, IsBelow, AllBelow}
-use Rattle.zl_verify.specs.Numbers.{places, places_by, places_at, AllInside, IsClosed, AreNumbers, is_over}
-use Rattle.zl_verify.specs.Leading.{unless_pause}
-use Rattle.zl_verify.specs.Ahead.{jump_in, place_within, onward, ahead, AreAhead, BoundsAll}
-use Rattle.zl_verify.specs.declared.steps.Targets.{Targets}
+use Rattle.zl_verify.specs.Ahead.{place_within, onward, ahead, BoundsAll}
+use Rattle.zl_code.specs.declared.instr.Instr.TheVariants as instr
+use Rattle.zl_code.specs.declared.instr.LocalInstr.TheVariants as local
+use Rattle.zl_abs.specs.declared.cause.Cause.TheVariants as cause
 use Rattle.zl_verify.proofs.Places.{get_put, get_put_other, get_past, equal_or_not, below_or_not, mapped}
 use Rattle.zl_verify.proofs.PassingOn.{then_on, passes_on}
 use Rattle.zl_verify.proofs.Bounding.{all_under}
@@ -116,11 +99,10 @@ module _ (steps : ℕ → Option ℕ) (k : ℕ) where
   rule_ahead i n s = by (instr_at i n)
     where
       by : (o : Option Instr) → AllBelow steps k (onward i n (local_in o)) → AllBelow steps k (targets_of (rule_by (bounds_of i.code) i n s o))
-      by None g = tt
       by (Some (instr.Local x)) g =
           through (length i.code) n (jump_in (Some x)) (target_of x) (local_rule (bounds_of i.code) i x s) (local_suits (bounds_of i.code) i x s) g
       by (Some (instr.Call x)) g = through (length i.code) n None 0 (call_rule (bounds_of i.code) i x s) (call_suits (bounds_of i.code) i x s) g
-      by (Some (instr.Unknown bytes)) g = tt
+      by _ g = tt
 
   leads_ahead : (i : Image) (n : ℕ) (o : Option State) → AllBelow steps k (ahead i n) → AllBelow steps k (leads_by i n o)
   leads_ahead i n None g = tt

@@ -1,22 +1,11 @@
 -- A typing's rules hold at each state below its own.
-use Rattle.std.proofs.Common.{◌≡◌, ℕ, ◌<◌, ◌≤◌, List, [], ◌∷◌, Option, Some, None, refl, sym, subst, IsTrue, length, ◌⊎◌, inl, inr}
-use Rattle.std.specs.Prelude.{Result, Ok, Err}
-use Rattle.zl_code.specs.Image.{Image}
-use Rattle.zl_abs.specs.declared.cause.Cause.{Cause}
-use Rattle.zl_abs.specs.declared.cause.Cause.TheVariants as cause
-use Rattle.zl_abs.specs.States.{State, all_below}
-use Rattle.zl_abs.specs.Rule.{Edge}
-use Rattle.zl_abs.specs.Bounds.{bounds_of}
-use Rattle.zl_abs.specs.Laws.{IsAmong, AreAmong, RuleBelow}
-use Rattle.zl_abs.specs.Typing.{rule, IsAbove, AllLead, Holds, IsTyping}
-use Rattle.zl_abs.proofs.RuleLowering.{rule_below}
+use Rattle.zl_verify.proofs.Common.{◌≡◌, ℕ, ◌<◌, ◌≤◌, List, [], ◌∷◌, Option, Some, None, refl, sym, subst, length, ◌⊎◌, inl, inr, Result, Ok, Err, Image, Cause}
+use Rattle.zl_verify.proofs.Common.{State, Edge, bounds_of, IsAmong, AreAmong, RuleBelow, rule, IsAbove, AllLead, IsTyping, rule_below}
+use Rattle.zl_abs.specs.Typing.{Holds}
 use Rattle.zl_abs.proofs.RuleSteps.{nothing_there}
-use Rattle.zl_abs.proofs.StateOrder.{all_below_trans}
+use Rattle.zl_abs.specs.declared.cause.Cause.TheVariants as cause
 use Rattle.zl_verify.proofs.Places.{below_or_not}
-
-above_trans : (o : Option State) (s t : State) → IsTrue (all_below s t) → IsAbove o t → IsAbove o s
-above_trans None s t h k = k
-above_trans (Some u) s t h k = all_below_trans s t u h k
+use Rattle.zl_verify.proofs.Rising.{above_trans}
 
 -- ---- a typing at a state below its own
 

@@ -1,14 +1,9 @@
 -- What is marked and numbered makes the blocks of an image.
-use Rattle.std.proofs.Common.{◌≡◌, ◌≢◌, ℕ, zero, suc, ◌+◌, ◌<◌, ◌≤◌, Bool, true, false, List, [], ◌∷◌, ◌++◌, length, Option, Some, None, refl, sym, ap, ◌∙◌}
-use Rattle.std.proofs.Common.{subst, ◌⊎◌, inl, inr, arith}
-use Rattle.std.specs.Prelude.{slice_get, slice_set, replicate}
-use Rattle.std.proofs.lemmas.Option.{same_Some}
-use Rattle.std.proofs.Math.ListN.{length-set, length-replicate}
-use Rattle.zl_code.specs.Image.{Image}
+use Rattle.zl_verify.proofs.Common.{◌≡◌, ◌≢◌, ℕ, zero, suc, ◌+◌, ◌<◌, ◌≤◌, Bool, true, false, List, [], ◌∷◌, ◌++◌, length, Option, Some, None, refl, sym, ap}
+use Rattle.zl_verify.proofs.Common.{◌∙◌, subst, ◌⊎◌, inl, inr, arith, slice_get, slice_set, replicate, same_Some, length-set, length-replicate, Image, at}
+use Rattle.zl_verify.proofs.Common.{Blocks, AreBlocks, AreMarked, AreNumbered, none-some}
 use Rattle.zl_abs.specs.Targets.{jump_of}
-use Rattle.zl_verify.specs.Lists.{within, at}
-use Rattle.zl_verify.specs.Blocks.{Blocks, AreBlocks}
-use Rattle.zl_verify.specs.Marks.{AreMarked, AreNumbered}
+use Rattle.zl_verify.specs.Lists.{within}
 use Rattle.zl_verify.proofs.Places.{get_put, get_put_other, equal_or_not, there}
 
 pub same_past : {X : Type 0} (xs : List X) (n : ℕ) (v : X) → length xs ≤ n → xs ≡ slice_set xs n v
@@ -65,14 +60,11 @@ nothing zero m = refl
 nothing (suc n) zero = refl
 nothing (suc n) (suc m) = nothing n m
 
-none_some : (x : ℕ) → None ≡ Some x → ⊥
-none_some x e = cc
-
 pub numbers_begin : (begins : List Bool) → AreNumbered begins (replicate (length begins) None) [] 0
 numbers_begin begins = record {
   long = length-replicate {A = Option ℕ} (length begins) None;
   few = omega arith;
-  begin = λ n b e. absurd (none_some b (sym (nothing (length begins) n) ∙ e));
+  begin = λ n b e. absurd (none-some b (sym (nothing (length begins) n) ∙ e));
   all = λ n h. absurd (omega arith);
   first = λ h. absurd (omega arith);
 }
@@ -122,7 +114,7 @@ numbers_more begins numbers starts p a inside = record {
     begin n b e (inr d) = get_before starts p b n (a.begin n b (sym (other n d) ∙ e))
 
     all : (n : ℕ) → n < p + 1 → slice_get begins n ≡ Some true → (p ≡ n) ⊎ (p ≢ n) → at (slice_set numbers p (Some (length starts))) n ≡ None → ⊥
-    all n h on (inl q) none = none_some (length starts) (sym (subst (λ (x : ℕ). at (slice_set numbers p (Some (length starts))) x ≡ None) (sym q) none) ∙ put)
+    all n h on (inl q) none = none-some (length starts) (sym (subst (λ (x : ℕ). at (slice_set numbers p (Some (length starts))) x ≡ None) (sym q) none) ∙ put)
     all n h on (inr d) none = a.all n (omega arith) on (sym (other n d) ∙ none)
 
     first : slice_get begins 0 ≡ Some true → (p ≡ 0) ⊎ (p ≢ 0) → at (slice_set numbers p (Some (length starts))) 0 ≡ Some 0

@@ -1,13 +1,8 @@
 -- Numbers that are read from the data memory, and bytes that are written to it.
-use Rattle.std.proofs.Common.{◌≡◌, ℕ, zero, suc, ◌+◌, ◌*◌, ◌<◌, ◌≤◌, List, [], ◌∷◌, ◌++◌, length, take, drop, arith, slice_index}
-use Rattle.std.specs.Prelude.{◌/◌}
-use Rattle.std.proofs.Math.Nat.{mod-lt}
+use Rattle.zl_verify.proofs.Common.{◌≡◌, ℕ, zero, suc, ◌+◌, ◌*◌, ◌<◌, ◌≤◌, List, [], ◌∷◌, ◌++◌, length, take, drop, arith, slice_index, ◌/◌, mod-lt, Image}
+use Rattle.zl_verify.proofs.Common.{number_of, bytes_of, overwritten, IsMemory}
 use Rattle.std.proofs.lemmas.List.{length-take, length-drop, length-append, get_or-drop}
-use Rattle.zl_code.specs.Image.{Image}
-use Rattle.zl_code.specs.Spells.{number_of, bytes_of}
-use Rattle.zl_code.specs.Local.{overwritten}
 use Rattle.zl_code.proofs.ImageBytes.{length-bytes_of}
-use Rattle.zl_verify.specs.Conforms.{IsMemory}
 
 abbrev pub AreBytes : List ℕ → Type 0
 AreBytes xs = (k : ℕ) → slice_index xs k < 256

@@ -1,20 +1,14 @@
 -- A handle moves from one register to another, or is exchanged with one in a slot array.
-use Rattle.std.proofs.Common.{◌≡◌, ◌≢◌, ℕ, zero, suc, ◌+◌, ◌<◌, ◌≤◌, ◌⊎◌, Bool, true, false, ◌==◌, List, [], ◌∷◌, map, length, refl, sym, ap, ◌∙◌, subst}
-use Rattle.std.proofs.Common.{Option, Some, arith, inl, inr, slice_set, slice_index}
-use Rattle.std.proofs.lemmas.Option.{same_Some}
-use Rattle.std.specs.Prelude.{is_some, if◌then◌else◌, slice_get, slice_index_or}
-use Rattle.std.proofs.lemmas.Bool.{cases_Bool, cases_eq, eqb-true, eqb-false}
-use Rattle.std.proofs.lemmas.List.{get_or-set_same, get_or-set_other, length-set, length-map, map-set, set-get_or, get_or-map}
-use Rattle.zl_rights.specs.declared.entry.Entry.{Entry}
-use Rattle.zl_code.specs.declared.image.SlotArray.{SlotArray}
-use Rattle.zl_abs.specs.declared.value.AbsVal.{AbsVal}
-use Rattle.zl_abs.specs.declared.value.AbsVal.TheVariants.{Word, Has, KindOf, RightsOf}
-use Rattle.zl_abs.specs.Values.{ANY, is_has, untagged, retagged}
-use Rattle.zl_abs.specs.States.{State, IsState, value_at, with_value}
-use Rattle.zl_abs.specs.LocalRules.{may_move, moved, slot_value}
-use Rattle.zl_verify.specs.Conforms.{Table, kind_in, rights_in, IsHandle, Describes, one_if, is_it, owns, owners, keepers, place_at, Holds}
-use Rattle.zl_verify.proofs.Owners.{owns_free, owners-map, owners-set, owners-with, value_at-map, value_at-with, value_at-here, set_same, set_apart}
-use Rattle.zl_verify.proofs.Owners.{keepers-set}
+use Rattle.zl_verify.proofs.Common.{◌≡◌, ◌≢◌, ℕ, zero, suc, ◌+◌, ◌<◌, ◌≤◌, ◌⊎◌, Bool, true, false, ◌==◌, List, [], ◌∷◌, map, length, refl, sym, ap, ◌∙◌, subst}
+use Rattle.zl_verify.proofs.Common.{Option, Some, arith, inl, inr, slice_set, slice_index, same_Some, is_some, if◌then◌else◌, slice_get, slice_index_or}
+use Rattle.zl_verify.proofs.Common.{cases_Bool, cases_eq, eqb-true, eqb-false, get_or-set_same, get_or-set_other, length-map, Entry, SlotArray, AbsVal, Word}
+use Rattle.zl_verify.proofs.Common.{Has, KindOf, RightsOf, ANY, is_has, untagged, State, IsState, value_at, with_value, may_move, moved, Table, kind_in}
+use Rattle.zl_verify.proofs.Common.{rights_in, IsHandle, Describes, one_if, is_it, owns, owners, keepers, place_at, Holds}
+use Rattle.std.proofs.lemmas.List.{length-set, map-set, set-get_or, get_or-map}
+use Rattle.zl_abs.specs.Values.{retagged}
+use Rattle.zl_abs.specs.LocalRules.{slot_value}
+use Rattle.zl_verify.proofs.Owners.{by_register, owns_free, owners-map, owners-set, owners-with, value_at-map, value_at-with, value_at-here, set_same}
+use Rattle.zl_verify.proofs.Owners.{set_apart, keepers-set}
 use Rattle.zl_verify.proofs.Writing.{nothing_at_0, long_with, other_described}
 
 -- ---- take
@@ -22,16 +16,8 @@ use Rattle.zl_verify.proofs.Writing.{nothing_at_0, long_with, other_described}
 is_has-retagged : (b a : ℕ) (c : AbsVal) → is_has (retagged b a c) ≡ is_has c
 is_has-retagged b a (Word m) = refl
 is_has-retagged b a (Has maybe kind rights) = refl
-is_has-retagged b a (KindOf t) = by (t == b)
-  where
-    by : (x : Bool) → is_has (if x then KindOf a else KindOf t) ≡ false
-    by true = refl
-    by false = refl
-is_has-retagged b a (RightsOf t) = by (t == b)
-  where
-    by : (x : Bool) → is_has (if x then RightsOf a else RightsOf t) ≡ false
-    by true = refl
-    by false = refl
+is_has-retagged b a (KindOf t) = by_register (λ c. is_has c ≡ false) t b (KindOf a) (KindOf t) refl (λ apart. refl)
+is_has-retagged b a (RightsOf t) = by_register (λ c. is_has c ≡ false) t b (RightsOf a) (RightsOf t) refl (λ apart. refl)
 
 -- what moves is no tag
 stays : (a b : ℕ) (c : AbsVal) → may_move c ≡ true → retagged b a (untagged a c) ≡ c

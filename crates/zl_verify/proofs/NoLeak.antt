@@ -1,26 +1,16 @@
 -- The table of a process that conforms has just its handles, each in one place, and so it is in every run.
-use Rattle.std.proofs.Common.{◌≡◌, ℕ, zero, suc, ◌+◌, ◌<◌, ◌≤◌, Bool, true, false, ◌&&◌, ◌==◌, List, [], ◌∷◌, ◌++◌, length, refl, sym, ap, ◌∙◌, subst, Option}
-use Rattle.std.proofs.Common.{inl, inr, arith, ◌↔◌, ◌⊎◌}
-use Rattle.std.specs.Prelude.{nat_lt, if◌then◌else◌, slice_index_or, is_some}
-use Rattle.std.specs.List.{AllByRecursion, Contains, IsDistinct, concat, filter}
-use Rattle.std.proofs.lemmas.Bool.Decides.{nat_tests}
+use Rattle.zl_verify.proofs.Common.{◌≡◌, ℕ, zero, suc, ◌+◌, ◌<◌, ◌≤◌, Bool, true, false, ◌&&◌, ◌==◌, List, [], ◌∷◌, ◌++◌, length, refl, sym, ap, ◌∙◌, subst}
+use Rattle.zl_verify.proofs.Common.{Option, inl, inr, arith, ◌↔◌, ◌⊎◌, nat_lt, if◌then◌else◌, slice_index_or, is_some, AllByRecursion, Contains, IsDistinct}
+use Rattle.zl_verify.proofs.Common.{filter, nat_tests, sum_by-cons, same_Some, get, World, Process, has_ended, Image, is_in_range, is_has, State, IsTyping}
+use Rattle.zl_verify.proofs.Common.{one_if, is_it, owns, owners, keepers, Conforms, values_in_registers, values_in_slots, handle_values, HoldsJustItsHandles}
+use Rattle.zl_verify.proofs.Common.{IsUnderWay, HasEnded, eq-eqb}
+use Rattle.std.specs.List.{concat}
 use Rattle.std.proofs.lemmas.List.Elements.{filter-append}
-use Rattle.std.proofs.lemmas.List.Sums.{sum_by-cons}
-use Rattle.std.proofs.lemmas.Option.{same_Some}
-use Rattle.zl_rights.specs.Common.{get, lives, World, Process, Ended}
-use Rattle.zl_rights.specs.World.{State as Life}
-use Rattle.zl_rights.specs.Signals.{has_ended}
-use Rattle.zl_code.specs.Image.{Image}
-use Rattle.zl_code.specs.Spells.{is_in_range}
-use Rattle.zl_abs.specs.Values.{is_has}
-use Rattle.zl_abs.specs.States.{State}
-use Rattle.zl_abs.specs.Typing.{IsTyping}
-use Rattle.zl_verify.specs.Conforms.{one_if, is_it, owns, owners, keepers, Conforms}
-use Rattle.zl_verify.specs.NoLeak.{values_in_registers, values_in_slots, handle_values, HoldsJustItsHandles, NeverLeaks}
-use Rattle.zl_verify.specs.RunLaws.{IsUnderWay, HasEnded}
+use Rattle.zl_verify.specs.NoLeak.{NeverLeaks}
 use Rattle.zl_verify.proofs.CheckedRuns.{stays_so}
 use Rattle.zl_verify.proofs.Headline.{in_range, started_under_way}
 use Rattle.zl_verify.proofs.Owners.{one_at_most, places_with}
+use Rattle.zl_verify.proofs.Woken.{not_over}
 
 -- ---- how often a number stands in a list
 
@@ -85,11 +75,8 @@ contained v (x ∷ xs) h = by (x == v) refl (contained v xs)
 counted_at : (v : ℕ) (xs : List ℕ) (k : ℕ) → k < length xs → slice_index_or xs k v ≡ v → 1 ≤ times v xs
 counted_at v [] k inside is = absurd (omega arith)
 counted_at v (x ∷ xs) zero inside is =
-    let here : one_if (x == v) ≡ 1 = rw is (itself v) in
+    let here : one_if (x == v) ≡ 1 = rw is (ap one_if (eq-eqb v v refl)) in
     omega arith
-  where
-    itself : (v : ℕ) → one_if (v == v) ≡ 1
-    itself v = grind (arith, nat_tests)
 counted_at v (x ∷ xs) (suc k) inside is = let n = counted_at v xs k (omega arith) is in omega arith
 
 apart_from : (v : ℕ) (xs : List ℕ) → times v xs ≡ 0 → AllByRecursion (λ x. (v == x) ≡ false) xs
@@ -139,11 +126,6 @@ holds_just_its_handles i t w p q k = record { state = k.state; stands = k.stands
         by false n h = absurd (omega arith)
 
 -- ---- every run
-
--- what has ended doesn't live
-not_over : (s : Life) → lives s ≡ true → has_ended s ≡ true → ⊥
-not_over (Ended code) l h = cc
-not_over _ l h = cc
 
 pub no_leak : (i : Image) (t : ℕ → Option State) → IsTyping i t → NeverLeaks i t
 no_leak i t typing lib statements boot w after items more p begins run started rest q there living =

@@ -1,17 +1,11 @@
 -- Numbers given backwards: what they say of the steps that can be made, and what one more number leaves.
-use Rattle.std.proofs.Common.{◌≡◌, ◌≢◌, ℕ, zero, suc, ◌+◌, ◌<◌, ◌≤◌, Bool, true, false, List, [], ◌∷◌, length, Option, Some, None, refl, sym, ap, ◌∙◌, subst}
-use Rattle.std.proofs.Common.{◌⊎◌, inl, inr, arith, leb, min}
-use Rattle.std.specs.Prelude.{◌-◌, is_some, get_or, slice_set, if◌then◌else◌}
-use Rattle.std.specs.Option.{option_map}
-use Rattle.std.proofs.lemmas.Bool.Decides.{nat_tests}
-use Rattle.std.proofs.lemmas.List.Sums.{sum_by-set}
-use Rattle.std.proofs.lemmas.Option.{same_Some, slice_get-get_or}
-use Rattle.std.proofs.Math.ListN.{length-set}
-use Rattle.zl_verify.specs.declared.steps.Targets.{Targets}
-use Rattle.zl_verify.specs.Steps.{IsBelow, AllBelow, OneOf, Follow}
-use Rattle.zl_verify.specs.Lists.{within, at}
-use Rattle.zl_verify.specs.Numbers.{larger, one_more, above_all, number_of, places, places_by, places_at, Given, IsStuckFrom, AllInside, IsClosed, AreNumbers}
-use Rattle.zl_verify.specs.Numbers.{unnumbered, one_if, one_if_none}
+use Rattle.zl_verify.proofs.Common.{◌≡◌, ◌≢◌, ℕ, zero, suc, ◌+◌, ◌<◌, ◌≤◌, Bool, true, false, List, [], ◌∷◌, length, Option, Some, None, refl, sym, ap, ◌∙◌}
+use Rattle.zl_verify.proofs.Common.{subst, ◌⊎◌, inl, inr, arith, min, ◌-◌, is_some, get_or, slice_set, if◌then◌else◌, option_map, nat_tests, sum_by-set}
+use Rattle.zl_verify.proofs.Common.{same_Some, slice_get-get_or, length-set, Targets, IsBelow, AllBelow, OneOf, Follow, at, places, places_by, places_at}
+use Rattle.zl_verify.proofs.Common.{AllInside, IsClosed, AreNumbers, unnumbered}
+use Rattle.std.proofs.Common.{leb}
+use Rattle.zl_verify.specs.Lists.{within}
+use Rattle.zl_verify.specs.Numbers.{larger, one_more, above_all, number_of, Given, IsStuckFrom, one_if, one_if_none}
 use Rattle.zl_verify.proofs.Places.{get_put, get_put_other, equal_or_not}
 
 -- ---- the number above those of some places

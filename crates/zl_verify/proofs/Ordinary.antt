@@ -1,19 +1,11 @@
 -- The listed answers of a call are answers, neither OK nor faults.
-use Rattle.std.proofs.Common.{◌≡◌, ℕ, Bool, true, false, List, [], ◌∷◌, refl, Option, Some, None}
-use Rattle.std.specs.List.{AllByRecursion}
-use Rattle.zl_rights.specs.Common.{World}
-use Rattle.zl_rights.specs.declared.status.Status.{Status}
+use Rattle.zl_verify.proofs.Common.{◌≡◌, ℕ, Bool, true, false, List, [], ◌∷◌, refl, Option, Some, None, AllByRecursion, World, Status, Outcome, first_some}
+use Rattle.zl_verify.proofs.Common.{Library, answer_if, Request, listed, dup, replace, chan_create, chan_write, chan_read_etc, event_create, eventpair_create}
+use Rattle.zl_verify.proofs.Common.{signal, signal_peer, wait_one, wait_poll, wait_async, port_create, port_queue, port_wait, port_poll, port_cancel}
+use Rattle.zl_verify.proofs.Common.{process_create, process_start, process_exit, task_kill, job_create, job_set_policy, is_fault}
+use Rattle.zl_code.specs.CallTable.{close}
 use Rattle.zl_rights.specs.declared.status.Status.TheVariants as status
-use Rattle.zl_code.specs.declared.history.Outcome.{Outcome}
 use Rattle.zl_code.specs.declared.history.Outcome.TheVariants as outcome
-use Rattle.zl_code.specs.First.{first_some}
-use Rattle.zl_code.specs.Image.{Library}
-use Rattle.zl_code.specs.Tests.{answer_if}
-use Rattle.zl_code.specs.CallTable.{Request, listed, close, dup, replace, chan_create, chan_write, chan_read_etc, event_create, eventpair_create, signal}
-use Rattle.zl_code.specs.CallTable.{signal_peer, wait_one}
-use Rattle.zl_code.specs.CallTable.{wait_poll, wait_async, port_create, port_queue, port_wait, port_poll, port_cancel, process_create, process_start}
-use Rattle.zl_code.specs.CallTable.{process_exit, task_kill, job_create, job_set_policy}
-use Rattle.zl_code.specs.Headline.{is_fault}
 
 abbrev pub is_good : Status → Bool
 is_good status.Ok = true

@@ -1,37 +1,15 @@
 -- What one process does leaves every other as it is, and as its typing says, or ends it.
-use Rattle.std.proofs.Common.{◌≡◌, ℕ, ◌<◌, Bool, true, false, ◌==◌, List, [], ◌∷◌, refl, ap, ◌∙◌, IsTrue, Option, Some, None, option_map, arith}
-use Rattle.std.specs.Prelude.{is_some}
-use Rattle.zl_rights.specs.declared.entry.Entry.{Entry}
-use Rattle.zl_rights.specs.declared.policy.Condition.{Condition}
-use Rattle.zl_rights.specs.declared.status.Status.{Status}
+use Rattle.zl_verify.proofs.Common.{◌≡◌, ℕ, ◌<◌, Bool, true, false, ◌==◌, List, [], ◌∷◌, refl, ap, ◌∙◌, IsTrue, Option, Some, None, option_map, arith, is_some}
+use Rattle.zl_verify.proofs.Common.{Entry, Condition, Status, STUCK, get, lives, runs, World, Process, Life, Created, Ended, KILLED, has_ended, Awaited}
+use Rattle.zl_verify.proofs.Common.{get-put, get-each, Outcome, TraceItem, Image, Library, is_among, is_in_range, object_at, creates, on_process, on_object}
+use Rattle.zl_verify.proofs.Common.{with_object, process_without, process_ended, insert_all, remove_all, ended, storing, waiting, is_created, created_process}
+use Rattle.zl_verify.proofs.Common.{started_with, is_within, process_killed, with_killed, refusal, IsSound, Request, process_create, process_start, task_kill}
+use Rattle.zl_verify.proofs.Common.{effect, new_handles, receiver_of, entering_at, stored_by, gives_ok, gives_refused, awaited_by, Site, taken_handles, taken}
+use Rattle.zl_verify.proofs.Common.{replied, with_effect, after_refusal, after_ok, ok_outcome, Next, Moves, AtCall, IsStuck, next_for, Acts, Step, left_behind}
+use Rattle.zl_verify.proofs.Common.{State, IsTyping, Conforms, IsFitStep, OthersLeave, left_so, was_killed, Calls}
 use Rattle.zl_rights.specs.declared.status.Status.TheVariants as status
-use Rattle.zl_rights.specs.Common.{STUCK, get, lives, runs, World, Process, State as Life, Created, Ended}
-use Rattle.zl_rights.specs.Numbers.{KILLED}
-use Rattle.zl_rights.specs.Signals.{has_ended}
-use Rattle.zl_rights.specs.World.{Awaited}
-use Rattle.zl_rights.proofs.MapLaws.{get-put, get-each}
-use Rattle.zl_code.specs.declared.history.Outcome.{Outcome}
 use Rattle.zl_code.specs.declared.history.Outcome.TheVariants as outcome
-use Rattle.zl_code.specs.declared.history.TraceItem.{TraceItem}
-use Rattle.zl_code.specs.Image.{Image, Library, is_among}
-use Rattle.zl_code.specs.Spells.{is_in_range}
-use Rattle.zl_code.specs.Tests.{object_at}
-use Rattle.zl_code.specs.Operands.{creates}
-use Rattle.zl_code.specs.Effects.{on_process, on_object, with_object, process_without, process_ended, insert_all, remove_all, ended, storing, waiting}
-use Rattle.zl_code.specs.Starting.{is_created, created_process, started_with}
-use Rattle.zl_code.specs.Jobs.{is_within, process_killed, with_killed}
-use Rattle.zl_code.specs.Refusals.{refusal}
-use Rattle.zl_code.specs.Sound.{IsSound}
-use Rattle.zl_code.specs.CallTable.{Request, process_create, process_start, task_kill, effect, new_handles, receiver_of, entering_at, stored_by, gives_ok}
-use Rattle.zl_code.specs.CallTable.{gives_refused, awaited_by}
-use Rattle.zl_code.specs.Request.{Site}
-use Rattle.zl_code.specs.Calls.{Choice, Refused, Wants, Values, CallBy, taken_handles, taken, replied, with_effect, after_refusal, after_ok, ok_outcome}
-use Rattle.zl_code.specs.Steps.{Next, Moves, AtCall, IsStuck, next_for, Acts, Step}
-use Rattle.zl_code.proofs.Entering.{left_behind}
-use Rattle.zl_abs.specs.States.{State}
-use Rattle.zl_abs.specs.Typing.{IsTyping}
-use Rattle.zl_verify.specs.Conforms.{Conforms}
-use Rattle.zl_verify.specs.WakeLaws.{IsFitStep, OthersLeave, left_so, was_killed}
+use Rattle.zl_verify.proofs.CallEnds.{call_ends}
 use Rattle.zl_verify.proofs.OwnTable.{changed_elsewhere, inserted_elsewhere}
 use Rattle.zl_verify.proofs.OwnEffect.{starts_created, no_child, other_koid, AreAlike, alike_then, same_objects, alike_after, same_policy}
 use Rattle.zl_verify.proofs.Woken.{lives_then, sound_before, ends_step}
@@ -161,20 +139,16 @@ module _ (lib : Library) (w : World) (p : ℕ) (caller : Process) (there : get w
     when_ok passes vs (outcome.Ended code) = when_ended _ code (when_done passes vs)
     when_ok passes vs outcome.Blocked = when_waiting t.destinations (awaited_by w p t.request)
 
-    when_called : (choice : Choice) (r : Option Outcome) → refusal lib w p t.request ≡ r → (answer : Outcome) (w2 : World) → CallBy lib w p t choice r answer w2
-        → LeavesOthers w2
-    when_called Refused None is answer w2 h = absurd h
-    when_called Refused (Some o) is answer w2 h = rw h.1 (when_refused t o)
-    when_called (Wants want) None is answer w2 h = rw h.2 (when_refused t (outcome.Answered want))
-    when_called (Wants want) (Some o) is answer w2 h = absurd h
-    when_called (Values vs) None is answer w2 h = rw h.2 (when_ok is vs (ok_outcome w p t.request))
-    when_called (Values vs) (Some o) is answer w2 h = absurd h
+    when_called : (answer : Outcome) (w2 : World) → Calls lib w p t answer w2 → LeavesOthers w2
+    when_called =
+        call_ends lib w p t (λ o v. LeavesOthers v) (λ o is. when_refused t o) (λ want may. when_refused t (outcome.Answered want))
+        (λ passes vs may. when_ok passes vs (ok_outcome w p t.request))
 
   when_acted : (n : Next) (x : TraceItem) (w2 : World) → Acts lib w p n x w2 → LeavesOthers w2
   unfolding on_process
   when_acted (Moves d) x w2 a =
       rw a.1 (then_p w (on_process w p (λ (y : Process). record y { cpu = d })) nothing_done (λ q apart. changed_elsewhere w p _ q apart) refl)
-  when_acted (AtCall called t) x w2 (o, e, h) = when_called t h.0 (refusal lib w p t.request) refl o w2 h.1
+  when_acted (AtCall called t) x w2 (o, e, h) = when_called t o w2 h
   when_acted IsStuck x w2 a = rw a.1 (when_ended w STUCK nothing_done)
 
 pub keys_below : (w : World) → IsSound w → (q : ℕ) (y : Process) → get w.processes q ≡ Some y → q < w.next_koid

@@ -1,49 +1,23 @@
 -- The law of a checked process's own call.
-use Rattle.std.proofs.Common.{◌≡◌, ℕ, ◌+◌, ◌⊎◌, Bool, true, false, not, List, [], ◌∷◌, length, refl, sym, ap, ◌∙◌, subst, IsTrue, Option, Some, None, Ok, inl}
-use Rattle.std.proofs.Common.{inr, arith, slice_index}
-use Rattle.std.specs.Prelude.{if◌then◌else◌, is_some, ℤ}
-use Rattle.std.specs.Bool.{then_some}
+use Rattle.zl_verify.proofs.Common.{◌≡◌, ℕ, ◌+◌, ◌⊎◌, Bool, true, false, not, List, [], ◌∷◌, length, refl, sym, ap, ◌∙◌, subst, IsTrue, Option, Some, None, Ok}
+use Rattle.zl_verify.proofs.Common.{inl, inr, arith, slice_index, if◌then◌else◌, is_some, ℤ, then_some, same_Some, answered, get, lives, World, Cpu, Process}
+use Rattle.zl_verify.proofs.Common.{Blocked, Awaited, SignalOf, Packet, status_magnitude, KILLED, Condition, Status, CallName, Outcome, CallInstr, Image}
+use Rattle.zl_verify.proofs.Common.{Library, call_at, call_in, is_among, is_in_range, HandlesAreSound, AtCall, IsStuck, next_at, reg, on_process, waiting}
+use Rattle.zl_verify.proofs.Common.{object_at, creates, by_policy, examined, packets_at, Request, name_of, process_exit, task_kill, listed, entering_at}
+use Rattle.zl_verify.proofs.Common.{stored_by, gives_ok, gives_refused, awaited_by, ends_caller, outcome_of, is_within, condition_of, handle_operands, refusal}
+use Rattle.zl_verify.proofs.Common.{Site, site, site_of, Calls, Refused, Wants, Values, may_want, taken_handles, may_choose, taken, cpu_answered, replied}
+use Rattle.zl_verify.proofs.Common.{with_effect, after_refusal, after_ok, is_fault, asks_again, left_behind, State, with_all, and_then, edges, passes}
+use Rattle.zl_verify.proofs.Common.{bounds_of, Uses, uses_of, goes_on, stops, rule_with, IsTyping, targets_of, OneOf, Holds, IsMemory, waits_for, WaitsAt}
+use Rattle.zl_verify.proofs.Common.{Conforms, StandsAtCall, ends_of, IsAnswered, IsWaiting, IsOwnEnd, exits, kills}
 use Rattle.std.proofs.lemmas.Bool.{false≢true}
-use Rattle.std.proofs.lemmas.Option.{same_Some}
-use Rattle.zl_rights.specs.Common.{answered, get, lives, World, Cpu, Process, Blocked}
-use Rattle.zl_rights.specs.World.{Awaited, SignalOf, Packet}
-use Rattle.zl_rights.specs.Numbers.{status_magnitude, KILLED}
-use Rattle.zl_rights.specs.declared.policy.Condition.{Condition}
-use Rattle.zl_rights.specs.declared.status.Status.{Status}
+use Rattle.zl_code.specs.Effects.{signed_word}
+use Rattle.zl_code.specs.Waiting.{is_active_at, packet_awaited}
+use Rattle.zl_code.specs.Calls.{wanted}
+use Rattle.zl_verify.specs.CallLaws.{CanCall}
 use Rattle.zl_rights.specs.declared.status.Status.TheVariants as status
-use Rattle.zl_code.specs.declared.history.CallName.{CallName}
 use Rattle.zl_code.specs.declared.history.CallName.TheVariants as name
-use Rattle.zl_code.specs.declared.history.Outcome.{Outcome}
 use Rattle.zl_code.specs.declared.history.Outcome.TheVariants as outcome
-use Rattle.zl_code.specs.declared.instr.CallInstr.{CallInstr}
-use Rattle.zl_code.specs.Image.{Image, Library, call_at, call_in, is_among}
-use Rattle.zl_code.specs.Spells.{is_in_range}
-use Rattle.zl_code.specs.Handles.{HandlesAreSound}
-use Rattle.zl_code.specs.Steps.{AtCall, IsStuck, next_at}
-use Rattle.zl_code.specs.Local.{reg}
-use Rattle.zl_code.specs.Effects.{signed_word, on_process, waiting}
-use Rattle.zl_code.specs.Tests.{object_at}
-use Rattle.zl_code.specs.Operands.{creates, by_policy, examined}
-use Rattle.zl_code.specs.Waiting.{is_active_at, packet_awaited, packets_at}
-use Rattle.zl_code.specs.CallTable.{Request, name_of, process_exit, task_kill, listed, entering_at, stored_by, gives_ok, gives_refused, awaited_by, ends_caller}
-use Rattle.zl_code.specs.CallTable.{outcome_of}
-use Rattle.zl_code.specs.Jobs.{is_within}
-use Rattle.zl_code.specs.Refusals.{condition_of, handle_operands, refusal}
-use Rattle.zl_code.specs.Request.{Site, site, site_of}
-use Rattle.zl_code.specs.Calls.{Calls, CallBy, Choice, Refused, Wants, Values, may_want, wanted, taken_handles, may_choose, taken, cpu_answered}
-use Rattle.zl_code.specs.Calls.{replied, with_effect}
-use Rattle.zl_code.specs.Calls.{after_refusal, after_ok}
-use Rattle.zl_code.specs.Headline.{is_fault}
-use Rattle.zl_code.proofs.CallRows.{asks_again}
-use Rattle.zl_code.proofs.Entering.{left_behind}
-use Rattle.zl_abs.specs.States.{State, with_all}
-use Rattle.zl_abs.specs.Rule.{and_then, edges, passes}
-use Rattle.zl_abs.specs.Bounds.{bounds_of}
-use Rattle.zl_abs.specs.CallRules.{Uses, uses_of, goes_on, stops}
-use Rattle.zl_abs.specs.Typing.{rule_with, IsTyping}
-use Rattle.zl_verify.specs.Steps.{targets_of, OneOf}
-use Rattle.zl_verify.specs.Conforms.{Holds, IsMemory, waits_for, WaitsAt, Conforms}
-use Rattle.zl_verify.specs.CallLaws.{StandsAtCall, ends_of, IsAnswered, IsWaiting, IsOwnEnd, exits, kills, CanCall}
+use Rattle.zl_verify.proofs.CallEnds.{call_ends}
 use Rattle.zl_verify.proofs.Writing.{nothing_at_0}
 use Rattle.zl_verify.proofs.Refining.{Known}
 use Rattle.zl_verify.proofs.LocalSteps.{reached, not_stuck}
@@ -88,7 +62,6 @@ only_exits lib w p n cs ds answer w2 (Wants want, h) = absurd (no_want want h.0)
   where
     no_want : (a : Status) → wanted false false a ≡ true → ⊥
     no_want status.NoMemory e = false≢true e
-    no_want status.NoResources e = false≢true e
     no_want _ e = false≢true e
 only_exits lib w p n cs ds answer w2 (Values vs, h) = h.1
 
@@ -261,8 +234,7 @@ module _ (i : Image) (t : ℕ → Option State) (w : World) (p : ℕ) (q : Proce
 
     by_refusal : (o : Outcome) → IsOrdinary (Some o) → Ends o (after_refusal w p s o)
     by_refusal (outcome.Answered answer) (fine, bad) = (fine, after_refused answer bad)
-    by_refusal outcome.Blocked h = absurd h
-    by_refusal (outcome.Ended code) h = absurd h
+    by_refusal _ h = absurd h
 
     -- a want is no fault
     by_want : (want : Status) → IsTrue (may_want w p s.request want) → Ends (outcome.Answered want) (after_refusal w p s (outcome.Answered want))
@@ -303,17 +275,10 @@ module _ (i : Image) (t : ℕ → Option State) (w : World) (p : ℕ) (q : Proce
     unfolding refusal
     refused_ordinary = rw (not_refused ruled.before, ruled.before.allowed) (first_ordinary (listed lib w p s.request) (listed_ordinary lib w p s.request))
 
-    by_choice : (choice : Choice) (r : Option Outcome) → refusal lib w p s.request ≡ r → IsOrdinary r → (answer : Outcome) (w2 : World)
-        → CallBy lib w p s choice r answer w2 → Ends answer w2
-    by_choice Refused None none o answer w2 h = absurd h
-    by_choice Refused (Some x) none o answer w2 (is, same) = rw (is, same) (by_refusal x o)
-    by_choice (Wants want) None none o answer w2 (may, is, same) = rw (is, same) (by_want want may)
-    by_choice (Wants want) (Some x) none o answer w2 h = absurd h
-    by_choice (Values vs) None none o answer w2 (may, is, same) = rw (is, same) (by_waiting none vs may (awaited_by w p s.request) refl)
-    by_choice (Values vs) (Some x) none o answer w2 h = absurd h
-
     promised_answering : (answer : Outcome) (w2 : World) → Calls lib w p s answer w2 → Ends answer w2
-    promised_answering answer w2 (choice, h) = by_choice choice (refusal lib w p s.request) refl refused_ordinary answer w2 h
+    promised_answering =
+        call_ends lib w p s Ends (λ o is. by_refusal o (subst IsOrdinary is refused_ordinary)) by_want
+        (λ none vs may. by_waiting none vs may (awaited_by w p s.request) refl)
 
   promised_exiting : (number : ℕ) → s.request ≡ process_exit number → (answer : Outcome) (w2 : World) → Calls lib w p s answer w2
       → Promised i t w p q called s answer w2

@@ -1,41 +1,20 @@
 -- What a call leaves of its caller, and of the policy that the caller is under.
-use Rattle.std.proofs.Common.{◌≡◌, ℕ, ◌+◌, ◌<◌, ◌≤◌, ◌⊎◌, Bool, true, false, ◌&&◌, ◌||◌, ◌==◌, List, [], ◌∷◌, refl, sym, ap, ◌∙◌, subst, Option, Some, None}
-use Rattle.std.proofs.Common.{option_map, arith, inl, inr}
-use Rattle.std.specs.Prelude.{is_some, if◌then◌else◌, unwrap_or, ℤ}
-use Rattle.std.specs.Bool.{then_some}
-use Rattle.std.proofs.lemmas.Bool.{cases_Bool, eqb-true}
-use Rattle.std.proofs.lemmas.Bool.Decides.{nat_tests}
-use Rattle.std.proofs.lemmas.Option.{none-some, same_Some}
-use Rattle.zl_rights.specs.Common.{condition_number, get, lives, is_process, World, Process, Ready, Object, Body, ChannelEnd, EventBody, PairEnd, PortBody}
-use Rattle.zl_rights.specs.Common.{JobBody}
-use Rattle.zl_rights.specs.Common.{ProcessBody}
-use Rattle.zl_rights.specs.Numbers.{KILLED}
-use Rattle.zl_rights.specs.Signals.{has_ended, has_child_job, has_child_process}
-use Rattle.zl_rights.specs.Policies.{Setting, setting_of}
-use Rattle.zl_rights.specs.World.{Message, Packet}
-use Rattle.zl_rights.specs.declared.entry.Entry.{Entry}
+use Rattle.zl_verify.proofs.Common.{◌≡◌, ℕ, ◌+◌, ◌<◌, ◌≤◌, ◌⊎◌, Bool, true, false, ◌||◌, ◌==◌, List, [], ◌∷◌, refl, sym, ap, ◌∙◌, subst, Option, Some, None}
+use Rattle.zl_verify.proofs.Common.{option_map, arith, inl, inr, is_some, if◌then◌else◌, unwrap_or, ℤ, then_some, cases_Bool, eqb-true, nat_tests, none-some}
+use Rattle.zl_verify.proofs.Common.{same_Some, condition_number, get, lives, is_process, World, Process, Ready, Object, Body, ChannelEnd, EventBody, PairEnd}
+use Rattle.zl_verify.proofs.Common.{PortBody, JobBody, ProcessBody, KILLED, has_ended, has_child_job, has_child_process, Setting, setting_of, Message, Packet}
+use Rattle.zl_verify.proofs.Common.{Entry, Condition, get-put, get-update, get-each, Library, object_at, body_in, body_of, parent_in, parent_of, policy_in}
+use Rattle.zl_verify.proofs.Common.{action_of, unless_allowed, creates, on_process, on_object, with_object, insert_all, storing, is_created, created_process}
+use Rattle.zl_verify.proofs.Common.{started_with, is_within, body_killed, object_killed, process_killed, with_killed, body_with_policy, job_within, Request}
+use Rattle.zl_verify.proofs.Common.{chan_create, chan_write, chan_read_etc, event_create, eventpair_create, signal, signal_peer, port_create, port_queue}
+use Rattle.zl_verify.proofs.Common.{port_wait, port_poll, port_cancel, process_create, process_start, process_exit, task_kill, job_create, job_set_policy}
+use Rattle.zl_verify.proofs.Common.{listed, effect, new_handles, receiver_of, entering_at, stored_by, ends_caller, refusal, with_effect, IsSound, eq-eqb}
+use Rattle.zl_code.specs.Effects.{body_with_message, body_after_read}
+use Rattle.zl_code.specs.Jobs.{is_dead, has_child, policy_changed}
+use Rattle.zl_code.specs.Waiting.{without_keyed, body_packed}
+use Rattle.zl_code.proofs.NamesKept.{list_any-get}
 use Rattle.zl_rights.specs.declared.status.Status.TheVariants as status
 use Rattle.zl_rights.specs.declared.policy.Action.TheVariants as action
-use Rattle.zl_rights.specs.declared.policy.Condition.{Condition}
-use Rattle.zl_rights.proofs.MapLaws.{get-put, get-update, get-each}
-use Rattle.zl_code.specs.Image.{Library}
-use Rattle.zl_code.specs.Tests.{object_at, body_in, body_of, parent_in, parent_of, policy_in, action_of}
-use Rattle.zl_code.specs.Operands.{unless_allowed, creates}
-use Rattle.zl_code.specs.Effects.{on_process, on_object, with_object, insert_all, storing, message_sent, message_read}
-use Rattle.zl_code.specs.Starting.{is_created, created_process, started_with}
-use Rattle.zl_code.specs.Jobs.{is_dead, has_child, is_within, body_killed, object_killed, process_killed, with_killed, body_with_policy, policy_changed}
-use Rattle.zl_code.specs.Jobs.{job_within}
-use Rattle.zl_code.specs.Waiting.{without_keyed, repacked}
-use Rattle.zl_code.specs.CallTable.{Request, chan_create, chan_write, chan_read_etc, event_create, eventpair_create, signal, signal_peer, port_create}
-use Rattle.zl_code.specs.CallTable.{port_queue}
-use Rattle.zl_code.specs.CallTable.{port_wait}
-use Rattle.zl_code.specs.CallTable.{port_poll, port_cancel}
-use Rattle.zl_code.specs.CallTable.{process_create, process_start, process_exit, task_kill, job_create, job_set_policy, listed, effect, new_handles}
-use Rattle.zl_code.specs.CallTable.{receiver_of, entering_at, stored_by, ends_caller}
-use Rattle.zl_code.specs.Refusals.{refusal}
-use Rattle.zl_code.specs.Calls.{with_effect}
-use Rattle.zl_code.specs.Sound.{IsSound}
-use Rattle.zl_code.proofs.NamesKept.{list_any-get}
 use Rattle.zl_verify.proofs.Giving.{getting_all}
 use Rattle.zl_verify.proofs.OwnTable.{changed_elsewhere, inserted_here, inserted_elsewhere, own_handles, storing_in, stored_here}
 use Rattle.zl_verify.proofs.Working.{listed_none, test_fails, test_passes}
@@ -231,52 +210,43 @@ none_in_job lib w p j mode condition action passes =
     (neither_one (is_dead (body_of w job)) (has_child w job)
     (test_fails _ status.BadState (listed_none lib w p (job_set_policy j mode condition action) passes).1.0))
 
-sends_alike : (m : Message) (o : Object) → IsAlike (message_sent m o).body o.body
-sends_alike m o = by o.body
-  where
-    by : (b : Body) → IsAlike (message_sent m (record o { body = b })).body b
-    by (ChannelEnd peer queue) = (refl, refl)
-    by _ = (refl, refl)
+sends_alike : (m : Message) (b : Body) → IsAlike (body_with_message m b) b
+sends_alike m (ChannelEnd peer queue) = (refl, refl)
+sends_alike m _ = (refl, refl)
 
-reads_alike : (o : Object) → IsAlike (message_read o).body o.body
-reads_alike o = by o.body
-  where
-    by : (b : Body) → IsAlike (message_read (record o { body = b })).body b
-    by (ChannelEnd peer queue) = (refl, refl)
-    by _ = (refl, refl)
+reads_alike : (b : Body) → IsAlike (body_after_read b) b
+reads_alike (ChannelEnd peer queue) = (refl, refl)
+reads_alike _ = (refl, refl)
 
-packs_alike : (f : List Packet → List Packet) (o : Object) → IsAlike (repacked f o).body o.body
-packs_alike f o = by o.body
-  where
-    by : (b : Body) → IsAlike (repacked f (record o { body = b })).body b
-    by (PortBody packets) = (refl, refl)
-    by _ = (refl, refl)
+packs_alike : (f : List Packet → List Packet) (b : Body) → IsAlike (body_packed f b) b
+packs_alike f (PortBody packets) = (refl, refl)
+packs_alike f _ = (refl, refl)
 
-pub more_koids : (v u : World) (b : Body) → v.next_koid ≤ u.next_koid → v.next_koid ≤ (with_object u b).next_koid
+more_koids : (v u : World) (b : Body) → v.next_koid ≤ u.next_koid → v.next_koid ≤ (with_object u b).next_koid
 unfolding with_object
 more_koids v u b le = omega arith
+
+-- a pair of objects is made
+pub pair_alike : (v u : World) (a b : Body) → v.next_koid ≤ u.next_koid → AreAlike v u (with_object (with_object u a) b)
+pair_alike v u a b le = alike_then v u (with_object u a) _ (made_alike v u a le) (made_alike v (with_object u a) b (more_koids v u a le))
 
 effect_alike : (r : Request) (lib : Library) (w u : World) (p : ℕ) → refusal lib w p r ≡ None → w.next_koid ≤ u.next_koid → (vs : List ℕ)
     → AreAlike w u (effect lib w u p r vs)
 unfolding effect on_process
-effect_alike chan_create lib w u p passes le vs =
-    let first : Body = ChannelEnd (w.next_koid + 1) [] in
-    alike_then w u (with_object u first) _ (made_alike w u first le) (made_alike w (with_object u first) (ChannelEnd w.next_koid []) (more_koids w u first le))
-effect_alike (chan_write c bytes hs) lib w u p passes le vs = changed_alike w u _ _ (sends_alike _)
-effect_alike (chan_read_etc c address room places) lib w u p passes le vs = changed_alike w u _ _ reads_alike
+effect_alike chan_create lib w u p passes le vs = pair_alike w u (ChannelEnd (w.next_koid + 1) []) (ChannelEnd w.next_koid []) le
+effect_alike (chan_write c bytes hs) lib w u p passes le vs = changed_alike w u _ _ (λ o. sends_alike _ o.body)
+effect_alike (chan_read_etc c address room places) lib w u p passes le vs = changed_alike w u _ _ (λ o. reads_alike o.body)
 effect_alike event_create lib w u p passes le vs = made_alike w u EventBody le
-effect_alike eventpair_create lib w u p passes le vs =
-    let first : Body = PairEnd (w.next_koid + 1) in
-    alike_then w u (with_object u first) _ (made_alike w u first le) (made_alike w (with_object u first) (PairEnd w.next_koid) (more_koids w u first le))
+effect_alike eventpair_create lib w u p passes le vs = pair_alike w u (PairEnd (w.next_koid + 1)) (PairEnd w.next_koid) le
 effect_alike (signal h clear set) lib w u p passes le vs = changed_alike w u _ _ (λ o. (refl, refl))
 effect_alike (signal_peer h clear set) lib w u p passes le vs = changed_alike w u _ _ (λ o. (refl, refl))
 effect_alike port_create lib w u p passes le vs = made_alike w u (PortBody []) le
-effect_alike (port_queue port key value) lib w u p passes le vs = changed_alike w u _ _ (packs_alike _)
-effect_alike (port_wait port) lib w u p passes le vs = changed_alike w u _ _ (packs_alike _)
-effect_alike (port_poll port) lib w u p passes le vs = changed_alike w u _ _ (packs_alike _)
+effect_alike (port_queue port key value) lib w u p passes le vs = changed_alike w u _ _ (λ o. packs_alike _ o.body)
+effect_alike (port_wait port) lib w u p passes le vs = changed_alike w u _ _ (λ o. packs_alike _ o.body)
+effect_alike (port_poll port) lib w u p passes le vs = changed_alike w u _ _ (λ o. packs_alike _ o.body)
 effect_alike (port_cancel port source key) lib w u p passes le vs =
     let rest : World = without_keyed u p source (object_at w p port) key in
-    alike_then w u rest _ (same_objects w u rest refl) (changed_alike w rest _ _ (packs_alike _))
+    alike_then w u rest _ (same_objects w u rest refl) (changed_alike w rest _ _ (λ o. packs_alike _ o.body))
 effect_alike (process_create job program) lib w u p passes le vs =
     let more : World = with_object u (ProcessBody (object_at w p job)) in
     alike_then w u more _ (made_alike w u (ProcessBody (object_at w p job)) le) (same_objects w more _ refl)
@@ -316,10 +286,7 @@ child_in : (w : World) (p : ℕ) (q : Process) (job : ℕ) → get w.processes p
 unfolding has_child_process is_process
 child_in w p q job there living body =
     let (x, at, is) = some_body (get w.objects p) (ProcessBody job) body in
-    list_any-get _ w.objects p x at (rw (is, there, living) (itself job))
-  where
-    itself : (n : ℕ) → ((n == n) && true) ≡ true
-    itself n = grind (arith, nat_tests)
+    list_any-get _ w.objects p x at (rw (is, there, living, eq-eqb job job refl) refl)
 
 pub same_policy : (w w2 : World) (p : ℕ) (q : Process) → IsSound w → get w.processes p ≡ Some q → lives q.state ≡ true → AreAlike w w w2 → (c : Condition)
     → creates w2 p c ≡ creates w p c

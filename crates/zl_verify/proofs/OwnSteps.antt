@@ -1,35 +1,17 @@
 -- The own step of a process that conforms, whatever it is: what it tells, and where it leads.
-use Rattle.std.proofs.Common.{◌≡◌, ℕ, ◌⊎◌, Bool, true, false, ◌==◌, List, refl, sym, ap, ◌∙◌, subst, Option, Some, None, inl, inr}
-use Rattle.std.specs.Prelude.{if◌then◌else◌, ℤ, slice_get}
-use Rattle.std.proofs.lemmas.Bool.{eq-eqb}
-use Rattle.std.proofs.lemmas.Option.{same_Some}
-use Rattle.zl_rights.specs.Common.{get, runs, World, Cpu, Process, State as Life, Ready, Blocked, Ended}
-use Rattle.zl_rights.specs.Signals.{has_ended}
-use Rattle.zl_rights.specs.World.{Awaited, SignalOf, PacketAt}
-use Rattle.zl_code.specs.declared.history.CallName.{CallName}
+use Rattle.zl_verify.proofs.Common.{◌≡◌, ℕ, ◌⊎◌, Bool, true, false, ◌==◌, List, refl, sym, ap, ◌∙◌, subst, Option, Some, None, inl, inr, if◌then◌else◌, ℤ}
+use Rattle.zl_verify.proofs.Common.{slice_get, eq-eqb, same_Some, get, runs, World, Cpu, Process, Life, Ready, Blocked, Ended, has_ended, Awaited, SignalOf}
+use Rattle.zl_verify.proofs.Common.{PacketAt, CallName, Outcome, TraceItem, CallInstr, Image, Library, call_at, call_in, is_in_range, on_process, process_ended}
+use Rattle.zl_verify.proofs.Common.{ended, Site, awaited_by, ends_caller, outcome_of, refusal, Calls, CallBy, Choice, Refused, Wants, Values, taken}
+use Rattle.zl_verify.proofs.Common.{taken_handles, with_effect, ok_outcome, after_ok, Next, Moves, AtCall, IsStuck, next_at, next_in, Acts, pid_of, IsSound}
+use Rattle.zl_verify.proofs.Common.{is_pause_name, executed, State, IsTyping, waits_for, WaitsAt, Conforms, ends_of, StandsAtCall, IsAnswered, IsWaiting}
+use Rattle.zl_verify.proofs.Common.{IsOwnEnd, exits, kills, IsFitStep, EndsStep, stays, IsFineItem, IsUnderWay, HasEnded, is_pause, leads, leads_by, OneOf}
+use Rattle.zl_code.specs.Headline.{MayEnd}
+use Rattle.zl_verify.specs.CallLaws.{ends_by}
+use Rattle.zl_verify.specs.WakeLaws.{wakes}
 use Rattle.zl_code.specs.declared.history.CallName.TheVariants as name
-use Rattle.zl_code.specs.declared.history.Outcome.{Outcome}
 use Rattle.zl_code.specs.declared.history.Outcome.TheVariants as outcome
-use Rattle.zl_code.specs.declared.history.TraceItem.{TraceItem}
 use Rattle.zl_code.specs.declared.history.TraceItem.TheVariants as item
-use Rattle.zl_code.specs.declared.instr.CallInstr.{CallInstr}
-use Rattle.zl_code.specs.Image.{Image, Library, call_at, call_in}
-use Rattle.zl_code.specs.Spells.{is_in_range}
-use Rattle.zl_code.specs.Effects.{on_process, process_ended, ended}
-use Rattle.zl_code.specs.Request.{Site}
-use Rattle.zl_code.specs.CallTable.{awaited_by, ends_caller, outcome_of}
-use Rattle.zl_code.specs.Refusals.{refusal}
-use Rattle.zl_code.specs.Calls.{Calls, CallBy, Choice, Refused, Wants, Values, taken, taken_handles, with_effect, ok_outcome, after_ok}
-use Rattle.zl_code.specs.Steps.{Next, Moves, AtCall, IsStuck, next_at, next_in, Acts, pid_of}
-use Rattle.zl_code.specs.Sound.{IsSound}
-use Rattle.zl_code.specs.Headline.{MayEnd, is_pause_name, executed}
-use Rattle.zl_abs.specs.States.{State}
-use Rattle.zl_abs.specs.Typing.{IsTyping}
-use Rattle.zl_verify.specs.Conforms.{waits_for, WaitsAt, Conforms}
-use Rattle.zl_verify.specs.CallLaws.{ends_by, ends_of, StandsAtCall, IsAnswered, IsWaiting, IsOwnEnd, exits, kills}
-use Rattle.zl_verify.specs.WakeLaws.{IsFitStep, EndsStep, stays, wakes}
-use Rattle.zl_verify.specs.RunLaws.{IsFineItem, IsUnderWay, HasEnded}
-use Rattle.zl_verify.specs.Steps.{is_pause, leads, leads_by, OneOf}
 use Rattle.zl_verify.proofs.LocalSteps.{goes_on, not_stuck}
 use Rattle.zl_verify.proofs.AtCalls.{at_call}
 use Rattle.zl_verify.proofs.OwnTable.{changed_here, losing_all, losing_same, removed_here}
@@ -190,14 +172,12 @@ module _ (lib : Library) (i : Image) (t : ℕ → Option State) (range : is_in_r
           ends_with None (Some other) code is = let same : other ≡ code = cc in ap Some same
 
       exited : (code : ℤ) (choice : Choice) (r : Option Outcome) → CallBy lib w p s choice r (outcome.Ended code) b.step.acted → HasEnded b.step.acted p
-      exited code Refused None c = absurd c
       exited code Refused (Some (outcome.Answered answer)) c = let bad = c.0 in cc
       exited code Refused (Some outcome.Blocked) c = let bad = c.0 in cc
       exited code Refused (Some (outcome.Ended other)) c = subst (λ v. HasEnded v p) (sym c.1) (ended_there w p own b.step.is_there (inl b.step.is_ready) other)
       exited code (Wants want) None c = let bad = c.1 in cc
-      exited code (Wants want) (Some o) c = absurd c
       exited code (Values vs) None c = subst (λ v. HasEnded v p) (sym (c.2 ∙ ap (after_ok lib w p s vs) (sym c.1))) (exited_at vs code (sym c.1))
-      exited code (Values vs) (Some o) c = absurd c
+      exited code _ _ c = absurd c
 
       pause_here : is_pause (call_at i own.cpu.counter) ≡ is_pause_name called
       pause_here = let at = at_call i own.cpu called s next in ap (λ o. is_pause (call_in o)) at.stands ∙ ap is_pause_name at.named

@@ -1,29 +1,15 @@
 -- The caller's process once handles left its table, and once they entered it.
-use Rattle.std.proofs.Common.{◌≡◌, ℕ, Bool, true, false, ◌==◌, List, [], ◌∷◌, map, refl, sym, ap, ◌∙◌, Option, Some, None, cond, slice_index}
-use Rattle.std.specs.Prelude.{is_some, if◌then◌else◌}
-use Rattle.std.specs.List.{filter}
-use Rattle.std.proofs.lemmas.Bool.{cases_Bool, eqb-true}
-use Rattle.std.proofs.lemmas.Bool.Decides.{nat_tests}
-use Rattle.std.proofs.Common.{arith, ◌⊎◌, inl, inr}
-use Rattle.zl_rights.specs.declared.entry.Entry.{Entry}
-use Rattle.zl_rights.specs.Common.{Map, get, without, has_key, World, Process}
-use Rattle.zl_rights.proofs.MapLaws.{get-update}
-use Rattle.zl_code.specs.Operands.{Operand}
-use Rattle.zl_code.specs.CallTable.{Request, process_start, new_handles, choosing}
-use Rattle.zl_code.specs.Effects.{on_process, insert_all, remove_all, process_with, process_without, storing, may_get_all}
-use Rattle.zl_code.specs.Local.{overwritten}
-use Rattle.zl_code.proofs.Entering.{get_without, gone_without}
-use Rattle.zl_verify.specs.Conforms.{Table}
+use Rattle.zl_verify.proofs.Common.{◌≡◌, ℕ, Bool, true, false, ◌==◌, List, [], ◌∷◌, map, refl, sym, ap, ◌∙◌, Option, Some, None, cond, slice_index, is_some}
+use Rattle.zl_verify.proofs.Common.{if◌then◌else◌, filter, cases_Bool, eqb-true, nat_tests, arith, ◌⊎◌, inl, inr, Entry, Map, get, without, has_key, World}
+use Rattle.zl_verify.proofs.Common.{Process, get-update, Operand, Request, process_start, new_handles, choosing, on_process, insert_all, remove_all}
+use Rattle.zl_verify.proofs.Common.{process_with, process_without, storing, may_get_all, overwritten, get_without, gone_without, Table, eq-eqb}
 use Rattle.zl_verify.proofs.Consuming.{removed}
 use Rattle.zl_verify.proofs.Examining.{unseen, unseen_more, seen_all, valued}
-use Rattle.zl_verify.proofs.Giving.{getting_all}
-
-itself : (p : ℕ) → (p == p) ≡ true
-itself p = grind (arith, nat_tests)
+use Rattle.zl_verify.proofs.Giving.{none_at, getting_all}
 
 pub changed_here : (w : World) (p : ℕ) (f : Process → Process) (q : Process) → get w.processes p ≡ Some q → get (on_process w p f).processes p ≡ Some (f q)
 unfolding on_process
-changed_here w p f q there = get-update w.processes p f p ∙ rw (itself p, there) refl
+changed_here w p f q there = get-update w.processes p f p ∙ rw (eq-eqb p p refl, there) refl
 
 pub changed_elsewhere : (w : World) (k : ℕ) (f : Process → Process) (p : ℕ) → (k == p) ≡ false → get (on_process w k f).processes p ≡ get w.processes p
 unfolding on_process
@@ -41,11 +27,7 @@ unfolding remove_all
 removed_here [] w p q there = there
 removed_here (h ∷ hs) w p q there = removed_here hs (on_process w p (process_without h)) p (process_without h q) (changed_here w p (process_without h) q there)
 
-none_at : (o : Option Entry) → is_some o ≡ false → o ≡ None
-none_at None t = refl
-none_at (Some y) t = cc
-
-other_way : (h k : ℕ) → (h == k) ≡ false → (k == h) ≡ false
+pub other_way : (h k : ℕ) → (h == k) ≡ false → (k == h) ≡ false
 other_way h k e = grind (arith, nat_tests)
 
 without_it : (m : Map Entry) (h k : ℕ) → get (without m h) k ≡ (if h == k then None else get m k)

@@ -1,24 +1,21 @@
 -- How many places own a handle, once one place is written.
-use Rattle.std.proofs.Common.{◌≡◌, ◌≢◌, ℕ, zero, suc, ◌+◌, ◌<◌, ◌≤◌, Bool, true, false, ◌&&◌, ◌==◌, List, [], ◌∷◌, map, length, refl, sym, ap, ◌∙◌, Option}
-use Rattle.std.proofs.Common.{arith, slice_set, slice_index}
-use Rattle.std.specs.Prelude.{nat_lt, if◌then◌else◌, slice_index_or}
-use Rattle.std.specs.List.{sum_by}
-use Rattle.std.proofs.lemmas.List.{get_or-set_same, get_or-set_other}
-use Rattle.std.proofs.lemmas.List.Sums.{sum_by-set, sum_by-cons}
-use Rattle.std.proofs.lemmas.Bool.Decides.{nat_tests}
-use Rattle.zl_rights.specs.declared.kind.Kind.{Kind}
-use Rattle.zl_rights.specs.declared.rights.Rights.{Rights}
-use Rattle.zl_abs.specs.declared.value.AbsVal.{AbsVal}
-use Rattle.zl_abs.specs.declared.value.AbsVal.TheVariants.{Word, Has, KindOf, RightsOf}
-use Rattle.zl_abs.specs.Values.{ANY, is_has, untagged}
-use Rattle.zl_abs.specs.States.{State, value_at, with_value}
-use Rattle.zl_verify.specs.Conforms.{one_if, is_it, owns, owners, keepers, place_at}
+use Rattle.zl_verify.proofs.Common.{◌≡◌, ◌≢◌, ℕ, zero, suc, ◌+◌, ◌<◌, ◌≤◌, Bool, true, false, ◌&&◌, ◌==◌, List, [], ◌∷◌, map, length, refl, sym, ap, ◌∙◌}
+use Rattle.zl_verify.proofs.Common.{Option, arith, slice_set, slice_index, nat_lt, if◌then◌else◌, slice_index_or, sum_by, get_or-set_same, get_or-set_other}
+use Rattle.zl_verify.proofs.Common.{sum_by-set, sum_by-cons, nat_tests, Kind, Rights, AbsVal, Word, Has, KindOf, RightsOf, ANY, is_has, untagged, State}
+use Rattle.zl_verify.proofs.Common.{value_at, with_value, one_if, is_it, owns, owners, keepers, place_at, cases_Bool, eqb-false, inl, inr, ◌⊎◌}
 
 -- ---- one place
 
 pub owns_it : (maybe : Bool) (kind : Option Kind) (rights : Rights) (y : ℕ) → y ≢ 0 → owns y (Has maybe kind rights) y ≡ true
 unfolding owns
 owns_it maybe kind rights y h = grind (arith, nat_tests)
+
+pub not_0 : (v : ℕ) → one_if (is_it v 0) ≡ 0
+not_0 v = by (0 == v)
+  where
+    by : (b : Bool) → one_if (b && nat_lt 0 0) ≡ 0
+    by true = refl
+    by false = refl
 
 pub it_is_itself : (y : ℕ) → y ≢ 0 → is_it y y ≡ true
 it_is_itself y h = grind (arith, nat_tests)
@@ -50,6 +47,14 @@ owns_0 v a = by (is_has a) (0 == v)
 
 -- ---- values at a written state
 
+-- one value where t is r, and the other elsewhere
+pub by_register : (P : AbsVal → Type 0) (t r : ℕ) (x y : AbsVal) → P x → (t ≢ r → P y) → P (if t == r then x else y)
+by_register P t r x y same other = by (cases_Bool (t == r))
+  where
+    by : ((t == r) ≡ true) ⊎ ((t == r) ≡ false) → P (if t == r then x else y)
+    by (inl e) = rw e same
+    by (inr e) = rw e (other (eqb-false t r e))
+
 pub set_same : (s : State) (r : ℕ) (a : AbsVal) → r < length s → value_at (slice_set s r a) r ≡ a
 set_same s r a lt = get_or-set_same s r a (Word 0) lt
 
@@ -80,16 +85,8 @@ has_inside (a ∷ s) (suc r) e = let k = has_inside s r e in omega arith
 pub is_has-untagged : (r : ℕ) (a : AbsVal) → is_has (untagged r a) ≡ is_has a
 is_has-untagged r (Word m) = refl
 is_has-untagged r (Has b k q) = refl
-is_has-untagged r (KindOf t) = by (t == r)
-  where
-    by : (b : Bool) → is_has (if b then Word ANY else KindOf t) ≡ false
-    by true = refl
-    by false = refl
-is_has-untagged r (RightsOf t) = by (t == r)
-  where
-    by : (b : Bool) → is_has (if b then Word ANY else RightsOf t) ≡ false
-    by true = refl
-    by false = refl
+is_has-untagged r (KindOf t) = by_register (λ a. is_has a ≡ false) t r (Word ANY) (KindOf t) refl (λ apart. refl)
+is_has-untagged r (RightsOf t) = by_register (λ a. is_has a ≡ false) t r (Word ANY) (RightsOf t) refl (λ apart. refl)
 
 pub owners-map : (f : AbsVal → AbsVal) → ((a : AbsVal) → is_has (f a) ≡ is_has a) → (v : ℕ) (s : State) (xs : List ℕ) → owners v (map f s) xs ≡ owners v s xs
 unfolding owners owns
@@ -154,13 +151,6 @@ one_of v k places some e =
     inside k [] h = absurd (h refl)
     inside zero (x ∷ xs) h = omega arith
     inside (suc k) (x ∷ xs) h = let n = inside k xs h in omega arith
-
-    not_0 : (v : ℕ) → one_if (is_it v 0) ≡ 0
-    not_0 v = by (0 == v)
-      where
-        by : (b : Bool) → one_if (b && nat_lt 0 0) ≡ 0
-        by true = refl
-        by false = refl
 
 pub keepers-at : (v n k : ℕ) (slots : List (List ℕ)) → v ≢ 0 → place_at slots n k ≡ v → 1 ≤ keepers v slots
 unfolding keepers

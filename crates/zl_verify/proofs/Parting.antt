@@ -1,23 +1,12 @@
 -- The edges of an instruction lead to where it jumps, and behind it: all but the last to a block, and that one to a
 -- block or to the next instruction.
-use Rattle.std.proofs.Common.{◌≡◌, ℕ, ◌+◌, ◌<◌, Bool, true, false, List, [], ◌∷◌, ◌++◌, length, Option, Some, None, refl, sym, ◌∙◌, subst, arith}
-use Rattle.std.specs.Prelude.{Result, Ok, Err, IfOk, nat_lt, if◌then◌else◌}
-use Rattle.std.proofs.lemmas.Bool.Decides.{nat_tests}
-use Rattle.zl_code.specs.declared.instr.Instr.{Instr}
-use Rattle.zl_code.specs.declared.instr.Instr.TheVariants as instr
-use Rattle.zl_code.specs.Image.{Image, instr_at, local_in}
-use Rattle.zl_abs.specs.declared.cause.Cause.{Cause}
-use Rattle.zl_abs.specs.declared.cause.Cause.TheVariants as cause
-use Rattle.zl_abs.specs.States.{State}
-use Rattle.zl_abs.specs.Bounds.{bounds_of}
+use Rattle.zl_verify.proofs.Common.{◌≡◌, ℕ, ◌+◌, ◌<◌, Bool, true, false, List, [], ◌∷◌, ◌++◌, length, Option, Some, None, refl, sym, ◌∙◌, subst, arith, Result}
+use Rattle.zl_verify.proofs.Common.{Ok, Err, IfOk, nat_lt, if◌then◌else◌, nat_tests, Instr, Image, instr_at, local_in, Cause, State, bounds_of, and_then, Edge}
+use Rattle.zl_verify.proofs.Common.{edge_to, edges, local_rule, call_rule, rule, rule_by, rule_with, target_of, at, Blocks, AreBlocks}
 use Rattle.zl_abs.specs.Ways.{Ways}
-use Rattle.zl_abs.specs.Rule.{and_then, Edge, edge_to, edges}
-use Rattle.zl_abs.specs.LocalRules.{local_rule}
-use Rattle.zl_abs.specs.CallRules.{call_rule}
 use Rattle.zl_abs.specs.Targets.{jump_in}
-use Rattle.zl_abs.specs.Typing.{rule, rule_by, rule_with, target_of}
-use Rattle.zl_verify.specs.Lists.{at}
-use Rattle.zl_verify.specs.Blocks.{Blocks, AreBlocks}
+use Rattle.zl_code.specs.declared.instr.Instr.TheVariants as instr
+use Rattle.zl_abs.specs.declared.cause.Cause.TheVariants as cause
 use Rattle.zl_verify.proofs.Places.{there}
 
 -- a block begins there
@@ -73,7 +62,6 @@ unfolding rule_with
 rule_parted i bs a n s = by (instr_at i n) refl
   where
     by : (o : Option Instr) → instr_at i n ≡ o → IfOk (rule_by (bounds_of i.code) i n s o) (AreParted bs.numbers n)
-    by None e = tt
     by (Some (instr.Local x)) e =
         let j : jump_in (local_in (instr_at i n)) ≡ target_of x = rw e refl in
         then_parted bs.numbers n (local_rule (bounds_of i.code) i x s) (edges (length i.code) n (target_of x))
@@ -82,4 +70,4 @@ rule_parted i bs a n s = by (instr_at i n) refl
     by (Some (instr.Call x)) e =
         then_parted bs.numbers n (call_rule (bounds_of i.code) i x s) (edges (length i.code) n 0)
         (λ w. edges_parted bs.numbers (length i.code) n 0 (λ h z. let q : None ≡ Some 0 = sym z ∙ a.first in cc) w)
-    by (Some (instr.Unknown x)) e = tt
+    by _ e = tt

@@ -1,20 +1,11 @@
 -- What is true wherever an instruction goes on to the next one alone is true of each rule that is no jump's.
-use Rattle.std.proofs.Common.{◌≡◌, ℕ, Bool, true, false, not, List, Option, Some, None, Result, Ok, Err, IfOk, eqb, ltb}
-use Rattle.std.specs.Prelude.{slice_get, if◌then◌else◌}
-use Rattle.zl_code.specs.declared.image.SlotArray.{SlotArray}
-use Rattle.zl_code.specs.declared.instr.LocalInstr.{LocalInstr}
-use Rattle.zl_code.specs.declared.instr.LocalInstr.TheVariants as local
-use Rattle.zl_code.specs.Image.{Image}
-use Rattle.zl_abs.specs.declared.value.AbsVal.{AbsVal}
-use Rattle.zl_abs.specs.declared.value.AbsVal.TheVariants.{Word}
-use Rattle.zl_abs.specs.declared.cause.Cause.{Cause}
-use Rattle.zl_abs.specs.declared.cause.Cause.TheVariants as cause
+use Rattle.zl_verify.proofs.Common.{◌≡◌, ℕ, Bool, true, false, not, List, Option, Some, None, Result, Ok, Err, IfOk, eqb, ltb, slice_get, if◌then◌else◌}
+use Rattle.zl_verify.proofs.Common.{SlotArray, LocalInstr, Image, AbsVal, Word, Cause, ANY, is_has, State, value_at, with_value, and_then, word_at, writes}
+use Rattle.zl_verify.proofs.Common.{passes, in_memory, loads, stores, may_move, moved, slot_fault, swaps_by, swaps_in, local_rule, jump_in}
 use Rattle.zl_abs.specs.Outcome.{Outcome}
-use Rattle.zl_abs.specs.Values.{ANY, is_has}
-use Rattle.zl_abs.specs.States.{State, value_at, with_value}
-use Rattle.zl_abs.specs.Rule.{and_then, word_at, writes, passes}
-use Rattle.zl_abs.specs.LocalRules.{in_memory, loads, stores, may_move, moved, takes, slot_fault, swaps_by, swaps_in, local_rule}
-use Rattle.zl_verify.specs.Ahead.{jump_in}
+use Rattle.zl_abs.specs.LocalRules.{takes}
+use Rattle.zl_code.specs.declared.instr.LocalInstr.TheVariants as local
+use Rattle.zl_abs.specs.declared.cause.Cause.TheVariants as cause
 
 module _ (P : Outcome → Type 0) where
   pub then_on : {A : Type 0} (x : Result A Cause) (f : A → Result Outcome Cause) → ((a : A) → IfOk (f a) P) → IfOk (and_then x f) P

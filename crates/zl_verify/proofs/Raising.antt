@@ -1,10 +1,8 @@
 -- What comes of a state that is raised in place.
-use Rattle.std.proofs.Common.{◌≡◌, ◌<◌, ℕ, List, length, Bool, true, false, Option, Some, None, refl, sym, ap, ◌∙◌}
-use Rattle.std.proofs.lemmas.Option.{slice_get-get_or}
-use Rattle.std.specs.Prelude.{slice_get, get_or}
-use Rattle.zl_abs.specs.States.{State, all_below, all_joined}
+use Rattle.zl_verify.proofs.Common.{◌≡◌, ◌<◌, ℕ, List, length, Bool, true, false, Option, Some, None, refl, sym, ap, ◌∙◌, slice_get-get_or, slice_get, get_or}
+use Rattle.zl_verify.proofs.Common.{State, all_below, all_joined, raised}
 use Rattle.zl_abs.proofs.Absorbing.{all_absorb}
-use Rattle.zl_verify.specs.Search.{Table, put, raised}
+use Rattle.zl_verify.specs.Search.{Table, put}
 
 -- what lies below another has a join with it
 pub not_below : (u s : State) → all_joined u s ≡ None → all_below s u ≡ false

@@ -1,28 +1,18 @@
 -- A register is known better, and what the edges of a test know.
-use Rattle.std.proofs.Common.{◌≡◌, ◌≢◌, ℕ, zero, suc, ◌+◌, ◌-◌, ◌<◌, ◌≤◌, ◌⊎◌, Bool, true, false, not, ◌&&◌, ◌==◌, List, [], ◌∷◌, length, refl, sym, ap, ◌∙◌}
-use Rattle.std.proofs.Common.{subst, Option, Some, None, Result, Ok, Err, arith, inl, inr, slice_set, slice_index, eq-eqb}
-use Rattle.std.proofs.lemmas.Option.{same_Some}
-use Rattle.std.specs.Prelude.{is_some, if◌then◌else◌, nat_lt, bit_or}
-use Rattle.std.proofs.lemmas.Bool.{cases_eq, eqb-true}
-use Rattle.std.proofs.lemmas.Bool.Decides.{nat_tests}
+use Rattle.zl_verify.proofs.Common.{◌≡◌, ◌≢◌, ℕ, zero, suc, ◌+◌, ◌-◌, ◌<◌, ◌≤◌, ◌⊎◌, Bool, true, false, not, ◌&&◌, ◌==◌, List, [], ◌∷◌, length, refl, sym, ap}
+use Rattle.zl_verify.proofs.Common.{◌∙◌, subst, Option, Some, None, Result, Ok, Err, arith, inl, inr, slice_set, slice_index, eq-eqb, same_Some, is_some}
+use Rattle.zl_verify.proofs.Common.{if◌then◌else◌, nat_lt, bit_or, cases_eq, eqb-true, nat_tests, Entry, Kind, Rights, bits, rights_of, within, kind_number}
+use Rattle.zl_verify.proofs.Common.{same_kind, KNOWN_RIGHTS, SlotArray, AbsVal, Word, Has, KindOf, RightsOf, Cause, ANY, is_has, capped, smaller, State}
+use Rattle.zl_verify.proofs.Common.{IsState, can_be_named, value_at, refined, kind_numbered, known_zero, known_there, known_kind, known_other, becomes}
+use Rattle.zl_verify.proofs.Common.{kind_ways, equal_ways, zero_ways, below_ways, has_ways, unless, within_trans, Table, kind_in, rights_in, IsAs, IsHandle}
+use Rattle.zl_verify.proofs.Common.{Describes, one_if, owns, owners, keepers, Holds, none-some}
 use Rattle.std.proofs.lemmas.List.{length-set}
-use Rattle.zl_rights.specs.declared.entry.Entry.{Entry}
-use Rattle.zl_rights.specs.declared.kind.Kind.{Kind}
-use Rattle.zl_rights.specs.declared.kind.Kind.TheVariants as kind
-use Rattle.zl_rights.specs.declared.rights.Rights.{Rights}
-use Rattle.zl_rights.specs.Numbers.{all_kinds, bits, rights_of, within, kind_number, same_kind, KNOWN_RIGHTS}
-use Rattle.zl_code.specs.declared.image.SlotArray.{SlotArray}
+use Rattle.zl_rights.specs.Numbers.{all_kinds}
 use Rattle.zl_code.specs.Spells.{kind_among}
-use Rattle.zl_abs.specs.declared.value.AbsVal.{AbsVal}
-use Rattle.zl_abs.specs.declared.value.AbsVal.TheVariants.{Word, Has, KindOf, RightsOf}
-use Rattle.zl_abs.specs.declared.cause.Cause.{Cause}
 use Rattle.zl_abs.specs.Outcome.{Outcome}
-use Rattle.zl_abs.specs.Values.{ANY, is_has, capped, smaller}
-use Rattle.zl_abs.specs.States.{State, IsState, can_be_named, value_at, refined}
-use Rattle.zl_abs.specs.LocalRules.{kind_numbered, known_zero, known_there, known_kind, known_other, known_rights, becomes, kind_ways, equal_ways, zero_ways}
-use Rattle.zl_abs.specs.LocalRules.{below_ways, has_ways, unless}
-use Rattle.zl_abs.proofs.Order.{same_kind_refl, within_trans}
-use Rattle.zl_verify.specs.Conforms.{Table, kind_in, rights_in, IsAs, IsHandle, Describes, one_if, owns, owners, keepers, Holds}
+use Rattle.zl_abs.specs.LocalRules.{known_rights}
+use Rattle.zl_abs.proofs.Order.{same_kind_refl}
+use Rattle.zl_rights.specs.declared.kind.Kind.TheVariants as kind
 use Rattle.zl_verify.proofs.Owners.{owns_free, owns_0, owners-set, set_same, set_apart, has_inside}
 use Rattle.zl_verify.proofs.Writing.{nothing_at_0, live_apart}
 use Rattle.zl_verify.proofs.RightsGained.{within_both, rights_none}
@@ -141,15 +131,13 @@ module _ {f : Table} {s : State} {xs : List ℕ} {arrays : List SlotArray} {slot
   has_there r maybe k q is = has_inside s r (ap is_has is)
 
   pub zero_known : (a r : ℕ) → a ≢ r → slice_index xs r ≡ 0 → (v : AbsVal) → value_at s r ≡ v → KnownBeside a (known_zero s r v)
-  zero_known a r apart z (Word m) is = here a
-  zero_known a r apart z (KindOf t) is = here a
-  zero_known a r apart z (RightsOf t) is = here a
   zero_known a r apart z (Has maybe k q) is = by (rw is at (h.described r))
     where
       by : IsHandle f maybe k q (slice_index xs r) → KnownBeside a (if maybe then Some (refined s r (Word 0)) else None)
       by (inl (m, _)) = rw m (better a r apart (Word 0) (has_there r maybe k q is) (omega arith)
           (λ y. rw z (owns_0 y (Word 0) ∙ sym (owns_0 y (value_at s r)))))
       by (inr l) = absurd (live_apart f (nothing_at_0 h) k q (slice_index xs r) l z)
+  zero_known a r apart z _ is = here a
 
   pub there_known : (a r : ℕ) → a ≢ r → slice_index xs r ≢ 0 → (v : AbsVal) → value_at s r ≡ v → KnownBeside a (known_there s r v)
   there_known a r apart some (Word m) is =
@@ -158,52 +146,41 @@ module _ {f : Table} {s : State} {xs : List ℕ} {arrays : List SlotArray} {slot
       test : (m : ℕ) → slice_index xs r ≤ m → (m == 0) ≡ false
       test zero le = absurd (some (omega arith))
       test (suc m) le = grind (arith, nat_tests)
-  there_known a r apart some (KindOf t) is = here a
-  there_known a r apart some (RightsOf t) is = here a
   there_known a r apart some (Has maybe k q) is = by (rw is at (h.described r))
     where
       by : IsHandle f maybe k q (slice_index xs r) → KnownBeside a (Some (refined s r (Has false k q)))
       by (inl (m, z)) = absurd (some z)
       by (inr l) = better a r apart (Has false k q) (has_there r maybe k q is) (inr l) (λ y. rw is (owned_alike y false maybe k k q q (slice_index xs r)))
+  there_known a r apart some _ is = here a
 
   -- a register that can be named, and whose number is that of a handle, has one
   named_has : (r : ℕ) (e : Entry) → f (slice_index xs r) ≡ Some e → (m : ℕ) → value_at s r ≡ Word m → can_be_named (Word m) ≡ true → ⊥
   named_has r e there m is fine =
       let le : slice_index xs r ≤ m = rw is at (h.described r) in
       let z : slice_index xs r ≡ 0 = grind (arith, nat_tests) in
-      absurd (none_some (sym (nothing_at_0 h) ∙ (ap f (sym z) ∙ there)))
-    where
-      none_some : None ≡ Some e → ⊥
-      none_some p = cc
+      absurd (none-some e (sym (nothing_at_0 h) ∙ (ap f (sym z) ∙ there)))
 
   as_there : (r : ℕ) (e : Entry) → f (slice_index xs r) ≡ Some e → (maybe : Bool) (k : Option Kind) (q : Rights) → value_at s r ≡ Has maybe k q
       → IsAs k q (Some e)
   as_there r e there maybe k q is = by (rw is at (h.described r))
     where
-      none_some : None ≡ Some e → ⊥
-      none_some p = cc
-
       by : IsHandle f maybe k q (slice_index xs r) → IsAs k q (Some e)
-      by (inl (m, z)) = absurd (none_some (sym (nothing_at_0 h) ∙ (ap f (sym z) ∙ there)))
+      by (inl (m, z)) = absurd (none-some e (sym (nothing_at_0 h) ∙ (ap f (sym z) ∙ there)))
       by (inr l) = subst (IsAs k q) there l
 
   pub kind_known : (a r : ℕ) → a ≢ r → (e : Entry) → f (slice_index xs r) ≡ Some e → (v : AbsVal) → value_at s r ≡ v → can_be_named v ≡ true
       → KnownBeside a (known_kind s r (Some e.kind) v)
   kind_known a r apart e there (Word m) is fine = absurd (named_has r e there m is fine)
-  kind_known a r apart e there (KindOf t) is fine = cc
-  kind_known a r apart e there (RightsOf t) is fine = cc
   kind_known a r apart e there (Has maybe j q) is fine =
       let l = as_there r e there maybe j q is in
       rw l.0 (better a r apart (Has false (Some e.kind) q) (has_there r maybe j q is)
       (inr (subst (IsAs (Some e.kind) q) (sym there) (same_kind_refl e.kind, l.1)))
       (λ y. rw is (owned_alike y false maybe (Some e.kind) j q q (slice_index xs r))))
+  kind_known a r apart e there _ is fine = cc
 
   -- a handle of another kind
   other_by : (r : ℕ) (k : Kind) → (kind_in (f (slice_index xs r)) ≡ kind_number k → ⊥) → (v : AbsVal) → value_at s r ≡ v
       → Known f xs arrays slots (known_other s (Some k) v)
-  other_by r k apart (Word m) is = h
-  other_by r k apart (KindOf t) is = h
-  other_by r k apart (RightsOf t) is = h
   other_by r k apart (Has maybe None q) is = h
   other_by r k apart (Has true (Some j) q) is = h
   other_by r k apart (Has false (Some j) q) is = by (same_kind k j) refl
@@ -219,6 +196,7 @@ module _ {f : Table} {s : State} {xs : List ℕ} {arrays : List SlotArray} {slot
       by : (t : Bool) → same_kind k j ≡ t → Known f xs arrays slots (if t then None else Some s)
       by true e = apart (live (rw is at (h.described r)) ∙ sym (eqb-true (kind_number k) (kind_number j) e))
       by false e = h
+  other_by r k apart _ is = h
 
   pub other_known : (r imm : ℕ) → (kind_in (f (slice_index xs r)) ≡ imm → ⊥) → (o : Option Kind) → kind_numbered imm ≡ o
       → Known f xs arrays slots (known_other s o (value_at s r))
@@ -229,13 +207,12 @@ module _ {f : Table} {s : State} {xs : List ℕ} {arrays : List SlotArray} {slot
       → value_at s r ≡ v → can_be_named v ≡ true
       → Known f xs arrays slots (known_rights s r imm v)
   rights_known r imm e there has known (Word m) is fine = absurd (named_has r e there m is fine)
-  rights_known r imm e there has known (KindOf t) is fine = cc
-  rights_known r imm e there has known (RightsOf t) is fine = cc
   rights_known r imm e there has known (Has maybe k q) is fine =
       let l = as_there r e there maybe k q is in
       rw known (refine h r (has_there r maybe k q is) (Has false k (rights_of (bit_or (bits q) imm)))
       (inr (subst (IsAs k (rights_of (bit_or (bits q) imm))) (sym there) (l.0, within_both (bits q) imm (bits e.rights) l.1 has)))
       (λ y. rw is (owned_alike y false maybe k k (rights_of (bit_or (bits q) imm)) q (slice_index xs r))))
+  rights_known r imm e there has known _ is fine = cc
 
   -- ---- the tests
 
@@ -265,13 +242,12 @@ module _ {f : Table} {s : State} {xs : List ℕ} {arrays : List SlotArray} {slot
 
           gone : (o : Option Entry) → f (slice_index xs r) ≡ o → (v : AbsVal) → value_at s r ≡ v → can_be_named v ≡ true → slice_index xs r ≡ 0
           gone o e (Word m) here fine = let le : slice_index xs r ≤ m = rw here at (h.described r) in grind (arith, nat_tests)
-          gone o e (KindOf t) here fine = cc
-          gone o e (RightsOf t) here fine = cc
           gone o e (Has maybe k q) here fine = out (rw here at (h.described r))
             where
               out : IsHandle f maybe k q (slice_index xs r) → slice_index xs r ≡ 0
               out (inl (m, z)) = z
               out (inr l) = absurd (subst (IsAs k q) none l)
+          gone o e _ here fine = cc
 
       some_then : slice_index xs a ≢ 0 → slice_index xs r ≢ 0
       some_then some z = some (tells ∙ (ap kind_in (ap f z ∙ nothing_at_0 h)))
@@ -321,9 +297,6 @@ module _ {f : Table} {s : State} {xs : List ℕ} {arrays : List SlotArray} {slot
       pass e = rw (both_0 (slice_index xs a) m imm le e) h
 
   pub zero_splits : (a : ℕ) → a < length s → (v : AbsVal) → value_at s a ≡ v → Splits (Known f xs arrays slots) (slice_index xs a == 0) (zero_ways s a v)
-  zero_splits a lt (Word m) is = equal_splits a 0 lt (Word m) is
-  zero_splits a lt (KindOf r) is = equal_splits a 0 lt (KindOf r) is
-  zero_splits a lt (RightsOf r) is = equal_splits a 0 lt (RightsOf r) is
   zero_splits a lt (Has maybe k q) is = (
     (λ e. without (suc a) (known_zero s a (Has maybe k q)) (zero_known (suc a) a above (eqb-true (slice_index xs a) 0 e) (Has maybe k q) is)),
     (λ e. without (suc a) (known_there s a (Has maybe k q)) (there_known (suc a) a above (test_apart (slice_index xs a) 0 e) (Has maybe k q) is)),
@@ -331,6 +304,7 @@ module _ {f : Table} {s : State} {xs : List ℕ} {arrays : List SlotArray} {slot
     where
       above : suc a ≢ a
       above e = omega arith
+  zero_splits a lt v is = equal_splits a 0 lt v is
 
   bound_splits : (a imm m : ℕ) → a < length s → is_has (value_at s a) ≡ false → slice_index xs a ≤ m
       → Splits (Known f xs arrays slots) (nat_lt (slice_index xs a) imm) (Ok (record {
@@ -356,8 +330,7 @@ module _ {f : Table} {s : State} {xs : List ℕ} {arrays : List SlotArray} {slot
       by : (v : AbsVal) → value_at s a ≡ v → Splits (Known f xs arrays slots) (nat_lt (slice_index xs a) imm) (below_ways s a imm)
       by (Word m) is = rw is (bound_splits a imm m lt (ap is_has is) (rw is at (h.described a)))
       by (Has maybe k r) is = rw is tt
-      by (KindOf r) is = rw is (bound_splits a imm ANY lt (ap is_has is) (h.small a))
-      by (RightsOf r) is = rw is (bound_splits a imm ANY lt (ap is_has is) (h.small a))
+      by _ is = rw is (bound_splits a imm ANY lt (ap is_has is) (h.small a))
 
   -- the rights of handles are known ones
   module _ (known : (v : ℕ) (e : Entry) → f v ≡ Some e → within (bits e.rights) KNOWN_RIGHTS ≡ true) where

@@ -1,34 +1,14 @@
 -- What a refused call gives fits what its rule says, whatever the status.
-use Rattle.std.proofs.Common.{◌≡◌, ℕ, ◌+◌, ◌*◌, ◌≤◌, Bool, true, false, ◌&&◌, ◌==◌, List, [], ◌∷◌, length, refl, sym, ◌∙◌, subst, Some, None, arith}
-use Rattle.std.proofs.Common.{slice_index, slice_set}
-use Rattle.std.proofs.lemmas.Bool.{eqb-true}
-use Rattle.std.proofs.lemmas.List.{length-set}
-use Rattle.zl_rights.specs.Common.{World, Cpu}
-use Rattle.zl_rights.specs.Numbers.{status_magnitude}
-use Rattle.zl_rights.specs.declared.status.Status.{Status}
+use Rattle.zl_verify.proofs.Common.{◌≡◌, ℕ, ◌+◌, ◌*◌, ◌≤◌, Bool, true, false, ◌&&◌, ◌==◌, List, [], ◌∷◌, length, refl, sym, ◌∙◌, subst, Some, None, arith}
+use Rattle.zl_verify.proofs.Common.{slice_index, slice_set, eqb-true, World, Cpu, status_magnitude, Status, register_count, reg, CallName, CallInstr, number_at}
+use Rattle.zl_verify.proofs.Common.{is_call_in_range, chan_read_etc, wait_poll, gives_refused, Site, site_of, IsSound, object_at, AbsVal, Word, Has, State}
+use Rattle.zl_verify.proofs.Common.{value_at, with_value, narrowed_value, triple_results, uses_of, both, QueuesAreSized, Table}
 use Rattle.zl_rights.specs.declared.status.Status.TheVariants as status
-use Rattle.zl_code.specs.Limits.{register_count}
-use Rattle.zl_code.specs.Local.{reg}
-use Rattle.zl_code.specs.declared.history.CallName.{CallName}
 use Rattle.zl_code.specs.declared.history.CallName.TheVariants as name
-use Rattle.zl_code.specs.declared.instr.CallInstr.{CallInstr}
-use Rattle.zl_code.specs.Spells.{number_at, is_call_in_range}
-use Rattle.zl_code.specs.CallTable.{chan_read_etc, wait_poll, gives_refused}
-use Rattle.zl_code.specs.Request.{Site, site_of}
-use Rattle.zl_code.specs.Sound.{IsSound}
-use Rattle.zl_code.specs.Tests.{object_at}
-use Rattle.zl_abs.specs.declared.value.AbsVal.{AbsVal}
-use Rattle.zl_abs.specs.declared.value.AbsVal.TheVariants.{Word, Has, KindOf, RightsOf}
-use Rattle.zl_abs.specs.States.{State, value_at, with_value}
-use Rattle.zl_abs.specs.CallRules.{narrowed_value, triple_results, uses_of}
-use Rattle.zl_abs.proofs.Order.{both}
-use Rattle.zl_verify.specs.CallLaws.{QueuesAreSized}
-use Rattle.zl_verify.specs.Conforms.{Table}
-use Rattle.zl_verify.proofs.Writing.{long_with}
 use Rattle.zl_verify.proofs.Sites.{call, AtSite, of_site}
 use Rattle.zl_verify.proofs.Aligned.{places_end}
 use Rattle.zl_verify.proofs.Fitting.{Fits, first_value, more_values}
-use Rattle.zl_verify.proofs.Giving.{status_few, are_zeroable, zeros_fit, no_triples_fit}
+use Rattle.zl_verify.proofs.Giving.{long_thrice, wide_thrice, status_few, are_zeroable, zeros_fit, no_triples_fit}
 use Rattle.zl_verify.proofs.Calm.{signals_few, first_sizes}
 
 -- a register for each value of the state, and no handle at 0
@@ -51,9 +31,7 @@ alone_fits f s xs ((a, Word m) ∷ ds) n few h =
     let two = both (m == 30) (are_zeroable ds) h in
     let is : m ≡ 30 = eqb-true m 30 two.0 in
     (f, (rw is few, omega arith, refl), zeros_fit f (with_value s a (Word m)) (slice_set xs a n) ds two.1)
-alone_fits f s xs ((a, Has maybe kind rights) ∷ ds) n few h = cc
-alone_fits f s xs ((a, KindOf t) ∷ ds) n few h = cc
-alone_fits f s xs ((a, RightsOf t) ∷ ds) n few h = cc
+alone_fits f s xs ((a, _) ∷ ds) n few h = cc
 
 narrowed_zero : (a : ℕ) (v : AbsVal) (imm : ℕ) → are_zeroable ((a, narrowed_value v imm) ∷ []) ≡ true
 narrowed_zero a (Has maybe kind rights) imm = refl
@@ -90,14 +68,10 @@ read_fits f s xs over a d e g places n vs few one two rest room = (
     xs3 = slice_set (slice_set (slice_set xs a n) d (first_value vs)) e (first_value (more_values vs))
 
     long : length s3 ≡ length s
-    long =
-        long_with (with_value (with_value s a (Word 30)) d (Word 65536)) e (Word 64)
-        ∙ (long_with (with_value s a (Word 30)) d (Word 65536) ∙ long_with s a (Word 30))
+    long = long_thrice s a d e (Word 30) (Word 65536) (Word 64)
 
     wide3 : length xs3 ≡ length xs
-    wide3 =
-        length-set (slice_set (slice_set xs a n) d (first_value vs)) e (first_value (more_values vs))
-        ∙ (length-set (slice_set xs a n) d (first_value vs) ∙ length-set xs a n)
+    wide3 = wide_thrice xs a d e n (first_value vs) (first_value (more_values vs))
 
 module _ (w : World) (p : ℕ) (sound : IsSound w) (sized : QueuesAreSized w) (st : Status) where
   poll_few : (h mask : ℕ) → (st : Status) → first_value (gives_refused w p (wait_poll h mask) st) ≤ 0xffff_ffff

@@ -1,11 +1,9 @@
 -- Rights that are within others together, and that nothing has.
-use Rattle.std.proofs.Common.{◌≡◌, ℕ, true, false, ◌==◌, sym, ap, ◌∙◌, min, max, arith, eq-eqb}
-use Rattle.std.specs.Prelude.{bit_and, bit_or}
+use Rattle.zl_verify.proofs.Common.{◌≡◌, ℕ, true, false, ◌==◌, sym, ap, ◌∙◌, min, arith, eq-eqb, bit_and, bit_or, and_le_l, within, within_is}
+use Rattle.std.proofs.Common.{max}
 use Rattle.std.specs.Int.{bit_at}
-use Rattle.std.proofs.lemmas.Nat.{and_le_l}
 use Rattle.std.proofs.lemmas.Nat.Bits.{same_from_bits, bit_at_and, bit_at_or}
-use Rattle.zl_rights.specs.Numbers.{within}
-use Rattle.zl_abs.proofs.Order.{is_within, within_is}
+use Rattle.zl_abs.proofs.Order.{is_within}
 
 module _ (part more whole : ℕ) (h : within part whole ≡ true) (k : within more whole ≡ true) where
   bit_of : (p : ℕ) → within p whole ≡ true → (i : ℕ) → min (bit_at whole i) (bit_at p i) ≡ bit_at p i

@@ -1,18 +1,12 @@
 -- What states that come to instructions make of the table of the search.
-use Rattle.std.proofs.Common.{◌≡◌, ◌≢◌, ℕ, ◌<◌, Bool, true, false, List, [], ◌∷◌, Option, Some, None, refl, sym, ap, ◌∙◌, subst, IsTrue, length, ◌⊎◌, inl, inr}
-use Rattle.std.proofs.Common.{arith}
-use Rattle.std.specs.Prelude.{slice_get, slice_set, if◌then◌else◌, Result, Ok, Err}
-use Rattle.std.specs.Option.{option_map, option_and_then}
-use Rattle.std.proofs.lemmas.Option.{same_Some}
-use Rattle.std.proofs.Math.ListN.{length-set}
-use Rattle.zl_abs.specs.declared.cause.Cause.{Cause}
-use Rattle.zl_abs.specs.States.{State, all_below, all_joined}
-use Rattle.zl_abs.specs.Rule.{Edge}
+use Rattle.zl_verify.proofs.Common.{◌≡◌, ◌≢◌, ℕ, ◌<◌, Bool, true, false, List, [], ◌∷◌, Option, Some, None, refl, sym, ap, ◌∙◌, subst, IsTrue, length, ◌⊎◌, inl}
+use Rattle.zl_verify.proofs.Common.{inr, arith, slice_get, slice_set, if◌then◌else◌, Result, Ok, Err, option_map, option_and_then, same_Some, length-set, Cause}
+use Rattle.zl_verify.proofs.Common.{State, all_below, all_joined, Edge, IsAbove, AllLead, all_below_refl, all_below_trans, at, raised_over, raised, raised_all}
 use Rattle.zl_abs.specs.Laws.{AllAboveJoin, JoinIsAllAbove}
-use Rattle.zl_abs.specs.Typing.{IsAbove, AllLead, Holds}
-use Rattle.zl_abs.proofs.StateOrder.{all_below_refl, all_below_trans, all_joined_left, all_joined_right, all_joined_least}
-use Rattle.zl_verify.specs.Lists.{within, at}
-use Rattle.zl_verify.specs.Search.{Table, put, raised_over, raised, raised_all}
+use Rattle.zl_abs.specs.Typing.{Holds}
+use Rattle.zl_abs.proofs.StateOrder.{all_joined_left, all_joined_right, all_joined_least}
+use Rattle.zl_verify.specs.Lists.{within}
+use Rattle.zl_verify.specs.Search.{Table, put}
 use Rattle.zl_verify.proofs.Places.{get_put, get_put_other, there, nowhere, equal_or_not}
 
 pub above_trans : (o : Option State) (s t : State) → IsTrue (all_below s t) → IsAbove o t → IsAbove o s

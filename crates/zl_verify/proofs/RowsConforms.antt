@@ -1,22 +1,14 @@
 -- A worked example: a process of a program with one handle and one slot array conforms where it starts.
-use Rattle.std.proofs.Common.{◌≡◌, ℕ, zero, suc, ◌+◌, ◌<◌, ◌≤◌, Bool, true, false, ◌&&◌, ◌==◌, List, [], ◌∷◌, replicate, refl, sym, subst, Option, Some, None}
-use Rattle.std.proofs.Common.{arith, inl, inr, slice_index}
-use Rattle.std.specs.Prelude.{nat_lt, if◌then◌else◌, is_some, slice_get}
-use Rattle.zl_rights.specs.Common.{get, World, Process, Ready}
-use Rattle.zl_rights.specs.Numbers.{rights_of, READ}
+use Rattle.zl_verify.proofs.Common.{◌≡◌, ℕ, zero, suc, ◌+◌, ◌<◌, ◌≤◌, Bool, true, false, ◌&&◌, ◌==◌, List, [], ◌∷◌, replicate, refl, sym, subst, Option, Some}
+use Rattle.zl_verify.proofs.Common.{None, arith, inl, inr, slice_index, if◌then◌else◌, is_some, slice_get, get, World, Process, Ready, rights_of, READ, Entry}
+use Rattle.zl_verify.proofs.Common.{SlotArray, Image, creates, Word, Has, ANY, State, value_at, with_value, with_all, start_state, Table, IsHandle, Describes}
+use Rattle.zl_verify.proofs.Common.{one_if, is_it, owns, owners, keepers, place_at, Holds, Conforms, called}
 use Rattle.zl_rights.specs.declared.kind.Kind.TheVariants as kind
-use Rattle.zl_rights.specs.declared.entry.Entry.{Entry}
-use Rattle.zl_code.specs.declared.image.SlotArray.{SlotArray}
 use Rattle.zl_code.specs.declared.instr.Instr.TheVariants as instr
 use Rattle.zl_code.specs.declared.instr.LocalInstr.TheVariants as local
 use Rattle.zl_code.specs.declared.history.CallName.TheVariants as name
-use Rattle.zl_code.specs.Image.{Image}
-use Rattle.zl_code.specs.Operands.{creates}
-use Rattle.zl_abs.specs.declared.value.AbsVal.TheVariants.{Word, Has}
-use Rattle.zl_abs.specs.Values.{ANY}
-use Rattle.zl_abs.specs.States.{State, value_at, with_value, with_all, start_state}
-use Rattle.zl_verify.specs.Conforms.{Table, IsHandle, Describes, one_if, is_it, owns, owners, keepers, place_at, Holds, Conforms}
-use Rattle.zl_code.proofs.Called.{called}
+use Rattle.zl_verify.proofs.Owners.{not_0}
+use Rattle.zl_verify.proofs.Starting.{owners_none}
 
 -- the channel goes into the slot array, and the process exits
 abbrev image : Image
@@ -65,24 +57,12 @@ zeros_described f xs zero r = omega arith
 zeros_described f xs (suc n) zero = omega arith
 zeros_described f xs (suc n) (suc r) = zeros_described f xs n r
 
-pub zeros_own : (v n : ℕ) → owners v (replicate n (Word 0)) (replicate n 0) ≡ 0
-unfolding owners owns
-zeros_own v zero = refl
-zeros_own v (suc n) = let k = zeros_own v n in omega arith
-
-pub not_0 : (v : ℕ) → one_if (is_it v 0) ≡ 0
-not_0 v = by (0 == v)
-  where
-    by : (b : Bool) → one_if (b && nat_lt 0 0) ≡ 0
-    by true = refl
-    by false = refl
-
 -- ---- the example
 
 owned : (v : ℕ) → owners v shown process.cpu.registers + keepers v process.cpu.slots ≡ one_if (is_some (get process.handles v))
 unfolding owners owns keepers get
 owned v =
-    let rest = zeros_own v 30 in
+    let rest = owners_none v 30 in
     let none = not_0 v in
     by (17 == v) (owners v (replicate 30 (Word 0)) (replicate 30 0)) (one_if (is_it v 0)) rest none
   where

@@ -1,31 +1,17 @@
 -- A worked example: a process with one handle in a register and one in a slot array conforms, and its table has just these two; and tables, states and places
 -- of which that isn't so.
-use Rattle.std.proofs.Common.{◌≡◌, ℕ, zero, suc, ◌+◌, ◌<◌, ◌≤◌, Bool, true, false, ◌&&◌, ◌||◌, ◌==◌, List, [], ◌∷◌, replicate, refl, sym, subst, Option, Some}
-use Rattle.std.proofs.Common.{None, arith, inl, inr, slice_index, ◌↔◌, IsTrue}
-use Rattle.std.specs.Prelude.{if◌then◌else◌, is_some, slice_get}
-use Rattle.std.specs.List.{Contains, IsDistinct, list_any}
-use Rattle.std.proofs.lemmas.Bool.{eqb-true}
-use Rattle.std.proofs.lemmas.Bool.Decides.{nat_tests}
-use Rattle.std.proofs.lemmas.Option.{same_Some}
-use Rattle.zl_rights.specs.Common.{get, has_key, Map, World, Cpu, Process, Ready}
-use Rattle.zl_rights.specs.Numbers.{rights_of, READ}
+use Rattle.zl_verify.proofs.Common.{◌≡◌, ℕ, zero, suc, ◌+◌, ◌<◌, ◌≤◌, Bool, true, false, ◌&&◌, ◌||◌, ◌==◌, List, [], ◌∷◌, replicate, refl, sym, subst, Option}
+use Rattle.zl_verify.proofs.Common.{Some, None, arith, inl, inr, slice_index, ◌↔◌, IsTrue, if◌then◌else◌, is_some, slice_get, Contains, IsDistinct, list_any}
+use Rattle.zl_verify.proofs.Common.{eqb-true, nat_tests, same_Some, get, has_key, Map, World, Cpu, Process, Ready, rights_of, READ, Entry, SlotArray, Start}
+use Rattle.zl_verify.proofs.Common.{Image, creates, AbsVal, Word, Has, ANY, State, value_at, IsHandle, Describes, one_if, is_it, owns, owners, keepers}
+use Rattle.zl_verify.proofs.Common.{place_at, Holds, Conforms, values_in_registers, values_in_slots, handle_values, HoldsJustItsHandles, called}
 use Rattle.zl_rights.specs.declared.kind.Kind.TheVariants as kind
-use Rattle.zl_rights.specs.declared.entry.Entry.{Entry}
-use Rattle.zl_code.specs.declared.image.SlotArray.{SlotArray}
-use Rattle.zl_code.specs.declared.image.Start.{Start}
 use Rattle.zl_code.specs.declared.instr.Instr.TheVariants as instr
 use Rattle.zl_code.specs.declared.instr.LocalInstr.TheVariants as local
 use Rattle.zl_code.specs.declared.history.CallName.TheVariants as name
-use Rattle.zl_code.specs.Image.{Image}
-use Rattle.zl_code.specs.Operands.{creates}
-use Rattle.zl_abs.specs.declared.value.AbsVal.{AbsVal}
-use Rattle.zl_abs.specs.declared.value.AbsVal.TheVariants.{Word, Has}
-use Rattle.zl_abs.specs.Values.{ANY}
-use Rattle.zl_abs.specs.States.{State, value_at}
-use Rattle.zl_verify.specs.Conforms.{IsHandle, Describes, one_if, is_it, owns, owners, keepers, place_at, Holds, Conforms}
-use Rattle.zl_verify.specs.NoLeak.{values_in_registers, values_in_slots, handle_values, HoldsJustItsHandles}
-use Rattle.zl_verify.proofs.RowsConforms.{zeros_small, zeros_described, zeros_own, not_0}
-use Rattle.zl_code.proofs.Called.{called}
+use Rattle.zl_verify.proofs.RowsConforms.{zeros_small, zeros_described}
+use Rattle.zl_verify.proofs.Owners.{not_0}
+use Rattle.zl_verify.proofs.Starting.{owners_none}
 
 -- ---- the example
 
@@ -73,7 +59,7 @@ known = known_with (Has false (Some kind.Channel) (rights_of READ))
 owned : (v : ℕ) → owners v known cpu.registers + keepers v cpu.slots ≡ one_if (is_some (get handles v))
 unfolding owners owns keepers get
 owned v =
-    let rest = zeros_own v 27 in
+    let rest = owners_none v 27 in
     let none = not_0 v in
     by (17 == v) (23 == v) refl refl (owners v (replicate 27 (Word 0)) (replicate 27 0)) (one_if (is_it v 0)) rest none
   where

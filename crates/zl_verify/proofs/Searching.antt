@@ -1,22 +1,12 @@
 -- The search for the least typing, block by block: what holds at each turn of it.
-use Rattle.std.proofs.Common.{◌≡◌, ◌≢◌, ℕ, ◌+◌, ◌<◌, ◌≤◌, Bool, true, false, List, Option, Some, None, refl, sym, ◌∙◌, subst, length, ◌⊎◌, inl, inr, arith}
-use Rattle.std.specs.Prelude.{slice_get, slice_set, Result, Ok, Err}
-use Rattle.std.proofs.lemmas.Option.{same_Some}
-use Rattle.std.proofs.Math.ListN.{length-set}
-use Rattle.zl_code.specs.Image.{Image}
-use Rattle.zl_abs.specs.declared.cause.Cause.{Cause}
-use Rattle.zl_abs.specs.States.{State, start_state}
-use Rattle.zl_abs.specs.Rule.{Edge}
-use Rattle.zl_abs.specs.Typing.{IsAbove, Holds, IsTyping}
-use Rattle.zl_verify.specs.Lists.{at}
-use Rattle.zl_verify.specs.Search.{Table, raised_all, cleared}
-use Rattle.zl_verify.specs.Blocks.{Blocks, AreBlocks, block}
+use Rattle.zl_verify.proofs.Common.{◌≡◌, ◌≢◌, ℕ, ◌+◌, ◌<◌, ◌≤◌, Bool, true, false, List, Option, Some, None, refl, sym, ◌∙◌, subst, length, ◌⊎◌, inl, inr}
+use Rattle.zl_verify.proofs.Common.{arith, slice_get, slice_set, Result, Ok, Err, same_Some, length-set, Image, Cause, State, start_state, Edge, IsAbove}
+use Rattle.zl_verify.proofs.Common.{IsTyping, at, raised_all, cleared, Blocks, AreBlocks, block, none-some}
+use Rattle.zl_abs.specs.Typing.{Holds}
+use Rattle.zl_verify.specs.Search.{Table}
 use Rattle.zl_verify.proofs.Places.{get_put, get_put_other, off, nowhere, equal_or_not, mapped}
 use Rattle.zl_verify.proofs.Rising.{Quiet, Lower, AllRaise, AllRaiseOr, leads_still, typed_still, raising_all}
 use Rattle.zl_verify.proofs.Leaving.{at_starts, leads_out, at_block}
-
-none_some : {X : Type 0} (x : X) → None ≡ Some x → ⊥
-none_some x e = cc
 
 -- ---- the search
 
@@ -96,7 +86,7 @@ cleared_on i bs a t h n e = record {
   where
     settled : (m : ℕ) (x : State) → at t.states m ≡ Some x → slice_get (slice_set t.waiting n false) m ≡ Some false → (n ≡ m) ⊎ (n ≢ m)
         → Holds (at t.states) (block i bs m x)
-    settled m x g w (inl p) = absurd (none_some x (sym e ∙ rw p g))
+    settled m x g w (inl p) = absurd (none-some x (sym e ∙ rw p g))
     settled m x g w (inr d) = h.settled m x g (sym (get_put_other t.waiting n m false d) ∙ w)
 
     quiet : (m : ℕ) → m < t.from → slice_get (slice_set t.waiting n false) m ≡ Some true → (n ≡ m) ⊎ (n ≢ m) → ⊥

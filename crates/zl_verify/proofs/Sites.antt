@@ -1,14 +1,7 @@
 -- A call as it stands at its instruction. By its name a call goes by a row that is known, so that its site computes.
-use Rattle.std.proofs.Common.{◌≡◌, Bool, true, false, ℕ, List, refl, sym, ap, ◌∙◌, subst, Some}
-use Rattle.std.specs.Prelude.{is_some}
-use Rattle.std.specs.Bool.{then_some}
-use Rattle.std.proofs.lemmas.Option.{same_Some}
-use Rattle.zl_rights.specs.Common.{Cpu}
-use Rattle.zl_code.specs.declared.history.CallName.{CallName}
-use Rattle.zl_code.specs.declared.instr.CallInstr.{CallInstr}
-use Rattle.zl_code.specs.Instructions.{call_row}
-use Rattle.zl_code.specs.Asked.{has_its_memory}
-use Rattle.zl_code.specs.Request.{Site, site_at, site_of}
+use Rattle.zl_verify.proofs.Common.{◌≡◌, Bool, true, false, ℕ, List, refl, sym, ap, ◌∙◌, subst, Some, is_some, then_some, same_Some, Cpu, CallName, CallInstr}
+use Rattle.zl_verify.proofs.Common.{call_row, has_its_memory, Site, site_of}
+use Rattle.zl_code.specs.Request.{site_at}
 use Rattle.zl_code.proofs.CallRows.{site_named}
 
 -- a call by its parts, which a lemma by cases of the name takes

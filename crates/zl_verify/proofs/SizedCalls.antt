@@ -1,62 +1,37 @@
 -- Whatever a call does, and however it is answered, its world stays sized.
-use Rattle.std.proofs.Common.{◌≡◌, ℕ, suc, ◌+◌, ◌≤◌, Bool, true, false, not, ◌||◌, ◌==◌, List, [], ◌∷◌, ◌++◌, length, drop, slice_index, refl, sym, ap, ◌∙◌}
-use Rattle.std.proofs.Common.{subst, Option, Some, None, arith, inl, inr, ◌⊎◌}
-use Rattle.std.specs.Prelude.{⊤, is_some, if◌then◌else◌, nat_lt, slice_get, bit_and, bit_xor}
-use Rattle.std.specs.List.{AllByRecursion, filter}
-use Rattle.std.specs.Option.{option_to_list}
-use Rattle.std.proofs.lemmas.Bool.{cases_Bool, eqb-true}
-use Rattle.std.proofs.lemmas.Bool.Decides.{nat_tests}
-use Rattle.std.proofs.lemmas.Nat.{and_le_l}
-use Rattle.std.proofs.lemmas.Option.{same_Some}
-use Rattle.zl_rights.specs.declared.entry.Entry.{Entry}
-use Rattle.zl_rights.specs.declared.status.Status.{Status}
-use Rattle.zl_rights.specs.declared.status.Status.TheVariants as status
-use Rattle.zl_rights.specs.Common.{get, has_key, lives, without, within, runs, queue_of, World, Cpu, Process, Object, Body, ChannelEnd, EventBody, JobBody}
-use Rattle.zl_rights.specs.Common.{PairEnd}
-use Rattle.zl_rights.specs.Common.{PortBody, ProcessBody, Ended}
-use Rattle.zl_rights.specs.World.{written, Message, Packet}
-use Rattle.zl_rights.specs.Numbers.{status_magnitude, changed, KILLED}
-use Rattle.zl_rights.specs.Policies.{Setting, setting_of}
+use Rattle.zl_verify.proofs.Common.{◌≡◌, ℕ, suc, ◌+◌, ◌≤◌, Bool, true, false, not, ◌||◌, ◌==◌, List, [], ◌∷◌, ◌++◌, length, drop, slice_index, refl, sym, ap}
+use Rattle.zl_verify.proofs.Common.{◌∙◌, subst, Option, Some, None, arith, inl, inr, ◌⊎◌, ⊤, is_some, if◌then◌else◌, nat_lt, slice_get, bit_and, bit_xor}
+use Rattle.zl_verify.proofs.Common.{AllByRecursion, filter, option_to_list, cases_Bool, eqb-true, nat_tests, and_le_l, same_Some, Entry, Status, get, has_key}
+use Rattle.zl_verify.proofs.Common.{lives, without, within, runs, queue_of, World, Cpu, Process, Object, Body, ChannelEnd, EventBody, JobBody, PairEnd}
+use Rattle.zl_verify.proofs.Common.{PortBody, ProcessBody, Ended, written, Message, Packet, status_magnitude, KILLED, Setting, setting_of, Outcome, CallName}
+use Rattle.zl_verify.proofs.Common.{CallInstr, Library, reg, object_at, body_of, entry_at, queue_at, first_bytes, first_handles, packets_in, packets_at}
+use Rattle.zl_verify.proofs.Common.{first_values, created_process, started_with, job_within, body_with_policy, body_killed, object_killed, process_killed}
+use Rattle.zl_verify.proofs.Common.{is_within, with_killed, on_process, insert_all, remove_all, with_object, process_with, process_without, may_get_after}
+use Rattle.zl_verify.proofs.Common.{may_get_all, told_of, Request, replace, chan_create, chan_write, chan_read_etc, event_create, eventpair_create, signal}
+use Rattle.zl_verify.proofs.Common.{signal_peer, wait_one, wait_poll, wait_async, port_create, port_queue, port_wait, port_poll, port_cancel, process_create}
+use Rattle.zl_verify.proofs.Common.{process_start, task_kill, job_create, job_set_policy, listed, new_handles, receiver_of, choosing, entering_at, effect}
+use Rattle.zl_verify.proofs.Common.{stored_by, gives_ok, gives_refused, awaited_by, refusal, Site, site_of, taken_handles, may_choose, taken, cpu_answered}
+use Rattle.zl_verify.proofs.Common.{replied, with_effect, after_refusal, after_ok, ok_outcome, Calls, IsSound, is_value, get_without, gone_without, Each, ANY}
+use Rattle.zl_verify.proofs.Common.{both, IsSizedMessage, IsSizedPacket, IsSizedCpu, IsSized, IsSizedObject}
+use Rattle.zl_rights.specs.Numbers.{changed}
 use Rattle.zl_rights.specs.Packets.{user_packet, is_from}
-use Rattle.zl_code.specs.declared.history.Outcome.{Outcome}
+use Rattle.zl_code.specs.Tests.{settable_of, may_change, peer_at, entries_at, is_too_large}
+use Rattle.zl_code.specs.Waiting.{is_keyed, is_by_handle, body_packed, source_at, wait_of}
+use Rattle.zl_code.specs.Effects.{gets_all, body_with_message, body_after_read}
+use Rattle.zl_code.specs.Sound.{IsSoundTable}
+use Rattle.zl_rights.specs.declared.status.Status.TheVariants as status
 use Rattle.zl_code.specs.declared.history.Outcome.TheVariants as outcome
-use Rattle.zl_code.specs.declared.history.CallName.{CallName}
 use Rattle.zl_code.specs.declared.history.CallName.TheVariants as name
-use Rattle.zl_code.specs.declared.instr.CallInstr.{CallInstr}
-use Rattle.zl_code.specs.Image.{Library}
-use Rattle.zl_code.specs.Local.{reg}
-use Rattle.zl_code.specs.Tests.{settable_of, may_change, object_at, body_of, peer_at, entry_at, entries_at, is_too_large, queue_at, first_bytes, first_handles}
-use Rattle.zl_code.specs.Waiting.{packets_in, packets_at, first_values, is_keyed, is_by_handle, body_packed, source_at, wait_of}
-use Rattle.zl_code.specs.Starting.{created_process, started_with}
-use Rattle.zl_code.specs.Jobs.{job_within, body_with_policy, body_killed, object_killed, process_killed, is_within, with_killed}
-use Rattle.zl_code.specs.Effects.{on_process, insert_all, remove_all, with_object, process_with, process_without, may_get_after, may_get_all, gets_all, told_of}
-use Rattle.zl_code.specs.Effects.{body_with_message, body_after_read}
-use Rattle.zl_code.specs.CallTable.{Request, replace, chan_create, chan_write, chan_read_etc, event_create, eventpair_create, signal, signal_peer, wait_one}
-use Rattle.zl_code.specs.CallTable.{wait_poll}
-use Rattle.zl_code.specs.CallTable.{wait_async, port_create, port_queue, port_wait, port_poll, port_cancel, process_create, process_start, task_kill}
-use Rattle.zl_code.specs.CallTable.{job_create, job_set_policy, listed, new_handles, receiver_of, choosing, entering_at, effect, stored_by, gives_ok}
-use Rattle.zl_code.specs.CallTable.{gives_refused, awaited_by}
-use Rattle.zl_code.specs.Refusals.{refusal}
-use Rattle.zl_code.specs.Request.{Site, site_of}
-use Rattle.zl_code.specs.Calls.{taken_handles, may_choose, taken, cpu_answered, replied, with_effect, after_refusal, after_ok, ok_outcome, CallBy, Choice}
-use Rattle.zl_code.specs.Calls.{Refused, Wants, Values, Calls}
-use Rattle.zl_code.specs.Sound.{IsSound, IsSoundTable, is_value}
-use Rattle.zl_code.proofs.Entering.{get_without, gone_without}
-use Rattle.zl_code.proofs.MapKept.{Each}
-use Rattle.zl_abs.specs.Values.{ANY}
-use Rattle.zl_abs.proofs.Order.{both}
-use Rattle.zl_verify.specs.CallLaws.{IsSizedMessage, IsSizedPacket}
-use Rattle.zl_verify.specs.SizedLaws.{IsSizedCpu}
+use Rattle.zl_verify.proofs.CallEnds.{call_ends}
 use Rattle.zl_verify.proofs.Memories.{AreBytes, all_taken, all_dropped}
 use Rattle.zl_verify.proofs.Calm.{both_few, within_few, first_sizes, first_are_bytes, first_rights, packets_at_sized}
 use Rattle.zl_verify.proofs.Giving.{status_few, kind_few, HasFewRights}
 use Rattle.zl_verify.proofs.Sites.{call, AtSite, of_site}
 use Rattle.zl_verify.proofs.Working.{listed_none, test_fails, test_passes}
 use Rattle.zl_verify.proofs.SizedCpus.{AreSmall, registers_written, answered_sized, blank_sized, started_sized}
-use Rattle.zl_verify.specs.SizedLaws.{IsSized, IsSizedObject}
-use Rattle.zl_verify.proofs.SizedWorlds.{IsSizedProcess, IsSizedAt, all_filtered, all_behind, each_update, each_each, queues_sized, active_sized, process_sized}
-use Rattle.zl_verify.proofs.SizedWorlds.{new_process_sized, removed_sized, inserted_sized, stored_sized, ended_sized, waiting_sized, object_sized}
-use Rattle.zl_verify.proofs.SizedWorlds.{new_object_sized, fewer_waits, wait_sized}
+use Rattle.zl_verify.proofs.SizedWorlds.{pair_sized, IsSizedProcess, IsSizedAt, all_filtered, all_behind, each_update, each_each, queues_sized, active_sized}
+use Rattle.zl_verify.proofs.SizedWorlds.{process_sized, one_sized, new_process_sized, removed_sized, inserted_sized, stored_sized, ended_sized, waiting_sized}
+use Rattle.zl_verify.proofs.SizedWorlds.{object_sized, new_object_sized, fewer_waits, wait_sized}
 
 -- ---- what is asked for
 
@@ -150,9 +125,7 @@ module _ (w : World) (p : ℕ) (s : IsSized w) where
   unfolding gives_refused
   refused_small (chan_read_etc c address room places) status.BufferTooSmall = let few = sizes_small c in (few.0, (few.1, tt))
   refused_small (wait_poll h mask) status.TimedOut = (active_sized w s (object_at w p h), tt)
-  refused_small (chan_read_etc c address room places) _ = tt
-  refused_small (wait_poll h mask) _ = tt
-  refused_small _ st = tt
+  refused_small _ _ = tt
 
   given_small : IsSound w → (r : Request) → IsSizedRequest r → (vs : List ℕ) → AreSmall vs → AreSmall (gives_ok w p r vs)
   unfolding gives_ok
@@ -238,11 +211,7 @@ empty_sized b queue packets = record { messages = rw queue tt; packets = rw pack
 
 killed_process : (b : Bool) (q : Process) → IsSizedCpu q.cpu → IsSizedCpu (process_killed b q).cpu
 killed_process false q s = s
-killed_process true q s = by (lives q.state)
-  where
-    by : (b : Bool) → IsSizedCpu (if b then record q { state = Ended KILLED; handles = []; last = None } else q).cpu
-    by true = s
-    by false = s
+killed_process true q s = one_sized (lives q.state) (record q { state = Ended KILLED; handles = []; last = None }) q s s
 
 killed_object : (b : Bool) (o : Object) → IsSizedObject o.body o.raised → IsSizedObject (object_killed b o).body (object_killed b o).raised
 killed_object false o s = s
@@ -270,8 +239,7 @@ module _ (lib : Library) (w : World) (p : ℕ) (u : World) (s : IsSized u) (vs :
   unfolding effect listed
   effect_sized (replace h rights) fits passes = fewer_waits u (λ x. not (is_by_handle p h x)) s
   effect_sized chan_create fits passes =
-      new_object_sized (with_object u (ChannelEnd (w.next_koid + 1) [])) (ChannelEnd w.next_koid []) (empty_sized _ refl refl)
-      (new_object_sized u (ChannelEnd (w.next_koid + 1) []) (empty_sized _ refl refl) s)
+      pair_sized u (ChannelEnd (w.next_koid + 1) []) (ChannelEnd w.next_koid []) (empty_sized _ refl refl) (empty_sized _ refl refl) s
   effect_sized (chan_write c bytes hs) fits passes =
       object_sized u (peer_at w p c) _
       (λ o k. message_comes _ (message_sized w p bytes hs fits (test_fails _ status.OutOfRange (listed_none lib w p (chan_write c bytes hs) passes).1.0))
@@ -279,8 +247,7 @@ module _ (lib : Library) (w : World) (p : ℕ) (u : World) (s : IsSized u) (vs :
   effect_sized (chan_read_etc c address room places) fits passes = object_sized u (object_at w p c) _ (λ o k. message_goes o.body o.raised k) s
   effect_sized event_create fits passes = new_object_sized u EventBody (empty_sized _ refl refl) s
   effect_sized eventpair_create fits passes =
-      new_object_sized (with_object u (PairEnd (w.next_koid + 1))) (PairEnd w.next_koid) (empty_sized _ refl refl)
-      (new_object_sized u (PairEnd (w.next_koid + 1)) (empty_sized _ refl refl) s)
+      pair_sized u (PairEnd (w.next_koid + 1)) (PairEnd w.next_koid) (empty_sized _ refl refl) (empty_sized _ refl refl) s
   effect_sized (signal h clear set) fits passes =
       object_sized u (object_at w p h) _
       (λ o k. signals_changed (body_of w (object_at w p h)) clear set (test_passes _ status.InvalidArgs (listed_none lib w p (signal h clear set) passes).0)
@@ -365,14 +332,7 @@ module _ (lib : Library) (w : World) (p : ℕ) (sound : IsSound w) (s : IsSized 
   ok_sized passes vs may (outcome.Ended code) = ended_sized _ p code (done_sized passes vs (values_small vs may))
   ok_sized passes vs may outcome.Blocked = waiting_sized w p t.destinations (awaited_by w p t.request) s
 
-  by_choice : (choice : Choice) (r : Option Outcome) → refusal lib w p t.request ≡ r → (answer : Outcome) (w2 : World)
-      → CallBy lib w p t choice r answer w2 → IsSized w2
-  by_choice Refused None is answer w2 c = absurd c
-  by_choice Refused (Some o) is answer w2 c = rw c.1 (refused_sized o)
-  by_choice (Wants want) None is answer w2 c = rw c.2 (refused_sized (outcome.Answered want))
-  by_choice (Wants want) (Some o) is answer w2 c = absurd c
-  by_choice (Values vs) None is answer w2 c = rw c.2 (ok_sized is vs c.0 (ok_outcome w p t.request))
-  by_choice (Values vs) (Some o) is answer w2 c = absurd c
-
   pub call_sized : (answer : Outcome) (w2 : World) → Calls lib w p t answer w2 → IsSized w2
-  call_sized answer w2 (choice, c) = by_choice choice (refusal lib w p t.request) refl answer w2 c
+  call_sized =
+      call_ends lib w p t (λ o v. IsSized v) (λ o is. refused_sized o) (λ want may. refused_sized (outcome.Answered want))
+      (λ passes vs may. ok_sized passes vs may (ok_outcome w p t.request))

@@ -1,22 +1,11 @@
 -- Registers, memories and slot arrays stay sized, whatever a local instruction does.
-use Rattle.std.proofs.Common.{◌≡◌, ℕ, zero, suc, ◌+◌, ◌-◌, ◌<◌, ◌≤◌, Bool, true, false, List, [], ◌∷◌, length, map, take, drop, refl, subst, Option, Some, None}
-use Rattle.std.proofs.Common.{IfSome, arith, slice_set, slice_index}
-use Rattle.std.specs.Prelude.{if◌then◌else◌, nat_lt, slice_get, slice_index_or, replicate, bit_and, ◌^◌}
-use Rattle.std.specs.List.{AllByRecursion}
-use Rattle.std.proofs.lemmas.Option.{get_or_from_slice_get}
-use Rattle.std.proofs.lemmas.Nat.{and_le_l}
-use Rattle.zl_rights.specs.Common.{answered, Cpu}
-use Rattle.zl_rights.specs.World.{written}
-use Rattle.zl_code.specs.declared.image.SlotArray.{SlotArray}
-use Rattle.zl_code.specs.declared.instr.LocalInstr.{LocalInstr}
+use Rattle.zl_verify.proofs.Common.{◌≡◌, ℕ, zero, suc, ◌+◌, ◌-◌, ◌<◌, ◌≤◌, Bool, true, false, List, [], ◌∷◌, length, map, take, drop, refl, subst, Option, Some}
+use Rattle.zl_verify.proofs.Common.{None, IfSome, arith, slice_set, slice_index, if◌then◌else◌, nat_lt, slice_get, slice_index_or, replicate, bit_and, ◌^◌}
+use Rattle.zl_verify.proofs.Common.{AllByRecursion, get_or_from_slice_get, and_le_l, answered, Cpu, written, SlotArray, LocalInstr, Program, number_of}
+use Rattle.zl_verify.proofs.Common.{bytes_of, is_local_in_range, local_parts, reg, sets, is_in_memory, overwritten, swaps, local_effect, blank_cpu, set_from}
+use Rattle.zl_verify.proofs.Common.{with_handles, cpu_given, ANY, shifted, IsSizedCpu}
+use Rattle.zl_code.specs.Local.{loads, stores, swaps_in}
 use Rattle.zl_code.specs.declared.instr.LocalInstr.TheVariants as local
-use Rattle.zl_code.specs.Image.{Program}
-use Rattle.zl_code.specs.Spells.{number_of, bytes_of, is_local_in_range, local_parts}
-use Rattle.zl_code.specs.Local.{reg, sets, is_in_memory, loads, overwritten, stores, swaps, swaps_in, local_effect}
-use Rattle.zl_code.specs.Starting.{blank_cpu, set_from, with_handles, cpu_given}
-use Rattle.zl_abs.specs.Values.{ANY}
-use Rattle.zl_abs.specs.LocalRules.{shifted}
-use Rattle.zl_verify.specs.SizedLaws.{IsSizedCpu}
 use Rattle.zl_verify.proofs.Agreeing.{wrapped_few, or_few, xor_few, up_few, down_less, imm_in}
 use Rattle.zl_verify.proofs.Memories.{byte_less, word_less, bytes_over, all_of}
 

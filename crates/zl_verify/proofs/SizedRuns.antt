@@ -1,38 +1,18 @@
 -- Every world of a run from a boot world, and of a legal history from one, is sized.
-use Rattle.std.proofs.Common.{◌≡◌, ℕ, zero, suc, ◌+◌, ◌≤◌, Bool, true, false, ◌==◌, List, [], ◌∷◌, refl, subst, IsTrue, Option, Some, None, IfSome}
-use Rattle.std.specs.Prelude.{⊤, if◌then◌else◌, slice_get}
-use Rattle.std.specs.List.{AllByRecursion, flat_map}
-use Rattle.std.proofs.lemmas.Option.{same_Some, none-some}
-use Rattle.zl_rights.specs.declared.entry.Entry.{Entry}
-use Rattle.zl_rights.specs.Common.{STUCK, get, World, Cpu, Process, Object, EventBody, PairEnd, PortBody, ChannelEnd, JobBody, ProcessBody}
-use Rattle.zl_code.specs.declared.boot.Statement.{Statement}
-use Rattle.zl_code.specs.declared.boot.Statement.TheVariants as statement
-use Rattle.zl_code.specs.Jobs.{job_within}
-use Rattle.zl_code.specs.Tests.{body_of}
-use Rattle.zl_code.specs.declared.history.TraceItem.{TraceItem}
-use Rattle.zl_code.specs.declared.instr.Instr.{Instr}
-use Rattle.zl_code.specs.declared.instr.Instr.TheVariants as instr
-use Rattle.zl_code.specs.declared.instr.CallInstr.{CallInstr}
-use Rattle.zl_code.specs.Image.{Image, Library, instr_at}
-use Rattle.zl_code.specs.Spells.{is_in_range, is_instr_in_range}
-use Rattle.zl_code.specs.Local.{local_effect}
-use Rattle.zl_code.specs.Request.{Site, site_of}
-use Rattle.zl_code.specs.Effects.{with_object, process_with}
-use Rattle.zl_code.specs.Boot.{setting, Boots, may_boot, boot_effect, handles_given, process_with_all, origin}
-use Rattle.zl_code.specs.Starting.{created_process}
-use Rattle.zl_code.specs.Steps.{Next, Moves, AtCall, IsStuck, moves, calls_at, next_of, next_at, next_in, next_for, Acts, Step, pid_of, Runs, single}
+use Rattle.zl_verify.proofs.Common.{◌≡◌, ℕ, zero, suc, ◌+◌, ◌≤◌, Bool, true, false, ◌==◌, List, [], ◌∷◌, refl, subst, IsTrue, Option, Some, None, IfSome, ⊤}
+use Rattle.zl_verify.proofs.Common.{if◌then◌else◌, slice_get, AllByRecursion, flat_map, same_Some, none-some, Entry, STUCK, get, World, Cpu, Process, Object}
+use Rattle.zl_verify.proofs.Common.{EventBody, PairEnd, PortBody, ChannelEnd, JobBody, ProcessBody, Statement, job_within, body_of, TraceItem, Instr, CallInstr}
+use Rattle.zl_verify.proofs.Common.{Image, Library, instr_at, is_in_range, is_instr_in_range, local_effect, Site, site_of, with_object, process_with, setting}
+use Rattle.zl_verify.proofs.Common.{Boots, may_boot, boot_effect, handles_given, process_with_all, origin, created_process, Next, Moves, AtCall, IsStuck, moves}
+use Rattle.zl_verify.proofs.Common.{calls_at, next_of, next_at, next_in, next_for, Acts, Step, pid_of, Runs, single, IsSound, word_of, IsSizedBoot, ranges}
+use Rattle.zl_verify.proofs.Common.{step_sound, boot_sound, ANY, IsSizedCpu, IsSized, IsSizedObject}
 use Rattle.zl_code.specs.Steps.{IsLegalHistory}
 use Rattle.zl_code.specs.Handles.{Throughout}
-use Rattle.zl_code.specs.Sound.{IsSound}
-use Rattle.zl_code.specs.Headline.{word_of, IsSizedBoot}
-use Rattle.zl_code.proofs.ImageRanges.{ranges}
-use Rattle.zl_code.proofs.SoundRuns.{step_sound, boot_sound}
-use Rattle.zl_abs.specs.Values.{ANY}
-use Rattle.zl_verify.specs.SizedLaws.{IsSizedCpu}
+use Rattle.zl_code.specs.declared.boot.Statement.TheVariants as statement
+use Rattle.zl_code.specs.declared.instr.Instr.TheVariants as instr
 use Rattle.zl_verify.proofs.LocalSteps.{in_range_at}
 use Rattle.zl_verify.proofs.SizedCpus.{blank_sized, started_sized, local_sized}
-use Rattle.zl_verify.specs.SizedLaws.{IsSized, IsSizedObject}
-use Rattle.zl_verify.proofs.SizedWorlds.{object_sized, process_sized, new_process_sized, ended_sized, new_object_sized, settled_sized, wakes_sized}
+use Rattle.zl_verify.proofs.SizedWorlds.{pair_sized, object_sized, process_sized, new_process_sized, ended_sized, new_object_sized, settled_sized, wakes_sized}
 use Rattle.zl_verify.proofs.SizedCalls.{policy_set_sized, IsSizedRequest, request_sized, chosen_small, empty_sized, call_sized}
 
 -- ---- what stands next
@@ -56,10 +36,9 @@ next_sized i c range h = by (instr_at i c.counter) (in_range_at i.raw i.code c.c
     called x (Some t) is = request_sized c h x t is
 
     by : (o : Option Instr) → IfSome o (λ x. is_instr_in_range i.raw x ≡ true) → IsSizedNext (next_of o c)
-    by None r = tt
     by (Some (instr.Local x)) r = moved (local_effect x c) (local_sized c h x r)
     by (Some (instr.Call x)) r = called x (site_of x c) refl
-    by (Some (instr.Unknown bytes)) r = tt
+    by _ r = tt
 
 library_sized : (lib : Library) → AllByRecursion (λ g. IsTrue (is_in_range g.image)) lib → (n : ℕ) (c : Cpu) → IsSizedCpu c
     → IsSizedNext (next_in (slice_get lib n) c)
@@ -119,11 +98,9 @@ statement_sized lib w (statement.Policy job condition action) vs few may s =
 statement_sized lib w statement.Event vs few may s = new_object_sized w EventBody (empty_sized _ refl refl) s
 statement_sized lib w statement.Port vs few may s = new_object_sized w (PortBody []) (empty_sized _ refl refl) s
 statement_sized lib w statement.Channel vs few may s =
-    new_object_sized (with_object w (ChannelEnd (w.next_koid + 1) [])) (ChannelEnd w.next_koid []) (empty_sized _ refl refl)
-    (new_object_sized w (ChannelEnd (w.next_koid + 1) []) (empty_sized _ refl refl) s)
+    pair_sized w (ChannelEnd (w.next_koid + 1) []) (ChannelEnd w.next_koid []) (empty_sized _ refl refl) (empty_sized _ refl refl) s
 statement_sized lib w statement.Eventpair vs few may s =
-    new_object_sized (with_object w (PairEnd (w.next_koid + 1))) (PairEnd w.next_koid) (empty_sized _ refl refl)
-    (new_object_sized w (PairEnd (w.next_koid + 1)) (empty_sized _ refl refl) s)
+    pair_sized w (PairEnd (w.next_koid + 1)) (PairEnd w.next_koid) (empty_sized _ refl refl) (empty_sized _ refl refl) s
 
 boots_sized : (lib : Library) (w : World) (statements : List Statement) (after : World) → AllByRecursion (λ s. word_of s ≤ ANY) statements → IsSized w
     → Boots lib w statements after → IsSized after

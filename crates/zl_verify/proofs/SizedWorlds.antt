@@ -1,27 +1,19 @@
 -- Worlds in which registers, memories and what is queued are sized; what changes a world leaves it so, and so do settling and waking.
-use Rattle.std.proofs.Common.{◌≡◌, ℕ, ◌≤◌, Bool, true, false, not, ◌&&◌, ◌==◌, List, [], ◌∷◌, ◌++◌, map, refl, sym, ◌∙◌, subst, Option, Some, None, arith}
-use Rattle.std.specs.Prelude.{ℤ, cond, if◌then◌else◌}
-use Rattle.std.specs.List.{AllByRecursion, filter, fold}
-use Rattle.std.specs.Option.{option_map}
-use Rattle.std.proofs.lemmas.Option.{same_Some, none-some}
-use Rattle.zl_rights.specs.declared.entry.Entry.{Entry}
-use Rattle.zl_rights.specs.Common.{lives, each, get, update, without, has_key, Settles, process_settled, without_others, fired, wakes, Map, World, Process}
-use Rattle.zl_rights.specs.Common.{State, Blocked, Ended, Object, Body, PortBody}
-use Rattle.zl_rights.specs.World.{Awaited, SignalOf, PacketAt, Packet, Wait}
-use Rattle.zl_rights.specs.Signals.{active}
-use Rattle.zl_rights.specs.Numbers.{meets}
+use Rattle.zl_verify.proofs.Common.{◌≡◌, ℕ, ◌≤◌, Bool, true, false, not, ◌&&◌, ◌==◌, List, [], ◌∷◌, ◌++◌, map, refl, sym, ◌∙◌, subst, Option, Some, None, arith}
+use Rattle.zl_verify.proofs.Common.{ℤ, cond, if◌then◌else◌, AllByRecursion, filter, option_map, same_Some, none-some, Entry, lives, get, without, has_key}
+use Rattle.zl_verify.proofs.Common.{Settles, process_settled, without_others, fired, wakes, Map, World, Process, Blocked, Ended, Object, Body, PortBody}
+use Rattle.zl_verify.proofs.Common.{Awaited, Packet, active, body_with_packets, packets_for, made_ready, packet_values, with_body, woken, get-update, get-each}
+use Rattle.zl_verify.proofs.Common.{on_process, on_object, process_with, process_without, insert_all, remove_all, with_object, process_ended, ended, storing}
+use Rattle.zl_verify.proofs.Common.{waiting, overwritten, Each, ANY, IsSizedPacket, QueuesAreSized, IsSizedCpu, IsSizedObject, IsSized}
+use Rattle.zl_rights.specs.Common.{each, update}
+use Rattle.zl_rights.specs.World.{Wait}
 use Rattle.zl_rights.specs.Settle.{is_made_by_handle}
-use Rattle.zl_rights.specs.Wakes.{holds, packet_of, body_with_packets, packets_for, made_ready, packet_values, with_body, woken_by_first, woken_by}
-use Rattle.zl_rights.specs.Wakes.{woken_at_port, woken_from, woken_if_there, woken}
-use Rattle.zl_rights.proofs.MapLaws.{get-update, get-each}
-use Rattle.zl_code.specs.Effects.{on_process, on_object, process_with, process_without, insert_all, remove_all, with_object, with_process, process_ended, ended}
-use Rattle.zl_code.specs.Effects.{storing, waiting}
-use Rattle.zl_code.specs.Local.{overwritten}
+use Rattle.zl_rights.specs.Wakes.{holds, packet_of}
+use Rattle.zl_code.specs.Effects.{with_process}
 use Rattle.zl_code.specs.Waiting.{registered}
-use Rattle.zl_code.proofs.MapKept.{Each, each_put, each_where_key}
-use Rattle.zl_abs.specs.Values.{ANY}
-use Rattle.zl_verify.specs.CallLaws.{IsSizedPacket, QueuesAreSized}
-use Rattle.zl_verify.specs.SizedLaws.{IsSizedCpu, IsSizedObject, IsSizedWait, IsSized}
+use Rattle.zl_code.proofs.MapKept.{each_put, each_where_key}
+use Rattle.zl_verify.specs.SizedLaws.{IsSizedWait}
+use Rattle.zl_verify.proofs.Waking.{turn_by, wakes_by}
 use Rattle.zl_verify.proofs.Memories.{AreBytes, bytes_over}
 use Rattle.zl_verify.proofs.Calm.{active_few}
 use Rattle.zl_verify.proofs.SizedCpus.{AreSmall, answered_sized}
@@ -88,12 +80,13 @@ process_sized w p f keeps s = record { cpus = each_update IsSizedProcess w.proce
 pub new_process_sized : (w : World) (k : ℕ) (q : Process) → IsSizedCpu q.cpu → IsSized w → IsSized (with_process w k q)
 new_process_sized w k q new s = record { cpus = each_put IsSizedProcess w.processes s.cpus k q new; kept = s.kept; waits = s.waits }
 
+-- one of two processes, each of which is sized
+pub one_sized : (b : Bool) (x y : Process) → IsSizedCpu x.cpu → IsSizedCpu y.cpu → IsSizedCpu (if b then x else y).cpu
+one_sized true x y s k = s
+one_sized false x y s k = k
+
 without_sized : (h : ℕ) (q : Process) → IsSizedCpu q.cpu → IsSizedCpu (process_without h q).cpu
-without_sized h q s = by (has_key q.handles h)
-  where
-    by : (b : Bool) → IsSizedCpu (if b then record q { handles = without q.handles h; last = Some h } else q).cpu
-    by true = s
-    by false = s
+without_sized h q s = one_sized (has_key q.handles h) (record q { handles = without q.handles h; last = Some h }) q s s
 
 pub removed_sized : (w : World) (p : ℕ) (hs : List ℕ) → IsSized w → IsSized (remove_all w p hs)
 unfolding remove_all
@@ -114,11 +107,8 @@ stored_sized w p (address, b ∷ bytes) are s =
 
 pub ended_sized : (w : World) (p : ℕ) (code : ℤ) → IsSized w → IsSized (ended w p code)
 unfolding ended
-ended_sized w p code s = process_sized w p (process_ended code) (λ q k. by q k (lives q.state)) s
-  where
-    by : (q : Process) → IsSizedCpu q.cpu → (b : Bool) → IsSizedCpu (if b then record q { state = Ended code; handles = []; last = None } else q).cpu
-    by q k true = k
-    by q k false = k
+ended_sized w p code s =
+    process_sized w p (process_ended code) (λ q k. one_sized (lives q.state) (record q { state = Ended code; handles = []; last = None }) q k k) s
 
 pub waiting_sized : (w : World) (p : ℕ) (ds : List ℕ) (awaited : Option Awaited) → IsSized w → IsSized (waiting w p ds awaited)
 waiting_sized w p ds None s = s
@@ -135,6 +125,9 @@ pub new_object_sized : (w : World) (b : Body) → IsSizedObject b 0 → IsSized 
 unfolding with_object
 new_object_sized w b new s =
     record { cpus = s.cpus; kept = each_put IsSizedAt w.objects s.kept w.next_koid (record { body = b; raised = 0 }) new; waits = s.waits }
+
+pub pair_sized : (w : World) (a b : Body) → IsSizedObject a 0 → IsSizedObject b 0 → IsSized w → IsSized (with_object (with_object w a) b)
+pair_sized w a b first second s = new_object_sized (with_object w a) b second (new_object_sized w a first s)
 
 pub fewer_waits : (w : World) (test : Wait → Bool) → IsSized w → IsSized (record w { waits = filter test w.waits })
 fewer_waits w test s = record { cpus = s.cpus; kept = s.kept; waits = all_filtered IsSizedWait test w.waits s.waits }
@@ -184,10 +177,9 @@ ready_sized w p q ds vs fits few s =
     record { cpus = each_put IsSizedProcess w.processes s.cpus p _ (answered_sized q.cpu ds vs fits few); kept = s.kept; waits = s.waits }
 
 module _ (w : World) (s : IsSized w) (p : ℕ) where
-  by_packets : (q : Process) → IsSizedCpu q.cpu → (k : ℕ) (ds : List ℕ) (o : Object) (packets : List Packet) → IsSizedObject (PortBody packets) o.raised
-      → IsSized (woken_by_first w p q k ds o packets)
-  by_packets q fits k ds o [] held = s
-  by_packets q fits k ds o (x ∷ rest) held =
+  by_packet : (q : Process) → IsSizedCpu q.cpu → (k : ℕ) (ds : List ℕ) (o : Object) (x : Packet) (rest : List Packet)
+      → IsSizedObject (PortBody (x ∷ rest)) o.raised → IsSized (made_ready (with_body w k o (PortBody rest)) p q ds (0 ∷ packet_values x))
+  by_packet q fits k ds o x rest held =
       let (first, others) = held.packets in
       ready_sized (with_body w k o (PortBody rest)) p q ds (0 ∷ packet_values x) fits
       (omega arith, (first.key, (small first.kind, (first.trigger, (first.observed, tt)))))
@@ -200,35 +192,12 @@ module _ (w : World) (s : IsSized w) (p : ℕ) where
       small : {n : ℕ} → n ≤ 1 → n ≤ ANY
       small le = omega arith
 
-  by_body : (q : Process) → IsSizedCpu q.cpu → (k : ℕ) (ds : List ℕ) (o : Object) (b : Body) → IsSizedObject b o.raised → IsSized (woken_by w p q k ds o b)
-  by_body q fits k ds o (PortBody packets) held = by_packets q fits k ds o packets held
-  by_body q fits k ds o _ held = s
-
-  by_object : (q : Process) → IsSizedCpu q.cpu → (k : ℕ) (ds : List ℕ) (o : Option Object) → get w.objects k ≡ o → IsSized (woken_at_port w p q k ds o)
-  by_object q fits k ds None at = s
-  by_object q fits k ds (Some o) at = by_body q fits k ds o o.body (s.kept k o at)
-
-  by_state : (q : Process) → IsSizedCpu q.cpu → (life : State) → IsSized (woken_from w p q life)
-  by_state q fits (Blocked (SignalOf k mask) ds) = by (meets (active w k) mask)
-    where
-      by : (b : Bool) → IsSized (if b then made_ready w p q ds (0 ∷ active w k ∷ []) else w)
-      by true = ready_sized w p q ds (0 ∷ active w k ∷ []) fits (omega arith, (active_sized w s k, tt)) s
-      by false = s
-  by_state q fits (Blocked (PacketAt k) ds) = by_object q fits k ds (get w.objects k) refl
-  by_state q fits _ = s
-
   pub woken_sized : IsSized (woken w p)
-  unfolding woken
-  woken_sized = by (get w.processes p) refl
-    where
-      by : (o : Option Process) → get w.processes p ≡ o → IsSized (woken_if_there w p o)
-      by None is = s
-      by (Some q) is = by_state q (s.cpus p q is) q.state
-
-turns_sized : (w : World) (ps : List ℕ) → IsSized w → IsSized (fold woken w ps)
-turns_sized w [] s = s
-turns_sized w (p ∷ ps) s = turns_sized (woken w p) ps (woken_sized w s p)
+  woken_sized =
+      turn_by IsSized w p s
+      (λ q at k mask ds blocked. ready_sized w p q ds (0 ∷ active w k ∷ []) (s.cpus p q at) (omega arith, (active_sized w s k, tt)) s)
+      (λ q at k ds blocked o there x rest port.
+      by_packet q (s.cpus p q at) k ds o x rest (subst (λ b. IsSizedObject b o.raised) port (s.kept k o there)))
 
 pub wakes_sized : (w : World) → IsSized w → IsSized (wakes w)
-unfolding wakes
-wakes_sized w s = turns_sized (fired w) w.blocked (fired_sized w s)
+wakes_sized w s = wakes_by IsSized (λ u p s. woken_sized u s p) w (fired_sized w s)

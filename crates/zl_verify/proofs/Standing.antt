@@ -1,27 +1,12 @@
 -- A call that stands next where a process is as a state says, and whose rule holds there.
-use Rattle.std.proofs.Common.{◌≡◌, ℕ, Bool, true, false, not, List, [], ◌∷◌, refl, sym, ap, ◌∙◌, subst, Some, None, Result, Ok, Err}
-use Rattle.std.specs.Prelude.{if◌then◌else◌}
-use Rattle.zl_rights.specs.Common.{get, World, Cpu, Process}
-use Rattle.zl_rights.specs.World.{answered, written}
-use Rattle.zl_rights.specs.declared.status.Status.{Status}
-use Rattle.zl_rights.specs.Numbers.{status_magnitude}
-use Rattle.zl_code.specs.declared.image.SlotArray.{SlotArray}
-use Rattle.zl_code.specs.declared.instr.CallInstr.{CallInstr}
-use Rattle.zl_code.specs.Image.{Image}
-use Rattle.zl_code.specs.Spells.{is_call_in_range}
-use Rattle.zl_code.specs.Request.{Site, site_of}
+use Rattle.zl_verify.proofs.Common.{◌≡◌, ℕ, Bool, true, false, not, List, [], ◌∷◌, refl, sym, ap, ◌∙◌, subst, Some, None, Result, Ok, Err, if◌then◌else◌, get}
+use Rattle.zl_verify.proofs.Common.{World, Cpu, Process, answered, written, Status, status_magnitude, SlotArray, CallInstr, Image, is_call_in_range, Site}
+use Rattle.zl_verify.proofs.Common.{site_of, by_policy, handle_operands, condition_of, taken_handles, taken, cpu_answered, Cause, State, IsState, with_all}
+use Rattle.zl_verify.proofs.Common.{and_then, passes, are_words, range_fits, is_declared, are_distinct, has_one, examined_all, finished, Uses, uses_of, goes_on}
+use Rattle.zl_verify.proofs.Common.{stops, call_rule, Ways, Table, Holds}
 use Rattle.zl_code.specs.Tests.{handles_in}
-use Rattle.zl_code.specs.Operands.{by_policy}
 use Rattle.zl_code.specs.Operands.{examined as examined_at}
-use Rattle.zl_code.specs.Refusals.{handle_operands, condition_of}
-use Rattle.zl_code.specs.Calls.{taken_handles, taken, cpu_answered}
-use Rattle.zl_abs.specs.declared.cause.Cause.{Cause}
 use Rattle.zl_abs.specs.declared.cause.Cause.TheVariants as cause
-use Rattle.zl_abs.specs.States.{State, IsState, with_all}
-use Rattle.zl_abs.specs.Rule.{and_then, passes}
-use Rattle.zl_abs.specs.CallRules.{are_words, range_fits, is_declared, are_distinct, has_one, examined_all, finished, Uses, uses_of, goes_on, stops, call_rule}
-use Rattle.zl_abs.specs.Outcome.{Outcome as Ways}
-use Rattle.zl_verify.specs.Conforms.{Table, Holds}
 use Rattle.zl_verify.proofs.Examining.{Passed, operands_from, unseen, seen_all, Reads}
 use Rattle.zl_verify.proofs.Fitting.{Fits, results}
 use Rattle.zl_verify.proofs.OwnTable.{removed_here, losing_all, losing_seen}
@@ -48,11 +33,7 @@ module _ (i : Image) (s : State) (x : CallInstr) (u : Uses) (r : State) (w : Way
       (λ t. Ok (if goes_on x.name then passes t else stops)) ≡ Ok w
       → HasRule i s x u r w
   by_tests true true true true false bs ds es fs h = record { operands = operands; range = bs; declared = ds; distinct = es; free = fs; leads = same_Ok _ w h }
-  by_tests false b d e f bs ds es fs h = cc
-  by_tests true false d e f bs ds es fs h = cc
-  by_tests true true false e f bs ds es fs h = cc
-  by_tests true true true false f bs ds es fs h = cc
-  by_tests true true true true true bs ds es fs h = cc
+  by_tests _ _ _ _ _ bs ds es fs h = cc
 
   finished_by : and_then (finished i s r u) (λ t. Ok (if goes_on x.name then passes t else stops)) ≡ Ok w → HasRule i s x u r w
   finished_by h =

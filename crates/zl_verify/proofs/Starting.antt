@@ -1,38 +1,15 @@
 -- A process that starts properly is as a typing of its image says at instruction 0.
-use Rattle.std.proofs.Common.{◌≡◌, ◌≢◌, ℕ, zero, suc, ◌+◌, ◌<◌, ◌≤◌, Bool, true, false, ◌&&◌, ◌||◌, ◌==◌, List, [], ◌∷◌, map, length, refl, sym, ap, ◌∙◌, subst}
-use Rattle.std.proofs.Common.{Option, Some, None, arith, inl, inr, slice_set, slice_index}
-use Rattle.std.specs.Prelude.{replicate}
-use Rattle.std.specs.List.{sum_by}
-use Rattle.std.specs.Option.{option_to_list}
-use Rattle.std.proofs.lemmas.Bool.Decides.{nat_tests}
+use Rattle.zl_verify.proofs.Common.{◌≡◌, ◌≢◌, ℕ, zero, suc, ◌+◌, ◌<◌, ◌≤◌, Bool, true, false, ◌||◌, ◌==◌, List, [], ◌∷◌, map, length, refl, sym, ap, ◌∙◌}
+use Rattle.zl_verify.proofs.Common.{subst, Option, Some, None, arith, inl, inr, slice_set, slice_index, replicate, sum_by, option_to_list, nat_tests}
+use Rattle.zl_verify.proofs.Common.{sum_by-cons, none-some, Entry, bits, within, get, World, Cpu, Process, same_kind, takes, Kind, written, SlotArray, Start}
+use Rattle.zl_verify.proofs.Common.{Image, Library, register_count, is_in_range, process_with, may_get, may_get_all, are_declared, process_with_all, blank_cpu}
+use Rattle.zl_verify.proofs.Common.{created_process, set_from, with_handles, cpu_given, IsProperStart, ranges, AbsVal, Word, ANY, kind_below, State, IsState}
+use Rattle.zl_verify.proofs.Common.{value_at, with_value, with_all, start_state, IsAbove, IsTyping, is_result, are_distinct, has_one, both, one_if, is_it}
+use Rattle.zl_verify.proofs.Common.{owners, keepers, place_at, Holds, IsAs, IsMemory, Conforms}
 use Rattle.std.proofs.lemmas.List.{length-replicate}
-use Rattle.std.proofs.lemmas.List.Sums.{sum_by-cons}
-use Rattle.std.proofs.lemmas.Option.{none-some}
-use Rattle.zl_rights.specs.declared.entry.Entry.{Entry}
-use Rattle.zl_rights.specs.Common.{bits, within, get, World, Cpu, Process}
-use Rattle.zl_rights.specs.Numbers.{same_kind, takes}
-use Rattle.zl_rights.specs.declared.kind.Kind.{Kind}
-use Rattle.zl_rights.specs.World.{written}
-use Rattle.zl_code.specs.declared.image.SlotArray.{SlotArray}
-use Rattle.zl_code.specs.declared.image.Start.{Start}
-use Rattle.zl_code.specs.Image.{Image, Library}
-use Rattle.zl_code.specs.Limits.{register_count}
-use Rattle.zl_code.specs.Spells.{is_in_range}
-use Rattle.zl_code.specs.Effects.{process_with, may_get, may_get_all}
-use Rattle.zl_code.specs.Boot.{are_declared, process_with_all}
 use Rattle.zl_code.specs.Jobs.{is_declared}
-use Rattle.zl_code.specs.Starting.{blank_cpu, created_process, set_from, with_handles, cpu_given}
-use Rattle.zl_code.specs.Headline.{IsProperStart}
-use Rattle.zl_code.proofs.ImageRanges.{ranges}
-use Rattle.zl_abs.specs.declared.value.AbsVal.{AbsVal}
-use Rattle.zl_abs.specs.declared.value.AbsVal.TheVariants.{Word}
-use Rattle.zl_abs.specs.Values.{ANY, kind_below}
-use Rattle.zl_abs.specs.States.{State, IsState, value_at, with_value, with_all, start_value, starts_from, start_results, start_state}
-use Rattle.zl_abs.specs.Typing.{IsAbove, IsTyping}
-use Rattle.zl_abs.specs.CallRules.{is_result, are_distinct, has_one}
-use Rattle.zl_abs.proofs.Order.{both}
-use Rattle.zl_verify.specs.Conforms.{one_if, is_it, owners, keepers, place_at, Holds, IsAs, IsMemory, Conforms}
-use Rattle.zl_verify.proofs.Owners.{owns_0}
+use Rattle.zl_abs.specs.States.{start_value, starts_from, start_results}
+use Rattle.zl_verify.proofs.Owners.{not_0, owns_0}
 use Rattle.zl_verify.proofs.Weakening.{weaken}
 use Rattle.zl_verify.proofs.Fitting.{Fits, AreInside, results}
 use Rattle.zl_verify.proofs.Giving.{fresh_value, getting_all, getting, AllAs, handles_fit}
@@ -69,21 +46,14 @@ same_lengths : (arrays : List SlotArray) → map length (empty_slots arrays) ≡
 same_lengths [] = refl
 same_lengths (a ∷ arrays) = λ i. length-replicate {A = ℕ} a.length 0 i ∷ same_lengths arrays i
 
-owners_none : (v n : ℕ) → owners v (replicate n (Word 0)) (replicate n 0) ≡ 0
+pub owners_none : (v n : ℕ) → owners v (replicate n (Word 0)) (replicate n 0) ≡ 0
 unfolding owners
 owners_none v zero = refl
 owners_none v (suc n) = rw (owns_0 v (Word 0), owners_none v n) refl
 
-not_it : (v : ℕ) → one_if (is_it v 0) ≡ 0
-not_it v = by (0 == v)
-  where
-    by : (b : Bool) → one_if (b && false) ≡ 0
-    by true = refl
-    by false = refl
-
 places_none : (v n : ℕ) → sum_by (λ x. one_if (is_it v x)) (replicate n 0) ≡ 0
 places_none v zero = refl
-places_none v (suc n) = sum_by-cons (λ x. one_if (is_it v x)) 0 (replicate n 0) ∙ rw (not_it v, places_none v n) refl
+places_none v (suc n) = sum_by-cons (λ x. one_if (is_it v x)) 0 (replicate n 0) ∙ rw (not_0 v, places_none v n) refl
 
 keepers_none : (v : ℕ) (arrays : List SlotArray) → keepers v (empty_slots arrays) ≡ 0
 unfolding keepers
@@ -150,9 +120,8 @@ one_declared s x e = let two = both (takes (option_to_list s.kind) x.kind) (with
 
 declared_fit : (r : ℕ) (ss : List Start) (es : List Entry) → are_declared ss es ≡ true → AllAs (starts_from r ss) es
 declared_fit r [] [] d = tt
-declared_fit r [] (e ∷ es) d = cc
-declared_fit r (s ∷ ss) [] d = cc
 declared_fit r (s ∷ ss) (e ∷ es) d = let two = both (is_declared s e) (are_declared ss es) d in (one_declared s e two.0, declared_fit (r + 1) ss es two.1)
+declared_fit r _ _ d = cc
 
 -- the values in the order of the registers: the word is the second
 abbrev told : List ℕ → ℕ → List ℕ
@@ -163,10 +132,6 @@ start_fits : (ss : List Start) (es : List Entry) (vs : List ℕ) (word : ℕ) (q
     → may_get_all q es vs ≡ true
     → Fits (get q.handles) zeros no_values (start_results ss) (told vs word) (get (getting_all es vs q).handles)
 start_fits [] [] [] word q fresh small d may = (get q.handles, (small, small, refl), refl)
-start_fits [] [] (v ∷ vs) word q fresh small d may = cc
-start_fits [] (e ∷ es) vs word q fresh small d may = cc
-start_fits (s ∷ ss) [] vs word q fresh small d may = cc
-start_fits (s ∷ ss) (e ∷ es) [] word q fresh small d may = cc
 start_fits (s ∷ ss) (e ∷ es) (v ∷ vs) word q fresh small d may =
     let named = both (is_declared s e) (are_declared ss es) d in
     let two = both (may_get q v) (may_get_all (process_with v e q) es vs) may in
@@ -183,6 +148,7 @@ start_fits (s ∷ ss) (e ∷ es) (v ∷ vs) word q fresh small d may =
   where
     few : {n : ℕ} → n < 65536 → n ≤ ANY
     few less = omega arith
+start_fits _ _ _ word q fresh small d may = cc
 
 -- ---- in the order of the start
 
@@ -200,26 +166,21 @@ word_first n (v ∷ vs) xs word le =
 
 written_from : (r : ℕ) (ss : List Start) (vs xs : List ℕ) → length vs ≡ length ss → written xs (map (λ x. x.0) (starts_from r ss)) vs ≡ set_from r vs xs
 written_from r [] [] xs same = refl
-written_from r [] (v ∷ vs) xs same = cc
-written_from r (s ∷ ss) [] xs same = cc
 written_from r (s ∷ ss) (v ∷ vs) xs same = written_from (r + 1) ss vs (slice_set xs r v) (omega arith)
+written_from r _ _ xs same = cc
 
 as_many : (ss : List Start) (es : List Entry) (vs : List ℕ) (q : Process) → are_declared ss es ≡ true → may_get_all q es vs ≡ true → length vs ≡ length ss
 as_many [] [] [] q d may = refl
-as_many [] [] (v ∷ vs) q d may = cc
-as_many [] (e ∷ es) vs q d may = cc
-as_many (s ∷ ss) [] vs q d may = cc
-as_many (s ∷ ss) (e ∷ es) [] q d may = cc
 as_many (s ∷ ss) (e ∷ es) (v ∷ vs) q d may = ap suc (as_many ss es vs (process_with v e q) (both (is_declared s e) (are_declared ss es) d).1
     (both (may_get q v) (may_get_all (process_with v e q) es vs) may).1)
+as_many _ _ _ q d may = cc
 
 start_registers : (ss : List Start) (vs xs : List ℕ) (word : ℕ) → length vs ≡ length ss
     → written xs (map (λ x. x.0) (start_results ss)) (told vs word) ≡ slice_set (with_handles vs xs) 1 word
 start_registers [] [] xs word same = refl
-start_registers [] (v ∷ vs) xs word same = cc
-start_registers (s ∷ ss) [] xs word same = cc
 start_registers (s ∷ ss) (v ∷ vs) xs word same =
     written_from 2 ss vs (slice_set (slice_set xs 0 v) 1 word) (omega arith) ∙ word_first 2 vs (slice_set xs 0 v) word (omega arith)
+start_registers _ _ xs word same = cc
 
 same_holding : (es : List Entry) (vs : List ℕ) (q : Process) → getting_all es vs q ≡ process_with_all es vs q
 same_holding [] vs q = refl

@@ -1,22 +1,8 @@
 -- The bytes that a call stores leave its caller's memory whole, and the rest of the caller as it was.
-use Rattle.std.proofs.Common.{◌≡◌, ℕ, ◌+◌, ◌≤◌, List, [], ◌∷◌, length, true, refl, sym, ap, ◌∙◌, subst, Some, None, arith, slice_index}
-use Rattle.std.specs.Prelude.{is_some, nat_le}
-use Rattle.std.proofs.lemmas.Bool.Decides.{nat_tests}
-use Rattle.zl_rights.specs.Common.{World, Process}
-use Rattle.zl_code.specs.Image.{Image, Library}
-use Rattle.zl_code.specs.declared.history.CallName.{CallName}
+use Rattle.zl_verify.proofs.Common.{◌≡◌, ℕ, ◌+◌, ◌≤◌, List, [], ◌∷◌, length, true, refl, sym, ap, ◌∙◌, subst, Some, None, arith, slice_index, is_some, nat_le}
+use Rattle.zl_verify.proofs.Common.{nat_tests, World, Process, Image, Library, CallName, CallInstr, call_row, number_at, has_its_memory, reg, overwritten}
+use Rattle.zl_verify.proofs.Common.{first_bytes, queue_at, stored_by, refusal, Site, site_of, IsMemory, QueuesAreSized}
 use Rattle.zl_code.specs.declared.history.CallName.TheVariants as name
-use Rattle.zl_code.specs.declared.instr.CallInstr.{CallInstr}
-use Rattle.zl_code.specs.Instructions.{call_row}
-use Rattle.zl_code.specs.Spells.{number_at}
-use Rattle.zl_code.specs.Asked.{has_its_memory}
-use Rattle.zl_code.specs.Local.{reg, overwritten}
-use Rattle.zl_code.specs.Tests.{first_bytes, queue_at}
-use Rattle.zl_code.specs.CallTable.{stored_by}
-use Rattle.zl_code.specs.Refusals.{refusal}
-use Rattle.zl_code.specs.Request.{Site, site_of}
-use Rattle.zl_verify.specs.Conforms.{IsMemory}
-use Rattle.zl_verify.specs.CallLaws.{QueuesAreSized}
 use Rattle.zl_verify.proofs.Memories.{AreBytes, bytes_stored}
 use Rattle.zl_verify.proofs.OwnTable.{storing_in}
 use Rattle.zl_verify.proofs.Sites.{call, AtSite, of_site, has_site}

@@ -1,11 +1,7 @@
 -- A written register keeps that tags name registers that are 0 or have a handle.
-use Rattle.std.proofs.Common.{◌≡◌, ◌≢◌, ℕ, ◌<◌, ◌⊎◌, true, false, ◌==◌, length, refl, ◌∙◌, IsTrue, inl, inr}
-use Rattle.std.proofs.lemmas.Bool.{cases_Bool, cases_eq, eqb-true, eqb-false}
-use Rattle.zl_abs.specs.declared.value.AbsVal.{AbsVal}
-use Rattle.zl_abs.specs.declared.value.AbsVal.TheVariants.{Word, Has, KindOf, RightsOf}
-use Rattle.zl_abs.specs.Values.{untagged}
-use Rattle.zl_abs.specs.States.{State, IsState, can_be_named, is_named_well, value_at, with_value}
-use Rattle.zl_verify.proofs.Owners.{value_at-with, value_at-here}
+use Rattle.zl_verify.proofs.Common.{◌≡◌, ◌≢◌, ℕ, ◌<◌, ◌⊎◌, true, false, ◌==◌, length, refl, ◌∙◌, IsTrue, inl, inr, cases_Bool, cases_eq, eqb-true, AbsVal, Word}
+use Rattle.zl_verify.proofs.Common.{Has, KindOf, RightsOf, untagged, State, IsState, can_be_named, is_named_well, value_at, with_value, ANY}
+use Rattle.zl_verify.proofs.Owners.{by_register, value_at-with, value_at-here}
 use Rattle.zl_verify.proofs.Writing.{long_with}
 
 pub test_apart : (a b : ℕ) → a ≢ b → (a == b) ≡ false
@@ -27,16 +23,10 @@ module _ (s : State) (states : IsState s) (r : ℕ) (lt : r < length s) (a : Abs
   others_well : (b : AbsVal) → IsTrue (is_named_well s b) → IsTrue (is_named_well (with_value s r a) (untagged r b))
   others_well (Word m) h = refl
   others_well (Has maybe kind rights) h = refl
-  others_well (KindOf t) h = by (cases_Bool (t == r))
-    where
-      by : ((t == r) ≡ true) ⊎ ((t == r) ≡ false) → IsTrue (is_named_well (with_value s r a) (untagged r (KindOf t)))
-      by (inl e) = rw e refl
-      by (inr e) = rw e (named_with t (eqb-false t r e) h)
-  others_well (RightsOf t) h = by (cases_Bool (t == r))
-    where
-      by : ((t == r) ≡ true) ⊎ ((t == r) ≡ false) → IsTrue (is_named_well (with_value s r a) (untagged r (RightsOf t)))
-      by (inl e) = rw e refl
-      by (inr e) = rw e (named_with t (eqb-false t r e) h)
+  others_well (KindOf t) h =
+      by_register (λ b. IsTrue (is_named_well (with_value s r a) b)) t r (Word ANY) (KindOf t) refl (λ beside. named_with t beside h)
+  others_well (RightsOf t) h =
+      by_register (λ b. IsTrue (is_named_well (with_value s r a) b)) t r (Word ANY) (RightsOf t) refl (λ beside. named_with t beside h)
 
   pub states_with : IsTrue (is_named_well (with_value s r a) (untagged r a)) → IsState (with_value s r a)
   states_with new = record { long = long_with s r a ∙ states.long; tags = λ q. by q (cases_eq q r) }

@@ -1,24 +1,16 @@
 -- What holds at each turn of the search, and what its end says.
-use Rattle.std.proofs.Common.{◌≡◌, ◌≢◌, ℕ, zero, suc, ◌+◌, ◌<◌, ◌≤◌, Bool, true, false, List, Option, Some, None, refl, sym, ap, ◌∙◌, subst, IsTrue, length}
-use Rattle.std.proofs.Common.{◌⊎◌, inl, inr, arith}
-use Rattle.std.specs.Prelude.{slice_get, slice_set, replicate, Result, Ok, Err}
-use Rattle.std.proofs.lemmas.Option.{same_Some}
-use Rattle.std.proofs.Math.ListN.{length-set, length-replicate}
-use Rattle.zl_code.specs.Image.{Image}
-use Rattle.zl_code.specs.Spells.{is_in_range}
-use Rattle.zl_abs.specs.declared.cause.Cause.{Cause}
-use Rattle.zl_abs.specs.States.{State, start_state}
-use Rattle.zl_abs.specs.Rule.{Edge}
-use Rattle.zl_abs.specs.Fine.{IsFine}
-use Rattle.zl_abs.specs.Typing.{IsAbove, Holds, IsTyping}
-use Rattle.zl_abs.proofs.StateOrder.{all_below_refl}
+use Rattle.zl_verify.proofs.Common.{◌≡◌, ◌≢◌, ℕ, zero, suc, ◌+◌, ◌<◌, ◌≤◌, Bool, true, false, List, Option, Some, None, refl, sym, ap, ◌∙◌, subst, IsTrue}
+use Rattle.zl_verify.proofs.Common.{length, ◌⊎◌, inl, inr, arith, slice_get, slice_set, replicate, Result, Ok, Err, same_Some, length-set, length-replicate}
+use Rattle.zl_verify.proofs.Common.{Image, is_in_range, Cause, State, start_state, Edge, IsFine, IsAbove, IsTyping, all_below_refl, at, raised_all, turned_over}
+use Rattle.zl_verify.proofs.Common.{cleared, Blocks, AreBlocks, block, states_of, IsLeastTyping}
+use Rattle.zl_abs.specs.Typing.{Holds}
 use Rattle.zl_abs.proofs.FineStates.{start_fine}
-use Rattle.zl_verify.specs.Lists.{within, at}
-use Rattle.zl_verify.specs.Search.{Table, raised_all, turned_over, cleared, started}
-use Rattle.zl_verify.specs.Blocks.{Blocks, AreBlocks, block, states_of, turned_at, turned}
+use Rattle.zl_verify.specs.Lists.{within}
+use Rattle.zl_verify.specs.Search.{Table, started}
+use Rattle.zl_verify.specs.Blocks.{turned_at, turned}
 use Rattle.zl_verify.specs.declared.refusal.RefusalCause.{RefusalCause}
+use Rattle.zl_verify.specs.Checks.{HasNoTyping, IsRefused, is_of_rules}
 use Rattle.zl_verify.specs.declared.refusal.RefusalCause.TheVariants as why
-use Rattle.zl_verify.specs.Checks.{IsLeastTyping, HasNoTyping, IsRefused, is_of_rules}
 use Rattle.zl_verify.proofs.Places.{get_put, get_put_other, equal_or_not, there}
 use Rattle.zl_verify.proofs.Searching.{Searching, turned_on, cleared_on, moved_on, all_settled, none_by_rule, none_by_edge}
 use Rattle.zl_verify.proofs.Lowers.{outside}

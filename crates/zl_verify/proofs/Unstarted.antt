@@ -1,36 +1,17 @@
 -- A process that was made and isn't started yet is as it was made, and its job allows what its program needs; what a step does keeps this.
-use Rattle.std.proofs.Common.{◌≡◌, ℕ, ◌<◌, ◌⊎◌, Bool, true, false, ◌==◌, List, [], ◌∷◌, refl, sym, ap, ◌∙◌, subst, Option, Some, None, option_map, arith, inl}
-use Rattle.std.proofs.Common.{inr}
-use Rattle.std.specs.Prelude.{ℤ, if◌then◌else◌}
-use Rattle.std.proofs.lemmas.Bool.{cases_Bool, eqb-true}
-use Rattle.std.proofs.lemmas.Bool.Decides.{nat_tests}
-use Rattle.std.proofs.lemmas.Option.{same_Some}
-use Rattle.zl_rights.specs.declared.entry.Entry.{Entry}
+use Rattle.zl_verify.proofs.Common.{◌≡◌, ℕ, ◌<◌, ◌⊎◌, Bool, true, false, ◌==◌, List, [], ◌∷◌, refl, sym, ap, ◌∙◌, subst, Option, Some, None, option_map, inl}
+use Rattle.zl_verify.proofs.Common.{inr, ℤ, if◌then◌else◌, cases_Bool, eqb-true, same_Some, Entry, get, put, World, Process, Life, Created, Ready, Blocked}
+use Rattle.zl_verify.proofs.Common.{Ended, ProcessBody, KILLED, has_ended, Awaited, get-put, get-update, get-each, Outcome, TraceItem, Library, object_at}
+use Rattle.zl_verify.proofs.Common.{on_process, on_object, with_object, process_with, process_ended, insert_all, ended, waiting, is_created, created_process}
+use Rattle.zl_verify.proofs.Common.{started_with, is_within, process_killed, with_killed, refusal, Request, process_create, process_start, task_kill, effect}
+use Rattle.zl_verify.proofs.Common.{new_handles, receiver_of, entering_at, stored_by, gives_ok, gives_refused, awaited_by, ends_caller, Site, taken_handles}
+use Rattle.zl_verify.proofs.Common.{taken, cpu_answered, replied, with_effect, after_refusal, after_ok, ok_outcome, Next, Moves, AtCall, IsStuck, Acts}
+use Rattle.zl_verify.proofs.Common.{left_behind, Calls, eq-eqb}
 use Rattle.zl_rights.specs.declared.status.Status.TheVariants as status
-use Rattle.zl_rights.specs.Common.{get, put, World, Process, State as Life, Created, Ready, Blocked, Ended, ProcessBody}
-use Rattle.zl_rights.specs.Numbers.{KILLED}
-use Rattle.zl_rights.specs.Signals.{has_ended}
-use Rattle.zl_rights.specs.World.{Awaited}
-use Rattle.zl_rights.proofs.MapLaws.{get-put, get-update, get-each}
-use Rattle.zl_code.specs.declared.history.Outcome.{Outcome}
 use Rattle.zl_code.specs.declared.history.Outcome.TheVariants as outcome
-use Rattle.zl_code.specs.declared.history.TraceItem.{TraceItem}
-use Rattle.zl_code.specs.Image.{Library}
-use Rattle.zl_code.specs.Tests.{object_at}
-use Rattle.zl_code.specs.Effects.{on_process, on_object, with_object, process_with, process_ended, insert_all, ended, waiting}
-use Rattle.zl_code.specs.Starting.{is_created, created_process, started_with}
-use Rattle.zl_code.specs.Jobs.{is_within, process_killed, with_killed}
-use Rattle.zl_code.specs.Refusals.{refusal}
-use Rattle.zl_code.specs.CallTable.{Request, process_create, process_start, task_kill, effect, new_handles, receiver_of, entering_at, stored_by, gives_ok}
-use Rattle.zl_code.specs.CallTable.{gives_refused, awaited_by, ends_caller}
-use Rattle.zl_code.specs.Request.{Site}
-use Rattle.zl_code.specs.Calls.{Choice, Refused, Wants, Values, CallBy, taken_handles, taken, cpu_answered, replied, with_effect, after_refusal, after_ok}
-use Rattle.zl_code.specs.Calls.{ok_outcome}
-use Rattle.zl_code.specs.Steps.{Next, Moves, AtCall, IsStuck, Acts}
-use Rattle.zl_code.proofs.Entering.{left_behind}
+use Rattle.zl_verify.proofs.CallEnds.{call_ends}
 use Rattle.zl_verify.proofs.Giving.{getting_all}
-use Rattle.zl_verify.proofs.OwnTable.{changed_here, changed_elsewhere, inserted_elsewhere, own_handles, losing_all, losing_same, removed_here}
-use Rattle.zl_verify.proofs.OwnTable.{getting_same}
+use Rattle.zl_verify.proofs.OwnTable.{changed_here, changed_elsewhere, inserted_elsewhere, own_handles, losing_all, losing_same, removed_here, getting_same}
 use Rattle.zl_verify.proofs.Storing.{storing_same}
 use Rattle.zl_verify.proofs.OwnEffect.{IsDone, caller_after, caller_ending, inserted_objects, stored_objects}
 use Rattle.zl_verify.proofs.Others.{left_other, stored_other, ended_other, waiting_other, replied_other}
@@ -41,9 +22,6 @@ use Rattle.zl_verify.proofs.Others.{left_other, stored_other, ended_other, waiti
 data Origin (lib : Library) (w u : World) (q : ℕ) (r : Request) (y : Process) : Type 0 where
   from_before : get u.processes q ≡ Some y → Origin lib w u q r y
   from_call : (h program : ℕ) → r ≡ process_create h program → q ≡ w.next_koid → y ≡ created_process lib program → Origin lib w u q r y
-
-itself : (k : ℕ) → (k == k) ≡ true
-itself k = grind (arith, nat_tests)
 
 unmapped : (vs : List ℕ) (o : Option Process) → option_map (getting_all [] vs) o ≡ o
 unmapped vs None = refl
@@ -61,7 +39,7 @@ inserted_at (e ∷ es) [] w k = by (get w.processes k)
     by (Some x) = refl
 inserted_at (e ∷ es) (v ∷ vs) w k =
     inserted_at es vs (on_process w k (process_with v e)) k
-    ∙ (ap (option_map (getting_all es vs)) (get-update w.processes k (process_with v e) k ∙ rw (itself k) refl) ∙ by (get w.processes k))
+    ∙ (ap (option_map (getting_all es vs)) (get-update w.processes k (process_with v e) k ∙ rw (eq-eqb k k refl) refl) ∙ by (get w.processes k))
   where
     by : (o : Option Process) → option_map (getting_all es vs) (option_map (process_with v e) o) ≡ option_map (getting_all (e ∷ es) (v ∷ vs)) o
     by None = refl
@@ -69,7 +47,7 @@ inserted_at (e ∷ es) (v ∷ vs) w k =
 
 pub changed_at : (w : World) (k : ℕ) (f : Process → Process) → get (on_process w k f).processes k ≡ option_map f (get w.processes k)
 unfolding on_process
-changed_at w k f = get-update w.processes k f k ∙ rw (itself k) refl
+changed_at w k f = get-update w.processes k f k ∙ rw (eq-eqb k k refl) refl
 
 -- what ends isn't created
 ended_old : (code : ℤ) (x : Process) → is_created (process_ended code x).state ≡ false
@@ -258,21 +236,17 @@ module _ (lib : Library) (w : World) (p : ℕ) (caller : Process) (there : get w
         }
     when_ok passes vs outcome.Blocked = when_waits t.destinations (awaited_by w p t.request)
 
-    when_called : (choice : Choice) (r : Option Outcome) → refusal lib w p t.request ≡ r → (answer : Outcome) (w2 : World)
-        → CallBy lib w p t choice r answer w2 → AllCome w2
-    when_called Refused None is answer w2 h = absurd h
-    when_called Refused (Some o) is answer w2 h = rw h.1 (when_refused t o)
-    when_called (Wants want) None is answer w2 h = rw h.2 (when_refused t (outcome.Answered want))
-    when_called (Wants want) (Some o) is answer w2 h = absurd h
-    when_called (Values vs) None is answer w2 h = rw h.2 (when_ok is vs (ok_outcome w p t.request))
-    when_called (Values vs) (Some o) is answer w2 h = absurd h
+    when_called : (answer : Outcome) (w2 : World) → Calls lib w p t answer w2 → AllCome w2
+    when_called =
+        call_ends lib w p t (λ o v. AllCome v) (λ o is. when_refused t o) (λ want may. when_refused t (outcome.Answered want))
+        (λ passes vs may. when_ok passes vs (ok_outcome w p t.request))
 
   pub when_acted : (n : Next) (x : TraceItem) (w2 : World) → Acts lib w p n x w2 → AllCome w2
   unfolding ended
   when_acted (Moves e) x w2 a =
       rw a.1 (only_p (on_process w p (λ y. record y { cpu = e })) (λ y. record y { cpu = e }) caller (λ q apart. changed_elsewhere w p _ q apart)
       (changed_here w p _ caller there) (ap is_created ready))
-  when_acted (AtCall called t) x w2 (o, e, h) = when_called t h.0 (refusal lib w p t.request) refl o w2 h.1
+  when_acted (AtCall called t) x w2 (o, e, h) = when_called t o w2 h
   when_acted IsStuck x w2 a =
       rw a.1 (only_p (ended w p _) (process_ended _) caller (λ q apart. ended_other p q apart w _) (changed_here w p (process_ended _) caller there)
       (ended_old _ caller))

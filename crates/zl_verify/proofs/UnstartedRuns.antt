@@ -1,44 +1,22 @@
 -- In every world of a run from a boot world, a process that isn't started yet is as it was made, and its job allows what its program needs.
-use Rattle.std.proofs.Common.{◌≡◌, ℕ, ◌<◌, ◌⊎◌, Bool, true, false, not, ◌&&◌, ◌||◌, ◌==◌, List, [], ◌∷◌, refl, sym, ap, ◌∙◌, subst, Option, Some, None}
-use Rattle.std.proofs.Common.{option_map, arith, inl, inr}
-use Rattle.std.specs.Prelude.{is_some, if◌then◌else◌, slice_get, unwrap_or}
-use Rattle.std.specs.List.{fold, list_any}
-use Rattle.std.proofs.lemmas.Bool.{cases_Bool, eqb-true}
-use Rattle.std.proofs.lemmas.Bool.Decides.{nat_tests}
-use Rattle.std.proofs.lemmas.Option.{same_Some}
-use Rattle.zl_rights.specs.declared.entry.Entry.{Entry}
-use Rattle.zl_rights.specs.declared.policy.Action.{Action}
-use Rattle.zl_rights.specs.declared.policy.Action.TheVariants as action
-use Rattle.zl_rights.specs.declared.policy.Condition.{Condition}
-use Rattle.zl_rights.specs.declared.status.Status.TheVariants as status
-use Rattle.zl_rights.specs.Common.{condition_number, answered, get, put, lives, Settles, process_settled, without_others, fired, wakes, World, Process}
-use Rattle.zl_rights.specs.Common.{State as Life, Created, Ready, Blocked, Object, Body, PortBody, ProcessBody}
-use Rattle.zl_rights.specs.World.{SignalOf, PacketAt, Packet}
-use Rattle.zl_rights.specs.Signals.{active}
-use Rattle.zl_rights.specs.Numbers.{meets}
-use Rattle.zl_rights.specs.Settle.{state_without}
-use Rattle.zl_rights.specs.Wakes.{made_ready, packet_values, with_body, woken_by_first, woken_by, woken_at_port, woken_from, woken_if_there, woken}
-use Rattle.zl_rights.proofs.MapLaws.{get-put, get-each}
-use Rattle.zl_code.specs.declared.history.TraceItem.{TraceItem}
-use Rattle.zl_code.specs.Image.{Library, Program, is_among}
-use Rattle.zl_code.specs.Tests.{koid_in, object_at, body_in, body_of, parent_in, parent_of, policy_in, action_of}
-use Rattle.zl_code.specs.Operands.{unless_allowed, creates}
-use Rattle.zl_code.specs.Starting.{is_created, created_process}
+use Rattle.zl_verify.proofs.Common.{◌≡◌, ℕ, ◌<◌, ◌⊎◌, Bool, true, false, not, ◌&&◌, ◌||◌, ◌==◌, List, [], ◌∷◌, refl, sym, ap, ◌∙◌, subst, Option, Some, None}
+use Rattle.zl_verify.proofs.Common.{option_map, arith, inl, inr, is_some, if◌then◌else◌, slice_get, unwrap_or, list_any, cases_Bool, eqb-true, same_Some, Entry}
+use Rattle.zl_verify.proofs.Common.{Action, Condition, condition_number, answered, get, put, lives, Settles, process_settled, without_others, fired, wakes}
+use Rattle.zl_verify.proofs.Common.{World, Process, Life, Created, Ready, Object, ProcessBody, state_without, made_ready, woken, get-put, get-each, TraceItem}
+use Rattle.zl_verify.proofs.Common.{Library, Program, is_among, object_at, body_in, body_of, parent_in, parent_of, policy_in, action_of, unless_allowed}
+use Rattle.zl_verify.proofs.Common.{creates, is_created, created_process, refusal, IsSound, process_create, listed, Step, next_for, AreUnstarted, IsFitStep}
+use Rattle.zl_verify.proofs.Common.{eq-eqb}
+use Rattle.zl_code.specs.Tests.{koid_in}
 use Rattle.zl_code.specs.Jobs.{is_allowing, lacks_need}
-use Rattle.zl_code.specs.Refusals.{refusal}
-use Rattle.zl_code.specs.Sound.{IsSound}
-use Rattle.zl_code.specs.CallTable.{process_create, listed}
-use Rattle.zl_code.specs.Steps.{Step, next_for}
-use Rattle.zl_verify.specs.Covered.{IsUnstarted, AreUnstarted}
-use Rattle.zl_verify.specs.WakeLaws.{IsFitStep}
+use Rattle.zl_verify.specs.Covered.{IsUnstarted}
+use Rattle.zl_rights.specs.declared.policy.Action.TheVariants as action
+use Rattle.zl_rights.specs.declared.status.Status.TheVariants as status
+use Rattle.zl_verify.proofs.Waking.{turn_by_answer, wakes_by}
 use Rattle.zl_verify.proofs.Working.{listed_none, test_fails}
 use Rattle.zl_verify.proofs.OwnEffect.{other_koid, same_policy}
 use Rattle.zl_verify.proofs.Others.{keys_below, left_by_step}
 use Rattle.zl_verify.proofs.Woken.{allowed_after}
 use Rattle.zl_verify.proofs.Unstarted.{Comes, was, made, AllCome, when_acted}
-
-itself : (k : ℕ) → (k == k) ≡ true
-itself k = grind (arith, nat_tests)
 
 -- ---- what its job allows
 
@@ -113,7 +91,9 @@ module _ (lib : Library) (w u : World) (job program : ℕ) (below : job < w.next
       at k = ap (λ m. get m k) objects ∙ get-put w.objects w.next_koid new k
 
       above : parent_of u w.next_koid ≡ job
-      above = let here : get u.objects w.next_koid ≡ Some new = at w.next_koid ∙ rw (itself w.next_koid) refl in ap (λ o. parent_in (body_in o)) here
+      above =
+          let here : get u.objects w.next_koid ≡ Some new = at w.next_koid ∙ rw (eq-eqb w.next_koid w.next_koid refl) refl in
+          ap (λ o. parent_in (body_in o)) here
 
       policy : policy_in (body_of u job) ≡ policy_in (body_of w job)
       policy = let still : get u.objects job ≡ get w.objects job = at job ∙ rw (other_koid w.next_koid job below) refl in ap (λ o. policy_in (body_in o)) still
@@ -197,43 +177,12 @@ module _ (k : ℕ) (y : Process) (new : is_created y.state ≡ true) where
       by (inl e) = let bad : false ≡ true = ap (λ (z : Process). is_created z.state) (same_Some awake y (rw e at stands)) ∙ new in cc
       by (inr e) = ap (λ ps. get ps k) (sym same) ∙ rw e at stands
 
-  module _ (u : World) (m : ℕ) where
-    by_packets : (x : Process) (koid : ℕ) (ds : List ℕ) (o : Object) (packets : List Packet) → WasThere u (woken_by_first u m x koid ds o packets)
-    by_packets x koid ds o [] at = at
-    by_packets x koid ds o (z ∷ rest) at = readied u (with_body u koid o (PortBody rest)) refl m x ds (0 ∷ packet_values z) at
-
-    by_body : (x : Process) (koid : ℕ) (ds : List ℕ) (o : Object) (b : Body) → WasThere u (woken_by u m x koid ds o b)
-    by_body x koid ds o (PortBody packets) at = by_packets x koid ds o packets at
-    by_body x koid ds o _ at = at
-
-    by_object : (x : Process) (koid : ℕ) (ds : List ℕ) (o : Option Object) → WasThere u (woken_at_port u m x koid ds o)
-    by_object x koid ds None at = at
-    by_object x koid ds (Some o) at = by_body x koid ds o o.body at
-
-    by_signal : (x : Process) (koid : ℕ) (ds : List ℕ) (b : Bool) → WasThere u (if b then made_ready u m x ds (0 ∷ active u koid ∷ []) else u)
-    by_signal x koid ds true at = readied u u refl m x ds (0 ∷ active u koid ∷ []) at
-    by_signal x koid ds false at = at
-
-    by_state : (x : Process) (l : Life) → WasThere u (woken_from u m x l)
-    by_state x (Blocked (SignalOf koid mask) ds) at = by_signal x koid ds (meets (active u koid) mask) at
-    by_state x (Blocked (PacketAt koid) ds) at = by_object x koid ds (get u.objects koid) at
-    by_state x _ at = at
-
-    turn : WasThere u (woken u m)
-    unfolding woken
-    turn = by (get u.processes m)
-      where
-        by : (o : Option Process) → WasThere u (woken_if_there u m o)
-        by None at = at
-        by (Some x) at = by_state x x.state at
-
-  turns : (u : World) (ms : List ℕ) → WasThere u (fold woken u ms)
-  turns u [] at = at
-  turns u (m ∷ ms) at = turn u m (turns (woken u m) ms at)
+  turn : (u : World) (m : ℕ) → WasThere u (woken u m)
+  turn u m = turn_by_answer (WasThere u) u m (λ at. at) (λ v same x there awaited ds vs blocked. readied u v same m x ds vs)
 
   awake_before : (w : World) → WasThere w (wakes w)
-  unfolding wakes fired
-  awake_before w at = turns (fired w) w.blocked at
+  unfolding fired
+  awake_before w = wakes_by (WasThere w) (λ u m before at. before (turn u m at)) w (λ at. at)
 
 -- ---- runs
 

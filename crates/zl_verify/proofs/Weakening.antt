@@ -1,20 +1,11 @@
 -- What a state describes, a state above describes too.
-use Rattle.std.proofs.Common.{◌≡◌, ℕ, suc, ◌+◌, ◌≤◌, Bool, true, false, ◌||◌, not, ◌==◌, List, [], ◌∷◌, length, refl, sym, ap, ◌∙◌, subst, IsTrue, Option, Some}
-use Rattle.std.proofs.Common.{None, arith, inl, inr, slice_index}
-use Rattle.std.proofs.lemmas.Bool.{eqb-true}
-use Rattle.std.proofs.lemmas.Bool.Decides.{nat_tests}
-use Rattle.zl_rights.specs.declared.entry.Entry.{Entry}
-use Rattle.zl_rights.specs.declared.kind.Kind.{Kind}
-use Rattle.zl_rights.specs.declared.rights.Rights.{Rights}
-use Rattle.zl_rights.specs.Numbers.{bits, within}
-use Rattle.zl_code.specs.declared.image.SlotArray.{SlotArray}
-use Rattle.zl_abs.specs.declared.value.AbsVal.{AbsVal}
-use Rattle.zl_abs.specs.declared.value.AbsVal.TheVariants.{Word, Has, KindOf, RightsOf}
-use Rattle.zl_abs.specs.Values.{ANY, below, kind_below}
-use Rattle.zl_abs.specs.States.{State, value_at, all_below}
-use Rattle.zl_abs.proofs.Order.{both, parts, kind_trans, within_trans}
+use Rattle.zl_verify.proofs.Common.{◌≡◌, ℕ, suc, ◌+◌, ◌≤◌, Bool, true, false, ◌||◌, not, ◌==◌, List, [], ◌∷◌, length, refl, sym, ap, ◌∙◌, subst, IsTrue, Option}
+use Rattle.zl_verify.proofs.Common.{Some, None, arith, inl, inr, slice_index, eqb-true, nat_tests, Entry, Kind, Rights, bits, within, SlotArray, AbsVal, Word}
+use Rattle.zl_verify.proofs.Common.{Has, KindOf, RightsOf, ANY, kind_below, State, value_at, all_below, both, within_trans, Table, IsAs, IsHandle, Describes}
+use Rattle.zl_verify.proofs.Common.{one_if, owns, owners, keepers, Holds}
+use Rattle.zl_abs.specs.Values.{below}
+use Rattle.zl_abs.proofs.Order.{parts, kind_trans}
 use Rattle.zl_abs.proofs.Lowering.{value_below}
-use Rattle.zl_verify.specs.Conforms.{Table, IsAs, IsHandle, Describes, one_if, owns, owners, keepers, Holds}
 use Rattle.zl_verify.proofs.Owners.{owns_0}
 
 pub as_below : (k j : Option Kind) (q p : Rights) (o : Option Entry) → kind_below k j ≡ true → within (bits p) (bits q) ≡ true → IsAs k q o → IsAs j p o
@@ -39,11 +30,7 @@ described-below f xs (KindOf r) (KindOf t) x e few d = subst (λ u. Describes f 
 described-below f xs (KindOf r) (Word n) x e few d = grind (arith, nat_tests)
 described-below f xs (RightsOf r) (RightsOf t) x e few d = subst (λ u. Describes f xs (RightsOf u) x) (eqb-true r t e) d
 described-below f xs (RightsOf r) (Word n) x e few d = grind (arith, nat_tests)
-described-below f xs (Has maybe k q) (Word n) x e few d = cc
-described-below f xs _ (KindOf t) x e few d = cc
-described-below f xs _ (RightsOf t) x e few d = cc
-described-below f xs (KindOf r) _ x e few d = cc
-described-below f xs (RightsOf r) _ x e few d = cc
+described-below f xs _ _ x e few d = cc
 
 -- a place that can only hold 0 holds 0
 abbrev IsZeroThere : AbsVal → ℕ → Type 0
@@ -54,33 +41,27 @@ owns-below : (v : ℕ) (a b : AbsVal) (x : ℕ) → IsTrue (below a b) → IsZer
 unfolding below owns
 owns-below v (Word m) (Has maybe k q) x e z = rw (z (eqb-true m 0 (both (m == 0) maybe e).0)) (sym (owns_0 v (Has maybe k q)))
 owns-below v (Has a k q) (Has b j p) x e z = refl
-owns-below v (Has maybe k q) (Word n) x e z = cc
-owns-below v (Has maybe k q) (KindOf t) x e z = cc
-owns-below v (Has maybe k q) (RightsOf t) x e z = cc
+owns-below v (Has maybe k q) _ x e z = cc
 owns-below v _ (Has maybe k q) x e z = cc
-owns-below v (KindOf r) _ x e z = refl
-owns-below v (RightsOf r) _ x e z = refl
-owns-below v (Word m) _ x e z = refl
+owns-below v _ _ x e z = refl
 
 owners-below : (v : ℕ) (s t : State) (xs : List ℕ) → IsTrue (all_below s t) → ((r : ℕ) → IsZeroThere (value_at s r) (slice_index xs r))
     → owners v s xs ≡ owners v t xs
 unfolding all_below owners
 owners-below v [] [] xs e z = refl
-owners-below v [] (b ∷ t) xs e z = cc
-owners-below v (a ∷ s) [] xs e z = cc
 owners-below v (a ∷ s) (b ∷ t) [] e z = refl
 owners-below v (a ∷ s) (b ∷ t) (x ∷ xs) e z =
     let p = both (below a b) (all_below s t) e in
     let one = owns-below v a b x p.0 (z 0) in
     let rest = owners-below v s t xs p.1 (λ r. z (suc r)) in
     omega arith
+owners-below v _ _ xs e z = cc
 
 length_below : (s t : State) → IsTrue (all_below s t) → length s ≡ length t
 unfolding all_below
 length_below [] [] e = refl
-length_below [] (b ∷ t) e = cc
-length_below (a ∷ s) [] e = cc
 length_below (a ∷ s) (b ∷ t) e = let k = length_below s t (both (below a b) (all_below s t) e).1 in omega arith
+length_below _ _ e = cc
 
 small_is : (m x : ℕ) → x ≤ m → m ≡ 0 → x ≡ 0
 small_is m x le z = omega arith

@@ -1,34 +1,18 @@
 -- What settling and waking leave of a process that is as its typing says, and of what its job allows it.
-use Rattle.std.proofs.Common.{◌≡◌, ℕ, ◌⊎◌, Bool, true, false, ◌==◌, List, [], ◌∷◌, refl, sym, ap, ◌∙◌, subst, IsTrue, Option, Some, None, inl, inr}
-use Rattle.std.specs.Prelude.{if◌then◌else◌, unwrap_or}
-use Rattle.std.specs.List.{AllByRecursion, fold}
-use Rattle.std.specs.Option.{option_map}
-use Rattle.std.proofs.lemmas.Bool.{cases_Bool, eqb-true}
-use Rattle.std.proofs.lemmas.Option.{same_Some, none-some}
-use Rattle.zl_rights.specs.Common.{condition_number, answered, get, where_key, lives, runs, Koids, Settles, process_settled, without_others, fired, wakes}
-use Rattle.zl_rights.specs.Common.{World, Process, State as Life, Created, Ready, Blocked, Object, Body, JobBody, PortBody, ProcessBody}
-use Rattle.zl_rights.specs.World.{Awaited, SignalOf, PacketAt, Packet}
-use Rattle.zl_rights.specs.Signals.{active}
-use Rattle.zl_rights.specs.Numbers.{meets}
-use Rattle.zl_rights.specs.Settle.{state_without}
-use Rattle.zl_rights.specs.Wakes.{body_with_packets, packets_for, made_ready, packet_values, with_body, woken_by_first, woken_by, woken_at_port, woken_from}
-use Rattle.zl_rights.specs.Wakes.{woken_if_there, woken}
+use Rattle.zl_verify.proofs.Common.{◌≡◌, ℕ, ◌⊎◌, true, false, ◌==◌, List, [], ◌∷◌, refl, sym, ap, ◌∙◌, subst, IsTrue, Option, Some, None, inl, inr}
+use Rattle.zl_verify.proofs.Common.{if◌then◌else◌, unwrap_or, option_map, cases_Bool, eqb-true, same_Some, none-some, condition_number, answered, get, lives}
+use Rattle.zl_verify.proofs.Common.{runs, Settles, process_settled, without_others, fired, wakes, World, Process, Life, Created, Ready, Blocked, Object, Body}
+use Rattle.zl_verify.proofs.Common.{PortBody, ProcessBody, Awaited, SignalOf, PacketAt, Packet, active, state_without, body_with_packets, packets_for}
+use Rattle.zl_verify.proofs.Common.{made_ready, packet_values, with_body, woken, Condition, get-put, get-each, TraceItem, Image, Library, is_among, is_in_range}
+use Rattle.zl_verify.proofs.Common.{body_in, body_of, parent_in, parent_of, policy_in, action_of, unless_allowed, creates, IsSound, step_sound, State, IsTyping}
+use Rattle.zl_verify.proofs.Common.{Conforms, IsSized, IsSizedObject, IsRunStep, IsFitStep, EndsStep, stays, has_ended, Ended}
+use Rattle.zl_rights.specs.Common.{where_key, Koids}
+use Rattle.zl_rights.proofs.MapLaws.{get-where_key-in, get-where_key-out}
+use Rattle.zl_code.specs.Sound.{HasItsObject}
+use Rattle.zl_code.proofs.SoundRuns.{run_sound}
+use Rattle.zl_verify.specs.WakeLaws.{wakes as is_woken}
 use Rattle.zl_rights.specs.declared.policy.Action.TheVariants as action
-use Rattle.zl_rights.specs.declared.policy.Condition.{Condition}
-use Rattle.zl_rights.proofs.MapLaws.{get-put, get-each, get-where_key-in, get-where_key-out}
-use Rattle.zl_code.specs.declared.history.TraceItem.{TraceItem}
-use Rattle.zl_code.specs.Image.{Image, Library, is_among}
-use Rattle.zl_code.specs.Spells.{is_in_range}
-use Rattle.zl_code.specs.Tests.{body_in, body_of, parent_in, parent_of, policy_in, action_of}
-use Rattle.zl_code.specs.Operands.{unless_allowed, creates}
-use Rattle.zl_code.specs.Sound.{IsSound, HasItsObject}
-use Rattle.zl_code.proofs.SoundRuns.{step_sound, run_sound}
-use Rattle.zl_abs.specs.States.{State}
-use Rattle.zl_abs.specs.Typing.{IsTyping}
-use Rattle.zl_verify.specs.Conforms.{Conforms}
-use Rattle.zl_verify.specs.CallLaws.{IsSizedPacket}
-use Rattle.zl_verify.specs.SizedLaws.{IsSized, IsSizedObject}
-use Rattle.zl_verify.specs.WakeLaws.{IsRunStep, IsFitStep, EndsStep, stays, wakes as is_woken}
+use Rattle.zl_verify.proofs.Waking.{turn_by, wakes_by}
 use Rattle.zl_verify.proofs.Calm.{active_few}
 use Rattle.zl_verify.proofs.SizedWorlds.{settled_sized, fired_sized, woken_sized}
 use Rattle.zl_verify.proofs.SizedRuns.{acted_sized, world_sized}
@@ -77,48 +61,15 @@ put_bare w k o packets rest there port =
     by j (inl here) = rw (here, ← eqb-true k j here, there, port) refl
     by j (inr other) = rw other refl
 
-module _ (w : World) (p : ℕ) where
-  woken_bare : AreBare w (woken w p)
-  unfolding woken made_ready
-  woken_bare = by (get w.processes p)
-    where
-      nothing : AreBare w w
-      nothing = same_bare w w refl
-
-      by_packets : (q : Process) (k : ℕ) (ds : List ℕ) (o : Object) (packets : List Packet) → get w.objects k ≡ Some o → o.body ≡ PortBody packets
-          → AreBare w (woken_by_first w p q k ds o packets)
-      by_packets q k ds o [] there port = nothing
-      by_packets q k ds o (x ∷ rest) there port =
-          bare_then w (with_body w k o (PortBody rest)) _ (put_bare w k o (x ∷ rest) rest there port) (same_bare (with_body w k o (PortBody rest)) _ refl)
-
-      by_body : (q : Process) (k : ℕ) (ds : List ℕ) (o : Object) (b : Body) → get w.objects k ≡ Some o → o.body ≡ b → AreBare w (woken_by w p q k ds o b)
-      by_body q k ds o (PortBody packets) there port = by_packets q k ds o packets there port
-      by_body q k ds o _ there port = nothing
-
-      by_object : (q : Process) (k : ℕ) (ds : List ℕ) (o : Option Object) → get w.objects k ≡ o → AreBare w (woken_at_port w p q k ds o)
-      by_object q k ds None there = nothing
-      by_object q k ds (Some o) there = by_body q k ds o o.body there refl
-
-      by_signal : (q : Process) (k mask : ℕ) (ds : List ℕ) (b : Bool) → AreBare w (if b then made_ready w p q ds (0 ∷ active w k ∷ []) else w)
-      by_signal q k mask ds true = same_bare w _ refl
-      by_signal q k mask ds false = nothing
-
-      by_state : (q : Process) (l : Life) → AreBare w (woken_from w p q l)
-      by_state q (Blocked (SignalOf k mask) ds) = by_signal q k mask ds (meets (active w k) mask)
-      by_state q (Blocked (PacketAt k) ds) = by_object q k ds (get w.objects k) refl
-      by_state q _ = nothing
-
-      by : (o : Option Process) → AreBare w (woken_if_there w p o)
-      by None = nothing
-      by (Some q) = by_state q q.state
-
-turns_bare : (w : World) (ps : List ℕ) → AreBare w (fold woken w ps)
-turns_bare w [] = same_bare w w refl
-turns_bare w (p ∷ ps) = bare_then w (woken w p) _ (woken_bare w p) (turns_bare (woken w p) ps)
+woken_bare : (w : World) (p : ℕ) → AreBare w (woken w p)
+unfolding made_ready
+woken_bare w p =
+    turn_by (AreBare w) w p (same_bare w w refl) (λ y at k mask ds blocked. same_bare w _ refl)
+    (λ y at k ds blocked o there x rest port.
+    bare_then w (with_body w k o (PortBody rest)) _ (put_bare w k o (x ∷ rest) rest there port) (same_bare (with_body w k o (PortBody rest)) _ refl))
 
 wakes_bare : (w : World) → AreBare w (wakes w)
-unfolding wakes
-wakes_bare w = bare_then w (fired w) _ (fired_bare w) (turns_bare (fired w) w.blocked)
+wakes_bare w = wakes_by (AreBare w) (λ u p a. bare_then w u _ a (woken_bare u p)) w (fired_bare w)
 
 -- ---- what a job allows
 
@@ -146,7 +97,6 @@ module _ (w w2 : World) (a : AreBare w w2) where
 none_bare : (o : Option Body) → bare o ≡ None → o ≡ None
 none_bare None e = refl
 none_bare (Some (PortBody packets)) e = cc
-none_bare (Some (JobBody a b c d)) e = cc
 none_bare (Some _) e = cc
 
 -- what is there after settling and waking, with this, was there before
@@ -230,51 +180,23 @@ module _ (i : Image) (t : ℕ → Option State) (range : is_in_range i ≡ true)
           made = h.made;
         }
 
-    by_packets : (y : Process) → get u.processes m ≡ Some y → (koid : ℕ) (ds : List ℕ) → y.state ≡ Blocked (PacketAt koid) ds
-        → (o : Object) (packets : List Packet) → AllByRecursion IsSizedPacket packets → HasBecome i t p q (woken_by_first u m y koid ds o packets)
-    by_packets y at koid ds blocked o [] sized = h
-    by_packets y at koid ds blocked o (x ∷ rest) (sized, more) =
-        readied (with_body u koid o (PortBody rest)) refl y at (PacketAt koid) ds (0 ∷ packet_values x) blocked
-        (λ there waited. packet_wakes i t range typing u p q there k koid ds waited x sized)
-
-    by_body : (y : Process) → get u.processes m ≡ Some y → (koid : ℕ) (ds : List ℕ) → y.state ≡ Blocked (PacketAt koid) ds → (o : Object) (b : Body)
-        → IsSizedObject b o.raised → HasBecome i t p q (woken_by u m y koid ds o b)
-    by_body y at koid ds blocked o (PortBody packets) held = by_packets y at koid ds blocked o packets held.packets
-    by_body y at koid ds blocked o _ held = h
-
-    by_object : (y : Process) → get u.processes m ≡ Some y → (koid : ℕ) (ds : List ℕ) → y.state ≡ Blocked (PacketAt koid) ds → (o : Option Object)
-        → get u.objects koid ≡ o → HasBecome i t p q (woken_at_port u m y koid ds o)
-    by_object y at koid ds blocked None is = h
-    by_object y at koid ds blocked (Some o) is = by_body y at koid ds blocked o o.body (s.kept koid o is)
-
-    by_signal : (y : Process) → get u.processes m ≡ Some y → (koid mask : ℕ) (ds : List ℕ) → y.state ≡ Blocked (SignalOf koid mask) ds → (b : Bool)
-        → HasBecome i t p q (if b then made_ready u m y ds (0 ∷ active u koid ∷ []) else u)
-    by_signal y at koid mask ds blocked true =
+    turn : HasBecome i t p q (woken u m)
+    turn =
+        turn_by (HasBecome i t p q) u m h
+        (λ y at koid mask ds blocked.
         readied u refl y at (SignalOf koid mask) ds (0 ∷ active u koid ∷ []) blocked
         (λ there waited.
-        signal_wakes i t range typing u p q there k koid mask ds waited (active u koid) (active_few u koid (λ o is. (s.kept koid o is).signals)))
-    by_signal y at koid mask ds blocked false = h
-
-    by_state : (y : Process) → get u.processes m ≡ Some y → (l : Life) → y.state ≡ l → HasBecome i t p q (woken_from u m y l)
-    by_state y at (Blocked (SignalOf koid mask) ds) is = by_signal y at koid mask ds is (meets (active u koid) mask)
-    by_state y at (Blocked (PacketAt koid) ds) is = by_object y at koid ds is (get u.objects koid) refl
-    by_state y at _ is = h
-
-    turn : HasBecome i t p q (woken u m)
-    unfolding woken
-    turn = by (get u.processes m) refl
-      where
-        by : (o : Option Process) → get u.processes m ≡ o → HasBecome i t p q (woken_if_there u m o)
-        by None is = h
-        by (Some y) is = by_state y is y.state refl
-
-  turns : (u : World) → IsSized u → HasBecome i t p q u → (ms : List ℕ) → HasBecome i t p q (fold woken u ms)
-  turns u s h [] = h
-  turns u s h (m ∷ ms) = turns (woken u m) (woken_sized u s m) (turn u s h m) ms
+        signal_wakes i t range typing u p q there k koid mask ds waited (active u koid) (active_few u koid (λ o is. (s.kept koid o is).signals))))
+        (λ y at koid ds blocked o there x rest port.
+        readied (with_body u koid o (PortBody rest)) refl y at (PacketAt koid) ds (0 ∷ packet_values x) blocked
+        (λ here waited.
+        packet_wakes i t range typing u p q here k koid ds waited x (subst (λ b. IsSizedObject b o.raised) port (s.kept koid o there)).packets.0))
 
   become : (w : World) → IsSized w → get w.processes p ≡ Some q → HasBecome i t p q (wakes w)
-  unfolding wakes fired
-  become w s there = turns (fired w) (fired_sized w s) (record { now = q; there = there; made = inl refl }) w.blocked
+  unfolding fired
+  become w s there =
+      (wakes_by (λ u. IsSized u × HasBecome i t p q u) (λ u m h. (woken_sized u h.0 m, turn u h.0 h.1 m)) w
+      (fired_sized w s, record { now = q; there = there; made = inl refl })).1
 
 -- a process that runs is as it was after settling
 pub settled_there : (u v : World) → Settles u v → (p : ℕ) (q : Process) → get u.processes p ≡ Some q → runs q.state ≡ true → get v.processes p ≡ Some q
@@ -288,6 +210,11 @@ settled_there u v (K, largest, is) p q there running =
     by (Blocked awaited ds) e = refl
     by Created e = cc
     by _ e = cc
+
+-- what has ended doesn't live
+pub not_over : (l : Life) → lives l ≡ true → has_ended l ≡ true → ⊥
+not_over (Ended code) living over = cc
+not_over _ living over = cc
 
 pub lives_then : (l : Life) → runs l ≡ true → lives l ≡ true
 lives_then Ready e = refl

@@ -1,54 +1,26 @@
 -- What a call that is answered OK gives fits what its rule says.
-use Rattle.std.proofs.Common.{◌≡◌, ℕ, zero, suc, ◌+◌, ◌*◌, ◌<◌, ◌≤◌, Bool, true, false, ◌&&◌, not, ◌==◌, List, [], ◌∷◌, length, refl, sym, ap, ◌∙◌, subst}
-use Rattle.std.proofs.Common.{Option, Some, None, Ok, arith, inl, inr, slice_index, slice_set}
-use Rattle.std.specs.Prelude.{if◌then◌else◌, nat_le, bit_and}
-use Rattle.std.specs.List.{AllByRecursion}
-use Rattle.std.proofs.lemmas.Bool.Decides.{nat_tests}
-use Rattle.std.proofs.lemmas.List.{length-set}
+use Rattle.zl_verify.proofs.Common.{◌≡◌, ℕ, zero, suc, ◌+◌, ◌*◌, ◌<◌, ◌≤◌, Bool, true, false, ◌&&◌, not, ◌==◌, List, [], ◌∷◌, length, refl, sym, ap, ◌∙◌, subst}
+use Rattle.zl_verify.proofs.Common.{Option, Some, None, Ok, arith, inl, inr, slice_index, slice_set, if◌then◌else◌, nat_le, bit_and, AllByRecursion, nat_tests}
+use Rattle.zl_verify.proofs.Common.{bits, default_rights_of, rights_of, within, get, is_empty, World, Process, Packet, active, KNOWN_RIGHTS, Entry, Kind}
+use Rattle.zl_verify.proofs.Common.{Status, first_some, Library, register_count, Outcome, SlotArray, CallName, CallInstr, reg, number_at, answer_if, entry_at}
+use Rattle.zl_verify.proofs.Common.{object_at, first_bytes, first_handles, queue_at, Operand, any, examined, by_policy, first_values, packets_at, process_with}
+use Rattle.zl_verify.proofs.Common.{may_get_all, told_of, Request, dup, replace, chan_read_etc, process_start, listed, new_handles, entering_at, gives_ok}
+use Rattle.zl_verify.proofs.Common.{needs, taking, handle_operands, condition_of, refusal, taken_handles, may_choose, Site, site_of, IsSound, AbsVal, Word, Has}
+use Rattle.zl_verify.proofs.Common.{ANY, rounded, State, value_at, with_value, fault_of, examined_all, narrowed_value, triple_results, Uses, uses_of, both}
+use Rattle.zl_verify.proofs.Common.{within_is, IsSizedPacket, QueuesAreSized, Table, IsAs, Describes, eq-eqb}
 use Rattle.std.proofs.lemmas.Nat.{and_assoc}
 use Rattle.std.specs.Int.Bits.{and_self}
-use Rattle.zl_rights.specs.Common.{bits, default_rights_of, rights_of, within, get, is_empty, World, Process}
-use Rattle.zl_rights.specs.World.{Packet}
-use Rattle.zl_rights.specs.Signals.{active}
-use Rattle.zl_rights.specs.Numbers.{KNOWN_RIGHTS, SAME_RIGHTS, DUPLICATE}
-use Rattle.zl_rights.specs.declared.entry.Entry.{Entry}
-use Rattle.zl_rights.specs.declared.kind.Kind.{Kind}
+use Rattle.zl_rights.specs.Numbers.{SAME_RIGHTS, DUPLICATE}
+use Rattle.zl_code.specs.Tests.{with_rights, copy_of}
+use Rattle.zl_code.specs.Effects.{new_entry}
+use Rattle.zl_abs.specs.CallRules.{new}
 use Rattle.zl_rights.specs.declared.kind.Kind.TheVariants as kind
-use Rattle.zl_rights.specs.declared.status.Status.{Status}
 use Rattle.zl_rights.specs.declared.status.Status.TheVariants as status
-use Rattle.zl_code.specs.First.{first_some}
-use Rattle.zl_code.specs.Image.{Library}
-use Rattle.zl_code.specs.Limits.{register_count}
-use Rattle.zl_code.specs.declared.history.Outcome.{Outcome}
-use Rattle.zl_code.specs.declared.image.SlotArray.{SlotArray}
-use Rattle.zl_code.specs.declared.history.CallName.{CallName}
 use Rattle.zl_code.specs.declared.history.CallName.TheVariants as name
-use Rattle.zl_code.specs.declared.instr.CallInstr.{CallInstr}
-use Rattle.zl_code.specs.Local.{reg}
-use Rattle.zl_code.specs.Spells.{number_at}
-use Rattle.zl_code.specs.Tests.{answer_if, with_rights, copy_of, entry_at, object_at, first_bytes, first_handles, queue_at}
-use Rattle.zl_code.specs.Operands.{Operand, any, examined, by_policy}
-use Rattle.zl_code.specs.Waiting.{first_values, packets_at}
-use Rattle.zl_code.specs.Effects.{process_with, new_entry, may_get_all, told_of}
-use Rattle.zl_code.specs.CallTable.{Request, dup, replace, chan_read_etc, process_start, listed, new_handles, entering_at, gives_ok}
-use Rattle.zl_code.specs.Refusals.{needs, taking, handle_operands, condition_of, refusal}
-use Rattle.zl_code.specs.Calls.{taken_handles, may_choose}
-use Rattle.zl_code.specs.Request.{Site, site_of}
-use Rattle.zl_code.specs.Sound.{IsSound}
-use Rattle.zl_abs.specs.declared.value.AbsVal.{AbsVal}
-use Rattle.zl_abs.specs.declared.value.AbsVal.TheVariants.{Word, Has, KindOf, RightsOf}
-use Rattle.zl_abs.specs.Values.{ANY}
-use Rattle.zl_abs.specs.Bounds.{rounded}
-use Rattle.zl_abs.specs.States.{State, value_at, with_value}
-use Rattle.zl_abs.specs.CallRules.{fault_of, examined_all, narrowed_value, new, triple_results, Uses, uses_of}
-use Rattle.zl_abs.proofs.Order.{both, within_is}
-use Rattle.zl_verify.specs.CallLaws.{IsSizedPacket, QueuesAreSized}
-use Rattle.zl_verify.specs.Conforms.{Table, IsAs, Describes}
-use Rattle.zl_verify.proofs.Writing.{long_with}
 use Rattle.zl_verify.proofs.Agreeing.{above}
 use Rattle.zl_verify.proofs.Examining.{parts}
 use Rattle.zl_verify.proofs.Fitting.{Fits}
-use Rattle.zl_verify.proofs.Giving.{status_fits, zeros_fit, IsFreeLast, AllAs, getting, getting_all, handles_fit, triples_fit}
+use Rattle.zl_verify.proofs.Giving.{long_thrice, wide_thrice, status_fits, zeros_fit, IsFreeLast, AllAs, getting, getting_all, handles_fit, triples_fit}
 use Rattle.zl_verify.proofs.OwnTable.{losing_all, losing, own_handles, MayGetOwn}
 use Rattle.zl_verify.proofs.Sites.{call, AtSite, of_site}
 use Rattle.zl_verify.proofs.Aligned.{places_end}
@@ -87,8 +59,6 @@ named_as : (a : AbsVal) (f : Table) (xs : List ℕ) (x : ℕ) (o : Operand) → 
     → (asked d : ℕ) (e : Option Entry) → f x ≡ e
     → is_empty (copy_of e asked) ≡ false → AllAs ((d, narrowed_value a asked) ∷ []) (copy_of e asked)
 named_as (Word m) f xs x o some ok l asked d e is one = cc (rw some at ok)
-named_as (KindOf r) f xs x o some ok l asked d e is one = cc
-named_as (RightsOf r) f xs x o some ok l asked d e is one = cc
 named_as (Has maybe kind rights) f xs x o some ok (inl (m, z)) asked d e is one = cc (rw (m, some) at ok)
 named_as (Has maybe kind rights) f xs x o some ok (inr l) asked d None is one = cc
 named_as (Has maybe kind rights) f xs x o some ok (inr l) asked d (Some y) is one =
@@ -100,6 +70,7 @@ named_as (Has maybe kind rights) f xs x o some ok (inr l) asked d (Some y) is on
     by true c (k, r) e = ((k, r), tt)
     by false true (k, r) e = ((k, within_part asked KNOWN_RIGHTS), tt)
     by false false h e = cc
+named_as _ f xs x o some ok l asked d e is one = cc
 
 -- a handle that is copied stands at a value other than 0
 some_value : (x : ℕ) (f : Table) (e : Option Entry) (asked : ℕ) → f 0 ≡ None → f x ≡ e → is_empty (copy_of e asked) ≡ false → 0 < x
@@ -109,10 +80,7 @@ some_value (suc n) f e asked none is one = omega arith
 
 -- a handle that left its table isn't there
 is_gone : (q : Process) (x : ℕ) → get (losing_all (x ∷ []) q).handles x ≡ None
-is_gone q x = ap (λ f. f x) (losing x q) ∙ rw (itself x) refl
-  where
-    itself : (x : ℕ) → (x == x) ≡ true
-    itself x = grind (arith, nat_tests)
+is_gone q x = ap (λ f. f x) (losing x q) ∙ rw (eq-eqb x x refl) refl
 
 -- the value of a handle that is replaced comes back, with other rights
 replaced_as : (a : AbsVal) (f : Table) (xs : List ℕ) (x : ℕ) (o : Operand) → o.may_be_zero ≡ false → fault_of o a ≡ None → Describes f xs a x
@@ -129,9 +97,7 @@ replaced_as a f xs x o some ok l asked d e is one none few q1 gone s ys = by a (
     by a [] one all = cc
     by (Has maybe kind rights) (y ∷ []) one (fits, more) = (get (process_with x y q1).handles, inr (y, few, live, gone, fits, getting x y q1), refl)
     by (Has maybe kind rights) (y ∷ z ∷ es) one (fits, more) = absurd more
-    by (Word m) (y ∷ es) one all = absurd all
-    by (KindOf r) (y ∷ es) one all = absurd all
-    by (RightsOf r) (y ∷ es) one all = absurd all
+    by _ (y ∷ es) one all = absurd all
 
 -- ---- packets and messages
 
@@ -251,14 +217,10 @@ module _ (lib : Library) (w : World) (p : ℕ) (q : Process) (sound : IsSound w)
       xs3 = slice_set (slice_set (slice_set xs a 0) d (length (first_bytes (queue_at w p h)))) e (length (first_handles (queue_at w p h)))
 
       long3 : length s3 ≡ length s
-      long3 =
-          long_with (with_value (with_value s a (Word 30)) d (Word 65536)) e (Word 64)
-          ∙ (long_with (with_value s a (Word 30)) d (Word 65536) ∙ long_with s a (Word 30))
+      long3 = long_thrice s a d e (Word 30) (Word 65536) (Word 64)
 
       wide3 : length xs3 ≡ length xs
-      wide3 =
-          length-set (slice_set (slice_set xs a 0) d (length (first_bytes (queue_at w p h)))) e (length (first_handles (queue_at w p h)))
-          ∙ (length-set (slice_set xs a 0) d (length (first_bytes (queue_at w p h))) ∙ length-set xs a 0)
+      wide3 = wide_thrice xs a d e 0 (length (first_bytes (queue_at w p h))) (length (first_handles (queue_at w p h)))
 
   module _ (before : State) (arrays : List SlotArray) (bounds : List ℕ) where
     -- the answer OK of the call at the site fits

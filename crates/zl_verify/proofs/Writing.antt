@@ -1,20 +1,12 @@
 -- One register is written, and the table may change at one value.
-use Rattle.std.proofs.Common.{◌≡◌, ◌≢◌, ℕ, ◌+◌, ◌<◌, ◌≤◌, ◌⊎◌, Bool, true, false, ◌==◌, List, length, refl, sym, ap, ◌∙◌, subst, IsTrue, Option, Some, None}
-use Rattle.std.proofs.Common.{arith, inl, inr, slice_set, slice_index}
-use Rattle.std.specs.Prelude.{is_some}
-use Rattle.std.proofs.lemmas.Bool.{cases_Bool, cases_eq, eqb-false}
-use Rattle.std.proofs.lemmas.Bool.Decides.{nat_tests}
-use Rattle.std.proofs.lemmas.List.{get_or-set_same, get_or-set_other, length-set, length-map}
-use Rattle.zl_rights.specs.declared.entry.Entry.{Entry}
-use Rattle.zl_rights.specs.declared.kind.Kind.{Kind}
-use Rattle.zl_rights.specs.declared.rights.Rights.{Rights}
-use Rattle.zl_code.specs.declared.image.SlotArray.{SlotArray}
-use Rattle.zl_abs.specs.declared.value.AbsVal.{AbsVal}
-use Rattle.zl_abs.specs.declared.value.AbsVal.TheVariants.{Word, Has, KindOf, RightsOf}
-use Rattle.zl_abs.specs.Values.{ANY, is_has, untagged}
-use Rattle.zl_abs.specs.States.{State, IsState, can_be_named, is_named_well, value_at, with_value}
-use Rattle.zl_verify.specs.Conforms.{Table, kind_in, rights_in, IsAs, IsHandle, Describes, one_if, owns, owners, keepers, place_at, Holds}
-use Rattle.zl_verify.proofs.Owners.{owns_it, owns_free, owners-set, owners-with, owners-at, owners-zero, value_at-with, value_at-here, keepers-at, keepers-zero}
+use Rattle.zl_verify.proofs.Common.{◌≡◌, ◌≢◌, ℕ, ◌+◌, ◌<◌, ◌≤◌, ◌⊎◌, Bool, true, false, List, length, refl, sym, ap, ◌∙◌, subst, IsTrue, Option, Some}
+use Rattle.zl_verify.proofs.Common.{None, arith, inl, inr, slice_set, slice_index, is_some, cases_eq, nat_tests, get_or-set_same, get_or-set_other, length-map}
+use Rattle.zl_verify.proofs.Common.{Entry, Kind, Rights, SlotArray, AbsVal, Word, Has, KindOf, RightsOf, ANY, is_has, untagged, State, IsState, can_be_named}
+use Rattle.zl_verify.proofs.Common.{is_named_well, value_at, with_value, Table, kind_in, rights_in, IsAs, IsHandle, Describes, one_if, owns, owners, keepers}
+use Rattle.zl_verify.proofs.Common.{place_at, Holds}
+use Rattle.std.proofs.lemmas.List.{length-set}
+use Rattle.zl_verify.proofs.Owners.{owns_0, owns_it, owns_free, owners-set, owners-with, owners-at, owners-zero, value_at-with, value_at-here, keepers-at}
+use Rattle.zl_verify.proofs.Owners.{keepers-zero, by_register}
 
 -- ---- what holds anyway
 
@@ -35,10 +27,6 @@ long_with s r a = length-map (slice_set s r a) (untagged r) ∙ length-set s r a
 -- how many own v, beside register r
 abbrev pub others : ℕ → State → List ℕ → List (List ℕ) → ℕ → ℕ
 others r s xs slots v = owners v (slice_set s r (Word 0)) (slice_set xs r 0) + keepers v slots
-
-owns_not : (v : ℕ) → one_if (owns v (Word 0) 0) ≡ 0
-unfolding owns
-owns_not v = refl
 
 module _ {f : Table} {s : State} {xs : List ℕ} {arrays : List SlotArray} {slots : List (List ℕ)} (h : Holds f s xs arrays slots) (states : IsState s)
     (g : Table) (r : ℕ) (lt : r < length s) (zero-too : g 0 ≡ None)
@@ -74,16 +62,12 @@ module _ {f : Table} {s : State} {xs : List ℕ} {arrays : List SlotArray} {slot
   other_described q x apart (Has maybe kind rights) is fine (inl z) = inl z
   other_described q x apart (Has maybe kind rights) is fine (inr l) =
       inr (subst (IsAs kind rights) (sym (same_has q apart maybe kind rights (slice_index xs q) is refl (inr l))) l)
-  other_described q x apart (KindOf t) is fine d = by (cases_Bool (t == r))
-    where
-      by : ((t == r) ≡ true) ⊎ ((t == r) ≡ false) → Describes g (slice_set xs r x) (untagged r (KindOf t)) (slice_index xs q)
-      by (inl e) = rw e (h.small q)
-      by (inr e) = rw e (d ∙ ap kind_in (sym (tag_same t x (eqb-false t r e) fine)))
-  other_described q x apart (RightsOf t) is fine d = by (cases_Bool (t == r))
-    where
-      by : ((t == r) ≡ true) ⊎ ((t == r) ≡ false) → Describes g (slice_set xs r x) (untagged r (RightsOf t)) (slice_index xs q)
-      by (inl e) = rw e (h.small q)
-      by (inr e) = rw e (d ∙ ap rights_in (sym (tag_same t x (eqb-false t r e) fine)))
+  other_described q x apart (KindOf t) is fine d =
+      by_register (λ a. Describes g (slice_set xs r x) a (slice_index xs q)) t r (Word ANY) (KindOf t) (h.small q)
+      (λ beside. d ∙ ap kind_in (sym (tag_same t x beside fine)))
+  other_described q x apart (RightsOf t) is fine d =
+      by_register (λ a. Describes g (slice_set xs r x) a (slice_index xs q)) t r (Word ANY) (RightsOf t) (h.small q)
+      (λ beside. d ∙ ap rights_in (sym (tag_same t x beside fine)))
 
   kept_same : (n k : ℕ) (kind : Option Kind) (rights : Rights) → IsHandle f true kind rights (place_at slots n k)
       → IsHandle g true kind rights (place_at slots n k)
@@ -124,7 +108,7 @@ module _ {f : Table} {s : State} {xs : List ℕ} {arrays : List SlotArray} {slot
       once_at v =
           let one = owners-with v r s xs a x h.width lt in
           let none = owners-set v r s xs (Word 0) 0 h.width lt in
-          let not = owns_not v in
+          let not = owns_0 v (Word 0) in
           let now = counts v in
           omega arith
 
@@ -135,7 +119,7 @@ module _ {f : Table} {s : State} {xs : List ℕ} {arrays : List SlotArray} {slot
   free_and : (v : ℕ) → others r s xs slots v ≡ one_if (is_some (f v))
   free_and v =
       let none = owners-set v r s xs (Word 0) 0 h.width lt in
-      let not = owns_not v in
+      let not = owns_0 v (Word 0) in
       let loose = owns_free v (value_at s r) (slice_index xs r) free in
       let once = h.once v in
       omega arith
@@ -158,13 +142,9 @@ module _ {f : Table} {s : State} {xs : List ℕ} {arrays : List SlotArray} {slot
           → Describes f (slice_set xs r (slice_index xs b)) (untagged r a) (slice_index xs b)
       copied (Word m) e d = d
       copied (Has maybe kind rights) e d = cc
-      copied (KindOf t) e d = by (cases_Bool (t == r))
-        where
-          by : ((t == r) ≡ true) ⊎ ((t == r) ≡ false) → Describes f (slice_set xs r (slice_index xs b)) (untagged r (KindOf t)) (slice_index xs b)
-          by (inl e) = rw e (h.small b)
-          by (inr e) = rw e (d ∙ ap (λ k. kind_in (f k)) (sym (get_or-set_other xs r t (slice_index xs b) 0 (eqb-false t r e))))
-      copied (RightsOf t) e d = by (cases_Bool (t == r))
-        where
-          by : ((t == r) ≡ true) ⊎ ((t == r) ≡ false) → Describes f (slice_set xs r (slice_index xs b)) (untagged r (RightsOf t)) (slice_index xs b)
-          by (inl e) = rw e (h.small b)
-          by (inr e) = rw e (d ∙ ap (λ k. rights_in (f k)) (sym (get_or-set_other xs r t (slice_index xs b) 0 (eqb-false t r e))))
+      copied (KindOf t) e d =
+          by_register (λ a. Describes f (slice_set xs r (slice_index xs b)) a (slice_index xs b)) t r (Word ANY) (KindOf t) (h.small b)
+          (λ beside. d ∙ ap (λ k. kind_in (f k)) (sym (get_or-set_other xs r t (slice_index xs b) 0 beside)))
+      copied (RightsOf t) e d =
+          by_register (λ a. Describes f (slice_set xs r (slice_index xs b)) a (slice_index xs b)) t r (Word ANY) (RightsOf t) (h.small b)
+          (λ beside. d ∙ ap (λ k. rights_in (f k)) (sym (get_or-set_other xs r t (slice_index xs b) 0 beside)))

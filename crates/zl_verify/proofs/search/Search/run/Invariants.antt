@@ -1,6 +1,4 @@
-use Rattle.std.proofs.Common.{◌≡◌}
-use Rattle.zl_verify.specs.Search.{turned_over}
-use Rattle.zl_verify.specs.Blocks.{out_from}
+use Rattle.zl_verify.proofs.Common.{◌≡◌, turned_over, out_from}
 use Rattle.zl_verify.proofs.search.Search.run.Given as goal
 
 abbrev pub invariant-loop-place : goal.invariant-loop-place

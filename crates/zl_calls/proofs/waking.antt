@@ -3,5 +3,6 @@ pub mod BlockedLists
 pub mod Sleeping
 pub mod Woken
 pub mod WakeLoop
+pub mod Only
 pub mod StillBlocked
 pub mod Quiet

@@ -1,19 +1,20 @@
 -- How blocked processes wake. No public clause cites this module.
-use Rattle.std.specs.Prelude.{ℕ, ◌≡◌, Bool, not, ◌==◌, List, [], ◌∷◌, length, Option, Some, None, if◌then◌else◌, slice_get}
+use Rattle.std.specs.Prelude.{ℕ, ◌≡◌, Bool, false, not, ◌==◌, List, [], ◌∷◌, length, map, Option, Some, None, if◌then◌else◌, slice_get}
 use Rattle.std.specs.Bool.{then_some}
 use Rattle.std.specs.List.{filter}
 use Rattle.std.specs.Option.{option_map}
 use Rattle.zl_code.specs.Common.{answered, get}
 use Rattle.zl_rights.specs.Numbers.{meets}
 use Rattle.zl_rights.specs.Wakes.{packet_values, woken}
-use Rattle.zl_rights.specs.World.{State, Blocked, SignalOf, PacketAt}
+use Rattle.zl_rights.specs.World.{Awaited as AwaitedValue, Process as ProcessValue, State, Blocked, SignalOf, PacketAt}
+use Rattle.zl_objects.specs.Calm.{is_due}
 use Rattle.zl_objects.specs.Objects.{Objects}
 use Rattle.zl_objects.specs.Ports.{changing_port, packets_in}
 use Rattle.zl_objects.specs.Signals.{signals_at}
 use Rattle.zl_port.specs.Packets.{without_front}
 use Rattle.zl_calls.specs.declared.process.State.TheVariants as state
 use Rattle.zl_calls.specs.declared.process.Process.{Process}
-use Rattle.zl_calls.specs.World.{state_value, world_blocked}
+use Rattle.zl_calls.specs.World.{awaited_of, process_entry, state_value, world_blocked}
 use Rattle.zl_calls.specs.Consistent.{IsConsistent}
 use Rattle.zl_calls.specs.Blocked.{AreBlocked}
 
@@ -47,6 +48,11 @@ awake given p = awake_in (destinations_of (state_value p.state)) given p
 abbrev pub without_taken : State → Objects → Objects
 without_taken (Blocked (PacketAt port) destinations) r = changing_port r port without_front
 without_taken _ r = r
+
+-- what the process waits for isn't there, if it is blocked
+abbrev pub IsIdle : List Process → Objects → ℕ → Type 0
+IsIdle ps r k = (p : ProcessValue) (a : AwaitedValue) (destinations : List ℕ) → get (map process_entry ps) k ≡ Some p → p.state ≡ Blocked a destinations
+    → is_due r.objects (awaited_of a) ≡ false
 
 -- ---- the list
 

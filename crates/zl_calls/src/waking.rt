@@ -1,7 +1,7 @@
 //! The list of the blocked processes: how a process comes into it, and how, after each step, those
 //! become ready whose wait is over, in the order in which they blocked.
 
-ghost use Rattle.std.specs.Prelude.{ℕ, ◌≡◌, ◌<◌, ◌≤◌, ◌^◌, Some, length, map, is_some, slice_get, vec_capacity};
+ghost use Rattle.std.specs.Prelude.{ℕ, ◌≡◌, ◌==◌, ◌<◌, ◌≤◌, ◌^◌, false, Some, length, map, is_some, slice_get, vec_capacity};
 ghost use Rattle.std.specs.List.{fold};
 ghost use Rattle.std.specs.Option.{option_map};
 ghost use Rattle.zl_rights.specs.Map.{get};
@@ -10,21 +10,22 @@ ghost use Rattle.zl_rights.specs.Wakes.{packet_values, woken};
 ghost use Rattle.zl_objects.specs.Ports.{changing_port, packets_in};
 ghost use Rattle.zl_objects.specs.Signals.{signals_at};
 ghost use Rattle.zl_port.specs.Packets.{without_front};
-ghost use Rattle.zl_calls.specs.Blocked.{AreBlocked};
+ghost use Rattle.zl_calls.specs.Blocked.{AreBlocked, AreSought};
 ghost use Rattle.zl_objects.specs.Awaited.{KeepSleepers};
 ghost use Rattle.zl_calls.specs.Blocking.{FallsAsleep, awaited_by, tells_asleep, then_blocked};
 ghost use Rattle.zl_calls.specs.Consistent.{IsConsistent};
-ghost use Rattle.zl_calls.specs.Waking.{WakesOne, awake, awake_in, given_awake, seen_active, without_taken};
+ghost use Rattle.zl_calls.specs.Waking.{IsIdle, WakesOne, awake, awake_in, given_awake, seen_active, without_taken};
 ghost use Rattle.zl_calls.specs.Woke.{HaveLeft, and_one};
 ghost use Rattle.zl_rights.specs.World.{Process as ProcessValue};
 ghost use Rattle.zl_calls.specs.Calling.{world_in};
 ghost use Rattle.zl_calls.specs.World.{packet_registers, process_entry, signal_registers, state_value};
 
+use crate::calls::kill::is_blocked;
 use crate::process::{Process, Registers, State};
 use crate::processes::Processes;
 use bitflags::Flags;
 use zl_code::{Outcome, TraceItem};
-use zl_objects::{Awaited, Objects};
+use zl_objects::{Asleep, Awaited, Objects};
 use zl_rights::{Koid, Pid};
 
 /// Who woke behind a step.
@@ -87,9 +88,61 @@ fn awaited_by(processes: &Processes, pid: Pid) -> Option<Awaited>
 }
 
 /// Each blocked process in turn, the longest blocked first: where what it waits for is there, it
-/// gets its answer and leaves the list. It tells who did, and takes no memory.
+/// gets its answer and leaves the list. It tells who did, looks at no other process where one alone may
+/// wake, and takes no memory.
 #[inline(always)]
 pub fn wake(processes: &mut Processes, objects: &mut Objects, blocked: &mut Vec<Pid>) -> Woke
+    requires consistent { IsConsistent processes.old.list.items objects.old }
+    requires list { AreBlocked processes.old.list.items blocked.old.items }
+    requires sought { AreSought processes.old.list.items objects.old }
+    ensures wakes { world_in processes.new objects.new blocked.new
+        ≡ fold woken (world_in processes.old objects.old blocked.old) blocked.old.items }
+    ensures consistent { IsConsistent processes.new.list.items objects.new }
+    ensures list { AreBlocked processes.new.list.items blocked.new.items }
+    ensures count { length processes.new.list.items ≡ length processes.old.list.items }
+    ensures capacity { vec_capacity blocked.new ≡ vec_capacity blocked.old }
+    ensures asleep { KeepSleepers objects.old objects.new }
+    ensures told { HaveLeft blocked.old.items result blocked.new.items }
+{
+    match objects.may_wake() {
+        Asleep::Nobody => Woke::Nobody,
+        Asleep::One(pid) => wake_only(processes, objects, blocked, pid),
+        Asleep::Several => wake_each(processes, objects, blocked),
+    }
+}
+
+/// The same where no other process than this one may wake.
+fn wake_only(
+    processes: &mut Processes,
+    objects: &mut Objects,
+    blocked: &mut Vec<Pid>,
+    pid: Pid,
+) -> Woke
+    requires consistent { IsConsistent processes.old.list.items objects.old }
+    requires list { AreBlocked processes.old.list.items blocked.old.items }
+    requires others { (k : ℕ) → (k == pid) ≡ false
+        → IsIdle processes.old.list.items objects.old k }
+    ensures wakes { world_in processes.new objects.new blocked.new
+        ≡ fold woken (world_in processes.old objects.old blocked.old) blocked.old.items }
+    ensures consistent { IsConsistent processes.new.list.items objects.new }
+    ensures list { AreBlocked processes.new.list.items blocked.new.items }
+    ensures count { length processes.new.list.items ≡ length processes.old.list.items }
+    ensures capacity { vec_capacity blocked.new ≡ vec_capacity blocked.old }
+    ensures asleep { KeepSleepers objects.old objects.new }
+    ensures told { HaveLeft blocked.old.items result blocked.new.items }
+{
+    if !is_blocked(processes, pid) {
+        return Woke::Nobody;
+    }
+    if !wake_one(processes, objects, pid) {
+        return Woke::Nobody;
+    }
+    blocked.retain(|other| *other != pid);
+    Woke::One(pid)
+}
+
+/// The same, where several may wake.
+fn wake_each(processes: &mut Processes, objects: &mut Objects, blocked: &mut Vec<Pid>) -> Woke
     requires consistent { IsConsistent processes.old.list.items objects.old }
     requires list { AreBlocked processes.old.list.items blocked.old.items }
     ensures wakes { world_in processes.new objects.new blocked.new

@@ -88,13 +88,13 @@ less_thins m k j o at =
       there = c.there;
       waits = λ test left. ap (λ s. filter test s.waits) (signals_same c);
       fewer = λ test none. ap (λ s. list_any test s.waits) (signals_same c) ∙ none;
-      slept = slept_same c;
+      asleep = asleep_same c;
     }
   where
-    slept_same : (c : Changed held_once_less m k j o) → o.slept ≡ c.before.slept
-    slept_same c =
-        ap (λ (x : Object). x.slept) c.is
-        ∙ elim (k == j) as (λ b. (if b then held_once_less c.before else c.before).slept ≡ c.before.slept) [ true ↦ refl | false ↦ refl ]
+    asleep_same : (c : Changed held_once_less m k j o) → o.asleep ≡ c.before.asleep
+    asleep_same c =
+        ap (λ (x : Object). x.asleep) c.is
+        ∙ elim (k == j) as (λ b. (if b then held_once_less c.before else c.before).asleep ≡ c.before.asleep) [ true ↦ refl | false ↦ refl ]
 
     signals_same : (c : Changed held_once_less m k j o) → o.signals ≡ c.before.signals
     signals_same c =
@@ -154,7 +154,7 @@ other_went m dying k other = record {
 -- ---- one after another
 
 thin_refl : (m : Map Object) (k : ℕ) (o : Object) → get m k ≡ Some o → Thins m m k o
-thin_refl m k o at = record { before = o; there = at; waits = λ test left. refl; fewer = λ test none. none; slept = refl }
+thin_refl m k o at = record { before = o; there = at; waits = λ test left. refl; fewer = λ test none. none; asleep = refl }
 
 -- what thins, and then thins again
 pub thin_then : (m m2 m3 : Map Object) → ((k : ℕ) (o : Object) → get m2 k ≡ Some o → Thins m m2 k o)
@@ -167,7 +167,7 @@ thin_then m m2 m3 first later k o at =
       there = old.there;
       waits = λ test left. new.waits test left ∙ old.waits test (λ x takes. there_before x.port (get m3 x.port) refl (left x takes));
       fewer = λ test none. new.fewer test (old.fewer test none);
-      slept = new.slept ∙ old.slept;
+      asleep = new.asleep ∙ old.asleep;
     }
   where
     there_before : (p : ℕ) (q : Option Object) → get m3 p ≡ q → IsTrue (is_some q) → IsTrue (has_key m2 p)

@@ -31,6 +31,7 @@ use Rattle.zl_objects.proofs.ByKoid.{looked_up, written, written_back}
 use Rattle.zl_objects.proofs.Calm.{IsFewer, Keeps, Stays, calm_followed, fewer_both, fewer_if, fewer_same, fewer_unmarked, stays_fewer}
 use Rattle.zl_objects.proofs.Calm.{stays_unwatched}
 use Rattle.zl_objects.proofs.Calm.{updated_calm}
+use Rattle.zl_objects.proofs.Joined.{StayAsleep, as_asleep}
 use Rattle.zl_objects.proofs.Places.{first_out, seen_updated}
 use Rattle.zl_objects.proofs.Tasks.{policy_same, started_same}
 use Rattle.zl_objects.proofs.Whole.{more_quiet, more_same, received_same, same_peer, sent_same}
@@ -48,9 +49,9 @@ quiet_calm {marked} {next} {sleepers} f keeps quiet m n k is =
     updated_calm f keeps marked marked (λ j h. h) m n next k sleepers (λ o at unmarked. quiet m k o) is
 
 -- its body stays, and its signals and waits
-pub keeps_body : (f : Object → Object) → ((o : Object) → IsTrue o.slept → IsTrue (f o).slept) → ((o : Object) → (f o).body ≡ o.body) → Keeps f
-keeps_body f slept same =
-    record { slept = slept; jobs = λ j o. ap (is_job_below j) (same o); processes = λ j o. ap (is_process_below j) (same o); peer = λ o. ap peer_of (same o) }
+pub keeps_body : (f : Object → Object) → ((o : Object) → StayAsleep o.asleep (f o).asleep) → ((o : Object) → (f o).body ≡ o.body) → Keeps f
+keeps_body f asleep same =
+    record { asleep = asleep; jobs = λ j o. ap (is_job_below j) (same o); processes = λ j o. ap (is_process_below j) (same o); peer = λ o. ap peer_of (same o) }
 
 pub quiet_body : (f : Object → Object) → ((o : Object) → (f o).body ≡ o.body) → ((o : Object) → (f o).signals.raised ≡ o.signals.raised)
     → ((o : Object) (test : Watch → Bool) → list_any test o.signals.waits ≡ false → list_any test (f o).signals.waits ≡ false) → IsQuiet f
@@ -59,18 +60,19 @@ quiet_body f same raised shorter m k o =
     (fewer_same _ _ (λ i. bit_or (raised o i) (implied m k (same o i))))
     (λ h. ap (λ (b : Body). not (is_empty (packets_of b))) (same o) ∙ h) (shorter o)
 
-more_slept : (o : Object) → (held_once_more o).slept ≡ o.slept
-more_slept o = elim (nat_lt o.handles (2 ^ 62)) as (λ b. (if b then record o { handles = o.handles + 1 } else o).slept ≡ o.slept) [ true ↦ refl | false ↦ refl ]
+more_asleep : (o : Object) → (held_once_more o).asleep ≡ o.asleep
+more_asleep o =
+    elim (nat_lt o.handles (2 ^ 62)) as (λ b. (if b then record o { handles = o.handles + 1 } else o).asleep ≡ o.asleep) [ true ↦ refl | false ↦ refl ]
 
 pub keeps_more : Keeps held_once_more
-keeps_more = keeps_body held_once_more (λ o h. more_slept o ∙ h) more_same
+keeps_more = keeps_body held_once_more (λ o. as_asleep (more_asleep o)) more_same
 
 pub more_stays : IsQuiet held_once_more
 more_stays = quiet_body held_once_more more_same (λ o. ap (λ (s : SignalState). s.raised) (more_quiet o))
     (λ o test h. ap (λ (s : SignalState). list_any test s.waits) (more_quiet o) ∙ h)
 
 pub keeps_less : Keeps held_once_less
-keeps_less = keeps_body held_once_less (λ o h. h) (λ o. refl)
+keeps_less = keeps_body held_once_less (λ o pid h. h) (λ o. refl)
 
 pub less_stays : IsQuiet held_once_less
 less_stays = quiet_body held_once_less (λ o. refl) (λ o. refl) (λ o test h. h)
@@ -100,7 +102,7 @@ none_out test out (x ∷ ws) h = by_test (test x) refl (out x) refl h (λ rest. 
     by_test false is false which h later = rw (first_out out x ws, which, is) (later h)
 
 pub keeps_unwatched : (out : Watch → Bool) → Keeps (unwatched out)
-keeps_unwatched out = keeps_body (unwatched out) (λ o h. h) (λ o. refl)
+keeps_unwatched out = keeps_body (unwatched out) (λ o pid h. h) (λ o. refl)
 
 pub unwatched_stays : (out : Watch → Bool) → IsQuiet (unwatched out)
 unwatched_stays out = quiet_body (unwatched out) (λ o. refl) (λ o. refl) (λ o test h. none_out test out o.signals.waits h)
@@ -122,7 +124,8 @@ record IsQuietBody (g : Body → Body) : Type 0 where
 keeps_bodies : (g : Body → Body) → ((j : ℕ) (b : Body) → is_job_below j (g b) ≡ is_job_below j b)
     → ((j : ℕ) (b : Body) → is_process_below j (g b) ≡ is_process_below j b) → ((b : Body) → peer_of (g b) ≡ peer_of b)
     → Keeps (λ o. record o { body = g o.body })
-keeps_bodies g jobs processes peer = record { slept = λ o h. h; jobs = λ j o. jobs j o.body; processes = λ j o. processes j o.body; peer = λ o. peer o.body }
+keeps_bodies g jobs processes peer =
+    record { asleep = λ o pid h. h; jobs = λ j o. jobs j o.body; processes = λ j o. processes j o.body; peer = λ o. peer o.body }
 
 bodies_stay : (g : Body → Body) → IsQuietBody g → IsQuiet (λ o. record o { body = g o.body })
 bodies_stay g quiet m k o =
@@ -254,7 +257,7 @@ some_out test (x ∷ xs) h = absurd (false≢true (sym h))
 -- ---- what changes is marked, if something waits there
 
 pub keeps_changed : (clear set : ℕ) → Keeps (raised_changed clear set)
-keeps_changed clear set = keeps_body (raised_changed clear set) (λ o h. h) (λ o. refl)
+keeps_changed clear set = keeps_body (raised_changed clear set) (λ o pid h. h) (λ o. refl)
 
 pub keeps_sent : (message : Message) → Keeps (sent message)
 keeps_sent message = keeps_bodies (sent_body message) jobs processes (λ b. (sent_same message b).peer)
@@ -268,7 +271,7 @@ keeps_sent message = keeps_bodies (sent_body message) jobs processes (λ b. (sen
     processes j _ = refl
 
 pub keeps_watched : (x : Watch) → Keeps (watched x)
-keeps_watched x = keeps_body (watched x) (λ o h. h) (λ o. refl)
+keeps_watched x = keeps_body (watched x) (λ o pid h. h) (λ o. refl)
 
 -- what isn't marked wasn't to be
 pub unless_wanted : (is b : Bool) → (b ≡ true → IsTrue is) → is ≡ false → (x : Bool) → b ≡ x → x ≡ false
@@ -289,7 +292,7 @@ module _ {marked marked2 : ℕ → Bool} {next : ℕ} {sleepers : List Sleeper} 
       (λ k o at. inl (record {
         before = o;
         there = at;
-        slept = λ h. h;
+        asleep = λ pid h. h;
         unmarked = fewer_unmarked marked marked2 more k;
         still = λ unmarked. stays_fewer _ _ _ _ o o (λ mask h. h) (λ h. h) (λ test h. h);
       })) calm)
@@ -300,7 +303,7 @@ module _ {marked marked2 : ℕ → Bool} {next : ℕ} {sleepers : List Sleeper} 
       → IsCalm marked m next sleepers → IsCalm marked2 n next sleepers
   written_calm f keeps m n k watched is =
       updated_calm f keeps marked marked2 more m n next k sleepers
-      (λ o at unmarked. stays_unwatched _ _ _ _ o (f o) (keeps.slept o) (watched o at unmarked)) is
+      (λ o at unmarked. stays_unwatched _ _ _ _ o (f o) (keeps.asleep o) (watched o at unmarked)) is
 
   module _ (f : Object → Object) (keeps : Keeps f) (m n : Map Object) (k : ℕ) (v w : Object) (there : Some v ≡ lookup (is_at (nat_cmp k)) m)
       (b : Bool) (watched : b ≡ is_watched w) (wanted : b ≡ true → IsTrue (marked2 k)) where

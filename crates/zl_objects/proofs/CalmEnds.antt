@@ -14,6 +14,7 @@ use Rattle.zl_objects.proofs.Bodies.{Changed, changed}
 use Rattle.zl_objects.proofs.ByKoid.{looked_up}
 use Rattle.zl_objects.proofs.Calm.{Follows, Stays, calm_followed, fewer_same, fewer_unmarked, implied_updated, stays_fewer, stays_unwatched}
 use Rattle.zl_objects.proofs.CalmChanges.{keeps_body, quiet_body, quiet_calm}
+use Rattle.zl_objects.proofs.Joined.{as_asleep}
 use Rattle.zl_objects.proofs.Index.{MakesNone, job_is_child, process_is_child}
 
 -- what holds of the koid that was found
@@ -29,7 +30,7 @@ neither test only j b c before after =
     ∙ sym (fewer_unmarked (λ i. test i c) (λ i. is_child i c) (λ i. only i c) j after)
 
 -- the object is marked, and then the job of which it was a living child, if something waits there
-module _ (f : Object → Object) (none : MakesNone f) (asleep : (o : Object) → (f o).slept ≡ o.slept)
+module _ (f : Object → Object) (none : MakesNone f) (asleep : (o : Object) → (f o).asleep ≡ o.asleep)
     {marked marked2 marked3 : ℕ → Bool} (more : (j : ℕ) → IsTrue (marked j) → IsTrue (marked2 j))
     (more2 : (j : ℕ) → IsTrue (marked2 j) → IsTrue (marked3 j)) (m n : Map Object) (k : ℕ) (is : n ≡ update m k f)
     (own : IsTrue (is_watched_in (get n k)) → IsTrue (marked2 k))
@@ -39,19 +40,19 @@ module _ (f : Object → Object) (none : MakesNone f) (asleep : (o : Object) →
   ended_follows j o at c = record {
     before = c.before;
     there = c.there;
-    slept = λ h. slept ∙ h;
+    asleep = as_asleep same_asleep;
     unmarked = fewer_unmarked marked marked3 (λ i h. more2 i (more i h)) j;
     still = λ unmarked. by_watched unmarked (cases_Bool (is_watched o)) (cases_Bool (k == j));
   }
     where
-      slept : o.slept ≡ c.before.slept
-      slept =
-          ap (λ (x : Object). x.slept) c.is
-          ∙ elim (k == j) as (λ b. (if b then f c.before else c.before).slept ≡ c.before.slept) [ true ↦ asleep c.before | false ↦ refl ]
+      same_asleep : o.asleep ≡ c.before.asleep
+      same_asleep =
+          ap (λ (x : Object). x.asleep) c.is
+          ∙ elim (k == j) as (λ b. (if b then f c.before else c.before).asleep ≡ c.before.asleep) [ true ↦ asleep c.before | false ↦ refl ]
 
       by_watched : marked3 j ≡ false → IsTrue (is_watched o) ⊎ (is_watched o ≡ false) → IsTrue (k == j) ⊎ ((k == j) ≡ false)
           → Stays (signals_at m j) (signals_at n j) (has_packet (get m j)) (has_packet (get n j)) c.before o
-      by_watched unmarked (inr unwatched) this = stays_unwatched _ _ _ _ c.before o (λ h. slept ∙ h) unwatched
+      by_watched unmarked (inr unwatched) this = stays_unwatched _ _ _ _ c.before o (as_asleep same_asleep) unwatched
       by_watched unmarked (inl some) (inl here) =
           absurd (false≢true (sym unmarked ∙ more2 j (subst (λ i. IsTrue (marked2 i)) (eqb-true k j here) (own (rw (eqb-true k j here, at) some)))))
       by_watched unmarked (inl some) (inr apart) =
@@ -82,5 +83,6 @@ module _ (f : Object → Object) (none : MakesNone f) (asleep : (o : Object) →
 pub spared_calm : {marked : ℕ → Bool} (kills : Bool) → kills ≡ false → (m n : Map Object) (k : ℕ) → n ≡ update m k (killed_if kills)
     → KeepsCalm marked m marked n
 spared_calm kills spared m n k is next sleepers =
-    quiet_calm (killed_if false) (keeps_body (killed_if false) (λ o h. h) (λ o. refl)) (quiet_body (killed_if false) (λ o. refl) (λ o. refl) (λ o test h. h))
+    quiet_calm (killed_if false) (keeps_body (killed_if false) (λ o pid h. h) (λ o. refl))
+    (quiet_body (killed_if false) (λ o. refl) (λ o. refl) (λ o test h. h))
     m n k (rw spared at is)

@@ -12,11 +12,13 @@ use Rattle.zl_rights.specs.Signals.{signal_if}
 use Rattle.zl_rights.specs.World.{Wait}
 use Rattle.zl_rights.proofs.MapLaws.{get-put}
 use Rattle.zl_signals.specs.Waits.{wait_at}
+use Rattle.zl_objects.specs.declared.awaited.Asleep.TheVariants as asleep
 use Rattle.zl_objects.specs.declared.awaited.Sleeper.{Sleeper}
 use Rattle.zl_objects.specs.declared.object.Body.{Body}
 use Rattle.zl_objects.specs.declared.object.Body.TheVariants as body
 use Rattle.zl_objects.specs.declared.object.Object.{Object}
 use Rattle.zl_objects.specs.declared.object.Pair.{Pair}
+use Rattle.zl_objects.specs.Asleep.{asleep_at, asleep_in, may_be}
 use Rattle.zl_objects.specs.Awaited.{koid_of}
 use Rattle.zl_objects.specs.Calm.{IsAtRest, IsCalm, IsPut, NoneHolds, holds_now, is_due, is_watched, slept}
 use Rattle.zl_objects.specs.Dying.{HasPeer}
@@ -25,6 +27,7 @@ use Rattle.zl_objects.specs.Objects.{peer_of}
 use Rattle.zl_objects.specs.Signals.{implied, signals_at, signals_in}
 use Rattle.zl_objects.specs.Waits.{waits_in}
 use Rattle.zl_objects.proofs.Listed.{AreSeen}
+use Rattle.zl_objects.proofs.Joined.{joined_left, joined_one}
 use Rattle.zl_objects.proofs.Bodies.{Changed, changed}
 use Rattle.zl_objects.proofs.ByKoid.{inserted, put_last}
 use Rattle.zl_objects.proofs.Calm.{Follows, IsFewer, IsNew, Keeps, calm_followed, fewer_both, fewer_if, none_given, stays_fewer, stays_unwatched}
@@ -76,14 +79,14 @@ module _ (m : Map Object) (next : ℕ) (o : Object) (below : (k : ℕ) → IsTru
       still k q was at (inl unwatched) = record {
         before = q;
         there = was;
-        slept = λ h. h;
+        asleep = λ pid h. h;
         unmarked = λ unmarked. unmarked;
-        still = λ unmarked. stays_unwatched _ _ _ _ q q (λ h. h) unwatched;
+        still = λ unmarked. stays_unwatched _ _ _ _ q q (λ pid h. h) unwatched;
       }
       still k q was at (inr apart) = record {
         before = q;
         there = was;
-        slept = λ h. h;
+        asleep = λ pid h. h;
         unmarked = λ unmarked. unmarked;
         still = λ unmarked. rw (was, at)
             (stays_fewer (signals_in m k (Some q)) (signals_in (put m next o) k (Some q)) _ _ q q
@@ -101,27 +104,28 @@ module _ (m : Map Object) (next : ℕ) (o : Object) (below : (k : ℕ) → IsTru
 
 -- ---- who may be blocked
 
-pub keeps_slept : Keeps slept
-keeps_slept = keeps_body slept (λ o h. refl) (λ o. refl)
+pub keeps_slept : (pid : ℕ) → Keeps (slept pid)
+keeps_slept pid = keeps_body (slept pid) (λ o p. joined_left o.asleep (asleep.One pid) p) (λ o. refl)
 
 -- a process may be blocked at the object
-pub slept_calm : {marked : ℕ → Bool} {next : ℕ} {sleepers : List Sleeper} (m n : Map Object) (k : ℕ) → n ≡ update m k slept → IsCalm marked m next sleepers
-    → IsCalm marked n next sleepers
-slept_calm = quiet_calm slept keeps_slept (quiet_body slept (λ o. refl) (λ o. refl) (λ o test h. h))
+pub slept_calm : {marked : ℕ → Bool} {next : ℕ} {sleepers : List Sleeper} (pid : ℕ) (m n : Map Object) (k : ℕ) → n ≡ update m k (slept pid)
+    → IsCalm marked m next sleepers → IsCalm marked n next sleepers
+slept_calm pid = quiet_calm (slept pid) (keeps_slept pid) (quiet_body (slept pid) (λ o. refl) (λ o. refl) (λ o test h. h))
 
 -- a process is listed, whose object is marked if it is due
 pub put_calm : {marked marked2 : ℕ → Bool} {next : ℕ} → ((j : ℕ) → IsTrue (marked j) → IsTrue (marked2 j)) → (m n : Map Object) (s : Sleeper)
-    (list list2 : List Sleeper) (crowded crowded2 b : Bool) → koid_of s.awaited < next → n ≡ update m (koid_of s.awaited) slept → b ≡ is_due n s.awaited
+    (list list2 : List Sleeper) (crowded crowded2 b : Bool) → koid_of s.awaited < next → n ≡ update m (koid_of s.awaited) (slept s.pid) → b ≡ is_due n s.awaited
     → (b ≡ true → IsTrue (marked2 (koid_of s.awaited))) → IsPut s list crowded list2 crowded2 → IsCalm marked m next list → IsCalm marked2 n next list2
 put_calm {marked} {marked2} {next} more m n s list list2 crowded crowded2 b given is due wanted put calm = by_put put
   where
     after : IsCalm marked2 n next list
-    after = remarked_calm more n n refl (slept_calm m n (koid_of s.awaited) is calm)
+    after = remarked_calm more n n refl (slept_calm s.pid m n (koid_of s.awaited) is calm)
 
-    known : (o : Object) → get n (koid_of s.awaited) ≡ Some o → IsTrue o.slept
+    known : (o : Object) → get n (koid_of s.awaited) ≡ Some o → IsTrue (may_be o.asleep s.pid)
     known o at =
-        let c : Changed slept m (koid_of s.awaited) (koid_of s.awaited) o = changed slept m (koid_of s.awaited) (koid_of s.awaited) o (rw is at at) in
-        ap (λ (x : Object). x.slept) c.is ∙ rw (eq-eqb (koid_of s.awaited) (koid_of s.awaited) refl) refl
+        let c : Changed (slept s.pid) m (koid_of s.awaited) (koid_of s.awaited) o =
+        changed (slept s.pid) m (koid_of s.awaited) (koid_of s.awaited) o (rw is at at) in
+        ap (λ (x : Object). may_be x.asleep s.pid) c.is ∙ rw (eq-eqb (koid_of s.awaited) (koid_of s.awaited) refl) (joined_one c.before.asleep s.pid)
 
     rests : IsAtRest marked2 n next s
     rests = record { given = given; known = known; calm = λ unmarked. unless_wanted _ b wanted unmarked _ due }
@@ -133,6 +137,22 @@ put_calm {marked} {marked2} {next} more m n s list list2 crowded crowded2 b give
     by_put (inl room) =
         rw room.1 (record { waits = after.waits; resting = All-push (IsAtRest marked2 n next) (filter (λ x. not (x.pid == s.pid)) list) s others rests })
     by_put (inr full) = rw full.1 (record { waits = after.waits; resting = others })
+
+-- who is due waits at a marked object, which knows of it
+pub due_known : {marked : ℕ → Bool} {m : Map Object} {next : ℕ} (list : List Sleeper) (s : Sleeper) → IsCalm marked m next list → Contains list s
+    → IsTrue (is_due m s.awaited) → IsTrue (marked (koid_of s.awaited)) × IsTrue (may_be (asleep_at m (koid_of s.awaited)) s.pid)
+due_known {marked} {m} {next} list s calm there due = (by_test (marked (koid_of s.awaited)) refl, by_object (get m (koid_of s.awaited)) refl)
+  where
+    rests : IsAtRest marked m next s
+    rests = All-contains (IsAtRest marked m next) list s calm.resting there
+
+    by_test : (b : Bool) → marked (koid_of s.awaited) ≡ b → IsTrue b
+    by_test true is = refl
+    by_test false is = absurd (false≢true (sym (rests.calm is) ∙ due))
+
+    by_object : (q : Option Object) → get m (koid_of s.awaited) ≡ q → IsTrue (may_be (asleep_in q) s.pid)
+    by_object None is = absurd (false≢true (sym (none_given s.awaited) ∙ rw is at due))
+    by_object (Some o) is = rests.known o is
 
 contains_left : {X : Type 0} (test : X → Bool) (xs : List X) → All (λ y. test y ≡ true → Contains (filter test xs) y) xs
 contains_left test [] = All-nil (λ y. test y ≡ true → Contains (filter test []) y)

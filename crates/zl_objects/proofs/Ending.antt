@@ -116,12 +116,12 @@ none_filtered test p (x ∷ xs) h = by_test (test x) refl (p x) refl h (λ rest.
     by_test false is true which h later = rw (which, is) (later h)
     by_test false is false which h later = rw which (later h)
 
--- the same signals and waits as before, and as much slept at
+-- the same signals and waits as before, and who may be blocked at it stays
 record IsStill (m : Map Object) (k : ℕ) (o : Object) : Type 0 where
   before : Object
   there : get m k ≡ Some before
   same : o.signals ≡ before.signals
-  slept : o.slept ≡ before.slept
+  asleep : o.asleep ≡ before.asleep
 
 update_still : (m : Map Object) (p k : ℕ) (o : Object) → get (update m p (at_port without_place)) k ≡ Some o → IsStill m k o
 update_still m p k o at =
@@ -131,16 +131,16 @@ update_still m p k o at =
       there = c.there;
       same = ap (λ (x : Object). x.signals) c.is
           ∙ elim (p == k) as (λ b. (if b then at_port without_place c.before else c.before).signals ≡ c.before.signals) [ true ↦ refl | false ↦ refl ];
-      slept = ap (λ (x : Object). x.slept) c.is
-          ∙ elim (p == k) as (λ b. (if b then at_port without_place c.before else c.before).slept ≡ c.before.slept) [ true ↦ refl | false ↦ refl ];
+      asleep = ap (λ (x : Object). x.asleep) c.is
+          ∙ elim (p == k) as (λ b. (if b then at_port without_place c.before else c.before).asleep ≡ c.before.asleep) [ true ↦ refl | false ↦ refl ];
     }
 
 giving_still : (xs : List Watch) (m : Map Object) (k : ℕ) (o : Object) → get (giving_back xs m) k ≡ Some o → IsStill m k o
-giving_still [] m k o at = record { before = o; there = at; same = refl; slept = refl }
+giving_still [] m k o at = record { before = o; there = at; same = refl; asleep = refl }
 giving_still (x ∷ xs) m k o at =
     let later : IsStill (update m x.port (at_port without_place)) k o = giving_still xs (update m x.port (at_port without_place)) k o at in
     let first : IsStill m k later.before = update_still m x.port k later.before later.there in
-    record { before = first.before; there = first.there; same = later.same ∙ first.same; slept = later.slept ∙ first.slept }
+    record { before = first.before; there = first.there; same = later.same ∙ first.same; asleep = later.asleep ∙ first.asleep }
 
 -- a wait at a port that is there doesn't end with k
 module _ (m m2 : Map Object) (k : ℕ) (gone : has_key m2 k ≡ false) where
@@ -165,12 +165,12 @@ module _ (m m2 : Map Object) (k : ℕ) (gone : has_key m2 k ≡ false) where
         fewer = λ test none.
             ap (λ (x : Object). list_any test x.signals.waits) (sym (same_Some (without_port_waits k q) o read))
             ∙ none_filtered test (λ x. not (is_at_port k x)) q.signals.waits none;
-        slept = ap (λ (x : Object). x.slept) (sym (same_Some (without_port_waits k q) o read));
+        asleep = ap (λ (x : Object). x.asleep) (sym (same_Some (without_port_waits k q) o read));
       }
 
       by_test : (b : Bool) → get (if b then each (λ i. without_port_waits k) m else m) j ≡ Some o → Thins m m2 j o
       by_test true read = by_object (get m j) refl (sym (get-each m (λ i. without_port_waits k) j) ∙ read)
-      by_test false read = record { before = o; there = read; waits = λ test left. refl; fewer = λ test none. none; slept = refl }
+      by_test false read = record { before = o; there = read; waits = λ test left. refl; fewer = λ test none. none; asleep = refl }
 
 -- where k has gone, the waits of the others are left whose port isn't k
 pub ending_thins : (m : Map Object) (k : ℕ) (gone : Object) (j : ℕ) (o : Object) → has_key (ending_waits k gone (without m k)) k ≡ false
@@ -185,7 +185,7 @@ ending_thins m k gone j o out at =
       there = (found_left m k j first.before first.there).1;
       waits = λ test left. later.waits test left ∙ ap (λ s. filter test s.waits) first.same;
       fewer = λ test none. later.fewer test (ap (λ s. list_any test s.waits) first.same ∙ none);
-      slept = later.slept ∙ first.slept;
+      asleep = later.asleep ∙ first.asleep;
     }
 
 -- ---- their places

@@ -21,6 +21,7 @@ use Rattle.zl_objects.specs.Waits.{AreSameButWaits, ending_waits}
 use Rattle.zl_objects.proofs.Bare.{IsAlike, alike, any_same, has_same, of_body}
 use Rattle.zl_objects.proofs.Bodies.{any_without_at, found_left}
 use Rattle.zl_objects.proofs.CalmEnds.{of_keeper}
+use Rattle.zl_objects.proofs.Joined.{as_asleep}
 use Rattle.zl_objects.proofs.Calm.{Follows, Stays, calm_followed, fewer_same, fewer_unmarked, stays_fewer, stays_unwatched}
 use Rattle.zl_objects.proofs.Ending.{ending_bare, ending_gone, ending_thins}
 use Rattle.zl_objects.proofs.Index.{job_is_child, process_is_child}
@@ -115,12 +116,12 @@ module _ {children : Children} (m n : Map Object) (k : ℕ) (gone : Object) (ind
       follows = record {
         before = thin.before;
         there = thin.there;
-        slept = λ h. thin.slept ∙ h;
+        asleep = as_asleep thin.asleep;
         unmarked = fewer_unmarked marked marked3 all_more j;
         still = λ unmarked. elim (cases_Bool (is_watched o))
             as (λ _. Stays (signals_at m j) (signals_at n j) (has_packet (get m j)) (has_packet (get n j)) thin.before o) [
               | inl watched ↦ stays_fewer _ _ _ _ thin.before o (fewer_same _ _ (signals_left watched unmarked)) (λ h. packets ∙ h) thin.fewer
-              | inr none ↦ stays_unwatched _ _ _ _ thin.before o (λ h. thin.slept ∙ h) none
+              | inr none ↦ stays_unwatched _ _ _ _ thin.before o (as_asleep thin.asleep) none
             ];
       }
 

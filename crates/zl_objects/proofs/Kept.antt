@@ -1,6 +1,6 @@
 -- The invariant of the objects and of the list of all waits, after each change.
 use Rattle.zl_rights.proofs.Common.{◌≡◌, ◌≤◌, ◌+◌, ◌==◌, ◌&&◌, ℕ, Bool, false, List, [], ◌∷◌, ◌++◌, length, refl, sym, arith, ap, ◌∙◌, Some}
-use Rattle.zl_rights.proofs.Common.{None, IsTrue, map, not, option_map}
+use Rattle.zl_rights.proofs.Common.{None, IsTrue, map, not, option_map, cases_Bool, inl, inr, eqb-true}
 use Rattle.zl_rights.proofs.Common.{filter, find, nat_cmp, Map, get, update, has_key}
 use Rattle.std.specs.Prelude.{◌-◌, Result, OnOk, OnErr}
 use Rattle.std.specs.Map.{lookup, set_value}
@@ -51,10 +51,11 @@ module _ {waits : List Listed} where
     listed = updated_listed held_once_less (λ o. refl) waits m n k kept.listed is;
   }
 
-  pub slept_kept : (m n : Map Object) (next room k : ℕ) (d : List ℕ) → IsKept None m next d room waits → n ≡ update m k slept → IsKept None n next d room waits
-  slept_kept m n next room k d kept is = record {
-    whole = slept_whole m n next room k d kept.whole is;
-    listed = updated_listed slept (λ o. refl) waits m n k kept.listed is;
+  pub slept_kept : (pid : ℕ) (m n : Map Object) (next room k : ℕ) (d : List ℕ) → IsKept None m next d room waits → n ≡ update m k (slept pid)
+      → IsKept None n next d room waits
+  slept_kept pid m n next room k d kept is = record {
+    whole = slept_whole pid m n next room k d kept.whole is;
+    listed = updated_listed (slept pid) (λ o. refl) waits m n k kept.listed is;
   }
 
   pub changed_kept : (m n : Map Object) (next room k clear set : ℕ) (d : List ℕ) → IsKept None m next d room waits → n ≡ update m k (raised_changed clear set)
@@ -196,3 +197,17 @@ module _ {waits : List Listed} where
 
 -- what the methods of objects cite
 pub ruleset kept = (none_kept, more_kept, changed_kept, started_kept, stopped_kept, killed_kept, received_kept, inserted_kept, roomy_kept)
+
+-- where no wait passes none is taken out
+pub unwatched_none : (test : Watch → Bool) (m : Map Object) (k : ℕ) → find test (waits_in (get m k)) ≡ None → update m k (unwatched test) ≡ m
+unfolding get update
+unwatched_none test [] k none = refl
+unwatched_none test (e ∷ m) k none = elim (cases_Bool (e.0 == k)) as (λ _. update (e ∷ m) k (unwatched test) ≡ e ∷ m) [
+  | inl here ↦ rw here (λ i. (
+    sym (eqb-true e.0 k here) i,
+    record e.1 {
+      signals = record e.1.signals { waits = none_first test e.1.signals.waits (rw here at none) i };
+    },
+  ) ∷ m)
+  | inr apart ↦ rw apart (ap (λ (rest : Map Object). e ∷ rest) (unwatched_none test m k (rw apart at none)))
+]

@@ -12,6 +12,7 @@ pub mod Ending
 pub mod Found
 pub mod Gone
 pub mod Index
+pub mod Joined
 pub mod Kept
 pub mod Law
 pub mod Listed

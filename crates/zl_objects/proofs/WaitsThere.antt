@@ -2,7 +2,6 @@
 use Rattle.zl_rights.proofs.Common.{◌≡◌, ℕ, Bool, true, false, ◌==◌, List, [], ◌∷◌, refl, sym, subst, Option, Some, None, IsTrue, and_from, if◌then◌else◌, map}
 use Rattle.zl_rights.proofs.Common.{eq-eqb, Map, get, has_key, filter}
 use Rattle.std.specs.List.{All}
-use Rattle.std.specs.Prelude.{slice_index_or}
 use Rattle.std.proofs.lemmas.List.Elements.{All-cons, All-head, All-map, All-nil, All-tail, filter_passes}
 use Rattle.zl_signals.specs.declared.watch.Watch.{Watch}
 use Rattle.zl_objects.specs.declared.object.Object.{Object}

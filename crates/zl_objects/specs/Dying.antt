@@ -45,7 +45,7 @@ pub record Thins (m m2 : Map Object) (k : ℕ) (o : Object) : Type 0 where
   pub there : get m k ≡ Some before
   pub waits : (test : Watch → Bool) → ((x : Watch) → IsTrue (test x) → IsTrue (has_key m2 x.port)) → filter test o.signals.waits ≡ filter test before.signals.waits
   pub fewer : (test : Watch → Bool) → list_any test before.signals.waits ≡ false → list_any test o.signals.waits ≡ false
-  pub slept : o.slept ≡ before.slept
+  pub asleep : o.asleep ≡ before.asleep
 
 -- handles to these koids went, what nothing keeps was noted, and waits ended with their ports alone
 pub record LetsGo (ks : List ℕ) (m : Map Object) (dying : List ℕ) (m2 : Map Object) (dying2 : List ℕ) : Type 0 where

@@ -1,6 +1,7 @@
-//! What a blocked process waits for.
+//! What a blocked process waits for, and who may be blocked at an object.
 
 ghost use Rattle.std.specs.Prelude.{◌≡◌};
+ghost use Rattle.zl_objects.specs.Asleep.{is_anybody, joined};
 ghost use Rattle.zl_objects.specs.Awaited.{koid_of};
 
 use zl_rights::{Koid, Pid};
@@ -35,4 +36,37 @@ impl Awaited {
 pub struct Sleeper {
     pub pid: Pid,
     pub awaited: Awaited,
+}
+
+/// Who may be blocked at an object.
+///
+/// Source: own profile.
+#[derive(Clone, Copy, PartialEq, Eq, Debug)]
+pub enum Asleep {
+    /// No process.
+    Nobody,
+    /// This process alone.
+    One(Pid),
+    /// Perhaps several processes.
+    Several,
+}
+
+impl Asleep {
+    /// Whether some process may be blocked.
+    pub(crate) fn is_anybody(self) -> bool
+        ensures { result ≡ is_anybody self }
+    {
+        !matches!(self, Asleep::Nobody)
+    }
+
+    /// Those of both.
+    pub(crate) fn join(self, other: Asleep) -> Asleep
+        ensures { result ≡ joined self other }
+    {
+        match (self, other) {
+            (Asleep::Nobody, one) | (one, Asleep::Nobody) => one,
+            (Asleep::One(pid), Asleep::One(second)) if pid == second => self,
+            _ => Asleep::Several,
+        }
+    }
 }

@@ -3,7 +3,7 @@
 use bitflags::Flags;
 use std::alloc::AllocError;
 use std::test::Fail;
-use zl_objects::{Awaited, Body, Life, Objects, Pair, Wait};
+use zl_objects::{Asleep, Awaited, Body, Life, Objects, Pair, Wait};
 use zl_rights::{Koid, Signals};
 
 /// A new event with two handles.
@@ -311,5 +311,38 @@ fn there_is_room_for_others_once_it_was_looked_at_who_waited(rt: HostRuntime) ->
     assert!(rt; objects.is_quiet());
     block_all(&mut objects, 66, other);
     assert!(rt; objects.is_quiet());
+    Ok(())
+}
+
+/// The process waits for the signal at the object.
+fn block(objects: &mut Objects, pid: u64, koid: Koid) {
+    let mask = u64::from(Signals::SIGNALED.bits());
+    objects.sleep(pid, Awaited::SignalOf { koid, mask });
+}
+
+#[test]
+fn who_may_wake_is_told_by_the_objects_that_were_touched(rt: HostRuntime) -> Result<(), Fail> {
+    let mut objects = Objects::new(rt.alloc())?;
+    let (event, other) = (new_event(&mut objects)?, new_event(&mut objects)?);
+    block(&mut objects, 7, event);
+    block(&mut objects, 8, other);
+    assert_eq!(rt; objects.may_wake(), Asleep::Nobody);
+    signal(&mut objects, event);
+    assert_eq!(rt; objects.may_wake(), Asleep::One(7));
+    signal(&mut objects, other);
+    assert_eq!(rt; objects.may_wake(), Asleep::Several);
+    Ok(())
+}
+
+#[test]
+fn a_process_that_blocks_twice_at_an_object_is_alone_there(rt: HostRuntime) -> Result<(), Fail> {
+    let mut objects = Objects::new(rt.alloc())?;
+    let event = new_event(&mut objects)?;
+    block(&mut objects, 7, event);
+    block(&mut objects, 7, event);
+    signal(&mut objects, event);
+    assert_eq!(rt; objects.may_wake(), Asleep::One(7));
+    block(&mut objects, 8, event);
+    assert_eq!(rt; objects.may_wake(), Asleep::Several);
     Ok(())
 }

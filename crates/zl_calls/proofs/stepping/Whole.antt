@@ -49,6 +49,10 @@ module _ (lib : Library) (ps : List Process) (r : Objects) (b : List ℕ) (room 
         (λ k a apart there. falls.others k a apart
         (same_seeks r left (unheld.asleep.0 ∙ kept.0, unheld.asleep.1 ∙ kept.1) k a there)) falls.itself
 
+    -- and it is known once waits have fired
+    pub fired_known : (fires : Objects) → FiresWaits ps1 asleep fires → AreSought ps1 fires
+    fired_known fires fired_so k p a ds at is = same_seeks asleep fires fired_so.asleep k (awaited_of a) (known k p a ds at is)
+
     -- nothing is due
     module _ (none : list_any (holds_now asleep.objects) asleep.waits ≡ false) (quiet : (k : ℕ) (a : Awaited) → Seeks asleep k a → is_due asleep.objects a ≡
         false)
@@ -90,5 +94,4 @@ module _ (lib : Library) (ps : List Process) (r : Objects) (b : List ℕ) (room 
           calmed_whole room2 enough =
               stepped_whole ps2 r3 b2 room2 calmed_step.takes (calmed_consistent ps2 r2 r3 same consistent2) list2
               (λ k p a ds at is. calms k (awaited_of a) (none_due ps2 r2 consistent2 b2 list2 awake k p a ds at is)
-              (woken_sought ps1 ps2 fires r2 (then_blocked pid x b1) b2 wakes_so list2 kept2
-              (λ j q e es there state. same_seeks asleep fires fired_so.asleep j (awaited_of e) (known j q e es there state)) k p a ds at is)) enough
+              (woken_sought ps1 ps2 fires r2 (then_blocked pid x b1) b2 wakes_so list2 kept2 (fired_known fires fired_so) k p a ds at is)) enough

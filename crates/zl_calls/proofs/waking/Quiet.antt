@@ -60,7 +60,7 @@ module _ (ps : List Process) (r : Objects) (consistent : IsConsistent ps r) wher
         by_body (body.PairEnd peer) quiet = refl
 
     -- a process doesn't wake for which nothing is there
-    idle : (q : ℕ) → ((p : ProcessValue) (a : AwaitedValue) (ds : List ℕ) → get (map process_entry ps) q ≡ Some p → p.state ≡ Blocked a ds
+    pub idle : (q : ℕ) → ((p : ProcessValue) (a : AwaitedValue) (ds : List ℕ) → get (map process_entry ps) q ≡ Some p → p.state ≡ Blocked a ds
         → is_due r.objects (awaited_of a) ≡ false) → woken (world_blocked ps r blocked) q ≡ world_blocked ps r blocked
     unfolding woken made_ready
     idle q quiet = by_process (get (map process_entry ps) q) refl

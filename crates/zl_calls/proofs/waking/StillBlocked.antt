@@ -45,7 +45,7 @@ fewer_times test k (x ∷ xs) =
     ]
 
 -- what stands there is among them
-once_among : (k : ℕ) (xs : List ℕ) → 1 ≤ times k xs → IsTrue (among xs k)
+pub once_among : (k : ℕ) (xs : List ℕ) → 1 ≤ times k xs → IsTrue (among xs k)
 once_among k [] once = absurd (omega (arith, once))
 once_among k (x ∷ xs) once = elim (cases_Bool (x == k)) as (λ _. IsTrue (among (x ∷ xs) k)) [
   | inl here ↦ or_left (x == k) _ here
@@ -107,10 +107,10 @@ module _ (ps : List Process) (pid : ℕ) (x : TraceItem) where
   }
 
   pub known_asleep : (r r2 : Objects) (a : Awaited) → awaited_by (get (map process_entry ps) pid) ≡ Some a → Seeks r2 pid a
-      → ((q : ℕ) (b : Awaited) → (q == pid) ≡ false → Seeks r q b → Seeks r2 q b) → AreSameButSleepers (knowing r (koid_of a)) r2 → FallsAsleep ps pid x r r2
+      → ((q : ℕ) (b : Awaited) → (q == pid) ≡ false → Seeks r q b → Seeks r2 q b) → AreSameButSleepers (knowing r pid (koid_of a)) r2 → FallsAsleep ps pid x r r2
   known_asleep r r2 a awaited there others same = record {
     beside = record {
-      objects = one_bare r.objects (koid_of a) slept (λ o. refl) ∙ ap (λ (y : Objects). each (λ j. bare) y.objects) (sym same);
+      objects = one_bare r.objects (koid_of a) (slept pid) (λ o. refl) ∙ ap (λ (y : Objects). each (λ j. bare) y.objects) (sym same);
       koids = ap (λ (y : Objects). y.next_koid) same;
     };
     waits = ap (λ (y : Objects). y.waits) same;

@@ -40,7 +40,7 @@ drop_end [] (suc i) past = refl
 drop_end (x ∷ xs) zero past = absurd (omega (arith, past))
 drop_end (x ∷ xs) (suc i) past = drop_end xs i (omega (arith, past))
 
-times_cons : (p x : ℕ) (xs : List ℕ) → times p (x ∷ xs) ≡ (if x == p then 1 else 0) + times p xs
+pub times_cons : (p x : ℕ) (xs : List ℕ) → times p (x ∷ xs) ≡ (if x == p then 1 else 0) + times p xs
 times_cons p x xs = by_test (x == p)
   where
     by_test : (b : Bool) → length (if b then x ∷ filter (λ q. q == p) xs else filter (λ q. q == p) xs) ≡ (if b then 1 else 0) + times p xs

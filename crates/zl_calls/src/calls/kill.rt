@@ -99,7 +99,7 @@ fn keep_blocked(processes: &Processes, blocked: &mut Vec<Pid>)
 }
 
 /// Whether the process waits within a call.
-fn is_blocked(processes: &Processes, pid: Pid) -> bool
+pub fn is_blocked(processes: &Processes, pid: Pid) -> bool
     ensures { result
         ≡ state_passes is_blocked (get (map process_entry processes.now.list.items) pid) }
 {

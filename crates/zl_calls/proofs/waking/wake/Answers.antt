@@ -1,23 +1,15 @@
-use Rattle.zl_calls.proofs.Common.{arith, sym, vec_capacity}
-use Rattle.zl_calls.proofs.waking.WakeLoop.{all_had_turns, counter_there, turn_awake}
+use Rattle.zl_calls.proofs.Common.{refl, sym}
+use Rattle.zl_calls.proofs.waking.Only.{others_idle, turned}
+use Rattle.zl_calls.proofs.waking.Quiet.{quiet_wakes}
 use Rattle.zl_calls.proofs.waking.wake.Goals as goal
 
-pub wake_one-requires-clause-counter : goal.wake_one-requires-clause-counter
-wake_one-requires-clause-counter c =
-    counter_there c.loop-place.processes.list.items c.loop-place.blocked.items c.loop-place.invariant.list c.loop-place.place c.index-pid.result.now
-    c.index-pid.result.now (omega (arith, c.loop-place-test.true, c.len.ensures, c.loop-place.blocked.ok.0)) (sym c.index-pid.ensures)
+pub wake_only-requires-clause-others : goal.wake_only-requires-clause-others
+wake_only-requires-clause-others c k other =
+    others_idle c.args.processes.now.list.items c.args.objects.now c.requires.sought c.may_wake.result c.may_wake.ensures k
+    (rw c.in-One.is (turned k c.in-One.pid other))
 
-pub loop-place-preserved-then-wake_one : goal.loop-place-preserved-then-wake_one
-loop-place-preserved-then-wake_one c =
-    rw (c.remove.ensures.items, c.remove.ensures.capacity, c.and_one-woke.ensures)
-    (turn_awake c.args.processes.now.list.items c.args.objects.now c.args.blocked.now.items (vec_capacity c.args.blocked.now)
-    c.loop-place.place c.loop-place.processes.list.items c.loop-place.objects c.loop-place.blocked.items (vec_capacity c.loop-place.blocked) c.loop-place.woke
-    c.loop-place.invariant
-    c.index-pid.result.now c.index-pid.result.now (omega (arith, c.loop-place-test.true, c.len.ensures, c.loop-place.blocked.ok.0)) (sym c.index-pid.ensures)
-    c.wake_one.new.processes.list.items c.wake_one.new.objects (rw c.if-wake_one.true at c.wake_one.ensures.wakes) c.wake_one.ensures.asleep)
-
-pub returns-clause-wakes : goal.returns-clause-wakes
-returns-clause-wakes c =
-    all_had_turns c.args.processes.now.list.items c.args.objects.now c.args.blocked.now.items (vec_capacity c.args.blocked.now)
-    c.loop-place.place c.loop-place.processes.list.items c.loop-place.objects c.loop-place.blocked.items (vec_capacity c.loop-place.blocked) c.loop-place.woke
-    c.loop-place.invariant (omega (arith, c.loop-place-test.false, c.len.ensures, c.loop-place.blocked.ok.0))
+pub returns-in-Nobody-clause-wakes : goal.returns-in-Nobody-clause-wakes
+returns-in-Nobody-clause-wakes c =
+    sym (quiet_wakes c.args.processes.now.list.items c.args.objects.now c.requires.consistent c.args.blocked.now.items
+    (λ k. others_idle c.args.processes.now.list.items c.args.objects.now c.requires.sought c.may_wake.result c.may_wake.ensures k (rw c.in-Nobody.is refl))
+    c.args.blocked.now.items)

@@ -13,7 +13,7 @@ returns-then-not-kills-clause-calm c =
 pub returns-clause-calm : goal.returns-clause-calm
 returns-clause-calm c =
     ended_calm (killed_if c.args.kills) (killed_none c.args.kills)
-    (λ o. elim c.args.kills as (λ b. (killed_if b o).slept ≡ o.slept) [ true ↦ refl | false ↦ refl ])
+    (λ o. elim c.args.kills as (λ b. (killed_if b o).asleep ≡ o.asleep) [ true ↦ refl | false ↦ refl ])
     c.mark_watched.ensures.more c.mark_watched-2.ensures.more c.args.by_koid.now.entries (c.get_mut.follows.lender c.kill_if.new.self).entries c.args.koid
     (written c.args.by_koid.now.entries _ c.args.koid (killed_if c.args.kills) c.in-Some.object.now c.kill_if.new.self (search (rules, by_koid))
     c.kill_if.ensures (search (rules, by_koid))) c.mark_watched.ensures.wanted c.in-Some.object.now (search (rules, by_koid))

@@ -3,7 +3,7 @@ use Rattle.zl_calls.proofs.Common.{then_blocked}
 use Rattle.zl_calls.proofs.waking.BlockedLists.{no_more}
 use Rattle.zl_calls.proofs.waking.StillBlocked.{acted_sought, same_seeks, silent}
 use Rattle.zl_calls.proofs.stepping.StepItems.{machine_value, local_list, not_ready_in, takes_local}
-use Rattle.zl_calls.proofs.stepping.Whole.{asleep_consistent, calmed_step, calmed_whole, nothing_holds, quiet_step, quiet_whole, stepped_whole}
+use Rattle.zl_calls.proofs.stepping.Whole.{asleep_consistent, fired_known, calmed_step, calmed_whole, nothing_holds, quiet_step, quiet_whole, stepped_whole}
 use Rattle.zl_calls.proofs.world.World.step.Goals as goal
 
 pub returns-in_err-item-clause-not_ready : goal.returns-in_err-item-clause-not_ready
@@ -22,6 +22,15 @@ fire_waits-requires c =
     c.act_for.new.processes.list.items c.act_for.new.objects c.act_for.new.objects c.fall_asleep.new.objects
     c.act_for.new.blocked.items c.in_ok-item.ensures.acts c.in_ok-item.ensures.list c.in_ok-item.ensures.fewer c.in_ok-item.ensures.asleep
     (c.in_ok-item.ensures.unheld (sym c.is_local.ensures ∙ c.if-is_local.false)) c.fall_asleep.ensures
+
+pub wake-woke-requires-clause-sought : goal.wake-woke-requires-clause-sought
+wake-woke-requires-clause-sought c =
+    fired_known c.self.inside.library c.self.inside.processes.list.items c.self.inside.objects c.self.inside.blocked.items
+    (vec_capacity c.self.inside.blocked)
+    c.args.pid c.in_ok-item.item c.self.invariant
+    c.act_for.new.processes.list.items c.act_for.new.objects c.act_for.new.objects c.fall_asleep.new.objects
+    c.act_for.new.blocked.items c.in_ok-item.ensures.acts c.in_ok-item.ensures.list c.in_ok-item.ensures.fewer c.in_ok-item.ensures.asleep
+    (c.in_ok-item.ensures.unheld (sym c.is_local.ensures ∙ c.if-is_local.false)) c.fall_asleep.ensures c.fire_waits.new.objects c.fire_waits.ensures
 
 pub calm-requires : goal.calm-requires
 calm-requires c =

@@ -9,15 +9,16 @@ use Rattle.zl_objects.proofs.objects.Objects.sleep.Goals as goal
 
 pub is_due-requires : goal.is_due-requires
 is_due-requires c =
-    kept_indexed slept keeps_slept (koid_of c.args.awaited) c.self.invariant.indexed (rw c.koid-koid.ensures at c.note_slept.ensures.objects)
+    kept_indexed (slept c.args.pid) (keeps_slept c.args.pid) (koid_of c.args.awaited) c.self.invariant.indexed
+    (rw c.koid-koid.ensures at c.note_slept.ensures.objects)
 
 pub invariant_of-self-2 : goal.invariant_of-self-2
 invariant_of-self-2 c =
-    let noted : c.note_slept.new.by_koid.entries ≡ update c.self.inside.by_koid.entries (koid_of c.args.awaited) slept =
+    let noted : c.note_slept.new.by_koid.entries ≡ update c.self.inside.by_koid.entries (koid_of c.args.awaited) (slept c.args.pid) =
     rw c.koid-koid.ensures at c.note_slept.ensures.objects in
     record {
       kept =
-          slept_kept c.self.inside.by_koid.entries c.note_slept.new.by_koid.entries c.self.inside.next_koid (vec_capacity c.self.inside.dying)
+          slept_kept c.args.pid c.self.inside.by_koid.entries c.note_slept.new.by_koid.entries c.self.inside.next_koid (vec_capacity c.self.inside.dying)
           (koid_of c.args.awaited) c.self.inside.dying.items c.self.invariant.kept noted;
       calm = put_calm c.add_if.ensures.more c.self.inside.by_koid.entries c.note_slept.new.by_koid.entries
           (record { pid = c.args.pid; awaited = c.args.awaited }) c.self.inside.sleepers.list.items
@@ -25,20 +26,20 @@ invariant_of-self-2 c =
           (c.self.invariant.kept.whole.below (koid_of c.args.awaited) (rw c.koid-koid.ensures at
           (sym c.note_slept.ensures.there ∙ c.if-not-note_slept.false))) noted c.is_due.ensures
           (rw c.koid-koid.ensures at c.add_if.ensures.wanted) c.put.ensures c.self.invariant.calm;
-      indexed = kept_indexed slept keeps_slept (koid_of c.args.awaited) c.self.invariant.indexed noted;
+      indexed = kept_indexed (slept c.args.pid) (keeps_slept c.args.pid) (koid_of c.args.awaited) c.self.invariant.indexed noted;
     }
 
 -- the object isn't there
 pub invariant_of-self : goal.invariant_of-self
 invariant_of-self c =
-    let noted : c.note_slept.new.by_koid.entries ≡ update c.self.inside.by_koid.entries (koid_of c.args.awaited) slept =
+    let noted : c.note_slept.new.by_koid.entries ≡ update c.self.inside.by_koid.entries (koid_of c.args.awaited) (slept c.args.pid) =
     rw c.koid-koid.ensures at c.note_slept.ensures.objects in
     record {
       kept =
-          slept_kept c.self.inside.by_koid.entries c.note_slept.new.by_koid.entries c.self.inside.next_koid (vec_capacity c.self.inside.dying)
+          slept_kept c.args.pid c.self.inside.by_koid.entries c.note_slept.new.by_koid.entries c.self.inside.next_koid (vec_capacity c.self.inside.dying)
           (koid_of c.args.awaited) c.self.inside.dying.items c.self.invariant.kept noted;
-      calm = slept_calm c.self.inside.by_koid.entries c.note_slept.new.by_koid.entries (koid_of c.args.awaited) noted c.self.invariant.calm;
-      indexed = kept_indexed slept keeps_slept (koid_of c.args.awaited) c.self.invariant.indexed noted;
+      calm = slept_calm c.args.pid c.self.inside.by_koid.entries c.note_slept.new.by_koid.entries (koid_of c.args.awaited) noted c.self.invariant.calm;
+      indexed = kept_indexed (slept c.args.pid) (keeps_slept c.args.pid) (koid_of c.args.awaited) c.self.invariant.indexed noted;
     }
 
 pub returns-clause-there : goal.returns-clause-there

@@ -28,21 +28,25 @@ pub fn end_handle(objects: &mut Objects, koid: Koid, pid: Pid, value: HValue)
     end_made_at(objects, koid, pid, value);
 }
 
-/// The waits end that the process made by its handle of this value for a packet with the key to the
-/// port; whether there was one. It takes no memory.
-pub fn cancel_waits(objects: &mut Objects, pid: Pid, value: HValue, port: Koid, key: u64) -> bool
+/// The waits end that the process made by its handle of this value, which names the object, for a packet
+/// with the key to the port; whether there was one. Where there was none nothing changes. It takes no
+/// memory.
+pub fn cancel_waits(
+    objects: &mut Objects,
+    koid: Koid,
+    pid: Pid,
+    value: HValue,
+    port: Koid,
+    key: u64,
+) -> bool
+    requires { All (λ x. IsTrue (is_by_handle pid value x) → x.object ≡ koid) objects.old.waits }
     ensures ended { EndsWaits (is_keyed pid value port key) objects.old objects.new }
     ensures any { result ≡ list_any (is_keyed pid value port key) objects.old.waits }
+    ensures unchanged { result ≡ false → objects.new ≡ objects.old }
 {
     let mut any = false;
-    let mut place = 0;
-    while let Some(wait) = objects.wait_at(place) {
-        if is_keyed(&wait, pid, value, port, key) {
-            objects.unwatch_key(wait.object, pid, value, port, key);
-            any = true;
-        } else {
-            place += 1;
-        }
+    while let Some(_) = objects.unwatch_key(koid, pid, value, port, key) {
+        any = true;
     }
     any
 }
@@ -133,21 +137,6 @@ pub fn fire_waits(processes: &Processes, objects: &mut Objects)
         objects.fire(due.koid, due.active);
         place = due.place;
     }
-}
-
-/// Whether the process made the wait by its handle of this value.
-fn is_by_handle(wait: &Wait, pid: Pid, value: HValue) -> bool
-    ensures { result ≡ is_by_handle pid value (wait_value wait.now) }
-{
-    wait.pid == pid && wait.value == value
-}
-
-/// Whether the process made the wait by its handle of this value for a packet with the key to the
-/// port.
-pub fn is_keyed(wait: &Wait, pid: Pid, value: HValue, port: Koid, key: u64) -> bool
-    ensures { result ≡ is_keyed pid value port key (wait_value wait.now) }
-{
-    is_by_handle(wait, pid, value) && wait.port == port && wait.key == key
 }
 
 /// Whether the handle of the wait is there, and its object and port.

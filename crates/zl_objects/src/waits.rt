@@ -152,9 +152,12 @@ impl Objects {
         key: u64,
     ) -> Option<Watch>
         ensures earliest { result ≡ find (is_keyed pid value port key) (waits_in (get self.old.objects koid)) }
+        ensures listed { option_map (wait_at koid) result
+            ≡ find (is_keyed_at koid pid value port key) self.old.waits }
         ensures rest { self.new ≡ unwatching
             (unlisting (is_keyed_at koid pid value port key) self.old) koid
             (is_keyed pid value port key) }
+        ensures unchanged { IfNone result (self.new ≡ self.old) }
     {
         let wait = take_key(&mut self.by_koid, koid, pid, value, port, key)?;
         unlist(&mut self.waits, wait.order);

@@ -1,11 +1,10 @@
--- What wait_async and port_cancel find: the handles of the caller, whether a wait is listed, and that where no packet passes a test none leaves the port.
-use Rattle.zl_calls.proofs.Common.{◌≡◌, ◌+◌, ℕ, zero, suc, Bool, true, false, not, ◌||◌, ◌==◌, ◌⊎◌, List, [], ◌∷◌, length, list_any, refl, sym, ap, ◌∙◌, inl}
-use Rattle.zl_calls.proofs.Common.{inr, Option, Some, None, Ok, Err, cases_Bool, eqb-true, none-some, same_Some, slice_get, IsTrue, arith, option_map, bits}
+-- What wait_async and port_cancel find: the handles of the caller, and that where no packet passes a test none leaves the port.
+use Rattle.zl_calls.proofs.Common.{◌≡◌, ℕ, Bool, true, false, not, ◌||◌, ◌==◌, ◌⊎◌, List, [], ◌∷◌, length, list_any, refl, sym, ap, ◌∙◌, inl}
+use Rattle.zl_calls.proofs.Common.{inr, Option, Some, None, Ok, Err, cases_Bool, eqb-true, none-some, same_Some, IsTrue, option_map, bits}
 use Rattle.zl_calls.proofs.Common.{Map, get, update, Handles, Objects, Entry, Signals, granted, looked_up, WAIT, WRITE, Packet, is_from, without_packets}
 use Rattle.zl_calls.proofs.Common.{is_mask, may_register, watching, at_port, changed_port, changing_port, packets_in, packets_of, EndsWaits, PortCancelDoes}
 use Rattle.zl_calls.proofs.Common.{WaitAsyncDoes, source_of, port_at}
 use Rattle.std.proofs.Math.Nat.{suc-ne-zero}
-use Rattle.std.specs.Prelude.{drop}
 use Rattle.std.specs.List.{filter}
 use Rattle.zl_rights.specs.declared.status.Status.TheVariants as status
 use Rattle.zl_code.specs.Waiting.{is_keyed}
@@ -14,34 +13,9 @@ use Rattle.zl_objects.specs.declared.object.Body.TheVariants as body
 use Rattle.zl_objects.specs.declared.object.Object.{Object}
 use Rattle.zl_calls.proofs.calls.HandleCalls.{no_bits}
 
--- ---- a list from some place on
+-- ---- what is counted
 
 module _ {X : Type 0} (test : X → Bool) where
-  -- the element there is the first of the rest
-  any_from : (xs : List X) (n : ℕ) (x : X) → slice_get xs n ≡ Some x → list_any test (drop n xs) ≡ (test x || list_any test (drop (suc n) xs))
-  any_from [] n x is = absurd (none-some x is)
-  any_from (y ∷ xs) zero x is = ap (λ (z : X). test z || list_any test xs) (same_Some y x is)
-  any_from (y ∷ xs) (suc n) x is = any_from xs n x is
-
-  -- so it is one of all, if it passes, where none before it does
-  pub any_there : (xs : List X) (n : ℕ) (x : X) → slice_get xs n ≡ Some x → list_any test xs ≡ list_any test (drop n xs) → test x ≡ true
-      → list_any test xs ≡ true
-  any_there xs n x is before passes = before ∙ (any_from xs n x is ∙ rw passes refl)
-
-  -- else the rest decides
-  pub any_behind : (xs : List X) (n : ℕ) (x : X) → slice_get xs n ≡ Some x → list_any test xs ≡ list_any test (drop n xs) → test x ≡ false
-      → list_any test xs ≡ list_any test (drop (n + 1) xs)
-  any_behind xs n x is before fails =
-      let next : suc n ≡ n + 1 = omega arith in
-      before ∙ (any_from xs n x is ∙ (rw fails refl ∙ ap (λ (m : ℕ). list_any test (drop m xs)) next))
-
-  -- behind the last nothing is left
-  pub none_from : (xs : List X) (n : ℕ) → slice_get xs n ≡ None → list_any test (drop n xs) ≡ false
-  none_from [] zero is = refl
-  none_from [] (suc n) is = refl
-  none_from (y ∷ xs) zero is = absurd (none-some y (sym is))
-  none_from (y ∷ xs) (suc n) is = none_from xs n is
-
   -- where none is counted, none passes, and a filter takes none away
   none_counted : (xs : List X) → length (filter test xs) ≡ 0 → (list_any test xs ≡ false) × (filter (λ x. not (test x)) xs ≡ xs)
   none_counted [] none = (refl, refl)

@@ -4,7 +4,6 @@ use Rattle.zl_calls.proofs.Common.{suc, same_Some, cases_Bool, false≢true, sli
 use Rattle.zl_calls.proofs.Common.{none-some, filter-append, list_any-append, or_parts, get_or_from_slice_get, slice_get_within, filter_all, without_first}
 use Rattle.std.specs.Prelude.{drop}
 use Rattle.std.specs.List.{filter, find, position_or_len}
-use Rattle.std.proofs.lemmas.Bool.{or_left, or_right}
 use Rattle.std.proofs.lemmas.Option.{slice_get_cases}
 use Rattle.std.proofs.Math.Seq.{take-append_seam}
 
@@ -121,9 +120,3 @@ module _ {X : Type 0} where
   pub sifting_ends : (test : X → Bool) (before : List X) (place : ℕ) (xs : List X) → slice_get xs place ≡ None → IsSifting test before place xs
       → xs ≡ filter (λ x. not (test x)) before
   sifting_ends test before place xs none so_far = sym (filter_all test xs (none_there test before place xs none so_far)) ∙ so_far.left
-
-  -- what stands at a place and passes is among what passes
-  pub any_there : (test : X → Bool) (xs : List X) (place : ℕ) (x : X) → slice_get xs place ≡ Some x → test x ≡ true → list_any test xs ≡ true
-  any_there test xs place x at pass =
-      ap (list_any test) (parts xs place x at)
-      ∙ (list_any-append test (take place xs) (x ∷ drop (suc place) xs) ∙ or_right (list_any test (take place xs)) _ (or_left (test x) _ pass))

@@ -1,7 +1,7 @@
 -- Waits end one after another: the objects stay the same but for waits, and of the list just what isn't to end is left.
-use Rattle.zl_calls.proofs.Common.{◌≡◌, ◌<◌, ◌+◌, ◌*◌, ◌-◌, ℕ, Bool, true, false, not, ◌&&◌, ◌||◌, ◌==◌, or_right, and_parts, eq-eqb, eqb-true, List, length}
+use Rattle.zl_calls.proofs.Common.{◌≡◌, ◌<◌, ◌+◌, ◌*◌, ◌-◌, ℕ, Bool, true, false, not, ◌&&◌, ◌==◌, and_parts, eq-eqb, eqb-true, List, length}
 use Rattle.zl_calls.proofs.Common.{map, refl, sym, ap, ◌∙◌, subst, Option, Some, None, is_some, option_map, slice_get, slice_get-get_or, get_or, arith, Map}
-use Rattle.zl_calls.proofs.Common.{get, has_key, list_any, Objects, kind_at, kind_in, object_entry, process_entry, process_value, world_value, IsConsistent}
+use Rattle.zl_calls.proofs.Common.{get, has_key, Objects, kind_at, kind_in, object_entry, process_entry, process_value, world_value, IsConsistent}
 use Rattle.zl_calls.proofs.Common.{IsPlaceOf, World, slice_get_within, has_handle, Watch, unlisting, unwatching, has_seen, AreBeside, EndsUnheld, EndsWaits}
 use Rattle.zl_calls.proofs.Common.{is_left}
 use Rattle.std.specs.List.{filter}
@@ -12,7 +12,7 @@ use Rattle.zl_objects.specs.declared.object.Object.{Object}
 use Rattle.zl_objects.specs.Listed.{is_keyed_at}
 use Rattle.zl_calls.specs.declared.process.Process.{Process}
 use Rattle.zl_calls.proofs.objects.SameButWaits.{beside_consistent, beside_same, beside_then, beside_world, unwatching_beside}
-use Rattle.zl_calls.proofs.lists.FilterByFirst.{IsSifting, any_there, none_there, one_less, sifting_ends, sifting_starts, sifting_stays, sifting_takes}
+use Rattle.zl_calls.proofs.lists.FilterByFirst.{IsSifting, one_less, sifting_ends, sifting_starts, sifting_stays, sifting_takes}
 
 -- ---- what is left
 
@@ -83,49 +83,6 @@ module _ (test : Wait → Bool) (old : Objects) where
         narrow_fewer =
             let less : length after.waits ≡ length (unwatching (unlisting narrow now) k watch).waits = ap (λ (r : Objects). length r.waits) is in
             omega (arith, less, one_less test narrow wider old.waits place now.waits x at asked so_far.list, slice_get_within now.waits place x at)
-
-      -- it asks for the same at the object of the wait
-      module _ (passes : test x ≡ true) (watch : Watch → Bool) (after : Objects)
-          (is : after ≡ unwatching (unlisting (λ y. (y.object == x.object) && test y) now) x.object watch) where
-        here : ((x.object == x.object) && test x) ≡ true
-        here = rw (eq-eqb x.object x.object refl) passes
-
-        there : (y : Wait) → ((y.object == x.object) && test y) ≡ true → test y ≡ true
-        there y both = (and_parts (y.object == x.object) (test y) both).1
-
-        pub one_ends : IsEnding test old place after
-        one_ends = narrow_ends (λ y. (y.object == x.object) && test y) there here x.object watch after is
-
-        pub one_fewer : length after.waits * 2 - place < length now.waits * 2 - place
-        one_fewer = narrow_fewer (λ y. (y.object == x.object) && test y) there here x.object watch after is
-
--- so far some have ended just where some were there that pass
-pub record IsCancelling (test : Wait → Bool) (old : Objects) (any : Bool) (place : ℕ) (now : Objects) : Type 0 where
-  pub ending : IsEnding test old place now
-  pub found : list_any test old.waits ≡ (any || list_any test now.waits)
-
-module _ (test : Wait → Bool) (old : Objects) where
-  pub cancelling_starts : IsCancelling test old false 0 old
-  cancelling_starts = record { ending = ending_starts test old; found = refl }
-
-  module _ (any : Bool) (place : ℕ) (now : Objects) (so_far : IsCancelling test old any place now) where
-    pub any_ended : slice_get now.waits place ≡ None → any ≡ list_any test old.waits
-    any_ended none = sym (so_far.found ∙ (ap (λ b. any || b) (none_there test old.waits place now.waits none so_far.ending.list) ∙ by any))
-      where
-        by : (b : Bool) → (b || false) ≡ b
-        by true = refl
-        by false = refl
-
-    module _ (x : Wait) (at : slice_get now.waits place ≡ Some x) where
-      pub one_uncancelled : test x ≡ false → IsCancelling test old any (place + 1) now
-      one_uncancelled fail = record { ending = one_stays test old place now so_far.ending x at fail; found = so_far.found }
-
-      pub one_cancelled : test x ≡ true → (watch : Watch → Bool) (after : Objects)
-          → after ≡ unwatching (unlisting (λ y. (y.object == x.object) && test y) now) x.object watch → IsCancelling test old true place after
-      one_cancelled pass watch after is = record {
-        ending = one_ends test old place now so_far.ending x at pass watch after is;
-        found = so_far.found ∙ or_right any _ (any_there test now.waits place x at pass);
-      }
 
 -- ---- the waits whose handle, object or port is gone
 

@@ -89,7 +89,7 @@ still_none p (suc n) (z ∷ zs) ys x passes none =
     let both = or_parts (p z) (list_any p (take n (zs ++ x ∷ ys))) none in
     rw both.0 (still_none p n zs ys x passes both.1)
 
-none_passes : {X : Type 0} (p : X → Bool) (xs : List X) → find p xs ≡ None → list_any p xs ≡ false
+pub none_passes : {X : Type 0} (p : X → Bool) (xs : List X) → find p xs ≡ None → list_any p xs ≡ false
 none_passes p [] none = refl
 none_passes {X} p (x ∷ xs) none = by_test (p x) none (λ rest. none_passes p xs rest)
   where

@@ -1,6 +1,6 @@
 -- Waits end by the handles that a call took: object by object those that its caller made by a handle that is gone.
 use Rattle.zl_calls.proofs.Common.{◌≡◌, ◌<◌, ◌+◌, ℕ, suc, Bool, true, false, not, ◌&&◌, ◌||◌, ◌==◌, List, [], ◌∷◌, length, take, refl, sym, ap, ◌∙◌, subst}
-use Rattle.zl_calls.proofs.Common.{Some, None, inl, inr, IsTrue, All, All-head, All-tail, cases_Bool, false≢true, eq-eqb, eqb-true, arith}
+use Rattle.zl_calls.proofs.Common.{cond, Some, None, inl, inr, IsTrue, All, All-head, All-tail, cases_Bool, false≢true, eq-eqb, eqb-true, arith}
 use Rattle.zl_calls.proofs.Common.{and_from, and_parts, if◌then◌else◌, list_any, list_any-append, none-some, ◌≤◌, take_all, take_more, without_first, get_or}
 use Rattle.zl_calls.proofs.Common.{is_empty, world_blocked, world_left, map, get, process_entry, Objects, AreBeside, EndsUnheld, EndsWaits, IsConsistent}
 use Rattle.zl_calls.proofs.Common.{Watch, has_handle, is_left, unlisting, unwatching, world_value}
@@ -9,7 +9,6 @@ use Rattle.std.specs.Prelude.{slice_index_or}
 use Rattle.std.proofs.lemmas.List.Folds.{list_any_none}
 use Rattle.zl_rights.specs.Settle.{is_made_by_handle}
 use Rattle.zl_rights.specs.World.{Wait, World}
-use Rattle.zl_code.specs.Waiting.{is_by_handle}
 use Rattle.zl_objects.specs.Awaited.{KeepSleepers}
 use Rattle.zl_objects.specs.Listed.{is_made_at}
 use Rattle.zl_objects.proofs.Places.{first_out}
@@ -17,6 +16,7 @@ use Rattle.zl_calls.specs.Taken.{AreKnown, IsKnown, has_noted, is_gone, is_over_
 use Rattle.zl_calls.specs.declared.process.Process.{Process}
 use Rattle.zl_calls.specs.declared.taken.Taken.{Taken}
 use Rattle.zl_calls.specs.declared.taken.TakenHandle.{TakenHandle}
+use Rattle.zl_calls.proofs.waits.FiringWorlds.{none_passes}
 use Rattle.zl_calls.proofs.waits.WaitsLost.{filter_within}
 use Rattle.zl_calls.proofs.objects.SameButWaits.{beside_consistent, beside_same, beside_then, beside_world, unwatching_beside}
 
@@ -61,6 +61,19 @@ filter_alike p q [] all = refl
 filter_alike {X} p q (x ∷ xs) all =
     (λ i. if All-head (λ y. p y ≡ q y) x xs all i then x ∷ filter p xs else filter p xs)
     ∙ ap (λ (ys : List X). if q x then x ∷ ys else ys) (filter_alike p q xs (All-tail (λ y. p y ≡ q y) x xs all))
+
+any_alike : {X : Type 0} (p q : X → Bool) (xs : List X) → All (λ x. p x ≡ q x) xs → list_any p xs ≡ list_any q xs
+any_alike p q [] all = refl
+any_alike {X} p q (x ∷ xs) all =
+    (λ i. All-head (λ y. p y ≡ q y) x xs all i || any_alike p q xs (All-tail (λ y. p y ≡ q y) x xs all) i)
+
+some_passes : {X : Type 0} (p : X → Bool) (xs : List X) (y : X) → find p xs ≡ Some y → list_any p xs ≡ true
+some_passes p [] y some = absurd (none-some y some)
+some_passes {X} p (x ∷ xs) y some = by_test (p x) some (λ rest. some_passes p xs y rest)
+  where
+    by_test : (b : Bool) → cond b (Some x) (find p xs) ≡ Some y → (find p xs ≡ Some y → list_any p xs ≡ true) → (b || list_any p xs) ≡ true
+    by_test true h later = refl
+    by_test false h later = later h
 
 any_too : {X : Type 0} (p q : X → Bool) (xs : List X) → ((x : X) → p x ≡ true → q x ≡ true) → list_any p xs ≡ true → list_any q xs ≡ true
 any_too p q [] wider any = any
@@ -130,26 +143,69 @@ module _ (test : Wait → Bool) (old : Objects) where
         let less : length after.waits ≡ length (without_first test now.waits) = ap (λ (r : Objects). length r.waits) is in
         omega (arith, less, some_first test now.waits x some)
 
--- where all that were made by the handle are at one object, they have ended with those there
-pub all_made_at : (k pid value : ℕ) (r r2 : Objects) → All (λ x. IsTrue (is_by_handle pid value x) → x.object ≡ k) r.waits
-    → EndsWaits (is_made_at k pid value) r r2 → EndsWaits (is_by_handle pid value) r r2
-all_made_at k pid value r r2 own ends = record {
-  beside = ends.beside;
-  waits = ends.waits ∙ filter_alike (λ x. not (is_made_at k pid value x)) (λ x. not (is_by_handle pid value x)) r.waits
-      (λ i d inside. same (slice_index_or r.waits i d) (own i d inside));
-  made = ends.made;
-  asleep = ends.asleep;
-}
-  where
-    same : (x : Wait) → (IsTrue (is_by_handle pid value x) → x.object ≡ k) → not (is_made_at k pid value x) ≡ not (is_by_handle pid value x)
-    same x at = elim (cases_Bool (is_by_handle pid value x)) as (λ _. not (is_made_at k pid value x) ≡ not (is_by_handle pid value x)) [
-      | inl by ↦ rw (by, eq-eqb x.object k (at by)) refl
-      | inr other ↦ rw other (ap not (neither (x.object == k)))
-    ]
+-- where each wait that passes is at one object
+module _ (k : ℕ) (test : Wait → Bool) (r : Objects) (own : All (λ x. IsTrue (test x) → x.object ≡ k) r.waits) where
+  same_at : All (λ x. ((x.object == k) && test x) ≡ test x) r.waits
+  same_at i d inside = one (slice_index_or r.waits i d) (own i d inside)
+    where
+      neither : (b : Bool) → (b && false) ≡ false
+      neither true = refl
+      neither false = refl
+
+      one : (x : Wait) → (IsTrue (test x) → x.object ≡ k) → ((x.object == k) && test x) ≡ test x
+      one x at = elim (cases_Bool (test x)) as (λ _. ((x.object == k) && test x) ≡ test x) [
+        | inl by ↦ rw (by, eq-eqb x.object k (at by)) refl
+        | inr other ↦ rw other (neither (x.object == k))
+      ]
+
+  -- all have ended with those there
+  pub all_at : (r2 : Objects) → EndsWaits (λ x. (x.object == k) && test x) r r2 → EndsWaits test r r2
+  all_at r2 ends = record {
+    beside = ends.beside;
+    waits = ends.waits ∙ filter_alike (λ x. not ((x.object == k) && test x)) (λ x. not (test x)) r.waits (λ i d inside. ap not (same_at i d inside));
+    made = ends.made;
+    asleep = ends.asleep;
+  }
+
+  any_at : list_any (λ x. (x.object == k) && test x) r.waits ≡ list_any test r.waits
+  any_at = any_alike (λ x. (x.object == k) && test x) test r.waits same_at
+
+-- ---- those that are cancelled, one after another
+
+-- so far one has ended just where one was there that passes, and else nothing has changed
+pub record IsCancelling (test : Wait → Bool) (old : Objects) (any : Bool) (now : Objects) : Type 0 where
+  pub taking : IsTaking test old now
+  pub found : any ≡ true → list_any test old.waits ≡ true
+  pub same : any ≡ false → now ≡ old
+
+module _ (test : Wait → Bool) (old : Objects) where
+  pub cancelling_starts : IsCancelling test old false old
+  cancelling_starts = record { taking = taking_starts test old; found = λ h. absurd (false≢true h); same = λ h. refl }
+
+  module _ (any : Bool) (now : Objects) (so_far : IsCancelling test old any now) where
+    pub one_cancelled : (k : ℕ) (watch : Watch → Bool) (after : Objects) → after ≡ unwatching (unlisting test now) k watch → (x : Wait)
+        → find test now.waits ≡ Some x → IsCancelling test old true after
+    one_cancelled k watch after is x some = record {
+      taking = one_taken test old now so_far.taking k watch after is;
+      found = λ h. by_any any refl;
+      same = λ h. absurd (false≢true (sym h));
+    }
       where
-        neither : (b : Bool) → (b && false) ≡ false
-        neither true = refl
-        neither false = refl
+        by_any : (b : Bool) → any ≡ b → list_any test old.waits ≡ true
+        by_any true was = so_far.found was
+        by_any false was = some_passes test old.waits x (ap (λ (r : Objects). find test r.waits) (sym (so_far.same was)) ∙ some)
+
+    pub any_cancelled : find test now.waits ≡ None → any ≡ list_any test old.waits
+    any_cancelled none = by_any any refl
+      where
+        by_any : (b : Bool) → any ≡ b → any ≡ list_any test old.waits
+        by_any true was = was ∙ sym (so_far.found was)
+        by_any false was = was ∙ sym (none_passes test old.waits (ap (λ (r : Objects). find test r.waits) (sym (so_far.same was)) ∙ none))
+
+    -- where all are at one object
+    pub any_ended : (k : ℕ) (wide : Wait → Bool) → test ≡ (λ x. (x.object == k) && wide x) → All (λ x. IsTrue (wide x) → x.object ≡ k) old.waits
+        → find test now.waits ≡ None → any ≡ list_any wide old.waits
+    any_ended k wide is own none = any_cancelled none ∙ (ap (λ (t : Wait → Bool). list_any t old.waits) is ∙ any_at k wide old own)
 
 -- ---- handle by handle
 

@@ -1,14 +1,13 @@
 //! Calls on ports.
 
 ghost use Rattle.std.specs.Prelude.{◌≡◌, ◌<◌, ◌^◌, false, [], ◌∷◌, IsOk, IsTrue};
-ghost use Rattle.std.specs.List.{list_any};
 ghost use Rattle.zl_rights.specs.LookUp.{looked_up};
 ghost use Rattle.zl_rights.specs.Map.{has_key};
 ghost use Rattle.zl_rights.specs.Numbers.{READ, WRITE};
 ghost use Rattle.zl_code.specs.Request.{site_of};
-ghost use Rattle.zl_code.specs.Waiting.{is_keyed};
 ghost use Rattle.zl_code.specs.declared.history.CallName.TheVariants as name;
 ghost use Rattle.zl_calls.specs.Acted.{Acted};
+ghost use Rattle.zl_calls.specs.Calling.{OwnWaits};
 ghost use Rattle.zl_calls.specs.Sure.{IsFaultless};
 ghost use Rattle.zl_calls.specs.calls.Async.{PortCancelDoes};
 ghost use Rattle.zl_calls.specs.calls.Port.{PortCreateDoes, PortPollDoes, PortQueueDoes};
@@ -16,7 +15,7 @@ ghost use Rattle.zl_calls.specs.calls.Port.{PortCreateDoes, PortPollDoes, PortQu
 use crate::calls::handle::live_at;
 use crate::calls::{check_room, look_up, make_object};
 use crate::process::{Process, State};
-use crate::waits::{cancel_waits, is_keyed};
+use crate::waits::cancel_waits;
 use zl_code::{CallInstr, Outcome};
 use zl_objects::{Awaited, Objects};
 use zl_port::{Packet, QueueFault, Source};
@@ -138,6 +137,7 @@ pub fn port_cancel<const TESTED: bool>(
     requires port { TESTED ≡ false
         → IsOk (looked_up table.now.entries port (Kind.Port ∷ []) WRITE) }
     requires source { TESTED ≡ false → IsTrue (has_key table.now.entries source) }
+    requires own { OwnWaits pid table.now.entries objects.old }
     ensures { PortCancelDoes pid port source key
         table.now objects.old result table.now objects.new }
 {
@@ -145,31 +145,15 @@ pub fn port_cancel<const TESTED: bool>(
     let Some((value, named)) = live_at::<TESTED>(table, source) else {
         return Err(Status::BadHandle);
     };
-    let any = is_awaited(objects, pid, value, receiver.koid, key);
     let source = Source {
         pid,
         value,
         object: named.koid,
     };
     let cancelled = objects.cancel(receiver.koid, source, key);
+    let any = cancel_waits(objects, named.koid, pid, value, receiver.koid, key);
     if !any && cancelled == 0 {
         return Err(Status::NotFound);
     }
-    cancel_waits(objects, pid, value, receiver.koid, key);
     Ok(())
-}
-
-/// Whether the process has a wait that it made by its handle of this value for a packet with the key
-/// to the port.
-fn is_awaited(objects: &Objects, pid: Pid, value: HValue, port: Koid, key: u64) -> bool
-    ensures { result ≡ list_any (is_keyed pid value port key) objects.now.waits }
-{
-    let mut place = 0;
-    while let Some(wait) = objects.wait_at(place) {
-        if is_keyed(&wait, pid, value, port, key) {
-            return true;
-        }
-        place += 1;
-    }
-    false
 }

@@ -1,5 +1,7 @@
-use Rattle.zl_calls.proofs.waits.TakenEnds.{all_made_at}
+use Rattle.zl_code.specs.Waiting.{is_by_handle}
+use Rattle.zl_calls.proofs.waits.TakenEnds.{all_at}
 use Rattle.zl_calls.proofs.waits.end_handle.Goals as goal
 
 pub returns : goal.returns
-returns c = all_made_at c.args.koid c.args.pid c.args.value c.args.objects.now c.end_made_at.new.objects c.requires c.end_made_at.ensures
+returns c =
+    all_at c.args.koid (is_by_handle c.args.pid c.args.value) c.args.objects.now c.requires c.end_made_at.new.objects c.end_made_at.ensures

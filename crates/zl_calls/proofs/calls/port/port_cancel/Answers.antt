@@ -9,8 +9,9 @@ returns-then-cancelled-eq0 g c =
     none_cancelled c.args.table.now c.args.objects.now c.args.pid c.args.port c.args.source c.args.key c.in_ok-receiver.receiver c.in-Some.named
     (sym c.look_up.ensures ∙ c.in_ok-receiver.was {u = tt})
     (found_entry c.args.source c.in-Some.value c.in-Some.named (get c.args.table.now.entries c.args.source) (c.in-Some.ensures {u = tt}))
-    c.cancel-cancelled.new.self (rw same at (sym c.is_awaited-any.ensures ∙ c.if-not-any.true))
-    (rw same at (sym c.cancel-cancelled.ensures.count ∙ c.if-cancelled-eq0.true)) (rw same at c.cancel-cancelled.ensures.rest)
+    c.cancel_waits-any.new.objects (rw (same, rw same at c.cancel-cancelled.ensures.rest) at (sym c.cancel_waits-any.ensures.any ∙ c.if-not-any.true))
+    (rw same at (sym c.cancel-cancelled.ensures.count ∙ c.if-cancelled-eq0.true))
+    (c.cancel_waits-any.ensures.unchanged c.if-not-any.true ∙ rw same at c.cancel-cancelled.ensures.rest)
 
 pub returns : goal.returns
 returns g c =
@@ -19,9 +20,11 @@ returns g c =
     some_cancelled c.args.table.now c.args.objects.now c.args.pid c.args.port c.args.source c.args.key c.in_ok-receiver.receiver c.in-Some.named
     (sym c.look_up.ensures ∙ c.in_ok-receiver.was {u = tt})
     (found_entry c.args.source c.in-Some.value c.in-Some.named (get c.args.table.now.entries c.args.source) (c.in-Some.ensures {u = tt}))
-    c.cancel_waits.new.objects
+    c.cancel_waits-any.new.objects
     (found_some c.args.table.now c.args.objects.now c.args.pid c.args.port c.args.source c.args.key c.in_ok-receiver.receiver c.in-Some.named
     (sym c.look_up.ensures ∙ c.in_ok-receiver.was {u = tt})
     (found_entry c.args.source c.in-Some.value c.in-Some.named (get c.args.table.now.entries c.args.source) (c.in-Some.ensures {u = tt}))
-    c.is_awaited-any.result c.cancel-cancelled.result (rw same at c.is_awaited-any.ensures) (rw same at c.cancel-cancelled.ensures.count) c.else-not-any.either)
-    (rw (same, rw same at c.cancel-cancelled.ensures.rest) at c.cancel_waits.ensures.ended)
+    c.cancel_waits-any.result c.cancel-cancelled.result
+    (rw (same, rw same at c.cancel-cancelled.ensures.rest) at c.cancel_waits-any.ensures.any) (rw same at c.cancel-cancelled.ensures.count)
+    c.else-not-any.either)
+    (rw (same, rw same at c.cancel-cancelled.ensures.rest) at c.cancel_waits-any.ensures.ended)

@@ -1,9 +1,10 @@
-use Rattle.std.proofs.Common.{refl, rules, sym, ◌==◌, ◌&&◌, ◌∙◌}
+use Rattle.std.proofs.Common.{refl, rules, sym, ap, option_map, ◌==◌, ◌&&◌, ◌∙◌}
 use Rattle.zl_port.specs.Packets.{without_place}
-use Rattle.zl_signals.specs.Waits.{is_keyed}
+use Rattle.zl_signals.specs.Waits.{is_keyed, wait_at}
 use Rattle.zl_objects.proofs.CalmChanges.{port_calm, unwatched_calm}
 use Rattle.zl_objects.proofs.Index.{port_indexed, unwatched_indexed}
-use Rattle.zl_objects.proofs.Kept.{gone_kept, gone_seen, none_out_kept, none_out_seen}
+use Rattle.zl_objects.proofs.Kept.{gone_kept, gone_seen, none_out_kept, none_out_seen, unwatched_none}
+use Rattle.zl_objects.proofs.Listed.{found_seen}
 use Rattle.zl_objects.proofs.objects.Objects.unwatch_key.Goals as goal
 
 pub invariant_of-self : goal.invariant_of-self
@@ -46,3 +47,22 @@ returns-clause-rest c =
     c.self.inside.waits.rising
     (sym c.take_key.ensures.earliest ∙ c.in_ok-wait.was {u = tt}) c.unlist.ensures.entries in
     search rules
+
+pub returns-in_err-wait-clause-listed : goal.returns-in_err-wait-clause-listed
+returns-in_err-wait-clause-listed c =
+    rw (← c.self.view_is)
+    (ap (option_map (wait_at c.args.koid)) (c.from_residual.ensures ∙ (sym (c.in_err-wait.was {u = tt}) ∙ c.take_key.ensures.earliest))
+    ∙ sym (found_seen c.args.koid (λ x. ((x.pid == c.args.pid) && (x.value == c.args.value)) && ((x.port == c.args.port) && (x.key == c.args.key)))
+    c.self.inside.waits.entries.items c.self.inside.by_koid.entries c.self.invariant.kept.listed))
+
+pub returns-clause-listed : goal.returns-clause-listed
+returns-clause-listed c =
+    rw (← c.self.view_is) (ap (option_map (wait_at c.args.koid)) (sym (c.in_ok-wait.was {u = tt}) ∙ c.take_key.ensures.earliest)
+    ∙ sym (found_seen c.args.koid (λ x. ((x.pid == c.args.pid) && (x.value == c.args.value)) && ((x.port == c.args.port) && (x.key == c.args.key)))
+    c.self.inside.waits.entries.items c.self.inside.by_koid.entries c.self.invariant.kept.listed))
+
+pub returns-in_err-wait-clause-unchanged : goal.returns-in_err-wait-clause-unchanged
+returns-in_err-wait-clause-unchanged c =
+    let same = c.take_key.ensures.rest ∙ unwatched_none (is_keyed c.args.pid c.args.value c.args.port c.args.key) c.self.inside.by_koid.entries c.args.koid
+    (sym c.take_key.ensures.earliest ∙ c.in_err-wait.was {u = tt}) in
+    rw (same, c.self.view_is) (search rules)

@@ -1,5 +1,5 @@
 -- Words for contracts over all processes, their objects and the list of the blocked, and what is true before a call. No public clause cites this module.
-use Rattle.std.specs.Prelude.{ℕ, ◌≡◌, ◌<◌, ◌≤◌, true, List, length, map, Some, IsTrue, slice_get}
+use Rattle.std.specs.Prelude.{ℕ, ◌≡◌, ◌<◌, ◌≤◌, true, List, [], length, map, Some, IsTrue, slice_get}
 use Rattle.std.specs.Global.{Vec}
 use Rattle.std.specs.Vec.{vec_capacity}
 use Rattle.std.specs.List.{All}
@@ -7,6 +7,7 @@ use Rattle.zl_code.specs.Common.{Map, World, get, has_key}
 use Rattle.zl_rights.specs.declared.entry.Entry.{Entry}
 use Rattle.zl_rights.specs.Signals.{is_ready}
 use Rattle.zl_objects.specs.Objects.{Objects}
+use Rattle.zl_objects.specs.Release.{AreKeptBut}
 use Rattle.zl_calls.specs.Registered.{world_left}
 use Rattle.zl_calls.specs.World.{process_entry, state_value, world_blocked}
 use Rattle.zl_calls.specs.calls.Task.{Parts, parts}
@@ -46,11 +47,12 @@ pub record IsCalling (processes : List Process) (place : ℕ) : Type 0 where
 abbrev pub AreGiven : Parts → Type 0
 AreGiven all = (k : ℕ) → IsTrue (has_key (map process_entry all.processes) k) → k < all.objects.next_koid
 
--- the same, where no more processes block than there are, and each has a koid that was given
+-- the same, where no more processes block than there are, each has a koid that was given, and something keeps each object
 pub record MayCall (all : Parts) (place : ℕ) : Type 0 where
   pub calling : IsCalling all.processes place
   pub few : length all.blocked ≤ length all.processes
   pub given : AreGiven all
+  pub kept : AreKeptBut [] all.objects.objects
 
 -- each wait that the process made by a live handle is at the object that the handle names
 abbrev pub OwnWaits : ℕ → Map Entry → Objects → Type 0

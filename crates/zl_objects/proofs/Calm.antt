@@ -23,6 +23,7 @@ use Rattle.zl_objects.specs.declared.object.Object.{Object}
 use Rattle.zl_objects.specs.Asleep.{is_anybody, may_be}
 use Rattle.zl_objects.specs.Awaited.{koid_of}
 use Rattle.zl_objects.specs.Calm.{IsAtRest, IsCalm, NoneHolds, has_packet, is_due, is_given, is_watched}
+use Rattle.zl_objects.specs.Index.{above_of}
 use Rattle.zl_objects.specs.Jobs.{has_job_below, has_process_below, is_job_below, is_process_below}
 use Rattle.zl_objects.specs.Objects.{peer_of}
 use Rattle.zl_objects.specs.Signals.{implied, signals_at, signals_in}
@@ -187,12 +188,13 @@ fewer_unmarked marked marked2 more k unmarked = by_test (marked k) refl
 
 -- ---- one object is written
 
--- it stays as much a child, the end of the same peer, and who may be blocked at it stays
+-- it stays as much a child, below the same job, the end of the same peer, and who may be blocked at it stays
 pub record Keeps (f : Object → Object) : Type 0 where
   pub asleep : (o : Object) → StayAsleep o.asleep (f o).asleep
   pub jobs : (j : ℕ) (o : Object) → is_job_below j (f o).body ≡ is_job_below j o.body
   pub processes : (j : ℕ) (o : Object) → is_process_below j (f o).body ≡ is_process_below j o.body
   pub peer : (o : Object) → peer_of (f o).body ≡ peer_of o.body
+  pub above : (o : Object) → above_of (f o).body ≡ above_of o.body
 
 module _ (f : Object → Object) where
   below_updated : (test : Body → Bool) (m : Map Object) (k : ℕ) → ((o : Object) → get m k ≡ Some o → test (f o).body ≡ test o.body)

@@ -21,6 +21,7 @@ use Rattle.zl_objects.specs.declared.object.Life.{Life}
 use Rattle.zl_objects.specs.declared.object.Life.TheVariants as life
 use Rattle.zl_objects.specs.declared.object.Object.{Object}
 use Rattle.zl_objects.specs.Calm.{IsCalm, StayStill, has_packet, is_watched, is_watched_in}
+use Rattle.zl_objects.specs.Index.{above_of}
 use Rattle.zl_objects.specs.Jobs.{is_job_below, is_process_below, with_policy_body, with_policy_set}
 use Rattle.zl_objects.specs.Objects.{held_once_less, held_once_more, is_alive, raised_changed, received, received_body, sent, sent_body, started, started_body}
 use Rattle.zl_objects.specs.Objects.{peer_of, started_life}
@@ -34,7 +35,7 @@ use Rattle.zl_objects.proofs.Calm.{updated_calm}
 use Rattle.zl_objects.proofs.Joined.{StayAsleep, as_asleep}
 use Rattle.zl_objects.proofs.Places.{first_out, seen_updated}
 use Rattle.zl_objects.proofs.Tasks.{policy_same, started_same}
-use Rattle.zl_objects.proofs.Whole.{more_quiet, more_same, received_same, same_peer, sent_same}
+use Rattle.zl_objects.proofs.Whole.{more_quiet, more_same, received_same, same_above, same_peer, sent_same}
 
 -- ---- nothing comes to be due
 
@@ -51,7 +52,13 @@ quiet_calm {marked} {next} {sleepers} f keeps quiet m n k is =
 -- its body stays, and its signals and waits
 pub keeps_body : (f : Object → Object) → ((o : Object) → StayAsleep o.asleep (f o).asleep) → ((o : Object) → (f o).body ≡ o.body) → Keeps f
 keeps_body f asleep same =
-    record { asleep = asleep; jobs = λ j o. ap (is_job_below j) (same o); processes = λ j o. ap (is_process_below j) (same o); peer = λ o. ap peer_of (same o) }
+    record {
+      asleep = asleep;
+      jobs = λ j o. ap (is_job_below j) (same o);
+      processes = λ j o. ap (is_process_below j) (same o);
+      peer = λ o. ap peer_of (same o);
+      above = λ o. ap above_of (same o);
+    }
 
 pub quiet_body : (f : Object → Object) → ((o : Object) → (f o).body ≡ o.body) → ((o : Object) → (f o).signals.raised ≡ o.signals.raised)
     → ((o : Object) (test : Watch → Bool) → list_any test o.signals.waits ≡ false → list_any test (f o).signals.waits ≡ false) → IsQuiet f
@@ -123,9 +130,9 @@ record IsQuietBody (g : Body → Body) : Type 0 where
 
 keeps_bodies : (g : Body → Body) → ((j : ℕ) (b : Body) → is_job_below j (g b) ≡ is_job_below j b)
     → ((j : ℕ) (b : Body) → is_process_below j (g b) ≡ is_process_below j b) → ((b : Body) → peer_of (g b) ≡ peer_of b)
-    → Keeps (λ o. record o { body = g o.body })
-keeps_bodies g jobs processes peer =
-    record { asleep = λ o pid h. h; jobs = λ j o. jobs j o.body; processes = λ j o. processes j o.body; peer = λ o. peer o.body }
+    → ((b : Body) → above_of (g b) ≡ above_of b) → Keeps (λ o. record o { body = g o.body })
+keeps_bodies g jobs processes peer above =
+    record { asleep = λ o pid h. h; jobs = λ j o. jobs j o.body; processes = λ j o. processes j o.body; peer = λ o. peer o.body; above = λ o. above o.body }
 
 bodies_stay : (g : Body → Body) → IsQuietBody g → IsQuiet (λ o. record o { body = g o.body })
 bodies_stay g quiet m k o =
@@ -159,7 +166,7 @@ started_quiet = record { jobs = jobs; processes = processes; fewer = fewer; pack
     packets _ h = h
 
 pub keeps_started : Keeps started
-keeps_started = keeps_bodies started_body started_quiet.jobs started_quiet.processes (λ b. (started_same b).peer)
+keeps_started = keeps_bodies started_body started_quiet.jobs started_quiet.processes (λ b. (started_same b).peer) (λ b. (started_same b).above)
 
 pub started_stays : IsQuiet started
 started_stays = bodies_stay started_body started_quiet
@@ -210,7 +217,7 @@ received_quiet = record { jobs = jobs; processes = processes; fewer = fewer; pac
     packets _ h = h
 
 pub keeps_received : Keeps received
-keeps_received = keeps_bodies received_body received_quiet.jobs received_quiet.processes (λ b. (received_same b).peer)
+keeps_received = keeps_bodies received_body received_quiet.jobs received_quiet.processes (λ b. (received_same b).peer) (λ b. (received_same b).above)
 
 pub received_stays : IsQuiet received
 received_stays = bodies_stay received_body received_quiet
@@ -225,7 +232,7 @@ module _ (g : Port → Port) where
   port_processes j _ = refl
 
   pub keeps_port : Keeps (at_port g)
-  keeps_port = keeps_bodies (changed_port g) port_jobs port_processes (same_peer g)
+  keeps_port = keeps_bodies (changed_port g) port_jobs port_processes (same_peer g) (same_above g)
 
   -- no packet comes
   pub port_stays : ((p : Port) → not (is_empty p.packets) ≡ false → not (is_empty (g p).packets) ≡ false) → IsQuiet (at_port g)
@@ -260,7 +267,7 @@ pub keeps_changed : (clear set : ℕ) → Keeps (raised_changed clear set)
 keeps_changed clear set = keeps_body (raised_changed clear set) (λ o pid h. h) (λ o. refl)
 
 pub keeps_sent : (message : Message) → Keeps (sent message)
-keeps_sent message = keeps_bodies (sent_body message) jobs processes (λ b. (sent_same message b).peer)
+keeps_sent message = keeps_bodies (sent_body message) jobs processes (λ b. (sent_same message b).peer) (λ b. (sent_same message b).above)
   where
     jobs : (j : ℕ) (b : Body) → is_job_below j (sent_body message b) ≡ is_job_below j b
     jobs j (body.ChannelEnd peer queue) = refl
@@ -333,6 +340,7 @@ watched_after f m k b o at is = is ∙ rw (get-update m k f k, eq k, at) refl
 
 pub keeps_policy : (c : Condition) (a : Action) → Keeps (with_policy_set c a)
 keeps_policy c a = keeps_bodies (with_policy_body c a) (policy_quiet c a).jobs (policy_quiet c a).processes (λ b. (policy_same c a b).peer)
+    (λ b. (policy_same c a b).above)
 
 -- a policy was set, or that was refused
 pub policy_calm : {A B : Type 0} {marked : ℕ → Bool} {next : ℕ} {sleepers : List Sleeper} (c : Condition) (a : Action) (m n : Map Object) (k : ℕ) (v w : Object)

@@ -1,4 +1,4 @@
--- The index of living children: what it finds, and that it fits the objects after each change.
+-- The index of what stands below jobs: what it finds, and that it fits the objects after each change.
 use Rattle.zl_rights.proofs.Common.{◌≡◌, ◌<◌, ◌≤◌, ◌+◌, ◌-◌, ◌^◌, ◌==◌, ◌&&◌, ◌||◌, ◌⊎◌, ℕ, Bool, true, false, not, List, [], ◌∷◌, refl, sym, ap, ◌∙◌}
 use Rattle.zl_rights.proofs.Common.{Option, Some, None, inl, inr, IsTrue, IfSome, OnOk, Result, Ok, Err, arith, and_parts, and_from, eqb-true, filter}
 use Rattle.zl_rights.proofs.Common.{list_any, nat_lt, nat_cmp, nat_tests, below_all, is_sorted, cases_Bool, false≢true, or_left, or_right, none-some, same_Some}
@@ -25,9 +25,9 @@ use Rattle.zl_objects.specs.declared.object.Object.{Object}
 use Rattle.zl_objects.specs.declared.object.Pair.{Pair}
 use Rattle.zl_objects.specs.declared.object.Pair.TheVariants as pair
 use Rattle.zl_objects.specs.Dying.{HasPeer}
-use Rattle.zl_objects.specs.Index.{ArePaired, IsIndexed, OthersStayListed, StayListed, lists, pair_cmp, passes_in}
+use Rattle.zl_objects.specs.Index.{ArePaired, IsIndexed, OthersStayListed, StayListed, above_of, is_under, lists, pair_cmp, passes_in}
 use Rattle.zl_objects.specs.Jobs.{all_killed, is_job_below, is_process_below, is_within, killed, killed_if}
-use Rattle.zl_objects.specs.Objects.{end_to, held_once_less, is_alive, is_child, is_end_body, is_koid, keeper_of, peer_of, stopped}
+use Rattle.zl_objects.specs.Objects.{end_to, held_once_less, is_alive, is_child, is_end_body, is_koid, peer_of, stopped}
 use Rattle.zl_objects.specs.Ports.{at_port}
 use Rattle.zl_objects.specs.Release.{Cascades, none_left, let_go, goes, waits_end}
 use Rattle.zl_objects.specs.Waits.{ending_waits, unwatched}
@@ -95,6 +95,19 @@ any_there test m (x ∷ xs) some = elim (or_cases (passes_in test (get m x.1)) _
     by_object None is passes = absurd (false≢true passes)
     by_object (Some o) is passes = any_at (λ e. test e.1.body) m x.1 o is passes
 
+pub child_under : (j : ℕ) (b : Body) → IsTrue (is_child j b) → IsTrue (is_under j b)
+child_under j (body.Job own) h = by_test own.killed h
+  where
+    by_test : (k : Bool) → IsTrue (is_koid j (if k then None else Some own.parent)) → IsTrue (own.parent == j)
+    by_test true h = absurd (false≢true h)
+    by_test false h = h
+child_under j (body.Process job l) h = by_test (is_alive l) h
+  where
+    by_test : (b : Bool) → IsTrue (is_koid j (if b then Some job else None)) → IsTrue (job == j)
+    by_test true h = h
+    by_test false h = absurd (false≢true h)
+child_under j _ h = h
+
 -- a test of the living children of a job alone finds the same under the job as among all objects
 pub any_child : (test : Body → Bool) (children : Children) (m : Map Object) (job : ℕ) → IsIndexed children m
     → ((b : Body) → IsTrue (test b) → IsTrue (is_child job b))
@@ -108,7 +121,7 @@ any_child test children m job indexed only =
         let found : Found (λ e. test e.1.body) m = any_found (λ e. test e.1.body) m indexed.in_order some in
         let listed =
         and_parts (nat_lt found.key (2 ^ 64)) (contains pair_cmp children.pairs (job, found.key))
-        (indexed.listed found.key job found.value found.at (only found.value.body found.passes)) in
+        (indexed.listed found.key job found.value found.at (child_under job found.value.body (only found.value.body found.passes))) in
         any_listed (λ k. passes_in test (get m k)) job found.key (grind (arith, nat_tests, listed.0)) (rw found.at found.passes) children.pairs.keys listed.1
 
 -- ---- what is a child
@@ -135,10 +148,6 @@ process_is_child j b h = child_is j b ∙ or_right (is_job_below j b) _ h
 -- it makes no child
 abbrev pub MakesNone : (Object → Object) → Type 0
 MakesNone f = (j : ℕ) (o : Object) → IsTrue (is_child j (f o).body) → IsTrue (is_child j o.body)
-
-keeps_none : (f : Object → Object) → Keeps f → MakesNone f
-keeps_none f keeps j o h = child_is j o.body ∙ (ap (λ b. b || is_process_below j o.body) (sym (keeps.jobs j o))
-    ∙ (ap (λ b. is_job_below j (f o).body || b) (sym (keeps.processes j o)) ∙ (sym (child_is j (f o).body) ∙ h)))
 
 pub stopped_none : MakesNone stopped
 stopped_none j o = by_body o.body
@@ -230,7 +239,7 @@ module _ (m : Map Object) (next : ℕ) (peers : (k : ℕ) (q : Object) → get m
 
 -- ---- after each change
 
-sorted_each : (f : ℕ → Object → Object) (m : Map Object) → is_sorted nat_cmp (each f m) ≡ is_sorted nat_cmp m
+pub sorted_each : (f : ℕ → Object → Object) (m : Map Object) → is_sorted nat_cmp (each f m) ≡ is_sorted nat_cmp m
 unfolding each
 sorted_each f [] = refl
 sorted_each f (e ∷ m) = λ i. below_each m i && sorted_each f m i
@@ -245,20 +254,21 @@ module _ {children : Children} where
   none_indexed m none = rw none (record { in_order = refl; listed = λ k j o at child. absurd (none-some o at); paired = λ k p o q at. absurd (none-some o at) })
 
   -- one of the objects is written
-  pub updated_indexed : {m n : Map Object} (f : Object → Object) → MakesNone f → ((o : Object) → peer_of (f o).body ≡ peer_of o.body)
+  pub updated_indexed : {m n : Map Object} (f : Object → Object) → ((o : Object) → above_of (f o).body ≡ above_of o.body)
+      → ((o : Object) → peer_of (f o).body ≡ peer_of o.body)
       → (k : ℕ) → IsIndexed children m → n ≡ update m k f → IsIndexed children n
-  updated_indexed {m} {n} f none peer k indexed is = rw is (record {
+  updated_indexed {m} {n} f above peer k indexed is = rw is (record {
     in_order = is_sorted-update m k f ∙ indexed.in_order;
     listed = λ i j o at child. by_key i j o (changed f m k i o at) child;
     paired = still_paired m (update m k f) (λ i o at. end i o (changed f m k i o at)) indexed.paired;
   })
     where
-      by_key : (i j : ℕ) (o : Object) → Changed f m k i o → IsTrue (is_child j o.body) → IsTrue (lists children j i)
+      by_key : (i j : ℕ) (o : Object) → Changed f m k i o → IsTrue (is_under j o.body) → IsTrue (lists children j i)
       by_key i j o c child =
-          indexed.listed i j c.before c.there (by_test (k == i) (ap (λ (x : Object). is_child j x.body) (sym c.is) ∙ child))
+          indexed.listed i j c.before c.there (by_test (k == i) (ap (λ (x : Object). is_under j x.body) (sym c.is) ∙ child))
         where
-          by_test : (b : Bool) → IsTrue (is_child j (if b then f c.before else c.before).body) → IsTrue (is_child j c.before.body)
-          by_test true h = none j c.before h
+          by_test : (b : Bool) → IsTrue (is_under j (if b then f c.before else c.before).body) → IsTrue (is_under j c.before.body)
+          by_test true h = ap (is_koid j) (sym (above c.before)) ∙ h
           by_test false h = h
 
       end : (i : ℕ) (o2 : Object) → Changed f m k i o2 → (o : Object) × (get m i ≡ Some o) × (peer_of o2.body ≡ peer_of o.body)
@@ -269,9 +279,9 @@ module _ {children : Children} where
             ∙ elim (k == i) as (λ b. peer_of (if b then f c.before else c.before).body ≡ peer_of c.before.body) [ true ↦ peer c.before | false ↦ refl ],
       )
 
-  -- and stays as much a child
+  -- and stays where it stands
   pub kept_indexed : {m n : Map Object} (f : Object → Object) → Keeps f → (k : ℕ) → IsIndexed children m → n ≡ update m k f → IsIndexed children n
-  kept_indexed f keeps = updated_indexed f (keeps_none f keeps) keeps.peer
+  kept_indexed f keeps = updated_indexed f keeps.above keeps.peer
 
   pub port_indexed : {m n : Map Object} (g : Port → Port) (k : ℕ) → IsIndexed children m → n ≡ update m k (at_port g) → IsIndexed children n
   port_indexed g = kept_indexed (at_port g) (keeps_port g)
@@ -306,10 +316,11 @@ module _ {children : Children} where
       )
 
       by_object : (k j : ℕ) (o : Object) (q : Option Object) → get m k ≡ q → option_map (killed_if (is_within m task k)) q ≡ Some o
-          → IsTrue (is_child j o.body) → IsTrue (lists children j k)
+          → IsTrue (is_under j o.body) → IsTrue (lists children j k)
       by_object k j o None was at child = absurd (none-some o at)
-      by_object k j o (Some before) was at child = indexed.listed k j before was (killed_none (is_within m task k) j before
-          (ap (λ (x : Object). is_child j x.body) (same_Some (killed_if (is_within m task k) before) o at) ∙ child))
+      by_object k j o (Some before) was at child = indexed.listed k j before was (ap (is_koid j) (sym (elim (is_within m task k)
+          as (λ b. above_of (killed_if b before).body ≡ above_of before.body) [ true ↦ (killed_same before.body).above | false ↦ refl ]))
+          ∙ (ap (λ (x : Object). is_under j x.body) (same_Some (killed_if (is_within m task k) before) o at) ∙ child))
 
   -- handles went, and what nothing keeps
   pub left_indexed : {m m2 : Map Object} (ks : List ℕ) → IsIndexed children m → Cascades ks m m2 → IsIndexed children m2
@@ -318,7 +329,7 @@ module _ {children : Children} where
     listed = λ k j o at child.
         let was : Was m k o = cascaded_was ks m m2 cascades k o at in
         indexed.listed k j was.before was.there
-        (sym (of_body (is_child j) (λ packets reserved. refl) o.body was.before.body was.body) ∙ child);
+        (sym (of_body (is_under j) (λ packets reserved. refl) o.body was.before.body was.body) ∙ child);
     paired = still_paired m m2 (λ k o at.
         let was : Was m k o = cascaded_was ks m m2 cascades k o at in
         (was.before, was.there, of_body peer_of (λ packets reserved. refl) o.body was.before.body was.body)) indexed.paired;
@@ -331,9 +342,9 @@ module _ {children : Children} where
       in_order _ _ _ (waits_end ks m mid m2 same more) h = in_order ks mid m2 more (sorted_same m mid same ∙ h)
 
 module _ {children children2 : Children} where
-  -- one object more, which is listed if it is a child
+  -- one object more, which is listed under its job
   pub inserted_indexed : {m n : Map Object} (next : ℕ) (o : Object) → IsIndexed children m
-      → StayListed children children2 → IfSome (keeper_of o.body) (λ j. IsTrue (lists children2 j next))
+      → StayListed children children2 → IfSome (above_of o.body) (λ j. IsTrue (lists children2 j next))
       → IsPairedWith m next o.body → n ≡ insert_entry nat_cmp m next o → IsIndexed children2 n
   inserted_indexed {m} {n} next o indexed more added ends is = rw (is, inserted m next o) (record {
     in_order = sorted_put m next o indexed.in_order;
@@ -346,10 +357,10 @@ module _ {children children2 : Children} where
       own j (Some i) h child = ap (λ x. lists children2 x next) (sym (eqb-true i j child)) ∙ h
 
       by_key : (k j : ℕ) (q : Object) → IsTrue (next == k) ⊎ ((next == k) ≡ false) → (if next == k then Some o else get m k) ≡ Some q
-          → IsTrue (is_child j q.body) → IsTrue (lists children2 j k)
+          → IsTrue (is_under j q.body) → IsTrue (lists children2 j k)
       by_key k j q (inl here) at child =
           ap (lists children2 j) (sym (eqb-true next k here))
-          ∙ own j (keeper_of o.body) added (ap (λ (x : Object). is_child j x.body) (same_Some o q (rw here at at)) ∙ child)
+          ∙ own j (above_of o.body) added (ap (λ (x : Object). is_under j x.body) (same_Some o q (rw here at at)) ∙ child)
       by_key k j q (inr apart) at child = more j k (indexed.listed k j q (rw apart at at) child)
 
   -- one object less, with what is listed for it
@@ -378,6 +389,6 @@ pair_indexed {children} {m} p handles next o o2 indexed below peers first second
     (rw first (first_paired m next peers p below)) into) (λ j k h. h)
     (rw second (no_child _ p next)) (rw (into, inserted m next o, first, second) (second_paired m next peers p handles)) into2
   where
-    no_child : (P : ℕ → Type 0) (p : Pair) (peer : ℕ) → IfSome (keeper_of (end_to p peer)) P
+    no_child : (P : ℕ → Type 0) (p : Pair) (peer : ℕ) → IfSome (above_of (end_to p peer)) P
     no_child P pair.Channel peer = tt
     no_child P pair.Eventpair peer = tt

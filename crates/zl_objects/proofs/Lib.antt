@@ -7,6 +7,7 @@ pub mod CalmEnds
 pub mod CalmMade
 pub mod ByKoid
 pub mod Climbing
+pub mod Descending
 pub mod Earliest
 pub mod Ending
 pub mod Found

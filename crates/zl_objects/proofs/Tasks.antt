@@ -24,16 +24,16 @@ use Rattle.zl_objects.proofs.Whole.{Stays, rebodied_whole, roomy_whole, stays_sa
 -- ---- bodies
 
 pub started_same : (b : Body) → Stays b (started_body b)
-started_same (body.Process job life) = record { kind = refl; reserved = refl; peer = refl }
+started_same (body.Process job life) = record { kind = refl; reserved = refl; peer = refl; above = refl }
 started_same b = stays_same b
 
 pub policy_same : (c : Condition) (a : Action) (b : Body) → Stays b (with_policy_body c a b)
-policy_same c a (body.Job own) = record { kind = refl; reserved = refl; peer = refl }
+policy_same c a (body.Job own) = record { kind = refl; reserved = refl; peer = refl; above = refl }
 policy_same c a b = stays_same b
 
 pub killed_same : (b : Body) → Stays b (killed_body b)
-killed_same (body.Job own) = record { kind = refl; reserved = refl; peer = refl }
-killed_same (body.Process job life) = record { kind = refl; reserved = refl; peer = refl }
+killed_same (body.Job own) = record { kind = refl; reserved = refl; peer = refl; above = refl }
+killed_same (body.Process job life) = record { kind = refl; reserved = refl; peer = refl; above = refl }
 killed_same b = stays_same b
 
 -- ---- one of them

@@ -56,7 +56,7 @@ none_from b from r part is j above = ap is_some (sym (looked_up b.entries j) ∙
 abbrev pub till : ℕ → (ℕ → Object → Object) → ℕ → Object → Object
 till from f k o = if nat_lt k from then f k o else o
 
-behind_first : (e : ℕ × Object) (m : Map Object) (j : ℕ) → IsTrue (has_key m j) → IsTrue (has_key (e ∷ m) j)
+pub behind_first : (e : ℕ × Object) (m : Map Object) (j : ℕ) → IsTrue (has_key m j) → IsTrue (has_key (e ∷ m) j)
 unfolding get
 behind_first e m j there = elim (e.0 == j) as (λ b. IsTrue (is_some (if b then Some e.1 else get m j))) [ true ↦ refl | false ↦ there ]
 
@@ -152,27 +152,30 @@ module _ (f : ℕ → Object → Object) where
 abbrev pub kills : Map Object → ℕ → ℕ → Object → Object
 kills m task k o = killed_if (is_within m task k) o
 
--- whoever is among the killed stays so on the way
-same_within : (m : Map Object) (task from k : ℕ) → is_within (each (till from (kills m task)) m) task k ≡ is_within m task k
-same_within m task from k =
-    ap (λ b. not (task == 0) && ((k == task) || (not (task == 0) && b))) (same_below (each (till from (kills m task)) m) m task parent 16 k)
+pub if_stays : (wanted : Bool) (o : Object) → parent_of (killed_if wanted o).body ≡ parent_of o.body
+if_stays false o = refl
+if_stays true o = killed_stays o.body
   where
     killed_stays : (b : Body) → parent_of (killed_body b) ≡ parent_of b
     killed_stays (body.Job own) = refl
     killed_stays _ = refl
 
-    if_stays : (wanted : Bool) (o : Object) → parent_of (killed_if wanted o).body ≡ parent_of o.body
-    if_stays true o = killed_stays o.body
-    if_stays false o = refl
-
-    by_found : (j : ℕ) (o : Option Object) → parent_in (option_map (till from (kills m task) j) o) ≡ parent_in o
+-- whoever is among the killed stays so where jobs and processes stay where they are
+pub same_within : (f : ℕ → Object → Object) → ((j : ℕ) (o : Object) → parent_of (f j o).body ≡ parent_of o.body) → (m : Map Object) (task k : ℕ)
+    → is_within (each f m) task k ≡ is_within m task k
+same_within f stays m task k = ap (λ b. not (task == 0) && ((k == task) || (not (task == 0) && b))) (same_below (each f m) m task parent 16 k)
+  where
+    by_found : (j : ℕ) (o : Option Object) → parent_in (option_map (f j) o) ≡ parent_in o
     by_found j None = refl
-    by_found j (Some o) =
-        elim (nat_lt j from)
-        as (λ t. parent_of (if t then kills m task j o else o).body ≡ parent_of o.body) [ true ↦ if_stays (is_within m task j) o | false ↦ refl ]
+    by_found j (Some o) = stays j o
 
-    parent : (j : ℕ) → parent_at (each (till from (kills m task)) m) j ≡ parent_at m j
-    parent j = ap parent_in (get-each m (till from (kills m task)) j) ∙ by_found j (get m j)
+    parent : (j : ℕ) → parent_at (each f m) j ≡ parent_at m j
+    parent j = ap parent_in (get-each m f j) ∙ by_found j (get m j)
+
+till_stays : (m : Map Object) (task from j : ℕ) (o : Object) → parent_of (till from (kills m task) j o).body ≡ parent_of o.body
+till_stays m task from j o =
+    elim (nat_lt j from)
+    as (λ t. parent_of (if t then kills m task j o else o).body ≡ parent_of o.body) [ true ↦ if_stays (is_within m task j) o | false ↦ refl ]
 
 -- nothing is killed before the first koid
 pub kill_begins : (m : Map Object) (task : ℕ) → m ≡ each (till 0 (kills m task)) m
@@ -183,7 +186,8 @@ pub kill_goes_on : (m now new : Map Object) (task from k : ℕ) (within : Bool) 
     → IsStrictlySortedBy nat_cmp (keys_of now) → IsLeastFrom now from k → within ≡ is_within now task k → new ≡ update now k (killed_if within)
     → new ≡ each (till (k + 1) (kills m task)) m
 kill_goes_on m now new task from k within is sorted next one set =
-    set ∙ (ap (λ b. update now k (killed_if b)) (one ∙ (ap (λ n. is_within n task k) is ∙ same_within m task from k))
+    set ∙ (ap (λ b. update now k (killed_if b)) (one ∙ (ap (λ n. is_within n task k) is
+    ∙ same_within (till from (kills m task)) (till_stays m task from) m task k))
     ∙ (ap (λ n. update n k (kills m task k)) is
     ∙ one_done (kills m task) m from k (subst (IsStrictlySortedBy nat_cmp) (ap (λ n. keys_of n) is ∙ keys-each (kills m task) m from) sorted) (record {
       later = next.later;

@@ -22,6 +22,7 @@ use Rattle.zl_objects.specs.Objects.{raised_changed}
 use Rattle.zl_objects.specs.Objects.{received, received_body}
 use Rattle.zl_objects.specs.Objects.{sent, sent_body, stopped, stopped_body, new_object}
 use Rattle.zl_objects.specs.Calm.{slept}
+use Rattle.zl_objects.specs.Index.{above_of}
 use Rattle.zl_objects.specs.Dying.{HasPeer, HasPeerOf, IsWhole}
 use Rattle.zl_objects.specs.Ports.{at_port, changed_port, is_port_at, reserved_of}
 use Rattle.zl_objects.specs.Waits.{HavePlaces, HavePlacesWith, waits_for, waits_in, watched, unwatched}
@@ -113,6 +114,10 @@ pub same_peer : (g : Port → Port) (b : Body) → peer_of (changed_port g b) �
 same_peer g (body.Job own) = refl
 same_peer g _ = refl
 
+pub same_above : (g : Port → Port) (b : Body) → above_of (changed_port g b) ≡ above_of b
+same_above g (body.Job own) = refl
+same_above g _ = refl
+
 at_port_whole : (g : Port → Port) (x y : Option Watch) (m n : Map Object) (next room k : ℕ) (d : List ℕ) → IsWhole x m next d room → n ≡ update m k (at_port g)
     → HavePlacesWith y (update m k (at_port g)) → IsWhole y n next d room
 at_port_whole g = placed_whole (at_port g) (λ o. same_kind g o.body) (λ o. same_peer g o.body)
@@ -153,14 +158,15 @@ used_whole g less x m n next room d whole is = at_port_whole g (Some x) None m n
 
 -- ---- what an object is changes
 
--- a body of the same kind, with the same peer, and at which as many places are reserved
+-- a body of the same kind, with the same peer, below the same job, and at which as many places are reserved
 pub record Stays (b c : Body) : Type 0 where
   pub kind : kind_in c ≡ kind_in b
   pub reserved : reserved_of c ≡ reserved_of b
   pub peer : peer_of c ≡ peer_of b
+  pub above : above_of c ≡ above_of b
 
 pub stays_same : (b : Body) → Stays b b
-stays_same b = record { kind = refl; reserved = refl; peer = refl }
+stays_same b = record { kind = refl; reserved = refl; peer = refl; above = refl }
 
 pub rebodied_whole : (g : Body → Body) → ((b : Body) → Stays b (g b)) → (m n : Map Object) (next room k : ℕ) (d : List ℕ) → IsWhole None m next d room
     → n ≡ update m k (λ o. record o { body = g o.body }) → IsWhole None n next d room
@@ -170,7 +176,7 @@ rebodied_whole g same =
 
 -- the end of a process
 pub stopped_same : (b : Body) → Stays b (stopped_body b)
-stopped_same (body.Process job l) = record { kind = refl; reserved = refl; peer = refl }
+stopped_same (body.Process job l) = record { kind = refl; reserved = refl; peer = refl; above = refl }
 stopped_same b = stays_same b
 
 pub stopped_whole : (m n : Map Object) (next room k : ℕ) (d : List ℕ) → IsWhole None m next d room → n ≡ update m k stopped → IsWhole None n next d room
@@ -178,7 +184,7 @@ stopped_whole = rebodied_whole stopped_body stopped_same
 
 -- one message more
 pub sent_same : (message : Message) (b : Body) → Stays b (sent_body message b)
-sent_same message (body.ChannelEnd peer queue) = record { kind = refl; reserved = refl; peer = refl }
+sent_same message (body.ChannelEnd peer queue) = record { kind = refl; reserved = refl; peer = refl; above = refl }
 sent_same message b = stays_same b
 
 pub sent_whole : (m n : Map Object) (next room k : ℕ) (d : List ℕ) (message : Message) → IsWhole None m next d room → n ≡ update m k (sent message)
@@ -187,7 +193,7 @@ sent_whole m n next room k d message = rebodied_whole (sent_body message) (sent_
 
 -- one message less
 pub received_same : (b : Body) → Stays b (received_body b)
-received_same (body.ChannelEnd peer queue) = record { kind = refl; reserved = refl; peer = refl }
+received_same (body.ChannelEnd peer queue) = record { kind = refl; reserved = refl; peer = refl; above = refl }
 received_same b = stays_same b
 
 pub received_whole : (m n : Map Object) (next room k : ℕ) (d : List ℕ) → IsWhole None m next d room → n ≡ update m k received → IsWhole None n next d room

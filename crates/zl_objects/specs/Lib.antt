@@ -1,6 +1,7 @@
 pub mod Objects
 pub mod Jobs
 pub mod Walks
+pub mod Below
 pub mod Release
 pub mod Seen
 pub mod Dying

@@ -1,7 +1,8 @@
-//! Which jobs and processes live directly below a job, without a look at all objects.
+//! Which jobs and processes stand directly below a job, without a look at all objects.
 
 ghost use Rattle.std.specs.Prelude.{ℕ, ◌≡◌, false, IfSome, IsTrue, OnOk};
 ghost use Rattle.zl_rights.specs.Map.{get};
+ghost use Rattle.zl_objects.specs.Below.{IsNextListed};
 ghost use Rattle.zl_objects.specs.Index.{lists, passes_in, IsIndexed, OthersStayListed, StayListed};
 ghost use Rattle.zl_objects.specs.Jobs.{has_job_below, has_process_below, is_job_below, is_process_below};
 ghost use Rattle.zl_objects.specs.Objects.{has_living_child, is_child};
@@ -9,9 +10,10 @@ ghost use Rattle.zl_objects.specs.Objects.{has_living_child, is_child};
 use crate::object::Object;
 use std::alloc::{AllocError, Global};
 use std::collections::{BTreeMap, BTreeSet};
+use std::ops::Bound;
 use zl_rights::Koid;
 
-/// The living children of each job. What ended or was killed may still be listed, so who asks looks
+/// The jobs and processes directly below each job, dead ones too, so who asks for living ones looks
 /// at the object.
 #[derive(Drop)]
 pub(crate) struct Children {
@@ -46,6 +48,20 @@ impl Children {
         ensures { OthersStayListed koid self.old self.new }
     {
         self.pairs.remove(&(job, koid));
+    }
+
+    /// The first that is listed under the job behind the last one, if there is one.
+    pub fn next_listed(&self, job: Koid, last: Koid) -> Option<Koid>
+        ensures { IsNextListed self.now job last result }
+    {
+        let (_, koid) = self
+            .pairs
+            .range((
+                Bound::Excluded((job, last)),
+                Bound::Included((job, Koid::MAX)),
+            ))
+            .next()?;
+        Some(*koid)
     }
 
     /// None are listed any more. It takes no memory.

@@ -1,11 +1,13 @@
 //! Ways up and through the tree of jobs, and what a kill marks. Nothing here takes memory.
 
+ghost use Rattle.std.specs.FinMap.Entries.{is_sorted};
 ghost use Rattle.std.specs.List.Sorted.{IsStrictlySortedBy};
 ghost use Rattle.std.specs.Map.{keys_of};
 ghost use Rattle.std.specs.Ordering.{nat_cmp};
-ghost use Rattle.std.specs.Prelude.{◌≡◌, ◌<◌, ℕ, IsTrue};
+ghost use Rattle.std.specs.Prelude.{◌≡◌, ◌<◌, ℕ, true, IsTrue};
 ghost use Rattle.zl_rights.specs.Map.{get, has_key, update};
 ghost use Rattle.zl_jobs.specs.Jobs.{MOST_LEVELS};
+ghost use Rattle.zl_objects.specs.Below.{killed_among, HasTask};
 ghost use Rattle.zl_objects.specs.Calm.{is_marked, KeepsCalm};
 ghost use Rattle.zl_objects.specs.Jobs.{all_killed, is_below, is_below_by, is_within, killed, killed_if, parent_at};
 ghost use Rattle.zl_objects.specs.Walks.{IsNext};
@@ -92,7 +94,7 @@ pub fn next_from(by_koid: &BTreeMap<Koid, Object>, from: Koid) -> Option<Koid>
 }
 
 /// The job or the process is killed, and all that stands below it. All koids lie below the end.
-pub fn kill_all(by_koid: &mut BTreeMap<Koid, Object>, marks: &mut Marks, task: Koid, end: Koid)
+fn kill_all(by_koid: &mut BTreeMap<Koid, Object>, marks: &mut Marks, task: Koid, end: Koid)
     requires below { (k : ℕ) → IsTrue (has_key by_koid.old.entries k) → k < end }
     ensures killed { by_koid.new.entries ≡ all_killed by_koid.old.entries task }
     ensures calm { KeepsCalm (is_marked marks.old) by_koid.old.entries
@@ -104,6 +106,43 @@ pub fn kill_all(by_koid: &mut BTreeMap<Koid, Object>, marks: &mut Marks, task: K
         kill_if(by_koid, marks, koid, kills);
         from = koid + 1;
     }
+}
+
+/// Of these the job or the process is killed, and what stands below it.
+fn kill_each(by_koid: &mut BTreeMap<Koid, Object>, marks: &mut Marks, task: Koid, koids: &[Koid])
+    requires in_order { IsTrue (is_sorted nat_cmp by_koid.old.entries) }
+    ensures killed { by_koid.new.entries ≡ killed_among by_koid.old.entries task koids.now }
+    ensures calm { KeepsCalm (is_marked marks.old) by_koid.old.entries
+        (is_marked marks.new) by_koid.new.entries }
+{
+    for koid in koids {
+        let kills = is_within(by_koid, task, *koid);
+        kill_if(by_koid, marks, *koid, kills);
+    }
+}
+
+/// The job or the process is killed, and all that stands below it: it is among these, if they were
+/// listed. All koids lie below the end.
+pub fn kill_task(
+    by_koid: &mut BTreeMap<Koid, Object>,
+    marks: &mut Marks,
+    task: Koid,
+    end: Koid,
+    koids: &[Koid],
+    listed: bool,
+)
+    requires in_order { IsTrue (is_sorted nat_cmp by_koid.old.entries) }
+    requires below { (k : ℕ) → IsTrue (has_key by_koid.old.entries k) → k < end }
+    requires listed { listed ≡ true → HasTask by_koid.old.entries task koids.now }
+    ensures killed { by_koid.new.entries ≡ all_killed by_koid.old.entries task }
+    ensures calm { KeepsCalm (is_marked marks.old) by_koid.old.entries
+        (is_marked marks.new) by_koid.new.entries }
+{
+    if listed {
+        kill_each(by_koid, marks, task, koids);
+        return;
+    }
+    kill_all(by_koid, marks, task, end);
 }
 
 /// The job or the process is killed, if that is wanted. Signals come there, and at the job of which

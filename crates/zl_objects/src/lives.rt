@@ -5,15 +5,16 @@ ghost use Rattle.zl_rights.specs.Map.{get};
 ghost use Rattle.zl_objects.specs.Jobs.{killing};
 ghost use Rattle.zl_objects.specs.Listed.{LeavesListed};
 ghost use Rattle.zl_objects.specs.Objects.{job_in, starting, stopping};
-ghost use Rattle.zl_objects.specs.Release.{all_koids, Ends, Releases};
+ghost use Rattle.zl_objects.specs.Release.{all_koids, AreKeptBut, Ends, Releases};
 ghost use Rattle.zl_objects.specs.Seen.{LeavesLargest};
 ghost use Rattle.zl_objects.specs.Waits.{HavePlaces, LeavesWaits};
 
-use crate::killing::kill_all;
+use crate::below::list_task;
+use crate::killing::kill_task;
 use crate::listing::keep_there;
 use crate::object::Object;
 use crate::objects::Objects;
-use crate::releasing::{mark_watched, remove_unkept, sweep};
+use crate::releasing::{mark_watched, remove_unkept, sweep_task};
 use std::collections::BTreeMap;
 use zl_rights::Koid;
 
@@ -53,32 +54,38 @@ impl Objects {
     /// It takes no memory. The handles of the processes are to be closed by `release`. 0 is no koid:
     /// nothing is killed for it.
     ///
+    /// It looks at the task, at what stands below it and at the job above. So the largest held set is
+    /// left where something kept each object before.
+    ///
     /// Source: the page "zx_task_kill" of the Fuchsia documentation.
     pub fn kill(&mut self, task: Koid)
-        ensures releases { Releases [] (all_koids self.old.objects)
-            (killing self.old task) self.new }
-        ensures largest { LeavesLargest [] (all_koids self.old.objects)
-            (killing self.old task) self.new }
+        ensures releases { AreKeptBut [] self.old.objects
+            → Releases [] (all_koids self.old.objects) (killing self.old task) self.new }
+        ensures largest { AreKeptBut [] self.old.objects
+            → LeavesLargest [] (all_koids self.old.objects) (killing self.old task) self.new }
         ensures waits { LeavesWaits (killing self.old task) self.new }
         ensures places { HavePlaces self.new.objects }
         ensures listed { LeavesListed self.old self.new }
     {
-        self.mark_killed(task);
-        let ended = sweep(
+        let listed = list_task(&self.by_koid, &self.children, &mut self.below, task);
+        kill_task(
+            &mut self.by_koid,
+            &mut self.marks,
+            task,
+            self.next_koid,
+            self.below.as_slice(),
+            listed,
+        );
+        let ended = sweep_task(
             &mut self.by_koid,
             &mut self.children,
             &mut self.dying,
             &mut self.marks,
             self.next_koid,
+            self.below.as_slice(),
+            listed,
         );
         keep_there(&mut self.waits, &self.by_koid, ended);
-    }
-
-    /// The job or the process is killed, and what stands below it. All objects stay.
-    fn mark_killed(&mut self, task: Koid)
-        ensures { self.new ≡ killing self.old task }
-    {
-        kill_all(&mut self.by_koid, &mut self.marks, task, self.next_koid);
     }
 
     /// The process is started, if it was made and not started yet.

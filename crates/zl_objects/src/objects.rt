@@ -1,4 +1,4 @@
-ghost use Rattle.std.specs.Prelude.{[], Err, Some, false, ◌≡◌, ◌↔◌, ◌+◌, ◌<◌, ◌^◌, ◌∷◌, IsTrue, IfErr, IfOk, IfSome, OnErr, OnOk, slice_get};
+ghost use Rattle.std.specs.Prelude.{[], Err, Some, false, ◌≡◌, ◌↔◌, ◌+◌, ◌<◌, ◌≤◌, ◌^◌, ◌∷◌, length, vec_capacity, IsTrue, IfErr, IfOk, IfSome, OnErr, OnOk, slice_get};
 ghost use Rattle.zl_rights.specs.Map.{get, has_key};
 ghost use Rattle.zl_objects.specs.declared.awaited.Asleep.TheVariants as asleep;
 ghost use Rattle.zl_objects.specs.Objects.{changing, end_to, has_koids, has_place, holding, is_channel_at, is_end_at, is_end_body, is_job_at, kind_at, new_object, next_of, peer_at, queue_in, reader_at, receiving, root_alone, sending, with_pair, with_new, without_newest};
@@ -37,6 +37,8 @@ pub struct Objects {
     // The objects that are to be looked at, as no handle names them. There is room for each object,
     // so that none takes memory to go.
     pub(crate) dying: Vec<Koid>,
+    // What a kill looks at, while it lasts. There is room for each job and process, and one more.
+    pub(crate) below: Vec<Koid>,
     // Each wait stands at its object too.
     pub(crate) waits: WaitList,
     // Who may be blocked.
@@ -84,6 +86,7 @@ impl Objects {
             children: Children::new(alloc),
             next_koid: Objects::ROOT_JOB,
             dying: Vec::new(alloc),
+            below: Vec::new(alloc),
             waits: WaitList::new(alloc),
             sleepers: Sleepers::new(alloc)?,
             marks: Marks::new(alloc)?,
@@ -131,12 +134,12 @@ impl Objects {
         ensures unchanged { OnErr result (self.new ≡ self.old) }
     {
         let count = self.by_koid.len() + 1;
-        self.dying.reserve(count)?;
+        make_room(&mut self.dying, &mut self.below, count)?;
         self.sleepers
             .make_room_if(matches!(body, Body::Process { .. }), count)?;
         let koid = self.next_koid;
         let parent = body.parent();
-        self.children.add(body.keeper(), koid)?;
+        self.children.add(body.above(), koid)?;
         let object = Object {
             body,
             signals: SignalState::new(self.alloc()),
@@ -395,6 +398,17 @@ impl Objects {
         );
         keep_there(&mut self.waits, &self.by_koid, ended);
     }
+}
+
+/// Makes room for so many objects, and for one koid more in the list of a kill.
+fn make_room(dying: &mut Vec<Koid>, below: &mut Vec<Koid>, count: usize) -> Result<(), AllocError>
+    ensures items { dying.new.items ≡ dying.old.items }
+    ensures ok { OnOk result (length dying.old.items + count ≤ vec_capacity dying.new) }
+    ensures capacity { vec_capacity dying.old ≤ vec_capacity dying.new }
+{
+    dying.reserve(count)?;
+    below.clear();
+    below.reserve(count.saturating_add(1))
 }
 
 /// An end at which nothing is to be read, and which so many handles name.

@@ -6,6 +6,7 @@
 ghost use Rattle.std.specs.Prelude.{◌≡◌, ◌≤◌, ◌<◌, ◌+◌, ◌++◌, ◌∷◌, [], false, if◌then◌else◌, is_some, length, ℕ, vec_capacity, IfSome, IsTrue};
 ghost use Rattle.std.specs.Option.{option_to_list};
 ghost use Rattle.zl_rights.specs.Map.{each, get, has_key, update};
+ghost use Rattle.zl_objects.specs.Below.{looked_at};
 ghost use Rattle.zl_objects.specs.Calm.{is_marked, is_watched_in, KeepsCalm, StayStill};
 ghost use Rattle.zl_objects.specs.Objects.{held_once_less, is_kept};
 ghost use Rattle.zl_objects.specs.Release.{all_koids, koids_of, named_in};
@@ -272,9 +273,65 @@ pub fn remove_unkept(
     false
 }
 
+/// Of these the objects that nothing keeps go, and what goes with them. Says whether waits ended.
+fn sweep_each(
+    by_koid: &mut BTreeMap<Koid, Object>,
+    children: &mut Children,
+    dying: &mut Vec<Koid>,
+    marks: &mut Marks,
+    koids: &[Koid],
+) -> bool
+    requires indexed { IsIndexed children.old by_koid.old.entries }
+    requires none { dying.old.items ≡ [] }
+    requires room { length by_koid.old.entries ≤ vec_capacity dying.old }
+    ensures indexed { IsIndexed children.new by_koid.new.entries }
+    ensures goes { LetsGo [] by_koid.old.entries koids.now by_koid.new.entries [] }
+    ensures calm { KeepsCalm (is_marked marks.old) by_koid.old.entries
+        (is_marked marks.new) by_koid.new.entries }
+    ensures waits { result ≡ false → HaveSameWaits by_koid.old.entries by_koid.new.entries }
+    ensures none { dying.new.items ≡ [] }
+    ensures capacity { vec_capacity dying.new ≡ vec_capacity dying.old }
+{
+    let mut ended = false;
+    for koid in koids {
+        ended |= remove_unkept(by_koid, children, dying, marks, *koid);
+    }
+    ended
+}
+
+/// Of these the objects that nothing keeps go, if they were listed, and else of all, and what goes
+/// with them. All koids lie below the end. Says whether waits ended.
+pub fn sweep_task(
+    by_koid: &mut BTreeMap<Koid, Object>,
+    children: &mut Children,
+    dying: &mut Vec<Koid>,
+    marks: &mut Marks,
+    end: Koid,
+    koids: &[Koid],
+    listed: bool,
+) -> bool
+    requires indexed { IsIndexed children.old by_koid.old.entries }
+    requires below { (k : ℕ) → IsTrue (has_key by_koid.old.entries k) → k < end }
+    requires none { dying.old.items ≡ [] }
+    requires room { length by_koid.old.entries ≤ vec_capacity dying.old }
+    ensures indexed { IsIndexed children.new by_koid.new.entries }
+    ensures goes { LetsGo [] by_koid.old.entries
+        (looked_at listed koids.now by_koid.old.entries) by_koid.new.entries [] }
+    ensures calm { KeepsCalm (is_marked marks.old) by_koid.old.entries
+        (is_marked marks.new) by_koid.new.entries }
+    ensures waits { result ≡ false → HaveSameWaits by_koid.old.entries by_koid.new.entries }
+    ensures none { dying.new.items ≡ [] }
+    ensures capacity { vec_capacity dying.new ≡ vec_capacity dying.old }
+{
+    if listed {
+        return sweep_each(by_koid, children, dying, marks, koids);
+    }
+    sweep(by_koid, children, dying, marks, end)
+}
+
 /// Each object that nothing keeps goes, and what goes with it. All koids lie below the end. Says
 /// whether waits ended.
-pub fn sweep(
+fn sweep(
     by_koid: &mut BTreeMap<Koid, Object>,
     children: &mut Children,
     dying: &mut Vec<Koid>,

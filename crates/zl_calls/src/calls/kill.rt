@@ -7,6 +7,7 @@ ghost use Rattle.zl_rights.specs.Map.{get};
 ghost use Rattle.zl_rights.specs.Numbers.{DESTROY};
 ghost use Rattle.zl_rights.specs.Signals.{state_passes};
 ghost use Rattle.zl_code.specs.Sound.{is_blocked};
+ghost use Rattle.zl_objects.specs.Release.{AreKeptBut};
 ghost use Rattle.zl_calls.specs.Registered.{KeepsListed};
 ghost use Rattle.zl_calls.specs.World.{process_entry};
 ghost use Rattle.zl_calls.specs.Calling.{AtPlace, parts_in};
@@ -39,6 +40,7 @@ pub fn task_kill<const TESTED: bool>(
     task: u64,
 ) -> Result<(), Status>
     requires place { place < length processes.old.list.items }
+    requires kept { AreKeptBut [] objects.old.objects }
     requires sure { TESTED ≡ false → AtPlace processes.old place (λ caller.
         IsOk (looked_up caller.table.entries task (Kind.Process ∷ Kind.Job ∷ []) DESTROY)) }
     ensures does { AtPlace processes.old place (λ caller. TaskKillDoes task caller

@@ -23,6 +23,7 @@ call_next-requires c =
         };
         few = no_more c.args.processes.now.list.items c.args.blocked.now.items c.requires.list;
         given = c.requires.consistent.given_processes;
+        kept = c.requires.consistent.kept;
       };
       own = own_waits (turn_at c.args.processes.now.list.items c.args.objects.now c.args.blocked.now.items c.args.pid c.in_ok-place.place
           c.index.result.now c.requires.consistent c.requires.list c.requires.sound c.in_ok-place.ensures.first c.index.ensures ready);

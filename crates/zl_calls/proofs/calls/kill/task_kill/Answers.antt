@@ -35,7 +35,7 @@ returns-clause-does g c =
     c.close_ended.new.objects c.close_ended.ensures.closes
     c.args.blocked.now.items c.keep_blocked.new.blocked.items c.args.place c.args.task c.index.result.now c.index.ensures c.in_ok-task.task refl
     (c.in_ok-task.ensures {u = tt})
-    c.kill.ensures.releases c.kill.ensures.listed c.close_ended.ensures.listed c.keep_blocked.ensures.items
+    (c.kill.ensures.releases c.requires.kept) c.kill.ensures.listed c.close_ended.ensures.listed c.keep_blocked.ensures.items
 
 pub returns-clause-caller : goal.returns-clause-caller
 returns-clause-caller g c =

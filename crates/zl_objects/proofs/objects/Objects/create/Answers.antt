@@ -11,11 +11,12 @@ invariant_of-self-3 c =
     let entered = unless_err c.insert.result _ c.insert.ensures.entries (sym (c.if-is_err.ensures {u = tt}).value) in
     record {
       kept = inserted_kept c.self.inside.by_koid.entries c.insert.new.self.entries c.self.inside.next_koid (vec_capacity c.self.inside.dying)
-          (vec_capacity c.reserve.new.self) c.self.inside.dying.items c.reserve.new.self.items _ c.self.invariant.kept c.requires.alone c.requires.unreserved
-          (ap (λ (s : SignalState). s.waits) c.new.ensures) c.reserve.ensures.items
-          (omega (arith, c.in_ok-reserve.ensures.ok, c.len-count.ensures.len)) entered;
+          (vec_capacity c.make_room.new.dying) c.self.inside.dying.items c.make_room.new.dying.items _ c.self.invariant.kept c.requires.alone
+          c.requires.unreserved
+          (ap (λ (s : SignalState). s.waits) c.new.ensures) c.make_room.ensures.items
+          (omega (arith, c.in_ok-make_room.ensures.ok, c.len-count.ensures.len)) entered;
       calm = rw c.make_room_if.ensures.list (created_calm c.self.inside.by_koid.entries c.self.inside.next_koid _ c.self.invariant.kept.whole.below
           c.self.invariant.kept.whole.peers (ap (λ (s : SignalState). s.waits) c.new.ensures) c.insert.new.self.entries entered c.self.invariant.calm);
-      indexed = inserted_indexed c.self.inside.next_koid _ c.self.invariant.indexed c.add.ensures.others (rw c.keeper.ensures at c.in_ok-add.ensures.added)
+      indexed = inserted_indexed c.self.inside.next_koid _ c.self.invariant.indexed c.add.ensures.others (rw c.above.ensures at c.in_ok-add.ensures.added)
           (alone_paired c.self.inside.by_koid.entries c.self.inside.next_koid c.self.invariant.kept.whole.peers _ c.requires.alone) entered;
     }

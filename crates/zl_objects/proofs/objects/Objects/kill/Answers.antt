@@ -1,43 +1,73 @@
-use Rattle.zl_rights.proofs.Common.{◌≡◌, ◌∙◌, [], ap, refl}
+use Rattle.zl_rights.proofs.Common.{None, [], ap, refl, subst, Map}
+use Rattle.std.proofs.Common.{vec_capacity}
+use Rattle.zl_objects.specs.declared.object.Object.{Object}
+use Rattle.zl_objects.specs.Below.{looked_at}
+use Rattle.zl_objects.specs.Dying.{IsKept, LetsGo}
 use Rattle.zl_objects.specs.Jobs.{killing}
 use Rattle.zl_objects.specs.Objects.{Objects}
 use Rattle.zl_objects.specs.Release.{all_koids}
+use Rattle.zl_objects.proofs.Descending.{all_swept}
+use Rattle.zl_objects.proofs.Index.{killed_indexed}
 use Rattle.zl_objects.proofs.Kept.{left_kept}
 use Rattle.zl_objects.proofs.Law.{leaves_largest}
 use Rattle.zl_objects.proofs.Listed.{same_listed}
 use Rattle.zl_objects.proofs.Released.{left_by, released, waits_left}
-use Rattle.zl_objects.proofs.Sweeps.{killed_koids}
+use Rattle.zl_objects.proofs.Tasks.{killed_kept}
 use Rattle.zl_objects.proofs.objects.Objects.kill.Goals as goal
 
-pub keep_there-requires : goal.keep_there-requires
-keep_there-requires c = record {
-  places = c.sweep-ended.ensures.goes.places c.self.invariant.kept.whole.places;
-  listed = λ none. same_listed _ c.self.inside.by_koid.entries c.sweep-ended.new.by_koid.entries (c.sweep-ended.ensures.waits none)
-      c.self.invariant.kept.listed;
+pub kill_task-requires : goal.kill_task-requires
+kill_task-requires c = record {
+  in_order = c.self.invariant.indexed.in_order;
+  below = c.self.invariant.kept.whole.below;
+  listed = λ all. rw (c.as_slice.ensures.value) (c.list_task-listed.ensures all);
 }
 
-pub invariant_of-self : goal.invariant_of-self
-invariant_of-self c =
+pub sweep_task-ended-requires : goal.sweep_task-ended-requires
+sweep_task-ended-requires c =
+    let kept : IsKept None c.kill_task.new.by_koid.entries c.self.inside.next_koid c.self.inside.dying.items (vec_capacity c.self.inside.dying)
+    c.self.inside.waits.entries.items =
+    killed_kept _ _ _ _ c.args.task _ c.self.invariant.kept c.kill_task.ensures.killed in
     record {
-      kept = left_kept (left_by c.sweep-ended.ensures.goes) c.self.invariant.kept c.sweep-ended.ensures.none c.sweep-ended.ensures.capacity
-          c.keep_there.ensures.entries;
-      calm = c.sweep-ended.ensures.calm _ _ c.self.invariant.calm;
-      indexed = c.sweep-ended.ensures.indexed;
+      indexed = killed_indexed c.args.task c.self.invariant.indexed c.kill_task.ensures.killed;
+      below = kept.whole.below;
+      none = kept.whole.none;
+      room = kept.whole.enough;
     }
 
+pub keep_there-requires : goal.keep_there-requires
+keep_there-requires c =
+    let kept : IsKept None c.kill_task.new.by_koid.entries c.self.inside.next_koid c.self.inside.dying.items (vec_capacity c.self.inside.dying)
+    c.self.inside.waits.entries.items =
+    killed_kept _ _ _ _ c.args.task _ c.self.invariant.kept c.kill_task.ensures.killed in
+    record {
+      places = c.sweep_task-ended.ensures.goes.places kept.whole.places;
+      listed = λ none. same_listed _ _ _ (c.sweep_task-ended.ensures.waits none) kept.listed;
+    }
+
+pub invariant_of-self : goal.invariant_of-self
+invariant_of-self c = record {
+  kept = left_kept (left_by c.sweep_task-ended.ensures.goes) (killed_kept _ _ _ _ c.args.task _ c.self.invariant.kept c.kill_task.ensures.killed)
+      c.sweep_task-ended.ensures.none c.sweep_task-ended.ensures.capacity c.keep_there.ensures.entries;
+  calm = c.sweep_task-ended.ensures.calm _ _ (c.kill_task.ensures.calm _ _ c.self.invariant.calm);
+  indexed = c.sweep_task-ended.ensures.indexed;
+}
+
 pub returns-clause-releases : goal.returns-clause-releases
-returns-clause-releases c =
-    let koids : all_koids c.self.inside.by_koid.entries ≡ all_koids c.args.self.now.objects =
-    ap (λ (r : Objects). all_koids r.objects) (c.self.view_is ∙ c.mark_killed.ensures) ∙ killed_koids c.args.self.now.objects c.args.task in
-    rw (← koids, ← c.mark_killed.ensures, ← c.self.view_is) (released [] _ _ _ _ _ _ _ _ _ [] c.sweep-ended.ensures.goes refl refl)
+returns-clause-releases c = rw (← c.self.view_is) (λ before. released [] _ _ _ _ _ _ _ _ _ [] (all_swept c.self.inside.by_koid.entries
+    c.sweep_task-ended.new.by_koid.entries c.args.task c.list_task-listed.result c.as_slice-2.result.now
+    (λ all. rw (c.as_slice-2.ensures.value) (c.list_task-listed.ensures all)) before
+    (subst (λ (m : Map Object). LetsGo [] m (looked_at c.list_task-listed.result c.as_slice-2.result.now m) c.sweep_task-ended.new.by_koid.entries [])
+    c.kill_task.ensures.killed c.sweep_task-ended.ensures.goes)) refl refl)
 
 pub returns-clause-largest : goal.returns-clause-largest
-returns-clause-largest c = leaves_largest [] (all_koids c.args.self.now.objects) (killing c.args.self.now c.args.task) _ (returns-clause-releases c)
+returns-clause-largest c = λ before.
+    leaves_largest [] (all_koids c.args.self.now.objects) (killing c.args.self.now c.args.task) _ (returns-clause-releases c before)
 
 pub returns-clause-waits : goal.returns-clause-waits
 returns-clause-waits c =
-    rw (← ap (λ (r : Objects). r.objects) (c.self.view_is ∙ c.mark_killed.ensures))
-    (waits_left (left_by c.sweep-ended.ensures.goes) c.self.invariant.kept.whole.places)
+    rw (← ap (λ (r : Objects). r.objects) c.self.view_is, ← c.kill_task.ensures.killed)
+    (waits_left (left_by c.sweep_task-ended.ensures.goes)
+    (killed_kept _ _ c.self.inside.next_koid (vec_capacity c.self.inside.dying) c.args.task _ c.self.invariant.kept c.kill_task.ensures.killed).whole.places)
 
 pub returns-clause-places : goal.returns-clause-places
 returns-clause-places c = (invariant_of-self c).kept.whole.places

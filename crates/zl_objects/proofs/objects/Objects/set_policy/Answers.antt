@@ -3,6 +3,8 @@ use Rattle.std.specs.BTreeMap.{is_at}
 use Rattle.std.specs.Map.{lookup, set_value}
 use Rattle.std.specs.Ordering.{nat_cmp}
 use Rattle.zl_objects.specs.Jobs.{with_policy_set}
+use Rattle.zl_objects.proofs.ByKoid.{written_back}
+use Rattle.zl_objects.proofs.Refusable.{when_err}
 use Rattle.zl_objects.proofs.CalmChanges.{keeps_policy, policy_calm}
 use Rattle.zl_objects.proofs.Tasks.{policy_or_same_kept}
 use Rattle.zl_objects.proofs.Index.{kept_or_indexed}
@@ -25,3 +27,12 @@ invariant_of-self-2 c =
           c.in-Some.object.now c.set_policy.new.self c.set_policy.result c.self.invariant.indexed c.set_policy.ensures.ok c.set_policy.ensures.unchanged
           there set;
     }
+
+pub returns-clause-unchanged : goal.returns-clause-unchanged
+returns-clause-unchanged c =
+    let there : Some c.in-Some.object.now ≡ lookup (is_at (nat_cmp c.args.job)) c.self.inside.by_koid.entries = search rules in
+    let set : (c.get_mut.follows.lender c.set_policy.new.self).entries
+    ≡ set_value (is_at (nat_cmp c.args.job)) c.self.inside.by_koid.entries c.set_policy.new.self = search rules in
+    when_err (c.set_policy.new.self ≡ c.in-Some.object.now) _ c.set_policy.result
+    (λ is. rw (written_back c.self.inside.by_koid.entries _ c.args.job c.in-Some.object.now c.set_policy.new.self there is set) c.self.view_is)
+    c.set_policy.ensures.unchanged

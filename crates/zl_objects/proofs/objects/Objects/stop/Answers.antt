@@ -16,5 +16,6 @@ invariant_of-self-2 c =
       calm = ended_calm stopped stopped_none (λ o. refl) c.mark_watched.ensures.more c.mark_watched-2.ensures.more c.self.inside.by_koid.entries
           (c.get_mut.follows.lender c.stop.new.self).entries c.args.pid (search (rules, by_koid)) c.mark_watched.ensures.wanted c.in-Some.object.now
           (search (rules, by_koid)) (rw c.keeper-keeper.ensures at c.mark_watched-2.ensures.wanted) _ _ c.self.invariant.calm;
-      indexed = updated_indexed stopped stopped_none (λ o. (stopped_same o.body).peer) c.args.pid c.self.invariant.indexed (search (rules, by_koid));
+      indexed = updated_indexed stopped (λ o. (stopped_same o.body).above) (λ o. (stopped_same o.body).peer) c.args.pid
+          c.self.invariant.indexed (search (rules, by_koid));
     }

@@ -1,0 +1,16 @@
+use Rattle.std.specs.Prelude.{ℕ, ◌^◌, ◌-◌, IsTrue}
+use Rattle.zl_objects.specs.Below.{is_among}
+use Rattle.zl_objects.proofs.Descending.{HasUntil}
+use Rattle.zl_objects.proofs.below.+list_below.Given as goal
+
+abbrev pub decreases-list_below : goal.decreases-list_below
+decreases-list_below l = l.levels
+
+abbrev pub invariant-loop-koid : goal.invariant-loop-koid
+invariant-loop-koid l = record {
+  until : HasUntil l.children l.job (l.levels - 1) l.last l.found.items;
+  more : (k : ℕ) → IsTrue (is_among k l.initial.found.items) → IsTrue (is_among k l.found.items);
+}
+
+abbrev pub decreases-loop-koid : goal.decreases-loop-koid
+decreases-loop-koid l = 2 ^ 64 - l.last

@@ -1,0 +1,16 @@
+use Rattle.std.proofs.Common.{◌≡◌, [], drop, false, vec_capacity}
+use Rattle.zl_objects.specs.Calm.{KeepsCalm, is_marked}
+use Rattle.zl_objects.specs.Dying.{LetsGo}
+use Rattle.zl_objects.specs.Waits.{HaveSameWaits}
+use Rattle.zl_objects.specs.Index.{IsIndexed}
+use Rattle.zl_objects.proofs.releasing.sweep_each.Given as goal
+
+abbrev pub invariant-loop-koid : goal.invariant-loop-koid
+invariant-loop-koid l = record {
+  goes : LetsGo [] l.initial.by_koid.entries l.koids l.by_koid.entries (drop l.koid-index l.koids);
+  indexed : IsIndexed l.children l.by_koid.entries;
+  none : l.dying.items ≡ [];
+  calm : KeepsCalm (is_marked l.initial.marks) l.initial.by_koid.entries (is_marked l.marks) l.by_koid.entries;
+  waits : l.ended ≡ false → HaveSameWaits l.initial.by_koid.entries l.by_koid.entries;
+  capacity : vec_capacity l.dying ≡ vec_capacity l.initial.dying;
+}

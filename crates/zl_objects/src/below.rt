@@ -1,0 +1,64 @@
+//! A task and what stands below it, listed without a look at all objects and without memory.
+
+ghost use Rattle.std.specs.Prelude.{ℕ, ◌≡◌, true, IsTrue};
+ghost use Rattle.zl_objects.specs.Below.{is_among, HasBelow, HasTask};
+ghost use Rattle.zl_objects.specs.Index.{IsIndexed};
+
+use crate::children::Children;
+use crate::killing::parent_at;
+use crate::object::Object;
+use std::collections::BTreeMap;
+use zl_jobs::Job;
+use zl_rights::Koid;
+
+/// Lists the koid, if there is room for one more. Says whether there was.
+fn note(found: &mut Vec<Koid>, koid: Koid) -> bool
+    ensures noted { result ≡ true → IsTrue (is_among koid found.new.items) }
+    ensures more { (k : ℕ) → IsTrue (is_among k found.old.items)
+        → IsTrue (is_among k found.new.items) }
+{
+    if found.len() == found.capacity() {
+        return false;
+    }
+    found.push_reserved(koid);
+    true
+}
+
+/// Lists what stands below the job, so many levels at most. Says whether there was room.
+fn list_below(children: &Children, found: &mut Vec<Koid>, job: Koid, levels: u32) -> bool
+    ensures below { result ≡ true → HasBelow children.now job levels found.new.items }
+    ensures more { (k : ℕ) → IsTrue (is_among k found.old.items)
+        → IsTrue (is_among k found.new.items) }
+{
+    if levels == 0 {
+        return true;
+    }
+    let mut last = 0;
+    while let Some(koid) = children.next_listed(job, last) {
+        if !note(found, koid) || !list_below(children, found, koid, levels - 1) {
+            return false;
+        }
+        last = koid;
+    }
+    true
+}
+
+/// Lists the job above the task, the task, and what stands below it, and nothing else. Says whether
+/// there was room.
+#[tactic(auto, using(crate::proofs::ByKoid::by_koid))]
+pub fn list_task(
+    by_koid: &BTreeMap<Koid, Object>,
+    children: &Children,
+    found: &mut Vec<Koid>,
+    task: Koid,
+) -> bool
+    requires { IsIndexed children.now by_koid.now.entries }
+    ensures { result ≡ true → HasTask by_koid.now.entries task found.new.items }
+{
+    found.clear();
+    // 0 is no koid, and all ways up end there.
+    !by_koid.contains_key(&0)
+        && note(found, parent_at(by_koid, task))
+        && note(found, task)
+        && list_below(children, found, task, Job::MOST_DEPTH)
+}

@@ -21,8 +21,8 @@ pub struct TakenHandle {
     pub koid: Koid,
 }
 
-/// Handles of the caller, of the last call behind which they were asked for. There is room for as many
-/// as a call can list; should there be none for one more, each counts as noted.
+/// Handles of the caller, of the last call behind which they were asked for. There is room for as
+/// many as a call can list; should there be none for one more, each counts as noted.
 #[derive(Drop)]
 pub struct Taken {
     pub handles: SmallVec<TakenHandle, 8>,
@@ -38,7 +38,8 @@ impl Taken {
         }
     }
 
-    /// Notes those that the call takes, of the process at which it stands, in place of what is noted.
+    /// Notes those that the call takes, of the process at which it stands, in place of what is
+    /// noted.
     pub fn note_call(&mut self, process: &Process, call: &CallInstr)
         ensures { NotesFor (site_of call.now process.now.cpu) process.now.table.entries self.new }
     {

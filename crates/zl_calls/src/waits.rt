@@ -28,9 +28,9 @@ pub fn end_handle(objects: &mut Objects, koid: Koid, pid: Pid, value: HValue)
     end_made_at(objects, koid, pid, value);
 }
 
-/// The waits end that the process made by its handle of this value, which names the object, for a packet
-/// with the key to the port; whether there was one. Where there was none nothing changes. It takes no
-/// memory.
+/// The waits end that the process made by its handle of this value, which names the object, for a
+/// packet with the key to the port; whether there was one. Where there was none nothing changes. It
+/// takes no memory.
 pub fn cancel_waits(
     objects: &mut Objects,
     koid: Koid,

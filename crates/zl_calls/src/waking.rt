@@ -88,8 +88,8 @@ fn awaited_by(processes: &Processes, pid: Pid) -> Option<Awaited>
 }
 
 /// Each blocked process in turn, the longest blocked first: where what it waits for is there, it
-/// gets its answer and leaves the list. It tells who did, looks at no other process where one alone may
-/// wake, and takes no memory.
+/// gets its answer and leaves the list. It tells who did, looks at no other process where one alone
+/// may wake, and takes no memory.
 #[inline(always)]
 pub fn wake(processes: &mut Processes, objects: &mut Objects, blocked: &mut Vec<Pid>) -> Woke
     requires consistent { IsConsistent processes.old.list.items objects.old }

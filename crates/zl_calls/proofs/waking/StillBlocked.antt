@@ -107,7 +107,8 @@ module _ (ps : List Process) (pid : ℕ) (x : TraceItem) where
   }
 
   pub known_asleep : (r r2 : Objects) (a : Awaited) → awaited_by (get (map process_entry ps) pid) ≡ Some a → Seeks r2 pid a
-      → ((q : ℕ) (b : Awaited) → (q == pid) ≡ false → Seeks r q b → Seeks r2 q b) → AreSameButSleepers (knowing r pid (koid_of a)) r2 → FallsAsleep ps pid x r r2
+      → ((q : ℕ) (b : Awaited) → (q == pid) ≡ false → Seeks r q b → Seeks r2 q b) → AreSameButSleepers (knowing r pid (koid_of a)) r2
+      → FallsAsleep ps pid x r r2
   known_asleep r r2 a awaited there others same = record {
     beside = record {
       objects = one_bare r.objects (koid_of a) (slept pid) (λ o. refl) ∙ ap (λ (y : Objects). each (λ j. bare) y.objects) (sym same);

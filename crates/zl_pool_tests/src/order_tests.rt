@@ -11,14 +11,14 @@ const THIRD: Pid = 4;
 const FOURTH: Pid = 5;
 
 /// Waits for the first user signal of the process of its handle, and exits with the word.
-const WAITS_FOR_SIGNAL: &str = ".raw
+pub const WAITS_FOR_SIGNAL: &str = ".raw
 const r4, 16777216
 wait_one r2, r0, r4, r5
 process_exit r1
 ";
 
 /// Raises that signal, and exits with the word.
-const RAISES: &str = ".raw
+pub const RAISES: &str = ".raw
 const r4, 16777216
 signal r2, r0, r3, r4
 process_exit r1

@@ -21,6 +21,7 @@ pub mod Lists
 pub mod Peers
 pub mod Places
 pub mod Popped
+pub mod PortWaits
 pub mod Refusable
 pub mod Released
 pub mod Removing
@@ -30,6 +31,7 @@ pub mod Showing
 pub mod Sums
 pub mod Sweeps
 pub mod Tasks
+pub mod Unlisted
 pub mod WaitsThere
 pub mod Walks
 pub mod Whole

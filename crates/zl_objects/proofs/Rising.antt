@@ -12,7 +12,7 @@ use Rattle.zl_objects.specs.Listed.{entry_of, order_entry}
 use Rattle.zl_objects.proofs.Places.{first_out}
 
 -- the order lies below those of all entries
-abbrev IsBelow : ℕ → List Listed → Type 0
+abbrev pub IsBelow : ℕ → List Listed → Type 0
 IsBelow k xs = IsTrue (below_all nat_cmp k (map order_entry xs))
 
 -- the orders rise
@@ -60,7 +60,7 @@ module _ (n : ℕ) (w : Wait) where
 -- ---- one goes
 
 -- it is among those with higher orders
-found_above : (p : Listed → Bool) (k : ℕ) (xs : List Listed) (x : Listed) → IsBelow k xs → find p xs ≡ Some x → k < x.order
+pub found_above : (p : Listed → Bool) (k : ℕ) (xs : List Listed) (x : Listed) → IsBelow k xs → find p xs ≡ Some x → k < x.order
 found_above p k [] x below found = absurd (none-some x found)
 found_above p k (y ∷ ys) x below found = by_test (p y) found (λ later. found_above p k ys x parts.1 later)
   where

@@ -13,4 +13,5 @@ pub mod Awaited
 pub mod Asleep
 pub mod Calm
 pub mod Index
+pub mod PortWaits
 pub mod Due

@@ -23,6 +23,7 @@ mod lives;
 mod marks;
 mod object;
 mod objects;
+mod port_waits;
 mod ports;
 mod quiet;
 mod releasing;

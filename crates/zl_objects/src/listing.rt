@@ -1,20 +1,21 @@
 //! The list of all registered waits, the earliest first, beside the waits at the objects.
 
-ghost use Rattle.std.specs.Prelude.{[], false, take, IfSome, ◌≡◌, ◌+◌, ◌++◌, ◌∷◌, ◌==◌, ◌<◌, ◌^◌, not, map, option_map, slice_get, IsTrue, OnSome, OnOk};
+ghost use Rattle.std.specs.Prelude.{[], false, take, IfSome, ◌≡◌, ◌+◌, ◌++◌, ◌∷◌, ◌==◌, ◌<◌, ◌≤◌, ◌^◌, not, map, option_map, slice_get, IsTrue, OnErr, OnSome, OnOk};
 ghost use Rattle.std.specs.FinMap.Entries.{is_sorted};
 ghost use Rattle.std.specs.List.{filter, find, list_any, position, All};
 ghost use Rattle.std.specs.Ordering.{nat_cmp};
-ghost use Rattle.std.specs.VecDeque.{deque_capacity, deque_len};
 ghost use Rattle.zl_rights.specs.Signals.{is_empty};
+ghost use Rattle.zl_signals.specs.Waits.{without_first};
 ghost use Rattle.zl_objects.specs.Calm.{holds_now};
 ghost use Rattle.zl_objects.specs.Due.{is_entry_due};
 ghost use Rattle.zl_objects.specs.Index.{IsIndexed};
-ghost use Rattle.zl_objects.specs.Listed.{AreListed, entry_of, is_entry_there, is_there, listed_value, may_register, order_entry, wait_value};
-ghost use Rattle.zl_objects.specs.Waits.{HavePlaces};
+ghost use Rattle.zl_objects.specs.Listed.{entry_of, is_there, may_register, order_entry, wait_value};
+ghost use Rattle.zl_objects.specs.PortWaits.{is_entry_to, AreFound};
 
 use crate::children::Children;
 use crate::object::Object;
 use crate::objects::Objects;
+use crate::port_waits::PortWaits;
 use crate::signals::signals_at;
 use crate::wait::{Listed, Wait};
 use bitflags::Flags;
@@ -26,9 +27,12 @@ use zl_rights::Koid;
 #[derive(Drop)]
 pub(crate) struct WaitList {
     pub entries: VecDeque<Listed>,
+    // The waits of each port.
+    pub by_port: PortWaits,
     pub made: u64,
     ghost rising: { IsTrue (is_sorted nat_cmp (map order_entry entries.items)) },
     ghost below: { All (λ x. x.order < made) entries.items },
+    ghost found: { AreFound by_port entries.items },
 }
 
 impl WaitList {
@@ -39,31 +43,49 @@ impl WaitList {
     {
         WaitList {
             entries: VecDeque::new(alloc),
+            by_port: PortWaits::new(alloc),
             made: 0,
         }
     }
 
-    /// There is room for one wait more.
-    pub fn reserve(&mut self) -> Result<(), AllocError>
-        ensures entries { self.new.entries.items ≡ self.old.entries.items }
-        ensures made { self.new.made ≡ self.old.made }
-        ensures room { OnOk result
-            (deque_len self.new.entries < deque_capacity self.new.entries) }
-    {
-        self.entries.reserve(1)
-    }
-
-    /// Lists the wait behind all others. There has to be room for it.
-    pub fn push_reserved(&mut self, wait: Wait)
-        requires room { deque_len self.old.entries < deque_capacity self.old.entries }
-        requires made { self.old.made < 2 ^ 62 }
-        ensures entries { self.new.entries.items
-            ≡ self.old.entries.items ++ entry_of self.old.made wait ∷ [] }
-        ensures made { self.new.made ≡ self.old.made + 1 }
+    /// Lists the wait behind all others. Where memory is refused, nothing changes.
+    pub fn push(&mut self, wait: Wait) -> Result<(), AllocError>
+        requires { self.old.made < 2 ^ 62 }
+        ensures entries { OnOk result (self.new.entries.items
+            ≡ self.old.entries.items ++ entry_of self.old.made wait ∷ []) }
+        ensures made { OnOk result (self.new.made ≡ self.old.made + 1) }
+        ensures same { OnErr result (self.new.entries.items ≡ self.old.entries.items) }
+        ensures same_made { OnErr result (self.new.made ≡ self.old.made) }
     {
         let order = self.made;
+        self.entries.reserve(1)?;
+        self.by_port.add(wait.port, order)?;
         self.made = order + 1;
         self.entries.push_back_reserved(Listed { order, wait });
+        Ok(())
+    }
+
+    /// Takes the last wait back, before which so many were registered, as if it had not been listed.
+    pub fn take_back(&mut self, order: u64)
+        requires last { All (λ x. x.order ≤ order) self.old.entries.items }
+        ensures entries { self.new.entries.items
+            ≡ filter (λ x. not (x.order == order)) self.old.entries.items }
+        ensures made { self.new.made ≡ order }
+    {
+        unlist(self, order);
+        self.made = order;
+    }
+
+    /// Takes out the earliest wait that gives its packet to the port, or nothing where there is none.
+    pub fn take_given(&mut self, port: Koid) -> Option<Wait>
+        ensures earliest { result
+            ≡ option_map (λ x. x.wait) (find (is_entry_to port) self.old.entries.items) }
+        ensures entries { self.new.entries.items
+            ≡ without_first (is_entry_to port) self.old.entries.items }
+        ensures made { self.new.made ≡ self.old.made }
+    {
+        let order = self.by_port.first(port, self.made)?;
+        unlist(self, order)
     }
 
     /// No wait is registered any more.
@@ -72,6 +94,7 @@ impl WaitList {
         ensures made { self.new.made ≡ self.old.made }
     {
         self.entries.clear();
+        self.by_port.clear();
     }
 
     /// The wait at place `n`, from 0.
@@ -123,34 +146,19 @@ impl Objects {
     }
 }
 
-/// Takes the wait out of the list before which so many were registered.
-pub fn unlist(waits: &mut WaitList, order: u64)
+/// Takes the wait out of the list before which so many were registered, or nothing where it isn't
+/// there.
+pub fn unlist(waits: &mut WaitList, order: u64) -> Option<Wait>
+    ensures wait { result
+        ≡ option_map (λ x. x.wait) (find (λ x. x.order == order) waits.old.entries.items) }
     ensures entries { waits.new.entries.items
         ≡ filter (λ x. not (x.order == order)) waits.old.entries.items }
     ensures made { waits.new.made ≡ waits.old.made }
 {
-    let Some(place) = waits.place_of(order) else {
-        return;
-    };
-    waits.entries.remove(place);
-}
-
-/// Keeps the waits of which the object and the port are there. All are, unless waits have ended.
-pub fn keep_there(waits: &mut WaitList, by_koid: &BTreeMap<Koid, Object>, ended: bool)
-    requires places { HavePlaces by_koid.now.entries }
-    requires listed { ended ≡ false → AreListed waits.old.entries.items by_koid.now.entries }
-    ensures entries { waits.new.entries.items
-        ≡ filter (is_entry_there by_koid.now.entries) waits.old.entries.items }
-    ensures waits { map listed_value waits.new.entries.items
-        ≡ filter (is_there by_koid.now.entries) (map listed_value waits.old.entries.items) }
-    ensures made { waits.new.made ≡ waits.old.made }
-{
-    if !ended {
-        return;
-    }
-    waits.entries.retain(|listed| {
-        by_koid.contains_key(&listed.wait.object) && by_koid.contains_key(&listed.wait.port)
-    });
+    let place = waits.place_of(order)?;
+    let listed = waits.entries.remove(place)?;
+    waits.by_port.remove(listed.wait.port, order);
+    Some(listed.wait)
 }
 
 /// The object of the earliest wait that holds, behind its place. Of the first `from` none may hold.

@@ -11,7 +11,6 @@ ghost use Rattle.zl_objects.specs.Waits.{HavePlaces, LeavesWaits};
 
 use crate::below::list_task;
 use crate::killing::kill_task;
-use crate::listing::keep_there;
 use crate::object::Object;
 use crate::objects::Objects;
 use crate::releasing::{mark_watched, remove_unkept, sweep_task};
@@ -31,21 +30,22 @@ impl Objects {
     {
         if let Some(job) = job_of(&self.by_koid, pid) {
             self.stop(pid);
-            let mut ended = remove_unkept(
+            remove_unkept(
                 &mut self.by_koid,
                 &mut self.children,
+                &mut self.waits,
                 &mut self.dying,
                 &mut self.marks,
                 pid,
             );
-            ended |= remove_unkept(
+            remove_unkept(
                 &mut self.by_koid,
                 &mut self.children,
+                &mut self.waits,
                 &mut self.dying,
                 &mut self.marks,
                 job,
             );
-            keep_there(&mut self.waits, &self.by_koid, ended);
         }
     }
 
@@ -76,16 +76,16 @@ impl Objects {
             self.below.as_slice(),
             listed,
         );
-        let ended = sweep_task(
+        sweep_task(
             &mut self.by_koid,
             &mut self.children,
+            &mut self.waits,
             &mut self.dying,
             &mut self.marks,
             self.next_koid,
             self.below.as_slice(),
             listed,
         );
-        keep_there(&mut self.waits, &self.by_koid, ended);
     }
 
     /// The process is started, if it was made and not started yet.

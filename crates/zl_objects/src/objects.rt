@@ -12,7 +12,7 @@ ghost use Rattle.zl_objects.specs.Waits.{waits_in, HavePlaces, LeavesWaits};
 use crate::awaited::Asleep;
 use crate::children::Children;
 use crate::killing::parent_at;
-use crate::listing::{WaitList, keep_there};
+use crate::listing::WaitList;
 use crate::marks::Marks;
 use crate::object::{Body, Object, Pair};
 use crate::releasing::{let_go, mark_watched, remove_dying, remove_unkept};
@@ -371,13 +371,13 @@ impl Objects {
         if self.dying.is_empty() {
             return;
         }
-        let ended = remove_dying(
+        remove_dying(
             &mut self.by_koid,
             &mut self.children,
+            &mut self.waits,
             &mut self.dying,
             &mut self.marks,
         );
-        keep_there(&mut self.waits, &self.by_koid, ended);
     }
 
     /// The object goes if nothing keeps it, and what isn't held any more then. It takes no memory. The
@@ -389,14 +389,14 @@ impl Objects {
         ensures places { HavePlaces self.new.objects }
         ensures listed { LeavesListed self.old self.new }
     {
-        let ended = remove_unkept(
+        remove_unkept(
             &mut self.by_koid,
             &mut self.children,
+            &mut self.waits,
             &mut self.dying,
             &mut self.marks,
             koid,
         );
-        keep_there(&mut self.waits, &self.by_koid, ended);
     }
 }
 

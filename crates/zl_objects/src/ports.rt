@@ -5,7 +5,6 @@ ghost use Rattle.zl_rights.specs.Signals.{is_empty};
 ghost use Rattle.zl_rights.specs.Map.{get};
 ghost use Rattle.zl_port.specs.Packets.{MOST_USER_PACKETS, is_from, user_count, user_packet, with_packet, with_place, without_front, without_packets, without_place};
 ghost use Rattle.zl_objects.specs.Ports.{at_port, changing_port, has_place_body, is_port_at, new_port, packets_in, packets_of, reserved_of};
-ghost use Rattle.zl_objects.specs.Waits.{ends_waits};
 
 use crate::object::{Body, Object};
 use crate::objects::Objects;
@@ -78,15 +77,6 @@ impl Object {
             Body::Port(port) => port.cancel(source, key),
             _ => 0,
         }
-    }
-}
-
-impl Object {
-    /// Whether waits end with it: its own, or those that give their packets to it.
-    pub(crate) fn ends_waits(&self) -> bool
-        ensures { result ≡ ends_waits self.now }
-    {
-        self.body.has_reserved() || self.signals.has_waits()
     }
 }
 

@@ -3,19 +3,24 @@
 //! An object that may have to go is noted in `dying`, which has room for each object. It stays with
 //! its queue until it is looked at again.
 
-ghost use Rattle.std.specs.Prelude.{◌≡◌, ◌≤◌, ◌<◌, ◌+◌, ◌++◌, ◌∷◌, [], false, if◌then◌else◌, is_some, length, ℕ, vec_capacity, IfSome, IsTrue};
+ghost use Rattle.std.specs.Prelude.{◌≡◌, ◌≤◌, ◌<◌, ◌+◌, ◌++◌, ◌∷◌, [], if◌then◌else◌, is_some, filter, length, ℕ, vec_capacity, IfSome, IsTrue};
+ghost use Rattle.std.specs.FinMap.Entries.{is_sorted};
 ghost use Rattle.std.specs.Option.{option_to_list};
+ghost use Rattle.std.specs.Ordering.{nat_cmp};
 ghost use Rattle.zl_rights.specs.Map.{each, get, has_key, update};
 ghost use Rattle.zl_objects.specs.Below.{looked_at};
 ghost use Rattle.zl_objects.specs.Calm.{is_marked, is_watched_in, KeepsCalm, StayStill};
-ghost use Rattle.zl_objects.specs.Objects.{held_once_less, is_kept};
+ghost use Rattle.zl_objects.specs.Objects.{held_once_less, is_kept, queue_of};
 ghost use Rattle.zl_objects.specs.Release.{all_koids, koids_of, named_in};
 ghost use Rattle.zl_objects.specs.Dying.{budget, is_last, is_unkept, left_at, unkept_at, LetsGo};
 ghost use Rattle.zl_objects.specs.Index.{IsIndexed};
-ghost use Rattle.zl_objects.specs.Waits.{ending_port, giving_back, without_port_waits, HaveSameWaits};
+ghost use Rattle.zl_objects.specs.Listed.{is_entry_there, AreListed};
+ghost use Rattle.zl_objects.specs.PortWaits.{without_ended, without_given, without_own, AreOwn, AreRegistered};
+ghost use Rattle.zl_objects.specs.Waits.{ending_port, giving_back, without_port_waits};
 
 use crate::children::{Children, has_living_child};
 use crate::killing::next_from;
+use crate::listing::{WaitList, unlist};
 use crate::marks::Marks;
 use crate::object::{Body, Object};
 use crate::waits::{give_back, is_watched};
@@ -75,6 +80,19 @@ fn let_go_queue(by_koid: &mut BTreeMap<Koid, Object>, dying: &mut Vec<Koid>, mut
     }
 }
 
+/// One handle less for each handle in the messages, if it is an end of a channel.
+fn let_go_body(by_koid: &mut BTreeMap<Koid, Object>, dying: &mut Vec<Koid>, body: Body)
+    requires fits { budget by_koid.old.entries dying.old.items ≤ vec_capacity dying.old }
+    ensures goes { LetsGo (named_in (queue_of body))
+        by_koid.old.entries dying.old.items by_koid.new.entries dying.new.items }
+    ensures still { StayStill by_koid.old.entries by_koid.new.entries }
+    ensures capacity { vec_capacity dying.new ≡ vec_capacity dying.old }
+{
+    if let Body::ChannelEnd { queue, .. } = body {
+        let_go_queue(by_koid, dying, queue);
+    }
+}
+
 /// Whether a handle names the object, or it is a process that runs or a job with a living child.
 fn is_kept(
     by_koid: &BTreeMap<Koid, Object>,
@@ -127,35 +145,70 @@ fn take_unkept(
     }
 }
 
-/// The places of all these waits are given back at their ports.
-fn give_all_back(by_koid: &mut BTreeMap<Koid, Object>, mut signals: SignalState)
-    ensures { by_koid.new.entries ≡ giving_back signals.waits by_koid.old.entries }
+/// The places of all these waits at an object that has gone are given back at their ports, and none
+/// of them is listed any more.
+fn give_all_back(
+    by_koid: &mut BTreeMap<Koid, Object>,
+    waits: &mut WaitList,
+    mut signals: SignalState,
+)
+    ensures places { by_koid.new.entries ≡ giving_back signals.waits by_koid.old.entries }
+    ensures entries { (k : ℕ) → AreOwn k signals.waits waits.old.entries.items
+        → waits.new.entries.items ≡ without_own k waits.old.entries.items }
+    ensures made { waits.new.made ≡ waits.old.made }
 {
     while let Some(wait) = signals.take_wait() {
+        unlist(waits, wait.order);
         give_back(by_koid, wait.port);
     }
 }
 
-/// The waits that give their packets to the port end, at all objects.
-fn end_port(by_koid: &mut BTreeMap<Koid, Object>, port: Koid)
-    ensures { by_koid.new.entries ≡ each (λ j. without_port_waits port) by_koid.old.entries }
+/// The waits at the object that give their packets to the port end.
+#[tactic(auto, using(crate::proofs::ByKoid::by_koid))]
+fn end_at(by_koid: &mut BTreeMap<Koid, Object>, koid: Koid, port: Koid)
+    ensures { by_koid.new.entries
+        ≡ update by_koid.old.entries koid (without_port_waits port) }
 {
-    // It keeps each object, and is the way to write to all.
-    by_koid.retain(|_, object| {
-        object.end_port(port);
-        true
-    });
+    let Some(object) = by_koid.get_mut(&koid) else {
+        return;
+    };
+    object.end_port(port);
+}
+
+/// The waits that give their packets to the port end, at all objects and in the list.
+fn end_port(by_koid: &mut BTreeMap<Koid, Object>, waits: &mut WaitList, port: Koid)
+    requires in_order { IsTrue (is_sorted nat_cmp by_koid.old.entries) }
+    requires listed { AreListed waits.old.entries.items by_koid.old.entries }
+    ensures ended { by_koid.new.entries ≡ each (λ j. without_port_waits port) by_koid.old.entries }
+    ensures entries { waits.new.entries.items ≡ without_given port waits.old.entries.items }
+    ensures made { waits.new.made ≡ waits.old.made }
+{
+    while let Some(wait) = waits.take_given(port) {
+        end_at(by_koid, wait.object, port);
+    }
 }
 
 /// The waits at an object that has gone end. If it was a port with a reserved place, so do those
 /// that give their packets to it.
-fn end_waits(by_koid: &mut BTreeMap<Koid, Object>, koid: Koid, reserved: bool, signals: SignalState)
-    ensures { by_koid.new.entries
+fn end_waits(
+    by_koid: &mut BTreeMap<Koid, Object>,
+    waits: &mut WaitList,
+    koid: Koid,
+    reserved: bool,
+    signals: SignalState,
+)
+    requires in_order { IsTrue (is_sorted nat_cmp by_koid.old.entries) }
+    requires own { AreOwn koid signals.waits waits.old.entries.items }
+    requires listed { AreListed (without_own koid waits.old.entries.items) by_koid.old.entries }
+    ensures ended { by_koid.new.entries
         ≡ ending_port koid reserved (giving_back signals.waits by_koid.old.entries) }
+    ensures entries { waits.new.entries.items
+        ≡ without_ended koid reserved waits.old.entries.items }
+    ensures made { waits.new.made ≡ waits.old.made }
 {
-    give_all_back(by_koid, signals);
+    give_all_back(by_koid, waits, signals);
     if reserved {
-        end_port(by_koid, koid);
+        end_port(by_koid, waits, koid);
     }
 }
 
@@ -182,180 +235,198 @@ fn note_keeper(dying: &mut Vec<Koid>, keeper: Option<Koid>)
 }
 
 /// The object that was noted goes with its queue and its waits, unless something keeps it, and the
-/// job of which it was a living child is noted. Signals come there, and at its peer. Says whether
-/// waits ended.
+/// job of which it was a living child is noted. Signals come there, and at its peer.
 fn remove_noted(
     by_koid: &mut BTreeMap<Koid, Object>,
     children: &mut Children,
+    waits: &mut WaitList,
     dying: &mut Vec<Koid>,
     marks: &mut Marks,
     koid: Koid,
-) -> bool
+)
     requires indexed { IsIndexed children.old by_koid.old.entries }
+    requires registered { AreRegistered waits.old.entries.items by_koid.old.entries }
     requires fits { budget by_koid.old.entries (dying.old.items ++ koid ∷ [])
         ≤ vec_capacity dying.old }
     ensures indexed { IsIndexed children.new by_koid.new.entries }
+    ensures registered { AreRegistered waits.new.entries.items by_koid.new.entries }
     ensures goes { LetsGo [] by_koid.old.entries (dying.old.items ++ koid ∷ [])
         by_koid.new.entries dying.new.items }
     ensures less { budget by_koid.new.entries dying.new.items + length by_koid.new.entries
         < budget by_koid.old.entries (dying.old.items ++ koid ∷ []) + length by_koid.old.entries }
     ensures calm { KeepsCalm (is_marked marks.old) by_koid.old.entries
         (is_marked marks.new) by_koid.new.entries }
-    ensures waits { result ≡ false → HaveSameWaits by_koid.old.entries by_koid.new.entries }
+    ensures entries { waits.new.entries.items
+        ≡ filter (is_entry_there by_koid.new.entries) waits.old.entries.items }
+    ensures made { waits.new.made ≡ waits.old.made }
     ensures capacity { vec_capacity dying.new ≡ vec_capacity dying.old }
 {
     let Some(gone) = take_unkept(by_koid, children, koid) else {
-        return false;
+        return;
     };
     children.remove(gone.body.parent(), koid);
     let (keeper, peer) = (gone.body.keeper(), gone.body.peer());
-    let (ended, reserved) = (gone.ends_waits(), gone.body.has_reserved());
+    let reserved = gone.body.has_reserved();
     let Object { body, signals, .. } = gone;
-    end_waits(by_koid, koid, reserved, signals);
+    end_waits(by_koid, waits, koid, reserved, signals);
     note_keeper(dying, keeper);
     mark_watched(by_koid, marks, keeper);
     mark_watched(by_koid, marks, peer);
-    if let Body::ChannelEnd { queue, .. } = body {
-        let_go_queue(by_koid, dying, queue);
-        return ended;
-    }
-    ended
+    let_go_body(by_koid, dying, body);
 }
 
-/// The noted objects go, and what goes with them. Says whether waits ended.
+/// The noted objects go, and what goes with them.
 pub fn remove_dying(
     by_koid: &mut BTreeMap<Koid, Object>,
     children: &mut Children,
+    waits: &mut WaitList,
     dying: &mut Vec<Koid>,
     marks: &mut Marks,
-) -> bool
+)
     requires indexed { IsIndexed children.old by_koid.old.entries }
+    requires registered { AreRegistered waits.old.entries.items by_koid.old.entries }
     requires fits { budget by_koid.old.entries dying.old.items ≤ vec_capacity dying.old }
     ensures indexed { IsIndexed children.new by_koid.new.entries }
+    ensures registered { AreRegistered waits.new.entries.items by_koid.new.entries }
     ensures goes { LetsGo []
         by_koid.old.entries dying.old.items by_koid.new.entries dying.new.items }
     ensures calm { KeepsCalm (is_marked marks.old) by_koid.old.entries
         (is_marked marks.new) by_koid.new.entries }
-    ensures waits { result ≡ false → HaveSameWaits by_koid.old.entries by_koid.new.entries }
+    ensures entries { waits.new.entries.items
+        ≡ filter (is_entry_there by_koid.new.entries) waits.old.entries.items }
+    ensures made { waits.new.made ≡ waits.old.made }
     ensures none { dying.new.items ≡ [] }
     ensures capacity { vec_capacity dying.new ≡ vec_capacity dying.old }
 {
-    let mut ended = false;
     while let Some(koid) = dying.pop() {
-        ended |= remove_noted(by_koid, children, dying, marks, koid);
+        remove_noted(by_koid, children, waits, dying, marks, koid);
     }
-    ended
 }
 
-/// The object goes, unless something keeps it, and what goes with it. Says whether waits ended.
+/// The object goes, unless something keeps it, and what goes with it.
 pub fn remove_unkept(
     by_koid: &mut BTreeMap<Koid, Object>,
     children: &mut Children,
+    waits: &mut WaitList,
     dying: &mut Vec<Koid>,
     marks: &mut Marks,
     koid: Koid,
-) -> bool
+)
     requires indexed { IsIndexed children.old by_koid.old.entries }
+    requires registered { AreRegistered waits.old.entries.items by_koid.old.entries }
     requires none { dying.old.items ≡ [] }
     requires room { length by_koid.old.entries ≤ vec_capacity dying.old }
     ensures indexed { IsIndexed children.new by_koid.new.entries }
+    ensures registered { AreRegistered waits.new.entries.items by_koid.new.entries }
     ensures goes { LetsGo [] by_koid.old.entries (koid ∷ []) by_koid.new.entries [] }
     ensures calm { KeepsCalm (is_marked marks.old) by_koid.old.entries
         (is_marked marks.new) by_koid.new.entries }
-    ensures waits { result ≡ false → HaveSameWaits by_koid.old.entries by_koid.new.entries }
+    ensures entries { waits.new.entries.items
+        ≡ filter (is_entry_there by_koid.new.entries) waits.old.entries.items }
+    ensures made { waits.new.made ≡ waits.old.made }
     ensures none { dying.new.items ≡ [] }
     ensures capacity { vec_capacity dying.new ≡ vec_capacity dying.old }
 {
     if is_unkept(by_koid, children, koid) {
         dying.push_reserved(koid);
-        return remove_dying(by_koid, children, dying, marks);
+        remove_dying(by_koid, children, waits, dying, marks);
     }
-    false
 }
 
-/// Of these the objects that nothing keeps go, and what goes with them. Says whether waits ended.
+/// Of these the objects that nothing keeps go, and what goes with them.
 fn sweep_each(
     by_koid: &mut BTreeMap<Koid, Object>,
     children: &mut Children,
+    waits: &mut WaitList,
     dying: &mut Vec<Koid>,
     marks: &mut Marks,
     koids: &[Koid],
-) -> bool
+)
     requires indexed { IsIndexed children.old by_koid.old.entries }
+    requires registered { AreRegistered waits.old.entries.items by_koid.old.entries }
     requires none { dying.old.items ≡ [] }
     requires room { length by_koid.old.entries ≤ vec_capacity dying.old }
     ensures indexed { IsIndexed children.new by_koid.new.entries }
+    ensures registered { AreRegistered waits.new.entries.items by_koid.new.entries }
     ensures goes { LetsGo [] by_koid.old.entries koids.now by_koid.new.entries [] }
     ensures calm { KeepsCalm (is_marked marks.old) by_koid.old.entries
         (is_marked marks.new) by_koid.new.entries }
-    ensures waits { result ≡ false → HaveSameWaits by_koid.old.entries by_koid.new.entries }
+    ensures entries { waits.new.entries.items
+        ≡ filter (is_entry_there by_koid.new.entries) waits.old.entries.items }
+    ensures made { waits.new.made ≡ waits.old.made }
     ensures none { dying.new.items ≡ [] }
     ensures capacity { vec_capacity dying.new ≡ vec_capacity dying.old }
 {
-    let mut ended = false;
     for koid in koids {
-        ended |= remove_unkept(by_koid, children, dying, marks, *koid);
+        remove_unkept(by_koid, children, waits, dying, marks, *koid);
     }
-    ended
 }
 
 /// Of these the objects that nothing keeps go, if they were listed, and else of all, and what goes
-/// with them. All koids lie below the end. Says whether waits ended.
+/// with them. All koids lie below the end.
 pub fn sweep_task(
     by_koid: &mut BTreeMap<Koid, Object>,
     children: &mut Children,
+    waits: &mut WaitList,
     dying: &mut Vec<Koid>,
     marks: &mut Marks,
     end: Koid,
     koids: &[Koid],
     listed: bool,
-) -> bool
+)
     requires indexed { IsIndexed children.old by_koid.old.entries }
+    requires registered { AreRegistered waits.old.entries.items by_koid.old.entries }
     requires below { (k : ℕ) → IsTrue (has_key by_koid.old.entries k) → k < end }
     requires none { dying.old.items ≡ [] }
     requires room { length by_koid.old.entries ≤ vec_capacity dying.old }
     ensures indexed { IsIndexed children.new by_koid.new.entries }
+    ensures registered { AreRegistered waits.new.entries.items by_koid.new.entries }
     ensures goes { LetsGo [] by_koid.old.entries
         (looked_at listed koids.now by_koid.old.entries) by_koid.new.entries [] }
     ensures calm { KeepsCalm (is_marked marks.old) by_koid.old.entries
         (is_marked marks.new) by_koid.new.entries }
-    ensures waits { result ≡ false → HaveSameWaits by_koid.old.entries by_koid.new.entries }
+    ensures entries { waits.new.entries.items
+        ≡ filter (is_entry_there by_koid.new.entries) waits.old.entries.items }
+    ensures made { waits.new.made ≡ waits.old.made }
     ensures none { dying.new.items ≡ [] }
     ensures capacity { vec_capacity dying.new ≡ vec_capacity dying.old }
 {
     if listed {
-        return sweep_each(by_koid, children, dying, marks, koids);
+        sweep_each(by_koid, children, waits, dying, marks, koids);
+        return;
     }
-    sweep(by_koid, children, dying, marks, end)
+    sweep(by_koid, children, waits, dying, marks, end);
 }
 
-/// Each object that nothing keeps goes, and what goes with it. All koids lie below the end. Says
-/// whether waits ended.
+/// Each object that nothing keeps goes, and what goes with it. All koids lie below the end.
 fn sweep(
     by_koid: &mut BTreeMap<Koid, Object>,
     children: &mut Children,
+    waits: &mut WaitList,
     dying: &mut Vec<Koid>,
     marks: &mut Marks,
     end: Koid,
-) -> bool
+)
     requires indexed { IsIndexed children.old by_koid.old.entries }
+    requires registered { AreRegistered waits.old.entries.items by_koid.old.entries }
     requires below { (k : ℕ) → IsTrue (has_key by_koid.old.entries k) → k < end }
     requires none { dying.old.items ≡ [] }
     requires room { length by_koid.old.entries ≤ vec_capacity dying.old }
     ensures indexed { IsIndexed children.new by_koid.new.entries }
+    ensures registered { AreRegistered waits.new.entries.items by_koid.new.entries }
     ensures goes { LetsGo [] by_koid.old.entries (all_koids by_koid.old.entries)
         by_koid.new.entries [] }
     ensures calm { KeepsCalm (is_marked marks.old) by_koid.old.entries
         (is_marked marks.new) by_koid.new.entries }
-    ensures waits { result ≡ false → HaveSameWaits by_koid.old.entries by_koid.new.entries }
+    ensures entries { waits.new.entries.items
+        ≡ filter (is_entry_there by_koid.new.entries) waits.old.entries.items }
+    ensures made { waits.new.made ≡ waits.old.made }
     ensures none { dying.new.items ≡ [] }
     ensures capacity { vec_capacity dying.new ≡ vec_capacity dying.old }
 {
-    let mut ended = false;
     let mut from = 0;
     while let Some(koid) = next_from(by_koid, from) {
-        ended |= remove_unkept(by_koid, children, dying, marks, koid);
+        remove_unkept(by_koid, children, waits, dying, marks, koid);
         from = koid + 1;
     }
-    ended
 }

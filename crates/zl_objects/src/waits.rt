@@ -97,9 +97,12 @@ impl Objects {
         ensures ok { OnOk result (self.new ≡ watching self.old wait) }
         ensures unchanged { OnErr result (self.new ≡ self.old) }
     {
-        self.waits.reserve()?;
-        stand(&mut self.by_koid, wait, self.waits.made)?;
-        self.waits.push_reserved(wait);
+        let order = self.waits.made;
+        self.waits.push(wait)?;
+        if stand(&mut self.by_koid, wait, order).is_err() {
+            self.waits.take_back(order);
+            return Err(AllocError);
+        }
         // A signal that is active already counts too.
         self.marks.add_if(true, wait.object);
         Ok(())

@@ -1,10 +1,13 @@
-use Rattle.std.proofs.Common.{◌≡◌, length}
+use Rattle.std.proofs.Common.{◌≡◌, ℕ, length}
 use Rattle.zl_objects.specs.Waits.{giving_back}
+use Rattle.zl_objects.proofs.Unlisted.{AreOut}
 use Rattle.zl_objects.proofs.releasing.give_all_back.Given as goal
 
 abbrev pub invariant-loop-wait : goal.invariant-loop-wait
 invariant-loop-wait l = record {
   back : giving_back l.signals.waits l.by_koid.entries ≡ giving_back l.initial.signals.waits l.initial.by_koid.entries;
+  out : (k : ℕ) → AreOut k l.initial.signals.waits l.initial.waits.entries.items l.signals.waits l.waits.entries.items;
+  made : l.waits.made ≡ l.initial.waits.made;
 }
 
 abbrev pub decreases-loop-wait : goal.decreases-loop-wait

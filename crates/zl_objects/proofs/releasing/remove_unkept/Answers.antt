@@ -1,5 +1,6 @@
 use Rattle.std.proofs.Common.{arith, ◌≡◌, ◌∷◌, [], refl, sym, ◌∙◌, vec_capacity}
 use Rattle.zl_objects.proofs.Budget.{none_noted, test_fits, test_kept}
+use Rattle.zl_objects.proofs.Listed.{all_there}
 use Rattle.zl_objects.proofs.releasing.remove_unkept.Goals as goal
 
 pub push_reserved-requires : goal.push_reserved-requires
@@ -15,6 +16,7 @@ remove_dying-requires c =
     let noted : c.push_reserved.new.self.items ≡ c.args.koid ∷ [] = c.push_reserved.ensures.items ∙ rw c.requires.none refl in
     record {
       indexed = c.requires.indexed;
+      registered = c.requires.registered;
       fits = rw noted (omega (
         arith,
         test_fits c.args.by_koid.now.entries c.args.koid (sym c.is_unkept.ensures ∙ c.if-is_unkept.true),
@@ -28,5 +30,9 @@ returns-then-is_unkept-clause-goes c =
     let noted : c.push_reserved.new.self.items ≡ c.args.koid ∷ [] = c.push_reserved.ensures.items ∙ rw c.requires.none refl in
     rw (noted, c.remove_dying.ensures.none) at c.remove_dying.ensures.goes
 
-pub returns-clause-goes : goal.returns-clause-goes
-returns-clause-goes c = test_kept c.args.by_koid.now.entries c.args.koid (sym c.is_unkept.ensures ∙ c.if-is_unkept.false)
+pub returns-else-is_unkept-clause-goes : goal.returns-else-is_unkept-clause-goes
+returns-else-is_unkept-clause-goes c = test_kept c.args.by_koid.now.entries c.args.koid (sym c.is_unkept.ensures ∙ c.if-is_unkept.false)
+
+pub returns-else-is_unkept-clause-entries : goal.returns-else-is_unkept-clause-entries
+returns-else-is_unkept-clause-entries c =
+    sym (all_there c.args.waits.now.entries.items c.args.by_koid.now.entries c.requires.registered.places c.requires.registered.listed)

@@ -1,6 +1,8 @@
-use Rattle.std.proofs.Common.{◌≡◌, ◌-◌, ◌^◌, [], false, vec_capacity}
+use Rattle.std.proofs.Common.{◌≡◌, ◌-◌, ◌^◌, [], vec_capacity}
 use Rattle.zl_objects.specs.Calm.{KeepsCalm, is_marked}
-use Rattle.zl_objects.specs.Waits.{HaveSameWaits}
+use Rattle.std.specs.List.{filter}
+use Rattle.zl_objects.specs.Listed.{is_entry_there}
+use Rattle.zl_objects.specs.PortWaits.{AreRegistered}
 use Rattle.zl_objects.specs.Index.{IsIndexed}
 use Rattle.zl_objects.proofs.Sweeps.{Sweeps}
 use Rattle.zl_objects.proofs.releasing.sweep.Given as goal
@@ -11,7 +13,9 @@ invariant-loop-koid l = record {
   indexed : IsIndexed l.children l.by_koid.entries;
   none : l.dying.items ≡ [];
   calm : KeepsCalm (is_marked l.initial.marks) l.initial.by_koid.entries (is_marked l.marks) l.by_koid.entries;
-  waits : l.ended ≡ false → HaveSameWaits l.initial.by_koid.entries l.by_koid.entries;
+  registered : AreRegistered l.waits.entries.items l.by_koid.entries;
+  entries : l.waits.entries.items ≡ filter (is_entry_there l.by_koid.entries) l.initial.waits.entries.items;
+  made : l.waits.made ≡ l.initial.waits.made;
   capacity : vec_capacity l.dying ≡ vec_capacity l.initial.dying;
 }
 

@@ -10,9 +10,9 @@ use Rattle.zl_objects.proofs.Descending.{all_swept}
 use Rattle.zl_objects.proofs.Index.{killed_indexed}
 use Rattle.zl_objects.proofs.Kept.{left_kept}
 use Rattle.zl_objects.proofs.Law.{leaves_largest}
-use Rattle.zl_objects.proofs.Listed.{same_listed}
 use Rattle.zl_objects.proofs.Released.{left_by, released, waits_left}
 use Rattle.zl_objects.proofs.Tasks.{killed_kept}
+use Rattle.zl_objects.proofs.Unlisted.{left_seen}
 use Rattle.zl_objects.proofs.objects.Objects.kill.Goals as goal
 
 pub kill_task-requires : goal.kill_task-requires
@@ -22,42 +22,33 @@ kill_task-requires c = record {
   listed = λ all. rw (c.as_slice.ensures.value) (c.list_task-listed.ensures all);
 }
 
-pub sweep_task-ended-requires : goal.sweep_task-ended-requires
-sweep_task-ended-requires c =
+pub sweep_task-requires : goal.sweep_task-requires
+sweep_task-requires c =
     let kept : IsKept None c.kill_task.new.by_koid.entries c.self.inside.next_koid c.self.inside.dying.items (vec_capacity c.self.inside.dying)
     c.self.inside.waits.entries.items =
     killed_kept _ _ _ _ c.args.task _ c.self.invariant.kept c.kill_task.ensures.killed in
     record {
       indexed = killed_indexed c.args.task c.self.invariant.indexed c.kill_task.ensures.killed;
+      registered = record { listed = kept.listed; places = kept.whole.places };
       below = kept.whole.below;
       none = kept.whole.none;
       room = kept.whole.enough;
     }
 
-pub keep_there-requires : goal.keep_there-requires
-keep_there-requires c =
-    let kept : IsKept None c.kill_task.new.by_koid.entries c.self.inside.next_koid c.self.inside.dying.items (vec_capacity c.self.inside.dying)
-    c.self.inside.waits.entries.items =
-    killed_kept _ _ _ _ c.args.task _ c.self.invariant.kept c.kill_task.ensures.killed in
-    record {
-      places = c.sweep_task-ended.ensures.goes.places kept.whole.places;
-      listed = λ none. same_listed _ _ _ (c.sweep_task-ended.ensures.waits none) kept.listed;
-    }
-
 pub invariant_of-self : goal.invariant_of-self
 invariant_of-self c = record {
-  kept = left_kept (left_by c.sweep_task-ended.ensures.goes) (killed_kept _ _ _ _ c.args.task _ c.self.invariant.kept c.kill_task.ensures.killed)
-      c.sweep_task-ended.ensures.none c.sweep_task-ended.ensures.capacity c.keep_there.ensures.entries;
-  calm = c.sweep_task-ended.ensures.calm _ _ (c.kill_task.ensures.calm _ _ c.self.invariant.calm);
-  indexed = c.sweep_task-ended.ensures.indexed;
+  kept = left_kept (left_by c.sweep_task.ensures.goes) (killed_kept _ _ _ _ c.args.task _ c.self.invariant.kept c.kill_task.ensures.killed)
+      c.sweep_task.ensures.none c.sweep_task.ensures.capacity c.sweep_task.ensures.entries;
+  calm = c.sweep_task.ensures.calm _ _ (c.kill_task.ensures.calm _ _ c.self.invariant.calm);
+  indexed = c.sweep_task.ensures.indexed;
 }
 
 pub returns-clause-releases : goal.returns-clause-releases
 returns-clause-releases c = rw (← c.self.view_is) (λ before. released [] _ _ _ _ _ _ _ _ _ [] (all_swept c.self.inside.by_koid.entries
-    c.sweep_task-ended.new.by_koid.entries c.args.task c.list_task-listed.result c.as_slice-2.result.now
+    c.sweep_task.new.by_koid.entries c.args.task c.list_task-listed.result c.as_slice-2.result.now
     (λ all. rw (c.as_slice-2.ensures.value) (c.list_task-listed.ensures all)) before
-    (subst (λ (m : Map Object). LetsGo [] m (looked_at c.list_task-listed.result c.as_slice-2.result.now m) c.sweep_task-ended.new.by_koid.entries [])
-    c.kill_task.ensures.killed c.sweep_task-ended.ensures.goes)) refl refl)
+    (subst (λ (m : Map Object). LetsGo [] m (looked_at c.list_task-listed.result c.as_slice-2.result.now m) c.sweep_task.new.by_koid.entries [])
+    c.kill_task.ensures.killed c.sweep_task.ensures.goes)) refl refl)
 
 pub returns-clause-largest : goal.returns-clause-largest
 returns-clause-largest c = λ before.
@@ -66,8 +57,15 @@ returns-clause-largest c = λ before.
 pub returns-clause-waits : goal.returns-clause-waits
 returns-clause-waits c =
     rw (← ap (λ (r : Objects). r.objects) c.self.view_is, ← c.kill_task.ensures.killed)
-    (waits_left (left_by c.sweep_task-ended.ensures.goes)
+    (waits_left (left_by c.sweep_task.ensures.goes)
     (killed_kept _ _ c.self.inside.next_koid (vec_capacity c.self.inside.dying) c.args.task _ c.self.invariant.kept c.kill_task.ensures.killed).whole.places)
 
 pub returns-clause-places : goal.returns-clause-places
 returns-clause-places c = (invariant_of-self c).kept.whole.places
+
+pub returns-clause-listed : goal.returns-clause-listed
+returns-clause-listed c = rw (← c.self.view_is) record {
+  waits = left_seen c.sweep_task.new.by_koid.entries c.self.inside.waits.entries.items c.sweep_task.new.waits.entries.items c.sweep_task.ensures.entries;
+  made = c.sweep_task.ensures.made;
+  asleep = (refl, refl);
+}

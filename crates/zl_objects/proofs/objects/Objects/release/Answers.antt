@@ -9,6 +9,7 @@ use Rattle.zl_objects.proofs.Kept.{left_kept, less_kept}
 use Rattle.zl_objects.proofs.Law.{leaves_largest}
 use Rattle.zl_objects.proofs.Listed.{all_seen, same_listed}
 use Rattle.zl_objects.proofs.Released.{left_by, released, starts, waits_left}
+use Rattle.zl_objects.proofs.Unlisted.{left_seen}
 use Rattle.zl_objects.proofs.objects.Objects.release.Goals as goal
 
 pub let_go-requires : goal.let_go-requires
@@ -17,9 +18,14 @@ let_go-requires c = record {
       c.self.invariant.kept.whole;
 }
 
-pub remove_dying-ended-requires : goal.remove_dying-ended-requires
-remove_dying-ended-requires c = record {
+pub remove_dying-requires : goal.remove_dying-requires
+remove_dying-requires c = record {
   indexed = kept_indexed held_once_less keeps_less c.args.koid c.self.invariant.indexed c.let_go.ensures.objects;
+  registered = record {
+    listed = same_listed _ c.self.inside.by_koid.entries c.let_go.new.by_koid.entries
+        (less_still c.self.inside.by_koid.entries c.let_go.new.by_koid.entries c.args.koid c.let_go.ensures.objects).waits c.self.invariant.kept.listed;
+    places = c.let_go.ensures.goes.places c.self.invariant.kept.whole.places;
+  };
   fits = omega (
     arith,
     starts c.self.inside.by_koid.entries c.self.inside.next_koid (vec_capacity c.self.inside.dying) c.self.inside.dying.items c.self.invariant.kept.whole,
@@ -28,47 +34,46 @@ remove_dying-ended-requires c = record {
   );
 }
 
-pub keep_there-requires : goal.keep_there-requires
-keep_there-requires c = record {
-  places = c.remove_dying-ended.ensures.goes.places (c.let_go.ensures.goes.places c.self.invariant.kept.whole.places);
-  listed = λ none. same_listed _ c.self.inside.by_koid.entries c.remove_dying-ended.new.by_koid.entries
-      (λ k. c.remove_dying-ended.ensures.waits none k
-      ∙ (less_still c.self.inside.by_koid.entries c.let_go.new.by_koid.entries c.args.koid c.let_go.ensures.objects).waits k) c.self.invariant.kept.listed;
-}
-
 pub invariant_of-self-2 : goal.invariant_of-self-2
 invariant_of-self-2 c =
-    let went : LetsGo (c.args.koid ∷ []) c.self.inside.by_koid.entries c.self.inside.dying.items c.remove_dying-ended.new.by_koid.entries
-    c.remove_dying-ended.new.dying.items = both_went (c.args.koid ∷ []) [] _ _ _ _ _ _ c.let_go.ensures.goes c.remove_dying-ended.ensures.goes in
+    let went : LetsGo (c.args.koid ∷ []) c.self.inside.by_koid.entries c.self.inside.dying.items c.remove_dying.new.by_koid.entries
+    c.remove_dying.new.dying.items = both_went (c.args.koid ∷ []) [] _ _ _ _ _ _ c.let_go.ensures.goes c.remove_dying.ensures.goes in
     record {
-      kept = left_kept (left_by went) c.self.invariant.kept c.remove_dying-ended.ensures.none
-          (c.remove_dying-ended.ensures.capacity ∙ c.let_go.ensures.capacity) c.keep_there.ensures.entries;
-      calm = c.remove_dying-ended.ensures.calm _ _ ((less_still c.self.inside.by_koid.entries c.let_go.new.by_koid.entries c.args.koid
+      kept = left_kept (left_by went) c.self.invariant.kept c.remove_dying.ensures.none
+          (c.remove_dying.ensures.capacity ∙ c.let_go.ensures.capacity) c.remove_dying.ensures.entries;
+      calm = c.remove_dying.ensures.calm _ _ ((less_still c.self.inside.by_koid.entries c.let_go.new.by_koid.entries c.args.koid
           c.let_go.ensures.objects).calm _ _ _
           c.self.invariant.calm);
-      indexed = c.remove_dying-ended.ensures.indexed;
+      indexed = c.remove_dying.ensures.indexed;
     }
 
 pub returns-clause-releases : goal.returns-clause-releases
 returns-clause-releases c =
-    let went : LetsGo (c.args.koid ∷ []) c.self.inside.by_koid.entries c.self.inside.dying.items c.remove_dying-ended.new.by_koid.entries
-    c.remove_dying-ended.new.dying.items = both_went (c.args.koid ∷ []) [] _ _ _ _ _ _ c.let_go.ensures.goes c.remove_dying-ended.ensures.goes in
+    let went : LetsGo (c.args.koid ∷ []) c.self.inside.by_koid.entries c.self.inside.dying.items c.remove_dying.new.by_koid.entries
+    c.remove_dying.new.dying.items = both_went (c.args.koid ∷ []) [] _ _ _ _ _ _ c.let_go.ensures.goes c.remove_dying.ensures.goes in
     rw (← c.self.view_is)
-    (released (c.args.koid ∷ []) [] c.self.inside.by_koid.entries c.remove_dying-ended.new.by_koid.entries c.self.inside.next_koid c.self.inside.waits.made _
-    (map listed_value c.self.inside.waits.entries.items) _ c.self.inside.dying.items c.remove_dying-ended.new.dying.items went c.self.invariant.kept.whole.none
-    c.remove_dying-ended.ensures.none)
+    (released (c.args.koid ∷ []) [] c.self.inside.by_koid.entries c.remove_dying.new.by_koid.entries c.self.inside.next_koid c.self.inside.waits.made _
+    (map listed_value c.self.inside.waits.entries.items) _ c.self.inside.dying.items c.remove_dying.new.dying.items went c.self.invariant.kept.whole.none
+    c.remove_dying.ensures.none)
 
 pub returns-clause-largest : goal.returns-clause-largest
 returns-clause-largest c = leaves_largest (c.args.koid ∷ []) [] c.args.self.now _ (returns-clause-releases c)
 
 pub returns-clause-waits : goal.returns-clause-waits
 returns-clause-waits c =
-    let went : LetsGo (c.args.koid ∷ []) c.self.inside.by_koid.entries c.self.inside.dying.items c.remove_dying-ended.new.by_koid.entries
-    c.remove_dying-ended.new.dying.items = both_went (c.args.koid ∷ []) [] _ _ _ _ _ _ c.let_go.ensures.goes c.remove_dying-ended.ensures.goes in
+    let went : LetsGo (c.args.koid ∷ []) c.self.inside.by_koid.entries c.self.inside.dying.items c.remove_dying.new.by_koid.entries
+    c.remove_dying.new.dying.items = both_went (c.args.koid ∷ []) [] _ _ _ _ _ _ c.let_go.ensures.goes c.remove_dying.ensures.goes in
     rw (← c.self.view_is) (waits_left (left_by went) c.self.invariant.kept.whole.places)
 
 pub returns-clause-places : goal.returns-clause-places
 returns-clause-places c = (invariant_of-self-2 c).kept.whole.places
+
+pub returns-clause-listed : goal.returns-clause-listed
+returns-clause-listed c = rw (← c.self.view_is) record {
+  waits = left_seen c.remove_dying.new.by_koid.entries c.self.inside.waits.entries.items c.remove_dying.new.waits.entries.items c.remove_dying.ensures.entries;
+  made = c.remove_dying.ensures.made;
+  asleep = (refl, refl);
+}
 
 -- ---- another handle names the object, and nothing goes
 

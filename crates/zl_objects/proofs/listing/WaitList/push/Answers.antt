@@ -1,15 +1,17 @@
 use Rattle.zl_rights.proofs.Common.{arith, ◌<◌, ◌+◌}
 use Rattle.std.proofs.lemmas.List.Elements.{All-push, All-weaker}
 use Rattle.zl_objects.specs.Listed.{entry_of}
+use Rattle.zl_objects.proofs.PortWaits.{pushed_found}
 use Rattle.zl_objects.proofs.Rising.{rises_last}
-use Rattle.zl_objects.proofs.listing.WaitList.push_reserved.Goals as goal
+use Rattle.zl_objects.proofs.listing.WaitList.push.Goals as goal
 
-pub invariant_of-self : goal.invariant_of-self
-invariant_of-self c =
+pub invariant_of-self-2 : goal.invariant_of-self-2
+invariant_of-self-2 c =
     let made = c.args.self.now.made in
     let xs = c.args.self.now.entries.items in
-    rw (c.push_back_reserved.ensures.items) record {
+    rw (c.push_back_reserved.ensures.items, c.reserve.ensures.items) record {
       rising = rises_last made c.args.wait xs c.args.self.now.rising c.args.self.now.below;
       below = All-push (λ x. x.order < made + 1) xs (entry_of made c.args.wait)
           (All-weaker (λ x. x.order < made) (λ x. x.order < made + 1) (λ x less. omega (arith, less)) xs c.args.self.now.below) (omega arith);
+      found = pushed_found c.args.self.now.by_port xs c.args.self.now.found c.add.new.self made c.args.wait c.in_ok-add.ensures.added;
     }

@@ -10,7 +10,7 @@ pub mod Ports
 pub mod Waits
 pub mod Listed
 pub mod Awaited
-pub mod Asleep
 pub mod Calm
+pub mod Sleepers
 pub mod Index
 pub mod Due

@@ -3,6 +3,8 @@ pub mod BlockedLists
 pub mod Sleeping
 pub mod Woken
 pub mod WakeLoop
-pub mod Only
+pub mod Exchange
+pub mod Listed
+pub mod Ordered
 pub mod StillBlocked
 pub mod Quiet

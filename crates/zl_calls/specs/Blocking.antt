@@ -1,8 +1,9 @@
 -- Who blocks in a step. No public clause cites this module.
-use Rattle.std.specs.Prelude.{ℕ, ◌≡◌, ◌==◌, Bool, true, false, List, [], ◌∷◌, ◌++◌, Option, Some, None, map}
+use Rattle.std.specs.Prelude.{ℕ, ◌≡◌, ◌⊎◌, IsTrue, Bool, true, false, List, [], ◌∷◌, ◌++◌, Option, Some, None, map}
 use Rattle.zl_rights.specs.Map.{get}
 use Rattle.zl_rights.specs.World.{Process as ProcessValue, State, Blocked}
-use Rattle.zl_objects.specs.Awaited.{Seeks}
+use Rattle.zl_objects.specs.Awaited.{KeepSleepers, Seeks}
+use Rattle.zl_objects.specs.Sleepers.{IsUnlisted, ListsLast}
 use Rattle.zl_objects.specs.Objects.{Objects}
 use Rattle.zl_objects.specs.declared.awaited.Awaited.{Awaited}
 use Rattle.zl_calls.specs.declared.process.Process.{Process}
@@ -32,10 +33,16 @@ abbrev pub awaited_by : Option ProcessValue → Option Awaited
 awaited_by None = None
 awaited_by (Some p) = awaited_in p.state
 
+-- the process comes to be listed for this, the last of its port, or perhaps not all are listed
+abbrev pub ComesLast : ℕ → Objects → Objects → Awaited → Type 0
+ComesLast pid r r2 a = IsTrue r2.crowded ⊎ ((r2.crowded ≡ r.crowded) × IsUnlisted pid a r.sleepers × ListsLast pid a r.sleepers r2.sleepers)
+
 -- but for what the process waits for, all is as before, and if the item tells that it blocked, that is known too
 pub record FallsAsleep (ps : List Process) (pid : ℕ) (x : TraceItem) (r r2 : Objects) : Type 0 where
   pub beside : AreBeside r r2
   pub waits : r2.waits ≡ r.waits
   pub made : r2.waits_made ≡ r.waits_made
-  pub others : (q : ℕ) (a : Awaited) → (q == pid) ≡ false → Seeks r q a → Seeks r2 q a
+  pub others : (q : ℕ) (a : Awaited) → Seeks r q a → Seeks r2 q a
   pub itself : tells_asleep x ≡ true → (a : Awaited) → awaited_by (get (map process_entry ps) pid) ≡ Some a → Seeks r2 pid a
+  pub same : tells_asleep x ≡ false → KeepSleepers r r2
+  pub last : tells_asleep x ≡ true → (a : Awaited) → awaited_by (get (map process_entry ps) pid) ≡ Some a → ComesLast pid r r2 a

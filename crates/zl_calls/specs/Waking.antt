@@ -1,12 +1,15 @@
 -- How blocked processes wake. No public clause cites this module.
-use Rattle.std.specs.Prelude.{ℕ, ◌≡◌, Bool, false, not, ◌==◌, List, [], ◌∷◌, length, map, Option, Some, None, if◌then◌else◌, slice_get}
+use Rattle.std.specs.Prelude.{ℕ, ◌≡◌, ◌<◌, ◌^◌, Bool, true, false, not, ◌==◌, List, [], ◌∷◌, length, map, Option, Some, None, if◌then◌else◌, slice_get, IsTrue}
 use Rattle.std.specs.Bool.{then_some}
-use Rattle.std.specs.List.{filter}
+use Rattle.std.specs.List.{All, filter, fold}
 use Rattle.std.specs.Option.{option_map}
 use Rattle.zl_code.specs.Common.{answered, get}
 use Rattle.zl_rights.specs.Numbers.{meets}
 use Rattle.zl_rights.specs.Wakes.{packet_values, woken}
-use Rattle.zl_rights.specs.World.{Awaited as AwaitedValue, Process as ProcessValue, State, Blocked, SignalOf, PacketAt}
+use Rattle.zl_rights.specs.World.{Process as ProcessValue, State, Blocked, SignalOf, PacketAt}
+use Rattle.zl_code.specs.Sound.{is_blocked}
+use Rattle.zl_objects.specs.declared.awaited.Sleeper.{Sleeper}
+use Rattle.zl_objects.specs.Awaited.{KeepSleepers}
 use Rattle.zl_objects.specs.Calm.{is_due}
 use Rattle.zl_objects.specs.Objects.{Objects}
 use Rattle.zl_objects.specs.Ports.{changing_port, packets_in}
@@ -14,9 +17,12 @@ use Rattle.zl_objects.specs.Signals.{signals_at}
 use Rattle.zl_port.specs.Packets.{without_front}
 use Rattle.zl_calls.specs.declared.process.State.TheVariants as state
 use Rattle.zl_calls.specs.declared.process.Process.{Process}
-use Rattle.zl_calls.specs.World.{awaited_of, process_entry, state_value, world_blocked}
+use Rattle.zl_calls.specs.World.{process_entry, state_value, world_blocked}
 use Rattle.zl_calls.specs.Consistent.{IsConsistent}
-use Rattle.zl_calls.specs.Blocked.{AreBlocked}
+use Rattle.zl_calls.specs.Blocked.{AreBlocked, AreOrdered, AreSought}
+use Rattle.zl_calls.specs.Blocking.{awaited_by}
+use Rattle.zl_calls.specs.Woke.{HaveLeft}
+use Rattle.zl_calls.specs.declared.waking.Woke.{Woke}
 
 -- ---- one process
 
@@ -49,11 +55,6 @@ abbrev pub without_taken : State → Objects → Objects
 without_taken (Blocked (PacketAt port) destinations) r = changing_port r port without_front
 without_taken _ r = r
 
--- what the process waits for isn't there, if it is blocked
-abbrev pub IsIdle : List Process → Objects → ℕ → Type 0
-IsIdle ps r k = (p : ProcessValue) (a : AwaitedValue) (destinations : List ℕ) → get (map process_entry ps) k ≡ Some p → p.state ≡ Blocked a destinations
-    → is_due r.objects (awaited_of a) ≡ false
-
 -- ---- the list
 
 -- the list without the process, if that woke
@@ -66,3 +67,24 @@ pub record WakesOne (pid : ℕ) (woke : Bool) (ps : List Process) (r : Objects) 
   pub list : (blocked : List ℕ) → AreBlocked ps blocked → AreBlocked ps2 (unless_woke woke pid blocked)
   pub consistent : IsConsistent ps2 r2
   pub count : length ps2 ≡ length ps
+
+-- each blocked process stands at an instruction
+abbrev pub HaveCounters : List Process → Type 0
+HaveCounters ps = (k : ℕ) (p : ProcessValue) → get (map process_entry ps) k ≡ Some p → IsTrue (is_blocked p.state) → p.cpu.counter < 2 ^ 32
+
+-- the process woke, which was blocked on what it was listed for; or it wasn't, and nothing changed
+abbrev pub WakesSleeper : Sleeper → Bool → List Process → Objects → List Process → Objects → Type 0
+WakesSleeper s woke ps r ps2 r2 =
+    if woke then (awaited_by (get (map process_entry ps) s.pid) ≡ Some s.awaited) × WakesOne s.pid true ps r ps2 r2 × KeepSleepers r r2
+    else (awaited_by (get (map process_entry ps) s.pid) ≡ Some s.awaited → ⊥) × (ps2 ≡ ps) × (r2 ≡ r)
+
+-- each blocked process had its turn, in the order of the list, and these woke; nobody is listed for whom what it waits for is there
+pub record Wakes (ps : List Process) (r : Objects) (blocked : List ℕ) (w : Woke) (ps2 : List Process) (r2 : Objects) (blocked2 : List ℕ) : Type 0 where
+  pub wakes : world_blocked ps2 r2 blocked2 ≡ fold woken (world_blocked ps r blocked) blocked
+  pub consistent : IsConsistent ps2 r2
+  pub list : AreBlocked ps2 blocked2
+  pub sought : AreSought ps2 r2
+  pub ordered : AreOrdered ps2 r2 blocked2
+  pub count : length ps2 ≡ length ps
+  pub none_due : All (λ s. is_due r2.objects s.awaited ≡ false) r2.sleepers
+  pub told : HaveLeft blocked w blocked2

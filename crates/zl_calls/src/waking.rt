@@ -1,31 +1,32 @@
 //! The list of the blocked processes: how a process comes into it, and how, after each step, those
 //! become ready whose wait is over, in the order in which they blocked.
 
-ghost use Rattle.std.specs.Prelude.{ℕ, ◌≡◌, ◌==◌, ◌<◌, ◌≤◌, ◌^◌, false, Some, length, map, is_some, slice_get, vec_capacity};
-ghost use Rattle.std.specs.List.{fold};
+ghost use Rattle.std.specs.Prelude.{◌≡◌, ◌==◌, ◌<◌, ◌≤◌, ◌^◌, not, false, Some, IsTrue, length, map, is_some, slice_get, vec_capacity};
+ghost use Rattle.std.specs.List.{filter, fold, position};
 ghost use Rattle.std.specs.Option.{option_map};
 ghost use Rattle.zl_rights.specs.Map.{get};
 ghost use Rattle.zl_rights.specs.Numbers.{meets};
 ghost use Rattle.zl_rights.specs.Wakes.{packet_values, woken};
+ghost use Rattle.zl_objects.specs.declared.awaited.Awaited.{Awaited as AwaitedValue};
+ghost use Rattle.zl_objects.specs.Awaited.{KeepSleepers};
+ghost use Rattle.zl_objects.specs.Calm.{is_due};
 ghost use Rattle.zl_objects.specs.Ports.{changing_port, packets_in};
 ghost use Rattle.zl_objects.specs.Signals.{signals_at};
 ghost use Rattle.zl_port.specs.Packets.{without_front};
-ghost use Rattle.zl_calls.specs.Blocked.{AreBlocked, AreSought};
-ghost use Rattle.zl_objects.specs.Awaited.{KeepSleepers};
+ghost use Rattle.zl_calls.specs.Blocked.{AreBlocked, AreOrdered, AreSought, StandInOrder};
 ghost use Rattle.zl_calls.specs.Blocking.{FallsAsleep, awaited_by, tells_asleep, then_blocked};
 ghost use Rattle.zl_calls.specs.Consistent.{IsConsistent};
-ghost use Rattle.zl_calls.specs.Waking.{IsIdle, WakesOne, awake, awake_in, given_awake, seen_active, without_taken};
+ghost use Rattle.zl_calls.specs.Waking.{Wakes, WakesOne, WakesSleeper, HaveCounters, awake, awake_in, given_awake, seen_active, without_taken};
 ghost use Rattle.zl_calls.specs.Woke.{HaveLeft, and_one};
 ghost use Rattle.zl_rights.specs.World.{Process as ProcessValue};
 ghost use Rattle.zl_calls.specs.Calling.{world_in};
 ghost use Rattle.zl_calls.specs.World.{packet_registers, process_entry, signal_registers, state_value};
 
-use crate::calls::kill::is_blocked;
 use crate::process::{Process, Registers, State};
 use crate::processes::Processes;
 use bitflags::Flags;
 use zl_code::{Outcome, TraceItem};
-use zl_objects::{Asleep, Awaited, Objects};
+use zl_objects::{Awaited, Objects, Sleeper};
 use zl_rights::{Koid, Pid};
 
 /// Who woke behind a step.
@@ -88,60 +89,82 @@ fn awaited_by(processes: &Processes, pid: Pid) -> Option<Awaited>
 }
 
 /// Each blocked process in turn, the longest blocked first: where what it waits for is there, it
-/// gets its answer and leaves the list. It tells who did, looks at no other process where one alone
-/// may wake, and takes no memory.
+/// gets its answer and leaves the list. It tells who did, looks at those alone that are listed at
+/// touched objects, unless not all are listed, and takes no memory.
 #[inline(always)]
 pub fn wake(processes: &mut Processes, objects: &mut Objects, blocked: &mut Vec<Pid>) -> Woke
     requires consistent { IsConsistent processes.old.list.items objects.old }
     requires list { AreBlocked processes.old.list.items blocked.old.items }
     requires sought { AreSought processes.old.list.items objects.old }
-    ensures wakes { world_in processes.new objects.new blocked.new
-        ≡ fold woken (world_in processes.old objects.old blocked.old) blocked.old.items }
-    ensures consistent { IsConsistent processes.new.list.items objects.new }
-    ensures list { AreBlocked processes.new.list.items blocked.new.items }
-    ensures count { length processes.new.list.items ≡ length processes.old.list.items }
+    requires ordered { AreOrdered processes.old.list.items objects.old blocked.old.items }
+    ensures { Wakes processes.old.list.items objects.old blocked.old.items result
+        processes.new.list.items objects.new blocked.new.items }
     ensures capacity { vec_capacity blocked.new ≡ vec_capacity blocked.old }
-    ensures asleep { KeepSleepers objects.old objects.new }
-    ensures told { HaveLeft blocked.old.items result blocked.new.items }
 {
-    match objects.may_wake() {
-        Asleep::Nobody => Woke::Nobody,
-        Asleep::One(pid) => wake_only(processes, objects, blocked, pid),
-        Asleep::Several => wake_each(processes, objects, blocked),
+    if objects.is_crowded() {
+        let woke = wake_each(processes, objects, blocked);
+        objects.forget_sleepers();
+        return woke;
     }
+    wake_listed(processes, objects, blocked)
 }
 
-/// The same where no other process than this one may wake.
-fn wake_only(
-    processes: &mut Processes,
-    objects: &mut Objects,
-    blocked: &mut Vec<Pid>,
-    pid: Pid,
-) -> Woke
+/// The same where all are listed: those that may wake are taken off the list one after another.
+fn wake_listed(processes: &mut Processes, objects: &mut Objects, blocked: &mut Vec<Pid>) -> Woke
     requires consistent { IsConsistent processes.old.list.items objects.old }
     requires list { AreBlocked processes.old.list.items blocked.old.items }
-    requires others { (k : ℕ) → (k == pid) ≡ false
-        → IsIdle processes.old.list.items objects.old k }
-    ensures wakes { world_in processes.new objects.new blocked.new
-        ≡ fold woken (world_in processes.old objects.old blocked.old) blocked.old.items }
-    ensures consistent { IsConsistent processes.new.list.items objects.new }
-    ensures list { AreBlocked processes.new.list.items blocked.new.items }
-    ensures count { length processes.new.list.items ≡ length processes.old.list.items }
+    requires sought { AreSought processes.old.list.items objects.old }
+    requires ordered { StandInOrder processes.old.list.items objects.old blocked.old.items }
+    requires all { objects.old.crowded ≡ false }
+    ensures { Wakes processes.old.list.items objects.old blocked.old.items result
+        processes.new.list.items objects.new blocked.new.items }
     ensures capacity { vec_capacity blocked.new ≡ vec_capacity blocked.old }
-    ensures asleep { KeepSleepers objects.old objects.new }
-    ensures told { HaveLeft blocked.old.items result blocked.new.items }
 {
-    if !is_blocked(processes, pid) {
-        return Woke::Nobody;
+    let mut woke = Woke::Nobody;
+    while let Some(sleeper) = objects.take_due() {
+        if wake_sleeper(processes, objects, &sleeper) {
+            remove_pid(blocked, sleeper.pid);
+            woke = and_one(woke, sleeper.pid);
+        }
     }
-    if !wake_one(processes, objects, pid) {
-        return Woke::Nobody;
-    }
-    blocked.retain(|other| *other != pid);
-    Woke::One(pid)
+    woke
 }
 
-/// The same, where several may wake.
+/// The process wakes, if it is blocked on what it was listed for, which is there; whether it did.
+fn wake_sleeper(processes: &mut Processes, objects: &mut Objects, sleeper: &Sleeper) -> bool
+    requires consistent { IsConsistent processes.old.list.items objects.old }
+    requires counters { HaveCounters processes.old.list.items }
+    requires due { IsTrue (is_due objects.old.objects sleeper.now.awaited) }
+    ensures { WakesSleeper sleeper.now result
+        processes.old.list.items objects.old processes.new.list.items objects.new }
+{
+    match awaited_by(processes, sleeper.pid) {
+        Some(awaited) => {
+            awaited.is_same(&sleeper.awaited) && wake_one(processes, objects, sleeper.pid)
+        }
+        None => false,
+    }
+}
+
+/// The process leaves the list, in which it stands once.
+fn remove_pid(blocked: &mut Vec<Pid>, pid: Pid)
+    requires { length (filter (λ k. k == pid) blocked.old.items) ≤ 1 }
+    ensures items { blocked.new.items ≡ filter (λ k. not (k == pid)) blocked.old.items }
+    ensures capacity { vec_capacity blocked.new ≡ vec_capacity blocked.old }
+{
+    if let Some(place) = place_of(blocked, pid) {
+        blocked.remove(place);
+    }
+}
+
+/// Where the process stands in the list.
+fn place_of(blocked: &[Pid], pid: Pid) -> Option<usize>
+    ensures { result ≡ position (λ k. k == pid) blocked.now }
+{
+    blocked.iter().position(|other| *other == pid)
+}
+
+/// The same, where perhaps not all are listed: each has its turn.
 fn wake_each(processes: &mut Processes, objects: &mut Objects, blocked: &mut Vec<Pid>) -> Woke
     requires consistent { IsConsistent processes.old.list.items objects.old }
     requires list { AreBlocked processes.old.list.items blocked.old.items }
@@ -187,6 +210,9 @@ fn wake_one(processes: &mut Processes, objects: &mut Objects, pid: Pid) -> bool
         → p.cpu.counter < 2 ^ 32 }
     ensures wakes { WakesOne pid result
         processes.old.list.items objects.old processes.new.list.items objects.new }
+    ensures due { (a : AwaitedValue)
+        → awaited_by (get (map process_entry processes.old.list.items) pid) ≡ Some a
+        → result ≡ is_due objects.old.objects a }
     ensures asleep { KeepSleepers objects.old objects.new }
 {
     match processes.place_of(pid) {

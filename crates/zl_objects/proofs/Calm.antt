@@ -12,15 +12,12 @@ use Rattle.zl_rights.specs.Signals.{signal_if}
 use Rattle.zl_table.proofs.MapEdits.{has_key-update}
 use Rattle.zl_signals.specs.declared.watch.Watch.{Watch}
 use Rattle.zl_signals.specs.Waits.{holds}
-use Rattle.zl_objects.specs.declared.awaited.Asleep.{Asleep}
-use Rattle.zl_objects.specs.declared.awaited.Asleep.TheVariants as asleep
 use Rattle.zl_objects.specs.declared.awaited.Awaited.{Awaited}
 use Rattle.zl_objects.specs.declared.awaited.Awaited.TheVariants as awaits
 use Rattle.zl_objects.specs.declared.awaited.Sleeper.{Sleeper}
 use Rattle.zl_objects.specs.declared.object.Body.{Body}
 use Rattle.zl_objects.specs.declared.object.Body.TheVariants as body
 use Rattle.zl_objects.specs.declared.object.Object.{Object}
-use Rattle.zl_objects.specs.Asleep.{is_anybody, may_be}
 use Rattle.zl_objects.specs.Awaited.{koid_of}
 use Rattle.zl_objects.specs.Calm.{IsAtRest, IsCalm, NoneHolds, has_packet, is_due, is_given, is_watched}
 use Rattle.zl_objects.specs.Index.{above_of}
@@ -28,7 +25,13 @@ use Rattle.zl_objects.specs.Jobs.{has_job_below, has_process_below, is_job_below
 use Rattle.zl_objects.specs.Objects.{peer_of}
 use Rattle.zl_objects.specs.Signals.{implied, signals_at, signals_in}
 use Rattle.zl_objects.proofs.Bodies.{Changed, changed}
-use Rattle.zl_objects.proofs.Joined.{StayAsleep, as_asleep}
+
+-- where a process may be blocked, one still may
+abbrev pub StayAsleep : Bool → Bool → Type 0
+StayAsleep a a2 = IsTrue a → IsTrue a2
+
+pub as_asleep : {a a2 : Bool} → a2 ≡ a → StayAsleep a a2
+as_asleep same h = same ∙ h
 
 -- ---- signals
 
@@ -98,7 +101,7 @@ none_hold s s2 fewer (x ∷ ws) h = by_test (holds s x) refl h (λ rest. none_ho
 -- nothing of what waits at it comes to be due, where these signals are active and these packets are there
 pub record Stays (s s2 : ℕ) (packets packets2 : Bool) (o o2 : Object) : Type 0 where
   pub holds : NoneHolds s o → NoneHolds s2 o2
-  pub gives : (a : Awaited) (pid : ℕ) → IsTrue (may_be o.asleep pid) → is_given s packets a ≡ false → is_given s2 packets2 a ≡ false
+  pub gives : (a : Awaited) → IsTrue o.asleep → is_given s packets a ≡ false → is_given s2 packets2 a ≡ false
 
 -- no signal comes on and no packet comes, and no wait
 pub stays_fewer : (s s2 : ℕ) (packets packets2 : Bool) (o o2 : Object) → IsFewer s2 s → (packets ≡ false → packets2 ≡ false)
@@ -108,17 +111,17 @@ stays_fewer s s2 packets packets2 o o2 fewer quiet shorter = record {
   gives = gives;
 }
   where
-    gives : (a : Awaited) (pid : ℕ) → IsTrue (may_be o.asleep pid) → is_given s packets a ≡ false → is_given s2 packets2 a ≡ false
-    gives (awaits.SignalOf k mask) pid slept h = fewer mask h
-    gives (awaits.PacketAt k) pid slept h = quiet h
+    gives : (a : Awaited) → IsTrue o.asleep → is_given s packets a ≡ false → is_given s2 packets2 a ≡ false
+    gives (awaits.SignalOf k mask) slept h = fewer mask h
+    gives (awaits.PacketAt k) slept h = quiet h
 
 -- nothing waits at it
 pub stays_unwatched : (s s2 : ℕ) (packets packets2 : Bool) (o o2 : Object) → StayAsleep o.asleep o2.asleep → is_watched o2 ≡ false → Stays s s2 packets
     packets2 o o2
 stays_unwatched s s2 packets packets2 o o2 same none =
     record {
-      holds = λ h. no_waits o2.signals.waits (is_anybody o2.asleep) none;
-      gives = λ a pid h given. absurd (false≢true (nobody pid o2.asleep none (same pid h)));
+      holds = λ h. no_waits o2.signals.waits o2.asleep none;
+      gives = λ a h given. absurd (false≢true (sym (or_first o2.asleep (not (is_empty o2.signals.waits)) none) ∙ same h));
     }
   where
     no_waits : (ws : List Watch) (b : Bool) → (b || not (is_empty ws)) ≡ false → list_any (holds s2) ws ≡ false
@@ -126,9 +129,9 @@ stays_unwatched s s2 packets packets2 o o2 same none =
     no_waits (x ∷ ws) true h = absurd (false≢true (sym h))
     no_waits (x ∷ ws) false h = absurd (false≢true (sym h))
 
-    nobody : (pid : ℕ) (a : Asleep) → (is_anybody a || not (is_empty o2.signals.waits)) ≡ false → IsTrue (may_be a pid) → false ≡ true
-    nobody pid asleep.Nobody h is = is
-    nobody pid _ h is = sym h
+    or_first : (a b : Bool) → (a || b) ≡ false → a ≡ false
+    or_first false b h = refl
+    or_first true b h = h
 
 -- ---- all objects
 
@@ -161,17 +164,17 @@ module _ (marked marked2 : ℕ → Bool) (m m2 : Map Object) where
       one : (s : Sleeper) → IsAtRest marked m next s → IsAtRest marked2 m2 next2 s
       one s rest = record { given = omega (arith, rest.given, later); known = known; calm = λ unmarked. by_object (get m2 (koid_of s.awaited)) refl unmarked }
         where
-          known_by : (o2 : Object) → Follows (koid_of s.awaited) o2 ⊎ IsNew next (koid_of s.awaited) o2 → IsTrue (may_be o2.asleep s.pid)
-          known_by o2 (inl f) = f.asleep s.pid (rest.known f.before f.there)
+          known_by : (o2 : Object) → Follows (koid_of s.awaited) o2 ⊎ IsNew next (koid_of s.awaited) o2 → IsTrue o2.asleep
+          known_by o2 (inl f) = f.asleep (rest.known f.before f.there)
           known_by o2 (inr new) = absurd (omega (arith, rest.given, new.later))
 
-          known : (o2 : Object) → get m2 (koid_of s.awaited) ≡ Some o2 → IsTrue (may_be o2.asleep s.pid)
+          known : (o2 : Object) → get m2 (koid_of s.awaited) ≡ Some o2 → IsTrue o2.asleep
           known o2 at = known_by o2 (follows (koid_of s.awaited) o2 at)
 
           calm_by : (o2 : Object) → marked2 (koid_of s.awaited) ≡ false → Follows (koid_of s.awaited) o2 ⊎ IsNew next (koid_of s.awaited) o2
               → is_due m2 s.awaited ≡ false
           calm_by o2 unmarked (inl f) =
-              (f.still unmarked).gives s.awaited s.pid (rest.known f.before f.there) (rest.calm (less (koid_of s.awaited) unmarked))
+              (f.still unmarked).gives s.awaited (rest.known f.before f.there) (rest.calm (less (koid_of s.awaited) unmarked))
           calm_by o2 unmarked (inr new) = absurd (omega (arith, rest.given, new.later))
 
           by_object : (q : Option Object) → get m2 (koid_of s.awaited) ≡ q → marked2 (koid_of s.awaited) ≡ false → is_due m2 s.awaited ≡ false
@@ -244,7 +247,7 @@ module _ (f : Object → Object) where
             record {
               before = c.before;
               there = c.there;
-              asleep = λ pid h. ap (λ (x : Object). may_be x.asleep pid) written ∙ keeps.asleep c.before pid h;
+              asleep = λ h. ap (λ (x : Object). x.asleep) written ∙ keeps.asleep c.before h;
               unmarked = fewer_unmarked marked marked2 more j;
               still = λ unmarked. rw (signals_updated m k j (Some o2) at, at, c.there, written, sym key)
                   (stays c.before (rw key c.there) (rw key unmarked));

@@ -32,7 +32,7 @@ use Rattle.zl_objects.proofs.ByKoid.{looked_up, written, written_back}
 use Rattle.zl_objects.proofs.Calm.{IsFewer, Keeps, Stays, calm_followed, fewer_both, fewer_if, fewer_same, fewer_unmarked, stays_fewer}
 use Rattle.zl_objects.proofs.Calm.{stays_unwatched}
 use Rattle.zl_objects.proofs.Calm.{updated_calm}
-use Rattle.zl_objects.proofs.Joined.{StayAsleep, as_asleep}
+use Rattle.zl_objects.proofs.Calm.{StayAsleep, as_asleep}
 use Rattle.zl_objects.proofs.Places.{first_out, seen_updated}
 use Rattle.zl_objects.proofs.Tasks.{policy_same, started_same}
 use Rattle.zl_objects.proofs.Whole.{more_quiet, more_same, received_same, same_above, same_peer, sent_same}
@@ -79,7 +79,7 @@ more_stays = quiet_body held_once_more more_same (λ o. ap (λ (s : SignalState)
     (λ o test h. ap (λ (s : SignalState). list_any test s.waits) (more_quiet o) ∙ h)
 
 pub keeps_less : Keeps held_once_less
-keeps_less = keeps_body held_once_less (λ o pid h. h) (λ o. refl)
+keeps_less = keeps_body held_once_less (λ o h. h) (λ o. refl)
 
 pub less_stays : IsQuiet held_once_less
 less_stays = quiet_body held_once_less (λ o. refl) (λ o. refl) (λ o test h. h)
@@ -109,7 +109,7 @@ none_out test out (x ∷ ws) h = by_test (test x) refl (out x) refl h (λ rest. 
     by_test false is false which h later = rw (first_out out x ws, which, is) (later h)
 
 pub keeps_unwatched : (out : Watch → Bool) → Keeps (unwatched out)
-keeps_unwatched out = keeps_body (unwatched out) (λ o pid h. h) (λ o. refl)
+keeps_unwatched out = keeps_body (unwatched out) (λ o h. h) (λ o. refl)
 
 pub unwatched_stays : (out : Watch → Bool) → IsQuiet (unwatched out)
 unwatched_stays out = quiet_body (unwatched out) (λ o. refl) (λ o. refl) (λ o test h. none_out test out o.signals.waits h)
@@ -132,7 +132,7 @@ keeps_bodies : (g : Body → Body) → ((j : ℕ) (b : Body) → is_job_below j 
     → ((j : ℕ) (b : Body) → is_process_below j (g b) ≡ is_process_below j b) → ((b : Body) → peer_of (g b) ≡ peer_of b)
     → ((b : Body) → above_of (g b) ≡ above_of b) → Keeps (λ o. record o { body = g o.body })
 keeps_bodies g jobs processes peer above =
-    record { asleep = λ o pid h. h; jobs = λ j o. jobs j o.body; processes = λ j o. processes j o.body; peer = λ o. peer o.body; above = λ o. above o.body }
+    record { asleep = λ o h. h; jobs = λ j o. jobs j o.body; processes = λ j o. processes j o.body; peer = λ o. peer o.body; above = λ o. above o.body }
 
 bodies_stay : (g : Body → Body) → IsQuietBody g → IsQuiet (λ o. record o { body = g o.body })
 bodies_stay g quiet m k o =
@@ -264,7 +264,7 @@ some_out test (x ∷ xs) h = absurd (false≢true (sym h))
 -- ---- what changes is marked, if something waits there
 
 pub keeps_changed : (clear set : ℕ) → Keeps (raised_changed clear set)
-keeps_changed clear set = keeps_body (raised_changed clear set) (λ o pid h. h) (λ o. refl)
+keeps_changed clear set = keeps_body (raised_changed clear set) (λ o h. h) (λ o. refl)
 
 pub keeps_sent : (message : Message) → Keeps (sent message)
 keeps_sent message = keeps_bodies (sent_body message) jobs processes (λ b. (sent_same message b).peer) (λ b. (sent_same message b).above)
@@ -278,7 +278,7 @@ keeps_sent message = keeps_bodies (sent_body message) jobs processes (λ b. (sen
     processes j _ = refl
 
 pub keeps_watched : (x : Watch) → Keeps (watched x)
-keeps_watched x = keeps_body (watched x) (λ o pid h. h) (λ o. refl)
+keeps_watched x = keeps_body (watched x) (λ o h. h) (λ o. refl)
 
 -- what isn't marked wasn't to be
 pub unless_wanted : (is b : Bool) → (b ≡ true → IsTrue is) → is ≡ false → (x : Bool) → b ≡ x → x ≡ false
@@ -299,7 +299,7 @@ module _ {marked marked2 : ℕ → Bool} {next : ℕ} {sleepers : List Sleeper} 
       (λ k o at. inl (record {
         before = o;
         there = at;
-        asleep = λ pid h. h;
+        asleep = λ h. h;
         unmarked = fewer_unmarked marked marked2 more k;
         still = λ unmarked. stays_fewer _ _ _ _ o o (λ mask h. h) (λ h. h) (λ test h. h);
       })) calm)

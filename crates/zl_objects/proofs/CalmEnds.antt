@@ -12,9 +12,8 @@ use Rattle.zl_objects.specs.Objects.{is_child, is_koid, keeper_of}
 use Rattle.zl_objects.specs.Signals.{signals_at}
 use Rattle.zl_objects.proofs.Bodies.{Changed, changed}
 use Rattle.zl_objects.proofs.ByKoid.{looked_up}
-use Rattle.zl_objects.proofs.Calm.{Follows, Stays, calm_followed, fewer_same, fewer_unmarked, implied_updated, stays_fewer, stays_unwatched}
+use Rattle.zl_objects.proofs.Calm.{Follows, Stays, as_asleep, calm_followed, fewer_same, fewer_unmarked, implied_updated, stays_fewer, stays_unwatched}
 use Rattle.zl_objects.proofs.CalmChanges.{keeps_body, quiet_body, quiet_calm}
-use Rattle.zl_objects.proofs.Joined.{as_asleep}
 use Rattle.zl_objects.proofs.Index.{MakesNone, job_is_child, process_is_child}
 
 -- what holds of the koid that was found
@@ -83,6 +82,6 @@ module _ (f : Object → Object) (none : MakesNone f) (asleep : (o : Object) →
 pub spared_calm : {marked : ℕ → Bool} (kills : Bool) → kills ≡ false → (m n : Map Object) (k : ℕ) → n ≡ update m k (killed_if kills)
     → KeepsCalm marked m marked n
 spared_calm kills spared m n k is next sleepers =
-    quiet_calm (killed_if false) (keeps_body (killed_if false) (λ o pid h. h) (λ o. refl))
+    quiet_calm (killed_if false) (keeps_body (killed_if false) (λ o h. h) (λ o. refl))
     (quiet_body (killed_if false) (λ o. refl) (λ o. refl) (λ o test h. h))
     m n k (rw spared at is)

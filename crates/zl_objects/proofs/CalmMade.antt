@@ -3,35 +3,28 @@ use Rattle.zl_rights.proofs.Common.{◌≡◌, ◌<◌, ◌≤◌, ◌+◌, ◌=
 use Rattle.zl_rights.proofs.Common.{None, inl, inr, IsTrue, arith, eq-eqb, eqb-true, nat_tests, filter, list_any, nat_cmp, cases_Bool, false≢true, or_left}
 use Rattle.zl_rights.proofs.Common.{or_right}
 use Rattle.zl_rights.proofs.Common.{if◌then◌else◌, none-some, same_Some, Map, get, put, update, has_key, All, map}
-use Rattle.std.specs.List.{Contains}
 use Rattle.std.specs.BTreeMap.{insert_entry}
-use Rattle.std.proofs.lemmas.List.Elements.{Contains-append_left, Contains-append_right, Contains-push}
-use Rattle.std.proofs.lemmas.List.Elements.{All-cons, All-contains, All-filter, All-nil, All-push, All-weaker, filter_passes}
+use Rattle.std.proofs.lemmas.List.Elements.{All-nil, All-weaker}
 use Rattle.zl_rights.specs.Numbers.{NO_JOBS, NO_PROCESSES, TERMINATED}
 use Rattle.zl_rights.specs.Signals.{signal_if}
 use Rattle.zl_rights.specs.World.{Wait}
 use Rattle.zl_rights.proofs.MapLaws.{get-put}
 use Rattle.zl_signals.specs.Waits.{wait_at}
-use Rattle.zl_objects.specs.declared.awaited.Asleep.TheVariants as asleep
 use Rattle.zl_objects.specs.declared.awaited.Sleeper.{Sleeper}
 use Rattle.zl_objects.specs.declared.object.Body.{Body}
 use Rattle.zl_objects.specs.declared.object.Body.TheVariants as body
 use Rattle.zl_objects.specs.declared.object.Object.{Object}
 use Rattle.zl_objects.specs.declared.object.Pair.{Pair}
-use Rattle.zl_objects.specs.Asleep.{asleep_at, asleep_in, may_be}
-use Rattle.zl_objects.specs.Awaited.{koid_of}
-use Rattle.zl_objects.specs.Calm.{IsAtRest, IsCalm, IsPut, NoneHolds, holds_now, is_due, is_watched, slept}
+use Rattle.zl_objects.specs.Calm.{IsAtRest, IsCalm, NoneHolds, holds_now, is_due, is_watched, slept}
 use Rattle.zl_objects.specs.Dying.{HasPeer}
 use Rattle.zl_objects.specs.Jobs.{has_job_below, has_process_below, is_job_below, is_process_below}
 use Rattle.zl_objects.specs.Objects.{peer_of}
 use Rattle.zl_objects.specs.Signals.{implied, signals_at, signals_in}
 use Rattle.zl_objects.specs.Waits.{waits_in}
 use Rattle.zl_objects.proofs.Listed.{AreSeen}
-use Rattle.zl_objects.proofs.Joined.{joined_left, joined_one}
-use Rattle.zl_objects.proofs.Bodies.{Changed, changed}
 use Rattle.zl_objects.proofs.ByKoid.{inserted, put_last}
 use Rattle.zl_objects.proofs.Calm.{Follows, IsFewer, IsNew, Keeps, calm_followed, fewer_both, fewer_if, none_given, stays_fewer, stays_unwatched}
-use Rattle.zl_objects.proofs.CalmChanges.{keeps_body, quiet_body, quiet_calm, remarked_calm, unless_wanted}
+use Rattle.zl_objects.proofs.CalmChanges.{keeps_body, quiet_body, quiet_calm}
 use Rattle.zl_objects.proofs.Ending.{none_filtered}
 use Rattle.zl_objects.proofs.Whole.{below_first, end_of}
 
@@ -79,14 +72,14 @@ module _ (m : Map Object) (next : ℕ) (o : Object) (below : (k : ℕ) → IsTru
       still k q was at (inl unwatched) = record {
         before = q;
         there = was;
-        asleep = λ pid h. h;
+        asleep = λ h. h;
         unmarked = λ unmarked. unmarked;
-        still = λ unmarked. stays_unwatched _ _ _ _ q q (λ pid h. h) unwatched;
+        still = λ unmarked. stays_unwatched _ _ _ _ q q (λ h. h) unwatched;
       }
       still k q was at (inr apart) = record {
         before = q;
         there = was;
-        asleep = λ pid h. h;
+        asleep = λ h. h;
         unmarked = λ unmarked. unmarked;
         still = λ unmarked. rw (was, at)
             (stays_fewer (signals_in m k (Some q)) (signals_in (put m next o) k (Some q)) _ _ q q
@@ -104,102 +97,13 @@ module _ (m : Map Object) (next : ℕ) (o : Object) (below : (k : ℕ) → IsTru
 
 -- ---- who may be blocked
 
-pub keeps_slept : (pid : ℕ) → Keeps (slept pid)
-keeps_slept pid = keeps_body (slept pid) (λ o p. joined_left o.asleep (asleep.One pid) p) (λ o. refl)
+pub keeps_slept : Keeps slept
+keeps_slept = keeps_body slept (λ o h. refl) (λ o. refl)
 
 -- a process may be blocked at the object
-pub slept_calm : {marked : ℕ → Bool} {next : ℕ} {sleepers : List Sleeper} (pid : ℕ) (m n : Map Object) (k : ℕ) → n ≡ update m k (slept pid)
+pub slept_calm : {marked : ℕ → Bool} {next : ℕ} {sleepers : List Sleeper} (m n : Map Object) (k : ℕ) → n ≡ update m k slept
     → IsCalm marked m next sleepers → IsCalm marked n next sleepers
-slept_calm pid = quiet_calm (slept pid) (keeps_slept pid) (quiet_body (slept pid) (λ o. refl) (λ o. refl) (λ o test h. h))
-
--- a process is listed, whose object is marked if it is due
-pub put_calm : {marked marked2 : ℕ → Bool} {next : ℕ} → ((j : ℕ) → IsTrue (marked j) → IsTrue (marked2 j)) → (m n : Map Object) (s : Sleeper)
-    (list list2 : List Sleeper) (crowded crowded2 b : Bool) → koid_of s.awaited < next → n ≡ update m (koid_of s.awaited) (slept s.pid) → b ≡ is_due n s.awaited
-    → (b ≡ true → IsTrue (marked2 (koid_of s.awaited))) → IsPut s list crowded list2 crowded2 → IsCalm marked m next list → IsCalm marked2 n next list2
-put_calm {marked} {marked2} {next} more m n s list list2 crowded crowded2 b given is due wanted put calm = by_put put
-  where
-    after : IsCalm marked2 n next list
-    after = remarked_calm more n n refl (slept_calm s.pid m n (koid_of s.awaited) is calm)
-
-    known : (o : Object) → get n (koid_of s.awaited) ≡ Some o → IsTrue (may_be o.asleep s.pid)
-    known o at =
-        let c : Changed (slept s.pid) m (koid_of s.awaited) (koid_of s.awaited) o =
-        changed (slept s.pid) m (koid_of s.awaited) (koid_of s.awaited) o (rw is at at) in
-        ap (λ (x : Object). may_be x.asleep s.pid) c.is ∙ rw (eq-eqb (koid_of s.awaited) (koid_of s.awaited) refl) (joined_one c.before.asleep s.pid)
-
-    rests : IsAtRest marked2 n next s
-    rests = record { given = given; known = known; calm = λ unmarked. unless_wanted _ b wanted unmarked _ due }
-
-    others : All (IsAtRest marked2 n next) (filter (λ x. not (x.pid == s.pid)) list)
-    others = All-filter (λ x. not (x.pid == s.pid)) (IsAtRest marked2 n next) list after.resting
-
-    by_put : IsPut s list crowded list2 crowded2 → IsCalm marked2 n next list2
-    by_put (inl room) =
-        rw room.1 (record { waits = after.waits; resting = All-push (IsAtRest marked2 n next) (filter (λ x. not (x.pid == s.pid)) list) s others rests })
-    by_put (inr full) = rw full.1 (record { waits = after.waits; resting = others })
-
--- who is due waits at a marked object, which knows of it
-pub due_known : {marked : ℕ → Bool} {m : Map Object} {next : ℕ} (list : List Sleeper) (s : Sleeper) → IsCalm marked m next list → Contains list s
-    → IsTrue (is_due m s.awaited) → IsTrue (marked (koid_of s.awaited)) × IsTrue (may_be (asleep_at m (koid_of s.awaited)) s.pid)
-due_known {marked} {m} {next} list s calm there due = (by_test (marked (koid_of s.awaited)) refl, by_object (get m (koid_of s.awaited)) refl)
-  where
-    rests : IsAtRest marked m next s
-    rests = All-contains (IsAtRest marked m next) list s calm.resting there
-
-    by_test : (b : Bool) → marked (koid_of s.awaited) ≡ b → IsTrue b
-    by_test true is = refl
-    by_test false is = absurd (false≢true (sym (rests.calm is) ∙ due))
-
-    by_object : (q : Option Object) → get m (koid_of s.awaited) ≡ q → IsTrue (may_be (asleep_in q) s.pid)
-    by_object None is = absurd (false≢true (sym (none_given s.awaited) ∙ rw is at due))
-    by_object (Some o) is = rests.known o is
-
-contains_left : {X : Type 0} (test : X → Bool) (xs : List X) → All (λ y. test y ≡ true → Contains (filter test xs) y) xs
-contains_left test [] = All-nil (λ y. test y ≡ true → Contains (filter test []) y)
-contains_left {X} test (x ∷ xs) =
-    All-cons (λ y. test y ≡ true → Contains (filter test (x ∷ xs)) y) x xs (λ passes. rw passes (0, omega arith, refl))
-    (All-weaker (λ y. test y ≡ true → Contains (filter test xs) y) (λ y. test y ≡ true → Contains (filter test (x ∷ xs)) y)
-    (λ y later passes. more y (later passes)) xs (contains_left test xs))
-  where
-    more : (y : X) → Contains (filter test xs) y → Contains (filter test (x ∷ xs)) y
-    more y there = elim (cases_Bool (test x)) as (λ _. Contains (filter test (x ∷ xs)) y) [
-      | inl here ↦ rw here (Contains-append_right (x ∷ []) (filter test xs) y there)
-      | inr gone ↦ rw gone there
-    ]
-
--- what passes is among those that do
-passes_there : {X : Type 0} (test : X → Bool) (xs : List X) (x : X) → test x ≡ true → Contains xs x → Contains (filter test xs) x
-passes_there test xs x passes there = All-contains (λ y. test y ≡ true → Contains (filter test xs) y) xs x (contains_left test xs) there passes
-
--- the process is listed, or not all are, and so is another that was
-module _ (s : Sleeper) (list list2 : List Sleeper) (crowded crowded2 : Bool) where
-  pub put_there : IsPut s list crowded list2 crowded2 → IsTrue crowded2 ⊎ Contains list2 s
-  put_there (inl room) = inr (rw room.1 (Contains-push (filter (λ x. not (x.pid == s.pid)) list) s))
-  put_there (inr full) = inl full.0
-
-  pub put_others : IsPut s list crowded list2 crowded2 → (x : Sleeper) → (x.pid == s.pid) ≡ false → IsTrue crowded ⊎ Contains list x
-      → IsTrue crowded2 ⊎ Contains list2 x
-  put_others (inr full) x apart there = inl full.0
-  put_others (inl room) x apart (inl h) = inl (room.0 ∙ h)
-  put_others (inl room) x apart (inr there) = inr (rw room.1 (Contains-append_left (filter (λ y. not (y.pid == s.pid)) list) (s ∷ []) x
-      (passes_there (λ y. not (y.pid == s.pid)) list x (rw apart refl) there)))
-
--- who isn't due isn't dropped
-kept_there : (marked : ℕ → Bool) (m : Map Object) (list list2 : List Sleeper)
-    → list2 ≡ filter (λ s. not (marked (koid_of s.awaited) && is_due m s.awaited)) list → (x : Sleeper) → is_due m x.awaited ≡ false → Contains list x
-    → Contains list2 x
-kept_there marked m list list2 is x quiet there =
-    rw is (passes_there (λ s. not (marked (koid_of s.awaited) && is_due m s.awaited)) list x (by_test (marked (koid_of x.awaited))) there)
-  where
-    by_test : (b : Bool) → not (b && is_due m x.awaited) ≡ true
-    by_test true = rw quiet refl
-    by_test false = refl
-
-pub dropped_seeks : (marked : ℕ → Bool) (m : Map Object) (list list2 : List Sleeper) (crowded crowded2 : Bool)
-    → list2 ≡ filter (λ s. not (marked (koid_of s.awaited) && is_due m s.awaited)) list → crowded2 ≡ crowded → (x : Sleeper) → is_due m x.awaited ≡ false
-    → IsTrue crowded ⊎ Contains list x → IsTrue crowded2 ⊎ Contains list2 x
-dropped_seeks marked m list list2 crowded crowded2 is same x quiet (inl h) = inl (same ∙ h)
-dropped_seeks marked m list list2 crowded crowded2 is same x quiet (inr there) = inr (kept_there marked m list list2 is x quiet there)
+slept_calm = quiet_calm slept keeps_slept (quiet_body slept (λ o. refl) (λ o. refl) (λ o test h. h))
 
 -- ---- the waits in the list and at the objects
 
@@ -249,30 +153,15 @@ module _ (m : Map Object) (waits : List Wait) (listed : AreSeen waits m) where
 
 -- ---- all was looked at
 
--- no wait holds, and of those who may be blocked those were dropped whose objects are marked and who are due
-pub calmed : {marked marked2 : ℕ → Bool} {next : ℕ} (m : Map Object) (waits : List Wait) (list list2 : List Sleeper) → AreSeen waits m
-    → list_any (holds_now m) waits ≡ false
-    → list2 ≡ filter (λ s. not (marked (koid_of s.awaited) && is_due m s.awaited)) list → IsCalm marked m next list → IsCalm marked2 m next list2
-calmed {marked} {marked2} {next} m waits list list2 listed none is calm = rw is (record {
+-- no wait holds, and nobody is listed for whom what it waits for is there
+pub calmed : {marked marked2 : ℕ → Bool} {next : ℕ} (m : Map Object) (waits : List Wait) (list : List Sleeper) → AreSeen waits m
+    → list_any (holds_now m) waits ≡ false → All (λ s. is_due m s.awaited ≡ false) list → IsCalm marked m next list → IsCalm marked2 m next list
+calmed {marked} {marked2} {next} m waits list listed none quiet calm = record {
   waits = λ k o at unmarked. none_holds_listed m waits listed none k o at;
-  resting =
-      let test : Sleeper → Bool = λ s. not (marked (koid_of s.awaited) && is_due m s.awaited) in
-      All-weaker (λ s. IsAtRest marked m next s × (test s ≡ true)) (IsAtRest marked2 m next) (λ s both. record {
-        given = both.0.given;
-        known = both.0.known;
-        calm = λ unmarked. by_test s (marked (koid_of s.awaited)) refl both.0 both.1;
-      }) (filter test list)
-      (λ i d inside. (All-filter test (IsAtRest marked m next) list calm.resting i d inside, filter_passes test list i d inside));
-})
-  where
-    not_due : (b : Bool) → not (true && b) ≡ true → b ≡ false
-    not_due false h = refl
-    not_due true h = absurd (false≢true h)
-
-    by_test : (s : Sleeper) (b : Bool) → marked (koid_of s.awaited) ≡ b → IsAtRest marked m next s → not (b && is_due m s.awaited) ≡ true
-        → is_due m s.awaited ≡ false
-    by_test s false unmarked rest h = rest.calm unmarked
-    by_test s true is rest h = not_due (is_due m s.awaited) h
+  resting = All-weaker (λ s. IsAtRest marked m next s × (is_due m s.awaited ≡ false)) (IsAtRest marked2 m next)
+      (λ s both. record { given = both.0.given; known = both.0.known; calm = λ unmarked. both.1 }) list
+      (λ i d inside. (calm.resting i d inside, quiet i d inside));
+}
 
 -- ---- new objects
 

@@ -21,7 +21,7 @@ use Rattle.zl_objects.specs.Waits.{AreSameButWaits, ending_waits}
 use Rattle.zl_objects.proofs.Bare.{IsAlike, alike, any_same, has_same, of_body}
 use Rattle.zl_objects.proofs.Bodies.{any_without_at, found_left}
 use Rattle.zl_objects.proofs.CalmEnds.{of_keeper}
-use Rattle.zl_objects.proofs.Joined.{as_asleep}
+use Rattle.zl_objects.proofs.Calm.{as_asleep}
 use Rattle.zl_objects.proofs.Calm.{Follows, Stays, calm_followed, fewer_same, fewer_unmarked, stays_fewer, stays_unwatched}
 use Rattle.zl_objects.proofs.Ending.{ending_bare, ending_gone, ending_thins}
 use Rattle.zl_objects.proofs.Index.{job_is_child, process_is_child}

@@ -51,11 +51,11 @@ module _ {waits : List Listed} where
     listed = updated_listed held_once_less (λ o. refl) waits m n k kept.listed is;
   }
 
-  pub slept_kept : (pid : ℕ) (m n : Map Object) (next room k : ℕ) (d : List ℕ) → IsKept None m next d room waits → n ≡ update m k (slept pid)
+  pub slept_kept : (m n : Map Object) (next room k : ℕ) (d : List ℕ) → IsKept None m next d room waits → n ≡ update m k slept
       → IsKept None n next d room waits
-  slept_kept pid m n next room k d kept is = record {
-    whole = slept_whole pid m n next room k d kept.whole is;
-    listed = updated_listed (slept pid) (λ o. refl) waits m n k kept.listed is;
+  slept_kept m n next room k d kept is = record {
+    whole = slept_whole m n next room k d kept.whole is;
+    listed = updated_listed slept (λ o. refl) waits m n k kept.listed is;
   }
 
   pub changed_kept : (m n : Map Object) (next room k clear set : ℕ) (d : List ℕ) → IsKept None m next d room waits → n ≡ update m k (raised_changed clear set)

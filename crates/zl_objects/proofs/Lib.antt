@@ -13,7 +13,6 @@ pub mod Ending
 pub mod Found
 pub mod Gone
 pub mod Index
-pub mod Joined
 pub mod Kept
 pub mod Law
 pub mod Listed
@@ -28,6 +27,7 @@ pub mod Removing
 pub mod Rising
 pub mod Searching
 pub mod Showing
+pub mod Sleeping
 pub mod Sums
 pub mod Sweeps
 pub mod Tasks

@@ -9,7 +9,6 @@ use Rattle.std.specs.Map.{lookup}
 use Rattle.std.specs.Ordering.{is_lt}
 use Rattle.std.proofs.lemmas.List.Elements.{All-weaker}
 use Rattle.zl_table.proofs.MapEdits.{get-without, sorted_parts}
-use Rattle.zl_objects.specs.declared.awaited.Asleep.TheVariants as asleep
 use Rattle.zl_objects.specs.declared.awaited.Sleeper.{Sleeper}
 use Rattle.zl_objects.specs.declared.children.Children.{Children}
 use Rattle.zl_objects.specs.declared.marks.Marks.{Marks}
@@ -17,7 +16,6 @@ use Rattle.zl_objects.specs.declared.object.Body.{Body}
 use Rattle.zl_objects.specs.declared.object.Body.TheVariants as body
 use Rattle.zl_objects.specs.declared.object.Object.{Object}
 use Rattle.zl_objects.specs.declared.wait.Listed.{Listed}
-use Rattle.zl_objects.specs.Asleep.{may_be}
 use Rattle.zl_objects.specs.Awaited.{koid_of}
 use Rattle.zl_objects.specs.Calm.{IsAtRest, IsCalm, IsSteady, is_marked, is_watched_in}
 use Rattle.zl_objects.specs.Dying.{HasPeerOf, IsWhole}
@@ -115,7 +113,7 @@ module _ {children : Children} (m n : Map Object) (koid : ℕ) (o : Object) (at 
       ]
 
   popped_calm : {marked marked2 : ℕ → Bool} {sleepers : List Sleeper} → ((j : ℕ) → IsTrue (marked j) → IsTrue (marked2 j)) → (next : ℕ) → next ≡ koid + 1
-      → o.asleep ≡ asleep.Nobody → (IsTrue (is_watched_in (get n (parent_of o.body))) → IsTrue (marked2 (parent_of o.body))) → IsCalm marked m next sleepers
+      → o.asleep ≡ false → (IsTrue (is_watched_in (get n (parent_of o.body))) → IsTrue (marked2 (parent_of o.body))) → IsCalm marked m next sleepers
       → IsCalm marked2 n koid sleepers
   popped_calm {marked} {marked2} {sleepers} more next newest unslept job calm =
       let after : IsCalm marked2 n next sleepers =
@@ -130,7 +128,7 @@ module _ {children : Children} (m n : Map Object) (koid : ℕ) (o : Object) (at 
       one s both = record {
         given = elim (cases_Bool (koid == koid_of s.awaited)) as (λ _. koid_of s.awaited < koid) [
           | inl here ↦
-              absurd (false≢true (sym (ap (λ a. may_be a s.pid) unslept) ∙ both.0.known o (ap (get m) (sym (eqb-true koid (koid_of s.awaited) here)) ∙ at)))
+              absurd (false≢true (sym unslept ∙ both.0.known o (ap (get m) (sym (eqb-true koid (koid_of s.awaited) here)) ∙ at)))
           | inr apart ↦ below_newest next (koid_of s.awaited) newest both.0.given apart
         ];
         known = both.1.known;
@@ -140,7 +138,7 @@ module _ {children : Children} (m n : Map Object) (koid : ℕ) (o : Object) (at 
 pub taken_back : {marks marks2 : Marks} {children children2 : Children} {waits : List Listed} {sleepers : List Sleeper} {d : List ℕ} {room : ℕ}
     (m n : BTreeMap ℕ Object) (next koid : ℕ) (r : Option (ℕ × Object)) → IsSteady marks children m.entries next d room waits sleepers → next ≡ koid + 1
     → is_end_at m.entries koid ≡ false → reserved_in (get m.entries koid) ≡ 0 → waits_in (get m.entries koid) ≡ [] → IsTrue (has_key m.entries koid)
-    → IfSome (get m.entries koid) (λ o. o.asleep ≡ asleep.Nobody) → OthersStayListed koid children children2 → IsSome r ↔ (0 < length m.entries)
+    → IfSome (get m.entries koid) (λ o. o.asleep ≡ false) → OthersStayListed koid children children2 → IsSome r ↔ (0 < length m.entries)
     → IfSome r (λ p. lookup (is_at (nat_cmp p.0)) m.entries ≡ Some p.1) → IfSome r (λ p. IsUpperBound nat_cmp m p.0)
     → IfSome r (λ p. m.entries ≡ n.entries ++ p ∷ []) → ((j : ℕ) → IsTrue (is_marked marks j) → IsTrue (is_marked marks2 j))
     → (IsTrue (is_watched_in (get n.entries (parent_at m.entries koid))) → IsTrue (is_marked marks2 (parent_at m.entries koid)))

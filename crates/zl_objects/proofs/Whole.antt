@@ -93,9 +93,9 @@ pub less_whole : (m n : Map Object) (next room k : ℕ) (d : List ℕ) → IsWho
 less_whole = updated_whole held_once_less (λ o. refl) (λ o. refl) (λ o. refl) (λ o. refl)
 
 -- a process may be blocked at it
-pub slept_whole : (pid : ℕ) (m n : Map Object) (next room k : ℕ) (d : List ℕ) → IsWhole None m next d room → n ≡ update m k (slept pid)
+pub slept_whole : (m n : Map Object) (next room k : ℕ) (d : List ℕ) → IsWhole None m next d room → n ≡ update m k slept
     → IsWhole None n next d room
-slept_whole pid = updated_whole (slept pid) (λ o. refl) (λ o. refl) (λ o. refl) (λ o. refl)
+slept_whole = updated_whole slept (λ o. refl) (λ o. refl) (λ o. refl) (λ o. refl)
 
 -- other signals
 pub changed_whole : (m n : Map Object) (next room k clear set : ℕ) (d : List ℕ) → IsWhole None m next d room → n ≡ update m k (raised_changed clear set)

@@ -1,5 +1,5 @@
 -- What blocked processes wait for, and which may be blocked.
-use Rattle.std.specs.Prelude.{ℕ, ◌≡◌, ◌⊎◌, IsTrue}
+use Rattle.std.specs.Prelude.{ℕ, ◌≡◌, ◌⊎◌, Bool, false, ◌&&◌, ◌==◌, IsTrue}
 use Rattle.std.specs.List.{Contains}
 use Rattle.zl_objects.specs.declared.awaited.Awaited.{Awaited}
 use Rattle.zl_objects.specs.declared.awaited.Awaited.TheVariants as awaits
@@ -9,6 +9,12 @@ use Rattle.zl_objects.specs.Objects.{Objects}
 abbrev pub koid_of : Awaited → ℕ
 koid_of (awaits.SignalOf koid mask) = koid
 koid_of (awaits.PacketAt port) = port
+
+-- both are the same
+abbrev pub is_same : Awaited → Awaited → Bool
+is_same (awaits.SignalOf koid mask) (awaits.SignalOf koid2 mask2) = (koid == koid2) && (mask == mask2)
+is_same (awaits.PacketAt port) (awaits.PacketAt port2) = port == port2
+is_same _ _ = false
 
 -- the process may be blocked on this: it is listed so, or not all are listed
 abbrev pub Seeks : Objects → ℕ → Awaited → Type 0

@@ -6,7 +6,6 @@ use Rattle.zl_rights.specs.Numbers.{meets}
 use Rattle.zl_rights.specs.Signals.{is_empty}
 use Rattle.zl_rights.specs.World.{Wait}
 use Rattle.zl_signals.specs.Waits.{holds}
-use Rattle.zl_objects.specs.declared.awaited.Asleep.TheVariants as asleep
 use Rattle.zl_objects.specs.declared.awaited.Awaited.{Awaited}
 use Rattle.zl_objects.specs.declared.awaited.Awaited.TheVariants as awaits
 use Rattle.zl_objects.specs.declared.awaited.Sleeper.{Sleeper}
@@ -14,7 +13,6 @@ use Rattle.zl_objects.specs.declared.children.Children.{Children}
 use Rattle.zl_objects.specs.declared.marks.Marks.{Marks}
 use Rattle.zl_objects.specs.declared.object.Object.{Object}
 use Rattle.zl_objects.specs.declared.wait.Listed.{Listed}
-use Rattle.zl_objects.specs.Asleep.{is_anybody, joined, may_be}
 use Rattle.zl_objects.specs.Awaited.{koid_of}
 use Rattle.zl_objects.specs.Dying.{IsKept}
 use Rattle.zl_objects.specs.Index.{IsIndexed}
@@ -44,19 +42,13 @@ is_due m a = is_given (signals_at m (koid_of a)) (has_packet (get m (koid_of a))
 
 -- ---- who may be blocked
 
--- an object at which the process may be blocked too
-abbrev pub slept : ℕ → Object → Object
-slept pid o = record o { asleep = joined o.asleep (asleep.One pid) }
+-- an object at which a process may be blocked
+abbrev pub slept : Object → Object
+slept o = record o { asleep = true }
 
--- the objects, where the process may be blocked at k
-abbrev pub knowing : Objects → ℕ → ℕ → Objects
-knowing r pid k = record r { objects = update r.objects k (slept pid) }
-
--- the sleeper is listed in the place of what its process waited for before, or there is no room for it
-abbrev pub IsPut : Sleeper → List Sleeper → Bool → List Sleeper → Bool → Type 0
-IsPut s list crowded list2 crowded2 =
-    ((crowded2 ≡ crowded) × (list2 ≡ filter (λ x. not (x.pid == s.pid)) list ++ s ∷ []))
-    ⊎ ((crowded2 ≡ true) × (list2 ≡ filter (λ x. not (x.pid == s.pid)) list))
+-- the objects, where a process may be blocked at k
+abbrev pub knowing : Objects → ℕ → Objects
+knowing r k = record r { objects = update r.objects k slept }
 
 -- ---- marks
 
@@ -64,13 +56,9 @@ IsPut s list crowded list2 crowded2 =
 abbrev pub is_marked : Marks → ℕ → Bool
 is_marked marks k = marks.all || list_any (λ j. j == k) marks.koids.items
 
--- its object is marked, and what it waits for is there
-abbrev pub is_dropped : Marks → Map Object → Sleeper → Bool
-is_dropped marks m s = is_marked marks (koid_of s.awaited) && is_due m s.awaited
-
 -- a wait is registered at the object, or a process may be blocked there
 abbrev pub is_watched : Object → Bool
-is_watched o = is_anybody o.asleep || not (is_empty o.signals.waits)
+is_watched o = o.asleep || not (is_empty o.signals.waits)
 
 -- the object that was found is watched
 abbrev pub is_watched_in : Option Object → Bool
@@ -81,10 +69,10 @@ is_watched_in (Some o) = is_watched o
 abbrev pub NoneHolds : ℕ → Object → Type 0
 NoneHolds signals o = list_any (holds signals) o.signals.waits ≡ false
 
--- the sleeper waits at an object that was given, and that knows of its process; unless it is marked, what it waits for isn't there
+-- the sleeper waits at an object that was given, and that knows of it; unless it is marked, what it waits for isn't there
 pub record IsAtRest (marked : ℕ → Bool) (m : Map Object) (next_koid : ℕ) (s : Sleeper) : Type 0 where
   pub given : koid_of s.awaited < next_koid
-  pub known : (o : Object) → get m (koid_of s.awaited) ≡ Some o → IsTrue (may_be o.asleep s.pid)
+  pub known : (o : Object) → get m (koid_of s.awaited) ≡ Some o → IsTrue o.asleep
   pub calm : marked (koid_of s.awaited) ≡ false → is_due m s.awaited ≡ false
 
 -- nothing is due at an object that isn't marked

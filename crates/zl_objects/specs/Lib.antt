@@ -10,8 +10,8 @@ pub mod Ports
 pub mod Waits
 pub mod Listed
 pub mod Awaited
-pub mod Asleep
 pub mod Calm
+pub mod Sleepers
 pub mod Index
 pub mod PortWaits
 pub mod Due

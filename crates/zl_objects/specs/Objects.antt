@@ -9,7 +9,6 @@ use Rattle.zl_rights.specs.World.{Message, Wait}
 use Rattle.zl_jobs.specs.Jobs.{root_job}
 use Rattle.zl_signals.specs.Waits.{with_changed}
 use Rattle.zl_objects.specs.declared.awaited.Sleeper.{Sleeper}
-use Rattle.zl_objects.specs.declared.awaited.Asleep.TheVariants as asleep
 use Rattle.zl_objects.specs.declared.object.Body.{Body}
 use Rattle.zl_objects.specs.declared.object.Body.TheVariants as body
 use Rattle.zl_objects.specs.declared.object.Pair.{Pair}
@@ -255,7 +254,7 @@ is_kept objects k o = nat_lt 0 o.handles || stays_alone objects k o.body
 
 -- an object with no signals raised, at which nothing waits, and which so many handles name
 abbrev pub new_object : Body → ℕ → Object
-new_object body handles = record { body = body; signals = record { raised = 0; waits = [] }; handles = handles; asleep = asleep.Nobody }
+new_object body handles = record { body = body; signals = record { raised = 0; waits = [] }; handles = handles; asleep = false }
 
 -- the objects with a new one, which gets the next koid
 abbrev pub with_new : Objects → Body → ℕ → Objects

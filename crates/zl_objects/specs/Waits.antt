@@ -1,5 +1,5 @@
 -- The waits that are registered at the objects, and what operations make of them.
-use Rattle.std.specs.Prelude.{ℕ, ◌≡◌, Bool, not, ◌||◌, nat_lt, ◌+◌, cond, ◌==◌, List, [], ◌∷◌, Option, Some, None, if◌then◌else◌}
+use Rattle.std.specs.Prelude.{ℕ, false, ◌≡◌, Bool, not, ◌||◌, nat_lt, ◌+◌, cond, ◌==◌, List, [], ◌∷◌, Option, Some, None, if◌then◌else◌}
 use Rattle.std.specs.List.{find, filter, count_by, sum_by}
 use Rattle.zl_rights.specs.Map.{Map, each, get, has_key, update}
 use Rattle.zl_rights.specs.Signals.{is_empty}
@@ -7,7 +7,6 @@ use Rattle.zl_rights.specs.World.{Packet}
 use Rattle.zl_signals.specs.declared.watch.Watch.{Watch}
 use Rattle.zl_signals.specs.Waits.{holds, is_at_port, next_order, with_wait, without_port, without_wait}
 use Rattle.zl_port.specs.Packets.{Port, with_packet, without_place}
-use Rattle.zl_objects.specs.declared.awaited.Asleep.TheVariants as asleep
 use Rattle.zl_objects.specs.declared.object.Object.{Object}
 use Rattle.zl_objects.specs.Objects.{Objects}
 use Rattle.zl_objects.specs.Ports.{at_port, reserved_in, reserved_of, unreserved}
@@ -112,7 +111,7 @@ ends_waits o = nat_lt 0 (reserved_of o.body) || not (is_empty o.signals.waits)
 
 -- the object without its waits and reserved places, at which no process was blocked
 abbrev pub bare : Object → Object
-bare o = record { body = unreserved o.body; signals = record { raised = o.signals.raised; waits = [] }; handles = o.handles; asleep = asleep.Nobody }
+bare o = record { body = unreserved o.body; signals = record { raised = o.signals.raised; waits = [] }; handles = o.handles; asleep = false }
 
 -- the objects are the same but for waits and reserved places
 abbrev pub AreSameButWaits : Map Object → Map Object → Type 0

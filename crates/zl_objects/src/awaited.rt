@@ -1,8 +1,7 @@
-//! What a blocked process waits for, and who may be blocked at an object.
+//! What a blocked process waits for.
 
 ghost use Rattle.std.specs.Prelude.{◌≡◌};
-ghost use Rattle.zl_objects.specs.Asleep.{is_anybody, joined};
-ghost use Rattle.zl_objects.specs.Awaited.{koid_of};
+ghost use Rattle.zl_objects.specs.Awaited.{is_same, koid_of};
 
 use zl_rights::{Koid, Pid};
 
@@ -27,6 +26,20 @@ impl Awaited {
             Awaited::PacketAt(port) => *port,
         }
     }
+
+    /// Whether the other is the same.
+    pub fn is_same(&self, other: &Awaited) -> bool
+        ensures { result ≡ is_same self.now other.now }
+    {
+        match (self, other) {
+            (Awaited::SignalOf { koid, mask }, Awaited::SignalOf { koid: at, mask: watched }) => {
+                koid == at && mask == watched
+            }
+            (Awaited::PacketAt(port), Awaited::PacketAt(at)) => port == at,
+            (Awaited::SignalOf { .. }, Awaited::PacketAt(_)) => false,
+            (Awaited::PacketAt(_), Awaited::SignalOf { .. }) => false,
+        }
+    }
 }
 
 /// A process that is blocked, and what it waits for.
@@ -36,37 +49,4 @@ impl Awaited {
 pub struct Sleeper {
     pub pid: Pid,
     pub awaited: Awaited,
-}
-
-/// Who may be blocked at an object.
-///
-/// Source: own profile.
-#[derive(Clone, Copy, PartialEq, Eq, Debug)]
-pub enum Asleep {
-    /// No process.
-    Nobody,
-    /// This process alone.
-    One(Pid),
-    /// Perhaps several processes.
-    Several,
-}
-
-impl Asleep {
-    /// Whether some process may be blocked.
-    pub(crate) fn is_anybody(self) -> bool
-        ensures { result ≡ is_anybody self }
-    {
-        !matches!(self, Asleep::Nobody)
-    }
-
-    /// Those of both.
-    pub(crate) fn join(self, other: Asleep) -> Asleep
-        ensures { result ≡ joined self other }
-    {
-        match (self, other) {
-            (Asleep::Nobody, one) | (one, Asleep::Nobody) => one,
-            (Asleep::One(pid), Asleep::One(second)) if pid == second => self,
-            _ => Asleep::Several,
-        }
-    }
 }

@@ -32,7 +32,7 @@ mod sleepers;
 mod wait;
 mod waits;
 
-pub use awaited::{Asleep, Awaited, Sleeper};
+pub use awaited::{Awaited, Sleeper};
 pub use due::Due;
 pub use object::{Body, Life, Object, Pair};
 pub use objects::Objects;

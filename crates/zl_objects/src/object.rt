@@ -6,7 +6,6 @@ ghost use Rattle.zl_objects.specs.Dying.{is_last};
 ghost use Rattle.zl_objects.specs.Objects.{has_place, held_once_more, held_once_less, is_alive, is_channel_body, is_running, end_to, job_of, kind_in, kind_of_pair, peer_of, queue_of, reader_of, raised_changed, received, sent, started, started_life, stopped};
 ghost use Rattle.zl_channel.specs.Queue.{front_handles, front_sizes, is_too_large, refused_message};
 
-use crate::awaited::Asleep;
 use crate::objects::Objects;
 use std::alloc::Global;
 use zl_channel::{ChannelEnd, Message, PushFault};
@@ -108,14 +107,14 @@ impl Pair {
 }
 
 /// An object, with the signals that calls set and clear, the waits that are registered there, the
-/// number of its handles, and who may be blocked there.
+/// number of its handles, and whether a process may be blocked there.
 #[derive(Drop)]
 pub struct Object {
     pub body: Body,
     pub signals: SignalState,
     pub handles: u64,
-    /// Who may be blocked here.
-    pub asleep: Asleep,
+    /// Whether a process may be blocked here.
+    pub asleep: bool,
 }
 
 impl Object {
@@ -123,7 +122,7 @@ impl Object {
     pub(crate) fn is_watched(&self) -> bool
         ensures { result ≡ is_watched self.now }
     {
-        self.asleep.is_anybody() || self.signals.has_waits()
+        self.asleep || self.signals.has_waits()
     }
 
     /// One handle more, if one may name the object. Says whether one may.

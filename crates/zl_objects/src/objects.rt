@@ -1,6 +1,5 @@
 ghost use Rattle.std.specs.Prelude.{[], Err, Some, false, ◌≡◌, ◌↔◌, ◌+◌, ◌<◌, ◌≤◌, ◌^◌, ◌∷◌, length, vec_capacity, IsTrue, IfErr, IfOk, IfSome, OnErr, OnOk, slice_get};
 ghost use Rattle.zl_rights.specs.Map.{get, has_key};
-ghost use Rattle.zl_objects.specs.declared.awaited.Asleep.TheVariants as asleep;
 ghost use Rattle.zl_objects.specs.Objects.{changing, end_to, has_koids, has_place, holding, is_channel_at, is_end_at, is_end_body, is_job_at, kind_at, new_object, next_of, peer_at, queue_in, reader_at, receiving, root_alone, sending, with_pair, with_new, without_newest};
 ghost use Rattle.zl_channel.specs.Queue.{front_handles, front_sizes, is_too_large, refused_message};
 ghost use Rattle.zl_objects.specs.Ports.{reserved_in, reserved_of};
@@ -9,7 +8,6 @@ ghost use Rattle.zl_objects.specs.Seen.{LeavesLargest};
 ghost use Rattle.zl_objects.specs.Listed.{LeavesListed};
 ghost use Rattle.zl_objects.specs.Waits.{waits_in, HavePlaces, LeavesWaits};
 
-use crate::awaited::Asleep;
 use crate::children::Children;
 use crate::killing::parent_at;
 use crate::listing::WaitList;
@@ -144,7 +142,7 @@ impl Objects {
             body,
             signals: SignalState::new(self.alloc()),
             handles,
-            asleep: Asleep::Nobody,
+            asleep: false,
         };
         if self.by_koid.insert(koid, object).is_err() {
             self.children.remove(parent, koid);
@@ -194,7 +192,7 @@ impl Objects {
         requires unreserved { reserved_in (get self.old.objects koid) ≡ 0 }
         requires unwatched { waits_in (get self.old.objects koid) ≡ [] }
         requires unslept { IfSome (get self.old.objects koid)
-            (λ object. object.asleep ≡ asleep.Nobody) }
+            (λ object. object.asleep ≡ false) }
         ensures { self.new ≡ without_newest self.old koid }
     {
         let job = parent_at(&self.by_koid, koid);
@@ -419,6 +417,6 @@ fn new_end(alloc: Global, pair: Pair, peer: Koid, handles: u64) -> Object
         body: pair.end_to(alloc, peer),
         signals: SignalState::new(alloc),
         handles,
-        asleep: Asleep::Nobody,
+        asleep: false,
     }
 }

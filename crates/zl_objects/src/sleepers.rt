@@ -1,14 +1,16 @@
 //! Which processes may be blocked, and what they wait for.
 
-ghost use Rattle.std.specs.Prelude.{◌≡◌, ◌==◌, false, not, IfOk, IsTrue, []};
-ghost use Rattle.std.specs.List.{filter};
+ghost use Rattle.std.specs.Prelude.{◌≡◌, ◌<◌, ◌≤◌, false, IfOk, IfSome, IfNone, [], length, slice_index_or};
+ghost use Rattle.std.specs.List.{All, remove};
+ghost use Rattle.std.specs.List.Sorted.{IsNonDecreasingBy};
 ghost use Rattle.zl_rights.specs.Map.{get};
-ghost use Rattle.zl_objects.specs.Calm.{has_packet, is_dropped, is_due, IsPut};
+ghost use Rattle.zl_objects.specs.Awaited.{koid_of};
+ghost use Rattle.zl_objects.specs.Calm.{has_packet, is_due, is_given};
+ghost use Rattle.zl_objects.specs.Sleepers.{IsFirstDue, IsPlace, IsPut, IsUnlisted, NoneDueAt};
 ghost use Rattle.zl_objects.specs.Index.{IsIndexed};
 
 use crate::awaited::{Awaited, Sleeper};
 use crate::children::Children;
-use crate::marks::Marks;
 use crate::object::Object;
 use crate::signals::signals_at;
 use bitflags::Flags;
@@ -16,12 +18,14 @@ use std::alloc::{AllocError, Global};
 use std::collections::BTreeMap;
 use zl_rights::Koid;
 
-/// The processes that may be blocked. Listing one takes no memory: where there is no room for one
-/// more, not all are listed.
+/// The processes that may be blocked, by the koids at which they wait; those at one koid stand in the
+/// order in which they blocked. Listing one takes no memory: where there is no room for one more, not
+/// all are listed.
 #[derive(Drop)]
 pub(crate) struct Sleepers {
     pub list: Vec<Sleeper>,
     pub crowded: bool,
+    ghost in_order: { IsNonDecreasingBy (λ s. koid_of s.awaited) list.items },
 }
 
 impl Sleepers {
@@ -50,42 +54,121 @@ impl Sleepers {
         Ok(())
     }
 
-    /// Lists the process in the place of what it waited for before.
+    /// Lists the process behind the others at its koid. One that is listed for packets of a port
+    /// doesn't block there again; if one does, not all are listed.
     pub fn put(&mut self, sleeper: Sleeper)
         ensures { IsPut sleeper self.old.list.items self.old.crowded
             self.new.list.items self.new.crowded }
     {
-        self.list.retain(|other| other.pid != sleeper.pid);
-        if self.list.len() < self.list.capacity() {
-            self.list.push_reserved(sleeper);
-        } else {
+        if self.list.len() == self.list.capacity() || self.is_listed(&sleeper) {
             self.crowded = true;
+            return;
         }
+        let place = self.place_behind(sleeper.awaited.koid());
+        let Ok(()) = self.list.insert(place, sleeper) else {
+            unreachable!()
+        };
     }
 
-    /// Drops those at marked objects for which what they wait for is there: they aren't blocked.
-    pub fn drop_due(&mut self, by_koid: &BTreeMap<Koid, Object>, children: &Children, marks: &Marks)
-        requires { IsIndexed children.now by_koid.now.entries }
-        ensures list { self.new.list.items
-            ≡ filter (λ s. not (is_dropped marks.now by_koid.now.entries s)) self.old.list.items }
+    /// Takes out the one at the place.
+    pub fn take(&mut self, place: usize) -> Sleeper
+        requires { place < length self.old.list.items }
+        ensures value { result ≡ slice_index_or self.old.list.items place result }
+        ensures list { self.new.list.items ≡ remove self.old.list.items place }
         ensures crowded { self.new.crowded ≡ self.old.crowded }
     {
-        self.list
-            .retain(|sleeper| !is_dropped(by_koid, children, marks, sleeper));
+        self.list.remove(place)
     }
-}
 
-/// Whether its object is marked, and what it waits for is there.
-fn is_dropped(
-    by_koid: &BTreeMap<Koid, Object>,
-    children: &Children,
-    marks: &Marks,
-    sleeper: &Sleeper,
-) -> bool
-    requires { IsIndexed children.now by_koid.now.entries }
-    ensures { result ≡ is_dropped marks.now by_koid.now.entries sleeper.now }
-{
-    marks.has(sleeper.awaited.koid()) && is_due(by_koid, children, &sleeper.awaited)
+    /// Nobody is listed.
+    pub fn clear(&mut self)
+        ensures list { self.new.list.items ≡ [] }
+        ensures crowded { self.new.crowded ≡ self.old.crowded }
+    {
+        self.list.clear();
+    }
+
+    /// Where the first stands that waits at this koid or a higher one.
+    fn place_of(&self, koid: Koid) -> usize
+        ensures { IsPlace (λ k. k < koid) (λ k. koid ≤ k) self.now.list.items result }
+    {
+        self.list.partition_point(|s| s.awaited.koid() < koid)
+    }
+
+    /// Where the first stands that waits at a higher koid.
+    fn place_behind(&self, koid: Koid) -> usize
+        ensures { IsPlace (λ k. k ≤ koid) (λ k. koid < k) self.now.list.items result }
+    {
+        self.list.partition_point(|s| s.awaited.koid() <= koid)
+    }
+
+    /// Whether the process is listed at the port for whose packets it waits.
+    fn is_listed(&self, sleeper: &Sleeper) -> bool
+        ensures { result ≡ false
+            → IsUnlisted sleeper.now.pid sleeper.now.awaited self.now.list.items }
+    {
+        let Awaited::PacketAt(port) = sleeper.awaited else {
+            return false;
+        };
+        for place in self.place_of(port)..self.place_behind(port) {
+            if self.list[place].pid == sleeper.pid {
+                return true;
+            }
+        }
+        false
+    }
+
+    /// Where the first at the koid stands for which what it waits for is there.
+    fn due_at(&self, by_koid: &BTreeMap<Koid, Object>, children: &Children, koid: Koid) -> Option<usize>
+        requires { IsIndexed children.now by_koid.now.entries }
+        ensures some { IfSome result (IsFirstDue by_koid.now.entries self.now.list.items) }
+        ensures none { IfNone result (NoneDueAt by_koid.now.entries koid self.now.list.items) }
+    {
+        let signals = u64::from(signals_at(by_koid, children, koid).bits());
+        let packets = has_packet(by_koid, koid);
+        for place in self.place_of(koid)..self.place_behind(koid) {
+            if is_given(signals, packets, &self.list[place].awaited) {
+                return Some(place);
+            }
+        }
+        None
+    }
+
+    /// Where one stands for which what it waits for is there, the first at its koid, if there is one
+    /// at these koids.
+    pub fn due_among(
+        &self,
+        by_koid: &BTreeMap<Koid, Object>,
+        children: &Children,
+        koids: &[Koid],
+    ) -> Option<usize>
+        requires { IsIndexed children.now by_koid.now.entries }
+        ensures some { IfSome result (IsFirstDue by_koid.now.entries self.now.list.items) }
+        ensures none { IfNone result
+            (All (λ k. NoneDueAt by_koid.now.entries k self.now.list.items) koids.now) }
+    {
+        for koid in koids {
+            if let Some(place) = self.due_at(by_koid, children, *koid) {
+                return Some(place);
+            }
+        }
+        None
+    }
+
+    /// The same at all koids.
+    pub fn due_anywhere(&self, by_koid: &BTreeMap<Koid, Object>, children: &Children) -> Option<usize>
+        requires { IsIndexed children.now by_koid.now.entries }
+        ensures some { IfSome result (IsFirstDue by_koid.now.entries self.now.list.items) }
+        ensures none { IfNone result
+            (All (λ s. is_due by_koid.now.entries s.awaited ≡ false) self.now.list.items) }
+    {
+        for place in 0..self.list.len() {
+            if is_due(by_koid, children, &self.list[place].awaited) {
+                return Some(place);
+            }
+        }
+        None
+    }
 }
 
 /// Whether what is waited for is there.
@@ -98,11 +181,19 @@ pub(crate) fn is_due(
     requires { IsIndexed children.now by_koid.now.entries }
     ensures { result ≡ is_due by_koid.now.entries awaited.now }
 {
+    let koid = awaited.koid();
+    let signals = u64::from(signals_at(by_koid, children, koid).bits());
+    is_given(signals, has_packet(by_koid, koid), awaited)
+}
+
+/// Whether what is waited for is there, where these signals are active at its object, and packets are
+/// there or aren't.
+fn is_given(signals: u64, packets: bool, awaited: &Awaited) -> bool
+    ensures { result ≡ is_given signals packets awaited.now }
+{
     match awaited {
-        Awaited::SignalOf { koid, mask } => {
-            u64::from(signals_at(by_koid, children, *koid).bits()) & mask != 0
-        }
-        Awaited::PacketAt(port) => has_packet(by_koid, *port),
+        Awaited::SignalOf { mask, .. } => signals & mask != 0,
+        Awaited::PacketAt(_) => packets,
     }
 }
 

@@ -3,8 +3,8 @@
 use bitflags::Flags;
 use std::alloc::AllocError;
 use std::test::Fail;
-use zl_objects::{Asleep, Awaited, Body, Life, Objects, Pair, Wait};
-use zl_rights::{Koid, Signals};
+use zl_objects::{Awaited, Body, Life, Objects, Pair, Wait};
+use zl_rights::{Koid, Pid, Signals};
 
 /// A new event with two handles.
 fn new_event(objects: &mut Objects) -> Result<Koid, AllocError> {
@@ -65,8 +65,14 @@ fn watch(objects: &mut Objects, object: Koid, port: Koid) -> Result<(), AllocErr
 }
 
 /// Says that what was touched was looked at, if no wait is registered, or a single one that doesn't
-/// hold. Answers whether it said so.
+/// hold, and at most 64 processes have what they wait for. Answers whether it said so.
 fn look(objects: &mut Objects) -> bool {
+    for _ in 0..64 {
+        objects.take_due();
+    }
+    if objects.take_due().is_some() {
+        return false;
+    }
     if let Some(wait) = objects.wait_at(0) {
         if objects.wait_at(1).is_some() || objects.signals_of(wait.object).intersects(wait.mask) {
             return false;
@@ -320,29 +326,80 @@ fn block(objects: &mut Objects, pid: u64, koid: Koid) {
     objects.sleep(pid, Awaited::SignalOf { koid, mask });
 }
 
+/// The process waits for a packet of the port.
+fn block_at_port(objects: &mut Objects, pid: u64, port: Koid) {
+    objects.sleep(pid, Awaited::PacketAt(port));
+}
+
+/// The next process that has what it waits for.
+fn next(objects: &mut Objects) -> Option<Pid> {
+    Some(objects.take_due()?.pid)
+}
+
 #[test]
 fn who_may_wake_is_told_by_the_objects_that_were_touched(rt: HostRuntime) -> Result<(), Fail> {
     let mut objects = Objects::new(rt.alloc())?;
     let (event, other) = (new_event(&mut objects)?, new_event(&mut objects)?);
     block(&mut objects, 7, event);
     block(&mut objects, 8, other);
-    assert_eq!(rt; objects.may_wake(), Asleep::Nobody);
+    assert_eq!(rt; next(&mut objects), None);
     signal(&mut objects, event);
-    assert_eq!(rt; objects.may_wake(), Asleep::One(7));
+    assert_eq!(rt; next(&mut objects), Some(7));
+    assert_eq!(rt; next(&mut objects), None);
     signal(&mut objects, other);
-    assert_eq!(rt; objects.may_wake(), Asleep::Several);
+    assert_eq!(rt; next(&mut objects), Some(8));
+    assert_eq!(rt; next(&mut objects), None);
     Ok(())
 }
 
 #[test]
-fn a_process_that_blocks_twice_at_an_object_is_alone_there(rt: HostRuntime) -> Result<(), Fail> {
+fn those_at_one_object_come_in_the_order_in_which_they_blocked(rt: HostRuntime) -> Result<(), Fail> {
     let mut objects = Objects::new(rt.alloc())?;
-    let event = new_event(&mut objects)?;
-    block(&mut objects, 7, event);
-    block(&mut objects, 7, event);
-    signal(&mut objects, event);
-    assert_eq!(rt; objects.may_wake(), Asleep::One(7));
+    let (event, other) = (new_event(&mut objects)?, new_event(&mut objects)?);
+    block(&mut objects, 9, other);
     block(&mut objects, 8, event);
-    assert_eq!(rt; objects.may_wake(), Asleep::Several);
+    block(&mut objects, 7, other);
+    block(&mut objects, 6, event);
+    signal(&mut objects, event);
+    assert_eq!(rt; next(&mut objects), Some(8));
+    assert_eq!(rt; next(&mut objects), Some(6));
+    assert_eq!(rt; next(&mut objects), None);
+    signal(&mut objects, other);
+    assert_eq!(rt; next(&mut objects), Some(9));
+    assert_eq!(rt; next(&mut objects), Some(7));
+    assert_eq!(rt; next(&mut objects), None);
+    Ok(())
+}
+
+#[test]
+fn those_at_two_touched_objects_come_one_object_after_another(rt: HostRuntime) -> Result<(), Fail> {
+    let mut objects = Objects::new(rt.alloc())?;
+    let (event, port) = (new_event(&mut objects)?, new_port(&mut objects)?);
+    block_at_port(&mut objects, 9, port);
+    block(&mut objects, 8, event);
+    block_at_port(&mut objects, 7, port);
+    watch(&mut objects, event, port)?;
+    signal(&mut objects, event);
+    assert_eq!(rt; next(&mut objects), Some(8));
+    assert_eq!(rt; next(&mut objects), None);
+    objects.fire(event, Signals::SIGNALED);
+    assert_eq!(rt; next(&mut objects), Some(9));
+    assert_eq!(rt; next(&mut objects), Some(7));
+    assert_eq!(rt; next(&mut objects), None);
+    Ok(())
+}
+
+#[test]
+fn where_there_is_no_room_nobody_is_listed(rt: HostRuntime) -> Result<(), Fail> {
+    let mut objects = Objects::new(rt.alloc())?;
+    let (event, other) = (new_event(&mut objects)?, new_event(&mut objects)?);
+    block_all(&mut objects, 2, event);
+    assert!(rt; !objects.is_crowded());
+    block(&mut objects, 66, other);
+    assert!(rt; objects.is_crowded());
+    objects.forget_sleepers();
+    signal(&mut objects, event);
+    assert_eq!(rt; next(&mut objects), None);
+    assert!(rt; !objects.is_quiet());
     Ok(())
 }

@@ -1,12 +1,11 @@
 -- Objects that are the same but for waits and the places for their packets: the world sees the same, and the invariant holds.
 use Rattle.zl_calls.proofs.Common.{◌≡◌, ℕ, Bool, ◌==◌, List, [], ◌∷◌, map, refl, sym, ap, ◌∙◌, subst, Option, Some, None, inl, inr, IsTrue, cases_Bool}
-use Rattle.zl_calls.proofs.Common.{eqb-true, false≢true, same_Some, is_some, Map, get, has_key, update, kind_of, handles_to, Objects, Agrees, object_entry}
+use Rattle.zl_calls.proofs.Common.{eqb-true, false, false≢true, same_Some, is_some, Map, get, has_key, update, kind_of, handles_to, Objects, Agrees, object_entry}
 use Rattle.zl_calls.proofs.Common.{body_value, world_value, AreNamed, IsConsistent, IsNamed, World, Entry, Watch, Port, without_place, watching, at_port}
 use Rattle.zl_calls.proofs.Common.{changed_port, at_port_of, unwatched, unwatching, waits_in, AreBeside}
 use Rattle.zl_code.proofs.Common.{each}
 use Rattle.std.specs.List.{find}
 use Rattle.zl_port.specs.Packets.{with_place}
-use Rattle.zl_objects.specs.declared.awaited.Asleep.TheVariants as asleep
 use Rattle.zl_objects.specs.declared.object.Body.{Body}
 use Rattle.zl_objects.specs.declared.object.Body.TheVariants as body
 use Rattle.zl_objects.specs.declared.object.Object.{Object}
@@ -103,7 +102,7 @@ place_bare f same o = λ i. record {
   body = by_body o.body i;
   signals = record { raised = o.signals.raised; waits = [] };
   handles = o.handles;
-  asleep = asleep.Nobody;
+  asleep = false;
 }
   where
     by_body : (b : Body) → unreserved (changed_port f b) ≡ unreserved b

@@ -41,7 +41,7 @@ module _ {ps : List Process} {r : Objects} {blocked : List ℕ} {pid place : ℕ
         list = rw (same_list p.pid (item.Call p.pid name o) blocked goes)
             (left_blocked (set ps place p2) r2 blocked (still_blocked writes (unblocked turn)
             (policed_unblocked lib r2 turn.consistent writes (ready turn) s o judged) blocked turn.are));
-        fewer = λ k. omega arith;
+        fewer = λ test there. refl;
         asleep = same_sleepers s p p2 r r2 o judged;
         acts = record {
           pid_is = refl;

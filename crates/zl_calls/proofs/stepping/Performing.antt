@@ -8,6 +8,7 @@ use Rattle.zl_calls.proofs.Common.{object_entry, Acted, pid_of, CallName, Outcom
 use Rattle.zl_calls.proofs.Common.{then_blocked, is_blocking, has_seen, ◌<◌, length, slice_get, slice_get-get_or, get_or_from_slice_get, Parts, parts}
 use Rattle.zl_code.proofs.Common.{Object as ObjectValue, Process as ProcessValue, Body, is_blocked}
 use Rattle.zl_code.specs.declared.history.TraceItem.TheVariants as item
+use Rattle.zl_calls.specs.Blocked.{AreLeft}
 use Rattle.zl_calls.specs.declared.process.State.{State}
 use Rattle.zl_calls.specs.declared.process.State.TheVariants as state
 use Rattle.zl_calls.specs.declared.process.Process.{Process}
@@ -36,11 +37,11 @@ pub absent : {A : Type 0} (ps : List Process) (pid : ℕ) (o : Option A) → get
 absent ps pid None missing = rw missing refl
 absent ps pid (Some x) missing = tt
 
--- what a step did to the processes and objects, where these block, none more often than before
+-- what a step did to the processes and objects, where these block, in the order in which they did before
 pub record HasActed (lib : Library) (before after : List Process) (r r2 : Objects) (blocked blocked2 : List ℕ) (pid : ℕ) (x : TraceItem) : Type 0 where
   pub consistent : IsConsistent after r2
   pub list : AreBlocked after (then_blocked pid x blocked2)
-  pub fewer : (k : ℕ) → times k blocked2 ≤ times k blocked
+  pub fewer : AreLeft blocked blocked2
   pub asleep : KeepSleepers r r2
   pub acts : DoesNext lib (world_blocked before r blocked) pid x (world_left after r2 (then_blocked pid x blocked2))
 
@@ -131,7 +132,7 @@ module _ {ps : List Process} {r : Objects} {blocked : List ℕ} {pid place : ℕ
         → HasLeft lib ps after r r2 blocked blocked pid x
     left_with after r2 x same goes looks keeps list acts lists = record {
       consistent = left_keeps after r2 keeps;
-      fewer = λ k. omega arith;
+      fewer = λ test there. refl;
       asleep = lists.asleep;
       list = rw (same_list pid x blocked goes) (left_blocked after r2 blocked list);
       acts = record {
@@ -155,7 +156,7 @@ module _ {ps : List Process} {r : Objects} {blocked : List ℕ} {pid place : ℕ
         → IsAsleep lib ps r r2 p p2 name o → HasLeft lib ps (set ps place p2) r r2 blocked blocked pid (item.Call pid name o)
     blocks_so name o p2 r2 write free sleeps = rw (sleeps.ends, sleeps.objects, ← key) (record {
       consistent = left_keeps (set ps place p2) r (asleep_keeps lib r2 turn.consistent write ready name o sleeps);
-      fewer = λ k. omega arith;
+      fewer = λ test there. refl;
       asleep = (refl, refl);
       list = left_blocked (set ps place p2) r _ (asleep_list lib r2 turn.consistent write ready name o sleeps blocked turn.are);
       acts = record { pid_is = refl; acted = asleep_acts lib r2 turn.consistent write ready name o sleeps blocked free turn.sound };
@@ -167,7 +168,7 @@ module _ {ps : List Process} {r : Objects} {blocked : List ℕ} {pid place : ℕ
         → HasLeft lib ps (set ps place p2) r r2 blocked blocked pid (item.Call pid name o)
     looks_so name o p2 r2 write still free looks = rw (← key) (record {
       consistent = left_keeps (set ps place p2) r2 looks.called.keeps;
-      fewer = λ k. omega arith;
+      fewer = λ test there. refl;
       asleep = looks.asleep;
       list = rw (same_list p.pid (item.Call p.pid name o) blocked looks.goes)
           (left_blocked (set ps place p2) r2 blocked (still_blocked write unblocked still blocked turn.are));
@@ -220,7 +221,7 @@ module _ {ps : List Process} {r : Objects} {blocked : List ℕ} {pid place : ℕ
         refusal_keeps write r turn.consistent (ap (λ (q : Process). q.table) cpu) (ap (λ (q : Process). q.state) cpu) in
         record {
           consistent = keeps;
-          fewer = λ k. omega arith;
+          fewer = λ test there. refl;
           asleep = (refl, refl);
           list = still_blocked write unblocked (ap (λ (q : Process). is_blocked (state_value q.state)) cpu ∙ unblocked) blocked turn.are;
           acts = record {

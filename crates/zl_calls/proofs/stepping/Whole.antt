@@ -4,11 +4,11 @@ use Rattle.zl_calls.proofs.Common.{DoesNext, EndsUnheld, FiresWaits, IsConsisten
 use Rattle.zl_calls.proofs.Common.{world_blocked, world_left, refl, subst}
 use Rattle.zl_code.proofs.Common.{woken}
 use Rattle.zl_rights.specs.Wakes.{fired}
-use Rattle.zl_objects.specs.Awaited.{AreSameButSleepers}
 use Rattle.zl_objects.specs.Calm.{holds_now, is_due}
 use Rattle.zl_objects.specs.declared.awaited.Awaited.{Awaited}
-use Rattle.zl_calls.specs.Blocked.{AreSought, IsWhole}
+use Rattle.zl_calls.specs.Blocked.{AreLeft, AreOrdered, AreSought, IsWhole}
 use Rattle.zl_calls.specs.Blocking.{FallsAsleep}
+use Rattle.zl_calls.specs.Waking.{Wakes}
 use Rattle.zl_calls.specs.World.{awaited_of}
 use Rattle.zl_calls.specs.Woke.{HaveLeft, StepsAndWakes}
 use Rattle.zl_calls.specs.declared.process.Process.{Process}
@@ -17,18 +17,20 @@ use Rattle.zl_calls.specs.declared.waking.Woke.TheVariants as woke
 use Rattle.zl_calls.proofs.objects.SameButWaits.{beside_consistent}
 use Rattle.zl_calls.proofs.stepping.Covered.{stepped_covered}
 use Rattle.zl_calls.proofs.stepping.StepItems.{machine_value, stepped_awake, stepped_programs, stepped_sound, takes_step}
-use Rattle.zl_calls.proofs.waking.Quiet.{none_due, none_holding, quiet_fires, quiet_wakes}
-use Rattle.zl_calls.proofs.waking.StillBlocked.{acted_sought, asleep_world, calmed_consistent, calmed_world, same_seeks, woken_sought}
+use Rattle.zl_calls.proofs.waking.Ordered.{same_ordered}
+use Rattle.zl_calls.proofs.waking.Quiet.{none_holding, quiet_fires, quiet_wakes}
+use Rattle.zl_calls.proofs.waking.StillBlocked.{acted_ordered, acted_sought, asleep_world, moved_last, same_seeks}
 
 module _ (lib : Library) (ps : List Process) (r : Objects) (b : List ℕ) (room : ℕ) (pid : ℕ) (x : TraceItem) (whole : IsWhole lib ps r b room) where
   -- a step leads to such a world again
   pub stepped_whole : (ps2 : List Process) (r2 : Objects) (b2 : List ℕ) (room2 : ℕ) → TakesStep (machine_value lib ps r b) pid (machine_value lib ps2 r2 b2) x
-      → IsConsistent ps2 r2 → AreBlocked ps2 b2 → AreSought ps2 r2 → length ps2 ≤ room2 → IsWhole lib ps2 r2 b2 room2
-  stepped_whole ps2 r2 b2 room2 steps consistent list sought enough = record {
+      → IsConsistent ps2 r2 → AreBlocked ps2 b2 → AreSought ps2 r2 → AreOrdered ps2 r2 b2 → length ps2 ≤ room2 → IsWhole lib ps2 r2 b2 room2
+  stepped_whole ps2 r2 b2 room2 steps consistent list sought ordered enough = record {
     consistent = consistent;
     sound = stepped_sound lib ps ps2 r r2 b b2 pid x steps whole.sound;
     are_blocked = list;
     sought = sought;
+    ordered = ordered;
     room = enough;
     awake = stepped_awake lib ps ps2 r r2 b b2 pid x steps;
     programs = stepped_programs lib ps ps2 r r2 b b2 pid x steps whole.programs;
@@ -39,19 +41,31 @@ module _ (lib : Library) (ps : List Process) (r : Objects) (b : List ℕ) (room 
   -- the process has acted, waits have ended with their handles, and what it waits for is known
   module _ (ps1 : List Process) (r1 left asleep : Objects) (b1 : List ℕ)
       (does : DoesNext lib (world_blocked ps r b) pid x (world_left ps1 r1 (then_blocked pid x b1))) (list : AreBlocked ps1 (then_blocked pid x b1))
-      (fewer : (k : ℕ) → times k b1 ≤ times k b) (kept : KeepSleepers r r1) (unheld : EndsUnheld ps1 r1 left) (falls : FallsAsleep ps1 pid x left asleep) where
+      (left_so : AreLeft b b1) (kept : KeepSleepers r r1) (unheld : EndsUnheld ps1 r1 left) (falls : FallsAsleep ps1 pid x left asleep) where
     pub asleep_consistent : IsConsistent ps1 asleep
     asleep_consistent = beside_consistent ps1 left asleep falls.beside unheld.consistent
 
+    both_kept : KeepSleepers r left
+    both_kept = (unheld.asleep.0 ∙ kept.0, unheld.asleep.1 ∙ kept.1)
+
+    gets_known : (k : ℕ) (a : Awaited) → Seeks r k a → Seeks asleep k a
+    gets_known k a there = falls.others k a (same_seeks r left both_kept k a there)
+
     pub known : AreSought ps1 asleep
-    known =
-        acted_sought lib ps ps1 r r1 asleep b b1 pid x whole.sound does whole.are_blocked list fewer whole.sought
-        (λ k a apart there. falls.others k a apart
-        (same_seeks r left (unheld.asleep.0 ∙ kept.0, unheld.asleep.1 ∙ kept.1) k a there)) falls.itself
+    known = acted_sought lib ps ps1 r r1 asleep b b1 pid x whole.sound does whole.are_blocked list left_so whole.sought gets_known falls.itself
+
+    -- in the order in which they blocked
+    pub ordered : AreOrdered ps1 asleep (then_blocked pid x b1)
+    ordered = acted_ordered lib ps ps1 r r1 asleep b b1 pid x whole.sound does whole.are_blocked list left_so whole.sought gets_known falls.itself whole.ordered
+        (λ silent. let same = falls.same silent in (same.0 ∙ both_kept.0, same.1 ∙ both_kept.1))
+        (λ told a is. moved_last pid r left asleep a both_kept (falls.last told a is))
 
     -- and it is known once waits have fired
     pub fired_known : (fires : Objects) → FiresWaits ps1 asleep fires → AreSought ps1 fires
     fired_known fires fired_so k p a ds at is = same_seeks asleep fires fired_so.asleep k (awaited_of a) (known k p a ds at is)
+
+    pub fired_ordered : (fires : Objects) → FiresWaits ps1 asleep fires → AreOrdered ps1 fires (then_blocked pid x b1)
+    fired_ordered fires fired_so = same_ordered ps1 asleep fires (then_blocked pid x b1) fired_so.asleep ordered
 
     -- nothing is due
     module _ (none : list_any (holds_now asleep.objects) asleep.waits ≡ false) (quiet : (k : ℕ) (a : Awaited) → Seeks asleep k a → is_due asleep.objects a ≡
@@ -66,32 +80,19 @@ module _ (lib : Library) (ps : List Process) (r : Objects) (b : List ℕ) (room 
             (then_blocked pid x b1))) refl
 
         pub quiet_whole : (room2 : ℕ) → length ps1 ≤ room2 → IsWhole lib ps1 asleep (then_blocked pid x b1) room2
-        quiet_whole room2 enough = stepped_whole ps1 asleep (then_blocked pid x b1) room2 quiet_step.takes asleep_consistent list known enough
+        quiet_whole room2 enough = stepped_whole ps1 asleep (then_blocked pid x b1) room2 quiet_step.takes asleep_consistent list known ordered enough
 
     -- waits fire, and processes wake
-    module _ (fires : Objects) (fired_so : FiresWaits ps1 asleep fires) (ps2 : List Process) (r2 : Objects) (b2 : List ℕ)
-        (wakes_so : world_blocked ps2 r2 b2 ≡ fold woken (world_blocked ps1 fires (then_blocked pid x b1)) (then_blocked pid x b1)) (list2 : AreBlocked ps2 b2)
-        (consistent2 : IsConsistent ps2 r2) (kept2 : KeepSleepers fires r2) (w : Woke) (told : HaveLeft (then_blocked pid x b1) w b2) where
-      woken_step : StepsAndWakes (machine_value lib ps r b) pid (machine_value lib ps2 r2 b2) x w
+    module _ (fires : Objects) (fired_so : FiresWaits ps1 asleep fires) (ps2 : List Process) (r2 : Objects) (b2 : List ℕ) (w : Woke)
+        (wakes_so : Wakes ps1 fires (then_blocked pid x b1) w ps2 r2 b2) where
+      pub woken_step : StepsAndWakes (machine_value lib ps r b) pid (machine_value lib ps2 r2 b2) x w
       woken_step =
           takes_step lib ps r b pid ps1 ps2 r1 left fires r2 (then_blocked pid x b1) b2 x w does unheld
-          (fired_so.world (then_blocked pid x b1) ∙ ap fired (asleep_world ps1 pid x left asleep falls (then_blocked pid x b1))) wakes_so told
-
-      awake : wakes (world_blocked ps2 r2 b2) ≡ world_blocked ps2 r2 b2
-      awake = stepped_awake lib ps ps2 r r2 b b2 pid x woken_step.takes
+          (fired_so.world (then_blocked pid x b1) ∙ ap fired (asleep_world ps1 pid x left asleep falls (then_blocked pid x b1))) wakes_so.wakes wakes_so.told
 
       pub nothing_holds : list_any (holds_now r2.objects) r2.waits ≡ false
-      nothing_holds = none_holding ps2 r2 consistent2 b2 list2 awake
+      nothing_holds = none_holding ps2 r2 wakes_so.consistent b2 (stepped_awake lib ps ps2 r r2 b b2 pid x woken_step.takes)
 
-      -- and the objects are calm
-      module _ (r3 : Objects) (same : AreSameButSleepers r2 r3) (calms : (k : ℕ) (a : Awaited) → is_due r2.objects a ≡ false → Seeks r2 k a → Seeks r3 k a)
-        where
-          pub calmed_step : StepsAndWakes (machine_value lib ps r b) pid (machine_value lib ps2 r3 b2) x w
-          calmed_step = subst (λ (v : World). StepsAndWakes (machine_value lib ps r b) pid (record { programs = lib; world = v }) x w)
-              (sym (calmed_world ps2 r2 r3 same b2)) woken_step
-
-          pub calmed_whole : (room2 : ℕ) → length ps2 ≤ room2 → IsWhole lib ps2 r3 b2 room2
-          calmed_whole room2 enough =
-              stepped_whole ps2 r3 b2 room2 calmed_step.takes (calmed_consistent ps2 r2 r3 same consistent2) list2
-              (λ k p a ds at is. calms k (awaited_of a) (none_due ps2 r2 consistent2 b2 list2 awake k p a ds at is)
-              (woken_sought ps1 ps2 fires r2 (then_blocked pid x b1) b2 wakes_so list2 kept2 (fired_known fires fired_so) k p a ds at is)) enough
+      pub woken_whole : (room2 : ℕ) → length ps2 ≤ room2 → IsWhole lib ps2 r2 b2 room2
+      woken_whole room2 enough =
+          stepped_whole ps2 r2 b2 room2 woken_step.takes wakes_so.consistent wakes_so.list wakes_so.sought wakes_so.ordered enough

@@ -22,6 +22,7 @@ use Rattle.zl_code.specs.Jobs.{is_within as is_within_value, with_killed}
 use Rattle.zl_code.specs.Sound.{IsSound as IsSoundWorld}
 use Rattle.zl_code.specs.declared.history.Outcome.TheVariants as outcome
 use Rattle.zl_objects.specs.Jobs.{all_killed}
+use Rattle.zl_calls.specs.Blocked.{AreLeft}
 use Rattle.zl_calls.specs.declared.process.Process.{Process}
 use Rattle.zl_calls.specs.declared.process.State.{State}
 use Rattle.zl_calls.specs.declared.process.State.TheVariants as state
@@ -32,7 +33,7 @@ use Rattle.zl_calls.proofs.waking.BlockedLists.{same_list, still_blocked}
 use Rattle.zl_calls.proofs.objects.Counting.{sum_update, naming, numbered, numbered_naming}
 use Rattle.zl_calls.proofs.processes.Departed.{left_all, left_blocked, left_keeps, settled_world}
 use Rattle.zl_calls.proofs.waits.LeftWaits.{left_by}
-use Rattle.zl_calls.proofs.waking.StillBlocked.{fewer_times}
+use Rattle.zl_calls.proofs.waking.Ordered.{left_filtered}
 use Rattle.zl_calls.proofs.stepping.Performing.{HasLeft}
 use Rattle.zl_calls.proofs.tasks.KillSound.{all_noted, tables_from, AllTables, AreAllGone, gone_of, killed_sound, killed_with, numbered_all}
 use Rattle.zl_calls.proofs.tasks.KillSound.{numbered_sorted, in_tables, named_killed}
@@ -155,7 +156,7 @@ module _ (lib : Library) (ps : List Process) (r : Objects) (blocked : List ℕ) 
     (next : next_for lib (process_value p) ≡ AtCall name s) where
   -- a call behind which this is left, in the midst of all that waits
   pub leaves_so : (after : List Process) (r1 r2 : Objects) (blocked2 : List ℕ) (o : Outcome) → is_blocking o ≡ false → IsSettled after r1 r2
-      → AreBlocked after blocked2 → ((k : ℕ) → times k blocked2 ≤ times k blocked)
+      → AreBlocked after blocked2 → AreLeft blocked blocked2
       → PolicedCalls lib (world_blocked ps r blocked) p.pid s o (with_waiters (world_value after r1) r.waits r.waits_made blocked2)
       → ListsBut r.waits r.waits_made r r2
       → HasLeft lib ps after r r2 blocked blocked2 p.pid (item.Call p.pid name o)
@@ -325,8 +326,8 @@ module _ (lib : Library) (ps : List Process) (r : Objects) (whole : IsConsistent
             let same : x ≡ q = sym (was_blocked (is_within r.objects t k) x (ap (λ (y : ProcessValue). is_blocked y.state) became ∙ h)) ∙ became in
             are.counters k q (at ∙ ap Some same) h
 
-    fewer_blocked : (k : ℕ) → times k all2.blocked ≤ times k blocked
-    fewer_blocked k = rw kills.blocked (fewer_times _ k blocked)
+    fewer_blocked : AreLeft blocked all2.blocked
+    fewer_blocked = rw kills.blocked (left_filtered _ blocked)
 
     lists : ListsBut r.waits r.waits_made r all2.objects
     lists = kills.listed.listed

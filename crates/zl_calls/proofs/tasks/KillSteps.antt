@@ -81,7 +81,7 @@ module _ {ps : List Process} {r : Objects} {blocked : List ℕ} {pid place : ℕ
         under_pid (outcome.Answered answer) after_it r blocked
         (leaves_so lib ps r blocked turn.sound p (itself turn).there is_ready_process name s next after_it r r blocked (outcome.Answered answer) refl
         (record { consistent = keeps; settles = still_settles after_it r keeps }) (still_blocked write_told still still blocked turn.are)
-        (λ k. omega arith) refused_calls_so (record { waits = λ test h. refl; made = refl; asleep = (refl, refl) }))
+        (λ test there. refl) refused_calls_so (record { waits = λ test h. refl; made = refl; asleep = (refl, refl) }))
 
   -- ---- it is done
 

@@ -14,13 +14,9 @@ use Rattle.zl_calls.specs.World.{awaited_of}
 use Rattle.zl_calls.specs.declared.process.Process.{Process}
 use Rattle.zl_calls.proofs.objects.Active.{signals_active}
 use Rattle.zl_calls.proofs.waits.Firing.{fired_none}
-use Rattle.zl_calls.proofs.Common.{AreBlocked, eq-eqb, eqb-true, get-put, inl, inr, or_cases, packet_values, same_Some, subst, wakes, ◌==◌}
-use Rattle.zl_rights.specs.World.{PortBody, Ready}
-use Rattle.zl_rights.specs.Wakes.{made_ready, with_body}
-use Rattle.zl_rights.proofs.Settling.{among}
-use Rattle.zl_rights.proofs.Waking.{IsLater, none_holds, turns-later, woken-stays}
-use Rattle.zl_port.specs.Packets.{Port}
-use Rattle.zl_calls.proofs.waking.StillBlocked.{listed_there}
+use Rattle.zl_calls.proofs.Common.{subst, wakes}
+use Rattle.zl_rights.specs.Wakes.{made_ready}
+use Rattle.zl_rights.proofs.Waking.{none_holds}
 
 module _ (ps : List Process) (r : Objects) (consistent : IsConsistent ps r) where
   active_there : (blocked : List ℕ) (k : ℕ) → active (world_blocked ps r blocked) k ≡ signals_at r.objects k
@@ -83,74 +79,10 @@ module _ (ps : List Process) (r : Objects) (consistent : IsConsistent ps r) wher
     quiet_wakes quiet [] = refl
     quiet_wakes quiet (q ∷ qs) = ap (λ (w : World). fold woken w qs) (idle q (quiet q)) ∙ quiet_wakes quiet qs
 
-    -- ---- where waking changes nothing
-
-    -- after its turn the process is ready, if what it waits for is there
-    turned : (q : ℕ) (p : ProcessValue) (a : AwaitedValue) (ds : List ℕ) → get (map process_entry ps) q ≡ Some p → p.state ≡ Blocked a ds
-        → woken (world_blocked ps r blocked) q ≡ world_blocked ps r blocked → is_due r.objects (awaited_of a) ≡ false
-    unfolding woken made_ready
-    turned q p a ds there is same = by_awaited a is
-      where
-        ready_there : (w : World) (values : List ℕ) → w.processes ≡ map process_entry ps
-            → made_ready w q p ds values ≡ world_blocked ps r blocked → ⊥
-        ready_there w values still made =
-            let put_there : Some (record p { state = Ready; cpu = answered p.cpu ds values }) ≡ Some p =
-            sym (get-put w.processes q (record p { state = Ready; cpu = answered p.cpu ds values }) q ∙ rw (eq-eqb q q refl) refl)
-            ∙ (ap (λ (v : World). get v.processes q) made ∙ there) in
-            ready_blocked (ap (λ (y : ProcessValue). y.state) (same_Some (record p { state = Ready; cpu = answered p.cpu ds values }) p put_there) ∙ is)
-          where
-            ready_blocked : Ready ≡ Blocked a ds → ⊥
-            ready_blocked h = cc
-
-        by_awaited : (b : AwaitedValue) → p.state ≡ Blocked b ds → is_due r.objects (awaited_of b) ≡ false
-        by_awaited (SignalOf k mask) state = by_test (meets (signals_at r.objects k) mask) refl
-          where
-            by_test : (b : Bool) → meets (signals_at r.objects k) mask ≡ b → b ≡ false
-            by_test false due = refl
-            by_test true due = absurd (ready_there (world_blocked ps r blocked) (0 ∷ active (world_blocked ps r blocked) k ∷ []) refl
-                (sym (rw (there, state, active_there blocked k, due) refl) ∙ same))
-        by_awaited (PacketAt k) state = by_object (get r.objects k) refl
-          where
-            by_packets : (o : Object) → get r.objects k ≡ Some o → (own : Port) → o.body ≡ body.Port own → (xs : List Packet) → own.packets ≡ xs
-                → not (is_empty xs) ≡ false
-            by_packets o at own port [] packets = refl
-            by_packets o at own port (x ∷ xs) packets = absurd (ready_there
-                (with_body (world_blocked ps r blocked) k (object_value o) (PortBody xs)) (0 ∷ packet_values x) refl
-                (sym (rw (there, state, get_seen r.objects k, at, port, packets) refl) ∙ same))
-
-            by_body : (o : Object) → get r.objects k ≡ Some o → (b : Body) → o.body ≡ b → not (is_empty (packets_of b)) ≡ false
-            by_body o at (body.Port own) port = by_packets o at own port own.packets refl
-            by_body o at _ other = refl
-
-            by_object : (o : Option Object) → get r.objects k ≡ o → not (is_empty (packets_in o)) ≡ false
-            by_object None at = refl
-            by_object (Some o) at = by_body o at o.body refl
-
--- another turn of a process that had one and is still blocked changes nothing
-turns_stay : (u : World) (ps : List ℕ) (q : ℕ) → IsTrue (among ps q) → IsTrue (among (fold woken u ps).blocked q) → woken (fold woken u ps) q ≡ fold woken u ps
-turns_stay u [] q inside blocked = absurd (false≢true inside)
-turns_stay u (p ∷ ps) q inside blocked = elim (or_cases (p == q) (among ps q) inside) as
-    (λ _. woken (fold woken (woken u p) ps) q ≡ fold woken (woken u p) ps) [
-      | inl same ↦ woken-stays u (fold woken (woken u p) ps) q
-          (subst (λ x. IsLater (woken u x) (fold woken (woken u p) ps)) (eqb-true p q same) (turns-later (woken u p) ps)) blocked
-      | inr later ↦ turns_stay (woken u p) ps q later blocked
-    ]
-
-awake_still : (w : World) → wakes w ≡ w → (q : ℕ) → IsTrue (among w.blocked q) → woken w q ≡ w
-unfolding wakes
-awake_still w same q inside = subst (λ (v : World). woken v q ≡ v) same
-    (turns_stay (fired w) w.blocked q inside (ap (λ (v : World). among v.blocked q) same ∙ inside))
-
--- in a world in which nothing is due no wait holds, and for no blocked process is there what it waits for
-module _ (ps : List Process) (r : Objects) (consistent : IsConsistent ps r) (blocked : List ℕ) (are : AreBlocked ps blocked)
+-- in a world in which nothing is due no wait holds
+module _ (ps : List Process) (r : Objects) (consistent : IsConsistent ps r) (blocked : List ℕ)
     (awake : wakes (world_blocked ps r blocked) ≡ world_blocked ps r blocked) where
   pub none_holding : list_any (holds_now r.objects) r.waits ≡ false
   none_holding =
       ap (λ (test : Wait → Bool). list_any test r.waits) (sym (holds_there ps r consistent blocked))
       ∙ subst (λ (v : World). list_any (holds v) v.waits ≡ false) awake (none_holds (world_blocked ps r blocked))
-
-  pub none_due : (k : ℕ) (p : ProcessValue) (a : AwaitedValue) (ds : List ℕ) → get (map process_entry ps) k ≡ Some p → p.state ≡ Blocked a ds
-      → is_due r.objects (awaited_of a) ≡ false
-  none_due k p a ds at is =
-      turned ps r consistent blocked k p a ds at is
-      (awake_still (world_blocked ps r blocked) awake k (listed_there ps blocked are k p a ds at is))

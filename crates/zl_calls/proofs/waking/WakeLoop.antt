@@ -104,7 +104,7 @@ module _ (ps : List Process) (blocked : List ℕ) (are : AreBlocked ps blocked) 
   removed_is = removed_one blocked i d pid within at at_most_once
 
 -- one more left the list, in which it stood once
-one_left : (first blocked blocked2 : List ℕ) (pid : ℕ) (w : Woke) → HaveLeft first w blocked → times pid blocked ≡ 1
+pub one_left : (first blocked blocked2 : List ℕ) (pid : ℕ) (w : Woke) → HaveLeft first w blocked → times pid blocked ≡ 1
     → blocked2 ≡ filter (λ q. not (q == pid)) blocked → HaveLeft first (and_one w pid) blocked2
 one_left first blocked blocked2 pid woke.Nobody told once is =
     (ap (times pid) (sym told) ∙ once, is ∙ ap (filter (λ q. not (q == pid))) told)

@@ -10,4 +10,5 @@ returns-then-not-tells_asleep c =
 pub returns-in-Some : goal.returns-in-Some
 returns-in-Some c =
     known_asleep c.args.processes.now.list.items c.args.pid c.args.item.now c.args.objects.now c.sleep.new.self c.in-Some.awaited
-    (sym c.awaited_by.ensures ∙ c.in-Some.is) c.sleep.ensures.there c.sleep.ensures.others c.sleep.ensures.same
+    (sym c.awaited_by.ensures ∙ c.in-Some.is) c.sleep.ensures.there c.sleep.ensures.others c.sleep.ensures.order
+    c.sleep.ensures.same (sym c.tells_asleep.ensures ∙ c.if-not-tells_asleep.false)

@@ -6,6 +6,7 @@ use Rattle.zl_calls.proofs.stepping.Covered.{advanced_covered}
 use Rattle.zl_calls.proofs.stepping.LocalMoves.{moved_awake, moved_keeps, moved_list, moved_world}
 use Rattle.zl_calls.proofs.stepping.Performing.{AtTurn, turn_at, unblocked, write_of}
 use Rattle.zl_calls.proofs.stepping.StepItems.{machine_value}
+use Rattle.zl_calls.proofs.waking.Ordered.{written_ordered}
 use Rattle.zl_calls.proofs.waking.StillBlocked.{written_sought}
 use Rattle.zl_calls.proofs.processes.Started.{set_started}
 use Rattle.zl_calls.proofs.world.World.advance.Goals as goal
@@ -69,6 +70,8 @@ invariant_of-self c = record {
       (p2 (written c)) refl (follows (written c));
   are_blocked = moved_list (turn (written c)) (p2 (written c)) refl;
   sought = written_sought (write_of (turn (written c)) (p2 (written c)) refl) c.self.inside.objects (unblocked (turn (written c))) c.self.invariant.sought;
+  ordered = written_ordered (write_of (turn (written c)) (p2 (written c)) refl) c.self.inside.objects c.self.inside.blocked.items
+      (unblocked (turn (written c))) (unblocked (turn (written c))) c.self.invariant.ordered;
   room = rw (length-set c.self.inside.processes.list.items c.in-Some.place (p2 (written c))) c.self.invariant.room;
   awake = moved_awake (turn (written c)) (p2 (written c)) refl c.self.invariant.awake;
   programs = advanced_programs (turn (written c)) c.self.inside.library c.self.invariant.awake (g (written c)) (program (written c))

@@ -5,6 +5,7 @@ use Rattle.zl_verify.proofs.Covering.{boot_covered}
 use Rattle.zl_calls.proofs.Common.{All-nil, AreBlocked, arith, world_blocked}
 use Rattle.zl_calls.specs.Leaving.{IsStarted}
 use Rattle.zl_calls.proofs.booting.BootBlocked.{booted_boots, booted_sound, none_blocked}
+use Rattle.zl_calls.proofs.waking.Ordered.{none_ordered}
 use Rattle.zl_calls.proofs.waking.StillBlocked.{none_sought}
 use Rattle.zl_calls.proofs.world.World.boot.Goals as goal
 
@@ -31,6 +32,8 @@ invariant_of-result-2 c = record {
       c.in_ok-processes.ensures.ok c.in_ok-processes.ensures.unwatched ((c.in-Ok.ensures {u = tt}).items);
   are_blocked = are c;
   sought = none_sought c.in_ok-processes.field-0.processes.items c.in_ok-processes.field-0.objects c.in-Ok.blocked.items
+      ((c.in-Ok.ensures {u = tt}).items) (are c);
+  ordered = none_ordered c.in_ok-processes.field-0.processes.items c.in_ok-processes.field-0.objects c.in-Ok.blocked.items
       ((c.in-Ok.ensures {u = tt}).items) (are c);
   awake = boot_awake c.args.library c.args.boot.now.statements.items _ (boots c);
   programs = boot_programs c.args.library c.args.boot.now.statements.items _ (boots c);

@@ -1,9 +1,11 @@
-use Rattle.zl_calls.proofs.Common.{◌≡◌, ◌≤◌, ◌∙◌, ℕ, true, false≢true, arith, length, subst, sym, vec_capacity, List, AreBlocked, TakesStep, is_local}
+use Rattle.zl_calls.proofs.Common.{◌≡◌, ◌≤◌, ◌∙◌, ℕ, true, false, false≢true, Seeks, arith, length, subst, sym, vec_capacity, List, AreBlocked, TakesStep, is_local}
 use Rattle.zl_calls.proofs.Common.{then_blocked}
+use Rattle.zl_objects.specs.declared.awaited.Awaited.{Awaited}
+use Rattle.zl_calls.specs.Blocking.{tells_asleep}
 use Rattle.zl_calls.proofs.waking.BlockedLists.{no_more}
-use Rattle.zl_calls.proofs.waking.StillBlocked.{acted_sought, same_seeks, silent}
+use Rattle.zl_calls.proofs.waking.StillBlocked.{acted_ordered, acted_sought, same_seeks, silent}
 use Rattle.zl_calls.proofs.stepping.StepItems.{machine_value, local_list, not_ready_in, takes_local}
-use Rattle.zl_calls.proofs.stepping.Whole.{asleep_consistent, fired_known, calmed_step, calmed_whole, nothing_holds, quiet_step, quiet_whole, stepped_whole}
+use Rattle.zl_calls.proofs.stepping.Whole.{asleep_consistent, fired_known, fired_ordered, nothing_holds, quiet_step, quiet_whole, stepped_whole, woken_step, woken_whole}
 use Rattle.zl_calls.proofs.world.World.step.Goals as goal
 
 pub returns-in_err-item-clause-not_ready : goal.returns-in_err-item-clause-not_ready
@@ -32,29 +34,36 @@ wake-woke-requires-clause-sought c =
     c.act_for.new.blocked.items c.in_ok-item.ensures.acts c.in_ok-item.ensures.list c.in_ok-item.ensures.fewer c.in_ok-item.ensures.asleep
     (c.in_ok-item.ensures.unheld (sym c.is_local.ensures ∙ c.if-is_local.false)) c.fall_asleep.ensures c.fire_waits.new.objects c.fire_waits.ensures
 
-pub calm-requires : goal.calm-requires
-calm-requires c =
+pub wake-woke-requires-clause-ordered : goal.wake-woke-requires-clause-ordered
+wake-woke-requires-clause-ordered c = rw c.add_blocked.ensures.items
+    (fired_ordered c.self.inside.library c.self.inside.processes.list.items c.self.inside.objects c.self.inside.blocked.items
+    (vec_capacity c.self.inside.blocked)
+    c.args.pid c.in_ok-item.item c.self.invariant
+    c.act_for.new.processes.list.items c.act_for.new.objects c.act_for.new.objects c.fall_asleep.new.objects
+    c.act_for.new.blocked.items c.in_ok-item.ensures.acts c.in_ok-item.ensures.list c.in_ok-item.ensures.fewer c.in_ok-item.ensures.asleep
+    (c.in_ok-item.ensures.unheld (sym c.is_local.ensures ∙ c.if-is_local.false)) c.fall_asleep.ensures c.fire_waits.new.objects c.fire_waits.ensures)
+
+pub calm-requires-clause-waits : goal.calm-requires-clause-waits
+calm-requires-clause-waits c =
     nothing_holds c.self.inside.library c.self.inside.processes.list.items c.self.inside.objects c.self.inside.blocked.items
     (vec_capacity c.self.inside.blocked)
     c.args.pid c.in_ok-item.item c.self.invariant
     c.act_for.new.processes.list.items c.act_for.new.objects c.act_for.new.objects c.fall_asleep.new.objects
     c.act_for.new.blocked.items c.in_ok-item.ensures.acts c.in_ok-item.ensures.list c.in_ok-item.ensures.fewer c.in_ok-item.ensures.asleep
     (c.in_ok-item.ensures.unheld (sym c.is_local.ensures ∙ c.if-is_local.false)) c.fall_asleep.ensures
-    c.fire_waits.new.objects c.fire_waits.ensures c.wake-woke.new.processes.list.items c.wake-woke.new.objects c.wake-woke.new.blocked.items
-    (rw c.add_blocked.ensures.items at c.wake-woke.ensures.wakes) c.wake-woke.ensures.list c.wake-woke.ensures.consistent c.wake-woke.ensures.asleep
-    c.wake-woke.result (rw c.add_blocked.ensures.items at c.wake-woke.ensures.told)
+    c.fire_waits.new.objects c.fire_waits.ensures c.wake-woke.new.processes.list.items c.wake-woke.new.objects c.wake-woke.new.blocked.items c.wake-woke.result
+    (rw c.add_blocked.ensures.items at c.wake-woke.ensures.ensures)
 
 pub returns-clause-ran : goal.returns-clause-ran
-returns-clause-ran c = rw (← c.self.view_is)
-    (calmed_step c.self.inside.library c.self.inside.processes.list.items c.self.inside.objects c.self.inside.blocked.items (vec_capacity c.self.inside.blocked)
+returns-clause-ran c = rw (← c.self.view_is, c.calm.ensures)
+    (woken_step c.self.inside.library c.self.inside.processes.list.items c.self.inside.objects c.self.inside.blocked.items
+    (vec_capacity c.self.inside.blocked)
     c.args.pid c.in_ok-item.item c.self.invariant
     c.act_for.new.processes.list.items c.act_for.new.objects c.act_for.new.objects c.fall_asleep.new.objects
     c.act_for.new.blocked.items c.in_ok-item.ensures.acts c.in_ok-item.ensures.list c.in_ok-item.ensures.fewer c.in_ok-item.ensures.asleep
     (c.in_ok-item.ensures.unheld (sym c.is_local.ensures ∙ c.if-is_local.false)) c.fall_asleep.ensures
-    c.fire_waits.new.objects c.fire_waits.ensures c.wake-woke.new.processes.list.items c.wake-woke.new.objects c.wake-woke.new.blocked.items
-    (rw c.add_blocked.ensures.items at c.wake-woke.ensures.wakes) c.wake-woke.ensures.list c.wake-woke.ensures.consistent c.wake-woke.ensures.asleep
-    c.wake-woke.result (rw c.add_blocked.ensures.items at c.wake-woke.ensures.told)
-    c.calm.new.self c.calm.ensures.same c.calm.ensures.sleepers)
+    c.fire_waits.new.objects c.fire_waits.ensures c.wake-woke.new.processes.list.items c.wake-woke.new.objects c.wake-woke.new.blocked.items c.wake-woke.result
+    (rw c.add_blocked.ensures.items at c.wake-woke.ensures.ensures))
 
 pub add_blocked-requires : goal.add_blocked-requires
 add_blocked-requires c =
@@ -63,17 +72,16 @@ add_blocked-requires c =
     omega (arith, few, c.act_for.ensures.room)
 
 pub invariant_of-self-2 : goal.invariant_of-self-2
-invariant_of-self-2 c =
-    calmed_whole c.self.inside.library c.self.inside.processes.list.items c.self.inside.objects c.self.inside.blocked.items (vec_capacity c.self.inside.blocked)
+invariant_of-self-2 c = rw c.calm.ensures
+    (woken_whole c.self.inside.library c.self.inside.processes.list.items c.self.inside.objects c.self.inside.blocked.items
+    (vec_capacity c.self.inside.blocked)
     c.args.pid c.in_ok-item.item c.self.invariant
     c.act_for.new.processes.list.items c.act_for.new.objects c.act_for.new.objects c.fall_asleep.new.objects
     c.act_for.new.blocked.items c.in_ok-item.ensures.acts c.in_ok-item.ensures.list c.in_ok-item.ensures.fewer c.in_ok-item.ensures.asleep
     (c.in_ok-item.ensures.unheld (sym c.is_local.ensures ∙ c.if-is_local.false)) c.fall_asleep.ensures
-    c.fire_waits.new.objects c.fire_waits.ensures c.wake-woke.new.processes.list.items c.wake-woke.new.objects c.wake-woke.new.blocked.items
-    (rw c.add_blocked.ensures.items at c.wake-woke.ensures.wakes) c.wake-woke.ensures.list c.wake-woke.ensures.consistent c.wake-woke.ensures.asleep
-    c.wake-woke.result (rw c.add_blocked.ensures.items at c.wake-woke.ensures.told)
-    c.calm.new.self c.calm.ensures.same c.calm.ensures.sleepers (vec_capacity c.wake-woke.new.blocked)
-    (omega (arith, c.wake-woke.ensures.count, c.wake-woke.ensures.capacity, c.add_blocked.ensures.capacity, c.act_for.ensures.room))
+    c.fire_waits.new.objects c.fire_waits.ensures c.wake-woke.new.processes.list.items c.wake-woke.new.objects c.wake-woke.new.blocked.items c.wake-woke.result
+    (rw c.add_blocked.ensures.items at c.wake-woke.ensures.ensures) (vec_capacity c.wake-woke.new.blocked)
+    (omega (arith, c.wake-woke.ensures.ensures.count, c.wake-woke.ensures.capacity, c.add_blocked.ensures.capacity, c.act_for.ensures.room)))
 
 -- ---- nothing waits there
 
@@ -117,6 +125,9 @@ invariant_of-self-then-is_local c =
     let list : AreBlocked c.act_for.new.processes.list.items c.act_for.new.blocked.items =
     subst (λ (ks : List ℕ). AreBlocked c.act_for.new.processes.list.items ks)
     (local_list c.args.pid c.in_ok-item.item c.act_for.new.blocked.items local) c.in_ok-item.ensures.list in
+    let known : (k : ℕ) (a : Awaited) → Seeks c.self.inside.objects k a → Seeks c.act_for.new.objects k a =
+    λ k a there. same_seeks c.self.inside.objects c.act_for.new.objects c.in_ok-item.ensures.asleep k a there in
+    let none : tells_asleep c.in_ok-item.item ≡ false = silent c.in_ok-item.item local in
     stepped_whole c.self.inside.library c.self.inside.processes.list.items c.self.inside.objects c.self.inside.blocked.items
     (vec_capacity c.self.inside.blocked)
     c.args.pid c.in_ok-item.item c.self.invariant
@@ -125,6 +136,11 @@ invariant_of-self-then-is_local c =
     (acted_sought c.self.inside.library c.self.inside.processes.list.items c.act_for.new.processes.list.items c.self.inside.objects c.act_for.new.objects
     c.act_for.new.objects c.self.inside.blocked.items c.act_for.new.blocked.items c.args.pid c.in_ok-item.item c.self.invariant.sound
     c.in_ok-item.ensures.acts c.self.invariant.are_blocked c.in_ok-item.ensures.list c.in_ok-item.ensures.fewer c.self.invariant.sought
-    (λ k a apart there. same_seeks c.self.inside.objects c.act_for.new.objects c.in_ok-item.ensures.asleep k a there)
-    (λ told. absurd (false≢true (sym (silent c.in_ok-item.item local) ∙ told))))
+    known (λ told. absurd (false≢true (sym none ∙ told))))
+    (rw (local_list c.args.pid c.in_ok-item.item c.act_for.new.blocked.items local) at
+    (acted_ordered c.self.inside.library c.self.inside.processes.list.items c.act_for.new.processes.list.items c.self.inside.objects c.act_for.new.objects
+    c.act_for.new.objects c.self.inside.blocked.items c.act_for.new.blocked.items c.args.pid c.in_ok-item.item c.self.invariant.sound
+    c.in_ok-item.ensures.acts c.self.invariant.are_blocked c.in_ok-item.ensures.list c.in_ok-item.ensures.fewer c.self.invariant.sought
+    known (λ told. absurd (false≢true (sym none ∙ told))) c.self.invariant.ordered (λ silent_so. c.in_ok-item.ensures.asleep)
+    (λ told. absurd (false≢true (sym none ∙ told)))))
     c.act_for.ensures.room

@@ -2,23 +2,24 @@ use Rattle.std.proofs.Common.{◌≡◌, ◌∙◌, sym, vec_capacity}
 use Rattle.zl_rights.specs.Map.{update}
 use Rattle.zl_objects.specs.Awaited.{koid_of}
 use Rattle.zl_objects.specs.Calm.{slept}
-use Rattle.zl_objects.proofs.CalmMade.{keeps_slept, put_calm, put_others, put_there, slept_calm}
+use Rattle.zl_objects.proofs.CalmMade.{keeps_slept, slept_calm}
 use Rattle.zl_objects.proofs.Index.{kept_indexed}
 use Rattle.zl_objects.proofs.Kept.{slept_kept}
+use Rattle.zl_objects.proofs.Sleeping.{put_calm, put_order, put_others, put_there}
 use Rattle.zl_objects.proofs.objects.Objects.sleep.Goals as goal
 
 pub is_due-requires : goal.is_due-requires
 is_due-requires c =
-    kept_indexed (slept c.args.pid) (keeps_slept c.args.pid) (koid_of c.args.awaited) c.self.invariant.indexed
+    kept_indexed slept keeps_slept (koid_of c.args.awaited) c.self.invariant.indexed
     (rw c.koid-koid.ensures at c.note_slept.ensures.objects)
 
 pub invariant_of-self-2 : goal.invariant_of-self-2
 invariant_of-self-2 c =
-    let noted : c.note_slept.new.by_koid.entries ≡ update c.self.inside.by_koid.entries (koid_of c.args.awaited) (slept c.args.pid) =
+    let noted : c.note_slept.new.by_koid.entries ≡ update c.self.inside.by_koid.entries (koid_of c.args.awaited) slept =
     rw c.koid-koid.ensures at c.note_slept.ensures.objects in
     record {
       kept =
-          slept_kept c.args.pid c.self.inside.by_koid.entries c.note_slept.new.by_koid.entries c.self.inside.next_koid (vec_capacity c.self.inside.dying)
+          slept_kept c.self.inside.by_koid.entries c.note_slept.new.by_koid.entries c.self.inside.next_koid (vec_capacity c.self.inside.dying)
           (koid_of c.args.awaited) c.self.inside.dying.items c.self.invariant.kept noted;
       calm = put_calm c.add_if.ensures.more c.self.inside.by_koid.entries c.note_slept.new.by_koid.entries
           (record { pid = c.args.pid; awaited = c.args.awaited }) c.self.inside.sleepers.list.items
@@ -26,24 +27,27 @@ invariant_of-self-2 c =
           (c.self.invariant.kept.whole.below (koid_of c.args.awaited) (rw c.koid-koid.ensures at
           (sym c.note_slept.ensures.there ∙ c.if-not-note_slept.false))) noted c.is_due.ensures
           (rw c.koid-koid.ensures at c.add_if.ensures.wanted) c.put.ensures c.self.invariant.calm;
-      indexed = kept_indexed (slept c.args.pid) (keeps_slept c.args.pid) (koid_of c.args.awaited) c.self.invariant.indexed noted;
+      indexed = kept_indexed slept keeps_slept (koid_of c.args.awaited) c.self.invariant.indexed noted;
     }
 
 -- the object isn't there
 pub invariant_of-self : goal.invariant_of-self
 invariant_of-self c =
-    let noted : c.note_slept.new.by_koid.entries ≡ update c.self.inside.by_koid.entries (koid_of c.args.awaited) (slept c.args.pid) =
+    let noted : c.note_slept.new.by_koid.entries ≡ update c.self.inside.by_koid.entries (koid_of c.args.awaited) slept =
     rw c.koid-koid.ensures at c.note_slept.ensures.objects in
     record {
       kept =
-          slept_kept c.args.pid c.self.inside.by_koid.entries c.note_slept.new.by_koid.entries c.self.inside.next_koid (vec_capacity c.self.inside.dying)
+          slept_kept c.self.inside.by_koid.entries c.note_slept.new.by_koid.entries c.self.inside.next_koid (vec_capacity c.self.inside.dying)
           (koid_of c.args.awaited) c.self.inside.dying.items c.self.invariant.kept noted;
-      calm = slept_calm c.args.pid c.self.inside.by_koid.entries c.note_slept.new.by_koid.entries (koid_of c.args.awaited) noted c.self.invariant.calm;
-      indexed = kept_indexed (slept c.args.pid) (keeps_slept c.args.pid) (koid_of c.args.awaited) c.self.invariant.indexed noted;
+      calm = slept_calm c.self.inside.by_koid.entries c.note_slept.new.by_koid.entries (koid_of c.args.awaited) noted c.self.invariant.calm;
+      indexed = kept_indexed slept keeps_slept (koid_of c.args.awaited) c.self.invariant.indexed noted;
     }
 
 pub returns-clause-there : goal.returns-clause-there
 returns-clause-there c = put_there _ _ _ _ _ c.put.ensures
 
 pub returns-clause-others : goal.returns-clause-others
-returns-clause-others c = λ other a apart there. put_others _ _ _ _ _ c.put.ensures (record { pid = other; awaited = a }) apart (rw (← c.self.view_is) at there)
+returns-clause-others c = λ other a there. put_others _ _ _ _ _ c.put.ensures (record { pid = other; awaited = a }) (rw (← c.self.view_is) at there)
+
+pub returns-clause-order : goal.returns-clause-order
+returns-clause-order c = rw (← c.self.view_is) (put_order _ _ _ _ _ c.put.ensures)

@@ -1,15 +1,16 @@
-use Rattle.std.proofs.Common.{rules, ◌++◌, ◌∷◌, [], List, ap, inl, inr, refl, ◌∙◌}
-use Rattle.std.proofs.lemmas.Fn.{filter_same}
-use Rattle.zl_objects.specs.declared.awaited.Sleeper.{Sleeper}
+use Rattle.std.proofs.Common.{inl, is_ok, refl, rules}
+use Rattle.zl_objects.proofs.Sleeping.{insert_in_order, insert_listed}
 use Rattle.zl_objects.proofs.sleepers.Sleepers.put.Goals as goal
 
-pub returns-then-len-capacity : goal.returns-then-len-capacity
-returns-then-len-capacity c =
-    inl (
-      refl,
-      c.push_reserved.ensures.items ∙ ap (λ (xs : List Sleeper). xs ++ c.args.sleeper ∷ []) (filter_same _ _ _ (λ x b f' k. search rules) _ _
-          c.retain.ensures.filtered),
-    )
+pub invariant_of-self-2 : goal.invariant_of-self-2
+invariant_of-self-2 c = record {
+  in_order = insert_in_order c.args.sleeper c.args.self.now.list.items c.place_behind-place.result (rw c.koid.ensures at c.place_behind-place.ensures)
+      c.args.self.now.in_order (is_ok c.insert.result) c.insert.new.self.items c.insert.ensures.items;
+}
 
-pub returns-else-len-capacity : goal.returns-else-len-capacity
-returns-else-len-capacity c = inr (refl, filter_same _ _ _ (λ x b f' k. search rules) _ _ c.retain.ensures.filtered)
+pub returns : goal.returns
+returns c = inl (
+  refl,
+  insert_listed c.args.sleeper c.args.self.now.list.items c.place_behind-place.result (rw c.koid.ensures at c.place_behind-place.ensures)
+      c.insert.new.self.items (c.in-Ok.ensures {u = tt}).items (c.if-is_listed.ensures {u = tt} refl),
+)

@@ -1,0 +1,12 @@
+use Rattle.std.specs.Prelude.{◌≡◌, length}
+use Rattle.std.specs.Vec.{vec_capacity}
+use Rattle.zl_calls.proofs.waking.Listed.{IsWakingListed}
+use Rattle.zl_calls.proofs.waking.wake_listed.Given as goal
+
+abbrev pub invariant-loop-sleeper : goal.invariant-loop-sleeper
+invariant-loop-sleeper l =
+    IsWakingListed l.fn.processes.list.items l.fn.objects l.fn.blocked.items l.processes.list.items l.objects l.blocked.items l.woke
+    × (vec_capacity l.blocked ≡ vec_capacity l.fn.blocked)
+
+abbrev pub decreases-loop-sleeper : goal.decreases-loop-sleeper
+decreases-loop-sleeper l = length l.objects.sleepers

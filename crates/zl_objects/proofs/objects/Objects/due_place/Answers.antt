@@ -1,0 +1,14 @@
+use Rattle.std.proofs.Common.{None, Option, Some}
+use Rattle.std.specs.Option.{IfNone}
+use Rattle.zl_objects.proofs.Sleeping.{none_due}
+use Rattle.zl_objects.proofs.objects.Objects.due_place.Goals as goal
+
+where_none : {X : Type 0} (o : Option X) {P Q : Type 0} → IfNone o P → (P → Q) → IfNone o Q
+where_none None h f = f h
+where_none (Some x) h f = h
+
+pub returns-in-Some-clause-none : goal.returns-in-Some-clause-none
+returns-in-Some-clause-none c =
+    rw (← c.self.view_is) (where_none c.due_among.result c.due_among.ensures.none
+    (λ none. none_due c.self.inside.by_koid.entries c.self.inside.sleepers.list.items c.in-Some.koids.now (c.in-Some.ensures {u = tt}) none
+    c.self.invariant.calm))

@@ -1,0 +1,14 @@
+use Rattle.std.proofs.lemmas.List.Elements.{All-more, All-same}
+use Rattle.std.proofs.lemmas.List.{take_all}
+use Rattle.std.proofs.Common.{sym}
+use Rattle.zl_objects.specs.Sleepers.{NoneDueAt}
+use Rattle.zl_objects.proofs.sleepers.Sleepers.due_among.Goals as goal
+
+pub loop-koid-preserved : goal.loop-koid-preserved
+loop-koid-preserved c =
+    All-more (λ k. NoneDueAt c.args.by_koid.now.entries k c.args.self.now.list.items) c.args.koids.now c.loop-koid.koid-index 0 c.loop-koid-test.true
+    c.loop-koid.invariant (c.in_default.ensures.none)
+
+pub returns-clause-none : goal.returns-clause-none
+returns-clause-none c = All-same (λ k. NoneDueAt c.args.by_koid.now.entries k c.args.self.now.list.items) _ _
+    (sym (take_all c.loop-koid.koid-index c.args.koids.now c.loop-koid-test.false)) c.loop-koid.invariant

@@ -1,0 +1,7 @@
+use Rattle.std.specs.Prelude.{take}
+use Rattle.std.specs.List.{All}
+use Rattle.zl_objects.specs.Sleepers.{NoneDueAt}
+use Rattle.zl_objects.proofs.sleepers.Sleepers.due_among.Given as goal
+
+abbrev pub invariant-loop-koid : goal.invariant-loop-koid
+invariant-loop-koid l = All (λ k. NoneDueAt l.by_koid.entries k l.self.list.items) (take l.koid-index l.koids)

@@ -1,0 +1,6 @@
+use Rattle.zl_objects.specs.Calm.{is_due}
+use Rattle.zl_objects.proofs.Sleeping.{HasLooked}
+use Rattle.zl_objects.proofs.sleepers.Sleepers.due_at.Given as goal
+
+abbrev pub invariant-loop-place : goal.invariant-loop-place
+invariant-loop-place l = HasLooked (λ s. is_due l.by_koid.entries s.awaited) l.koid l.self.list.items l.place

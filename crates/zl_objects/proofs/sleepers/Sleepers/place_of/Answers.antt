@@ -1,0 +1,21 @@
+use Rattle.std.proofs.Common.{◌<◌, ◌≤◌, List, arith, ltb, rules, subst, sym}
+use Rattle.std.specs.List.Sorted.{IsPartitionedBy}
+use Rattle.std.proofs.lemmas.Bool.{ltb-false, ltb-true}
+use Rattle.std.proofs.lemmas.List.Sorted.{IsPartitionPoint-from_clause, IsPartitionedBy-ltb}
+use Rattle.zl_objects.specs.declared.awaited.Sleeper.{Sleeper}
+use Rattle.zl_objects.specs.Awaited.{koid_of}
+use Rattle.zl_objects.specs.Sleepers.{IsPlace}
+use Rattle.zl_objects.proofs.sleepers.Sleepers.place_of.Goals as goal
+
+pub returns : goal.returns
+returns c =
+    let seen = c.deref.ensures.value in
+    let parted = subst (IsPartitionedBy (λ (s : Sleeper). ltb (koid_of s.awaited) c.args.koid)) (sym seen)
+    (IsPartitionedBy-ltb (λ s. koid_of s.awaited) c.args.self.now.list.items c.args.koid c.args.self.now.in_order) in
+    let point = IsPartitionPoint-from_clause (λ s. ltb (koid_of s.awaited) c.args.koid) c.deref.result.now c.partition_point.result
+    c.partition_point.ensures.partitioned parted (λ a r q k. search rules) in
+    subst (λ (xs : List Sleeper). IsPlace (λ k. k < c.args.koid) (λ k. c.args.koid ≤ k) xs c.partition_point.result) seen (record {
+      within = c.partition_point.ensures.bound;
+      before = λ i d low. ltb-true _ _ (point.0 i d (omega arith) low);
+      behind = λ i d high inside. ltb-false _ _ (point.1 i d high inside);
+    })

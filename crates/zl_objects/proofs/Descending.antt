@@ -10,6 +10,8 @@ use Rattle.std.specs.Cmp.{unsigned_tied}
 use Rattle.std.specs.declared.ops.Bound.TheVariants.{Excluded, Included}
 use Rattle.std.proofs.lemmas.Bool.{or_cases}
 use Rattle.std.proofs.lemmas.List.Folds.{list_any-append}
+use Rattle.std.proofs.lemmas.List.Sorted.{list_any-IsPermutation}
+use Rattle.std.specs.List.Sorted.{IsPermutation}
 use Rattle.zl_rights.proofs.MapLaws.{get-each}
 use Rattle.zl_table.proofs.MapEdits.{below_parts, sorted_parts}
 use Rattle.zl_objects.specs.declared.children.Children.{Children}
@@ -123,7 +125,7 @@ HasUntil children job n last ks = (c : ℕ) → 0 < c → c ≤ last → IsTrue 
 module _ (children : Children) (job n last : ℕ) (ks : List ℕ) where
   -- none is left
   pub until_all : HasUntil children job n last ks → IsNextListed children job last None → HasBelow children job (suc n) ks
-  until_all until no_more m indexed none some k there h = by_way (through m job n k h)
+  until_all until no_more m indexed none some k h = by_way (through m job n k h)
     where
       by_way : Through m job n k → IsTrue (is_among k ks)
       by_way t = elim (cases_Bool (nat_lt last t.way)) [
@@ -136,11 +138,11 @@ module _ (children : Children) (job n last : ℕ) (ks : List ℕ) where
 
           by_below : (t.way ≡ k) ⊎ IsTrue (is_below_by m t.way n k) → IsTrue (is_among t.way ks) × HasBelow children t.way n ks → IsTrue (is_among k ks)
           by_below (inl is) has = ap (λ j. is_among j ks) (sym is) ∙ has.0
-          by_below (inr later) has = has.1 m indexed none (let some : 0 < t.way = stands.0 in grind (arith, nat_tests, some)) k there later
+          by_below (inr later) has = has.1 m indexed none (let some : 0 < t.way = stands.0 in grind (arith, nat_tests, some)) k later
 
 pub no_levels : (children : Children) (job : ℕ) (ks : List ℕ) → HasBelow children job 0 ks
 unfolding is_below_by
-no_levels children job ks m indexed none some k there h = absurd (false≢true h)
+no_levels children job ks m indexed none some k h = absurd (false≢true h)
 
 -- ---- a kill of those that were listed
 
@@ -170,10 +172,10 @@ module _ (f : ℕ → Object → Object) (k : ℕ) (h : Object → Object) where
         rw (apart, other) (ap (λ (es : Map Object). (e.0, f e.0 e.1) ∷ es) (each_then m (sorted_parts e m sorted).1))
   ]
 
-each_same : (f g : ℕ → Object → Object) (m : Map Object) → ((j : ℕ) (o : Object) → IsTrue (has_key m j) → f j o ≡ g j o) → each f m ≡ each g m
-unfolding each get
+each_same : (f g : ℕ → Object → Object) (m : Map Object) → ((j : ℕ) (o : Object) → f j o ≡ g j o) → each f m ≡ each g m
+unfolding each
 each_same f g [] same = refl
-each_same f g (e ∷ m) same = λ i. (e.0, same e.0 e.1 (rw (eq-eqb e.0 e.0 refl) refl) i) ∷ each_same f g m (λ j o there. same j o (behind_first e m j there)) i
+each_same f g (e ∷ m) same = λ i. (e.0, same e.0 e.1 i) ∷ each_same f g m same i
 
 killed_twice : (o : Object) → killed (killed o) ≡ killed o
 killed_twice o = ap (λ (b : Body). record o { body = b }) (twice o.body)
@@ -202,7 +204,7 @@ module _ (m : Map Object) (task : ℕ) (sorted : IsTrue (is_sorted nat_cmp m)) w
   one_among now new ks k within is one set =
       set ∙ (ap (λ b. update now k (killed_if b)) (one ∙ (ap (λ n. is_within n task k) is ∙ same_within (λ j. killed_if (done j))
       (λ j. if_stays (done j)) m task k)) ∙ (ap (λ n. update n k (killed_if (is_within m task k))) is
-      ∙ (each_then (λ j. killed_if (done j)) k (killed_if (is_within m task k)) m sorted ∙ each_same _ _ m (λ j o there. by_key j o (cases_Bool (k == j))))))
+      ∙ (each_then (λ j. killed_if (done j)) k (killed_if (is_within m task k)) m sorted ∙ each_same _ _ m (λ j o. by_key j o (cases_Bool (k == j))))))
     where
       done : ℕ → Bool
       done j = is_within m task j && is_among j ks
@@ -226,11 +228,18 @@ module _ (m : Map Object) (task : ℕ) (sorted : IsTrue (is_sorted nat_cmp m)) w
   -- all that matter were looked at
   pub all_among : (ks : List ℕ) → HasTask m task ks → killed_among m task ks ≡ all_killed m task
   unfolding all_killed
-  all_among ks has = each_same _ _ m (λ j o there. by_test j o there (is_within m task j) refl)
+  all_among ks has = each_same _ _ m (λ j o. by_test j o (is_within m task j) refl)
     where
-      by_test : (j : ℕ) (o : Object) → IsTrue (has_key m j) → (b : Bool) → is_within m task j ≡ b → killed_if (b && is_among j ks) o ≡ killed_if b o
-      by_test j o there false is = refl
-      by_test j o there true is = rw (has.within j there is) refl
+      by_test : (j : ℕ) (o : Object) (b : Bool) → is_within m task j ≡ b → killed_if (b && is_among j ks) o ≡ killed_if b o
+      by_test j o false is = refl
+      by_test j o true is = rw (has.within j is) refl
+
+-- what was listed, in another order
+pub has_moved : (m : Map Object) (task : ℕ) (ks ls : List ℕ) → IsPermutation ks ls → HasTask m task ks → HasTask m task ls
+has_moved m task ks ls moved has = record {
+  above = sym (list_any-IsPermutation (λ x. x == parent_at m task) ks ls moved) ∙ has.above;
+  within = λ k h. sym (list_any-IsPermutation (λ x. x == k) ks ls moved) ∙ has.within k h;
+}
 
 -- ---- a sweep of those that were listed
 
@@ -265,9 +274,9 @@ module _ (m : Map Object) (task : ℕ) (ks : List ℕ) (has : HasTask m task ks)
   kills j o = killed_if (is_within m task j) o
 
   -- a job that lost a living child is among them
-  lost : (k : ℕ) → IsTrue (has_key m k) → IsTrue (has_living_child m k) → has_living_child (each kills m) k ≡ false → IsTrue (is_among k ks)
+  lost : (k : ℕ) → IsTrue (has_living_child m k) → has_living_child (each kills m) k ≡ false → IsTrue (is_among k ks)
   unfolding has_living_child is_below_by
-  lost k there some none =
+  lost k some none =
       let found : Found (λ e. is_child k e.1.body) m = any_found (λ e. is_child k e.1.body) m kept.in_order some in
       by_child found.key found.value found.at found.passes (cases_Bool (is_within m task found.key))
     where
@@ -281,7 +290,7 @@ module _ (m : Map Object) (task : ℕ) (ks : List ℕ) (has : HasTask m task ks)
           let parts = and_parts (not (task == 0)) _ within in
           elim (or_cases (c == task) _ parts.1) [
             | inl here ↦ ap (λ j. is_among j ks) (sym up ∙ ap (parent_at m) (eqb-true c task here)) ∙ has.above
-            | inr below ↦ has.within k there (and_from (not (task == 0)) _ parts.0 (by_level parts.0
+            | inr below ↦ has.within k (and_from (not (task == 0)) _ parts.0 (by_level parts.0
                 (or_cases (parent_at m c == task) (is_below_by m task 15 (parent_at m c)) (and_parts (not (task == 0)) _ below).1)))
           ]
         where
@@ -305,12 +314,12 @@ module _ (m : Map Object) (task : ℕ) (ks : List ℕ) (has : HasTask m task ks)
         (or_right (is_among k others) _ (by_found k o (get m k) refl (sym (get-each m kills k) ∙ at) unkept));
   }
     where
-      by_body : (k : ℕ) (named : Bool) (b : Body) → IsTrue (has_key m k) → IsTrue (named || stays_alone m k b)
+      by_body : (k : ℕ) (named : Bool) (b : Body) → IsTrue (named || stays_alone m k b)
           → (named || stays_alone (each kills m) k b) ≡ false → IsTrue (is_among k ks)
-      by_body k true b there h loose = absurd (false≢true (sym loose))
-      by_body k false (body.Job own) there h loose = lost k there h loose
-      by_body k false (body.Process job l) there h loose = absurd (false≢true (sym loose ∙ h))
-      by_body k false _ there h loose = absurd (false≢true h)
+      by_body k true b h loose = absurd (false≢true (sym loose))
+      by_body k false (body.Job own) h loose = lost k h loose
+      by_body k false (body.Process job l) h loose = absurd (false≢true (sym loose ∙ h))
+      by_body k false _ h loose = absurd (false≢true h)
 
       was_kept : (k : ℕ) (q : Object) → get m k ≡ Some q → (b : Bool) → is_kept m k q ≡ b → IsTrue b
       was_kept k q at true is = refl
@@ -320,10 +329,10 @@ module _ (m : Map Object) (task : ℕ) (ks : List ℕ) (has : HasTask m task ks)
           → IsTrue (is_among k ks)
       by_found k o None was at unkept = absurd (none-some o at)
       by_found k o (Some q) was at unkept = elim (cases_Bool (is_within m task k)) [
-        | inl within ↦ has.within k (rw was refl) within
+        | inl within ↦ has.within k within
         | inr apart ↦
             let same : q ≡ o = same_Some q o (rw apart at at) in
-            by_body k (nat_lt 0 q.handles) q.body (rw was refl) (was_kept k q was (is_kept m k q) refl) (ap (is_kept (each kills m) k) same ∙ unkept)
+            by_body k (nat_lt 0 q.handles) q.body (was_kept k q was (is_kept m k q) refl) (ap (is_kept (each kills m) k) same ∙ unkept)
       ]
 
 -- as if all objects had been looked at, where something kept each before

@@ -1,4 +1,4 @@
--- Listing a task with what stands below it, and what is done with those that were listed. No public clause cites this module.
+-- Listing a task with what stands below it, and what is done with those that were listed.
 use Rattle.std.specs.Prelude.{ℕ, ◌≡◌, ◌≤◌, ◌<◌, Bool, false, ◌&&◌, ◌==◌, List, Option, Some, None, IsTrue, if◌then◌else◌}
 use Rattle.std.specs.List.{list_any}
 use Rattle.zl_rights.specs.Map.{Map, each, has_key}
@@ -25,12 +25,12 @@ IsNextListed children job last (Some k) = IsListedNext children job last k
 -- whoever comes to the job, going up so many times at most, is among these; 0 is no koid
 abbrev pub HasBelow : Children → ℕ → ℕ → List ℕ → Type 0
 HasBelow children job levels ks = (m : Map Object) → IsIndexed children m → has_key m 0 ≡ false → (job == 0) ≡ false
-    → (k : ℕ) → IsTrue (has_key m k) → IsTrue (is_below_by m job levels k) → IsTrue (is_among k ks)
+    → (k : ℕ) → IsTrue (is_below_by m job levels k) → IsTrue (is_among k ks)
 
 -- the job above the task is among these, the task, and what stands below it
 pub record HasTask (m : Map Object) (task : ℕ) (ks : List ℕ) : Type 0 where
   pub above : IsTrue (is_among (parent_at m task) ks)
-  pub within : (k : ℕ) → IsTrue (has_key m k) → IsTrue (is_within m task k) → IsTrue (is_among k ks)
+  pub within : (k : ℕ) → IsTrue (is_within m task k) → IsTrue (is_among k ks)
 
 -- the objects, where of these the task and what stands below it was killed
 abbrev pub killed_among : Map Object → ℕ → List ℕ → Map Object

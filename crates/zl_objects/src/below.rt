@@ -11,6 +11,14 @@ use std::collections::BTreeMap;
 use zl_jobs::Job;
 use zl_rights::Koid;
 
+/// The job above a task, the task and what stands below it, and perhaps others, in rising order of their
+/// koids; but not all of these, where it isn't whole.
+#[derive(Drop)]
+pub struct TaskList {
+    pub koids: Vec<Koid>,
+    pub whole: bool,
+}
+
 /// Lists the koid, if there is room for one more. Says whether there was.
 fn note(found: &mut Vec<Koid>, koid: Koid) -> bool
     ensures noted { result ≡ true → IsTrue (is_among koid found.new.items) }

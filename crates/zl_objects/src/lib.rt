@@ -33,6 +33,7 @@ mod wait;
 mod waits;
 
 pub use awaited::{Awaited, Sleeper};
+pub use below::TaskList;
 pub use due::Due;
 pub use object::{Body, Life, Object, Pair};
 pub use objects::Objects;

@@ -1,7 +1,9 @@
 //! How processes start and end, and how jobs and processes are killed.
 
-ghost use Rattle.std.specs.Prelude.{[], ◌≡◌, IfSome};
+ghost use Rattle.std.specs.Prelude.{[], true, ◌≡◌, IfSome};
+ghost use Rattle.std.specs.List.Sorted.{IsNonDecreasing};
 ghost use Rattle.zl_rights.specs.Map.{get};
+ghost use Rattle.zl_objects.specs.Below.{HasTask};
 ghost use Rattle.zl_objects.specs.Jobs.{killing};
 ghost use Rattle.zl_objects.specs.Listed.{LeavesListed};
 ghost use Rattle.zl_objects.specs.Objects.{job_in, starting, stopping};
@@ -9,7 +11,7 @@ ghost use Rattle.zl_objects.specs.Release.{all_koids, AreKeptBut, Ends, Releases
 ghost use Rattle.zl_objects.specs.Seen.{LeavesLargest};
 ghost use Rattle.zl_objects.specs.Waits.{HavePlaces, LeavesWaits};
 
-use crate::below::list_task;
+use crate::below::{TaskList, list_task};
 use crate::killing::kill_task;
 use crate::object::Object;
 use crate::objects::Objects;
@@ -49,16 +51,45 @@ impl Objects {
         }
     }
 
+    /// Lists the job above the task, the task and what stands below it, for `kill`. It takes no memory,
+    /// and the list is to be given to `put_back`: where another was not, or there is too little room,
+    /// it isn't whole.
+    ///
+    /// Source: own profile.
+    pub fn list_task(&mut self, task: Koid) -> TaskList
+        ensures task { result.whole ≡ true
+            → HasTask self.old.objects task result.koids.items }
+        ensures rising { IsNonDecreasing result.koids.items }
+        ensures unchanged { self.new ≡ self.old }
+    {
+        let none = Vec::new(*self.below.allocator());
+        let mut koids = std::mem::replace(&mut self.below, none);
+        let whole = list_task(&self.by_koid, &self.children, &mut koids, task);
+        koids.sort_unstable();
+        TaskList { koids, whole }
+    }
+
+    /// Keeps the room of the list for the next one.
+    ///
+    /// Source: own profile.
+    pub fn put_back(&mut self, list: TaskList)
+        ensures { self.new ≡ self.old }
+    {
+        self.below = list.koids;
+    }
+
     /// The job is killed, and each job below it, and the processes below it are over; or the
     /// process is over, if it is one. What isn't held any more goes, with the waits as in `release`.
     /// It takes no memory. The handles of the processes are to be closed by `release`. 0 is no koid:
     /// nothing is killed for it.
     ///
-    /// It looks at the task, at what stands below it and at the job above. So the largest held set is
+    /// It looks at those of the list of the task alone, if that is whole. So the largest held set is
     /// left where something kept each object before.
     ///
     /// Source: the page "zx_task_kill" of the Fuchsia documentation.
-    pub fn kill(&mut self, task: Koid)
+    pub fn kill(&mut self, task: Koid, list: &TaskList)
+        requires { list.now.whole ≡ true
+            → HasTask self.old.objects task list.now.koids.items }
         ensures releases { AreKeptBut [] self.old.objects
             → Releases [] (all_koids self.old.objects) (killing self.old task) self.new }
         ensures largest { AreKeptBut [] self.old.objects
@@ -67,14 +98,13 @@ impl Objects {
         ensures places { HavePlaces self.new.objects }
         ensures listed { LeavesListed self.old self.new }
     {
-        let listed = list_task(&self.by_koid, &self.children, &mut self.below, task);
         kill_task(
             &mut self.by_koid,
             &mut self.marks,
             task,
             self.next_koid,
-            self.below.as_slice(),
-            listed,
+            list.koids.as_slice(),
+            list.whole,
         );
         sweep_task(
             &mut self.by_koid,
@@ -83,8 +113,8 @@ impl Objects {
             &mut self.dying,
             &mut self.marks,
             self.next_koid,
-            self.below.as_slice(),
-            listed,
+            list.koids.as_slice(),
+            list.whole,
         );
     }
 

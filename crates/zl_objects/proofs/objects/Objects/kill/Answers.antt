@@ -15,13 +15,6 @@ use Rattle.zl_objects.proofs.Tasks.{killed_kept}
 use Rattle.zl_objects.proofs.Unlisted.{left_seen}
 use Rattle.zl_objects.proofs.objects.Objects.kill.Goals as goal
 
-pub kill_task-requires : goal.kill_task-requires
-kill_task-requires c = record {
-  in_order = c.self.invariant.indexed.in_order;
-  below = c.self.invariant.kept.whole.below;
-  listed = λ all. rw (c.as_slice.ensures.value) (c.list_task-listed.ensures all);
-}
-
 pub sweep_task-requires : goal.sweep_task-requires
 sweep_task-requires c =
     let kept : IsKept None c.kill_task.new.by_koid.entries c.self.inside.next_koid c.self.inside.dying.items (vec_capacity c.self.inside.dying)
@@ -45,9 +38,9 @@ invariant_of-self c = record {
 
 pub returns-clause-releases : goal.returns-clause-releases
 returns-clause-releases c = rw (← c.self.view_is) (λ before. released [] _ _ _ _ _ _ _ _ _ [] (all_swept c.self.inside.by_koid.entries
-    c.sweep_task.new.by_koid.entries c.args.task c.list_task-listed.result c.as_slice-2.result.now
-    (λ all. rw (c.as_slice-2.ensures.value) (c.list_task-listed.ensures all)) before
-    (subst (λ (m : Map Object). LetsGo [] m (looked_at c.list_task-listed.result c.as_slice-2.result.now m) c.sweep_task.new.by_koid.entries [])
+    c.sweep_task.new.by_koid.entries c.args.task c.args.list.now.whole c.as_slice-2.result.now
+    (λ all. rw (c.as_slice-2.ensures.value) ((rw (← c.self.view_is) at c.requires) all)) before
+    (subst (λ (m : Map Object). LetsGo [] m (looked_at c.args.list.now.whole c.as_slice-2.result.now m) c.sweep_task.new.by_koid.entries [])
     c.kill_task.ensures.killed c.sweep_task.ensures.goes)) refl refl)
 
 pub returns-clause-largest : goal.returns-clause-largest

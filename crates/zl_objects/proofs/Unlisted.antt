@@ -61,15 +61,6 @@ module _ {X : Type 0} (p : X → Bool) where
       by_test true some later = absurd (none-some x (ap (λ (zs : List X). slice_get zs 0) (sym some)))
       by_test false none later = ap (λ (zs : List X). x ∷ zs) (later none)
 
-  pub none_found_left : (xs : List X) → find p xs ≡ None → filter (λ x. not (p x)) xs ≡ xs
-  none_found_left [] none = refl
-  none_found_left (x ∷ xs) none = by_test (p x) none (none_found_left xs)
-    where
-      by_test : (b : Bool) → cond b (Some x) (find p xs) ≡ None → (find p xs ≡ None → filter (λ y. not (p y)) xs ≡ xs)
-          → cond (not b) (x ∷ filter (λ y. not (p y)) xs) (filter (λ y. not (p y)) xs) ≡ x ∷ xs
-      by_test true some later = absurd (none-some x (sym some))
-      by_test false none later = ap (λ (zs : List X). x ∷ zs) (later none)
-
 -- ---- the waits of one object
 
 -- some have been taken out of the list and of the object, and the others are in both
@@ -142,6 +133,10 @@ module _ {X : Type 0} where
       by_test : (b : Bool) → cond b (Some x) (find p xs) ≡ None → (find p xs ≡ None → list_any p xs ≡ false) → (b || list_any p xs) ≡ false
       by_test true some later = absurd (none-some x (sym some))
       by_test false rest later = later rest
+
+-- none passes, and all stay
+pub none_found_left : {X : Type 0} (p : X → Bool) (xs : List X) → find p xs ≡ None → filter (λ x. not (p x)) xs ≡ xs
+none_found_left p xs none = filter_all p xs (none_any p xs none)
 
 -- the earliest wait for the port, of which the caller sees no more than this
 pub record IsTaken (port : ℕ) (list : List Listed) (w : Wait) : Type 0 where

@@ -74,9 +74,8 @@ HaveCounters ps = (k : ℕ) (p : ProcessValue) → get (map process_entry ps) k 
 
 -- the process woke, which was blocked on what it was listed for; or it wasn't, and nothing changed
 abbrev pub WakesSleeper : Sleeper → Bool → List Process → Objects → List Process → Objects → Type 0
-WakesSleeper s woke ps r ps2 r2 =
-    if woke then (awaited_by (get (map process_entry ps) s.pid) ≡ Some s.awaited) × WakesOne s.pid true ps r ps2 r2 × KeepSleepers r r2
-    else (awaited_by (get (map process_entry ps) s.pid) ≡ Some s.awaited → ⊥) × (ps2 ≡ ps) × (r2 ≡ r)
+WakesSleeper s true ps r ps2 r2 = (awaited_by (get (map process_entry ps) s.pid) ≡ Some s.awaited) × WakesOne s.pid true ps r ps2 r2 × KeepSleepers r r2
+WakesSleeper s false ps r ps2 r2 = (awaited_by (get (map process_entry ps) s.pid) ≡ Some s.awaited → ⊥) × (ps2 ≡ ps) × (r2 ≡ r)
 
 -- each blocked process had its turn, in the order of the list, and these woke; nobody is listed for whom what it waits for is there
 pub record Wakes (ps : List Process) (r : Objects) (blocked : List ℕ) (w : Woke) (ps2 : List Process) (r2 : Objects) (blocked2 : List ℕ) : Type 0 where

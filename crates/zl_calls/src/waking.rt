@@ -97,7 +97,7 @@ pub fn wake(processes: &mut Processes, objects: &mut Objects, blocked: &mut Vec<
     requires list { AreBlocked processes.old.list.items blocked.old.items }
     requires sought { AreSought processes.old.list.items objects.old }
     requires ordered { AreOrdered processes.old.list.items objects.old blocked.old.items }
-    ensures { Wakes processes.old.list.items objects.old blocked.old.items result
+    ensures turns { Wakes processes.old.list.items objects.old blocked.old.items result
         processes.new.list.items objects.new blocked.new.items }
     ensures capacity { vec_capacity blocked.new ≡ vec_capacity blocked.old }
 {
@@ -116,7 +116,7 @@ fn wake_listed(processes: &mut Processes, objects: &mut Objects, blocked: &mut V
     requires sought { AreSought processes.old.list.items objects.old }
     requires ordered { StandInOrder processes.old.list.items objects.old blocked.old.items }
     requires all { objects.old.crowded ≡ false }
-    ensures { Wakes processes.old.list.items objects.old blocked.old.items result
+    ensures turns { Wakes processes.old.list.items objects.old blocked.old.items result
         processes.new.list.items objects.new blocked.new.items }
     ensures capacity { vec_capacity blocked.new ≡ vec_capacity blocked.old }
 {

@@ -244,10 +244,19 @@ module _ (m : Map Object) (list : List Sleeper) (place : ℕ) (is_first : IsFirs
       ap (λ (xs : List Sleeper). listed_for xs port) parts
       ∙ elim (cases_Bool (is_for port s.awaited)) as (λ _. listed_for (take place list ++ s ∷ drop (suc place) list) port
       ≡ (if is_for port s.awaited then s.pid ∷ listed_for (remove list place) port else listed_for (remove list place) port)) [
-        | inl its ↦ rw (its, filter-append test (take place list) (s ∷ drop (suc place) list), filter-append test (take place list) (drop (suc place) list),
-            none_before its, its) refl
-        | inr other ↦ rw (other, filter-append test (take place list) (s ∷ drop (suc place) list), filter-append test (take place list) (drop (suc place) list),
-            other) refl
+        | inl its ↦ rw (
+          its,
+          filter-append test (take place list) (s ∷ drop (suc place) list),
+          filter-append test (take place list) (drop (suc place) list),
+          none_before its,
+          its,
+        ) refl
+        | inr other ↦ rw (
+          other,
+          filter-append test (take place list) (s ∷ drop (suc place) list),
+          filter-append test (take place list) (drop (suc place) list),
+          other,
+        ) refl
       ]
     where
       test : Sleeper → Bool

@@ -32,9 +32,13 @@ impl Awaited {
         ensures { result ≡ is_same self.now other.now }
     {
         match (self, other) {
-            (Awaited::SignalOf { koid, mask }, Awaited::SignalOf { koid: at, mask: watched }) => {
-                koid == at && mask == watched
-            }
+            (
+                Awaited::SignalOf { koid, mask },
+                Awaited::SignalOf {
+                    koid: at,
+                    mask: watched,
+                },
+            ) => { koid == at && mask == watched }
             (Awaited::PacketAt(port), Awaited::PacketAt(at)) => port == at,
             (Awaited::SignalOf { .. }, Awaited::PacketAt(_)) => false,
             (Awaited::PacketAt(_), Awaited::SignalOf { .. }) => false,

@@ -107,8 +107,7 @@ impl Objects {
     /// Source: own profile.
     pub fn calm(&mut self)
         requires waits { list_any (holds_now self.old.objects) self.old.waits ≡ false }
-        requires sleepers {
-            All (λ s. is_due self.old.objects s.awaited ≡ false) self.old.sleepers }
+        requires sleepers { All (λ s. is_due self.old.objects s.awaited ≡ false) self.old.sleepers }
         ensures { self.new ≡ self.old }
     {
         self.marks.clear();

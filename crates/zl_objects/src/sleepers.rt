@@ -119,7 +119,12 @@ impl Sleepers {
     }
 
     /// Where the first at the koid stands for which what it waits for is there.
-    fn due_at(&self, by_koid: &BTreeMap<Koid, Object>, children: &Children, koid: Koid) -> Option<usize>
+    fn due_at(
+        &self,
+        by_koid: &BTreeMap<Koid, Object>,
+        children: &Children,
+        koid: Koid,
+    ) -> Option<usize>
         requires { IsIndexed children.now by_koid.now.entries }
         ensures some { IfSome result (IsFirstDue by_koid.now.entries self.now.list.items) }
         ensures none { IfNone result (NoneDueAt by_koid.now.entries koid self.now.list.items) }
@@ -156,7 +161,11 @@ impl Sleepers {
     }
 
     /// The same at all koids.
-    pub fn due_anywhere(&self, by_koid: &BTreeMap<Koid, Object>, children: &Children) -> Option<usize>
+    pub fn due_anywhere(
+        &self,
+        by_koid: &BTreeMap<Koid, Object>,
+        children: &Children,
+    ) -> Option<usize>
         requires { IsIndexed children.now by_koid.now.entries }
         ensures some { IfSome result (IsFirstDue by_koid.now.entries self.now.list.items) }
         ensures none { IfNone result

@@ -1,13 +1,13 @@
 -- Those that may wake are taken off the list one after another, and all blocked processes have had their turns then.
 use Rattle.zl_calls.proofs.Common.{◌≡◌, ◌≤◌, ◌==◌, ◌⊎◌, ◌&&◌, ℕ, Bool, true, false, not, List, [], ◌∷◌, length, map, refl, sym, ap, ◌∙◌, subst, if◌then◌else◌}
 use Rattle.zl_calls.proofs.Common.{Option, Some, None, inl, inr, IsTrue, arith, cases_Bool, eq-eqb, eqb-true, false≢true, none-some, same_Some, and_parts}
-use Rattle.zl_calls.proofs.Common.{state_passes, get, Objects, object_value, process_entry, world_blocked, IsConsistent, AreBlocked, AreSought, KeepSleepers}
-use Rattle.zl_calls.proofs.Common.{Seeks, World, WakesOne, fold, times, slice_get, is_some, is_empty, signals_at, packets_in, packet_values, meets, option_map}
+use Rattle.zl_calls.proofs.Common.{◌<◌, ◌^◌, get_or, position, state_value, state_passes, get, Objects, object_value, process_entry, world_blocked, IsConsistent, AreBlocked, KeepSleepers}
+use Rattle.zl_calls.proofs.Common.{Seeks, World, WakesOne, fold, times, slice_get, is_some, is_empty, signals_at, packets_in, packet_values, option_map}
 use Rattle.std.specs.Bool.{passes, then_some}
 use Rattle.std.specs.List.{All, Contains, filter}
 use Rattle.std.proofs.lemmas.List.Elements.{All-contains}
 use Rattle.zl_rights.specs.World.{Awaited as AwaitedValue, State, Created, Ready, Ended, Gone, Blocked, PacketAt, SignalOf, Packet}
-use Rattle.zl_code.proofs.Common.{Process as ProcessValue, each, is_blocked, woken}
+use Rattle.zl_code.proofs.Common.{Process as ProcessValue, each, is_blocked, meets, woken}
 use Rattle.zl_code.proofs.Changes.{times-same}
 use Rattle.zl_objects.specs.declared.awaited.Awaited.{Awaited}
 use Rattle.zl_objects.specs.declared.awaited.Awaited.TheVariants as awaits
@@ -17,15 +17,16 @@ use Rattle.zl_objects.specs.Calm.{is_due}
 use Rattle.zl_objects.specs.Sleepers.{TakesDue, is_for, listed_for}
 use Rattle.zl_objects.specs.Waits.{bare}
 use Rattle.zl_objects.proofs.Sleeping.{at_port}
-use Rattle.zl_calls.specs.Blocked.{AreOrdered, StandInOrder, takes_at, takes_from}
+use Rattle.zl_calls.specs.Blocked.{AreOrdered, AreSought, StandInOrder, takes_at, takes_from}
 use Rattle.zl_calls.specs.Blocking.{awaited_by, awaited_in}
-use Rattle.zl_calls.specs.Waking.{Wakes, WakesSleeper, given_awake}
+use Rattle.zl_calls.specs.Waking.{HaveCounters, Wakes, WakesSleeper, given_awake}
 use Rattle.zl_calls.specs.Woke.{HaveLeft, and_one}
 use Rattle.zl_calls.specs.World.{awaited_of}
 use Rattle.zl_calls.specs.declared.process.Process.{Process}
 use Rattle.zl_calls.specs.declared.waking.Woke.{Woke}
 use Rattle.zl_calls.specs.declared.waking.Woke.TheVariants as woke
 use Rattle.zl_calls.proofs.lists.Updates.{sorted_seen}
+use Rattle.zl_calls.proofs.stepping.Performing.{stands_there}
 use Rattle.zl_calls.proofs.objects.SameButWaits.{beside_consistent}
 use Rattle.zl_calls.proofs.waking.Exchange.{AreSorted, other_turn, turn_first}
 use Rattle.zl_calls.proofs.waking.Ordered.{agree, both_filters, takes_awaited, takes_none}
@@ -53,6 +54,11 @@ due_woke Ready r a is = absurd (none-some a is)
 due_woke (Ended code) r a is = absurd (none-some a is)
 due_woke Gone r a is = absurd (none-some a is)
 
+-- the same of the process at a place of the list
+pub due_there : (ps : List Process) (pid place : ℕ) (p : Process) → Some place ≡ position (λ q. q.pid == pid) ps → p ≡ get_or ps place p → (r : Objects) (a : Awaited)
+    → awaited_by (get (map process_entry ps) pid) ≡ Some a → is_some (given_awake (state_value p.state) r) ≡ is_due r.objects a
+due_there ps pid place p found read r a is = due_woke (state_value p.state) r a (rw (stands_there ps pid place p found read) at is)
+
 pub same_awaited : (a b : Awaited) → is_same a b ≡ true → a ≡ b
 same_awaited (awaits.SignalOf k mask) (awaits.SignalOf j mask2) h =
     let both = and_parts (k == j) (mask == mask2) h in λ i. awaits.SignalOf (eqb-true k j both.0 i) (eqb-true mask mask2 both.1 i)
@@ -63,6 +69,35 @@ same_awaited (awaits.PacketAt k) (awaits.SignalOf j mask) h = absurd (false≢tr
 pub awaited_same : (a : Awaited) → is_same a a ≡ true
 awaited_same (awaits.SignalOf k mask) = rw (eq-eqb k k refl, eq-eqb mask mask refl) refl
 awaited_same (awaits.PacketAt k) = eq-eqb k k refl
+
+-- ---- one that is listed
+
+blocked_so : (o : Option ProcessValue) (a : Awaited) → awaited_by o ≡ Some a → state_passes is_blocked o ≡ true
+blocked_so None a h = absurd (none-some a h)
+blocked_so (Some p) a h = by_state p.state h
+  where
+    by_state : (t : State) → awaited_in t ≡ Some a → is_blocked t ≡ true
+    by_state (Blocked b ds) h = refl
+    by_state Created h = absurd (none-some a h)
+    by_state Ready h = absurd (none-some a h)
+    by_state (Ended code) h = absurd (none-some a h)
+    by_state Gone h = absurd (none-some a h)
+
+pub counter_of : (ps : List Process) → HaveCounters ps → (k : ℕ) (a : Awaited) → awaited_by (get (map process_entry ps) k) ≡ Some a → (p : ProcessValue)
+    → get (map process_entry ps) k ≡ Some p → p.cpu.counter < 2 ^ 32
+counter_of ps counters k a is p at = counters k p at (rw at at (blocked_so (get (map process_entry ps) k) a is))
+
+-- what the process waits for is there, so it wakes
+pub sleeper_turn : (s : Sleeper) (woke : Bool) (ps : List Process) (r : Objects) (ps2 : List Process) (r2 : Objects)
+    → awaited_by (get (map process_entry ps) s.pid) ≡ Some s.awaited → woke ≡ true → WakesOne s.pid woke ps r ps2 r2 → KeepSleepers r r2
+    → WakesSleeper s woke ps r ps2 r2
+sleeper_turn s true ps r ps2 r2 is due wakes kept = (is, wakes, kept)
+sleeper_turn s false ps r ps2 r2 is due wakes kept = absurd (false≢true due)
+
+pub sleeper_misses : (s : Sleeper) (woke : Bool) (ps : List Process) (r : Objects) → (awaited_by (get (map process_entry ps) s.pid) ≡ Some s.awaited → ⊥)
+    → woke ≡ false → WakesSleeper s woke ps r ps r
+sleeper_misses s false ps r elsewhere none = (elsewhere, refl, refl)
+sleeper_misses s true ps r elsewhere none = absurd (false≢true (sym none))
 
 -- ---- the loop
 
@@ -142,8 +177,8 @@ module _ (ps0 : List Process) (r0 : Objects) (first : List ℕ) where
         consistent = taken_consistent;
         list = so_far.list;
         sought = λ k p a ds at is. inr (still_listed k p a ds at is (λ same. elsewhere (
-          subst (λ (x : Sleeper). awaited_by (get (map process_entry ps) x.pid) ≡ Some x.awaited) same (rw at (ap awaited_in is))
-        )));
+            subst (λ (x : Sleeper). awaited_by (get (map process_entry ps) x.pid) ≡ Some x.awaited) same (rw at (ap awaited_in is))
+            )));
         stand = λ port. but_it (takes_at ps port) port (nowhere port) ∙ so_far.stand port;
         all = taken_all;
         count = so_far.count;
@@ -170,19 +205,8 @@ module _ (ps0 : List Process) (r0 : Objects) (first : List ℕ) where
         abbrev later : List ℕ
         later = filter (λ k. not (k == s.pid)) b
 
-        blocked_so : (o : Option ProcessValue) → awaited_by o ≡ Some s.awaited → state_passes is_blocked o ≡ true
-        blocked_so None h = absurd (none-some s.awaited h)
-        blocked_so (Some p) h = by_state p.state h
-          where
-            by_state : (t : State) → awaited_in t ≡ Some s.awaited → is_blocked t ≡ true
-            by_state (Blocked a ds) h = refl
-            by_state Created h = absurd (none-some s.awaited h)
-            by_state Ready h = absurd (none-some s.awaited h)
-            by_state (Ended code) h = absurd (none-some s.awaited h)
-            by_state Gone h = absurd (none-some s.awaited h)
-
         pub stands_once : ◌≡◌ {A = ℕ} (times s.pid b) 1
-        stands_once = so_far.list.once s.pid ∙ rw (blocked_so (get (map process_entry ps) s.pid) waits) refl
+        stands_once = so_far.list.once s.pid ∙ rw (blocked_so (get (map process_entry ps) s.pid) s.awaited waits) refl
 
         first_there : (port : ℕ) → takes_at ps port s.pid ≡ true → slice_get (filter (takes_at ps port) b) 0 ≡ Some s.pid
         first_there port takes_it =
@@ -213,7 +237,7 @@ module _ (ps0 : List Process) (r0 : Objects) (first : List ℕ) where
               | inl still ↦ absurd (
                   let once : ◌≡◌ {A = ℕ} (times s.pid later) 1 = list2.once s.pid ∙ rw still refl in
                   omega (arith, once, times-same s.pid b)
-                )
+                  )
               | inr awake ↦ awake
             ]
 

@@ -1,5 +1,5 @@
 -- Of the processes listed for packets of a port those that are blocked there stand in the order in which they blocked.
-use Rattle.zl_calls.proofs.Common.{◌≡◌, ◌==◌, ◌⊎◌, ◌≤◌, ◌&&◌, ◌++◌, ℕ, Bool, true, false, not, List, [], ◌∷◌, map, refl, sym, ap, ◌∙◌, subst, Option, Some, None, inl}
+use Rattle.zl_calls.proofs.Common.{◌≡◌, ◌==◌, ◌⊎◌, ◌≤◌, ◌+◌, ◌&&◌, ◌||◌, ◌++◌, ℕ, Bool, true, false, not, List, [], ◌∷◌, map, refl, sym, ap, ◌∙◌, subst, Option, Some, None, inl}
 use Rattle.zl_calls.proofs.Common.{inr, IsTrue, get, Objects, process_entry, state_value, AreBlocked, length, list_any, state_passes, cases_Bool, false≢true, times}
 use Rattle.zl_calls.proofs.Common.{KeepSleepers, and_parts, arith, none-some, same_Some, eq-eqb, if◌then◌else◌, eqb-true}
 use Rattle.std.proofs.Math.Dec.{ltb}
@@ -58,7 +58,7 @@ left_fewer xs ys left k = elim (cases_Bool (ltb 0 (times k ys))) as (λ _. times
   | inr none ↦ let few = ltb-false 0 (times k ys) none in omega (arith, few)
 ]
 
-none_among : (k : ℕ) (xs : List ℕ) → ◌≡◌ {A = ℕ} (times k xs) 0 → list_any (λ q. q == k) xs ≡ false
+pub none_among : (k : ℕ) (xs : List ℕ) → ◌≡◌ {A = ℕ} (times k xs) 0 → list_any (λ q. q == k) xs ≡ false
 none_among k [] none = refl
 none_among k (x ∷ xs) none = elim (cases_Bool (x == k)) as (λ _. list_any (λ q. q == k) (x ∷ xs) ≡ false) [
   | inl here ↦ absurd (let counted : times k (x ∷ xs) ≡ 1 + times k xs = times_cons k x xs ∙ rw here refl in omega (arith, none, counted))
@@ -171,10 +171,13 @@ module _ (ps ps2 : List Process) (pid port : ℕ) (b b2 : List ℕ)
   other_takes k = takes_at ps2 port k && not (k == pid)
 
   takes_parts : (k : ℕ) → IsTrue (other_takes k) → (takes_at ps2 port k ≡ true) × ((k == pid) ≡ false)
-  takes_parts k h = let both = and_parts (takes_at ps2 port k) (not (k == pid)) h in (both.0, elim (cases_Bool (k == pid)) as (λ _. (k == pid) ≡ false) [
-    | inl here ↦ absurd (false≢true (rw here at both.1))
-    | inr apart ↦ apart
-  ])
+  takes_parts k h = let both = and_parts (takes_at ps2 port k) (not (k == pid)) h in (
+    both.0,
+    elim (cases_Bool (k == pid)) as (λ _. (k == pid) ≡ false) [
+      | inl here ↦ absurd (false≢true (rw here at both.1))
+      | inr apart ↦ apart
+    ],
+  )
 
   was_so : (k : ℕ) → IsTrue (other_takes k) → IsTrue (takes_at ps port k)
   was_so k h = let both = takes_parts k h in others k both.1 both.0
@@ -201,9 +204,9 @@ module _ (ps ps2 : List Process) (pid port : ℕ) (b b2 : List ℕ)
           kept false = refl
 
   -- it does, and is the last of all
-  pub ends_in_order : takes_at ps2 port pid ≡ true → list_any (λ q. q == pid) xs ≡ false → list_any (λ q. q == pid) b2 ≡ false
+  pub ends_in_order : list_any (λ q. q == pid) xs ≡ false → list_any (λ q. q == pid) b2 ≡ false
       → filter (takes_at ps2 port) (xs ++ pid ∷ []) ≡ filter (takes_at ps2 port) (b2 ++ pid ∷ [])
-  ends_in_order takes out out2 =
+  ends_in_order out out2 =
       filter-append (takes_at ps2 port) xs (pid ∷ [])
       ∙ ((λ i. (sym (left_out (takes_at ps2 port) pid xs out) ∙ (but_one ∙ left_out (takes_at ps2 port) pid b2 out2)) i ++ filter (takes_at ps2 port) (pid ∷ []))
       ∙ sym (filter-append (takes_at ps2 port) b2 (pid ∷ [])))

@@ -118,7 +118,6 @@ moved_last pid r left asleep a kept (inr order) = inr (
   subst (λ (xs : List Sleeper). ListsLast pid a xs asleep.sleepers) kept.0 order.2,
 )
 
-
 -- what becomes of another process that lives: if it is blocked, it was
 made_blocked : (x y : ProcessValue) (a : AwaitedValue) (ds : List ℕ) → OthersMake x y → y.state ≡ Blocked a ds → x.state ≡ Blocked a ds
 made_blocked x y a ds (left_alone is) h = ap (λ (p : ProcessValue). p.state) (sym is) ∙ h
@@ -260,7 +259,7 @@ module _ (lib : Library) (ps ps2 : List Process) (r r1 r2 : Objects) (b b2 : Lis
                 let is = takes_state pid takes in
                 let once : ◌≡◌ {A = ℕ} (times pid (then_blocked pid x b2)) 1 = stands_once ps2 (then_blocked pid x b2) after pid is.0 is.1 is.2 is.3 is.4 in
                 omega (arith, once, ap (times pid) (silent_list none), left_fewer b b2 left pid, not_listed)
-              )
+                )
             | inr nowhere ↦ nowhere
           ]
 
@@ -270,7 +269,7 @@ module _ (lib : Library) (ps ps2 : List Process) (r r1 r2 : Objects) (b b2 : Lis
       told_order told a is unlisted sleepers2 last = elim (cases_Bool (is_for port a)) as
           (λ _. filter (takes_at ps2 port) (listed_for sleepers2 port) ≡ filter (takes_at ps2 port) (then_blocked pid x b2)) [
             | inl its ↦ rw (last port, its, told_list)
-                (ends_in_order ps ps2 pid port b b2 other_was left other_stands (listed_for r.sleepers port) stand (own_takes ∙ its) (unlisted port its)
+                (ends_in_order ps ps2 pid port b b2 other_was left other_stands (listed_for r.sleepers port) stand (unlisted port its)
                 (none_among pid b2 (omega (arith, left_fewer b b2 left pid, not_listed))))
             | inr other ↦ rw (last port, other, told_list)
                 (stays_in_order ps ps2 pid port b b2 other_was left other_stands (listed_for r.sleepers port) stand (own_takes ∙ other)

@@ -1,6 +1,8 @@
 -- Blocked processes wake one after another, in the order of the list.
 use Rattle.zl_calls.proofs.Common.{◌≡◌, ◌<◌, ◌≤◌, ◌+◌, ◌^◌, ℕ, zero, suc, Bool, true, false, not, ◌==◌, ◌++◌, List, [], ◌∷◌, length, take, map, get_or, refl}
-use Rattle.zl_calls.proofs.Common.{sym, ap, ◌∙◌, subst, if◌then◌else◌, inl, inr, Some, IsTrue, arith, cases_Bool, eq-eqb, state_passes, get, Objects}
+use Rattle.zl_calls.proofs.Common.{sym, ap, ◌∙◌, subst, if◌then◌else◌, inl, inr, Some, IsTrue, arith, cases_Bool, eq-eqb, eqb-true, state_passes, get, Objects}
+use Rattle.zl_calls.proofs.Common.{None, nat_lt, nat_tests, none-some, position, position_or_len, position-Some}
+use Rattle.std.proofs.lemmas.List.Sums.{fails_before_first}
 use Rattle.zl_calls.proofs.Common.{process_entry, world_blocked, IsConsistent, AreBlocked, KeepSleepers, World, fold, times, WakesOne}
 use Rattle.std.specs.List.{filter}
 use Rattle.std.specs.Prelude.{drop}
@@ -76,6 +78,29 @@ removed_one (x ∷ xs) (suc i) d p within at once =
           subst (λ (b : Bool). (if b then 1 else 0) + times p xs ≤ 1) apart (subst (λ (n : ℕ). n ≤ 1) (times_cons p x xs) once) in
           rw apart (ap (λ (ys : List ℕ). x ∷ ys) (removed_one xs i d p (omega (arith, within)) at (omega (arith, counted))))
     ]
+
+-- the process stands at its first place, or nowhere
+module _ (pid : ℕ) (xs : List ℕ) where
+  pub removed_first : (i : ℕ) → position (λ k. k == pid) xs ≡ Some i → times pid xs ≤ 1 → take i xs ++ drop (suc i) xs ≡ filter (λ k. not (k == pid)) xs
+  removed_first i found once =
+      let at = position-Some (λ k. k == pid) xs i pid found in
+      sym (removed_one xs i pid pid at.0 (eqb-true (get_or xs i pid) pid at.1) once)
+
+  pub removed_none : position (λ k. k == pid) xs ≡ None → xs ≡ filter (λ k. not (k == pid)) xs
+  removed_none none = all_pass xs (λ i d within. fails_before_first (λ k. k == pid) xs i d (omega (arith, within, past)))
+    where
+      past : length xs ≤ position_or_len (λ k. k == pid) xs
+      past = by_test (nat_lt (position_or_len (λ k. k == pid) xs) (length xs)) refl
+        where
+          by_test : (b : Bool) → nat_lt (position_or_len (λ k. k == pid) xs) (length xs) ≡ b → length xs ≤ position_or_len (λ k. k == pid) xs
+          by_test true inside =
+              let found : position (λ k. k == pid) xs ≡ Some (position_or_len (λ k. k == pid) xs) = rw inside refl in
+              absurd (none-some (position_or_len (λ k. k == pid) xs) (sym none ∙ found))
+          by_test false outside = grind (arith, nat_tests)
+
+      all_pass : (ys : List ℕ) → ((i d : ℕ) → i < length ys → (get_or ys i d == pid) ≡ false) → ys ≡ filter (λ k. not (k == pid)) ys
+      all_pass [] h = refl
+      all_pass (y ∷ ys) h = rw (h 0 y (omega arith)) (ap (λ (zs : List ℕ). y ∷ zs) (all_pass ys (λ i d within. h (suc i) d (omega (arith, within)))))
 
 -- ---- who stands in the list
 

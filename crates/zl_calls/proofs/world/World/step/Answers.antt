@@ -52,7 +52,10 @@ calm-requires-clause-waits c =
     c.act_for.new.blocked.items c.in_ok-item.ensures.acts c.in_ok-item.ensures.list c.in_ok-item.ensures.fewer c.in_ok-item.ensures.asleep
     (c.in_ok-item.ensures.unheld (sym c.is_local.ensures ∙ c.if-is_local.false)) c.fall_asleep.ensures
     c.fire_waits.new.objects c.fire_waits.ensures c.wake-woke.new.processes.list.items c.wake-woke.new.objects c.wake-woke.new.blocked.items c.wake-woke.result
-    (rw c.add_blocked.ensures.items at c.wake-woke.ensures.ensures)
+    (rw c.add_blocked.ensures.items at c.wake-woke.ensures.turns)
+
+pub calm-requires-clause-sleepers : goal.calm-requires-clause-sleepers
+calm-requires-clause-sleepers c = c.wake-woke.ensures.turns.none_due
 
 pub returns-clause-ran : goal.returns-clause-ran
 returns-clause-ran c = rw (← c.self.view_is, c.calm.ensures)
@@ -63,7 +66,7 @@ returns-clause-ran c = rw (← c.self.view_is, c.calm.ensures)
     c.act_for.new.blocked.items c.in_ok-item.ensures.acts c.in_ok-item.ensures.list c.in_ok-item.ensures.fewer c.in_ok-item.ensures.asleep
     (c.in_ok-item.ensures.unheld (sym c.is_local.ensures ∙ c.if-is_local.false)) c.fall_asleep.ensures
     c.fire_waits.new.objects c.fire_waits.ensures c.wake-woke.new.processes.list.items c.wake-woke.new.objects c.wake-woke.new.blocked.items c.wake-woke.result
-    (rw c.add_blocked.ensures.items at c.wake-woke.ensures.ensures))
+    (rw c.add_blocked.ensures.items at c.wake-woke.ensures.turns))
 
 pub add_blocked-requires : goal.add_blocked-requires
 add_blocked-requires c =
@@ -80,8 +83,8 @@ invariant_of-self-2 c = rw c.calm.ensures
     c.act_for.new.blocked.items c.in_ok-item.ensures.acts c.in_ok-item.ensures.list c.in_ok-item.ensures.fewer c.in_ok-item.ensures.asleep
     (c.in_ok-item.ensures.unheld (sym c.is_local.ensures ∙ c.if-is_local.false)) c.fall_asleep.ensures
     c.fire_waits.new.objects c.fire_waits.ensures c.wake-woke.new.processes.list.items c.wake-woke.new.objects c.wake-woke.new.blocked.items c.wake-woke.result
-    (rw c.add_blocked.ensures.items at c.wake-woke.ensures.ensures) (vec_capacity c.wake-woke.new.blocked)
-    (omega (arith, c.wake-woke.ensures.ensures.count, c.wake-woke.ensures.capacity, c.add_blocked.ensures.capacity, c.act_for.ensures.room)))
+    (rw c.add_blocked.ensures.items at c.wake-woke.ensures.turns) (vec_capacity c.wake-woke.new.blocked)
+    (omega (arith, c.wake-woke.ensures.turns.count, c.wake-woke.ensures.capacity, c.add_blocked.ensures.capacity, c.act_for.ensures.room)))
 
 -- ---- nothing waits there
 

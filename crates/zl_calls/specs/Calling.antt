@@ -8,6 +8,8 @@ use Rattle.zl_rights.specs.declared.entry.Entry.{Entry}
 use Rattle.zl_rights.specs.Signals.{is_ready}
 use Rattle.zl_objects.specs.Objects.{Objects}
 use Rattle.zl_objects.specs.Release.{AreKeptBut}
+use Rattle.zl_calls.specs.Blocked.{AreBlocked}
+use Rattle.zl_calls.specs.Killing.{AreClosed}
 use Rattle.zl_calls.specs.Registered.{world_left}
 use Rattle.zl_calls.specs.World.{process_entry, state_value, world_blocked}
 use Rattle.zl_calls.specs.calls.Task.{Parts, parts}
@@ -47,12 +49,15 @@ pub record IsCalling (processes : List Process) (place : ℕ) : Type 0 where
 abbrev pub AreGiven : Parts → Type 0
 AreGiven all = (k : ℕ) → IsTrue (has_key (map process_entry all.processes) k) → k < all.objects.next_koid
 
--- the same, where no more processes block than there are, each has a koid that was given, and something keeps each object
+-- the same, where no more processes block than there are, the list of the blocked is theirs, each process has a koid that was given and
+-- no handle if it is over, and something keeps each object
 pub record MayCall (all : Parts) (place : ℕ) : Type 0 where
   pub calling : IsCalling all.processes place
   pub few : length all.blocked ≤ length all.processes
   pub given : AreGiven all
   pub kept : AreKeptBut [] all.objects.objects
+  pub list : AreBlocked all.processes all.blocked
+  pub closed : AreClosed all.processes
 
 -- each wait that the process made by a live handle is at the object that the handle names
 abbrev pub OwnWaits : ℕ → Map Entry → Objects → Type 0

@@ -18,5 +18,6 @@ pub mod FieldFaults
 pub mod Reaching
 pub mod Sure
 pub mod Turns
+pub mod Killing
 pub mod Calling
 pub mod Taken

@@ -29,7 +29,7 @@ use Rattle.zl_objects.proofs.Found.{Found, any_at, any_found}
 use Rattle.zl_objects.proofs.Index.{child_under, sorted_each}
 use Rattle.zl_objects.proofs.Released.{cascaded_named}
 use Rattle.zl_objects.proofs.Sweeps.{killed_koids}
-use Rattle.zl_objects.proofs.Walks.{behind_first, if_stays, same_within}
+use Rattle.zl_objects.proofs.Walks.{if_stays, same_within}
 
 -- ---- the next that is listed under a job
 

@@ -293,6 +293,29 @@ fn a_job_has_what_stands_below_it(rt: HostRuntime) -> Result<(), Fail> {
     Ok(())
 }
 
+/// Kills the job or the process, and what stands below it.
+fn kill(objects: &mut Objects, task: Koid) {
+    let list = objects.list_task(task);
+    objects.kill(task, &list);
+    objects.put_back(list);
+}
+
+#[test]
+fn a_job_is_listed_with_what_stands_below_it(rt: HostRuntime) -> Result<(), Fail> {
+    let mut objects = Objects::new(rt.alloc())?;
+    let first = new_job(&mut objects, Objects::ROOT_JOB)?;
+    let other = new_process(&mut objects, Objects::ROOT_JOB)?;
+    let second = new_job(&mut objects, first)?;
+    let pid = new_process(&mut objects, second)?;
+    let list = objects.list_task(first);
+    assert!(rt; list.whole && list.koids.as_slice() == [Objects::ROOT_JOB, first, second, pid]);
+    // Another finds no room, until this one is back.
+    assert!(rt; !objects.list_task(other).whole);
+    objects.put_back(list);
+    assert!(rt; objects.list_task(other).whole);
+    Ok(())
+}
+
 #[test]
 fn what_a_kill_leaves_without_a_handle_goes(rt: HostRuntime) -> Result<(), Fail> {
     let mut objects = Objects::new(rt.alloc())?;
@@ -303,7 +326,7 @@ fn what_a_kill_leaves_without_a_handle_goes(rt: HostRuntime) -> Result<(), Fail>
     objects.release(pid);
     objects.release(second);
     assert!(rt; objects.is_job(second));
-    objects.kill(first);
+    kill(&mut objects, first);
     assert!(rt; objects.kind_of(pid).is_none());
     assert!(rt; !objects.is_job(second));
     assert!(rt; objects.is_job(first));

@@ -212,6 +212,13 @@ fn where_a_process_ends_its_job_is_looked_at(rt: HostRuntime) -> Result<(), Fail
     Ok(())
 }
 
+/// Kills the process.
+fn kill(objects: &mut Objects, process: Koid) {
+    let list = objects.list_task(process);
+    objects.kill(process, &list);
+    objects.put_back(list);
+}
+
 #[test]
 fn where_a_process_is_killed_others_stay_quiet(rt: HostRuntime) -> Result<(), Fail> {
     let mut objects = Objects::new(rt.alloc())?;
@@ -219,7 +226,7 @@ fn where_a_process_is_killed_others_stay_quiet(rt: HostRuntime) -> Result<(), Fa
     let port = new_port(&mut objects)?;
     watch(&mut objects, event, port)?;
     assert!(rt; look(&mut objects));
-    objects.kill(process);
+    kill(&mut objects, process);
     assert!(rt; !objects.lives(process) && objects.is_quiet());
     Ok(())
 }
@@ -230,7 +237,7 @@ fn where_a_process_is_killed_its_job_is_looked_at(rt: HostRuntime) -> Result<(),
     let (process, port) = (new_process(&mut objects)?, new_port(&mut objects)?);
     watch(&mut objects, Objects::ROOT_JOB, port)?;
     assert!(rt; look(&mut objects));
-    objects.kill(process);
+    kill(&mut objects, process);
     assert!(rt; !objects.is_quiet());
     Ok(())
 }

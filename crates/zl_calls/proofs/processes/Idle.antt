@@ -1,7 +1,8 @@
--- Processes that were made and not started have no handles; and each process stands where its koid is.
-use Rattle.zl_calls.proofs.Common.{◌≡◌, ℕ, zero, suc, true, false, List, [], ◌∷◌, map, refl, Some, IsTrue, eq-eqb, false≢true, none-some, same_Some, nat_cmp}
-use Rattle.zl_calls.proofs.Common.{is_sorted, slice_get, sorted_parts, get, runs, Objects, process_entry, process_value, state_value, world_blocked, is_created}
+-- Processes that were made and not started have no handles, nor have those that are over; and each process stands where its koid is.
+use Rattle.zl_calls.proofs.Common.{◌≡◌, ℕ, zero, suc, true, false, List, [], ◌∷◌, map, refl, sym, Some, IsTrue, eq-eqb, false≢true, none-some, same_Some, nat_cmp}
+use Rattle.zl_calls.proofs.Common.{is_sorted, slice_get, sorted_parts, get, lives, runs, Objects, process_entry, process_value, state_value, world_blocked, is_created}
 use Rattle.zl_code.specs.Sound.{IsSound as IsSoundWorld}
+use Rattle.zl_calls.specs.Killing.{AreClosed}
 use Rattle.zl_calls.specs.declared.process.State.{State}
 use Rattle.zl_calls.specs.declared.process.State.TheVariants as state
 use Rattle.zl_calls.specs.declared.process.Process.{Process}
@@ -24,3 +25,13 @@ pub are_bare : (ps : List Process) (r : Objects) (blocked : List ℕ) → IsTrue
     → IsSoundWorld (world_blocked ps r blocked) → (n : ℕ) (q : Process) → slice_get ps n ≡ Some q
     → is_created (state_value q.state) ≡ true → q.table.entries ≡ []
 are_bare ps r blocked sorted sound n q at created = ((sound.tables q.pid (process_value q) (get_placed ps sorted n q at)).idle (not_running q.state created)).0
+
+pub are_closed : (ps : List Process) (r : Objects) (blocked : List ℕ) → IsTrue (is_sorted nat_cmp (map process_entry ps))
+    → IsSoundWorld (world_blocked ps r blocked) → AreClosed ps
+are_closed ps r blocked sorted sound n q at over =
+    (sound.tables q.pid (process_value q) (get_placed ps sorted n q at)).idle (is_idle q.state over)
+  where
+    is_idle : (s : State) → lives (state_value s) ≡ false → runs (state_value s) ≡ false
+    is_idle (state.Ended code) over = refl
+    is_idle state.Gone over = refl
+    is_idle _ over = absurd (false≢true (sym over))

@@ -50,17 +50,9 @@ all_in_order f same ps = same_order ps (map f ps) (koids ps)
     koids (p ∷ ps) = λ i. same p i ∷ koids ps i
 
 -- those that are over close their handles
-pub closed_in_order : (ps ps2 : List Process) (r r2 : Objects) → ClosesAllEnded ps r ps2 r2 → IsTrue (is_sorted nat_cmp (map process_entry ps))
-    → IsTrue (is_sorted nat_cmp (map process_entry ps2))
-closed_in_order ps ps2 r r2 closes = same_order ps ps2 (koids ps ps2 r r2 closes)
-  where
-    koid : (p p2 : Process) (r r2 : Objects) → ClosesEnded p r p2 r2 → p2.pid ≡ p.pid
-    koid _ _ _ _ (lives_on p r lives) = refl
-    koid _ _ _ _ (is_over p p2 r r2 over same none no_last drains) = ap (λ (q : Process). q.pid) same
-
-    koids : (ps ps2 : List Process) (r r2 : Objects) → ClosesAllEnded ps r ps2 r2 → koids_of ps2 ≡ koids_of ps
-    koids _ _ _ _ (none_left r) = refl
-    koids _ _ _ _ (one_more p p2 ps ps2 r mid r2 first rest) = λ i. koid p p2 r mid first i ∷ koids ps ps2 mid r2 rest i
+pub closed_pid : (p p2 : Process) (r r2 : Objects) → ClosesEnded p r p2 r2 → p2.pid ≡ p.pid
+closed_pid _ _ _ _ (lives_on p r lives) = refl
+closed_pid _ _ _ _ (is_over p p2 r r2 over same none no_last drains) = ap (λ (q : Process). q.pid) same
 
 -- p, at the place, has become p2, and the new one has a koid that wasn't given before
 pub pushed_in_order : (ps : List Process) (place : ℕ) (p p2 new : Process) → slice_get ps place ≡ Some p → p2.pid ≡ p.pid

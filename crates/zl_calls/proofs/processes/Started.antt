@@ -60,16 +60,9 @@ ended_started r task q started = by (lives (state_value q.state) && is_within r.
     by true = refl
     by false = started
 
-pub closed_started : (ps ps2 : List Process) (r r2 : Objects) → ClosesAllEnded ps r ps2 r2 → (n : ℕ) → NoneUnstarted n ps → NoneUnstarted n ps2
-closed_started _ _ _ _ (none_left r) n none = none
-closed_started _ _ _ _ (one_more p p2 ps ps2 r mid r2 first rest) zero none = All-nil IsStarted
-closed_started _ _ _ _ (one_more p p2 ps ps2 r mid r2 first rest) (suc n) none =
-    All-cons IsStarted p2 (take n ps2) (one p p2 r mid first (All-head IsStarted p (take n ps) none))
-    (closed_started ps ps2 mid r2 rest n (All-tail IsStarted p (take n ps) none))
-  where
-    one : (p p2 : Process) (r r2 : Objects) → ClosesEnded p r p2 r2 → IsStarted p → IsStarted p2
-    one _ _ _ _ (lives_on p r lives) started = started
-    one _ _ _ _ (is_over p p2 r r2 over same none no_last drains) started = ap (λ (q : Process). is_created (state_value q.state)) same ∙ started
+pub closed_started : (p p2 : Process) (r r2 : Objects) → ClosesEnded p r p2 r2 → IsStarted p → IsStarted p2
+closed_started _ _ _ _ (lives_on p r lives) started = started
+closed_started _ _ _ _ (is_over p p2 r r2 over same none no_last drains) started = ap (λ (q : Process). is_created (state_value q.state)) same ∙ started
 
 -- ---- calls
 

@@ -37,7 +37,8 @@ use Rattle.zl_calls.proofs.waking.Ordered.{left_filtered}
 use Rattle.zl_calls.proofs.stepping.Performing.{HasLeft}
 use Rattle.zl_calls.proofs.tasks.KillSound.{all_noted, tables_from, AllTables, AreAllGone, gone_of, killed_sound, killed_with, numbered_all}
 use Rattle.zl_calls.proofs.tasks.KillSound.{numbered_sorted, in_tables, named_killed}
-use Rattle.zl_calls.proofs.tasks.KillWorlds.{are_idle, blocked_left, objects_killed, processes_killed, same_within}
+use Rattle.zl_calls.proofs.processes.Idle.{are_closed}
+use Rattle.zl_calls.proofs.tasks.KillWorlds.{blocked_left, objects_killed, processes_killed, same_within}
 use Rattle.zl_calls.proofs.calls.Refused.{answers, is_found, first_looked_up}
 use Rattle.zl_calls.proofs.objects.Settled.{IsSettled, settled}
 use Rattle.zl_calls.proofs.tasks.StartCalls.{writes_at}
@@ -102,7 +103,7 @@ module _ (ps : List Process) (r : Objects) (whole : IsConsistent ps r) (blocked 
 
     -- what the definitions see of the processes
     pub seen_killed : map process_entry ps2 ≡ each (λ k. process_killed (is_within_value (map object_entry r.objects) t k)) (map process_entry ps)
-    seen_killed = processes_killed ps ps2 r kills.between r2 t some (are_idle ps r blocked sound whole.processes_in_order) kills.closes
+    seen_killed = processes_killed ps ps2 r kills.between r2 t some (are_closed ps r blocked whole.processes_in_order sound) kills.closes
 
     all_named : AllTables (λ e. IsNamed (all_killed r.objects t) e) ps
     all_named = tables_from (λ e. IsNamed (all_killed r.objects t) e) ps whole.processes_in_order
@@ -136,7 +137,7 @@ module _ (ps : List Process) (r : Objects) (whole : IsConsistent ps r) (blocked 
         list_is =
             kills.blocked
             ∙ ((λ i. filter (λ k. states_stay (map (ended_within r t) ps) ps2 kills.between r2 kills.closes is_blocked k i) blocked)
-            ∙ blocked_left ps r blocked sound t ps2 are seen_killed)
+            ∙ blocked_left ps r blocked t ps2 are seen_killed)
 
     pub still_sorted : IsTrue (is_sorted nat_cmp (map process_entry ps2))
     still_sorted =

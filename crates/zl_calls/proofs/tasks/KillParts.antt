@@ -16,9 +16,6 @@ use Rattle.zl_code.specs.Sound.{is_blocked}
 use Rattle.zl_objects.specs.Jobs.{all_killed}
 use Rattle.zl_objects.specs.Release.{Releases}
 use Rattle.zl_calls.proofs.waits.WaitsLost.{listed_gone, listed_then}
-use Rattle.zl_calls.specs.Leaving.{NoneUnstarted}
-use Rattle.zl_calls.proofs.processes.InOrder.{all_in_order, closed_in_order}
-use Rattle.zl_calls.proofs.processes.Started.{closed_started, ended_started, map_started}
 
 -- ---- koids stay
 
@@ -26,10 +23,8 @@ same_pid : (killed : Bool) (p : Process) → (ended_if killed p).pid ≡ p.pid
 same_pid true p = refl
 same_pid false p = refl
 
--- the koids still rise
-pub in_order_ended : (r : Objects) (task : ℕ) (ps : List Process) → IsTrue (is_sorted nat_cmp (map process_entry ps))
-    → IsTrue (is_sorted nat_cmp (map process_entry (map (ended_within r task) ps)))
-in_order_ended r task ps = all_in_order (ended_within r task) (λ p. same_pid _ p) ps
+pub ended_pid : (r : Objects) (task : ℕ) (p p2 : Process) → p2 ≡ ended_within r task p → p2.pid ≡ p.pid
+ended_pid r task p p2 is = ap (λ (q : Process). q.pid) is ∙ same_pid _ p
 
 -- ---- a loop over all processes
 
@@ -126,18 +121,7 @@ module _ (ps : List Process) (r : Objects) (blocked : List ℕ) (place task : �
     refused = tt;
   }
 
--- ---- the same through slices of all processes
-
--- a slice of all is written back
-back : {X : Type 0} (n : ℕ) (old new : List X) → n ≡ length old → length new ≡ length old → take n (new ++ drop (length new) old) ≡ new
-back n old new long same =
-    ap (λ ys. take n (new ++ ys)) (none_behind old (length new) (omega (arith, same)))
-    ∙ (ap (take n) (append-nil new) ∙ take_all n new (omega (arith, long, same)))
-
-pub ended_back : (f : Process → Process) (n : ℕ) (ps d e : List Process) → n ≡ length ps → d ≡ ps → e ≡ map f d → take n (e ++ drop (length e) ps) ≡ map f ps
-ended_back f n ps d e long same is =
-    let now : e ≡ map f ps = is ∙ ap (map f) same in
-    back n ps e long (ap (λ (xs : List Process). length xs) now ∙ length-map ps f) ∙ now
+-- ---- who is there still
 
 as_many_closed : (ps ps2 : List Process) (r r2 : Objects) → ClosesAllEnded ps r ps2 r2 → length ps2 ≡ length ps
 as_many_closed _ _ _ _ (none_left r) = refl
@@ -153,7 +137,7 @@ still_closed _ _ _ _ (none_left r) i p at = absurd (none-some p at)
 still_closed _ _ _ _ (one_more q q2 ps ps2 r mid r2 first rest) zero p at = still_one q q2 r mid first ∙ ap (λ (x : Process). x.cpu) (same_Some q p at)
 still_closed _ _ _ _ (one_more q q2 ps ps2 r mid r2 first rest) (suc i) p at = still_closed ps ps2 mid r2 rest i p at
 
-same_cpu : (killed : Bool) (p : Process) → (ended_if killed p).cpu ≡ p.cpu
+pub same_cpu : (killed : Bool) (p : Process) → (ended_if killed p).cpu ≡ p.cpu
 same_cpu true p = refl
 same_cpu false p = refl
 
@@ -161,62 +145,14 @@ still_too : (p q : Process) → p.cpu ≡ q.cpu → (o : Option Process) → IsC
 still_too p q same None still = absurd still
 still_too p q same (Some x) still = still ∙ same
 
-module _ (n : ℕ) (ps d e d2 ps2 : List Process) (r : Objects) (koid : ℕ) (long : n ≡ length ps) (same : d ≡ ps) (ended : e ≡ map (ended_within r koid) d)
-    (same2 : d2 ≡ take n (e ++ drop (length e) ps)) where
-  all_ended : take n (e ++ drop (length e) ps) ≡ map (ended_within r koid) ps
-  all_ended = ended_back (ended_within r koid) n ps d e long same ended
+module _ (ps ps1 ps2 : List Process) (r : Objects) (koid : ℕ) (ended : ps1 ≡ map (ended_within r koid) ps) (between r2 : Objects)
+    (closes : ClosesAllEnded ps1 between ps2 r2) where
+  pub still_as_many : length ps2 ≡ length ps
+  still_as_many = as_many_closed _ _ between r2 closes ∙ (ap (λ (qs : List Process). length qs) ended ∙ length-map ps (ended_within r koid))
 
-  pub in_order_back : IsTrue (is_sorted nat_cmp (map process_entry ps)) → IsTrue (is_sorted nat_cmp (map process_entry (take n (e ++ drop (length e) ps))))
-  in_order_back sorted =
-      subst (λ (qs : List Process). IsTrue (is_sorted nat_cmp (map process_entry qs))) (sym all_ended) (in_order_ended r koid ps sorted)
-
-  pub started_back : (u : ℕ) → NoneUnstarted u ps → NoneUnstarted u (take n (e ++ drop (length e) ps))
-  started_back u none = subst (NoneUnstarted u) (sym all_ended) (map_started (ended_within r koid) (ended_started r koid) ps u none)
-
-  module _ (between r2 : Objects) (closes : ClosesAllEnded d2 between ps2 r2) where
-    closes_all : ClosesAllEnded (map (ended_within r koid) ps) between ps2 r2
-    closes_all = subst (λ (qs : List Process). ClosesAllEnded qs between ps2 r2) (same2 ∙ all_ended) closes
-
-    as_many : length ps2 ≡ length ps
-    as_many = as_many_closed _ _ between r2 closes_all ∙ length-map ps (ended_within r koid)
-
-    written : take n (ps2 ++ drop (length ps2) (take n (e ++ drop (length e) ps))) ≡ ps2
-    written =
-        let before : length (take n (e ++ drop (length e) ps)) ≡ length ps =
-        ap (λ (qs : List Process). length qs) all_ended ∙ length-map ps (ended_within r koid) in
-        back n (take n (e ++ drop (length e) ps)) ps2 (omega (arith, long, before)) (omega (arith, as_many, before))
-
-    pub closed_order_back : IsTrue (is_sorted nat_cmp (map process_entry ps))
-        → IsTrue (is_sorted nat_cmp (map process_entry (take n (ps2 ++ drop (length ps2) (take n (e ++ drop (length e) ps))))))
-    closed_order_back sorted =
-        subst (λ (qs : List Process). IsTrue (is_sorted nat_cmp (map process_entry qs))) (sym written)
-        (closed_in_order (map (ended_within r koid) ps) ps2 between r2 closes_all (in_order_ended r koid ps sorted))
-
-    pub closed_started_back : (u : ℕ) → NoneUnstarted u ps → NoneUnstarted u (take n (ps2 ++ drop (length ps2) (take n (e ++ drop (length e) ps))))
-    closed_started_back u none =
-        subst (NoneUnstarted u) (sym written)
-        (closed_started (map (ended_within r koid) ps) ps2 between r2 closes_all u (map_started (ended_within r koid) (ended_started r koid) ps u none))
-
-    pub still_as_many : length (take n (ps2 ++ drop (length ps2) (take n (e ++ drop (length e) ps)))) ≡ length ps
-    still_as_many = ap (λ (qs : List Process). length qs) written ∙ as_many
-
-    pub still_back : (place : ℕ) (caller : Process) → slice_get ps place ≡ Some caller
-        → IsCallerStill caller (slice_get (take n (ps2 ++ drop (length ps2) (take n (e ++ drop (length e) ps)))) place)
-    still_back place caller at =
-        subst (λ (qs : List Process). IsCallerStill caller (slice_get qs place)) (sym written)
-        (still_too (ended_within r koid caller) caller (same_cpu _ caller) (slice_get ps2 place)
-        (still_closed (map (ended_within r koid) ps) ps2 between r2 closes_all place (ended_within r koid caller)
-        (slice_get-map (ended_within r koid) ps place ∙ ap (λ (o : Option Process). option_map (ended_within r koid) o) at)))
-
-    pub killed_back : (blocked blocked2 : List ℕ) (place task : ℕ) (p : Process) → p ≡ get_or ps place p → (named : Entry) → named.koid ≡ koid
-        → ◌≡◌ {A = Result Entry Status} (Ok named) (looked_up p.table.entries task (kind.Process ∷ kind.Job ∷ []) DESTROY)
-        → Releases [] (all_koids r.objects) (killing r koid) between → LeavesListed r between → KeepsListed between r2
-        → blocked2 ≡ filter (λ k. state_passes is_blocked (get (map process_entry (take n (e ++ drop (length e) ps))) k)) blocked
-        → (caller : Process) → slice_get ps place ≡ Some caller
-        → TaskKillDoes task caller (parts ps r blocked) (Ok tt) (parts (take n (ps2 ++ drop (length ps2) (take n (e ++ drop (length e) ps)))) r2 blocked2)
-    killed_back blocked blocked2 place task p read named is_koid found releases left kept list caller at =
-        subst (λ (qs : List Process). TaskKillDoes task caller (parts ps r blocked) (Ok tt) (parts qs r2 blocked2)) (sym written)
-        (killed_so ps r blocked place task caller at p read named found between r2 (map (ended_within r koid) ps) ps2 blocked2
-        (ap (λ (k : ℕ). map (ended_within r k) ps) (sym is_koid))
-        (subst (λ (k : ℕ). Releases [] (all_koids r.objects) (killing r k) between) (sym is_koid) releases) left closes_all kept
-        (list ∙ ap (λ (qs : List Process). filter (λ k. state_passes is_blocked (get (map process_entry qs) k)) blocked) all_ended))
+  pub still_there : (place : ℕ) (caller : Process) → slice_get ps place ≡ Some caller → IsCallerStill caller (slice_get ps2 place)
+  still_there place caller at =
+      still_too (ended_within r koid caller) caller (same_cpu _ caller) (slice_get ps2 place)
+      (still_closed ps1 ps2 between r2 closes place (ended_within r koid caller)
+      (ap (λ (qs : List Process). slice_get qs place) ended
+      ∙ (slice_get-map (ended_within r koid) ps place ∙ ap (λ (o : Option Process). option_map (ended_within r koid) o) at)))

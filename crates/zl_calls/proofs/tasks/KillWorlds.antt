@@ -15,9 +15,11 @@ use Rattle.zl_objects.specs.declared.object.Body.{Body}
 use Rattle.zl_objects.specs.declared.object.Body.TheVariants as body
 use Rattle.zl_objects.specs.declared.object.Object.{Object}
 use Rattle.zl_objects.specs.Jobs.{all_killed, is_below_by, parent_at, parent_of}
+use Rattle.zl_calls.specs.Killing.{AreClosed, IsClosed}
 use Rattle.zl_calls.specs.declared.process.Process.{Process}
 use Rattle.zl_calls.proofs.lists.Updates.{found_behind}
 use Rattle.zl_calls.specs.calls.Task.{is_over, none_left, one_more}
+use Rattle.zl_calls.proofs.waking.BlockedLists.{blocked_there}
 
 -- ---- who stands below
 
@@ -66,53 +68,16 @@ objects_killed m t some = each_seen (is_within m t) (is_within_value (map object
 
 -- ---- processes
 
--- what doesn't live has no handle
-abbrev pub IsIdle : Process → Type 0
-IsIdle p = lives (state_value p.state) ≡ false → (p.table.entries ≡ []) × (p.table.last ≡ None)
-
--- so it is with each of them
-abbrev pub AreIdle : List Process → Type 0
-AreIdle [] = ⊤
-AreIdle (p ∷ ps) = IsIdle p × AreIdle ps
-
-module _ (ps : List Process) (r : Objects) (blocked : List ℕ) (sound : IsSoundWorld (world_blocked ps r blocked)) where
-  -- what is true of the process at each koid is true of each
-  idle_from : (qs : List Process) → IsTrue (is_sorted nat_cmp (map process_entry qs))
-      → ((k : ℕ) (q : ProcessValue) → get (map process_entry qs) k ≡ Some q → lives q.state ≡ false → (q.handles ≡ []) × (q.last ≡ None)) → AreIdle qs
-  unfolding get
-  idle_from [] sorted all = tt
-  idle_from (p ∷ qs) sorted all =
-      let parts = sorted_parts (process_entry p) (map process_entry qs) sorted in (
-        all p.pid (process_value p) (rw (eq-eqb p.pid p.pid refl) refl),
-        idle_from qs parts.1 (λ k q at. all k q (found_behind (process_entry p) (map process_entry qs) sorted k q at)),
-      )
-
-  -- a process that doesn't live has no handle, as the world is sound
-  pub are_idle : IsTrue (is_sorted nat_cmp (map process_entry ps)) → AreIdle ps
-  are_idle sorted = idle_from ps sorted (λ k q at dead. (sound.tables k q at).idle (not_running q.state dead))
-    where
-      not_running : (s : StateValue) → lives s ≡ false → runs s ≡ false
-      not_running Ready dead = absurd (false≢true (sym dead))
-      not_running (Blocked awaited ds) dead = absurd (false≢true (sym dead))
-      not_running _ dead = refl
-
+module _ (ps : List Process) (r : Objects) (blocked : List ℕ) where
   -- those are left that are still blocked: who isn't among the killed
   pub blocked_left : (t : ℕ) (qs : List Process) → AreBlocked ps blocked
       → map process_entry qs ≡ each (λ k. process_killed (is_within_value (map object_entry r.objects) t k)) (map process_entry ps)
       → filter (λ k. state_passes is_blocked (get (map process_entry qs) k)) blocked
       ≡ filter (λ k. not (is_within_value (map object_entry r.objects) t k)) blocked
-  blocked_left t qs are is = alike blocked (λ k. times_of k)
+  blocked_left t qs are is = alike blocked (blocked_there ps blocked are)
     where
       within : ℕ → Bool
       within k = is_within_value (map object_entry r.objects) t k
-
-      -- whoever is in the list is blocked
-      times_of : (k : ℕ) → 0 < length (filter (λ q. q == k) blocked) → state_passes is_blocked (get (map process_entry ps) k) ≡ true
-      times_of k some = by_test (state_passes is_blocked (get (map process_entry ps) k)) refl
-        where
-          by_test : (b : Bool) → state_passes is_blocked (get (map process_entry ps) k) ≡ b → state_passes is_blocked (get (map process_entry ps) k) ≡ true
-          by_test true at = at
-          by_test false at = let none : length (filter (λ q. q == k) blocked) ≡ 0 = are.once k ∙ rw at refl in absurd (omega (arith, some, none))
 
       one : (k : ℕ) → state_passes is_blocked (get (map process_entry ps) k) ≡ true → state_passes is_blocked (get (map process_entry qs) k) ≡ not (within k)
       one k was =
@@ -148,7 +113,7 @@ module _ (ps : List Process) (r : Objects) (blocked : List ℕ) (sound : IsSound
           ]
 
 -- one process: where it lives and is killed it has ended, and else it is as it was
-killed_one : (r : Objects) (t : ℕ) (p p1 p2 : Process) (mid r2 : Objects) → p1 ≡ ended_within r t p → IsIdle p → ClosesEnded p1 mid p2 r2
+killed_one : (r : Objects) (t : ℕ) (p p1 p2 : Process) (mid r2 : Objects) → p1 ≡ ended_within r t p → IsClosed p → ClosesEnded p1 mid p2 r2
     → ◌≡◌ {A = ℕ × ProcessValue} (process_entry p2) (p.pid, process_killed (is_within r.objects t p.pid) (process_value p))
 killed_one r t p p1 p2 mid r2 is idle closes = by_life (lives (state_value p.state)) (is_within r.objects t p.pid) refl refl
   where
@@ -179,7 +144,7 @@ killed_one r t p p1 p2 mid r2 is idle closes = by_life (lives (state_value p.sta
         untouched true = rw dead refl
 
 -- all of them
-killed_all : (r : Objects) (t : ℕ) (ps qs ps2 : List Process) (mid r2 : Objects) → qs ≡ map (ended_within r t) ps → AreIdle ps → ClosesAllEnded qs mid ps2 r2
+killed_all : (r : Objects) (t : ℕ) (ps qs ps2 : List Process) (mid r2 : Objects) → qs ≡ map (ended_within r t) ps → AreClosed ps → ClosesAllEnded qs mid ps2 r2
     → map process_entry ps2 ≡ each (λ k. process_killed (is_within r.objects t k)) (map process_entry ps)
 unfolding each
 killed_all r t [] qs ps2 mid r2 is idle (none_left _) = refl
@@ -188,9 +153,9 @@ killed_all r t (p ∷ ps) qs ps2 mid r2 is idle (none_left _) = absurd cc
 killed_all r t (p ∷ ps) _ _ mid r2 is idle (one_more p1 p2 qs ps2 _ between _ one rest) =
     let first : p1 ≡ ended_within r t p = cc in
     let others : qs ≡ map (ended_within r t) ps = cc in
-    λ i. killed_one r t p p1 p2 mid between first idle.0 one i ∷ killed_all r t ps qs ps2 between r2 others idle.1 rest i
+    λ i. killed_one r t p p1 p2 mid between first (idle 0 p refl) one i ∷ killed_all r t ps qs ps2 between r2 others (λ n. idle (suc n)) rest i
 
-pub processes_killed : (ps ps2 : List Process) (r mid r2 : Objects) (t : ℕ) → (t == 0) ≡ false → AreIdle ps
+pub processes_killed : (ps ps2 : List Process) (r mid r2 : Objects) (t : ℕ) → (t == 0) ≡ false → AreClosed ps
     → ClosesAllEnded (map (ended_within r t) ps) mid ps2 r2
     → map process_entry ps2 ≡ each (λ k. process_killed (is_within_value (map object_entry r.objects) t k)) (map process_entry ps)
 processes_killed ps ps2 r mid r2 t some idle closes =

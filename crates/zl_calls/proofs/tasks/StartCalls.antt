@@ -34,7 +34,7 @@ process_there (q ∷ ps) k = elim (cases_Bool (q.pid == k)) as (λ _. get (map p
   | inr apart ↦ rw apart (process_there ps k)
 ]
 
-below_at : (k : ℕ) (ps : List Process) (i : ℕ) (q : Process) → IsTrue (below_all nat_cmp k (map process_entry ps)) → slice_get ps i ≡ Some q → k < q.pid
+pub below_at : (k : ℕ) (ps : List Process) (i : ℕ) (q : Process) → IsTrue (below_all nat_cmp k (map process_entry ps)) → slice_get ps i ≡ Some q → k < q.pid
 below_at k [] i q below at = absurd (none-some q at)
 below_at k (x ∷ ps) zero q below at = subst (λ (y : Process). k < y.pid) (same_Some x q at) (below_parts k (process_entry x) (map process_entry ps) below).0
 below_at k (x ∷ ps) (suc i) q below at = below_at k ps i q (below_parts k (process_entry x) (map process_entry ps) below).1 at

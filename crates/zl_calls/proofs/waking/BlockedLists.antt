@@ -1,7 +1,7 @@
 -- The list of the blocked processes, as one process changes.
 use Rattle.zl_calls.proofs.Common.{◌≡◌, ◌<◌, ◌≤◌, ◌+◌, ◌^◌, ◌++◌, arith, eq-eqb, length-map, ℕ, Bool, true, false, not, ◌==◌, List, [], ◌∷◌, length, map, refl}
-use Rattle.zl_calls.proofs.Common.{sym, ap, ◌∙◌, subst, if◌then◌else◌, Some, inl, inr, cases_Bool, eqb-true, false≢true, state_passes, Map, get, process_entry}
-use Rattle.zl_calls.proofs.Common.{state_value, AreBlocked, pid_of, TraceItem, times, tells_blocking, then_blocked}
+use Rattle.zl_calls.proofs.Common.{sym, ap, ◌∙◌, subst, if◌then◌else◌, Some, IsTrue, inl, inr, cases_Bool, eqb-true, false≢true, state_passes, Map, get, process_entry}
+use Rattle.zl_calls.proofs.Common.{state_value, process_value, AreBlocked, pid_of, TraceItem, times, tells_blocking, then_blocked}
 use Rattle.std.specs.List.{filter}
 use Rattle.std.proofs.lemmas.List.Filters.{length-filter_both}
 use Rattle.zl_code.proofs.Common.{Process as ProcessValue, is_blocked}
@@ -9,6 +9,7 @@ use Rattle.zl_code.specs.declared.history.Outcome.TheVariants as outcome
 use Rattle.zl_code.specs.declared.history.TraceItem.TheVariants as item
 use Rattle.zl_code.proofs.Changes.{times-behind, times-last, times-same, times-other}
 use Rattle.zl_code.proofs.StepsBeside.{blocked_by}
+use Rattle.zl_calls.specs.Killing.{StayBlocked}
 use Rattle.zl_calls.specs.declared.process.Process.{Process}
 use Rattle.zl_calls.proofs.calls.Answered.{IsWrite}
 use Rattle.zl_calls.proofs.processes.Written.{found_after, get_after}
@@ -60,6 +61,52 @@ module _ {before after : List Process} {p p2 : Process} (write : IsWrite before 
     counters = λ k q at h. found_after write (q.cpu.counter < 2 ^ 32) k q at (λ here. subst (λ (x : ProcessValue). x.cpu.counter < 2 ^ 32) here within)
         (λ old. are.counters k q old h);
   }
+
+  -- a process that is blocked just if it was, with the same Cpu
+  pub stay_blocked : is_blocked (state_value p2.state) ≡ is_blocked (state_value p.state) → p2.cpu ≡ p.cpu → StayBlocked before after
+  stay_blocked same cpu blocked are = record {
+    once = λ k. are.once k ∙ ap (λ (b : Bool). if b then 1 else 0) (sym (same_there k));
+    counters = λ k q at h. found_after write (q.cpu.counter < 2 ^ 32) k q at
+        (λ here.
+        let was : IsTrue (is_blocked (state_value p.state)) = sym same ∙ (ap (λ (x : ProcessValue). is_blocked x.state) here ∙ h) in
+        subst (λ (x : ProcessValue). x.cpu.counter < 2 ^ 32) here
+        (let within : p.cpu.counter < 2 ^ 32 = are.counters p.pid (process_value p) write.there was in rw cpu within))
+        (λ old. are.counters k q old h);
+  }
+    where
+      same_there : (k : ℕ) → state_passes is_blocked (get (map process_entry after) k) ≡ state_passes is_blocked (get (map process_entry before) k)
+      same_there k =
+          elim (cases_Bool (p.pid == k))
+          as (λ _. state_passes is_blocked (get (map process_entry after) k) ≡ state_passes is_blocked (get (map process_entry before) k)) [
+            | inl here ↦ rw (get_after write k, here, ← eqb-true p.pid k here, write.there, same) refl
+            | inr apart ↦ rw (get_after write k, apart) refl
+          ]
+
+-- ---- who is in it
+
+-- whoever is in the list is blocked
+pub blocked_there : (ps : List Process) (blocked : List ℕ) → AreBlocked ps blocked → (k : ℕ) → 0 < times k blocked
+    → state_passes is_blocked (get (map process_entry ps) k) ≡ true
+blocked_there ps blocked are k some = by_test (state_passes is_blocked (get (map process_entry ps) k)) refl
+  where
+    by_test : (b : Bool) → state_passes is_blocked (get (map process_entry ps) k) ≡ b → state_passes is_blocked (get (map process_entry ps) k) ≡ true
+    by_test true at = at
+    by_test false at = let none : times k blocked ≡ 0 = are.once k ∙ rw at refl in absurd (omega (arith, some, none))
+
+-- so those that are blocked are all of it
+pub all_blocked : (ps : List Process) (blocked : List ℕ) → AreBlocked ps blocked
+    → blocked ≡ filter (λ k. state_passes is_blocked (get (map process_entry ps) k)) blocked
+all_blocked ps blocked are = kept blocked (blocked_there ps blocked are)
+  where
+    kept : (xs : List ℕ) → ((k : ℕ) → 0 < times k xs → state_passes is_blocked (get (map process_entry ps) k) ≡ true)
+        → xs ≡ filter (λ k. state_passes is_blocked (get (map process_entry ps) k)) xs
+    kept [] all = refl
+    kept (x ∷ xs) all =
+        rw (all x (rw (eq-eqb x x refl) (omega arith))) (ap (λ (ks : List ℕ). x ∷ ks) (kept xs (λ k some. all k (more (x == k) k some))))
+      where
+        more : (b : Bool) (k : ℕ) → 0 < times k xs → 0 < length (if b then x ∷ filter (λ q. q == k) xs else filter (λ q. q == k) xs)
+        more true k some = omega arith
+        more false k some = some
 
 -- ---- how many they are
 

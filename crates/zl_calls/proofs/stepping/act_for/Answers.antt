@@ -1,4 +1,5 @@
 use Rattle.zl_calls.specs.declared.process.Process.{Process}
+use Rattle.zl_calls.proofs.processes.Idle.{are_closed}
 use Rattle.zl_calls.proofs.processes.InOrder.{set_in_order}
 use Rattle.zl_calls.proofs.processes.Started.{set_started}
 use Rattle.zl_calls.proofs.Common.{ap, is_created, ◌≡◌, true, set, sym, ◌∙◌, parts, is_ready, state_value}
@@ -24,6 +25,8 @@ call_next-requires c =
         few = no_more c.args.processes.now.list.items c.args.blocked.now.items c.requires.list;
         given = c.requires.consistent.given_processes;
         kept = c.requires.consistent.kept;
+        list = c.requires.list;
+        closed = are_closed c.args.processes.now.list.items c.args.objects.now c.args.blocked.now.items c.requires.consistent.processes_in_order c.requires.sound;
       };
       own = own_waits (turn_at c.args.processes.now.list.items c.args.objects.now c.args.blocked.now.items c.args.pid c.in_ok-place.place
           c.index.result.now c.requires.consistent c.requires.list c.requires.sound c.in_ok-place.ensures.first c.index.ensures ready);

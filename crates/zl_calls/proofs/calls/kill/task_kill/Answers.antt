@@ -1,47 +1,38 @@
-use Rattle.zl_calls.proofs.Common.{arith, ◌≡◌, [], length, refl}
-use Rattle.zl_calls.proofs.tasks.KillParts.{closed_order_back, closed_started_back, in_order_back, killed_back, started_back, still_back}
+use Rattle.zl_calls.proofs.Common.{◌∙◌, [], ap, map, subst, sym, AreKeptBut, LeavesListed, Objects, Ok, Releases, TaskKillDoes, all_koids, ended_within}
+use Rattle.zl_calls.proofs.Common.{killing, parts}
+use Rattle.zl_calls.proofs.tasks.KillLists.{others_closed}
+use Rattle.zl_calls.proofs.tasks.KillParts.{killed_so, still_as_many, still_there}
 use Rattle.zl_calls.proofs.calls.kill.task_kill.Goals as goal
 
-pub invariant_of-processes : goal.invariant_of-processes
-invariant_of-processes g c =
-    let long : c.args.processes.now.list.len ≡ length c.args.processes.now.list.items = omega (arith, c.args.processes.now.list.ok.0) in
-    record {
-      in_order = in_order_back c.args.processes.now.list.len c.args.processes.now.list.items c.deref_mut.result.now c.end_within.new.processes _ []
-          c.args.objects.now c.in_ok-task.task.koid long c.deref_mut.ensures.value c.end_within.ensures refl c.args.processes.now.in_order;
-      started = started_back c.args.processes.now.list.len c.args.processes.now.list.items c.deref_mut.result.now c.end_within.new.processes _ []
-          c.args.objects.now c.in_ok-task.task.koid long c.deref_mut.ensures.value c.end_within.ensures refl _ c.args.processes.now.started;
-    }
-
-pub invariant_of-processes-2 : goal.invariant_of-processes-2
-invariant_of-processes-2 g c =
-    let long : c.args.processes.now.list.len ≡ length c.args.processes.now.list.items = omega (arith, c.args.processes.now.list.ok.0) in
-    record {
-      in_order = closed_order_back c.args.processes.now.list.len c.args.processes.now.list.items c.deref_mut.result.now c.end_within.new.processes
-          c.deref_mut-2.result.now c.close_ended.new.processes c.args.objects.now
-          c.in_ok-task.task.koid long c.deref_mut.ensures.value c.end_within.ensures c.deref_mut-2.ensures.value c.kill.new.self
-          c.close_ended.new.objects c.close_ended.ensures.closes c.args.processes.now.in_order;
-      started = closed_started_back c.args.processes.now.list.len c.args.processes.now.list.items c.deref_mut.result.now c.end_within.new.processes
-          c.deref_mut-2.result.now c.close_ended.new.processes c.args.objects.now
-          c.in_ok-task.task.koid long c.deref_mut.ensures.value c.end_within.ensures c.deref_mut-2.ensures.value c.kill.new.self
-          c.close_ended.new.objects c.close_ended.ensures.closes _ c.args.processes.now.started;
-    }
+pub close_ended-requires-clause-others : goal.close_ended-requires-clause-others
+close_ended-requires-clause-others g c = λ whole.
+    others_closed c.args.objects.now c.in_ok-task.task.koid c.list_task-list.result.koids.items (c.list_task-list.ensures.task whole)
+    c.args.processes.now.list.items c.end_within-all_stay.new.processes.list.items c.requires.closed
+    (c.end_within-all_stay.ensures.ended
+    ∙ ap (λ (r : Objects). map (ended_within r c.in_ok-task.task.koid) c.args.processes.now.list.items) c.list_task-list.ensures.unchanged)
 
 pub returns-clause-does : goal.returns-clause-does
-returns-clause-does g c =
-    let long : c.args.processes.now.list.len ≡ length c.args.processes.now.list.items = omega (arith, c.args.processes.now.list.ok.0) in
-    killed_back c.args.processes.now.list.len c.args.processes.now.list.items c.deref_mut.result.now c.end_within.new.processes
-    c.deref_mut-2.result.now c.close_ended.new.processes c.args.objects.now
-    c.in_ok-task.task.koid long c.deref_mut.ensures.value c.end_within.ensures c.deref_mut-2.ensures.value c.kill.new.self
-    c.close_ended.new.objects c.close_ended.ensures.closes
-    c.args.blocked.now.items c.keep_blocked.new.blocked.items c.args.place c.args.task c.index.result.now c.index.ensures c.in_ok-task.task refl
-    (c.in_ok-task.ensures {u = tt})
-    (c.kill.ensures.releases c.requires.kept) c.kill.ensures.listed c.close_ended.ensures.listed c.keep_blocked.ensures.items
+returns-clause-does g c = λ caller at.
+    subst (λ (r : Objects). TaskKillDoes c.args.task caller (parts c.args.processes.now.list.items c.args.objects.now c.args.blocked.now.items) (Ok tt)
+    (parts c.close_ended.new.processes.list.items r c.leave_blocked.new.blocked.items)) (sym c.put_back.ensures)
+    (killed_so c.args.processes.now.list.items c.args.objects.now c.args.blocked.now.items c.args.place c.args.task caller at c.index.result.now c.index.ensures
+    c.in_ok-task.task (c.in_ok-task.ensures {u = tt}) c.kill.new.self c.close_ended.new.objects c.end_within-all_stay.new.processes.list.items
+    c.close_ended.new.processes.list.items c.leave_blocked.new.blocked.items
+    (c.end_within-all_stay.ensures.ended
+    ∙ ap (λ (r : Objects). map (ended_within r c.in_ok-task.task.koid) c.args.processes.now.list.items) c.list_task-list.ensures.unchanged)
+    (subst (λ (r : Objects). Releases [] (all_koids r.objects) (killing r c.in_ok-task.task.koid) c.kill.new.self) c.list_task-list.ensures.unchanged
+    (c.kill.ensures.releases (subst (λ (r : Objects). AreKeptBut [] r.objects) (sym c.list_task-list.ensures.unchanged) c.requires.kept)))
+    (subst (λ (r : Objects). LeavesListed r c.kill.new.self) c.list_task-list.ensures.unchanged c.kill.ensures.listed)
+    c.close_ended.ensures.closes c.close_ended.ensures.listed c.leave_blocked.ensures.items)
 
 pub returns-clause-caller : goal.returns-clause-caller
-returns-clause-caller g c =
-    let long : c.args.processes.now.list.len ≡ length c.args.processes.now.list.items = omega (arith, c.args.processes.now.list.ok.0) in
-    λ caller at. still_back c.args.processes.now.list.len c.args.processes.now.list.items c.deref_mut.result.now c.end_within.new.processes
-    c.deref_mut-2.result.now c.close_ended.new.processes c.args.objects.now
-    c.in_ok-task.task.koid long c.deref_mut.ensures.value c.end_within.ensures c.deref_mut-2.ensures.value c.kill.new.self
-    c.close_ended.new.objects c.close_ended.ensures.closes
-    c.args.place caller at
+returns-clause-caller g c = λ caller at.
+    still_there c.args.processes.now.list.items c.end_within-all_stay.new.processes.list.items c.close_ended.new.processes.list.items
+    c.list_task-list.new.self c.in_ok-task.task.koid c.end_within-all_stay.ensures.ended c.kill.new.self c.close_ended.new.objects
+    c.close_ended.ensures.closes c.args.place caller at
+
+pub returns-clause-count : goal.returns-clause-count
+returns-clause-count g c =
+    still_as_many c.args.processes.now.list.items c.end_within-all_stay.new.processes.list.items c.close_ended.new.processes.list.items
+    c.list_task-list.new.self c.in_ok-task.task.koid c.end_within-all_stay.ensures.ended c.kill.new.self c.close_ended.new.objects
+    c.close_ended.ensures.closes

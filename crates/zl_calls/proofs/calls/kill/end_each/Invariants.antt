@@ -1,0 +1,9 @@
+use Rattle.std.specs.Prelude.{◌≡◌, true, map, take}
+use Rattle.zl_calls.specs.Killing.{StayBlocked, ended_among}
+use Rattle.zl_calls.proofs.calls.kill.end_each.Given as goal
+
+abbrev pub invariant-loop-koid : goal.invariant-loop-koid
+invariant-loop-koid l = record {
+  ended : l.processes.list.items ≡ map (ended_among l.objects l.task (take l.koid-index l.koids)) l.initial.processes.list.items;
+  blocked : l.all_stay ≡ true → StayBlocked l.initial.processes.list.items l.processes.list.items;
+}

@@ -7,6 +7,7 @@ pub mod CallSteps
 pub mod LocalMoves
 pub mod LocalRuns
 pub mod StepItems
+pub mod StepTells
 pub mod Advancing
 pub mod Covered
 pub mod HandlesStay

@@ -5,3 +5,4 @@ pub mod Taking
 pub mod Entered
 pub mod EnteredTables
 pub mod TakenBy
+pub mod ChildBy

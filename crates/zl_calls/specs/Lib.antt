@@ -9,6 +9,7 @@ pub mod Woke
 pub mod Acting
 pub mod Making
 pub mod Makes
+pub mod Started
 pub mod Steps
 pub mod Gives
 pub mod Registered

@@ -1,7 +1,7 @@
 -- Which handles a call takes, noted before it is done, and which waits may end with them. No public clause cites this module.
-use Rattle.std.specs.Prelude.{ℕ, ◌≡◌, ◌⊎◌, Bool, true, false, ◌&&◌, ◌||◌, ◌==◌, not, List, map, Option, IsTrue, IfSome}
+use Rattle.std.specs.Prelude.{ℕ, ◌≡◌, ◌⊎◌, Bool, true, false, ◌&&◌, ◌||◌, ◌==◌, not, List, map, Option, Some, IsTrue, IfSome}
 use Rattle.std.specs.List.{All, list_any}
-use Rattle.zl_code.specs.Common.{Library, Map, Site, calls_at, get, is_empty, taken_handles}
+use Rattle.zl_code.specs.Common.{Library, Map, Process as ProcessValue, Site, World, calls_at, get, is_empty, next_for, taken_handles}
 use Rattle.zl_code.specs.declared.history.Outcome.{Outcome}
 use Rattle.zl_code.specs.declared.history.Outcome.TheVariants as outcome
 use Rattle.zl_code.specs.declared.history.CallName.{CallName}
@@ -14,6 +14,7 @@ use Rattle.zl_rights.specs.declared.entry.Entry.{Entry}
 use Rattle.zl_objects.specs.Listed.{is_made_at}
 use Rattle.zl_objects.specs.Objects.{Objects}
 use Rattle.zl_calls.specs.Registered.{is_left}
+use Rattle.zl_calls.specs.Started.{child_next, child_of, if_started}
 use Rattle.zl_calls.specs.World.{process_entry, stands_next, world_value}
 use Rattle.zl_calls.specs.declared.process.Process.{Process}
 use Rattle.zl_calls.specs.declared.taken.Taken.{Taken}
@@ -55,7 +56,20 @@ abbrev pub NotesNext : Library → Process → Objects → Taken → Type 0
 NotesNext lib p r t = (name : CallName) (at : Option Site) → stands_next lib p ≡ calls_at name at → IsTrue (not (is_empty r.waits))
     → NotesFor at p.table.entries t
 
+-- the process is noted that the call of this name is to start, if it starts one
+abbrev pub NotesChild : CallName → Option Site → Map Entry → Taken → Type 0
+NotesChild name at entries t = name ≡ call.ProcessStart → IfSome at (λ s. child_of entries s.request ≡ Some t.started)
+
+-- the same of the call which stands next, of this name
+abbrev pub NotesNextChild : Library → Process → CallName → Taken → Type 0
+NotesNextChild lib p name t = (at : Option Site) → stands_next lib p ≡ calls_at name at → NotesChild name at p.table.entries t
+
 -- ---- behind it
+
+-- the process is noted that the process pid started, where the item tells of one
+abbrev pub NotesStarted : Library → World → ℕ → TraceItem → Taken → Type 0
+NotesStarted lib w pid x t = (p : ProcessValue) → get w.processes pid ≡ Some p
+    → if_started x (child_next p.handles (next_for lib p)) ≡ if_started x (Some t.started)
 
 -- the item tells of a step that ended a process, and perhaps others
 abbrev pub ends_processes : TraceItem → Bool

@@ -1,17 +1,22 @@
-//! The handles that a call takes out of its caller's table, noted before it is done: registered waits
-//! end with them.
+//! What is noted of a call before it is done: the handles that it takes out of its caller's table, with
+//! which registered waits end, and the process that it is to start.
 
-ghost use Rattle.std.specs.Prelude.{ℕ, IsTrue};
+ghost use Rattle.std.specs.Prelude.{ℕ, ◌≡◌, Some, IsTrue, slice_index};
 ghost use Rattle.std.specs.List.{All};
+ghost use Rattle.zl_rights.specs.Map.{get};
 ghost use Rattle.zl_code.specs.Request.{site_of};
+ghost use Rattle.zl_code.specs.Tests.{koid_in};
+ghost use Rattle.zl_code.specs.Local.{reg};
+ghost use Rattle.zl_calls.specs.Started.{if_started, is_ok, is_start, tells_start, with_started};
 ghost use Rattle.zl_calls.specs.Taken.{IsNoted, NotesFor, has_noted};
 
 use crate::calls::handle::live_at;
 use crate::process::Process;
+use crate::waking::Woke;
 use smallvec::SmallVec;
 use std::alloc::Global;
-use zl_code::{CallInstr, CallName};
-use zl_rights::{HValue, Koid};
+use zl_code::{CallInstr, CallName, Outcome, TraceItem};
+use zl_rights::{HValue, Koid, Pid, Status};
 use zl_table::Table;
 
 /// A handle of the caller: its value, and the object that it names.
@@ -22,11 +27,13 @@ pub struct TakenHandle {
 }
 
 /// Handles of the caller, of the last call behind which they were asked for. There is room for as
-/// many as a call can list; should there be none for one more, each counts as noted.
+/// many as a call can list; should there be none for one more, each counts as noted. Beside them the
+/// process that the last `process_start` named, or 0.
 #[derive(Drop)]
 pub struct Taken {
     pub handles: SmallVec<TakenHandle, 8>,
     pub all: bool,
+    pub started: Pid,
 }
 
 impl Taken {
@@ -35,6 +42,37 @@ impl Taken {
         Taken {
             handles: SmallVec::new(alloc),
             all: false,
+            started: 0,
+        }
+    }
+
+    /// Notes the process that the start names, of the process at which it stands; 0 where the handle
+    /// isn't live.
+    pub fn note_child(&mut self, process: &Process, call: &CallInstr)
+        ensures { self.new ≡ record self.old {
+          started = koid_in (get process.now.table.entries
+              (reg process.now.cpu (slice_index call.now.registers 1)));
+        } }
+    {
+        let [_, second, ..] = call.registers;
+        self.started = match live_at::<true>(&process.table, process.cpu.register(second)) {
+            Some((_, entry)) => entry.koid,
+            None => 0,
+        };
+    }
+
+    /// Who woke, and the process that is noted, where the item tells that it was started.
+    #[inline(always)]
+    pub fn with_started(&self, item: &TraceItem, woke: Woke) -> Woke
+        ensures { result ≡ with_started (if_started item.now (Some self.now.started)) woke }
+    {
+        if !tells_start(item) {
+            return woke;
+        }
+        match woke {
+            Woke::Nobody => Woke::One(self.started),
+            Woke::One(_) => Woke::More,
+            Woke::More => Woke::More,
         }
     }
 
@@ -84,4 +122,31 @@ impl Taken {
             self.note(table, *value);
         }
     }
+}
+
+/// Whether the item tells of a start that was answered OK.
+#[inline(always)]
+fn tells_start(item: &TraceItem) -> bool
+    ensures { result ≡ tells_start item.now }
+{
+    match item {
+        TraceItem::Call { call, outcome, .. } => is_start(*call) && is_ok(*outcome),
+        TraceItem::Run { .. } | TraceItem::Stuck { .. } => false,
+    }
+}
+
+/// Whether the call starts a process.
+#[inline(always)]
+pub fn is_start(call: CallName) -> bool
+    ensures { result ≡ is_start call }
+{
+    matches!(call, CallName::ProcessStart)
+}
+
+/// Whether the answer is OK.
+#[inline(always)]
+fn is_ok(outcome: Outcome) -> bool
+    ensures { result ≡ is_ok outcome }
+{
+    matches!(outcome, Outcome::Answered(Status::Ok))
 }

@@ -12,7 +12,7 @@ ghost use Rattle.zl_calls.specs.World.{call_for, state_in, is_ready_in};
 ghost use Rattle.zl_calls.specs.Makes.{IsReached};
 ghost use Rattle.zl_calls.specs.Steps.{Performs, StepsTo, local_item, takes_memory};
 ghost use Rattle.zl_calls.specs.Turns.{Fits, IsTurn, advanced, steps_done};
-ghost use Rattle.zl_calls.specs.Woke.{StepsAndWakes};
+ghost use Rattle.zl_calls.specs.Started.{StepsAndTells};
 
 use crate::booting::{Made, booted};
 use crate::processes::Processes;
@@ -200,14 +200,15 @@ impl World {
     /// is, as `perform` does, or a local one, as `local` does. Behind a call registered waits end with
     /// their handles, those that hold fire in the order of registration, and blocked processes wake in
     /// the order in which they blocked; behind a local instruction, and where nothing waits at an
-    /// object that the call touched, there are none. It tells the item of the step, and who woke.
+    /// object that the call touched, there are none. It tells the item of the step, and who became ready
+    /// but for the process: whom it started by a `process_start` that is answered OK, and who woke.
     ///
     /// Nothing where the process isn't ready, or there is none of this koid.
     /// Source: that of `perform` and `local`.
     // A run along a schedule calls it for each turn.
     #[inline(always)]
     pub fn step(&mut self, pid: Pid) -> Option<(TraceItem, Woke)>
-        ensures ran { IfSome result (λ did. StepsAndWakes self.old pid self.new did.0 did.1) }
+        ensures ran { IfSome result (λ did. StepsAndTells self.old pid self.new did.0 did.1) }
         ensures not_ready { IfNone result (is_ready_in self.old pid ≡ false) }
         ensures unchanged { IfNone result (self.new ≡ self.old) }
     {
@@ -226,12 +227,12 @@ impl World {
         add_blocked(&mut self.blocked, pid, &item);
         fall_asleep(&self.processes, &mut self.objects, pid, &item);
         if self.objects.is_quiet() {
-            return Some((item, Woke::Nobody));
+            return Some((item, self.taken.with_started(&item, Woke::Nobody)));
         }
         fire_waits(&self.processes, &mut self.objects);
         let woke = wake(&mut self.processes, &mut self.objects, &mut self.blocked);
         self.objects.calm();
-        Some((item, woke))
+        Some((item, self.taken.with_started(&item, woke)))
     }
 
     /// Does the system call at which the process is, with all that follows from it.

@@ -1,7 +1,7 @@
 //! In what order processes stand in the ready list behind a step that changes little of it.
 
 use crate::scenes::{Act, Scene, play};
-use crate::systems::{AWAITS, CALLS, EXITS, FIRST, SECOND};
+use crate::systems::{AWAITS, CALLS, EXITS, FIRST, KILLS, SECOND};
 use std::test::*;
 use zl_rights::Pid;
 use zl_sched::HandIn;
@@ -14,6 +14,16 @@ const FOURTH: Pid = 5;
 pub const WAITS_FOR_SIGNAL: &str = ".raw
 const r4, 16777216
 wait_one r2, r0, r4, r5
+process_exit r1
+";
+
+/// Makes a process of the first program in the job of its handle, starts it with an event, and does so
+/// once more, which is refused.
+pub const STARTS: &str = ".raw
+process_create r2, r0, r3, r4
+event_create r2, r5
+process_start r2, r4, r5, r1
+process_start r2, r4, r5, r1
 process_exit r1
 ";
 
@@ -150,4 +160,61 @@ end schedule
 #[test]
 fn one_that_wakes_by_an_end_comes_last(rt: HostRuntime) -> Result<(), Fail> {
     play(rt.alloc(), &ONE_WAKES_BY_AN_END)
+}
+
+/// The second process starts a fourth, which comes behind the ready ones and before its starter.
+const ONE_STARTS: Scene = Scene {
+    own: &[(CALLS, 1), (STARTS, 2), (CALLS, 3)],
+    other: &[],
+    in_job: 1,
+    limit: 100,
+    acts: &[
+        Act::Step(THIRD),
+        Act::Step(THIRD),
+        Act::Step(THIRD),
+        Act::Take(SECOND),
+        Act::Take(FOURTH),
+        Act::Take(FOURTH + 1),
+        Act::Take(THIRD),
+        Act::TakeNothing,
+    ],
+    trace: "4 process_create OK
+4 event_create OK
+4 process_start OK
+process 3 ready
+process 4 ready
+process 5 ready
+process 6 ready
+end schedule
+",
+};
+
+#[test]
+fn one_that_is_started_comes_before_its_starter(rt: HostRuntime) -> Result<(), Fail> {
+    play(rt.alloc(), &ONE_STARTS)
+}
+
+/// The second process kills the first, which leaves the list; the third goes before its killer.
+const ONE_IS_KILLED: Scene = Scene {
+    own: &[(CALLS, 1), (KILLS, 2), (CALLS, 3)],
+    other: &[],
+    in_job: 0,
+    limit: 100,
+    acts: &[
+        Act::Step(SECOND),
+        Act::Take(THIRD),
+        Act::Take(SECOND),
+        Act::TakeNothing,
+    ],
+    trace: "3 task_kill OK
+process 2 ended -1024
+process 3 ready
+process 4 ready
+end schedule
+",
+};
+
+#[test]
+fn one_that_is_killed_leaves_the_list(rt: HostRuntime) -> Result<(), Fail> {
+    play(rt.alloc(), &ONE_IS_KILLED)
 }

@@ -1,15 +1,16 @@
-//! Who woke behind a step, as the world tells it.
+//! Who became ready behind a step but for its process, as the world tells it.
 
-use crate::order_tests::{RAISES, WAITS_FOR_SIGNAL};
-use crate::systems::{CALLS, library, statements};
+use crate::order_tests::{RAISES, STARTS, WAITS_FOR_SIGNAL};
+use crate::systems::{AWAITS, CALLS, KILLS, library, statements};
 use std::alloc::Global;
 use std::test::*;
 use zl_calls::{Boot, Woke, World};
 use zl_rights::Pid;
 
-/// A world of a process for each text, with the word; each but the first has a handle to the first.
-fn world(alloc: Global, processes: &[(&str, u64)]) -> Result<World, Fail> {
-    let statements = statements(alloc, processes, 0)?;
+/// A world of a process for each text, with the word, the first so many in a job of their own; each but
+/// the first has a handle to this job, or else to the first process.
+fn world(alloc: Global, processes: &[(&str, u64)], in_job: u64) -> Result<World, Fail> {
+    let statements = statements(alloc, processes, in_job)?;
     let boot = Boot {
         statements,
         limit: 100,
@@ -30,15 +31,53 @@ const TURNS: [(Pid, Woke); 6] = [
     (5, Woke::Nobody),
 ];
 
+/// Each of these processes has a turn, behind which just this became ready.
+fn tells(world: &mut World, turns: &[(Pid, Woke)]) -> Result<(), Fail> {
+    for (pid, woke) in turns {
+        let Some((_, told)) = world.step(*pid) else {
+            return Err(Fail::from("the process isn't ready"));
+        };
+        if told != *woke {
+            return Err(Fail::from("another process became ready, or none"));
+        }
+    }
+    Ok(())
+}
+
 #[test]
 fn a_step_tells_who_woke(rt: HostRuntime) -> Result<(), Fail> {
     let own = [(CALLS, 1), (WAITS_FOR_SIGNAL, 2), (RAISES, 3), (CALLS, 4)];
-    let mut world = world(rt.alloc(), &own)?;
-    for (pid, woke) in TURNS {
-        let Some((_, told)) = world.step(pid) else {
-            return Err(Fail::from("the process isn't ready"));
-        };
-        assert_eq!(rt; told, woke);
-    }
-    Ok(())
+    tells(&mut world(rt.alloc(), &own, 0)?, &TURNS)
+}
+
+/// The child becomes ready as it is started, and only then.
+const STARTING: [(Pid, Woke); 6] = [
+    (4, Woke::Nobody),
+    (4, Woke::Nobody),
+    (4, Woke::One(5)),
+    (5, Woke::Nobody),
+    (4, Woke::Nobody),
+    (4, Woke::Nobody),
+];
+
+#[test]
+fn a_step_tells_whom_it_started(rt: HostRuntime) -> Result<(), Fail> {
+    tells(
+        &mut world(rt.alloc(), &[(CALLS, 1), (STARTS, 2)], 1)?,
+        &STARTING,
+    )
+}
+
+/// The third process kills the first, for whose end the second waits.
+const KILLING: [(Pid, Woke); 4] = [
+    (3, Woke::Nobody),
+    (3, Woke::Nobody),
+    (4, Woke::One(3)),
+    (3, Woke::Nobody),
+];
+
+#[test]
+fn a_kill_tells_who_woke(rt: HostRuntime) -> Result<(), Fail> {
+    let own = [(CALLS, 1), (AWAITS, 2), (KILLS, 3)];
+    tells(&mut world(rt.alloc(), &own, 0)?, &KILLING)
 }

@@ -12,7 +12,7 @@ use Rattle.zl_sched.specs.Queueing.{IsTold, change_of}
 use Rattle.zl_sched.specs.Ready.{times}
 use Rattle.zl_sched.specs.declared.change.Change.{Change}
 use Rattle.zl_sched.specs.declared.change.Change.TheVariants as change
-use Rattle.zl_sched.proofs.StillReady.{IsChanged, changed, changed_from, unchanged}
+use Rattle.zl_sched.proofs.ReadyChange.{IsChanged, changed, changed_from, unchanged}
 use Rattle.zl_sched.proofs.Fresh.{made_not_ready}
 use Rattle.zl_sched.proofs.Legal.{history_then, nothing_legal, run_legal, step_legal}
 use Rattle.zl_sched.proofs.MarksKept.{state_kept, place_still}
@@ -74,9 +74,9 @@ ends_changed : (more : Bool) (m : Machine) (p : ℕ) (last : List TraceItem) (m2
     → is_process m.world is_ready p ≡ true → Changes more m p last m2 ends c → IsChanged m.world p m2.world c
 ends_changed true m p last m2 (none, same) c sound ready is =
     rw is (subst (λ (x : Machine). IsChanged m.world p x.world change.Nobody) (sym same) (unchanged m.world p ready))
-ends_changed false m p last m2 (x, is, taken) c sound ready (who, left, told) =
+ends_changed false m p last m2 (x, is, taken) c sound ready (who, tells, told) =
     rw told (subst (λ (k : ℕ). IsChanged m.world k m2.world (change_of x who)) taken.pid_is
-    (changed m.programs m.world (pid_of x) x m2.world sound taken.steps.step who left))
+    (changed m.programs m.world (pid_of x) x m2.world sound taken.steps.step who tells))
 
 run_length : (p n : ℕ) → length (run_items p n) ≡ (if n == 0 then 0 else 1)
 run_length p n = by (n == 0)

@@ -1,5 +1,6 @@
 pub mod StillReady
 pub mod Beginnings
+pub mod ChildReady
 pub mod Common
 pub mod Counted
 pub mod Following
@@ -12,6 +13,7 @@ pub mod Marked
 pub mod MarksKept
 pub mod MarksMoved
 pub mod Queued
+pub mod ReadyChange
 pub mod ReadyProcess
 pub mod RowsHandIn
 pub mod TurnQueued

@@ -14,7 +14,7 @@ use Rattle.zl_sched.specs.Ready.{ready_by_koid, times, became_ready}
 use Rattle.zl_sched.specs.Queueing.{IsTold, woken_but}
 use Rattle.zl_sched.specs.declared.change.Change.{Change}
 use Rattle.zl_sched.specs.declared.change.Change.TheVariants as change
-use Rattle.zl_sched.proofs.StillReady.{IsChanged, OthersReady}
+use Rattle.zl_sched.proofs.ReadyChange.{IsChanged, OthersCome, OthersReady}
 use Rattle.std.proofs.lemmas.Option.{slice_get_within, get_or_from_slice_get}
 use Rattle.zl_sched.proofs.Counted.{times-filter, times-append, any_counted, key_once, no_longer}
 use Rattle.zl_sched.proofs.Marked.{AreBut, no_mark, other_way}
@@ -247,15 +247,15 @@ module _ (w after : World) (p : ℕ) (list out : List ℕ) (b : Before w after p
         | inr apart ↦ others k apart
       ]
 
-  joined : IsSound after → (who : Option ℕ) → OthersReady w p after who → became_ready w after ≡ woken_but p who
-  joined sound None o = comes_by (λ k. false) refl o.come ∙ none_passes (pids_of after)
-  joined sound (Some q) o = elim (cases_Bool (q == p)) as (λ _. became_ready w after ≡ one_if (not (q == p)) q) [
+  joined : IsSound after → (who : Option ℕ) → OthersCome w p after who → became_ready w after ≡ woken_but p who
+  joined sound None come = comes_by (λ k. false) refl come ∙ none_passes (pids_of after)
+  joined sound (Some q) come = elim (cases_Bool (q == p)) as (λ _. became_ready w after ≡ one_if (not (q == p)) q) [
     | inl here ↦ rw here
-        (comes_by (λ k. false) refl (λ k apart. o.come k apart ∙ (ap (λ (j : ℕ). k == j) (eqb-true q p here) ∙ apart)) ∙ none_passes (pids_of after))
+        (comes_by (λ k. false) refl (λ k apart. come k apart ∙ (ap (λ (j : ℕ). k == j) (eqb-true q p here) ∙ apart)) ∙ none_passes (pids_of after))
     | inr apart ↦
-        let now : is_process after is_ready q ≡ true = first_of (is_process after is_ready q) _ (o.come q apart ∙ eq-eqb q q refl) in
+        let now : is_process after is_ready q ≡ true = first_of (is_process after is_ready q) _ (come q apart ∙ eq-eqb q q refl) in
         rw apart
-        (comes_by (λ k. k == q) (other_way q p apart) o.come
+        (comes_by (λ k. k == q) (other_way q p apart) come
         ∙ one_passes q (pids_of after) (key_once q after.processes sound.handles.processes (ready_key after q now)))
   ]
     where
@@ -265,11 +265,12 @@ module _ (w after : World) (p : ℕ) (list out : List ℕ) (b : Before w after p
 
   few_told : IsSound after → (who : Option ℕ) → OthersReady w p after who
       → requeued after p out list ≡ filter (λ q. not (q == p)) list ++ (woken_but p who ++ itself_ready after p)
-  few_told sound who o = requeued_is ∙ (λ i. still who o i ++ (joined sound who o i ++ itself_ready after p))
+  few_told sound who o = requeued_is ∙ (λ i. still who o i ++ (joined sound who o.come i ++ itself_ready after p))
 
   pub told : IsSound after → (c : Change) → IsChanged w p after c → IsTold after p out list c
   told sound change.Nobody (o, ready) = few_told sound None o ∙ rw ready refl
   told sound (change.Few who) o = few_told sound who o
+  told sound (change.Fewer who) come = requeued_is ∙ ap (λ (ks : List ℕ). still_ready after p list ++ (ks ++ itself_ready after p)) (joined sound who come)
   told sound change.Any o = tt
 
 -- the last of a list in which it stands once stays where it is

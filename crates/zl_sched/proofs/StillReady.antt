@@ -1,13 +1,14 @@
--- Where a step starts and kills no other process, the others are as ready after it as before, but for those that woke.
+-- Where a call kills and starts no other process, the others are as ready after it as before, but for those that woke. Where it kills, nobody becomes ready.
 use Rattle.zl_code.proofs.Common.{◌≡◌, ◌<◌, ◌⊎◌, ℕ, Bool, true, false, not, ◌==◌, ◌&&◌, List, [], ◌∷◌, refl, ap, sym, ◌∙◌, subst, arith, cases_Bool, ⊤}
 use Rattle.zl_sched.proofs.Common.{Body, CallBy, Entry, IsSound, Object, Outcome, Packet, PortBody, Refused, Request, Settles, SignalOf, Site, TraceItem}
 use Rattle.zl_sched.proofs.Common.{Values, Wants, active, after_ok, after_refusal, created_process, effect, entering_at, fired, fold, get-each, get-put}
-use Rattle.zl_sched.proofs.Common.{get-update, insert_all, leaves_ready, made_ready, meets, new_handles, on_object, on_process}
+use Rattle.zl_sched.proofs.Common.{get-update, insert_all, made_ready, meets, on_object, on_process}
 use Rattle.zl_sched.proofs.Common.{option_map, process_create, process_settled, process_start, process_with, process_without, receiver_of, refusal}
-use Rattle.zl_sched.proofs.Common.{remove_all, replied, state_without, step_sound, stored_by, storing, taken, taken_handles, task_kill, wakes, with_body}
+use Rattle.zl_sched.proofs.Common.{remove_all, replied, state_without, step_sound, stored_by, storing, taken, task_kill, wakes, with_body}
 use Rattle.zl_sched.proofs.Common.{with_object, without_others, woken_at_port, woken_by, woken_by_first, woken_from, woken_if_there}
 use Rattle.zl_code.proofs.Common.{eqb-true, false≢true, Option, Some, None, is_some, has_key, IsTrue, if◌then◌else◌, inl, inr, get}
-use Rattle.zl_code.proofs.Common.{World, Process, State, Created, Ready, Blocked, Gone, is_process, is_ready, is_blocked}
+use Rattle.zl_code.proofs.Common.{World, Process, State, Created, Ready, Blocked, Ended, Gone, is_process, is_ready, is_blocked, lives, process_killed}
+use Rattle.zl_code.proofs.Common.{Calls, handle_operands, is_within, new_handles, object_at, row_of, taken_handles, with_killed}
 use Rattle.zl_code.proofs.Common.{without, state_passes, ok_outcome, with_effect, ended, process_ended, waiting}
 use Rattle.zl_code.proofs.Common.{PacketAt, Library}
 use Rattle.zl_code.proofs.Common.{Choice}
@@ -15,6 +16,7 @@ use Rattle.zl_code.proofs.Common.{Next, Moves, AtCall}
 use Rattle.zl_code.proofs.Common.{IsStuck, Acts, Step, next_for}
 use Rattle.std.proofs.lemmas.Bool.{not-true}
 use Rattle.zl_rights.specs.Wakes.{woken}
+use Rattle.zl_rights.specs.Numbers.{KILLED}
 use Rattle.zl_rights.specs.World.{Awaited}
 use Rattle.zl_rights.specs.declared.status.Status.{Status}
 use Rattle.zl_rights.specs.declared.status.Status.TheVariants as status
@@ -22,15 +24,16 @@ use Rattle.zl_code.specs.declared.history.Outcome.TheVariants as outcome
 use Rattle.zl_code.specs.declared.history.TraceItem.TheVariants as item
 use Rattle.zl_code.specs.declared.history.CallName.{CallName}
 use Rattle.zl_code.specs.CallTable.{awaited_by, name_of}
+use Rattle.zl_code.specs.Starting.{started_with}
+use Rattle.zl_code.specs.Tests.{koid_in}
 use Rattle.zl_code.proofs.Changes.{times, times-other, times-same}
 use Rattle.zl_code.proofs.SoundRuns.{settled_sound}
-use Rattle.zl_calls.proofs.Above.{asked_next}
+use Rattle.zl_verify.proofs.CallEnds.{call_ends}
+use Rattle.zl_calls.specs.Started.{child_of, if_started}
 use Rattle.zl_calls.specs.Woke.{HaveLeft}
 use Rattle.zl_calls.specs.declared.waking.Woke.{Woke}
 use Rattle.zl_calls.specs.declared.waking.Woke.TheVariants as woke
-use Rattle.zl_sched.specs.Queueing.{change_of, few_if, leaves_others, may_start_or_kill}
-use Rattle.zl_sched.specs.declared.change.Change.{Change}
-use Rattle.zl_sched.specs.declared.change.Change.TheVariants as change
+use Rattle.zl_sched.specs.Queueing.{may_kill}
 use Rattle.zl_sched.proofs.Marked.{other_way}
 use Rattle.zl_sched.proofs.MarksKept.{state_kept}
 
@@ -106,12 +109,12 @@ abbrev pub is_one : Option ℕ → ℕ → Bool
 is_one None k = false
 is_one (Some q) k = k == q
 
-abbrev woke_one : Option ℕ → Woke
+abbrev pub woke_one : Option ℕ → Woke
 woke_one None = woke.Nobody
 woke_one (Some q) = woke.One q
 
 -- k was blocked and isn't, as the lists tell, in which each blocked process stands once
-left_so : (who : Option ℕ) (before after : List ℕ) (k : ℕ) (was is : Bool) → times k before ≡ (if was then 1 else 0) → times k after ≡ (if is then 1 else 0)
+pub left_so : (who : Option ℕ) (before after : List ℕ) (k : ℕ) (was is : Bool) → times k before ≡ (if was then 1 else 0) → times k after ≡ (if is then 1 else 0)
     → HaveLeft before (woke_one who) after → (was && not is) ≡ is_one who k
 left_so who before after k was is b a left = by_lists who left
   where
@@ -141,7 +144,7 @@ left_so who before after k was is b a left = by_lists who left
 abbrev pub Left : ℕ → World → World → Type 0
 Left k u w = (test : State → Bool) → test Created ≡ false → test Gone ≡ false → is_process u test k ≡ is_process w test k
 
-left_then : (k : ℕ) (u v w : World) → Left k u v → Left k v w → Left k u w
+pub left_then : (k : ℕ) (u v w : World) → Left k u v → Left k v w → Left k u w
 left_then k u v w a b test made gone = a test made gone ∙ b test made gone
 
 without_keeps : (h : ℕ) (x : Process) → (process_without h x).state ≡ x.state
@@ -149,20 +152,24 @@ without_keeps h x =
     elim (has_key x.handles h)
     as (λ b. (if b then record x { handles = without x.handles h; last = Some h } else x).state ≡ x.state) [ true ↦ refl | false ↦ refl ]
 
--- the request neither starts nor kills
-abbrev spares : Request → Bool
-spares (process_start process h word) = false
-spares (task_kill task) = false
-spares r = true
+-- the request of p kills nobody, and doesn't start k
+abbrev spares : World → ℕ → ℕ → Request → Bool
+spares w p k (process_start process h word) = not (object_at w p process == k)
+spares w p k (task_kill task) = false
+spares w p k r = true
 
--- a request whose name neither starts nor kills
-spares_so : (r : Request) → may_start_or_kill (name_of r) ≡ false → spares r ≡ true
-spares_so (process_start process h word) spared = absurd (false≢true (sym spared))
-spares_so (task_kill task) spared = absurd (false≢true (sym spared))
-spares_so _ spared = refl
+-- so does one whose name kills nobody, where its answer doesn't tell that k was started
+pub spares_so : (w : World) (p k : ℕ) (x : Process) → get w.processes p ≡ Some x → (r : Request) (call : CallName) (o : Outcome) → name_of r ≡ call
+    → may_kill call ≡ false → is_one (if_started (item.Call p call o) (child_of x.handles r)) k ≡ false → o ≡ ok_outcome w p r → spares w p k r ≡ true
+spares_so w p k x at (process_start process h word) call o named plain apart is =
+    let other : (k == koid_in (get x.handles process)) ≡ false
+    = (λ i. is_one (if_started (item.Call p (named i) (sym is i)) (child_of x.handles (process_start process h word))) k) ∙ apart in
+    rw at (ap not (other_way k (koid_in (get x.handles process)) other))
+spares_so w p k x at (task_kill task) call o named plain apart is = absurd (false≢true (sym plain ∙ ap may_kill (sym named)))
+spares_so w p k x at _ call o named plain apart is = refl
 
 -- the caller goes on behind its answer
-abbrev goes_on : Outcome → Bool
+abbrev pub goes_on : Outcome → Bool
 goes_on (outcome.Answered answer) = true
 goes_on _ = false
 
@@ -178,14 +185,14 @@ still_free w p k (h ∷ hs) free =
     by_test false = refl
 
 module _ (k : ℕ) where
-  moved : (w : World) (p : ℕ) (f : Process → Process) → ((x : Process) → (f x).state ≡ x.state) → Left k (on_process w p f) w
+  pub moved : (w : World) (p : ℕ) (f : Process → Process) → ((x : Process) → (f x).state ≡ x.state) → Left k (on_process w p f) w
   moved w p f keeps test made gone = state_kept w p f keeps test k
 
   elsewhere : (w : World) (p : ℕ) (f : Process → Process) → (p == k) ≡ false → Left k (on_process w p f) w
   unfolding is_process on_process
   elsewhere w p f apart test made gone = rw (get-update w.processes p f k, apart) refl
 
-  ends : (w : World) (p : ℕ) (code : _) → (p == k) ≡ false → Left k (ended w p code) w
+  pub ends : (w : World) (p : ℕ) (code : _) → (p == k) ≡ false → Left k (ended w p code) w
   unfolding is_process ended
   ends w p code apart = elsewhere w p (process_ended code) apart
 
@@ -199,17 +206,17 @@ module _ (k : ℕ) where
   removed w p [] = λ test made gone. refl
   removed w p (h ∷ hs) = left_then k _ _ w (removed (on_process w p (process_without h)) p hs) (moved w p (process_without h) (without_keeps h))
 
-  entered : (w : World) (p : ℕ) (es : List Entry) (vs : List ℕ) → Left k (insert_all w p es vs) w
+  pub entered : (w : World) (p : ℕ) (es : List Entry) (vs : List ℕ) → Left k (insert_all w p es vs) w
   unfolding insert_all
   entered w p [] vs = λ test made gone. refl
   entered w p (e ∷ es) [] = λ test made gone. refl
   entered w p (e ∷ es) (v ∷ vs) = left_then k _ _ w (entered (on_process w p (process_with v e)) p es vs) (moved w p (process_with v e) (λ x. refl))
 
-  stored : (w : World) (p : ℕ) (at : ℕ × List ℕ) → Left k (storing w p at) w
+  pub stored : (w : World) (p : ℕ) (at : ℕ × List ℕ) → Left k (storing w p at) w
   stored w p (address, []) = λ test made gone. refl
   stored w p (address, b ∷ bytes) = moved w p _ (λ x. refl)
 
-  answers : (w : World) (p : ℕ) (s : Site) (answer : Status) (values : List ℕ) → Left k (replied w p s answer values) w
+  pub answers : (w : World) (p : ℕ) (s : Site) (answer : Status) (values : List ℕ) → Left k (replied w p s answer values) w
   unfolding replied
   answers w p s answer values = moved w p _ (λ x. refl)
 
@@ -223,12 +230,13 @@ module _ (k : ℕ) where
         | inr apart ↦ rw apart refl
       ]
 
-  effected : (lib : Library) (w u : World) (p : ℕ) (request : Request) (vs : List ℕ) → get u.processes w.next_koid ≡ None → spares request ≡ true
+  effected : (lib : Library) (w u : World) (p : ℕ) (request : Request) (vs : List ℕ) → get u.processes w.next_koid ≡ None → spares w p k request ≡ true
       → Left k (effect lib w u p request vs) u
   unfolding effect with_object on_object is_process
   effected lib w u p (process_create job program) vs free left test fresh gone =
       rw (get-put u.processes w.next_koid (created_process lib program) k) (made_so lib w u program test fresh free)
-  effected lib w u p (process_start process h word) vs free left test fresh gone = absurd (false≢true left)
+  effected lib w u p (process_start process h word) vs free left test fresh gone =
+      elsewhere u (object_at w p process) (started_with vs word) (not-true _ left) test fresh gone
   effected lib w u p (task_kill task) vs free left test fresh gone = absurd (false≢true left)
   effected lib w u p _ vs free left test fresh gone = refl
 
@@ -253,151 +261,68 @@ module _ (k : ℕ) where
     refused_so s (outcome.Ended code) apart = ends w p code (apart refl)
     refused_so s outcome.Blocked apart = λ test made gone. refl
 
-    effect_so : (s : Site) (vs : List ℕ) → spares s.request ≡ true → Left k (with_effect lib w (taken w p s) p s.request vs) w
+    effect_so : (s : Site) (vs : List ℕ) → spares w p k s.request ≡ true → Left k (with_effect lib w (taken w p s) p s.request vs) w
     effect_so s vs left =
         left_then k _ _ w (stored _ p (stored_by w p s.request))
         (left_then k _ _ w (entered _ (receiver_of w p s.request) (new_handles w p s.request) (entering_at s.request vs))
         (left_then k _ _ w (effected lib w (taken w p s) p s.request vs (still_free w p w.next_koid (taken_handles s.request) free) left)
         (removed w p (taken_handles s.request))))
 
-    done_so : (s : Site) (vs : List ℕ) (o : Outcome) → spares s.request ≡ true → (goes_on o ≡ false → (p == k) ≡ false) → Left k (after_ok lib w p s vs o) w
+    done_so : (s : Site) (vs : List ℕ) (o : Outcome) → spares w p k s.request ≡ true → (goes_on o ≡ false → (p == k) ≡ false) → Left k (after_ok lib w p s vs o) w
     done_so s vs (outcome.Answered answer) left apart = left_then k _ _ w (answers _ p s status.Ok _) (effect_so s vs left)
     done_so s vs (outcome.Ended code) left apart = left_then k _ _ w (ends _ p code (apart refl)) (effect_so s vs left)
     done_so s vs outcome.Blocked left apart = blocks w p s.destinations (awaited_by w p s.request) (apart refl)
 
-    called_so : (s : Site) (choice : Choice) (r : Option Outcome) (o : Outcome) (w2 : World) → spares s.request ≡ true
+    pub called_so : (s : Site) (choice : Choice) (r : Option Outcome) (o : Outcome) (w2 : World) → (o ≡ ok_outcome w p s.request → spares w p k s.request ≡ true)
         → (goes_on o ≡ false → (p == k) ≡ false) → CallBy lib w p s choice r o w2 → Left k w2 w
     called_so s Refused None o w2 left apart c = absurd c
     called_so s Refused (Some r) o w2 left apart c = rw c.1 (refused_so s r (λ stops. apart (ap goes_on c.0 ∙ stops)))
     called_so s (Wants want) None o w2 left apart c = rw c.2 (refused_so s (outcome.Answered want) (λ stops. absurd (false≢true (sym stops))))
     called_so s (Wants want) (Some r) o w2 left apart c = absurd c
-    called_so s (Values vs) None o w2 left apart c = rw c.2 (done_so s vs (ok_outcome w p s.request) left (λ stops. apart (ap goes_on c.1 ∙ stops)))
+    called_so s (Values vs) None o w2 left apart c = rw c.2 (done_so s vs (ok_outcome w p s.request) (left c.1) (λ stops. apart (ap goes_on c.1 ∙ stops)))
     called_so s (Values vs) (Some r) o w2 left apart c = absurd c
 
--- ---- the step
+-- ---- a call that kills
 
--- But for p, those stay ready in after that are ready in w, and who woke comes, who wasn't.
-pub record OthersReady (w : World) (p : ℕ) (after : World) (who : Option ℕ) : Type 0 where
-  pub stay : (k : ℕ) → (k == p) ≡ false → is_process w is_ready k ≡ true → is_process after is_ready k ≡ true
-  pub come : (k : ℕ) → (k == p) ≡ false → (is_process after is_ready k && not (is_process w is_ready k)) ≡ is_one who k
+-- k passes in u only what it passes in w, but for what the ended pass
+abbrev pub Less : ℕ → World → World → Type 0
+Less k u w = (test : State → Bool) → test Created ≡ false → test Gone ≡ false → test (Ended KILLED) ≡ false → is_process u test k ≡ true
+    → is_process w test k ≡ true
 
--- the change of a step of p from w to after is so much
-abbrev pub IsChanged : World → ℕ → World → Change → Type 0
-IsChanged w p after change.Nobody = OthersReady w p after None × (is_process after is_ready p ≡ true)
-IsChanged w p after (change.Few who) = OthersReady w p after who
-IsChanged w p after change.Any = ⊤
+left_less : (k : ℕ) (u w : World) → Left k u w → Less k u w
+left_less k u w left test made gone over passes = sym (left test made gone) ∙ passes
 
--- likewise from a world in which the others are as ready
-others_from : (u w : World) (p : ℕ) (after : World) (who : Option ℕ) → ((k : ℕ) → (k == p) ≡ false → is_process u is_ready k ≡ is_process w is_ready k)
-    → OthersReady u p after who → OthersReady w p after who
-others_from u w p after who same o = record {
-  stay = λ k apart now. o.stay k apart (same k apart ∙ now);
-  come = λ k apart. ap (λ (b : Bool). is_process after is_ready k && not b) (sym (same k apart)) ∙ o.come k apart;
-}
+pub less_then : (k : ℕ) (u v w : World) → Left k u v → Less k v w → Less k u w
+less_then k u v w left less test made gone over passes = less test made gone over (sym (left test made gone) ∙ passes)
 
-pub changed_from : (u w : World) (p : ℕ) (after : World) (c : Change) → ((k : ℕ) → (k == p) ≡ false → is_process u is_ready k ≡ is_process w is_ready k)
-    → IsChanged u p after c → IsChanged w p after c
-changed_from u w p after change.Nobody same (o, ready) = (others_from u w p after None same o, ready)
-changed_from u w p after (change.Few who) same o = others_from u w p after who same o
-changed_from u w p after change.Any same o = tt
-
-and_not : (b : Bool) → (b && not b) ≡ false
-and_not true = refl
-and_not false = refl
-
-pub unchanged : (w : World) (p : ℕ) → is_process w is_ready p ≡ true → IsChanged w p w change.Nobody
-unchanged w p ready = (record { stay = λ k apart now. now; come = λ k apart. and_not (is_process w is_ready k) }, ready)
-
-stops_so : (p : ℕ) (call : CallName) (o : Outcome) → goes_on o ≡ false → leaves_ready (item.Call p call o) ≡ false
-stops_so p call (outcome.Answered answer) stops = absurd (false≢true (sym stops))
-stops_so p call _ stops = refl
-
-spares_more : (x : TraceItem) → leaves_ready x ≡ true → leaves_others x ≡ true
-spares_more (item.Run p count) leaves = refl
-spares_more (item.Call p call (outcome.Answered answer)) leaves = leaves
-spares_more (item.Call p call _) leaves = absurd (false≢true leaves)
-spares_more (item.Stuck p) leaves = refl
-
-busy_so : (o : Option Process) → state_passes is_blocked o ≡ true → state_passes is_ready o ≡ false
-busy_so None blocked = refl
-busy_so (Some x) blocked = by_state x.state blocked
+killed_less : (k : ℕ) (u : World) (t : ℕ) → Less k (with_killed u t) u
+unfolding is_process with_killed
+killed_less k u t test made gone over passes =
+    by_process (get u.processes k) (is_within u.objects t k) (rw (get-each u.processes (λ j. process_killed (is_within u.objects t j)) k) at passes)
   where
-    by_state : (s : State) → is_blocked s ≡ true → is_ready s ≡ false
-    by_state Ready blocked = absurd (false≢true blocked)
-    by_state _ blocked = refl
+    by_state : (x : Process) (alive : Bool) → test (if alive then record x { state = Ended KILLED; handles = []; last = None } else x).state ≡ true
+        → test x.state ≡ true
+    by_state x true passed = absurd (false≢true (sym over ∙ passed))
+    by_state x false passed = passed
 
-module _ (lib : Library) (w : World) (p : ℕ) (x : TraceItem) (after : World) (sound : IsSound w) (step : Step lib w p x after) where
-  no_process : get w.processes w.next_koid ≡ None
-  no_process = by_process (get w.processes w.next_koid) refl
-    where
-      by_process : (o : Option Process) → get w.processes w.next_koid ≡ o → o ≡ None
-      by_process None at = refl
-      by_process (Some y) at = let below : w.next_koid < w.next_koid = sound.processes w.next_koid (ap is_some at) in absurd (omega (arith, below))
+    by_process : (o : Option Process) (within : Bool) → state_passes test (option_map (process_killed within) o) ≡ true → state_passes test o ≡ true
+    by_process None within passed = passed
+    by_process (Some x) true passed = by_state x (lives x.state) passed
+    by_process (Some x) false passed = passed
 
-  acted_so : (k : ℕ) (n : Next) → next_for lib step.process ≡ n → Acts lib w p n x step.acted → leaves_others x ≡ true
-      → (leaves_ready x ≡ false → (p == k) ≡ false) → Left k step.acted w
-  acted_so k (Moves c) at a others apart = rw a.1 (moved k w p (λ y. record y { cpu = c }) (λ y. refl))
-  acted_so k (AtCall call s) at (o, is, calls) others apart =
-      let spared : not (may_start_or_kill call) ≡ true = sym (ap leaves_others is) ∙ others in
-      called_so k lib w p no_process s calls.0 (refusal lib w p s.request) o step.acted
-      (spares_so s.request (ap may_start_or_kill (asked_next step.process.cpu call s _ at) ∙ not-true (may_start_or_kill call) spared))
-      (λ stops. apart (ap leaves_ready is ∙ stops_so p call o stops)) calls.1
-  acted_so k IsStuck at a others apart = rw a.1 (ends k w p _ (apart (ap leaves_ready a.0)))
+module _ (k : ℕ) (lib : Library) (w : World) (p : ℕ) (free : get w.processes w.next_koid ≡ None) (apart : (p == k) ≡ false) where
+  kill_effect : (task : ℕ) (vs : List ℕ) → Less k (with_effect lib w (remove_all w p (taken_handles (task_kill task))) p (task_kill task) vs) w
+  unfolding effect new_handles insert_all taken_handles handle_operands row_of remove_all
+  kill_effect task vs = killed_less k w (object_at w p task)
 
-  settled_is : IsSound step.settled
-  settled_is = settled_sound lib w p x step.settled sound (record {
-    process = step.process;
-    is_there = step.is_there;
-    is_ready = step.is_ready;
-    acted = step.acted;
-    acts = step.acts;
-    settles = step.settles;
-  })
+  kill_done : (s : Site) (vs : List ℕ) → Less k (with_effect lib w (taken w p s) p s.request vs) w → (o : Outcome) → Less k (after_ok lib w p s vs o) w
+  kill_done s vs less (outcome.Answered answer) = less_then k _ _ w (answers k _ p s status.Ok _) less
+  kill_done s vs less (outcome.Ended code) = less_then k _ _ w (ends k _ p code apart) less
+  kill_done s vs less outcome.Blocked = left_less k _ w (blocks k w p s.destinations (awaited_by w p s.request) apart)
 
-  -- up to where processes wake
-  module _ (others : leaves_others x ≡ true) where
-    same_before : (k : ℕ) → (leaves_ready x ≡ false → (p == k) ≡ false) → is_process step.settled is_ready k ≡ is_process w is_ready k
-    same_before k apart =
-        left_then k _ _ w (settled_so k step.acted step.settled step.settles)
-        (acted_so k (next_for lib step.process) refl step.acts others apart) is_ready refl refl
-
-    stay_so : (k : ℕ) → is_process step.settled is_ready k ≡ true → is_process after is_ready k ≡ true
-    stay_so k ready = subst (λ (u : World). is_process u is_ready k ≡ true) (sym step.ends_awake) (by_turns (waking k step.settled))
-      where
-        by_turns : AsOrWoken k step.settled (wakes step.settled) → is_process (wakes step.settled) is_ready k ≡ true
-        by_turns (inl same) = same is_ready ∙ ready
-        by_turns (inr (was, is)) = is is_ready
-
-    come_so : (who : Option ℕ) → HaveLeft step.settled.blocked (woke_one who) after.blocked → (k : ℕ)
-        → (is_process after is_ready k && not (is_process step.settled is_ready k)) ≡ is_one who k
-    unfolding is_process
-    come_so who left k =
-        by_turns after (subst (AsOrWoken k step.settled) (sym step.ends_awake) (waking k step.settled))
-        ∙ left_so who step.settled.blocked after.blocked k _ _ (settled_is.blocked k) ((step_sound lib w p x after sound step).blocked k) left
-      where
-        by_turns : (v : World) → AsOrWoken k step.settled v
-            → (is_process v is_ready k && not (is_process step.settled is_ready k)) ≡ (is_process step.settled is_blocked k && not (is_process v is_blocked k))
-        by_turns v (inl same) = rw (same is_ready, same is_blocked)
-            (and_not (is_process step.settled is_ready k) ∙ sym (and_not (is_process step.settled is_blocked k)))
-        by_turns v (inr (was, is)) = rw (is is_ready, is is_blocked, was, busy_so (get step.settled.processes k) was) refl
-
-    few : (who : Option ℕ) → HaveLeft step.settled.blocked (woke_one who) after.blocked → OthersReady w p after who
-    few who left = others_from step.settled w p after who (λ k apart. same_before k (λ _. other_way k p apart))
-        (record { stay = λ k apart. stay_so k; come = λ k apart. come_so who left k })
-
-    itself : leaves_ready x ≡ true → is_process after is_ready p ≡ true
-    unfolding is_process
-    itself leaves = stay_so p (same_before p (λ stops. absurd (false≢true (sym stops ∙ leaves))) ∙ rw (step.is_there, step.is_ready) refl)
-
-  few_or : (who : Option ℕ) → HaveLeft step.settled.blocked (woke_one who) after.blocked → (b : Bool) → leaves_others x ≡ b → IsChanged w p after (few_if b who)
-  few_or who left true others = few others who left
-  few_or who left false others = tt
-
-  pub changed : (who : Woke) → HaveLeft step.settled.blocked who after.blocked → IsChanged w p after (change_of x who)
-  changed woke.Nobody left = by_item (leaves_ready x) refl
-    where
-      by_item : (b : Bool) → leaves_ready x ≡ b → IsChanged w p after (if b then change.Nobody else few_if (leaves_others x) None)
-      by_item true leaves = (few (spares_more x leaves) None left, itself (spares_more x leaves) leaves)
-      by_item false leaves = few_or None left (leaves_others x) refl
-  changed (woke.One q) left = few_or (Some q) left (leaves_others x) refl
-  changed woke.More left = tt
+  pub killed_so : (s : Site) (task : ℕ) → s.request ≡ task_kill task → (o : Outcome) (w2 : World) → Calls lib w p s o w2 → Less k w2 w
+  killed_so s task asked =
+      call_ends lib w p s (λ o v. Less k v w) (λ o is. left_less k _ w (refused_so k lib w p free s o (λ stops. apart)))
+      (λ want may. left_less k _ w (refused_so k lib w p free s (outcome.Answered want) (λ stops. apart)))
+      (λ passes vs may. kill_done s vs
+      (subst (λ r. Less k (with_effect lib w (remove_all w p (taken_handles r)) p r vs) w) (sym asked) (kill_effect task vs)) (ok_outcome w p s.request))

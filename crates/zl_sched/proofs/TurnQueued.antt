@@ -2,10 +2,10 @@
 use Rattle.zl_sched.proofs.Common.{IsSound, IsWhole, List, Machine, Step, System, TakesStep, TraceItem, [], arith, false, is_in, length, pid_of}
 use Rattle.zl_sched.proofs.Common.{queued_after, requeued, run_sound, step_sound, subst, sym, ℕ, ◌++◌, ◌+◌, ◌<◌, ◌∙◌, ◌∷◌, ◌≡◌, ◌≤◌}
 use Rattle.zl_sched.specs.Ready.{times}
-use Rattle.zl_calls.specs.Woke.{HaveLeft}
+use Rattle.zl_calls.specs.Started.{Tells}
 use Rattle.zl_calls.specs.declared.waking.Woke.{Woke}
 use Rattle.zl_sched.specs.Queueing.{IsTold, change_of}
-use Rattle.zl_sched.proofs.StillReady.{IsChanged, changed}
+use Rattle.zl_sched.proofs.ReadyChange.{IsChanged, changed}
 use Rattle.zl_sched.proofs.Fresh.{made_not_ready}
 use Rattle.zl_sched.proofs.Legal.{legal_more}
 use Rattle.zl_sched.proofs.Marked.{no_mark}
@@ -44,10 +44,11 @@ module _ (s : System) (whole : IsWhole s) (pid : ℕ) (unmarked : is_in pid s.ou
   pub by_requeue : (ready2 : List ℕ) → ready2 ≡ requeued m2.world pid s.out s.ready → ready2 ≡ queued_after s.machine.world pid m2.world s.ready
   by_requeue ready2 is = is ∙ requeued_is s.machine.world m2.world pid s.ready s.out so
 
-  pub told_so : (who : Woke) → HaveLeft taken.steps.step.settled.blocked who m2.world.blocked → IsTold m2.world pid s.out s.ready (change_of x who)
-  told_so who left = told s.machine.world m2.world pid s.ready s.out so after_sound (change_of x who)
+  pub told_so : (who : Woke) → Tells s.machine.programs s.machine.world (pid_of x) x m2.world taken.steps.step who
+      → IsTold m2.world pid s.out s.ready (change_of x who)
+  told_so who tells = told s.machine.world m2.world pid s.ready s.out so after_sound (change_of x who)
       (subst (λ (k : ℕ). IsChanged s.machine.world k m2.world (change_of x who)) taken.pid_is
-      (changed s.machine.programs s.machine.world (pid_of x) x m2.world sound taken.steps.step who left))
+      (changed s.machine.programs s.machine.world (pid_of x) x m2.world sound taken.steps.step who tells))
 
   pub still_whole : (items2 : _) (ready2 : List ℕ) → items2 ≡ s.items ++ (x ∷ []) → length s.items < s.limit
       → ready2 ≡ queued_after s.machine.world pid m2.world s.ready

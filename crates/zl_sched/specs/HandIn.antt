@@ -1,7 +1,7 @@
 -- A process that is taken out to go on by itself, and what it did handed in.
 use Rattle.std.specs.Prelude.{ℕ, ◌≡◌, ◌≢◌, ◌<◌, ◌≤◌, ◌+◌, ◌==◌, ◌⊎◌, Bool, true, false, List, [], ◌∷◌, ◌++◌, length, IsTrue, if◌then◌else◌}
 use Rattle.zl_code.specs.Common.{is_process, lives}
-use Rattle.zl_code.specs.Steps.{Runs}
+use Rattle.zl_code.specs.Steps.{Runs, pid_of}
 use Rattle.zl_code.specs.declared.history.TraceItem.{TraceItem}
 use Rattle.zl_code.specs.declared.history.TraceItem.TheVariants as item
 use Rattle.zl_interp.specs.Bursts.{Turn, Done}
@@ -10,7 +10,7 @@ use Rattle.zl_interp.specs.declared.bursts.Stop.TheVariants as stop
 use Rattle.zl_calls.specs.World.{Machine, is_ready_in}
 use Rattle.zl_calls.specs.Steps.{TakesStep}
 use Rattle.zl_calls.specs.Turns.{IsTurn, Fits, advanced, steps_done}
-use Rattle.zl_calls.specs.Woke.{HaveLeft}
+use Rattle.zl_calls.specs.Started.{Tells}
 use Rattle.zl_calls.specs.declared.waking.Woke.{Woke}
 use Rattle.zl_sched.specs.declared.hand_in.HandIn.{HandIn}
 use Rattle.zl_sched.specs.declared.hand_in.HandIn.TheVariants as hand
@@ -122,10 +122,10 @@ Judges s d judged.Other = IsOther s d
 Judges s d judged.Full = IsAwaited s d × LacksRoom s d
 Judges s d judged.Fits = IsAwaited s d × HasRoom s d
 
--- what comes behind the local instructions changes so much of who is ready, as far as its item and who woke tell
+-- what comes behind the local instructions changes so much of who is ready, as far as its item and what is told beside it say
 abbrev pub Changes : (more : Bool) (m : Machine) (p : ℕ) (last : List TraceItem) (m2 : Machine) → Ends more m p last m2 → Change → Type 0
 Changes true m p last m2 ends c = c ≡ change.Nobody
-Changes false m p last m2 (x, is, taken) c = (who : Woke) × HaveLeft taken.steps.step.settled.blocked who m2.world.blocked × (c ≡ change_of x who)
+Changes false m p last m2 (x, is, taken) c = (who : Woke) × Tells m.programs m.world (pid_of x) x m2.world taken.steps.step who × (c ≡ change_of x who)
 
 -- what comes behind the local instructions, with the trace, and what it changes of who is ready
 pub record EndsFrom (more : Bool) (m : Machine) (items : List TraceItem) (p : ℕ) (c : Change) (m2 : Machine) (items2 : List TraceItem) : Type 0 where

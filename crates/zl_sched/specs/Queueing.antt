@@ -29,34 +29,33 @@ joining after p out stayed = filter (λ q. joins after p out stayed q) (pids_of 
 abbrev pub requeued : World → ℕ → List ℕ → List ℕ → List ℕ
 requeued after p out list = still_ready after p list ++ (joining after p out (still_ready after p list) ++ itself_ready after p)
 
--- the calls that may start a process, or end others
-abbrev pub may_start_or_kill : CallName → Bool
-may_start_or_kill name.ProcessStart = true
-may_start_or_kill name.TaskKill = true
-may_start_or_kill _ = false
+-- the call that may end other processes
+abbrev pub may_kill : CallName → Bool
+may_kill name.TaskKill = true
+may_kill _ = false
 
--- the item of a step that starts and ends no other process: but for those that it wakes, the same others are ready
+-- the item of a step that ends no other process: but for those that it wakes or starts, the same others are ready
 abbrev pub leaves_others : TraceItem → Bool
-leaves_others (item.Call pid call outcome) = not (may_start_or_kill call)
+leaves_others (item.Call pid call outcome) = not (may_kill call)
 leaves_others _ = true
 
--- the item of a step that starts and ends no process, and blocks none: but for those that it wakes, the same are ready
+-- the item of a step that ends no process, and blocks none: but for those that it wakes or starts, the same are ready
 abbrev pub leaves_ready : TraceItem → Bool
 leaves_ready (item.Run pid count) = true
-leaves_ready (item.Call pid call (outcome.Answered answer)) = not (may_start_or_kill call)
+leaves_ready (item.Call pid call (outcome.Answered answer)) = not (may_kill call)
 leaves_ready _ = false
 
--- only the process of the step and this one, or anybody
+-- the process of the step and this one, and those that were killed, unless there are none
 abbrev pub few_if : Bool → Option ℕ → Change
-few_if is_so who = if is_so then change.Few who else change.Any
+few_if is_so who = if is_so then change.Few who else change.Fewer who
 
--- what the step of the item changes of who is ready, behind which these woke
+-- what the step of the item changes of who is ready, behind which these woke or were started
 abbrev pub change_of : TraceItem → Woke → Change
 change_of x woke.Nobody = if leaves_ready x then change.Nobody else few_if (leaves_others x) None
 change_of x (woke.One pid) = few_if (leaves_others x) (Some pid)
 change_of x woke.More = change.Any
 
--- who woke, but for p
+-- who woke or was started, but for p
 abbrev pub woken_but : ℕ → Option ℕ → List ℕ
 woken_but p None = []
 woken_but p (Some q) = one_if (not (q == p)) q
@@ -65,4 +64,5 @@ woken_but p (Some q) = one_if (not (q == p)) q
 abbrev pub IsTold : World → ℕ → List ℕ → List ℕ → Change → Type 0
 IsTold after p out list change.Nobody = requeued after p out list ≡ others_of p list ++ (p ∷ [])
 IsTold after p out list (change.Few who) = requeued after p out list ≡ others_of p list ++ (woken_but p who ++ itself_ready after p)
+IsTold after p out list (change.Fewer who) = requeued after p out list ≡ still_ready after p list ++ (woken_but p who ++ itself_ready after p)
 IsTold after p out list change.Any = ⊤

@@ -5,7 +5,7 @@ ghost use Rattle.std.specs.Prelude.{IfOk, ◌≡◌, ◌==◌, ◌≤◌, ◌+�
 ghost use Rattle.std.specs.List.{filter, position};
 ghost use Rattle.zl_calls.specs.World.{is_ready_in};
 ghost use Rattle.zl_sched.specs.Queueing.{IsTold, joining, joins, one_if, requeued, woken_but};
-ghost use Rattle.zl_sched.specs.Ready.{is_in, itself_ready, others_of, ready_by_koid as are_ready_by_koid};
+ghost use Rattle.zl_sched.specs.Ready.{is_in, itself_ready, others_of, ready_by_koid as are_ready_by_koid, still_ready};
 
 use crate::change::Change;
 use std::alloc::{AllocError, Global};
@@ -67,6 +67,10 @@ pub fn move_on(ready: &mut Vec<Pid>, out: &[Pid], world: &World, pid: Pid, chang
             take_out(ready, pid);
             come(ready, world, pid, woke);
         }
+        Change::Fewer(woke) => {
+            keep_ready(ready, world, pid);
+            come(ready, world, pid, woke);
+        }
         Change::Any => requeue(ready, out, world, pid),
     }
 }
@@ -83,6 +87,10 @@ pub fn queue(ready: &mut Vec<Pid>, out: &[Pid], world: &World, pid: Pid, change:
     match change {
         Change::Nobody => ready.push_reserved(pid),
         Change::Few(woke) => come(ready, world, pid, woke),
+        Change::Fewer(woke) => {
+            keep_ready(ready, world, pid);
+            come(ready, world, pid, woke);
+        }
         Change::Any => requeue(ready, out, world, pid),
     }
 }
@@ -103,12 +111,18 @@ fn move_last(ready: &mut Vec<Pid>, pid: Pid)
     ready.push_reserved(pid);
 }
 
-/// The process leaves its place in the list, in which it stands once.
+/// The process leaves its place in the list, in which it stands once: the last one, as in turns one after
+/// another, or else it is looked for.
 fn take_out(ready: &mut Vec<Pid>, pid: Pid)
     requires { length (filter (λ q. q == pid) ready.old.items) ≡ 1 }
     ensures items { ready.new.items ≡ filter (λ q. not (q == pid)) ready.old.items }
     ensures capacity { vec_capacity ready.new ≡ vec_capacity ready.old }
 {
+    let len = ready.len();
+    if len > 0 && ready[len - 1] == pid {
+        ready.remove(len - 1);
+        return;
+    }
     let Some(place) = place_of(ready, pid) else {
         return;
     };
@@ -122,7 +136,7 @@ fn place_of(ready: &[Pid], pid: Pid) -> Option<usize>
     ready.iter().position(|other| *other == pid)
 }
 
-/// Who woke comes last, but for the process, and then the process, if it is ready.
+/// Who woke or was started comes last, but for the process, and then the process, if it is ready.
 fn come(ready: &mut Vec<Pid>, world: &World, pid: Pid, woke: Option<Pid>)
     requires room { length (ready.old.items
         ++ (woken_but pid woke ++ itself_ready world.now.world pid)) ≤ vec_capacity ready.old }
@@ -134,7 +148,7 @@ fn come(ready: &mut Vec<Pid>, world: &World, pid: Pid, woke: Option<Pid>)
     push_if(ready, is_ready(world, pid), pid);
 }
 
-/// Who woke comes last, but for the process.
+/// Who woke or was started comes last, but for the process.
 fn push_woken(ready: &mut Vec<Pid>, pid: Pid, woke: Option<Pid>)
     requires room { length ready.old.items + length (woken_but pid woke)
         ≤ vec_capacity ready.old }
@@ -157,9 +171,17 @@ fn requeue(ready: &mut Vec<Pid>, out: &[Pid], world: &World, pid: Pid)
     ensures items { ready.new.items ≡ requeued world.now.world pid out.now ready.old.items }
     ensures capacity { vec_capacity ready.new ≡ vec_capacity ready.old }
 {
-    ready.retain(|other| is_ready(world, *other) && *other != pid);
+    keep_ready(ready, world, pid);
     join(ready, out, world, pid);
     push_if(ready, is_ready(world, pid), pid);
+}
+
+/// Those that aren't ready leave the list, and the process its place.
+fn keep_ready(ready: &mut Vec<Pid>, world: &World, pid: Pid)
+    ensures items { ready.new.items ≡ still_ready world.now.world pid ready.old.items }
+    ensures capacity { vec_capacity ready.new ≡ vec_capacity ready.old }
+{
+    ready.retain(|other| is_ready(world, *other) && *other != pid);
 }
 
 /// The ready processes that are neither in the list nor out come to it by koid, but for this one.

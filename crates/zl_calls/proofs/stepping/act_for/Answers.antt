@@ -6,6 +6,7 @@ use Rattle.zl_calls.proofs.Common.{ap, is_created, ◌≡◌, true, set, sym, �
 use Rattle.zl_calls.proofs.waking.BlockedLists.{no_more}
 use Rattle.zl_calls.proofs.stepping.CallSteps.{called_so, caller_ready, goes_from, moves_from, stays_from, stops_from}
 use Rattle.zl_calls.proofs.stepping.Performing.{HasActed, here, turn_at, within}
+use Rattle.zl_calls.proofs.stepping.StepTells.{call_notes}
 use Rattle.zl_calls.proofs.stepping.TakenKnown.{ended_acts, own_waits, taken_known}
 use Rattle.zl_calls.proofs.waits.TakenEnds.{ended_again}
 use Rattle.zl_calls.proofs.stepping.SureCalls.{sure_calls}
@@ -188,3 +189,12 @@ run_next-requires-clause-sure c =
     c.args.library.now c.call_next.new.processes.list.items c.call_next.new.objects c.call_next.new.blocked.items
     (c.in_default.ensures {u = tt}).same_processes (c.in_default.ensures {u = tt}).same_objects (c.in_default.ensures {u = tt}).same_blocked
     c.index_mut-process.result.now c.index_mut-process.ensures.value c.requires.verified c.requires.covered
+
+pub returns-in-Some-clause-child : goal.returns-in-Some-clause-child
+returns-in-Some-clause-child c =
+    call_notes c.args.library.now c.args.processes.now.list.items c.args.objects.now c.args.blocked.now.items c.args.pid c.in_ok-place.place c.index.result.now
+    c.in_ok-place.ensures.first c.index.ensures _ _ c.in-Some.call c.in-Some.outcome c.call_next.new.taken
+    ((c.in-Some.ensures {u = tt}).calls c.index.result.now (here c.args.processes.now.list.items c.args.pid c.in_ok-place.place c.index.result.now
+    c.in_ok-place.ensures.first c.index.ensures))
+    ((c.in-Some.ensures {u = tt}).child c.index.result.now (here c.args.processes.now.list.items c.args.pid c.in_ok-place.place c.index.result.now
+    c.in_ok-place.ensures.first c.index.ensures))

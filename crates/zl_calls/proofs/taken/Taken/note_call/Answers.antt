@@ -41,5 +41,5 @@ returns-in-ChanWrite c =
 
 pub returns-in_default : goal.returns-in_default
 returns-in_default c =
-    notes_none c.args.call.now c.args.process.now.cpu c.args.process.now.table.entries (record { handles = c.clear.new.self; all = false })
+    notes_none c.args.call.now c.args.process.now.cpu c.args.process.now.table.entries (record c.args.self.now { handles = c.clear.new.self; all = false })
     c.in_default.not-Close c.in_default.not-Replace c.in_default.not-ChanWrite c.in_default.not-ProcessStart

@@ -2,9 +2,11 @@ use Rattle.zl_calls.proofs.Common.{◌≡◌, ◌≤◌, ◌∙◌, ℕ, true, f
 use Rattle.zl_calls.proofs.Common.{then_blocked}
 use Rattle.zl_objects.specs.declared.awaited.Awaited.{Awaited}
 use Rattle.zl_calls.specs.Blocking.{tells_asleep}
+use Rattle.zl_calls.specs.declared.waking.Woke.TheVariants as woke
 use Rattle.zl_calls.proofs.waking.BlockedLists.{no_more}
 use Rattle.zl_calls.proofs.waking.StillBlocked.{acted_ordered, acted_sought, same_seeks, silent}
 use Rattle.zl_calls.proofs.stepping.StepItems.{machine_value, local_list, not_ready_in, takes_local}
+use Rattle.zl_calls.proofs.stepping.StepTells.{tells_local, tells_step}
 use Rattle.zl_calls.proofs.stepping.Whole.{asleep_consistent, fired_known, fired_ordered, nothing_holds, quiet_step, quiet_whole, stepped_whole, woken_step, woken_whole}
 use Rattle.zl_calls.proofs.world.World.step.Goals as goal
 
@@ -59,14 +61,16 @@ calm-requires-clause-sleepers c = c.wake-woke.ensures.turns.none_due
 
 pub returns-clause-ran : goal.returns-clause-ran
 returns-clause-ran c = rw (← c.self.view_is, c.calm.ensures)
-    (woken_step c.self.inside.library c.self.inside.processes.list.items c.self.inside.objects c.self.inside.blocked.items
-    (vec_capacity c.self.inside.blocked)
+    (tells_step
+    (machine_value c.self.inside.library c.self.inside.processes.list.items c.self.inside.objects c.self.inside.blocked.items) c.args.pid _ c.in_ok-item.item
+    c.wake-woke.result
+    (woken_step c.self.inside.library c.self.inside.processes.list.items c.self.inside.objects c.self.inside.blocked.items (vec_capacity c.self.inside.blocked)
     c.args.pid c.in_ok-item.item c.self.invariant
     c.act_for.new.processes.list.items c.act_for.new.objects c.act_for.new.objects c.fall_asleep.new.objects
     c.act_for.new.blocked.items c.in_ok-item.ensures.acts c.in_ok-item.ensures.list c.in_ok-item.ensures.fewer c.in_ok-item.ensures.asleep
     (c.in_ok-item.ensures.unheld (sym c.is_local.ensures ∙ c.if-is_local.false)) c.fall_asleep.ensures
     c.fire_waits.new.objects c.fire_waits.ensures c.wake-woke.new.processes.list.items c.wake-woke.new.objects c.wake-woke.new.blocked.items c.wake-woke.result
-    (rw c.add_blocked.ensures.items at c.wake-woke.ensures.turns))
+    (rw c.add_blocked.ensures.items at c.wake-woke.ensures.turns)) c.act_for.new.taken c.in_ok-item.ensures.child _ c.with_started-2.ensures)
 
 pub add_blocked-requires : goal.add_blocked-requires
 add_blocked-requires c =
@@ -90,12 +94,15 @@ invariant_of-self-2 c = rw c.calm.ensures
 
 pub returns-then-is_quiet-clause-ran : goal.returns-then-is_quiet-clause-ran
 returns-then-is_quiet-clause-ran c = rw (← c.self.view_is, c.add_blocked.ensures.items)
+    (tells_step
+    (machine_value c.self.inside.library c.self.inside.processes.list.items c.self.inside.objects c.self.inside.blocked.items) c.args.pid _ c.in_ok-item.item woke.Nobody
     (quiet_step c.self.inside.library c.self.inside.processes.list.items c.self.inside.objects c.self.inside.blocked.items (vec_capacity c.self.inside.blocked)
     c.args.pid c.in_ok-item.item c.self.invariant
     c.act_for.new.processes.list.items c.act_for.new.objects c.act_for.new.objects c.fall_asleep.new.objects
     c.act_for.new.blocked.items c.in_ok-item.ensures.acts c.in_ok-item.ensures.list c.in_ok-item.ensures.fewer c.in_ok-item.ensures.asleep
     (c.in_ok-item.ensures.unheld (sym c.is_local.ensures ∙ c.if-is_local.false)) c.fall_asleep.ensures
     (c.is_quiet.ensures.waits c.if-is_quiet.true) (c.is_quiet.ensures.sleepers c.if-is_quiet.true))
+    c.act_for.new.taken c.in_ok-item.ensures.child _ c.with_started.ensures)
 
 pub invariant_of-self-then-is_quiet : goal.invariant_of-self-then-is_quiet
 invariant_of-self-then-is_quiet c = rw c.add_blocked.ensures.items
@@ -113,9 +120,11 @@ pub returns-then-is_local-clause-ran : goal.returns-then-is_local-clause-ran
 returns-then-is_local-clause-ran c =
     let local : is_local c.in_ok-item.item ≡ true = sym c.is_local.ensures ∙ c.if-is_local.true in
     rw (← c.self.view_is)
+    (tells_local
+    (machine_value c.self.inside.library c.self.inside.processes.list.items c.self.inside.objects c.self.inside.blocked.items) c.args.pid _ c.in_ok-item.item woke.Nobody
     (takes_local c.self.inside.library c.self.inside.processes.list.items c.self.inside.objects c.self.inside.blocked.items c.args.pid
     c.act_for.new.processes.list.items c.act_for.new.objects c.act_for.new.blocked.items c.in_ok-item.item local
-    c.in_ok-item.ensures.acts (c.in_ok-item.ensures.quiet local c.self.invariant.awake))
+    c.in_ok-item.ensures.acts (c.in_ok-item.ensures.quiet local c.self.invariant.awake)) local)
 
 pub invariant_of-self-then-is_local : goal.invariant_of-self-then-is_local
 invariant_of-self-then-is_local c =

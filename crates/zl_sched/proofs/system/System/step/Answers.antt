@@ -19,7 +19,7 @@ move_on-requires-clause-told c =
     let unmarked : is_in c.args.pid before.out ≡ false = rw c.deref.ensures.value at (sym (c.if-is_out.ensures {u = tt})) in
     let did = (c.in-Some.ensures {u = tt}).ran in
     rw (c.change_of.ensures, c.deref-2.ensures.value, c.make_room.ensures.items)
-    (told_so before c.self.invariant.0 c.args.pid unmarked c.step.new.self c.in-Some.item did.takes c.in-Some.woke did.left)
+    (told_so before c.self.invariant.0 c.args.pid unmarked c.step.new.self c.in-Some.item did.takes c.in-Some.woke did.tells)
 
 pub move_on-requires-clause-once : goal.move_on-requires-clause-once
 move_on-requires-clause-once c =

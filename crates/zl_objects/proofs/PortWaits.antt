@@ -45,7 +45,11 @@ module _ (old new : PortWaits) (port n : ℕ) where
 module _ (index : PortWaits) (port made : ℕ) (r : List (ℕ × ℕ))
     (part : IsKeyRangeOf pair_cmp (Included (port, 0)) (Excluded (port, made)) index.pairs r) where
   within : (i : ℕ) → i < made → IsInRange pair_cmp (Included (port, 0)) (Excluded (port, made)) (port, i)
-  within i less = (grind (arith, nat_tests, unsigned_tied port port, unsigned_tied 0 i), grind (arith, nat_tests, unsigned_tied port port, unsigned_tied i made, less))
+  within i less = (
+    grind (arith, nat_tests, unsigned_tied port port, unsigned_tied 0 i),
+    grind
+        (arith, nat_tests, unsigned_tied port port, unsigned_tied i made, less),
+  )
 
   pub none_first : r ≡ [] → IsFirst index port made None
   none_first is i less = part.5 is (port, i) (within i less)
@@ -129,7 +133,8 @@ only_one xs rising x found p = same_tests (list_any (is_pair_of p x.order) xs) (
 -- ---- the index fits the list
 
 module _ (index : PortWaits) (xs : List Listed) (fits : AreFound index xs) where
-  pub pushed_found : (index2 : PortWaits) (n : ℕ) (w : Wait) → ((p i : ℕ) → finds index2 p i ≡ (is_pair w.port n p i || finds index p i)) → AreFound index2 (xs ++ entry_of n w ∷ [])
+  pub pushed_found : (index2 : PortWaits) (n : ℕ) (w : Wait) → ((p i : ℕ) → finds index2 p i ≡ (is_pair w.port n p i || finds index p i)) → AreFound
+      index2 (xs ++ entry_of n w ∷ [])
   pushed_found index2 n w added p i =
       added p i
       ∙ (ap (λ b. is_pair w.port n p i || b) (fits p i)

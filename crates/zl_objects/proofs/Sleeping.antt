@@ -1,15 +1,18 @@
 -- Who is listed as blocked, as one is listed, or taken off the list as what it waits for is there.
-use Rattle.zl_rights.proofs.Common.{◌≡◌, ◌<◌, ◌≤◌, ◌+◌, ◌==◌, ◌&&◌, ◌⊎◌, ◌++◌, ℕ, Bool, true, false, List, [], ◌∷◌, refl, sym, ap, ◌∙◌, Some, subst, length, suc, zero}
+use Rattle.zl_rights.proofs.Common.{◌≡◌, ◌<◌, ◌≤◌, ◌+◌, ◌==◌, ◌&&◌, ◌⊎◌, ◌++◌, ℕ, Bool, true, false, List, [], ◌∷◌, refl, sym, ap, ◌∙◌, Some, subst}
+use Rattle.zl_rights.proofs.Common.{length, suc, zero}
 use Rattle.zl_rights.proofs.Common.{inl, inr, IsTrue, arith, eq-eqb, eqb-true, filter, list_any, cases_Bool, false≢true, get_or, take, drop, map}
 use Rattle.zl_rights.proofs.Common.{if◌then◌else◌, Map, get, update, All}
 use Rattle.std.specs.List.{Contains, insert, remove}
 use Rattle.std.specs.List.Sorted.{IsNonDecreasingBy}
-use Rattle.std.proofs.lemmas.List.{append-nil, map-append, length-append, get_or_append_left, get_or-append-add, get_or-take, get_or_default, length-take, length-drop, get_or-drop, take-append-drop, drop_more}
+use Rattle.std.proofs.lemmas.List.{append-nil, map-append, length-append, get_or_append_left, get_or-append-add, get_or-take, get_or_default}
+use Rattle.std.proofs.lemmas.List.{length-take, length-drop, get_or-drop, take-append-drop, drop_more}
 use Rattle.std.proofs.lemmas.Bool.{ltb-true, ltb-false}
 use Rattle.std.proofs.Math.Dec.{ltb}
 use Rattle.std.proofs.lemmas.List.Sorted.{IsNonDecreasingBy-insert}
 use Rattle.std.proofs.lemmas.List.Edits.{length-remove, get_or-remove_below, get_or-remove_above}
-use Rattle.std.proofs.lemmas.List.Elements.{All-append, All-cons, All-contains, All-drop, All-same, All-take, All-weaker, Contains-append_cases, Contains-append_left}
+use Rattle.std.proofs.lemmas.List.Elements.{All-append, All-cons, All-contains, All-drop, All-same, All-take, All-weaker, Contains-append_cases}
+use Rattle.std.proofs.lemmas.List.Elements.{Contains-append_left}
 use Rattle.std.proofs.lemmas.List.Elements.{Contains-append_right, filter-append}
 use Rattle.zl_objects.specs.declared.awaited.Awaited.{Awaited}
 use Rattle.zl_objects.specs.declared.awaited.Awaited.TheVariants as awaits
@@ -39,9 +42,11 @@ still_in_order {X} n xs i inside up a b d le within = by_places (cases_lt a) (ca
     long = length-remove xs i inside
 
     by_places : (a < i) ⊎ (i ≤ a) → (b < i) ⊎ (i ≤ b) → n (get_or (remove xs i) a d) ≤ n (get_or (remove xs i) b d)
-    by_places (inl low) (inl low2) = rw (get_or-remove_below xs i d a low inside, get_or-remove_below xs i d b low2 inside) (up a b d le (omega (arith, long, within)))
+    by_places (inl low) (inl low2) = rw (get_or-remove_below xs i d a low inside, get_or-remove_below xs i d b low2 inside)
+        (up a b d le (omega (arith, long, within)))
     by_places (inl low) (inr high) =
-        rw (get_or-remove_below xs i d a low inside, get_or-remove_above xs i d b high inside) (up a (b + 1) d (omega (arith, le)) (omega (arith, long, within)))
+        rw (get_or-remove_below xs i d a low inside, get_or-remove_above xs i d b high inside)
+        (up a (b + 1) d (omega (arith, le)) (omega (arith, long, within)))
     by_places (inr high) (inl low) = absurd (omega (arith, le, high, low))
     by_places (inr high) (inr high2) =
         rw (get_or-remove_above xs i d a high inside, get_or-remove_above xs i d b high2 inside)
@@ -176,10 +181,23 @@ module _ (s : Sleeper) (list list2 : List Sleeper) (crowded crowded2 : Bool) whe
 
       last : ListsLast s.pid s.awaited list list2
       last port = rw (room.1.new, room.1.old) (elim (cases_Bool (is_for port s.awaited)) as
-          (λ _. listed_for (front ++ s ∷ rest) port ≡ (if is_for port s.awaited then listed_for (front ++ rest) port ++ s.pid ∷ [] else listed_for (front ++ rest) port)) [
-            | inl its ↦ rw (its, filter-append (λ x. is_for port x.awaited) front (s ∷ rest), filter-append (λ x. is_for port x.awaited) front rest, its, later port its, append-nil (filter (λ x. is_for port x.awaited) front))
+          (λ _. listed_for (front ++ s ∷ rest) port
+          ≡ (if is_for port s.awaited then listed_for (front ++ rest) port ++ s.pid ∷ [] else listed_for (front ++ rest) port)) [
+            | inl its ↦ rw (
+              its,
+              filter-append (λ x. is_for port x.awaited) front (s ∷ rest),
+              filter-append (λ x. is_for port x.awaited) front rest,
+              its,
+              later port its,
+              append-nil (filter (λ x. is_for port x.awaited) front),
+            )
                 (map-append (λ (x : Sleeper). x.pid) (filter (λ x. is_for port x.awaited) front) (s ∷ []))
-            | inr other ↦ rw (other, filter-append (λ x. is_for port x.awaited) front (s ∷ rest), filter-append (λ x. is_for port x.awaited) front rest, other) refl
+            | inr other ↦ rw (
+              other,
+              filter-append (λ x. is_for port x.awaited) front (s ∷ rest),
+              filter-append (λ x. is_for port x.awaited) front rest,
+              other,
+            ) refl
           ])
 
 -- its object is marked if it is due
@@ -269,7 +287,8 @@ module _ (m : Map Object) (list : List Sleeper) (place : ℕ) (is_first : IsFirs
           fails : (i : ℕ) (d : Sleeper) → i < place → is_for port (get_or list i d).awaited ≡ false
           fails i d within = elim (cases_Bool (is_for port (get_or list i d).awaited)) as (λ _. is_for port (get_or list i d).awaited ≡ false) [
             | inl too ↦
-                let here : (get_or list i d).awaited ≡ (get_or list place d).awaited = at_port port _ too ∙ sym (at_port port _ (subst (λ (x : Sleeper). is_for port x.awaited ≡ true) (value ∙ same_place d) its)) in
+                let here : (get_or list i d).awaited ≡ (get_or list place d).awaited = at_port port _ too
+                ∙ sym (at_port port _ (subst (λ (x : Sleeper). is_for port x.awaited ≡ true) (value ∙ same_place d) its)) in
                 absurd (false≢true (sym (is_first.first i d within (ap koid_of here)) ∙ (ap (is_due m) here ∙ is_first.due d)))
             | inr out ↦ out
           ]

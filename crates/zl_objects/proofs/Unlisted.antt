@@ -1,7 +1,9 @@
 -- The waits that end with an object that goes are taken out of the list of all waits, one after another.
 use Rattle.zl_rights.proofs.Common.{◌≡◌, ◌<◌, ◌==◌, ◌&&◌, ◌||◌, ◌⊎◌, ℕ, Bool, true, false, not, List, [], ◌∷◌, drop, length, refl, sym, ap, ◌∙◌, cond, subst}
-use Rattle.zl_rights.proofs.Common.{Option, Some, None, inl, inr, IsTrue, arith, and_parts, and_from, eq-eqb, eqb-true, ne_eqb, filter, find, list_any, map, slice_get}
-use Rattle.zl_rights.proofs.Common.{nat_cmp, nat_lt, cases_Bool, false≢true, none-some, same_Some, option_map, is_sorted, Map, each, get, has_key, update, without}
+use Rattle.zl_rights.proofs.Common.{Option, Some, None, inl, inr, IsTrue, arith, and_parts, and_from, eq-eqb, eqb-true, ne_eqb, filter, find}
+use Rattle.zl_rights.proofs.Common.{list_any, map, slice_get}
+use Rattle.zl_rights.proofs.Common.{nat_cmp, nat_lt, cases_Bool, false≢true, none-some, same_Some, option_map, is_sorted, Map, each, get, has_key}
+use Rattle.zl_rights.proofs.Common.{update, without}
 use Rattle.zl_rights.proofs.Common.{if◌then◌else◌}
 use Rattle.std.specs.Bool.{passes}
 use Rattle.zl_rights.proofs.Canonical.{same_map}
@@ -36,7 +38,8 @@ module _ {X : Type 0} (p : X → Bool) where
   first_found [] ys x is = absurd (none-some x (ap (λ (zs : List X). slice_get zs 0) is))
   first_found (z ∷ xs) ys x is = by_test (p z) is (λ rest. first_found xs ys x rest)
     where
-      by_test : (b : Bool) → cond b (z ∷ filter p xs) (filter p xs) ≡ x ∷ ys → (filter p xs ≡ x ∷ ys → find p xs ≡ Some x) → cond b (Some z) (find p xs) ≡ Some x
+      by_test : (b : Bool) → cond b (z ∷ filter p xs) (filter p xs) ≡ x ∷ ys → (filter p xs ≡ x ∷ ys → find p xs ≡ Some x) → cond b (Some z) (find p xs)
+          ≡ Some x
       by_test true same later = ap (λ (zs : List X). slice_get zs 0) same
       by_test false rest later = later rest
 
@@ -221,7 +224,8 @@ module _ (port : ℕ) (m : Map Object) where
     -- no wait for the port is left
     pub none_known : (list : List Listed) → find (is_entry_to port) list ≡ None → AreKnown port list m → each (λ j. without_port_waits port) m ≡ m
     none_known list none known =
-        same_map (each (λ j. ends) m) m (passes _ (sorted_each (λ j. ends) m ∙ in_order)) (passes _ in_order) (λ j. get-each m (λ i. ends) j ∙ by_object j (get m j) refl)
+        same_map (each (λ j. ends) m) m (passes _ (sorted_each (λ j. ends) m ∙ in_order)) (passes _ in_order)
+        (λ j. get-each m (λ i. ends) j ∙ by_object j (get m j) refl)
       where
         by_object : (j : ℕ) (o : Option Object) → get m j ≡ o → option_map ends o ≡ o
         by_object j None is = refl
@@ -231,7 +235,8 @@ module _ (port : ℕ) (m : Map Object) where
           where
             fails : IsTrue (list_any (is_at_port port) o.signals.waits) ⊎ (list_any (is_at_port port) o.signals.waits ≡ false)
                 → list_any (is_at_port port) o.signals.waits ≡ false
-            fails (inl some) = absurd (false≢true (sym (list_any-and (is_entry_to port) (is_entry_at j) list (none_any (is_entry_to port) list none)) ∙ known j o is some))
+            fails (inl some) = absurd
+                (false≢true (sym (list_any-and (is_entry_to port) (is_entry_at j) list (none_any (is_entry_to port) list none)) ∙ known j o is some))
             fails (inr none) = none
 
 -- ---- what is left of the list and of the objects
@@ -286,10 +291,12 @@ pub ended_there : (k : ℕ) (reserved : Bool) (list : List Listed) (m : Map Obje
 ended_there k reserved list m gone left = sym (all_there (without_ended k reserved list) m left.places left.listed) ∙ by_test reserved
   where
     at_other : (x : Listed) → IsTrue (is_entry_there m x) → IsTrue (not (is_entry_at k x))
-    at_other x there = ap not (ne_eqb x.wait.object k (λ same. false≢true (sym gone ∙ (ap (has_key m) (sym same) ∙ (and_parts (has_key m x.wait.object) _ there).0))))
+    at_other x there = ap not
+        (ne_eqb x.wait.object k (λ same. false≢true (sym gone ∙ (ap (has_key m) (sym same) ∙ (and_parts (has_key m x.wait.object) _ there).0))))
 
     to_other : (x : Listed) → IsTrue (is_entry_there m x) → IsTrue (not (is_entry_to k x))
-    to_other x there = ap not (ne_eqb x.wait.port k (λ same. false≢true (sym gone ∙ (ap (has_key m) (sym same) ∙ (and_parts (has_key m x.wait.object) _ there).1))))
+    to_other x there = ap not
+        (ne_eqb x.wait.port k (λ same. false≢true (sym gone ∙ (ap (has_key m) (sym same) ∙ (and_parts (has_key m x.wait.object) _ there).1))))
 
     own : filter (is_entry_there m) (without_own k list) ≡ filter (is_entry_there m) list
     own = filter_within (is_entry_there m) (λ x. not (is_entry_at k x)) at_other list

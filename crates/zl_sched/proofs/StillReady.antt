@@ -268,12 +268,14 @@ module _ (k : ℕ) where
         (left_then k _ _ w (effected lib w (taken w p s) p s.request vs (still_free w p w.next_koid (taken_handles s.request) free) left)
         (removed w p (taken_handles s.request))))
 
-    done_so : (s : Site) (vs : List ℕ) (o : Outcome) → spares w p k s.request ≡ true → (goes_on o ≡ false → (p == k) ≡ false) → Left k (after_ok lib w p s vs o) w
+    done_so : (s : Site) (vs : List ℕ) (o : Outcome) → spares w p k s.request ≡ true → (goes_on o ≡ false → (p == k) ≡ false)
+        → Left k (after_ok lib w p s vs o) w
     done_so s vs (outcome.Answered answer) left apart = left_then k _ _ w (answers _ p s status.Ok _) (effect_so s vs left)
     done_so s vs (outcome.Ended code) left apart = left_then k _ _ w (ends _ p code (apart refl)) (effect_so s vs left)
     done_so s vs outcome.Blocked left apart = blocks w p s.destinations (awaited_by w p s.request) (apart refl)
 
-    pub called_so : (s : Site) (choice : Choice) (r : Option Outcome) (o : Outcome) (w2 : World) → (o ≡ ok_outcome w p s.request → spares w p k s.request ≡ true)
+    pub called_so : (s : Site) (choice : Choice) (r : Option Outcome) (o : Outcome) (w2 : World)
+        → (o ≡ ok_outcome w p s.request → spares w p k s.request ≡ true)
         → (goes_on o ≡ false → (p == k) ≡ false) → CallBy lib w p s choice r o w2 → Left k w2 w
     called_so s Refused None o w2 left apart c = absurd c
     called_so s Refused (Some r) o w2 left apart c = rw c.1 (refused_so s r (λ stops. apart (ap goes_on c.0 ∙ stops)))

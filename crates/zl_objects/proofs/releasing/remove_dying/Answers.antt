@@ -43,7 +43,8 @@ loop-koid-preserved c =
           c.loop-koid.dying.items c.remove_noted.new.dying.items c.loop-koid.invariant.goes (rw popped c.remove_noted.ensures.goes);
       calm = λ next sleepers calm. c.remove_noted.ensures.calm next sleepers (c.loop-koid.invariant.calm next sleepers calm);
       registered = c.remove_noted.ensures.registered;
-      entries = left_then c.args.waits.now.entries.items (cascades_of [] _ _ _ _ c.remove_noted.ensures.goes) c.loop-koid.invariant.entries c.remove_noted.ensures.entries;
+      entries = left_then c.args.waits.now.entries.items (cascades_of [] _ _ _ _ c.remove_noted.ensures.goes) c.loop-koid.invariant.entries
+          c.remove_noted.ensures.entries;
       made = c.remove_noted.ensures.made ∙ c.loop-koid.invariant.made;
       capacity = c.remove_noted.ensures.capacity ∙ (c.pop.ensures.capacity ∙ c.loop-koid.invariant.capacity);
     }

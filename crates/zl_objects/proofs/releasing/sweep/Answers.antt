@@ -48,7 +48,8 @@ loop-koid-preserved c = record {
   none = c.remove_unkept.ensures.none;
   calm = λ next sleepers calm. c.remove_unkept.ensures.calm next sleepers (c.loop-koid.invariant.calm next sleepers calm);
   registered = c.remove_unkept.ensures.registered;
-  entries = left_then c.args.waits.now.entries.items (cascades_of [] _ _ _ _ c.remove_unkept.ensures.goes) c.loop-koid.invariant.entries c.remove_unkept.ensures.entries;
+  entries = left_then c.args.waits.now.entries.items (cascades_of [] _ _ _ _ c.remove_unkept.ensures.goes) c.loop-koid.invariant.entries
+      c.remove_unkept.ensures.entries;
   made = c.remove_unkept.ensures.made ∙ c.loop-koid.invariant.made;
   capacity = c.remove_unkept.ensures.capacity ∙ c.loop-koid.invariant.capacity;
 }

@@ -41,7 +41,8 @@ returns-clause-places c = (invariant_of-self c).kept.whole.places
 
 pub returns-clause-listed : goal.returns-clause-listed
 returns-clause-listed c = rw (← c.self.view_is) record {
-  waits = left_seen c.remove_unkept.new.by_koid.entries c.self.inside.waits.entries.items c.remove_unkept.new.waits.entries.items c.remove_unkept.ensures.entries;
+  waits = left_seen c.remove_unkept.new.by_koid.entries c.self.inside.waits.entries.items c.remove_unkept.new.waits.entries.items
+      c.remove_unkept.ensures.entries;
   made = c.remove_unkept.ensures.made;
   asleep = (refl, refl);
 }

@@ -1,5 +1,5 @@
 -- Nothing is due at an object that isn't marked, once objects were made, or taken back, or processes are blocked.
-use Rattle.zl_rights.proofs.Common.{◌≡◌, ◌<◌, ◌≤◌, ◌+◌, ◌==◌, ◌||◌, ◌&&◌, ◌⊎◌, ◌++◌, ℕ, Bool, true, false, not, List, [], ◌∷◌, refl, sym, ap, ◌∙◌, Option, Some}
+use Rattle.zl_rights.proofs.Common.{◌≡◌, ◌<◌, ◌≤◌, ◌+◌, ◌==◌, ◌||◌, ◌⊎◌, ◌++◌, ℕ, Bool, true, false, not, List, [], ◌∷◌, refl, sym, ap, ◌∙◌, Option, Some}
 use Rattle.zl_rights.proofs.Common.{None, inl, inr, IsTrue, arith, eq-eqb, eqb-true, nat_tests, filter, list_any, nat_cmp, cases_Bool, false≢true, or_left}
 use Rattle.zl_rights.proofs.Common.{or_right}
 use Rattle.zl_rights.proofs.Common.{if◌then◌else◌, none-some, same_Some, Map, get, put, update, has_key, All, map}

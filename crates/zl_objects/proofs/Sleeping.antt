@@ -1,7 +1,7 @@
 -- Who is listed as blocked, as one is listed, or taken off the list as what it waits for is there.
-use Rattle.zl_rights.proofs.Common.{◌≡◌, ◌<◌, ◌≤◌, ◌+◌, ◌==◌, ◌&&◌, ◌⊎◌, ◌++◌, ℕ, Bool, true, false, List, [], ◌∷◌, refl, sym, ap, ◌∙◌, Some, subst}
+use Rattle.zl_rights.proofs.Common.{◌≡◌, ◌<◌, ◌≤◌, ◌+◌, ◌==◌, ◌⊎◌, ◌++◌, ℕ, Bool, true, false, List, [], ◌∷◌, refl, sym, ap, ◌∙◌, Some, subst}
 use Rattle.zl_rights.proofs.Common.{length, suc, zero}
-use Rattle.zl_rights.proofs.Common.{inl, inr, IsTrue, arith, eq-eqb, eqb-true, filter, list_any, cases_Bool, false≢true, get_or, take, drop, map}
+use Rattle.zl_rights.proofs.Common.{inl, inr, IsTrue, arith, eq-eqb, eqb-true, filter, list_any, cases_Bool, false≢true, get_or, take, drop}
 use Rattle.zl_rights.proofs.Common.{if◌then◌else◌, Map, get, update, All}
 use Rattle.std.specs.List.{Contains, insert, remove}
 use Rattle.std.specs.List.Sorted.{IsNonDecreasingBy}
@@ -11,8 +11,7 @@ use Rattle.std.proofs.lemmas.Bool.{ltb-true, ltb-false}
 use Rattle.std.proofs.Math.Dec.{ltb}
 use Rattle.std.proofs.lemmas.List.Sorted.{IsNonDecreasingBy-insert}
 use Rattle.std.proofs.lemmas.List.Edits.{length-remove, get_or-remove_below, get_or-remove_above}
-use Rattle.std.proofs.lemmas.List.Elements.{All-append, All-cons, All-contains, All-drop, All-same, All-take, All-weaker, Contains-append_cases}
-use Rattle.std.proofs.lemmas.List.Elements.{Contains-append_left}
+use Rattle.std.proofs.lemmas.List.Elements.{All-append, All-cons, All-drop, All-take, All-weaker, Contains-append_cases, Contains-append_left}
 use Rattle.std.proofs.lemmas.List.Elements.{Contains-append_right, filter-append}
 use Rattle.zl_objects.specs.declared.awaited.Awaited.{Awaited}
 use Rattle.zl_objects.specs.declared.awaited.Awaited.TheVariants as awaits

@@ -1,5 +1,5 @@
 -- A process of the world acts by itself: from the list of processes to the relation of steps, up to where processes wake.
-use Rattle.zl_calls.proofs.Common.{KeepSleepers, arith, times, ◌≤◌}
+use Rattle.zl_calls.proofs.Common.{KeepSleepers}
 use Rattle.zl_calls.proofs.Common.{◌≡◌, ◌⊎◌, inl, inr, ℕ, true, false, List, map, get_or, set, refl, sym, ap, ◌∙◌, Option, Some, None, IfNone, ◌==◌, position}
 use Rattle.zl_calls.proofs.Common.{false≢true, STUCK, Map, get, Ready, is_ready, on_process, state_passes, Library, Site, cases_Bool, IsStuck, Moves, next_for}
 use Rattle.zl_calls.proofs.Common.{Objects, process_entry, process_value, state_value, world_blocked, world_value, IsConsistent, AreBlocked, DoesNext}

@@ -1,8 +1,7 @@
 -- The invariant of the world behind each step, whether something was due or not.
 use Rattle.zl_calls.proofs.Common.{◌≡◌, ◌≤◌, ◌∙◌, ℕ, false, List, ap, sym, length, list_any, Library, Objects, TraceItem, TakesStep}
-use Rattle.zl_calls.proofs.Common.{DoesNext, EndsUnheld, FiresWaits, IsConsistent, AreBlocked, KeepSleepers, Seeks, World, fold, then_blocked, times, wakes}
-use Rattle.zl_calls.proofs.Common.{world_blocked, world_left, refl, subst}
-use Rattle.zl_code.proofs.Common.{woken}
+use Rattle.zl_calls.proofs.Common.{DoesNext, EndsUnheld, FiresWaits, IsConsistent, AreBlocked, KeepSleepers, Seeks, then_blocked, wakes}
+use Rattle.zl_calls.proofs.Common.{world_blocked, world_left, refl}
 use Rattle.zl_rights.specs.Wakes.{fired}
 use Rattle.zl_objects.specs.Calm.{holds_now, is_due}
 use Rattle.zl_objects.specs.declared.awaited.Awaited.{Awaited}
@@ -10,7 +9,7 @@ use Rattle.zl_calls.specs.Blocked.{AreLeft, AreOrdered, AreSought, IsWhole}
 use Rattle.zl_calls.specs.Blocking.{FallsAsleep}
 use Rattle.zl_calls.specs.Waking.{Wakes}
 use Rattle.zl_calls.specs.World.{awaited_of}
-use Rattle.zl_calls.specs.Woke.{HaveLeft, StepsAndWakes}
+use Rattle.zl_calls.specs.Woke.{StepsAndWakes}
 use Rattle.zl_calls.specs.declared.process.Process.{Process}
 use Rattle.zl_calls.specs.declared.waking.Woke.{Woke}
 use Rattle.zl_calls.specs.declared.waking.Woke.TheVariants as woke

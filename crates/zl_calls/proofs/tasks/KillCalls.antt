@@ -1,5 +1,4 @@
 -- The call task_kill, from what it did among all processes to the relation of steps, up to where processes wake.
-use Rattle.zl_calls.proofs.Common.{◌≤◌}
 use Rattle.zl_calls.proofs.Common.{◌≡◌, ◌<◌, ◌^◌, ℕ, ℤ, zero, suc, Bool, true, false, not, ◌&&◌, ◌==◌, List, [], ◌∷◌, map, refl, sym, ap, ◌∙◌, subst, Option}
 use Rattle.zl_calls.proofs.Common.{Some, None, Ok, inl, inr, ◌⊎◌, IsTrue, arith, option_map, Map, get, each, update, lives, state_passes, none-some, same_Some}
 use Rattle.zl_calls.proofs.Common.{slice_get, eq-eqb, false≢true, is_sorted, nat_cmp, nat_tests, object_entry, process_entry, process_value, state_value}

@@ -3,7 +3,7 @@ use Rattle.zl_calls.proofs.Common.{◌≡◌, ℕ, ℤ, false, List, [], refl, s
 use Rattle.zl_calls.proofs.Common.{Library, Site, site, AtCall, next_for, Objects, process_value, state_value, world_blocked, world_value}
 use Rattle.zl_calls.proofs.Common.{IsConsistent, IsRefusedBy, cpu_answered, handle_operands, remove_all, taken_handles, gives_refused, refusal}
 use Rattle.zl_calls.proofs.Common.{status_of, ⊤, Ready, Status, CallName, Outcome, IsAnsweredIn, IsToldIn, Parts}
-use Rattle.zl_calls.proofs.Common.{TaskKillDoes, arith, kill_refusal, parts, wants_nothing}
+use Rattle.zl_calls.proofs.Common.{TaskKillDoes, kill_refusal, parts, wants_nothing}
 use Rattle.zl_rights.specs.declared.status.Status.TheVariants as status
 use Rattle.zl_code.proofs.Common.{is_blocked}
 use Rattle.zl_code.specs.CallTable.{task_kill}

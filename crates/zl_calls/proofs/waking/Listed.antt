@@ -1,5 +1,5 @@
 -- Those that may wake are taken off the list one after another, and all blocked processes have had their turns then.
-use Rattle.zl_calls.proofs.Common.{◌≡◌, ◌≤◌, ◌==◌, ◌⊎◌, ◌&&◌, ℕ, Bool, true, false, not, List, [], ◌∷◌, length, map, refl, sym, ap, ◌∙◌, subst, if◌then◌else◌}
+use Rattle.zl_calls.proofs.Common.{◌≡◌, ◌==◌, ◌&&◌, ℕ, Bool, true, false, not, List, [], ◌∷◌, length, map, refl, sym, ap, ◌∙◌, subst, if◌then◌else◌}
 use Rattle.zl_calls.proofs.Common.{Option, Some, None, inl, inr, IsTrue, arith, cases_Bool, eq-eqb, eqb-true, false≢true, none-some, same_Some, and_parts}
 use Rattle.zl_calls.proofs.Common.{◌<◌, ◌^◌, get_or, position, state_value, state_passes, get, Objects, object_value, process_entry, world_blocked, IsConsistent, AreBlocked, KeepSleepers}
 use Rattle.zl_calls.proofs.Common.{Seeks, World, WakesOne, fold, times, slice_get, is_some, is_empty, signals_at, packets_in, packet_values, option_map}

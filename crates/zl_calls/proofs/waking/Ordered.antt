@@ -1,7 +1,7 @@
 -- Of the processes listed for packets of a port those that are blocked there stand in the order in which they blocked.
-use Rattle.zl_calls.proofs.Common.{◌≡◌, ◌==◌, ◌⊎◌, ◌≤◌, ◌+◌, ◌&&◌, ◌||◌, ◌++◌, ℕ, Bool, true, false, not, List, [], ◌∷◌, map, refl, sym, ap, ◌∙◌, subst, Option, Some, None, inl}
+use Rattle.zl_calls.proofs.Common.{◌≡◌, ◌==◌, ◌≤◌, ◌+◌, ◌&&◌, ◌||◌, ◌++◌, ℕ, Bool, true, false, not, List, [], ◌∷◌, map, refl, sym, ap, ◌∙◌, subst, Option, Some, None, inl}
 use Rattle.zl_calls.proofs.Common.{inr, IsTrue, get, Objects, process_entry, state_value, AreBlocked, length, list_any, state_passes, cases_Bool, false≢true, times}
-use Rattle.zl_calls.proofs.Common.{KeepSleepers, and_parts, arith, none-some, same_Some, eq-eqb, if◌then◌else◌, eqb-true}
+use Rattle.zl_calls.proofs.Common.{KeepSleepers, and_parts, arith, none-some, same_Some, if◌then◌else◌, eqb-true}
 use Rattle.std.proofs.Math.Dec.{ltb}
 use Rattle.std.proofs.lemmas.Bool.{ltb-false, ltb-true}
 use Rattle.std.specs.List.{filter}

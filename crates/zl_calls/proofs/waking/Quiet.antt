@@ -1,11 +1,11 @@
 -- Where the objects are quiet, no wait fires and no process wakes.
-use Rattle.zl_calls.proofs.Common.{◌≡◌, ℕ, Bool, true, false, not, List, [], ◌∷◌, map, refl, sym, ap, ◌∙◌, Option, Some, None, IsTrue, false≢true, list_any}
+use Rattle.zl_calls.proofs.Common.{◌≡◌, ℕ, Bool, true, false, not, List, [], ◌∷◌, map, refl, sym, ap, ◌∙◌, Option, Some, None, false≢true, list_any}
 use Rattle.zl_calls.proofs.Common.{get, Objects, process_entry, object_value, world_blocked, IsConsistent, World, fold, get_seen, is_empty}
 use Rattle.zl_calls.proofs.Common.{is_process}
 use Rattle.zl_calls.proofs.Common.{FiresWaits, PacketAt, SignalOf, Packet, packets_in, packets_of, signals_at}
-use Rattle.zl_rights.specs.Wakes.{fired, holds, woken, woken_at_port}
+use Rattle.zl_rights.specs.Wakes.{holds, woken, woken_at_port}
 use Rattle.zl_rights.specs.World.{Awaited as AwaitedValue, State, Blocked, Wait}
-use Rattle.zl_code.proofs.Common.{Process as ProcessValue, active, has_child_job, has_child_process, answered, meets}
+use Rattle.zl_code.proofs.Common.{Process as ProcessValue, active, has_child_job, has_child_process, meets}
 use Rattle.zl_objects.specs.declared.object.Body.{Body}
 use Rattle.zl_objects.specs.declared.object.Body.TheVariants as body
 use Rattle.zl_objects.specs.declared.object.Object.{Object}

@@ -1,5 +1,5 @@
 -- What a step changes of who is ready: nobody but those that woke, the one that it started, and those that it killed.
-use Rattle.zl_sched.proofs.Common.{Acts, AtCall, Bool, IsSound, IsStuck, IsTrue, Library, List, Moves, Next, None, Option, Outcome, Process, Ready, Request, Some, State}
+use Rattle.zl_sched.proofs.Common.{Acts, AtCall, Bool, IsSound, IsStuck, Library, Moves, Next, None, Option, Outcome, Process, Ready, Request, Some, State}
 use Rattle.zl_sched.proofs.Common.{Step, TraceItem, ap, arith, cases_Bool, false, get, if◌then◌else◌, inl, inr, is_process, is_ready, is_some, leaves_ready}
 use Rattle.zl_sched.proofs.Common.{next_for, refl, refusal, state_passes, step_sound, subst, sym, task_kill, true, wakes, ℕ, ◌&&◌, ◌<◌, ◌∙◌, ◌≡◌}
 use Rattle.zl_code.proofs.Common.{World, and_parts, eqb-true, false≢true, is_blocked, none-some, not, not-false, ◌==◌, ◌⊎◌, ⊤}
@@ -260,7 +260,8 @@ module _ (lib : Library) (w : World) (p : ℕ) (x : TraceItem) (after : World) (
       by_item none left true leaves = (few (spares_more x leaves) none None left, itself (spares_more x leaves) none leaves)
       by_item none left false leaves = few_or none None left (leaves_others x) refl
 
-      by_woke : (c : Option ℕ) → child ≡ c → (w0 : Woke) → HaveLeft step.settled.blocked w0 after.blocked → IsChanged w p after (change_of x (with_started c w0))
+      by_woke : (c : Option ℕ) → child ≡ c → (w0 : Woke) → HaveLeft step.settled.blocked w0 after.blocked
+          → IsChanged w p after (change_of x (with_started c w0))
       by_woke None none woke.Nobody left = by_item none left (leaves_ready x) refl
       by_woke None none (woke.One q) left = few_or none (Some q) left (leaves_others x) refl
       by_woke None none woke.More left = tt

@@ -1,19 +1,17 @@
 -- Where a call kills and starts no other process, the others are as ready after it as before, but for those that woke. Where it kills, nobody becomes ready.
-use Rattle.zl_code.proofs.Common.{◌≡◌, ◌<◌, ◌⊎◌, ℕ, Bool, true, false, not, ◌==◌, ◌&&◌, List, [], ◌∷◌, refl, ap, sym, ◌∙◌, subst, arith, cases_Bool, ⊤}
-use Rattle.zl_sched.proofs.Common.{Body, CallBy, Entry, IsSound, Object, Outcome, Packet, PortBody, Refused, Request, Settles, SignalOf, Site, TraceItem}
+use Rattle.zl_code.proofs.Common.{◌≡◌, ◌⊎◌, ℕ, Bool, true, false, not, ◌==◌, ◌&&◌, List, [], ◌∷◌, refl, ap, sym, ◌∙◌, subst, arith, cases_Bool}
+use Rattle.zl_sched.proofs.Common.{Body, CallBy, Entry, Object, Outcome, Packet, PortBody, Refused, Request, Settles, SignalOf, Site}
 use Rattle.zl_sched.proofs.Common.{Values, Wants, active, after_ok, after_refusal, created_process, effect, entering_at, fired, fold, get-each, get-put}
 use Rattle.zl_sched.proofs.Common.{get-update, insert_all, made_ready, meets, on_object, on_process}
-use Rattle.zl_sched.proofs.Common.{option_map, process_create, process_settled, process_start, process_with, process_without, receiver_of, refusal}
-use Rattle.zl_sched.proofs.Common.{remove_all, replied, state_without, step_sound, stored_by, storing, taken, task_kill, wakes, with_body}
+use Rattle.zl_sched.proofs.Common.{option_map, process_create, process_settled, process_start, process_with, process_without, receiver_of}
+use Rattle.zl_sched.proofs.Common.{remove_all, replied, state_without, stored_by, storing, taken, task_kill, wakes, with_body}
 use Rattle.zl_sched.proofs.Common.{with_object, without_others, woken_at_port, woken_by, woken_by_first, woken_from, woken_if_there}
-use Rattle.zl_code.proofs.Common.{eqb-true, false≢true, Option, Some, None, is_some, has_key, IsTrue, if◌then◌else◌, inl, inr, get}
-use Rattle.zl_code.proofs.Common.{World, Process, State, Created, Ready, Blocked, Ended, Gone, is_process, is_ready, is_blocked, lives, process_killed}
+use Rattle.zl_code.proofs.Common.{eqb-true, false≢true, Option, Some, None, has_key, IsTrue, if◌then◌else◌, inl, inr, get}
+use Rattle.zl_code.proofs.Common.{World, Process, State, Created, Ready, Blocked, Ended, Gone, is_process, is_blocked, lives, process_killed}
 use Rattle.zl_code.proofs.Common.{Calls, handle_operands, is_within, new_handles, object_at, row_of, taken_handles, with_killed}
 use Rattle.zl_code.proofs.Common.{without, state_passes, ok_outcome, with_effect, ended, process_ended, waiting}
 use Rattle.zl_code.proofs.Common.{PacketAt, Library}
 use Rattle.zl_code.proofs.Common.{Choice}
-use Rattle.zl_code.proofs.Common.{Next, Moves, AtCall}
-use Rattle.zl_code.proofs.Common.{IsStuck, Acts, Step, next_for}
 use Rattle.std.proofs.lemmas.Bool.{not-true}
 use Rattle.zl_rights.specs.Wakes.{woken}
 use Rattle.zl_rights.specs.Numbers.{KILLED}
@@ -27,7 +25,6 @@ use Rattle.zl_code.specs.CallTable.{awaited_by, name_of}
 use Rattle.zl_code.specs.Starting.{started_with}
 use Rattle.zl_code.specs.Tests.{koid_in}
 use Rattle.zl_code.proofs.Changes.{times, times-other, times-same}
-use Rattle.zl_code.proofs.SoundRuns.{settled_sound}
 use Rattle.zl_verify.proofs.CallEnds.{call_ends}
 use Rattle.zl_calls.specs.Started.{child_of, if_started}
 use Rattle.zl_calls.specs.Woke.{HaveLeft}
@@ -268,12 +265,14 @@ module _ (k : ℕ) where
         (left_then k _ _ w (effected lib w (taken w p s) p s.request vs (still_free w p w.next_koid (taken_handles s.request) free) left)
         (removed w p (taken_handles s.request))))
 
-    done_so : (s : Site) (vs : List ℕ) (o : Outcome) → spares w p k s.request ≡ true → (goes_on o ≡ false → (p == k) ≡ false) → Left k (after_ok lib w p s vs o) w
+    done_so : (s : Site) (vs : List ℕ) (o : Outcome) → spares w p k s.request ≡ true → (goes_on o ≡ false → (p == k) ≡ false)
+        → Left k (after_ok lib w p s vs o) w
     done_so s vs (outcome.Answered answer) left apart = left_then k _ _ w (answers _ p s status.Ok _) (effect_so s vs left)
     done_so s vs (outcome.Ended code) left apart = left_then k _ _ w (ends _ p code (apart refl)) (effect_so s vs left)
     done_so s vs outcome.Blocked left apart = blocks w p s.destinations (awaited_by w p s.request) (apart refl)
 
-    pub called_so : (s : Site) (choice : Choice) (r : Option Outcome) (o : Outcome) (w2 : World) → (o ≡ ok_outcome w p s.request → spares w p k s.request ≡ true)
+    pub called_so : (s : Site) (choice : Choice) (r : Option Outcome) (o : Outcome) (w2 : World)
+        → (o ≡ ok_outcome w p s.request → spares w p k s.request ≡ true)
         → (goes_on o ≡ false → (p == k) ≡ false) → CallBy lib w p s choice r o w2 → Left k w2 w
     called_so s Refused None o w2 left apart c = absurd c
     called_so s Refused (Some r) o w2 left apart c = rw c.1 (refused_so s r (λ stops. apart (ap goes_on c.0 ∙ stops)))

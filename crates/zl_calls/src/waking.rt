@@ -29,7 +29,7 @@ use zl_code::{Outcome, TraceItem};
 use zl_objects::{Awaited, Objects, Sleeper};
 use zl_rights::{Koid, Pid};
 
-/// Who woke behind a step.
+/// Who woke behind a step; where the world tells it, with the process that the step started.
 ///
 /// Source: own profile.
 #[derive(Clone, Copy, PartialEq, Eq, Debug)]

@@ -19,7 +19,7 @@ use Rattle.zl_code.specs.Starting.{is_created, program_of, started_with}
 use Rattle.zl_code.proofs.TaskLaws.{child_apart, child_of as child_found, leave_other}
 use Rattle.zl_verify.proofs.CallEnds.{call_ends}
 use Rattle.zl_calls.specs.Started.{child_of, is_ok}
-use Rattle.zl_sched.proofs.StillReady.{answers, entered, left_then, stored}
+use Rattle.zl_sched.proofs.StillReady.{answers, entered, left_then}
 
 -- ---- a refusal isn't OK
 

@@ -1,6 +1,5 @@
 -- What a step changes of who is ready: nobody but those that woke, the one that it started, and those that it killed.
-use Rattle.zl_sched.proofs.Common.{Acts, AtCall, Bool, IsSound, IsStuck, IsTrue, Library, List, Moves, Next, None, Option, Outcome, Process, Ready}
-use Rattle.zl_sched.proofs.Common.{Request, Some, State}
+use Rattle.zl_sched.proofs.Common.{Acts, AtCall, Bool, IsSound, IsStuck, Library, Moves, Next, None, Option, Outcome, Process, Ready, Request, Some, State}
 use Rattle.zl_sched.proofs.Common.{Step, TraceItem, ap, arith, cases_Bool, false, get, if◌then◌else◌, inl, inr, is_process, is_ready, is_some, leaves_ready}
 use Rattle.zl_sched.proofs.Common.{next_for, refl, refusal, state_passes, step_sound, subst, sym, task_kill, true, wakes, ℕ, ◌&&◌, ◌<◌, ◌∙◌, ◌≡◌}
 use Rattle.zl_code.proofs.Common.{World, and_parts, eqb-true, false≢true, is_blocked, none-some, not, not-false, ◌==◌, ◌⊎◌, ⊤}

@@ -1,19 +1,17 @@
 -- Where a call kills and starts no other process, the others are as ready after it as before, but for those that woke. Where it kills, nobody becomes ready.
-use Rattle.zl_code.proofs.Common.{◌≡◌, ◌<◌, ◌⊎◌, ℕ, Bool, true, false, not, ◌==◌, ◌&&◌, List, [], ◌∷◌, refl, ap, sym, ◌∙◌, subst, arith, cases_Bool, ⊤}
-use Rattle.zl_sched.proofs.Common.{Body, CallBy, Entry, IsSound, Object, Outcome, Packet, PortBody, Refused, Request, Settles, SignalOf, Site, TraceItem}
+use Rattle.zl_code.proofs.Common.{◌≡◌, ◌⊎◌, ℕ, Bool, true, false, not, ◌==◌, ◌&&◌, List, [], ◌∷◌, refl, ap, sym, ◌∙◌, subst, arith, cases_Bool}
+use Rattle.zl_sched.proofs.Common.{Body, CallBy, Entry, Object, Outcome, Packet, PortBody, Refused, Request, Settles, SignalOf, Site}
 use Rattle.zl_sched.proofs.Common.{Values, Wants, active, after_ok, after_refusal, created_process, effect, entering_at, fired, fold, get-each, get-put}
 use Rattle.zl_sched.proofs.Common.{get-update, insert_all, made_ready, meets, on_object, on_process}
-use Rattle.zl_sched.proofs.Common.{option_map, process_create, process_settled, process_start, process_with, process_without, receiver_of, refusal}
-use Rattle.zl_sched.proofs.Common.{remove_all, replied, state_without, step_sound, stored_by, storing, taken, task_kill, wakes, with_body}
+use Rattle.zl_sched.proofs.Common.{option_map, process_create, process_settled, process_start, process_with, process_without, receiver_of}
+use Rattle.zl_sched.proofs.Common.{remove_all, replied, state_without, stored_by, storing, taken, task_kill, wakes, with_body}
 use Rattle.zl_sched.proofs.Common.{with_object, without_others, woken_at_port, woken_by, woken_by_first, woken_from, woken_if_there}
-use Rattle.zl_code.proofs.Common.{eqb-true, false≢true, Option, Some, None, is_some, has_key, IsTrue, if◌then◌else◌, inl, inr, get}
-use Rattle.zl_code.proofs.Common.{World, Process, State, Created, Ready, Blocked, Ended, Gone, is_process, is_ready, is_blocked, lives, process_killed}
+use Rattle.zl_code.proofs.Common.{eqb-true, false≢true, Option, Some, None, has_key, IsTrue, if◌then◌else◌, inl, inr, get}
+use Rattle.zl_code.proofs.Common.{World, Process, State, Created, Ready, Blocked, Ended, Gone, is_process, is_blocked, lives, process_killed}
 use Rattle.zl_code.proofs.Common.{Calls, handle_operands, is_within, new_handles, object_at, row_of, taken_handles, with_killed}
 use Rattle.zl_code.proofs.Common.{without, state_passes, ok_outcome, with_effect, ended, process_ended, waiting}
 use Rattle.zl_code.proofs.Common.{PacketAt, Library}
 use Rattle.zl_code.proofs.Common.{Choice}
-use Rattle.zl_code.proofs.Common.{Next, Moves, AtCall}
-use Rattle.zl_code.proofs.Common.{IsStuck, Acts, Step, next_for}
 use Rattle.std.proofs.lemmas.Bool.{not-true}
 use Rattle.zl_rights.specs.Wakes.{woken}
 use Rattle.zl_rights.specs.Numbers.{KILLED}
@@ -27,7 +25,6 @@ use Rattle.zl_code.specs.CallTable.{awaited_by, name_of}
 use Rattle.zl_code.specs.Starting.{started_with}
 use Rattle.zl_code.specs.Tests.{koid_in}
 use Rattle.zl_code.proofs.Changes.{times, times-other, times-same}
-use Rattle.zl_code.proofs.SoundRuns.{settled_sound}
 use Rattle.zl_verify.proofs.CallEnds.{call_ends}
 use Rattle.zl_calls.specs.Started.{child_of, if_started}
 use Rattle.zl_calls.specs.Woke.{HaveLeft}

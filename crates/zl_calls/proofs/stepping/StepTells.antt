@@ -1,6 +1,6 @@
 -- What a step tells of who became ready: who woke, and whom it started.
-use Rattle.zl_calls.proofs.Common.{◌≡◌, ◌∙◌, ℕ, true, false, ap, refl, rules, subst, sym, Library, List, Objects, Option, Some, None, get, map, slice_get, AtCall, Site}
-use Rattle.zl_calls.proofs.Common.{CallActs, CallName, CalledAmong, Outcome, Parts, TraceItem, calls_at, is_local, next_for, process_entry, process_value}
+use Rattle.zl_calls.proofs.Common.{◌≡◌, ◌∙◌, ℕ, true, ap, refl, subst, sym, Library, List, Objects, Option, Some, None, get}
+use Rattle.zl_calls.proofs.Common.{CallName, CalledAmong, Outcome, Parts, TraceItem, calls_at, is_local, next_for, process_value}
 use Rattle.zl_calls.proofs.Common.{same_Some, world_blocked}
 use Rattle.zl_code.proofs.Common.{Process as ProcessValue}
 use Rattle.zl_code.specs.declared.history.CallName.TheVariants as name

@@ -1,6 +1,7 @@
 -- Objects that are the same but for waits and the places for their packets: the world sees the same, and the invariant holds.
 use Rattle.zl_calls.proofs.Common.{◌≡◌, ℕ, Bool, ◌==◌, List, [], ◌∷◌, map, refl, sym, ap, ◌∙◌, subst, Option, Some, None, inl, inr, IsTrue, cases_Bool}
-use Rattle.zl_calls.proofs.Common.{eqb-true, false, false≢true, same_Some, is_some, Map, get, has_key, update, kind_of, handles_to, Objects, Agrees, object_entry}
+use Rattle.zl_calls.proofs.Common.{eqb-true, false, false≢true, same_Some, is_some, Map, get, has_key, update, kind_of, handles_to, Objects, Agrees}
+use Rattle.zl_calls.proofs.Common.{object_entry}
 use Rattle.zl_calls.proofs.Common.{body_value, world_value, AreNamed, IsConsistent, IsNamed, World, Entry, Watch, Port, without_place, watching, at_port}
 use Rattle.zl_calls.proofs.Common.{changed_port, at_port_of, unwatched, unwatching, waits_in, AreBeside}
 use Rattle.zl_code.proofs.Common.{each}

@@ -1,8 +1,11 @@
 -- A kill goes over the processes that were listed alone: what it makes of these is what it makes of all.
-use Rattle.zl_calls.proofs.Common.{◌≡◌, ◌<◌, ◌≤◌, ◌+◌, ◌-◌, ◌==◌, ◌||◌, ◌&&◌, ◌++◌, ◌∙◌, ◌∷◌, ◌⊎◌, arith, ℕ, zero, suc, Bool, true, false, List, [], map, length}
-use Rattle.zl_calls.proofs.Common.{refl, sym, ap, subst, IfNone, Option, Some, None, inl, inr, IsTrue, if◌then◌else◌, cases_Bool, cases_lt, eq-eqb, eqb-true, false≢true, none-some}
+use Rattle.zl_calls.proofs.Common.{◌≡◌, ◌<◌, ◌≤◌, ◌+◌, ◌-◌, ◌==◌, ◌||◌, ◌&&◌, ◌++◌, ◌∙◌, ◌∷◌, ◌⊎◌, arith, ℕ, zero, suc, Bool, true, false, List, []}
+use Rattle.zl_calls.proofs.Common.{map, length}
+use Rattle.zl_calls.proofs.Common.{refl, sym, ap, subst, IfNone, Option, Some, None, inl, inr, IsTrue, if◌then◌else◌, cases_Bool, cases_lt, eq-eqb}
+use Rattle.zl_calls.proofs.Common.{eqb-true, false≢true, none-some}
 use Rattle.zl_calls.proofs.Common.{same_Some, nat_cmp, nat_tests, is_sorted, below_all, sorted_parts, get, get_or, set, slice_get, position, lives}
-use Rattle.zl_calls.proofs.Common.{get_or_from_slice_get, slice_get-get_or, Objects, process_entry, process_value, state_value, is_within, ended_if, ended_within, lives_on}
+use Rattle.zl_calls.proofs.Common.{get_or_from_slice_get, slice_get-get_or, Objects, process_entry, process_value, state_value, is_within, ended_if}
+use Rattle.zl_calls.proofs.Common.{ended_within, lives_on}
 use Rattle.zl_calls.proofs.Common.{ClosesAllEnded, ClosesEnded, Drained}
 use Rattle.std.specs.List.Sorted.{IsNonDecreasing}
 use Rattle.std.proofs.lemmas.List.Folds.{list_any-append}
@@ -241,7 +244,8 @@ module _ (first : List Process) (start : Objects) (ks : List ℕ) where
       (skips ps r m (from + 1) (subst (λ (qs : List Process). IsClosing first start (from + 1) qs r) (set_same ps from p p refl (sym read)) one)
       (omega (arith, within)) (λ n q later before at. all n q (omega (arith, later)) (omega (arith, before)) at))
 
-  module _ (rising : IsNonDecreasing ks) (others : AreClosedBut ks first) (i from : ℕ) (ps : List Process) (r : Objects) (so_far : IsClosingEach i from ps r) where
+  module _ (rising : IsNonDecreasing ks) (others : AreClosedBut ks first) (i from : ℕ) (ps : List Process) (r : Objects)
+      (so_far : IsClosingEach i from ps r) where
     reaches : (to : ℕ) → from ≤ to → to ≤ length ps
         → ((n j : ℕ) (p : Process) → n < to → slice_get ps n ≡ Some p → i ≤ j → j < length ks → p.pid ≡ get_or ks j 0 → ⊥) → IsClosing first start to ps r
     reaches to later within none =

@@ -1,6 +1,7 @@
 -- The list of the blocked processes, as one process changes.
 use Rattle.zl_calls.proofs.Common.{◌≡◌, ◌<◌, ◌≤◌, ◌+◌, ◌^◌, ◌++◌, arith, eq-eqb, length-map, ℕ, Bool, true, false, not, ◌==◌, List, [], ◌∷◌, length, map, refl}
-use Rattle.zl_calls.proofs.Common.{sym, ap, ◌∙◌, subst, if◌then◌else◌, Some, IsTrue, inl, inr, cases_Bool, eqb-true, false≢true, state_passes, Map, get, process_entry}
+use Rattle.zl_calls.proofs.Common.{sym, ap, ◌∙◌, subst, if◌then◌else◌, Some, IsTrue, inl, inr, cases_Bool, eqb-true, false≢true, state_passes, Map}
+use Rattle.zl_calls.proofs.Common.{get, process_entry}
 use Rattle.zl_calls.proofs.Common.{state_value, process_value, AreBlocked, pid_of, TraceItem, times, tells_blocking, then_blocked}
 use Rattle.std.specs.List.{filter}
 use Rattle.std.proofs.lemmas.List.Filters.{length-filter_both}

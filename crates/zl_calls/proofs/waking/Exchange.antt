@@ -1,6 +1,8 @@
 -- The turn of a process may come before those of others that take no packets from its port.
-use Rattle.zl_calls.proofs.Common.{◌≡◌, ◌+◌, ℕ, Bool, true, false, not, ◌==◌, ◌⊎◌, List, [], ◌∷◌, refl, sym, ap, ◌∙◌, subst, if◌then◌else◌, Option, Some, None, inl}
-use Rattle.zl_calls.proofs.Common.{inr, IsTrue, arith, cases_Bool, eq-eqb, eqb-true, false≢true, state_passes, Map, get, World, fold, times, slice_get, same_Some}
+use Rattle.zl_calls.proofs.Common.{◌≡◌, ◌+◌, ℕ, Bool, true, false, not, ◌==◌, ◌⊎◌, List, [], ◌∷◌, refl, sym, ap, ◌∙◌, subst, if◌then◌else◌, Option}
+use Rattle.zl_calls.proofs.Common.{Some, None, inl}
+use Rattle.zl_calls.proofs.Common.{inr, IsTrue, arith, cases_Bool, eq-eqb, eqb-true, false≢true, state_passes, Map, get, World, fold, times}
+use Rattle.zl_calls.proofs.Common.{slice_get, same_Some}
 use Rattle.std.specs.List.{filter}
 use Rattle.std.specs.Ordering.{nat_cmp}
 use Rattle.std.specs.Cmp.{nat_cmp_total}
@@ -211,7 +213,8 @@ module _ (w : World) (p : ℕ) where
 abbrev readied : World → Map Object → ℕ → Process → List ℕ → List ℕ → World
 readied w objects p a ds vs = made_ready (record w { objects = objects }) p a ds vs
 
-module _ (w : World) (m : Map Object) (p q : ℕ) (a b : Process) (ds es vs us : List ℕ) (sorted : T (is_sorted nat_cmp w.processes)) (apart : (p == q) ≡ false) where
+module _ (w : World) (m : Map Object) (p q : ℕ) (a b : Process) (ds es vs us : List ℕ) (sorted : T (is_sorted nat_cmp w.processes))
+    (apart : (p == q) ≡ false) where
   ready_comm : readied (readied w m p a ds vs) m q b es us ≡ readied (readied w m q b es us) m p a ds vs
   unfolding made_ready
   ready_comm = λ i. record w {

@@ -1,7 +1,8 @@
 -- Those that may wake are taken off the list one after another, and all blocked processes have had their turns then.
 use Rattle.zl_calls.proofs.Common.{◌≡◌, ◌==◌, ◌&&◌, ℕ, Bool, true, false, not, List, [], ◌∷◌, length, map, refl, sym, ap, ◌∙◌, subst, if◌then◌else◌}
 use Rattle.zl_calls.proofs.Common.{Option, Some, None, inl, inr, IsTrue, arith, cases_Bool, eq-eqb, eqb-true, false≢true, none-some, same_Some, and_parts}
-use Rattle.zl_calls.proofs.Common.{◌<◌, ◌^◌, get_or, position, state_value, state_passes, get, Objects, object_value, process_entry, world_blocked, IsConsistent, AreBlocked, KeepSleepers}
+use Rattle.zl_calls.proofs.Common.{◌<◌, ◌^◌, get_or, position, state_value, state_passes, get, Objects, object_value, process_entry, world_blocked}
+use Rattle.zl_calls.proofs.Common.{IsConsistent, AreBlocked, KeepSleepers}
 use Rattle.zl_calls.proofs.Common.{Seeks, World, WakesOne, fold, times, slice_get, is_some, is_empty, signals_at, packets_in, packet_values, option_map}
 use Rattle.std.specs.Bool.{passes, then_some}
 use Rattle.std.specs.List.{All, Contains, filter}
@@ -55,7 +56,8 @@ due_woke (Ended code) r a is = absurd (none-some a is)
 due_woke Gone r a is = absurd (none-some a is)
 
 -- the same of the process at a place of the list
-pub due_there : (ps : List Process) (pid place : ℕ) (p : Process) → Some place ≡ position (λ q. q.pid == pid) ps → p ≡ get_or ps place p → (r : Objects) (a : Awaited)
+pub due_there : (ps : List Process) (pid place : ℕ) (p : Process) → Some place ≡ position (λ q. q.pid == pid) ps → p ≡ get_or ps place p
+    → (r : Objects) (a : Awaited)
     → awaited_by (get (map process_entry ps) pid) ≡ Some a → is_some (given_awake (state_value p.state) r) ≡ is_due r.objects a
 due_there ps pid place p found read r a is = due_woke (state_value p.state) r a (rw (stands_there ps pid place p found read) at is)
 

@@ -1,6 +1,8 @@
 -- Of the processes listed for packets of a port those that are blocked there stand in the order in which they blocked.
-use Rattle.zl_calls.proofs.Common.{◌≡◌, ◌==◌, ◌≤◌, ◌+◌, ◌&&◌, ◌||◌, ◌++◌, ℕ, Bool, true, false, not, List, [], ◌∷◌, map, refl, sym, ap, ◌∙◌, subst, Option, Some, None, inl}
-use Rattle.zl_calls.proofs.Common.{inr, IsTrue, get, Objects, process_entry, state_value, AreBlocked, length, list_any, state_passes, cases_Bool, false≢true, times}
+use Rattle.zl_calls.proofs.Common.{◌≡◌, ◌==◌, ◌≤◌, ◌+◌, ◌&&◌, ◌||◌, ◌++◌, ℕ, Bool, true, false, not, List, [], ◌∷◌, map, refl, sym, ap, ◌∙◌, subst}
+use Rattle.zl_calls.proofs.Common.{Option, Some, None, inl}
+use Rattle.zl_calls.proofs.Common.{inr, IsTrue, get, Objects, process_entry, state_value, AreBlocked, length, list_any, state_passes, cases_Bool}
+use Rattle.zl_calls.proofs.Common.{false≢true, times}
 use Rattle.zl_calls.proofs.Common.{KeepSleepers, and_parts, arith, none-some, same_Some, if◌then◌else◌, eqb-true}
 use Rattle.std.proofs.Math.Dec.{ltb}
 use Rattle.std.proofs.lemmas.Bool.{ltb-false, ltb-true}
@@ -53,7 +55,8 @@ pub left_fewer : (xs ys : List ℕ) → AreLeft xs ys → (k : ℕ) → times k 
 left_fewer xs ys left k = elim (cases_Bool (ltb 0 (times k ys))) as (λ _. times k ys ≤ times k xs) [
   | inl some ↦
       let same : filter (λ q. q == k) ys ≡ filter (λ q. q == k) xs =
-      left (λ q. q == k) (λ q here. subst (λ (j : ℕ). 1 ≤ times j ys) (sym (eqb-true q k here)) (let more = ltb-true 0 (times k ys) some in omega (arith, more))) in
+      left (λ q. q == k) (λ q here. subst (λ (j : ℕ). 1 ≤ times j ys) (sym (eqb-true q k here))
+      (let more = ltb-true 0 (times k ys) some in omega (arith, more))) in
       omega (arith, ap (λ (zs : List ℕ). length zs) same)
   | inr none ↦ let few = ltb-false 0 (times k ys) none in omega (arith, few)
 ]
@@ -151,7 +154,8 @@ written_ordered {before} {after} {p} {p2} write r blocked was still (inr stand) 
 
     same : (port k : ℕ) → takes_at after port k ≡ takes_at before port k
     same port k = elim (cases_Bool (p.pid == k)) as (λ _. takes_at after port k ≡ takes_at before port k) [
-      | inl here ↦ rw (get_after write k, here, ← eqb-true p.pid k here, write.there) (none port (state_value p2.state) still ∙ sym (none port (state_value p.state) was))
+      | inl here ↦ rw (get_after write k, here, ← eqb-true p.pid k here, write.there)
+          (none port (state_value p2.state) still ∙ sym (none port (state_value p.state) was))
       | inr apart ↦ rw (get_after write k, apart) refl
     ]
 
@@ -208,5 +212,6 @@ module _ (ps ps2 : List Process) (pid port : ℕ) (b b2 : List ℕ)
       → filter (takes_at ps2 port) (xs ++ pid ∷ []) ≡ filter (takes_at ps2 port) (b2 ++ pid ∷ [])
   ends_in_order out out2 =
       filter-append (takes_at ps2 port) xs (pid ∷ [])
-      ∙ ((λ i. (sym (left_out (takes_at ps2 port) pid xs out) ∙ (but_one ∙ left_out (takes_at ps2 port) pid b2 out2)) i ++ filter (takes_at ps2 port) (pid ∷ []))
+      ∙ ((λ i. (sym (left_out (takes_at ps2 port) pid xs out) ∙ (but_one ∙ left_out (takes_at ps2 port) pid b2 out2)) i ++ filter (takes_at ps2 port)
+      (pid ∷ []))
       ∙ sym (filter-append (takes_at ps2 port) b2 (pid ∷ [])))

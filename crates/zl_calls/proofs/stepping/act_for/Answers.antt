@@ -27,7 +27,8 @@ call_next-requires c =
         given = c.requires.consistent.given_processes;
         kept = c.requires.consistent.kept;
         list = c.requires.list;
-        closed = are_closed c.args.processes.now.list.items c.args.objects.now c.args.blocked.now.items c.requires.consistent.processes_in_order c.requires.sound;
+        closed = are_closed c.args.processes.now.list.items c.args.objects.now c.args.blocked.now.items c.requires.consistent.processes_in_order
+            c.requires.sound;
       };
       own = own_waits (turn_at c.args.processes.now.list.items c.args.objects.now c.args.blocked.now.items c.args.pid c.in_ok-place.place
           c.index.result.now c.requires.consistent c.requires.list c.requires.sound c.in_ok-place.ensures.first c.index.ensures ready);

@@ -12,7 +12,8 @@ loop-sleeper-init c = (
 pub wake_sleeper-requires-clause-consistent : goal.wake_sleeper-requires-clause-consistent
 wake_sleeper-requires-clause-consistent c =
     taken_consistent c.args.processes.now.list.items c.args.objects.now c.args.blocked.now.items
-    c.loop-sleeper.processes.list.items c.loop-sleeper.objects c.loop-sleeper.blocked.items c.loop-sleeper.woke c.loop-sleeper.invariant.0 c.in-Some.sleeper c.take_due.new.self (c.in-Some.ensures {u = tt}).some
+    c.loop-sleeper.processes.list.items c.loop-sleeper.objects c.loop-sleeper.blocked.items c.loop-sleeper.woke c.loop-sleeper.invariant.0 c.in-Some.sleeper
+    c.take_due.new.self (c.in-Some.ensures {u = tt}).some
 
 pub wake_sleeper-requires-clause-counters : goal.wake_sleeper-requires-clause-counters
 wake_sleeper-requires-clause-counters c = c.loop-sleeper.invariant.0.list.counters
@@ -24,7 +25,8 @@ pub remove_pid-requires : goal.remove_pid-requires
 remove_pid-requires c =
     let woke = rw c.if-wake_sleeper.true at c.wake_sleeper.ensures in
     let once = stands_once c.args.processes.now.list.items c.args.objects.now c.args.blocked.now.items
-    c.loop-sleeper.processes.list.items c.loop-sleeper.objects c.loop-sleeper.blocked.items c.loop-sleeper.woke c.loop-sleeper.invariant.0 c.in-Some.sleeper c.take_due.new.self (c.in-Some.ensures {u = tt}).some
+    c.loop-sleeper.processes.list.items c.loop-sleeper.objects c.loop-sleeper.blocked.items c.loop-sleeper.woke c.loop-sleeper.invariant.0 c.in-Some.sleeper
+    c.take_due.new.self (c.in-Some.ensures {u = tt}).some
     woke.0 c.wake_sleeper.new.processes.list.items c.wake_sleeper.new.objects woke.1 woke.2 in
     omega (arith, once)
 
@@ -33,7 +35,8 @@ loop-sleeper-preserved-then-wake_sleeper c =
     let woke = rw c.if-wake_sleeper.true at c.wake_sleeper.ensures in
     rw (c.remove_pid.ensures.items, c.and_one-woke.ensures) (
       sleeper_wakes c.args.processes.now.list.items c.args.objects.now c.args.blocked.now.items
-          c.loop-sleeper.processes.list.items c.loop-sleeper.objects c.loop-sleeper.blocked.items c.loop-sleeper.woke c.loop-sleeper.invariant.0 c.in-Some.sleeper c.take_due.new.self (c.in-Some.ensures {u = tt}).some
+          c.loop-sleeper.processes.list.items c.loop-sleeper.objects c.loop-sleeper.blocked.items c.loop-sleeper.woke c.loop-sleeper.invariant.0
+          c.in-Some.sleeper c.take_due.new.self (c.in-Some.ensures {u = tt}).some
           woke.0 c.wake_sleeper.new.processes.list.items c.wake_sleeper.new.objects woke.1 woke.2,
       c.remove_pid.ensures.capacity ∙ c.loop-sleeper.invariant.1,
     )
@@ -43,7 +46,8 @@ loop-sleeper-preserved c =
     let stays = rw c.if-wake_sleeper.false at c.wake_sleeper.ensures in
     rw (stays.1, stays.2) (
       sleeper_stays c.args.processes.now.list.items c.args.objects.now c.args.blocked.now.items
-          c.loop-sleeper.processes.list.items c.loop-sleeper.objects c.loop-sleeper.blocked.items c.loop-sleeper.woke c.loop-sleeper.invariant.0 c.in-Some.sleeper c.take_due.new.self (c.in-Some.ensures {u = tt}).some stays.0,
+          c.loop-sleeper.processes.list.items c.loop-sleeper.objects c.loop-sleeper.blocked.items c.loop-sleeper.woke c.loop-sleeper.invariant.0
+          c.in-Some.sleeper c.take_due.new.self (c.in-Some.ensures {u = tt}).some stays.0,
       c.loop-sleeper.invariant.1,
     )
 
@@ -62,4 +66,5 @@ pub returns-clause-turns : goal.returns-clause-turns
 returns-clause-turns c =
     rw (c.in_default.ensures {u = tt}).same
     (listed_ends c.args.processes.now.list.items c.args.objects.now c.args.blocked.now.items
-    c.loop-sleeper.processes.list.items c.loop-sleeper.objects c.loop-sleeper.blocked.items c.loop-sleeper.woke c.loop-sleeper.invariant.0 (c.in_default.ensures {u = tt}).none)
+    c.loop-sleeper.processes.list.items c.loop-sleeper.objects c.loop-sleeper.blocked.items c.loop-sleeper.woke c.loop-sleeper.invariant.0
+    (c.in_default.ensures {u = tt}).none)

@@ -12,7 +12,8 @@ loop-koid-init c = record {
 
 pub loop-koid-preserved : goal.loop-koid-preserved
 loop-koid-preserved c = record {
-  ended = one_ended c.args.objects.now c.args.task c.args.processes.now.list.items c.loop-koid.processes.list.items c.end_at-all_stay.new.processes.list.items _ _
+  ended = one_ended c.args.objects.now c.args.task c.args.processes.now.list.items c.loop-koid.processes.list.items
+      c.end_at-all_stay.new.processes.list.items _ _
       c.loop-koid.invariant.ended c.end_at-all_stay.ensures.ended
       ∙ ap (λ (ks : List ℕ). map (ended_among c.args.objects.now c.args.task ks) c.args.processes.now.list.items)
       (sym (take_more c.args.koids.now c.loop-koid.koid-index 0 c.loop-koid-test.true));

@@ -1,4 +1,5 @@
-use Rattle.zl_calls.proofs.Common.{◌≡◌, ◌≤◌, ◌∙◌, ℕ, true, false, false≢true, Seeks, arith, length, subst, sym, vec_capacity, List, AreBlocked, TakesStep, is_local}
+use Rattle.zl_calls.proofs.Common.{◌≡◌, ◌≤◌, ◌∙◌, ℕ, true, false, false≢true, Seeks, arith, length, subst, sym, vec_capacity, List, AreBlocked}
+use Rattle.zl_calls.proofs.Common.{TakesStep, is_local}
 use Rattle.zl_calls.proofs.Common.{then_blocked}
 use Rattle.zl_objects.specs.declared.awaited.Awaited.{Awaited}
 use Rattle.zl_calls.specs.Blocking.{tells_asleep}
@@ -7,7 +8,8 @@ use Rattle.zl_calls.proofs.waking.BlockedLists.{no_more}
 use Rattle.zl_calls.proofs.waking.StillBlocked.{acted_ordered, acted_sought, same_seeks, silent}
 use Rattle.zl_calls.proofs.stepping.StepItems.{machine_value, local_list, not_ready_in, takes_local}
 use Rattle.zl_calls.proofs.stepping.StepTells.{tells_local, tells_step}
-use Rattle.zl_calls.proofs.stepping.Whole.{asleep_consistent, fired_known, fired_ordered, nothing_holds, quiet_step, quiet_whole, stepped_whole, woken_step, woken_whole}
+use Rattle.zl_calls.proofs.stepping.Whole.{asleep_consistent, fired_known, fired_ordered, nothing_holds, quiet_step, quiet_whole, stepped_whole}
+use Rattle.zl_calls.proofs.stepping.Whole.{woken_step, woken_whole}
 use Rattle.zl_calls.proofs.world.World.step.Goals as goal
 
 pub returns-in_err-item-clause-not_ready : goal.returns-in_err-item-clause-not_ready

@@ -1,8 +1,10 @@
 -- A process whose start is answered OK wasn't ready, and is.
 use Rattle.zl_sched.proofs.Common.{Bool, Library, List, None, Option, Process, Ready, Request, Site, Some, [], after_ok, ap, effect, false, get, get-update}
-use Rattle.zl_sched.proofs.Common.{if◌then◌else◌, is_process, is_ready, on_process, process_start, refl, subst, sym, taken, taken_handles, true, ℕ, ◌∙◌, ◌∷◌, ◌≡◌}
+use Rattle.zl_sched.proofs.Common.{if◌then◌else◌, is_process, is_ready, on_process, process_start, refl, subst, sym, taken, taken_handles, true, ℕ}
+use Rattle.zl_sched.proofs.Common.{◌∙◌, ◌∷◌, ◌≡◌}
 use Rattle.zl_code.proofs.Common.{Calls, Err, Ok, World, answer_if, bits, entry_at, eq-eqb, examined, false≢true, first_some, handle_operands, listed, may_want}
-use Rattle.zl_code.proofs.Common.{none-some, not, object_at, operand, refusal, row_of, same_Some, site, takes, true≢false, with_effect, within, new_handles, gives_ok, option_to_list}
+use Rattle.zl_code.proofs.Common.{none-some, not, object_at, operand, refusal, row_of, same_Some, site, takes, true≢false, with_effect, within}
+use Rattle.zl_code.proofs.Common.{new_handles, gives_ok, option_to_list}
 use Rattle.zl_rights.specs.declared.entry.Entry.{Entry}
 use Rattle.zl_rights.specs.declared.kind.Kind.{Kind}
 use Rattle.zl_rights.specs.declared.policy.Action.{Action}

@@ -308,7 +308,8 @@ fn a_job_is_listed_with_what_stands_below_it(rt: HostRuntime) -> Result<(), Fail
     let second = new_job(&mut objects, first)?;
     let pid = new_process(&mut objects, second)?;
     let list = objects.list_task(first);
-    assert!(rt; list.whole && list.koids.as_slice() == [Objects::ROOT_JOB, first, second, pid]);
+    let listed = [Objects::ROOT_JOB, first, second, pid];
+    assert!(rt; list.whole && list.koids.as_slice() == listed.as_slice());
     // Another finds no room, until this one is back.
     assert!(rt; !objects.list_task(other).whole);
     objects.put_back(list);

@@ -2,8 +2,8 @@
 use Rattle.zl_calls.proofs.Common.{ClosesAllEnded, ClosesEnded, IsCallerStill, TaskKillDoes, ended_if, ended_within, lives_on, parts, get_or_from_slice_get}
 use Rattle.zl_calls.proofs.Common.{slice_get-map, looked_up, DESTROY, Entry, Status, is_within, killed_if, killing, LeavesListed, all_koids, KeepsListed}
 use Rattle.zl_rights.proofs.Common.{◌≡◌, ◌<◌, ◌≤◌, ◌+◌, ℕ, Bool, true, false, List, [], ◌∷◌, ◌++◌, length, map, take, drop, refl, sym, ap, ◌∙◌, subst}
-use Rattle.zl_rights.proofs.Common.{arith, zero, suc, get_or, IsTrue, nat_cmp, is_sorted, set, slice_get, state_passes, Option, Some, None, Result}
-use Rattle.zl_rights.proofs.Common.{Ok, filter, has_key, is_some, option_map, Map, get, each, append-nil, take_all, length-map, none-some, same_Some}
+use Rattle.zl_rights.proofs.Common.{arith, zero, suc, get_or, set, slice_get, state_passes, Option, Some, None, Result}
+use Rattle.zl_rights.proofs.Common.{Ok, filter, has_key, is_some, option_map, Map, get, each, length-map, none-some, same_Some}
 use Rattle.zl_objects.specs.Objects.{Objects}
 use Rattle.zl_calls.specs.World.{process_entry}
 use Rattle.zl_calls.specs.declared.process.Process.{Process}

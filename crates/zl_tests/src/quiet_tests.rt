@@ -360,7 +360,9 @@ fn who_may_wake_is_told_by_the_objects_that_were_touched(rt: HostRuntime) -> Res
 }
 
 #[test]
-fn those_at_one_object_come_in_the_order_in_which_they_blocked(rt: HostRuntime) -> Result<(), Fail> {
+fn those_at_one_object_come_in_the_order_in_which_they_blocked(
+    rt: HostRuntime,
+) -> Result<(), Fail> {
     let mut objects = Objects::new(rt.alloc())?;
     let (event, other) = (new_event(&mut objects)?, new_event(&mut objects)?);
     block(&mut objects, 9, other);

@@ -10,6 +10,7 @@ pub mod StartSound
 pub mod StartSteps
 pub mod StartWorlds
 pub mod KillParts
+pub mod KillWaits
 pub mod KillWorlds
 pub mod KillSound
 pub mod KillCalls

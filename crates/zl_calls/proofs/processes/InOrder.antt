@@ -56,7 +56,7 @@ closed_in_order ps ps2 r r2 closes = same_order ps ps2 (koids ps ps2 r r2 closes
   where
     koid : (p p2 : Process) (r r2 : Objects) → ClosesEnded p r p2 r2 → p2.pid ≡ p.pid
     koid _ _ _ _ (lives_on p r lives) = refl
-    koid _ _ _ _ (is_over p p2 r r2 over same none no_last drains) = ap (λ (q : Process). q.pid) same
+    koid _ _ _ _ (is_over p p2 r r2 over same none no_last drains ends) = ap (λ (q : Process). q.pid) same
 
     koids : (ps ps2 : List Process) (r r2 : Objects) → ClosesAllEnded ps r ps2 r2 → koids_of ps2 ≡ koids_of ps
     koids _ _ _ _ (none_left r) = refl

@@ -69,7 +69,7 @@ closed_started _ _ _ _ (one_more p p2 ps ps2 r mid r2 first rest) (suc n) none =
   where
     one : (p p2 : Process) (r r2 : Objects) → ClosesEnded p r p2 r2 → IsStarted p → IsStarted p2
     one _ _ _ _ (lives_on p r lives) started = started
-    one _ _ _ _ (is_over p p2 r r2 over same none no_last drains) started = ap (λ (q : Process). is_created (state_value q.state)) same ∙ started
+    one _ _ _ _ (is_over p p2 r r2 over same none no_last drains ends) started = ap (λ (q : Process). is_created (state_value q.state)) same ∙ started
 
 -- ---- calls
 

@@ -8,7 +8,6 @@ ghost use Rattle.zl_rights.specs.Numbers.{DESTROY};
 ghost use Rattle.zl_rights.specs.Signals.{state_passes};
 ghost use Rattle.zl_code.specs.Sound.{is_blocked};
 ghost use Rattle.zl_objects.specs.Release.{AreKeptBut};
-ghost use Rattle.zl_calls.specs.Registered.{KeepsListed};
 ghost use Rattle.zl_calls.specs.World.{process_entry};
 ghost use Rattle.zl_calls.specs.Calling.{AtPlace, parts_in};
 ghost use Rattle.zl_calls.specs.calls.Task.{ClosesAllEnded, ClosesEnded, IsCallerStill, TaskKillDoes, ended_within};
@@ -113,8 +112,7 @@ pub fn is_blocked(processes: &Processes, pid: Pid) -> bool
 
 /// The handles close of each process that is over.
 fn close_ended(alloc: Global, processes: &mut [Process], objects: &mut Objects)
-    ensures closes { ClosesAllEnded processes.old objects.old processes.new objects.new }
-    ensures listed { KeepsListed objects.old objects.new }
+    ensures { ClosesAllEnded processes.old objects.old processes.new objects.new }
 {
     for process in processes.iter_mut() {
         close_if_ended(alloc, process, objects);
@@ -123,12 +121,11 @@ fn close_ended(alloc: Global, processes: &mut [Process], objects: &mut Objects)
 
 /// The handles close of the process, if it is over.
 fn close_if_ended(alloc: Global, process: &mut Process, objects: &mut Objects)
-    ensures closes { ClosesEnded process.old objects.old process.new objects.new }
-    ensures listed { KeepsListed objects.old objects.new }
+    ensures { ClosesEnded process.old objects.old process.new objects.new }
 {
     if process.lives() {
         return;
     }
     let table = std::mem::replace(&mut process.table, Table::new(alloc));
-    close_all(objects, table);
+    close_all(objects, process.pid, table);
 }

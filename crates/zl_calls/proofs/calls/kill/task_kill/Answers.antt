@@ -19,11 +19,11 @@ invariant_of-processes-2 g c =
       in_order = closed_order_back c.args.processes.now.list.len c.args.processes.now.list.items c.deref_mut.result.now c.end_within.new.processes
           c.deref_mut-2.result.now c.close_ended.new.processes c.args.objects.now
           c.in_ok-task.task.koid long c.deref_mut.ensures.value c.end_within.ensures c.deref_mut-2.ensures.value c.kill.new.self
-          c.close_ended.new.objects c.close_ended.ensures.closes c.args.processes.now.in_order;
+          c.close_ended.new.objects c.close_ended.ensures c.args.processes.now.in_order;
       started = closed_started_back c.args.processes.now.list.len c.args.processes.now.list.items c.deref_mut.result.now c.end_within.new.processes
           c.deref_mut-2.result.now c.close_ended.new.processes c.args.objects.now
           c.in_ok-task.task.koid long c.deref_mut.ensures.value c.end_within.ensures c.deref_mut-2.ensures.value c.kill.new.self
-          c.close_ended.new.objects c.close_ended.ensures.closes _ c.args.processes.now.started;
+          c.close_ended.new.objects c.close_ended.ensures _ c.args.processes.now.started;
     }
 
 pub returns-clause-does : goal.returns-clause-does
@@ -32,10 +32,10 @@ returns-clause-does g c =
     killed_back c.args.processes.now.list.len c.args.processes.now.list.items c.deref_mut.result.now c.end_within.new.processes
     c.deref_mut-2.result.now c.close_ended.new.processes c.args.objects.now
     c.in_ok-task.task.koid long c.deref_mut.ensures.value c.end_within.ensures c.deref_mut-2.ensures.value c.kill.new.self
-    c.close_ended.new.objects c.close_ended.ensures.closes
+    c.close_ended.new.objects c.close_ended.ensures
     c.args.blocked.now.items c.keep_blocked.new.blocked.items c.args.place c.args.task c.index.result.now c.index.ensures c.in_ok-task.task refl
     (c.in_ok-task.ensures {u = tt})
-    (c.kill.ensures.releases c.requires.kept) c.kill.ensures.listed c.close_ended.ensures.listed c.keep_blocked.ensures.items
+    (c.kill.ensures.releases c.requires.kept) c.kill.ensures.listed c.keep_blocked.ensures.items
 
 pub returns-clause-caller : goal.returns-clause-caller
 returns-clause-caller g c =
@@ -43,5 +43,5 @@ returns-clause-caller g c =
     λ caller at. still_back c.args.processes.now.list.len c.args.processes.now.list.items c.deref_mut.result.now c.end_within.new.processes
     c.deref_mut-2.result.now c.close_ended.new.processes c.args.objects.now
     c.in_ok-task.task.koid long c.deref_mut.ensures.value c.end_within.ensures c.deref_mut-2.ensures.value c.kill.new.self
-    c.close_ended.new.objects c.close_ended.ensures.closes
+    c.close_ended.new.objects c.close_ended.ensures
     c.args.place caller at

@@ -1,6 +1,6 @@
 -- Behind a step that ended processes each registered wait is left: those of the ended have ended with their handles.
-use Rattle.zl_calls.proofs.Common.{◌≡◌, ℕ, ℤ, Bool, true, false, ◌==◌, List, map, set, refl, sym, ap, ◌∙◌, subst, Option, Some, None, Result, Ok, Err, inl, inr, ⊤, Status}
-use Rattle.zl_calls.proofs.Common.{is_some, none-some, same_Some, IsTrue, and_from, and_parts, cases_Bool, eqb-true, false≢true, get, has_key}
+use Rattle.zl_calls.proofs.Common.{◌≡◌, ℕ, ℤ, true, ◌==◌, List, map, set, refl, sym, ap, ◌∙◌, subst, Option, Some, None, Result, Ok, Err, inl, inr, ⊤, Status}
+use Rattle.zl_calls.proofs.Common.{none-some, same_Some, IsTrue, and_from, and_parts, cases_Bool, eqb-true, false≢true, get, has_key}
 use Rattle.zl_calls.proofs.Common.{has_seen, slice_get, slice_set, has_handle, Library, Request, Site, site, Entry, Objects, Outcome, CallName, Ends}
 use Rattle.zl_calls.proofs.Common.{process_entry, process_value, world_blocked, CallActs, CalledAmong, acts, starts, kills, kills_itself, Parts, parts, Verdict}
 use Rattle.zl_calls.proofs.Common.{EndsBy, TaskKillDoes, action_of, is_left, world_value, ◌&&◌}
@@ -10,7 +10,7 @@ use Rattle.std.specs.Prelude.{slice_index_or}
 use Rattle.std.proofs.lemmas.List.Elements.{All-contains, All-contains_itself}
 use Rattle.zl_rights.specs.World.{Wait as WaitValue}
 use Rattle.zl_rights.specs.Settle.{is_made_by_handle}
-use Rattle.zl_code.proofs.Common.{IsSoundWait, Process as ProcessValue, World as WorldValue, entry_at, handles_in}
+use Rattle.zl_code.proofs.Common.{IsSoundWait, Process as ProcessValue, entry_at, handles_in}
 use Rattle.zl_code.proofs.CallRows.{asks_again}
 use Rattle.zl_code.specs.CallTable.{name_of}
 use Rattle.zl_code.specs.Common.{task_kill}
@@ -22,7 +22,7 @@ use Rattle.zl_calls.specs.declared.process.Process.{Process}
 use Rattle.zl_calls.specs.declared.taken.Taken.{Taken}
 use Rattle.zl_calls.proofs.processes.Departed.{handles_left, left_all}
 use Rattle.zl_calls.proofs.processes.Written.{get_after}
-use Rattle.zl_calls.proofs.stepping.Performing.{AtTurn, HasActed, here, is_caller, key, there, write_of}
+use Rattle.zl_calls.proofs.stepping.Performing.{AtTurn, HasActed, here, key, there, write_of}
 use Rattle.zl_calls.proofs.stepping.TakenKnown.{AreThere, ends_processes, taken_known}
 use Rattle.zl_calls.proofs.tasks.KillWaits.{killed_has, killed_older}
 use Rattle.zl_calls.proofs.waits.EndedWaits.{acted_exits}

@@ -1,10 +1,9 @@
 -- What a kill leaves of registered waits: none of a process that it ended, and those of the others as they were.
-use Rattle.zl_calls.proofs.Common.{◌≡◌, ℕ, Bool, true, false, not, ◌==◌, List, [], ◌∷◌, map, refl, sym, ap, ◌∙◌, subst, Option, Some, None, inl, inr}
+use Rattle.zl_calls.proofs.Common.{◌≡◌, ℕ, Bool, true, false, not, ◌==◌, List, [], ◌∷◌, map, refl, sym, ap, ◌∙◌, subst, Option, Some, inl, inr}
 use Rattle.zl_calls.proofs.Common.{IsTrue, All, All-head, All-tail, cases_Bool, eqb-true, false≢true, none-some, same_Some, if◌then◌else◌, get, is_sorted}
-use Rattle.zl_calls.proofs.Common.{nat_cmp, lives, slice_get, state_passes, state_value, process_entry, process_value, has_handle, Entry, Objects, Parts, parts}
+use Rattle.zl_calls.proofs.Common.{nat_cmp, lives, state_passes, state_value, process_entry, process_value, has_handle, Entry, Objects, Parts, parts}
 use Rattle.zl_calls.proofs.Common.{ClosesAllEnded, ClosesEnded, KeepsWithout, ended_if, ended_within, lives_on, is_within, ◌&&◌, Map, get_or, slice_get-get_or}
 use Rattle.std.specs.List.{Contains}
-use Rattle.std.specs.Prelude.{slice_index_or}
 use Rattle.zl_code.proofs.Common.{Process as ProcessValue}
 use Rattle.zl_rights.specs.World.{Wait}
 use Rattle.zl_calls.specs.calls.Task.{KillsTask, is_over, none_left, one_more}

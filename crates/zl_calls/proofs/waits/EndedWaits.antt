@@ -1,6 +1,6 @@
 -- A step that ends its process: no wait of it is left, and all else that was there is left still.
-use Rattle.zl_calls.proofs.Common.{◌≡◌, ℕ, ℤ, Bool, true, false, ◌&&◌, ◌==◌, List, [], map, refl, sym, ap, ◌∙◌, Some, inl, inr, IsTrue}
-use Rattle.zl_calls.proofs.Common.{and_parts, eq-eqb, eqb-true, false≢true, get, has_key, has_handle, process_entry, Objects, Outcome, Site, Acts}
+use Rattle.zl_calls.proofs.Common.{◌≡◌, ℕ, ℤ, true, false, ◌&&◌, ◌==◌, List, [], map, refl, sym, ap, ◌∙◌, inl, inr, IsTrue}
+use Rattle.zl_calls.proofs.Common.{and_parts, eq-eqb, eqb-true, false≢true, get, has_handle, process_entry, Objects, Outcome, Site, Acts}
 use Rattle.zl_calls.proofs.Common.{action_of, subst}
 use Rattle.zl_calls.specs.Acted.{Exits}
 use Rattle.zl_calls.specs.Taken.{is_end}

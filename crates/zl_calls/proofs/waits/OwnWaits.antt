@@ -1,6 +1,6 @@
 -- The waits of a process end as its handles close: what is left of the list was made by none of those that have closed.
-use Rattle.zl_calls.proofs.Common.{◌≡◌, ◌⊎◌, ℕ, Bool, true, false, not, ◌==◌, ◌&&◌, List, [], ◌∷◌, refl, sym, ap, ◌∙◌, subst, Some, None, inl, inr, IsTrue, cases_Bool}
-use Rattle.zl_calls.proofs.Common.{false≢true, none-some, same_Some, and_from, eq-eqb, eqb-true, if◌then◌else◌, Map, get, Entry, Handles, Removes, Objects}
+use Rattle.zl_calls.proofs.Common.{◌≡◌, ◌⊎◌, ℕ, Bool, true, false, not, ◌==◌, List, [], ◌∷◌, refl, sym, ap, ◌∙◌, subst, Some, inl, inr, IsTrue, cases_Bool}
+use Rattle.zl_calls.proofs.Common.{false≢true, none-some, same_Some, and_from, eq-eqb, eqb-true, Map, get, Entry, Handles, Removes, Objects}
 use Rattle.zl_calls.proofs.Common.{AreBeside, EndsOwn, EndsWaits, KeepsListed, KeepsWithout, Releases, LeavesListed, is_empty}
 use Rattle.std.specs.List.{Contains, filter}
 use Rattle.zl_rights.specs.World.{Wait}

@@ -42,7 +42,7 @@ unfoldable pub use Rattle.zl_calls.specs.Policed.{operands_fault}
 pub use Rattle.zl_rights.proofs.MapLaws.{get-put, get-update}
 pub use Rattle.zl_table.proofs.MapEdits.{get-without, has_key-update, is_sorted-update, length-put_new, length-without, put_key, sorted_parts, sorted_put}
 pub use Rattle.zl_table.proofs.MapEdits.{sorted_without, update_missing, without_lower}
-pub use Rattle.zl_table.specs.Table.{Drains, Handles, Inserts, IsTable}
+pub use Rattle.zl_table.specs.Table.{Handles, Inserts, IsTable, Removes}
 pub use Rattle.std.proofs.lemmas.List.{length-append, length-take-le}
 pub use Rattle.std.proofs.lemmas.Nat.{and_le_l, and_le_r}
 pub use Rattle.zl_calls.specs.Acted.{Acted, Acts, action_of}
@@ -77,7 +77,20 @@ pub use Rattle.zl_calls.specs.Making.{IsUnwatched, is_killed}
 pub use Rattle.zl_calls.specs.Policed.{EndsBy, IsDenied, Policed, on_fault_by, verdict_by, verdict_in, verdict_on}
 pub use Rattle.zl_calls.specs.Reaching.{CallActs, CalledAmong, IsAnsweredIn, IsToldIn, Reaches, acts, kills, kills_itself, starts}
 pub use Rattle.zl_objects.specs.Awaited.{KeepSleepers, Seeks}
-pub use Rattle.zl_calls.specs.Registered.{AreBeside, EndsUnheld, EndsWaits, FiresWaits, KeepsListed, ListsBut, is_left, world_left}
+pub use Rattle.zl_calls.specs.Registered.{
+  AreBeside,
+  EndsOwn,
+  EndsUnheld,
+  EndsWaits,
+  FiresWaits,
+  KeepsListed,
+  KeepsWithout,
+  ListsBut,
+  ListsWithout,
+  is_left,
+  stays_but,
+  world_left,
+}
 pub use Rattle.zl_calls.specs.Turns.{Stands}
 pub use Rattle.zl_calls.specs.Waking.{WakesOne}
 pub use Rattle.zl_calls.specs.calls.Answer.{ClosesEach, DoesTaking, IsTold, Told, answered_in, taken_from, with_stored, without_handle, without_handles}

@@ -12,5 +12,6 @@ pub mod Advancing
 pub mod Covered
 pub mod HandlesStay
 pub mod TakenKnown
+pub mod AllKnown
 pub mod SureCalls
 pub mod Whole

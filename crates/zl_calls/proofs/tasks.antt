@@ -11,6 +11,7 @@ pub mod StartSteps
 pub mod StartWorlds
 pub mod KillParts
 pub mod KillLists
+pub mod KillWaits
 pub mod KillWorlds
 pub mod KillSound
 pub mod KillCalls

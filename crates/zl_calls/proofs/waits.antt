@@ -6,4 +6,6 @@ pub mod FiringWorlds
 pub mod LeftWaits
 pub mod WaitsLost
 pub mod Staying
+pub mod OwnWaits
+pub mod EndedWaits
 pub mod WaitsByCall

@@ -1,7 +1,8 @@
 -- How registered waits end and fire. No public clause cites this module.
-use Rattle.std.specs.Prelude.{ℕ, ◌≡◌, Bool, ◌&&◌, not, List, IsTrue}
-use Rattle.std.specs.List.{filter}
-use Rattle.zl_code.specs.Common.{has_key, World as WorldValue}
+use Rattle.std.specs.Prelude.{ℕ, ◌≡◌, Bool, false, ◌&&◌, ◌==◌, not, List, Some, IsTrue}
+use Rattle.std.specs.List.{Contains, filter}
+use Rattle.zl_code.specs.Common.{Map, get, has_key, World as WorldValue}
+use Rattle.zl_rights.specs.declared.entry.Entry.{Entry}
 use Rattle.zl_rights.specs.Settle.{is_made_by_handle}
 use Rattle.zl_rights.specs.Wakes.{fired}
 use Rattle.zl_rights.specs.World.{Wait}
@@ -24,17 +25,35 @@ abbrev pub world_left : List Process → Objects → List ℕ → WorldValue
 world_left processes objects blocked =
     record (world_blocked processes objects blocked) { waits = filter (is_left (world_value processes objects)) objects.waits }
 
--- the list is these waits, but for some whose object or port is gone: a test that none of those passes leaves the same of both; and
--- who may be blocked is as before
-pub record ListsBut (ws : List Wait) (count : ℕ) (old r : Objects) : Type 0 where
-  pub waits : (test : Wait → Bool) → ((x : Wait) → IsTrue (test x) → IsTrue (is_there r.objects x)) → filter test r.waits ≡ filter test ws
+-- the object and the port of the wait are there, and its process is none of those that end
+abbrev pub stays_but : (over : ℕ → Bool) → Objects → Wait → Bool
+stays_but over r x = not (over x.pid) && is_there r.objects x
+
+-- the list is these waits, but for some whose object or port is gone, or whose process is one of those that end: a test that none of
+-- those passes leaves the same of both; and who may be blocked is as before
+pub record ListsWithout (over : ℕ → Bool) (ws : List Wait) (count : ℕ) (old r : Objects) : Type 0 where
+  pub waits : (test : Wait → Bool) → ((x : Wait) → IsTrue (test x) → IsTrue (stays_but over r x)) → filter test r.waits ≡ filter test ws
   pub made : r.waits_made ≡ count
   pub asleep : KeepSleepers old r
 
--- nothing new is there, and waits have ended with their objects and ports alone
-pub record KeepsListed (r r2 : Objects) : Type 0 where
+-- the same where no process ends
+abbrev pub ListsBut : List Wait → ℕ → Objects → Objects → Type 0
+ListsBut = ListsWithout (λ k. false)
+
+-- nothing new is there, and waits have ended with their objects, their ports and these processes alone
+pub record KeepsWithout (over : ℕ → Bool) (r r2 : Objects) : Type 0 where
   pub shrinks : (k : ℕ) → IsTrue (has_key r2.objects k) → IsTrue (has_key r.objects k)
-  pub listed : ListsBut r.waits r.waits_made r r2
+  pub older : (x : Wait) → Contains r2.waits x → Contains r.waits x
+  pub listed : ListsWithout over r.waits r.waits_made r r2
+
+-- the same where no process ends
+abbrev pub KeepsListed : Objects → Objects → Type 0
+KeepsListed = KeepsWithout (λ k. false)
+
+-- the process ends, and none of its waits is left that it made by one of these handles
+pub record EndsOwn (pid : ℕ) (entries : Map Entry) (r r2 : Objects) : Type 0 where
+  pub keeps : KeepsWithout (λ k. k == pid) r r2
+  pub gone : (x : Wait) (e : Entry) → x.pid ≡ pid → get entries x.value ≡ Some e → e.koid ≡ x.object → Contains r2.waits x → ⊥
 
 -- ---- waits that end or fire
 

@@ -7,7 +7,6 @@ use Rattle.zl_code.specs.declared.history.Outcome.TheVariants as outcome
 use Rattle.zl_code.specs.declared.history.CallName.{CallName}
 use Rattle.zl_code.specs.declared.history.CallName.TheVariants as call
 use Rattle.zl_code.specs.declared.history.TraceItem.{TraceItem}
-use Rattle.zl_code.specs.declared.history.TraceItem.TheVariants as item
 use Rattle.zl_rights.specs.Settle.{has_handle}
 use Rattle.zl_rights.specs.World.{Wait}
 use Rattle.zl_rights.specs.declared.entry.Entry.{Entry}
@@ -70,13 +69,6 @@ NotesNextChild lib p name t = (at : Option Site) → stands_next lib p ≡ calls
 abbrev pub NotesStarted : Library → World → ℕ → TraceItem → Taken → Type 0
 NotesStarted lib w pid x t = (p : ProcessValue) → get w.processes pid ≡ Some p
     → if_started x (child_next p.handles (next_for lib p)) ≡ if_started x (Some t.started)
-
--- the item tells of a step that ended a process, and perhaps others
-abbrev pub ends_processes : TraceItem → Bool
-ends_processes (item.Call pid call.TaskKill o) = true
-ends_processes (item.Call pid name o) = is_end o
-ends_processes (item.Run pid count) = false
-ends_processes (item.Stuck pid) = true
 
 -- the handle of the process is gone
 abbrev pub is_gone : List Process → (pid v : ℕ) → Bool

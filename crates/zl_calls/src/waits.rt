@@ -10,12 +10,10 @@ ghost use Rattle.zl_code.specs.Waiting.{is_by_handle, is_keyed};
 ghost use Rattle.zl_calls.specs.Consistent.{IsConsistent};
 ghost use Rattle.zl_calls.specs.Registered.{EndsUnheld, EndsWaits, FiresWaits, is_left};
 ghost use Rattle.zl_objects.specs.Listed.{is_made_at, is_there};
-ghost use Rattle.zl_calls.specs.Taken.{AreKnown, ends_processes as tells_of_ends, is_over_by};
+ghost use Rattle.zl_calls.specs.Taken.{AreKnown, is_over_by};
 
 use crate::processes::Processes;
-use crate::stepping::ends_processes;
 use crate::taken::{Taken, TakenHandle};
-use zl_code::TraceItem;
 use zl_objects::{Objects, Wait};
 use zl_rights::{HValue, Koid, Pid};
 
@@ -51,8 +49,8 @@ pub fn cancel_waits(
     any
 }
 
-/// The waits end whose handle, object or port is gone. It takes no memory.
-pub fn end_unheld(processes: &Processes, objects: &mut Objects)
+/// The waits end whose handle, object or port is gone.
+fn end_unheld(processes: &Processes, objects: &mut Objects)
     requires { IsConsistent processes.now.list.items objects.old }
     ensures { EndsUnheld processes.now.list.items objects.old objects.new }
 {
@@ -66,40 +64,28 @@ pub fn end_unheld(processes: &Processes, objects: &mut Objects)
     }
 }
 
-/// The waits end whose handle, object or port is gone, behind a call of the process. It takes no memory.
+/// The waits end whose handle, object or port is gone, behind what a process did by which these handles
+/// may be taken. It takes no memory.
 #[inline(always)]
-pub fn end_behind(
-    item: &TraceItem,
-    taken: &Taken,
-    processes: &Processes,
-    objects: &mut Objects,
-    pid: Pid,
-)
+pub fn end_behind(taken: &Taken, processes: &Processes, objects: &mut Objects, pid: Pid)
     requires consistent { IsConsistent processes.now.list.items objects.old }
-    requires known { tells_of_ends item.now ≡ false
-        → All (λ x. IsTrue (is_there objects.old.objects x)) objects.old.waits
+    requires known { All (λ x. IsTrue (is_there objects.old.objects x)) objects.old.waits
         → AreKnown processes.now.list.items objects.old taken.now pid }
     ensures { EndsUnheld processes.now.list.items objects.old objects.new }
 {
     if objects.has_waits() {
-        end_taken(item, taken, processes, objects, pid);
+        end_taken(taken, processes, objects, pid);
     }
 }
 
-/// The same: those end that were made by handles which the call took, unless it ended processes.
-fn end_taken(
-    item: &TraceItem,
-    taken: &Taken,
-    processes: &Processes,
-    objects: &mut Objects,
-    pid: Pid,
-)
+/// The same: those end that were made by handles which the call took. Those of processes that it ended
+/// have ended already.
+fn end_taken(taken: &Taken, processes: &Processes, objects: &mut Objects, pid: Pid)
     requires consistent { IsConsistent processes.now.list.items objects.old }
-    requires known { tells_of_ends item.now ≡ false
-        → AreKnown processes.now.list.items objects.old taken.now pid }
+    requires known { AreKnown processes.now.list.items objects.old taken.now pid }
     ensures { EndsUnheld processes.now.list.items objects.old objects.new }
 {
-    if ends_processes(item) || taken.all {
+    if taken.all {
         end_unheld(processes, objects);
         return;
     }
@@ -118,10 +104,14 @@ fn end_if_gone(processes: &Processes, objects: &mut Objects, pid: Pid, handle: &
     }
 }
 
-/// The waits end at the object that the process made by its handle of this value.
-fn end_made_at(objects: &mut Objects, koid: Koid, pid: Pid, value: HValue)
+/// The waits end at the object that the process made by its handle of this value. It takes no memory.
+pub fn end_made_at(objects: &mut Objects, koid: Koid, pid: Pid, value: HValue)
     ensures { EndsWaits (is_made_at koid pid value) objects.old objects.new }
 {
+    if !objects.has_waits() {
+        // So it is in most worlds, and spares the search for the object.
+        return;
+    }
     while let Some(_) = objects.unwatch_handle(koid, pid, value) {}
 }
 

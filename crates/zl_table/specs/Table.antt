@@ -60,11 +60,6 @@ pub record TakesBack (old : Handles) (value : ℕ) (told : Option ℕ) (result :
   pub entry : (before : Handles) (entry : Entry) → Inserts before entry value old → result ≡ Some entry
   pub table : (before : Handles) (entry : Entry) → Inserts before entry value old → told ≡ before.last → new ≡ before
 
--- the entry leaves the table, at whichever value it had
-pub record Drains (old : Handles) (entry : Entry) (new : Handles) : Type 0 where
-  pub value : ℕ
-  pub removes : Removes old value entry new
-
 -- the entry that a refused insertion hands back
 abbrev pub refused_entry : InsertFault → Entry
 refused_entry (fault.Full e) = e

@@ -3,7 +3,7 @@ ghost use Rattle.std.specs.Bool.{OnTrue, OnFalse};
 ghost use Rattle.zl_rights.specs.Numbers.{bits, takes};
 ghost use Rattle.zl_rights.specs.Map.{get, has_key, update};
 ghost use Rattle.zl_rights.specs.LookUp.{looked_up};
-ghost use Rattle.zl_table.specs.Table.{CAPACITY, MOST_VALUE, IsFull, IsTable, Inserts, Removes, Undoes, TakesBack, Drains, refused_entry};
+ghost use Rattle.zl_table.specs.Table.{CAPACITY, MOST_VALUE, IsFull, IsTable, Inserts, Removes, Undoes, TakesBack, refused_entry};
 
 use slab::Slab;
 use std::alloc::Global;
@@ -208,18 +208,20 @@ impl Table {
         true
     }
 
-    /// Takes one entry out, whichever it is, or nothing where the table is empty. It takes no memory,
-    /// and one call after another takes time for the values that there were, whichever are left.
+    /// Takes one entry out, whichever it is, and tells its value, or nothing where the table is empty. It
+    /// takes no memory, and one call after another takes time for the values that there were, whichever
+    /// are left.
     ///
     /// Source: own profile.
-    pub fn drain(&mut self) -> Option<Entry>
-        ensures some { IfSome result (λ entry. Drains self.old entry self.new) }
+    pub fn drain(&mut self) -> Option<(HValue, Entry)>
+        ensures some { IfSome result (λ taken. Removes self.old taken.0 taken.1 self.new) }
         ensures empty { IfNone result (self.old.entries ≡ []) }
         ensures unchanged { IfNone result (self.new ≡ self.old) }
     {
         let key = self.next_key()?;
         self.drained = key + 1;
-        self.remove(key as u32 + 1)
+        let value = key as u32 + 1;
+        Some((value, self.remove(value)?))
     }
 
     /// A key at which an entry stands: the first where a drain goes on, if there is one, and else the

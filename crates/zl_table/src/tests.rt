@@ -108,8 +108,8 @@ fn a_drain_gives_each_entry_once(rt: HostRuntime) -> Result<(), Fail> {
     }
     let one = table.drain();
     let other = table.drain();
-    let rising = one == Some(event(10)) && other == Some(event(11));
-    let falling = one == Some(event(11)) && other == Some(event(10));
+    let rising = one == Some((1, event(10))) && other == Some((2, event(11)));
+    let falling = one == Some((2, event(11))) && other == Some((1, event(10)));
     assert!(rt; rising || falling);
     assert_eq!(rt; table.drain(), None);
     assert!(rt; table.is_empty());

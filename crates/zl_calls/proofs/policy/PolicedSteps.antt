@@ -26,7 +26,7 @@ same_sleepers s p p2 r r2 o judged = by_verdict judged.verdict judged.ends
   where
     by_verdict : (v : Verdict) → EndsBy v s p r o p2 r2 → KeepSleepers r r2
     by_verdict verdict.Denied ends = subst (KeepSleepers r) (sym ends.objects) (refl, refl)
-    by_verdict verdict.Killed ends = ends.over.listed.listed.asleep
+    by_verdict verdict.Killed ends = ends.over.waits.keeps.listed.asleep
 
 -- the process p stands at the place, under the pid, and is at the call
 module _ {ps : List Process} {r : Objects} {blocked : List ℕ} {pid place : ℕ} {p : Process} (turn : AtTurn ps r blocked pid place p) (lib : Library)

@@ -19,7 +19,8 @@ use Rattle.zl_calls.proofs.calls.Answered.{IsWrite, same_world}
 use Rattle.zl_calls.proofs.waking.BlockedLists.{none_filtered}
 use Rattle.zl_calls.proofs.policy.Denials.{denied_calls, denied_object, killed_calls}
 use Rattle.zl_calls.proofs.processes.Departed.{left_all, settled_world}
-use Rattle.zl_calls.proofs.waits.LeftWaits.{left_by}
+use Rattle.zl_calls.proofs.waits.EndedWaits.{over_none}
+use Rattle.zl_calls.proofs.waits.LeftWaits.{left_by, lists_left}
 use Rattle.zl_calls.proofs.policy.Freedom.{is_seen}
 use Rattle.zl_calls.proofs.policy.Policies.{ending, policed}
 use Rattle.zl_calls.proofs.calls.ProcessCalls.{ended_is, ends_keeps, settles}
@@ -130,7 +131,7 @@ module _ {before after : List Process} {r : Objects} {p p2 : Process} (lib : Lib
           settles = settles_waiting (world_value after r) (settled_world after r2)
               (settles lib r2 consistent write BY_POLICY exits.over ready) r.waits r.waits_made others;
         }))
-        exits.over.listed.listed
+        (lists_left (left_all after r2) r r2 r.waits r.waits_made (over_none write r2 exits.over.no_handle) exits.over.waits.keeps.listed)
 
     by_verdict : (v : Verdict) → Judged v → EndsBy v s p r o p2 r2 → Acts
     by_verdict verdict.Denied is ends = denied_acts ends is

@@ -3,7 +3,7 @@ use Rattle.zl_calls.proofs.Common.{◌≡◌, ◌+◌, ◌<◌, ◌^◌, ◌==�
 use Rattle.zl_calls.proofs.Common.{ap, ◌∙◌, subst, Option, Some, None, IsTrue, eq-eqb, is_some, none-some, same_Some, cond, if◌then◌else◌, option_map, nat_cmp}
 use Rattle.zl_calls.proofs.Common.{is_sorted, Map, get, has_key, where_key, each, lives, Koids, handles_to, process_settled, Objects, AreBlocked, IsConsistent}
 use Rattle.zl_calls.proofs.Common.{object_entry, process_entry, state_value, world_value, without_others, state_without, state_passes, is_process, Bool, World}
-use Rattle.zl_calls.proofs.Common.{in_order-each, same_map, passes, has_seen}
+use Rattle.zl_calls.proofs.Common.{in_order-each, same_map, passes, has_seen, has_handle}
 use Rattle.zl_code.proofs.Common.{Process as ProcessValue, Object as ObjectValue, State as StateValue, Created, is_blocked}
 use Rattle.zl_rights.proofs.MapLaws.{get-each}
 use Rattle.zl_calls.specs.declared.process.State.{State}
@@ -62,6 +62,14 @@ module _ (ps : List Process) (r : Objects) where
   -- what is at the koid afterwards
   pub get_left : (k : ℕ) → get (map process_entry (left_all ps r)) k ≡ option_map (process_settled K k) (get (map process_entry ps) k)
   get_left k = ap (λ (m : Map ProcessValue). get m k) (sym (seen_left r ps)) ∙ get-each (map process_entry ps) (process_settled K) k
+
+  -- none of them loses a handle
+  pub handles_left : (k v : ℕ) → has_handle (get (map process_entry (left_all ps r)) k) v ≡ has_handle (get (map process_entry ps) k) v
+  handles_left k v = ap (λ o. has_handle o v) (get_left k) ∙ by_process (get (map process_entry ps) k)
+    where
+      by_process : (o : Option ProcessValue) → has_handle (option_map (process_settled K k) o) v ≡ has_handle o v
+      by_process None = refl
+      by_process (Some q) = refl
 
   -- a process afterwards is one of before, with its handles
   pub found_left : (k : ℕ) (q : ProcessValue) → get (map process_entry (left_all ps r)) k ≡ Some q

@@ -51,7 +51,7 @@ all_in_order f same ps = same_order ps (map f ps) (koids ps)
 -- those that are over close their handles
 pub closed_pid : (p p2 : Process) (r r2 : Objects) → ClosesEnded p r p2 r2 → p2.pid ≡ p.pid
 closed_pid _ _ _ _ (lives_on p r lives) = refl
-closed_pid _ _ _ _ (is_over p p2 r r2 over same none no_last drains) = ap (λ (q : Process). q.pid) same
+closed_pid _ _ _ _ (is_over p p2 r r2 over same none no_last drains ends) = ap (λ (q : Process). q.pid) same
 
 -- p, at the place, has become p2, and the new one has a koid that wasn't given before
 pub pushed_in_order : (ps : List Process) (place : ℕ) (p p2 new : Process) → slice_get ps place ≡ Some p → p2.pid ≡ p.pid

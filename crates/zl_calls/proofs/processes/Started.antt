@@ -62,7 +62,7 @@ ended_started r task q started = by (lives (state_value q.state) && is_within r.
 
 pub closed_started : (p p2 : Process) (r r2 : Objects) → ClosesEnded p r p2 r2 → IsStarted p → IsStarted p2
 closed_started _ _ _ _ (lives_on p r lives) started = started
-closed_started _ _ _ _ (is_over p p2 r r2 over same none no_last drains) started = ap (λ (q : Process). is_created (state_value q.state)) same ∙ started
+closed_started _ _ _ _ (is_over p p2 r r2 over same none no_last drains ends) started = ap (λ (q : Process). is_created (state_value q.state)) same ∙ started
 
 -- ---- calls
 

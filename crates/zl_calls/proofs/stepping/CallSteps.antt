@@ -8,11 +8,15 @@ use Rattle.zl_calls.specs.Reaching.{policed, reaches}
 use Rattle.zl_calls.specs.declared.process.Process.{Process}
 use Rattle.zl_verify.specs.Covered.{IsCovered, IsVerified}
 use Rattle.zl_calls.specs.Sure.{is_checked}
+use Rattle.zl_calls.proofs.processes.Departed.{left_all}
+use Rattle.zl_calls.proofs.stepping.AllKnown.{over_left}
 use Rattle.zl_calls.proofs.stepping.LocalMoves.{moved_stays}
 use Rattle.zl_calls.proofs.stepping.Performing.{AtTurn, HasActed, HasLeft, alone_so, here, left_as, moves_so, stops_so, within}
 use Rattle.zl_calls.proofs.stepping.SureCalls.{sure_calls}
 use Rattle.zl_calls.proofs.tasks.ReachSteps.{free, free_beside, reaches_so}
 use Rattle.zl_calls.proofs.policy.PolicedSteps.{policed_so}
+use Rattle.zl_calls.proofs.stepping.TakenKnown.{AreThere}
+use Rattle.zl_calls.proofs.waits.Staying.{AreLeft}
 
 -- the process p stands at the place, under the pid, and is at the call
 module _ {ps : List Process} {r : Objects} {blocked : List ℕ} {pid place : ℕ} {p : Process} (turn : AtTurn ps r blocked pid place p) (lib : Library)
@@ -60,6 +64,10 @@ module _ {ps : List Process} {r : Objects} {blocked : List ℕ} {pid place : ℕ
       → HasLeft lib ps (set ps1 place p2) r r2 blocked b1 pid (item.Stuck pid)
   stops_from p2 r2 stuck ends =
       rw (same_list, same_blocked) (stops_so turn lib p2 r2 (rw same_process at stuck) (rw (same_process, same_objects) at ends))
+
+  -- each wait is left that is listed then
+  pub over_from : (p2 : Process) (r2 : Objects) → Ends STUCK p1 r1 p2 r2 → AreThere r2 → AreLeft (left_all (set ps1 place p2) r2) r2 r2.waits
+  over_from p2 r2 ends present = rw same_list (over_left turn STUCK p2 r2 (rw (same_process, same_objects) at ends) present)
 
   -- nor is the process stuck, if its program was checked
   pub goes_from : IsVerified lib → IsCovered lib (world_blocked ps r blocked) → is_checked (slice_get lib p1.program) ≡ true

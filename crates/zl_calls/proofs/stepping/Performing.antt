@@ -4,7 +4,7 @@ use Rattle.zl_calls.proofs.Common.{◌≡◌, ◌⊎◌, inl, inr, ℕ, true, fa
 use Rattle.zl_calls.proofs.Common.{false≢true, STUCK, Map, get, Ready, is_ready, on_process, state_passes, Library, Site, cases_Bool, IsStuck, Moves, next_for}
 use Rattle.zl_calls.proofs.Common.{Objects, process_entry, process_value, state_value, world_blocked, world_value, IsConsistent, AreBlocked, DoesNext}
 use Rattle.zl_calls.proofs.Common.{is_process, IsActed, Ends, Settles, lives, has_key, is_some, none-some, subst, IsTrue, AtCall, ProcessBody, body_in}
-use Rattle.zl_calls.proofs.Common.{object_entry, Acted, pid_of, CallName, Outcome, TraceItem, ListsBut, world_left, next_looks, tells_blocking, waits_by}
+use Rattle.zl_calls.proofs.Common.{object_entry, Acted, pid_of, CallName, Outcome, TraceItem, world_left, next_looks, tells_blocking, waits_by}
 use Rattle.zl_calls.proofs.Common.{then_blocked, is_blocking, has_seen, ◌<◌, length, slice_get, slice_get-get_or, get_or_from_slice_get, Parts, parts}
 use Rattle.zl_code.proofs.Common.{Object as ObjectValue, Process as ProcessValue, Body, is_blocked}
 use Rattle.zl_code.specs.declared.history.TraceItem.TheVariants as item
@@ -14,7 +14,8 @@ use Rattle.zl_calls.specs.declared.process.State.TheVariants as state
 use Rattle.zl_calls.specs.declared.process.Process.{Process}
 use Rattle.zl_calls.proofs.calls.Answered.{IsWrite}
 use Rattle.zl_calls.proofs.waking.BlockedLists.{still_blocked, same_list}
-use Rattle.zl_calls.proofs.waits.LeftWaits.{left_beside, left_looking}
+use Rattle.zl_calls.proofs.waits.EndedWaits.{acted_over, ended_none, over_none}
+use Rattle.zl_calls.proofs.waits.LeftWaits.{ListsLeft, left_beside, left_looking, lists_left}
 use Rattle.zl_calls.proofs.waits.WaitsByCall.{acted_lists}
 use Rattle.zl_code.specs.Sound.{IsSound as IsSoundWorld}
 use Rattle.zl_calls.proofs.calls.DoneCalls.{IsDone}
@@ -128,7 +129,8 @@ module _ {ps : List Process} {r : Objects} {blocked : List ℕ} {pid place : ℕ
     -- from a world in which nothing waits to one in which some do
     pub left_with : (after : List Process) (r2 : Objects) (x : TraceItem) → pid_of x ≡ pid → tells_blocking x ≡ false
         → next_looks (next_for lib (process_value p)) ≡ false → IsConsistent after r2 → AreBlocked after blocked
-        → IsActed lib (world_value ps r) pid x (settled_world after r2) → ListsBut (waits_by (next_for lib (process_value p)) x r.waits) r.waits_made r r2
+        → IsActed lib (world_value ps r) pid x (settled_world after r2)
+        → ListsLeft (left_all after r2) (waits_by (next_for lib (process_value p)) x r.waits) r.waits_made r r2
         → HasLeft lib ps after r r2 blocked blocked pid x
     left_with after r2 x same goes looks keeps list acts lists = record {
       consistent = left_keeps after r2 keeps;
@@ -146,7 +148,8 @@ module _ {ps : List Process} {r : Objects} {blocked : List ℕ} {pid place : ℕ
     -- the same where of the processes only this one is written
     pub acted_so : (after : List Process) (p2 : Process) (r2 : Objects) (x : TraceItem) → IsWrite ps after p p2 → is_blocked (state_value p2.state) ≡ false
         → pid_of x ≡ pid → tells_blocking x ≡ false → next_looks (next_for lib (process_value p)) ≡ false → IsConsistent after r2
-        → IsActed lib (world_value ps r) pid x (settled_world after r2) → ListsBut (waits_by (next_for lib (process_value p)) x r.waits) r.waits_made r r2
+        → IsActed lib (world_value ps r) pid x (settled_world after r2)
+        → ListsLeft (left_all after r2) (waits_by (next_for lib (process_value p)) x r.waits) r.waits_made r r2
         → HasLeft lib ps after r r2 blocked blocked pid x
     acted_so after p2 r2 x write still same goes looks keeps =
         left_with after r2 x same goes looks keeps (still_blocked write unblocked still blocked turn.are)
@@ -197,7 +200,8 @@ module _ {ps : List Process} {r : Objects} {blocked : List ℕ} {pid place : ℕ
           acted_so (set ps place p2) p2 r2 (item.Call pid name o) write_so (still_unblocked p p2 r r2 o (Some s) acted goes unblocked) refl goes
           (ap next_looks next ∙ plain) done.consistent
           (rw (← key) (done.step free))
-          (rw next (acted_lists p p2 r r2 pid o name (Some s) key plain acted))
+          (rw next (lists_left (left_all (set ps place p2) r2) r r2 _ r.waits_made (ended_none write_so r2 o pid key (acted_over p p2 r r2 o s acted))
+          (acted_lists p p2 r r2 pid o name (Some s) key plain acted)))
       by_outcome plain (inr sleeps) = blocks_so name o p2 r2 write_so free sleeps
 
       by_looks : (next_looks (AtCall name s) ≡ true) ⊎ (next_looks (AtCall name s) ≡ false)
@@ -259,4 +263,4 @@ module _ {ps : List Process} {r : Objects} {blocked : List ℕ} {pid place : ℕ
         acted_so (set ps place p2) p2 r2 (item.Stuck pid) write (ap (λ (q : Process). is_blocked (state_value q.state)) ends.process) refl refl
         (ap next_looks next)
         (ends_keeps lib r2 turn.consistent write STUCK ends ready) (rw (← key) (stuck_steps lib r2 turn.consistent write STUCK ends ready refl next))
-        (rw next ends.listed.listed)
+        (rw next (lists_left (left_all (set ps place p2) r2) r r2 r.waits r.waits_made (over_none write r2 ends.no_handle) ends.waits.keeps.listed))

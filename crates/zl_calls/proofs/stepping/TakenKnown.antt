@@ -26,7 +26,7 @@ use Rattle.zl_objects.specs.Listed.{is_there}
 use Rattle.zl_calls.specs.Reaching.{creates, policed, reaches}
 use Rattle.std.specs.Prelude.{slice_get, slice_index_or}
 use Rattle.zl_calls.specs.Calling.{OwnWaits}
-use Rattle.zl_calls.specs.Taken.{AreKnown, IsKnown, IsNoted, NotesNext, ends_processes, has_noted}
+use Rattle.zl_calls.specs.Taken.{AreKnown, IsKnown, IsNoted, NotesNext, has_noted}
 use Rattle.zl_calls.specs.Taken.{is_end, keeps_handles}
 use Rattle.zl_calls.specs.declared.policy.Verdict.TheVariants as verdict
 use Rattle.zl_calls.specs.declared.process.Process.{Process}
@@ -42,7 +42,7 @@ use Rattle.zl_calls.proofs.waits.WaitsByCall.{acted_lists}
 -- ---- which waits are listed behind the call
 
 -- the object and the port of each are there
-abbrev AreThere : Objects → Type 0
+abbrev pub AreThere : Objects → Type 0
 AreThere r = All (λ x. IsTrue (is_there r.objects x)) r.waits
 
 module _ (P : WaitValue → Type 0) where
@@ -67,14 +67,19 @@ none_taken (chan_write end bytes hs) keeps = absurd (false≢true keeps)
 none_taken (process_start process h word) keeps = absurd (false≢true keeps)
 none_taken _ keeps = refl
 
--- what ends no process kills none, and leaves its caller
-spares_so : (request : Request) (pid : ℕ) (o : Outcome) → ends_processes (item.Call pid (name_of request) o) ≡ false → spares request ≡ true
-spares_so (task_kill task) pid o plain = absurd (true≢false plain)
-spares_so _ pid o plain = refl
+-- a call of this name ended its caller, or may have ended others
+abbrev pub ends_processes : CallName → Outcome → Bool
+ends_processes name.TaskKill o = true
+ends_processes _ o = is_end o
 
-goes_on : (call : CallName) (pid : ℕ) (o : Outcome) → ends_processes (item.Call pid call o) ≡ false → is_end o ≡ false
-goes_on name.TaskKill pid o plain = absurd (true≢false plain)
-goes_on _ pid o plain = plain
+-- what ends no process kills none, and leaves its caller
+spares_so : (request : Request) (o : Outcome) → ends_processes (name_of request) o ≡ false → spares request ≡ true
+spares_so (task_kill task) o plain = absurd (true≢false plain)
+spares_so _ o plain = refl
+
+goes_on : (call : CallName) (o : Outcome) → ends_processes call o ≡ false → is_end o ≡ false
+goes_on name.TaskKill o plain = absurd (true≢false plain)
+goes_on _ o plain = plain
 
 -- the process p stands at the place, under the pid, and is at the call
 module _ {ps : List Process} {r : Objects} {blocked : List ℕ} {pid place : ℕ} {p : Process} (turn : AtTurn ps r blocked pid place p) (lib : Library)
@@ -103,7 +108,8 @@ module _ {ps : List Process} {r : Objects} {blocked : List ℕ} {pid place : ℕ
     created_all job program (Err s) between is does = same_all (ap (λ (x : Objects). x.waits) (is ∙ ap (λ (all : Parts). all.objects) does.refused))
 
     does_all : {A : Type 0} (Done : A → Handles → Objects → Type 0) (wants : Status → Bool) (refusal : Option Status) (t t2 : Handles)
-        (answer : Result A Status) → Does Done wants refusal t r answer t2 all2.objects → ((x : A) → Done x t2 all2.objects → All P all2.objects.waits) → All P all2.objects.waits
+        (answer : Result A Status) → Does Done wants refusal t r answer t2 all2.objects → ((x : A) → Done x t2 all2.objects → All P all2.objects.waits)
+        → All P all2.objects.waits
     does_all Done wants refusal t t2 (Ok x) does done = done x does.ok
     does_all Done wants refusal t t2 (Err s) does done = same_all (ap (λ (x : Objects). x.waits) does.same_objects)
 
@@ -118,33 +124,34 @@ module _ {ps : List Process} {r : Objects} {blocked : List ℕ} {pid place : ℕ
     looking_all (task_kill task) c d p2 fresh looks does = absurd does
     looking_all _ c d p2 fresh looks does = absurd (false≢true looks)
 
-    by_acts : (name : CallName) (s : Site) → name_of s.request ≡ name → IsFresh s.request → ends_processes (item.Call pid name o) ≡ false
+    by_acts : (name : CallName) (s : Site) → name_of s.request ≡ name → IsFresh s.request → ends_processes name o ≡ false
         → CallActs lib place p s (parts ps r blocked) o all2 → All P all2.objects.waits
     by_acts name s named fresh plain (policed p2 alone judged) = by_verdict judged.verdict judged.ends
       where
         by_verdict : (v : Verdict) → EndsBy v s p r o p2 all2.objects → All P all2.objects.waits
         by_verdict verdict.Denied ends = same_all (ap (λ (x : Objects). x.waits) ends.objects)
-        by_verdict verdict.Killed ends = absurd (false≢true (sym (goes_on name pid o plain) ∙ ap is_end ends.ends))
+        by_verdict verdict.Killed ends = absurd (false≢true (sym (goes_on name o plain) ∙ ap is_end ends.ends))
     by_acts name s named fresh plain (reaches none (creates job program is does)) =
         created_all job program does.answer does.between does.is_told.objects does.does
     by_acts name s named fresh plain (reaches none (starts process h word is does)) =
         started_all process h word does.answer does.between does.is_told.objects does.does
     by_acts name s named fresh plain (reaches none (kills task is does apart)) =
-        absurd (true≢false (ap (λ (q : Request). ends_processes (item.Call pid (name_of q) o)) (sym is)
-        ∙ (ap (λ (n : CallName). ends_processes (item.Call pid n o)) named ∙ plain)))
+        absurd (true≢false (ap (λ (q : Request). ends_processes (name_of q) o) (sym is)
+        ∙ (ap (λ (n : CallName). ends_processes n o) named ∙ plain)))
     by_acts name s named fresh plain (reaches none (kills_itself task is does)) =
-        absurd (true≢false (ap (λ (q : Request). ends_processes (item.Call pid (name_of q) o)) (sym is)
-        ∙ (ap (λ (n : CallName). ends_processes (item.Call pid n o)) named ∙ plain)))
+        absurd (true≢false (ap (λ (q : Request). ends_processes (name_of q) o) (sym is)
+        ∙ (ap (λ (n : CallName). ends_processes n o) named ∙ plain)))
     by_acts name s named fresh plain (acts p2 none alone acted) = elim (cases_Bool (looks_at_waits s.request)) as (λ _. All P all2.objects.waits) [
       | inl looks ↦ looking_all s.request s.consumed s.destinations p2 fresh looks acted
       | inr blind ↦
           lists_all P (waits_after s.request o pid r.waits) r.waits_made r all2.objects
-          (acted_lists p p2 r all2.objects pid o name (Some s) (key turn) blind acted) present (after_all P s.request o pid r.waits before)
+          (rw (goes_on name o plain) at (acted_lists p p2 r all2.objects pid o name (Some s) (key turn) blind acted)) present
+          (after_all P s.request o pid r.waits before)
     ]
 
   -- ---- what becomes of each
 
-  module _ (name : CallName) (called : CalledAmong lib place p (parts ps r blocked) name o all2) (plain : ends_processes (item.Call pid name o) ≡ false)
+  module _ (name : CallName) (called : CalledAmong lib place p (parts ps r blocked) name o all2) (plain : ends_processes name o ≡ false)
       (t : Taken) (notes : NotesNext lib p r t)
       (acted : HasActed lib ps (left_all all2.processes all2.objects) r all2.objects blocked all2.blocked pid (item.Call pid name o)) where
     abbrev w : WorldValue
@@ -171,7 +178,7 @@ module _ {ps : List Process} {r : Objects} {blocked : List ℕ} {pid place : ℕ
     handles_stay =
         let does = acted.acts.acted in
         acted_keeps lib w pid called.site name o does.acted _ no_process
-        (spares_so called.site.request pid o (ap (λ (n : CallName). ends_processes (item.Call pid n o)) named ∙ plain)) (goes_on name pid o plain)
+        (spares_so called.site.request o (ap (λ (n : CallName). ends_processes n o) named ∙ plain)) (goes_on name o plain)
         (subst (λ n. Acts lib w pid n (item.Call pid name o) does.acted)
         (ap (next_for lib) (same_Some does.process (process_value p) (sym does.is_there ∙ there turn)) ∙ next) does.acts) does.settles
 

@@ -1,6 +1,6 @@
 -- Tables that handles enter and leave, and empty ones.
 use Rattle.zl_calls.proofs.Common.{false, ◌^◌, bit_and, ◌≡◌, ◌<◌, ◌≤◌, ℕ, [], ◌∷◌, length, Some, None, Result, Err, List, refl, sym, ap, ◌∙◌, arith, inl, inr}
-use Rattle.zl_calls.proofs.Common.{◌==◌, if◌then◌else◌, cases_Bool, eqb-true, same_Some, Map, get, without, within, get-put, Handles, IsTable, Inserts, Drains}
+use Rattle.zl_calls.proofs.Common.{◌==◌, if◌then◌else◌, cases_Bool, eqb-true, same_Some, Map, get, without, within, get-put, Handles, IsTable, Inserts, Removes}
 use Rattle.zl_calls.proofs.Common.{sorted_put, length-put_new, put_key, Objects, Releases, Drained, and_le_l, Entry, Kind, Status, looked_up, without_handle}
 use Rattle.zl_calls.proofs.Common.{settable_at}
 use Rattle.zl_rights.specs.declared.kind.Kind.TheVariants as kind
@@ -23,8 +23,8 @@ shorter (e ∷ m) k v h = elim (cases_Bool (e.0 == k)) as (λ _. length (without
   | inr apart ↦ rw apart (omega (arith, shorter m k v (rw apart at h)))
 ]
 
-pub drained_is_shorter : (old : Handles) (entry : Entry) (new : Handles) → Drains old entry new → length new.entries < length old.entries
-drained_is_shorter old entry new d = rw d.removes.entries (shorter old.entries d.value entry d.removes.was)
+pub drained_is_shorter : (old : Handles) (value : ℕ) (entry : Entry) (new : Handles) → Removes old value entry new → length new.entries < length old.entries
+drained_is_shorter old value entry new removes = rw removes.entries (shorter old.entries value entry removes.was)
 
 pub empty_refuses : (m : Map Entry) (value needed n : ℕ) (kinds : List Kind) → n ≡ length m → n ≡ 0
     → ◌≡◌ {A = Result Entry Status} (Err status.BadHandle) (looked_up m value kinds needed)
@@ -65,9 +65,9 @@ found_inserted A t e v t2 inserts value q at new old =
 
 -- ---- the handles of a table close
 
-pub drained_closes : (old : Handles) (e : Entry) (new : Handles) (r mid r2 : Objects) → Drains old e new → Releases (e.koid ∷ []) [] r mid
+pub drained_closes : (old : Handles) (value : ℕ) (e : Entry) (new : Handles) (r mid r2 : Objects) → Removes old value e new → Releases (e.koid ∷ []) [] r mid
     → Drained new.entries mid r2 → Drained old.entries r r2
-drained_closes old e new r mid r2 d first rest = one_more old.entries d.value e r mid r2 d.removes.was first (rw d.removes.entries at rest)
+drained_closes old value e new r mid r2 removes first rest = one_more old.entries value e r mid r2 removes.was first (rw removes.entries at rest)
 
 pub all_closed : (t : Handles) (r : Objects) → t.entries ≡ [] → Drained t.entries r r
 all_closed t r none = rw none (none_left r)

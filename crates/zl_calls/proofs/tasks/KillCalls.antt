@@ -7,7 +7,8 @@ use Rattle.zl_calls.proofs.Common.{IsConsistent, Releases, Ready, if◌then◌el
 use Rattle.zl_calls.proofs.Common.{IsNamed, ◌+◌, table_of, may_choose, sum_by, count_by, get-update, is_sorted-update, new_handles, taken_handles, remove_all}
 use Rattle.zl_calls.proofs.Common.{insert_all, effect, gives_ok, ended, on_process, Values, operands_fault, result_err, looked_up, DESTROY, KILLED, Entry}
 use Rattle.zl_calls.proofs.Common.{times, in_order-each, settles_waiting, is_blocking, with_waiters, object_at, object_killed, process_killed, CallName}
-use Rattle.zl_calls.proofs.Common.{Outcome, is_within, killing, all_koids, releases_then, ListsBut, ClosesAllEnded, ClosesEnded, lives_on, Parts, ended_if}
+use Rattle.zl_calls.proofs.Common.{Outcome, is_within, killing, all_koids, releases_then, ListsWithout, has_handle, ClosesAllEnded, ClosesEnded}
+use Rattle.zl_calls.proofs.Common.{lives_on, Parts, ended_if}
 use Rattle.zl_calls.proofs.Common.{ended_within, kill_refusal, parts}
 use Rattle.std.specs.List.{filter}
 use Rattle.zl_rights.specs.declared.kind.Kind.TheVariants as kind
@@ -30,8 +31,9 @@ use Rattle.zl_calls.specs.calls.Task.{one_more, KillsTask}
 use Rattle.zl_code.specs.declared.history.TraceItem.TheVariants as item
 use Rattle.zl_calls.proofs.waking.BlockedLists.{same_list, still_blocked}
 use Rattle.zl_calls.proofs.objects.Counting.{sum_update, naming, numbered, numbered_naming}
-use Rattle.zl_calls.proofs.processes.Departed.{left_all, left_blocked, left_keeps, settled_world}
-use Rattle.zl_calls.proofs.waits.LeftWaits.{left_by}
+use Rattle.zl_calls.proofs.processes.Departed.{handles_left, left_all, left_blocked, left_keeps, settled_world}
+use Rattle.zl_calls.proofs.tasks.KillWaits.{closes_none, is_dead, killed_keeps}
+use Rattle.zl_calls.proofs.waits.LeftWaits.{ListsLeft, left_by, lists_left}
 use Rattle.zl_calls.proofs.waking.Ordered.{left_filtered}
 use Rattle.zl_calls.proofs.stepping.Performing.{HasLeft}
 use Rattle.zl_calls.proofs.tasks.KillSound.{all_noted, tables_from, AllTables, AreAllGone, gone_of, killed_sound, killed_with, numbered_all}
@@ -57,7 +59,7 @@ module _ (lib : Library) (w : World) (pid : ℕ) (entries : Map Entry) (table : 
 -- who is over keeps its koid, and its state while its handles close
 one_stays : (q q2 : Process) (a b : Objects) → ClosesEnded q a q2 b → (q2.pid ≡ q.pid) × (q2.state ≡ q.state)
 one_stays q _ a _ (lives_on _ _ alive) = (refl, refl)
-one_stays q q2 a b (is_over _ _ _ _ dead same entries last drained) = (ap (λ (x : Process). x.pid) same, ap (λ (x : Process). x.state) same)
+one_stays q q2 a b (is_over _ _ _ _ dead same entries last drained ends) = (ap (λ (x : Process). x.pid) same, ap (λ (x : Process). x.state) same)
 
 states_stay : (qs qs2 : List Process) (a b : Objects) → ClosesAllEnded qs a qs2 b → (test : StateValue → Bool) (k : ℕ)
     → state_passes test (get (map process_entry qs) k) ≡ state_passes test (get (map process_entry qs2) k)
@@ -158,7 +160,7 @@ module _ (lib : Library) (ps : List Process) (r : Objects) (blocked : List ℕ) 
   pub leaves_so : (after : List Process) (r1 r2 : Objects) (blocked2 : List ℕ) (o : Outcome) → is_blocking o ≡ false → IsSettled after r1 r2
       → AreBlocked after blocked2 → AreLeft blocked blocked2
       → PolicedCalls lib (world_blocked ps r blocked) p.pid s o (with_waiters (world_value after r1) r.waits r.waits_made blocked2)
-      → ListsBut r.waits r.waits_made r r2
+      → ListsLeft (left_all after r2) r.waits r.waits_made r r2
       → HasLeft lib ps after r r2 blocked blocked2 p.pid (item.Call p.pid name o)
   leaves_so after r1 r2 blocked2 o goes left list fewer calls lists = record {
     fewer = fewer;
@@ -329,8 +331,12 @@ module _ (lib : Library) (ps : List Process) (r : Objects) (whole : IsConsistent
     fewer_blocked : AreLeft blocked all2.blocked
     fewer_blocked = rw kills.blocked (left_filtered _ blocked)
 
-    lists : ListsBut r.waits r.waits_made r all2.objects
-    lists = kills.listed.listed
+    lists : ListsWithout (is_dead (map (ended_within r t) ps)) r.waits r.waits_made r all2.objects
+    lists = (killed_keeps ps r whole.processes_in_order blocked t all2 kills).listed
+
+    -- who is dead has no handle
+    dead_none : (k v : ℕ) → IsTrue (is_dead (map (ended_within r t) ps) k) → has_handle (get (map process_entry all2.processes) k) v ≡ false
+    dead_none = closes_none (map (ended_within r t) ps) all2.processes kills.between all2.objects kills.closes
 
     -- the caller is among the killed, or it isn't
     abbrev dies : Bool
@@ -409,7 +415,9 @@ module _ (lib : Library) (ps : List Process) (r : Objects) (whole : IsConsistent
               (outcome.Ended KILLED) refl
               (ends_settled ps r whole blocked sound t given all2 kills all2.processes (λ k q. q.cpu) (λ k. killed_got (λ j q. q.cpu) k (λ q there_too. refl))
               (λ k. refl) (still_sorted ps r whole blocked sound t given all2 kills))
-              blocked_after fewer_blocked (killed_calls among) lists)
+              blocked_after fewer_blocked (killed_calls among)
+              (lists_left (left_all all2.processes all2.objects) r all2.objects r.waits r.waits_made
+              (λ k v dead. handles_left all2.processes all2.objects k v ∙ dead_none k v dead) lists))
           | inr apart ↦ absurd (not_over apart)
         ]
       where
@@ -484,6 +492,15 @@ module _ (lib : Library) (ps : List Process) (r : Objects) (whole : IsConsistent
               (λ i. record (with_waiters (world_value all2.processes (killing r t)) r.waits r.waits_made all2.blocked) { processes = written i })
               ∙ ap (λ (x : World). replied x p.pid kill_site status.Ok []) after_it
 
+      same_handles : (k v : ℕ) → has_handle (get (map process_entry after) k) v ≡ has_handle (get (map process_entry all2.processes) k) v
+      same_handles k v = rw (written, get-update (map process_entry all2.processes) p.pid with_answer k)
+          (by_key (p.pid == k) (get (map process_entry all2.processes) k))
+        where
+          by_key : (b : Bool) (o : Option ProcessValue) → has_handle (if b then option_map with_answer o else o) v ≡ has_handle o v
+          by_key false o = refl
+          by_key true None = refl
+          by_key true (Some q) = refl
+
       not_blocked : is_blocked (state_value c.state) ≡ false
       not_blocked = ap (λ (x : ProcessValue). is_blocked x.state) same_value ∙ rw ready refl
 
@@ -491,7 +508,9 @@ module _ (lib : Library) (ps : List Process) (r : Objects) (whole : IsConsistent
       answered_so =
           leaves_so lib ps r blocked sound p there ready name kill_site next after (killing r t) all2.objects all2.blocked (outcome.Answered status.Ok) refl
           (ends_settled ps r whole blocked sound t given all2 kills after cpus after_got after_tables after_sorted)
-          (still_blocked write not_blocked not_blocked all2.blocked blocked_after) fewer_blocked answered_calls lists
+          (still_blocked write not_blocked not_blocked all2.blocked blocked_after) fewer_blocked answered_calls
+          (lists_left (left_all after all2.objects) r all2.objects r.waits r.waits_made
+          (λ k v dead. handles_left after all2.objects k v ∙ (same_handles k v ∙ dead_none k v dead)) lists)
 
     pub lives_so : (c : Process) → slice_get all2.processes place ≡ Some c → ((code : ℤ) → c.state ≡ state.Ended code → ⊥)
         → HasLeft lib ps (slice_set all2.processes place (record c { cpu = cpu_answered kill_site status.Ok [] c.cpu })) r all2.objects

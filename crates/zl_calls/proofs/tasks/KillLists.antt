@@ -6,7 +6,7 @@ use Rattle.zl_calls.proofs.Common.{eqb-true, false≢true, none-some}
 use Rattle.zl_calls.proofs.Common.{same_Some, nat_cmp, nat_tests, is_sorted, below_all, sorted_parts, get, get_or, set, slice_get, position, lives}
 use Rattle.zl_calls.proofs.Common.{get_or_from_slice_get, slice_get-get_or, Objects, process_entry, process_value, state_value, is_within, ended_if}
 use Rattle.zl_calls.proofs.Common.{ended_within, lives_on}
-use Rattle.zl_calls.proofs.Common.{ClosesAllEnded, ClosesEnded, Drained}
+use Rattle.zl_calls.proofs.Common.{ClosesAllEnded, ClosesEnded, Drained, Entry, Map}
 use Rattle.std.specs.List.Sorted.{IsNonDecreasing}
 use Rattle.std.proofs.lemmas.List.Folds.{list_any-append}
 use Rattle.zl_table.proofs.MapEdits.{below_parts}
@@ -18,6 +18,7 @@ use Rattle.zl_calls.specs.declared.process.Process.{Process}
 use Rattle.zl_calls.proofs.lists.Positions.{IsFirst, first_at}
 use Rattle.zl_calls.proofs.lists.Updates.{set_same}
 use Rattle.zl_calls.proofs.processes.Idle.{get_placed}
+use Rattle.zl_calls.proofs.waits.WaitsLost.{listed_same}
 use Rattle.zl_calls.proofs.processes.Written.{pid_read}
 use Rattle.zl_calls.proofs.tasks.KillParts.{IsClosing, closing_ends, closing_goes_on, closing_starts}
 use Rattle.zl_calls.proofs.tasks.StartCalls.{below_at}
@@ -191,13 +192,17 @@ whichever (Some x) P p = tt
 
 -- closing what is closed does nothing
 stays_closed : (p : Process) (r : Objects) → IsClosed p → ClosesEnded p r p r
+unfolding get
 stays_closed p r closed = by (lives (state_value p.state)) refl
   where
     by : (b : Bool) → lives (state_value p.state) ≡ b → ClosesEnded p r p r
     by true alive = lives_on p r alive
     by false over =
         let none = closed over in
-        is_over p p r r over refl none.0 none.1 (subst (λ (es : _). Drained es r r) (sym none.0) (none_drained r))
+        is_over p p r r over refl none.0 none.1 (subst (λ (es : Map Entry). Drained es r r) (sym none.0) (none_drained r)) record {
+          keeps = listed_same r;
+          gone = λ x e own at names there. none-some e (subst (λ (es : Map Entry). get es x.value ≡ Some e) none.0 at);
+        }
 
 -- one that is among these stands at a place of the list
 found_among : (k : ℕ) (ks : List ℕ) → IsTrue (is_among k ks) → (j : ℕ) × (j < length ks) × (k ≡ get_or ks j 0)

@@ -15,7 +15,7 @@ use Rattle.zl_rights.specs.declared.kind.Kind.TheVariants as kind
 use Rattle.zl_code.specs.Sound.{is_blocked}
 use Rattle.zl_objects.specs.Jobs.{all_killed}
 use Rattle.zl_objects.specs.Release.{Releases}
-use Rattle.zl_calls.proofs.waits.WaitsLost.{listed_gone, listed_then}
+use Rattle.zl_calls.proofs.waits.WaitsLost.{listed_gone}
 
 -- ---- koids stay
 
@@ -90,6 +90,7 @@ listed_killed r r2 task releases left =
     listed_gone [] (all_koids r.objects) (killing r task) r2 releases (record { waits = left.waits; made = left.made; asleep = left.asleep }) in
     record {
       shrinks = λ k there. sym (has_kept (λ j. killed_if (is_within r.objects task j)) r.objects k) ∙ kept.shrinks k there;
+      older = kept.older;
       listed = record { waits = kept.listed.waits; made = kept.listed.made; asleep = kept.listed.asleep };
     }
 
@@ -102,10 +103,10 @@ module _ (ps : List Process) (r : Objects) (blocked : List ℕ) (place task : �
 
   pub killed_so : (named : Entry) → ◌≡◌ {A = Result Entry Status} (Ok named) (looked_up p.table.entries task (kind.Process ∷ kind.Job ∷ []) DESTROY)
       → (between r2 : Objects) (ps1 ps2 : List Process) (blocked2 : List ℕ) → ps1 ≡ map (ended_within r named.koid) ps
-      → Releases [] (all_koids r.objects) (killing r named.koid) between → LeavesListed r between → ClosesAllEnded ps1 between ps2 r2 → KeepsListed between r2
+      → Releases [] (all_koids r.objects) (killing r named.koid) between → LeavesListed r between → ClosesAllEnded ps1 between ps2 r2
       → blocked2 ≡ filter (λ k. state_passes is_blocked (get (map process_entry ps1) k)) blocked
       → TaskKillDoes task caller (parts ps r blocked) (Ok tt) (parts ps2 r2 blocked2)
-  killed_so named found between r2 ps1 ps2 blocked2 ended releases left closes kept list = record {
+  killed_so named found between r2 ps1 ps2 blocked2 ended releases left closes list = record {
     ok = record {
       named = named;
       is_named = ap (λ (q : Process). looked_up q.table.entries task (kind.Process ∷ kind.Job ∷ []) DESTROY) (sym is_it) ∙ sym found;
@@ -114,7 +115,7 @@ module _ (ps : List Process) (r : Objects) (blocked : List ℕ) (place task : �
         marks = releases;
         closes = subst (λ (qs : List Process). ClosesAllEnded qs between ps2 r2) ended closes;
         blocked = list ∙ ap (λ (qs : List Process). filter (λ k. state_passes is_blocked (get (map process_entry qs) k)) blocked) ended;
-        listed = listed_then r between r2 (listed_killed r between named.koid releases left) kept;
+        listed = listed_killed r between named.koid releases left;
       };
     };
     err = tt;
@@ -129,7 +130,7 @@ as_many_closed _ _ _ _ (one_more p p2 ps ps2 r mid r2 first rest) = ap suc (as_m
 
 still_one : (p p2 : Process) (r r2 : Objects) → ClosesEnded p r p2 r2 → p2.cpu ≡ p.cpu
 still_one _ _ _ _ (lives_on p r lives) = refl
-still_one _ _ _ _ (is_over p p2 r r2 over same none no_last drains) = ap (λ (q : Process). q.cpu) same
+still_one _ _ _ _ (is_over p p2 r r2 over same none no_last drains ends) = ap (λ (q : Process). q.cpu) same
 
 still_closed : (ps ps2 : List Process) (r r2 : Objects) → ClosesAllEnded ps r ps2 r2 → (i : ℕ) (p : Process) → slice_get ps i ≡ Some p
     → IsCallerStill p (slice_get ps2 i)

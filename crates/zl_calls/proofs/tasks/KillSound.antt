@@ -123,7 +123,7 @@ module _ (P : Entry → Type 0) (r : Objects) (t : ℕ) where
     releases = unchanged a;
     fewer = λ k. omega (arith, tables_cons k p [], tables_cons k p1 [], ap (λ (x : _). count_by (λ (h : ℕ × Entry). h.1.koid == k) x.entries) table);
   }
-  one_gone p p1 p2 a b table all (is_over _ _ _ _ dead same entries last drains) =
+  one_gone p p1 p2 a b table all (is_over _ _ _ _ dead same entries last drains ends) =
       let sorted : IsTrue (is_sorted nat_cmp p1.table.entries) = rw table all.0 in
       let went : AreGone p1.table.entries a b = drained p1.table.entries a b sorted drains in
       record {

@@ -120,12 +120,12 @@ killed_one r t p p1 p2 mid r2 is idle closes = by_life (lives (state_value p.sta
     over : p1 ≡ ended_if true p → lives (state_value p.state) ≡ true → (q1 q2 : Process) (a b : Objects) → q1 ≡ p1 → ClosesEnded q1 a q2 b
         → ◌≡◌ {A = ℕ × ProcessValue} (process_entry q2) (p.pid, process_killed true (process_value p))
     over ended living q1 _ a b at (lives_on _ _ alive) = absurd (false≢true (sym (ap (λ (x : Process). lives (state_value x.state)) (at ∙ ended)) ∙ alive))
-    over ended living q1 q2 a b at (is_over _ _ _ _ dead same entries last drained) =
+    over ended living q1 q2 a b at (is_over _ _ _ _ dead same entries last drained ends) =
         ap process_entry (same ∙ ap (λ (x : Process). record x { table = q2.table }) (at ∙ ended)) ∙ rw (living, entries, last) refl
 
     stays : p1 ≡ p → (q1 q2 : Process) (a b : Objects) → q1 ≡ p1 → ClosesEnded q1 a q2 b → ◌≡◌ {A = ℕ × ProcessValue} (process_entry q2) (process_entry p)
     stays as_was q1 _ a b at (lives_on _ _ alive) = ap process_entry (at ∙ as_was)
-    stays as_was q1 q2 a b at (is_over _ _ _ _ dead same entries last drained) =
+    stays as_was q1 q2 a b at (is_over _ _ _ _ dead same entries last drained ends) =
         let none = idle (sym (ap (λ (x : Process). lives (state_value x.state)) (at ∙ as_was)) ∙ dead) in
         ap process_entry (same ∙ ap (λ (x : Process). record x { table = q2.table }) (at ∙ as_was))
         ∙ (λ i. (p.pid, record (process_value p) { handles = (entries ∙ sym none.0) i; last = (last ∙ sym none.1) i }))

@@ -13,7 +13,8 @@ use Rattle.zl_calls.specs.calls.Task.{ClosesHandle}
 use Rattle.zl_calls.specs.declared.process.Process.{Process}
 use Rattle.zl_calls.specs.declared.process.State.TheVariants as state
 use Rattle.zl_calls.proofs.calls.Answered.{IsWrite}
-use Rattle.zl_calls.proofs.processes.Departed.{settled_world}
+use Rattle.zl_calls.proofs.processes.Departed.{left_all, settled_world}
+use Rattle.zl_calls.proofs.waits.LeftWaits.{lists_kept}
 use Rattle.zl_calls.proofs.calls.DoneCalls.{IsDone}
 use Rattle.zl_calls.proofs.processes.Idle.{are_bare}
 use Rattle.zl_calls.proofs.stepping.FromConsistent.{IsFree, call_settles}
@@ -66,7 +67,8 @@ module _ {ps : List Process} {r : Objects} {blocked : List ℕ} {pid place : ℕ
     refused_so : HasLeft lib ps after_it r r2 blocked blocked pid (item.Call pid name (outcome.Answered answer))
     refused_so =
         acted_so turn lib after_it told r2 (item.Call pid name (outcome.Answered answer)) write_told (unblocked turn) refl refl (ap next_looks next)
-        refused_done.consistent (rw (← key turn) (refused_done.step free)) (rw next closes.listed.listed)
+        refused_done.consistent (rw (← key turn) (refused_done.step free))
+        (rw next (lists_kept (left_all after_it r2) r r2 r.waits r.waits_made closes.listed.listed))
 
   -- ---- it is done
 

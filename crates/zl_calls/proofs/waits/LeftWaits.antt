@@ -3,7 +3,7 @@ use Rattle.zl_calls.proofs.Common.{◌≡◌, ℕ, suc, Bool, true, false, ◌&&
 use Rattle.zl_calls.proofs.Common.{arith, cases_Bool, false≢true, none-some, All, and_from, and_parts, entry_at, get, has_key, state_passes, AtCall, Library}
 use Rattle.zl_calls.proofs.Common.{Ready, Settles, Site, next_for, Objects, process_entry, object_entry, world_blocked, world_value, IsActed, AreBlocked, Entry}
 use Rattle.zl_calls.proofs.Common.{pid_of, IsSoundWait, CallName, Outcome, TraceItem, ActsAndSettles, next_looks, tells_blocking, waits_by, settles_waiting}
-use Rattle.zl_calls.proofs.Common.{with_waiters, has_seen, ListsBut, is_left, world_left}
+use Rattle.zl_calls.proofs.Common.{with_waiters, has_seen, has_handle, not, ListsWithout, is_left, stays_but, world_left}
 use Rattle.std.specs.List.{filter}
 use Rattle.std.specs.Prelude.{slice_index_or}
 use Rattle.std.proofs.lemmas.List.Elements.{filter_passes}
@@ -73,19 +73,39 @@ left_alike w ws n b sound = agreeing (is_left w) (is_left_at_port w) ws (at_port
         and_from (is_made_by_handle w x) (has_key w.objects x.object && has_key w.objects x.port) parts.0
         (and_from (has_key w.objects x.object) (has_key w.objects x.port) there parts.1)
 
--- the list that a call leaves has all that are left
-pub left_in_list : (after : List Process) (r r2 : Objects) (ws : List Wait) (made : ℕ) → ListsBut ws made r r2
-    → filter (is_left (world_value after r2)) r2.waits ≡ filter (is_left (world_value after r2)) ws
-left_in_list after r r2 ws made lists = lists.waits (is_left (world_value after r2)) there
+-- the list is these waits, but for some that aren't left: a test that none of those passes leaves the same of both; and who may be
+-- blocked is as before
+pub record ListsLeft (after : List Process) (ws : List Wait) (count : ℕ) (old r2 : Objects) : Type 0 where
+  pub waits : (test : Wait → Bool) → ((x : Wait) → IsTrue (test x) → IsTrue (is_left (world_value after r2) x)) → filter test r2.waits ≡ filter test ws
+  pub made : r2.waits_made ≡ count
+  pub asleep : KeepSleepers old r2
+
+-- so is the list that a call leaves, where those that end have no handle
+pub lists_left : {over : ℕ → Bool} (after : List Process) (r r2 : Objects) (ws : List Wait) (made : ℕ)
+    → ((k v : ℕ) → IsTrue (over k) → has_handle (get (map process_entry after) k) v ≡ false) → ListsWithout over ws made r r2 → ListsLeft after ws made r r2
+unfolding is_made_by_handle
+lists_left {over} after r r2 ws made none lists =
+    record { waits = λ test left. lists.waits test (λ x passes. there x (left x passes)); made = lists.made; asleep = lists.asleep }
   where
-    there : (x : Wait) → IsTrue (is_left (world_value after r2) x) → IsTrue (is_there r2.objects x)
+    there : (x : Wait) → IsTrue (is_left (world_value after r2) x) → IsTrue (stays_but over r2 x)
     there x left =
         let both =
-        (and_parts (is_made_by_handle (world_value after r2) x)
-        (has_key (map object_entry r2.objects) x.object && has_key (map object_entry r2.objects) x.port) left).1 in
-        let parts = and_parts (has_key (map object_entry r2.objects) x.object) (has_key (map object_entry r2.objects) x.port) both in
-        and_from (has_key r2.objects x.object) (has_key r2.objects x.port) (sym (has_seen r2.objects x.object) ∙ parts.0)
-        (sym (has_seen r2.objects x.port) ∙ parts.1)
+        and_parts (is_made_by_handle (world_value after r2) x)
+        (has_key (map object_entry r2.objects) x.object && has_key (map object_entry r2.objects) x.port) left in
+        let parts = and_parts (has_key (map object_entry r2.objects) x.object) (has_key (map object_entry r2.objects) x.port) both.1 in
+        and_from (not (over x.pid)) (is_there r2.objects x) (goes_on both.0)
+        (and_from (has_key r2.objects x.object) (has_key r2.objects x.port) (sym (has_seen r2.objects x.object) ∙ parts.0)
+        (sym (has_seen r2.objects x.port) ∙ parts.1))
+      where
+        goes_on : IsTrue (has_handle (get (map process_entry after) x.pid) x.value) → IsTrue (not (over x.pid))
+        goes_on has = elim (cases_Bool (over x.pid)) as (λ _. IsTrue (not (over x.pid))) [
+          | inl ends ↦ absurd (false≢true (sym (none x.pid x.value ends) ∙ has))
+          | inr stays ↦ rw stays refl
+        ]
+
+-- the same where none ends
+pub lists_kept : (after : List Process) (r r2 : Objects) (ws : List Wait) (made : ℕ) → ListsWithout (λ k. false) ws made r r2 → ListsLeft after ws made r r2
+lists_kept after r r2 ws made = lists_left after r r2 ws made (λ k v ends. absurd (false≢true ends))
 
 module _ (lib : Library) (before after : List Process) (r r2 : Objects) (pid : ℕ) (x : TraceItem) (blocked : List ℕ)
     (sound : IsSoundWorld (world_blocked before r blocked)) where
@@ -94,11 +114,12 @@ module _ (lib : Library) (before after : List Process) (r r2 : Objects) (pid : �
 
   -- a step up to where waits fire, by the waits that settling leaves
   pub left_by : (ws : List Wait) (made : ℕ) (b : List ℕ)
-      → ActsAndSettles lib (world_blocked before r blocked) pid x (with_waiters w2 (filter (is_left_at_port w2) ws) made b) → ListsBut ws made r r2
+      → ActsAndSettles lib (world_blocked before r blocked) pid x (with_waiters w2 (filter (is_left_at_port w2) ws) made b) → ListsLeft after ws made r r2
       → IsActed lib (world_blocked before r blocked) pid x (world_left after r2 b)
   left_by ws made b steps lists =
       let alike : filter (is_left_at_port w2) ws ≡ filter (is_left w2) r2.waits =
-      sym (left_alike w2 ws made b (settled_sound lib (world_blocked before r blocked) pid x _ sound steps)) ∙ sym (left_in_list after r r2 ws made lists) in
+      sym (left_alike w2 ws made b (settled_sound lib (world_blocked before r blocked) pid x _ sound steps))
+      ∙ sym (lists.waits (is_left w2) (λ x left. left)) in
       let same : ◌≡◌ {A = World} (with_waiters w2 (filter (is_left_at_port w2) ws) made b) (world_left after r2 b) =
       (λ i. with_waiters w2 (alike i) (sym lists.made i) b) in
       let moved : ActsAndSettles lib (world_blocked before r blocked) pid x (world_left after r2 b) =
@@ -108,7 +129,8 @@ module _ (lib : Library) (before after : List Process) (r r2 : Objects) (pid : �
   -- a process that isn't blocked, doesn't look at waits and doesn't block does the same beside them as where nothing waits
   pub left_beside : (q : ProcessValue) → get (map process_entry before) pid ≡ Some q → state_passes is_blocked (get (map process_entry before) pid) ≡ false
       → AreBlocked before blocked → pid_of x ≡ pid → tells_blocking x ≡ false
-      → next_looks (next_for lib q) ≡ false → IsActed lib (world_value before r) pid x w2 → ListsBut (waits_by (next_for lib q) x r.waits) r.waits_made r r2
+      → next_looks (next_for lib q) ≡ false → IsActed lib (world_value before r) pid x w2
+      → ListsLeft after (waits_by (next_for lib q) x r.waits) r.waits_made r r2
       → IsActed lib (world_blocked before r blocked) pid x (world_left after r2 blocked)
   left_beside q there unblocked are same goes looks acted lists =
       left_by (waits_by (next_for lib q) x r.waits) r.waits_made blocked

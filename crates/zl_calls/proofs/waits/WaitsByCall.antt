@@ -6,7 +6,7 @@ use Rattle.zl_calls.proofs.Common.{⊤, get, update, is_empty, narrowed, then_so
 use Rattle.zl_calls.proofs.Common.{dup, replace, chan_create, chan_write, event_create, eventpair_create, signal, signal_peer, wait_one, wait_async}
 use Rattle.zl_calls.proofs.Common.{port_create, port_queue, port_poll, port_wait, port_cancel, process_start, process_exit, job_create, job_set_policy}
 use Rattle.zl_calls.proofs.Common.{calls_at, next_looks, waits_by, looks_at_waits, Objects, with_new, Entry, Status, CallName, Outcome, Does, status_of, Acted}
-use Rattle.zl_calls.proofs.Common.{Acts, action_of, ListsBut, MakesOne, ReplaceDoes, ChanReadDoes, Received, ReadFault, wants_nothing}
+use Rattle.zl_calls.proofs.Common.{Acts, action_of, ◌&&◌, ◌==◌, ListsBut, ListsWithout, MakesOne, ReplaceDoes, ChanReadDoes, Received, ReadFault, wants_nothing}
 use Rattle.std.specs.List.{filter}
 use Rattle.zl_code.proofs.Common.{chan_read_etc}
 use Rattle.zl_code.proofs.Waiters.{waits_after}
@@ -22,12 +22,13 @@ use Rattle.zl_objects.specs.Objects.{with_pair}
 use Rattle.zl_objects.specs.declared.object.Body.{Body}
 use Rattle.zl_objects.specs.declared.object.Object.{Object}
 use Rattle.zl_objects.specs.declared.object.Pair.{Pair}
-use Rattle.zl_calls.specs.Taken.{keeps_handles}
+use Rattle.zl_calls.specs.Taken.{is_end, keeps_handles}
 use Rattle.zl_calls.specs.calls.Channel.{ChanWriteDoes}
 use Rattle.zl_calls.specs.calls.Handle.{replace_refusal_of}
 use Rattle.zl_calls.specs.calls.Making.{MakesPair}
 use Rattle.zl_calls.specs.declared.process.Process.{Process}
 use Rattle.zl_calls.proofs.calls.Refused.{nothing_wanted}
+use Rattle.zl_calls.proofs.waits.WaitsLost.{lists_wide}
 
 -- a refusal of replace isn't OK
 refused_replace : (e : Option Entry) (h asked pid : ℕ) (ws : List Wait) (s : Status) → IsRefusedBy wants_nothing (replace_refusal_of asked e) s
@@ -121,13 +122,17 @@ module _ (p p2 : Process) (r r2 : Objects) where
     -- ---- any call that doesn't look at waits
 
     abbrev Listed : Request → Type 0
-    Listed request = ListsBut (waits_after request o p.pid r.waits) r.waits_made r r2
+    Listed request = ListsWithout (λ k. is_end o && (k == p.pid)) (waits_after request o p.pid r.waits) r.waits_made r r2
 
-    lists : r2.waits ≡ r.waits → r2.waits_made ≡ r.waits_made → KeepSleepers r r2 → ListsBut r.waits r.waits_made r r2
+    lists : r2.waits ≡ r.waits → r2.waits_made ≡ r.waits_made → KeepSleepers r r2 → {over : ℕ → Bool} → ListsWithout over r.waits r.waits_made r r2
     lists same made asleep = record { waits = λ test there. ap (filter test) same; made = made; asleep = asleep }
 
+    -- none ends
+    kept : ListsBut r.waits r.waits_made r r2 → ListsWithout (λ k. is_end o && (k == p.pid)) r.waits r.waits_made r r2
+    kept = lists_wide (λ k ends. absurd (false≢true ends)) r.waits r.waits_made r r2
+
     by_request : (request : Request) → looks_at_waits request ≡ false → ActsSo request → Listed request
-    by_request (close h) plain acts = acts.acts.listed.listed
+    by_request (close h) plain acts = kept acts.acts.listed.listed
     by_request (replace h asked) plain acts = replaced acts.answer acts.ends acts.acts
       where
         replaced : (answer : Result ℕ Status) → o ≡ outcome.Answered (status_of answer) → ReplaceDoes p.pid h asked p.table r answer p2.table r2
@@ -145,8 +150,8 @@ module _ (p p2 : Process) (r r2 : Objects) where
         written (Ok done) does =
             lists (ap (λ (y : Objects). y.waits) does.ok.objects) (ap (λ (y : Objects). y.waits_made) does.ok.objects)
             (subst (KeepSleepers r) (sym does.ok.objects) (refl, refl))
-        written (Err s) does = does.closed.listed.listed
-    by_request (process_exit code) plain acts = acts.over.listed.listed
+        written (Err s) does = kept does.closed.listed.listed
+    by_request (process_exit code) plain acts = rw acts.ends (acts.over.waits.keeps.listed)
     by_request (wait_async h port key mask) plain acts = absurd (true≢false plain)
     by_request (port_cancel port source key) plain acts = absurd (true≢false plain)
     by_request (process_start process h word) plain acts = absurd acts
@@ -158,6 +163,6 @@ module _ (p p2 : Process) (r r2 : Objects) where
 -- replace ends its own waits where it is done; but for those no call that doesn't look at waits ends any by itself
 pub acted_lists : (p p2 : Process) (r r2 : Objects) (pid : ℕ) (o : Outcome) (name : CallName) (at : Option Site) → p.pid ≡ pid
     → next_looks (calls_at name at) ≡ false → Acted at p r o p2 r2
-    → ListsBut (waits_by (calls_at name at) (item.Call pid name o) r.waits) r.waits_made r r2
+    → ListsWithout (λ k. is_end o && (k == pid)) (waits_by (calls_at name at) (item.Call pid name o) r.waits) r.waits_made r r2
 acted_lists p p2 r r2 pid o name None same plain acts = absurd acts
 acted_lists p p2 r r2 pid o name (Some s) same plain acts = rw (← same) (by_request p p2 r r2 o s.consumed s.destinations s.request plain acts)

@@ -6,7 +6,7 @@ use Rattle.zl_objects.specs.Objects.{Objects}
 use Rattle.zl_objects.specs.Release.{Releases, Ends as ObjectEnds}
 use Rattle.zl_calls.specs.declared.process.State.TheVariants as state
 use Rattle.zl_calls.specs.declared.process.Process.{Process}
-use Rattle.zl_calls.specs.Registered.{KeepsListed}
+use Rattle.zl_calls.specs.Registered.{EndsOwn}
 
 -- the handles of a table close, one after another
 pub data Drained : Map Entry → Objects → Objects → Type 0 where
@@ -22,4 +22,4 @@ pub record Ends (code : ℤ) (old : Process) (r : Objects) (new : Process) (r2 :
   pub between : Objects
   pub over : ObjectEnds old.pid r between
   pub closes : Drained old.table.entries between r2
-  pub listed : KeepsListed r r2
+  pub waits : EndsOwn old.pid old.table.entries r r2

@@ -26,7 +26,7 @@ use Rattle.zl_objects.specs.Objects.{Objects, starting}
 use Rattle.zl_objects.specs.Release.{Releases, all_koids}
 use Rattle.zl_objects.specs.declared.object.Body.TheVariants as body
 use Rattle.zl_objects.specs.declared.object.Life.TheVariants as life
-use Rattle.zl_calls.specs.Registered.{KeepsListed}
+use Rattle.zl_calls.specs.Registered.{EndsOwn, KeepsListed}
 use Rattle.zl_calls.specs.World.{process_entry, process_value, state_value}
 use Rattle.zl_calls.specs.calls.Answer.{ClosesEach, IsRefusedBy, answered_in, no_value, status_of, wants_memory, wants_nothing, wants_place, without_handle}
 use Rattle.zl_calls.specs.calls.Making.{MakesOne, room_refusal}
@@ -230,12 +230,12 @@ ended_if killed p = if killed then record p { state = state.Ended KILLED } else 
 abbrev pub ended_within : Objects → ℕ → Process → Process
 ended_within r task p = ended_if (lives (state_value p.state) && is_within r.objects task p.pid) p
 
--- the handles of a process that is over closed; of one that lives nothing changed
+-- the handles of a process that is over closed, and its waits ended; of one that lives nothing changed
 pub data ClosesEnded : Process → Objects → Process → Objects → Type 0 where
   lives_on : (p : Process) (r : Objects) → lives (state_value p.state) ≡ true → ClosesEnded p r p r
   is_over : (p p2 : Process) (r r2 : Objects) → lives (state_value p.state) ≡ false
       → p2 ≡ record p { table = p2.table } → p2.table.entries ≡ [] → p2.table.last ≡ None
-      → Drained p.table.entries r r2 → ClosesEnded p r p2 r2
+      → Drained p.table.entries r r2 → EndsOwn p.pid p.table.entries r r2 → ClosesEnded p r p2 r2
 
 -- the same of each process, one after another
 pub data ClosesAllEnded : List Process → Objects → List Process → Objects → Type 0 where
@@ -251,7 +251,7 @@ pub record KillsTask (all : Parts) (task : ℕ) (all2 : Parts) : Type 0 where
   pub closes : ClosesAllEnded (map (ended_within all.objects task) all.processes) between all2.processes all2.objects
   -- those are left that are still blocked
   pub blocked : all2.blocked ≡ filter (λ k. state_passes is_blocked (get (map process_entry (map (ended_within all.objects task) all.processes)) k)) all.blocked
-  pub listed : KeepsListed all.objects all2.objects
+  pub listed : KeepsListed all.objects between
 
 -- the task that the handle names was killed so
 pub record KillsNamed (all : Parts) (caller : Process) (task : ℕ) (all2 : Parts) : Type 0 where

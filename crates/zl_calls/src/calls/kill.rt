@@ -12,7 +12,6 @@ ghost use Rattle.zl_objects.specs.Below.{HasTask};
 ghost use Rattle.zl_objects.specs.Release.{AreKeptBut};
 ghost use Rattle.zl_calls.specs.Blocked.{AreBlocked};
 ghost use Rattle.zl_calls.specs.Killing.{AreClosed, AreClosedBut, StandsBefore, StayBlocked, ended_among};
-ghost use Rattle.zl_calls.specs.Registered.{KeepsListed};
 ghost use Rattle.zl_calls.specs.World.{process_entry, state_value};
 ghost use Rattle.zl_calls.specs.Calling.{AtPlace, parts_in};
 ghost use Rattle.zl_calls.specs.calls.Task.{ClosesAllEnded, ClosesEnded, IsCallerStill, TaskKillDoes, ended_within};
@@ -185,9 +184,8 @@ fn close_ended(alloc: Global, processes: &mut Processes, objects: &mut Objects, 
     requires rising { IsNonDecreasing list.now.koids.items }
     requires others { list.now.whole ≡ true
         → AreClosedBut list.now.koids.items processes.old.list.items }
-    ensures closes { ClosesAllEnded processes.old.list.items objects.old
+    ensures { ClosesAllEnded processes.old.list.items objects.old
         processes.new.list.items objects.new }
-    ensures listed { KeepsListed objects.old objects.new }
 {
     if list.whole {
         close_each(alloc, processes, objects, list.koids.as_slice());
@@ -200,9 +198,8 @@ fn close_ended(alloc: Global, processes: &mut Processes, objects: &mut Objects, 
 fn close_each(alloc: Global, processes: &mut Processes, objects: &mut Objects, koids: &[Koid])
     requires rising { IsNonDecreasing koids.now }
     requires others { AreClosedBut koids.now processes.old.list.items }
-    ensures closes { ClosesAllEnded processes.old.list.items objects.old
+    ensures { ClosesAllEnded processes.old.list.items objects.old
         processes.new.list.items objects.new }
-    ensures listed { KeepsListed objects.old objects.new }
 {
     let mut from = 0;
     for koid in koids {
@@ -229,9 +226,8 @@ fn place_from(processes: &Processes, from: usize, koid: Koid) -> Option<usize>
 
 /// The handles close of each process that is over, whoever it is.
 fn close_all_ended(alloc: Global, processes: &mut Processes, objects: &mut Objects)
-    ensures closes { ClosesAllEnded processes.old.list.items objects.old
+    ensures { ClosesAllEnded processes.old.list.items objects.old
         processes.new.list.items objects.new }
-    ensures listed { KeepsListed objects.old objects.new }
 {
     for place in 0..processes.list.len() {
         close_if_ended(alloc, &mut processes.list[place], objects);
@@ -240,12 +236,11 @@ fn close_all_ended(alloc: Global, processes: &mut Processes, objects: &mut Objec
 
 /// The handles close of the process, if it is over.
 fn close_if_ended(alloc: Global, process: &mut Process, objects: &mut Objects)
-    ensures closes { ClosesEnded process.old objects.old process.new objects.new }
-    ensures listed { KeepsListed objects.old objects.new }
+    ensures { ClosesEnded process.old objects.old process.new objects.new }
 {
     if process.lives() {
         return;
     }
     let table = std::mem::replace(&mut process.table, Table::new(alloc));
-    close_all(objects, table);
+    close_all(objects, process.pid, table);
 }

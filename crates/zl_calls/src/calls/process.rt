@@ -11,7 +11,7 @@ ghost use Rattle.zl_rights.specs.Numbers.{MANAGE_PROCESS, TRANSFER, WRITE};
 ghost use Rattle.zl_objects.specs.Jobs.{action_of, job_at};
 ghost use Rattle.zl_objects.specs.Objects.{starting};
 ghost use Rattle.zl_interp.specs.Common.{program_value, started_cpu};
-ghost use Rattle.zl_calls.specs.Registered.{KeepsListed};
+ghost use Rattle.zl_calls.specs.Registered.{EndsOwn};
 ghost use Rattle.zl_calls.specs.Calling.{AreGiven, AtPlace, IsCalling, KeepsRoom, parts_in};
 ghost use Rattle.zl_calls.specs.calls.Answer.{IsRefusedBy, wants_memory};
 ghost use Rattle.zl_calls.specs.calls.Process.{Drained, Ends};
@@ -21,6 +21,7 @@ use crate::calls::handle::{close_each, take_out};
 use crate::calls::{check_room, insert, look_up, make_object};
 use crate::process::{Process, State};
 use crate::processes::Processes;
+use crate::waits::end_made_at;
 use std::alloc::{AllocError, Global};
 use zl_code::{Image, Start};
 use zl_interp::{Cpu, Library, Program};
@@ -28,17 +29,16 @@ use zl_objects::{Body, Life, Objects};
 use zl_rights::{Action, Condition, Entry, HValue, Kind, Koid, Pid, Rights, Status};
 use zl_table::Table;
 
-/// Ends the process with the code; its handles close, and what isn't held any more is gone.
+/// Ends the process with the code; its handles close, its registered waits end, and what isn't held any
+/// more is gone.
 ///
 /// Source: the page "zx_process_exit" of the Fuchsia documentation.
 pub fn end(alloc: Global, process: &mut Process, objects: &mut Objects, code: i32)
     ensures { Ends code process.old objects.old process.new objects.new }
 {
-    let mut table = process.end(alloc, code);
+    let table = process.end(alloc, code);
     objects.end(process.pid);
-    while let Some(entry) = table.drain() {
-        objects.release(entry.koid);
-    }
+    close_all(objects, process.pid, table);
 }
 
 /// The code of a process that exits: the low 32 bits as a signed number (own profile).
@@ -366,12 +366,14 @@ pub fn is_declared(start: &Start, entry: &Entry) -> bool
     is_of_kind && start.rights.within(entry.rights)
 }
 
-/// The handles of the table close, one after another.
-pub fn close_all(objects: &mut Objects, mut table: Table)
+/// The handles of the process's table close, one after another, and with each the waits end that were
+/// made by it.
+pub fn close_all(objects: &mut Objects, pid: Pid, mut table: Table)
     ensures closes { Drained table.entries objects.old objects.new }
-    ensures listed { KeepsListed objects.old objects.new }
+    ensures waits { EndsOwn pid table.entries objects.old objects.new }
 {
-    while let Some(entry) = table.drain() {
+    while let Some((value, entry)) = table.drain() {
+        end_made_at(objects, entry.koid, pid, value);
         objects.release(entry.koid);
     }
 }

@@ -2,12 +2,13 @@ use Rattle.zl_calls.specs.declared.process.Process.{Process}
 use Rattle.zl_calls.proofs.processes.Idle.{are_closed}
 use Rattle.zl_calls.proofs.processes.InOrder.{set_in_order}
 use Rattle.zl_calls.proofs.processes.Started.{set_started}
-use Rattle.zl_calls.proofs.Common.{ap, is_created, ◌≡◌, true, set, sym, ◌∙◌, parts, is_ready, state_value}
+use Rattle.zl_calls.proofs.Common.{ap, inl, is_created, ◌≡◌, true, set, sym, ◌∙◌, parts, is_ready, state_value}
 use Rattle.zl_calls.proofs.waking.BlockedLists.{no_more}
-use Rattle.zl_calls.proofs.stepping.CallSteps.{called_so, caller_ready, goes_from, moves_from, stays_from, stops_from}
-use Rattle.zl_calls.proofs.stepping.Performing.{HasActed, here, turn_at, within}
+use Rattle.zl_calls.proofs.stepping.CallSteps.{called_so, caller_ready, goes_from, moves_from, over_from, stays_from, stops_from}
+use Rattle.zl_calls.proofs.stepping.Performing.{HasActed, HasLeft, here, turn_at, within}
 use Rattle.zl_calls.proofs.stepping.StepTells.{call_notes}
-use Rattle.zl_calls.proofs.stepping.TakenKnown.{ended_acts, own_waits, taken_known}
+use Rattle.zl_calls.proofs.stepping.TakenKnown.{ended_acts, own_waits}
+use Rattle.zl_calls.proofs.stepping.AllKnown.{known_behind}
 use Rattle.zl_calls.proofs.waits.TakenEnds.{ended_again}
 use Rattle.zl_calls.proofs.stepping.SureCalls.{sure_calls}
 use Rattle.zl_code.specs.declared.history.TraceItem.TheVariants as item
@@ -37,16 +38,21 @@ call_next-requires c =
           c.args.library.now c.requires.verified c.requires.covered;
     }
 
-called : (c : goal.After-end_behind-arg-1) → HasActed c.args.library.now c.args.processes.now.list.items c.leave.new.processes.list.items c.args.objects.now
-    c.call_next.new.objects c.args.blocked.now.items c.call_next.new.blocked.items
+left_called : (c : goal.After-end_behind-arg-1) → HasLeft c.args.library.now c.args.processes.now.list.items c.call_next.new.processes.list.items
+    c.args.objects.now c.call_next.new.objects c.args.blocked.now.items c.call_next.new.blocked.items
     c.args.pid (item.Call c.args.pid c.in-Some.call c.in-Some.outcome)
-called c = rw c.leave.ensures
-    (called_so (turn_at c.args.processes.now.list.items c.args.objects.now c.args.blocked.now.items c.args.pid c.in_ok-place.place c.index.result.now
+left_called c =
+    called_so (turn_at c.args.processes.now.list.items c.args.objects.now c.args.blocked.now.items c.args.pid c.in_ok-place.place c.index.result.now
     c.requires.consistent c.requires.list c.requires.sound c.in_ok-place.ensures.first c.index.ensures (sym c.is_ready.ensures ∙ c.if-not-is_ready.false))
     c.args.library.now (parts c.call_next.new.processes.list.items c.call_next.new.objects c.call_next.new.blocked.items)
     c.in-Some.outcome c.in-Some.call
     ((c.in-Some.ensures {u = tt}).calls c.index.result.now (here c.args.processes.now.list.items c.args.pid c.in_ok-place.place c.index.result.now
-    c.in_ok-place.ensures.first c.index.ensures)))
+    c.in_ok-place.ensures.first c.index.ensures))
+
+called : (c : goal.After-end_behind-arg-1) → HasActed c.args.library.now c.args.processes.now.list.items c.leave.new.processes.list.items c.args.objects.now
+    c.call_next.new.objects c.args.blocked.now.items c.call_next.new.blocked.items
+    c.args.pid (item.Call c.args.pid c.in-Some.call c.in-Some.outcome)
+called c = rw c.leave.ensures (left_called c)
 
 moved : (c : goal.After-processes-1) → HasActed c.args.library.now c.args.processes.now.list.items
     (set c.call_next.new.processes.list.items c.in_ok-place.place c.run_next.new.process) c.args.objects.now c.call_next.new.objects
@@ -59,7 +65,8 @@ moved c =
     (c.in_default.ensures {u = tt}).same_objects (c.in_default.ensures {u = tt}).same_blocked c.index_mut-process.result.now c.index_mut-process.ensures.value
     c.run_next.new.process (c.in-Some-run_next.ensures {u = tt}).runs (c.in-Some-run_next.ensures {u = tt}).cpu
 
-stopped : (c : goal.After-end_unheld-arg-1) → HasActed c.args.library.now c.args.processes.now.list.items c.leave-2.new.processes.list.items c.args.objects.now
+stopped : (c : goal.After-end_behind-arg-2-1)
+    → HasActed c.args.library.now c.args.processes.now.list.items c.leave-2.new.processes.list.items c.args.objects.now
     c.end.new.objects
     c.args.blocked.now.items c.call_next.new.blocked.items c.args.pid (item.Stuck c.args.pid)
 stopped c = rw c.leave-2.ensures
@@ -74,25 +81,29 @@ pub end_behind-requires-clause-consistent : goal.end_behind-requires-clause-cons
 end_behind-requires-clause-consistent c = (called c).consistent
 
 pub end_behind-requires-clause-known : goal.end_behind-requires-clause-known
-end_behind-requires-clause-known c plain present =
+end_behind-requires-clause-known c present =
     rw c.leave.ensures
-    (taken_known (turn_at c.args.processes.now.list.items c.args.objects.now c.args.blocked.now.items c.args.pid c.in_ok-place.place c.index.result.now
+    (known_behind (turn_at c.args.processes.now.list.items c.args.objects.now c.args.blocked.now.items c.args.pid c.in_ok-place.place c.index.result.now
     c.requires.consistent c.requires.list c.requires.sound c.in_ok-place.ensures.first c.index.ensures (sym c.is_ready.ensures ∙ c.if-not-is_ready.false))
     c.args.library.now (parts c.call_next.new.processes.list.items c.call_next.new.objects c.call_next.new.blocked.items)
     c.in-Some.outcome present c.in-Some.call
     ((c.in-Some.ensures {u = tt}).calls c.index.result.now (here c.args.processes.now.list.items c.args.pid c.in_ok-place.place c.index.result.now
-    c.in_ok-place.ensures.first c.index.ensures)) plain c.call_next.new.taken
+    c.in_ok-place.ensures.first c.index.ensures)) c.call_next.new.taken
     ((c.in-Some.ensures {u = tt}).taken c.index.result.now (here c.args.processes.now.list.items c.args.pid c.in_ok-place.place c.index.result.now
-    c.in_ok-place.ensures.first c.index.ensures)) (called_so (turn_at c.args.processes.now.list.items c.args.objects.now c.args.blocked.now.items c.args.pid
-    c.in_ok-place.place c.index.result.now
-    c.requires.consistent c.requires.list c.requires.sound c.in_ok-place.ensures.first c.index.ensures (sym c.is_ready.ensures ∙ c.if-not-is_ready.false))
-    c.args.library.now (parts c.call_next.new.processes.list.items c.call_next.new.objects c.call_next.new.blocked.items)
-    c.in-Some.outcome c.in-Some.call
-    ((c.in-Some.ensures {u = tt}).calls c.index.result.now (here c.args.processes.now.list.items c.args.pid c.in_ok-place.place c.index.result.now
-    c.in_ok-place.ensures.first c.index.ensures))))
+    c.in_ok-place.ensures.first c.index.ensures)) (left_called c))
 
-pub end_unheld-requires : goal.end_unheld-requires
-end_unheld-requires c = (stopped c).consistent
+pub end_behind-requires-2-clause-consistent : goal.end_behind-requires-2-clause-consistent
+end_behind-requires-2-clause-consistent c = (stopped c).consistent
+
+pub end_behind-requires-2-clause-known : goal.end_behind-requires-2-clause-known
+end_behind-requires-2-clause-known c present i d inside =
+    inl (rw c.leave-2.ensures (over_from (turn_at c.args.processes.now.list.items c.args.objects.now c.args.blocked.now.items c.args.pid c.in_ok-place.place
+    c.index.result.now
+    c.requires.consistent c.requires.list c.requires.sound c.in_ok-place.ensures.first c.index.ensures (sym c.is_ready.ensures ∙ c.if-not-is_ready.false))
+    c.args.library.now
+    c.call_next.new.processes.list.items c.call_next.new.objects c.call_next.new.blocked.items (c.in_default.ensures {u = tt}).same_processes
+    (c.in_default.ensures {u = tt}).same_objects (c.in_default.ensures {u = tt}).same_blocked c.index_mut-process.result.now c.index_mut-process.ensures.value
+    c.end.new.process c.end.new.objects (rw (c.in_default-run_next.ensures {u = tt}).unchanged at c.end.ensures) present i d inside))
 
 pub invariant_of-processes : goal.invariant_of-processes
 invariant_of-processes c = record {
@@ -125,7 +136,7 @@ returns-in-Some-run_next-clause-acts c = (moved c.before).acts
 pub returns-clause-acts : goal.returns-clause-acts
 returns-clause-acts c =
     ended_acts c.args.library.now c.args.processes.now.list.items c.leave-2.new.processes.list.items c.args.objects.now c.end.new.objects
-    c.end_unheld.new.objects c.args.blocked.now.items c.call_next.new.blocked.items c.args.pid (item.Stuck c.args.pid) c.end_unheld.ensures
+    c.end_behind-2.new.objects c.args.blocked.now.items c.call_next.new.blocked.items c.args.pid (item.Stuck c.args.pid) c.end_behind-2.ensures
     (stopped c.before.before).acts
 
 pub returns-in-Some-clause-list : goal.returns-in-Some-clause-list
@@ -155,7 +166,7 @@ returns-in-Some-run_next-clause-asleep c = (moved c.before).asleep
 
 pub returns-clause-asleep : goal.returns-clause-asleep
 returns-clause-asleep c =
-    let first = (stopped c.before.before).asleep in (c.end_unheld.ensures.asleep.0 ∙ first.0, c.end_unheld.ensures.asleep.1 ∙ first.1)
+    let first = (stopped c.before.before).asleep in (c.end_behind-2.ensures.asleep.0 ∙ first.0, c.end_behind-2.ensures.asleep.1 ∙ first.1)
 
 pub returns-in-Some-clause-consistent : goal.returns-in-Some-clause-consistent
 returns-in-Some-clause-consistent c = c.end_behind.ensures.consistent
@@ -164,7 +175,7 @@ pub returns-in-Some-run_next-clause-consistent : goal.returns-in-Some-run_next-c
 returns-in-Some-run_next-clause-consistent c = (moved c.before).consistent
 
 pub returns-clause-consistent : goal.returns-clause-consistent
-returns-clause-consistent c = c.end_unheld.ensures.consistent
+returns-clause-consistent c = c.end_behind-2.ensures.consistent
 
 pub returns-in-Some-run_next-clause-quiet : goal.returns-in-Some-run_next-clause-quiet
 returns-in-Some-run_next-clause-quiet c local =
@@ -181,7 +192,7 @@ returns-in-Some-clause-unheld c apart =
 
 pub returns-clause-unheld : goal.returns-clause-unheld
 returns-clause-unheld d apart =
-    let c = d.before in ended_again c.leave-2.new.processes.list.items c.end.new.objects c.end_unheld.new.objects c.end_unheld.ensures
+    let c = d.before in ended_again c.leave-2.new.processes.list.items c.end.new.objects c.end_behind-2.new.objects c.end_behind-2.ensures
 
 pub run_next-requires-clause-sure : goal.run_next-requires-clause-sure
 run_next-requires-clause-sure c =

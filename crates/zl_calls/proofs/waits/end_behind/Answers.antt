@@ -3,7 +3,7 @@ use Rattle.zl_calls.proofs.waits.TakenEnds.{no_waits_end, unless_empty}
 use Rattle.zl_calls.proofs.waits.end_behind.Goals as goal
 
 pub end_taken-requires-clause-known : goal.end_taken-requires-clause-known
-end_taken-requires-clause-known c = λ plain. c.requires.known plain c.has_waits.ensures.there
+end_taken-requires-clause-known c = c.requires.known c.has_waits.ensures.there
 
 pub returns-else-has_waits : goal.returns-else-has_waits
 returns-else-has_waits c =

@@ -1,7 +1,8 @@
-use Rattle.zl_calls.proofs.Common.{sym}
+use Rattle.zl_calls.proofs.Common.{sym, ◌∙◌}
 use Rattle.zl_signals.specs.Waits.{is_by_handle, wait_at}
 use Rattle.zl_objects.specs.Listed.{is_made_at}
-use Rattle.zl_calls.proofs.waits.TakenEnds.{all_taken, fewer_taken, one_taken}
+use Rattle.zl_calls.proofs.waits.OwnWaits.{none_end}
+use Rattle.zl_calls.proofs.waits.TakenEnds.{all_taken, fewer_taken, one_taken, unless_empty}
 use Rattle.zl_calls.proofs.waits.end_made_at.Goals as goal
 
 pub loop-smaller : goal.loop-smaller
@@ -19,3 +20,8 @@ pub returns : goal.returns
 returns c =
     all_taken (is_made_at c.args.koid c.args.pid c.args.value) c.args.objects.now c.loop.objects c.loop.invariant c.args.koid
     (is_by_handle c.args.pid c.args.value) c.unwatch_handle.new.self c.unwatch_handle.ensures.rest (sym (c.in_default.ensures {u = tt}).listed)
+
+pub returns-then-not-has_waits : goal.returns-then-not-has_waits
+returns-then-not-has_waits c =
+    none_end (is_made_at c.args.koid c.args.pid c.args.value) c.args.objects.now
+    (unless_empty c.args.objects.now.waits (sym c.has_waits.ensures.any ∙ c.if-not-has_waits.true))

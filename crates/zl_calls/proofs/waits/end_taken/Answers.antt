@@ -1,4 +1,3 @@
-use Rattle.zl_calls.proofs.Common.{sym, ◌∙◌}
 use Rattle.zl_calls.proofs.waits.TakenEnds.{all_over, ends_none, known_end, one_more_over}
 use Rattle.zl_calls.proofs.waits.end_taken.Goals as goal
 
@@ -15,6 +14,6 @@ loop-handle-preserved c =
 pub returns : goal.returns
 returns c =
     known_end c.args.processes.now.list.items c.args.pid c.args.objects.now c.args.taken.now c.if-taken.false c.loop-handle.objects c.requires.consistent
-    (c.requires.known (sym c.ends_processes.ensures ∙ c.if-ends_processes.false)) (all_over c.args.processes.now.list.items c.args.pid
+    c.requires.known (all_over c.args.processes.now.list.items c.args.pid
     c.args.taken.now.handles.items c.loop-handle.handle-index (rw c.as_slice-handle-items.ensures at c.loop-handle-test.false) c.args.objects.now
     c.loop-handle.objects c.loop-handle.invariant)

@@ -1,4 +1,3 @@
-use Rattle.zl_calls.proofs.Common.{KeepsListed}
 use Rattle.std.proofs.Common.{◌≡◌, length}
 use Rattle.zl_calls.proofs.tasks.KillParts.{IsClosing}
 use Rattle.zl_calls.proofs.calls.kill.close_all_ended.Given as goal
@@ -7,5 +6,4 @@ abbrev pub invariant-loop-place : goal.invariant-loop-place
 invariant-loop-place l = record {
   closing : IsClosing l.initial.processes.list.items l.initial.objects l.place l.processes.list.items l.objects;
   long : length l.processes.list.items ≡ length l.initial.processes.list.items;
-  listed : KeepsListed l.initial.objects l.objects;
 }

@@ -1,9 +1,5 @@
-use Rattle.zl_calls.proofs.Common.{KeepsListed}
 use Rattle.zl_calls.proofs.tasks.KillLists.{IsClosingEach}
 use Rattle.zl_calls.proofs.calls.kill.close_each.Given as goal
 
 abbrev pub invariant-loop-koid : goal.invariant-loop-koid
-invariant-loop-koid l = record {
-  closing : IsClosingEach l.initial.processes.list.items l.initial.objects l.koids l.koid-index l.from l.processes.list.items l.objects;
-  listed : KeepsListed l.initial.objects l.objects;
-}
+invariant-loop-koid l = IsClosingEach l.initial.processes.list.items l.initial.objects l.koids l.koid-index l.from l.processes.list.items l.objects

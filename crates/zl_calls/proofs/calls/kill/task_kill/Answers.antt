@@ -23,16 +23,16 @@ returns-clause-does g c = λ caller at.
     (subst (λ (r : Objects). Releases [] (all_koids r.objects) (killing r c.in_ok-task.task.koid) c.kill.new.self) c.list_task-list.ensures.unchanged
     (c.kill.ensures.releases (subst (λ (r : Objects). AreKeptBut [] r.objects) (sym c.list_task-list.ensures.unchanged) c.requires.kept)))
     (subst (λ (r : Objects). LeavesListed r c.kill.new.self) c.list_task-list.ensures.unchanged c.kill.ensures.listed)
-    c.close_ended.ensures.closes c.close_ended.ensures.listed c.leave_blocked.ensures.items)
+    c.close_ended.ensures c.leave_blocked.ensures.items)
 
 pub returns-clause-caller : goal.returns-clause-caller
 returns-clause-caller g c = λ caller at.
     still_there c.args.processes.now.list.items c.end_within-all_stay.new.processes.list.items c.close_ended.new.processes.list.items
     c.list_task-list.new.self c.in_ok-task.task.koid c.end_within-all_stay.ensures.ended c.kill.new.self c.close_ended.new.objects
-    c.close_ended.ensures.closes c.args.place caller at
+    c.close_ended.ensures c.args.place caller at
 
 pub returns-clause-count : goal.returns-clause-count
 returns-clause-count g c =
     still_as_many c.args.processes.now.list.items c.end_within-all_stay.new.processes.list.items c.close_ended.new.processes.list.items
     c.list_task-list.new.self c.in_ok-task.task.koid c.end_within-all_stay.ensures.ended c.kill.new.self c.close_ended.new.objects
-    c.close_ended.ensures.closes
+    c.close_ended.ensures

@@ -1,22 +1,29 @@
 use Rattle.zl_calls.proofs.Common.{[]}
-use Rattle.zl_calls.proofs.waits.WaitsLost.{listed_gone, listed_same, listed_then}
+use Rattle.zl_calls.proofs.waits.OwnWaits.{beside_releases, own_ended, own_ends, own_starts}
 use Rattle.zl_calls.proofs.tables.Tables.{drained_is_shorter, drained_closes, all_closed}
 use Rattle.zl_calls.proofs.calls.process.close_all.Goals as goal
 
-pub loop-entry-init : goal.loop-entry-init
-loop-entry-init c = record { closes = λ r2 rest. rest; listed = listed_same c.args.objects.now }
+pub loop-value-init : goal.loop-value-init
+loop-value-init c = record { closes = λ r2 rest. rest; waits = own_starts c.args.pid c.args.table.entries c.args.objects.now }
 
-pub loop-entry-smaller : goal.loop-entry-smaller
-loop-entry-smaller c = drained_is_shorter _ _ _ c.in-Some.ensures.some
+pub loop-value-smaller : goal.loop-value-smaller
+loop-value-smaller c = drained_is_shorter _ c.in-Some.value _ _ c.in-Some.ensures.some
 
-pub loop-entry-preserved : goal.loop-entry-preserved
-loop-entry-preserved c = record {
+pub loop-value-preserved : goal.loop-value-preserved
+loop-value-preserved c = record {
   closes = λ r2 rest.
-      c.loop-entry.invariant.closes r2 (drained_closes _ _ _ c.loop-entry.objects c.release.new.self r2 c.in-Some.ensures.some c.release.ensures.releases rest);
-  listed = listed_then c.args.objects.now c.loop-entry.objects c.release.new.self c.loop-entry.invariant.listed
-      (listed_gone _ [] c.loop-entry.objects c.release.new.self c.release.ensures.releases c.release.ensures.listed);
+      c.loop-value.invariant.closes r2 (drained_closes _ c.in-Some.value _ _ c.loop-value.objects c.release.new.self r2 c.in-Some.ensures.some
+      (beside_releases _ [] c.loop-value.objects c.end_made_at.new.objects c.release.new.self c.end_made_at.ensures.beside c.release.ensures.releases) rest);
+  waits = own_ends c.args.pid c.args.table.entries c.args.objects.now c.loop-value.table c.in-Some.value c.in-Some.entry c.drain.new.self
+      c.loop-value.objects c.end_made_at.new.objects c.release.new.self c.loop-value.invariant.waits c.in-Some.ensures.some c.end_made_at.ensures
+      c.release.ensures.releases c.release.ensures.listed;
 }
 
 pub returns-clause-closes : goal.returns-clause-closes
 returns-clause-closes c =
-    c.loop-entry.invariant.closes c.loop-entry.objects (all_closed c.loop-entry.table c.loop-entry.objects (c.in_default.ensures {u = tt}).empty)
+    c.loop-value.invariant.closes c.loop-value.objects (all_closed c.loop-value.table c.loop-value.objects (c.in_default.ensures {u = tt}).empty)
+
+pub returns-clause-waits : goal.returns-clause-waits
+returns-clause-waits c =
+    own_ended c.args.pid c.args.table.entries c.args.objects.now c.loop-value.table c.loop-value.objects (c.in_default.ensures {u = tt}).empty
+    c.loop-value.invariant.waits

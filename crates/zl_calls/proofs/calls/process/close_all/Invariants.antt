@@ -1,11 +1,12 @@
-use Rattle.zl_calls.proofs.Common.{length, Objects, Drained, KeepsListed}
+use Rattle.zl_calls.proofs.Common.{length, Objects, Drained}
+use Rattle.zl_calls.proofs.waits.OwnWaits.{IsEndingOwn}
 use Rattle.zl_calls.proofs.calls.process.close_all.Given as goal
 
-abbrev pub invariant-loop-entry : goal.invariant-loop-entry
-invariant-loop-entry l = record {
+abbrev pub invariant-loop-value : goal.invariant-loop-value
+invariant-loop-value l = record {
   closes : (r2 : Objects) → Drained l.table.entries l.objects r2 → Drained l.initial.table.entries l.initial.objects r2;
-  listed : KeepsListed l.initial.objects l.objects;
+  waits : IsEndingOwn l.pid l.initial.table.entries l.initial.objects l.table.entries l.objects;
 }
 
-abbrev pub decreases-loop-entry : goal.decreases-loop-entry
-decreases-loop-entry l = length l.table.entries
+abbrev pub decreases-loop-value : goal.decreases-loop-value
+decreases-loop-value l = length l.table.entries

@@ -252,8 +252,6 @@ fn with_more_blocked_processes_than_have_room_all_is_looked_at(
         objects.sleep(pid, Awaited::PacketAt(event));
     }
     assert!(rt; objects.is_quiet());
-    objects.sleep(2, Awaited::PacketAt(event));
-    assert!(rt; objects.is_quiet());
     objects.sleep(66, Awaited::PacketAt(event));
     assert!(rt; !objects.is_quiet());
     Ok(())

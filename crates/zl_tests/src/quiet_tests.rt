@@ -1,5 +1,9 @@
 //! Which changes of objects have to be looked at, as something may be due.
 
+ghost use Rattle.std.specs.Prelude.{◌≡◌, true, false};
+ghost use Rattle.std.specs.List.{All};
+ghost use Rattle.zl_objects.specs.Calm.{is_due};
+
 use bitflags::Flags;
 use std::alloc::AllocError;
 use std::test::Fail;
@@ -64,13 +68,25 @@ fn watch(objects: &mut Objects, object: Koid, port: Koid) -> Result<(), AllocErr
     })
 }
 
-/// Says that what was touched was looked at, if no wait is registered, or a single one that doesn't
-/// hold, and at most 64 processes have what they wait for. Answers whether it said so.
-fn look(objects: &mut Objects) -> bool {
+/// Takes those off the list of the blocked that have what they wait for, at most 64. Says whether
+/// these were all.
+fn take_all_due(objects: &mut Objects) -> bool
+    ensures { result ≡ true
+        → All (λ s. is_due objects.new.objects s.awaited ≡ false) objects.new.sleepers }
+{
     for _ in 0..64 {
         objects.take_due();
     }
-    if objects.take_due().is_some() {
+    let None = objects.take_due() else {
+        return false;
+    };
+    true
+}
+
+/// Says that what was touched was looked at, if no wait is registered, or a single one that doesn't
+/// hold, and at most 64 processes have what they wait for. Answers whether it said so.
+fn look(objects: &mut Objects) -> bool {
+    if !take_all_due(objects) {
         return false;
     }
     if let Some(wait) = objects.wait_at(0) {

@@ -18,11 +18,11 @@ of_one test (y ∷ []) x f o first second alone none = rw (← same_Some x y fir
 of_one test (y ∷ z ∷ xs) x f None first second alone none = absurd (none-some z second)
 of_one test (y ∷ z ∷ xs) x f (Some a) first second alone none = absurd (false≢true (sym alone))
 
-pub calm-requires : goal.calm-requires
-calm-requires c = elim c.match-wait_at.branch [
+pub calm-requires-clause-waits : goal.calm-requires-clause-waits
+calm-requires-clause-waits c = elim c.match-wait_at.branch [
   | in-Some+else-is_some+else-intersects w ↦
-      of_one _ c.args.objects.now.waits _ wait_value w.wait_at-in-Some.result w.in-Some.ensures.wait w.wait_at-in-Some.ensures.wait
+      of_one _ c.take_all_due.new.objects.waits _ wait_value w.wait_at-in-Some.result w.in-Some.ensures.wait w.wait_at-in-Some.ensures.wait
       (sym w.is_some.ensures ∙ w.if-is_some.false)
       (rw (← w.signals_of.ensures.signals) (sym (w.intersects.ensures tt) ∙ w.if-intersects.false))
-  | in_default w ↦ of_none _ c.args.objects.now.waits w.in_default.ensures.wait
+  | in_default w ↦ of_none _ c.take_all_due.new.objects.waits w.in_default.ensures.wait
 ]

@@ -1,15 +1,8 @@
 -- A join with what lies below changes nothing; what lies below each other is the same.
-use Rattle.std.proofs.Common.{◌≡◌, ℕ, Bool, true, false, ◌&&◌, ◌||◌, not, [], ◌∷◌, Option, Some, None, refl, sym, ap, ◌∙◌, IsTrue, arith, leb, eqb}
-use Rattle.std.specs.Prelude.{bit_and}
-use Rattle.std.proofs.lemmas.Bool.Decides.{nat_tests, Decides-eqb}
-use Rattle.std.proofs.lemmas.Nat.{and_comm}
-use Rattle.zl_rights.specs.declared.kind.Kind.{Kind}
-use Rattle.zl_rights.specs.declared.rights.Rights.{Rights}
-use Rattle.zl_rights.specs.Numbers.{bits, rights_of, within}
-use Rattle.zl_abs.specs.declared.value.AbsVal.{AbsVal}
+use Rattle.zl_abs.proofs.Common.{ANY, AbsVal, Bool, Decides-eqb, IsTrue, Kind, None, Option, Rights, Some, State, [], all_below, all_joined, and_comm, ap}
+use Rattle.zl_abs.proofs.Common.{arith, below, bit_and, bits, eqb, false, joined, kind_below, kind_joined, larger, leb, nat_tests, not, refl, rights_of, sym}
+use Rattle.zl_abs.proofs.Common.{true, within, ℕ, ◌&&◌, ◌||◌, ◌∙◌, ◌∷◌, ◌≡◌}
 use Rattle.zl_abs.specs.declared.value.AbsVal.TheVariants.{Word, Has, KindOf, RightsOf}
-use Rattle.zl_abs.specs.Values.{ANY, below, joined, larger, kind_below, kind_joined}
-use Rattle.zl_abs.specs.States.{State, all_below, all_joined}
 use Rattle.zl_abs.proofs.Order.{same_kind_is, same_kind_refl, parts, both, is_within}
 
 -- ---- joins

@@ -1,15 +1,8 @@
 -- The rule of a call by its row.
-use Rattle.std.proofs.Common.{◌≡◌, ℕ, List, [], ◌∷◌, ◌++◌, zip, refl, sym, ap, ◌∙◌, subst, Result, Ok, Err, if◌then◌else◌}
-use Rattle.zl_code.specs.declared.instr.CallInstr.{CallInstr}
-use Rattle.zl_code.specs.Image.{Image}
-use Rattle.zl_code.specs.Instructions.{Row, call_row}
-use Rattle.zl_code.specs.Asked.{those, is_written}
-use Rattle.zl_abs.specs.declared.value.AbsVal.{AbsVal}
+use Rattle.zl_abs.proofs.Common.{AbsVal, CallInstr, Cause, Err, Image, List, Ok, Result, Row, State, Uses, [], and_then, ap, call_row, call_rule, call_rule_by}
+use Rattle.zl_abs.proofs.Common.{examined_all, finished, goes_on, if◌then◌else◌, is_written, passes, received_in, refl, state_after, stops, subst, sym, those}
+use Rattle.zl_abs.proofs.Common.{uses_by, uses_of, values_of, zip, ℕ, ◌++◌, ◌∙◌, ◌∷◌, ◌≡◌}
 use Rattle.zl_abs.specs.declared.value.AbsVal.TheVariants.{Word}
-use Rattle.zl_abs.specs.declared.cause.Cause.{Cause}
-use Rattle.zl_abs.specs.Rule.{and_then, passes}
-use Rattle.zl_abs.specs.States.{State}
-use Rattle.zl_abs.specs.CallRules.{examined_all, finished, received_in, Uses, uses_by, uses_of, values_of, state_after, call_rule, call_rule_by, goes_on, stops}
 
 -- what a call of the row uses, where its destinations among the registers get these values
 abbrev used_at : CallInstr → List AbsVal → Row → Uses

@@ -1,27 +1,13 @@
 -- The rules of the calls at a state and at one below it.
-use Rattle.std.proofs.Common.{◌≡◌, ℕ, ◌+◌, ◌≤◌, Bool, true, false, not, ◌&&◌, ◌||◌, List, [], ◌∷◌, ◌++◌, Option, Some, None, Ok, refl, IsTrue, arith, eqb}
-use Rattle.std.specs.Prelude.{if◌then◌else◌, bit_and, zip, is_some, slice_index}
-use Rattle.std.proofs.lemmas.Bool.Decides.{nat_tests}
-use Rattle.zl_rights.specs.declared.kind.Kind.{Kind}
-use Rattle.zl_rights.specs.declared.rights.Rights.{Rights}
+use Rattle.zl_abs.proofs.Common.{ANY, AbsVal, Bool, CallInstr, Cause, Gives, Image, IsTrue, KNOWN_RIGHTS, Kind, List, None, Ok, Operand, Option, Rights}
+use Rattle.zl_abs.proofs.Common.{SAME_RIGHTS, Some, State, [], all_below, answers, are_distinct, are_words, arith, below, bit_and, bits, bound_at, bound_of}
+use Rattle.zl_abs.proofs.Common.{call_row, call_rule, copies, eqb, examined, examined_all, examined_by, false, fault_of, finished, gives, goes_on, has_one}
+use Rattle.zl_abs.proofs.Common.{if◌then◌else◌, is_declared, is_has, is_result, is_some, is_written, kind_below, narrowed_value, nat_tests, not, number_at}
+use Rattle.zl_abs.proofs.Common.{passes, range_fits, refl, rights_of, slice_index, state_after, stops, sum_fits, taken_from, takes_any, those, true, uses}
+use Rattle.zl_abs.proofs.Common.{uses_of, value_at, values_by, values_of, with_all, with_value, within, zip, ℕ, ◌&&◌, ◌++◌, ◌+◌, ◌||◌, ◌∷◌, ◌≡◌, ◌≤◌}
 use Rattle.zl_rights.specs.declared.policy.Condition.{Condition}
-use Rattle.zl_rights.specs.Numbers.{bits, rights_of, within, SAME_RIGHTS, KNOWN_RIGHTS}
-use Rattle.zl_code.specs.declared.instr.CallInstr.{CallInstr}
-use Rattle.zl_code.specs.Image.{Image}
-use Rattle.zl_code.specs.Asked.{those, is_written}
-use Rattle.zl_code.specs.Instructions.{call_row}
-use Rattle.zl_code.specs.Spells.{number_at}
-use Rattle.zl_code.specs.Operands.{Operand}
-use Rattle.zl_abs.specs.declared.value.AbsVal.{AbsVal}
 use Rattle.zl_abs.specs.declared.value.AbsVal.TheVariants.{Word, Has, KindOf, RightsOf}
-use Rattle.zl_abs.specs.declared.cause.Cause.{Cause}
 use Rattle.zl_abs.specs.declared.cause.Cause.TheVariants as cause
-use Rattle.zl_abs.specs.Values.{ANY, below, kind_below, is_has, bound_of}
-use Rattle.zl_abs.specs.States.{State, all_below, value_at, bound_at, with_value, with_all}
-use Rattle.zl_abs.specs.Rule.{passes}
-use Rattle.zl_abs.specs.CallRules.{takes_any, fault_of, taken_from, examined_by, examined, examined_all, are_words, sum_fits, range_fits, is_declared}
-use Rattle.zl_abs.specs.CallRules.{is_result, are_distinct, has_one, uses, answers, finished, state_after, uses_of, narrowed_value, values_by, values_of}
-use Rattle.zl_abs.specs.CallRules.{Gives, gives, copies, goes_on, stops, call_rule}
 use Rattle.zl_abs.proofs.Order.{below_refl, same_kind_is, within_trans, within_refl}
 use Rattle.zl_abs.proofs.StateOrder.{both, and, all_below_refl}
 use Rattle.zl_abs.proofs.Lowering.{Lowers, IsBelow, WaysBelow, lowers_then, lowers_unless, not_kept, value_below, with_below, no_has, leb_le, le_leb}

@@ -1,20 +1,9 @@
 -- One operand and one result more.
-use Rattle.std.proofs.Common.{◌≡◌, ℕ, ◌+◌, ◌<◌, ◌≤◌, true, false, ◌&&◌, not, List, [], ◌∷◌, ◌++◌, map, Result, Ok, Err, refl, sym, ap, ◌∙◌, drop, take}
-use Rattle.std.proofs.Common.{length, arith, ◌-◌, get_or, drop-cons, add-one, Bool, ◌||◌, cond}
-use Rattle.std.proofs.lemmas.List.{drop_all, take_all, length-drop}
-use Rattle.zl_code.specs.Instructions.{Field, field_of}
+use Rattle.zl_abs.proofs.Common.{AbsVal, Bool, Cause, Err, Field, List, None, Ok, Operand, Option, Result, Some, State, [], add-one, and_then, ap, are_distinct}
+use Rattle.zl_abs.proofs.Common.{are_words, arith, bound_at, cond, drop, drop-cons, drop_all, examined, examined_all, false, field_of, get_or}
+use Rattle.zl_abs.proofs.Common.{get_or_default_zero, is_result, is_some, is_word, left_by, length, length-drop, map, not, operand_by, operands_at, refl}
+use Rattle.zl_abs.proofs.Common.{slice_index, sym, take, take_all, those, true, ℕ, ◌&&◌, ◌++◌, ◌+◌, ◌-◌, ◌<◌, ◌||◌, ◌∙◌, ◌∷◌, ◌≡◌, ◌≤◌}
 use Rattle.zl_code.specs.declared.layout.Field.{Field as FieldInCode}
-use Rattle.zl_code.specs.Operands.{Operand}
-use Rattle.zl_code.specs.Refusals.{operand_by}
-use Rattle.zl_abs.specs.declared.value.AbsVal.{AbsVal}
-use Rattle.zl_abs.specs.declared.cause.Cause.{Cause}
-use Rattle.zl_abs.specs.Rule.{and_then}
-use Rattle.zl_abs.specs.States.{State, bound_at}
-use Rattle.zl_code.specs.Asked.{those}
-use Rattle.zl_abs.specs.Changes.{left_by}
-use Rattle.std.specs.Prelude.{Option, Some, None, is_some, slice_index}
-use Rattle.std.proofs.lemmas.Grind.{get_or_default_zero}
-use Rattle.zl_abs.specs.CallRules.{examined, examined_all, are_distinct, is_result, operands_at, is_word, are_words}
 use Rattle.zl_abs.proofs.StateSteps.{Stands, drop_here}
 
 -- ---- one field more

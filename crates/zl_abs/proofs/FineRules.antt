@@ -1,42 +1,21 @@
 -- The rule of each instruction leads from a fine state to fine states.
-use Rattle.std.proofs.Common.{◌≡◌, ℕ, zero, suc, ◌+◌, ◌*◌, ◌<◌, ◌≤◌, Bool, true, false, ◌&&◌, not, List, [], ◌∷◌, ◌++◌, length, Option, Some, None, Result}
-use Rattle.std.proofs.Common.{Ok, Err, IfSome, IfOk, refl, IsTrue, arith, eqb, leb, ltb}
-use Rattle.std.specs.Prelude.{slice_get, if◌then◌else◌, bit_and, map, slice_index, zip}
-use Rattle.std.specs.List.{list_all}
-use Rattle.std.proofs.lemmas.Bool.Decides.{nat_tests}
-use Rattle.std.proofs.lemmas.Nat.{and_le_r}
-use Rattle.zl_rights.specs.declared.kind.Kind.{Kind}
+use Rattle.zl_abs.proofs.Common.{ANY, AbsVal, AllFine, Bool, CallInstr, Cause, Edge, Err, Fits, Gives, IfOk, IfSome, Image, Instr, IsFine, IsTrue, KNOWN_RIGHTS}
+use Rattle.zl_abs.proofs.Common.{Kind, List, LocalInstr, None, Ok, Operand, Option, Result, SAME_RIGHTS, SlotArray, Some, State, Uses, Ways, [], and_le_r}
+use Rattle.zl_abs.proofs.Common.{and_then, are_distinct, are_words, arith, bit_and, bits, call_reading, call_rule, capped, computes, copies, edge_to, edges}
+use Rattle.zl_abs.proofs.Common.{eqb, examined, examined_all, examined_by, false, fault_of, gives, goes_on, has_one, if◌then◌else◌, in_memory, instr_at}
+use Rattle.zl_abs.proofs.Common.{is_call_in_range, is_declared, is_has, is_in_range, is_instr_in_range, is_local_in_range, is_room, is_slot_in_range}
+use Rattle.zl_abs.proofs.Common.{least_from, leb, length, list_all, loads, local_parts, local_rule, ltb, makes, map, may_move, moved, names_registers}
+use Rattle.zl_abs.proofs.Common.{narrowed_value, nat_tests, new, not, nothing, number_at, packet, packet_values, passes, range_fits, ranges, received_in, refl}
+use Rattle.zl_abs.proofs.Common.{rights_of, rounded, rule_by, rule_with, signals, sizes, slice_get, slice_index, slot_fault, slot_value, state_after, stops}
+use Rattle.zl_abs.proofs.Common.{stores, suc, swaps_by, swaps_in, taken_from, takes, target_of, triple_results, true, unless, uses_of, value_at, values_by}
+use Rattle.zl_abs.proofs.Common.{values_of, whole, with_all, with_value, word_at, writes, zero, zip, ℕ, ◌&&◌, ◌*◌, ◌++◌, ◌+◌, ◌<◌, ◌∷◌, ◌≡◌, ◌≤◌}
 use Rattle.zl_rights.specs.declared.kind.Kind.TheVariants as kind
-use Rattle.zl_rights.specs.Numbers.{bits, rights_of, SAME_RIGHTS, KNOWN_RIGHTS}
-use Rattle.zl_code.specs.declared.image.SlotArray.{SlotArray}
-use Rattle.zl_code.specs.declared.instr.Instr.{Instr}
 use Rattle.zl_code.specs.declared.instr.Instr.TheVariants as instr
-use Rattle.zl_code.specs.declared.instr.LocalInstr.{LocalInstr}
 use Rattle.zl_code.specs.declared.instr.LocalInstr.TheVariants as local
-use Rattle.zl_code.specs.declared.instr.CallInstr.{CallInstr}
 use Rattle.zl_code.specs.declared.layout.Ending.{Ending}
 use Rattle.zl_code.specs.declared.layout.Ending.TheVariants as ending
-use Rattle.zl_code.specs.Image.{Image, instr_at}
-use Rattle.zl_code.specs.Spells.{is_in_range, is_instr_in_range, is_slot_in_range, is_local_in_range, is_call_in_range, is_room, local_parts, number_at}
-use Rattle.zl_code.specs.Spells.{names_registers, call_reading}
-use Rattle.zl_code.specs.Operands.{Operand}
-use Rattle.zl_code.proofs.ImageRanges.{ranges}
-use Rattle.zl_code.proofs.ImageCalls.{whole}
-use Rattle.zl_abs.specs.declared.value.AbsVal.{AbsVal}
 use Rattle.zl_abs.specs.declared.value.AbsVal.TheVariants.{Word, Has, KindOf, RightsOf}
-use Rattle.zl_abs.specs.declared.cause.Cause.{Cause}
 use Rattle.zl_abs.specs.declared.cause.Cause.TheVariants as cause
-use Rattle.zl_abs.specs.Ways.{Ways}
-use Rattle.zl_abs.specs.Values.{ANY, capped, is_has}
-use Rattle.zl_abs.specs.States.{State, value_at, with_value, with_all}
-use Rattle.zl_abs.specs.Fine.{Fits, IsFine, AllFine}
-use Rattle.zl_abs.specs.Bounds.{least_from, rounded}
-use Rattle.zl_abs.specs.Rule.{and_then, word_at, writes, passes, Edge, edge_to, edges}
-use Rattle.zl_abs.specs.LocalRules.{computes, in_memory, loads, stores, may_move, moved, takes, slot_fault, slot_value, swaps_by, swaps_in, unless, local_rule}
-use Rattle.zl_abs.specs.CallRules.{fault_of, taken_from, examined_by, examined, examined_all, are_words, range_fits, is_declared, are_distinct, has_one, Uses}
-use Rattle.zl_abs.specs.CallRules.{received_in, state_after, uses_of, new, narrowed_value, triple_results, packet_values, values_by, values_of, goes_on, stops}
-use Rattle.zl_abs.specs.CallRules.{call_rule, Gives, gives, nothing, makes, copies, sizes, signals, packet}
-use Rattle.zl_abs.specs.Typing.{target_of, rule_by, rule_with}
 use Rattle.zl_abs.proofs.StateOrder.{both}
 use Rattle.zl_abs.proofs.FineStates.{Suits, Named, is_plain, named_self, named_there, plain_suits, fine_with, fine_moved, rights_fit}
 use Rattle.zl_abs.proofs.FineTests.{FineWays, then_fine, IsBound, word_fine, zero_fine, equal_fine, below_fine, has_fine}

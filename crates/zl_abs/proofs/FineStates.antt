@@ -1,25 +1,11 @@
 -- Fine states: what may be written in one, the join of two, and the start.
-use Rattle.std.proofs.Common.{◌≡◌, ℕ, zero, suc, ◌+◌, ◌<◌, ◌≤◌, Bool, true, false, List, [], ◌∷◌, map, length, replicate, Option, Some, None, IfSome, refl, sym}
-use Rattle.std.proofs.Common.{ap, ◌∙◌, subst, IsTrue, arith, eqb}
-use Rattle.std.specs.Prelude.{slice_set, if◌then◌else◌, bit_and}
-use Rattle.std.specs.List.{list_all}
-use Rattle.std.proofs.lemmas.Bool.Decides.{nat_tests, Decides-eqb}
-use Rattle.std.proofs.lemmas.List.{length-map, length-set, get_or-set_other}
-use Rattle.std.proofs.lemmas.Nat.{and_le_l}
-use Rattle.zl_rights.specs.declared.kind.Kind.{Kind}
+use Rattle.zl_abs.proofs.Common.{ANY, AbsVal, Bool, Decides-eqb, Fits, IfSome, Image, IsFine, IsTrue, Kind, List, None, Option, Some, Start, State, []}
+use Rattle.zl_abs.proofs.Common.{all_joined, and_le_l, ap, arith, bit_and, bits, can_be_named, cons_if, eqb, false, get_or-set_other, if◌then◌else◌}
+use Rattle.zl_abs.proofs.Common.{is_in_range, is_named_well, is_start_in_range, joined, larger, length, length-map, length-set, list_all, map, moved, nat_tests}
+use Rattle.zl_abs.proofs.Common.{ranges, refined, refl, replicate, retagged, rights_allowed, slice_set, start_results, start_state, start_value, starts_from}
+use Rattle.zl_abs.proofs.Common.{subst, suc, sym, true, untagged, value_at, with_all, with_value, within, zero, ℕ, ◌+◌, ◌<◌, ◌∙◌, ◌∷◌, ◌≡◌, ◌≤◌}
 use Rattle.zl_rights.specs.declared.kind.Kind.TheVariants as kind
-use Rattle.zl_rights.specs.Numbers.{bits, within}
-use Rattle.zl_code.specs.declared.image.Start.{Start}
-use Rattle.zl_code.specs.Image.{Image}
-use Rattle.zl_code.specs.Spells.{is_in_range, is_start_in_range, rights_allowed}
-use Rattle.zl_code.proofs.ImageRanges.{ranges}
-use Rattle.zl_abs.specs.declared.value.AbsVal.{AbsVal}
 use Rattle.zl_abs.specs.declared.value.AbsVal.TheVariants.{Word, Has, KindOf, RightsOf}
-use Rattle.zl_abs.specs.Values.{ANY, joined, larger, untagged, retagged}
-use Rattle.zl_abs.specs.States.{State, all_joined, cons_if, value_at, with_value, with_all, refined, can_be_named, is_named_well, start_value, starts_from}
-use Rattle.zl_abs.specs.States.{start_results, start_state}
-use Rattle.zl_abs.specs.Fine.{Fits, IsFine}
-use Rattle.zl_abs.specs.LocalRules.{moved}
 use Rattle.zl_abs.proofs.StateOrder.{both}
 
 -- ---- registers of a state that was written

@@ -1,21 +1,10 @@
 -- What the tests of jumps teach of a fine state, which stays fine.
-use Rattle.std.proofs.Common.{◌≡◌, ℕ, ◌-◌, ◌<◌, ◌≤◌, Bool, true, false, ◌&&◌, not, Option, Some, None, Result, Ok, Err, IfSome, IfOk, refl, sym, ◌∙◌, subst}
-use Rattle.std.proofs.Common.{IsTrue, arith, eqb, ltb}
-use Rattle.std.specs.Prelude.{if◌then◌else◌, bit_and, bit_or}
-use Rattle.std.proofs.lemmas.Bool.Decides.{nat_tests, Decides-eqb}
-use Rattle.std.proofs.lemmas.Nat.{and_le_l, or_lt}
-use Rattle.zl_rights.specs.declared.kind.Kind.{Kind}
-use Rattle.zl_rights.specs.Numbers.{bits, rights_of, within, same_kind, KNOWN_RIGHTS}
-use Rattle.zl_abs.specs.declared.value.AbsVal.{AbsVal}
+use Rattle.zl_abs.proofs.Common.{ANY, AbsVal, Bool, Cause, Decides-eqb, Err, Fits, IfOk, IfSome, IsFine, IsTrue, KNOWN_RIGHTS, Kind, None, Ok, Option, Result}
+use Rattle.zl_abs.proofs.Common.{Some, State, Ways, and_le_l, and_then, arith, becomes, below_ways, bit_and, bit_or, bits, bound_of, capped, eqb, equal_ways}
+use Rattle.zl_abs.proofs.Common.{false, has_ways, if◌then◌else◌, is_named_well, kind_below, kind_numbered, kind_ways, known_kind, known_other, known_rights}
+use Rattle.zl_abs.proofs.Common.{known_there, known_zero, ltb, nat_tests, not, or_lt, refined, refl, rights_of, same_kind, smaller, subst, sym, true, value_at}
+use Rattle.zl_abs.proofs.Common.{within, word_at, word_or, zero_ways, ℕ, ◌&&◌, ◌-◌, ◌<◌, ◌∙◌, ◌≡◌, ◌≤◌}
 use Rattle.zl_abs.specs.declared.value.AbsVal.TheVariants.{Word, Has, KindOf, RightsOf}
-use Rattle.zl_abs.specs.declared.cause.Cause.{Cause}
-use Rattle.zl_abs.specs.Ways.{Ways}
-use Rattle.zl_abs.specs.Values.{ANY, capped, smaller, bound_of, kind_below}
-use Rattle.zl_abs.specs.States.{State, value_at, refined, is_named_well}
-use Rattle.zl_abs.specs.Fine.{Fits, IsFine}
-use Rattle.zl_abs.specs.Rule.{and_then, word_or, word_at}
-use Rattle.zl_abs.specs.LocalRules.{known_zero, known_there, known_kind, known_other, known_rights, becomes, kind_numbered, kind_ways, equal_ways, zero_ways}
-use Rattle.zl_abs.specs.LocalRules.{below_ways, has_ways}
 use Rattle.zl_abs.proofs.FineStates.{Named, is_plain, set_other, fine_refined}
 
 -- the states at the ends of the edges are fine

@@ -1,19 +1,9 @@
 -- A slow search for a typing, to hold worked programs against the rules.
-use Rattle.std.proofs.Common.{ℕ, zero, suc, ◌+◌, Bool, true, false, ◌&&◌, List, [], ◌∷◌, length, Option, Some, None}
-use Rattle.std.specs.Prelude.{slice_get, slice_set, if◌then◌else◌, replicate, Result, Ok, Err, nat_lt}
-use Rattle.zl_code.specs.declared.instr.Instr.{Instr}
-use Rattle.zl_code.specs.Image.{Image}
-use Rattle.zl_code.specs.Instructions.{row_of}
-use Rattle.zl_code.specs.Spells.{local_parts}
-use Rattle.zl_abs.specs.declared.cause.Cause.{Cause}
+use Rattle.zl_abs.proofs.Common.{Bool, Cause, Edge, Err, Image, Instr, List, None, Ok, Option, Result, Some, State, [], all_below, all_joined, are_distinct}
+use Rattle.zl_abs.proofs.Common.{below, bounds_of, call_rule, examined_all, false, if◌then◌else◌, imm_of, joined, least_from, length, local_parts, local_rule}
+use Rattle.zl_abs.proofs.Common.{nat_lt, replicate, row_of, rule_with, slice_get, slice_set, start_state, suc, true, uses_of, with_all, with_value, zero, ℕ}
+use Rattle.zl_abs.proofs.Common.{◌&&◌, ◌+◌, ◌∷◌}
 use Rattle.zl_abs.specs.declared.cause.Cause.TheVariants as cause
-use Rattle.zl_abs.specs.Values.{below, joined}
-use Rattle.zl_abs.specs.States.{State, all_below, all_joined, with_value, with_all, start_state}
-use Rattle.zl_abs.specs.Bounds.{bounds_of, imm_of, least_from}
-use Rattle.zl_abs.specs.Rule.{Edge}
-use Rattle.zl_abs.specs.LocalRules.{local_rule}
-use Rattle.zl_abs.specs.CallRules.{examined_all, are_distinct, uses_of, call_rule}
-use Rattle.zl_abs.specs.Typing.{rule_with}
 
 abbrev Found : Type 0
 Found = List (Option State)

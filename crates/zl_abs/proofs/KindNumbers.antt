@@ -1,9 +1,6 @@
 -- The kind with a number.
-use Rattle.std.proofs.Common.{◌≡◌, ◌≢◌, ℕ, Option, Some, None, refl, sym, ne_eqb, IfSome, IfNone}
-use Rattle.zl_rights.specs.declared.kind.Kind.{Kind}
+use Rattle.zl_abs.proofs.Common.{IfNone, IfSome, Kind, None, Option, Some, kind_number, kind_numbered, ne_eqb, refl, sym, ℕ, ◌≡◌, ◌≢◌}
 use Rattle.zl_rights.specs.declared.kind.Kind.TheVariants as kind
-use Rattle.zl_rights.specs.Numbers.{kind_number}
-use Rattle.zl_abs.specs.LocalRules.{kind_numbered}
 
 again : (k : Kind) → Some k ≡ kind_numbered (kind_number k)
 again kind.Process = refl

@@ -1,3 +1,4 @@
+pub mod Common
 pub mod Rounding
 pub mod Untagging
 pub mod StateSteps

@@ -1,22 +1,10 @@
 -- One place more of a list of handles, and what is received.
-use Rattle.std.proofs.Common.{◌≡◌, ℕ, zero, suc, add-one, is_some, Option, ◌+◌, ◌*◌, ◌-◌, ◌<◌, ◌≤◌, Bool, true, false, List, [], ◌∷◌, ◌++◌, Some, None}
-use Rattle.std.proofs.Common.{Result, Ok, refl, sym, ap, ◌∙◌, drop, length, arith}
-use Rattle.std.specs.Prelude.{slice_get, nat_lt, if◌then◌else◌}
-use Rattle.std.proofs.lemmas.List.{drop_all, length-append}
-use Rattle.zl_code.proofs.Common.{none-some, same_Some}
-use Rattle.zl_rights.specs.Numbers.{bits, rights_of}
-use Rattle.zl_rights.specs.declared.rights.Rights.{Rights}
-use Rattle.zl_code.specs.Instructions.{Field}
-use Rattle.zl_code.specs.Asked.{used}
-use Rattle.zl_code.specs.Refusals.{operand_by}
-use Rattle.zl_code.specs.Spells.{register_in}
-use Rattle.zl_abs.specs.declared.value.AbsVal.{AbsVal}
+use Rattle.zl_abs.proofs.Common.{AbsVal, Bool, Cause, Field, List, None, Ok, Option, Result, Rights, Some, State, [], add-one, ap, arith, bits, drop, drop_all}
+use Rattle.zl_abs.proofs.Common.{examined_all, false, if◌then◌else◌, is_some, left_by, length, length-append, nat_lt, none-some, operand_by, operands_listed}
+use Rattle.zl_abs.proofs.Common.{refl, register_in, rights_of, same_Some, slice_get, suc, sym, triple_results, true, used, zero, ℕ, ◌*◌, ◌++◌, ◌+◌, ◌-◌, ◌<◌}
+use Rattle.zl_abs.proofs.Common.{◌∙◌, ◌∷◌, ◌≡◌, ◌≤◌}
 use Rattle.zl_abs.specs.declared.value.AbsVal.TheVariants.{Has, KindOf, RightsOf}
-use Rattle.zl_abs.specs.declared.cause.Cause.{Cause}
-use Rattle.zl_abs.specs.States.{State}
-use Rattle.zl_abs.specs.Changes.{left_by}
 use Rattle.zl_abs.proofs.CallSteps.{stops_there, goes_on}
-use Rattle.zl_abs.specs.CallRules.{examined_all, operands_listed, triple_results}
 
 -- the registers in these places are examined by the field
 abbrev pub listed : Field → State → List ℕ → Result State Cause

@@ -1,26 +1,13 @@
 -- The rules of the local instructions at a state and at one below it.
-use Rattle.std.proofs.Common.{◌≡◌, ℕ, ◌+◌, ◌<◌, ◌≤◌, Bool, true, false, not, ◌&&◌, ◌||◌, List, Option, Some, None, Result, Ok, refl, IsTrue, arith, leb, ltb}
-use Rattle.std.proofs.Common.{eqb}
-use Rattle.std.specs.Prelude.{slice_get, if◌then◌else◌, ◌/◌, ◌^◌}
-use Rattle.std.proofs.lemmas.Bool.Decides.{nat_tests, Decides-eqb}
-use Rattle.std.proofs.lemmas.Nat.{le-div, pow_pos}
+use Rattle.zl_abs.proofs.Common.{ANY, AbsVal, Bool, Cause, Decides-eqb, Image, IsTrue, Kind, List, LocalInstr, None, Ok, Option, Result, Rights, SlotArray}
+use Rattle.zl_abs.proofs.Common.{Some, State, Ways, and_then, arith, below, bits, capped, eqb, false, if◌then◌else◌, in_memory, is_has, kind_below, le-div, leb}
+use Rattle.zl_abs.proofs.Common.{loads, local_rule, ltb, may_move, moved, nat_tests, not, passes, pow_pos, refl, shifted, slice_get, slot_fault, slot_value}
+use Rattle.zl_abs.proofs.Common.{smaller, stores, swaps_by, swaps_in, takes, true, unless, value_at, within, word_at, ℕ, ◌&&◌, ◌+◌, ◌/◌, ◌<◌, ◌^◌, ◌||◌, ◌≡◌}
+use Rattle.zl_abs.proofs.Common.{◌≤◌}
 use Rattle.std.proofs.Math.Nat.{div-mul-le_self}
-use Rattle.zl_rights.specs.declared.kind.Kind.{Kind}
-use Rattle.zl_rights.specs.declared.rights.Rights.{Rights}
-use Rattle.zl_rights.specs.Numbers.{bits, within}
-use Rattle.zl_code.specs.declared.image.SlotArray.{SlotArray}
-use Rattle.zl_code.specs.declared.instr.LocalInstr.{LocalInstr}
 use Rattle.zl_code.specs.declared.instr.LocalInstr.TheVariants as local
-use Rattle.zl_code.specs.Image.{Image}
-use Rattle.zl_abs.specs.declared.value.AbsVal.{AbsVal}
 use Rattle.zl_abs.specs.declared.value.AbsVal.TheVariants.{Word, Has, KindOf, RightsOf}
-use Rattle.zl_abs.specs.declared.cause.Cause.{Cause}
 use Rattle.zl_abs.specs.declared.cause.Cause.TheVariants as cause
-use Rattle.zl_abs.specs.Ways.{Ways}
-use Rattle.zl_abs.specs.Values.{ANY, below, capped, smaller, kind_below, is_has}
-use Rattle.zl_abs.specs.States.{State, value_at}
-use Rattle.zl_abs.specs.Rule.{and_then, word_at, passes}
-use Rattle.zl_abs.specs.LocalRules.{shifted, in_memory, loads, stores, may_move, moved, takes, slot_fault, slot_value, swaps_by, swaps_in, local_rule, unless}
 use Rattle.zl_abs.proofs.Order.{below_refl, kind_trans, within_trans, parts}
 use Rattle.zl_abs.proofs.StateOrder.{both}
 use Rattle.zl_abs.proofs.Lowering.{Lowers, IsBelow, WaysBelow, lowers_then, lowers_if, lowers_unless, not_kept, value_below, with_below, moved_below, no_has}

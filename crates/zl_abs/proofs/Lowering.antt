@@ -1,17 +1,9 @@
 -- Where a state is below another, so is what a rule writes there.
-use Rattle.std.proofs.Common.{◌≡◌, ℕ, zero, suc, ◌≤◌, Bool, true, false, not, ◌&&◌, List, [], ◌∷◌, map, Option, Some, None, Result, Ok, Err, refl, IsTrue}
-use Rattle.std.proofs.Common.{arith, leb, ltb, eqb}
-use Rattle.std.specs.Prelude.{slice_set, if◌then◌else◌}
-use Rattle.std.proofs.lemmas.Bool.Decides.{nat_tests, Decides-eqb}
-use Rattle.zl_abs.specs.declared.value.AbsVal.{AbsVal}
+use Rattle.zl_abs.proofs.Common.{ANY, AbsVal, Bool, Cause, Decides-eqb, Err, IsTrue, List, None, Ok, Option, Result, Some, State, Ways, [], all_below, and_then}
+use Rattle.zl_abs.proofs.Common.{arith, below, bound_of, computes, eqb, false, if◌then◌else◌, is_has, least_from, leb, ltb, map, moved, nat_tests, not, passes}
+use Rattle.zl_abs.proofs.Common.{refl, retagged, rounded, slice_set, suc, true, untagged, value_at, with_value, word_at, word_or, writes, zero, ℕ, ◌&&◌, ◌∷◌}
+use Rattle.zl_abs.proofs.Common.{◌≡◌, ◌≤◌}
 use Rattle.zl_abs.specs.declared.value.AbsVal.TheVariants.{Word, Has, KindOf, RightsOf}
-use Rattle.zl_abs.specs.declared.cause.Cause.{Cause}
-use Rattle.zl_abs.specs.Ways.{Ways}
-use Rattle.zl_abs.specs.Values.{ANY, below, is_has, bound_of, untagged, retagged}
-use Rattle.zl_abs.specs.States.{State, all_below, value_at, with_value}
-use Rattle.zl_abs.specs.Bounds.{least_from, rounded}
-use Rattle.zl_abs.specs.Rule.{and_then, writes, word_or, word_at, passes}
-use Rattle.zl_abs.specs.LocalRules.{computes, moved}
 use Rattle.zl_abs.proofs.Order.{below_refl}
 use Rattle.zl_abs.proofs.StateOrder.{both, and}
 

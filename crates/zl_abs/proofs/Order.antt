@@ -1,17 +1,10 @@
 -- The order of values, and that their join is the least above both.
-use Rattle.std.proofs.Common.{◌≡◌, ℕ, Bool, true, false, ◌&&◌, ◌||◌, not, Option, Some, None, refl, IsTrue, arith, leb, eqb}
-use Rattle.std.specs.Prelude.{bit_and, if◌then◌else◌}
-use Rattle.std.proofs.lemmas.Bool.Decides.{nat_tests, Decides-eqb}
-use Rattle.std.proofs.lemmas.Nat.{and_assoc, and_comm}
+use Rattle.zl_abs.proofs.Common.{ANY, AbsVal, Bool, Decides-eqb, IsAboveJoin, IsTrue, JoinIsAbove, Kind, None, Option, Rights, Some, and_assoc, and_comm, arith}
+use Rattle.zl_abs.proofs.Common.{below, bit_and, bits, eqb, false, if◌then◌else◌, joined, kind_below, kind_joined, larger, leb, nat_tests, not, refl, same_kind}
+use Rattle.zl_abs.proofs.Common.{true, within, ℕ, ◌&&◌, ◌||◌, ◌≡◌}
 use Rattle.std.specs.Int.Bits.{and_self}
-use Rattle.zl_rights.specs.declared.kind.Kind.{Kind}
 use Rattle.zl_rights.specs.declared.kind.Kind.TheVariants.{Process, Channel, Event, Port, Eventpair, Job}
-use Rattle.zl_rights.specs.declared.rights.Rights.{Rights}
-use Rattle.zl_rights.specs.Numbers.{bits, within, same_kind}
-use Rattle.zl_abs.specs.declared.value.AbsVal.{AbsVal}
 use Rattle.zl_abs.specs.declared.value.AbsVal.TheVariants.{Word, Has, KindOf, RightsOf}
-use Rattle.zl_abs.specs.Values.{below, joined, kind_below, kind_joined, ANY, larger}
-use Rattle.zl_abs.specs.Laws.{IsAboveJoin, JoinIsAbove}
 
 pub same_kind_refl : (a : Kind) → same_kind a a ≡ true
 same_kind_refl Process = refl

@@ -1,11 +1,6 @@
 -- One register more of a state that is raised in place.
-use Rattle.std.proofs.Common.{◌≡◌, ℕ, ◌+◌, ◌<◌, ◌≤◌, Bool, true, false, ◌&&◌, not, ◌++◌, Some, None, refl, sym, ◌∙◌, ap, subst, drop, take, length}
-use Rattle.std.specs.Prelude.{slice_set}
-use Rattle.std.specs.Option.{option_map}
-use Rattle.std.proofs.lemmas.List.{set-get_or, get_or_default}
-use Rattle.zl_abs.specs.declared.value.AbsVal.{AbsVal}
-use Rattle.zl_abs.specs.Values.{below, joined}
-use Rattle.zl_abs.specs.States.{State, all_below, all_joined}
+use Rattle.zl_abs.proofs.Common.{AbsVal, Bool, None, Some, State, all_below, all_joined, ap, below, drop, false, get_or_default, joined, length, not}
+use Rattle.zl_abs.proofs.Common.{option_map, refl, set-get_or, slice_set, subst, sym, take, true, ℕ, ◌&&◌, ◌++◌, ◌+◌, ◌<◌, ◌∙◌, ◌≡◌, ◌≤◌}
 use Rattle.zl_abs.proofs.StateSteps.{Stands, below_step, below_end, joined_more, joined_stop, joined_end}
 use Rattle.zl_abs.proofs.Absorbing.{absorbs}
 

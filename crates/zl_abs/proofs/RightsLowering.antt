@@ -1,9 +1,7 @@
 -- Rights that are gained.
-use Rattle.std.proofs.Common.{◌≡◌, ℕ, true, sym, ap, ◌∙◌, min, max, arith}
-use Rattle.std.specs.Prelude.{bit_and, bit_or}
+use Rattle.zl_abs.proofs.Common.{ap, arith, bit_and, bit_or, max, min, sym, true, within, ℕ, ◌∙◌, ◌≡◌}
 use Rattle.std.specs.Int.{bit_at}
 use Rattle.std.proofs.lemmas.Nat.Bits.{same_from_bits, bit_at_and, bit_at_or}
-use Rattle.zl_rights.specs.Numbers.{within}
 use Rattle.zl_abs.proofs.Order.{is_within, within_is}
 
 module _ (part whole more : ℕ) (h : within part whole ≡ true) where

@@ -1,16 +1,9 @@
 -- How far a state can still rise: a join that isn't the state itself takes some of it.
-use Rattle.std.proofs.Common.{◌≡◌, ◌≢◌, ℕ, suc, ◌+◌, ◌-◌, ◌*◌, ◌<◌, ◌≤◌, Bool, true, false, not, ◌&&◌, ◌||◌, [], ◌∷◌, Option, Some, None, refl, sym, ◌∙◌, subst}
-use Rattle.std.proofs.Common.{length, ◌⊎◌, inl, inr, arith, leb, eqb}
-use Rattle.std.specs.Prelude.{if◌then◌else◌, bit_and}
-use Rattle.std.proofs.lemmas.Nat.{and_le_l, and_comm}
-use Rattle.std.proofs.lemmas.Bool.Decides.{nat_tests, Decides-eqb}
-use Rattle.zl_rights.specs.declared.kind.Kind.{Kind}
-use Rattle.zl_rights.specs.Numbers.{bits, within, same_kind}
-use Rattle.zl_abs.specs.declared.value.AbsVal.{AbsVal}
+use Rattle.zl_abs.proofs.Common.{ANY, AbsVal, Bool, Decides-eqb, Fits, IsFine, Kind, None, Option, Some, State, [], all_below, all_joined, and_comm, and_le_l}
+use Rattle.zl_abs.proofs.Common.{arith, below, bit_and, bits, cons_if, eqb, false, if◌then◌else◌, inl, inr, joined, kind_below, kind_joined, larger, leb}
+use Rattle.zl_abs.proofs.Common.{length, nat_tests, not, refl, same_kind, subst, suc, sym, true, value_at, within, ℕ, ◌&&◌, ◌*◌, ◌+◌, ◌-◌, ◌<◌, ◌||◌, ◌∙◌, ◌∷◌}
+use Rattle.zl_abs.proofs.Common.{◌≡◌, ◌≢◌, ◌≤◌, ◌⊎◌}
 use Rattle.zl_abs.specs.declared.value.AbsVal.TheVariants.{Word, Has, KindOf, RightsOf}
-use Rattle.zl_abs.specs.Values.{ANY, below, joined, larger, kind_below, kind_joined}
-use Rattle.zl_abs.specs.States.{State, all_below, all_joined, cons_if, value_at}
-use Rattle.zl_abs.specs.Fine.{Fits, IsFine}
 use Rattle.zl_abs.proofs.Order.{same_kind_is, same_kind_refl}
 
 -- ---- what it is

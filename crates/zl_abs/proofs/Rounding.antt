@@ -1,9 +1,6 @@
 -- One bound more of the search for the next one.
-use Rattle.std.proofs.Common.{◌≡◌, ℕ, ◌+◌, ◌<◌, ◌≤◌, ◌&&◌, List, [], ◌∷◌, ◌++◌, refl, drop, get_or, length, add-one, drop-cons, leb, ltb}
-use Rattle.std.specs.Prelude.{if◌then◌else◌}
-use Rattle.std.proofs.lemmas.List.{drop_all}
-use Rattle.zl_code.specs.declared.instr.Instr.{Instr}
-use Rattle.zl_abs.specs.Bounds.{least_from, imm_bounds, bounds_by, imm_of}
+use Rattle.zl_abs.proofs.Common.{Instr, List, [], add-one, bounds_by, drop, drop-cons, drop_all, get_or, if◌then◌else◌, imm_bounds, imm_of, least_from, leb}
+use Rattle.zl_abs.proofs.Common.{length, ltb, refl, ℕ, ◌&&◌, ◌++◌, ◌+◌, ◌<◌, ◌∷◌, ◌≡◌, ◌≤◌}
 use Rattle.zl_abs.proofs.StateSteps.{Stands, drop_here}
 
 pub least_append : (n : ℕ) (xs ys : List ℕ) (best : ℕ) → least_from n best (xs ++ ys) ≡ least_from n (least_from n best xs) ys

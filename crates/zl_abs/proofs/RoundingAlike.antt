@@ -1,22 +1,11 @@
 -- Rules by bounds that round numbers up alike are the same.
-use Rattle.std.proofs.Common.{◌≡◌, ℕ, ◌+◌, List, [], ◌∷◌, length, Option, Some, None, refl, ap, slice_index}
-use Rattle.zl_code.specs.declared.instr.Instr.{Instr}
+use Rattle.zl_abs.proofs.Common.{ANY, AbsVal, CallInstr, Gives, Image, Instr, List, LocalInstr, None, Option, RoundAlike, Some, State, [], and_then, ap}
+use Rattle.zl_abs.proofs.Common.{call_row, call_rule, call_rule_by, capped, computes, edges, gives, goes_on, instr_at, length, local_rule, number_at, packet}
+use Rattle.zl_abs.proofs.Common.{refl, rule_by, rule_with, shifted, slice_index, smaller, target_of, uses_by, uses_of, value_at, values_by, word_at, writes, ℕ}
+use Rattle.zl_abs.proofs.Common.{◌+◌, ◌∷◌, ◌≡◌}
 use Rattle.zl_code.specs.declared.instr.Instr.TheVariants as instr
-use Rattle.zl_code.specs.declared.instr.LocalInstr.{LocalInstr}
 use Rattle.zl_code.specs.declared.instr.LocalInstr.TheVariants as local
-use Rattle.zl_code.specs.declared.instr.CallInstr.{CallInstr}
-use Rattle.zl_code.specs.Image.{Image, instr_at}
-use Rattle.zl_code.specs.Instructions.{call_row}
-use Rattle.zl_code.specs.Spells.{number_at}
-use Rattle.zl_abs.specs.declared.value.AbsVal.{AbsVal}
 use Rattle.zl_abs.specs.declared.value.AbsVal.TheVariants.{Word}
-use Rattle.zl_abs.specs.Values.{ANY, capped, smaller}
-use Rattle.zl_abs.specs.States.{State, value_at}
-use Rattle.zl_abs.specs.Bounds.{RoundAlike}
-use Rattle.zl_abs.specs.Rule.{and_then, word_at, writes, edges}
-use Rattle.zl_abs.specs.LocalRules.{computes, shifted, local_rule}
-use Rattle.zl_abs.specs.CallRules.{Gives, gives, packet, values_by, uses_by, uses_of, goes_on, call_rule_by, call_rule}
-use Rattle.zl_abs.specs.Typing.{target_of, rule_by, rule_with}
 
 module _ (bs cs : List ℕ) (alike : RoundAlike bs cs) (i : Image) (s : State) where
   same_computes : (a n : ℕ) → computes bs s a n ≡ computes cs s a n

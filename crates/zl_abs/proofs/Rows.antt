@@ -1,18 +1,12 @@
 -- Worked programs, accepted and refused, by computation: one at least for each cause.
-use Rattle.std.proofs.Common.{◌≡◌, ℕ, false, List, [], ◌∷◌, refl, Some}
+use Rattle.zl_abs.proofs.Common.{Image, Instr, List, LocalInstr, SlotArray, Some, Start, [], false, refl, rights_of, ℕ, ◌∷◌, ◌≡◌}
 use Rattle.zl_rights.specs.declared.kind.Kind.TheVariants as kind
 use Rattle.zl_rights.specs.declared.policy.Condition.{Condition}
 use Rattle.zl_rights.specs.declared.policy.Condition.TheVariants as condition
-use Rattle.zl_rights.specs.Numbers.{rights_of}
-use Rattle.zl_code.specs.declared.image.Start.{Start}
-use Rattle.zl_code.specs.declared.image.SlotArray.{SlotArray}
-use Rattle.zl_code.specs.declared.instr.Instr.{Instr}
 use Rattle.zl_code.specs.declared.instr.Instr.TheVariants as instr
-use Rattle.zl_code.specs.declared.instr.LocalInstr.{LocalInstr}
 use Rattle.zl_code.specs.declared.instr.LocalInstr.TheVariants as local
 use Rattle.zl_code.specs.declared.history.CallName.{CallName}
 use Rattle.zl_code.specs.declared.history.CallName.TheVariants as name
-use Rattle.zl_code.specs.Image.{Image}
 use Rattle.zl_code.proofs.Called.{called, sending}
 use Rattle.zl_abs.specs.declared.cause.Cause.TheVariants as cause
 use Rattle.zl_abs.proofs.Infer.{Typed, Refused, Conflicts, verdict, searching}

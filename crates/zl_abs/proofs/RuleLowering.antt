@@ -1,18 +1,9 @@
 -- The rule of an instruction at a state and at one below it, with its edges.
-use Rattle.std.proofs.Common.{ℕ, ◌+◌, Bool, true, false, List, [], ◌∷◌, ◌++◌, length, Option, Some, None, Result, Ok, Err, refl, inl, inr, IsTrue, ltb}
-use Rattle.std.specs.Prelude.{if◌then◌else◌}
-use Rattle.zl_code.specs.declared.instr.Instr.{Instr}
+use Rattle.zl_abs.proofs.Common.{AreAmong, Bool, Cause, Edge, Err, Image, Instr, IsAmong, IsTrue, List, None, Ok, Option, Result, RuleBelow, Some, State, Ways}
+use Rattle.zl_abs.proofs.Common.{[], all_below, call_rule, edge_to, edges, false, if◌then◌else◌, inl, inr, instr_at, length, local_rule, ltb, refl, rule_by}
+use Rattle.zl_abs.proofs.Common.{rule_with, target_of, true, ℕ, ◌++◌, ◌+◌, ◌∷◌}
 use Rattle.zl_code.specs.declared.instr.Instr.TheVariants as instr
-use Rattle.zl_code.specs.Image.{Image, instr_at}
-use Rattle.zl_abs.specs.declared.cause.Cause.{Cause}
 use Rattle.zl_abs.specs.declared.cause.Cause.TheVariants as cause
-use Rattle.zl_abs.specs.Ways.{Ways}
-use Rattle.zl_abs.specs.States.{State, all_below}
-use Rattle.zl_abs.specs.Rule.{Edge, edge_to, edges}
-use Rattle.zl_abs.specs.LocalRules.{local_rule}
-use Rattle.zl_abs.specs.CallRules.{call_rule}
-use Rattle.zl_abs.specs.Typing.{rule_by, rule_with, target_of}
-use Rattle.zl_abs.specs.Laws.{IsAmong, AreAmong, RuleBelow}
 use Rattle.zl_abs.proofs.Lowering.{Lowers, WayBelow, WaysBelow, lowers_then}
 use Rattle.zl_abs.proofs.LocalLowering.{local_below}
 use Rattle.zl_abs.proofs.CallLowering.{call_below}

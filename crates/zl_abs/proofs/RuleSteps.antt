@@ -1,21 +1,9 @@
 -- The rule of the instruction at a place, by what stands there.
-use Rattle.std.proofs.Common.{◌≡◌, ℕ, zero, suc, ◌<◌, ◌≤◌, Bool, true, List, [], ◌∷◌, length, Option, Some, None, Err, refl, sym, IsTrue, arith}
-use Rattle.std.specs.Prelude.{slice_get}
-use Rattle.std.specs.List.{list_all}
-use Rattle.zl_code.proofs.Common.{none-some, same_Some, and_parts, is_in_range, is_instr_in_range}
-use Rattle.zl_code.proofs.ImageRanges.{ranges}
-use Rattle.zl_code.specs.declared.instr.Instr.{Instr}
+use Rattle.zl_abs.proofs.Common.{Bool, CallInstr, Err, Image, Instr, IsTrue, List, LocalInstr, None, Option, Some, State, [], and_parts, and_then, arith}
+use Rattle.zl_abs.proofs.Common.{call_in, call_rule, edges, instr_at, is_call_in_range, is_in_range, is_instr_in_range, length, list_all, local_in, local_rule}
+use Rattle.zl_abs.proofs.Common.{none-some, ranges, refl, rule_by, rule_with, same_Some, slice_get, suc, sym, target_of, true, zero, ℕ, ◌<◌, ◌∷◌, ◌≡◌, ◌≤◌}
 use Rattle.zl_code.specs.declared.instr.Instr.TheVariants as instr
-use Rattle.zl_code.specs.declared.instr.LocalInstr.{LocalInstr}
-use Rattle.zl_code.specs.declared.instr.CallInstr.{CallInstr}
-use Rattle.zl_code.specs.Image.{Image, instr_at, local_in, call_in}
-use Rattle.zl_code.specs.Spells.{is_call_in_range}
 use Rattle.zl_abs.specs.declared.cause.Cause.TheVariants as cause
-use Rattle.zl_abs.specs.States.{State}
-use Rattle.zl_abs.specs.Rule.{and_then, edges}
-use Rattle.zl_abs.specs.LocalRules.{local_rule}
-use Rattle.zl_abs.specs.CallRules.{call_rule}
-use Rattle.zl_abs.specs.Typing.{rule_by, rule_with, target_of}
 
 local_by : (bounds : List ℕ) (i : Image) (n : ℕ) (s : State) (o : Option Instr) (x : LocalInstr) → Some x ≡ local_in o
     → rule_by bounds i n s o ≡ and_then (local_rule bounds i x s) (edges (length i.code) n (target_of x))

@@ -1,23 +1,17 @@
 -- The next bound, found in any list with the same bounds, and in a sorted one by a binary search.
-use Rattle.std.proofs.Common.{◌≡◌, ℕ, zero, suc, ◌+◌, ◌<◌, ◌≤◌, Bool, true, false, ◌&&◌, List, [], ◌∷◌, ◌++◌, length, get_or, refl, sym, ap, ◌∙◌, subst, drop}
-use Rattle.std.proofs.Common.{arith, leb, ltb, eqb, leb-true, inl, inr, Less, Equal, Greater}
-use Rattle.std.specs.Prelude.{if◌then◌else◌}
-use Rattle.std.specs.List.{Contains, dedup}
+use Rattle.zl_abs.proofs.Common.{ANY, Bool, Contains, Equal, Greater, Instr, Less, List, RoundAlike, [], ap, append_assoc, arith, bounds_by, bounds_of, dedup}
+use Rattle.zl_abs.proofs.Common.{drop, drop_all, eqb, false, get_or, get_or_default, if◌then◌else◌, imm_bounds, imm_of, inl, inr, least_from, leb, leb-true}
+use Rattle.zl_abs.proofs.Common.{length, ltb, nat_tests, plain_bounds, refl, rounded, subst, suc, sym, true, zero, ℕ, ◌&&◌, ◌++◌, ◌+◌, ◌<◌, ◌∙◌, ◌∷◌, ◌≡◌, ◌≤◌}
 use Rattle.std.specs.List.Sorted.{IsPermutation, IsSorted, IsStrictlySortedBy, IsNonDecreasingBy, IsPartitionPoint}
 use Rattle.std.specs.Ordering.{nat_cmp, ordering_index, eq_by_cmp}
 use Rattle.std.proofs.lemmas.Bool.{cases_lt}
-use Rattle.std.proofs.lemmas.List.{get_or_default}
-use Rattle.std.proofs.lemmas.Bool.Decides.{nat_tests}
 use Rattle.std.proofs.lemmas.Cmp.{ranked, nat_cmp_total}
 use Rattle.std.proofs.lemmas.List.Elements.{All-from_recursion}
 use Rattle.std.proofs.lemmas.List.Sorted.{Contains-permutation, IsPermutation-sym}
 use Rattle.std.proofs.lemmas.List.Kept.{Contains-dedup_nat, Contains-from_dedup, IsStrictlySortedBy-dedup}
 use Rattle.std.specs.List.Retain.{IsFiltered, DiffersFromLast}
-use Rattle.std.proofs.lemmas.List.{append_assoc, append-nil, drop_all}
+use Rattle.std.proofs.lemmas.List.{append-nil}
 use Rattle.std.proofs.lemmas.List.Filters.{dedup_is}
-use Rattle.zl_code.specs.declared.instr.Instr.{Instr}
-use Rattle.zl_abs.specs.Values.{ANY}
-use Rattle.zl_abs.specs.Bounds.{imm_of, bounds_by, imm_bounds, plain_bounds, bounds_of, least_from, rounded, RoundAlike}
 use Rattle.zl_abs.proofs.StateSteps.{Stands, drop_here}
 use Rattle.zl_abs.proofs.Rounding.{least_append}
 

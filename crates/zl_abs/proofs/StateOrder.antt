@@ -1,9 +1,6 @@
 -- The order of states, and that their join is the least above both.
-use Rattle.std.proofs.Common.{◌≡◌, Bool, true, false, ◌&&◌, List, [], ◌∷◌, Option, Some, None, refl, IsTrue}
-use Rattle.zl_abs.specs.declared.value.AbsVal.{AbsVal}
-use Rattle.zl_abs.specs.Values.{below, joined}
-use Rattle.zl_abs.specs.States.{all_below, all_joined, cons_if}
-use Rattle.zl_abs.specs.Laws.{IsAboveJoin, JoinIsAbove, AllAboveJoin, JoinIsAllAbove}
+use Rattle.zl_abs.proofs.Common.{AbsVal, AllAboveJoin, Bool, IsAboveJoin, IsTrue, JoinIsAbove, JoinIsAllAbove, List, None, Option, Some, [], all_below}
+use Rattle.zl_abs.proofs.Common.{all_joined, below, cons_if, false, joined, refl, true, ◌&&◌, ◌∷◌, ◌≡◌}
 use Rattle.zl_abs.proofs.Order.{below_refl, below_trans, joined_left, joined_right, joined_least}
 
 pub both : (a b : Bool) → (a && b) ≡ true → (a ≡ true) × (b ≡ true)

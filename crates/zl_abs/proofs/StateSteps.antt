@@ -1,14 +1,7 @@
 -- One register more of the order, the join and the writes of states.
-use Rattle.std.proofs.Common.{◌≡◌, ℕ, suc, ◌+◌, ◌<◌, ◌≤◌, true, ◌&&◌, List, ◌∷◌, ◌++◌, Option, Some, None, refl, sym, ◌∙◌, ap, drop, take, get_or, length}
-use Rattle.std.proofs.Common.{drop-cons, add-one, arith, append-nil}
-use Rattle.std.specs.Prelude.{slice_set}
-use Rattle.std.specs.Option.{option_map}
-use Rattle.std.proofs.lemmas.Grind.{common_steps}
-use Rattle.std.proofs.lemmas.List.{drop_all, take_all}
-use Rattle.zl_abs.specs.declared.value.AbsVal.{AbsVal}
-use Rattle.zl_code.specs.declared.image.Start.{Start}
-use Rattle.zl_abs.specs.Values.{below, joined}
-use Rattle.zl_abs.specs.States.{all_below, all_joined, cons_if, with_value, with_all, starts_from, start_value}
+use Rattle.zl_abs.proofs.Common.{AbsVal, List, None, Option, Some, Start, add-one, all_below, all_joined, ap, append-nil, arith, below, common_steps, cons_if}
+use Rattle.zl_abs.proofs.Common.{drop, drop-cons, drop_all, get_or, joined, length, option_map, refl, slice_set, start_value, starts_from, suc, sym, take}
+use Rattle.zl_abs.proofs.Common.{take_all, true, with_all, with_value, ℕ, ◌&&◌, ◌++◌, ◌+◌, ◌<◌, ◌∙◌, ◌∷◌, ◌≡◌, ◌≤◌}
 
 -- x stands at this place
 abbrev pub Stands : {A : Type 0} → List A → ℕ → A → Type 0

@@ -1,18 +1,9 @@
 -- What the tests of jumps teach, at a state and at one below it.
-use Rattle.std.proofs.Common.{◌≡◌, ℕ, ◌-◌, ◌<◌, ◌≤◌, Bool, true, false, not, ◌&&◌, ◌||◌, Option, Some, None, refl, ap, ◌∙◌, subst, IsTrue, arith, leb, ltb, eqb}
-use Rattle.std.specs.Prelude.{if◌then◌else◌, bit_or}
-use Rattle.std.proofs.lemmas.Bool.Decides.{nat_tests, Decides-eqb}
-use Rattle.zl_rights.specs.declared.kind.Kind.{Kind}
-use Rattle.zl_rights.specs.declared.rights.Rights.{Rights}
-use Rattle.zl_rights.specs.Numbers.{bits, rights_of, within, same_kind, KNOWN_RIGHTS}
-use Rattle.zl_abs.specs.declared.value.AbsVal.{AbsVal}
+use Rattle.zl_abs.proofs.Common.{ANY, AbsVal, Bool, Decides-eqb, IsTrue, KNOWN_RIGHTS, Kind, None, Option, Rights, Some, State, Ways, ap, arith, becomes, below}
+use Rattle.zl_abs.proofs.Common.{below_ways, bit_or, bits, capped, eqb, equal_ways, false, has_ways, if◌then◌else◌, kind_below, kind_numbered, kind_ways}
+use Rattle.zl_abs.proofs.Common.{known_kind, known_other, known_rights, known_there, known_zero, leb, ltb, nat_tests, not, refined, refl, rights_of, same_kind}
+use Rattle.zl_abs.proofs.Common.{smaller, subst, true, value_at, within, word_at, zero_ways, ℕ, ◌&&◌, ◌-◌, ◌<◌, ◌||◌, ◌∙◌, ◌≡◌, ◌≤◌}
 use Rattle.zl_abs.specs.declared.value.AbsVal.TheVariants.{Word, Has, KindOf, RightsOf}
-use Rattle.zl_abs.specs.Ways.{Ways}
-use Rattle.zl_abs.specs.Values.{ANY, below, capped, smaller, kind_below}
-use Rattle.zl_abs.specs.States.{State, value_at, refined}
-use Rattle.zl_abs.specs.Rule.{word_at}
-use Rattle.zl_abs.specs.LocalRules.{known_zero, known_there, known_kind, known_other, known_rights, becomes, kind_numbered, kind_ways, equal_ways, zero_ways}
-use Rattle.zl_abs.specs.LocalRules.{below_ways, has_ways}
 use Rattle.zl_abs.proofs.Order.{below_refl, kind_trans, kind_refl, within_refl, parts, three, same_kind_is}
 use Rattle.zl_abs.proofs.StateOrder.{both, all_below_refl, all_below_trans}
 use Rattle.zl_abs.proofs.Lowering.{Lowers, IsBelow, WayBelow, WaysBelow, lowers_then, value_below, set_below, set_above, set_under, leb_le, word_at_below}

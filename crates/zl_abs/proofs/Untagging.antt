@@ -1,10 +1,6 @@
 -- A write of a register leaves all other values as they are, where none of them is a tag.
-use Rattle.std.proofs.Common.{◌≡◌, ℕ, Bool, true, false, List, [], ◌∷◌, map, refl, sym, ap, ◌∙◌}
-use Rattle.std.specs.List.{list_any}
-use Rattle.zl_abs.specs.declared.value.AbsVal.{AbsVal}
+use Rattle.zl_abs.proofs.Common.{AbsVal, Bool, List, State, [], ap, false, list_any, map, refined, refl, sym, true, untagged, with_value, ℕ, ◌∙◌, ◌∷◌, ◌≡◌}
 use Rattle.zl_abs.specs.declared.value.AbsVal.TheVariants.{KindOf, RightsOf}
-use Rattle.zl_abs.specs.Values.{untagged}
-use Rattle.zl_abs.specs.States.{State, refined, with_value}
 use Rattle.zl_abs.specs.Tags.{is_tag}
 
 one_bare : (r : ℕ) (v : AbsVal) → is_tag v ≡ false → untagged r v ≡ v

@@ -1,10 +1,7 @@
 -- One destination more among the registers of a call.
-use Rattle.std.proofs.Common.{◌≡◌, ℕ, ◌+◌, ◌<◌, ◌≤◌, Bool, true, false, List, [], ◌∷◌, ◌++◌, zip, ap, arith, refl, sym, ◌∙◌, drop, get_or, length}
-use Rattle.std.proofs.lemmas.List.{append_assoc, length-append}
-use Rattle.zl_code.specs.Asked.{is_written}
-use Rattle.zl_code.specs.Instructions.{field_of}
+use Rattle.zl_abs.proofs.Common.{AbsVal, Bool, List, [], ap, append_assoc, arith, drop, false, field_of, get_or, is_written, length, length-append, refl, sym}
+use Rattle.zl_abs.proofs.Common.{true, zip, ℕ, ◌++◌, ◌+◌, ◌<◌, ◌∙◌, ◌∷◌, ◌≡◌, ◌≤◌}
 use Rattle.zl_code.specs.declared.layout.Field.{Field}
-use Rattle.zl_abs.specs.declared.value.AbsVal.{AbsVal}
 use Rattle.zl_abs.proofs.StateSteps.{Stands, drop_here}
 use Rattle.zl_abs.proofs.CallSteps.{register_at, those_from, those_step}
 

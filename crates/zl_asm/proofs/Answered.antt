@@ -1,5 +1,5 @@
 -- What an answer says of its value.
-use Rattle.zl_asm.proofs.Common.{◌≡◌, ◌⊎◌, inr, Option, Result, Ok, Err, Some, None, refl, option_map, IsErr, result_ok, IfOk, IfErr}
+use Rattle.zl_asm.proofs.Common.{Err, IfErr, IfOk, IsErr, None, Ok, Option, Result, Some, inr, option_map, refl, result_ok, ◌≡◌, ◌⊎◌}
 
 -- a fault has no value
 pub no_answer : {T E : Type 0} (r : Result T E) → IsErr r → result_ok r ≡ None

@@ -1,8 +1,7 @@
 -- One more label or instruction in the map and the vector of a draft.
-use Rattle.zl_asm.proofs.Common.{◌≡◌, ℕ, true, false, List, [], ◌∷◌, ◌++◌, length, Option, Some, None, is_some, refl, sym, ap, subst, ◌∙◌, true≢false}
-use Rattle.zl_asm.proofs.Common.{map-append, is_none, Label, Code, Source, position_of, source_value, Held, Holds, labels_shown, sources_shown, option_map}
+use Rattle.zl_asm.proofs.Common.{Code, Held, Holds, Label, List, None, Option, Some, Source, SourceLine, [], ap, false, is_none, is_some, labels_shown, length}
+use Rattle.zl_asm.proofs.Common.{map-append, option_map, position_of, refl, source_value, sources_shown, subst, sym, true, true≢false, ℕ, ◌++◌, ◌∙◌, ◌∷◌, ◌≡◌}
 use denote.Ref.{Bor}
-use Rattle.zl_asm.specs.declared.draft.SourceLine.{SourceLine}
 use Rattle.zl_asm.proofs.DraftHolds.{label_held, code_held}
 
 pub label_added : (d : Held) (es new : List (Bor (List ℕ) × ℕ)) (name : Bor (List ℕ)) (n : ℕ) → new ≡ es ++ (name, n) ∷ [] → d.labels ≡ labels_shown es

@@ -1,16 +1,13 @@
 -- From what a draft holds to the fields of an image.
-use Rattle.zl_asm.proofs.Common.{◌≡◌, ℕ, ◌+◌, ◌<◌, ◌≤◌, Bool, true, false, ◌&&◌, not, cond, leb, List, [], ◌∷◌, ◌++◌, length, map, take, drop, get_or}
-use Rattle.zl_asm.proofs.Common.{append_assoc, Option, Some, None, is_some, refl, sym, ap, ◌∙◌, arith, flat_map, list_all, Image, needs_named, slice_index}
-use Rattle.zl_asm.proofs.Common.{instr_bytes, instr_fault, is_in_range, number_at, bytes_of, le-leb, and_from, length-map, map-append, take_more, take_all}
-use Rattle.zl_asm.proofs.Common.{at_drop_more, list_all-append, get_or-map, registers_at, ranges, Line, Source, all_of, if_fits, Listing, mark_in, memory_in}
-use Rattle.zl_asm.proofs.Common.{budget_in, need_in, start_in, slots_in, source_in, given, labels_from, resolved, with_target, is_listing, listing_from}
-use Rattle.zl_asm.proofs.Common.{fields_of, source_value, Held, labels_shown, sources_shown, Pushes, Gives, GivesNone, option_map, take-add, IsBytes}
-use Rattle.zl_asm.proofs.Common.{bytes_of-number_at}
-use Rattle.zl_code.proofs.Common.{length-append}
+use Rattle.zl_asm.proofs.Common.{Bool, Gives, GivesNone, Held, Image, IsBytes, Line, List, Listing, None, Option, Pushes, Some, Source, SourceLine, [], all_of}
+use Rattle.zl_asm.proofs.Common.{and_from, ap, append_assoc, arith, at_drop_more, budget_in, bytes_of, bytes_of-number_at, cond, drop, false, fields_of}
+use Rattle.zl_asm.proofs.Common.{flat_map, get_or, get_or-map, given, if_fits, instr_bytes, instr_fault, is_in_range, is_listing, is_some, labels_from}
+use Rattle.zl_asm.proofs.Common.{labels_shown, le-leb, leb, length, length-append, length-map, list_all, list_all-append, listing_from, lookup, map, map-append}
+use Rattle.zl_asm.proofs.Common.{mark_in, memory_in, need_in, needs_named, not, number_at, option_map, ranges, refl, registers_at, resolved, slice_index}
+use Rattle.zl_asm.proofs.Common.{slots_in, source_in, source_value, sources_shown, start_in, sym, take, take-add, take_all, take_more, true, with_target, ℕ}
+use Rattle.zl_asm.proofs.Common.{◌&&◌, ◌++◌, ◌+◌, ◌<◌, ◌∙◌, ◌∷◌, ◌≡◌, ◌≤◌}
 use denote.Ref.{Bor}
-use Rattle.std.specs.Map.{lookup}
 use Rattle.std.proofs.lemmas.List.{take-append-drop}
-use Rattle.zl_asm.specs.declared.draft.SourceLine.{SourceLine}
 use Rattle.zl_asm.specs.declared.line.Source.{Source as ReadSource}
 use Rattle.zl_asm.proofs.Labels.{same, lookup_is}
 use Rattle.zl_asm.proofs.DraftHolds.{given_is}

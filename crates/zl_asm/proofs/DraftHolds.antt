@@ -1,16 +1,9 @@
 -- What a draft holds after one line more.
-use Rattle.zl_asm.proofs.Common.{append-nil, ◌≡◌, ℕ, ◌+◌, Bool, true, false, ◌&&◌, ◌||◌, not, cond, List, [], ◌∷◌, ◌++◌, length, filter, ◌==◌, Some, None, refl}
-use Rattle.zl_asm.proofs.Common.{sym, ap, subst, ◌∙◌, true≢false, arith, flat_map, list_any, list_all, flat_map-append, eq-eqb, eqb-true, list_all-append}
-use Rattle.zl_asm.proofs.Common.{or_left, or_right}
-use Rattle.zl_asm.proofs.Common.{condition_number, Image, needs_named, is_among, Line, Blank, Declares, Label, Code, Source, mark_in, memory_in, budget_in}
-use Rattle.zl_asm.proofs.Common.{need_in, start_in, slots_in, source_in, given, declares, is_body, directives_first, labels_from, position_of, names_once}
-use Rattle.zl_asm.proofs.Common.{IsGiven, Held, IsHeldOf, Holds}
-use Rattle.std.proofs.lemmas.List.Folds.{list_any-append}
-use Rattle.zl_rights.specs.declared.policy.Condition.{Condition}
-use Rattle.zl_code.specs.Image.{can_be_needed}
-use Rattle.zl_code.specs.declared.image.Start.{Start}
-use Rattle.zl_code.specs.declared.image.SlotArray.{SlotArray}
-use Rattle.zl_asm.specs.declared.directive.Directive.{Directive}
+use Rattle.zl_asm.proofs.Common.{Blank, Bool, Code, Condition, Declares, Directive, Held, Holds, Image, IsGiven, IsHeldOf, Label, Line, List, None, SlotArray}
+use Rattle.zl_asm.proofs.Common.{Some, Source, Start, [], ap, append-nil, arith, budget_in, can_be_needed, cond, condition_number, declares, directives_first}
+use Rattle.zl_asm.proofs.Common.{eq-eqb, eqb-true, false, filter, flat_map, flat_map-append, given, is_among, is_body, labels_from, length, list_all}
+use Rattle.zl_asm.proofs.Common.{list_all-append, list_any, list_any-append, mark_in, memory_in, names_once, need_in, needs_named, not, or_left, or_right}
+use Rattle.zl_asm.proofs.Common.{position_of, refl, slots_in, source_in, start_in, subst, sym, true, true≢false, ℕ, ◌&&◌, ◌++◌, ◌+◌, ◌==◌, ◌||◌, ◌∙◌, ◌∷◌, ◌≡◌}
 use Rattle.zl_asm.specs.declared.directive.Directive.TheVariants as directive
 use Rattle.zl_asm.proofs.Labels.{labels_from-append, once-more}
 

@@ -1,15 +1,10 @@
 -- What a line says beside what a draft holds.
-use Rattle.zl_asm.proofs.Common.{◌≡◌, ℕ, Bool, true, false, ◌&&◌, cond, List, [], ◌∷◌, Option, Some, None, Result, Ok, Err, refl, sym, ap, subst, ◌∙◌}
-use Rattle.zl_asm.proofs.Common.{true≢false, codes, OnOk, starts_with, rights_of, is_start_in_range, is_slot_in_range, nat_eq, is_ascii, words_of, is_word}
-use Rattle.zl_asm.proofs.Common.{Line, Declares, Code, Source, if_fits, number_within, need_of, kind_of, start_with, slot_array_with, directive_of}
-use Rattle.zl_asm.proofs.Common.{instruction_of, unknown_of, label_of, alone, point_line, line_of, Held, Holds, Reads, line_said, is_directive_in_range}
-use Rattle.zl_asm.proofs.Common.{option_map}
-use Rattle.zl_rights.specs.declared.kind.Kind.{Kind}
-use Rattle.zl_code.specs.declared.image.Start.{Start}
-use Rattle.zl_code.specs.declared.image.SlotArray.{SlotArray}
-use Rattle.zl_asm.specs.declared.directive.Directive.{Directive}
+use Rattle.zl_asm.proofs.Common.{Bool, Code, Declares, Directive, Err, Held, Holds, Kind, Line, List, None, Ok, OnOk, Option, Reads, Result, SlotArray, Some}
+use Rattle.zl_asm.proofs.Common.{Source, Start, [], alone, ap, codes, cond, directive_of, false, if_fits, instruction_of, is_ascii, is_directive_in_range}
+use Rattle.zl_asm.proofs.Common.{is_slot_in_range, is_start_in_range, is_word, kind_of, label_of, line_of, line_said, nat_eq, need_of, number_of, number_within}
+use Rattle.zl_asm.proofs.Common.{option_map, point_line, refl, rights_of, slot_array_with, start_with, starts_with, subst, sym, true, true≢false, unknown_of}
+use Rattle.zl_asm.proofs.Common.{words_of, ℕ, ◌&&◌, ◌∙◌, ◌∷◌, ◌≡◌}
 use Rattle.zl_asm.specs.declared.directive.Directive.TheVariants as directive
-use Rattle.zl_asm.specs.Words.{number_of}
 
 -- ---- reading on
 

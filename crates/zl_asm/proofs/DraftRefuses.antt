@@ -1,9 +1,7 @@
 -- Which lines a draft refuses.
-use Rattle.zl_asm.proofs.Common.{◌≡◌, ℕ, ◌≤◌, Bool, true, false, List, [], ◌∷◌, length, Option, Some, None, is_some, Result, Ok, Err, refl, sym, ap, subst, ◌∙◌}
-use Rattle.zl_asm.proofs.Common.{true≢false, instr_fault, is_none, Declares, Label, Code, Source, position_of, Held, Refuses, is_err, result_err}
-use Rattle.zl_code.specs.declared.image.Start.{Start}
-use Rattle.zl_code.specs.declared.image.SlotArray.{SlotArray}
-use Rattle.zl_asm.specs.declared.directive.Directive.{Directive}
+use Rattle.zl_asm.proofs.Common.{Bool, Code, Declares, Directive, Err, Held, Label, List, None, Ok, Option, Refuses, Result, SlotArray, Some, Source, Start, []}
+use Rattle.zl_asm.proofs.Common.{ap, false, instr_fault, is_err, is_none, is_some, length, position_of, refl, result_err, subst, sym, true, true≢false, ℕ, ◌∙◌}
+use Rattle.zl_asm.proofs.Common.{◌∷◌, ◌≡◌, ◌≤◌}
 use Rattle.zl_asm.specs.declared.directive.Directive.TheVariants as directive
 use Rattle.zl_asm.proofs.DraftHolds.{one_given, given_is}
 use Rattle.zl_asm.proofs.ListingRefused.{refused_behind, refused_mark, refused_memory, refused_budget, refused_start, refused_slots, refused_label}

@@ -1,7 +1,7 @@
 -- Words with a text between any two, one word after the other.
-use Rattle.zl_asm.proofs.Common.{◌≡◌, ℕ, ◌+◌, ◌<◌, Bool, true, false, not, eqb, cond, inl, inr, List, [], ◌∷◌, ◌++◌, codes, length, map, filter, take, get_or}
-use Rattle.zl_asm.proofs.Common.{refl, sym, ap, ◌∙◌, arith, append_assoc, append-nil, flat_map, flat_map-append, map-append, take_more, length-map}
-use Rattle.zl_asm.proofs.Common.{length-take-le, nat_tests, cases_Bool, joined, register_text, behind}
+use Rattle.zl_asm.proofs.Common.{Bool, List, [], ap, append-nil, append_assoc, arith, behind, cases_Bool, codes, cond, eqb, false, filter, flat_map}
+use Rattle.zl_asm.proofs.Common.{flat_map-append, get_or, inl, inr, joined, length, length-map, length-take-le, map, map-append, nat_tests, not, refl}
+use Rattle.zl_asm.proofs.Common.{register_text, sym, take, take_more, true, ℕ, ◌++◌, ◌+◌, ◌<◌, ◌∙◌, ◌∷◌, ◌≡◌}
 use Rattle.std.proofs.lemmas.List.Elements.{filter_more}
 
 -- each word with the text before it

@@ -1,10 +1,8 @@
 -- The labels of a text: where they stand, and that no name stands twice.
-use Rattle.zl_asm.proofs.Common.{◌≡◌, ℕ, suc, ◌+◌, Bool, true, false, ◌&&◌, not, cond, List, [], ◌∷◌, ◌++◌, length, map, Option, Some, None, is_some, refl, sym}
-use Rattle.zl_asm.proofs.Common.{ap, ◌∙◌, true≢false, arith, flat_map, find, nat_eq, Line, Blank, Declares, Label, Code, source_in, labels_from, position_of}
-use Rattle.zl_asm.proofs.Common.{names_once, option_map}
+use Rattle.zl_asm.proofs.Common.{Blank, Bool, Code, Declares, Label, Line, List, None, Option, Some, [], ap, arith, cond, false, find, flat_map, is_some}
+use Rattle.zl_asm.proofs.Common.{labels_from, length, lookup, map, names_once, nat_eq, nat_list_eq_equiv, not, option_map, pointwise, position_of, refl}
+use Rattle.zl_asm.proofs.Common.{source_in, suc, sym, true, true≢false, ℕ, ◌&&◌, ◌++◌, ◌+◌, ◌∙◌, ◌∷◌, ◌≡◌}
 use denote.Ref.{Bor}
-use Rattle.std.specs.Map.{lookup}
-use Rattle.std.specs.Cmp.Lexicographic.{pointwise, nat_list_eq_equiv}
 
 abbrev Labels : Type 0
 Labels = List (List ℕ × ℕ)

@@ -1,16 +1,12 @@
 -- The text of an image, piece by piece.
-use Rattle.zl_asm.proofs.Common.{◌≡◌, ℕ, suc, ◌+◌, ◌<◌, Bool, true, false, ◌||◌, cond, List, [], ◌∷◌, ◌++◌, codes, length, map, take, drop, get_or, refl, sym}
-use Rattle.zl_asm.proofs.Common.{ap, ◌∙◌, arith, filter, IsTrue, append_assoc, append-nil, flat_map, list_any, flat_map-append, take_more, at_drop_more}
-use Rattle.zl_asm.proofs.Common.{condition_name}
-use Rattle.zl_asm.proofs.Common.{bits, Image, is_among, needs_named, instr_bytes, is_in_range, ranges, kind_text, label_text, directive_lines, is_target}
-use Rattle.zl_asm.proofs.Common.{aims_at, label_lines, instr_text, code_lines_from, code_lines, text_of, ended, fields_text, need_text, needs_text, start_text}
-use Rattle.zl_asm.proofs.Common.{slot_array_text, directives_text, line_text, TargetsAre, needs_named-needs, decimal}
-use Rattle.zl_rights.specs.declared.policy.Condition.{Condition}
+use Rattle.zl_asm.proofs.Common.{Bool, Condition, Image, IsTrue, List, SlotArray, Start, TargetsAre, [], aims_at, ap, append-nil, append_assoc, arith}
+use Rattle.zl_asm.proofs.Common.{at_drop_more, bits, can_be_needed, code_lines, code_lines_from, codes, cond, condition_name, decimal, directive_lines}
+use Rattle.zl_asm.proofs.Common.{directives_text, drop, ended, false, fields_text, filter, flat_map, flat_map-append, get_or, instr_bytes, instr_text, is_among}
+use Rattle.zl_asm.proofs.Common.{is_in_range, is_target, kind_text, label_lines, label_text, length, line_text, list_any, map, need_text, needs_named}
+use Rattle.zl_asm.proofs.Common.{needs_named-needs, needs_text, ranges, refl, slot_array_text, start_text, suc, sym, take, take_more, text_of, true, ℕ, ◌++◌}
+use Rattle.zl_asm.proofs.Common.{◌+◌, ◌<◌, ◌||◌, ◌∙◌, ◌∷◌, ◌≡◌}
 use Rattle.zl_rights.specs.declared.policy.Condition.TheVariants as condition
-use Rattle.zl_code.specs.Image.{can_be_needed}
 use Rattle.zl_asm.specs.Pieces.{need_if_among}
-use Rattle.zl_code.specs.declared.image.Start.{Start}
-use Rattle.zl_code.specs.declared.image.SlotArray.{SlotArray}
 
 -- ---- instructions
 

@@ -1,7 +1,6 @@
 -- The name of a label, and the row of a mnemonic.
-use Rattle.zl_asm.proofs.Common.{◌≡◌, ◌≢◌, ℕ, ◌-◌, true, false, eqb, List, [], ◌∷◌, ◌++◌, length, take, drop, Some, None, refl, ap, ◌∙◌, arith, drop_at}
-use Rattle.zl_asm.proofs.Common.{take_at, nat_tests, is_word, is_name, if_fits, label_of}
-use Rattle.zl_code.proofs.Common.{length-append}
+use Rattle.zl_asm.proofs.Common.{List, None, Some, [], ap, arith, drop, drop_at, eqb, false, if_fits, is_name, is_word, label_of, length, length-append}
+use Rattle.zl_asm.proofs.Common.{nat_tests, refl, take, take_at, true, ℕ, ◌++◌, ◌-◌, ◌∙◌, ◌∷◌, ◌≡◌, ◌≢◌}
 
 -- ---- labels
 

@@ -1,11 +1,10 @@
 -- The operands between the commas, and their registers, one word after the other.
-use Rattle.zl_asm.proofs.Common.{◌≡◌, ℕ, suc, ◌+◌, ◌-◌, ◌<◌, ◌≤◌, true, false, leb, eqb, List, [], ◌∷◌, ◌++◌, length, take, drop, get_or, set, replicate}
-use Rattle.zl_asm.proofs.Common.{Option, Some, None, refl, sym, ap, ◌∙◌, arith, append_assoc, append-nil, at_drop_more, at_drop_all, take_all, length-take}
-use Rattle.zl_asm.proofs.Common.{length-drop, length-map, nat_tests, seven, drop-replicate, take-map, drop-map, is_word, comma, register_of, texts, onto_all}
-use Rattle.zl_asm.proofs.Common.{operands_of, operands_after, all_of, registers_of, Tail, tail_of, places_of, source_with, then_with, option_map, take-suc-set}
-use Rattle.zl_code.proofs.Common.{take-append-drop}
+use Rattle.zl_asm.proofs.Common.{Ending, List, None, Option, Some, Tail, [], all_of, ap, append-nil, append_assoc, arith, at_drop_all, at_drop_more, comma}
+use Rattle.zl_asm.proofs.Common.{drop, drop-map, drop-replicate, eqb, false, get_or, is_word, leb, length, length-drop, length-map, length-take, nat_tests}
+use Rattle.zl_asm.proofs.Common.{onto_all, operands_after, operands_of, option_map, places_of, refl, register_of, registers_of, replicate, set, seven}
+use Rattle.zl_asm.proofs.Common.{source_with, suc, sym, tail_of, take, take-append-drop, take-map, take-suc-set, take_all, texts, then_with, true, ℕ, ◌++◌, ◌+◌}
+use Rattle.zl_asm.proofs.Common.{◌-◌, ◌<◌, ◌∙◌, ◌∷◌, ◌≡◌, ◌≤◌}
 use Rattle.std.proofs.Common.{Bor}
-use Rattle.zl_code.specs.declared.layout.Ending.{Ending}
 use Rattle.zl_code.specs.declared.layout.Ending.TheVariants as ending
 use Rattle.zl_code.proofs.ImageCells.{seven_places}
 

@@ -1,6 +1,6 @@
 -- The bytes of a listing are those of the image that has its fields.
-use Rattle.zl_asm.proofs.Common.{◌≡◌, ℕ, List, [], ◌∷◌, ◌++◌, map, Some, refl, ap, ◌∙◌, flat_map, length-map, Image, spelling, instr_bytes, fields_of}
-use Rattle.zl_asm.proofs.Common.{listing_bytes, EachTextGivesBytes, option_map, concat}
+use Rattle.zl_asm.proofs.Common.{EachTextGivesBytes, Image, List, Some, [], ap, concat, fields_of, flat_map, instr_bytes, length-map, listing_bytes, map}
+use Rattle.zl_asm.proofs.Common.{option_map, refl, spelling, ℕ, ◌++◌, ◌∙◌, ◌∷◌, ◌≡◌}
 
 all_in_one : {X : Type 0} (f : X → List ℕ) (xs : List X) → concat (map f xs) ≡ flat_map f xs
 all_in_one f [] = refl

@@ -1,11 +1,9 @@
 -- Lines that give no fields of an image, whatever lines follow.
-use Rattle.zl_asm.proofs.Common.{append-nil, ◌≡◌, ℕ, ◌+◌, ◌≤◌, ◌<◌, Bool, true, false, ◌&&◌, ◌||◌, not, cond, leb, List, [], ◌∷◌, ◌++◌, length, Option, Some}
-use Rattle.zl_asm.proofs.Common.{None, is_some, refl, sym, ap, ◌∙◌, true≢false, arith, flat_map, list_any, list_all, flat_map-append, list_all-append}
-use Rattle.zl_asm.proofs.Common.{needs_named, instr_fault, lt-leb, Line, Blank, Declares, Label, Code, Source, all_of, onto_all, if_fits, Listing, mark_in}
-use Rattle.zl_asm.proofs.Common.{memory_in, budget_in, need_in, start_in, slots_in, source_in, given, declares, is_body, directives_first, labels_from}
-use Rattle.zl_asm.proofs.Common.{position_of, names_once, resolved, is_listing, listing_with, listing_from}
-use Rattle.zl_code.proofs.Common.{length-append}
-use Rattle.zl_asm.specs.declared.directive.Directive.{Directive}
+use Rattle.zl_asm.proofs.Common.{Blank, Bool, Code, Declares, Directive, Label, Line, List, Listing, None, Option, Some, Source, [], all_of, ap, append-nil}
+use Rattle.zl_asm.proofs.Common.{arith, budget_in, cond, declares, directives_first, false, flat_map, flat_map-append, given, if_fits, instr_fault, is_body}
+use Rattle.zl_asm.proofs.Common.{is_listing, is_some, labels_from, leb, length, length-append, list_all, list_all-append, list_any, listing_from, listing_with}
+use Rattle.zl_asm.proofs.Common.{lt-leb, mark_in, memory_in, names_once, need_in, needs_named, not, onto_all, position_of, refl, resolved, slots_in, source_in}
+use Rattle.zl_asm.proofs.Common.{start_in, sym, true, true≢false, ℕ, ◌&&◌, ◌++◌, ◌+◌, ◌<◌, ◌||◌, ◌∙◌, ◌∷◌, ◌≡◌, ◌≤◌}
 use Rattle.zl_asm.specs.declared.directive.Directive.TheVariants as directive
 use Rattle.zl_asm.proofs.Labels.{labels_from-append, not-once}
 

@@ -1,10 +1,9 @@
 -- The lines of a whole text.
-use Rattle.zl_asm.proofs.Common.{◌≡◌, ℕ, ◌+◌, ◌<◌, Bool, true, false, ◌&&◌, cond, ltb, eqb, List, [], ◌∷◌, ◌++◌, length, take, drop, get_or, Option, Some, None}
-use Rattle.zl_asm.proofs.Common.{Result, Ok, Err, ◌⊎◌, refl, sym, ap, ◌∙◌, arith, inl, inr, IsTrue, IfOk, IfErr, list_all, eqb-true, at_drop_more, Image}
-use Rattle.zl_asm.proofs.Common.{is_in_range, MatchResult, lines_of, words_of, is_ascii, Line, line_of, all_of, onto_all, then_with, listing_from, lines_said}
-use Rattle.zl_asm.proofs.Common.{listing_of, Denotes, fields_of, Held, IsHeldOf, Reads, Stops, ReadsAll, Gives, GivesNone, line_said, enumerate_from}
-use Rattle.zl_asm.proofs.Common.{onto_first}
-use Rattle.zl_code.proofs.Common.{take-append-drop}
+use Rattle.zl_asm.proofs.Common.{Bool, Denotes, Err, Gives, GivesNone, Held, IfErr, IfOk, Image, IsHeldOf, IsTrue, Line, List, MatchResult, None, Ok, Option}
+use Rattle.zl_asm.proofs.Common.{Reads, ReadsAll, Result, Some, Stops, [], all_of, ap, arith, at_drop_more, cond, drop, enumerate_from, eqb, eqb-true, false}
+use Rattle.zl_asm.proofs.Common.{fields_of, get_or, inl, inr, is_ascii, is_in_range, length, line_of, line_said, lines_of, lines_said, list_all, listing_from}
+use Rattle.zl_asm.proofs.Common.{listing_of, ltb, onto_all, onto_first, refl, sym, take, take-append-drop, then_with, true, words_of, ℕ, ◌&&◌, ◌++◌, ◌+◌, ◌<◌}
+use Rattle.zl_asm.proofs.Common.{◌∙◌, ◌∷◌, ◌≡◌, ◌⊎◌}
 use Rattle.std.proofs.lemmas.List.FromFn.{length-enumerate_from, get_or-enumerate_from}
 use Rattle.zl_asm.specs.declared.fault.AsmFault.{AsmFault}
 use Rattle.zl_asm.specs.declared.fault.AsmCause.TheVariants.{NoMemory}

@@ -1,5 +1,5 @@
 -- The lines of a text, yielded with their numbers.
-use Rattle.zl_asm.proofs.Common.{◌≡◌, ℕ, ◌+◌, List, [], ◌∷◌, length, map, take, refl, sym, ap, ◌∙◌, take-map, enumerate_from}
+use Rattle.zl_asm.proofs.Common.{List, [], ap, enumerate_from, length, map, refl, sym, take, take-map, ℕ, ◌+◌, ◌∙◌, ◌∷◌, ◌≡◌}
 
 second_enumerated : {X : Type 0} (n : ℕ) (xs : List X) → map (λ p. p.1) (enumerate_from n xs) ≡ xs
 second_enumerated n [] = refl

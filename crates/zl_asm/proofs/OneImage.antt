@@ -1,7 +1,6 @@
 -- The fields that a text gives are those of one image at most.
-use Rattle.zl_asm.proofs.Common.{◌≡◌, Bool, true, List, [], ◌∷◌, map, Option, Some, None, refl, sym, ap, ◌∙◌, list_all, and_parts, Image, instr_bytes}
-use Rattle.zl_asm.proofs.Common.{is_instr_in_range, ranges, Listing, fields_of, NoTextDenotesTwo}
-use Rattle.zl_code.specs.declared.instr.Instr.{Instr}
+use Rattle.zl_asm.proofs.Common.{Bool, Image, Instr, List, Listing, NoTextDenotesTwo, None, Option, Some, [], and_parts, ap, fields_of, instr_bytes}
+use Rattle.zl_asm.proofs.Common.{is_instr_in_range, list_all, map, ranges, refl, sym, true, ◌∙◌, ◌∷◌, ◌≡◌}
 use Rattle.zl_code.proofs.ImageTable.{instr_fits, read_instr}
 
 -- instructions in range are read again from their bytes

@@ -1,8 +1,8 @@
 -- The lines of labels and instructions say those labels and instructions.
-use Rattle.zl_asm.proofs.Common.{◌≡◌, ℕ, suc, ◌+◌, ◌-◌, ◌^◌, ◌<◌, ◌≤◌, Bool, true, false, List, [], ◌∷◌, ◌++◌, length, codes, Option, Some, None, refl, ap, ◌∙◌}
-use Rattle.zl_asm.proofs.Common.{arith, if◌then◌else◌, slice_index, list_all, and_from, take_at, drop_at, list_all-append, Row, row_of, reading_of, is_word}
-use Rattle.zl_asm.proofs.Common.{words_of, is_name, Label, Code, label_of, line_of, label_text, is_target, hex_text, row_text, instr_text, operand_texts}
-use Rattle.zl_asm.proofs.Common.{code_lines_from, list_all-from_IsBytes}
+use Rattle.zl_asm.proofs.Common.{Bool, Code, Label, List, None, Option, Row, Some, [], and_from, ap, arith, code_lines_from, codes, drop_at, false, hex_text}
+use Rattle.zl_asm.proofs.Common.{if◌then◌else◌, instr_text, is_name, is_target, is_word, label_of, label_text, length, line_of, list_all, list_all-append}
+use Rattle.zl_asm.proofs.Common.{list_all-from_IsBytes, operand_texts, reading_of, refl, row_of, row_text, slice_index, suc, take_at, true, words_of, ℕ, ◌++◌}
+use Rattle.zl_asm.proofs.Common.{◌+◌, ◌-◌, ◌<◌, ◌^◌, ◌∙◌, ◌∷◌, ◌≡◌, ◌≤◌}
 use Rattle.std.proofs.lemmas.List.{length-append}
 use Rattle.zl_asm.proofs.RoundWords.{is_plain, is_plain_word, words_of-alone}
 use Rattle.zl_asm.proofs.RoundNumbers.{plain-label, is_name-label}

@@ -1,17 +1,12 @@
 -- The lines of the directives of an image are read as its fields.
-use Rattle.zl_asm.proofs.Common.{◌≡◌, ℕ, ◌/◌, ◌%◌, ◌^◌, ◌<◌, ◌≤◌, Bool, true, false, ◌&&◌, ◌==◌, List, [], ◌∷◌, ◌++◌, map, codes, decimal, Option, Some, None}
-use Rattle.zl_asm.proofs.Common.{refl, ap, subst, ◌∙◌, nat_lt, nat_le, arith, bit_and, list_all, and_parts, leb-true, ltb-true, le-leb, eqb-true}
-use Rattle.zl_asm.proofs.Common.{condition_name, bits, within, is_start_in_range, is_slot_in_range, are_needs, needs_byte, rights_allowed, is_word, words_from}
-use Rattle.zl_asm.proofs.Common.{words_of, Declares, kind_of, directive_of, line_of, kind_text, needs_fit}
+use Rattle.zl_asm.proofs.Common.{Bool, Condition, Declares, Kind, List, None, Option, SlotArray, Some, Start, [], and_parts, ap, are_needs, arith, bit_and}
+use Rattle.zl_asm.proofs.Common.{bits, codes, condition_name, decimal, directive_of, eqb-true, false, is_slot_in_range, is_start_in_range, is_word, kind_of}
+use Rattle.zl_asm.proofs.Common.{kind_text, le-leb, leb-true, line_of, list_all, ltb-true, map, nat_le, nat_lt, need_if, needs_byte, needs_fit, refl}
+use Rattle.zl_asm.proofs.Common.{rights_allowed, subst, true, within, words_from, words_of, ℕ, ◌%◌, ◌&&◌, ◌++◌, ◌/◌, ◌<◌, ◌==◌, ◌^◌, ◌∙◌, ◌∷◌, ◌≡◌, ◌≤◌}
 use Rattle.std.proofs.lemmas.Nat.{and_le_l}
-use Rattle.zl_rights.specs.declared.kind.Kind.{Kind}
 use Rattle.zl_rights.specs.declared.kind.Kind.TheVariants as kind
-use Rattle.zl_rights.specs.declared.policy.Condition.{Condition}
 use Rattle.zl_rights.specs.declared.policy.Condition.TheVariants as condition
 use Rattle.zl_rights.specs.Names.{kind_named, condition_named}
-use Rattle.zl_code.specs.declared.image.Start.{Start}
-use Rattle.zl_code.specs.declared.image.SlotArray.{SlotArray}
-use Rattle.zl_code.specs.Image.{need_if}
 use Rattle.zl_code.proofs.ImageNeeds.{needs_at}
 use Rattle.zl_asm.specs.declared.directive.Directive.TheVariants as directive
 use Rattle.zl_asm.proofs.RoundWords.{is_plain_word, words_of-space, words_of-alone}

@@ -1,6 +1,6 @@
 -- Bytes in hexadecimal digits are read as they are written.
-use Rattle.zl_asm.proofs.Common.{◌≡◌, ℕ, ◌+◌, ◌*◌, ◌/◌, ◌%◌, ◌<◌, Bool, true, List, [], ◌∷◌, length, Some, refl, ap, nat_lt, arith, list_all, and_parts}
-use Rattle.zl_asm.proofs.Common.{and_from, ltb-true, digit_of, hex_bytes, hex_digit, hex_text}
+use Rattle.zl_asm.proofs.Common.{Bool, List, Some, [], and_from, and_parts, ap, arith, digit_of, hex_bytes, hex_digit, hex_text, length, list_all, ltb-true}
+use Rattle.zl_asm.proofs.Common.{nat_lt, refl, true, ℕ, ◌%◌, ◌*◌, ◌+◌, ◌/◌, ◌<◌, ◌∷◌, ◌≡◌}
 use Rattle.zl_code.proofs.Below.{all_below, below}
 use Rattle.zl_asm.proofs.RoundWords.{is_plain, is_plain_word}
 use Rattle.zl_asm.proofs.RoundRegisters.{is_just, just}

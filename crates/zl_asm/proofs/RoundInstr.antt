@@ -1,11 +1,10 @@
 -- The line of an instruction is read as its bytes.
-use Rattle.zl_asm.proofs.Common.{◌≡◌, ℕ, zero, suc, ◌+◌, ◌^◌, ◌<◌, Bool, true, false, ◌==◌, List, [], ◌∷◌, ◌++◌, length, take, drop, codes, Option, Some, None}
-use Rattle.zl_asm.proofs.Common.{refl, ap, ◌∙◌, arith, slice_index, list_all, starts_with, and_parts, length-take, length-drop, get_or-drop, Row, layout_of}
-use Rattle.zl_asm.proofs.Common.{row_of, row_named, reading_of, row_bytes, instr_fault, eq-eqb, layout, is_ending_clear, is_word, words_of, Code, Source}
-use Rattle.zl_asm.proofs.Common.{line_of, source_of, unknown_of, resolved, joined, operand_texts, row_text, instr_text, hex_text, aims, IsBytes}
-use Rattle.zl_asm.proofs.Common.{list_all-from_IsBytes, option_map}
+use Rattle.zl_asm.proofs.Common.{Bool, Code, IsBytes, List, None, Option, Row, Some, Source, [], aims, and_parts, ap, arith, codes, drop, eq-eqb, false}
+use Rattle.zl_asm.proofs.Common.{get_or-drop, hex_text, instr_fault, instr_text, is_ending_clear, is_word, joined, layout, layout_of, length, length-drop}
+use Rattle.zl_asm.proofs.Common.{length-take, line_of, list_all, list_all-from_IsBytes, operand_texts, option_map, pow-suc, reading_of, refl, resolved}
+use Rattle.zl_asm.proofs.Common.{row_bytes, row_named, row_of, row_text, slice_index, source_of, starts_with, suc, take, true, unknown_of, words_of, zero, ℕ}
+use Rattle.zl_asm.proofs.Common.{◌++◌, ◌+◌, ◌<◌, ◌==◌, ◌^◌, ◌∙◌, ◌∷◌, ◌≡◌}
 use Rattle.zl_code.proofs.Common.{number_of}
-use Rattle.std.proofs.Math.Nat.{pow-suc}
 use Rattle.zl_code.proofs.InstrFacts.{no_fault-row, row_bytes-again}
 use Rattle.zl_asm.proofs.RoundWords.{is_plain_word, with_commas, words_of-operands, operands_of-commas, words_of-space, words_of-alone}
 use Rattle.zl_asm.proofs.RoundHex.{hex_again, plain_word-hex}

@@ -1,9 +1,8 @@
 -- Labels stand once for the number of their instruction.
-use Rattle.zl_asm.proofs.Common.{◌≡◌, ◌≢◌, ℕ, suc, ◌+◌, ◌^◌, ◌<◌, ◌≤◌, Bool, true, false, ◌==◌, List, [], ◌∷◌, ◌++◌, length, map, Some, None, refl, ap, ◌∙◌}
-use Rattle.zl_asm.proofs.Common.{arith, inl, inr, if◌then◌else◌, slice_index, list_any, and_from, cases_Bool, or_left, or_right, ltb-true, row_of, reading_of}
-use Rattle.zl_asm.proofs.Common.{cases_eq, eq-eqb, Line, Blank, Label, Code, all_of, onto_all, labels_from, position_of, names_once, resolved, label_text}
-use Rattle.zl_asm.proofs.Common.{is_target, aims, aims_at}
-use Rattle.std.specs.Cmp.Lexicographic.{pointwise, bytes_decides}
+use Rattle.zl_asm.proofs.Common.{Blank, Bool, Code, Label, Line, List, None, Some, [], aims, aims_at, all_of, and_from, ap, arith, bytes_decides, cases_Bool}
+use Rattle.zl_asm.proofs.Common.{cases_eq, eq-eqb, false, if◌then◌else◌, inl, inr, is_target, label_text, labels_from, length, list_any, ltb-true, map}
+use Rattle.zl_asm.proofs.Common.{names_once, onto_all, or_left, or_right, pointwise, position_of, reading_of, refl, resolved, row_of, slice_index, suc, true, ℕ}
+use Rattle.zl_asm.proofs.Common.{◌++◌, ◌+◌, ◌<◌, ◌==◌, ◌^◌, ◌∙◌, ◌∷◌, ◌≡◌, ◌≢◌, ◌≤◌}
 use Rattle.zl_asm.proofs.RoundNumbers.{label_text-injective}
 use Rattle.zl_asm.proofs.RoundSource.{IsPlaced}
 use Rattle.zl_asm.proofs.RoundInstr.{IsInstr, source_said, instr_resolved}

@@ -1,7 +1,7 @@
 -- Lines of printed bytes, each ended by a line feed, are found again in the text.
-use Rattle.zl_asm.proofs.Common.{◌≡◌, ℕ, ◌<◌, Bool, true, false, ◌&&◌, ◌==◌, not, List, [], ◌∷◌, ◌++◌, codes, Option, Some, None, refl, ap, ◌∙◌, nat_lt, arith}
-use Rattle.zl_asm.proofs.Common.{append_assoc, list_all, flat_map, and_parts, and_from, ltb-true, lt-ltb, ne_eqb, list_all-append, lines_of, is_ascii}
-use Rattle.zl_asm.proofs.Common.{words_from, words_of, Line, Blank, line_of, all_of, onto_all, Listing, listing_from, listing_of, joined}
+use Rattle.zl_asm.proofs.Common.{Blank, Bool, Line, List, Listing, None, Option, Some, [], all_of, and_from, and_parts, ap, append_assoc, arith, codes, false}
+use Rattle.zl_asm.proofs.Common.{flat_map, is_ascii, joined, line_of, lines_of, list_all, list_all-append, listing_from, listing_of, lt-ltb, ltb-true, nat_lt}
+use Rattle.zl_asm.proofs.Common.{ne_eqb, not, onto_all, refl, true, words_from, words_of, ℕ, ◌&&◌, ◌++◌, ◌<◌, ◌==◌, ◌∙◌, ◌∷◌, ◌≡◌}
 use Rattle.std.proofs.lemmas.List.Splits.{slice_split-cons_yes, slice_split-cons_no}
 use Rattle.zl_asm.proofs.RoundWords.{is_plain, is_plain_word, plain_all}
 use Rattle.zl_asm.proofs.RoundNumbers.{all_of_kind}

@@ -1,9 +1,8 @@
 -- The fields that lines give, where directives stand before labels and instructions.
-use Rattle.zl_asm.proofs.Common.{◌≡◌, ℕ, suc, Bool, true, false, ◌&&◌, not, List, [], ◌∷◌, ◌++◌, length, map, Some, None, refl, ap, ◌∙◌, if◌then◌else◌}
-use Rattle.zl_asm.proofs.Common.{list_all, flat_map, needs_named, Line, Blank, Declares, Label, Code, Source, all_of, if_fits, Listing, mark_in, memory_in}
-use Rattle.zl_asm.proofs.Common.{budget_in, need_in, start_in, slots_in, source_in, given, declares, directives_first, labels_from, names_once, resolved}
-use Rattle.zl_asm.proofs.Common.{is_listing, listing_with, listing_from, is_target, label_text}
-use Rattle.zl_asm.specs.declared.directive.Directive.{Directive}
+use Rattle.zl_asm.proofs.Common.{Blank, Bool, Code, Declares, Directive, Label, Line, List, Listing, None, Some, Source, [], all_of, ap, budget_in, declares}
+use Rattle.zl_asm.proofs.Common.{directives_first, false, flat_map, given, if_fits, if◌then◌else◌, is_listing, is_target, label_text, labels_from, length}
+use Rattle.zl_asm.proofs.Common.{list_all, listing_from, listing_with, map, mark_in, memory_in, names_once, need_in, needs_named, not, refl, resolved, slots_in}
+use Rattle.zl_asm.proofs.Common.{source_in, start_in, suc, true, ℕ, ◌&&◌, ◌++◌, ◌∙◌, ◌∷◌, ◌≡◌}
 use Rattle.zl_asm.proofs.RoundInstr.{source_said}
 use Rattle.zl_asm.proofs.RoundLabels.{code_said_from}
 

@@ -1,11 +1,9 @@
 -- Numbers, registers and labels as they are written are read again.
-use Rattle.zl_asm.proofs.Common.{◌≡◌, ℕ, ◌+◌, ◌-◌, ◌*◌, ◌/◌, ◌%◌, ◌^◌, ◌<◌, ◌≤◌, Bool, true, false, ◌&&◌, ◌||◌, ◌==◌, List, [], ◌∷◌, ◌++◌, length, codes}
-use Rattle.zl_asm.proofs.Common.{decimal, Option, Some, is_some, refl, sym, ap, ◌∙◌, nat_lt, nat_le, arith, list_all, starts_with, and_parts, and_from, le-leb}
-use Rattle.zl_asm.proofs.Common.{leb-true, lt-ltb, ne_eqb, or_left, or_right, list_all-append, unwrap_or, and_right, lt-leb, and_left, digit_of, digit_value}
-use Rattle.zl_asm.proofs.Common.{is_digit, value_of, is_name, is_name_byte, label_text}
+use Rattle.zl_asm.proofs.Common.{Bool, List, Option, Some, [], and_from, and_left, and_parts, and_right, ap, arith, codes, decimal, digit_of, digit_value}
+use Rattle.zl_asm.proofs.Common.{false, fold-append, is_digit, is_name, is_name_byte, is_some, label_text, le-leb, leb-true, length, list_all, list_all-append}
+use Rattle.zl_asm.proofs.Common.{lt-leb, lt-ltb, nat_le, nat_lt, ne_eqb, number_of, or_left, or_right, refl, starts_with, sym, true, unwrap_or, value_of, ℕ}
+use Rattle.zl_asm.proofs.Common.{◌%◌, ◌&&◌, ◌*◌, ◌++◌, ◌+◌, ◌-◌, ◌/◌, ◌<◌, ◌==◌, ◌^◌, ◌||◌, ◌∙◌, ◌∷◌, ◌≡◌, ◌≤◌}
 use Rattle.std.proofs.lemmas.Fmt.{decimal_by_steps, decimal_injective, length-decimal-le}
-use Rattle.std.proofs.lemmas.List.Sums.{fold-append}
-use Rattle.zl_asm.specs.Words.{number_of}
 use Rattle.zl_asm.proofs.WordsNumber.{some_number}
 use Rattle.zl_asm.proofs.RoundWords.{is_plain, is_plain_word}
 

@@ -1,7 +1,7 @@
 -- Registers, and the handles behind them, are read as they are written.
-use Rattle.zl_asm.proofs.Common.{◌≡◌, ℕ, zero, suc, ◌-◌, ◌<◌, ◌≤◌, Bool, true, false, ◌||◌, ◌==◌, not, List, [], ◌∷◌, ◌++◌, length, map, take, replicate}
-use Rattle.zl_asm.proofs.Common.{filter, Option, Some, None, refl, sym, ap, ◌∙◌, nat_lt, nat_le, arith, if◌then◌else◌, list_all, and_parts, and_from, eqb-true}
-use Rattle.zl_asm.proofs.Common.{ltb-true, le-leb, are_registers, are_places, is_packed, register_of, all_of, places_of, register_text}
+use Rattle.zl_asm.proofs.Common.{Bool, List, None, Option, Some, [], all_of, and_from, and_parts, ap, are_places, are_registers, arith, eqb-true, false, filter}
+use Rattle.zl_asm.proofs.Common.{if◌then◌else◌, is_packed, le-leb, length, list_all, ltb-true, map, nat_le, nat_lt, not, places_of, refl, register_of}
+use Rattle.zl_asm.proofs.Common.{register_text, replicate, suc, sym, take, true, zero, ℕ, ◌++◌, ◌-◌, ◌<◌, ◌==◌, ◌||◌, ◌∙◌, ◌∷◌, ◌≡◌, ◌≤◌}
 use Rattle.std.specs.Fmt.{digits}
 use Rattle.zl_code.proofs.Below.{all_below, below}
 use Rattle.zl_asm.proofs.RoundWords.{is_plain_word}

@@ -1,6 +1,6 @@
 -- What holds of each row of the table of instructions.
-use Rattle.zl_asm.proofs.Common.{◌≡◌, ℕ, ◌≤◌, Bool, true, false, ◌&&◌, ◌||◌, ◌==◌, not, List, [], ◌∷◌, length, codes, Some, refl, subst, nat_lt, nat_le}
-use Rattle.zl_asm.proofs.Common.{if◌then◌else◌, list_all, starts_with, and_parts, eqb-true, leb-true, Row, row_of, row_named, not-true, rows, row_among}
+use Rattle.zl_asm.proofs.Common.{Bool, List, Row, Some, [], and_parts, codes, eqb-true, false, if◌then◌else◌, leb-true, length, list_all, nat_le, nat_lt, not}
+use Rattle.zl_asm.proofs.Common.{not-true, refl, row_among, row_named, row_of, rows, starts_with, subst, true, ℕ, ◌&&◌, ◌==◌, ◌||◌, ◌∷◌, ◌≡◌, ◌≤◌}
 use Rattle.zl_code.specs.declared.layout.Ending.TheVariants as ending
 use Rattle.zl_code.proofs.InstrTable.{row_named-of}
 use Rattle.zl_asm.proofs.RoundWords.{is_plain_word}

@@ -1,11 +1,10 @@
 -- The operands of an instruction as they are written give its bytes again.
-use Rattle.zl_asm.proofs.Common.{◌≡◌, ℕ, zero, suc, ◌+◌, ◌^◌, ◌<◌, ◌≤◌, Bool, true, false, ◌||◌, ◌==◌, List, ◌∷◌, ◌++◌, length, map, take, drop, replicate}
-use Rattle.zl_asm.proofs.Common.{filter, decimal, Some, None, refl, sym, ap, ◌∙◌, nat_lt, arith, append_assoc, if◌then◌else◌, list_all, and_from, length-map}
-use Rattle.zl_asm.proofs.Common.{length-take, take_at, drop_at, length-take-le, list_all-append, Row, Reading, seven, bytes_of, row_bytes, are_registers}
-use Rattle.zl_asm.proofs.Common.{eq-eqb, length-replicate, layout, names_registers, is_ending_clear, Source, Tail, tail, tail_to, tail_of, registers_of}
-use Rattle.zl_asm.proofs.Common.{source_of, source_with, with_target, resolved, position_of, register_text, label_text, tail_texts, operand_texts}
+use Rattle.zl_asm.proofs.Common.{Bool, Ending, List, None, Reading, Row, Some, Source, Tail, and_from, ap, append_assoc, are_registers, arith, bytes_of}
+use Rattle.zl_asm.proofs.Common.{decimal, drop, drop_at, eq-eqb, false, filter, if◌then◌else◌, is_ending_clear, label_text, layout, length, length-map}
+use Rattle.zl_asm.proofs.Common.{length-replicate, length-take, length-take-le, list_all, list_all-append, map, names_registers, nat_lt, operand_texts}
+use Rattle.zl_asm.proofs.Common.{position_of, refl, register_text, registers_of, replicate, resolved, row_bytes, seven, source_of, source_with, suc, sym, tail}
+use Rattle.zl_asm.proofs.Common.{tail_of, tail_texts, tail_to, take, take_at, true, with_target, zero, ℕ, ◌++◌, ◌+◌, ◌<◌, ◌==◌, ◌^◌, ◌||◌, ◌∙◌, ◌∷◌, ◌≡◌, ◌≤◌}
 use Rattle.std.proofs.lemmas.List.{length-append}
-use Rattle.zl_code.specs.declared.layout.Ending.{Ending}
 use Rattle.zl_code.specs.declared.layout.Ending.TheVariants as ending
 use Rattle.zl_asm.proofs.RoundWords.{is_plain_word}
 use Rattle.zl_asm.proofs.RoundNumbers.{number_of-decimal, no_name-decimal, is_name-label, plain-decimal, plain-label}

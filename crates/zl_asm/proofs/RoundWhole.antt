@@ -1,10 +1,9 @@
 -- The text of an image denotes it.
-use Rattle.zl_asm.proofs.Common.{◌≡◌, ℕ, ◌≤◌, Bool, true, false, not, List, [], ◌∷◌, ◌++◌, length, map, codes, decimal, Some, refl, ap, ◌∙◌, arith, append-nil}
-use Rattle.zl_asm.proofs.Common.{append_assoc, if◌then◌else◌, is_some, list_all, flat_map, and_parts, and_from, le-leb, length-map, list_all-append}
-use Rattle.zl_asm.proofs.Common.{flat_map-append, Image, needs_named, instr_bytes, instr_fault, is_instr_in_range, Ranges, ranges, Line, Blank, Declares}
-use Rattle.zl_asm.proofs.Common.{all_of, mark_in, memory_in, budget_in, need_in, start_in, slots_in, source_in, given, declares, labels_from, names_once}
-use Rattle.zl_asm.proofs.Common.{resolved, listing_from, listing_of, fields_of, directive_lines, code_lines, text_of, EachTextDenotes, needs_named-needs}
-use Rattle.zl_code.specs.declared.instr.Instr.{Instr}
+use Rattle.zl_asm.proofs.Common.{Blank, Bool, Declares, EachTextDenotes, Image, Instr, Line, List, Ranges, Some, [], all_of, and_from, and_parts, ap}
+use Rattle.zl_asm.proofs.Common.{append-nil, append_assoc, arith, budget_in, code_lines, codes, decimal, declares, directive_lines, false, fields_of, flat_map}
+use Rattle.zl_asm.proofs.Common.{flat_map-append, given, if◌then◌else◌, instr_bytes, instr_fault, is_instr_in_range, is_some, labels_from, le-leb, length}
+use Rattle.zl_asm.proofs.Common.{length-map, list_all, list_all-append, listing_from, listing_of, map, mark_in, memory_in, names_once, need_in, needs_named}
+use Rattle.zl_asm.proofs.Common.{needs_named-needs, not, ranges, refl, resolved, slots_in, source_in, start_in, text_of, true, ℕ, ◌++◌, ◌∙◌, ◌∷◌, ◌≡◌, ◌≤◌}
 use Rattle.zl_code.proofs.InstrFacts.{instr_bytes-no_fault, length-instr_bytes, IsBytes-instr_bytes}
 use Rattle.zl_asm.specs.declared.directive.Directive.TheVariants as directive
 use Rattle.zl_asm.proofs.RoundLines.{Say, says_nothing, says_line, says_both, listing_of-lines}

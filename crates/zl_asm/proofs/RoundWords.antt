@@ -1,7 +1,6 @@
 -- The words of a line that was written with spaces and commas between plain words.
-use Rattle.zl_asm.proofs.Common.{◌≡◌, ℕ, Bool, true, false, ◌&&◌, ◌==◌, not, List, [], ◌∷◌, ◌++◌, codes, Some, refl, sym, ap, ◌∙◌, nat_lt, append_assoc}
-use Rattle.zl_asm.proofs.Common.{append-nil, list_all, and_parts, not-true, is_word, comma, word_before, words_from, words_of, operands_after, operands_of}
-use Rattle.zl_asm.proofs.Common.{joined}
+use Rattle.zl_asm.proofs.Common.{Bool, List, Some, [], and_parts, ap, append-nil, append_assoc, codes, comma, false, is_word, joined, list_all, nat_lt, not}
+use Rattle.zl_asm.proofs.Common.{not-true, operands_after, operands_of, refl, sym, true, word_before, words_from, words_of, ℕ, ◌&&◌, ◌++◌, ◌==◌, ◌∙◌, ◌∷◌, ◌≡◌}
 
 -- a printed byte that is no space, comma or semicolon
 abbrev pub is_plain : ℕ → Bool

@@ -1,14 +1,13 @@
 -- Worked examples of the assembler's text, by computation.
-use Rattle.zl_asm.proofs.Common.{◌≡◌, ℕ, List, [], ◌∷◌, refl, codes, true, false, Some, None, row_of, row_named, instr_fault, local_parts, rights_of, is_word}
-use Rattle.zl_asm.proofs.Common.{words_from, digit_of, register_of, is_name, hex_bytes, kind_of, directive_of, operands_after, operands_of, all_of, tail_of}
-use Rattle.zl_asm.proofs.Common.{source_of, unknown_of, label_of, line_of, directives_first, labels_from, names_once, listing_from, listing_of, Denotes, joined}
-use Rattle.zl_asm.proofs.Common.{tail_texts, code_lines_from, text_of}
+use Rattle.zl_asm.proofs.Common.{Denotes, List, None, Some, [], all_of, code_lines_from, codes, digit_of, directive_of, directives_first, false, hex_bytes}
+use Rattle.zl_asm.proofs.Common.{instr_fault, is_name, is_word, joined, kind_of, label_of, labels_from, line_of, listing_from, listing_of, local_parts}
+use Rattle.zl_asm.proofs.Common.{names_once, number_of, operands_after, operands_of, refl, register_of, rights_of, row_named, row_of, source_of, tail_of}
+use Rattle.zl_asm.proofs.Common.{tail_texts, text_of, true, unknown_of, words_from, ℕ, ◌∷◌, ◌≡◌}
 use Rattle.std.specs.Fmt.{digits}
 use Rattle.zl_rights.specs.declared.kind.Kind.TheVariants as kind
 use Rattle.zl_rights.specs.declared.policy.Condition.TheVariants as condition
 use Rattle.zl_rights.specs.Names.{kind_named, condition_named}
 use Rattle.zl_code.proofs.Stored.{image}
-use Rattle.zl_asm.specs.Words.{number_of}
 
 -- all that the reading of a text unfolds
 unfoldable pub reading : Unit {0}

@@ -1,7 +1,7 @@
 -- The bytes of hexadecimal digits, two digits after the other.
-use Rattle.zl_asm.proofs.Common.{◌≡◌, ◌≢◌, ℕ, suc, ◌+◌, ◌*◌, ◌<◌, ◌≤◌, true, false, eqb, List, [], ◌∷◌, ◌++◌, length, take, drop, get_or, set, Option, Some}
-use Rattle.zl_asm.proofs.Common.{None, refl, sym, ap, ◌∙◌, arith, append_assoc, append-nil, at_drop_more, at_drop_all, take_all, nat_tests, digit_of}
-use Rattle.zl_asm.proofs.Common.{byte_before, hex_bytes, if_fits, option_map, take-suc-set}
+use Rattle.zl_asm.proofs.Common.{List, None, Option, Some, [], ap, append-nil, append_assoc, arith, at_drop_all, at_drop_more, byte_before, digit_of, drop, eqb}
+use Rattle.zl_asm.proofs.Common.{false, get_or, hex_bytes, if_fits, length, nat_tests, option_map, refl, set, suc, sym, take, take-suc-set, take_all, true, ℕ}
+use Rattle.zl_asm.proofs.Common.{◌*◌, ◌++◌, ◌+◌, ◌<◌, ◌∙◌, ◌∷◌, ◌≡◌, ◌≢◌, ◌≤◌}
 
 abbrev pub sixteen : Option (List ℕ) → Option (List ℕ)
 sixteen o = if_fits (λ bytes. eqb (length bytes) 16) o

@@ -1,11 +1,8 @@
 -- When digits spell a number.
-use Rattle.zl_asm.proofs.Common.{◌≡◌, ℕ, ◌+◌, ◌*◌, ◌^◌, ◌<◌, ◌≤◌, Bool, true, false, ◌&&◌, not, eqb, ltb, cond, List, [], ◌∷◌, length, take, drop, get_or, fold}
-use Rattle.zl_asm.proofs.Common.{Option, Some, None, is_some, refl, sym, ap, ◌∙◌, subst, arith, nat_lt, list_all, and_from, lt-ltb, ltb-true, nat_tests}
-use Rattle.zl_asm.proofs.Common.{unwrap_or, and_left, and_right, le-ltb, ltb-false, digit_of, digit_value, is_digit, value_of, is_number, number_in}
-use Rattle.zl_code.proofs.Common.{take-append-drop}
-use Rattle.std.proofs.Math.Nat.{le-mul_of_pos_right}
-use Rattle.std.proofs.lemmas.List.Folds.{list_all_at, list_all_more}
-use Rattle.std.proofs.lemmas.List.Sums.{fold-append, fold_more}
+use Rattle.zl_asm.proofs.Common.{Bool, List, None, Option, Some, [], and_from, and_left, and_right, ap, arith, cond, digit_of, digit_value, drop, eqb, false}
+use Rattle.zl_asm.proofs.Common.{fold, fold-append, fold_more, get_or, is_digit, is_number, is_some, le-ltb, le-mul_of_pos_right, length, list_all, list_all_at}
+use Rattle.zl_asm.proofs.Common.{list_all_more, lt-ltb, ltb, ltb-false, ltb-true, nat_lt, nat_tests, not, number_in, refl, subst, sym, take, take-append-drop}
+use Rattle.zl_asm.proofs.Common.{true, unwrap_or, value_of, ℕ, ◌&&◌, ◌*◌, ◌+◌, ◌<◌, ◌^◌, ◌∙◌, ◌∷◌, ◌≡◌, ◌≤◌}
 
 abbrev with : ℕ → ℕ → ℕ → ℕ
 with base value byte = value * base + digit_value byte

@@ -1,7 +1,7 @@
 -- The words of a line, one byte after the other.
-use Rattle.zl_asm.proofs.Common.{◌≡◌, ℕ, suc, ◌+◌, ◌-◌, ◌<◌, ◌≤◌, ◌≢◌, false, eqb, List, [], ◌∷◌, ◌++◌, length, take, drop, get_or, refl, sym, ap, ◌∙◌, arith}
-use Rattle.zl_asm.proofs.Common.{append_assoc, at_drop_more, at_drop_all, get_or-drop, length-drop, take_all, nat_tests, comma, word_before, words_from}
-use Rattle.zl_asm.proofs.Common.{take-suc}
+use Rattle.zl_asm.proofs.Common.{List, [], ap, append_assoc, arith, at_drop_all, at_drop_more, comma, drop, eqb, false, get_or, get_or-drop, length}
+use Rattle.zl_asm.proofs.Common.{length-drop, nat_tests, refl, suc, sym, take, take-suc, take_all, word_before, words_from, ℕ, ◌++◌, ◌+◌, ◌-◌, ◌<◌, ◌∙◌, ◌∷◌}
+use Rattle.zl_asm.proofs.Common.{◌≡◌, ◌≢◌, ◌≤◌}
 
 -- the word of the bytes from start to i
 abbrev pub part : List ℕ → ℕ → ℕ → List ℕ

@@ -1,10 +1,10 @@
 -- Where nothing is due, nothing is due either once a process that isn't blocked has another Cpu.
-use Rattle.zl_code.proofs.Common.{Blocked, Body, Bool, Cpu, JobBody, List, Map, None, Object, Option, Packet, PacketAt, PortBody, Process, ProcessBody, Ready}
-use Rattle.zl_code.proofs.Common.{SignalOf, Some, State, Wait, World, [], active, answered, ap, arith, bit_or, body_with_packets, each, false, filter, fired}
-use Rattle.zl_code.proofs.Common.{fold, get, get-update, has_child_job, has_child_process, holds, if◌then◌else◌, is_process, is_process_of, list_any, lives}
-use Rattle.zl_code.proofs.Common.{made_ready, map, meets, nat_tests, not, on_process, option_map, or_parts, put, refl, state_passes, true, update, wakes}
-use Rattle.zl_code.proofs.Common.{with_body, woken, woken_at_port, woken_by, woken_by_first, woken_from, woken_if_there, ℕ, ◌&&◌, ◌==◌, ◌∙◌, ◌∷◌, ◌≡◌}
-use Rattle.zl_rights.specs.Numbers.{TERMINATED, NO_JOBS, NO_PROCESSES}
+use Rattle.zl_code.proofs.Common.{Blocked, Body, Bool, Cpu, JobBody, List, Map, NO_JOBS, NO_PROCESSES, None, Object, Option, Packet, PacketAt, PortBody}
+use Rattle.zl_code.proofs.Common.{Process, ProcessBody, Ready, SignalOf, Some, State, TERMINATED, Wait, World, [], active, answered, ap, arith, bit_or}
+use Rattle.zl_code.proofs.Common.{body_with_packets, each, false, filter, fired, fold, get, get-update, has_child_job, has_child_process, holds, if◌then◌else◌}
+use Rattle.zl_code.proofs.Common.{is_process, is_process_of, list_any, lives, made_ready, map, meets, nat_tests, not, on_process, option_map, or_parts, put}
+use Rattle.zl_code.proofs.Common.{refl, state_passes, true, update, wakes, with_body, woken, woken_at_port, woken_by, woken_by_first, woken_from}
+use Rattle.zl_code.proofs.Common.{woken_if_there, ℕ, ◌&&◌, ◌==◌, ◌∙◌, ◌∷◌, ◌≡◌}
 use Rattle.zl_rights.specs.Signals.{active_of, implied, signal_if, has_ended}
 use Rattle.zl_rights.specs.Wakes.{packet_of}
 

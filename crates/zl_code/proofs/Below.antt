@@ -1,5 +1,5 @@
 -- A fact of each number below a bound, by one computation.
-use Rattle.zl_code.proofs.Common.{◌≡◌, ℕ, zero, suc, ◌<◌, Bool, true, ◌==◌, ◌&&◌, ap, ◌∙◌, arith, inl, inr, and_parts, eqb-true, cases_Bool}
+use Rattle.zl_code.proofs.Common.{Bool, and_parts, ap, arith, cases_Bool, eqb-true, inl, inr, suc, true, zero, ℕ, ◌&&◌, ◌<◌, ◌==◌, ◌∙◌, ◌≡◌}
 
 -- the test holds for each number below n
 unfoldable pub all_below : (ℕ → Bool) → ℕ → Bool

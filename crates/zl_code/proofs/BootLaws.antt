@@ -1,20 +1,16 @@
 -- A boot makes a world or comes to a first fault, never both, whichever values new handles get.
-use Rattle.zl_code.proofs.Common.{PairEnd, Body, Bool, BootCause, Boots, ChannelEnd, Entry, EventBody, FirstFault, IsBoot, IsBooted, IsTrue, Library, List}
-use Rattle.zl_code.proofs.Common.{MOST_ITEMS}
-use Rattle.zl_code.proofs.Common.{Map, None, Option, PortBody, Process, ProcessBody, Program, Settles-exists, Settles-unique, Some, Statement, World, []}
-use Rattle.zl_code.proofs.Common.{and_from, and_parts, ap, arith, at_limit, at_statement, body_in, boot_effect, boot_fault, cases_Bool, cases_lt, cond}
+use Rattle.zl_code.proofs.Common.{Body, Bool, BootCause, Boots, ChannelEnd, Entry, EventBody, FirstFault, IsBoot, IsBooted, IsTrue, Library, List, MOST_ITEMS}
+use Rattle.zl_code.proofs.Common.{Map, None, Option, PairEnd, PortBody, Process, ProcessBody, Program, Settles-exists, Settles-unique, Some, Statement, World}
+use Rattle.zl_code.proofs.Common.{[], and_from, and_parts, ap, arith, at_limit, at_statement, body_in, boot_effect, boot_fault, cases_Bool, cases_lt, cond}
 use Rattle.zl_code.proofs.Common.{condition_number, created_process, eqb-true, false, false≢true, get, get-put, gives_no_handle, handles_given, has_child_job}
-use Rattle.zl_code.proofs.Common.{has_child_process, has_key, if◌then◌else◌, inl, inr, is_job_below, is_process, is_process_of, job_within, keys_of}
-use Rattle.zl_code.proofs.Common.{lacks_need, length, length-map, list_all, list_any, lives, map, may_boot, may_get, may_get_all, nat_lt, nat_tests}
-use Rattle.zl_code.proofs.Common.{none-some, on_object, origin, policy_changed, process_with, put, refl, same_Some, setting, settled_in, slice_get}
-use Rattle.zl_code.proofs.Common.{state_passes, subst, suc, sym, take, true, update, values_given, with_object, zero, ℕ, ◌&&◌, ◌+◌, ◌<◌, ◌==◌, ◌∙◌, ◌∷◌, ◌≡◌}
-use Rattle.zl_code.proofs.Common.{◌≤◌, ◌⊎◌}
+use Rattle.zl_code.proofs.Common.{has_child_process, has_key, if◌then◌else◌, inl, inr, is_allowing, is_job_below, is_process, is_process_of, job_within}
+use Rattle.zl_code.proofs.Common.{keys_of, lacks_need, length, length-map, list_all, list_any, lives, map, may_boot, may_get, may_get_all, nat_lt, nat_tests}
+use Rattle.zl_code.proofs.Common.{none-some, not, on_object, origin, policy_changed, policy_in, process_with, put, refl, same_Some, setting, settled_in}
+use Rattle.zl_code.proofs.Common.{slice_get, state_passes, subst, suc, sym, take, true, unwrap_or, update, values_given, with_object, zero, ℕ, ◌&&◌, ◌+◌, ◌<◌}
+use Rattle.zl_code.proofs.Common.{◌==◌, ◌∙◌, ◌∷◌, ◌≡◌, ◌≤◌, ◌⊎◌}
 use Rattle.zl_code.specs.declared.boot.Statement.TheVariants as statement
 use Rattle.zl_code.specs.declared.boot.BootCause.TheVariants as cause
-use Rattle.zl_code.specs.Jobs.{is_allowing}
-use Rattle.zl_code.specs.Tests.{policy_in}
 use Rattle.zl_rights.specs.declared.policy.Action.TheVariants as action
-use Rattle.std.specs.Prelude.{not, unwrap_or}
 use Rattle.zl_code.proofs.CanStart.{can_start, handles_at_most}
 
 -- ---- worlds that differ by handles alone

@@ -1,25 +1,21 @@
 -- What each call says where it isn't refused: its new handles have room, and it is made of these changes.
-use Rattle.zl_code.proofs.Common.{All, All-filter, Body, Entry, EventBody, HasPeer, IsSound, IsTrue, Kind, Library, List, Map, None, Object, PortBody}
-use Rattle.zl_code.proofs.Common.{Process, Ready, Request, Some, StandsBelow, WAIT, WRITE, World, [], and_from, ap, arith, body_of, cases_Bool, chan_create}
+use Rattle.zl_code.proofs.Common.{All, All-filter, Body, Entry, EventBody, HasPeer, IsSound, IsTrue, Kind, Library, List, Map, None, Object, PortBody, Process}
+use Rattle.zl_code.proofs.Common.{Ready, Request, Some, StandsBelow, WAIT, WRITE, World, [], and_from, ap, arith, body_of, cases_Bool, chan_create}
 use Rattle.zl_code.proofs.Common.{chan_read_etc, chan_write, choosing, copy_of, drop, dup, effect, entries_at, entry_at, eq-eqb, eqb-true, event_create}
-use Rattle.zl_code.proofs.Common.{eventpair_create}
-use Rattle.zl_code.proofs.Common.{examined, false, false≢true, filter, filter_passes, first_handles, first_some, get, gets_all, handle_operands, handles_to}
-use Rattle.zl_code.proofs.Common.{has_koids, has_room, inl, inr, insert_all, is_by_handle, is_dead, is_empty, is_port_there, is_some, job_create}
-use Rattle.zl_code.proofs.Common.{job_set_policy, job_within, kind_of, leb-true, length, listed, may_choose, may_get, may_get_all, message_read, nat_le}
-use Rattle.zl_code.proofs.Common.{new_entry, new_handles, not, not-false, not-true, object_at, object_changed, on_object, on_process, operand, or_parts}
-use Rattle.zl_code.proofs.Common.{peer_at, policy_changed, port_cancel, port_create, port_poll, port_queue, port_wait, process_create, process_start}
-use Rattle.zl_code.proofs.Common.{queue_at, queue_of, receiver_of, refl, refusal, registered, remove_all, replace, row_of, runs, same_Some, setting_of}
-use Rattle.zl_code.proofs.Common.{signal, signal_peer, storing, subst, sym, taken_handles, takes, task_kill, true, true≢false, user_packet, wait_async}
-use Rattle.zl_code.proofs.Common.{with_effect, with_killed, with_object, without, without_keyed, without_waits, ℕ, ◌++◌, ◌+◌, ◌<◌, ◌==◌, ◌^◌, ◌∙◌, ◌∷◌, ◌≡◌}
-use Rattle.zl_code.proofs.Common.{◌≤◌}
+use Rattle.zl_code.proofs.Common.{eventpair_create, examined, false, false≢true, filter, filter_passes, first_bytes, first_handles, first_some, get, gets_all}
+use Rattle.zl_code.proofs.Common.{handle_operands, handles_to, has_koids, has_room, inl, inr, insert_all, is_by_handle, is_dead, is_empty, is_port_there}
+use Rattle.zl_code.proofs.Common.{is_some, job_create, job_set_policy, job_within, kind_of, koid_in, leb-true, length, listed, may_choose, may_get, may_get_all}
+use Rattle.zl_code.proofs.Common.{message_read, nat_le, new_entry, new_handles, not, not-false, not-true, object_at, object_changed, on_object, on_process}
+use Rattle.zl_code.proofs.Common.{operand, operand_of, or_parts, peer_at, policy_changed, port_cancel, port_create, port_poll, port_queue, port_wait}
+use Rattle.zl_code.proofs.Common.{process_create, process_start, queue_at, queue_of, receiver_of, refl, refusal, registered, remove_all, replace, row_of, runs}
+use Rattle.zl_code.proofs.Common.{same_Some, setting_of, signal, signal_peer, source_at, storing, subst, sym, taken_handles, takes, task_kill, true, true≢false}
+use Rattle.zl_code.proofs.Common.{user_packet, wait_async, wait_of, with_effect, with_killed, with_object, without, without_keyed, without_waits, ℕ, ◌++◌, ◌+◌}
+use Rattle.zl_code.proofs.Common.{◌<◌, ◌==◌, ◌^◌, ◌∙◌, ◌∷◌, ◌≡◌, ◌≤◌}
 use Rattle.zl_rights.specs.declared.kind.Kind.TheVariants as kind
 use Rattle.zl_rights.specs.declared.status.Status.TheVariants as status
 use Rattle.zl_rights.specs.Packets.{is_from}
 use Rattle.zl_code.proofs.Killing.{childless}
-use Rattle.zl_code.specs.Waiting.{source_at, wait_of}
 use Rattle.zl_code.specs.Local.{overwritten}
-use Rattle.zl_code.specs.Tests.{koid_in, first_bytes}
-use Rattle.zl_code.specs.Operands.{operand_of}
 use Rattle.zl_code.proofs.MapKept.{changed}
 use Rattle.zl_code.proofs.Changes.{AreUnmade, computes, message_comes, message_goes, signals_change, Changes, stays, changes, join, one, object_changes}
 use Rattle.zl_code.proofs.Changes.{object_is_made, policy_changes, MakesEnds, channel_ends, pair_ends, ends_are_made, packets_are_changed, process_changes}

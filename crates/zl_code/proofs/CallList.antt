@@ -1,10 +1,8 @@
 -- The list of all calls: each stands at its opcode, and the rows from 64 on are theirs.
-use Rattle.zl_code.proofs.Common.{Bool, CallName, IfNone, IfSome, List, None, Option, Row, Some, [], and_parts, ap, arith, call_row, calls, eq-eqb, eqb-true}
-use Rattle.zl_code.proofs.Common.{list_all, ltb-true, map, nat_lt, ne_eqb, option_map, refl, row_among, row_of, rows, slice_get, subst, suc, sym, take, true}
-use Rattle.zl_code.proofs.Common.{zero, ℕ, ◌&&◌, ◌++◌, ◌+◌, ◌-◌, ◌<◌, ◌==◌, ◌∙◌, ◌∷◌, ◌≡◌, ◌≤◌}
+use Rattle.zl_code.proofs.Common.{Bool, CallName, HoldsAt, IfNone, IfSome, List, MatchOption, None, Option, Row, Some, [], and_parts, ap, arith, call_row}
+use Rattle.zl_code.proofs.Common.{calls, eq-eqb, eqb-true, length, list_all, ltb-true, map, nat_lt, ne_eqb, option_copied, option_map, refl, row_among, row_of}
+use Rattle.zl_code.proofs.Common.{rows, slice_get, subst, suc, sym, take, true, zero, ℕ, ◌&&◌, ◌++◌, ◌+◌, ◌-◌, ◌<◌, ◌==◌, ◌∙◌, ◌∷◌, ◌≡◌, ◌≤◌}
 use Rattle.std.specs.Borrow.{Bor}
-use Rattle.std.specs.List.{HoldsAt}
-use Rattle.std.specs.Prelude.{MatchOption, length, option_copied}
 use Rattle.std.specs.Slice.{IsItemAt}
 use Rattle.zl_code.specs.declared.history.CallName.TheVariants as call
 

@@ -1,10 +1,9 @@
 -- What is known of the process of a statement that has no fault, and how it gets its handles.
 use Rattle.zl_code.proofs.Common.{Bool, BootCause, Entry, Grant, IsTrue, Library, List, MOST_GRANTS, MOST_KOIDS, MOST_PROCESSES, Map, None, Object, Option}
-use Rattle.zl_code.proofs.Common.{Process, Some, World, [], all_known, and_parts, arith, body_in, boot_fault, false, first_some, get, handle_given}
+use Rattle.zl_code.proofs.Common.{Process, Some, World, [], all_known, and_parts, are_misfits, arith, body_in, boot_fault, false, first_some, get, handle_given}
 use Rattle.zl_code.proofs.Common.{handles_given, has_default_rights, is_job, is_some, lacks_koids, lacks_need, length, list_all, may_get, may_get_all}
 use Rattle.zl_code.proofs.Common.{may_start_with, nat_le, nat_lt, nat_tests, none-some, not, not-false, option_to_list, or_parts, process_with}
 use Rattle.zl_code.proofs.Common.{process_with_all, refl, slice_get, started_with, sym, then_some, true, ℕ, ◌&&◌, ◌++◌, ◌+◌, ◌<◌, ◌||◌, ◌∷◌, ◌≡◌, ◌≤◌}
-use Rattle.zl_code.specs.Boot.{are_misfits}
 use Rattle.zl_code.specs.declared.boot.Statement.TheVariants as statement
 use Rattle.zl_code.specs.declared.boot.BootCause.TheVariants as cause
 

@@ -1,21 +1,16 @@
 -- The elementary changes of which a step is made.
 use Rattle.zl_code.proofs.Common.{All, Awaited, Blocked, Body, Bool, ChannelEnd, Cpu, Created, Ended, Entry, HandlesAreNamed, HandlesAreSound, HasItsObject}
-use Rattle.zl_code.proofs.Common.{HasPeerOf}
-use Rattle.zl_code.proofs.Common.{HasPeer, IsSound, IsTrue, Kind, List, Map, Message, None, Object, Option, Packet, PairEnd, PortBody, Process, Ready, Setting}
-use Rattle.zl_code.proofs.Common.{Settles}
-use Rattle.zl_code.proofs.Common.{Some, StandsBelow, State, Wait, World, [], answered, ap, append-nil, arith, body_of, body_with_packets, cases_Bool, ended}
-use Rattle.zl_code.proofs.Common.{entry_at, eq-eqb, eqb-true, false, filter, fired, get, get-put, get-update, has_child, has_default_rights, has_key}
-use Rattle.zl_code.proofs.Common.{if◌then◌else◌, in_order, inl, inr, is_blocked, is_by_handle, is_job_below, is_port_there, is_process, is_process_of, kind_of}
-use Rattle.zl_code.proofs.Common.{length}
-use Rattle.zl_code.proofs.Common.{length-append, list_all, lives, made_ready, may_get, message_read, message_sent, names_its_object, ne_eqb, not}
-use Rattle.zl_code.proofs.Common.{object_changed, object_killed, on_object, on_process, option_map, packets_for, policy_changed, process_ended, process_with}
-use Rattle.zl_code.proofs.Common.{process_without, put, queue_of, raisable, refl, registered, runs, same_Some, state_passes, subst, suc, sym, true, update}
-use Rattle.zl_code.proofs.Common.{waiting, with_body, with_object, with_process, within, without, without_keyed, without_waits, ℕ, ℤ, ◌++◌, ◌+◌, ◌<◌, ◌==◌}
-use Rattle.zl_code.proofs.Common.{◌∙◌, ◌∷◌, ◌≡◌, ◌≤◌}
+use Rattle.zl_code.proofs.Common.{HasPeer, HasPeerOf, IsSound, IsTrue, Kind, List, Map, Message, None, Object, Option, Packet, PairEnd, PortBody, Process}
+use Rattle.zl_code.proofs.Common.{Ready, Setting, Settles, Some, StandsBelow, State, Wait, World, [], answered, ap, append-nil, arith, body_of, body_packed}
+use Rattle.zl_code.proofs.Common.{body_with_packets, cases_Bool, ended, entry_at, eq-eqb, eqb-true, false, filter, fired, get, get-put, get-update, has_child}
+use Rattle.zl_code.proofs.Common.{has_default_rights, has_key, if◌then◌else◌, in_order, inl, inr, is_blocked, is_by_handle, is_job_below, is_port_there}
+use Rattle.zl_code.proofs.Common.{is_process, is_process_of, kind_number, kind_of, length, length-append, list_all, lives, made_ready, may_get, message_read}
+use Rattle.zl_code.proofs.Common.{message_sent, names_its_object, ne_eqb, not, object_changed, object_killed, on_object, on_process, option_map, packets_for}
+use Rattle.zl_code.proofs.Common.{policy_changed, process_ended, process_with, process_without, put, queue_of, raisable, refl, registered, repacked, runs}
+use Rattle.zl_code.proofs.Common.{same_Some, same_kind, state_passes, subst, suc, sym, true, update, waiting, with_body, with_object, with_process, within}
+use Rattle.zl_code.proofs.Common.{without, without_keyed, without_waits, ℕ, ℤ, ◌++◌, ◌+◌, ◌<◌, ◌==◌, ◌∙◌, ◌∷◌, ◌≡◌, ◌≤◌}
 use Rattle.std.proofs.lemmas.List.Elements.{filter-append}
 use Rattle.zl_rights.specs.declared.kind.Kind.TheVariants as kind
-use Rattle.zl_rights.specs.Numbers.{kind_number, same_kind}
-use Rattle.zl_code.specs.Waiting.{body_packed, repacked}
 use Rattle.zl_code.proofs.MapKept.{in_order-put, in_order-update, in_order-each, Changed, same, changed, new, EachChanged, unchanged, changed_put}
 use Rattle.zl_code.proofs.MapKept.{changed_update, changed_each}
 

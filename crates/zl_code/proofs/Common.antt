@@ -1,9 +1,9 @@
 -- The names that most proofs cite, of this crate and those above, passed on from one place. Declares nothing.
+pub use Rattle.std.proofs.Common.{MatchResult, T, add-zero, max, min, slice_index_or}
 pub use Rattle.zl_rights.proofs.Common.{All, All-nil, Blocked, Body, Bool, ChannelEnd, Cpu, Created, DUPLICATE, Ended, Err, EventBody, Gone, IfErr, IfNone}
 pub use Rattle.zl_rights.proofs.Common.{IfOk, IfSome, IsSome, IsTrue, JobBody, Koids, List, Map, None, Object, Ok, OnOk, Option, PairEnd, PortBody, Process}
-pub use Rattle.zl_rights.proofs.Common.{ProcessBody}
-pub use Rattle.zl_rights.proofs.Common.{Ready, Result, SIGNAL, SIGNALED, STUCK, Settles, Some, State, World, [], and_from, and_parts, ap, append-nil}
-pub use Rattle.zl_rights.proofs.Common.{append_assoc, arith, at_drop_all, at_drop_more, below_all, bit_and, bits, cases_Bool, cases_lt, codes, cond}
+pub use Rattle.zl_rights.proofs.Common.{ProcessBody, Ready, Result, SIGNAL, SIGNALED, STUCK, Settles, Some, State, World, [], and_from, and_parts, ap}
+pub use Rattle.zl_rights.proofs.Common.{append-nil, append_assoc, arith, at_drop_all, at_drop_more, below_all, bit_and, bits, cases_Bool, cases_lt, codes, cond}
 pub use Rattle.zl_rights.proofs.Common.{condition_name, condition_number, count_by, decimal, default_rights_of, drop, drop_at, eq-eqb, eqb, eqb-true}
 pub use Rattle.zl_rights.proofs.Common.{err_from_is_err_and, false, false≢true, filter, find, flat_map, flat_map-append, fold, get_or, get_or-drop, get_or-map}
 pub use Rattle.zl_rights.proofs.Common.{has_key, if◌then◌else◌, inl, inr, is_empty, is_ready, is_some, is_sorted, kind_of, le-leb, leb, leb-true, length}
@@ -15,76 +15,60 @@ pub use Rattle.zl_rights.proofs.Common.{suc, sum_by, sum_by-cons, sym, take, tak
 pub use Rattle.zl_rights.proofs.Common.{within, zero, ℕ, ℤ, ⊤, ◌%◌, ◌&&◌, ◌*◌, ◌++◌, ◌+◌, ◌-◌, ◌/◌, ◌<◌, ◌==◌, ◌^◌, ◌||◌, ◌∙◌, ◌∷◌, ◌≡◌, ◌≢◌, ◌≤◌, ◌⊎◌}
 unfoldable pub use Rattle.zl_rights.proofs.Common.{answered, each, fired, get, has_living_child, in_queue, in_table, is_held, is_process, put, update, wakes}
 unfoldable pub use Rattle.zl_rights.proofs.Common.{where_key, without, without_others}
+pub use Rattle.std.proofs.Math.Seq.{drop-append-add, drop-append_seam, take-append_seam, take-suc-set}
+pub use Rattle.std.proofs.lemmas.Bool.{le-ltb, ltb-false, not-false, not-true, or_parts}
+pub use Rattle.std.proofs.lemmas.List.{drop-drop, drop_all, get_or-take, get_or_past, map_more, take_rest}
+pub use Rattle.std.proofs.lemmas.List.Concat.{flat_map-cons}
+pub use Rattle.std.proofs.lemmas.List.Elements.{All-append, All-cons, All-filter, All-head, All-tail, filter_passes}
+pub use Rattle.std.proofs.lemmas.Slice.Eq.{slice_eq-Decides}
+pub use Rattle.std.specs.Cmp.Lexicographic.{pointwise}
+pub use Rattle.std.specs.List.{AllByRecursion, HoldsAt}
+pub use Rattle.std.specs.Option.{option_to_list}
+pub use Rattle.std.specs.Prelude.{IsSomeAnd, MatchOption, bit_or, bit_xor, negsuc, option_copied, unwrap_or, ◌↔◌}
+pub use Rattle.zl_code.specs.Boot.{BootRefusal, IsBooted, MOST_GRANTS, MOST_KOIDS, MOST_PROCESSES, all_known, are_declared, are_misfits, for_place, gives_more}
+pub use Rattle.zl_code.specs.Boot.{gives_no_handle, handle_given, handles_given, is_job, lacks_koids, may_start_with, process_with_all, setting}
+pub use Rattle.zl_code.specs.Boot.{started_process, values_given}
+pub use Rattle.zl_code.specs.CallTable.{awaited_by, choosing, ends_caller, entering_at, job_create, job_set_policy, outcome_of, port_cancel, port_create}
+pub use Rattle.zl_code.specs.CallTable.{port_poll, port_queue, port_wait, process_create, process_start, receiver_of, signal_peer, stored_by, task_kill}
+pub use Rattle.zl_code.specs.CallTable.{wait_async, wait_one, wait_poll}
+pub use Rattle.zl_code.specs.Calls.{CallBy, after_ok, after_refusal, may_want}
 pub use Rattle.zl_code.specs.Common.{Acts, AtCall, Boots, Calls, Choice, FirstFault, HandlesAreNamed, HandlesAreSound, HasGivenKoids, Image, IsBoot}
 pub use Rattle.zl_code.specs.Common.{IsLegalHistory, IsSound, IsStuck, Layout, Library, MOST_ITEMS, Moves, Next, Program, Reading, Refused, Request, Row, Site}
 pub use Rattle.zl_code.specs.Common.{Spells, Step, Values, Wants, answer_if, any, are_needs, are_registers, at_limit, at_statement, body_in, body_of}
 pub use Rattle.zl_code.specs.Common.{by_look_up, bytes_of, call_name, call_row, calls_at, chan_create, chan_read_etc, chan_write, close, copy_of, cpu_answered}
 pub use Rattle.zl_code.specs.Common.{dup, entry_at, event_create, eventpair_create, first_some, grows, has_default_rights, in_order, instr_bytes, is_among}
-pub use Rattle.zl_code.specs.Common.{is_in_range}
-pub use Rattle.zl_code.specs.Common.{is_instr_in_range, is_job_body, is_slot_in_range, is_start_in_range, layout_of, may_boot, may_get, names_its_object}
-pub use Rattle.zl_code.specs.Common.{needs_byte, needs_named, needs_value, next_for, number_at, number_of, object_at, ok_outcome, operand_of, origin, pid_of}
-pub use Rattle.zl_code.specs.Common.{process_exit, process_with, process_without, raisable, reading_of, replace, row_bytes, seven, signal, single, site}
-pub use Rattle.zl_code.specs.Common.{slot_bytes, spelling, start_bytes, table_of, taken, with_effect, with_rights}
+pub use Rattle.zl_code.specs.Common.{is_in_range, is_instr_in_range, is_job_body, is_slot_in_range, is_start_in_range, layout_of, may_boot, may_get}
+pub use Rattle.zl_code.specs.Common.{names_its_object, needs_byte, needs_named, needs_value, next_for, number_at, number_of, object_at, ok_outcome, operand_of}
+pub use Rattle.zl_code.specs.Common.{origin, pid_of, process_exit, process_with, process_without, raisable, reading_of, replace, row_bytes, seven, signal}
+pub use Rattle.zl_code.specs.Common.{single, site, slot_bytes, spelling, start_bytes, table_of, taken, with_effect, with_rights}
 unfoldable pub use Rattle.zl_code.specs.Common.{boot_effect, boot_fault, effect, ended, examined, first_fault, gives_ok, gives_refused, handle_operands}
 unfoldable pub use Rattle.zl_code.specs.Common.{handles_to, has_koids, has_room, header_fault, insert_all, instr_fault, listed, local_effect, local_parts}
 unfoldable pub use Rattle.zl_code.specs.Common.{may_choose, new_handles, on_process, operand, pieces, refusal, remove_all, replied, row_named, row_of, site_of}
 unfoldable pub use Rattle.zl_code.specs.Common.{slot_fault, start_fault, taken_handles, with_object}
-pub use Rattle.std.proofs.Common.{MatchResult, T, add-zero, max, min, slice_index_or}
-pub use Rattle.std.proofs.lemmas.Bool.{le-ltb, ltb-false, not-false, or_parts}
-pub use Rattle.std.proofs.lemmas.List.{drop-drop, drop_all, get_or-take, get_or_past, map_more, take_rest}
-pub use Rattle.zl_code.specs.Boot.{IsBooted, MOST_GRANTS, MOST_KOIDS, MOST_PROCESSES, all_known, gives_no_handle, handle_given, handles_given, is_job}
-pub use Rattle.zl_code.specs.Boot.{may_start_with, process_with_all, started_process, values_given}
-pub use Rattle.zl_code.specs.Effects.{gets_all, may_get_after, may_get_all, new_entry, object_changed, process_ended, with_process}
+pub use Rattle.zl_code.specs.Effects.{body_after_read, body_with_message, gets_all, may_get_after, may_get_all, message_read, message_sent, new_entry}
+pub use Rattle.zl_code.specs.Effects.{object_changed, process_ended, storing, waiting, with_process, without_waits}
 unfoldable pub use Rattle.zl_code.specs.Effects.{on_object}
-pub use Rattle.zl_code.specs.Sound.{HasItsObject, HasPeer, HasPeerOf, IsSoundTable, IsSoundWait, KeepsProcesses, is_blocked, is_kind_if_there, is_port_there}
-pub use Rattle.zl_code.specs.Sound.{is_value}
-pub use Rattle.zl_code.specs.Spells.{Parts, allows, are_places, ascend_from, code_pieces, count_at, ending_bytes, fault_by, has_length, has_rights, header}
-pub use Rattle.zl_code.specs.Spells.{is_32_bits, is_call_in_range, is_ending_clear, is_header_in_range, is_local_in_range, is_needs_byte, is_packed, is_raw_at}
-pub use Rattle.zl_code.specs.Spells.{is_room, is_unused_zero, kind_at, kind_byte, length_at, magic, names_registers, registers_at, rights_allowed, slot_pieces}
-pub use Rattle.zl_code.specs.Spells.{slots_at, start_pieces, starts_at}
-pub use Rattle.zl_code.specs.Tests.{action_of, handles_in, parent_of, settable_of}
+pub use Rattle.zl_code.specs.Headline.{EndsItself, GoesWell, HasNoFault, IsNotStuck, IsSizedBoot, KeepsBudget, MayEnd, executed, is_fault, left_behind}
+pub use Rattle.zl_code.specs.Instructions.{Field, calls, closes, consumes, ends, field_of, layout, layout_in, names, row_among, row_value, rows}
+pub use Rattle.zl_code.specs.Jobs.{body_killed, body_with_policy, depth_in, has_child, is_allowing, is_dead, is_deepest, job_within, lacks_need, object_killed}
+pub use Rattle.zl_code.specs.Jobs.{policy_after, policy_changed, process_killed}
+unfoldable pub use Rattle.zl_code.specs.Jobs.{is_under_by, is_within, with_killed}
+pub use Rattle.zl_code.specs.Koids.{KeepsKoids}
 pub use Rattle.zl_code.specs.Operands.{Operand, by_policy, contains, ends_if_kill, faults, operand_after, seen_after, unless_allowed}
 unfoldable pub use Rattle.zl_code.specs.Operands.{creates}
-pub use Rattle.zl_rights.proofs.MapLaws.{get-each, get-put, get-update, get-where_key-in, get-where_key-out}
-pub use Rattle.zl_rights.proofs.Settling.{Settles-by, Settles-exists, Settles-unique, is_held-larger, keys_of, settled_in, shrunk, stays}
-pub use Rattle.zl_rights.specs.Numbers.{READ, READABLE, SAME_RIGHTS, TERMINATED, USER_SIGNALS, kind_number, meets, takes}
-pub use Rattle.zl_rights.specs.World.{Awaited, Message, Packet, PacketAt, SignalOf}
-pub use Rattle.std.proofs.lemmas.List.Elements.{All-cons, All-head, All-tail}
-pub use Rattle.std.specs.Prelude.{bit_xor, negsuc}
-pub use Rattle.zl_code.specs.Calls.{CallBy, after_ok, after_refusal, may_want}
-pub use Rattle.zl_code.specs.Instructions.{Field, closes, consumes, names, row_among, rows}
+pub use Rattle.zl_code.specs.Refusals.{condition_of}
+pub use Rattle.zl_code.specs.Sound.{HasItsObject, HasPeer, HasPeerOf, IsBelow, IsSoundJob, IsSoundTable, IsSoundWait, KeepsProcesses, LivesAt, StandsBelow}
+pub use Rattle.zl_code.specs.Sound.{is_blocked, is_kind_if_there, is_policy, is_port_there, is_value}
+pub use Rattle.zl_code.specs.Spells.{Parts, allows, are_places, ascend_from, body_bytes, call_bytes, call_reading, code_pieces, count_at, ending_bytes}
+pub use Rattle.zl_code.specs.Spells.{fault_by, has_length, has_rights, header, is_32_bits, is_call_in_range, is_ending_clear, is_header_in_range}
+pub use Rattle.zl_code.specs.Spells.{is_local_in_range, is_needs_byte, is_packed, is_raw_at, is_room, is_unused_zero, kind_at, kind_byte, length_at}
+pub use Rattle.zl_code.specs.Spells.{local_bytes, magic, names_registers, registers_at, rights_allowed, slot_pieces, slots_at, start_pieces, starts_at}
 pub use Rattle.zl_code.specs.Starting.{created_process, started_with}
 pub use Rattle.zl_code.specs.Steps.{Runs, has_count}
 unfoldable pub use Rattle.zl_code.specs.Steps.{next_at}
-pub use Rattle.zl_rights.specs.Settle.{IsLargestHeld, state_without}
-unfoldable pub use Rattle.zl_rights.specs.Settle.{is_made_by_handle}
-unfoldable pub use Rattle.zl_rights.specs.Signals.{active, has_child_job, has_child_process}
-pub use Rattle.zl_rights.specs.Wakes.{body_with_packets, packet_values, packets_for, with_body, woken_at_port, woken_by, woken_by_first, woken_from}
-pub use Rattle.zl_rights.specs.Wakes.{woken_if_there}
-unfoldable pub use Rattle.zl_rights.specs.Wakes.{holds, made_ready, woken}
-pub use Rattle.std.proofs.lemmas.Bool.{not-true}
-pub use Rattle.std.proofs.lemmas.List.Concat.{flat_map-cons}
-pub use Rattle.std.proofs.lemmas.List.Elements.{All-append, All-filter, filter_passes}
-pub use Rattle.std.proofs.lemmas.Slice.Eq.{slice_eq-Decides}
-pub use Rattle.std.specs.Cmp.Lexicographic.{pointwise}
-pub use Rattle.std.specs.Option.{option_to_list}
-pub use Rattle.std.specs.Prelude.{bit_or}
-pub use Rattle.zl_code.specs.Boot.{lacks_koids, setting}
-pub use Rattle.zl_code.specs.CallTable.{awaited_by, choosing, ends_caller, entering_at, job_create, job_set_policy, outcome_of, port_cancel, port_create}
-pub use Rattle.zl_code.specs.CallTable.{port_poll, port_queue, port_wait, process_create, process_start, receiver_of, signal_peer, stored_by, task_kill}
-pub use Rattle.zl_code.specs.CallTable.{wait_async, wait_one, wait_poll}
-pub use Rattle.zl_code.specs.Effects.{body_after_read, body_with_message, message_read, message_sent, storing, waiting, without_waits}
-pub use Rattle.zl_code.specs.Headline.{KeepsBudget}
-pub use Rattle.zl_code.specs.Instructions.{calls, row_value}
-pub use Rattle.zl_code.specs.Jobs.{body_killed, body_with_policy, has_child, is_dead, is_deepest, job_within, lacks_need, object_killed, policy_changed}
-pub use Rattle.zl_code.specs.Jobs.{process_killed}
-unfoldable pub use Rattle.zl_code.specs.Jobs.{is_under_by, is_within, with_killed}
-pub use Rattle.zl_code.specs.Koids.{KeepsKoids}
-pub use Rattle.zl_code.specs.Refusals.{condition_of}
-pub use Rattle.zl_code.specs.Sound.{IsBelow, LivesAt, StandsBelow}
-pub use Rattle.zl_code.specs.Spells.{call_bytes}
-pub use Rattle.zl_code.specs.Tests.{entries_at, first_handles, parent_in, peer_at, queue_at, queue_in}
-pub use Rattle.zl_code.specs.Waiting.{is_by_handle, packets_in, registered, without_keyed}
+pub use Rattle.zl_code.specs.Tests.{action_of, entries_at, first_bytes, first_handles, handles_in, koid_in, may_change, parent_in, parent_of, peer_at, peer_in}
+pub use Rattle.zl_code.specs.Tests.{policy_in, queue_at, queue_in, settable_of}
+pub use Rattle.zl_code.specs.Waiting.{body_packed, is_by_handle, packets_in, registered, repacked, source_at, wait_of, without_keyed}
 pub use Rattle.zl_code.specs.declared.boot.BootCause.{BootCause}
 pub use Rattle.zl_code.specs.declared.boot.Grant.{Grant}
 pub use Rattle.zl_code.specs.declared.boot.Statement.{Statement}
@@ -97,16 +81,24 @@ pub use Rattle.zl_code.specs.declared.image.Start.{Start}
 pub use Rattle.zl_code.specs.declared.instr.CallInstr.{CallInstr}
 pub use Rattle.zl_code.specs.declared.instr.Instr.{Instr}
 pub use Rattle.zl_code.specs.declared.instr.LocalInstr.{LocalInstr}
+pub use Rattle.zl_rights.proofs.MapLaws.{get-each, get-put, get-update, get-where_key-in, get-where_key-out}
 pub use Rattle.zl_rights.proofs.Narrowed.{narrowed_within}
+pub use Rattle.zl_rights.proofs.Settling.{Settles-by, Settles-exists, Settles-unique, is_held-larger, keys_of, settled_in, shrunk, stays}
 pub use Rattle.zl_rights.specs.LookUp.{granted}
-pub use Rattle.zl_rights.specs.Numbers.{DESTROY, KILLED, MANAGE_PROCESS, PEER_CLOSED, SIGNAL_PEER, TRANSFER, WAIT, WRITABLE, WRITE}
+pub use Rattle.zl_rights.specs.Numbers.{BY_POLICY, DESTROY, KILLED, MANAGE_JOB, MANAGE_PROCESS, NO_JOBS, NO_PROCESSES, PEER_CLOSED, READ, READABLE, SAME_RIGHTS}
+pub use Rattle.zl_rights.specs.Numbers.{SET_POLICY, SIGNAL_PEER, TERMINATED, TRANSFER, USER_SIGNALS, WAIT, WRITABLE, WRITE, action_number, kind_number, meets}
+pub use Rattle.zl_rights.specs.Numbers.{mode_number, same_kind, takes}
 pub use Rattle.zl_rights.specs.Packets.{user_packet}
-pub use Rattle.zl_rights.specs.Policies.{Setting}
-unfoldable pub use Rattle.zl_rights.specs.Policies.{setting_of}
-unfoldable pub use Rattle.zl_rights.specs.Policies.{policy_set, with_unset}
-pub use Rattle.zl_rights.specs.Settle.{has_handle}
+pub use Rattle.zl_rights.specs.Policies.{Setting, condition_numbered}
+unfoldable pub use Rattle.zl_rights.specs.Policies.{conflicts, policy_set, setting_of, with_unset}
+pub use Rattle.zl_rights.specs.Settle.{IsLargestHeld, has_handle, state_without}
+unfoldable pub use Rattle.zl_rights.specs.Settle.{is_made_by_handle}
 pub use Rattle.zl_rights.specs.Signals.{is_job_below, is_process_of}
-pub use Rattle.zl_rights.specs.World.{Wait}
+unfoldable pub use Rattle.zl_rights.specs.Signals.{active, has_child_job, has_child_process}
+pub use Rattle.zl_rights.specs.Wakes.{body_with_packets, packet_values, packets_for, with_body, woken_at_port, woken_by, woken_by_first, woken_from}
+pub use Rattle.zl_rights.specs.Wakes.{woken_if_there}
+unfoldable pub use Rattle.zl_rights.specs.Wakes.{holds, made_ready, woken}
+pub use Rattle.zl_rights.specs.World.{Awaited, Message, Packet, PacketAt, SignalOf, Wait}
 pub use Rattle.zl_rights.specs.declared.entry.Entry.{Entry}
 pub use Rattle.zl_rights.specs.declared.kind.Kind.{Kind}
 pub use Rattle.zl_rights.specs.declared.policy.Action.{Action}

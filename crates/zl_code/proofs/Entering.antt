@@ -1,11 +1,11 @@
 -- Handles enter and leave the table of a process: where there is room values are free, and each handle is one change.
-use Rattle.zl_code.proofs.Common.{All, All-cons, All-head, All-nil, All-tail, Body, Bool, Entry, HandlesAreNamed, HandlesAreSound, IsSound, IsTrue, Kind}
-use Rattle.zl_code.proofs.Common.{List, Map, None, Object, Option, Process, Some, Wait, World, [], and_from, and_parts, ap, arith, cases_Bool, cond, copy_of}
+use Rattle.zl_code.proofs.Common.{All, All-cons, All-head, All-nil, All-tail, Body, Bool, Entry, HandlesAreNamed, HandlesAreSound, IsSound, IsTrue, Kind, List}
+use Rattle.zl_code.proofs.Common.{Map, None, Object, Option, Process, Some, Wait, World, [], and_from, and_parts, ap, arith, cases_Bool, cond, copy_of}
 use Rattle.zl_code.proofs.Common.{default_rights_of, entry_at, eq-eqb, eqb-true, false, filter, get, get-put, get-update, get-where_key-in, get-where_key-out}
 use Rattle.zl_code.proofs.Common.{granted, handles_in, has_default_rights, has_key, inl, inr, insert_all, is_some, kind_of, length, lt-ltb, may_get}
-use Rattle.zl_code.proofs.Common.{may_get_after, may_get_all, names_its_object, narrowed, narrowed_within, nat_lt, nat_tests, ne_eqb, new_entry, none-some}
-use Rattle.zl_code.proofs.Common.{not, not-true, on_process, process_with, process_without, put, refl, remove_all, runs, same_Some, subst, suc, sym, taken}
-use Rattle.zl_code.proofs.Common.{true, true≢false, where_key, with_object, with_rights, without, zero, ℕ, ◌-◌, ◌<◌, ◌==◌, ◌∙◌, ◌∷◌, ◌≡◌, ◌≤◌}
+use Rattle.zl_code.proofs.Common.{may_get_after, may_get_all, names_its_object, narrowed, narrowed_within, nat_lt, nat_tests, ne_eqb, new_entry, none-some, not}
+use Rattle.zl_code.proofs.Common.{not-true, on_process, process_with, process_without, put, refl, remove_all, runs, same_Some, subst, suc, sym, taken, true}
+use Rattle.zl_code.proofs.Common.{true≢false, where_key, with_object, with_rights, without, zero, ℕ, ◌-◌, ◌<◌, ◌==◌, ◌∙◌, ◌∷◌, ◌≡◌, ◌≤◌}
 use Rattle.zl_rights.specs.declared.kind.Kind.TheVariants as kind
 use Rattle.zl_rights.specs.declared.rights.Rights.{Rights}
 use Rattle.zl_code.proofs.MapKept.{changed}

@@ -3,20 +3,17 @@ use Rattle.zl_code.proofs.Common.{Acts, AtCall, Awaited, Blocked, Body, Bool, Ca
 use Rattle.zl_code.proofs.Common.{IsStuck, IsTrue, JobBody, KILLED, Library, List, LivesAt, Moves, Next, None, Object, Option, Outcome, Packet, PacketAt}
 use Rattle.zl_code.proofs.Common.{PortBody, Process, ProcessBody, Ready, Refused, Request, Settles, SignalOf, Site, Some, StandsBelow, State, Step, TraceItem}
 use Rattle.zl_code.proofs.Common.{Values, Wants, World, [], active, after_ok, after_refusal, and_from, and_parts, answered, ap, arith, awaited_by}
-use Rattle.zl_code.proofs.Common.{body_after_read, body_in, body_killed, body_with_message, cases_Bool, created_process, effect, ended, entering_at, entry_at}
-use Rattle.zl_code.proofs.Common.{eq-eqb, eqb-true, false, false≢true, fired, fold, get, get-each, get-put, get-update, get-where_key-in, get-where_key-out}
-use Rattle.zl_code.proofs.Common.{handle_operands, has_child, has_child_job, has_child_process, if◌then◌else◌, inl, inr, insert_all, is_job_below, is_process}
-use Rattle.zl_code.proofs.Common.{is_process_of, is_some, is_within, lives, may_choose, may_get, may_get_all, meets, ne_eqb, new_handles, next_for, none-some}
-use Rattle.zl_code.proofs.Common.{not, not-true, object_at, ok_outcome, on_object, on_process, option_map, option_to_list, or_left, or_right, packet_values}
-use Rattle.zl_code.proofs.Common.{parent_in, process_create, process_ended, process_killed, process_settled, process_start, process_with, process_without}
-use Rattle.zl_code.proofs.Common.{receiver_of, refl, refusal, remove_all, replied, row_of, runs, same_Some, state_without, stored_by, storing, subst, sym}
-use Rattle.zl_code.proofs.Common.{taken, taken_handles, task_kill, true, true≢false, update, waiting, wakes, where_key, with_body, with_effect, with_killed}
-use Rattle.zl_code.proofs.Common.{with_object, without_others, woken_at_port, woken_by, woken_by_first, woken_from, woken_if_there, ℕ, ◌<◌, ◌==◌, ◌∙◌, ◌∷◌}
-use Rattle.zl_code.proofs.Common.{◌≡◌, ◌≤◌, ◌⊎◌}
-use Rattle.zl_rights.specs.Wakes.{made_ready, woken}
+use Rattle.zl_code.proofs.Common.{body_after_read, body_in, body_killed, body_with_message, cases_Bool, close, created_process, effect, ended, entering_at}
+use Rattle.zl_code.proofs.Common.{entry_at, eq-eqb, eqb-true, false, false≢true, fired, fold, get, get-each, get-put, get-update, get-where_key-in}
+use Rattle.zl_code.proofs.Common.{get-where_key-out, handle_operands, has_child, has_child_job, has_child_process, if◌then◌else◌, inl, inr, insert_all}
+use Rattle.zl_code.proofs.Common.{is_job_below, is_process, is_process_of, is_some, is_within, lives, made_ready, may_choose, may_get, may_get_all, meets}
+use Rattle.zl_code.proofs.Common.{ne_eqb, new_handles, next_for, none-some, not, not-true, object_at, ok_outcome, on_object, on_process, option_map}
+use Rattle.zl_code.proofs.Common.{option_to_list, or_left, or_right, packet_values, parent_in, process_create, process_ended, process_killed, process_settled}
+use Rattle.zl_code.proofs.Common.{process_start, process_with, process_without, receiver_of, refl, refusal, remove_all, replied, row_of, runs, same_Some}
+use Rattle.zl_code.proofs.Common.{started_with, state_without, stored_by, storing, subst, sym, taken, taken_handles, task_kill, true, true≢false, update}
+use Rattle.zl_code.proofs.Common.{waiting, wakes, where_key, with_body, with_effect, with_killed, with_object, without_others, woken, woken_at_port, woken_by}
+use Rattle.zl_code.proofs.Common.{woken_by_first, woken_from, woken_if_there, ℕ, ◌<◌, ◌==◌, ◌∙◌, ◌∷◌, ◌≡◌, ◌≤◌, ◌⊎◌}
 use Rattle.zl_code.specs.declared.history.Outcome.TheVariants as outcome
-use Rattle.zl_code.specs.CallTable.{close}
-use Rattle.zl_code.specs.Starting.{started_with}
 use Rattle.zl_code.specs.Frame.{OthersMake, left_alone, woken as is_woken, was_started, was_killed, dropped, LeavesOthers, HasLiving, IsWithin, itself, below}
 use Rattle.zl_code.specs.Frame.{policy_of}
 use Rattle.zl_code.proofs.Changes.{ObjectChange, signals_change, packets_change, message_comes, message_goes, policy_changes, dies, Change, kept}

@@ -1,7 +1,7 @@
 -- Numbers as bytes, and parts of a list of bytes.
-use Rattle.zl_code.proofs.Common.{◌≡◌, ℕ, zero, suc, ◌+◌, ◌*◌, ◌/◌, ◌%◌, ◌^◌, ◌<◌, ◌≤◌, true, List, [], ◌∷◌, ◌++◌, length, get_or, take, drop, nat_lt, refl}
-use Rattle.zl_code.proofs.Common.{sym, ap, ◌∙◌, arith, inl, inr, list_all, cases_lt, lt-ltb, and_from, length-take, length-drop, get_or-drop, number_of}
-use Rattle.zl_code.proofs.Common.{bytes_of, number_at, add-zero, drop-drop, get_or-take, get_or_past, take-append-drop}
+use Rattle.zl_code.proofs.Common.{List, [], add-zero, and_from, ap, arith, bytes_of, cases_lt, drop, drop-drop, get_or, get_or-drop, get_or-take, get_or_past}
+use Rattle.zl_code.proofs.Common.{inl, inr, length, length-drop, length-take, list_all, lt-ltb, nat_lt, number_at, number_of, refl, suc, sym, take}
+use Rattle.zl_code.proofs.Common.{take-append-drop, true, zero, ℕ, ◌%◌, ◌*◌, ◌++◌, ◌+◌, ◌/◌, ◌<◌, ◌^◌, ◌∙◌, ◌∷◌, ◌≡◌, ◌≤◌}
 use Rattle.std.proofs.Math.Nat.{pow-suc}
 
 abbrev pub IsBytes : List ℕ → Type 0

@@ -1,7 +1,6 @@
 -- Lists of seven and of eight numbers by their cells, and registers in seven places.
-use Rattle.zl_code.proofs.Common.{◌≡◌, ℕ, suc, ◌+◌, ◌<◌, ◌≤◌, List, [], ◌∷◌, ◌++◌, length, get_or, set, take, drop, replicate, refl, sym, ap, ◌∙◌, arith}
-use Rattle.zl_code.proofs.Common.{append-nil, take-append-drop, take_all, take_more, seven}
-use Rattle.std.proofs.Math.Seq.{take-suc-set}
+use Rattle.zl_code.proofs.Common.{List, [], ap, append-nil, arith, drop, get_or, length, refl, replicate, set, seven, suc, sym, take, take-append-drop}
+use Rattle.zl_code.proofs.Common.{take-suc-set, take_all, take_more, ℕ, ◌++◌, ◌+◌, ◌<◌, ◌∙◌, ◌∷◌, ◌≡◌, ◌≤◌}
 
 pub cells_7 : (xs rest : List ℕ) → length xs ≡ 7
     → get_or xs 0 0 ∷ get_or xs 1 0 ∷ get_or xs 2 0 ∷ get_or xs 3 0 ∷ get_or xs 4 0 ∷ get_or xs 5 0 ∷ get_or xs 6 0 ∷ rest ≡ xs ++ rest

@@ -1,7 +1,7 @@
 -- The eight bytes of a declaration.
 use Rattle.zl_code.proofs.Common.{Bool, Kind, List, None, Option, SlotArray, Some, Start, [], allows, and_from, and_parts, ap, arith, bit_and, bits, bytes_of}
-use Rattle.zl_code.proofs.Common.{drop, eqb-true, false, has_length, has_rights, is_slot_in_range, is_start_in_range, kind_at, kind_byte, kind_number}
-use Rattle.zl_code.proofs.Common.{leb-true, length, length-drop, list_all, nat_le, nat_lt, ne_eqb, not, number_at, number_of, refl, rights_allowed, rights_of}
+use Rattle.zl_code.proofs.Common.{drop, eqb-true, false, has_length, has_rights, is_slot_in_range, is_start_in_range, kind_at, kind_byte, kind_number, leb-true}
+use Rattle.zl_code.proofs.Common.{length, length-drop, list_all, nat_le, nat_lt, ne_eqb, not, number_at, number_of, refl, rights_allowed, rights_of}
 use Rattle.zl_code.proofs.Common.{slice_index, slot_bytes, slot_fault, start_bytes, start_fault, sym, take, take_all, then_some, true, within, ℕ, ◌&&◌, ◌++◌}
 use Rattle.zl_code.proofs.Common.{◌<◌, ◌==◌, ◌∙◌, ◌∷◌, ◌≡◌, ◌≢◌, ◌≤◌}
 use Rattle.std.proofs.lemmas.Nat.{and_le_l}

@@ -1,9 +1,8 @@
 -- The header: its tests, and its 20 bytes.
-use Rattle.zl_code.proofs.Common.{Bool, DecodeFault, Image, List, None, Option, [], and_parts, ap, arith, bytes_of, cond, count_at, drop, eq-eqb, eqb}
-use Rattle.zl_code.proofs.Common.{eqb-true, false, first_some, get_or, get_or-drop, header, header_fault, is_header_in_range, is_needs_byte, is_raw_at}
-use Rattle.zl_code.proofs.Common.{le-ltb, leb, leb-true, length, length-drop, length_at, ltb-false, magic, nat_le, nat_lt, needs_byte, not, number_at}
-use Rattle.zl_code.proofs.Common.{pointwise, refl, slice_index, slots_at, starts_at, starts_with, suc, sym, take, then_some, true, zero, ℕ, ◌++◌, ◌==◌, ◌∙◌}
-use Rattle.zl_code.proofs.Common.{◌∷◌, ◌≡◌, ◌≤◌}
+use Rattle.zl_code.proofs.Common.{Bool, DecodeFault, Image, List, None, Option, [], and_parts, ap, arith, bytes_of, cond, count_at, drop, eq-eqb, eqb, eqb-true}
+use Rattle.zl_code.proofs.Common.{false, first_some, get_or, get_or-drop, header, header_fault, is_header_in_range, is_needs_byte, is_raw_at, le-ltb, leb}
+use Rattle.zl_code.proofs.Common.{leb-true, length, length-drop, length_at, ltb-false, magic, nat_le, nat_lt, needs_byte, not, number_at, pointwise, refl}
+use Rattle.zl_code.proofs.Common.{slice_index, slots_at, starts_at, starts_with, suc, sym, take, then_some, true, zero, ℕ, ◌++◌, ◌==◌, ◌∙◌, ◌∷◌, ◌≡◌, ◌≤◌}
 use Rattle.zl_code.specs.declared.image.DecodeFault.TheVariants as faults
 use Rattle.zl_code.proofs.ImageBytes.{IsBytes, bytes_of-number_at, parts_at}
 

@@ -1,10 +1,9 @@
 -- The byte of the needs.
 use Rattle.zl_code.proofs.Common.{Bool, Condition, List, Some, [], and_from, and_parts, ap, are_needs, arith, ascend_from, cases_Bool, condition_number}
-use Rattle.zl_code.proofs.Common.{eqb-true}
-use Rattle.zl_code.proofs.Common.{false, false≢true, if◌then◌else◌, inl, inr, is_among, is_needs_byte, lt-ltb, ltb-true, map, nat_lt, needs_byte, needs_named}
-use Rattle.zl_code.proofs.Common.{needs_value, not, refl, same_Some, sym, true, ℕ, ◌%◌, ◌&&◌, ◌+◌, ◌/◌, ◌<◌, ◌==◌, ◌∙◌, ◌∷◌, ◌≡◌, ◌≤◌}
+use Rattle.zl_code.proofs.Common.{condition_numbered, eqb-true, false, false≢true, if◌then◌else◌, inl, inr, is_among, is_needs_byte, lt-ltb, ltb-true, map}
+use Rattle.zl_code.proofs.Common.{nat_lt, needs_byte, needs_named, needs_value, not, refl, same_Some, sym, true, ℕ, ◌%◌, ◌&&◌, ◌+◌, ◌/◌, ◌<◌, ◌==◌, ◌∙◌, ◌∷◌}
+use Rattle.zl_code.proofs.Common.{◌≡◌, ◌≤◌}
 use Rattle.zl_rights.specs.declared.policy.Condition.TheVariants as condition
-use Rattle.zl_rights.specs.Policies.{condition_numbered}
 use Rattle.zl_code.specs.declared.image.Needs.{Needs}
 use Rattle.zl_code.specs.Image.{need_if}
 use Rattle.zl_code.proofs.Below.{all_below, below}

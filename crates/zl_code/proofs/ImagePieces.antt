@@ -1,7 +1,7 @@
 -- A list of bytes in pieces of one size.
-use Rattle.zl_code.proofs.Common.{Bool, DecodeFault, List, None, Option, [], and_parts, ap, append_assoc, arith, drop, drop-drop, drop_at, first_some}
-use Rattle.zl_code.proofs.Common.{flat_map, flat_map-cons, length, length-append, length-drop, list_all, map, pieces, refl, suc, take, take-append-drop}
-use Rattle.zl_code.proofs.Common.{take_at, take_rest, true, zero, ℕ, ◌*◌, ◌++◌, ◌+◌, ◌-◌, ◌/◌, ◌∙◌, ◌∷◌, ◌≡◌, ◌≤◌}
+use Rattle.zl_code.proofs.Common.{Bool, DecodeFault, List, None, Option, [], and_parts, ap, append_assoc, arith, drop, drop-drop, drop_at, first_some, flat_map}
+use Rattle.zl_code.proofs.Common.{flat_map-cons, length, length-append, length-drop, list_all, map, pieces, refl, suc, take, take-append-drop, take_at}
+use Rattle.zl_code.proofs.Common.{take_rest, true, zero, ℕ, ◌*◌, ◌++◌, ◌+◌, ◌-◌, ◌/◌, ◌∙◌, ◌∷◌, ◌≡◌, ◌≤◌}
 use Rattle.std.specs.Simd.{first_chunks}
 
 -- ---- chunks

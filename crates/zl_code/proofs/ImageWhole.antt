@@ -1,10 +1,10 @@
 -- The bytes of a whole image.
-use Rattle.zl_code.proofs.Common.{Bool, DecodeFault, Err, IfOk, Image, List, MatchResult, None, Ok, Option, Result, Some, Spells, [], and_from, ap}
-use Rattle.zl_code.proofs.Common.{append-nil, are_needs, arith, code_pieces, cond, count_at, drop, drop-drop, drop_all, eqb, false, first_fault, first_some}
-use Rattle.zl_code.proofs.Common.{flat_map, header, header_fault, inl, inr, instr_bytes, instr_fault, is_in_range, is_instr_in_range, is_raw_at}
-use Rattle.zl_code.proofs.Common.{is_slot_in_range, is_start_in_range, le-leb, length, length-append, length-map, list_all, lt-ltb, map, nat_le, nat_lt}
-use Rattle.zl_code.proofs.Common.{needs_byte, number_at, pieces, refl, slice_index, slot_bytes, slot_fault, slot_pieces, slots_at, spelling, start_bytes}
-use Rattle.zl_code.proofs.Common.{start_fault, start_pieces, starts_at, sym, true, ℕ, ◌*◌, ◌++◌, ◌+◌, ◌∙◌, ◌∷◌, ◌≡◌, ◌⊎◌}
+use Rattle.zl_code.proofs.Common.{Bool, DecodeFault, Err, IfOk, Image, List, MatchResult, None, Ok, Option, Result, Some, Spells, [], and_from, ap, append-nil}
+use Rattle.zl_code.proofs.Common.{are_needs, arith, code_pieces, cond, count_at, drop, drop-drop, drop_all, eqb, false, first_fault, first_some, flat_map}
+use Rattle.zl_code.proofs.Common.{header, header_fault, inl, inr, instr_bytes, instr_fault, is_in_range, is_instr_in_range, is_raw_at, is_slot_in_range}
+use Rattle.zl_code.proofs.Common.{is_start_in_range, le-leb, length, length-append, length-map, list_all, lt-ltb, map, nat_le, nat_lt, needs_byte, number_at}
+use Rattle.zl_code.proofs.Common.{pieces, refl, slice_index, slot_bytes, slot_fault, slot_pieces, slots_at, spelling, start_bytes, start_fault, start_pieces}
+use Rattle.zl_code.proofs.Common.{starts_at, sym, true, ℕ, ◌*◌, ◌++◌, ◌+◌, ◌∙◌, ◌∷◌, ◌≡◌, ◌⊎◌}
 use Rattle.zl_code.specs.declared.image.DecodeFault.TheVariants as faults
 use Rattle.zl_code.proofs.ImageBytes.{IsBytes, number_of-bytes_of}
 use Rattle.zl_code.proofs.ImageNeeds.{needs_at, needs_fit}

@@ -1,12 +1,12 @@
 -- What holds of the 16 bytes of an instruction in range, and of 16 bytes without a fault.
 use Rattle.zl_code.proofs.Common.{Bool, CallInstr, Instr, Layout, List, LocalInstr, None, Some, [], and_parts, ap, are_registers, arith, bytes_of, call_bytes}
 use Rattle.zl_code.proofs.Common.{false, fault_by, first_some, instr_bytes, instr_fault, is_32_bits, is_call_in_range, is_instr_in_range, is_local_in_range}
-use Rattle.zl_code.proofs.Common.{is_some, is_unused_zero, layout_of, length, list_all, local_parts, ltb-true, names_registers, nat_lt, not, reading_of, refl}
-use Rattle.zl_code.proofs.Common.{replicate, row_bytes, seven, slice_index, suc, sym, then_some, true, zero, ℕ, ◌%◌, ◌&&◌, ◌++◌, ◌<◌, ◌==◌, ◌∙◌, ◌∷◌, ◌≡◌}
+use Rattle.zl_code.proofs.Common.{is_some, is_unused_zero, layout_of, length, list_all, local_bytes, local_parts, ltb-true, names_registers, nat_lt, not}
+use Rattle.zl_code.proofs.Common.{reading_of, refl, replicate, row_bytes, seven, slice_index, suc, sym, then_some, true, zero, ℕ, ◌%◌, ◌&&◌, ◌++◌, ◌<◌, ◌==◌}
+use Rattle.zl_code.proofs.Common.{◌∙◌, ◌∷◌, ◌≡◌}
 use Rattle.zl_code.specs.declared.instr.Instr.TheVariants as instr
 use Rattle.zl_code.specs.declared.instr.LocalInstr.TheVariants as local
 use Rattle.zl_code.specs.declared.image.DecodeFault.TheVariants as faults
-use Rattle.zl_code.specs.Spells.{local_bytes}
 use Rattle.zl_code.proofs.ImageBytes.{IsBytes, IsBytes-take}
 use Rattle.zl_code.proofs.ImageCalls.{whole, opcode_is_byte}
 use Rattle.zl_code.proofs.ImageTable.{instr_fits}

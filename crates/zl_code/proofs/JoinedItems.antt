@@ -1,11 +1,8 @@
 -- A history tells of a process what the single steps tell that it stands for.
-use Rattle.zl_code.proofs.Common.{Bool, KeepsBudget, List, None, Option, Some, TraceItem, [], ap, arith, false, flat_map, flat_map-cons, if◌then◌else◌}
-use Rattle.zl_code.proofs.Common.{nat_le, nat_tests, pid_of, refl, replicate, single, subst, suc, sym, true, zero, ℕ, ◌++◌, ◌-◌, ◌==◌, ◌∙◌, ◌∷◌, ◌≡◌}
-use Rattle.std.specs.Prelude.{IsSomeAnd, ◌↔◌}
-use Rattle.std.specs.List.{AllByRecursion}
+use Rattle.zl_code.proofs.Common.{AllByRecursion, Bool, EndsItself, GoesWell, HasNoFault, Image, IsNotStuck, IsSomeAnd, KeepsBudget, List, None, Option, Some}
+use Rattle.zl_code.proofs.Common.{TraceItem, [], ap, arith, executed, false, flat_map, flat_map-cons, if◌then◌else◌, left_behind, nat_le, nat_tests, pid_of}
+use Rattle.zl_code.proofs.Common.{refl, replicate, single, subst, suc, sym, true, zero, ℕ, ◌++◌, ◌-◌, ◌==◌, ◌↔◌, ◌∙◌, ◌∷◌, ◌≡◌}
 use Rattle.zl_code.specs.declared.history.TraceItem.TheVariants as item
-use Rattle.zl_code.specs.Image.{Image}
-use Rattle.zl_code.specs.Headline.{HasNoFault, EndsItself, IsNotStuck, GoesWell, executed, left_behind}
 
 -- ---- what is asked of each item, and is true of local instructions
 

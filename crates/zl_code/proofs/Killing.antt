@@ -1,13 +1,11 @@
 -- What stands below a killed job is killed with it: nothing that lives is left below it.
-use Rattle.zl_code.proofs.Common.{Action, Body, Bool, Ended, Gone, IsSound, IsTrue, JobBody, KILLED, LivesAt, Map, None, Object, Option, Process, ProcessBody}
-use Rattle.zl_code.proofs.Common.{Some, StandsBelow, State, World, [], ap, arith, body_in, body_killed, body_of, cases_Bool, eqb-true, false, false≢true, get}
-use Rattle.zl_code.proofs.Common.{get-each, get-put, if◌then◌else◌, inl, inr, is_dead, is_deepest, is_job_below, is_process_of, is_some, is_under_by}
-use Rattle.zl_code.proofs.Common.{is_within, job_within, lives, nat_tests, ne_eqb, none-some, object_killed, option_map, or_left, or_right, parent_in}
-use Rattle.zl_code.proofs.Common.{process_killed, refl, same_Some, subst, suc, sym, true, true≢false, with_killed, with_object, zero, ℕ, ◌&&◌, ◌+◌, ◌<◌, ◌==◌}
-use Rattle.zl_code.proofs.Common.{◌||◌, ◌∙◌, ◌≡◌, ◌≤◌}
+use Rattle.zl_code.proofs.Common.{Action, Body, Bool, Ended, Gone, IsSound, IsSoundJob, IsTrue, JobBody, KILLED, LivesAt, Map, None, Object, Option, Process}
+use Rattle.zl_code.proofs.Common.{ProcessBody, Some, StandsBelow, State, World, [], ap, arith, body_in, body_killed, body_of, cases_Bool, depth_in, eqb-true}
+use Rattle.zl_code.proofs.Common.{false, false≢true, get, get-each, get-put, if◌then◌else◌, inl, inr, is_dead, is_deepest, is_job_below, is_process_of, is_some}
+use Rattle.zl_code.proofs.Common.{is_under_by, is_within, job_within, lives, nat_tests, ne_eqb, none-some, object_killed, option_map, or_left, or_right}
+use Rattle.zl_code.proofs.Common.{parent_in, process_killed, refl, same_Some, subst, suc, sym, true, true≢false, with_killed, with_object, zero, ℕ, ◌&&◌, ◌+◌}
+use Rattle.zl_code.proofs.Common.{◌<◌, ◌==◌, ◌||◌, ◌∙◌, ◌≡◌, ◌≤◌}
 use Rattle.std.proofs.lemmas.Bool.{or_cases}
-use Rattle.zl_code.specs.Jobs.{depth_in}
-use Rattle.zl_code.specs.Sound.{IsSoundJob}
 use Rattle.zl_code.proofs.Changes.{IsChildless}
 
 -- ---- the way up

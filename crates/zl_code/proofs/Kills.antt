@@ -1,8 +1,8 @@
 -- A kill is one change: of processes, of jobs and of the list of the blocked.
-use Rattle.zl_code.proofs.Common.{Blocked, Bool, Created, Ended, IsSound, KILLED, List, None, Object, Option, Process, Ready, Some, State, World, [], ap}
-use Rattle.zl_code.proofs.Common.{arith, cases_Bool, eqb-true, false, filter, get, get-each, if◌then◌else◌, inl, inr, is_blocked, is_process, is_within}
-use Rattle.zl_code.proofs.Common.{length, lives, not, object_killed, option_map, process_killed, refl, state_passes, suc, sym, true, true≢false, with_killed}
-use Rattle.zl_code.proofs.Common.{ℕ, ◌==◌, ◌∙◌, ◌∷◌, ◌≡◌}
+use Rattle.zl_code.proofs.Common.{Blocked, Bool, Created, Ended, IsSound, KILLED, List, None, Object, Option, Process, Ready, Some, State, World, [], ap, arith}
+use Rattle.zl_code.proofs.Common.{cases_Bool, eqb-true, false, filter, get, get-each, if◌then◌else◌, inl, inr, is_blocked, is_process, is_within, length, lives}
+use Rattle.zl_code.proofs.Common.{not, object_killed, option_map, process_killed, refl, state_passes, suc, sym, true, true≢false, with_killed, ℕ, ◌==◌, ◌∙◌}
+use Rattle.zl_code.proofs.Common.{◌∷◌, ◌≡◌}
 use Rattle.zl_code.proofs.MapKept.{in_order-each, Changed, same, changed, changed_each}
 use Rattle.zl_code.proofs.Changes.{IsChildless, ProcessChange, ends, IsNewProcess, ObjectChange, dies, IsNewObject, KeepsBlocked, awake, still, Change, alike}
 use Rattle.zl_code.proofs.Changes.{times}

@@ -1,7 +1,7 @@
 -- What each value of a map has, and the order of its keys, after a change.
-use Rattle.zl_code.proofs.Common.{◌≡◌, ℕ, inl, inr, Bool, true, false, ◌==◌, [], ◌∷◌, refl, ap, sym, subst, ◌∙◌, Option, Some, None, arith, eq-eqb, IsTrue}
-use Rattle.zl_code.proofs.Common.{option_map, nat_cmp, below_all, cases_Bool, eqb-true, nat_tests, none-some, same_Some, Map, get, put, where_key, each, update}
-use Rattle.zl_code.proofs.Common.{in_order, T, get-put, get-update, get-each, get-where_key-in, get-where_key-out}
+use Rattle.zl_code.proofs.Common.{Bool, IsTrue, Map, None, Option, Some, T, [], ap, arith, below_all, cases_Bool, each, eq-eqb, eqb-true, false, get, get-each}
+use Rattle.zl_code.proofs.Common.{get-put, get-update, get-where_key-in, get-where_key-out, in_order, inl, inr, nat_cmp, nat_tests, none-some, option_map, put}
+use Rattle.zl_code.proofs.Common.{refl, same_Some, subst, sym, true, update, where_key, ℕ, ◌==◌, ◌∙◌, ◌∷◌, ◌≡◌}
 use Rattle.std.specs.Cmp.{nat_cmp_total}
 use Rattle.std.specs.FinMap.Entries.{is_sorted-put, is_sorted-where_key}
 use Rattle.zl_rights.proofs.Canonical.{put-std}

@@ -1,7 +1,6 @@
 -- Handles on their way: those in a message, and those to both ends of a new pair.
 use Rattle.zl_code.proofs.Common.{All, All-cons, All-head, All-nil, All-tail, Body, Entry, HandlesAreNamed, HandlesAreSound, IsTrue, Kind, List, Map, Message}
-use Rattle.zl_code.proofs.Common.{None}
-use Rattle.zl_code.proofs.Common.{Object, Option, Some, World, [], and_from, and_parts, arith, body_in, cases_Bool, entries_at, entry_at, eq-eqb}
+use Rattle.zl_code.proofs.Common.{None, Object, Option, Some, World, [], and_from, and_parts, arith, body_in, cases_Bool, entries_at, entry_at, eq-eqb}
 use Rattle.zl_code.proofs.Common.{first_handles, get, get-put, get-update, has_default_rights, inl, inr, kind_of, list_all, message_read, message_sent}
 use Rattle.zl_code.proofs.Common.{names_its_object, ne_eqb, new_entry, object_at, on_object, option_to_list, put, queue_at, queue_in, queue_of, refl}
 use Rattle.zl_code.proofs.Common.{slice_index_or, subst, sym, update, with_object, ℕ, ◌++◌, ◌+◌, ◌==◌, ◌∙◌, ◌∷◌, ◌≡◌}

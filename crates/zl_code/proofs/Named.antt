@@ -1,6 +1,6 @@
 -- What is found in a list by its name, and that nothing has the name where nothing is found.
-use Rattle.zl_code.proofs.Common.{Bool, IfNone, IfSome, List, None, Option, Some, [], and_parts, cases_Bool, eq-eqb, eqb-true, find, inl, inr, pointwise}
-use Rattle.zl_code.proofs.Common.{refl, slice_get, subst, suc, sym, true, zero, ℕ, ◌==◌, ◌∷◌, ◌≡◌, ◌≢◌}
+use Rattle.zl_code.proofs.Common.{Bool, IfNone, IfSome, List, None, Option, Some, [], and_parts, cases_Bool, eq-eqb, eqb-true, find, inl, inr, pointwise, refl}
+use Rattle.zl_code.proofs.Common.{slice_get, subst, suc, sym, true, zero, ℕ, ◌==◌, ◌∷◌, ◌≡◌, ◌≢◌}
 
 pub same_names : (xs ys : List ℕ) → pointwise ◌==◌ xs ys ≡ true → xs ≡ ys
 same_names [] [] h = refl

@@ -2,9 +2,9 @@
 use Rattle.zl_code.proofs.Common.{All, All-append, All-cons, All-nil, All-tail, Body, Bool, ChannelEnd, Entry, HandlesAreNamed, HasGivenKoids, IsLargestHeld}
 use Rattle.zl_code.proofs.Common.{IsTrue, Koids, Map, Message, Object, Process, Settles, Some, World, [], and_from, ap, arith, body_after_read}
 use Rattle.zl_code.proofs.Common.{body_with_message, cases_Bool, eq-eqb, eqb-true, get, get-where_key-in, get-where_key-out, has_living_child, in_queue}
-use Rattle.zl_code.proofs.Common.{in_table, inl, inr, is_held, is_held-larger, is_process, is_some, kind_of, length, list_any, names_its_object, none-some}
-use Rattle.zl_code.proofs.Common.{not, or_left, or_right, process_settled, queue_of, refl, runs, same_Some, slice_index_or, sym, where_key, without}
-use Rattle.zl_code.proofs.Common.{without_others, ℕ, ◌<◌, ◌==◌, ◌||◌, ◌∙◌, ◌∷◌, ◌≡◌, ◌⊎◌}
+use Rattle.zl_code.proofs.Common.{in_table, inl, inr, is_held, is_held-larger, is_process, is_some, kind_of, length, list_any, names_its_object, none-some, not}
+use Rattle.zl_code.proofs.Common.{or_left, or_right, process_settled, queue_of, refl, runs, same_Some, slice_index_or, sym, where_key, without, without_others}
+use Rattle.zl_code.proofs.Common.{ℕ, ◌<◌, ◌==◌, ◌||◌, ◌∙◌, ◌∷◌, ◌≡◌, ◌⊎◌}
 use Rattle.std.proofs.lemmas.List.Folds.{list_any_at}
 use Rattle.zl_code.proofs.MapKept.{Each, each_put, each_where_key, same, changed, new, changed_each, each_changed}
 use Rattle.zl_code.proofs.HandlesKept.{set_queue, killed_queue}

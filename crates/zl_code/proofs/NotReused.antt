@@ -1,8 +1,8 @@
 -- No koid is given again, no object changes its kind, and no process vanishes or changes its program.
 use Rattle.zl_code.proofs.Common.{Body, ChannelEnd, HasGivenKoids, IsSound, JobBody, KeepsKoids, KeepsProcesses, Kind, Message, None, Object, Option, Process}
-use Rattle.zl_code.proofs.Common.{Settles, Some, World, ap, arith, body_after_read, body_killed, body_with_message, body_with_policy, cases_Bool, get}
-use Rattle.zl_code.proofs.Common.{get-each, get-where_key-in, get-where_key-out, inl, inr, is_some, kind_of, none-some, process_settled, refl, same_Some, sym}
-use Rattle.zl_code.proofs.Common.{true≢false, without_others, ℕ, ◌<◌, ◌∙◌, ◌≡◌, ◌≤◌}
+use Rattle.zl_code.proofs.Common.{Settles, Some, World, ap, arith, body_after_read, body_killed, body_with_message, body_with_policy, cases_Bool, get, get-each}
+use Rattle.zl_code.proofs.Common.{get-where_key-in, get-where_key-out, inl, inr, is_some, kind_of, none-some, process_settled, refl, same_Some, sym, true≢false}
+use Rattle.zl_code.proofs.Common.{without_others, ℕ, ◌<◌, ◌∙◌, ◌≡◌, ◌≤◌}
 use Rattle.zl_code.proofs.MapKept.{same, changed, new}
 use Rattle.zl_code.proofs.Changes.{ProcessChange, handle_enters, handle_leaves, computes, ends, wakes, starts, blocks, ObjectChange, signals_change}
 use Rattle.zl_code.proofs.Changes.{packets_change, message_comes, message_goes, policy_changes, dies, Change, Changes, kept}

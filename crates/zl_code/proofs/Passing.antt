@@ -1,21 +1,15 @@
 -- What is known of a call that isn't refused: that none of its causes is there, and what its look-ups granted.
-use Rattle.zl_code.proofs.Common.{Body, Bool, ChannelEnd, PairEnd, Entry, Err, HandlesAreNamed, HandlesAreSound, HasPeer, IsSound, IsSoundWait, IsTrue, Kind}
-use Rattle.zl_code.proofs.Common.{Library}
-use Rattle.zl_code.proofs.Common.{List, None, Object, Ok, Option, Outcome, Packet, PortBody, Process, Request, SIGNAL, SIGNALED, SIGNAL_PEER, Some, Status}
-use Rattle.zl_code.proofs.Common.{Wait, World}
-use Rattle.zl_code.proofs.Common.{[], and_parts, answer_if, ap, bits, body_in, body_of, by_look_up, by_policy, cases_Bool, condition_of, default_rights_of}
-use Rattle.zl_code.proofs.Common.{entry_at, eqb-true, examined, false, false≢true, first_some, get, granted, handle_operands, handles_in, has_key, has_room}
-use Rattle.zl_code.proofs.Common.{if◌then◌else◌, inl, inr, is_by_handle, is_kind_if_there, is_some, kind_of, listed, narrowed_within, none-some, not}
-use Rattle.zl_code.proofs.Common.{not-false, object_at, operand, or_parts, peer_at, raisable, refl, refusal, replace, rights_of, row_of, same_Some}
-use Rattle.zl_code.proofs.Common.{settable_of, signal, signal_peer, slice_index_or, subst, sym, takes, true, true≢false, within, ℕ, ⊤, ◌&&◌, ◌+◌, ◌==◌, ◌||◌}
-use Rattle.zl_code.proofs.Common.{◌∙◌}
-use Rattle.zl_code.proofs.Common.{◌∷◌, ◌≡◌}
+use Rattle.zl_code.proofs.Common.{Body, Bool, ChannelEnd, Entry, Err, HandlesAreNamed, HandlesAreSound, HasPeer, IsSound, IsSoundWait, IsTrue, Kind, Library}
+use Rattle.zl_code.proofs.Common.{List, None, Object, Ok, Option, Outcome, Packet, PairEnd, PortBody, Process, Request, SIGNAL, SIGNALED, SIGNAL_PEER, Some}
+use Rattle.zl_code.proofs.Common.{Status, USER_SIGNALS, Wait, World, [], and_parts, answer_if, ap, bits, body_in, body_of, by_look_up, by_policy, cases_Bool}
+use Rattle.zl_code.proofs.Common.{condition_of, default_rights_of, ends, entry_at, eqb-true, examined, false, false≢true, first_some, get, granted}
+use Rattle.zl_code.proofs.Common.{handle_operands, handles_in, has_key, has_room, if◌then◌else◌, inl, inr, is_by_handle, is_kind_if_there, is_some, kind_of}
+use Rattle.zl_code.proofs.Common.{listed, may_change, narrowed_within, none-some, not, not-false, object_at, operand, or_parts, peer_at, peer_in, raisable}
+use Rattle.zl_code.proofs.Common.{refl, refusal, replace, rights_of, row_of, same_Some, settable_of, signal, signal_peer, slice_index_or, subst, sym, takes}
+use Rattle.zl_code.proofs.Common.{true, true≢false, within, ℕ, ⊤, ◌&&◌, ◌+◌, ◌==◌, ◌||◌, ◌∙◌, ◌∷◌, ◌≡◌}
 use Rattle.zl_code.proofs.Changes.{AreUnmade}
 use Rattle.zl_rights.specs.declared.kind.Kind.TheVariants as kind
 use Rattle.zl_rights.specs.declared.status.Status.TheVariants as status
-use Rattle.zl_rights.specs.Numbers.{USER_SIGNALS}
-use Rattle.zl_code.specs.Instructions.{ends}
-use Rattle.zl_code.specs.Tests.{may_change, peer_in}
 use Rattle.zl_code.proofs.Entering.{entry_is_fine}
 
 -- ---- what holds where a call isn't refused

@@ -1,23 +1,20 @@
 -- Each process runs a program of the library, in every world of a run from a boot world.
 use Rattle.zl_code.proofs.Common.{Acts, AtCall, Awaited, Blocked, Body, Bool, Boots, CallBy, Choice, Ended, Entry, IsBoot, IsStuck, IsTrue, KILLED, Library}
 use Rattle.zl_code.proofs.Common.{List, Map, Moves, Next, None, Object, Option, Outcome, Packet, PacketAt, PortBody, Process, Ready, Refused, Request, Runs}
-use Rattle.zl_code.proofs.Common.{STUCK, Settles, SignalOf, Site, Some, State, Statement, Status, Step, TraceItem, Values, Wants, World, [], active}
-use Rattle.zl_code.proofs.Common.{after_ok, after_refusal, and_parts, answered, awaited_by, boot_effect, boot_fault, created_process, each, effect, ended}
+use Rattle.zl_code.proofs.Common.{STUCK, Settles, SignalOf, Site, Some, State, Statement, Status, Step, TraceItem, Values, Wants, World, [], active, after_ok}
+use Rattle.zl_code.proofs.Common.{after_refusal, all_known, and_parts, answered, awaited_by, boot_effect, boot_fault, created_process, each, effect, ended}
 use Rattle.zl_code.proofs.Common.{entering_at, false, fired, fold, get, get-each, get-update, gives_ok, gives_refused, handles_given, has_key, if◌then◌else◌}
-use Rattle.zl_code.proofs.Common.{insert_all, is_some, is_within, listed, lives, made_ready, meets, next_for, none-some, not, not-false, ok_outcome}
-use Rattle.zl_code.proofs.Common.{on_object, on_process, option_map, origin, packet_values, pid_of, process_create, process_ended, process_killed}
-use Rattle.zl_code.proofs.Common.{process_settled, process_start, process_with, process_with_all, process_without, receiver_of, refl, refusal, remove_all}
-use Rattle.zl_code.proofs.Common.{replied, same_Some, slice_get, started_with, stored_by, storing, subst, sym, taken, taken_handles, task_kill, true, update}
-use Rattle.zl_code.proofs.Common.{waiting, wakes, with_body, with_effect, with_killed, with_object, without, without_others, woken, woken_at_port, woken_by}
-use Rattle.zl_code.proofs.Common.{woken_by_first, woken_from, woken_if_there, ℕ, ℤ, ◌&&◌, ◌==◌, ◌∙◌, ◌∷◌, ◌≡◌}
+use Rattle.zl_code.proofs.Common.{insert_all, is_job, is_some, is_within, listed, lives, made_ready, meets, new_handles, next_for, none-some, not, not-false}
+use Rattle.zl_code.proofs.Common.{object_at, ok_outcome, on_object, on_process, option_map, origin, packet_values, pid_of, process_create, process_ended}
+use Rattle.zl_code.proofs.Common.{process_killed, process_settled, process_start, process_with, process_with_all, process_without, receiver_of, refl, refusal}
+use Rattle.zl_code.proofs.Common.{remove_all, replied, same_Some, slice_get, started_with, stored_by, storing, subst, sym, taken, taken_handles, task_kill}
+use Rattle.zl_code.proofs.Common.{true, update, waiting, wakes, with_body, with_effect, with_killed, with_object, without, without_others, woken, woken_at_port}
+use Rattle.zl_code.proofs.Common.{woken_by, woken_by_first, woken_from, woken_if_there, ℕ, ℤ, ◌&&◌, ◌==◌, ◌∙◌, ◌∷◌, ◌≡◌}
 use Rattle.zl_rights.specs.declared.status.Status.TheVariants as status
 use Rattle.zl_code.specs.declared.boot.BootCause.TheVariants as cause
 use Rattle.zl_code.specs.declared.boot.Statement.TheVariants as statement
 use Rattle.zl_code.specs.declared.history.Outcome.TheVariants as outcome
-use Rattle.zl_code.specs.Boot.{all_known, is_job}
-use Rattle.zl_code.specs.CallTable.{new_handles}
 use Rattle.zl_code.specs.Programs.{HavePrograms}
-use Rattle.zl_code.specs.Tests.{object_at}
 use Rattle.zl_code.proofs.CanStart.{none_first}
 use Rattle.zl_code.proofs.MapKept.{Each, each_put}
 use Rattle.zl_code.proofs.Passing.{listed_none, test_fails}

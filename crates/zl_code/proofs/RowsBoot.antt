@@ -1,13 +1,11 @@
 -- Statements that give handles, and their faults, by computation.
-use Rattle.zl_code.proofs.Common.{Grant, Library, List, None, Some, Statement, World, [], boot_effect, boot_fault, false, origin, refl, replicate, table_of}
-use Rattle.zl_code.proofs.Common.{true, ℕ, ◌++◌, ◌∷◌, ◌≡◌}
+use Rattle.zl_code.proofs.Common.{Grant, Library, List, None, Some, Statement, World, [], boot_effect, boot_fault, false, may_boot, origin, refl, replicate}
+use Rattle.zl_code.proofs.Common.{rights_of, table_of, true, ℕ, ◌++◌, ◌∷◌, ◌≡◌}
 use Rattle.zl_rights.specs.declared.kind.Kind.TheVariants as kind
-use Rattle.zl_rights.specs.Numbers.{rights_of}
 use Rattle.zl_code.specs.declared.boot.BootCause.TheVariants as cause
 use Rattle.zl_code.specs.declared.boot.Statement.TheVariants as statement
 use Rattle.zl_code.specs.declared.instr.Instr.TheVariants as instr
 use Rattle.zl_code.specs.declared.instr.LocalInstr.TheVariants as local
-use Rattle.zl_code.specs.Boot.{may_boot}
 use Rattle.zl_code.proofs.Running.{computing}
 use Rattle.zl_code.proofs.RowsWords.{program_of, registers_of}
 

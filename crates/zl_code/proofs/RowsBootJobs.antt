@@ -1,11 +1,10 @@
 -- Statements that make jobs and set policies, by computation in small worlds.
 use Rattle.zl_code.proofs.Common.{IsBoot, JobBody, None, Settles-by, Some, Statement, World, [], body_of, boot_effect, boot_fault, false, origin, refl}
-use Rattle.zl_code.proofs.Common.{settled_in, ◌∷◌, ◌≡◌}
+use Rattle.zl_code.proofs.Common.{settled_in, with_object, ◌∷◌, ◌≡◌}
 use Rattle.zl_rights.specs.declared.policy.Action.TheVariants as action
 use Rattle.zl_rights.specs.declared.policy.Condition.TheVariants as condition
 use Rattle.zl_code.specs.declared.boot.Statement.TheVariants as statement
 use Rattle.zl_code.specs.declared.boot.BootCause.TheVariants as cause
-use Rattle.zl_code.specs.Effects.{with_object}
 use Rattle.zl_code.proofs.Running.{computing}
 use Rattle.zl_code.proofs.RowsWords.{program_of}
 

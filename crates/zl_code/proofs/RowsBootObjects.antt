@@ -1,9 +1,8 @@
 -- Statements that make events, ports and channels, and their limits, by computation.
 use Rattle.zl_code.proofs.Common.{Body, ChannelEnd, Entry, EventBody, Grant, IsBoot, JobBody, Kind, Library, List, None, Object, PortBody, ProcessBody}
-use Rattle.zl_code.proofs.Common.{Settles-by, Some, Statement, World, [], boot_effect, boot_fault, false, may_boot, origin, refl, settled_in, table_of, ℕ}
-use Rattle.zl_code.proofs.Common.{◌∷◌, ◌≡◌}
+use Rattle.zl_code.proofs.Common.{Settles-by, Some, Statement, World, [], boot_effect, boot_fault, false, may_boot, origin, refl, rights_of, settled_in}
+use Rattle.zl_code.proofs.Common.{table_of, ℕ, ◌∷◌, ◌≡◌}
 use Rattle.zl_rights.specs.declared.kind.Kind.TheVariants as kind
-use Rattle.zl_rights.specs.Numbers.{rights_of}
 use Rattle.zl_code.specs.declared.boot.BootCause.TheVariants as cause
 use Rattle.zl_code.specs.declared.boot.Statement.TheVariants as statement
 use Rattle.zl_code.specs.declared.instr.Instr.TheVariants as instr

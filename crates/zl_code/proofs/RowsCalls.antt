@@ -1,8 +1,8 @@
 -- Each cause of each call, by computation in small worlds.
 use Rattle.zl_code.proofs.Common.{Action, CallInstr, Choice, Condition, DUPLICATE, Ended, IsTrue, Kind, None, Option, READABLE, Refused, SAME_RIGHTS, SIGNAL}
-use Rattle.zl_code.proofs.Common.{SIGNALED, Some, TERMINATED, Values, Wants, World, [], active, and_parts, body_of, close, condition_number, dup}
-use Rattle.zl_code.proofs.Common.{effect, eqb-true, event_create, false, has_key, kind_of, may_choose, negsuc, ok_outcome, option_map, pos, process_exit}
-use Rattle.zl_code.proofs.Common.{refl, signal, table_of, true, ℕ, ◌+◌, ◌-◌, ◌==◌, ◌^◌, ◌∷◌, ◌≡◌}
+use Rattle.zl_code.proofs.Common.{SIGNALED, Some, TERMINATED, Values, Wants, World, [], active, and_parts, body_of, close, condition_number, dup, effect}
+use Rattle.zl_code.proofs.Common.{eqb-true, event_create, false, has_key, kind_of, may_choose, negsuc, ok_outcome, option_map, pos, process_exit, refl, signal}
+use Rattle.zl_code.proofs.Common.{table_of, true, ℕ, ◌+◌, ◌-◌, ◌==◌, ◌^◌, ◌∷◌, ◌≡◌}
 use Rattle.zl_rights.specs.declared.kind.Kind.TheVariants as kind
 use Rattle.zl_rights.specs.declared.status.Status.TheVariants as status
 use Rattle.zl_rights.specs.declared.policy.Action.TheVariants as action

@@ -1,10 +1,8 @@
 -- Each cause of replace and of the calls on channels, by computation in small worlds.
 use Rattle.zl_code.proofs.Common.{CallName, ChannelEnd, Choice, DUPLICATE, Entry, EventBody, JobBody, List, Map, Message, None, Object, Option, PEER_CLOSED}
-use Rattle.zl_code.proofs.Common.{Process, ProcessBody, READ, READABLE, Refused, SAME_RIGHTS, Site, Some, TRANSFER, Values, WRITABLE, WRITE, Wait}
-use Rattle.zl_code.proofs.Common.{Wants, World, [], active, bit_or, body_of, chan_create, chan_read_etc, chan_write, condition_number, effect, false}
-use Rattle.zl_code.proofs.Common.{get, has_key, may_choose, negsuc, queue_in, refl, refusal, replace, replicate, rights_of, site, table_of, true, ℕ, ◌-◌, ◌^◌}
-use Rattle.zl_code.proofs.Common.{◌∷◌, ◌≡◌}
-use Rattle.std.specs.Prelude.{map}
+use Rattle.zl_code.proofs.Common.{Process, ProcessBody, READ, READABLE, Refused, SAME_RIGHTS, Site, Some, TRANSFER, Values, WRITABLE, WRITE, Wait, Wants, World}
+use Rattle.zl_code.proofs.Common.{[], active, bit_or, body_of, chan_create, chan_read_etc, chan_write, condition_number, effect, false, get, has_key, map}
+use Rattle.zl_code.proofs.Common.{may_choose, negsuc, queue_in, refl, refusal, replace, replicate, rights_of, site, table_of, true, ℕ, ◌-◌, ◌^◌, ◌∷◌, ◌≡◌}
 use Rattle.zl_rights.specs.declared.kind.Kind.TheVariants as kind
 use Rattle.zl_rights.specs.declared.status.Status.TheVariants as status
 use Rattle.zl_rights.specs.declared.policy.Action.TheVariants as action

@@ -1,7 +1,6 @@
 -- Worlds whose handles are sound, and worlds whose handles aren't, by computation.
 use Rattle.zl_code.proofs.Common.{ChannelEnd, Entry, HandlesAreSound, IsTrue, Map, None, Option, Process, READ, Some, World, [], cases_Bool, false, get}
-use Rattle.zl_code.proofs.Common.{has_default_rights, in_order, inl, inr, none-some, refl, same_Some, subst, sym, true, true≢false, ℕ, ◌+◌, ◌==◌, ◌∙◌, ◌∷◌}
-use Rattle.zl_code.proofs.Common.{◌≡◌}
+use Rattle.zl_code.proofs.Common.{has_default_rights, in_order, inl, inr, none-some, refl, same_Some, subst, sym, true, true≢false, ℕ, ◌+◌, ◌==◌, ◌∙◌, ◌∷◌, ◌≡◌}
 use Rattle.zl_code.proofs.RowsWords.{world_of, process_of, event_with, job_with, FIRST_RIGHTS}
 
 -- ---- rights

@@ -1,16 +1,12 @@
 -- The words of the headline on worked examples: where runs begin, which answers are faults, which ends are own, what counts against a budget.
-use Rattle.std.specs.Prelude.{ℤ, negsuc}
-use Rattle.zl_code.proofs.Common.{Entry, KeepsBudget, Library, List, Some, Start, TraceItem, World, [], ap, arith, false, inl, inr, pos, refl, rights_of}
-use Rattle.zl_code.proofs.Common.{true, ℕ, ◌∷◌, ◌≡◌}
-use Rattle.zl_rights.specs.Numbers.{BY_POLICY}
+use Rattle.zl_code.proofs.Common.{BY_POLICY, Entry, IsSizedBoot, KeepsBudget, Library, List, MayEnd, Some, Start, TraceItem, World, [], ap, are_declared, arith}
+use Rattle.zl_code.proofs.Common.{false, inl, inr, is_fault, negsuc, pos, refl, rights_of, true, ℕ, ℤ, ◌∷◌, ◌≡◌}
 use Rattle.zl_rights.specs.declared.kind.Kind.TheVariants as kind
 use Rattle.zl_rights.specs.declared.status.Status.TheVariants as status
 use Rattle.zl_code.specs.declared.boot.Statement.TheVariants as statement
 use Rattle.zl_code.specs.declared.history.CallName.TheVariants as name
 use Rattle.zl_code.specs.declared.history.Outcome.TheVariants as outcome
 use Rattle.zl_code.specs.declared.history.TraceItem.TheVariants as item
-use Rattle.zl_code.specs.Boot.{are_declared}
-use Rattle.zl_code.specs.Headline.{IsSizedBoot, MayEnd, is_fault}
 
 -- ---- where a run begins
 

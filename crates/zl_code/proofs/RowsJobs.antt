@@ -1,8 +1,8 @@
 -- Each cause of the calls on jobs and processes, by computation in small worlds.
-use Rattle.zl_code.proofs.Common.{Action, Body, Bool, CallName, Choice, Condition, Created, Gone, JobBody, Library, MANAGE_PROCESS, Map, None, Outcome}
-use Rattle.zl_code.proofs.Common.{ProcessBody, Program, Request, Some, Values, Wants, World, [], body_of, close, false, get, job_create, negsuc}
-use Rattle.zl_code.proofs.Common.{process_create, refl, refusal, replicate, true, ℕ, ◌^◌, ◌∷◌, ◌≡◌}
-use Rattle.zl_rights.specs.Numbers.{MANAGE_JOB, default_rights_of, condition_number}
+use Rattle.zl_code.proofs.Common.{Action, Body, Bool, CallName, Choice, Condition, Created, Gone, JobBody, Library, MANAGE_JOB, MANAGE_PROCESS, Map, None}
+use Rattle.zl_code.proofs.Common.{Outcome, ProcessBody, Program, Request, Site, Some, Values, Wants, World, [], body_of, close, condition_number}
+use Rattle.zl_code.proofs.Common.{default_rights_of, entry_at, false, get, job_create, negsuc, process_create, refl, refusal, replicate, site, true, ℕ, ◌^◌}
+use Rattle.zl_code.proofs.Common.{◌∷◌, ◌≡◌}
 use Rattle.zl_rights.specs.declared.kind.Kind.TheVariants as kind
 use Rattle.zl_rights.specs.declared.status.Status.TheVariants as status
 use Rattle.zl_rights.specs.declared.policy.Action.TheVariants as action
@@ -10,8 +10,6 @@ use Rattle.zl_rights.specs.declared.policy.Condition.TheVariants as condition
 use Rattle.zl_code.specs.declared.history.CallName.TheVariants as name
 use Rattle.zl_code.specs.declared.history.Outcome.TheVariants as outcome
 use Rattle.zl_code.specs.declared.history.TraceItem.TheVariants as item
-use Rattle.zl_code.specs.Request.{Site, site}
-use Rattle.zl_code.specs.Tests.{entry_at}
 use Rattle.zl_code.proofs.Running.{Acted, call_by, computing, settle_by}
 use Rattle.zl_code.proofs.RowsWords.{Refuses, Passes, world_of, process_of, entry_of, event_with, job_with, FIRST_RIGHTS, times, told, after, state_of, turn_of}
 

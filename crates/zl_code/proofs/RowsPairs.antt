@@ -1,9 +1,8 @@
 -- Event pairs, by computation in small worlds: each cause of their calls, what is active at their ends, and the statement.
-use Rattle.zl_code.proofs.Common.{false, Entry, EventBody, JobBody, Library, Map, None, Object, PEER_CLOSED, PairEnd, ProcessBody, SIGNALED, SIGNAL_PEER}
-use Rattle.zl_code.proofs.Common.{Site, Some, USER_SIGNALS, Values, WRITE, Wants, World, [], active, boot_effect, boot_fault, chan_write}
-use Rattle.zl_code.proofs.Common.{condition_number}
-use Rattle.zl_code.proofs.Common.{eventpair_create, may_choose, negsuc, origin, refl, signal, signal_peer, site, table_of, ℕ, ◌+◌, ◌-◌, ◌^◌, ◌∷◌, ◌≡◌}
-use Rattle.zl_rights.specs.Numbers.{READABLE, SIGNAL, WRITABLE}
+use Rattle.zl_code.proofs.Common.{Entry, EventBody, JobBody, Library, Map, None, Object, PEER_CLOSED, PairEnd, ProcessBody, READABLE, SIGNAL, SIGNALED}
+use Rattle.zl_code.proofs.Common.{SIGNAL_PEER, Site, Some, USER_SIGNALS, Values, WRITABLE, WRITE, Wants, World, [], active, boot_effect, boot_fault, chan_write}
+use Rattle.zl_code.proofs.Common.{condition_number, eventpair_create, false, may_choose, negsuc, origin, refl, signal, signal_peer, site, table_of, ℕ, ◌+◌, ◌-◌}
+use Rattle.zl_code.proofs.Common.{◌^◌, ◌∷◌, ◌≡◌}
 use Rattle.zl_rights.specs.declared.kind.Kind.TheVariants as kind
 use Rattle.zl_rights.specs.declared.status.Status.TheVariants as status
 use Rattle.zl_rights.specs.declared.policy.Action.TheVariants as action

@@ -1,9 +1,8 @@
 -- Each cause of the calls on ports, by computation in small worlds.
-use Rattle.zl_code.proofs.Common.{Blocked, Entry, EventBody, JobBody, List, Map, None, Packet, PacketAt, PortBody, ProcessBody, READ, Ready, Refused, Some}
-use Rattle.zl_code.proofs.Common.{Values, WRITE, Wait, Wants, World, [], body_of, condition_number, false, map, packets_in, port_cancel, port_create}
-use Rattle.zl_code.proofs.Common.{port_poll, port_queue, port_wait, refl, replicate, table_of, user_packet, ℕ, ◌++◌, ◌+◌, ◌-◌, ◌^◌, ◌∷◌, ◌≡◌}
-use Rattle.std.specs.Prelude.{negsuc}
-use Rattle.zl_rights.specs.Numbers.{default_rights_of}
+use Rattle.zl_code.proofs.Common.{Blocked, Entry, EventBody, JobBody, List, Map, None, Packet, PacketAt, PortBody, ProcessBody, READ, Ready, Refused, Site}
+use Rattle.zl_code.proofs.Common.{Some, Values, WRITE, Wait, Wants, World, [], body_of, condition_number, default_rights_of, false, map, negsuc, packets_in}
+use Rattle.zl_code.proofs.Common.{port_cancel, port_create, port_poll, port_queue, port_wait, refl, replicate, site, table_of, user_packet, ℕ, ◌++◌, ◌+◌, ◌-◌}
+use Rattle.zl_code.proofs.Common.{◌^◌, ◌∷◌, ◌≡◌}
 use Rattle.zl_rights.specs.declared.kind.Kind.TheVariants as kind
 use Rattle.zl_rights.specs.declared.status.Status.TheVariants as status
 use Rattle.zl_rights.specs.declared.policy.Action.TheVariants as action
@@ -11,7 +10,6 @@ use Rattle.zl_rights.specs.declared.policy.Condition.TheVariants as condition
 use Rattle.zl_code.specs.declared.history.CallName.TheVariants as name
 use Rattle.zl_code.specs.declared.history.Outcome.TheVariants as outcome
 use Rattle.zl_code.specs.declared.history.TraceItem.TheVariants as item
-use Rattle.zl_code.specs.Request.{Site, site}
 use Rattle.zl_code.proofs.Running.{computing}
 use Rattle.zl_code.proofs.RowsWords.{Refuses, Passes, world_of, process_of, entry_of, event_with, FIRST_RIGHTS, times, told, item_of, after, state_of}
 use Rattle.zl_code.proofs.RowsWords.{registers_of, turn_of}

@@ -1,9 +1,8 @@
 -- Boot, its faults, and the run of a program that ends stuck, by computation.
-use Rattle.zl_code.proofs.Common.{Bool, Boots, Choice, Ended, FirstFault, IsBoot, IsLegalHistory, IsTrue, Library, List, None, Option, Ready, Refused}
-use Rattle.zl_code.proofs.Common.{Settles-by, Some, Statement, TraceItem, World, [], and_parts, arith, at_limit, at_statement, boot_effect, boot_fault}
-use Rattle.zl_code.proofs.Common.{is_some, map, may_boot, negsuc, false, not, origin, refl, replicate, settled_in, started_process, take, true, ℕ, ◌&&◌}
-use Rattle.zl_code.proofs.Common.{◌∷◌, ◌≡◌}
-use Rattle.zl_code.specs.Boot.{BootRefusal, for_place, gives_more}
+use Rattle.zl_code.proofs.Common.{Bool, BootRefusal, Boots, Choice, Ended, FirstFault, IsBoot, IsLegalHistory, IsTrue, Library, List, None, Option, Ready}
+use Rattle.zl_code.proofs.Common.{Refused, Settles-by, Some, Statement, TraceItem, World, [], and_parts, arith, at_limit, at_statement, boot_effect, boot_fault}
+use Rattle.zl_code.proofs.Common.{false, for_place, gives_more, is_some, map, may_boot, negsuc, not, origin, refl, replicate, settled_in, started_process, take}
+use Rattle.zl_code.proofs.Common.{true, ℕ, ◌&&◌, ◌∷◌, ◌≡◌}
 use Rattle.zl_code.specs.declared.boot.BootCause.TheVariants as cause
 use Rattle.zl_code.specs.declared.boot.Statement.TheVariants as statement
 use Rattle.zl_code.specs.declared.instr.Instr.TheVariants as instr

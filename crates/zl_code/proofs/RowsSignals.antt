@@ -1,13 +1,11 @@
 -- Each cause of signal_peer, by computation in small worlds.
-use Rattle.zl_code.proofs.Common.{ChannelEnd, Entry, EventBody, JobBody, Map, None, PEER_CLOSED, ProcessBody, Refused, SIGNALED, SIGNAL_PEER, Some}
-use Rattle.zl_code.proofs.Common.{USER_SIGNALS, Values, WRITABLE, World, [], active, false, refl, signal_peer, ℕ, ◌+◌, ◌∷◌, ◌≡◌}
-use Rattle.zl_rights.specs.Numbers.{SIGNAL}
+use Rattle.zl_code.proofs.Common.{ChannelEnd, Entry, EventBody, JobBody, Map, None, PEER_CLOSED, ProcessBody, Refused, SIGNAL, SIGNALED, SIGNAL_PEER, Site}
+use Rattle.zl_code.proofs.Common.{Some, USER_SIGNALS, Values, WRITABLE, World, [], active, false, refl, signal_peer, site, ℕ, ◌+◌, ◌∷◌, ◌≡◌}
 use Rattle.zl_rights.specs.declared.kind.Kind.TheVariants as kind
 use Rattle.zl_rights.specs.declared.status.Status.TheVariants as status
 use Rattle.zl_code.specs.declared.history.CallName.TheVariants as name
 use Rattle.zl_code.specs.declared.history.Outcome.TheVariants as outcome
 use Rattle.zl_code.specs.declared.history.TraceItem.TheVariants as item
-use Rattle.zl_code.specs.Request.{Site, site}
 use Rattle.zl_code.proofs.Running.{computing}
 use Rattle.zl_code.proofs.RowsWords.{Refuses, Passes, world_of, process_of, entry_of, event_with, FIRST_RIGHTS, told, after, turn_of}
 

@@ -1,9 +1,8 @@
 -- Each cause and effect of the calls that start, kill and set policies, by computation in small worlds.
-use Rattle.zl_code.proofs.Common.{Blocked, Body, Bool, CallName, Choice, Created, DESTROY, Ended, Entry, EventBody, JobBody, Library, List, Map, None}
-use Rattle.zl_code.proofs.Common.{Outcome, Process, ProcessBody, Program, Ready, Refused, Request, SignalOf, Some, Start, State, TRANSFER, Values, WRITE}
-use Rattle.zl_code.proofs.Common.{Wants, World, [], body_of, false, job_set_policy, negsuc, process_start, refl, refusal, replicate, task_kill, true, ℕ}
-use Rattle.zl_code.proofs.Common.{◌∷◌, ◌≡◌}
-use Rattle.zl_rights.specs.Numbers.{SET_POLICY, default_rights_of, condition_number, mode_number, action_number}
+use Rattle.zl_code.proofs.Common.{Blocked, Body, Bool, CallName, Choice, Created, DESTROY, Ended, Entry, EventBody, JobBody, Library, List, Map, None, Outcome}
+use Rattle.zl_code.proofs.Common.{Process, ProcessBody, Program, Ready, Refused, Request, SET_POLICY, SignalOf, Site, Some, Start, State, TRANSFER, Values}
+use Rattle.zl_code.proofs.Common.{WRITE, Wants, World, [], action_number, body_of, condition_number, default_rights_of, entry_at, false, job_set_policy}
+use Rattle.zl_code.proofs.Common.{mode_number, negsuc, process_start, refl, refusal, replicate, site, table_of, task_kill, true, ℕ, ◌∷◌, ◌≡◌}
 use Rattle.zl_rights.specs.declared.kind.Kind.TheVariants as kind
 use Rattle.zl_rights.specs.declared.status.Status.TheVariants as status
 use Rattle.zl_rights.specs.declared.policy.Action.TheVariants as action
@@ -12,8 +11,6 @@ use Rattle.zl_rights.specs.declared.policy.Mode.TheVariants as mode
 use Rattle.zl_code.specs.declared.history.CallName.TheVariants as name
 use Rattle.zl_code.specs.declared.history.Outcome.TheVariants as outcome
 use Rattle.zl_code.specs.declared.history.TraceItem.TheVariants as item
-use Rattle.zl_code.specs.Request.{Site, site}
-use Rattle.zl_code.specs.Tests.{entry_at, table_of}
 use Rattle.zl_code.proofs.Running.{Acted, call_by, computing, settle_by}
 use Rattle.zl_code.proofs.RowsWords.{process_of, entry_of, event_with, FIRST_RIGHTS, told, after, state_of, registers_of}
 

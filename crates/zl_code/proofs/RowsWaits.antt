@@ -1,14 +1,12 @@
 -- Each cause of the calls that wait for signals, by computation in small worlds.
 use Rattle.zl_code.proofs.Common.{Blocked, ChannelEnd, Entry, EventBody, JobBody, List, Map, None, Object, PEER_CLOSED, Packet, PortBody, ProcessBody, READ}
-use Rattle.zl_code.proofs.Common.{Ready, Refused, SIGNALED, SignalOf, Some, Values, WAIT, WRITE, Wants, World, [], body_of, close, false, map}
-use Rattle.zl_code.proofs.Common.{packets_in, port_wait, refl, signal, wait_async, wait_one, wait_poll, ℕ, ◌+◌, ◌-◌, ◌^◌, ◌∷◌, ◌≡◌}
-use Rattle.zl_rights.specs.Numbers.{SIGNAL}
+use Rattle.zl_code.proofs.Common.{Ready, Refused, SIGNAL, SIGNALED, SignalOf, Site, Some, Values, WAIT, WRITE, Wants, World, [], body_of, close, false, map}
+use Rattle.zl_code.proofs.Common.{packets_in, port_wait, refl, signal, site, wait_async, wait_one, wait_poll, ℕ, ◌+◌, ◌-◌, ◌^◌, ◌∷◌, ◌≡◌}
 use Rattle.zl_rights.specs.declared.kind.Kind.TheVariants as kind
 use Rattle.zl_rights.specs.declared.status.Status.TheVariants as status
 use Rattle.zl_code.specs.declared.history.CallName.TheVariants as name
 use Rattle.zl_code.specs.declared.history.Outcome.TheVariants as outcome
 use Rattle.zl_code.specs.declared.history.TraceItem.TheVariants as item
-use Rattle.zl_code.specs.Request.{Site, site}
 use Rattle.zl_code.proofs.Running.{computing}
 use Rattle.zl_code.proofs.RowsWords.{Refuses, Passes, world_of, process_of, entry_of, event_with, FIRST_RIGHTS, told, item_of, after, state_of, registers_of}
 use Rattle.zl_code.proofs.RowsWords.{turn_of}

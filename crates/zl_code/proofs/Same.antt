@@ -1,7 +1,6 @@
 -- Images with the same fields are the same.
-use Rattle.zl_code.proofs.Common.{◌≡◌, ◌+◌, ◌++◌, ◌∷◌, [], length, refl, IsTrue, if◌then◌else◌}
-use Rattle.zl_code.specs.Image.{Image}
-use Rattle.zl_code.specs.Spells.{body_bytes, bytes_of, is_in_range, magic, needs_byte, spelling}
+use Rattle.zl_code.proofs.Common.{Image, IsTrue, [], body_bytes, bytes_of, if◌then◌else◌, is_in_range, length, magic, needs_byte, refl, spelling, ◌++◌, ◌+◌}
+use Rattle.zl_code.proofs.Common.{◌∷◌, ◌≡◌}
 use Rattle.zl_code.specs.Same.{DeclaresSame, HasSameHeader, HasSameNeeds, HaveSameBytes}
 use Rattle.zl_code.proofs.ImageWhole.{spells_one}
 

@@ -1,11 +1,10 @@
 -- Every world of a run from a boot world is sound.
-use Rattle.zl_code.proofs.Common.{Action, All, Blocked, Body, Bool, ChannelEnd, PairEnd, Created, Entry, Gone, HandlesAreNamed, HandlesAreSound, HasGivenKoids}
+use Rattle.zl_code.proofs.Common.{Action, All, Blocked, Body, Bool, ChannelEnd, Created, Entry, Gone, HandlesAreNamed, HandlesAreSound, HasGivenKoids}
 use Rattle.zl_code.proofs.Common.{HasItsObject, HasPeer, HasPeerOf, IsBelow, IsLargestHeld, IsSound, IsSoundTable, IsTrue, JobBody, Kind, Koids, LivesAt, Map}
-use Rattle.zl_code.proofs.Common.{Message, None}
-use Rattle.zl_code.proofs.Common.{Object, Option, Process, ProcessBody, Ready, Setting, Settles, Some, StandsBelow, State, World, [], and_from, and_parts, ap}
-use Rattle.zl_code.proofs.Common.{arith, bit_and, bit_xor, body_after_read, body_in, body_killed, body_with_message, body_with_policy, cases_Bool, each}
-use Rattle.zl_code.proofs.Common.{eq-eqb, eqb-true, false, false≢true, filter, get, get-each, get-put, get-where_key-in, get-where_key-out, has_key}
-use Rattle.zl_code.proofs.Common.{has_living_child, if◌then◌else◌, in_queue, in_table, inl, inr, is_blocked, is_held, is_kind_if_there, is_job_below}
+use Rattle.zl_code.proofs.Common.{Message, None, Object, Option, PairEnd, Process, ProcessBody, Ready, Setting, Settles, Some, StandsBelow, State, World, []}
+use Rattle.zl_code.proofs.Common.{and_from, and_parts, ap, arith, bit_and, bit_xor, body_after_read, body_in, body_killed, body_with_message, body_with_policy}
+use Rattle.zl_code.proofs.Common.{cases_Bool, each, eq-eqb, eqb-true, false, false≢true, filter, get, get-each, get-put, get-where_key-in, get-where_key-out}
+use Rattle.zl_code.proofs.Common.{has_key, has_living_child, if◌then◌else◌, in_queue, in_table, inl, inr, is_blocked, is_held, is_job_below, is_kind_if_there}
 use Rattle.zl_code.proofs.Common.{is_process, is_some, is_value, length, lives, max, may_get, may_get_after, min, nat_lt, none-some, not, option_map, or_left}
 use Rattle.zl_code.proofs.Common.{or_right, process_settled, put, raisable, refl, runs, same_Some, state_passes, state_without, subst, suc, sym, true}
 use Rattle.zl_code.proofs.Common.{true≢false, where_key, within, without, without_others, ℕ, ◌<◌, ◌==◌, ◌||◌, ◌∙◌, ◌≡◌, ◌≤◌}

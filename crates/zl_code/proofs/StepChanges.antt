@@ -1,23 +1,20 @@
 -- Which changes a step is made of: a call with its answer, a statement of a boot, and waking.
-use Rattle.zl_code.proofs.Common.{PairEnd, Action, Acts, All, All-cons, All-nil, AtCall, Blocked, Body, Bool, CallBy, ChannelEnd, Choice, Condition, Entry}
-use Rattle.zl_code.proofs.Common.{EventBody}
-use Rattle.zl_code.proofs.Common.{Grant, HasGivenKoids, IsSound, IsSoundWait, IsStuck, IsTrue, JobBody, Library, List, Map, Moves, Next, None, Object, Option}
-use Rattle.zl_code.proofs.Common.{Outcome, Packet, PacketAt, PortBody, Process, ProcessBody, Ready, Refused, SignalOf, Site, Some, StandsBelow, State}
-use Rattle.zl_code.proofs.Common.{Statement, Status, Step, TraceItem, Values, Wait, Wants, World, [], active, after_ok, after_refusal, and_parts, ap}
-use Rattle.zl_code.proofs.Common.{arith, awaited_by, body_in, body_of, body_with_policy, boot_effect, boot_fault, cases_Bool, cpu_answered, created_process}
-use Rattle.zl_code.proofs.Common.{eq-eqb, eqb-true, false, fired, fold, get, get-put, gives_ok, gives_refused, handle_given, handles_given, has_child}
-use Rattle.zl_code.proofs.Common.{has_default_rights, has_key, if◌then◌else◌, inl, inr, insert_all, is_by_handle, is_dead, is_deepest, is_job, is_job_body}
-use Rattle.zl_code.proofs.Common.{is_some, job_within, lacks_koids, list_all, made_ready, may_boot, may_choose, meets, nat_tests, ne_eqb, next_for, none-some}
-use Rattle.zl_code.proofs.Common.{not, ok_outcome, on_object, on_process, option_to_list, packet_values, policy_changed, process_with, process_with_all, put}
-use Rattle.zl_code.proofs.Common.{queue_of, refl, refusal, replied, runs, setting, slice_index_or, started_with, subst, sym, taken, taken_handles, true}
-use Rattle.zl_code.proofs.Common.{true≢false, update, waiting, wakes, with_body, with_effect, with_object, with_process, woken, woken_at_port, woken_by}
-use Rattle.zl_code.proofs.Common.{woken_by_first, woken_from, woken_if_there, ℕ, ◌++◌, ◌+◌, ◌<◌, ◌==◌, ◌||◌, ◌∙◌, ◌∷◌, ◌≡◌}
+use Rattle.zl_code.proofs.Common.{Action, Acts, All, All-cons, All-nil, AtCall, Awaited, Blocked, Body, Bool, CallBy, ChannelEnd, Choice, Condition, Entry}
+use Rattle.zl_code.proofs.Common.{EventBody, Grant, HasGivenKoids, IsSound, IsSoundWait, IsStuck, IsTrue, JobBody, Library, List, Map, Moves, Next, None}
+use Rattle.zl_code.proofs.Common.{Object, Option, Outcome, Packet, PacketAt, PairEnd, PortBody, Process, ProcessBody, Ready, Refused, SignalOf, Site, Some}
+use Rattle.zl_code.proofs.Common.{StandsBelow, State, Statement, Status, Step, TraceItem, Values, Wait, Wants, World, [], active, after_ok, after_refusal}
+use Rattle.zl_code.proofs.Common.{and_parts, ap, arith, awaited_by, body_in, body_of, body_with_policy, boot_effect, boot_fault, cases_Bool, cpu_answered}
+use Rattle.zl_code.proofs.Common.{created_process, eq-eqb, eqb-true, false, fired, fold, get, get-put, gives_ok, gives_refused, handle_given, handles_given}
+use Rattle.zl_code.proofs.Common.{has_child, has_default_rights, has_key, if◌then◌else◌, inl, inr, insert_all, is_by_handle, is_dead, is_deepest, is_job}
+use Rattle.zl_code.proofs.Common.{is_job_body, is_some, job_within, lacks_koids, list_all, made_ready, may_boot, may_choose, meets, nat_tests, ne_eqb, next_for}
+use Rattle.zl_code.proofs.Common.{none-some, not, not-false, ok_outcome, on_object, on_process, option_to_list, or_parts, packet_values, policy_changed}
+use Rattle.zl_code.proofs.Common.{process_with, process_with_all, put, queue_of, refl, refusal, replied, runs, setting, slice_index_or, started_with, subst}
+use Rattle.zl_code.proofs.Common.{sym, taken, taken_handles, true, true≢false, update, waiting, wakes, with_body, with_effect, with_object, with_process, woken}
+use Rattle.zl_code.proofs.Common.{woken_at_port, woken_by, woken_by_first, woken_from, woken_if_there, ℕ, ◌++◌, ◌+◌, ◌<◌, ◌==◌, ◌||◌, ◌∙◌, ◌∷◌, ◌≡◌}
 use Rattle.zl_rights.specs.declared.status.Status.TheVariants as status
-use Rattle.zl_rights.specs.World.{Awaited}
 use Rattle.zl_code.specs.declared.boot.Statement.TheVariants as statement
 use Rattle.zl_code.specs.declared.history.Outcome.TheVariants as outcome
 use Rattle.zl_code.specs.declared.boot.BootCause.TheVariants as cause
-use Rattle.std.proofs.lemmas.Bool.{not-false, or_parts}
 use Rattle.zl_code.proofs.Killing.{new_job_stands}
 use Rattle.zl_code.proofs.CanStart.{none_first, CanStart, can_start, handles_at_most, started_with_all, started_may_get}
 use Rattle.zl_code.proofs.MapKept.{changed, changed_update, each_changed, each_put}

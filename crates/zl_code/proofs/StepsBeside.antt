@@ -1,14 +1,12 @@
 -- What a process does beside registered waits and blocked processes, where it doesn't look at waits: the same step, behind which those wake.
-use Rattle.zl_code.proofs.Common.{Acts, AtCall, Blocked, Bool, Calls, IsLargestHeld, IsStuck, IsTrue, Koids, Library, List, Moves, Next, None, Process, Ready}
-use Rattle.zl_code.proofs.Common.{Request, Settles, Site, Some, TraceItem, Values, Wait, World, [], ap, awaited_by, ended, false, filter, get}
+use Rattle.zl_code.proofs.Common.{Acts, AtCall, Awaited, Blocked, Bool, Calls, IsLargestHeld, IsStuck, IsTrue, Koids, Library, List, Moves, Next, None, Process}
+use Rattle.zl_code.proofs.Common.{Ready, Request, Settles, Site, Some, TraceItem, Values, Wait, World, [], ap, awaited_by, ended, false, filter, get}
 use Rattle.zl_code.proofs.Common.{handle_operands, has_living_child, in_queue, in_table, is_held, is_made_by_handle, is_process, may_choose, new_handles}
 use Rattle.zl_code.proofs.Common.{next_for, none-some, not, on_process, port_cancel, port_wait, refl, refusal, remove_all, row_of, subst, sym, taken_handles}
 use Rattle.zl_code.proofs.Common.{task_kill, wait_async, wait_one, waiting, without_others, ℕ, ◌&&◌, ◌++◌, ◌==◌, ◌∙◌, ◌∷◌, ◌≡◌}
-use Rattle.zl_rights.specs.World.{Awaited}
 use Rattle.zl_code.specs.declared.history.Outcome.TheVariants as outcome
 use Rattle.zl_code.specs.declared.history.TraceItem.TheVariants as item
-use Rattle.zl_code.proofs.Waiters.{with_waiters, looks_at_waits, waits_after, blocked_after, is_blocking, refusal_same, awaited_same, chosen_among}
-use Rattle.zl_code.proofs.Waiters.{calls_among}
+use Rattle.zl_code.proofs.Waiters.{with_waiters, looks_at_waits, waits_after, blocked_after, is_blocking, refusal_same, awaited_same, chosen_among, calls_among}
 
 -- ---- what a process does
 

@@ -1,9 +1,8 @@
 -- A step beside registered waits: it is the same, and those waits are left whose handle and port are.
-use Rattle.zl_code.proofs.Common.{AtCall, Bool, CallName, IsLargestHeld, Koids, Library, List, None, Option, Process, Ready, Settles, Site, Some, TraceItem}
-use Rattle.zl_code.proofs.Common.{Wait, World, [], and_parts, ap, awaited_by, cases_Bool, false, filter, get, get-each, get-where_key-in, get-where_key-out}
-use Rattle.zl_code.proofs.Common.{has_handle, has_key, inl, inr, is_held, is_made_by_handle, next_for, option_map, process_settled, refl, refusal, same_Some}
-use Rattle.zl_code.proofs.Common.{subst, sym, where_key, without_others, ℕ, ◌&&◌, ◌++◌, ◌∙◌, ◌∷◌, ◌≡◌}
-use Rattle.zl_rights.specs.World.{Awaited}
+use Rattle.zl_code.proofs.Common.{AtCall, Awaited, Bool, CallName, IsLargestHeld, Koids, Library, List, None, Option, Process, Ready, Settles, Site, Some}
+use Rattle.zl_code.proofs.Common.{TraceItem, Wait, World, [], and_parts, ap, awaited_by, cases_Bool, false, filter, get, get-each, get-where_key-in}
+use Rattle.zl_code.proofs.Common.{get-where_key-out, has_handle, has_key, inl, inr, is_held, is_made_by_handle, next_for, option_map, process_settled, refl}
+use Rattle.zl_code.proofs.Common.{refusal, same_Some, subst, sym, where_key, without_others, ℕ, ◌&&◌, ◌++◌, ◌∙◌, ◌∷◌, ◌≡◌}
 use Rattle.zl_code.specs.declared.history.Outcome.TheVariants as outcome
 use Rattle.zl_code.specs.declared.history.TraceItem.TheVariants as item
 use Rattle.zl_code.proofs.Waiters.{with_waiters}

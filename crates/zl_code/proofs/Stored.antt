@@ -1,6 +1,6 @@
 -- The stored run: its bytes, its boot world and its history, by computation.
-use Rattle.zl_code.proofs.Common.{Choice, Ended, Image, IsBoot, IsLegalHistory, Library, List, Refused, Settles-by, Some, Spells, Statement, TraceItem}
-use Rattle.zl_code.proofs.Common.{Values, World, [], boot_effect, boot_fault, false, local_parts, origin, pos, refl, settled_in, true, ℕ, ◌∷◌, ◌≡◌}
+use Rattle.zl_code.proofs.Common.{Choice, Ended, Image, IsBoot, IsLegalHistory, Library, List, Refused, Settles-by, Some, Spells, Statement, TraceItem, Values}
+use Rattle.zl_code.proofs.Common.{World, [], boot_effect, boot_fault, false, local_parts, origin, pos, refl, settled_in, true, ℕ, ◌∷◌, ◌≡◌}
 use Rattle.zl_rights.specs.declared.status.Status.TheVariants as status
 use Rattle.zl_code.specs.declared.boot.Statement.TheVariants as statement
 use Rattle.zl_code.specs.declared.instr.Instr.TheVariants as instr

@@ -4,15 +4,14 @@ use Rattle.zl_code.proofs.Common.{MANAGE_PROCESS, Map, None, Object, Option, Pro
 use Rattle.zl_code.proofs.Common.{Wait, World, [], ap, arith, body_of, cases_Bool, created_process, entry_at, eq-eqb, eqb-true, examined, false, false≢true}
 use Rattle.zl_code.proofs.Common.{first_some, get, get-put, get-update, gets_all, handle_operands, handles_in, inl, inr, insert_all, is_by_handle, is_process}
 use Rattle.zl_code.proofs.Common.{is_some, job_create, job_within, kind_of, length, listed, ne_eqb, new_entry, none-some, not-false, object_at, on_process}
-use Rattle.zl_code.proofs.Common.{operand, option_to_list, process_create, process_start, process_without, refl, refusal, remove_all, row_of, runs, same_Some}
-use Rattle.zl_code.proofs.Common.{slice_index_or, state_passes, subst, sym, taken_handles, takes, task_kill, true, with_object, with_process, ℕ, ◌<◌, ◌==◌}
-use Rattle.zl_code.proofs.Common.{◌∙◌, ◌∷◌, ◌≡◌, ◌≤◌}
+use Rattle.zl_code.proofs.Common.{operand, operand_of, option_to_list, process_create, process_start, process_without, refl, refusal, remove_all, row_of, runs}
+use Rattle.zl_code.proofs.Common.{same_Some, slice_index_or, started_with, state_passes, subst, sym, taken_handles, takes, task_kill, true, with_object}
+use Rattle.zl_code.proofs.Common.{with_process, ℕ, ◌<◌, ◌==◌, ◌∙◌, ◌∷◌, ◌≡◌, ◌≤◌}
 use Rattle.zl_rights.specs.declared.kind.Kind.TheVariants as kind
 use Rattle.zl_rights.specs.declared.status.Status.TheVariants as status
-use Rattle.zl_code.specs.Starting.{cpu_given, is_created, started_with}
+use Rattle.zl_code.specs.Starting.{cpu_given, is_created}
 use Rattle.zl_code.proofs.CanStart.{started_may_get}
 use Rattle.zl_code.proofs.Killing.{living_job, lives_beside, new_job_stands}
-use Rattle.zl_code.specs.Operands.{operand_of}
 use Rattle.zl_code.proofs.Changes.{AreUnmade, process_is_made, Changes, changes, object_is_made, process_starts}
 use Rattle.zl_code.proofs.Entering.{IsFine, HaveRoom, left_behind, all_enter, entry_is_fine, new_is_fine}
 use Rattle.zl_code.proofs.Passing.{IsGranted, first_is_none, first_none, is_granted, listed_none, named_object, test_fails, unmade}

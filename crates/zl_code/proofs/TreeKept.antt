@@ -1,16 +1,14 @@
 -- Jobs and processes keep their places in the tree of jobs: what lives stands below what lives.
 use Rattle.zl_code.proofs.Common.{Action, Blocked, Body, Bool, ChannelEnd, Condition, HasGivenKoids, HasItsObject, IsBelow, IsSound, IsTrue, JobBody, LivesAt}
 use Rattle.zl_code.proofs.Common.{Map, None, Object, Option, PortBody, Process, ProcessBody, Ready, Setting, Some, StandsBelow, State, World, [], and_from}
-use Rattle.zl_code.proofs.Common.{and_parts, ap, arith, body_after_read, body_in, body_killed, body_with_message, body_with_policy, cases_Bool, eq-eqb, false}
-use Rattle.zl_code.proofs.Common.{false≢true, get, has_key, if◌then◌else◌, inl, inr, is_job_below, is_process_of, is_some, list_all, lives, nat_tests}
-use Rattle.zl_code.proofs.Common.{none-some, policy_set, put, refl, runs, same_Some, sym, true, true≢false, with_unset, ℕ, ◌<◌, ◌∙◌, ◌∷◌, ◌≡◌}
+use Rattle.zl_code.proofs.Common.{and_parts, ap, arith, body_after_read, body_in, body_killed, body_with_message, body_with_policy, cases_Bool}
+use Rattle.zl_code.proofs.Common.{condition_numbered, eq-eqb, false, false≢true, get, has_key, if◌then◌else◌, inl, inr, is_job_below, is_policy, is_process_of}
+use Rattle.zl_code.proofs.Common.{is_some, list_all, lives, nat_tests, none-some, policy_after, policy_set, put, refl, runs, same_Some, sym, true, true≢false}
+use Rattle.zl_code.proofs.Common.{with_unset, ℕ, ◌<◌, ◌∙◌, ◌∷◌, ◌≡◌}
 use Rattle.zl_code.proofs.MapKept.{in_order-put, same, changed, new}
 use Rattle.zl_code.proofs.Changes.{IsChildless, ProcessChange, handle_enters, handle_leaves, computes, ends, wakes, starts, blocks, ObjectChange}
 use Rattle.zl_code.proofs.Changes.{signals_change, packets_change, message_comes, message_goes, policy_changes, dies, Change}
-use Rattle.zl_rights.specs.Policies.{condition_numbered}
 use Rattle.zl_rights.specs.declared.policy.Condition.TheVariants as condition
-use Rattle.zl_code.specs.Jobs.{policy_after}
-use Rattle.zl_code.specs.Sound.{is_policy}
 
 -- ---- a living process has its object
 

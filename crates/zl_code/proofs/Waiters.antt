@@ -1,15 +1,13 @@
 -- No call but wait_async, port_cancel and task_kill looks at registered waits or at blocked processes: it does the same whatever waits beside it.
-use Rattle.zl_code.proofs.Common.{Action, Bool, CallBy, Calls, Choice, Condition, Entry, Err, Kind, Library, List, None, Ok, Operand, Option, Outcome}
-use Rattle.zl_code.proofs.Common.{IsTrue, Refused, Request, Site, Some, Status, Values, Wait, Wants, World, [], action_of, active, after_ok, after_refusal}
-use Rattle.zl_code.proofs.Common.{answer_if, ap, awaited_by, bits, by_look_up, by_policy, chan_read_etc, choosing, close, condition_of, contains, copy_of}
-use Rattle.zl_code.proofs.Common.{creates, effect, ended, ends_caller, ends_if_kill, entering_at, entry_at, examined, false, faults, filter, first_some, get}
-use Rattle.zl_code.proofs.Common.{gets_all, gives_ok, gives_refused, handle_operands, handles_to, has_child_job, has_child_process, has_koids, has_room}
-use Rattle.zl_code.proofs.Common.{if◌then◌else◌, insert_all, is_empty, is_process, listed, may_choose, may_want, new_handles, not, ok_outcome}
-use Rattle.zl_code.proofs.Common.{on_object, on_process}
-use Rattle.zl_code.proofs.Common.{operand, operand_after, operand_of, outcome_of, parent_of, port_cancel, process_with, process_without, receiver_of, refl}
-use Rattle.zl_code.proofs.Common.{refusal, remove_all, replace, replied, seen_after, stored_by, storing, sym, taken, taken_handles, takes, task_kill, true}
-use Rattle.zl_code.proofs.Common.{true≢false, unless_allowed, wait_async, wait_one, wait_poll, with_effect, with_object, within, ℕ, ℤ, ◌&&◌, ◌==◌, ◌∙◌, ◌∷◌}
-use Rattle.zl_code.proofs.Common.{◌≡◌}
+use Rattle.zl_code.proofs.Common.{Action, Bool, CallBy, Calls, Choice, Condition, Entry, Err, IsTrue, Kind, Library, List, None, Ok, Operand, Option, Outcome}
+use Rattle.zl_code.proofs.Common.{Refused, Request, Site, Some, Status, Values, Wait, Wants, World, [], action_of, active, after_ok, after_refusal, answer_if}
+use Rattle.zl_code.proofs.Common.{ap, awaited_by, bits, by_look_up, by_policy, chan_read_etc, choosing, close, condition_of, contains, copy_of, creates, effect}
+use Rattle.zl_code.proofs.Common.{ended, ends_caller, ends_if_kill, entering_at, entry_at, examined, false, faults, filter, first_some, get, gets_all, gives_ok}
+use Rattle.zl_code.proofs.Common.{gives_refused, handle_operands, handles_to, has_child_job, has_child_process, has_koids, has_room, if◌then◌else◌, insert_all}
+use Rattle.zl_code.proofs.Common.{is_empty, is_process, listed, may_choose, may_want, new_handles, not, ok_outcome, on_object, on_process, operand}
+use Rattle.zl_code.proofs.Common.{operand_after, operand_of, outcome_of, parent_of, port_cancel, process_with, process_without, receiver_of, refl, refusal}
+use Rattle.zl_code.proofs.Common.{remove_all, replace, replied, seen_after, stored_by, storing, sym, taken, taken_handles, takes, task_kill, true, true≢false}
+use Rattle.zl_code.proofs.Common.{unless_allowed, wait_async, wait_one, wait_poll, with_effect, with_object, within, ℕ, ℤ, ◌&&◌, ◌==◌, ◌∙◌, ◌∷◌, ◌≡◌}
 use Rattle.zl_rights.specs.declared.policy.Action.TheVariants as action
 use Rattle.zl_rights.specs.declared.policy.Condition.TheVariants as condition
 use Rattle.zl_rights.specs.declared.status.Status.TheVariants as status

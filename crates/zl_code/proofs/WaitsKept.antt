@@ -3,11 +3,10 @@ use Rattle.zl_code.proofs.Common.{All, All-append, All-cons, All-filter, All-nil
 use Rattle.zl_code.proofs.Common.{Koids, List, Map, None, Object, Option, Packet, PacketAt, PortBody, Process, Ready, Setting, Settles, SignalOf, Some, State}
 use Rattle.zl_code.proofs.Common.{Wait, World, [], active, and_from, and_parts, answered, ap, arith, body_after_read, body_in, body_killed, body_of}
 use Rattle.zl_code.proofs.Common.{body_with_message, body_with_policy, cases_Bool, each, entry_at, eq-eqb, eqb-true, false, false≢true, filter, filter_passes}
-use Rattle.zl_code.proofs.Common.{fired, fold, get, get-each, get-put, get-where_key-in, get-where_key-out, handles_in, has_handle, has_key, if◌then◌else◌}
-use Rattle.zl_code.proofs.Common.{inl, inr, is_by_handle, is_made_by_handle, is_port_there, is_some, made_ready, meets, none-some, not, option_map}
-use Rattle.zl_code.proofs.Common.{packet_values, process_settled, refl, same_Some, slice_index_or, subst, sym, true, true≢false, wakes, where_key, with_body}
-use Rattle.zl_code.proofs.Common.{without, without_others, woken, woken_at_port, woken_by, woken_by_first, woken_from, woken_if_there, ℕ, ◌&&◌, ◌<◌, ◌==◌}
-use Rattle.zl_code.proofs.Common.{◌∙◌, ◌∷◌, ◌≡◌}
+use Rattle.zl_code.proofs.Common.{fired, fold, get, get-each, get-put, get-where_key-in, get-where_key-out, handles_in, has_handle, has_key, if◌then◌else◌, inl}
+use Rattle.zl_code.proofs.Common.{inr, is_by_handle, is_made_by_handle, is_port_there, is_some, made_ready, meets, none-some, not, option_map, packet_values}
+use Rattle.zl_code.proofs.Common.{process_settled, refl, same_Some, slice_index_or, subst, sym, true, true≢false, wakes, where_key, with_body, without}
+use Rattle.zl_code.proofs.Common.{without_others, woken, woken_at_port, woken_by, woken_by_first, woken_from, woken_if_there, ℕ, ◌&&◌, ◌<◌, ◌==◌, ◌∙◌, ◌∷◌, ◌≡◌}
 use Rattle.zl_rights.proofs.Waking.{turns-later}
 use Rattle.zl_code.proofs.MapKept.{same, changed, new}
 use Rattle.zl_code.proofs.Changes.{IsWait, AreUnmade, alike, fewer, begins, ProcessChange, handle_enters, handle_leaves, computes, ends, wakes as wakes_up}

@@ -1,15 +1,11 @@
 -- What clap finds in the words that it takes for the program's commands.
-use Rattle.zl_command.proofs.Common.{◌≡◌, ◌∙◌, ◌&&◌, ◌||◌, Bool, true, false, not, cond, refl, sym, ap, true≢false, List, [], ◌∷◌, ℕ, codes, Option, Some, None}
-use Rattle.zl_command.proofs.Common.{IfSome, is_some, Result, Err, Ok, IfErr, ◌⊎◌, inl, inr, subst, slice_get, unwrap_or, App, Shape, built, entered, filled}
-use Rattle.zl_command.proofs.Common.{names_of, rows_at, with_index, fault_of, subcommand_of, IsErrAnd, FaultOf, MayAskForHelp, HasNumber, HasValue, HasValues}
-use Rattle.zl_command.proofs.Common.{commands, needed, numbered}
-use Rattle.std.proofs.Common.{option_map}
-use Rattle.std.specs.Option.{option_map_or}
-use Rattle.std.specs.Str.{bytes_eq}
+use Rattle.zl_command.proofs.Common.{App, Bool, Err, ErrorKind, FaultOf, HasNumber, HasValue, HasValues, IfErr, IfSome, IsErrAnd, List, MayAskForHelp, None, Ok}
+use Rattle.zl_command.proofs.Common.{Option, Result, Shape, Some, Text, [], ap, built, bytes_eq, codes, commands, cond, entered, false, fault_of, filled, inl}
+use Rattle.zl_command.proofs.Common.{inr, is_some, names_of, needed, not, numbered, option_map, option_map_or, refl, rows_at, slice_get, subcommand_of, subst}
+use Rattle.zl_command.proofs.Common.{sym, true, true≢false, unwrap_or, with_index, ℕ, ◌&&◌, ◌||◌, ◌∙◌, ◌∷◌, ◌≡◌, ◌⊎◌}
 use Rattle.std.proofs.lemmas.Slice.Eq.{bytes_eq-Decides}
-use Rattle.clap.specs.Walk.{Held, Row, Rule, Text, nothing_held, rows_after, stop_after, used}
+use Rattle.clap.specs.Walk.{Held, Row, Rule, nothing_held, rows_after, stop_after, used}
 use Rattle.clap.specs.Kinds.{IsAmong, Kinds, check_kinds}
-use Rattle.clap.specs.declared.error.kind.ErrorKind.{ErrorKind}
 use Rattle.clap.specs.declared.error.kind.ErrorKind.TheVariants.{DisplayHelp, DisplayVersion, InvalidSubcommand, OutOfMemory}
 use Rattle.zl_command.specs.declared.command.WordFault.{WordFault}
 use Rattle.zl_command.specs.declared.command.WordFault.TheVariants.{NoMemory, Usage}

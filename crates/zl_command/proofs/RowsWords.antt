@@ -1,7 +1,6 @@
 -- Command lines, as clap's definitions read them.
-use Rattle.zl_command.proofs.Common.{◌≡◌, refl, true, [], ◌∷◌, List, Option, Some, None, codes, Text, fault_of, first_of, is_simple_and_free, subcommand_of}
-use Rattle.zl_command.proofs.Common.{takes, commands, ℕ, number_of}
-use Rattle.std.proofs.Common.{option_map}
+use Rattle.zl_command.proofs.Common.{List, None, Option, Some, Text, [], codes, commands, fault_of, first_of, is_simple_and_free, number_of, option_map, refl}
+use Rattle.zl_command.proofs.Common.{subcommand_of, takes, true, ℕ, ◌∷◌, ◌≡◌}
 use Rattle.clap.specs.declared.error.kind.ErrorKind.TheVariants as kind
 use Rattle.clap.proofs.OnLiterals.{clap_on_literals}
 

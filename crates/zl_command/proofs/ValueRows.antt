@@ -1,26 +1,23 @@
 -- What a use of an argument leaves in its row: a value, and a number where its parser wants one.
-use Rattle.zl_command.proofs.Common.{◌≡◌, ◌∙◌, Bool, true, false, cond, refl, sym, subst, true≢false, List, [], ◌∷◌, ◌++◌, ℕ, Option, Some, None, IsSome}
-use Rattle.zl_command.proofs.Common.{Result, Ok, Err, is_some, slice_get, find, option_and_then, filled, with_index, HasNumber, HasValue, needed}
-use Rattle.zl_command.proofs.Common.{number, number_of, numbered}
-use Rattle.std.proofs.Common.{◌≤◌, ◌<◌, ◌^◌, arith, leb-true, ltb-true, option_map}
+use Rattle.zl_command.proofs.Common.{Bool, Err, ErrorKind, HasNumber, HasValue, IsSome, List, None, Ok, Option, ParsesUnsigned, Result, Some, Text, [], arith}
+use Rattle.zl_command.proofs.Common.{bytes_eq, cond, false, filled, find, is_some, needed, number, number_of, numbered, option_and_then, option_map}
+use Rattle.zl_command.proofs.Common.{option_map_or, refl, slice_get, subst, sym, true, true≢false, with_index, ℕ, ◌++◌, ◌∙◌, ◌∷◌, ◌≡◌}
+use Rattle.std.proofs.Common.{◌≤◌, ◌<◌, ◌^◌, leb-true, ltb-true}
 use Rattle.std.specs.Prelude.{IsSomeAnd, nat_lt}
 use Rattle.std.specs.List.{list_all}
-use Rattle.std.specs.Option.{option_map_or}
 use Rattle.std.specs.Char.{digit_value}
-use Rattle.std.specs.Str.{bytes_eq}
-use Rattle.std.specs.Str.Parse.{AllDigits, IsNumeral, ParsesUnsigned, digits_value, without_leading_plus}
+use Rattle.std.specs.Str.Parse.{AllDigits, IsNumeral, digits_value, without_leading_plus}
 use Rattle.clap.specs.Facts.{explicit_source, unwrap_or_range}
 use Rattle.clap.specs.Faults.{action_fault, set_fault, values_fault}
 use Rattle.clap.specs.Kinds.{range_kinds}
 use Rattle.clap.specs.Takes.{is_given}
 use Rattle.clap.specs.Values.{read_as}
 use Rattle.clap.specs.ValueTests.{is_numeral, is_unsigned_in}
-use Rattle.clap.specs.Walk.{Row, Rule, Text, action_of, at_row, more_values, most_values, one_of, reading_by, row_text, rows_of, stronger, used_as, without}
+use Rattle.clap.specs.Walk.{Row, Rule, action_of, at_row, more_values, most_values, one_of, reading_by, row_text, rows_of, stronger, used_as, without}
 use Rattle.clap.specs.Words.{ReadsOne, one_text}
 use Rattle.clap.proofs.WalkLemmas.{both, one_text-rows}
 use Rattle.clap.specs.declared.builder.action.ArgAction.{ArgAction}
 use Rattle.clap.specs.declared.builder.action.ArgAction.TheVariants.{Set}
-use Rattle.clap.specs.declared.error.kind.ErrorKind.{ErrorKind}
 use Rattle.clap.specs.declared.error.kind.ErrorKind.TheVariants.{ValueValidation}
 use Rattle.clap.specs.declared.parser.matches.Found.{Found}
 use Rattle.clap.specs.declared.parser.matches.ValueSource.TheVariants.{CommandLine}

@@ -1,20 +1,18 @@
 -- What a parse with no fault keeps, word by word: a fact of each row, and one of the subcommand's name.
-use Rattle.zl_command.proofs.Common.{◌≡◌, ◌∙◌, ◌&&◌, ℕ, Bool, true, false, cond, zero, suc, refl, sym, ap, subst}
-use Rattle.zl_command.proofs.Common.{List, [], ◌∷◌, length, drop, Option, Some, None, IfSome, is_some, slice_get, fold, find, encode_utf8, Shape}
-use Rattle.std.specs.Str.{bytes_eq, chars}
+use Rattle.zl_command.proofs.Common.{Bool, IfSome, List, None, Option, Shape, Some, Text, [], ap, bytes_eq, cond, drop, encode_utf8, false, find, fold, is_some}
+use Rattle.zl_command.proofs.Common.{length, option_map_or, refl, slice_get, subst, suc, sym, true, zero, ℕ, ◌&&◌, ◌∙◌, ◌∷◌, ◌≡◌}
+use Rattle.std.specs.Str.{chars}
 use Rattle.clap.specs.Lexer.{long_of, short_of}
-use Rattle.clap.specs.Walk.{Held, Names, Outcome, Row, Rule, Step, Text, Waiting, Walk, after_flag, after_step, arg_by_id, arg_by_index, arg_by_long}
-use Rattle.clap.specs.Walk.{arg_by_short, attached_value, flag_met, bundle_met, bundle_step, done, has_row, default_rows}
-use Rattle.clap.specs.Walk.{reading_by, nothing_held, rows_after, stop_after, walk_from, is_pending, long_met, next, option_met, plain}
-use Rattle.clap.specs.Walk.{plain_word, option_word, positional_held, reacted, refused, settled, settled_rows}
-use Rattle.clap.specs.Walk.{short_met, subcommand, subcommand_met, subcommand_or_other, takes_several, takes_values, to_positional, trailing}
-use Rattle.clap.specs.Walk.{used, used_by_id, value, waits, walk, walked, walked_from, with_default, word_met}
-use Rattle.clap.specs.Walk.{long_or_other, short_or_plain, idle, option, positional}
+use Rattle.clap.specs.Walk.{Held, Names, Outcome, Row, Rule, Step, Waiting, Walk, after_flag, after_step, arg_by_id, arg_by_index, arg_by_long, arg_by_short}
+use Rattle.clap.specs.Walk.{attached_value, flag_met, bundle_met, bundle_step, done, has_row, default_rows, reading_by, nothing_held, rows_after, stop_after}
+use Rattle.clap.specs.Walk.{walk_from, is_pending, long_met, next, option_met, plain, plain_word, option_word, positional_held, reacted, refused, settled}
+use Rattle.clap.specs.Walk.{settled_rows, short_met, subcommand, subcommand_met, subcommand_or_other, takes_several, takes_values, to_positional, trailing}
+use Rattle.clap.specs.Walk.{used, used_by_id, value, waits, walk, walked, walked_from, with_default, word_met, long_or_other, short_or_plain, idle, option}
+use Rattle.clap.specs.Walk.{positional}
 use Rattle.clap.specs.Kinds.{Kinds, or_else}
 use Rattle.clap.specs.declared.error.kind.ErrorKind.TheVariants.{TooManyValues}
 use Rattle.clap.specs.Faults.{bundle_step_fault, check_fault, level_fault, stray_fault, flags_fault, long_fault, option_fault, other_fault, positional_fault}
 use Rattle.clap.specs.Faults.{react_fault, settle_fault, short_fault, step_fault, turn_fault, use_fault, walk_fault, word_fault, flag_word_fault}
-use Rattle.std.specs.Option.{option_map_or}
 
 -- each item has the fact
 abbrev pub Each : {X : Type 0} → (X → Type 0) → List X → Type 0

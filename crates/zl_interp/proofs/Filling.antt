@@ -1,11 +1,8 @@
 -- What a place that is filled leaves of the code that agrees.
-use Rattle.zl_code.proofs.Common.{◌≡◌, ◌≢◌, ◌<◌, ◌≤◌, ◌∙◌, ◌⊎◌, inl, inr, ℕ, zero, suc, List, Option, Some, None, length, refl, sym, ap, subst, arith}
-use Rattle.zl_code.proofs.Common.{slice_get, slice_set, same_Some, none-some, get_or, is_some, true, false≢true, [], ◌∷◌}
-use Rattle.std.proofs.lemmas.List.{length-set}
+use Rattle.zl_interp.proofs.Common.{Agrees, Instr, List, None, Option, Some, [], ap, arith, false≢true, get_or, inl, inr, is_some, length, length-set}
+use Rattle.zl_interp.proofs.Common.{none-some, refl, same_Some, slice_get, slice_set, subst, suc, sym, true, zero, ℕ, ◌<◌, ◌∙◌, ◌∷◌, ◌≡◌, ◌≢◌, ◌≤◌, ◌⊎◌}
 use Rattle.std.proofs.lemmas.Option.{slice_get-get_or, slice_get_past, slice_get_within}
-use Rattle.zl_code.specs.declared.instr.Instr.{Instr}
 use Rattle.zl_verify.proofs.Places.{below_or_not, equal_or_not, get_put, get_put_other, nowhere}
-use Rattle.zl_interp.specs.Bursts.{Agrees}
 
 -- ---- one that is filled
 

@@ -1,12 +1,7 @@
 -- One instruction more in the code of an image, by a Cpu that is as a typing of the image says, and for all images that agree with what was filled.
-use Rattle.zl_code.proofs.Common.{◌≡◌, ◌≢◌, ◌+◌, ◌∙◌, ℕ, List, Option, Some, ap, sym, subst, IsTrue, slice_get, slice_set, Cpu, Image, Moves, IsStuck, next_at}
-use Rattle.std.proofs.Common.{add-one}
-use Rattle.zl_code.specs.declared.instr.Instr.{Instr}
-use Rattle.zl_code.specs.Spells.{is_in_range}
-use Rattle.zl_code.specs.Steps.{next_of}
-use Rattle.zl_verify.specs.Covered.{IsAble}
+use Rattle.zl_interp.proofs.Common.{Agrees, Cpu, Done, Image, Instr, IsAble, IsBurst, IsStuck, IsTrue, Leads, List, Moves, Option, Some, add-one, after_locals}
+use Rattle.zl_interp.proofs.Common.{ap, is_in_range, moved_to, next_at, next_of, slice_get, slice_set, stop_at, subst, sym, then_moved, ℕ, ◌+◌, ◌∙◌, ◌≡◌, ◌≢◌}
 use Rattle.zl_verify.proofs.LocalSteps.{able_goes, able_still}
-use Rattle.zl_interp.specs.Bursts.{Agrees, Done, IsBurst, Leads, after_locals, moved_to, stop_at, then_moved}
 use Rattle.zl_interp.proofs.Filling.{filled_agrees, filled_alike, filled_before}
 
 -- ---- images that agree

@@ -1,3 +1,4 @@
+pub mod Common
 pub mod Slots
 pub mod Listing
 pub mod Standing

@@ -1,10 +1,6 @@
 -- The registers of a list, place by place.
-use Rattle.zl_code.proofs.Common.{◌≡◌, ◌<◌, ◌+◌, ℕ, zero, suc, Bool, true, false, List, [], ◌∷◌, ◌++◌, map, take, length, refl, sym, ap, ◌∙◌, if◌then◌else◌}
-use Rattle.zl_code.proofs.Common.{Some, None, none-some, same_Some, nat_lt, arith, slice_get, slice_set}
-use Rattle.std.specs.Prelude.{drop, slice_index}
-use Rattle.std.proofs.Common.{add-one}
-use Rattle.std.proofs.lemmas.Grind.{common_steps}
-use Rattle.zl_code.specs.Asked.{used}
+use Rattle.zl_interp.proofs.Common.{Bool, List, None, Some, [], add-one, ap, arith, common_steps, drop, false, if◌then◌else◌, length, map, nat_lt, none-some}
+use Rattle.zl_interp.proofs.Common.{refl, same_Some, slice_get, slice_index, slice_set, suc, sym, take, true, used, zero, ℕ, ◌++◌, ◌+◌, ◌<◌, ◌∙◌, ◌∷◌, ◌≡◌}
 use Rattle.zl_code.specs.Spells.{register_in}
 
 used_step : (places : List ℕ) (i r : ℕ) → Some r ≡ register_in (slice_get places i) → used (drop i places) ≡ r ∷ used (drop (suc i) places)

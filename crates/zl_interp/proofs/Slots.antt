@@ -1,7 +1,6 @@
 -- One place of the slot arrays is written.
-use Rattle.zl_code.proofs.Common.{◌≡◌, ◌<◌, length, ℕ, zero, suc, List, [], ◌∷◌, map, get_or, Option, Some, None, refl, ◌∙◌, sym, ap, slice_get, slice_set}
-use Rattle.zl_code.proofs.Common.{IsSome}
-use Rattle.std.proofs.lemmas.List.{get_or-map}
+use Rattle.zl_interp.proofs.Common.{IsSome, List, None, Option, Some, [], ap, get_or, get_or-map, length, map, refl, slice_get, slice_set, suc, sym, zero, ℕ}
+use Rattle.zl_interp.proofs.Common.{◌<◌, ◌∙◌, ◌∷◌, ◌≡◌}
 use Rattle.zl_interp.specs.Running.{slot_in, slot_set, set_in}
 
 set_behind : (y : List ℕ) (ys : List (List ℕ)) (n place value : ℕ) (o : Option (List ℕ)) → set_in (y ∷ ys) (suc n) place value o ≡ y ∷ set_in ys n place value o

@@ -1,12 +1,10 @@
 -- Instructions with the same bytes are the same, where they can stand in an image.
-use Rattle.std.specs.Prelude.{◌↔◌}
-use Rattle.zl_code.proofs.Common.{◌≡◌, ◌∙◌, ℕ, Bool, true, false, List, [], ◌∷◌, zero, suc, Option, Some, None, IsTrue, refl, sym, ap, slice_get}
-use Rattle.zl_code.proofs.Common.{same_Some, none-some, option_map, list_all, and_parts, is_in_range, is_instr_in_range, instr_bytes, Image}
-use Rattle.zl_code.specs.declared.instr.Instr.{Instr}
+use Rattle.zl_interp.proofs.Common.{Agrees, Bool, CanStand, HasBytes, Image, Instr, IsTrue, List, None, Option, Some, [], and_parts, ap, false, instr_bytes}
+use Rattle.zl_interp.proofs.Common.{is_in_range, is_instr_in_range, list_all, none-some, option_map, refl, same_Some, slice_get, suc, sym, true, zero, ℕ, ◌↔◌}
+use Rattle.zl_interp.proofs.Common.{◌∙◌, ◌∷◌, ◌≡◌}
 use Rattle.zl_code.specs.declared.instr.Instr.TheVariants as instr
 use Rattle.zl_code.proofs.ImageRanges.{ranges}
 use Rattle.zl_code.proofs.ImageTable.{instr_fits, read_instr}
-use Rattle.zl_interp.specs.Bursts.{Agrees, CanStand, HasBytes}
 
 -- under the raw mark as well
 also_raw : (raw : Bool) (x : Instr) → is_instr_in_range raw x ≡ true → is_instr_in_range true x ≡ true

@@ -1,13 +1,10 @@
 -- What stands next, by the instruction at the counter.
-use Rattle.zl_code.proofs.Common.{◌≡◌, ◌∙◌, Option, Some, None, IfSome, IfNone, true, false, sym, refl, ap, none-some, same_Some, is_some, false≢true, Cpu}
-use Rattle.zl_code.proofs.Common.{Image, Site, call_row, local_effect, site_of, IsStuck, calls_at, next_at}
+use Rattle.zl_interp.proofs.Common.{Cpu, IfNone, IfSome, Image, Instr, IsStuck, None, Option, Site, Some, ap, call_row, calls_at, false, false≢true}
+use Rattle.zl_interp.proofs.Common.{has_its_memory, is_some, local_effect, moves, next_at, next_of, none-some, refl, same_Some, site_of, sym, true, ◌∙◌, ◌≡◌}
 use Rattle.zl_code.specs.declared.history.CallName.{CallName}
 use Rattle.zl_code.specs.declared.instr.CallInstr.{CallInstr}
-use Rattle.zl_code.specs.declared.instr.Instr.{Instr}
 use Rattle.zl_code.specs.declared.instr.Instr.TheVariants as instr
 use Rattle.zl_code.specs.Image.{instr_at, call_at, call_in as call_found, local_at, local_in as local_found}
-use Rattle.zl_code.specs.Asked.{has_its_memory}
-use Rattle.zl_code.specs.Steps.{moves, next_of}
 use Rattle.zl_verify.proofs.Sites.{has_site}
 use Rattle.zl_interp.specs.Next.{IsStuckOrCalls, StandsNext, call_in}
 

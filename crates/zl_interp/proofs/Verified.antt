@@ -1,19 +1,12 @@
 -- The programs of a library are as their checks promise, one more too.
-use Rattle.zl_code.proofs.Common.{◌≡◌, ℕ, zero, suc, List, [], ◌∷◌, ◌++◌, refl, sym, subst, Some, true, slice_get, none-some, same_Some}
-use Rattle.std.proofs.Common.{map}
-use Rattle.std.proofs.lemmas.List.{map-append}
+use Rattle.zl_interp.proofs.Common.{IsTrue, IsVerified, List, Some, is_in_range, map, map-append, none-some, refl, same_Some, slice_get, subst, suc, sym, true}
+use Rattle.zl_interp.proofs.Common.{zero, ℕ, ◌++◌, ◌∷◌, ◌≡◌, []}
 use Rattle.std.specs.List.{AllByRecursion}
-use Rattle.std.specs.Prelude.{IsTrue}
 use Rattle.zl_code.specs.Image.{Program, Library}
-use Rattle.zl_code.specs.Spells.{is_in_range}
 use Rattle.zl_verify.specs.Checks.{HasStepBound}
-use Rattle.zl_verify.specs.Covered.{IsVerified}
 
 abbrev InRange : Program → Type 0
 InRange g = IsTrue (is_in_range g.image)
-
-pub none_verified : IsVerified []
-none_verified = record { images = tt; bounds = λ n i at. absurd (none-some _ at) }
 
 all_behind : (xs : Library) (g : Program) → AllByRecursion InRange xs → InRange g → AllByRecursion InRange (xs ++ g ∷ [])
 all_behind [] g all one = (one, tt)

@@ -1,20 +1,11 @@
 -- Objects that are the same but for waits and reserved places: what doesn't see these.
-use Rattle.zl_rights.proofs.Common.{◌≡◌, ℕ, ◌&&◌, ◌||◌, List, [], ◌∷◌, length, map, refl, sym, ap, ◌∙◌, subst, cond, Option, Some, None, arith, nat_lt, is_some}
-use Rattle.zl_rights.proofs.Common.{suc, option_map, count_by, sum_by-cons, below_all, is_sorted, nat_cmp, none-some, same_Some, Map, get, has_key, each}
-use Rattle.zl_rights.proofs.Common.{Bool, list_any}
-use Rattle.std.specs.Ordering.{is_lt}
-use Rattle.zl_rights.specs.World.{World}
-use Rattle.zl_rights.proofs.MapLaws.{get-each}
+use Rattle.zl_objects.proofs.Common.{Agrees, AreKeptBut, AreSameButWaits, Body, Bool, List, Map, None, Object, Option, Some, World, [], ap, arith, bare}
+use Rattle.zl_objects.proofs.Common.{below_all, body_value, cond, count_by, each, get, get-each, has_key, has_living_child, is_child, is_in_job, is_job_at}
+use Rattle.zl_objects.proofs.Common.{is_job_body, is_job_in, is_kept, is_lt, is_named, is_some, is_sorted, length, list_any, map, nat_cmp, nat_lt, none-some}
+use Rattle.zl_objects.proofs.Common.{object_entry, option_map, refl, same_Some, stays_alone, subst, suc, sum_by-cons, sym, unreserved, ℕ, ◌&&◌, ◌||◌, ◌∙◌, ◌∷◌}
+use Rattle.zl_objects.proofs.Common.{◌≡◌}
 use Rattle.zl_rights.proofs.MapTests.{list_any-each}
-use Rattle.zl_objects.specs.declared.object.Body.{Body}
 use Rattle.zl_objects.specs.declared.object.Body.TheVariants as body
-use Rattle.zl_objects.specs.declared.object.Object.{Object}
-use Rattle.zl_objects.specs.Objects.{has_living_child, is_child, is_job_at, is_job_in, is_job_body, is_kept, stays_alone}
-use Rattle.zl_objects.specs.Dying.{is_named}
-use Rattle.zl_objects.specs.Ports.{unreserved}
-use Rattle.zl_objects.specs.Release.{AreKeptBut}
-use Rattle.zl_objects.specs.Seen.{Agrees, body_value, is_in_job, object_entry}
-use Rattle.zl_objects.specs.Waits.{AreSameButWaits, bare}
 use Rattle.zl_objects.proofs.Bodies.{same_in_job}
 
 -- the objects without waits and reserved places

@@ -1,15 +1,9 @@
 -- What keeps objects, once one of them was changed or has gone.
-use Rattle.zl_rights.proofs.Common.{◌≡◌, ℕ, Bool, true, false, ◌||◌, ◌==◌, [], ◌∷◌, refl, sym, ap, ◌∙◌, Option, Some, None, inl, inr, IsTrue, if◌then◌else◌}
-use Rattle.zl_rights.proofs.Common.{is_some, list_any, option_map, nat_cmp, is_sorted, cases_Bool, eqb-true, false≢true, or_left, or_right, none-some}
-use Rattle.zl_rights.proofs.Common.{same_Some, Map, get, has_key, update, without}
-use Rattle.std.proofs.lemmas.Bool.{or_cases}
-use Rattle.zl_rights.proofs.MapLaws.{get-update}
-use Rattle.zl_table.proofs.MapEdits.{get-without, sorted_parts, without_lower}
-use Rattle.zl_objects.specs.declared.object.Body.{Body}
+use Rattle.zl_objects.proofs.Common.{Body, Bool, IsTrue, Map, None, Object, Option, Some, [], ap, cases_Bool, eqb-true, false, false≢true, get, get-update}
+use Rattle.zl_objects.proofs.Common.{get-without, has_key, has_living_child, if◌then◌else◌, inl, inr, is_above, is_child, is_in_job, is_job_at, is_job_body}
+use Rattle.zl_objects.proofs.Common.{is_job_in, is_some, is_sorted, keeper_of, list_any, nat_cmp, none-some, option_map, or_cases, or_left, or_right, refl}
+use Rattle.zl_objects.proofs.Common.{same_Some, sorted_parts, stays_alone, sym, true, update, without, without_lower, ℕ, ◌==◌, ◌||◌, ◌∙◌, ◌∷◌, ◌≡◌}
 use Rattle.zl_objects.specs.declared.object.Body.TheVariants as body
-use Rattle.zl_objects.specs.declared.object.Object.{Object}
-use Rattle.zl_objects.specs.Objects.{has_living_child, is_child, is_job_at, is_job_body, is_job_in, keeper_of, stays_alone}
-use Rattle.zl_objects.specs.Seen.{is_above, is_in_job}
 use Rattle.zl_objects.proofs.Places.{seen_updated}
 
 -- ---- one object was changed

@@ -1,21 +1,12 @@
 -- What notes an object takes one place, and one object that handles name is fewer.
-use Rattle.zl_rights.proofs.Common.{◌≡◌, ◌+◌, ◌<◌, ◌≤◌, ℕ, true, false, ◌||◌, ◌==◌, List, [], ◌∷◌, ◌++◌, length, refl, sym, ap, ◌∙◌, cond, Option, Some, None}
-use Rattle.zl_rights.proofs.Common.{inl, inr, ◌⊎◌, IsTrue, arith, eq-eqb, nat_lt, if◌then◌else◌, count_by, drop, filter, get_or, has_key, is_some, list_any}
-use Rattle.zl_rights.proofs.Common.{map-append, slice_get, take, take_more, length-append, append_assoc, cases_Bool, eqb-true, false≢true, or_left, or_right}
-use Rattle.zl_rights.proofs.Common.{nat_tests, none-some, same_Some, Map, get, update, without}
-use Rattle.std.proofs.lemmas.Bool.{or_cases, or_parts}
-use Rattle.std.proofs.lemmas.List.Concat.{flat_map-cons}
-use Rattle.std.specs.Option.{option_to_list}
-use Rattle.zl_rights.specs.declared.entry.Entry.{Entry}
-use Rattle.zl_rights.specs.World.{Message}
-use Rattle.zl_table.proofs.MapEdits.{is_sorted-update, sorted_without}
-use Rattle.zl_objects.specs.declared.object.Body.{Body}
+use Rattle.zl_objects.proofs.Common.{AreKeptBut, AreSameButWaits, Entry, IsTrue, LetsGo, List, Map, Message, None, Object, Option, Some, Thins, ap}
+use Rattle.zl_objects.proofs.Common.{append_assoc, arith, budget, cases_Bool, cond, count_by, drop, ending_waits, eq-eqb, eqb-true, false, false≢true, filter}
+use Rattle.zl_objects.proofs.Common.{flat_map-cons, get, get_or, goes, has_key, held_once_less, if◌then◌else◌, inl, inr, is_child, is_kept, is_koid, is_last}
+use Rattle.zl_objects.proofs.Common.{is_named, is_some, is_sorted-update, is_unkept, keeper_of, koids_of, left_at, length, length-append, let_go, list_any}
+use Rattle.zl_objects.proofs.Common.{map-append, named_in, nat_lt, nat_tests, none-some, option_to_list, or_cases, or_left, or_parts, or_right, queue_of, refl}
+use Rattle.zl_objects.proofs.Common.{same_Some, slice_get, sorted_without, stays_alone, sym, take, take_more, true, unkept_at, update, waits_end, without, ℕ}
+use Rattle.zl_objects.proofs.Common.{◌++◌, ◌+◌, ◌<◌, ◌==◌, ◌||◌, ◌∙◌, ◌∷◌, ◌≡◌, ◌≤◌, ◌⊎◌, []}
 use Rattle.zl_objects.specs.declared.object.Body.TheVariants as body
-use Rattle.zl_objects.specs.declared.object.Object.{Object}
-use Rattle.zl_objects.specs.Objects.{held_once_less, is_child, is_kept, is_koid, keeper_of, queue_of, stays_alone}
-use Rattle.zl_objects.specs.Release.{koids_of, named_in, let_go, goes, waits_end, AreKeptBut}
-use Rattle.zl_objects.specs.Dying.{is_last, is_named, is_unkept, budget, left_at, unkept_at, LetsGo, Thins}
-use Rattle.zl_objects.specs.Waits.{AreSameButWaits, ending_waits}
 use Rattle.zl_objects.proofs.Bare.{has_same, length_same, named_same, still_kept}
 use Rattle.zl_objects.proofs.Ending.{ending_bare, ending_gone, ending_places, ending_thins}
 use Rattle.zl_objects.proofs.Places.{places_updated}
@@ -364,8 +355,3 @@ message_went (x ∷ q) q2 first es there rest handles m m2 m3 d d2 d3 front behi
     let is : es ≡ x.handles = handles ∙ ap (λ (y : Message). y.handles) (sym same) in
     let left : q2 ≡ q = rest in
     rw (flat_map-cons (λ (y : Message). koids_of y.handles) x q, ← is, ← left) (both_went (koids_of es) (named_in q2) m m2 m3 d d2 d3 front behind)
-
--- an object without a queue
-pub no_queue : (b : Body) → ((peer : ℕ) (queue : List Message) → b ≡ body.ChannelEnd peer queue → ⊥) → queue_of b ≡ []
-no_queue (body.ChannelEnd peer queue) none = absurd (none peer queue refl)
-no_queue _ none = refl

@@ -1,10 +1,7 @@
 -- What std's map from koids holds after a read or a write, in the words of the definitions.
-use Rattle.zl_rights.proofs.Common.{◌≡◌, ◌<◌, ◌==◌, ℕ, true, false, [], ◌∷◌, ◌++◌, refl, sym, ap, ◌∙◌, cond, Some, None, arith, eq-eqb, IsTrue}
-use Rattle.zl_rights.proofs.Common.{is_some, nat_cmp, nat_tests, Map, get, put, update, without, has_key}
-use Rattle.std.specs.Cmp.{unsigned_tied}
-use Rattle.std.specs.Map.{lookup, set_value, remove_entry}
-use Rattle.std.specs.BTreeMap.{is_at, insert_entry}
-use Rattle.zl_table.proofs.MapEdits.{update_missing}
+use Rattle.zl_objects.proofs.Common.{IsTrue, Map, None, Some, [], ap, arith, cond, eq-eqb, false, get, has_key, insert_entry, is_at, is_some, lookup, nat_cmp}
+use Rattle.zl_objects.proofs.Common.{nat_tests, put, refl, remove_entry, set_value, sym, true, unsigned_tied, update, update_missing, without, ℕ, ◌++◌, ◌<◌}
+use Rattle.zl_objects.proofs.Common.{◌==◌, ◌∙◌, ◌∷◌, ◌≡◌}
 
 -- a key above all others goes to the end
 pub put_last : {X : Type 0} (m : Map X) (k : ℕ) (v : X) → ((j : ℕ) → IsTrue (has_key m j) → j < k) → put m k v ≡ m ++ (k, v) ∷ []

@@ -1,29 +1,14 @@
 -- What comes on at the objects when one of them is written, and that nothing is due at an object that isn't marked.
-use Rattle.zl_rights.proofs.Common.{◌≡◌, ◌≤◌, ◌==◌, ◌||◌, ◌⊎◌, ℕ, Bool, true, false, not, List, [], ◌∷◌, refl, sym, ap, ◌∙◌, Option, Some, None, inl, inr}
-use Rattle.zl_rights.proofs.Common.{IsTrue, arith, eqb-true, list_any, bit_and, cases_Bool, false≢true, is_empty}
-use Rattle.zl_rights.proofs.Common.{Map, get, update}
-use Rattle.std.specs.Prelude.{bit_or, min, max}
+use Rattle.zl_objects.proofs.Common.{All-weaker, Awaited, Body, Bool, IsAtRest, IsCalm, IsTrue, List, Map, NO_JOBS, NO_PROCESSES, None, NoneHolds, Object}
+use Rattle.zl_objects.proofs.Common.{Option, Sleeper, Some, TERMINATED, Watch, [], above_of, ap, arith, bit_and, bit_or, cases_Bool, eqb-true, false}
+use Rattle.zl_objects.proofs.Common.{false≢true, get, has_job_below, has_key-update, has_packet, has_process_below, holds, implied, inl, inr, is_due, is_empty}
+use Rattle.zl_objects.proofs.Common.{is_given, is_job_below, is_process_below, is_watched, koid_of, list_any, max, meets, min, not, peer_of, refl, signal_if}
+use Rattle.zl_objects.proofs.Common.{signals_at, signals_in, sym, true, update, ℕ, ◌==◌, ◌||◌, ◌∙◌, ◌∷◌, ◌≡◌, ◌≤◌, ◌⊎◌}
 use Rattle.std.specs.Int.{bit_at}
 use Rattle.std.proofs.lemmas.Nat.{and_le_l, le_or_l, le_or_r}
 use Rattle.std.proofs.lemmas.Nat.Bits.{same_from_bits, bit_at_and, bit_at_or}
-use Rattle.std.proofs.lemmas.List.Elements.{All-weaker}
-use Rattle.zl_rights.specs.Numbers.{meets, NO_JOBS, NO_PROCESSES, TERMINATED}
-use Rattle.zl_rights.specs.Signals.{signal_if}
-use Rattle.zl_table.proofs.MapEdits.{has_key-update}
-use Rattle.zl_signals.specs.declared.watch.Watch.{Watch}
-use Rattle.zl_signals.specs.Waits.{holds}
-use Rattle.zl_objects.specs.declared.awaited.Awaited.{Awaited}
 use Rattle.zl_objects.specs.declared.awaited.Awaited.TheVariants as awaits
-use Rattle.zl_objects.specs.declared.awaited.Sleeper.{Sleeper}
-use Rattle.zl_objects.specs.declared.object.Body.{Body}
 use Rattle.zl_objects.specs.declared.object.Body.TheVariants as body
-use Rattle.zl_objects.specs.declared.object.Object.{Object}
-use Rattle.zl_objects.specs.Awaited.{koid_of}
-use Rattle.zl_objects.specs.Calm.{IsAtRest, IsCalm, NoneHolds, has_packet, is_due, is_given, is_watched}
-use Rattle.zl_objects.specs.Index.{above_of}
-use Rattle.zl_objects.specs.Jobs.{has_job_below, has_process_below, is_job_below, is_process_below}
-use Rattle.zl_objects.specs.Objects.{peer_of}
-use Rattle.zl_objects.specs.Signals.{implied, signals_at, signals_in}
 use Rattle.zl_objects.proofs.Bodies.{Changed, changed}
 
 -- where a process may be blocked, one still may

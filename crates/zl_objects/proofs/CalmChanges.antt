@@ -1,38 +1,18 @@
 -- Nothing is due at an object that isn't marked, after each change of the objects.
-use Rattle.zl_rights.proofs.Common.{◌≡◌, ◌+◌, ◌==◌, ◌||◌, ◌&&◌, ℕ, Bool, true, false, not, List, [], ◌∷◌, refl, sym, ap, ◌∙◌, Some}
-use Rattle.zl_rights.proofs.Common.{inl, IsTrue, arith, eq-eqb, drop, filter, list_any, nat_lt, nat_cmp, false≢true}
-use Rattle.zl_rights.proofs.Common.{if◌then◌else◌, is_empty, same_Some, Map, get, update, has_key}
-use Rattle.std.specs.Prelude.{◌^◌, bit_or, Result, Ok, Err, OnOk, OnErr}
-use Rattle.std.specs.Map.{lookup, set_value}
-use Rattle.std.specs.BTreeMap.{is_at}
+use Rattle.zl_objects.proofs.Common.{Body, Bool, Condition, Err, IsCalm, IsTrue, List, Map, Message, Object, Ok, OnErr, OnOk, PEER_CLOSED, Packet, Port}
+use Rattle.zl_objects.proofs.Common.{READABLE, Result, SignalState, Sleeper, Some, StayStill, TERMINATED, WRITABLE, Watch, [], above_of, ap, arith, at_port}
+use Rattle.zl_objects.proofs.Common.{bit_or, changed_port, drop, eq-eqb, false, false≢true, filter, get, get-update, has_key, has_packet, held_once_less}
+use Rattle.zl_objects.proofs.Common.{held_once_more, if◌then◌else◌, implied, inl, is_alive, is_at, is_empty, is_job_below, is_process_below, is_watched}
+use Rattle.zl_objects.proofs.Common.{is_watched_in, list_any, lookup, nat_cmp, nat_lt, not, packets_of, peer_of, raised_changed, received, received_body, refl}
+use Rattle.zl_objects.proofs.Common.{same_Some, sent, sent_body, set_value, signal_if, signals_in, started, started_body, started_life, sym, true, unwatched}
+use Rattle.zl_objects.proofs.Common.{update, waits_in, watched, with_policy_body, with_policy_set, without_first, ℕ, ◌&&◌, ◌+◌, ◌==◌, ◌^◌, ◌||◌, ◌∙◌, ◌∷◌, ◌≡◌}
 use Rattle.zl_rights.specs.declared.policy.Action.{Action}
-use Rattle.zl_rights.specs.declared.policy.Condition.{Condition}
-use Rattle.zl_rights.specs.Numbers.{READABLE, WRITABLE, PEER_CLOSED, TERMINATED}
-use Rattle.zl_rights.specs.Signals.{signal_if}
-use Rattle.zl_rights.specs.World.{Message, Packet}
-use Rattle.zl_rights.proofs.MapLaws.{get-update}
-use Rattle.zl_signals.specs.declared.watch.Watch.{Watch}
-use Rattle.zl_signals.specs.Waits.{SignalState, without_first}
-use Rattle.zl_port.specs.Packets.{Port}
-use Rattle.zl_objects.specs.declared.awaited.Sleeper.{Sleeper}
-use Rattle.zl_objects.specs.declared.object.Body.{Body}
 use Rattle.zl_objects.specs.declared.object.Body.TheVariants as body
 use Rattle.zl_objects.specs.declared.object.Life.{Life}
 use Rattle.zl_objects.specs.declared.object.Life.TheVariants as life
-use Rattle.zl_objects.specs.declared.object.Object.{Object}
-use Rattle.zl_objects.specs.Calm.{IsCalm, StayStill, has_packet, is_watched, is_watched_in}
-use Rattle.zl_objects.specs.Index.{above_of}
-use Rattle.zl_objects.specs.Jobs.{is_job_below, is_process_below, with_policy_body, with_policy_set}
-use Rattle.zl_objects.specs.Objects.{held_once_less, held_once_more, is_alive, raised_changed, received, received_body, sent, sent_body, started, started_body}
-use Rattle.zl_objects.specs.Objects.{peer_of, started_life}
-use Rattle.zl_objects.specs.Ports.{at_port, changed_port, packets_of}
-use Rattle.zl_objects.specs.Signals.{implied, signals_in}
-use Rattle.zl_objects.specs.Waits.{unwatched, waits_in, watched}
 use Rattle.zl_objects.proofs.ByKoid.{looked_up, written, written_back}
-use Rattle.zl_objects.proofs.Calm.{IsFewer, Keeps, Stays, calm_followed, fewer_both, fewer_if, fewer_same, fewer_unmarked, stays_fewer}
-use Rattle.zl_objects.proofs.Calm.{stays_unwatched}
-use Rattle.zl_objects.proofs.Calm.{updated_calm}
-use Rattle.zl_objects.proofs.Calm.{StayAsleep, as_asleep}
+use Rattle.zl_objects.proofs.Calm.{IsFewer, Keeps, Stays, calm_followed, fewer_both, fewer_if, fewer_same, fewer_unmarked, stays_fewer, stays_unwatched}
+use Rattle.zl_objects.proofs.Calm.{updated_calm, StayAsleep, as_asleep}
 use Rattle.zl_objects.proofs.Places.{first_out, seen_updated}
 use Rattle.zl_objects.proofs.Tasks.{policy_same, started_same}
 use Rattle.zl_objects.proofs.Whole.{more_quiet, more_same, received_same, same_above, same_peer, sent_same}

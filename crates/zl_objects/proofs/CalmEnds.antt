@@ -1,15 +1,8 @@
 -- Nothing comes to be due at an object that isn't marked, where a process ends, or it or a job is killed.
-use Rattle.zl_rights.proofs.Common.{◌≡◌, ◌==◌, ◌⊎◌, ℕ, Bool, true, false, refl, sym, ap, ◌∙◌, subst, Option, Some, None, inl, inr, IfSome, IsTrue, arith}
-use Rattle.zl_rights.proofs.Common.{eqb-true, if◌then◌else◌, list_any, nat_cmp, same_Some, cases_Bool, false≢true, Map, get, update}
-use Rattle.std.specs.Prelude.{bit_or}
-use Rattle.std.specs.Map.{lookup}
-use Rattle.std.specs.BTreeMap.{is_at}
-use Rattle.zl_objects.specs.declared.object.Body.{Body}
-use Rattle.zl_objects.specs.declared.object.Object.{Object}
-use Rattle.zl_objects.specs.Calm.{KeepsCalm, has_packet, is_watched, is_watched_in}
-use Rattle.zl_objects.specs.Jobs.{is_job_below, is_process_below, killed_if}
-use Rattle.zl_objects.specs.Objects.{is_child, is_koid, keeper_of}
-use Rattle.zl_objects.specs.Signals.{signals_at}
+use Rattle.zl_objects.proofs.Common.{Body, Bool, IfSome, IsTrue, KeepsCalm, Map, None, Object, Option, Some, ap, arith, bit_or, cases_Bool, eqb-true, false}
+use Rattle.zl_objects.proofs.Common.{false≢true, get, has_packet, if◌then◌else◌, inl, inr, is_at, is_child, is_job_below, is_koid, is_process_below, is_watched}
+use Rattle.zl_objects.proofs.Common.{is_watched_in, keeper_of, killed_if, list_any, lookup, nat_cmp, refl, same_Some, signals_at, subst, sym, true, update, ℕ}
+use Rattle.zl_objects.proofs.Common.{◌==◌, ◌∙◌, ◌≡◌, ◌⊎◌}
 use Rattle.zl_objects.proofs.Bodies.{Changed, changed}
 use Rattle.zl_objects.proofs.ByKoid.{looked_up}
 use Rattle.zl_objects.proofs.Calm.{Follows, Stays, as_asleep, calm_followed, fewer_same, fewer_unmarked, implied_updated, stays_fewer, stays_unwatched}

@@ -1,26 +1,12 @@
 -- Nothing is due at an object that isn't marked, once objects were made, or taken back, or processes are blocked.
-use Rattle.zl_rights.proofs.Common.{◌≡◌, ◌<◌, ◌≤◌, ◌+◌, ◌==◌, ◌||◌, ◌⊎◌, ◌++◌, ℕ, Bool, true, false, not, List, [], ◌∷◌, refl, sym, ap, ◌∙◌, Option, Some}
-use Rattle.zl_rights.proofs.Common.{None, inl, inr, IsTrue, arith, eq-eqb, eqb-true, nat_tests, filter, list_any, nat_cmp, cases_Bool, false≢true, or_left}
-use Rattle.zl_rights.proofs.Common.{or_right}
-use Rattle.zl_rights.proofs.Common.{if◌then◌else◌, none-some, same_Some, Map, get, put, update, has_key, All, map}
-use Rattle.std.specs.BTreeMap.{insert_entry}
-use Rattle.std.proofs.lemmas.List.Elements.{All-nil, All-weaker}
-use Rattle.zl_rights.specs.Numbers.{NO_JOBS, NO_PROCESSES, TERMINATED}
-use Rattle.zl_rights.specs.Signals.{signal_if}
+use Rattle.zl_objects.proofs.Common.{All, All-nil, All-weaker, Body, Bool, HasPeer, IsAtRest, IsCalm, IsTrue, List, Map, NO_JOBS, NO_PROCESSES, None, NoneHolds}
+use Rattle.zl_objects.proofs.Common.{Object, Option, Pair, Sleeper, Some, TERMINATED, [], ap, arith, cases_Bool, eq-eqb, eqb-true, false, false≢true, filter}
+use Rattle.zl_objects.proofs.Common.{get, get-put, has_job_below, has_key, has_process_below, holds_now, if◌then◌else◌, implied, inl, inr, insert_entry, is_due}
+use Rattle.zl_objects.proofs.Common.{is_job_below, is_process_below, is_watched, list_any, map, nat_cmp, nat_tests, none-some, not, or_left, or_right, peer_of}
+use Rattle.zl_objects.proofs.Common.{put, refl, same_Some, signal_if, signals_at, signals_in, slept, sym, true, update, wait_at, waits_in, ℕ, ◌++◌, ◌+◌, ◌<◌}
+use Rattle.zl_objects.proofs.Common.{◌==◌, ◌||◌, ◌∙◌, ◌∷◌, ◌≡◌, ◌≤◌, ◌⊎◌}
 use Rattle.zl_rights.specs.World.{Wait}
-use Rattle.zl_rights.proofs.MapLaws.{get-put}
-use Rattle.zl_signals.specs.Waits.{wait_at}
-use Rattle.zl_objects.specs.declared.awaited.Sleeper.{Sleeper}
-use Rattle.zl_objects.specs.declared.object.Body.{Body}
 use Rattle.zl_objects.specs.declared.object.Body.TheVariants as body
-use Rattle.zl_objects.specs.declared.object.Object.{Object}
-use Rattle.zl_objects.specs.declared.object.Pair.{Pair}
-use Rattle.zl_objects.specs.Calm.{IsAtRest, IsCalm, NoneHolds, holds_now, is_due, is_watched, slept}
-use Rattle.zl_objects.specs.Dying.{HasPeer}
-use Rattle.zl_objects.specs.Jobs.{has_job_below, has_process_below, is_job_below, is_process_below}
-use Rattle.zl_objects.specs.Objects.{peer_of}
-use Rattle.zl_objects.specs.Signals.{implied, signals_at, signals_in}
-use Rattle.zl_objects.specs.Waits.{waits_in}
 use Rattle.zl_objects.proofs.Listed.{AreSeen}
 use Rattle.zl_objects.proofs.ByKoid.{inserted, put_last}
 use Rattle.zl_objects.proofs.Calm.{Follows, IsFewer, IsNew, Keeps, calm_followed, fewer_both, fewer_if, none_given, stays_fewer, stays_unwatched}

@@ -1,7 +1,6 @@
 -- Going up from job to job.
-use Rattle.zl_rights.proofs.Common.{◌≡◌, ◌≢◌, ◌<◌, ◌≤◌, ◌+◌, ◌-◌, ◌==◌, ◌||◌, ℕ, zero, suc, true, false, refl, sym, ap, ◌∙◌, arith, eq-eqb, ne_eqb, Map}
-use Rattle.zl_objects.specs.declared.object.Object.{Object}
-use Rattle.zl_objects.specs.Jobs.{parent_at, is_below_by}
+use Rattle.zl_objects.proofs.Common.{Map, Object, ap, arith, eq-eqb, false, is_below_by, ne_eqb, parent_at, refl, suc, sym, true, zero, ℕ, ◌+◌, ◌-◌, ◌<◌, ◌==◌}
+use Rattle.zl_objects.proofs.Common.{◌||◌, ◌∙◌, ◌≡◌, ◌≢◌, ◌≤◌}
 
 -- one level up, where i of the 16 are done
 one_up : (m : Map Object) (job i k : ℕ) → i < 16 → is_below_by m job (16 - i) k ≡ ((parent_at m k == job) || is_below_by m job (16 - (i + 1)) (parent_at m k))

@@ -1,29 +1,15 @@
 -- What stands below a task is listed, and a kill and a sweep look at no more.
-use Rattle.zl_rights.proofs.Common.{◌≡◌, ◌<◌, ◌≤◌, ◌==◌, ◌||◌, ◌&&◌, ◌⊎◌, ◌++◌, ℕ, Bool, zero, suc, true, false, not, List, [], ◌∷◌, refl, sym, ap, ◌∙◌}
-use Rattle.zl_rights.proofs.Common.{Option, Some, None, inl, inr, IsTrue, arith, and_from, and_parts, eq-eqb, eqb-true, cases_Bool, false≢true, none-some}
-use Rattle.zl_rights.proofs.Common.{nat_cmp, nat_lt, nat_tests, is_sorted, below_all, or_left, or_right, Map, each, get, has_key, update, option_map}
-use Rattle.zl_rights.proofs.Common.{append-nil, if◌then◌else◌, same_Some, subst}
-use Rattle.std.specs.Prelude.{◌-◌, ◌^◌}
-use Rattle.std.specs.BTreeMap.Range.{IsInRange}
-use Rattle.std.specs.BTreeSet.{IsKeyRangeOf, contains}
-use Rattle.std.specs.Cmp.{unsigned_tied}
+use Rattle.zl_objects.proofs.Common.{AreKeptBut, Body, Bool, Children, HasBelow, HasTask, IsInRange, IsIndexed, IsKeyRangeOf, IsListedNext, IsNextListed}
+use Rattle.zl_objects.proofs.Common.{IsPermutation, IsTrue, LetsGo, List, Map, None, Object, Option, Some, [], all_killed, all_koids, and_from, and_parts, ap}
+use Rattle.zl_objects.proofs.Common.{append-nil, arith, below_all, below_parts, budget, cases_Bool, contains, each, eq-eqb, eqb-true, false, false≢true, get}
+use Rattle.zl_objects.proofs.Common.{get-each, has_key, has_living_child, if◌then◌else◌, inl, inr, is_among, is_below_by, is_child, is_kept, is_sorted}
+use Rattle.zl_objects.proofs.Common.{is_under, is_within, killed, killed_among, killed_body, killed_if, list_any-append, lists, looked_at, nat_cmp, nat_lt}
+use Rattle.zl_objects.proofs.Common.{nat_tests, none-some, none_left, not, option_map, or_cases, or_left, or_right, pair_cmp, parent_at, parent_in, parent_of}
+use Rattle.zl_objects.proofs.Common.{refl, same_Some, sorted_parts, stays_alone, subst, suc, sym, true, unsigned_tied, update, zero, ℕ, ◌&&◌, ◌++◌, ◌-◌, ◌<◌}
+use Rattle.zl_objects.proofs.Common.{◌==◌, ◌^◌, ◌||◌, ◌∙◌, ◌∷◌, ◌≡◌, ◌≤◌, ◌⊎◌}
 use Rattle.std.specs.declared.ops.Bound.TheVariants.{Excluded, Included}
-use Rattle.std.proofs.lemmas.Bool.{or_cases}
-use Rattle.std.proofs.lemmas.List.Folds.{list_any-append}
 use Rattle.std.proofs.lemmas.List.Sorted.{list_any-IsPermutation}
-use Rattle.std.specs.List.Sorted.{IsPermutation}
-use Rattle.zl_rights.proofs.MapLaws.{get-each}
-use Rattle.zl_table.proofs.MapEdits.{below_parts, sorted_parts}
-use Rattle.zl_objects.specs.declared.children.Children.{Children}
-use Rattle.zl_objects.specs.declared.object.Body.{Body}
 use Rattle.zl_objects.specs.declared.object.Body.TheVariants as body
-use Rattle.zl_objects.specs.declared.object.Object.{Object}
-use Rattle.zl_objects.specs.Below.{HasBelow, HasTask, IsListedNext, IsNextListed, is_among, killed_among, looked_at}
-use Rattle.zl_objects.specs.Dying.{LetsGo, budget}
-use Rattle.zl_objects.specs.Index.{IsIndexed, is_under, lists, pair_cmp}
-use Rattle.zl_objects.specs.Jobs.{all_killed, is_below_by, is_within, killed, killed_body, killed_if, parent_at, parent_in, parent_of}
-use Rattle.zl_objects.specs.Objects.{has_living_child, is_child, is_kept, stays_alone}
-use Rattle.zl_objects.specs.Release.{AreKeptBut, all_koids, none_left}
 use Rattle.zl_objects.proofs.Budget.{thin_then}
 use Rattle.zl_objects.proofs.Found.{Found, any_at, any_found}
 use Rattle.zl_objects.proofs.Index.{child_under, sorted_each}

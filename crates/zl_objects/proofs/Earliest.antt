@@ -1,18 +1,9 @@
 -- The earliest registered wait that holds is found from the objects at which one may.
-use Rattle.zl_rights.proofs.Common.{◌≡◌, ◌≤◌, ◌==◌, ◌&&◌, ◌||◌, ℕ, Bool, true, false, List, [], ◌∷◌, refl, sym, ap, ◌∙◌, Option, Some, None}
-use Rattle.zl_rights.proofs.Common.{inl, inr, IsTrue, arith, eq-eqb, eqb-true, nat_le, nat_tests, map, find, list_any, option_map, cases_Bool, false≢true}
-use Rattle.zl_rights.proofs.Common.{none-some, same_Some, if◌then◌else◌, Map, get, take}
-use Rattle.std.specs.Prelude.{IfSome}
+use Rattle.zl_objects.proofs.Common.{AreListed, Bool, IfSome, IsTrue, List, Listed, Map, None, NoneHolds, Object, Option, Some, Watch, [], ap, arith}
+use Rattle.zl_objects.proofs.Common.{cases_Bool, earlier, earliest_from, eq-eqb, eqb-true, false, false≢true, find, get, holds, holds_now, if◌then◌else◌, inl}
+use Rattle.zl_objects.proofs.Common.{inr, is_entry_due, list_any, listed_at, listed_value, map, nat_le, nat_tests, next_in, none-some, option_map, order_at}
+use Rattle.zl_objects.proofs.Common.{refl, same_Some, signals_at, sym, take, true, waits_in, ℕ, ◌&&◌, ◌==◌, ◌||◌, ◌∙◌, ◌∷◌, ◌≡◌, ◌≤◌}
 use Rattle.zl_rights.specs.World.{Wait}
-use Rattle.zl_signals.specs.declared.watch.Watch.{Watch}
-use Rattle.zl_signals.specs.Waits.{holds}
-use Rattle.zl_objects.specs.declared.object.Object.{Object}
-use Rattle.zl_objects.specs.declared.wait.Listed.{Listed}
-use Rattle.zl_objects.specs.Calm.{NoneHolds, holds_now}
-use Rattle.zl_objects.specs.Due.{earlier, earliest_from, is_entry_due, order_at}
-use Rattle.zl_objects.specs.Listed.{AreListed, listed_at, listed_value}
-use Rattle.zl_objects.specs.Signals.{signals_at}
-use Rattle.zl_objects.specs.Waits.{next_in, waits_in}
 use Rattle.zl_objects.proofs.Listed.{found_listed}
 use Rattle.zl_objects.proofs.Lists.{any_taken, find_map}
 use Rattle.zl_objects.proofs.Rising.{Rises, earliest_of_both, first_of_both, none_of_both}

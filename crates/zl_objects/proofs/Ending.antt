@@ -1,22 +1,11 @@
 -- The waits that end with an object that goes: its own, and those that give their packets to it.
-use Rattle.zl_rights.proofs.Common.{◌≡◌, ◌+◌, ◌<◌, ◌⊎◌, ℕ, Bool, true, false, not, ◌==◌, ◌||◌, List, [], ◌∷◌, drop, filter, length, refl, sym, ap, ◌∙◌, subst}
-use Rattle.zl_rights.proofs.Common.{Option, Some, None, inl, inr, IsTrue, arith, eq-eqb, nat_lt, if◌then◌else◌, list_any, option_map, slice_get, count_by}
-use Rattle.zl_rights.proofs.Common.{cond, sum_by, sum_by-cons, cases_Bool, eqb-true, false≢true, none-some, same_Some, nat_tests, Map, get, has_key}
-use Rattle.zl_rights.proofs.Common.{each, is_empty, update, without}
-use Rattle.std.proofs.lemmas.Bool.{or_parts}
-use Rattle.std.specs.Prelude.{◌-◌}
-use Rattle.zl_rights.proofs.MapLaws.{get-each, get-update}
-use Rattle.zl_table.proofs.MapEdits.{get-without}
-use Rattle.zl_signals.specs.declared.watch.Watch.{Watch}
-use Rattle.zl_signals.specs.Waits.{is_at_port}
-use Rattle.zl_port.specs.Packets.{without_place}
-use Rattle.zl_objects.specs.declared.object.Body.{Body}
+use Rattle.zl_objects.proofs.Common.{AreSameButWaits, Body, Bool, HavePlaces, HaveSameWaits, IsTrue, List, Map, None, Object, Option, Some, Thins, Watch, []}
+use Rattle.zl_objects.proofs.Common.{ap, arith, at_port, bare, cases_Bool, changed_port, cond, count_by, drop, each, ending_port, ending_waits, ends_waits}
+use Rattle.zl_objects.proofs.Common.{eq-eqb, eqb-true, false, false≢true, filter, get, get-each, get-update, get-without, giving_back, has_key, if◌then◌else◌}
+use Rattle.zl_objects.proofs.Common.{inl, inr, is_at_port, is_empty, length, list_any, nat_lt, nat_tests, none-some, not, option_map, or_parts, refl}
+use Rattle.zl_objects.proofs.Common.{reserved_in, reserved_of, same_Some, slice_get, subst, sum_by, sum_by-cons, sym, true, unreserved, update, waits_at}
+use Rattle.zl_objects.proofs.Common.{waits_for, waits_in, without, without_place, without_port_waits, ℕ, ◌+◌, ◌-◌, ◌<◌, ◌==◌, ◌||◌, ◌∙◌, ◌∷◌, ◌≡◌, ◌⊎◌}
 use Rattle.zl_objects.specs.declared.object.Body.TheVariants as body
-use Rattle.zl_objects.specs.declared.object.Object.{Object}
-use Rattle.zl_objects.specs.Dying.{Thins}
-use Rattle.zl_objects.specs.Ports.{at_port, changed_port, reserved_in, reserved_of, unreserved}
-use Rattle.zl_objects.specs.Waits.{AreSameButWaits, HavePlaces, HaveSameWaits, bare, ending_port, ending_waits, ends_waits, giving_back, waits_at}
-use Rattle.zl_objects.specs.Waits.{waits_for, waits_in, without_port_waits}
 use Rattle.zl_objects.proofs.Bodies.{Changed, changed, found_left}
 use Rattle.zl_objects.proofs.Sums.{sum_same, sum_taken, sum_updated}
 

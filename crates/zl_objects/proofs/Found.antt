@@ -1,8 +1,7 @@
 -- Tests of a map in order, and what get finds.
-use Rattle.zl_rights.proofs.Common.{◌≡◌, ℕ, Bool, true, false, ◌||◌, ◌==◌, ◌⊎◌, [], ◌∷◌, refl, sym, ap, ◌∙◌, Some, None, inl, inr, IsTrue, eq-eqb, list_any}
-use Rattle.zl_rights.proofs.Common.{nat_cmp, is_sorted, below_all, cases_Bool, eqb-true, false≢true, or_left, or_right, none-some, same_Some, Map, get}
-use Rattle.std.proofs.lemmas.Bool.{or_cases}
-use Rattle.zl_table.proofs.MapEdits.{sorted_parts, without_lower, get-without}
+use Rattle.zl_objects.proofs.Common.{Bool, IsTrue, Map, None, Some, [], ap, below_all, cases_Bool, eq-eqb, eqb-true, false, false≢true, get, get-without, inl}
+use Rattle.zl_objects.proofs.Common.{inr, is_sorted, list_any, nat_cmp, none-some, or_cases, or_left, or_right, refl, same_Some, sorted_parts, sym, true}
+use Rattle.zl_objects.proofs.Common.{without_lower, ℕ, ◌==◌, ◌||◌, ◌∙◌, ◌∷◌, ◌≡◌, ◌⊎◌}
 
 -- an entry that passes
 pub record Found {X : Type 0} (test : ℕ × X → Bool) (m : Map X) : Type 0 where

@@ -1,28 +1,14 @@
 -- Nothing comes to be due at an object that isn't marked, where others have gone.
-use Rattle.zl_rights.proofs.Common.{◌≡◌, ◌==◌, ℕ, Bool, false, not, refl, sym, ap, ◌∙◌, Some, inl, inr}
-use Rattle.zl_rights.proofs.Common.{arith, eqb-true, list_any, is_empty, cases_Bool, false≢true, same_Some, Map, get, has_key}
-use Rattle.zl_rights.proofs.Common.{IfSome, IsTrue, without}
-use Rattle.std.specs.Prelude.{bit_or}
-use Rattle.zl_rights.specs.Numbers.{NO_JOBS, NO_PROCESSES, TERMINATED}
-use Rattle.zl_rights.specs.Signals.{signal_if}
-use Rattle.zl_table.proofs.MapEdits.{get-without}
-use Rattle.zl_objects.specs.declared.object.Body.{Body}
+use Rattle.zl_objects.proofs.Common.{AreSameButWaits, Body, Bool, Children, IfSome, IsIndexed, IsTrue, KeepsCalm, Map, NO_JOBS, NO_PROCESSES, Object, Some}
+use Rattle.zl_objects.proofs.Common.{TERMINATED, Thins, ap, arith, bit_or, cases_Bool, ending_waits, eqb-true, false, false≢true, get, get-without}
+use Rattle.zl_objects.proofs.Common.{has_job_below, has_key, has_packet, has_process_below, implied, inl, inr, is_child, is_empty, is_job_below}
+use Rattle.zl_objects.proofs.Common.{is_process_below, is_watched, is_watched_in, keeper_of, list_any, not, packets_of, peer_of, refl, same_Some, signal_if}
+use Rattle.zl_objects.proofs.Common.{signals_at, sym, unreserved, without, ℕ, ◌==◌, ◌∙◌, ◌≡◌}
 use Rattle.zl_objects.specs.declared.object.Body.TheVariants as body
-use Rattle.zl_objects.specs.declared.object.Object.{Object}
-use Rattle.zl_objects.specs.Calm.{KeepsCalm, has_packet, is_watched, is_watched_in}
-use Rattle.zl_objects.specs.Dying.{Thins}
-use Rattle.zl_objects.specs.Index.{IsIndexed}
-use Rattle.zl_objects.specs.declared.children.Children.{Children}
-use Rattle.zl_objects.specs.Jobs.{has_job_below, has_process_below, is_job_below, is_process_below}
-use Rattle.zl_objects.specs.Objects.{is_child, keeper_of, peer_of}
-use Rattle.zl_objects.specs.Ports.{packets_of, unreserved}
-use Rattle.zl_objects.specs.Signals.{implied, signals_at}
-use Rattle.zl_objects.specs.Waits.{AreSameButWaits, ending_waits}
 use Rattle.zl_objects.proofs.Bare.{IsAlike, alike, any_same, has_same, of_body}
 use Rattle.zl_objects.proofs.Bodies.{any_without_at, found_left}
 use Rattle.zl_objects.proofs.CalmEnds.{of_keeper}
-use Rattle.zl_objects.proofs.Calm.{as_asleep}
-use Rattle.zl_objects.proofs.Calm.{Follows, Stays, calm_followed, fewer_same, fewer_unmarked, stays_fewer, stays_unwatched}
+use Rattle.zl_objects.proofs.Calm.{as_asleep, Follows, Stays, calm_followed, fewer_same, fewer_unmarked, stays_fewer, stays_unwatched}
 use Rattle.zl_objects.proofs.Ending.{ending_bare, ending_gone, ending_thins}
 use Rattle.zl_objects.proofs.Index.{job_is_child, process_is_child}
 

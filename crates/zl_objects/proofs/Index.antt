@@ -1,36 +1,16 @@
 -- The index of what stands below jobs: what it finds, and that it fits the objects after each change.
-use Rattle.zl_rights.proofs.Common.{◌≡◌, ◌<◌, ◌≤◌, ◌+◌, ◌-◌, ◌^◌, ◌==◌, ◌&&◌, ◌||◌, ◌⊎◌, ℕ, Bool, true, false, not, List, [], ◌∷◌, refl, sym, ap, ◌∙◌}
-use Rattle.zl_rights.proofs.Common.{Option, Some, None, inl, inr, IsTrue, IfSome, OnOk, Result, Ok, Err, arith, and_parts, and_from, eqb-true, filter}
-use Rattle.zl_rights.proofs.Common.{list_any, nat_lt, nat_cmp, nat_tests, below_all, is_sorted, cases_Bool, false≢true, or_left, or_right, none-some, same_Some}
-use Rattle.zl_rights.proofs.Common.{eq-eqb, if◌then◌else◌, Map, each, get, has_key, option_map, put, update, without}
-use Rattle.std.specs.Prelude.{OnErr}
-use Rattle.std.specs.BTreeMap.{insert_entry, is_at}
-use Rattle.std.specs.BTreeMap.Range.{range_contains}
-use Rattle.std.specs.BTreeSet.{Updates, contains}
-use Rattle.std.specs.Cmp.{unsigned_tied}
+use Rattle.zl_objects.proofs.Common.{ArePaired, Body, Bool, Cascades, Children, Err, HasPeer, IfSome, IsIndexed, IsTrue, List, Map, None, Object, Ok, OnErr}
+use Rattle.zl_objects.proofs.Common.{OnOk, Option, OthersStayListed, Pair, Port, Result, Some, StayListed, Updates, Watch, [], above_of, all_killed, and_from}
+use Rattle.zl_objects.proofs.Common.{and_parts, any-filter_same, ap, arith, at_port, below_all, cases_Bool, contains, each, end_to, ending_waits, eq-eqb}
+use Rattle.zl_objects.proofs.Common.{eqb-true, false, false≢true, filter, get, get-each, get-put, goes, has_key, held_once_less, if◌then◌else◌, inl, inr}
+use Rattle.zl_objects.proofs.Common.{insert_entry, is_alive, is_at, is_child, is_end_body, is_job_below, is_koid, is_lt, is_process_below, is_sorted}
+use Rattle.zl_objects.proofs.Common.{is_sorted-update, is_under, is_within, killed, killed_if, let_go, list_any, list_any-weaker, lists, lookup, nat_cmp}
+use Rattle.zl_objects.proofs.Common.{nat_lt, nat_tests, none-some, none_left, not, option_map, or_cases, or_left, or_right, pair_cmp, passes_in, peer_of, put}
+use Rattle.zl_objects.proofs.Common.{range_contains, refl, same_Some, set_value, sorted_put, sorted_without, stopped, sym, true, unsigned_tied, unwatched}
+use Rattle.zl_objects.proofs.Common.{update, waits_end, without, ℕ, ◌&&◌, ◌+◌, ◌-◌, ◌<◌, ◌==◌, ◌^◌, ◌||◌, ◌∙◌, ◌∷◌, ◌≡◌, ◌≤◌, ◌⊎◌}
 use Rattle.std.specs.declared.ops.Bound.TheVariants.{Included}
-use Rattle.std.specs.Map.{lookup, set_value}
-use Rattle.std.specs.Ordering.{is_lt}
-use Rattle.std.proofs.lemmas.Bool.{or_cases}
-use Rattle.std.proofs.lemmas.Map.Views.{any-filter_same}
-use Rattle.zl_rights.proofs.MapLaws.{get-each, get-put}
-use Rattle.zl_rights.proofs.Settling.{list_any-weaker}
-use Rattle.zl_table.proofs.MapEdits.{is_sorted-update, sorted_put, sorted_without}
-use Rattle.zl_port.specs.Packets.{Port}
-use Rattle.zl_signals.specs.declared.watch.Watch.{Watch}
-use Rattle.zl_objects.specs.declared.children.Children.{Children}
-use Rattle.zl_objects.specs.declared.object.Body.{Body}
 use Rattle.zl_objects.specs.declared.object.Body.TheVariants as body
-use Rattle.zl_objects.specs.declared.object.Object.{Object}
-use Rattle.zl_objects.specs.declared.object.Pair.{Pair}
 use Rattle.zl_objects.specs.declared.object.Pair.TheVariants as pair
-use Rattle.zl_objects.specs.Dying.{HasPeer}
-use Rattle.zl_objects.specs.Index.{ArePaired, IsIndexed, OthersStayListed, StayListed, above_of, is_under, lists, pair_cmp, passes_in}
-use Rattle.zl_objects.specs.Jobs.{all_killed, is_job_below, is_process_below, is_within, killed, killed_if}
-use Rattle.zl_objects.specs.Objects.{end_to, held_once_less, is_alive, is_child, is_end_body, is_koid, peer_of, stopped}
-use Rattle.zl_objects.specs.Ports.{at_port}
-use Rattle.zl_objects.specs.Release.{Cascades, none_left, let_go, goes, waits_end}
-use Rattle.zl_objects.specs.Waits.{ending_waits, unwatched}
 use Rattle.zl_objects.proofs.Bare.{of_body, sorted_same}
 use Rattle.zl_objects.proofs.Bodies.{Changed, changed, found_left}
 use Rattle.zl_objects.proofs.ByKoid.{inserted, written, written_back}

@@ -1,25 +1,11 @@
 -- The invariant of the objects and of the list of all waits, after each change.
-use Rattle.zl_rights.proofs.Common.{◌≡◌, ◌≤◌, ◌+◌, ◌==◌, ◌&&◌, ℕ, Bool, false, List, [], ◌∷◌, ◌++◌, length, refl, sym, arith, ap, ◌∙◌, Some}
-use Rattle.zl_rights.proofs.Common.{None, IsTrue, map, not, option_map, cases_Bool, inl, inr, eqb-true}
-use Rattle.zl_rights.proofs.Common.{filter, find, nat_cmp, Map, get, update, has_key}
-use Rattle.std.specs.Prelude.{◌-◌, Result, OnOk, OnErr}
-use Rattle.std.specs.Map.{lookup, set_value}
-use Rattle.std.specs.BTreeMap.{is_at, insert_entry}
-use Rattle.zl_rights.specs.World.{Message, Wait as WaitValue}
-use Rattle.zl_table.proofs.MapEdits.{has_key-update}
-use Rattle.zl_signals.specs.declared.watch.Watch.{Watch}
-use Rattle.zl_signals.specs.Waits.{SignalState, wait_at, without_first}
-use Rattle.zl_port.specs.Packets.{Port, with_place}
-use Rattle.zl_objects.specs.declared.object.Pair.{Pair}
-use Rattle.zl_objects.specs.declared.object.Object.{Object}
-use Rattle.zl_objects.specs.declared.wait.Listed.{Listed}
-use Rattle.zl_objects.specs.declared.wait.Wait.{Wait}
-use Rattle.zl_objects.specs.Objects.{held_once_less, held_once_more, is_end_body, raised_changed, sent, received, stopped}
-use Rattle.zl_objects.specs.Calm.{slept}
-use Rattle.zl_objects.specs.Dying.{IsKept}
-use Rattle.zl_objects.specs.Listed.{AreListed, entry_of, is_entry_there, listed_at, listed_value, watch_of}
-use Rattle.zl_objects.specs.Ports.{at_port, is_port_at, reserved_of}
-use Rattle.zl_objects.specs.Waits.{unwatched, waits_in, watched}
+use Rattle.zl_objects.proofs.Common.{AreListed, Bool, IsKept, IsTrue, List, Listed, Map, Message, None, Object, OnErr, OnOk, Pair, Port, Result, SignalState}
+use Rattle.zl_objects.proofs.Common.{Some, Wait, Watch, [], ap, arith, at_port, cases_Bool, entry_of, eqb-true, false, filter, find, get, has_key}
+use Rattle.zl_objects.proofs.Common.{has_key-update, held_once_less, held_once_more, inl, inr, insert_entry, is_at, is_end_body, is_entry_there, is_port_at}
+use Rattle.zl_objects.proofs.Common.{length, listed_at, listed_value, lookup, map, nat_cmp, not, option_map, raised_changed, received, refl, reserved_of, sent}
+use Rattle.zl_objects.proofs.Common.{set_value, slept, stopped, sym, unwatched, update, wait_at, waits_in, watch_of, watched, with_place, without_first, ℕ}
+use Rattle.zl_objects.proofs.Common.{◌&&◌, ◌++◌, ◌+◌, ◌-◌, ◌==◌, ◌∙◌, ◌∷◌, ◌≡◌, ◌≤◌}
+use Rattle.zl_rights.specs.World.{Wait as WaitValue}
 use Rattle.zl_objects.proofs.Listed.{found_listed, inserted_listed, left_listed, none_listed, unwatched_listed, updated_listed}
 use Rattle.zl_objects.proofs.Listed.{updated_or_listed, watched_listed}
 use Rattle.zl_objects.proofs.Lists.{first_map, none_first}
@@ -27,8 +13,7 @@ use Rattle.zl_objects.proofs.Rising.{Rises, goes_by_order}
 use Rattle.zl_objects.proofs.Released.{IsLeft, waits_left, whole_left}
 use Rattle.zl_objects.proofs.Tasks.{killed_kept, started_kept}
 use Rattle.zl_objects.proofs.Whole.{below_first, changed_whole, pair_whole, end_of, gone_whole, inserted_whole, made_whole, less_whole, more_quiet, more_whole}
-use Rattle.zl_objects.proofs.Whole.{none_out_whole, none_whole, port_or_same_whole, port_whole, received_whole, roomy_whole, slept_whole}
-use Rattle.zl_objects.proofs.Whole.{sent_or_same_whole}
+use Rattle.zl_objects.proofs.Whole.{none_out_whole, none_whole, port_or_same_whole, port_whole, received_whole, roomy_whole, slept_whole, sent_or_same_whole}
 use Rattle.zl_objects.proofs.Whole.{stopped_whole, watched_whole}
 
 pub none_kept : (m : Map Object) (next room : ℕ) (d : List ℕ) (waits : List Listed) → m ≡ [] → d ≡ [] → waits ≡ [] → IsKept None m next d room waits

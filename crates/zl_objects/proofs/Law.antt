@@ -1,27 +1,19 @@
 -- Once no handle is left to go and nothing is left that nothing keeps, the largest held set is left.
-use Rattle.zl_rights.proofs.Common.{◌≡◌, ◌+◌, ◌<◌, ℕ, Bool, true, false, not, ◌&&◌, ◌||◌, ◌==◌, List, [], ◌∷◌, ◌++◌, map, refl, sym, ap, ◌∙◌, subst, cond}
-use Rattle.zl_rights.proofs.Common.{if◌then◌else◌, Option, Some, None, inl, inr, ◌⊎◌, IsTrue, arith, eq-eqb, nat_lt, is_some, list_any, count_by, sum_by}
-use Rattle.zl_rights.proofs.Common.{option_map, sum_by-cons, cases_Bool, eqb-true, false≢true, or_left, or_right, and_parts, and_from, nat_tests, Map, get}
-use Rattle.zl_rights.proofs.Common.{has_key, update, without, World, State, Ready, Blocked, Process, is_process, runs, lives}
-use Rattle.zl_rights.proofs.Common.{state_passes, Koids, Settles, is_held, in_table, in_queue, has_living_child as living_child, queue_of as queue_value}
-use Rattle.zl_rights.proofs.Common.{ChannelEnd}
-use Rattle.std.proofs.lemmas.List.Sums.{sum_by-append}
-use Rattle.std.proofs.lemmas.List.Concat.{flat_map-cons}
-use Rattle.std.proofs.lemmas.Bool.{or_cases, or_parts}
-use Rattle.zl_rights.specs.declared.entry.Entry.{Entry}
+use Rattle.zl_objects.proofs.Common.{Agrees, AreKeptBut, AreSameButWaits, Body, Bool, Cascades, ChannelEnd, Entry, IsExact, IsTrue, Koids, LeavesLargest, List}
+use Rattle.zl_objects.proofs.Common.{Map, Message, None, Object, Objects, Option, Process, Releases, Settles, Some, World, and_from, and_parts, ap, arith}
+use Rattle.zl_objects.proofs.Common.{body_value, cases_Bool, cond, count_by, eq-eqb, eqb-true, false, false≢true, flat_map-cons, get, get-without, goes}
+use Rattle.zl_objects.proofs.Common.{has_key, has_key-update, has_living_child, held_once_less, if◌then◌else◌, in_queue, in_table, inl, inr, is_above, is_alive}
+use Rattle.zl_objects.proofs.Common.{is_child, is_held, is_in_job, is_job_at, is_job_body, is_kept, is_koid, is_process, is_process_of, is_some}
+use Rattle.zl_objects.proofs.Common.{is_sorted-update, keeper_of, koids_of, let_go, list_any, lives, map, named_in, nat_lt, nat_tests, none_left, not}
+use Rattle.zl_objects.proofs.Common.{object_entry, object_value, option_map, or_cases, or_left, or_parts, or_right, queue_of, refl, runs, sorted_without}
+use Rattle.zl_objects.proofs.Common.{stays_alone, subst, sum_by, sum_by-append, sum_by-cons, sym, true, update, waits_end, with_all, with_objects, without, ℕ}
+use Rattle.zl_objects.proofs.Common.{◌&&◌, ◌++◌, ◌+◌, ◌<◌, ◌==◌, ◌||◌, ◌∙◌, ◌∷◌, ◌≡◌, ◌⊎◌}
+use Rattle.zl_rights.proofs.Common.{has_living_child as living_child, queue_of as queue_value, []}
 use Rattle.zl_rights.specs.Counts.{handles_to, queued_to}
-use Rattle.zl_rights.specs.World.{Message, Object as ObjectValue, Body as BodyValue}
-use Rattle.zl_rights.specs.Signals.{is_job_below, is_process_of}
+use Rattle.zl_rights.specs.World.{Object as ObjectValue, Body as BodyValue}
+use Rattle.zl_rights.specs.Signals.{is_job_below}
 use Rattle.zl_rights.specs.Settle.{IsHeld, names}
-use Rattle.zl_table.proofs.MapEdits.{get-without, sorted_without, is_sorted-update, has_key-update}
-use Rattle.zl_objects.specs.declared.object.Body.{Body}
 use Rattle.zl_objects.specs.declared.object.Body.TheVariants as body
-use Rattle.zl_objects.specs.declared.object.Object.{Object}
-use Rattle.zl_objects.specs.Objects.{Objects, has_living_child, held_once_less, is_alive, is_child, is_job_at, is_job_body, is_kept, is_koid, keeper_of}
-use Rattle.zl_objects.specs.Objects.{queue_of, stays_alone}
-use Rattle.zl_objects.specs.Release.{koids_of, named_in, Cascades, none_left, let_go, goes, waits_end, AreKeptBut, Releases}
-use Rattle.zl_objects.specs.Waits.{AreSameButWaits}
-use Rattle.zl_objects.specs.Seen.{body_value, object_value, object_entry, with_objects, with_all, Agrees, is_above, is_in_job, IsExact, LeavesLargest}
 use Rattle.zl_objects.proofs.Sums.{sum_without, any_summed, summed_any, any_counted, count_none, positive_part, any_there}
 use Rattle.zl_objects.proofs.Bare.{IsAlike, agrees_same, alike, has_same, in_job_same, seen_same, sorted_same}
 use Rattle.zl_objects.proofs.Bodies.{Changed, changed, changed_body, in_job_updated, found_left, has_left}
@@ -370,19 +362,6 @@ cascaded w _ _ _ exact (waits_end ks m mid m2 same more) =
       exact = later.exact;
       leads = λ v settles. subst (λ (os : Map ObjectValue). Settles (record w { objects = os }) v) (seen_same m mid same) (later.leads v settles);
     }
-
-runs_lives : (w : World) (k : ℕ) → IsTrue (is_process w runs k) → is_process w lives k ≡ true
-unfolding is_process
-runs_lives w k running = by_process (get w.processes k) running
-  where
-    by_state : (s : State) → IsTrue (runs s) → lives s ≡ true
-    by_state Ready h = refl
-    by_state (Blocked awaited destinations) h = refl
-    by_state _ h = absurd (false≢true h)
-
-    by_process : (p : Option Process) → IsTrue (state_passes runs p) → state_passes lives p ≡ true
-    by_process None h = absurd (false≢true h)
-    by_process (Some p) h = by_state p.state h
 
 -- what is kept is held
 module _ (w : World) (m : Map Object) (exact : IsExact w [] m) (kept : (k : ℕ) (o : Object) → get m k ≡ Some o → IsTrue (is_kept m k o)) where

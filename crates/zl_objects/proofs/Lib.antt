@@ -1,3 +1,4 @@
+pub mod Common
 pub mod Bare
 pub mod Bodies
 pub mod Budget

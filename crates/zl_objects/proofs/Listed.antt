@@ -1,20 +1,10 @@
 -- The list of all waits beside those at the objects, after each change of the objects.
-use Rattle.zl_rights.proofs.Common.{◌≡◌, ◌<◌, ◌==◌, ◌&&◌, ◌⊎◌, ℕ, Bool, false, List, [], ◌∷◌, ◌++◌, refl, sym, ap, ◌∙◌, subst, Option, Some, None, inl}
-use Rattle.zl_rights.proofs.Common.{inr, arith, append-nil, eq-eqb, eqb-true, IsTrue, if◌then◌else◌, map, map-append, option_map, filter, find, and_parts}
-use Rattle.zl_rights.proofs.Common.{nat_cmp, cases_Bool, false≢true, Map, get, put, update, has_key}
-use Rattle.std.proofs.lemmas.List.Elements.{filter-append}
-use Rattle.std.specs.Prelude.{Result, Ok, Err, OnOk, OnErr}
-use Rattle.std.specs.Map.{lookup, set_value}
-use Rattle.std.specs.BTreeMap.{is_at, insert_entry}
+use Rattle.zl_objects.proofs.Common.{AreListed, Bool, Err, HavePlaces, IsTrue, KeepsWaits, List, Listed, Map, None, Object, Ok, OnErr, OnOk, Option, Result}
+use Rattle.zl_objects.proofs.Common.{Some, Wait, Watch, [], and_parts, ap, append-nil, arith, cases_Bool, entry_of, eq-eqb, eqb-true, false, false≢true, filter}
+use Rattle.zl_objects.proofs.Common.{filter-append, find, get, get-put, get-update, has_key, if◌then◌else◌, inl, inr, insert_entry, is_at, is_entry_there}
+use Rattle.zl_objects.proofs.Common.{is_there, listed_at, listed_value, lookup, map, map-append, nat_cmp, option_map, put, refl, set_value, subst, sym}
+use Rattle.zl_objects.proofs.Common.{unwatched, update, wait_at, waits_in, watch_of, watched, without_first, ℕ, ◌&&◌, ◌++◌, ◌<◌, ◌==◌, ◌∙◌, ◌∷◌, ◌≡◌, ◌⊎◌}
 use Rattle.zl_rights.specs.World.{Wait as WaitValue}
-use Rattle.zl_rights.proofs.MapLaws.{get-put, get-update}
-use Rattle.zl_signals.specs.declared.watch.Watch.{Watch}
-use Rattle.zl_signals.specs.Waits.{wait_at, without_first}
-use Rattle.zl_objects.specs.declared.object.Object.{Object}
-use Rattle.zl_objects.specs.declared.wait.Listed.{Listed}
-use Rattle.zl_objects.specs.declared.wait.Wait.{Wait}
-use Rattle.zl_objects.specs.Listed.{AreListed, entry_of, is_entry_there, is_there, listed_at, listed_value, watch_of}
-use Rattle.zl_objects.specs.Waits.{HavePlaces, KeepsWaits, waits_in, watched, unwatched}
 use Rattle.zl_objects.proofs.ByKoid.{inserted, written, written_back}
 use Rattle.zl_objects.proofs.Ending.{all_ports_there}
 use Rattle.zl_objects.proofs.Lists.{all_left, filter_apart, filter_both, filter_first, filter_map, filter_none, find_first, find_map, first_map}

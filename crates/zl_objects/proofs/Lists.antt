@@ -1,9 +1,7 @@
 -- Lists of which some elements are left, and lists of which the first element that passes was taken out.
-use Rattle.zl_rights.proofs.Common.{◌≡◌, ◌≤◌, Bool, true, false, ◌&&◌, ◌⊎◌, List, [], ◌∷◌, length, refl, sym, ap, ◌∙◌, cond, Some, inl, inr, IsTrue, arith, map}
-use Rattle.zl_rights.proofs.Common.{◌||◌, None, none-some, same_Some, list_any, take, zero, suc, slice_get}
-use Rattle.zl_rights.proofs.Common.{option_map, filter, find, drop, ℕ, ◌==◌, eq-eqb, cases_Bool, false≢true}
-use Rattle.std.proofs.lemmas.Bool.{or_parts}
-use Rattle.zl_signals.specs.Waits.{without_first}
+use Rattle.zl_objects.proofs.Common.{Bool, IsTrue, List, None, Some, [], ap, arith, cases_Bool, cond, drop, eq-eqb, false, false≢true, filter, find, inl, inr}
+use Rattle.zl_objects.proofs.Common.{length, list_any, map, none-some, option_map, or_parts, refl, same_Some, slice_get, suc, sym, take, true, without_first}
+use Rattle.zl_objects.proofs.Common.{zero, ℕ, ◌&&◌, ◌==◌, ◌||◌, ◌∙◌, ◌∷◌, ◌≡◌, ◌≤◌, ◌⊎◌}
 use Rattle.zl_objects.proofs.Places.{first_out}
 
 -- ---- what is seen of the elements

@@ -1,15 +1,9 @@
 -- The peer of an end is of the kind of the end, and the reader of a channel end is a channel end.
-use Rattle.zl_rights.proofs.Common.{◌≡◌, ℕ, Bool, true, false, refl, ap, subst, Option, Some, None, IsTrue, none-some, same_Some, false≢true}
-use Rattle.zl_rights.proofs.Common.{Map, get, has_key, option_map}
-use Rattle.std.specs.Prelude.{IfSome, if◌then◌else◌}
-use Rattle.zl_rights.specs.declared.kind.Kind.{Kind}
+use Rattle.zl_objects.proofs.Common.{Body, Bool, HasPeer, HasPeerOf, IfSome, IsTrue, Kind, Map, None, Object, Option, Some, ap, false, false≢true, get, has_key}
+use Rattle.zl_objects.proofs.Common.{if_there, if◌then◌else◌, is_channel_at, is_channel_body, is_channel_in, kind_at, kind_in, none-some, option_map, peer_at}
+use Rattle.zl_objects.proofs.Common.{peer_in, peer_of, reader_at, reader_in, reader_of, refl, same_Some, subst, true, ℕ, ◌≡◌}
 use Rattle.zl_rights.specs.declared.kind.Kind.TheVariants as kind
-use Rattle.zl_objects.specs.declared.object.Body.{Body}
 use Rattle.zl_objects.specs.declared.object.Body.TheVariants as body
-use Rattle.zl_objects.specs.declared.object.Object.{Object}
-use Rattle.zl_objects.specs.Objects.{if_there, is_channel_at, is_channel_body, is_channel_in, kind_at, kind_in, peer_at, peer_in, peer_of, reader_at, reader_in}
-use Rattle.zl_objects.specs.Objects.{reader_of}
-use Rattle.zl_objects.specs.Dying.{HasPeer, HasPeerOf}
 
 -- a peer stays one, where any koid does
 pub peer_stays : (m n : Map Object) (next next2 : ℕ) (b : Body) → ((p : ℕ) → HasPeerOf (kind_in b) m next p → HasPeerOf (kind_in b) n next2 p)

@@ -1,20 +1,11 @@
 -- The places that are reserved for the packets of waits, after each change of the objects.
-use Rattle.zl_rights.proofs.Common.{◌≡◌, ◌+◌, ◌<◌, ◌⊎◌, ℕ, suc, take, drop, Bool, true, false, ◌==◌, List, [], ◌∷◌, ◌++◌, refl, sym, ap, ◌∙◌, subst, cond}
-use Rattle.zl_rights.proofs.Common.{Option, Some, None, inl, inr, IsTrue, is_some, arith, eq-eqb, if◌then◌else◌, count_by, sum_by-cons, option_map, find}
-use Rattle.zl_rights.proofs.Common.{cases_Bool, eqb-true, false≢true, nat_tests, Map, get, has_key, put, update}
-use Rattle.std.specs.Prelude.{◌-◌}
-use Rattle.std.specs.List.{position_or_len}
-use Rattle.std.proofs.lemmas.List.Sums.{sum_by-append}
-use Rattle.zl_rights.proofs.MapLaws.{get-put, get-update}
-use Rattle.zl_table.proofs.MapEdits.{update_missing}
-use Rattle.zl_signals.specs.declared.watch.Watch.{Watch}
-use Rattle.zl_signals.specs.Waits.{is_at_port, without_first}
-use Rattle.zl_port.specs.Packets.{Port, with_place, without_place}
-use Rattle.zl_objects.specs.declared.object.Body.{Body}
+use Rattle.zl_objects.proofs.Common.{Body, Bool, HavePlaces, HavePlacesWith, IsTrue, List, Map, None, Object, Option, Port, Some, Watch, [], ap, arith, at_port}
+use Rattle.zl_objects.proofs.Common.{cases_Bool, changed_port, cond, count_by, drop, eq-eqb, eqb-true, false, false≢true, find, get, get-put, get-update}
+use Rattle.zl_objects.proofs.Common.{has_key, has_place_in, if◌then◌else◌, inl, inr, is_at_port, is_port_at, is_port_in, is_some, nat_tests, one_for}
+use Rattle.zl_objects.proofs.Common.{option_map, position_or_len, put, refl, reserved_in, reserved_of, subst, suc, sum_by-append, sum_by-cons, sym, take, true}
+use Rattle.zl_objects.proofs.Common.{unwatched, update, update_missing, waits_at, waits_for, waits_in, watched, with_place, without_first, without_place, ℕ}
+use Rattle.zl_objects.proofs.Common.{◌++◌, ◌+◌, ◌-◌, ◌<◌, ◌==◌, ◌∙◌, ◌∷◌, ◌≡◌, ◌⊎◌}
 use Rattle.zl_objects.specs.declared.object.Body.TheVariants as body
-use Rattle.zl_objects.specs.declared.object.Object.{Object}
-use Rattle.zl_objects.specs.Ports.{at_port, changed_port, has_place_in, is_port_at, is_port_in, reserved_in, reserved_of}
-use Rattle.zl_objects.specs.Waits.{HavePlaces, HavePlacesWith, one_for, unwatched, waits_at, waits_for, waits_in, watched}
 use Rattle.zl_objects.proofs.ByKoid.{put_last}
 use Rattle.zl_objects.proofs.Sums.{sum_same, sum_updated}
 

@@ -1,29 +1,12 @@
 -- What is left once the newest object was taken back, which was no end, and at which nothing was registered.
-use Rattle.zl_rights.proofs.Common.{◌≡◌, ◌==◌, ◌<◌, ◌+◌, ◌++◌, ◌∷◌, ◌⊎◌, [], ℕ, Bool, true, false, refl, sym, ap, ◌∙◌, Option, Some, None, inl, inr, List}
-use Rattle.zl_rights.proofs.Common.{IfSome, IsTrue, and_parts, arith, below_all, cases_Bool, eq-eqb, eqb-true, false≢true, if◌then◌else◌}
-use Rattle.zl_rights.proofs.Common.{is_sorted, length, length-append, nat_cmp, nat_tests, none-some, Map, get, has_key, without}
-use Rattle.std.specs.Prelude.{◌↔◌, IsSome}
-use Rattle.std.specs.BTreeMap.{BTreeMap, IsUpperBound, is_at}
-use Rattle.std.specs.Cmp.{unsigned_tied}
-use Rattle.std.specs.Map.{lookup}
-use Rattle.std.specs.Ordering.{is_lt}
-use Rattle.std.proofs.lemmas.List.Elements.{All-weaker}
-use Rattle.zl_table.proofs.MapEdits.{get-without, sorted_parts}
-use Rattle.zl_objects.specs.declared.awaited.Sleeper.{Sleeper}
-use Rattle.zl_objects.specs.declared.children.Children.{Children}
+use Rattle.zl_objects.proofs.Common.{All-weaker, BTreeMap, Body, Bool, Children, HasPeerOf, IfSome, IsAtRest, IsCalm, IsIndexed, IsSome, IsSteady, IsTrue}
+use Rattle.zl_objects.proofs.Common.{IsUpperBound, IsWhole, List, Listed, Map, None, Object, Option, OthersStayListed, Sleeper, Some, [], and_parts, ap, arith}
+use Rattle.zl_objects.proofs.Common.{below_all, cases_Bool, ending_waits, ends_waits, eq-eqb, eqb-true, false, false≢true, get, get-without, has_key}
+use Rattle.zl_objects.proofs.Common.{if◌then◌else◌, inl, inr, is_alive, is_at, is_end_at, is_end_body, is_lt, is_marked, is_sorted, is_watched_in, keeper_of}
+use Rattle.zl_objects.proofs.Common.{kind_in, koid_of, length, length-append, lookup, nat_cmp, nat_tests, none-some, parent_at, parent_of, peer_of, refl}
+use Rattle.zl_objects.proofs.Common.{reserved_in, sorted_parts, sym, true, unsigned_tied, waits_in, without, ℕ, ◌++◌, ◌+◌, ◌<◌, ◌==◌, ◌↔◌, ◌∙◌, ◌∷◌, ◌≡◌, ◌⊎◌}
 use Rattle.zl_objects.specs.declared.marks.Marks.{Marks}
-use Rattle.zl_objects.specs.declared.object.Body.{Body}
 use Rattle.zl_objects.specs.declared.object.Body.TheVariants as body
-use Rattle.zl_objects.specs.declared.object.Object.{Object}
-use Rattle.zl_objects.specs.declared.wait.Listed.{Listed}
-use Rattle.zl_objects.specs.Awaited.{koid_of}
-use Rattle.zl_objects.specs.Calm.{IsAtRest, IsCalm, IsSteady, is_marked, is_watched_in}
-use Rattle.zl_objects.specs.Dying.{HasPeerOf, IsWhole}
-use Rattle.zl_objects.specs.Index.{IsIndexed, OthersStayListed}
-use Rattle.zl_objects.specs.Jobs.{parent_at, parent_of}
-use Rattle.zl_objects.specs.Objects.{is_alive, is_end_at, is_end_body, keeper_of, kind_in, peer_of}
-use Rattle.zl_objects.specs.Ports.{reserved_in}
-use Rattle.zl_objects.specs.Waits.{ending_waits, ends_waits, waits_in}
 use Rattle.zl_objects.proofs.Bodies.{found_left}
 use Rattle.zl_objects.proofs.ByKoid.{looked_up}
 use Rattle.zl_objects.proofs.Ending.{ending_places, none_ended, none_ends}

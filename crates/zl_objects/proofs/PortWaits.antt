@@ -1,24 +1,13 @@
 -- The index of the waits of each port beside the list of all waits: what it finds, and that it fits the list after each change.
-use Rattle.zl_rights.proofs.Common.{◌≡◌, ◌<◌, ◌≤◌, ◌==◌, ◌&&◌, ◌||◌, ◌⊎◌, ℕ, Bool, true, false, not, List, [], ◌∷◌, ◌++◌, refl, sym, ap, ◌∙◌, cond}
-use Rattle.zl_rights.proofs.Common.{Option, Some, None, inl, inr, IsTrue, arith, and_parts, and_from, eq-eqb, eqb-true, ne_eqb, filter, find, list_any}
-use Rattle.zl_rights.proofs.Common.{nat_tests, cases_Bool, false≢true, or_left, or_right, none-some, same_Some, All, append-nil, subst}
-use Rattle.std.specs.BTreeMap.{is_at}
-use Rattle.std.specs.BTreeMap.Range.{IsInRange}
-use Rattle.std.specs.BTreeSet.{IsKeyRangeOf, Updates}
-use Rattle.std.specs.Cmp.{unsigned_tied}
+use Rattle.zl_objects.proofs.Common.{All, All-filter, All-head, All-tail, AreFound, Bool, IsEarliest, IsFirst, IsInRange, IsKeyRangeOf, IsTrue, List, Listed}
+use Rattle.zl_objects.proofs.Common.{None, Option, Some, Updates, Wait, [], and_from, and_parts, any-filter_same, ap, append-nil, arith, cases_Bool, cond}
+use Rattle.zl_objects.proofs.Common.{entry_of, eq-eqb, eqb-true, false, false≢true, filter, filter-append, filter_passes, find, finds, inl, inr, is_at}
+use Rattle.zl_objects.proofs.Common.{is_entry_to, is_pair, is_pair_of, list_any, list_any-append, list_any_none, nat_tests, ne_eqb, none-some, not, or_left}
+use Rattle.zl_objects.proofs.Common.{or_right, order_entry, pair_cmp, refl, same_Some, sorted_parts, subst, sym, true, unsigned_tied, without_first, ℕ, ◌&&◌}
+use Rattle.zl_objects.proofs.Common.{◌++◌, ◌<◌, ◌==◌, ◌||◌, ◌∙◌, ◌∷◌, ◌≡◌, ◌≤◌, ◌⊎◌}
 use Rattle.std.specs.declared.ops.Bound.TheVariants.{Excluded, Included}
-use Rattle.std.proofs.lemmas.List.Elements.{All-filter, All-head, All-tail, filter-append, filter_passes}
-use Rattle.std.proofs.lemmas.List.Folds.{list_any-append, list_any_none}
-use Rattle.std.proofs.lemmas.Map.Views.{any-filter_same}
 use Rattle.zl_rights.proofs.MapTests.{filter_all}
-use Rattle.zl_table.proofs.MapEdits.{sorted_parts}
-use Rattle.zl_signals.specs.Waits.{without_first}
 use Rattle.zl_objects.specs.declared.port_waits.PortWaits.{PortWaits}
-use Rattle.zl_objects.specs.declared.wait.Listed.{Listed}
-use Rattle.zl_objects.specs.declared.wait.Wait.{Wait}
-use Rattle.zl_objects.specs.Index.{pair_cmp}
-use Rattle.zl_objects.specs.Listed.{entry_of, order_entry}
-use Rattle.zl_objects.specs.PortWaits.{AreFound, IsEarliest, IsFirst, finds, is_entry_to, is_pair, is_pair_of}
 use Rattle.zl_objects.proofs.Rising.{IsBelow, Rises, earliest_of_both, found_above, goes_by_order, none_of_both}
 use Rattle.zl_objects.proofs.Showing.{same_tests}
 

@@ -1,5 +1,5 @@
 -- What holds once a step that may be refused was done, or was refused.
-use Rattle.std.specs.Prelude.{Result, Ok, Err, OnOk, OnErr}
+use Rattle.zl_objects.proofs.Common.{Err, Ok, OnErr, OnOk, Result}
 
 module _ {A B : Type 0} (P Q : Type 0) where
   pub when_ok : (r : Result A B) → (P → Q) → OnOk r P → OnOk r Q

@@ -1,22 +1,13 @@
 -- What is left of the objects once handles have gone: each as it was, and the invariant holds.
-use Rattle.zl_rights.proofs.Common.{◌≡◌, ◌<◌, ◌≤◌, ℕ, Bool, true, false, sym, ◌||◌, ◌==◌, ◌⊎◌, List, [], ◌∷◌, ◌++◌, length, if◌then◌else◌, refl, ap, ◌∙◌, subst}
-use Rattle.zl_rights.proofs.Common.{Option, Some, None, inl, inr, IsTrue, arith, cond, count_by, nat_tests, is_some, list_any, append-nil, append_assoc}
-use Rattle.zl_rights.proofs.Common.{same_Some, or_left, or_right, cases_Bool, false≢true, Map, get, has_key, update, without}
-use Rattle.std.proofs.lemmas.List.Sums.{count_by-le-length}
+use Rattle.zl_objects.proofs.Common.{AreKeptBut, Body, Bool, Cascades, HasPeer, HasPeerOf, HavePlaces, IsTrue, IsWhole, KeepsWaits, Kind, LetsGo, List, Map}
+use Rattle.zl_objects.proofs.Common.{None, Object, Objects, Option, Releases, Sleeper, Some, Thins, [], ap, append-nil, append_assoc, arith, body_value, budget}
+use Rattle.zl_objects.proofs.Common.{cases_Bool, cond, count_by, count_by-le-length, false, false≢true, get, goes, has_key, has_living_child, held_once_less}
+use Rattle.zl_objects.proofs.Common.{if◌then◌else◌, inl, inr, is_alive, is_child, is_kept, is_koid, is_named, is_some, is_sorted-update, job_in, job_of}
+use Rattle.zl_objects.proofs.Common.{kind_at, kind_in, length, length-update, let_go, list_any, named_in, nat_tests, none_left, or_left, or_right, queue_of}
+use Rattle.zl_objects.proofs.Common.{refl, same_Some, stays_alone, stopped, stopped_body, stopping, subst, sym, true, unreserved, update, waits_end, without, ℕ}
+use Rattle.zl_objects.proofs.Common.{◌++◌, ◌<◌, ◌==◌, ◌||◌, ◌∙◌, ◌∷◌, ◌≡◌, ◌≤◌, ◌⊎◌}
 use Rattle.zl_rights.specs.World.{Wait}
-use Rattle.zl_table.proofs.MapEdits.{is_sorted-update, length-update}
-use Rattle.zl_objects.specs.declared.awaited.Sleeper.{Sleeper}
-use Rattle.zl_objects.specs.declared.object.Body.{Body}
 use Rattle.zl_objects.specs.declared.object.Body.TheVariants as body
-use Rattle.zl_objects.specs.declared.object.Object.{Object}
-use Rattle.zl_objects.specs.Objects.{Objects, has_living_child, held_once_less, is_alive, is_child, is_kept, is_koid, job_in, job_of, kind_at, kind_in}
-use Rattle.zl_objects.specs.Objects.{queue_of, stays_alone, stopped, stopped_body, stopping}
-use Rattle.zl_objects.specs.Release.{named_in, AreKeptBut, Cascades, none_left, let_go, goes, waits_end, Releases}
-use Rattle.zl_rights.specs.declared.kind.Kind.{Kind}
-use Rattle.zl_objects.specs.Dying.{HasPeer, HasPeerOf, IsWhole, LetsGo, Thins, budget, is_named}
-use Rattle.zl_objects.specs.Ports.{unreserved}
-use Rattle.zl_objects.specs.Seen.{body_value}
-use Rattle.zl_objects.specs.Waits.{HavePlaces, KeepsWaits}
 use Rattle.zl_objects.proofs.Bare.{IsAlike, alike, length_same, named_same, of_body}
 use Rattle.zl_objects.proofs.Ending.{all_ports_there}
 use Rattle.zl_objects.proofs.Sums.{length_left, sum_left, sum_no_more}

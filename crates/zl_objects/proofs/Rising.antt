@@ -1,14 +1,8 @@
 -- The list of all waits, in which the orders of registration rise.
-use Rattle.zl_rights.proofs.Common.{◌≡◌, ◌<◌, ◌≤◌, ◌==◌, ◌&&◌, ℕ, Bool, true, false, not, List, [], ◌∷◌, ◌++◌, refl, sym, ap, ◌∙◌, cond, Some, None}
-use Rattle.zl_rights.proofs.Common.{inl, inr, IsTrue, arith, eq-eqb, eqb-true, ne_eqb, nat_tests, map, filter, find, nat_cmp, cases_Bool}
-use Rattle.zl_rights.proofs.Common.{none-some, same_Some, and_parts, and_from, is_sorted, below_all, All}
-use Rattle.std.specs.Ordering.{is_lt}
-use Rattle.std.proofs.lemmas.List.Elements.{All-tail}
-use Rattle.zl_table.proofs.MapEdits.{below_parts, sorted_parts}
-use Rattle.zl_signals.specs.Waits.{without_first}
-use Rattle.zl_objects.specs.declared.wait.Listed.{Listed}
-use Rattle.zl_objects.specs.declared.wait.Wait.{Wait}
-use Rattle.zl_objects.specs.Listed.{entry_of, order_entry}
+use Rattle.zl_objects.proofs.Common.{All, All-tail, Bool, IsTrue, List, Listed, None, Some, Wait, [], and_from, and_parts, ap, arith, below_all, below_parts}
+use Rattle.zl_objects.proofs.Common.{cases_Bool, cond, entry_of, eq-eqb, eqb-true, false, filter, find, inl, inr, is_lt, is_sorted, map, nat_cmp, nat_tests}
+use Rattle.zl_objects.proofs.Common.{ne_eqb, none-some, not, order_entry, refl, same_Some, sorted_parts, sym, true, without_first, ℕ, ◌&&◌, ◌++◌, ◌<◌, ◌==◌}
+use Rattle.zl_objects.proofs.Common.{◌∙◌, ◌∷◌, ◌≡◌, ◌≤◌}
 use Rattle.zl_objects.proofs.Places.{first_out}
 
 -- the order lies below those of all entries

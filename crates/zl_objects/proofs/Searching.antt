@@ -1,13 +1,10 @@
 -- A binary search among elements whose keys rise ends at the first with the key.
-use Rattle.zl_rights.proofs.Common.{◌≡◌, ◌≢◌, ℕ, zero, suc, ◌<◌, ◌≤◌, Bool, ◌==◌, List, [], ◌∷◌, length, map, get_or, refl, sym, ap, ◌∙◌, cond, Option, Some}
-use Rattle.zl_rights.proofs.Common.{None, Result, Ok, Err, inl, inr, arith, IsTrue, eq-eqb, nat_lt, position, nat_cmp, is_sorted, cases_lt, ne_eqb, lt-ltb}
-use Rattle.zl_rights.proofs.Common.{nat_tests, length-map, get_or-map, Map, below_all}
-use Rattle.std.specs.List.{position_or_len}
+use Rattle.zl_objects.proofs.Common.{Bool, Err, IsBinarySearchResult, IsNonDecreasingBy, IsSearchInRange, IsTrue, List, Map, None, Ok, Option, Result, Some, []}
+use Rattle.zl_objects.proofs.Common.{ap, arith, below_all, below_parts, cases_lt, cond, eq-eqb, get_or, get_or-map, inl, inr, is_sorted, length, length-map}
+use Rattle.zl_objects.proofs.Common.{lt-ltb, map, nat_cmp, nat_lt, nat_tests, ne_eqb, ordering_index, position, position_or_len, refl, sorted_parts, suc, sym}
+use Rattle.zl_objects.proofs.Common.{zero, ℕ, ◌<◌, ◌==◌, ◌∙◌, ◌∷◌, ◌≡◌, ◌≢◌, ◌≤◌}
 use Rattle.std.specs.Result.{result_ok}
-use Rattle.std.specs.List.Sorted.{IsSearchInRange, IsBinarySearchResult, IsNonDecreasingBy}
-use Rattle.std.specs.Ordering.{ordering_index}
 use Rattle.std.proofs.lemmas.Cmp.{ranked}
-use Rattle.zl_table.proofs.MapEdits.{below_parts, sorted_parts}
 
 module _ {X : Type 0} where
   -- a key below all is below the key at each place

@@ -1,15 +1,10 @@
 -- What the objects show of active signals.
-use Rattle.zl_rights.proofs.Common.{◌≡◌, ℕ, Bool, true, false, not, ◌&&◌, ◌||◌, ◌==◌, [], ◌∷◌, refl, sym, ap, ◌∙◌, subst, Option, Some, None, IsTrue, list_any}
-use Rattle.zl_rights.proofs.Common.{Map, get, World, is_process, lives}
-use Rattle.std.specs.Prelude.{bit_or}
-use Rattle.zl_rights.specs.Numbers.{NO_JOBS, NO_PROCESSES, TERMINATED}
-use Rattle.zl_rights.specs.Signals.{active, has_child_job, has_child_process, implied as implied_in, is_job_below as is_job_of, is_process_of, signal_if}
-use Rattle.zl_objects.specs.declared.object.Body.{Body}
+use Rattle.zl_objects.proofs.Common.{AreActive, Body, Bool, IsTrue, Map, NO_JOBS, NO_PROCESSES, None, Object, Option, ShowStates, Shows, Some, TERMINATED}
+use Rattle.zl_objects.proofs.Common.{World, [], active, ap, bit_or, body_value, false, get, has_child_job, has_child_process, has_job_below, has_process_below}
+use Rattle.zl_objects.proofs.Common.{implied, is_job_below, is_process, is_process_below, is_process_of, list_any, lives, not, refl, signal_if, signals_at}
+use Rattle.zl_objects.proofs.Common.{signals_in, subst, sym, true, with_objects, ℕ, ◌&&◌, ◌==◌, ◌||◌, ◌∙◌, ◌∷◌, ◌≡◌}
+use Rattle.zl_rights.specs.Signals.{implied as implied_in, is_job_below as is_job_of}
 use Rattle.zl_objects.specs.declared.object.Body.TheVariants as body
-use Rattle.zl_objects.specs.declared.object.Object.{Object}
-use Rattle.zl_objects.specs.Jobs.{has_job_below, has_process_below, is_job_below, is_process_below}
-use Rattle.zl_objects.specs.Seen.{body_value, with_objects}
-use Rattle.zl_objects.specs.Signals.{Shows, ShowStates, AreActive, implied, signals_at, signals_in}
 use Rattle.zl_objects.proofs.Found.{Found, any_found, any_at}
 use Rattle.zl_objects.proofs.Law.{get_seen, has_seen, any_seen}
 

@@ -1,55 +1,21 @@
 -- Who is listed as blocked, as one is listed, or taken off the list as what it waits for is there.
-use Rattle.zl_rights.proofs.Common.{◌≡◌, ◌<◌, ◌≤◌, ◌+◌, ◌==◌, ◌⊎◌, ◌++◌, ℕ, Bool, true, false, List, [], ◌∷◌, refl, sym, ap, ◌∙◌, Some, subst}
-use Rattle.zl_rights.proofs.Common.{length, suc, zero}
-use Rattle.zl_rights.proofs.Common.{inl, inr, IsTrue, arith, eq-eqb, eqb-true, filter, list_any, cases_Bool, false≢true, get_or, take, drop}
-use Rattle.zl_rights.proofs.Common.{if◌then◌else◌, Map, get, update, All}
-use Rattle.std.specs.List.{Contains, insert, remove}
-use Rattle.std.specs.List.Sorted.{IsNonDecreasingBy}
-use Rattle.std.proofs.lemmas.List.{append-nil, map-append, length-append, get_or_append_left, get_or-append-add, get_or-take, get_or_default}
+use Rattle.zl_objects.proofs.Common.{All, All-append, All-cons, All-drop, All-take, All-weaker, Awaited, Bool, Contains, Contains-append_cases}
+use Rattle.zl_objects.proofs.Common.{Contains-append_left, Contains-append_right, IsAtRest, IsCalm, IsFirstDue, IsListed, IsNonDecreasingBy, IsPlace, IsPut}
+use Rattle.zl_objects.proofs.Common.{IsTrue, IsUnlisted, List, ListsLast, Map, NoneDueAt, Object, Objects, Sleeper, Some, TakesDue, ap, arith, cases_Bool, drop}
+use Rattle.zl_objects.proofs.Common.{eq-eqb, eqb-true, false, false≢true, filter, filter-append, get, get_or, if◌then◌else◌, inl, inr, insert, is_due, is_for}
+use Rattle.zl_objects.proofs.Common.{koid_of, length, list_any, listed_for, ltb-false, ltb-true, map-append, refl, remove, slept, subst, suc, sym, take, true}
+use Rattle.zl_objects.proofs.Common.{update, zero, ℕ, ◌++◌, ◌+◌, ◌<◌, ◌==◌, ◌∙◌, ◌∷◌, ◌≡◌, ◌≤◌, ◌⊎◌, []}
+use Rattle.std.proofs.lemmas.List.{append-nil, length-append, get_or_append_left, get_or-append-add, get_or-take, get_or_default}
 use Rattle.std.proofs.lemmas.List.{length-take, length-drop, get_or-drop, take-append-drop, drop_more}
-use Rattle.std.proofs.lemmas.Bool.{ltb-true, ltb-false}
 use Rattle.std.proofs.Math.Dec.{ltb}
 use Rattle.std.proofs.lemmas.List.Sorted.{IsNonDecreasingBy-insert}
-use Rattle.std.proofs.lemmas.List.Edits.{length-remove, get_or-remove_below, get_or-remove_above}
-use Rattle.std.proofs.lemmas.List.Elements.{All-append, All-cons, All-drop, All-take, All-weaker, Contains-append_cases, Contains-append_left}
-use Rattle.std.proofs.lemmas.List.Elements.{Contains-append_right, filter-append}
-use Rattle.zl_objects.specs.declared.awaited.Awaited.{Awaited}
+use Rattle.std.proofs.lemmas.List.Edits.{length-remove}
 use Rattle.zl_objects.specs.declared.awaited.Awaited.TheVariants as awaits
-use Rattle.zl_objects.specs.declared.awaited.Sleeper.{Sleeper}
-use Rattle.zl_objects.specs.declared.object.Object.{Object}
-use Rattle.zl_objects.specs.Awaited.{koid_of}
-use Rattle.zl_objects.specs.Calm.{IsAtRest, IsCalm, is_due, slept}
-use Rattle.zl_objects.specs.Sleepers.{IsFirstDue, IsListed, IsPlace, IsPut, IsUnlisted, ListsLast, NoneDueAt, TakesDue, is_for, listed_for}
-use Rattle.zl_objects.specs.Objects.{Objects}
 use Rattle.zl_objects.proofs.Bodies.{Changed, changed}
 use Rattle.zl_objects.proofs.CalmChanges.{remarked_calm, unless_wanted}
 use Rattle.zl_objects.proofs.CalmMade.{slept_calm}
 
 -- ---- lists
-
--- without one of them they are in order too
-pub still_in_order : {X : Type 0} (n : X → ℕ) (xs : List X) (i : ℕ) → i < length xs → IsNonDecreasingBy n xs → IsNonDecreasingBy n (remove xs i)
-still_in_order {X} n xs i inside up a b d le within = by_places (cases_lt a) (cases_lt b)
-  where
-    cases_lt : (k : ℕ) → (k < i) ⊎ (i ≤ k)
-    cases_lt k = elim (cases_Bool (ltb k i)) as (λ _. (k < i) ⊎ (i ≤ k)) [
-      | inl less ↦ inl (ltb-true k i less)
-      | inr more ↦ inr (ltb-false k i more)
-    ]
-
-    long : length (remove xs i) + 1 ≡ length xs
-    long = length-remove xs i inside
-
-    by_places : (a < i) ⊎ (i ≤ a) → (b < i) ⊎ (i ≤ b) → n (get_or (remove xs i) a d) ≤ n (get_or (remove xs i) b d)
-    by_places (inl low) (inl low2) = rw (get_or-remove_below xs i d a low inside, get_or-remove_below xs i d b low2 inside)
-        (up a b d le (omega (arith, long, within)))
-    by_places (inl low) (inr high) =
-        rw (get_or-remove_below xs i d a low inside, get_or-remove_above xs i d b high inside)
-        (up a (b + 1) d (omega (arith, le)) (omega (arith, long, within)))
-    by_places (inr high) (inl low) = absurd (omega (arith, le, high, low))
-    by_places (inr high) (inr high2) =
-        rw (get_or-remove_above xs i d a high inside, get_or-remove_above xs i d b high2 inside)
-        (up (a + 1) (b + 1) d (omega (arith, le)) (omega (arith, long, within)))
 
 module _ {X : Type 0} (P : X → Type 0) (xs ys : List X) (h : All P (xs ++ ys)) where
   left_of : All P xs

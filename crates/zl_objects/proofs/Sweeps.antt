@@ -1,15 +1,9 @@
 -- A sweep that goes from koid to koid and leaves what something keeps.
-use Rattle.zl_rights.proofs.Common.{◌≡◌, ◌+◌, ◌<◌, ◌≤◌, ◌==◌, ℕ, Bool, true, false, List, [], ◌∷◌, ◌++◌, length, map, filter, refl, sym, ap, ◌∙◌, Option, Some}
-use Rattle.zl_rights.proofs.Common.{None, inl, inr, arith, eqb-true, IsTrue, is_some, nat_cmp, nat_lt, nat_tests, if◌then◌else◌, is_sorted, list_any, count_by}
-use Rattle.zl_rights.proofs.Common.{append-nil, cases_Bool, false≢true, none-some, or_left, or_right, Map, each, get, has_key}
-use Rattle.std.proofs.lemmas.Bool.{or_cases}
-use Rattle.zl_objects.specs.declared.object.Object.{Object}
-use Rattle.zl_objects.specs.Dying.{LetsGo, Thins, budget, is_named}
-use Rattle.zl_objects.specs.Jobs.{all_killed, is_within, killed_if}
-use Rattle.zl_objects.specs.Objects.{is_kept}
-use Rattle.zl_objects.specs.Release.{AreKeptBut, Cascades, all_koids, none_left}
-use Rattle.zl_objects.specs.Walks.{IsLeastFrom, IsNext}
-use Rattle.zl_objects.specs.Waits.{HavePlaces}
+use Rattle.zl_objects.proofs.Common.{AreKeptBut, Bool, Cascades, HavePlaces, IsLeastFrom, IsNext, IsTrue, LetsGo, List, Map, None, Object, Option, Some, Thins}
+use Rattle.zl_objects.proofs.Common.{[], all_killed, all_koids, ap, append-nil, arith, budget, cases_Bool, count_by, each, eqb-true, false, false≢true, filter}
+use Rattle.zl_objects.proofs.Common.{get, has_key, if◌then◌else◌, inl, inr, is_kept, is_named, is_some, is_sorted, is_within, killed_if, length, list_any, map}
+use Rattle.zl_objects.proofs.Common.{nat_cmp, nat_lt, nat_tests, none-some, none_left, or_cases, or_left, or_right, refl, sym, true, ℕ, ◌++◌, ◌+◌, ◌<◌, ◌==◌}
+use Rattle.zl_objects.proofs.Common.{◌∙◌, ◌∷◌, ◌≡◌, ◌≤◌}
 use Rattle.zl_objects.proofs.Budget.{none_went, noted_last, noted_left, thin_then}
 use Rattle.zl_objects.proofs.Released.{Was, cascaded_named, cascaded_shorter, cascaded_was}
 

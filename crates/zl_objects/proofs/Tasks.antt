@@ -1,21 +1,11 @@
 -- The invariant of the objects, once jobs and processes were started, killed or given a policy.
-use Rattle.zl_rights.proofs.Common.{◌≡◌, ℕ, Bool, true, false, List, [], ◌∷◌, length, refl, sym, ap, ◌∙◌, subst, suc, Option, Some, None, arith, is_some}
-use Rattle.zl_rights.proofs.Common.{nat_cmp, none-some, same_Some, Map, each, get, update, has_key, option_map, sum_by-cons}
-use Rattle.std.specs.Prelude.{Result, Ok, Err, OnOk, OnErr}
-use Rattle.std.specs.Map.{lookup, set_value}
-use Rattle.std.specs.BTreeMap.{is_at}
+use Rattle.zl_objects.proofs.Common.{Body, Bool, Condition, Err, HasPeer, HavePlaces, IsKept, IsWhole, List, Listed, Map, None, Object, Ok, OnErr, OnOk, Option}
+use Rattle.zl_objects.proofs.Common.{Result, Some, [], all_killed, ap, arith, each, false, get, get-each, has_key, is_at, is_some, is_within, killed_body}
+use Rattle.zl_objects.proofs.Common.{killed_if, kind_at, kind_in, length, lookup, nat_cmp, none-some, option_map, refl, reserved_in, same_Some, set_value}
+use Rattle.zl_objects.proofs.Common.{started, started_body, subst, suc, sum_by-cons, sym, true, update, waits_at, waits_for, waits_in, with_policy_body}
+use Rattle.zl_objects.proofs.Common.{with_policy_set, ℕ, ◌∙◌, ◌∷◌, ◌≡◌}
 use Rattle.zl_rights.specs.declared.policy.Action.{Action}
-use Rattle.zl_rights.specs.declared.policy.Condition.{Condition}
-use Rattle.zl_rights.proofs.MapLaws.{get-each}
-use Rattle.zl_objects.specs.declared.object.Body.{Body}
 use Rattle.zl_objects.specs.declared.object.Body.TheVariants as body
-use Rattle.zl_objects.specs.declared.object.Object.{Object}
-use Rattle.zl_objects.specs.declared.wait.Listed.{Listed}
-use Rattle.zl_objects.specs.Dying.{HasPeer, IsKept, IsWhole}
-use Rattle.zl_objects.specs.Jobs.{all_killed, is_within, killed_body, killed_if, with_policy_body, with_policy_set}
-use Rattle.zl_objects.specs.Objects.{kind_at, kind_in, started, started_body}
-use Rattle.zl_objects.specs.Ports.{reserved_in}
-use Rattle.zl_objects.specs.Waits.{HavePlaces, waits_at, waits_for, waits_in}
 use Rattle.zl_objects.proofs.ByKoid.{written, written_back}
 use Rattle.zl_objects.proofs.Listed.{same_listed, updated_listed, updated_or_listed}
 use Rattle.zl_objects.proofs.Peers.{peer_stays}

@@ -1,26 +1,14 @@
 -- The waits that end with an object that goes are taken out of the list of all waits, one after another.
-use Rattle.zl_rights.proofs.Common.{◌≡◌, ◌<◌, ◌==◌, ◌&&◌, ◌||◌, ◌⊎◌, ℕ, Bool, true, false, not, List, [], ◌∷◌, drop, length, refl, sym, ap, ◌∙◌, cond, subst}
-use Rattle.zl_rights.proofs.Common.{Option, Some, None, inl, inr, IsTrue, arith, and_parts, and_from, eq-eqb, eqb-true, ne_eqb, filter, find}
-use Rattle.zl_rights.proofs.Common.{list_any, map, slice_get}
-use Rattle.zl_rights.proofs.Common.{nat_cmp, nat_lt, cases_Bool, false≢true, none-some, same_Some, option_map, is_sorted, Map, each, get, has_key}
-use Rattle.zl_rights.proofs.Common.{update, without}
-use Rattle.zl_rights.proofs.Common.{if◌then◌else◌}
+use Rattle.zl_objects.proofs.Common.{AreListed, AreOwn, AreRegistered, Bool, Cascades, HavePlaces, HaveSameWaits, IsTrue, List, Listed, Map, None, Object}
+use Rattle.zl_objects.proofs.Common.{Option, Some, Wait, Watch, [], and_from, and_parts, ap, arith, at_port, cases_Bool, cond, drop, each, ending_port}
+use Rattle.zl_objects.proofs.Common.{ending_waits, eq-eqb, eqb-true, false, false≢true, filter, find, get, get-each, get-update, get-without, giving_back}
+use Rattle.zl_objects.proofs.Common.{has_key, if◌then◌else◌, inl, inr, is_at_port, is_entry_at, is_entry_there, is_entry_to, is_sorted, is_sorted-update}
+use Rattle.zl_objects.proofs.Common.{is_there, length, list_any, listed_at, listed_value, map, nat_cmp, nat_lt, ne_eqb, none-some, not, option_map, refl}
+use Rattle.zl_objects.proofs.Common.{reserved_of, same_Some, slice_get, subst, sym, true, update, waits_in, without, without_ended, without_first}
+use Rattle.zl_objects.proofs.Common.{without_given, without_own, without_place, without_port_waits, ℕ, ◌&&◌, ◌<◌, ◌==◌, ◌||◌, ◌∙◌, ◌∷◌, ◌≡◌, ◌⊎◌}
 use Rattle.std.specs.Bool.{passes}
 use Rattle.zl_rights.proofs.Canonical.{same_map}
-use Rattle.zl_rights.proofs.MapLaws.{get-each, get-update}
 use Rattle.zl_rights.proofs.MapTests.{filter_all, filter_none, list_any-and, none_left as none_stays}
-use Rattle.zl_table.proofs.MapEdits.{get-without, is_sorted-update}
-use Rattle.zl_signals.specs.declared.watch.Watch.{Watch}
-use Rattle.zl_signals.specs.Waits.{is_at_port, without_first}
-use Rattle.zl_port.specs.Packets.{without_place}
-use Rattle.zl_objects.specs.declared.object.Object.{Object}
-use Rattle.zl_objects.specs.declared.wait.Listed.{Listed}
-use Rattle.zl_objects.specs.declared.wait.Wait.{Wait}
-use Rattle.zl_objects.specs.Listed.{AreListed, is_entry_there, is_there, listed_at, listed_value}
-use Rattle.zl_objects.specs.PortWaits.{AreOwn, AreRegistered, is_entry_at, is_entry_to, without_ended, without_given, without_own}
-use Rattle.zl_objects.specs.Ports.{at_port, reserved_of}
-use Rattle.zl_objects.specs.Release.{Cascades}
-use Rattle.zl_objects.specs.Waits.{HavePlaces, HaveSameWaits, ending_port, ending_waits, giving_back, waits_in, without_port_waits}
 use Rattle.zl_objects.proofs.Bare.{has_same}
 use Rattle.zl_objects.proofs.Bodies.{Changed, changed}
 use Rattle.zl_objects.proofs.Ending.{ending_gone, filter_within}

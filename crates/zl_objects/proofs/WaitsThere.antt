@@ -1,13 +1,7 @@
 -- Of each registered wait the object and the port are there.
-use Rattle.zl_rights.proofs.Common.{◌≡◌, ℕ, Bool, true, false, ◌==◌, List, [], ◌∷◌, refl, sym, subst, Option, Some, None, IsTrue, and_from, if◌then◌else◌, map}
-use Rattle.zl_rights.proofs.Common.{eq-eqb, Map, get, has_key, filter}
-use Rattle.std.specs.List.{All}
-use Rattle.std.proofs.lemmas.List.Elements.{All-cons, All-head, All-map, All-nil, All-tail, filter_passes}
-use Rattle.zl_signals.specs.declared.watch.Watch.{Watch}
-use Rattle.zl_objects.specs.declared.object.Object.{Object}
-use Rattle.zl_objects.specs.declared.wait.Listed.{Listed}
-use Rattle.zl_objects.specs.Listed.{AreListed, is_entry_there, is_there, listed_at, listed_value}
-use Rattle.zl_objects.specs.Waits.{HavePlaces, waits_in}
+use Rattle.zl_objects.proofs.Common.{All, All-cons, All-head, All-map, All-nil, All-tail, AreListed, Bool, HavePlaces, IsTrue, List, Listed, Map, None, Object}
+use Rattle.zl_objects.proofs.Common.{Option, Some, Watch, [], and_from, eq-eqb, false, filter, filter_passes, get, has_key, if◌then◌else◌, is_entry_there}
+use Rattle.zl_objects.proofs.Common.{is_there, listed_at, listed_value, map, refl, subst, sym, true, waits_in, ℕ, ◌==◌, ◌∷◌, ◌≡◌}
 use Rattle.zl_objects.proofs.Ending.{all_ports_there}
 
 -- what holds of all that have a key, for each key, holds of all

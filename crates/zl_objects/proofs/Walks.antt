@@ -1,22 +1,12 @@
 -- Going through the objects by koid.
-use Rattle.zl_rights.proofs.Common.{◌≡◌, ◌<◌, ◌≤◌, ◌+◌, ◌==◌, ◌||◌, ℕ, Bool, true, false, not, ◌&&◌, List, [], ◌∷◌, refl, sym, ap, ◌∙◌, subst, Option, Some}
-use Rattle.zl_rights.proofs.Common.{None, inl, inr, arith, eq-eqb, eqb-true, IsTrue, is_some, if◌then◌else◌, cases_Bool, false≢true, true≢false, nat_tests}
-use Rattle.zl_rights.proofs.Common.{nat_cmp, nat_lt, Map, get, each, update, has_key, option_map}
-use Rattle.std.specs.Cmp.{unsigned_tied}
-use Rattle.std.specs.Ordering.{is_gt}
-use Rattle.std.specs.List.{AllByRecursion}
-use Rattle.std.specs.List.Sorted.{IsStrictlySortedBy}
-use Rattle.std.specs.Map.{keys_of}
-use Rattle.std.specs.BTreeMap.{BTreeMap}
-use Rattle.std.specs.BTreeMap.Range.{IsRangeOf}
+use Rattle.zl_objects.proofs.Common.{AllByRecursion, BTreeMap, Body, Bool, IsLeastFrom, IsNext, IsRangeOf, IsStrictlySortedBy, IsTrue, List, Map, None, Object}
+use Rattle.zl_objects.proofs.Common.{Option, Some, [], all_killed, ap, arith, cases_Bool, each, eq-eqb, eqb-true, false, false≢true, get, get-each, has_key}
+use Rattle.zl_objects.proofs.Common.{if◌then◌else◌, inl, inr, is_gt, is_some, is_within, keys_of, killed_body, killed_if, nat_cmp, nat_lt, nat_tests, not}
+use Rattle.zl_objects.proofs.Common.{option_map, parent_at, parent_in, parent_of, refl, subst, sym, true, true≢false, unsigned_tied, update, ℕ, ◌&&◌, ◌+◌, ◌<◌}
+use Rattle.zl_objects.proofs.Common.{◌==◌, ◌||◌, ◌∙◌, ◌∷◌, ◌≡◌, ◌≤◌}
 use Rattle.std.specs.declared.cmp.Ordering.TheVariants.{Less}
 use Rattle.std.specs.declared.ops.Bound.TheVariants.{Included, Unbounded}
-use Rattle.zl_rights.proofs.MapLaws.{get-each}
-use Rattle.zl_objects.specs.declared.object.Object.{Object}
-use Rattle.zl_objects.specs.declared.object.Body.{Body}
 use Rattle.zl_objects.specs.declared.object.Body.TheVariants as body
-use Rattle.zl_objects.specs.Jobs.{all_killed, is_within, killed_body, killed_if, parent_at, parent_in, parent_of}
-use Rattle.zl_objects.specs.Walks.{IsLeastFrom, IsNext}
 use Rattle.zl_objects.proofs.ByKoid.{looked_up}
 use Rattle.zl_objects.proofs.Climbing.{same_below}
 

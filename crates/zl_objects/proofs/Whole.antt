@@ -1,31 +1,14 @@
 -- The invariant of the objects, after each change.
-use Rattle.zl_rights.proofs.Common.{◌≡◌, ◌<◌, ◌≤◌, ◌+◌, ◌^◌, ◌==◌, ◌⊎◌, ℕ, Bool, true, false, List, [], ◌∷◌, ◌++◌, length, refl, sym, ap, ◌∙◌, subst, cond}
-use Rattle.zl_rights.proofs.Common.{Option, Some, None, inl, inr, arith, eq-eqb, IsTrue, is_some, nat_lt, if◌then◌else◌, find, count_by, nat_cmp, cases_Bool}
-use Rattle.zl_rights.proofs.Common.{false≢true, nat_tests, none-some, same_Some, Map, get, put, update, has_key, length-append, option_map}
-use Rattle.std.specs.Prelude.{◌-◌, Result, Ok, Err, OnOk, OnErr, is_err}
-use Rattle.std.specs.Cmp.{unsigned_tied}
-use Rattle.std.specs.Map.{lookup, set_value, remove_entry}
-use Rattle.std.specs.BTreeMap.{is_at, insert_entry}
-use Rattle.zl_rights.specs.World.{Message}
-use Rattle.zl_rights.proofs.MapLaws.{get-put, get-update}
-use Rattle.zl_signals.specs.declared.watch.Watch.{Watch}
-use Rattle.zl_signals.specs.Waits.{SignalState, is_at_port}
-use Rattle.zl_port.specs.Packets.{Port, with_place}
-use Rattle.zl_table.proofs.MapEdits.{put_key, has_key-update, length-update}
-use Rattle.zl_objects.specs.declared.object.Body.{Body}
+use Rattle.zl_objects.proofs.Common.{Body, Bool, Err, HasPeer, HasPeerOf, HavePlaces, HavePlacesWith, IsTrue, IsWhole, List, Map, Message, None, Object, Ok}
+use Rattle.zl_objects.proofs.Common.{OnErr, OnOk, Option, Pair, Port, Result, SignalState, Some, Watch, [], above_of, ap, arith, at_port, cases_Bool}
+use Rattle.zl_objects.proofs.Common.{changed_port, cond, count_by, end_to, eq-eqb, false, false≢true, find, get, get-put, get-update, has_key, has_key-update}
+use Rattle.zl_objects.proofs.Common.{held_once_less, held_once_more, if◌then◌else◌, inl, inr, insert_entry, is_at, is_at_port, is_end_body, is_err, is_port_at}
+use Rattle.zl_objects.proofs.Common.{is_some, kind_at, kind_in, kind_of_pair, length, length-append, length-update, lookup, nat_cmp, nat_lt, nat_tests}
+use Rattle.zl_objects.proofs.Common.{new_object, none-some, option_map, peer_of, put, put_key, raised_changed, received, received_body, refl, remove_entry}
+use Rattle.zl_objects.proofs.Common.{reserved_of, same_Some, sent, sent_body, set_value, slept, stopped, stopped_body, subst, sym, true, unsigned_tied}
+use Rattle.zl_objects.proofs.Common.{unwatched, update, waits_for, waits_in, watched, with_place, ℕ, ◌++◌, ◌+◌, ◌-◌, ◌<◌, ◌==◌, ◌^◌, ◌∙◌, ◌∷◌, ◌≡◌, ◌≤◌, ◌⊎◌}
 use Rattle.zl_objects.specs.declared.object.Body.TheVariants as body
-use Rattle.zl_objects.specs.declared.object.Pair.{Pair}
 use Rattle.zl_objects.specs.declared.object.Pair.TheVariants as pair
-use Rattle.zl_objects.specs.declared.object.Object.{Object}
-use Rattle.zl_objects.specs.Objects.{end_to, held_once_less, held_once_more, is_end_body, kind_at, kind_in, kind_of_pair, peer_of}
-use Rattle.zl_objects.specs.Objects.{raised_changed}
-use Rattle.zl_objects.specs.Objects.{received, received_body}
-use Rattle.zl_objects.specs.Objects.{sent, sent_body, stopped, stopped_body, new_object}
-use Rattle.zl_objects.specs.Calm.{slept}
-use Rattle.zl_objects.specs.Index.{above_of}
-use Rattle.zl_objects.specs.Dying.{HasPeer, HasPeerOf, IsWhole}
-use Rattle.zl_objects.specs.Ports.{at_port, changed_port, is_port_at, reserved_of}
-use Rattle.zl_objects.specs.Waits.{HavePlaces, HavePlacesWith, waits_for, waits_in, watched, unwatched}
 use Rattle.zl_objects.proofs.Peers.{peer_stays}
 use Rattle.zl_objects.proofs.Places.{places_made, places_put, places_taken, places_unwatched, places_updated, places_used, seen_updated}
 use Rattle.zl_objects.proofs.ByKoid.{inserted, entry_inserted, written, written_back}

@@ -1,17 +1,12 @@
 -- A worked world that the objects fit: handles in a table and in a queue, and one that has gone and still counts.
-use Rattle.zl_rights.proofs.Common.{◌≡◌, ◌+◌, ◌<◌, ℕ, false, ◌==◌, ◌⊎◌, [], ◌∷◌, refl, sym, subst, None, Some, inl, inr, IsTrue, arith, count_by, cases_Bool}
-use Rattle.zl_rights.proofs.Common.{eqb-true, false≢true, nat_tests, same_Some, none-some, Map, each, get, has_key, World, Process, Created, Ready, is_process}
-use Rattle.zl_rights.specs.declared.entry.Entry.{Entry}
+use Rattle.zl_objects.proofs.Common.{Agrees, Created, Entry, IsExact, IsTrue, Map, Message, None, Object, Process, Ready, Some, World, [], all_killed, arith}
+use Rattle.zl_objects.proofs.Common.{cases_Bool, count_by, descendants, each, eqb-true, false, false≢true, get, has_key, inl, inr, is_below_by, is_in_job}
+use Rattle.zl_objects.proofs.Common.{is_process, nat_tests, new_object, none-some, refl, same_Some, subst, sym, with_objects, ℕ, ◌+◌, ◌<◌, ◌==◌, ◌∷◌, ◌≡◌, ◌⊎◌}
 use Rattle.zl_rights.specs.declared.kind.Kind.TheVariants as kind
 use Rattle.zl_rights.specs.Counts.{handles_to}
-use Rattle.zl_rights.specs.World.{Message}
 use Rattle.zl_objects.specs.declared.object.Body.TheVariants as body
 use Rattle.zl_objects.specs.declared.object.Life.TheVariants as life
-use Rattle.zl_objects.specs.declared.object.Object.{Object}
 use Rattle.zl_jobs.specs.Jobs.{job_within, root_job}
-use Rattle.zl_objects.specs.Jobs.{all_killed, descendants, is_below_by}
-use Rattle.zl_objects.specs.Objects.{new_object}
-use Rattle.zl_objects.specs.Seen.{Agrees, is_in_job, with_objects, IsExact}
 
 -- a handle to the object k
 abbrev handle : ℕ → Entry

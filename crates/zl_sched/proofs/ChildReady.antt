@@ -1,24 +1,18 @@
 -- A process whose start is answered OK wasn't ready, and is.
-use Rattle.zl_sched.proofs.Common.{Bool, Library, List, None, Option, Process, Ready, Request, Site, Some, [], after_ok, ap, effect, false, get, get-update}
-use Rattle.zl_sched.proofs.Common.{if◌then◌else◌, is_process, is_ready, on_process, process_start, refl, subst, sym, taken, taken_handles, true, ℕ}
-use Rattle.zl_sched.proofs.Common.{◌∙◌, ◌∷◌, ◌≡◌}
-use Rattle.zl_code.proofs.Common.{Calls, Err, Ok, World, answer_if, bits, entry_at, eq-eqb, examined, false≢true, first_some, handle_operands, listed, may_want}
-use Rattle.zl_code.proofs.Common.{none-some, not, object_at, operand, refusal, row_of, same_Some, site, takes, true≢false, with_effect, within}
-use Rattle.zl_code.proofs.Common.{new_handles, gives_ok, option_to_list}
-use Rattle.zl_rights.specs.declared.entry.Entry.{Entry}
+use Rattle.zl_sched.proofs.Common.{Bool, Calls, Entry, Err, Library, List, None, Ok, Option, Outcome, Process, Ready, Request, Site, Some, Status, World, []}
+use Rattle.zl_sched.proofs.Common.{after_ok, answer_if, ap, bits, call_ends, child_of, effect, entry_at, eq-eqb, examined, false, false≢true, first_some, get}
+use Rattle.zl_sched.proofs.Common.{get-update, gives_ok, handle_operands, if◌then◌else◌, is_created, is_ok, is_process, is_ready, listed, may_want, none-some}
+use Rattle.zl_sched.proofs.Common.{not, object_at, on_process, operand, option_to_list, process_start, program_of, refl, row_of, same_Some, site, started_with}
+use Rattle.zl_sched.proofs.Common.{subst, sym, taken, taken_handles, takes, true, true≢false, with_effect, within, ℕ, ◌∙◌, ◌∷◌, ◌≡◌}
+use Rattle.zl_code.proofs.Common.{refusal, new_handles}
 use Rattle.zl_rights.specs.declared.kind.Kind.{Kind}
 use Rattle.zl_rights.specs.declared.policy.Action.{Action}
 use Rattle.zl_rights.specs.declared.policy.Action.TheVariants as action
-use Rattle.zl_rights.specs.declared.status.Status.{Status}
 use Rattle.zl_rights.specs.declared.status.Status.TheVariants as status
-use Rattle.zl_code.specs.declared.history.Outcome.{Outcome}
 use Rattle.zl_code.specs.declared.history.Outcome.TheVariants as outcome
 use Rattle.zl_code.specs.Operands.{by_look_up, ends_if_kill, operand_of}
 use Rattle.zl_code.specs.Jobs.{misfits}
-use Rattle.zl_code.specs.Starting.{is_created, program_of, started_with}
 use Rattle.zl_code.proofs.TaskLaws.{child_apart, child_of as child_found, leave_other}
-use Rattle.zl_verify.proofs.CallEnds.{call_ends}
-use Rattle.zl_calls.specs.Started.{child_of, is_ok}
 use Rattle.zl_sched.proofs.StillReady.{answers, entered, left_then}
 
 -- ---- a refusal isn't OK

@@ -1,39 +1,53 @@
 -- The names that most proofs of this crate cite, passed on from one place. Declares nothing.
-pub use Rattle.zl_code.proofs.Common.{Acts, AtCall, Blocked, Bool, Choice, Created, Ended, Gone, IsLegalHistory, IsStuck, IsTrue, Library, List, Moves, Next}
-pub use Rattle.zl_code.proofs.Common.{None, Option, Process, Ready, Some, State, Step, [], ap, append-nil, append_assoc, arith, cases_Bool, drop, false, get_or}
-pub use Rattle.zl_code.proofs.Common.{if◌then◌else◌, inl, inr, is_ready, is_some, length, length-append, map, next_for, pid_of, refl, replicate, rules, single}
-pub use Rattle.zl_code.proofs.Common.{state_passes, subst, suc, sym, take, take-append-drop, take_more, true, zero, ℕ, ◌++◌, ◌+◌, ◌-◌, ◌<◌, ◌∙◌, ◌∷◌, ◌≡◌, ◌≤◌}
-unfoldable pub use Rattle.zl_code.proofs.Common.{get, is_process}
-pub use Rattle.zl_calls.specs.World.{is_ready_in, seen_in, seen_of, state_in}
-pub use Rattle.zl_sched.specs.Follows.{EndsBy, Follows, StopsBefore, ends, goes, skips, turns_of}
-pub use Rattle.zl_sched.specs.System.{Adds, HasBooted, IsLegal, Runs, System, Turns, Walks, room_of}
+pub use Rattle.zl_code.proofs.Common.{Acts, AtCall, Blocked, Body, Bool, CallBy, Calls, Choice, Created, Ended, Err, Gone, IsLegalHistory, IsSound, IsStuck}
+pub use Rattle.zl_code.proofs.Common.{IsTrue, Library, List, Moves, Next, None, Object, Ok, Option, Packet, PacketAt, PortBody, Process, Ready, Refused}
+pub use Rattle.zl_code.proofs.Common.{Request, Settles, SignalOf, Site, Some, State, Step, Values, Wants, World, [], after_ok, after_refusal, and_parts}
+pub use Rattle.zl_code.proofs.Common.{answer_if, ap, append-nil, append_assoc, arith, bits, cases_Bool, drop, entry_at, false, first_some, fold, get-each}
+pub use Rattle.zl_code.proofs.Common.{get-put, get-update, get_or, has_key, if◌then◌else◌, inl, inr, is_blocked, is_ready, is_some, length, length-append}
+pub use Rattle.zl_code.proofs.Common.{lives, map, may_want, meets, nat_lt, ne_eqb, next_for, none-some, not, not-false, object_at, ok_outcome, option_map}
+pub use Rattle.zl_code.proofs.Common.{option_to_list, pid_of, process_ended, process_killed, process_settled, process_with, process_without, refl, replicate}
+pub use Rattle.zl_code.proofs.Common.{rules, same_Some, single, site, state_passes, state_without, subst, suc, sym, take, take-append-drop, take_more, taken}
+pub use Rattle.zl_code.proofs.Common.{takes, true, true≢false, waiting, with_body, with_effect, within, woken_at_port, woken_by, woken_by_first, woken_from}
+pub use Rattle.zl_code.proofs.Common.{woken_if_there, zero, ℕ, ⊤, ◌++◌, ◌+◌, ◌-◌, ◌<◌, ◌==◌, ◌∙◌, ◌∷◌, ◌≡◌, ◌≤◌, ◌⊎◌}
+unfoldable pub use Rattle.zl_code.proofs.Common.{active, effect, ended, examined, fired, get, gives_ok, handle_operands, insert_all, is_process, is_within}
+unfoldable pub use Rattle.zl_code.proofs.Common.{listed, new_handles, on_object, on_process, operand, refusal, remove_all, replied, row_of, taken_handles}
+unfoldable pub use Rattle.zl_code.proofs.Common.{wakes, with_killed, with_object, without, without_others}
+pub use Rattle.zl_rights.proofs.Common.{Map, below_all, eq-eqb, eqb-true, false≢true, is_sorted, nat_cmp, nat_tests}
 pub use Rattle.std.proofs.Math.Seq.{take-append_seam}
+pub use Rattle.std.proofs.lemmas.Bool.{and_right, not-true}
 pub use Rattle.std.proofs.lemmas.Fn.{filter_same}
+pub use Rattle.std.proofs.lemmas.List.{replicate-append-replicate, replicate_more, take_all}
 pub use Rattle.std.proofs.lemmas.List.Concat.{flat_map-append}
 pub use Rattle.std.proofs.lemmas.List.Elements.{filter-append}
 pub use Rattle.std.proofs.lemmas.List.Filters.{length-filter_both}
-pub use Rattle.std.specs.List.{list_all, list_any}
+pub use Rattle.std.specs.List.{filter, flat_map, list_all, list_any, position, position_or_len}
 pub use Rattle.std.specs.Prelude.{slice_get, vec_capacity, ◌&&◌}
-pub use Rattle.zl_calls.proofs.Above.{done, none_filtered}
+pub use Rattle.zl_calls.proofs.Above.{asked_next, done, none_filtered, removed_one}
+pub use Rattle.zl_calls.specs.Started.{Tells, child_next, child_of, if_started, is_ok, is_start, tells_start, with_started}
 pub use Rattle.zl_calls.specs.Steps.{TakesStep}
-pub use Rattle.zl_calls.specs.World.{Machine}
+pub use Rattle.zl_calls.specs.Turns.{advanced}
+pub use Rattle.zl_calls.specs.Woke.{HaveLeft}
+pub use Rattle.zl_calls.specs.World.{Machine, is_ready_in, seen_in, seen_of, state_in}
+pub use Rattle.zl_calls.specs.declared.waking.Woke.{Woke}
 pub use Rattle.zl_code.proofs.Changes.{times-other, times-same}
-pub use Rattle.zl_code.proofs.Common.{Body, CallBy, IsSound, Object, Packet, PortBody, Refused, Request, Settles, SignalOf, Site, Values, Wants, active}
-pub use Rattle.zl_code.proofs.Common.{after_ok, after_refusal, fold, get-each, get-put, get-update, meets, new_handles, option_map, process_settled}
-pub use Rattle.zl_code.proofs.Common.{process_with, process_without, refusal, state_without, taken, taken_handles, with_body, woken_at_port, woken_by}
-pub use Rattle.zl_code.proofs.Common.{woken_by_first, woken_from, woken_if_there}
-unfoldable pub use Rattle.zl_code.proofs.Common.{effect, fired, insert_all, on_object, on_process, remove_all, replied, wakes, with_object, without_others}
-pub use Rattle.zl_code.proofs.SoundRuns.{run_sound, step_sound}
-pub use Rattle.zl_code.specs.CallTable.{entering_at, process_create, process_start, receiver_of, stored_by, task_kill}
+pub use Rattle.zl_code.proofs.SoundRuns.{boot_sound, run_sound, settled_sound, step_sound}
+pub use Rattle.zl_code.specs.CallTable.{awaited_by, entering_at, name_of, process_create, process_start, receiver_of, stored_by, task_kill}
 pub use Rattle.zl_code.specs.Effects.{storing}
-pub use Rattle.zl_code.specs.Starting.{created_process}
+pub use Rattle.zl_code.specs.Starting.{created_process, is_created, program_of, started_with}
+pub use Rattle.zl_code.specs.declared.history.CallName.{CallName}
 pub use Rattle.zl_code.specs.declared.history.Outcome.{Outcome}
 pub use Rattle.zl_code.specs.declared.history.TraceItem.{TraceItem}
 pub use Rattle.zl_interp.specs.Bursts.{Done}
 unfoldable pub use Rattle.zl_rights.specs.Wakes.{made_ready}
+pub use Rattle.zl_rights.specs.World.{Awaited}
 pub use Rattle.zl_rights.specs.declared.entry.Entry.{Entry}
-pub use Rattle.zl_sched.specs.HandIn.{GoesFrom, HasRoom, IsAwaited, put_back, run_items, unmarked}
-pub use Rattle.zl_sched.specs.Queueing.{joins, leaves_ready, one_if, requeued}
-pub use Rattle.zl_sched.specs.Ready.{Listed, is_in, is_ready_or_over, itself_ready, others_of, pids_of, queued_after, still_ready}
-pub use Rattle.zl_sched.specs.System.{IsWhole, may_step}
+pub use Rattle.zl_rights.specs.declared.status.Status.{Status}
+pub use Rattle.zl_sched.specs.Follows.{EndsBy, Follows, StopsBefore, ends, goes, skips, turns_of}
+pub use Rattle.zl_sched.specs.HandIn.{Accepts, Changes, Ends, EndsFrom, GoesFrom, HasRoom, IsAwaited, is_more, put_back, run_items, unmarked}
+pub use Rattle.zl_sched.specs.Queueing.{IsTold, change_of, few_if, joining, joins, leaves_others, leaves_ready, may_kill, one_if, requeued, woken_but}
+pub use Rattle.zl_sched.specs.Ready.{Listed, became_ready, is_in, is_ready_or_over, itself_ready, others_of, pids_of, queued_after, ready_by_koid, still_ready}
+pub use Rattle.zl_sched.specs.Ready.{times}
+pub use Rattle.zl_sched.specs.System.{Adds, HasBooted, IsLegal, IsWhole, Runs, System, Turns, Walks, may_step, room_of}
+pub use Rattle.zl_sched.specs.declared.change.Change.{Change}
 pub use Rattle.zl_sched.specs.declared.system.End.{End}
+pub use Rattle.zl_verify.proofs.CallEnds.{call_ends}

@@ -1,10 +1,8 @@
 -- How often a koid stands in a list.
-use Rattle.zl_sched.proofs.Common.{Bool, IsTrue, List, None, Some, [], ap, arith, cases_Bool, false, filter-append, get, if◌then◌else◌, inl, inr, is_some}
-use Rattle.zl_sched.proofs.Common.{length, length-append, length-filter_both, list_any, map, refl, subst, suc, sym, times-other, times-same, true, ℕ, ◌++◌}
-use Rattle.zl_sched.proofs.Common.{◌+◌, ◌∙◌, ◌∷◌, ◌≡◌, ◌≤◌}
-use Rattle.std.specs.Prelude.{not, ◌==◌, nat_lt}
-use Rattle.std.specs.List.{filter}
-use Rattle.zl_rights.proofs.Common.{Map, is_sorted, below_all, nat_cmp, and_parts, nat_tests, has_key, eq-eqb, eqb-true, none-some}
+use Rattle.zl_sched.proofs.Common.{Bool, IsTrue, List, Map, None, Some, [], and_parts, ap, arith, below_all, cases_Bool, eq-eqb, eqb-true, false, filter}
+use Rattle.zl_sched.proofs.Common.{filter-append, get, has_key, if◌then◌else◌, inl, inr, is_some, is_sorted, length, length-append, length-filter_both}
+use Rattle.zl_sched.proofs.Common.{list_any, map, nat_cmp, nat_lt, nat_tests, none-some, not, refl, subst, suc, sym, times-other, times-same, true, ℕ, ◌++◌}
+use Rattle.zl_sched.proofs.Common.{◌+◌, ◌==◌, ◌∙◌, ◌∷◌, ◌≡◌, ◌≤◌}
 use Rattle.std.specs.Ordering.{is_lt}
 use Rattle.zl_code.proofs.Changes.{times}
 

@@ -1,7 +1,6 @@
 -- A run that is computed along a schedule follows it.
-use Rattle.zl_sched.proofs.Common.{Bool, Choice, Follows, Library, List, None, Some, TraceItem, [], ap, ends, false, goes, is_process, is_ready, is_some, map}
-use Rattle.zl_sched.proofs.Common.{refl, skips, true, ℕ, ◌∷◌, ◌≡◌}
-use Rattle.zl_code.proofs.Common.{World}
+use Rattle.zl_sched.proofs.Common.{Bool, Choice, Follows, Library, List, None, Some, TraceItem, World, [], ap, ends, false, goes, is_process, is_ready, is_some}
+use Rattle.zl_sched.proofs.Common.{map, refl, skips, true, ℕ, ◌∷◌, ◌≡◌}
 use Rattle.zl_code.proofs.Running.{Acted, step_by, step_by-Step, Went, onto, items_of, world_after}
 
 -- the turns, one after another, each with the choice that the definitions leave open; those of processes that aren't ready are skipped

@@ -1,24 +1,14 @@
 -- A process that a step makes isn't ready after it.
-use Rattle.zl_sched.proofs.Common.{CallBy, Entry, Outcome, Refused, Request, Settles, Site, TraceItem, Values}
-use Rattle.zl_sched.proofs.Common.{Wants, after_ok, after_refusal, created_process, effect, entering_at, get-each, get-put}
-use Rattle.zl_sched.proofs.Common.{get-update, insert_all, new_handles, on_object, on_process, option_map, process_create}
-use Rattle.zl_sched.proofs.Common.{process_start, process_with, process_without, receiver_of, refusal, remove_all, replied, stored_by, storing}
-use Rattle.zl_sched.proofs.Common.{taken, taken_handles, task_kill, wakes, with_object}
-use Rattle.zl_code.proofs.Common.{◌≡◌, ℕ, Bool, true, false, ◌==◌, List, [], ◌∷◌, refl, ap, sym, ◌∙◌, Option, Some, None, if◌then◌else◌}
-use Rattle.zl_code.proofs.Common.{eqb-true, inl, inr, get, World, Process, State, Created, Gone}
-use Rattle.zl_code.proofs.Common.{is_blocked, is_process, is_ready, state_passes}
-use Rattle.zl_code.proofs.Common.{Library}
-use Rattle.zl_code.proofs.Common.{Choice, ok_outcome, object_at}
-use Rattle.zl_code.proofs.Common.{with_effect}
-use Rattle.zl_code.proofs.Common.{process_ended, ended, Next, Moves, AtCall, IsStuck, Acts, Step, next_for}
-use Rattle.zl_code.proofs.Common.{none-some, false≢true}
-use Rattle.zl_rights.specs.World.{Awaited}
+use Rattle.zl_sched.proofs.Common.{Acts, AtCall, Awaited, Bool, CallBy, Choice, Created, Entry, Gone, IsStuck, Library, List, Moves, Next, None, Option}
+use Rattle.zl_sched.proofs.Common.{Outcome, Process, Refused, Request, Settles, Site, Some, State, Step, TraceItem, Values, Wants, World, [], after_ok}
+use Rattle.zl_sched.proofs.Common.{after_refusal, ap, awaited_by, created_process, effect, ended, entering_at, eqb-true, false, false≢true, get, get-each}
+use Rattle.zl_sched.proofs.Common.{get-put, get-update, if◌then◌else◌, inl, inr, insert_all, is_blocked, is_process, is_ready, is_within, new_handles, next_for}
+use Rattle.zl_sched.proofs.Common.{none-some, object_at, ok_outcome, on_object, on_process, option_map, process_create, process_ended, process_killed}
+use Rattle.zl_sched.proofs.Common.{process_start, process_with, process_without, receiver_of, refl, refusal, remove_all, replied, started_with, state_passes}
+use Rattle.zl_sched.proofs.Common.{stored_by, storing, sym, taken, taken_handles, task_kill, true, waiting, wakes, with_effect, with_killed, with_object, ℕ}
+use Rattle.zl_sched.proofs.Common.{◌==◌, ◌∙◌, ◌∷◌, ◌≡◌}
 use Rattle.zl_rights.specs.declared.status.Status.TheVariants as status
 use Rattle.zl_code.specs.declared.history.Outcome.TheVariants as outcome
-use Rattle.zl_code.specs.CallTable.{awaited_by}
-use Rattle.zl_code.specs.Jobs.{is_within, process_killed, with_killed}
-use Rattle.zl_code.specs.Starting.{started_with}
-use Rattle.zl_code.specs.Effects.{waiting}
 use Rattle.zl_sched.proofs.StillReady.{AsOrWoken, settled_so, waking}
 
 -- made and not started, and perhaps dropped

@@ -1,16 +1,9 @@
 -- What is handed in is a legal history more, and the list with its marks behind it is that of the definitions and has room.
-use Rattle.zl_sched.proofs.Common.{Bool, Done, GoesFrom, HasRoom, IsAwaited, IsLegalHistory, IsSound, IsWhole, List, Listed, Machine, None, State}
-use Rattle.zl_sched.proofs.Common.{System, TraceItem, [], ap, arith, false, get, if◌then◌else◌, is_in, is_process, is_ready, length}
-use Rattle.zl_sched.proofs.Common.{length-append, others_of, pid_of, put_back, queued_after, refl, requeued, run_items, run_sound}
-use Rattle.zl_sched.proofs.Common.{step_sound, subst, sym, true, unmarked, ℕ, ◌++◌, ◌+◌, ◌∙◌, ◌∷◌, ◌≡◌, ◌≤◌}
-use Rattle.std.specs.Prelude.{◌==◌}
+use Rattle.zl_sched.proofs.Common.{Accepts, Bool, Change, Changes, Done, Ends, GoesFrom, HasRoom, IsAwaited, IsLegalHistory, IsSound, IsTold, IsWhole, List}
+use Rattle.zl_sched.proofs.Common.{Listed, Machine, None, State, System, TraceItem, [], advanced, ap, arith, change_of, false, get, if◌then◌else◌, is_in}
+use Rattle.zl_sched.proofs.Common.{is_more, is_process, is_ready, length, length-append, lives, others_of, pid_of, put_back, queued_after, refl, requeued}
+use Rattle.zl_sched.proofs.Common.{run_items, run_sound, step_sound, subst, sym, times, true, unmarked, ℕ, ◌++◌, ◌+◌, ◌==◌, ◌∙◌, ◌∷◌, ◌≡◌, ◌≤◌}
 use Rattle.zl_code.specs.declared.history.TraceItem.TheVariants as item
-use Rattle.zl_code.proofs.Common.{lives}
-use Rattle.zl_calls.specs.Turns.{advanced}
-use Rattle.zl_sched.specs.HandIn.{Accepts, Changes, Ends, is_more}
-use Rattle.zl_sched.specs.Queueing.{IsTold, change_of}
-use Rattle.zl_sched.specs.Ready.{times}
-use Rattle.zl_sched.specs.declared.change.Change.{Change}
 use Rattle.zl_sched.specs.declared.change.Change.TheVariants as change
 use Rattle.zl_sched.proofs.ReadyChange.{IsChanged, changed, changed_from, unchanged}
 use Rattle.zl_sched.proofs.Fresh.{made_not_ready}

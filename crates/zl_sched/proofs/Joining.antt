@@ -1,10 +1,6 @@
 -- Processes that come to a list one after another, where they pass a test.
-use Rattle.zl_sched.proofs.Common.{Bool, List, Some, ap, append_assoc, arith, is_process, is_ready, itself_ready, length}
-use Rattle.zl_sched.proofs.Common.{length-append, one_if, refl, requeued, slice_get, still_ready, subst, sym, take, take-append_seam, ℕ, ◌++◌, ◌+◌}
-use Rattle.zl_sched.proofs.Common.{◌∙◌, ◌≡◌, ◌≤◌}
-use Rattle.std.specs.List.{filter}
-use Rattle.zl_code.proofs.Common.{World}
-use Rattle.zl_sched.specs.Queueing.{joining}
+use Rattle.zl_sched.proofs.Common.{Bool, List, Some, World, ap, append_assoc, arith, filter, is_process, is_ready, itself_ready, joining, length, length-append}
+use Rattle.zl_sched.proofs.Common.{one_if, refl, requeued, slice_get, still_ready, subst, sym, take, take-append_seam, ℕ, ◌++◌, ◌+◌, ◌∙◌, ◌≡◌, ◌≤◌}
 use Rattle.zl_sched.proofs.Queued.{filtered_more, fewer_first}
 
 -- those that were there stay in front

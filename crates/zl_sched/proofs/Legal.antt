@@ -1,12 +1,9 @@
 -- What follows a schedule is a legal history, and a legal history with one step more is one.
-use Rattle.zl_sched.proofs.Common.{Acts, AtCall, Bool, End, EndsBy, Follows, IsLegal, IsLegalHistory, IsStuck, IsTrue, Library, List, Moves, Next, Runs, Step}
-use Rattle.zl_sched.proofs.Common.{System, TraceItem, [], ap, append-nil, arith, ends, false, flat_map-append, goes, if◌then◌else◌, length-append, list_all}
-use Rattle.zl_sched.proofs.Common.{next_for, pid_of, refl, replicate, run_items, single, skips, subst, suc, sym, true, zero, ℕ, ◌++◌, ◌∙◌, ◌∷◌, ◌≡◌}
-use Rattle.zl_code.proofs.Common.{World, nat_lt, nat_tests}
-use Rattle.std.specs.Prelude.{◌==◌}
+use Rattle.zl_sched.proofs.Common.{Acts, AtCall, Bool, CallName, End, EndsBy, Follows, IsLegal, IsLegalHistory, IsStuck, IsTrue, Library, List, Moves, Next}
+use Rattle.zl_sched.proofs.Common.{Runs, Step, System, TraceItem, World, [], ap, append-nil, arith, ends, false, flat_map, flat_map-append, goes, if◌then◌else◌}
+use Rattle.zl_sched.proofs.Common.{length-append, list_all, nat_lt, nat_tests, next_for, pid_of, refl, replicate, run_items, single, skips, subst, suc, sym}
+use Rattle.zl_sched.proofs.Common.{true, zero, ℕ, ◌++◌, ◌==◌, ◌∙◌, ◌∷◌, ◌≡◌}
 use Rattle.std.proofs.lemmas.List.Folds.{list_all-append}
-use Rattle.std.specs.List.{flat_map}
-use Rattle.zl_code.specs.declared.history.CallName.{CallName}
 use Rattle.zl_code.specs.declared.history.TraceItem.TheVariants as item
 use Rattle.zl_code.specs.Steps.{has_count, Runs as RunsBy}
 use Rattle.zl_sched.specs.declared.system.End.TheVariants as end

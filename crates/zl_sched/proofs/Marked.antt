@@ -1,11 +1,7 @@
 -- The marks beside the ready list: who isn't marked stands in the list, if it is ready, and nothing else does.
-use Rattle.zl_sched.proofs.Common.{Bool, IsTrue, List, Listed, [], ap, arith, cases_Bool, false, if◌then◌else◌, inl, inr, is_in, is_process, is_ready}
-use Rattle.zl_sched.proofs.Common.{is_ready_or_over, length, length-filter_both, others_of, refl, subst, sym, times-other, times-same, true, ℕ, ◌&&◌, ◌+◌}
-use Rattle.zl_sched.proofs.Common.{◌<◌, ◌∙◌, ◌∷◌, ◌≡◌, ◌≤◌}
-use Rattle.std.specs.Prelude.{not, ◌==◌, nat_lt}
-use Rattle.zl_rights.proofs.Common.{nat_tests, false≢true, eq-eqb, eqb-true}
-use Rattle.zl_code.proofs.Common.{World, ne_eqb}
-use Rattle.zl_sched.specs.Ready.{times}
+use Rattle.zl_sched.proofs.Common.{Bool, IsTrue, List, Listed, World, [], ap, arith, cases_Bool, eq-eqb, eqb-true, false, false≢true, if◌then◌else◌, inl, inr}
+use Rattle.zl_sched.proofs.Common.{is_in, is_process, is_ready, is_ready_or_over, length, length-filter_both, nat_lt, nat_tests, ne_eqb, not, others_of, refl}
+use Rattle.zl_sched.proofs.Common.{subst, sym, times, times-other, times-same, true, ℕ, ◌&&◌, ◌+◌, ◌<◌, ◌==◌, ◌∙◌, ◌∷◌, ◌≡◌, ◌≤◌}
 use Rattle.zl_sched.proofs.Counted.{any_counted}
 
 -- ---- marks that are counted

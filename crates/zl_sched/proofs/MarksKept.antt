@@ -1,11 +1,8 @@
 -- A step of one process leaves the marks of the others what they are: who has one is ready or has ended, and doesn't become ready.
-use Rattle.zl_sched.proofs.Common.{Bool, Created, Ended, IsSound, IsTrue, Library, None, Option, Process, Ready, Some, State, Step, TraceItem, ap, false, get}
-use Rattle.zl_sched.proofs.Common.{get-update, if◌then◌else◌, is_process, is_ready, is_ready_or_over, on_process, option_map, refl, state_passes, sym, true}
-use Rattle.zl_sched.proofs.Common.{ℕ, ◌∙◌, ◌≡◌}
-use Rattle.std.specs.Prelude.{◌==◌}
-use Rattle.zl_rights.proofs.Common.{false≢true}
-use Rattle.zl_rights.specs.Signals.{has_ended, lives}
-use Rattle.zl_code.proofs.Common.{World}
+use Rattle.zl_sched.proofs.Common.{Bool, Created, Ended, IsSound, IsTrue, Library, None, Option, Process, Ready, Some, State, Step, TraceItem, World, ap, false}
+use Rattle.zl_sched.proofs.Common.{false≢true, get, get-update, if◌then◌else◌, is_process, is_ready, is_ready_or_over, lives, on_process, option_map, refl}
+use Rattle.zl_sched.proofs.Common.{state_passes, sym, true, ℕ, ◌==◌, ◌∙◌, ◌≡◌}
+use Rattle.zl_rights.specs.Signals.{has_ended}
 use Rattle.zl_code.specs.Frame.{OthersMake, left_alone, woken, was_started, was_killed, dropped}
 use Rattle.zl_code.proofs.Frame.{step_leaves_others}
 use Rattle.zl_verify.proofs.Others.{over_after_act}

@@ -1,12 +1,8 @@
 -- What becomes of the list and the marks: a process is taken out, put back, forgotten, or did something.
-use Rattle.zl_sched.proofs.Common.{Bool, IsSound, IsTrue, Library, List, Listed, None, Process, Step, TraceItem, [], ap, arith, cases_Bool, false, get}
-use Rattle.zl_sched.proofs.Common.{if◌then◌else◌, inl, inr, is_in, is_process, is_ready, is_ready_or_over, length, length-append, on_process, others_of}
-use Rattle.zl_sched.proofs.Common.{queued_after, refl, subst, suc, sym, times-other, true, ℕ, ◌&&◌, ◌++◌, ◌+◌, ◌∙◌, ◌∷◌, ◌≡◌, ◌≤◌}
-use Rattle.std.specs.Prelude.{◌==◌, not}
-use Rattle.zl_rights.proofs.Common.{false≢true, eqb-true, nat_tests}
-use Rattle.zl_rights.specs.Signals.{lives}
-use Rattle.zl_code.proofs.Common.{World}
-use Rattle.zl_sched.specs.Ready.{times}
+use Rattle.zl_sched.proofs.Common.{Bool, IsSound, IsTrue, Library, List, Listed, None, Process, Step, TraceItem, World, [], ap, arith, cases_Bool, eqb-true}
+use Rattle.zl_sched.proofs.Common.{false, false≢true, get, if◌then◌else◌, inl, inr, is_in, is_process, is_ready, is_ready_or_over, length, length-append, lives}
+use Rattle.zl_sched.proofs.Common.{nat_tests, not, on_process, others_of, queued_after, refl, subst, suc, sym, times, times-other, true, ℕ, ◌&&◌, ◌++◌, ◌+◌}
+use Rattle.zl_sched.proofs.Common.{◌==◌, ◌∙◌, ◌∷◌, ◌≡◌, ◌≤◌}
 use Rattle.zl_sched.proofs.Counted.{times-append}
 use Rattle.zl_sched.proofs.Marked.{some_mark, no_mark, counted_mark, listed_but, listed_by, self_unmarked, others_marked, fewer_marks, left_marked, other_way}
 use Rattle.zl_sched.proofs.Marked.{shorter, times_self, times_none}

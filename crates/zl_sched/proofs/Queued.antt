@@ -1,18 +1,11 @@
 -- The ready list after a step: the code's is that of the definitions, holds each ready process that isn't out once, and has room.
-use Rattle.zl_sched.proofs.Common.{Bool, IsSound, IsTrue, List, None, Option, Some, [], ap, append-nil, arith, cases_Bool, drop, false, filter-append, get}
-use Rattle.zl_sched.proofs.Common.{get_or, if◌then◌else◌, inl, inr, is_in, is_process, is_ready, itself_ready, joins, length, length-append}
-use Rattle.zl_sched.proofs.Common.{length-filter_both, list_any, none_filtered, one_if, pids_of, queued_after, refl, replicate, requeued, slice_get}
-use Rattle.zl_sched.proofs.Common.{state_passes}
-use Rattle.zl_sched.proofs.Common.{still_ready, subst, suc, sym, take, take-append-drop, take_more, true, ℕ, ◌&&◌, ◌++◌, ◌+◌, ◌-◌, ◌<◌, ◌∙◌, ◌∷◌, ◌≡◌, ◌≤◌}
-use Rattle.std.specs.Prelude.{not, ◌==◌, nat_lt}
-use Rattle.std.specs.List.{filter, position, position_or_len}
-use Rattle.std.proofs.lemmas.List.{take_all}
-use Rattle.zl_rights.proofs.Common.{nat_tests, false≢true}
+use Rattle.zl_sched.proofs.Common.{Bool, Change, IsSound, IsTold, IsTrue, List, None, Option, Process, Some, World, ap, append-nil, arith, became_ready}
+use Rattle.zl_sched.proofs.Common.{cases_Bool, drop, eq-eqb, eqb-true, false, false≢true, filter, filter-append, get, get_or, has_key, if◌then◌else◌, inl, inr}
+use Rattle.zl_sched.proofs.Common.{is_in, is_process, is_ready, is_some, itself_ready, joins, length, length-append, length-filter_both, list_any, nat_lt}
+use Rattle.zl_sched.proofs.Common.{nat_tests, none-some, none_filtered, not, one_if, pids_of, position, position_or_len, queued_after, ready_by_koid, refl}
+use Rattle.zl_sched.proofs.Common.{replicate, requeued, slice_get, state_passes, still_ready, subst, suc, sym, take, take-append-drop, take_all, take_more}
+use Rattle.zl_sched.proofs.Common.{times, true, woken_but, ℕ, ◌&&◌, ◌++◌, ◌+◌, ◌-◌, ◌<◌, ◌==◌, ◌∙◌, ◌∷◌, ◌≡◌, ◌≤◌, []}
 use Rattle.std.proofs.lemmas.Map.Views.{any-filter_same}
-use Rattle.zl_code.proofs.Common.{World, Process, is_some, has_key, eq-eqb, eqb-true, none-some}
-use Rattle.zl_sched.specs.Ready.{ready_by_koid, times, became_ready}
-use Rattle.zl_sched.specs.Queueing.{IsTold, woken_but}
-use Rattle.zl_sched.specs.declared.change.Change.{Change}
 use Rattle.zl_sched.specs.declared.change.Change.TheVariants as change
 use Rattle.zl_sched.proofs.ReadyChange.{IsChanged, OthersCome, OthersReady}
 use Rattle.std.proofs.lemmas.Option.{slice_get_within, get_or_from_slice_get}
@@ -310,23 +303,3 @@ fewer_first f n xs =
     = sym (length-append (filter f (take n xs)) (filter f (drop n xs)))
     ∙ (sym (ap length (filter-append f (take n xs) (drop n xs))) ∙ ap (λ (ys : List ℕ). length (filter f ys)) (take-append-drop n xs)) in
     omega (arith, both)
-
--- with no mark, no process is ready where the list is empty, and only there
-pub idle_by : (w : World) (list : List ℕ) → ((k : ℕ) → times k list ≡ (if is_process w is_ready k then 1 else 0)) → (is_idle : Bool)
-    → is_idle ≡ (length list == 0)
-    → (IsTrue is_idle → (k : ℕ) → is_process w is_ready k ≡ false) × (((k : ℕ) → is_process w is_ready k ≡ false) → IsTrue is_idle)
-idle_by w [] are is_idle is = ((λ _ k. by_test (is_process w is_ready k) (are k)), (λ _. rw is refl))
-  where
-    by_test : (b : Bool) → ◌≡◌ {A = ℕ} 0 (if b then 1 else 0) → b ≡ false
-    by_test true h = absurd (omega (arith, h))
-    by_test false h = refl
-idle_by w (x ∷ list) are is_idle is = ((λ yes. absurd (false≢true (sym no ∙ yes))), (λ none. absurd (counted none)))
-  where
-    no : is_idle ≡ false
-    no = rw is (grind (arith, nat_tests))
-
-    counted : ((k : ℕ) → is_process w is_ready k ≡ false) → ⊥
-    counted none =
-        let there : times x (x ∷ list) ≡ times x list + 1 = rw (eq-eqb x x refl) (omega arith) in
-        let is_none : ◌≡◌ {A = ℕ} (if is_process w is_ready x then 1 else 0) 0 = rw (none x) refl in
-        absurd (omega (arith, are x, there, is_none))

@@ -1,22 +1,14 @@
 -- What a step changes of who is ready: nobody but those that woke, the one that it started, and those that it killed.
-use Rattle.zl_sched.proofs.Common.{Acts, AtCall, Bool, IsSound, IsStuck, Library, Moves, Next, None, Option, Outcome, Process, Ready, Request, Some, State}
-use Rattle.zl_sched.proofs.Common.{Step, TraceItem, ap, arith, cases_Bool, false, get, if◌then◌else◌, inl, inr, is_process, is_ready, is_some, leaves_ready}
-use Rattle.zl_sched.proofs.Common.{next_for, refl, refusal, state_passes, step_sound, subst, sym, task_kill, true, wakes, ℕ, ◌&&◌, ◌<◌, ◌∙◌, ◌≡◌}
-use Rattle.zl_code.proofs.Common.{World, and_parts, eqb-true, false≢true, is_blocked, none-some, not, not-false, ◌==◌, ◌⊎◌, ⊤}
-use Rattle.std.proofs.lemmas.Bool.{not-true}
-use Rattle.zl_code.specs.declared.history.CallName.{CallName}
+use Rattle.zl_sched.proofs.Common.{Acts, AtCall, Bool, CallName, Change, HaveLeft, IsSound, IsStuck, Library, Moves, Next, None, Option, Outcome, Process}
+use Rattle.zl_sched.proofs.Common.{Ready, Request, Some, State, Step, Tells, TraceItem, Woke, World, and_parts, ap, arith, asked_next, cases_Bool, change_of}
+use Rattle.zl_sched.proofs.Common.{child_next, child_of, eqb-true, false, false≢true, few_if, get, if_started, if◌then◌else◌, inl, inr, is_blocked, is_ok}
+use Rattle.zl_sched.proofs.Common.{is_process, is_ready, is_some, is_start, leaves_others, leaves_ready, may_kill, name_of, next_for, none-some, not, not-false}
+use Rattle.zl_sched.proofs.Common.{not-true, refl, refusal, settled_sound, state_passes, step_sound, subst, sym, task_kill, tells_start, true, wakes}
+use Rattle.zl_sched.proofs.Common.{with_started, ℕ, ⊤, ◌&&◌, ◌<◌, ◌==◌, ◌∙◌, ◌≡◌, ◌⊎◌}
 use Rattle.zl_code.specs.declared.history.CallName.TheVariants as name
 use Rattle.zl_code.specs.declared.history.Outcome.TheVariants as outcome
 use Rattle.zl_code.specs.declared.history.TraceItem.TheVariants as item
-use Rattle.zl_code.specs.CallTable.{name_of}
-use Rattle.zl_code.proofs.SoundRuns.{settled_sound}
-use Rattle.zl_calls.proofs.Above.{asked_next}
-use Rattle.zl_calls.specs.Started.{Tells, child_next, child_of, if_started, is_ok, is_start, tells_start, with_started}
-use Rattle.zl_calls.specs.Woke.{HaveLeft}
-use Rattle.zl_calls.specs.declared.waking.Woke.{Woke}
 use Rattle.zl_calls.specs.declared.waking.Woke.TheVariants as woke
-use Rattle.zl_sched.specs.Queueing.{change_of, few_if, leaves_others, may_kill}
-use Rattle.zl_sched.specs.declared.change.Change.{Change}
 use Rattle.zl_sched.specs.declared.change.Change.TheVariants as change
 use Rattle.zl_sched.proofs.Marked.{other_way}
 use Rattle.zl_sched.proofs.ChildReady.{child_ready}

@@ -1,13 +1,10 @@
 -- Worked examples: what is counted of a burst, and the list with its marks after it was handed in.
-use Rattle.std.proofs.Common.{◌≡◌, refl, ℕ, true, false, [], ◌∷◌, None}
-use Rattle.zl_rights.specs.Common.{STUCK, World, Cpu, Process, State, Created, Ready, Blocked, Ended, get, is_process}
-use Rattle.zl_rights.specs.World.{PacketAt}
+use Rattle.zl_sched.proofs.Common.{Blocked, Created, Done, Ended, None, PacketAt, Process, Ready, State, System, World, [], false, get, is_in, is_process}
+use Rattle.zl_sched.proofs.Common.{is_ready_or_over, others_of, put_back, queued_after, refl, requeued, run_items, times, true, unmarked, ℕ, ◌∷◌, ◌≡◌}
+use Rattle.zl_rights.specs.Common.{STUCK, Cpu}
 use Rattle.zl_code.specs.declared.history.TraceItem.TheVariants as item
-use Rattle.zl_sched.proofs.Common.{Done, is_in, is_ready_or_over, others_of, put_back, queued_after, requeued, run_items, unmarked}
 use Rattle.zl_interp.specs.declared.bursts.Stop.{Stop}
 use Rattle.zl_interp.specs.declared.bursts.Stop.TheVariants as stop
-use Rattle.zl_sched.specs.Ready.{times}
-use Rattle.zl_sched.specs.System.{System}
 use Rattle.zl_sched.specs.HandIn.{items_of}
 
 -- ---- items

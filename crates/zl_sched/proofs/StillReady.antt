@@ -1,36 +1,23 @@
 -- Where a call kills and starts no other process, the others are as ready after it as before, but for those that woke. Where it kills, nobody becomes ready.
-use Rattle.zl_code.proofs.Common.{◌≡◌, ◌⊎◌, ℕ, Bool, true, false, not, ◌==◌, ◌&&◌, List, [], ◌∷◌, refl, ap, sym, ◌∙◌, subst, arith, cases_Bool}
-use Rattle.zl_sched.proofs.Common.{Body, CallBy, Entry, Object, Outcome, Packet, PortBody, Refused, Request, Settles, SignalOf, Site}
-use Rattle.zl_sched.proofs.Common.{Values, Wants, active, after_ok, after_refusal, created_process, effect, entering_at, fired, fold, get-each, get-put}
-use Rattle.zl_sched.proofs.Common.{get-update, insert_all, made_ready, meets, on_object, on_process}
-use Rattle.zl_sched.proofs.Common.{option_map, process_create, process_settled, process_start, process_with, process_without, receiver_of}
-use Rattle.zl_sched.proofs.Common.{remove_all, replied, state_without, stored_by, storing, taken, task_kill, wakes, with_body}
-use Rattle.zl_sched.proofs.Common.{with_object, without_others, woken_at_port, woken_by, woken_by_first, woken_from, woken_if_there}
-use Rattle.zl_code.proofs.Common.{eqb-true, false≢true, Option, Some, None, has_key, IsTrue, if◌then◌else◌, inl, inr, get}
-use Rattle.zl_code.proofs.Common.{World, Process, State, Created, Ready, Blocked, Ended, Gone, is_process, is_blocked, lives, process_killed}
-use Rattle.zl_code.proofs.Common.{Calls, handle_operands, is_within, new_handles, object_at, row_of, taken_handles, with_killed}
-use Rattle.zl_code.proofs.Common.{without, state_passes, ok_outcome, with_effect, ended, process_ended, waiting}
-use Rattle.zl_code.proofs.Common.{PacketAt, Library}
-use Rattle.zl_code.proofs.Common.{Choice}
-use Rattle.std.proofs.lemmas.Bool.{not-true}
+use Rattle.zl_sched.proofs.Common.{Awaited, Blocked, Body, Bool, CallBy, CallName, Calls, Choice, Created, Ended, Entry, Gone, HaveLeft, IsTrue, Library, List}
+use Rattle.zl_sched.proofs.Common.{None, Object, Option, Outcome, Packet, PacketAt, PortBody, Process, Ready, Refused, Request, Settles, SignalOf, Site, Some}
+use Rattle.zl_sched.proofs.Common.{State, Status, Values, Wants, Woke, World, [], active, after_ok, after_refusal, ap, arith, awaited_by, call_ends, cases_Bool}
+use Rattle.zl_sched.proofs.Common.{child_of, created_process, effect, ended, entering_at, eqb-true, false, false≢true, fired, fold, get, get-each, get-put}
+use Rattle.zl_sched.proofs.Common.{get-update, handle_operands, has_key, if_started, if◌then◌else◌, inl, inr, insert_all, is_blocked, is_process, is_within}
+use Rattle.zl_sched.proofs.Common.{lives, made_ready, may_kill, meets, name_of, not, not-true, object_at, ok_outcome, on_object, on_process, option_map}
+use Rattle.zl_sched.proofs.Common.{process_create, process_ended, process_killed, process_settled, process_start, process_with, process_without, receiver_of}
+use Rattle.zl_sched.proofs.Common.{refl, remove_all, replied, row_of, started_with, state_passes, state_without, stored_by, storing, subst, sym, taken}
+use Rattle.zl_sched.proofs.Common.{task_kill, times-other, times-same, true, waiting, wakes, with_body, with_effect, with_killed, with_object, without}
+use Rattle.zl_sched.proofs.Common.{without_others, woken_at_port, woken_by, woken_by_first, woken_from, woken_if_there, ℕ, ◌&&◌, ◌==◌, ◌∙◌, ◌∷◌, ◌≡◌, ◌⊎◌}
+use Rattle.zl_code.proofs.Common.{new_handles, taken_handles}
 use Rattle.zl_rights.specs.Wakes.{woken}
 use Rattle.zl_rights.specs.Numbers.{KILLED}
-use Rattle.zl_rights.specs.World.{Awaited}
-use Rattle.zl_rights.specs.declared.status.Status.{Status}
 use Rattle.zl_rights.specs.declared.status.Status.TheVariants as status
 use Rattle.zl_code.specs.declared.history.Outcome.TheVariants as outcome
 use Rattle.zl_code.specs.declared.history.TraceItem.TheVariants as item
-use Rattle.zl_code.specs.declared.history.CallName.{CallName}
-use Rattle.zl_code.specs.CallTable.{awaited_by, name_of}
-use Rattle.zl_code.specs.Starting.{started_with}
 use Rattle.zl_code.specs.Tests.{koid_in}
-use Rattle.zl_code.proofs.Changes.{times, times-other, times-same}
-use Rattle.zl_verify.proofs.CallEnds.{call_ends}
-use Rattle.zl_calls.specs.Started.{child_of, if_started}
-use Rattle.zl_calls.specs.Woke.{HaveLeft}
-use Rattle.zl_calls.specs.declared.waking.Woke.{Woke}
+use Rattle.zl_code.proofs.Changes.{times}
 use Rattle.zl_calls.specs.declared.waking.Woke.TheVariants as woke
-use Rattle.zl_sched.specs.Queueing.{may_kill}
 use Rattle.zl_sched.proofs.Marked.{other_way}
 use Rattle.zl_sched.proofs.MarksKept.{state_kept}
 

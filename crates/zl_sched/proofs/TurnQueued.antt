@@ -1,10 +1,6 @@
 -- A turn of a ready process that isn't out: the list that the code makes after it is that of the definitions, has room, and keeps the system whole.
-use Rattle.zl_sched.proofs.Common.{IsSound, IsWhole, List, Machine, Step, System, TakesStep, TraceItem, [], arith, false, is_in, length, pid_of}
-use Rattle.zl_sched.proofs.Common.{queued_after, requeued, run_sound, step_sound, subst, sym, ℕ, ◌++◌, ◌+◌, ◌<◌, ◌∙◌, ◌∷◌, ◌≡◌, ◌≤◌}
-use Rattle.zl_sched.specs.Ready.{times}
-use Rattle.zl_calls.specs.Started.{Tells}
-use Rattle.zl_calls.specs.declared.waking.Woke.{Woke}
-use Rattle.zl_sched.specs.Queueing.{IsTold, change_of}
+use Rattle.zl_sched.proofs.Common.{IsSound, IsTold, IsWhole, List, Machine, Step, System, TakesStep, Tells, TraceItem, Woke, [], arith, change_of, false, is_in}
+use Rattle.zl_sched.proofs.Common.{length, pid_of, queued_after, requeued, run_sound, step_sound, subst, sym, times, ℕ, ◌++◌, ◌+◌, ◌<◌, ◌∙◌, ◌∷◌, ◌≡◌, ◌≤◌}
 use Rattle.zl_sched.proofs.ReadyChange.{IsChanged, changed}
 use Rattle.zl_sched.proofs.Fresh.{made_not_ready}
 use Rattle.zl_sched.proofs.Legal.{legal_more}

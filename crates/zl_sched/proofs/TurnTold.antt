@@ -1,8 +1,6 @@
 -- What a turn does that has a step, and what one is answered for which the trace has no room.
-use Rattle.zl_sched.proofs.Common.{Bool, IsTrue, List, Machine, Runs, System, TakesStep, TraceItem, Turns, [], ap, cases_Bool, false, if◌then◌else◌, inl, inr}
-use Rattle.zl_sched.proofs.Common.{is_in, is_ready_in, length, may_step, queued_after, refl, ℕ, ◌++◌, ◌<◌, ◌∷◌, ◌≡◌, ◌≤◌}
-use Rattle.std.specs.Prelude.{not}
-use Rattle.std.proofs.lemmas.Bool.{and_right}
+use Rattle.zl_sched.proofs.Common.{Bool, IsTrue, List, Machine, Runs, System, TakesStep, TraceItem, Turns, [], and_right, ap, cases_Bool, false, if◌then◌else◌}
+use Rattle.zl_sched.proofs.Common.{inl, inr, is_in, is_ready_in, length, may_step, not, queued_after, refl, ℕ, ◌++◌, ◌<◌, ◌∷◌, ◌≡◌, ◌≤◌}
 use Rattle.zl_sched.specs.declared.system.Stepped.{Stepped}
 use Rattle.zl_sched.specs.declared.system.Stepped.TheVariants as stepped
 

@@ -1,10 +1,8 @@
 -- Turns, one after another: what was walked, and what follows it.
-use Rattle.zl_sched.proofs.Common.{Adds, Bool, End, EndsBy, Follows, IsTrue, Library, List, Runs, StopsBefore, System, TraceItem, Walks, [], ap, append-nil}
-use Rattle.zl_sched.proofs.Common.{append_assoc, arith, drop, ends, false, flat_map-append, get_or, goes, is_process, is_ready, is_ready_in, length}
-use Rattle.zl_sched.proofs.Common.{length-append, may_step, refl, replicate, room_of, skips, subst, suc, sym, take, take-append-drop, take_more, true}
-use Rattle.zl_sched.proofs.Common.{turns_of, zero, ℕ, ◌&&◌, ◌++◌, ◌+◌, ◌-◌, ◌<◌, ◌∙◌, ◌∷◌, ◌≡◌, ◌≤◌}
-use Rattle.zl_code.proofs.Common.{World, and_parts}
-use Rattle.std.proofs.lemmas.List.{replicate_more, replicate-append-replicate}
+use Rattle.zl_sched.proofs.Common.{Adds, Bool, End, EndsBy, Follows, IsTrue, Library, List, Runs, StopsBefore, System, TraceItem, Walks, World, [], and_parts}
+use Rattle.zl_sched.proofs.Common.{ap, append-nil, append_assoc, arith, drop, ends, false, flat_map-append, get_or, goes, is_process, is_ready, is_ready_in}
+use Rattle.zl_sched.proofs.Common.{length, length-append, may_step, refl, replicate, replicate-append-replicate, replicate_more, room_of, skips, subst, suc}
+use Rattle.zl_sched.proofs.Common.{sym, take, take-append-drop, take_more, true, turns_of, zero, ℕ, ◌&&◌, ◌++◌, ◌+◌, ◌-◌, ◌<◌, ◌∙◌, ◌∷◌, ◌≡◌, ◌≤◌}
 use Rattle.zl_sched.specs.declared.system.End.TheVariants as end
 
 -- ---- what follows a schedule

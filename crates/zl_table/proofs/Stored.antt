@@ -1,13 +1,11 @@
 -- The handles in a slab as a map, and what changes of the slab make of it.
-use Rattle.zl_rights.proofs.Common.{◌≡◌, ◌≢◌, ℕ, zero, suc, ◌+◌, ◌-◌, ◌<◌, ◌≤◌, List, [], ◌∷◌, length, refl, sym, ap, ◌∙◌, subst, Option, Some, None}
-use Rattle.zl_rights.proofs.Common.{inl, inr, arith}
-use Rattle.zl_rights.proofs.Common.{IsTrue, IfSome, is_some, nat_cmp, Bool, false, ◌==◌, ◌⊎◌, is_sorted, below_all, and_from, ne_eqb, eq-eqb, nat_tests}
+use Rattle.zl_rights.proofs.Common.{◌≡◌, ◌≢◌, ℕ, zero, suc, ◌+◌, ◌-◌, ◌<◌, ◌≤◌, List, [], ◌∷◌, length, refl, sym, ap, ◌∙◌, Option, Some, None, inl, inr}
+use Rattle.zl_rights.proofs.Common.{arith, IsTrue, IfSome, is_some, nat_cmp, Bool, ◌==◌, ◌⊎◌, is_sorted, below_all, and_from, ne_eqb, eq-eqb, nat_tests}
 use Rattle.zl_rights.proofs.Common.{Map, get, put, without, update, has_key}
 use Rattle.std.specs.Prelude.{IsSome, slice_index_or, ◌↔◌}
 use Rattle.std.specs.Bool.{passes}
 use Rattle.std.proofs.lemmas.Bool.{cases_eq, cases_lt, eqb-true, false≢true}
-use Rattle.slab.specs.Slab.{Slab, entries, entries_from, slab_len, Updates}
-use Rattle.slab.specs.Slab.{get as slot_at}
+use Rattle.slab.specs.Slab.{Slab, entries, entries_from, slab_len, Updates, get as slot_at}
 use Rattle.slab.proofs.SlabLemmas.{length-entries_from, length-entries, Contains-entries}
 use Rattle.zl_rights.specs.declared.entry.Entry.{Entry}
 use Rattle.zl_rights.proofs.MapLaws.{get-put, get-update}

@@ -1,12 +1,8 @@
 -- When a word is what `{}` writes of a number.
-use Rattle.zl_trace.proofs.Common.{◌≡◌, ℕ, ◌^◌, ◌<◌, List, Result, Ok, Err, arith, sym, subst, ◌∙◌}
-use Rattle.std.specs.Prelude.{◌≢◌, ℤ, FitsSigned}
+use Rattle.zl_trace.proofs.Common.{Err, FitsSigned, IsAscii-decimal, List, Ok, ParsesSigned, ParsesUnsigned, Result, arith, decimal, parse-decimal}
+use Rattle.zl_trace.proofs.Common.{parse-signed_decimal, signed_decimal, subst, sym, w32, w64, ℕ, ℤ, ◌<◌, ◌^◌, ◌∙◌, ◌≡◌, ◌≢◌}
 use Rattle.std.specs.Int.Signed.{mag}
-use Rattle.std.specs.Int.{w32, w64}
-use Rattle.std.specs.Fmt.{decimal, signed_decimal}
 use Rattle.std.specs.Str.{IsUtf8}
-use Rattle.std.specs.Str.Parse.{ParsesSigned, ParsesUnsigned}
-use Rattle.std.proofs.lemmas.Fmt.{IsAscii-decimal, parse-decimal, parse-signed_decimal}
 use Rattle.std.proofs.lemmas.Str.{IsUtf8-from_ascii}
 use Rattle.itoa.proofs.Decimal.{IsAscii-signed_decimal}
 

@@ -1,11 +1,8 @@
 -- What has been written so far, to a writer that may tell its bytes.
-use Rattle.zl_trace.proofs.Common.{◌≡◌, ℕ, ◌+◌, ◌-◌, ◌<◌, List, [], ◌∷◌, ◌++◌, length, take, drop, get_or, Option, Result, Ok, Err, refl, sym, ap, ◌∙◌, subst}
-use Rattle.zl_trace.proofs.Common.{append_assoc, append-nil, take-append-drop, flat_map, take_more, at_drop_more, Appends, AppendsBeginning, Gathers}
-use Rattle.std.proofs.Common.{OnErr, OnOk}
-use Rattle.std.proofs.lemmas.List.{take_rest}
-use Rattle.std.proofs.lemmas.List.Concat.{flat_map-append}
+use Rattle.zl_trace.proofs.Common.{Appends, Appends-nil, Appends-trans, AppendsBeginning, Err, Gathers, List, Ok, OnErr, OnOk, Option, Result, [], ap}
+use Rattle.zl_trace.proofs.Common.{append-nil, append_assoc, at_drop_more, drop, flat_map, flat_map-append, get_or, length, refl, subst, sym, take}
+use Rattle.zl_trace.proofs.Common.{take-append-drop, take_more, take_rest, ℕ, ◌++◌, ◌+◌, ◌-◌, ◌<◌, ◌∙◌, ◌∷◌, ◌≡◌}
 use Rattle.std.proofs.Math.Seq.{take-add}
-use Rattle.std.proofs.KnownBytes.{Appends-nil, Appends-trans}
 
 -- after the first n bytes, the writer took m of the rest
 pub appended_more : (a b c : Option (List ℕ)) (bytes : List ℕ) (n m : ℕ) → Appends a b (take n bytes)

@@ -1,5 +1,5 @@
 -- All statuses, among which one is found by its name.
-use Rattle.zl_trace.proofs.Common.{◌≡◌, ℕ, List, [], ◌∷◌, Some, slice_get, refl}
+use Rattle.zl_trace.proofs.Common.{List, Some, [], refl, slice_get, ℕ, ◌∷◌, ◌≡◌}
 use Rattle.zl_rights.specs.declared.status.Status.{Status}
 use Rattle.zl_rights.specs.declared.status.Status.TheVariants as status
 

@@ -1,6 +1,6 @@
 -- The elements of a list, yielded with their numbers.
-use Rattle.zl_trace.proofs.Common.{◌≡◌, ℕ, ◌+◌, ◌<◌, List, [], ◌∷◌, ◌++◌, length, map, take, drop, get_or, refl, sym, ap, ◌∙◌, arith, length-map}
-use Rattle.zl_trace.proofs.Common.{take-append-drop, take-map, at_drop_more}
+use Rattle.zl_trace.proofs.Common.{List, [], ap, arith, at_drop_more, drop, get_or, length, length-map, map, refl, sym, take, take-append-drop, take-map, ℕ}
+use Rattle.zl_trace.proofs.Common.{◌++◌, ◌+◌, ◌<◌, ◌∙◌, ◌∷◌, ◌≡◌}
 use Rattle.std.specs.List.{enumerate_from}
 use Rattle.std.proofs.lemmas.List.FromFn.{length-enumerate_from, get_or-enumerate_from}
 

@@ -1,6 +1,6 @@
 -- The whole text of a trace, piece by piece: what is gathered so far, and what is written where the writer fails or memory is refused.
-use Rattle.zl_trace.proofs.Common.{◌≡◌, ℕ, List, [], ◌++◌, Option, sym, ap, ◌∙◌, subst, append_assoc, append-nil, flat_map, Appends, AppendsBeginning, Gathers}
-use Rattle.zl_trace.proofs.Common.{System, states_of, item_line, end_line, history_text, trace_text}
+use Rattle.zl_trace.proofs.Common.{Appends, AppendsBeginning, Gathers, List, Option, System, [], ap, append-nil, append_assoc, end_line, flat_map, history_text}
+use Rattle.zl_trace.proofs.Common.{item_line, states_of, subst, sym, trace_text, ℕ, ◌++◌, ◌∙◌, ◌≡◌}
 use Rattle.zl_sched.specs.declared.system.End.{End}
 use Rattle.zl_trace.proofs.KnownOutput.{gathers_both, begun_after}
 use Rattle.zl_trace.proofs.States.{line_of}

@@ -1,8 +1,6 @@
 -- Reading a trace text line by line.
-use Rattle.zl_trace.proofs.Common.{◌≡◌, ℕ, ◌+◌, List, [], ◌∷◌, ◌++◌, true, false, length, refl, sym, ap, ◌∙◌, arith, append_assoc, length-append, append-nil}
-use Rattle.zl_code.specs.declared.history.TraceItem.{TraceItem}
-use Rattle.zl_lines.specs.Lines.{lines_of, words_of}
-use Rattle.zl_trace.specs.Reading.{AreLinesOf, IsFirstWrong, Tells, TellsNothing, ends_items, says_nothing}
+use Rattle.zl_trace.proofs.Common.{AreLinesOf, IsFirstWrong, List, Tells, TellsNothing, TraceItem, ap, append-nil, append_assoc, arith, ends_items, false}
+use Rattle.zl_trace.proofs.Common.{length, length-append, lines_of, refl, says_nothing, sym, true, words_of, ℕ, ◌++◌, ◌+◌, ◌∙◌, ◌∷◌, ◌≡◌, []}
 unfoldable use Rattle.zl_trace.specs.Reading.{item_lines_from}
 
 -- so many lines were read, and gave these items
@@ -32,9 +30,6 @@ unfolding item_lines_from
 coming n line lines goes some = rw (goes, some) refl
 
 -- ---- the next line
-
-pub nothing_read : ReadOn [] []
-nothing_read = record { found = []; goes_on = λ rest. refl; are_lines = tt }
 
 module _ (done : List (List ℕ)) (items : List TraceItem) (so_far : ReadOn done items) (line : List ℕ) where
   one_longer : length (done ++ (line ∷ [])) + 1 ≡ length done + 1 + 1

@@ -1,18 +1,13 @@
 -- A legal history that goes on by one item, and an item that differs.
-use Rattle.zl_trace.proofs.Common.{take, drop, get_or, take_more, take-append-drop, at_drop_more, ◌≡◌, ℕ, ◌+◌, ◌-◌, ◌<◌, List, [], ◌∷◌, ◌++◌, true, zero, suc}
-use Rattle.zl_trace.proofs.Common.{inl, inr, length, replicate, flat_map, refl, sym, ap, ◌∙◌, subst, arith, append-nil}
-use Rattle.std.specs.Prelude.{◌⊎◌, ◌≢◌}
-use Rattle.std.proofs.lemmas.List.{length-take-le}
-use Rattle.std.proofs.lemmas.List.Concat.{flat_map-append}
+use Rattle.zl_trace.proofs.Common.{Differs, DiffersAt, IsReplayed, List, Machine, Repeats, StepDiffers, TraceItem, [], another, ap, append-nil, arith}
+use Rattle.zl_trace.proofs.Common.{at_drop_more, at_step, drop, flat_map, flat_map-append, get_or, inl, inr, length, length-take-le, refl, replicate, subst}
+use Rattle.zl_trace.proofs.Common.{suc, sym, take, take-append-drop, take_more, true, zero, ℕ, ◌++◌, ◌+◌, ◌-◌, ◌<◌, ◌∙◌, ◌∷◌, ◌≡◌, ◌≢◌, ◌⊎◌}
 use Rattle.std.proofs.lemmas.List.Folds.{list_all-append}
 use Rattle.zl_code.specs.Common.{World as WorldValue, Library, Step, MOST_ITEMS, single, pid_of}
 use Rattle.zl_code.specs.Steps.{Runs, has_count}
 use Rattle.zl_code.specs.declared.boot.Statement.{Statement}
-use Rattle.zl_code.specs.declared.history.TraceItem.{TraceItem}
 use Rattle.zl_code.specs.declared.history.TraceItem.TheVariants as item
 use Rattle.zl_calls.specs.Steps.{StepsTo, TakesStep}
-use Rattle.zl_calls.specs.World.{Machine}
-use Rattle.zl_trace.specs.Replaying.{Differs, DiffersAt, IsReplayed, Repeats, StepDiffers, another, at_step}
 
 -- ---- runs
 

@@ -1,11 +1,9 @@
 -- Worked examples of what a trace text holds, by computation.
-use Rattle.zl_trace.proofs.Common.{arith, rules, ◌≡◌, ℕ, List, [], ◌∷◌, refl, codes, pos}
-use Rattle.std.specs.Fmt.{digits}
+use Rattle.zl_trace.proofs.Common.{AreLinesOf, [], arith, codes, digits, item_lines_of, pos, refl, rules, ◌∷◌, ◌≡◌}
 use Rattle.zl_rights.specs.declared.status.Status.TheVariants as status
 use Rattle.zl_code.specs.declared.history.CallName.TheVariants as call
 use Rattle.zl_code.specs.declared.history.Outcome.TheVariants as outcome
 use Rattle.zl_code.specs.declared.history.TraceItem.TheVariants as item
-use Rattle.zl_trace.specs.Reading.{AreLinesOf, item_lines_of}
 unfoldable use Rattle.zl_trace.specs.Reading.{item_lines_from}
 
 -- a comment, an empty line, spaces between words, and all behind the first line that begins with `process`

@@ -1,13 +1,12 @@
 -- The lines of all processes, one after another.
-use Rattle.zl_trace.proofs.Common.{◌≡◌, ℕ, ◌<◌, ◌≤◌, List, [], ◌∷◌, ◌++◌, length, map, take, get_or, Option, Some, None, refl, sym, ap, ◌∙◌, subst, IsTrue}
-use Rattle.zl_trace.proofs.Common.{arith, zero, suc, inl, inr, ◌+◌, ◌==◌, true, eq-eqb, slice_get, flat_map, nat_cmp, is_sorted, below_all, and_parts}
-use Rattle.zl_trace.proofs.Common.{cases_Bool, eqb-true, nat_tests, none-some, same_Some, length-map, Map, get, Process, seen_in, seen_of, state_in, states_of}
-use Rattle.zl_trace.proofs.Common.{AppendsBeginning, Gathers, state_line}
+use Rattle.zl_trace.proofs.Common.{AppendsBeginning, Gathers, IsTrue, List, Machine, Map, None, Option, Process, Some, [], and_parts, ap, arith, below_all}
+use Rattle.zl_trace.proofs.Common.{cases_Bool, eq-eqb, eqb-true, flat_map, get, get_or, inl, inr, is_sorted, length, length-map, map, nat_cmp, nat_tests}
+use Rattle.zl_trace.proofs.Common.{none-some, refl, same_Some, seen_in, seen_of, slice_get, state_in, state_line, states_of, subst, suc, sym, take, true, zero}
+use Rattle.zl_trace.proofs.Common.{ℕ, ◌++◌, ◌+◌, ◌<◌, ◌==◌, ◌∙◌, ◌∷◌, ◌≡◌, ◌≤◌}
 use Rattle.zl_code.proofs.Common.{option_map, take_all}
 use Rattle.std.specs.Ordering.{is_lt}
 use Rattle.std.proofs.lemmas.Option.{slice_get-map, slice_get_within, get_or_from_slice_get}
 use Rattle.zl_code.specs.declared.history.ProcState.{ProcState}
-use Rattle.zl_calls.specs.World.{Machine}
 use Rattle.zl_trace.proofs.KnownOutput.{gathers_line, begun_line}
 
 module _ {X : Type 0} where

@@ -1,6 +1,6 @@
 -- The stored run: its history follows its schedule, and has its text, by computation.
-use Rattle.zl_trace.proofs.Common.{◌≡◌, ℕ, List, [], ◌∷◌, ◌++◌, refl, codes, pos, replicate, Choice, Refused, boot_effect, Follows, turns_of, history_text}
-use Rattle.std.specs.Fmt.{digits}
+use Rattle.zl_trace.proofs.Common.{Choice, Follows, List, Refused, [], boot_effect, codes, digits, history_text, pos, refl, replicate, turns_of, ℕ, ◌++◌, ◌∷◌}
+use Rattle.zl_trace.proofs.Common.{◌≡◌}
 use Rattle.zl_code.specs.declared.history.ProcState.TheVariants as seen
 use Rattle.zl_code.proofs.Running.{computing, world_after}
 use Rattle.zl_code.proofs.Stored.{library, boot, history, turns}

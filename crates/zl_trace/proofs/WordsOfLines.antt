@@ -1,12 +1,8 @@
 -- The line of an item is its words with a space between them.
-use Rattle.zl_trace.proofs.Common.{◌≡◌, ◌++◌, List, ℕ, refl, sym, ap, ◌∙◌, append_assoc, codes, call_name, item_line}
-use Rattle.std.specs.Fmt.{decimal, signed_decimal}
-use Rattle.zl_rights.specs.Names.{status_name}
-use Rattle.zl_code.specs.declared.history.Outcome.{Outcome}
+use Rattle.zl_trace.proofs.Common.{List, TraceItem, ap, append_assoc, call_name, codes, decimal, item_line, item_words, signed_decimal, status_name, sym}
+use Rattle.zl_trace.proofs.Common.{ℕ, ◌++◌, ◌∙◌, ◌≡◌}
 use Rattle.zl_code.specs.declared.history.Outcome.TheVariants as outcome
-use Rattle.zl_code.specs.declared.history.TraceItem.{TraceItem}
 use Rattle.zl_code.specs.declared.history.TraceItem.TheVariants as item
-use Rattle.zl_trace.specs.Reading.{item_words}
 unfoldable use Rattle.zl_trace.specs.Reading.{spaced}
 
 -- three words, the first of which is no literal

@@ -1,20 +1,17 @@
 -- The rule of each local instruction and its effect agree.
-use Rattle.zl_verify.proofs.Common.{◌≡◌, ◌≢◌, ℕ, zero, suc, ◌+◌, ◌-◌, ◌*◌, ◌<◌, ◌≤◌, ◌⊎◌, Bool, true, false, not, ◌&&◌, ◌||◌, ◌==◌, List, [], ◌∷◌, length, take}
-use Rattle.zl_verify.proofs.Common.{drop, refl, sym, ap, subst, Option, Some, None, Result, Ok, Err, arith, inl, inr, slice_set, eq-eqb, if◌then◌else◌, nat_lt}
-use Rattle.zl_verify.proofs.Common.{nat_le, slice_get, slice_index_or, bit_and, bit_or, bit_xor, ◌/◌, ◌^◌, nat_tests, and_le_l, or_lt, mod-lt, Cpu, Entry, bits}
-use Rattle.zl_verify.proofs.Common.{within, KNOWN_RIGHTS, SlotArray, LocalInstr, Image, number_of, are_registers, is_local_in_range, local_parts, reg, sets}
-use Rattle.zl_verify.proofs.Common.{is_in_memory, swaps, local_effect, AbsVal, Word, Has, Cause, ANY, is_has, capped, smaller, kind_below, State, IsState}
-use Rattle.zl_verify.proofs.Common.{value_at, with_value, rounded, and_then, passes, writes, word_at, shifted, in_memory, loads, stores, may_move, moved}
-use Rattle.zl_verify.proofs.Common.{slot_fault, swaps_by, swaps_in, unless, zero_ways, equal_ways, below_ways, has_ways, local_rule, target_of, both, Table}
-use Rattle.zl_verify.proofs.Common.{IsHandle, Describes, one_if, is_it, owns, Holds, IsMemory}
-use Rattle.std.specs.Prelude.{◌%◌}
-use Rattle.std.proofs.lemmas.Nat.{and_le_r, xor_lt, le-div, pow_pos}
-use Rattle.std.proofs.Math.Nat.{mod-le, div-mul-le_self}
-use Rattle.zl_code.specs.Spells.{is_32_bits}
+use Rattle.zl_verify.proofs.Common.{ANY, AbsVal, Bool, Cause, Cpu, Describes, Entry, Err, Has, Holds, Image, IsHandle, IsMemory, IsState, KNOWN_RIGHTS, List}
+use Rattle.zl_verify.proofs.Common.{LocalInstr, None, Ok, Option, Result, SlotArray, Some, State, Table, Word, [], and_le_l, and_le_r, and_then, ap}
+use Rattle.zl_verify.proofs.Common.{are_registers, arith, below_ways, bit_and, bit_or, bit_xor, bits, both, capped, computes, copies, div-mul-le_self, drop}
+use Rattle.zl_verify.proofs.Common.{eq-eqb, equal_ways, false, has_ways, if◌then◌else◌, in_memory, inl, inr, is_32_bits, is_has, is_in_memory, is_it}
+use Rattle.zl_verify.proofs.Common.{is_local_in_range, kind_below, le-div, length, loads, local_effect, local_parts, local_rule, may_move, mod-le, mod-lt}
+use Rattle.zl_verify.proofs.Common.{moved, nat_le, nat_lt, nat_tests, not, number_of, one_if, or_lt, owns, passes, pow_pos, refl, reg, rounded, sets, shifted}
+use Rattle.zl_verify.proofs.Common.{slice_get, slice_index_or, slice_set, slot_fault, smaller, stores, subst, suc, swaps, swaps_by, swaps_in, sym, take}
+use Rattle.zl_verify.proofs.Common.{target_of, true, unless, value_at, with_value, within, word_at, writes, xor_lt, zero, zero_ways, ℕ, ◌%◌, ◌&&◌, ◌*◌, ◌+◌}
+use Rattle.zl_verify.proofs.Common.{◌-◌, ◌/◌, ◌<◌, ◌==◌, ◌^◌, ◌||◌, ◌∷◌, ◌≡◌, ◌≢◌, ◌≤◌, ◌⊎◌}
 use Rattle.zl_code.specs.Local.{wrapped, loads as loads_from, stores as stores_to, goes_if}
 use Rattle.zl_abs.specs.Outcome.{Outcome}
 use Rattle.zl_abs.specs.Bounds.{least_from}
-use Rattle.zl_abs.specs.LocalRules.{computes, copies, takes}
+use Rattle.zl_abs.specs.LocalRules.{takes}
 use Rattle.zl_code.specs.declared.instr.LocalInstr.TheVariants as local
 use Rattle.zl_abs.specs.declared.cause.Cause.TheVariants as cause
 use Rattle.zl_verify.proofs.Writing.{write_word, write_copy}

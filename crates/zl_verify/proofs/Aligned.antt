@@ -1,17 +1,14 @@
 -- What a call does and what its rule says are the same columns of the table, at values and at registers.
-use Rattle.zl_verify.proofs.Common.{◌≡◌, ℕ, zero, suc, ◌+◌, ◌*◌, ◌<◌, ◌≤◌, Bool, true, false, ◌&&◌, List, [], ◌∷◌, ◌++◌, map, drop, refl, ap, Option, Some}
-use Rattle.zl_verify.proofs.Common.{None, arith, slice_index, cond, nat_lt, nat_le, list_all, AllByRecursion, nat_tests, Cpu, register_count, CallName}
-use Rattle.zl_verify.proofs.Common.{CallInstr, Ending, call_row, number_at, is_call_in_range, are_registers, Site, site_of, Operand, any, needs, taking}
-use Rattle.zl_verify.proofs.Common.{handle_operands, condition_of, AbsVal, Word, State, Uses, uses_of, triple_results, both}
-use Rattle.std.proofs.Common.{zip}
-use Rattle.zl_rights.specs.Numbers.{WRITE, TRANSFER}
+use Rattle.zl_verify.proofs.Common.{AbsVal, AllByRecursion, Bool, CallInstr, CallName, Cpu, Ending, List, None, Operand, Option, Site, Some, State, TRANSFER}
+use Rattle.zl_verify.proofs.Common.{Uses, WRITE, Word, [], any, ap, are_registers, arith, both, call_reading, call_row, cond, condition_of, drop, false}
+use Rattle.zl_verify.proofs.Common.{handle_operands, is_call_in_range, list_all, map, names_registers, nat_le, nat_lt, nat_tests, needs, number_at, operands_at}
+use Rattle.zl_verify.proofs.Common.{operands_listed, received_in, refl, register_count, site_of, slice_index, suc, taking, triple_results, true, uses_of}
+use Rattle.zl_verify.proofs.Common.{values_of, zero, zip, ℕ, ◌&&◌, ◌*◌, ◌++◌, ◌+◌, ◌<◌, ◌∷◌, ◌≡◌, ◌≤◌}
 use Rattle.zl_code.specs.Limits.{most_handles}
 use Rattle.zl_code.specs.Instructions.{Field, names, consumes, closes}
-use Rattle.zl_code.specs.Spells.{names_registers, call_reading}
 use Rattle.zl_code.specs.Asked.{used, those, is_written, listed_in, triples_from}
 use Rattle.zl_code.specs.Refusals.{operand_by}
 use Rattle.zl_code.proofs.ImageCalls.{whole}
-use Rattle.zl_abs.specs.CallRules.{operands_at, operands_listed, values_of, received_in}
 use Rattle.zl_rights.specs.declared.kind.Kind.TheVariants as kind
 use Rattle.zl_code.specs.declared.history.CallName.TheVariants as name
 use Rattle.zl_code.specs.declared.layout.Ending.TheVariants as ending

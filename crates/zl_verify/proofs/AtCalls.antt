@@ -1,8 +1,8 @@
 -- A process that conforms and stands at a call: the call, its site, and its rule, which holds there.
-use Rattle.zl_verify.proofs.Common.{◌≡◌, ℕ, ◌⊎◌, true, length, refl, ap, ◌∙◌, Option, Some, None, Result, Ok, Err, inl, inr, if◌then◌else◌, World, Cpu, Process}
-use Rattle.zl_verify.proofs.Common.{Condition, CallName, Instr, CallInstr, Image, instr_at, call_at, call_in, is_call_in_range, local_effect, Site, site_of}
-use Rattle.zl_verify.proofs.Common.{AtCall, IsStuck, moves, calls_at, next_of, next_at, by_policy, ranges, Cause, bounds_of, State, with_all, and_then, edges}
-use Rattle.zl_verify.proofs.Common.{passes, Ways, is_declared, uses_of, goes_on, stops, call_rule, rule_with, RuleHolds, StandsAtCall}
+use Rattle.zl_verify.proofs.Common.{AtCall, CallInstr, CallName, Cause, Condition, Cpu, Err, Image, Instr, IsStuck, None, Ok, Option, Process, Result}
+use Rattle.zl_verify.proofs.Common.{RuleHolds, Site, Some, StandsAtCall, State, Ways, World, and_then, ap, bounds_of, by_policy, call_at, call_in, call_rule}
+use Rattle.zl_verify.proofs.Common.{calls_at, edges, goes_on, if◌then◌else◌, inl, inr, instr_at, is_call_in_range, is_declared, length, local_effect, moves}
+use Rattle.zl_verify.proofs.Common.{next_at, next_of, passes, ranges, refl, rule_with, site_of, stops, true, uses_of, with_all, ℕ, ◌∙◌, ◌≡◌, ◌⊎◌}
 use Rattle.zl_code.specs.declared.instr.Instr.TheVariants as instr
 use Rattle.zl_verify.proofs.LocalSteps.{in_range_at}
 use Rattle.zl_verify.proofs.Aligned.{aligned}

@@ -1,11 +1,11 @@
 -- A process that waits as its typing says gets an answer that fits: then it stands at the end of a followed edge, as the typing says there.
-use Rattle.zl_verify.proofs.Common.{◌≡◌, ℕ, ◌≤◌, Bool, true, List, [], ◌∷◌, length, refl, sym, ap, ◌∙◌, subst, Option, Some, None, Result, Ok, Err, inr, arith}
-use Rattle.zl_verify.proofs.Common.{slice_set, slice_index, if◌then◌else◌, answered, get, World, Process, Ready, Blocked, Life, SignalOf, PacketAt, Packet}
-use Rattle.zl_verify.proofs.Common.{packet_values, Instr, CallInstr, CallName, Image, instr_at, call_at, call_in, is_in_range, is_call_in_range, reg, by_policy}
-use Rattle.zl_verify.proofs.Common.{wait_one, port_wait, handle_operands, condition_of, Site, site, site_of, taken_handles, cpu_answered, ranges, Word, Cause}
-use Rattle.zl_verify.proofs.Common.{ANY, bounds_of, rounded, State, with_value, with_all, and_then, edges, passes, Ways, Uses, uses_of, goes_on, stops}
-use Rattle.zl_verify.proofs.Common.{call_rule, rule_with, IsTyping, RuleHolds, targets_of, OneOf, Holds, IsMemory, waits_for, WaitsAt, Conforms, IsSizedPacket}
-use Rattle.zl_verify.proofs.Common.{ends_of}
+use Rattle.zl_verify.proofs.Common.{ANY, Blocked, Bool, CallInstr, CallName, Cause, Conforms, Err, Holds, Image, Instr, IsMemory, IsSizedPacket, IsTyping, Life}
+use Rattle.zl_verify.proofs.Common.{List, None, Ok, OneOf, Option, Packet, PacketAt, Process, Ready, Result, RuleHolds, SignalOf, Site, Some, State, Uses}
+use Rattle.zl_verify.proofs.Common.{WaitsAt, Ways, Word, World, [], and_then, answered, ap, arith, bounds_of, by_policy, call_at, call_in, call_rule}
+use Rattle.zl_verify.proofs.Common.{condition_of, cpu_answered, edges, ends_of, get, goes_on, handle_operands, if◌then◌else◌, inr, instr_at, is_call_in_range}
+use Rattle.zl_verify.proofs.Common.{is_in_range, length, packet_values, passes, port_wait, ranges, refl, reg, rounded, rule_with, site, site_of, slice_index}
+use Rattle.zl_verify.proofs.Common.{slice_set, stops, subst, sym, taken_handles, targets_of, true, uses_of, wait_one, waits_for, with_all, with_value, ℕ, ◌∙◌}
+use Rattle.zl_verify.proofs.Common.{◌∷◌, ◌≡◌, ◌≤◌}
 use Rattle.zl_verify.specs.Conforms.{answered_in}
 use Rattle.zl_rights.specs.declared.status.Status.TheVariants as status
 use Rattle.zl_code.specs.declared.instr.Instr.TheVariants as instr

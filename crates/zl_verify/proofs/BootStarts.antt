@@ -1,17 +1,15 @@
 -- In a boot world each process is as a statement started it, and properly where its program is checked.
-use Rattle.zl_verify.proofs.Common.{◌≡◌, ℕ, ◌+◌, ◌≤◌, ◌⊎◌, Bool, true, false, ◌==◌, List, [], ◌∷◌, refl, sym, ap, ◌∙◌, subst, arith, IsTrue, Option, Some, None}
-use Rattle.zl_verify.proofs.Common.{option_map, inl, inr, if◌then◌else◌, slice_get, AllByRecursion, cases_Bool, eqb-true, none-some, same_Some, Entry}
-use Rattle.zl_verify.proofs.Common.{Condition, get, lives, Settles, process_settled, without_others, World, Process, EventBody, PairEnd, PortBody, ChannelEnd}
-use Rattle.zl_verify.proofs.Common.{ProcessBody, has_child_job, has_child_process, get-put, get-each, Statement, Image, Library, Program, is_among, with_object}
-use Rattle.zl_verify.proofs.Common.{on_object, process_with, may_get_all, job_within, created_process, program_in, program_of, Boots, setting, are_declared}
-use Rattle.zl_verify.proofs.Common.{may_boot, boot_effect, handles_given, origin, process_with_all, body_of, creates, IsSound, word_of, IsSizedBoot}
-use Rattle.zl_verify.proofs.Common.{IsProperStart, IsStarted, boot_sound, ANY}
-use Rattle.std.proofs.lemmas.Bool.{not-false}
+use Rattle.zl_verify.proofs.Common.{ANY, AllByRecursion, Bool, Boots, ChannelEnd, Condition, Entry, EventBody, Image, IsBooting, IsProperStart, IsSizedBoot}
+use Rattle.zl_verify.proofs.Common.{IsSound, IsStarted, IsTrue, Library, List, None, Option, PairEnd, PortBody, Process, ProcessBody, Program, Settles, Some}
+use Rattle.zl_verify.proofs.Common.{Statement, World, [], ap, are_declared, arith, body_of, boot_effect, boot_sound, cases_Bool, created_process, creates}
+use Rattle.zl_verify.proofs.Common.{eqb-true, false, get, get-each, get-put, handles_given, has_child_job, has_child_process, if◌then◌else◌, inl, inr, is_among}
+use Rattle.zl_verify.proofs.Common.{job_within, lives, may_boot, may_get_all, none-some, not-false, on_object, option_map, origin, origin_booting}
+use Rattle.zl_verify.proofs.Common.{process_settled, process_with, process_with_all, program_in, program_of, refl, same_Some, setting, slice_get, still_booting}
+use Rattle.zl_verify.proofs.Common.{subst, sym, true, with_object, without_others, word_of, ℕ, ◌+◌, ◌==◌, ◌∙◌, ◌∷◌, ◌≡◌, ◌≤◌, ◌⊎◌}
 use Rattle.zl_code.specs.declared.boot.Grant.{Grant}
 use Rattle.zl_code.specs.Boot.{are_misfits, boot_fault, started_process}
 use Rattle.zl_code.proofs.CanStart.{CanStart, can_start}
 use Rattle.zl_code.proofs.StepChanges.{no_child_booted, job_is_there}
-use Rattle.zl_code.proofs.SoundRuns.{IsBooting, origin_booting, still_booting}
 use Rattle.zl_verify.specs.WakeLaws.{IsBooted}
 use Rattle.zl_code.specs.declared.boot.Statement.TheVariants as statement
 use Rattle.zl_verify.proofs.OwnEffect.{AreAlike, alike_then, same_objects, made_alike, pair_alike, neither_one, set_alike, same_policy}

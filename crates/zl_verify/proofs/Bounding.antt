@@ -1,15 +1,13 @@
 -- What the numbers of a typing's instructions say of its step bound, and of those of other typings.
-use Rattle.zl_verify.proofs.Common.{◌≡◌, ℕ, zero, suc, ◌+◌, ◌<◌, ◌≤◌, Bool, true, false, List, [], ◌∷◌, map, length, Option, Some, None, refl, sym, ap, ◌∙◌}
-use Rattle.zl_verify.proofs.Common.{subst, inl, inr, arith, Result, Ok, Err, if◌then◌else◌, slice_get, get_or, nat_le, nat_lt, position, nat_tests}
-use Rattle.zl_verify.proofs.Common.{slice_get-get_or, Image, call_at, Cause, Edge, bounds_of, State, IsAmong, AreAmong, RuleBelow, rule, IsAbove, IsTyping}
-use Rattle.zl_verify.proofs.Common.{rule_below, at, is_pause, targets_of, leads_by, leads, IsBelow, AllBelow, IsStepBound, OneOf, Follow, IsOver, places_at}
-use Rattle.zl_verify.proofs.Common.{AreNumbers, is_over, AreTargets, Targets, IsLeastTyping}
-use Rattle.std.specs.List.{position_or_len}
+use Rattle.zl_verify.proofs.Common.{AllBelow, AreAmong, AreNumbers, AreTargets, Bool, Cause, Edge, Err, Follow, Image, IsAbove, IsAmong, IsBelow, IsLeastTyping}
+use Rattle.zl_verify.proofs.Common.{IsOver, IsOverBudget, IsStepBound, IsTyping, List, None, Ok, OneOf, Option, Result, RuleBelow, Some, State, Targets, [], ap}
+use Rattle.zl_verify.proofs.Common.{arith, at, bounds_of, call_at, false, get_or, if◌then◌else◌, inl, inr, is_over, is_pause, leads, leads_by, length, map}
+use Rattle.zl_verify.proofs.Common.{nat_le, nat_lt, nat_tests, places_at, position, position_or_len, refl, rule, rule_below, slice_get, slice_get-get_or, subst}
+use Rattle.zl_verify.proofs.Common.{suc, sym, targets_of, true, zero, ℕ, ◌+◌, ◌<◌, ◌∙◌, ◌∷◌, ◌≡◌, ◌≤◌}
 use Rattle.std.proofs.lemmas.List.Quantifiers.{position-Some}
 use Rattle.std.proofs.lemmas.List.Sums.{fails_before_first}
 use Rattle.zl_abs.specs.Typing.{Holds}
 use Rattle.zl_verify.specs.Lists.{within}
-use Rattle.zl_verify.specs.Checks.{IsOverBudget}
 use Rattle.zl_verify.proofs.Places.{mapped}
 use Rattle.zl_verify.proofs.Numbering.{fewer}
 use Rattle.zl_verify.proofs.Leading.{same_places}

@@ -1,6 +1,6 @@
 -- A call is refused, wants memory, or is done. What is so behind each of these is so behind the call.
-use Rattle.zl_verify.proofs.Common.{◌≡◌, ℕ, true, List, refl, IsTrue, Option, Some, None, World, Status, Outcome, Library, refusal, Site, Calls, CallBy, Choice}
-use Rattle.zl_verify.proofs.Common.{Refused, Wants, Values, may_want, may_choose, taken, ok_outcome, after_refusal, after_ok}
+use Rattle.zl_verify.proofs.Common.{CallBy, Calls, Choice, IsTrue, Library, List, None, Option, Outcome, Refused, Site, Some, Status, Values, Wants, World}
+use Rattle.zl_verify.proofs.Common.{after_ok, after_refusal, may_choose, may_want, ok_outcome, refl, refusal, taken, true, ℕ, ◌≡◌}
 use Rattle.zl_code.specs.declared.history.Outcome.TheVariants as outcome
 
 module _ (lib : Library) (w : World) (p : ℕ) (t : Site) (Q : Outcome → World → Type 0)

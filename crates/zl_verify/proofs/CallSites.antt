@@ -1,11 +1,9 @@
 -- Where the rule of a call holds, what the call asks for can be read.
-use Rattle.zl_verify.proofs.Common.{◌≡◌, ℕ, ◌+◌, ◌≤◌, Bool, true, false, not, List, length, refl, subst, Option, Some, Result, Ok, Err, arith, slice_index}
-use Rattle.zl_verify.proofs.Common.{same_Some, if◌then◌else◌, nat_le, nat_tests, Cpu, CallInstr, Ending, Image, call_row, reg, is_in_memory, has_its_memory}
-use Rattle.zl_verify.proofs.Common.{AbsVal, Word, Has, Cause, ANY, State, value_at, and_then, passes, range_fits, are_words, is_declared, examined_all}
-use Rattle.zl_verify.proofs.Common.{finished, state_after, Uses, uses_of, goes_on, stops, call_rule, Table, Holds, IsMemory}
+use Rattle.zl_verify.proofs.Common.{ANY, AbsVal, Bool, CallInstr, Cause, Cpu, Ending, Err, Has, Holds, Image, IsMemory, List, Ok, Option, Result, Some, State}
+use Rattle.zl_verify.proofs.Common.{Table, Uses, Word, and_then, answers, are_words, arith, bound_at, call_row, call_rule, examined_all, false, finished}
+use Rattle.zl_verify.proofs.Common.{goes_on, has_its_memory, if◌then◌else◌, is_declared, is_in_memory, length, nat_le, nat_tests, not, passes, range_fits}
+use Rattle.zl_verify.proofs.Common.{range_in, refl, reg, same_Some, slice_index, state_after, stops, subst, sum_fits, true, uses_of, value_at, ℕ, ◌+◌, ◌≡◌, ◌≤◌}
 use Rattle.zl_abs.specs.Values.{bound_of}
-use Rattle.zl_abs.specs.States.{bound_at}
-use Rattle.zl_abs.specs.CallRules.{sum_fits, answers, range_in}
 use Rattle.zl_code.specs.declared.layout.Ending.TheVariants as ending
 use Rattle.zl_abs.specs.declared.cause.Cause.TheVariants as cause
 

@@ -1,14 +1,11 @@
 -- What calls tell their callers fits registers: active signals, sizes of messages, and packets.
-use Rattle.zl_verify.proofs.Common.{◌≡◌, ℕ, ◌<◌, ◌≤◌, Bool, true, false, not, List, [], ◌∷◌, length, refl, Option, Some, None, arith, bit_or, bit_and}
-use Rattle.zl_verify.proofs.Common.{slice_index, if◌then◌else◌, AllByRecursion, list_all, and_le_l, or_lt, Entry, Kind, bits, within, default_rights_of, get}
-use Rattle.zl_verify.proofs.Common.{World, Object, Body, ChannelEnd, EventBody, PairEnd, PortBody, JobBody, ProcessBody, queue_of, Message, active, is_empty}
-use Rattle.zl_verify.proofs.Common.{has_child_job, has_child_process, is_process, has_ended, has_key, body_in, body_of, object_at, queue_at, first_bytes}
-use Rattle.zl_verify.proofs.Common.{first_handles, packets_in, packets_at, IsSound, ANY, both, IsSizedMessage, IsSizedPacket, QueuesAreSized}
+use Rattle.zl_verify.proofs.Common.{ANY, AllByRecursion, Body, Bool, ChannelEnd, Entry, EventBody, IsSizedMessage, IsSizedPacket, IsSound, JobBody, Kind, List}
+use Rattle.zl_verify.proofs.Common.{Message, NO_JOBS, NO_PROCESSES, None, Object, Option, PEER_CLOSED, PairEnd, PortBody, ProcessBody, QueuesAreSized, READABLE}
+use Rattle.zl_verify.proofs.Common.{Some, TERMINATED, WRITABLE, World, [], active, and_le_l, arith, bit_and, bit_or, bits, body_in, body_of, both}
+use Rattle.zl_verify.proofs.Common.{default_rights_of, false, first_bytes, first_handles, get, has_child_job, has_child_process, has_default_rights, has_ended}
+use Rattle.zl_verify.proofs.Common.{has_key, if◌then◌else◌, is_empty, is_process, length, list_all, not, object_at, or_lt, packets_at, packets_in, queue_at}
+use Rattle.zl_verify.proofs.Common.{queue_in, queue_of, raisable, refl, slice_index, true, within, ℕ, ◌<◌, ◌∷◌, ◌≡◌, ◌≤◌}
 use Rattle.zl_rights.specs.Signals.{active_of, implied, signal_if}
-use Rattle.zl_rights.specs.Numbers.{READABLE, WRITABLE, PEER_CLOSED, TERMINATED, NO_JOBS, NO_PROCESSES}
-use Rattle.zl_code.specs.Tests.{queue_in}
-use Rattle.zl_code.specs.Handles.{has_default_rights}
-use Rattle.zl_code.specs.Sound.{raisable}
 use Rattle.zl_abs.proofs.Order.{is_within}
 use Rattle.zl_rights.specs.declared.kind.Kind.TheVariants as kind
 use Rattle.zl_verify.proofs.Giving.{HasFewRights}

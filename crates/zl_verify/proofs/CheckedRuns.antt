@@ -1,11 +1,10 @@
 -- A process that conforms is never refused for a handle, no policy ends it, and it keeps its budget, till it ends itself or another kills it.
-use Rattle.zl_verify.proofs.Common.{◌≡◌, ◌≢◌, ℕ, ◌+◌, ◌-◌, ◌<◌, ◌≤◌, ◌⊎◌, true, false, ◌==◌, List, [], ◌∷◌, ◌++◌, refl, sym, ap, ◌∙◌, subst, Option, Some, None}
-use Rattle.zl_verify.proofs.Common.{inl, inr, arith, nat_le, slice_get, AllByRecursion, cases_Bool, eqb-true, nat_tests, same_Some, get, runs, World, Process}
-use Rattle.zl_verify.proofs.Common.{Ready, Blocked, Ended, Awaited, KILLED, has_ended, Statement, TraceItem, Image, Library, call_at, is_in_range, Step, pid_of}
-use Rattle.zl_verify.proofs.Common.{Runs, IsSizedBoot, executed, State, IsTyping, Conforms, is_pause, IsBelow, AllBelow, IsStepBound, OneOf, IsFitStep, stays}
-use Rattle.zl_verify.proofs.Common.{OthersLeave, left_so, was_killed, IsFineItem, IsUnderWay, HasEnded}
-use Rattle.std.specs.Prelude.{IsSomeAnd}
-use Rattle.zl_code.specs.Headline.{left_behind, KeepsBudget}
+use Rattle.zl_verify.proofs.Common.{AllBelow, AllByRecursion, Awaited, Blocked, Conforms, Ended, HasEnded, Image, IsBelow, IsFineItem, IsFitStep, IsSizedBoot}
+use Rattle.zl_verify.proofs.Common.{IsSomeAnd, IsStepBound, IsTyping, IsUnderWay, KILLED, KeepsBudget, Library, List, None, OneOf, Option, OthersLeave, Process}
+use Rattle.zl_verify.proofs.Common.{Ready, Runs, Some, State, Statement, Step, TraceItem, World, [], ap, arith, call_at, cases_Bool, eqb-true, executed, false}
+use Rattle.zl_verify.proofs.Common.{get, has_ended, inl, inr, is_in_range, is_pause, left_so, nat_le, nat_tests, pid_of, refl, runs, same_Some, slice_get}
+use Rattle.zl_verify.proofs.Common.{stays, subst, sym, true, was_killed, ℕ, ◌++◌, ◌+◌, ◌-◌, ◌<◌, ◌==◌, ◌∙◌, ◌∷◌, ◌≡◌, ◌≢◌, ◌≤◌, ◌⊎◌}
+use Rattle.zl_code.specs.Headline.{left_behind}
 use Rattle.zl_verify.specs.WakeLaws.{wakes}
 use Rattle.zl_verify.proofs.Counting.{has_edge}
 use Rattle.zl_verify.proofs.Woken.{fit_of, sound_before}

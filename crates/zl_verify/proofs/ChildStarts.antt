@@ -1,16 +1,15 @@
 -- A process that another starts is started properly, where its program is checked.
-use Rattle.zl_verify.proofs.Common.{◌≡◌, ℕ, ◌≤◌, Bool, true, false, not, ◌&&◌, ◌==◌, List, [], ◌∷◌, ◌++◌, refl, sym, ap, ◌∙◌, subst, Option, Some, None}
-use Rattle.zl_verify.proofs.Common.{option_map, Ok, Err, if◌then◌else◌, slice_get, AllByRecursion, option_to_list, same_Some, Entry, Kind, Action, Condition}
-use Rattle.zl_verify.proofs.Common.{Status, bits, within, get, is_process, World, Process, Ready, state_passes, takes, Statement, Outcome, TraceItem, Start}
-use Rattle.zl_verify.proofs.Common.{Image, Library, Program, first_some, entry_at, object_at, action_of, parent_of, Operand, creates, operand, operand_after}
-use Rattle.zl_verify.proofs.Common.{seen_after, contains, examined, unless_allowed, by_policy, on_process, process_with, may_get, may_get_all, is_created}
-use Rattle.zl_verify.proofs.Common.{started_with, program_in, program_of, are_declared, refusal, handle_operands, condition_of, Request, process_start, listed}
-use Rattle.zl_verify.proofs.Common.{effect, new_handles, gives_ok, Site, site, Calls, CallBy, Choice, Refused, Wants, Values, may_want, taken_handles, taken}
-use Rattle.zl_verify.proofs.Common.{may_choose, replied, with_effect, AtCall, Acts, Runs, next_in, pid_of, IsSound, IsSizedBoot, StartsChild, IsStarted, ANY}
-use Rattle.zl_verify.proofs.Common.{AreUnstarted, IsRunStep, IsFitStep}
+use Rattle.zl_verify.proofs.Common.{ANY, Action, Acts, AllByRecursion, AreUnstarted, AtCall, Bool, CallBy, Calls, Choice, Condition, Entry, Err, Image}
+use Rattle.zl_verify.proofs.Common.{IsFitStep, IsRunStep, IsSizedBoot, IsSound, IsStarted, Kind, Library, List, None, Ok, Operand, Option, Outcome, Process}
+use Rattle.zl_verify.proofs.Common.{Program, Ready, Refused, Request, Runs, Site, Some, Start, StartsChild, Statement, Status, TraceItem, Values, Wants, World}
+use Rattle.zl_verify.proofs.Common.{[], action_of, ap, are_declared, bits, by_policy, condition_of, contains, creates, effect, entry_at, examined, false}
+use Rattle.zl_verify.proofs.Common.{first_some, get, gives_ok, handle_operands, if◌then◌else◌, is_created, is_only_start, is_process, listed, may_choose}
+use Rattle.zl_verify.proofs.Common.{may_get, may_get_all, may_want, misfits, new_handles, next_in, not, object_at, on_process, operand, operand_after}
+use Rattle.zl_verify.proofs.Common.{option_map, option_to_list, parent_of, pid_of, process_start, process_with, program_in, program_of, refl, refusal, replied}
+use Rattle.zl_verify.proofs.Common.{same_Some, seen_after, site, slice_get, started_with, state_passes, subst, sym, taken, taken_handles, takes, true}
+use Rattle.zl_verify.proofs.Common.{unless_allowed, with_effect, within, ℕ, ◌&&◌, ◌++◌, ◌==◌, ◌∙◌, ◌∷◌, ◌≡◌, ◌≤◌}
 use Rattle.zl_rights.specs.LookUp.{granted}
 use Rattle.zl_code.specs.Operands.{ends_if_kill, faults, by_look_up}
-use Rattle.zl_code.specs.Jobs.{is_only_start, misfits}
 use Rattle.zl_rights.specs.declared.policy.Action.TheVariants as action
 use Rattle.zl_rights.specs.declared.policy.Condition.TheVariants as condition
 use Rattle.zl_rights.specs.declared.status.Status.TheVariants as status

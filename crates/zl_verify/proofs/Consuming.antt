@@ -1,8 +1,8 @@
 -- A register gives its handle away, or gets a new one, or what is told of one.
-use Rattle.zl_verify.proofs.Common.{◌≡◌, ◌≢◌, ℕ, ◌+◌, ◌<◌, ◌≤◌, ◌⊎◌, Bool, true, false, ◌==◌, List, length, refl, sym, ap, ◌∙◌, subst, Option, Some, None, cond}
-use Rattle.zl_verify.proofs.Common.{arith, inl, inr, slice_set, slice_index, is_some, if◌then◌else◌, cases_eq, eqb-true, nat_tests, get_or-set_other, Entry}
-use Rattle.zl_verify.proofs.Common.{Kind, Rights, SlotArray, Word, Has, KindOf, RightsOf, ANY, is_has, State, IsState, value_at, with_value, Table, kind_in}
-use Rattle.zl_verify.proofs.Common.{rights_in, IsAs, Describes, one_if, owns, Holds, eq-eqb}
+use Rattle.zl_verify.proofs.Common.{ANY, Bool, Describes, Entry, Has, Holds, IsAs, IsState, Kind, KindOf, List, None, Option, Rights, RightsOf, SlotArray, Some}
+use Rattle.zl_verify.proofs.Common.{State, Table, Word, ap, arith, cases_eq, cond, eq-eqb, eqb-true, false, get_or-set_other, if◌then◌else◌, inl, inr, is_has}
+use Rattle.zl_verify.proofs.Common.{is_some, kind_in, length, nat_tests, one_if, owns, refl, rights_in, slice_index, slice_set, subst, sym, true, value_at}
+use Rattle.zl_verify.proofs.Common.{with_value, ℕ, ◌+◌, ◌<◌, ◌==◌, ◌∙◌, ◌≡◌, ◌≢◌, ◌≤◌, ◌⊎◌}
 use Rattle.zl_verify.proofs.Owners.{owns_it, owns_apart, owns_free, owns_0, one_at_most, owners-set, owners-zero, keepers-zero}
 use Rattle.zl_verify.proofs.Writing.{nothing_at_0, others, write, write_plain}
 use Rattle.zl_verify.proofs.Tagging.{test_apart}

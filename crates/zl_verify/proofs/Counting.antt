@@ -1,7 +1,7 @@
 -- What is over by counting instructions is over by counting edges, and the other way round.
-use Rattle.zl_verify.proofs.Common.{◌≡◌, ◌≢◌, ℕ, zero, suc, Bool, true, false, List, [], ◌∷◌, length, Option, Some, None, Result, Ok, Err, refl, sym, subst}
-use Rattle.zl_verify.proofs.Common.{inl, inr, arith, ◌↔◌, if◌then◌else◌, Image, call_at, Cause, Edge, State, rule, IsTyping, is_pause, targets_of, leads_by}
-use Rattle.zl_verify.proofs.Common.{leads, OneOf, Follow, IsOver}
+use Rattle.zl_verify.proofs.Common.{Bool, Cause, Edge, Err, Follow, Image, IsOver, IsTyping, List, None, Ok, OneOf, Option, Result, Some, State, [], arith}
+use Rattle.zl_verify.proofs.Common.{call_at, false, if◌then◌else◌, inl, inr, is_pause, leads, leads_by, length, refl, rule, subst, suc, sym, targets_of, true}
+use Rattle.zl_verify.proofs.Common.{zero, ℕ, ◌↔◌, ◌∷◌, ◌≡◌, ◌≢◌}
 use Rattle.zl_abs.specs.Typing.{Holds}
 use Rattle.zl_verify.specs.Over.{Counts, AllCount, IsOverByCount}
 use Rattle.zl_verify.proofs.Numbering.{fewer}

@@ -1,9 +1,8 @@
 -- Each covered process of a history goes well from its start on.
-use Rattle.zl_verify.proofs.Common.{◌≡◌, ℕ, true, List, refl, sym, subst, Option, Some, None, slice_get, flat_map, none-some, get, World, Process, Statement}
-use Rattle.zl_verify.proofs.Common.{TraceItem, Image, Library, Program, program_in, program_of, single, IsSizedBoot, IsStarted, IsVerified}
-use Rattle.zl_code.specs.Headline.{WasStarted, by_boot, by_call, CoveredGoWell}
+use Rattle.zl_verify.proofs.Common.{CoveredGoWell, HasStepBound, Image, IsSizedBoot, IsStarted, IsVerified, Library, List, None, Option, Process, Program, Some}
+use Rattle.zl_verify.proofs.Common.{Statement, TraceItem, WasStarted, World, by_boot, by_call, flat_map, get, none-some, program_in, program_of, refl, single}
+use Rattle.zl_verify.proofs.Common.{slice_get, subst, sym, true, ℕ, ◌≡◌}
 use Rattle.zl_code.proofs.JoinedItems.{joined_go_well}
-use Rattle.zl_verify.specs.Checks.{HasStepBound}
 use Rattle.zl_verify.proofs.BootStarts.{boot_is_proper}
 use Rattle.zl_verify.proofs.ChildStarts.{child_starts_in_run}
 use Rattle.zl_verify.proofs.Headline.{headline}

@@ -1,9 +1,8 @@
 -- What is true of each world of a run for its checked programs: a boot makes it so, and each step keeps it.
-use Rattle.zl_verify.proofs.Common.{◌≡◌, ℕ, ◌⊎◌, true, false, ◌==◌, refl, sym, ap, ◌∙◌, subst, List, Option, Some, None, inl, inr, slice_get, cases_Bool}
-use Rattle.zl_verify.proofs.Common.{eqb-true, same_Some, get, runs, World, Process, has_ended, state_passes, Statement, TraceItem, Image, Library, is_in_range}
-use Rattle.zl_verify.proofs.Common.{IsSound, program_in, Step, pid_of, IsSizedBoot, IsStarted, Conforms, IsVerified, IsUnderWay, IsFitStep}
-use Rattle.zl_code.proofs.SoundRuns.{step_keeps_processes}
-use Rattle.zl_verify.specs.Covered.{IsAsTyped, IsCovered}
+use Rattle.zl_verify.proofs.Common.{Conforms, Image, IsAsTyped, IsCovered, IsFitStep, IsSizedBoot, IsSound, IsStarted, IsUnderWay, IsVerified, Library, List}
+use Rattle.zl_verify.proofs.Common.{None, Option, Process, Some, Statement, Step, TraceItem, World, ap, cases_Bool, eqb-true, false, get, has_ended, inl, inr}
+use Rattle.zl_verify.proofs.Common.{is_in_range, pid_of, program_in, refl, runs, same_Some, slice_get, state_passes, step_keeps_processes, subst, sym, true, ℕ}
+use Rattle.zl_verify.proofs.Common.{◌==◌, ◌∙◌, ◌≡◌, ◌⊎◌}
 use Rattle.zl_verify.proofs.SizedRuns.{boot_sized, step_sized}
 use Rattle.zl_verify.proofs.Starting.{starts_conforming}
 use Rattle.zl_verify.proofs.CheckedRuns.{StandsIn, stands_still}

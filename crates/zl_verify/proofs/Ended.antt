@@ -1,8 +1,7 @@
 -- A process that has ended stays as it is, and one that is ready is as it was once others are awake.
-use Rattle.zl_verify.proofs.Common.{◌≡◌, ℕ, ◌⊎◌, true, false, ◌==◌, List, refl, sym, ap, ◌∙◌, subst, Some, inl, inr, option_map, cases_Bool, eqb-true}
-use Rattle.zl_verify.proofs.Common.{same_Some, answered, get, put, Settles, process_settled, without_others, fired, wakes, World, Process, Life, Created, Ready}
-use Rattle.zl_verify.proofs.Common.{Blocked, Ended, Awaited, has_ended, state_without, made_ready, get-put, get-each, TraceItem, Library, Step}
-use Rattle.zl_code.specs.Sound.{is_blocked}
+use Rattle.zl_verify.proofs.Common.{Awaited, Blocked, Created, Ended, Library, Life, List, Process, Ready, Settles, Some, Step, TraceItem, World, answered, ap}
+use Rattle.zl_verify.proofs.Common.{cases_Bool, eqb-true, false, fired, get, get-each, get-put, has_ended, inl, inr, is_blocked, made_ready, option_map}
+use Rattle.zl_verify.proofs.Common.{process_settled, put, refl, same_Some, state_without, subst, sym, true, wakes, without_others, ℕ, ◌==◌, ◌∙◌, ◌≡◌, ◌⊎◌}
 use Rattle.zl_verify.proofs.Waking.{turn_by_answer, wakes_by}
 
 module _ (p : ℕ) (q : Process) (awake : is_blocked q.state ≡ false) where

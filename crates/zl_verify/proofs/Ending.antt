@@ -1,10 +1,9 @@
 -- The search ends: what is left to rise, and what waits. States stay fine on the way.
-use Rattle.zl_verify.proofs.Common.{◌≡◌, ◌≢◌, ℕ, ◌+◌, ◌-◌, ◌*◌, ◌<◌, ◌≤◌, Bool, true, false, List, [], ◌∷◌, Option, Some, None, refl, sym, ap, ◌∙◌, subst}
-use Rattle.zl_verify.proofs.Common.{IsTrue, length, ◌⊎◌, inl, inr, arith, get_or, slice_get, slice_set, if◌then◌else◌, Result, Ok, IfOk, sum_by, option_map}
-use Rattle.zl_verify.proofs.Common.{option_and_then, same_Some, get_or_from_slice_get, sum_by-set, length-set, Image, is_in_range, Cause, State, all_below}
-use Rattle.zl_verify.proofs.Common.{all_joined, Edge, IsFine, AllFine, at, raised_over, raised, raised_all, cleared, Blocks, block, start_of}
-use Rattle.std.proofs.Math.Nat.{mul-le-mul_right}
-use Rattle.zl_abs.proofs.FineStates.{fine_joined}
+use Rattle.zl_verify.proofs.Common.{AllFine, Blocks, Bool, Cause, Edge, IfOk, Image, IsFine, IsTrue, List, None, Ok, Option, Result, Some, State, [], all_below}
+use Rattle.zl_verify.proofs.Common.{all_joined, ap, arith, at, block, cleared, false, fine_joined, get_or, get_or_from_slice_get, if◌then◌else◌, inl, inr}
+use Rattle.zl_verify.proofs.Common.{is_in_range, length, length-set, mul-le-mul_right, option_and_then, option_map, raised, raised_all, raised_over, refl}
+use Rattle.zl_verify.proofs.Common.{same_Some, slice_get, slice_set, start_of, subst, sum_by, sum_by-set, sym, true, ℕ, ◌*◌, ◌+◌, ◌-◌, ◌<◌, ◌∙◌, ◌∷◌, ◌≡◌, ◌≢◌}
+use Rattle.zl_verify.proofs.Common.{◌≤◌, ◌⊎◌}
 use Rattle.zl_abs.proofs.Room.{room, TOP, room_top, room_falls}
 use Rattle.zl_verify.specs.Lists.{within}
 use Rattle.zl_verify.specs.Numbers.{one_if}

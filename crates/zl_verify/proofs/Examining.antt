@@ -1,13 +1,11 @@
 -- Handle operands that pass by the rule aren't refused by the call, and those that are consumed leave the table.
-use Rattle.zl_verify.proofs.Common.{◌≡◌, ◌≢◌, ℕ, ◌<◌, ◌≤◌, ◌⊎◌, Bool, true, false, ◌&&◌, ◌||◌, not, ◌==◌, List, [], ◌∷◌, map, drop, length, refl, sym, ap, ◌∙◌}
-use Rattle.zl_verify.proofs.Common.{subst, Option, Some, None, Ok, cond, arith, inl, inr, slice_set, slice_index, if◌then◌else◌, filter, list_all, list_any}
-use Rattle.zl_verify.proofs.Common.{AllByRecursion, cases_eq, eqb-true, nat_tests, get_or-set_other, Entry, Kind, Rights, World, bits, within, takes}
-use Rattle.zl_verify.proofs.Common.{kind_number, written, first_some, register_count, SlotArray, Outcome, entry_at, Operand, contains, operand, operand_after}
-use Rattle.zl_verify.proofs.Common.{seen_after, AbsVal, Word, Has, Cause, untagged, kind_below, State, IsState, value_at, with_value, and_then, fault_of}
-use Rattle.zl_verify.proofs.Common.{examined_all, within_trans, Table, IsAs, IsHandle, Describes, Holds}
-use Rattle.std.proofs.Common.{⊎_elim}
+use Rattle.zl_verify.proofs.Common.{AbsVal, AllByRecursion, Bool, Cause, Describes, Entry, Has, Holds, IsAs, IsHandle, IsState, Kind, List, None, Ok, Operand}
+use Rattle.zl_verify.proofs.Common.{Option, Outcome, Rights, SlotArray, Some, State, Table, Word, World, [], and_then, ap, arith, bits, cases_eq, cond}
+use Rattle.zl_verify.proofs.Common.{contains, drop, entry_at, eqb-true, examined_all, examined_by, false, fault_of, filter, first_some, get_or-set_other}
+use Rattle.zl_verify.proofs.Common.{if◌then◌else◌, inl, inr, kind_below, kind_number, length, list_all, list_any, map, nat_tests, not, operand, operand_after}
+use Rattle.zl_verify.proofs.Common.{refl, register_count, seen_after, slice_index, slice_set, subst, sym, taken_from, takes, takes_any, true, untagged}
+use Rattle.zl_verify.proofs.Common.{value_at, with_value, within, within_trans, written, ℕ, ⊎_elim, ◌&&◌, ◌<◌, ◌==◌, ◌||◌, ◌∙◌, ◌∷◌, ◌≡◌, ◌≢◌, ◌≤◌, ◌⊎◌}
 use Rattle.zl_code.specs.Operands.{examined as examined_at}
-use Rattle.zl_abs.specs.CallRules.{takes_any, taken_from, examined_by}
 use Rattle.zl_abs.specs.declared.cause.Cause.TheVariants as cause
 use Rattle.zl_verify.proofs.Owners.{value_at-with, value_at-here}
 use Rattle.zl_verify.proofs.Tagging.{states_with}

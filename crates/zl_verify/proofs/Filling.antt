@@ -1,8 +1,8 @@
 -- The states of blocks make a typing of all instructions, the least where they are the least.
-use Rattle.zl_verify.proofs.Common.{◌≡◌, ℕ, zero, suc, ◌+◌, ◌-◌, ◌<◌, List, [], ◌∷◌, length, Option, Some, None, refl, sym, ap, ◌∙◌, subst, IsTrue, arith}
-use Rattle.zl_verify.proofs.Common.{Result, Ok, Err, IfOk, same_Some, Image, is_in_range, Cause, State, start_state, bounds_of, and_then, Edge, IsFine, AllFine}
-use Rattle.zl_verify.proofs.Common.{rule, IsAbove, AllLead, IsTyping, rule_fine, all_below_refl, at, IsLeastTyping, Blocks, AreBlocks, start_of, Out}
-use Rattle.zl_verify.proofs.Common.{leaves_last, leaves_first, leaves, out, block, inner, inner_of, passed_on, known_by, flows, known, states_of, none-some}
+use Rattle.zl_verify.proofs.Common.{AllFine, AllLead, AreBlocks, Blocks, Cause, Edge, Err, IfOk, Image, IsAbove, IsFine, IsLeastTyping, IsTrue, IsTyping, List}
+use Rattle.zl_verify.proofs.Common.{None, Ok, Option, Out, Result, Some, State, [], all_below_refl, and_then, ap, arith, at, block, bounds_of, flows, inner}
+use Rattle.zl_verify.proofs.Common.{inner_of, is_in_range, known, known_by, leaves, leaves_first, leaves_last, length, none-some, out, passed_on, refl, rule}
+use Rattle.zl_verify.proofs.Common.{rule_fine, same_Some, start_of, start_state, states_of, subst, suc, sym, zero, ℕ, ◌+◌, ◌-◌, ◌<◌, ◌∙◌, ◌∷◌, ◌≡◌}
 use Rattle.zl_abs.specs.Typing.{Holds}
 use Rattle.zl_verify.specs.Blocks.{inner_last, listed}
 use Rattle.zl_verify.proofs.Places.{mapped}

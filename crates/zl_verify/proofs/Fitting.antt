@@ -1,8 +1,8 @@
 -- The destinations of an answer get their values one after another, and are then as the rule says.
-use Rattle.zl_verify.proofs.Common.{◌≡◌, ℕ, ◌<◌, ◌≤◌, ◌⊎◌, Bool, true, false, ◌&&◌, ◌||◌, not, ◌==◌, List, [], ◌∷◌, map, length, refl, sym, subst, Some, None}
-use Rattle.zl_verify.proofs.Common.{inl, inr, slice_set, slice_index, AllByRecursion, eqb-false, Entry, written, register_count, SlotArray, AbsVal, Word, Has}
-use Rattle.zl_verify.proofs.Common.{KindOf, RightsOf, ANY, is_has, State, IsState, can_be_named, value_at, with_value, with_all, is_result, are_distinct}
-use Rattle.zl_verify.proofs.Common.{has_one, Table, kind_in, rights_in, IsAs, Holds}
+use Rattle.zl_verify.proofs.Common.{ANY, AbsVal, AllByRecursion, Bool, Entry, Has, Holds, IsAs, IsState, KindOf, List, None, RightsOf, SlotArray, Some, State}
+use Rattle.zl_verify.proofs.Common.{Table, Word, [], are_distinct, can_be_named, eqb-false, false, has_one, inl, inr, is_has, is_result, kind_in, length, map}
+use Rattle.zl_verify.proofs.Common.{not, refl, register_count, rights_in, slice_index, slice_set, subst, sym, true, value_at, with_all, with_value, written, ℕ}
+use Rattle.zl_verify.proofs.Common.{◌&&◌, ◌<◌, ◌==◌, ◌||◌, ◌∷◌, ◌≡◌, ◌≤◌, ◌⊎◌}
 use Rattle.zl_verify.proofs.Owners.{value_at-with, is_has-untagged}
 use Rattle.zl_verify.proofs.Writing.{write_word}
 use Rattle.zl_verify.proofs.Tagging.{test_apart, named_with, states_with}

@@ -1,12 +1,11 @@
 -- What answers give fits: a status, handles at free values, and handles with their kinds and rights.
-use Rattle.zl_verify.proofs.Common.{◌≡◌, ℕ, zero, suc, ◌+◌, ◌*◌, ◌<◌, ◌≤◌, Bool, true, false, ◌&&◌, not, ◌==◌, List, [], ◌∷◌, length, refl, sym, ap, ◌∙◌, subst}
-use Rattle.zl_verify.proofs.Common.{IsTrue, Option, Some, None, arith, inl, inr, slice_set, slice_index, is_some, nat_lt, bit_and, list_all, AllByRecursion}
-use Rattle.zl_verify.proofs.Common.{eqb-true, nat_tests, get_or-set_same, get_or-set_other, and_le_l, Entry, Kind, Rights, Status, get, has_key, Process, bits}
-use Rattle.zl_verify.proofs.Common.{rights_of, kind_number, within, status_magnitude, get-put, process_with, may_get, may_get_after, may_get_all, told_of}
-use Rattle.zl_verify.proofs.Common.{is_value, AbsVal, Word, Has, KindOf, RightsOf, ANY, State, can_be_named, value_at, with_value, triple_results, both}
-use Rattle.zl_verify.proofs.Common.{within_is, Table, kind_in, rights_in, IsAs, eq-eqb}
+use Rattle.zl_verify.proofs.Common.{ANY, AbsVal, AllByRecursion, Bool, Entry, Has, IsAs, IsTrue, Kind, KindOf, List, None, Option, Process, Rights, RightsOf}
+use Rattle.zl_verify.proofs.Common.{Some, State, Status, Table, Word, and_comm, and_le_l, ap, arith, bit_and, bits, both, can_be_named, eq-eqb, eqb-true, false}
+use Rattle.zl_verify.proofs.Common.{get, get-put, get_or-set_other, get_or-set_same, has_key, inl, inr, is_some, is_value, kind_in, kind_number, length}
+use Rattle.zl_verify.proofs.Common.{list_all, may_get, may_get_after, may_get_all, nat_lt, nat_tests, not, process_with, refl, rights_in, rights_of}
+use Rattle.zl_verify.proofs.Common.{slice_index, slice_set, status_magnitude, subst, suc, sym, told_of, triple_results, true, value_at, with_value, within}
+use Rattle.zl_verify.proofs.Common.{within_is, zero, ℕ, ◌&&◌, ◌*◌, ◌+◌, ◌<◌, ◌==◌, ◌∙◌, ◌∷◌, ◌≡◌, ◌≤◌, []}
 use Rattle.std.proofs.lemmas.List.{length-set}
-use Rattle.std.proofs.lemmas.Nat.{and_comm}
 use Rattle.zl_rights.specs.declared.kind.Kind.TheVariants as kind
 use Rattle.zl_rights.specs.declared.status.Status.TheVariants as status
 use Rattle.zl_verify.proofs.Owners.{value_at-with, value_at-here}
@@ -22,11 +21,6 @@ status_few _ = omega arith
 pub status_fits : (f : Table) (s : State) (xs : List ℕ) (a : ℕ) (ds : List (ℕ × AbsVal)) (n : ℕ) (vs : List ℕ) (g : Table) → n ≤ 30
     → Fits f (with_value s a (Word 30)) (slice_set xs a n) ds vs g → Fits f s xs ((a, Word 30) ∷ ds) (n ∷ vs) g
 status_fits f s xs a ds n vs g few later = (f, (few, omega arith, refl), later)
-
--- a number that is small enough
-pub word_fits : (f : Table) (s : State) (xs : List ℕ) (a m : ℕ) (ds : List (ℕ × AbsVal)) (n : ℕ) (vs : List ℕ) (g : Table) → n ≤ m → n ≤ ANY
-    → Fits f (with_value s a (Word m)) (slice_set xs a n) ds vs g → Fits f s xs ((a, Word m) ∷ ds) (n ∷ vs) g
-word_fits f s xs a m ds n vs g le few later = (f, (le, few, refl), later)
 
 -- 0 fits, where there is no value
 abbrev is_zeroable : AbsVal → Bool

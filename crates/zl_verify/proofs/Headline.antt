@@ -1,8 +1,7 @@
 -- The headline of an image with a typing and a step bound, from the laws of runs.
-use Rattle.zl_verify.proofs.Common.{◌≡◌, ℕ, zero, suc, true, List, [], ◌∷◌, ap, subst, Option, Some, IsTrue, slice_get, AllByRecursion, none-some, same_Some}
-use Rattle.zl_verify.proofs.Common.{runs, World, Process, TraceItem, Image, Library, Program, is_in_range, IsStarted, State, IsTyping, IsFineItem, IsUnderWay}
-use Rattle.zl_verify.proofs.Common.{IsStepBound}
-use Rattle.zl_code.specs.Headline.{EndsItself, HasNoFault, IsNeverRefused, IsNotStuck}
+use Rattle.zl_verify.proofs.Common.{AllByRecursion, EndsItself, HasNoFault, Image, IsFineItem, IsNeverRefused, IsNotStuck, IsStarted, IsStepBound, IsTrue}
+use Rattle.zl_verify.proofs.Common.{IsTyping, IsUnderWay, Library, List, Option, Process, Program, Some, State, TraceItem, World, [], ap, is_in_range}
+use Rattle.zl_verify.proofs.Common.{none-some, runs, same_Some, slice_get, subst, suc, true, zero, ℕ, ◌∷◌, ◌≡◌}
 use Rattle.zl_code.specs.declared.history.Outcome.TheVariants as outcome
 use Rattle.zl_code.specs.declared.history.TraceItem.TheVariants as item
 use Rattle.zl_verify.proofs.CheckedRuns.{budget_kept, never_refused}

@@ -1,13 +1,12 @@
 -- A process that doesn't run: what a step makes of it, which starts it at most.
-use Rattle.zl_verify.proofs.Common.{◌≡◌, ℕ, ◌⊎◌, Bool, true, false, ◌==◌, List, refl, sym, ap, ◌∙◌, subst, Option, Some, None, option_map, inl, inr}
-use Rattle.zl_verify.proofs.Common.{if◌then◌else◌, slice_get, cases_Bool, eqb-true, Entry, answered, get, put, is_process, lives, runs, Settles}
-use Rattle.zl_verify.proofs.Common.{process_settled, without_others, fired, wakes, World, Process, Life, Created, Ready, Blocked, Awaited, state_passes}
-use Rattle.zl_verify.proofs.Common.{state_without, made_ready, get-put, get-each, CallName, Outcome, TraceItem, Library, Program, object_at, on_process}
-use Rattle.zl_verify.proofs.Common.{on_object, with_object, insert_all, ended, waiting, is_created, created_process, started_with, is_within, process_killed}
-use Rattle.zl_verify.proofs.Common.{with_killed, refusal, Request, process_start, process_create, task_kill, name_of, effect, new_handles, receiver_of}
-use Rattle.zl_verify.proofs.Common.{entering_at, stored_by, gives_ok, gives_refused, awaited_by, Site, taken_handles, taken, replied, with_effect}
-use Rattle.zl_verify.proofs.Common.{after_refusal, after_ok, ok_outcome, Next, Moves, AtCall, IsStuck, next_in, next_for, Acts, Step, StartsChild, asks_again}
-use Rattle.zl_verify.proofs.Common.{Calls}
+use Rattle.zl_verify.proofs.Common.{Acts, AtCall, Awaited, Blocked, Bool, CallName, Calls, Created, Entry, IsStuck, Library, Life, List, Moves, Next, None}
+use Rattle.zl_verify.proofs.Common.{Option, Outcome, Process, Program, Ready, Request, Settles, Site, Some, StartsChild, Step, TraceItem, World, after_ok}
+use Rattle.zl_verify.proofs.Common.{after_refusal, answered, ap, asks_again, awaited_by, cases_Bool, created_process, effect, ended, entering_at, eqb-true}
+use Rattle.zl_verify.proofs.Common.{false, fired, get, get-each, get-put, gives_ok, gives_refused, if◌then◌else◌, inl, inr, insert_all, is_created, is_process}
+use Rattle.zl_verify.proofs.Common.{is_within, lives, made_ready, name_of, new_handles, next_for, next_in, object_at, ok_outcome, on_object, on_process}
+use Rattle.zl_verify.proofs.Common.{option_map, process_create, process_killed, process_settled, process_start, put, receiver_of, refl, refusal, replied, runs}
+use Rattle.zl_verify.proofs.Common.{slice_get, started_with, state_passes, state_without, stored_by, subst, sym, taken, taken_handles, task_kill, true, waiting}
+use Rattle.zl_verify.proofs.Common.{wakes, with_effect, with_killed, with_object, without_others, ℕ, ◌==◌, ◌∙◌, ◌≡◌, ◌⊎◌}
 use Rattle.zl_rights.specs.declared.status.Status.TheVariants as status
 use Rattle.zl_code.specs.declared.history.CallName.TheVariants as name
 use Rattle.zl_code.specs.declared.history.Outcome.TheVariants as outcome

@@ -1,9 +1,9 @@
 -- Where the instructions of a typing lead, from the edges that the code hands out.
-use Rattle.zl_verify.proofs.Common.{◌≡◌, ◌≢◌, ℕ, suc, ◌+◌, ◌<◌, ◌≤◌, Bool, true, false, List, [], ◌∷◌, ◌++◌, map, length, Option, Some, None, refl, sym, ap}
-use Rattle.zl_verify.proofs.Common.{◌∙◌, subst, ◌⊎◌, inl, inr, arith, Result, Ok, Err, if◌then◌else◌, slice_get, slice_set, length-set, option_to_list, Image}
-use Rattle.zl_verify.proofs.Common.{call_at, Cause, State, rule, IsAbove, AllLead, IsTyping, at, is_pause, targets_of, leads_by, leads, places, places_by}
-use Rattle.zl_verify.proofs.Common.{places_at, AllInside, IsClosed, unless_pause, AreTargets, inner, inner_of, known_by, flows, passed_on, known, states_of}
-use Rattle.zl_verify.proofs.Common.{Targets}
+use Rattle.zl_verify.proofs.Common.{AllInside, AllLead, AreTargets, Bool, Cause, Err, Image, IsAbove, IsClosed, IsTyping, List, None, Ok, Option, Result, Some}
+use Rattle.zl_verify.proofs.Common.{State, Targets, [], ap, arith, at, call_at, false, flows, if◌then◌else◌, inl, inner, inner_of, inr, is_pause, known}
+use Rattle.zl_verify.proofs.Common.{known_by, leads, leads_by, length, length-set, map, option_to_list, passed_on, places, places_at, places_by, refl, rule}
+use Rattle.zl_verify.proofs.Common.{slice_get, slice_set, states_of, subst, suc, sym, targets_of, true, unless_pause, ℕ, ◌++◌, ◌+◌, ◌<◌, ◌∙◌, ◌∷◌, ◌≡◌, ◌≢◌}
+use Rattle.zl_verify.proofs.Common.{◌≤◌, ◌⊎◌}
 use Rattle.zl_abs.specs.declared.steps.Step.{Step}
 use Rattle.zl_abs.specs.declared.steps.Steps.{Steps}
 use Rattle.zl_abs.specs.Rule.{Edge as Lead}

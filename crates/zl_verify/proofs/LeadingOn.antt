@@ -1,12 +1,11 @@
 -- Where the rule of an instruction holds, it leads to another, but for the exit.
-use Rattle.zl_verify.proofs.Common.{◌≡◌, ◌≢◌, ℕ, ◌+◌, Bool, true, false, ◌&&◌, ◌||◌, not, List, [], ◌∷◌, ◌++◌, length, Option, Some, None, Result, Ok, Err}
-use Rattle.zl_verify.proofs.Common.{IfOk, refl, subst, arith, eqb, ltb, is_some, if◌then◌else◌, nat_tests, same_kind, Kind, Instr, LocalInstr, CallInstr}
-use Rattle.zl_verify.proofs.Common.{CallName, is_pause_name, Image, instr_at, call_at, call_in, AbsVal, Word, Has, KindOf, RightsOf, Cause, capped, State}
-use Rattle.zl_verify.proofs.Common.{value_at, refined, bounds_of, and_then, Edge, edge_to, edges, becomes, known_zero, known_there, known_kind, known_other}
-use Rattle.zl_verify.proofs.Common.{kind_numbered, kind_ways, equal_ways, zero_ways, below_ways, has_ways, unless, local_rule, Uses, uses_of, state_after}
-use Rattle.zl_verify.proofs.Common.{goes_on, call_rule, target_of, rule_by, rule_with, rule, is_pause}
+use Rattle.zl_verify.proofs.Common.{AbsVal, Bool, CallInstr, CallName, Cause, Edge, Err, Has, IfOk, Image, Instr, Kind, KindOf, List, LocalInstr, None, Ok}
+use Rattle.zl_verify.proofs.Common.{Option, Result, RightsOf, Some, State, Uses, Word, [], and_then, arith, becomes, below_ways, bounds_of, call_at, call_in}
+use Rattle.zl_verify.proofs.Common.{call_rule, call_rule_by, capped, edge_to, edges, eqb, equal_ways, false, goes_on, has_ways, if◌then◌else◌, instr_at}
+use Rattle.zl_verify.proofs.Common.{is_pause, is_pause_name, is_some, kind_numbered, kind_ways, known_kind, known_other, known_there, known_zero, length}
+use Rattle.zl_verify.proofs.Common.{local_rule, ltb, nat_tests, not, refined, refl, rule, rule_by, rule_with, same_kind, state_after, subst, target_of, true}
+use Rattle.zl_verify.proofs.Common.{unless, uses_of, value_at, zero_ways, ℕ, ◌&&◌, ◌++◌, ◌+◌, ◌||◌, ◌∷◌, ◌≡◌, ◌≢◌}
 use Rattle.zl_abs.specs.Outcome.{Outcome}
-use Rattle.zl_abs.specs.CallRules.{call_rule_by}
 use Rattle.zl_code.specs.declared.instr.Instr.TheVariants as instr
 use Rattle.zl_code.specs.declared.instr.LocalInstr.TheVariants as local
 use Rattle.zl_code.specs.declared.history.CallName.TheVariants as name

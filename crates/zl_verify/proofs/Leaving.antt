@@ -1,8 +1,8 @@
 -- What comes of a block: it leads to the states of every typing above its own, and to fine states.
-use Rattle.zl_verify.proofs.Common.{◌≡◌, ℕ, zero, suc, ◌+◌, ◌-◌, ◌<◌, ◌≤◌, List, [], ◌∷◌, length, Option, Some, None, refl, sym, ap, ◌∙◌, subst, IsTrue, arith}
-use Rattle.zl_verify.proofs.Common.{Ok, Err, IfOk, slice_get, option_map, option_and_then, Image, is_in_range, State, bounds_of, and_then, Edge, IsFine}
-use Rattle.zl_verify.proofs.Common.{AllFine, rule, IsAbove, AllLead, IsTyping, rule_fine, at, raised, raised_all, turned_over, Blocks, AreBlocks, start_of, Out}
-use Rattle.zl_verify.proofs.Common.{leaves_last, leaves_first, leaves, out, out_from, block}
+use Rattle.zl_verify.proofs.Common.{AllFine, AllLead, AreBlocks, Blocks, Edge, Err, IfOk, Image, IsAbove, IsFine, IsTrue, IsTyping, List, None, Ok, Option, Out}
+use Rattle.zl_verify.proofs.Common.{Some, State, [], and_then, ap, arith, at, block, bounds_of, is_in_range, leaves, leaves_first, leaves_last, length}
+use Rattle.zl_verify.proofs.Common.{option_and_then, option_map, out, out_from, raised, raised_all, refl, rule, rule_fine, slice_get, start_of, subst, suc, sym}
+use Rattle.zl_verify.proofs.Common.{turned_over, zero, ℕ, ◌+◌, ◌-◌, ◌<◌, ◌∙◌, ◌∷◌, ◌≡◌, ◌≤◌}
 use Rattle.zl_abs.specs.Typing.{Holds}
 use Rattle.zl_verify.specs.Search.{Table}
 use Rattle.zl_verify.specs.Blocks.{start_or, Went, went_last, went_first, went, stepped}

@@ -1,13 +1,12 @@
 -- The law of the local steps of a process that conforms.
-use Rattle.zl_verify.proofs.Common.{◌≡◌, ◌≢◌, ℕ, zero, suc, ◌+◌, ◌⊎◌, Bool, true, false, List, [], ◌∷◌, ◌++◌, length, refl, sym, ap, ◌∙◌, subst, IsTrue, Option}
-use Rattle.zl_verify.proofs.Common.{Some, None, Result, Ok, Err, IfSome, inl, inr, if◌then◌else◌, is_some, slice_get, nat_lt, list_all, bits, within}
-use Rattle.zl_verify.proofs.Common.{default_rights_of, get, World, Cpu, Process, Ready, KNOWN_RIGHTS, Entry, Kind, Condition, Instr, LocalInstr, CallInstr}
-use Rattle.zl_verify.proofs.Common.{Image, instr_at, call_at, is_among, is_in_range, is_instr_in_range, is_local_in_range, local_effect, Site, site_of, Next}
-use Rattle.zl_verify.proofs.Common.{Moves, IsStuck, moves, calls_at, next_of, next_at, on_process, creates, HandlesAreSound, CallName, ranges, Cause, State}
-use Rattle.zl_verify.proofs.Common.{bounds_of, and_then, Edge, edge_to, edges, local_rule, call_rule, target_of, rule_by, rule_with, IsAbove, IsTyping}
-use Rattle.zl_verify.proofs.Common.{RuleHolds, both, within_trans, targets_of, leads, OneOf, Table, Holds, IsMemory, WaitsAt, Conforms}
+use Rattle.zl_verify.proofs.Common.{Bool, CallInstr, CallName, Cause, Condition, Conforms, Cpu, Edge, Entry, Err, HandlesAreSound, Holds, IfSome, Image, Instr}
+use Rattle.zl_verify.proofs.Common.{IsAble, IsAbove, IsMemory, IsStuck, IsTrue, IsTyping, KNOWN_RIGHTS, Kind, List, LocalInstr, Moves, Next, None, Ok, OneOf}
+use Rattle.zl_verify.proofs.Common.{Option, Process, Ready, Result, RuleHolds, Site, Some, StandsBy, State, Table, WaitsAt, World, [], and_then, ap, bits, both}
+use Rattle.zl_verify.proofs.Common.{bounds_of, call_at, call_rule, calls_at, creates, default_rights_of, edge_to, edges, false, get, if◌then◌else◌, inl, inr}
+use Rattle.zl_verify.proofs.Common.{instr_at, is_among, is_in_range, is_instr_in_range, is_local_in_range, is_some, leads, length, list_all, local_effect}
+use Rattle.zl_verify.proofs.Common.{local_rule, moves, nat_lt, next_at, next_of, on_process, ranges, refl, rule_by, rule_with, site_of, slice_get, subst, suc}
+use Rattle.zl_verify.proofs.Common.{sym, target_of, targets_of, true, within, within_trans, zero, ℕ, ◌++◌, ◌+◌, ◌∙◌, ◌∷◌, ◌≡◌, ◌≢◌, ◌⊎◌}
 use Rattle.zl_abs.specs.Outcome.{Outcome}
-use Rattle.zl_verify.specs.Covered.{StandsBy, IsAble}
 use Rattle.zl_verify.specs.LocalLaws.{GoesOn}
 use Rattle.zl_rights.specs.declared.kind.Kind.TheVariants as kind
 use Rattle.zl_code.specs.declared.instr.Instr.TheVariants as instr

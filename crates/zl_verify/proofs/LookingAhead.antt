@@ -1,11 +1,11 @@
 -- The edges that are followed from an instruction, at any state, are among those of the code alone, so what bounds
 -- these bounds those.
-use Rattle.zl_verify.proofs.Common.{◌≡◌, ◌≢◌, ℕ, ◌+◌, ◌<◌, ◌≤◌, Bool, true, false, List, [], ◌∷◌, ◌++◌, map, length, Option, Some, None, Result, Ok, Err, IfOk}
-use Rattle.zl_verify.proofs.Common.{refl, sym, ap, ◌∙◌, subst, ◌⊎◌, inl, inr, arith, nat_lt, slice_set, if◌then◌else◌, position, option_to_list, nat_tests}
-use Rattle.zl_verify.proofs.Common.{length-set, Instr, LocalInstr, CallInstr, local_parts, Image, instr_at, local_in, call_at, Cause, State, bounds_of}
-use Rattle.zl_verify.proofs.Common.{and_then, passes, Edge, edge_to, edges, local_rule, uses_of, state_after, goes_on, stops, call_rule, target_of, rule_by}
-use Rattle.zl_verify.proofs.Common.{rule_with, rule, at, is_pause, targets_of, leads_by, IsBelow, AllBelow, places, places_by, places_at, AllInside, IsClosed}
-use Rattle.zl_verify.proofs.Common.{AreNumbers, is_over, unless_pause, jump_in, AreAhead, Targets}
+use Rattle.zl_verify.proofs.Common.{AllBelow, AllInside, AreAhead, AreNumbers, Bool, CallInstr, Cause, Edge, Err, IfOk, Image, Instr, IsBelow, IsClosed, List}
+use Rattle.zl_verify.proofs.Common.{LocalInstr, None, Ok, Option, Result, Some, State, Targets, [], and_then, ap, arith, at, bounds_of, call_at, call_rule}
+use Rattle.zl_verify.proofs.Common.{edge_to, edges, false, goes_on, if◌then◌else◌, inl, inr, instr_at, is_over, is_pause, jump_in, leads_by, length, length-set}
+use Rattle.zl_verify.proofs.Common.{local_in, local_parts, local_rule, map, nat_lt, nat_tests, option_to_list, passes, places, places_at, places_by, position}
+use Rattle.zl_verify.proofs.Common.{refl, rule, rule_by, rule_with, slice_set, state_after, stops, subst, sym, target_of, targets_of, true, unless_pause}
+use Rattle.zl_verify.proofs.Common.{uses_of, ℕ, ◌++◌, ◌+◌, ◌<◌, ◌∙◌, ◌∷◌, ◌≡◌, ◌≢◌, ◌≤◌, ◌⊎◌}
 use Rattle.zl_code.specs.Image.{local_at}
 use Rattle.zl_abs.specs.Outcome.{Outcome}
 use Rattle.zl_verify.specs.Ahead.{place_within, onward, ahead, BoundsAll}

@@ -1,6 +1,6 @@
 -- A typing's rules hold at each state below its own.
-use Rattle.zl_verify.proofs.Common.{◌≡◌, ℕ, ◌<◌, ◌≤◌, List, [], ◌∷◌, Option, Some, None, refl, sym, subst, length, ◌⊎◌, inl, inr, Result, Ok, Err, Image, Cause}
-use Rattle.zl_verify.proofs.Common.{State, Edge, bounds_of, IsAmong, AreAmong, RuleBelow, rule, IsAbove, AllLead, IsTyping, rule_below}
+use Rattle.zl_verify.proofs.Common.{AllLead, AreAmong, Cause, Edge, Err, Image, IsAbove, IsAmong, IsTyping, List, None, Ok, Option, Result, RuleBelow, Some}
+use Rattle.zl_verify.proofs.Common.{State, [], bounds_of, inl, inr, length, refl, rule, rule_below, subst, sym, ℕ, ◌<◌, ◌∷◌, ◌≡◌, ◌≤◌, ◌⊎◌}
 use Rattle.zl_abs.specs.Typing.{Holds}
 use Rattle.zl_abs.proofs.RuleSteps.{nothing_there}
 use Rattle.zl_abs.specs.declared.cause.Cause.TheVariants as cause

@@ -1,7 +1,7 @@
 -- What is marked and numbered makes the blocks of an image.
-use Rattle.zl_verify.proofs.Common.{◌≡◌, ◌≢◌, ℕ, zero, suc, ◌+◌, ◌<◌, ◌≤◌, Bool, true, false, List, [], ◌∷◌, ◌++◌, length, Option, Some, None, refl, sym, ap}
-use Rattle.zl_verify.proofs.Common.{◌∙◌, subst, ◌⊎◌, inl, inr, arith, slice_get, slice_set, replicate, same_Some, length-set, length-replicate, Image, at}
-use Rattle.zl_verify.proofs.Common.{Blocks, AreBlocks, AreMarked, AreNumbered, none-some}
+use Rattle.zl_verify.proofs.Common.{AreBlocks, AreMarked, AreNumbered, Blocks, Bool, Image, List, None, Option, Some, ap, arith, at, false, inl, inr, length}
+use Rattle.zl_verify.proofs.Common.{length-replicate, length-set, none-some, refl, replicate, same_Some, slice_get, slice_set, subst, suc, sym, true, zero, ℕ}
+use Rattle.zl_verify.proofs.Common.{◌++◌, ◌+◌, ◌<◌, ◌∙◌, ◌∷◌, ◌≡◌, ◌≢◌, ◌≤◌, ◌⊎◌, []}
 use Rattle.zl_abs.specs.Targets.{jump_of}
 use Rattle.zl_verify.specs.Lists.{within}
 use Rattle.zl_verify.proofs.Places.{get_put, get_put_other, equal_or_not, there}
@@ -19,26 +19,6 @@ still xs m n h = by (equal_or_not m n)
     by : (m ≡ n) ⊎ (m ≢ n) → slice_get (slice_set xs m true) n ≡ Some true
     by (inl e) = rw e (get_put xs n true (there xs n true h))
     by (inr d) = get_put_other xs m n true d ∙ h
-
-pub marks_begin : (i : Image) (begins : List Bool) → 0 < length i.code → begins ≡ slice_set (replicate (length i.code) false) 0 true → AreMarked i begins 0
-marks_begin i begins h e =
-    let l = length-replicate (length i.code) false in
-    rw e (record {
-      long = length-set (replicate (length i.code) false) 0 true ∙ l;
-      first = get_put (replicate (length i.code) false) 0 true (omega (arith, l));
-      jumps = λ n k. absurd (omega arith);
-    })
-
-pub marks_more : (i : Image) (begins : List Bool) (p : ℕ) → AreMarked i begins p → AreMarked i (slice_set begins (jump_of i p) true) (p + 1)
-marks_more i begins p a = record {
-  long = length-set begins (jump_of i p) true ∙ a.long;
-  first = still begins (jump_of i p) 0 a.first;
-  jumps = λ n h k. by n h k (equal_or_not p n);
-}
-  where
-    by : (n : ℕ) → n < p + 1 → jump_of i n < length i.code → (p ≡ n) ⊎ (p ≢ n) → slice_get (slice_set begins (jump_of i p) true) (jump_of i n) ≡ Some true
-    by n h k (inl e) = rw e (get_put begins (jump_of i n) true (omega (arith, a.long)))
-    by n h k (inr d) = still begins (jump_of i p) (jump_of i n) (a.jumps n (omega arith) k)
 
 -- ---- numbers
 

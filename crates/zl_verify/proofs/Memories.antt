@@ -1,6 +1,6 @@
 -- Numbers that are read from the data memory, and bytes that are written to it.
-use Rattle.zl_verify.proofs.Common.{◌≡◌, ℕ, zero, suc, ◌+◌, ◌*◌, ◌<◌, ◌≤◌, List, [], ◌∷◌, ◌++◌, length, take, drop, arith, slice_index, ◌/◌, mod-lt, Image}
-use Rattle.zl_verify.proofs.Common.{number_of, bytes_of, overwritten, IsMemory}
+use Rattle.zl_verify.proofs.Common.{Image, IsMemory, List, [], arith, bytes_of, drop, length, mod-lt, number_of, overwritten, slice_index, suc, take, zero, ℕ}
+use Rattle.zl_verify.proofs.Common.{◌*◌, ◌++◌, ◌+◌, ◌/◌, ◌<◌, ◌∷◌, ◌≡◌, ◌≤◌}
 use Rattle.std.proofs.lemmas.List.{length-take, length-drop, length-append, get_or-drop}
 use Rattle.zl_code.proofs.ImageBytes.{length-bytes_of}
 

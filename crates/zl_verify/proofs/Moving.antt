@@ -1,12 +1,11 @@
 -- A handle moves from one register to another, or is exchanged with one in a slot array.
-use Rattle.zl_verify.proofs.Common.{◌≡◌, ◌≢◌, ℕ, zero, suc, ◌+◌, ◌<◌, ◌≤◌, ◌⊎◌, Bool, true, false, ◌==◌, List, [], ◌∷◌, map, length, refl, sym, ap, ◌∙◌, subst}
-use Rattle.zl_verify.proofs.Common.{Option, Some, arith, inl, inr, slice_set, slice_index, same_Some, is_some, if◌then◌else◌, slice_get, slice_index_or}
-use Rattle.zl_verify.proofs.Common.{cases_Bool, cases_eq, eqb-true, eqb-false, get_or-set_same, get_or-set_other, length-map, Entry, SlotArray, AbsVal, Word}
-use Rattle.zl_verify.proofs.Common.{Has, KindOf, RightsOf, ANY, is_has, untagged, State, IsState, value_at, with_value, may_move, moved, Table, kind_in}
-use Rattle.zl_verify.proofs.Common.{rights_in, IsHandle, Describes, one_if, is_it, owns, owners, keepers, place_at, Holds}
+use Rattle.zl_verify.proofs.Common.{ANY, AbsVal, Bool, Describes, Entry, Has, Holds, IsHandle, IsState, KindOf, List, Option, RightsOf, SlotArray, Some, State}
+use Rattle.zl_verify.proofs.Common.{Table, Word, [], ap, arith, cases_Bool, cases_eq, eqb-false, eqb-true, false, get_or-set_other, get_or-set_same}
+use Rattle.zl_verify.proofs.Common.{if◌then◌else◌, inl, inr, is_has, is_it, is_some, keepers, kind_in, length, length-map, map, may_move, moved, one_if, owners}
+use Rattle.zl_verify.proofs.Common.{owns, place_at, refl, rights_in, same_Some, slice_get, slice_index, slice_index_or, slice_set, slot_value, subst, suc, sym}
+use Rattle.zl_verify.proofs.Common.{true, untagged, value_at, with_value, zero, ℕ, ◌+◌, ◌<◌, ◌==◌, ◌∙◌, ◌∷◌, ◌≡◌, ◌≢◌, ◌≤◌, ◌⊎◌}
 use Rattle.std.proofs.lemmas.List.{length-set, map-set, set-get_or, get_or-map}
 use Rattle.zl_abs.specs.Values.{retagged}
-use Rattle.zl_abs.specs.LocalRules.{slot_value}
 use Rattle.zl_verify.proofs.Owners.{by_register, owns_free, owners-map, owners-set, owners-with, value_at-map, value_at-with, value_at-here, set_same}
 use Rattle.zl_verify.proofs.Owners.{set_apart, keepers-set}
 use Rattle.zl_verify.proofs.Writing.{nothing_at_0, long_with, other_described}

@@ -1,9 +1,8 @@
 -- Numbers given backwards: what they say of the steps that can be made, and what one more number leaves.
-use Rattle.zl_verify.proofs.Common.{◌≡◌, ◌≢◌, ℕ, zero, suc, ◌+◌, ◌<◌, ◌≤◌, Bool, true, false, List, [], ◌∷◌, length, Option, Some, None, refl, sym, ap, ◌∙◌}
-use Rattle.zl_verify.proofs.Common.{subst, ◌⊎◌, inl, inr, arith, min, ◌-◌, is_some, get_or, slice_set, if◌then◌else◌, option_map, nat_tests, sum_by-set}
-use Rattle.zl_verify.proofs.Common.{same_Some, slice_get-get_or, length-set, Targets, IsBelow, AllBelow, OneOf, Follow, at, places, places_by, places_at}
-use Rattle.zl_verify.proofs.Common.{AllInside, IsClosed, AreNumbers, unnumbered}
-use Rattle.std.proofs.Common.{leb}
+use Rattle.zl_verify.proofs.Common.{AllBelow, AllInside, AreNumbers, Bool, Follow, IsBelow, IsClosed, List, None, OneOf, Option, Some, Targets, [], ap, arith}
+use Rattle.zl_verify.proofs.Common.{at, false, get_or, if◌then◌else◌, inl, inr, is_some, leb, length, length-set, min, nat_tests, option_map, places, places_at}
+use Rattle.zl_verify.proofs.Common.{places_by, refl, same_Some, slice_get-get_or, slice_set, subst, suc, sum_by-set, sym, true, unnumbered, zero, ℕ, ◌+◌, ◌-◌}
+use Rattle.zl_verify.proofs.Common.{◌<◌, ◌∙◌, ◌∷◌, ◌≡◌, ◌≢◌, ◌≤◌, ◌⊎◌}
 use Rattle.zl_verify.specs.Lists.{within}
 use Rattle.zl_verify.specs.Numbers.{larger, one_more, above_all, number_of, Given, IsStuckFrom, one_if, one_if_none}
 use Rattle.zl_verify.proofs.Places.{get_put, get_put_other, equal_or_not}

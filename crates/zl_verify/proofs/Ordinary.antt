@@ -1,8 +1,8 @@
 -- The listed answers of a call are answers, neither OK nor faults.
-use Rattle.zl_verify.proofs.Common.{◌≡◌, ℕ, Bool, true, false, List, [], ◌∷◌, refl, Option, Some, None, AllByRecursion, World, Status, Outcome, first_some}
-use Rattle.zl_verify.proofs.Common.{Library, answer_if, Request, listed, dup, replace, chan_create, chan_write, chan_read_etc, event_create, eventpair_create}
-use Rattle.zl_verify.proofs.Common.{signal, signal_peer, wait_one, wait_poll, wait_async, port_create, port_queue, port_wait, port_poll, port_cancel}
-use Rattle.zl_verify.proofs.Common.{process_create, process_start, process_exit, task_kill, job_create, job_set_policy, is_fault}
+use Rattle.zl_verify.proofs.Common.{AllByRecursion, Bool, Library, List, None, Option, Outcome, Request, Some, Status, World, [], answer_if, chan_create}
+use Rattle.zl_verify.proofs.Common.{chan_read_etc, chan_write, dup, event_create, eventpair_create, false, first_some, is_fault, job_create, job_set_policy}
+use Rattle.zl_verify.proofs.Common.{listed, port_cancel, port_create, port_poll, port_queue, port_wait, process_create, process_exit, process_start, refl}
+use Rattle.zl_verify.proofs.Common.{replace, signal, signal_peer, task_kill, true, wait_async, wait_one, wait_poll, ℕ, ◌∷◌, ◌≡◌}
 use Rattle.zl_code.specs.CallTable.{close}
 use Rattle.zl_rights.specs.declared.status.Status.TheVariants as status
 use Rattle.zl_code.specs.declared.history.Outcome.TheVariants as outcome

@@ -1,12 +1,12 @@
 -- What one process does leaves every other as it is, and as its typing says, or ends it.
-use Rattle.zl_verify.proofs.Common.{◌≡◌, ℕ, ◌<◌, Bool, true, false, ◌==◌, List, [], ◌∷◌, refl, ap, ◌∙◌, IsTrue, Option, Some, None, option_map, arith, is_some}
-use Rattle.zl_verify.proofs.Common.{Entry, Condition, Status, STUCK, get, lives, runs, World, Process, Life, Created, Ended, KILLED, has_ended, Awaited}
-use Rattle.zl_verify.proofs.Common.{get-put, get-each, Outcome, TraceItem, Image, Library, is_among, is_in_range, object_at, creates, on_process, on_object}
-use Rattle.zl_verify.proofs.Common.{with_object, process_without, process_ended, insert_all, remove_all, ended, storing, waiting, is_created, created_process}
-use Rattle.zl_verify.proofs.Common.{started_with, is_within, process_killed, with_killed, refusal, IsSound, Request, process_create, process_start, task_kill}
-use Rattle.zl_verify.proofs.Common.{effect, new_handles, receiver_of, entering_at, stored_by, gives_ok, gives_refused, awaited_by, Site, taken_handles, taken}
-use Rattle.zl_verify.proofs.Common.{replied, with_effect, after_refusal, after_ok, ok_outcome, Next, Moves, AtCall, IsStuck, next_for, Acts, Step, left_behind}
-use Rattle.zl_verify.proofs.Common.{State, IsTyping, Conforms, IsFitStep, OthersLeave, left_so, was_killed, Calls}
+use Rattle.zl_verify.proofs.Common.{Acts, AtCall, Awaited, Bool, Calls, Condition, Conforms, Created, Ended, Entry, Image, IsFitStep, IsSound, IsStuck, IsTrue}
+use Rattle.zl_verify.proofs.Common.{IsTyping, KILLED, Library, Life, List, Moves, Next, None, Option, OthersLeave, Outcome, Process, Request, STUCK, Site, Some}
+use Rattle.zl_verify.proofs.Common.{State, Status, Step, TraceItem, World, [], after_ok, after_refusal, ap, arith, awaited_by, created_process, creates, effect}
+use Rattle.zl_verify.proofs.Common.{ended, entering_at, false, get, get-each, get-put, gives_ok, gives_refused, has_ended, insert_all, is_among, is_created}
+use Rattle.zl_verify.proofs.Common.{is_in_range, is_some, is_within, left_behind, left_so, lives, new_handles, next_for, object_at, ok_outcome, on_object}
+use Rattle.zl_verify.proofs.Common.{on_process, option_map, process_create, process_ended, process_killed, process_start, process_without, receiver_of, refl}
+use Rattle.zl_verify.proofs.Common.{refusal, remove_all, replied, runs, started_with, stored_by, storing, taken, taken_handles, task_kill, true, waiting}
+use Rattle.zl_verify.proofs.Common.{was_killed, with_effect, with_killed, with_object, ℕ, ◌<◌, ◌==◌, ◌∙◌, ◌∷◌, ◌≡◌}
 use Rattle.zl_rights.specs.declared.status.Status.TheVariants as status
 use Rattle.zl_code.specs.declared.history.Outcome.TheVariants as outcome
 use Rattle.zl_verify.proofs.CallEnds.{call_ends}

@@ -1,19 +1,15 @@
 -- The law of a checked process's own call.
-use Rattle.zl_verify.proofs.Common.{◌≡◌, ℕ, ◌+◌, ◌⊎◌, Bool, true, false, not, List, [], ◌∷◌, length, refl, sym, ap, ◌∙◌, subst, IsTrue, Option, Some, None, Ok}
-use Rattle.zl_verify.proofs.Common.{inl, inr, arith, slice_index, if◌then◌else◌, is_some, ℤ, then_some, same_Some, answered, get, lives, World, Cpu, Process}
-use Rattle.zl_verify.proofs.Common.{Blocked, Awaited, SignalOf, Packet, status_magnitude, KILLED, Condition, Status, CallName, Outcome, CallInstr, Image}
-use Rattle.zl_verify.proofs.Common.{Library, call_at, call_in, is_among, is_in_range, HandlesAreSound, AtCall, IsStuck, next_at, reg, on_process, waiting}
-use Rattle.zl_verify.proofs.Common.{object_at, creates, by_policy, examined, packets_at, Request, name_of, process_exit, task_kill, listed, entering_at}
-use Rattle.zl_verify.proofs.Common.{stored_by, gives_ok, gives_refused, awaited_by, ends_caller, outcome_of, is_within, condition_of, handle_operands, refusal}
-use Rattle.zl_verify.proofs.Common.{Site, site, site_of, Calls, Refused, Wants, Values, may_want, taken_handles, may_choose, taken, cpu_answered, replied}
-use Rattle.zl_verify.proofs.Common.{with_effect, after_refusal, after_ok, is_fault, asks_again, left_behind, State, with_all, and_then, edges, passes}
-use Rattle.zl_verify.proofs.Common.{bounds_of, Uses, uses_of, goes_on, stops, rule_with, IsTyping, targets_of, OneOf, Holds, IsMemory, waits_for, WaitsAt}
-use Rattle.zl_verify.proofs.Common.{Conforms, StandsAtCall, ends_of, IsAnswered, IsWaiting, IsOwnEnd, exits, kills}
-use Rattle.std.proofs.lemmas.Bool.{false≢true}
-use Rattle.zl_code.specs.Effects.{signed_word}
-use Rattle.zl_code.specs.Waiting.{is_active_at, packet_awaited}
+use Rattle.zl_verify.proofs.Common.{AtCall, Awaited, Blocked, Bool, CallInstr, CallName, Calls, CanCall, Condition, Conforms, Cpu, HandlesAreSound, Holds}
+use Rattle.zl_verify.proofs.Common.{Image, IsAnswered, IsMemory, IsOwnEnd, IsStuck, IsTrue, IsTyping, IsWaiting, KILLED, Library, List, None, Ok, OneOf, Option}
+use Rattle.zl_verify.proofs.Common.{Outcome, Packet, Process, Refused, Request, SignalOf, Site, Some, StandsAtCall, State, Status, Uses, Values, WaitsAt, Wants}
+use Rattle.zl_verify.proofs.Common.{World, [], after_ok, after_refusal, and_then, answered, ap, arith, asks_again, awaited_by, bounds_of, by_policy, call_at}
+use Rattle.zl_verify.proofs.Common.{call_in, condition_of, cpu_answered, creates, edges, ends_caller, ends_of, entering_at, examined, exits, false, false≢true}
+use Rattle.zl_verify.proofs.Common.{get, gives_ok, gives_refused, goes_on, handle_operands, if◌then◌else◌, inl, inr, is_active_at, is_among, is_fault}
+use Rattle.zl_verify.proofs.Common.{is_in_range, is_some, is_within, kills, left_behind, length, listed, lives, may_choose, may_want, name_of, next_at, not}
+use Rattle.zl_verify.proofs.Common.{object_at, on_process, outcome_of, packet_awaited, packets_at, passes, process_exit, refl, refusal, reg, replied, rule_with}
+use Rattle.zl_verify.proofs.Common.{same_Some, signed_word, site, site_of, slice_index, status_magnitude, stops, stored_by, subst, sym, taken, taken_handles}
+use Rattle.zl_verify.proofs.Common.{targets_of, task_kill, then_some, true, uses_of, waiting, waits_for, with_all, with_effect, ℕ, ℤ, ◌+◌, ◌∙◌, ◌∷◌, ◌≡◌, ◌⊎◌}
 use Rattle.zl_code.specs.Calls.{wanted}
-use Rattle.zl_verify.specs.CallLaws.{CanCall}
 use Rattle.zl_rights.specs.declared.status.Status.TheVariants as status
 use Rattle.zl_code.specs.declared.history.CallName.TheVariants as name
 use Rattle.zl_code.specs.declared.history.Outcome.TheVariants as outcome

@@ -1,17 +1,15 @@
 -- What a call leaves of its caller, and of the policy that the caller is under.
-use Rattle.zl_verify.proofs.Common.{◌≡◌, ℕ, ◌+◌, ◌<◌, ◌≤◌, ◌⊎◌, Bool, true, false, ◌||◌, ◌==◌, List, [], ◌∷◌, refl, sym, ap, ◌∙◌, subst, Option, Some, None}
-use Rattle.zl_verify.proofs.Common.{option_map, arith, inl, inr, is_some, if◌then◌else◌, unwrap_or, ℤ, then_some, cases_Bool, eqb-true, nat_tests, none-some}
-use Rattle.zl_verify.proofs.Common.{same_Some, condition_number, get, lives, is_process, World, Process, Ready, Object, Body, ChannelEnd, EventBody, PairEnd}
-use Rattle.zl_verify.proofs.Common.{PortBody, JobBody, ProcessBody, KILLED, has_ended, has_child_job, has_child_process, Setting, setting_of, Message, Packet}
-use Rattle.zl_verify.proofs.Common.{Entry, Condition, get-put, get-update, get-each, Library, object_at, body_in, body_of, parent_in, parent_of, policy_in}
-use Rattle.zl_verify.proofs.Common.{action_of, unless_allowed, creates, on_process, on_object, with_object, insert_all, storing, is_created, created_process}
-use Rattle.zl_verify.proofs.Common.{started_with, is_within, body_killed, object_killed, process_killed, with_killed, body_with_policy, job_within, Request}
-use Rattle.zl_verify.proofs.Common.{chan_create, chan_write, chan_read_etc, event_create, eventpair_create, signal, signal_peer, port_create, port_queue}
-use Rattle.zl_verify.proofs.Common.{port_wait, port_poll, port_cancel, process_create, process_start, process_exit, task_kill, job_create, job_set_policy}
-use Rattle.zl_verify.proofs.Common.{listed, effect, new_handles, receiver_of, entering_at, stored_by, ends_caller, refusal, with_effect, IsSound, eq-eqb}
-use Rattle.zl_code.specs.Effects.{body_with_message, body_after_read}
-use Rattle.zl_code.specs.Jobs.{is_dead, has_child, policy_changed}
-use Rattle.zl_code.specs.Waiting.{without_keyed, body_packed}
+use Rattle.zl_verify.proofs.Common.{Body, Bool, ChannelEnd, Condition, Entry, EventBody, IsSound, JobBody, KILLED, Library, List, Message, None, Object, Option}
+use Rattle.zl_verify.proofs.Common.{Packet, PairEnd, PortBody, Process, ProcessBody, Ready, Request, Setting, Some, World, [], action_of, ap, arith}
+use Rattle.zl_verify.proofs.Common.{body_after_read, body_in, body_killed, body_of, body_packed, body_with_message, body_with_policy, cases_Bool, chan_create}
+use Rattle.zl_verify.proofs.Common.{chan_read_etc, chan_write, condition_number, created_process, creates, effect, ends_caller, entering_at, eq-eqb, eqb-true}
+use Rattle.zl_verify.proofs.Common.{event_create, eventpair_create, false, get, get-each, get-put, get-update, has_child, has_child_job, has_child_process}
+use Rattle.zl_verify.proofs.Common.{has_ended, if◌then◌else◌, inl, inr, insert_all, is_created, is_dead, is_process, is_some, is_within, job_create}
+use Rattle.zl_verify.proofs.Common.{job_set_policy, job_within, listed, lives, nat_tests, new_handles, none-some, object_at, object_killed, on_object}
+use Rattle.zl_verify.proofs.Common.{on_process, option_map, parent_in, parent_of, policy_changed, policy_in, port_cancel, port_create, port_poll, port_queue}
+use Rattle.zl_verify.proofs.Common.{port_wait, process_create, process_exit, process_killed, process_start, receiver_of, refl, refusal, same_Some, setting_of}
+use Rattle.zl_verify.proofs.Common.{signal, signal_peer, started_with, stored_by, storing, subst, sym, task_kill, then_some, true, unless_allowed, unwrap_or}
+use Rattle.zl_verify.proofs.Common.{with_effect, with_killed, with_object, without_keyed, ℕ, ℤ, ◌+◌, ◌<◌, ◌==◌, ◌||◌, ◌∙◌, ◌∷◌, ◌≡◌, ◌≤◌, ◌⊎◌}
 use Rattle.zl_code.proofs.NamesKept.{list_any-get}
 use Rattle.zl_rights.specs.declared.status.Status.TheVariants as status
 use Rattle.zl_rights.specs.declared.policy.Action.TheVariants as action

@@ -1,13 +1,11 @@
 -- The own step of a process that conforms, whatever it is: what it tells, and where it leads.
-use Rattle.zl_verify.proofs.Common.{◌≡◌, ℕ, ◌⊎◌, Bool, true, false, ◌==◌, List, refl, sym, ap, ◌∙◌, subst, Option, Some, None, inl, inr, if◌then◌else◌, ℤ}
-use Rattle.zl_verify.proofs.Common.{slice_get, eq-eqb, same_Some, get, runs, World, Cpu, Process, Life, Ready, Blocked, Ended, has_ended, Awaited, SignalOf}
-use Rattle.zl_verify.proofs.Common.{PacketAt, CallName, Outcome, TraceItem, CallInstr, Image, Library, call_at, call_in, is_in_range, on_process, process_ended}
-use Rattle.zl_verify.proofs.Common.{ended, Site, awaited_by, ends_caller, outcome_of, refusal, Calls, CallBy, Choice, Refused, Wants, Values, taken}
-use Rattle.zl_verify.proofs.Common.{taken_handles, with_effect, ok_outcome, after_ok, Next, Moves, AtCall, IsStuck, next_at, next_in, Acts, pid_of, IsSound}
-use Rattle.zl_verify.proofs.Common.{is_pause_name, executed, State, IsTyping, waits_for, WaitsAt, Conforms, ends_of, StandsAtCall, IsAnswered, IsWaiting}
-use Rattle.zl_verify.proofs.Common.{IsOwnEnd, exits, kills, IsFitStep, EndsStep, stays, IsFineItem, IsUnderWay, HasEnded, is_pause, leads, leads_by, OneOf}
-use Rattle.zl_code.specs.Headline.{MayEnd}
-use Rattle.zl_verify.specs.CallLaws.{ends_by}
+use Rattle.zl_verify.proofs.Common.{Acts, AtCall, Awaited, Blocked, Bool, CallBy, CallInstr, CallName, Calls, Choice, Conforms, Cpu, Ended, EndsStep, HasEnded}
+use Rattle.zl_verify.proofs.Common.{Image, IsAnswered, IsFineItem, IsFitStep, IsOwnEnd, IsSound, IsStuck, IsTyping, IsUnderWay, IsWaiting, Library, Life, List}
+use Rattle.zl_verify.proofs.Common.{MayEnd, Moves, Next, None, OneOf, Option, Outcome, PacketAt, Process, Ready, Refused, SignalOf, Site, Some, StandsAtCall}
+use Rattle.zl_verify.proofs.Common.{State, TraceItem, Values, WaitsAt, Wants, World, after_ok, ap, awaited_by, call_at, call_in, ended, ends_by, ends_caller}
+use Rattle.zl_verify.proofs.Common.{ends_of, eq-eqb, executed, exits, false, get, has_ended, if◌then◌else◌, inl, inr, is_in_range, is_pause, is_pause_name}
+use Rattle.zl_verify.proofs.Common.{kills, leads, leads_by, next_at, next_in, ok_outcome, on_process, outcome_of, pid_of, process_ended, refl, refusal, runs}
+use Rattle.zl_verify.proofs.Common.{same_Some, slice_get, stays, subst, sym, taken, taken_handles, true, waits_for, with_effect, ℕ, ℤ, ◌==◌, ◌∙◌, ◌≡◌, ◌⊎◌}
 use Rattle.zl_verify.specs.WakeLaws.{wakes}
 use Rattle.zl_code.specs.declared.history.CallName.TheVariants as name
 use Rattle.zl_code.specs.declared.history.Outcome.TheVariants as outcome

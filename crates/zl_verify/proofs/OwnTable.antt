@@ -1,8 +1,8 @@
 -- The caller's process once handles left its table, and once they entered it.
-use Rattle.zl_verify.proofs.Common.{◌≡◌, ℕ, Bool, true, false, ◌==◌, List, [], ◌∷◌, map, refl, sym, ap, ◌∙◌, Option, Some, None, cond, slice_index, is_some}
-use Rattle.zl_verify.proofs.Common.{if◌then◌else◌, filter, cases_Bool, eqb-true, nat_tests, arith, ◌⊎◌, inl, inr, Entry, Map, get, without, has_key, World}
-use Rattle.zl_verify.proofs.Common.{Process, get-update, Operand, Request, process_start, new_handles, choosing, on_process, insert_all, remove_all}
-use Rattle.zl_verify.proofs.Common.{process_with, process_without, storing, may_get_all, overwritten, get_without, gone_without, Table, eq-eqb}
+use Rattle.zl_verify.proofs.Common.{Bool, Entry, List, Map, None, Operand, Option, Process, Request, Some, Table, World, [], ap, arith, cases_Bool, choosing}
+use Rattle.zl_verify.proofs.Common.{cond, eq-eqb, eqb-true, false, filter, get, get-update, get_without, gone_without, has_key, if◌then◌else◌, inl, inr}
+use Rattle.zl_verify.proofs.Common.{insert_all, is_some, map, may_get_all, nat_tests, new_handles, on_process, overwritten, process_start, process_with}
+use Rattle.zl_verify.proofs.Common.{process_without, refl, remove_all, slice_index, storing, sym, true, without, ℕ, ◌==◌, ◌∙◌, ◌∷◌, ◌≡◌, ◌⊎◌}
 use Rattle.zl_verify.proofs.Consuming.{removed}
 use Rattle.zl_verify.proofs.Examining.{unseen, unseen_more, seen_all, valued}
 use Rattle.zl_verify.proofs.Giving.{none_at, getting_all}

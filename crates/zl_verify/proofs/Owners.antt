@@ -1,8 +1,8 @@
 -- How many places own a handle, once one place is written.
-use Rattle.zl_verify.proofs.Common.{◌≡◌, ◌≢◌, ℕ, zero, suc, ◌+◌, ◌<◌, ◌≤◌, Bool, true, false, ◌&&◌, ◌==◌, List, [], ◌∷◌, map, length, refl, sym, ap, ◌∙◌}
-use Rattle.zl_verify.proofs.Common.{Option, arith, slice_set, slice_index, nat_lt, if◌then◌else◌, slice_index_or, sum_by, get_or-set_same, get_or-set_other}
-use Rattle.zl_verify.proofs.Common.{sum_by-set, sum_by-cons, nat_tests, Kind, Rights, AbsVal, Word, Has, KindOf, RightsOf, ANY, is_has, untagged, State}
-use Rattle.zl_verify.proofs.Common.{value_at, with_value, one_if, is_it, owns, owners, keepers, place_at, cases_Bool, eqb-false, inl, inr, ◌⊎◌}
+use Rattle.zl_verify.proofs.Common.{ANY, AbsVal, Bool, Has, Kind, KindOf, List, Option, Rights, RightsOf, State, Word, [], ap, arith, cases_Bool, eqb-false}
+use Rattle.zl_verify.proofs.Common.{false, get_or-set_other, get_or-set_same, if◌then◌else◌, inl, inr, is_has, is_it, keepers, length, map, nat_lt, nat_tests}
+use Rattle.zl_verify.proofs.Common.{one_if, owners, owns, place_at, refl, slice_index, slice_index_or, slice_set, suc, sum_by, sum_by-cons, sum_by-set, sym}
+use Rattle.zl_verify.proofs.Common.{true, untagged, value_at, with_value, zero, ℕ, ◌&&◌, ◌+◌, ◌<◌, ◌==◌, ◌∙◌, ◌∷◌, ◌≡◌, ◌≢◌, ◌≤◌, ◌⊎◌}
 
 -- ---- one place
 

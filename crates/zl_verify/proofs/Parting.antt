@@ -1,8 +1,8 @@
 -- The edges of an instruction lead to where it jumps, and behind it: all but the last to a block, and that one to a
 -- block or to the next instruction.
-use Rattle.zl_verify.proofs.Common.{◌≡◌, ℕ, ◌+◌, ◌<◌, Bool, true, false, List, [], ◌∷◌, ◌++◌, length, Option, Some, None, refl, sym, ◌∙◌, subst, arith, Result}
-use Rattle.zl_verify.proofs.Common.{Ok, Err, IfOk, nat_lt, if◌then◌else◌, nat_tests, Instr, Image, instr_at, local_in, Cause, State, bounds_of, and_then, Edge}
-use Rattle.zl_verify.proofs.Common.{edge_to, edges, local_rule, call_rule, rule, rule_by, rule_with, target_of, at, Blocks, AreBlocks}
+use Rattle.zl_verify.proofs.Common.{AreBlocks, Blocks, Bool, Cause, Edge, Err, IfOk, Image, Instr, List, None, Ok, Option, Result, Some, State, [], and_then}
+use Rattle.zl_verify.proofs.Common.{arith, at, bounds_of, call_rule, edge_to, edges, false, if◌then◌else◌, instr_at, length, local_in, local_rule, nat_lt}
+use Rattle.zl_verify.proofs.Common.{nat_tests, refl, rule, rule_by, rule_with, subst, sym, target_of, true, ℕ, ◌++◌, ◌+◌, ◌<◌, ◌∙◌, ◌∷◌, ◌≡◌}
 use Rattle.zl_abs.specs.Ways.{Ways}
 use Rattle.zl_abs.specs.Targets.{jump_in}
 use Rattle.zl_code.specs.declared.instr.Instr.TheVariants as instr

@@ -1,7 +1,7 @@
 -- What is true wherever an instruction goes on to the next one alone is true of each rule that is no jump's.
-use Rattle.zl_verify.proofs.Common.{◌≡◌, ℕ, Bool, true, false, not, List, Option, Some, None, Result, Ok, Err, IfOk, eqb, ltb, slice_get, if◌then◌else◌}
-use Rattle.zl_verify.proofs.Common.{SlotArray, LocalInstr, Image, AbsVal, Word, Cause, ANY, is_has, State, value_at, with_value, and_then, word_at, writes}
-use Rattle.zl_verify.proofs.Common.{passes, in_memory, loads, stores, may_move, moved, slot_fault, swaps_by, swaps_in, local_rule, jump_in}
+use Rattle.zl_verify.proofs.Common.{ANY, AbsVal, Bool, Cause, Err, IfOk, Image, List, LocalInstr, None, Ok, Option, Result, SlotArray, Some, State, Word}
+use Rattle.zl_verify.proofs.Common.{and_then, eqb, false, if◌then◌else◌, in_memory, is_has, jump_in, loads, local_rule, ltb, may_move, moved, not, passes}
+use Rattle.zl_verify.proofs.Common.{slice_get, slot_fault, stores, swaps_by, swaps_in, true, value_at, with_value, word_at, writes, ℕ, ◌≡◌}
 use Rattle.zl_abs.specs.Outcome.{Outcome}
 use Rattle.zl_abs.specs.LocalRules.{takes}
 use Rattle.zl_code.specs.declared.instr.LocalInstr.TheVariants as local

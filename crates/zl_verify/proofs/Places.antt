@@ -1,7 +1,7 @@
 -- Lists by their places: what a write leaves.
-use Rattle.std.proofs.Common.{Option, ◌≡◌, ◌≢◌, ℕ, zero, suc, ◌<◌, ◌≤◌, Bool, true, false, List, [], ◌∷◌, length, Some, None, refl, ap, ◌⊎◌, inl, inr, arith}
-use Rattle.std.specs.Prelude.{slice_get, slice_set}
-use Rattle.zl_verify.specs.Lists.{within, at}
+use Rattle.zl_verify.proofs.Common.{Bool, List, None, Option, Some, [], ap, arith, at, false, inl, inr, length, refl, slice_get, slice_set, suc, true, zero, ℕ}
+use Rattle.zl_verify.proofs.Common.{◌<◌, ◌∷◌, ◌≡◌, ◌≢◌, ◌≤◌, ◌⊎◌}
+use Rattle.zl_verify.specs.Lists.{within}
 
 pub get_put : {X : Type 0} (xs : List X) (n : ℕ) (v : X) → n < length xs → slice_get (slice_set xs n v) n ≡ Some v
 get_put [] n v h = absurd (omega arith)

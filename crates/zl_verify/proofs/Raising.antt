@@ -1,6 +1,6 @@
 -- What comes of a state that is raised in place.
-use Rattle.zl_verify.proofs.Common.{◌≡◌, ◌<◌, ℕ, List, length, Bool, true, false, Option, Some, None, refl, sym, ap, ◌∙◌, slice_get-get_or, slice_get, get_or}
-use Rattle.zl_verify.proofs.Common.{State, all_below, all_joined, raised}
+use Rattle.zl_verify.proofs.Common.{Bool, List, None, Option, Some, State, all_below, all_joined, ap, false, get_or, length, raised, refl, slice_get}
+use Rattle.zl_verify.proofs.Common.{slice_get-get_or, sym, true, ℕ, ◌<◌, ◌∙◌, ◌≡◌}
 use Rattle.zl_abs.proofs.Absorbing.{all_absorb}
 use Rattle.zl_verify.specs.Search.{Table, put}
 

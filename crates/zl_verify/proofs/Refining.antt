@@ -1,17 +1,13 @@
 -- A register is known better, and what the edges of a test know.
-use Rattle.zl_verify.proofs.Common.{◌≡◌, ◌≢◌, ℕ, zero, suc, ◌+◌, ◌-◌, ◌<◌, ◌≤◌, ◌⊎◌, Bool, true, false, not, ◌&&◌, ◌==◌, List, [], ◌∷◌, length, refl, sym, ap}
-use Rattle.zl_verify.proofs.Common.{◌∙◌, subst, Option, Some, None, Result, Ok, Err, arith, inl, inr, slice_set, slice_index, eq-eqb, same_Some, is_some}
-use Rattle.zl_verify.proofs.Common.{if◌then◌else◌, nat_lt, bit_or, cases_eq, eqb-true, nat_tests, Entry, Kind, Rights, bits, rights_of, within, kind_number}
-use Rattle.zl_verify.proofs.Common.{same_kind, KNOWN_RIGHTS, SlotArray, AbsVal, Word, Has, KindOf, RightsOf, Cause, ANY, is_has, capped, smaller, State}
-use Rattle.zl_verify.proofs.Common.{IsState, can_be_named, value_at, refined, kind_numbered, known_zero, known_there, known_kind, known_other, becomes}
-use Rattle.zl_verify.proofs.Common.{kind_ways, equal_ways, zero_ways, below_ways, has_ways, unless, within_trans, Table, kind_in, rights_in, IsAs, IsHandle}
-use Rattle.zl_verify.proofs.Common.{Describes, one_if, owns, owners, keepers, Holds, none-some}
+use Rattle.zl_verify.proofs.Common.{ANY, AbsVal, Bool, Cause, Describes, Entry, Err, Has, Holds, IsAs, IsHandle, IsState, KNOWN_RIGHTS, Kind, KindOf, List}
+use Rattle.zl_verify.proofs.Common.{None, Ok, Option, Result, Rights, RightsOf, SlotArray, Some, State, Table, Word, [], all_kinds, ap, arith, becomes}
+use Rattle.zl_verify.proofs.Common.{below_ways, bit_or, bits, can_be_named, capped, cases_eq, eq-eqb, eqb-true, equal_ways, false, has_ways, if◌then◌else◌, inl}
+use Rattle.zl_verify.proofs.Common.{inr, is_has, is_some, keepers, kind_among, kind_in, kind_number, kind_numbered, kind_ways, known_kind, known_other}
+use Rattle.zl_verify.proofs.Common.{known_rights, known_there, known_zero, length, nat_lt, nat_tests, none-some, not, one_if, owners, owns, refined, refl}
+use Rattle.zl_verify.proofs.Common.{rights_in, rights_of, same_Some, same_kind, same_kind_refl, slice_index, slice_set, smaller, subst, suc, sym, true, unless}
+use Rattle.zl_verify.proofs.Common.{value_at, within, within_trans, zero, zero_ways, ℕ, ◌&&◌, ◌+◌, ◌-◌, ◌<◌, ◌==◌, ◌∙◌, ◌∷◌, ◌≡◌, ◌≢◌, ◌≤◌, ◌⊎◌}
 use Rattle.std.proofs.lemmas.List.{length-set}
-use Rattle.zl_rights.specs.Numbers.{all_kinds}
-use Rattle.zl_code.specs.Spells.{kind_among}
 use Rattle.zl_abs.specs.Outcome.{Outcome}
-use Rattle.zl_abs.specs.LocalRules.{known_rights}
-use Rattle.zl_abs.proofs.Order.{same_kind_refl}
 use Rattle.zl_rights.specs.declared.kind.Kind.TheVariants as kind
 use Rattle.zl_verify.proofs.Owners.{owns_free, owns_0, owners-set, set_same, set_apart, has_inside}
 use Rattle.zl_verify.proofs.Writing.{nothing_at_0, live_apart}

@@ -1,8 +1,8 @@
 -- What a refused call gives fits what its rule says, whatever the status.
-use Rattle.zl_verify.proofs.Common.{◌≡◌, ℕ, ◌+◌, ◌*◌, ◌≤◌, Bool, true, false, ◌&&◌, ◌==◌, List, [], ◌∷◌, length, refl, sym, ◌∙◌, subst, Some, None, arith}
-use Rattle.zl_verify.proofs.Common.{slice_index, slice_set, eqb-true, World, Cpu, status_magnitude, Status, register_count, reg, CallName, CallInstr, number_at}
-use Rattle.zl_verify.proofs.Common.{is_call_in_range, chan_read_etc, wait_poll, gives_refused, Site, site_of, IsSound, object_at, AbsVal, Word, Has, State}
-use Rattle.zl_verify.proofs.Common.{value_at, with_value, narrowed_value, triple_results, uses_of, both, QueuesAreSized, Table}
+use Rattle.zl_verify.proofs.Common.{AbsVal, Bool, CallInstr, CallName, Cpu, Has, IsSound, List, None, QueuesAreSized, Site, Some, State, Status, Table, Word}
+use Rattle.zl_verify.proofs.Common.{World, [], arith, both, chan_read_etc, eqb-true, false, gives_refused, is_call_in_range, length, narrowed_value, number_at}
+use Rattle.zl_verify.proofs.Common.{object_at, refl, reg, register_count, site_of, slice_index, slice_set, status_magnitude, subst, sym, triple_results, true}
+use Rattle.zl_verify.proofs.Common.{uses_of, value_at, wait_poll, with_value, ℕ, ◌&&◌, ◌*◌, ◌+◌, ◌==◌, ◌∙◌, ◌∷◌, ◌≡◌, ◌≤◌}
 use Rattle.zl_rights.specs.declared.status.Status.TheVariants as status
 use Rattle.zl_code.specs.declared.history.CallName.TheVariants as name
 use Rattle.zl_verify.proofs.Sites.{call, AtSite, of_site}

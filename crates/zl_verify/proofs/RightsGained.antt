@@ -1,6 +1,5 @@
 -- Rights that are within others together, and that nothing has.
-use Rattle.zl_verify.proofs.Common.{◌≡◌, ℕ, true, false, ◌==◌, sym, ap, ◌∙◌, min, arith, eq-eqb, bit_and, bit_or, and_le_l, within, within_is}
-use Rattle.std.proofs.Common.{max}
+use Rattle.zl_verify.proofs.Common.{and_le_l, ap, arith, bit_and, bit_or, eq-eqb, false, max, min, sym, true, within, within_is, ℕ, ◌==◌, ◌∙◌, ◌≡◌}
 use Rattle.std.specs.Int.{bit_at}
 use Rattle.std.proofs.lemmas.Nat.Bits.{same_from_bits, bit_at_and, bit_at_or}
 use Rattle.zl_abs.proofs.Order.{is_within}

@@ -1,7 +1,8 @@
 -- What states that come to instructions make of the table of the search.
-use Rattle.zl_verify.proofs.Common.{◌≡◌, ◌≢◌, ℕ, ◌<◌, Bool, true, false, List, [], ◌∷◌, Option, Some, None, refl, sym, ap, ◌∙◌, subst, IsTrue, length, ◌⊎◌, inl}
-use Rattle.zl_verify.proofs.Common.{inr, arith, slice_get, slice_set, if◌then◌else◌, Result, Ok, Err, option_map, option_and_then, same_Some, length-set, Cause}
-use Rattle.zl_verify.proofs.Common.{State, all_below, all_joined, Edge, IsAbove, AllLead, all_below_refl, all_below_trans, at, raised_over, raised, raised_all}
+use Rattle.zl_verify.proofs.Common.{AllLead, Bool, Cause, Edge, Err, IsAbove, IsTrue, List, None, Ok, Option, Result, Some, State, [], all_below}
+use Rattle.zl_verify.proofs.Common.{all_below_refl, all_below_trans, all_joined, ap, arith, at, false, if◌then◌else◌, inl, inr, length, length-set}
+use Rattle.zl_verify.proofs.Common.{option_and_then, option_map, raised, raised_all, raised_over, refl, same_Some, slice_get, slice_set, subst, sym, true, ℕ}
+use Rattle.zl_verify.proofs.Common.{◌<◌, ◌∙◌, ◌∷◌, ◌≡◌, ◌≢◌, ◌⊎◌}
 use Rattle.zl_abs.specs.Laws.{AllAboveJoin, JoinIsAllAbove}
 use Rattle.zl_abs.specs.Typing.{Holds}
 use Rattle.zl_abs.proofs.StateOrder.{all_joined_left, all_joined_right, all_joined_least}

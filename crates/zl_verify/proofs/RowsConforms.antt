@@ -1,8 +1,8 @@
 -- A worked example: a process of a program with one handle and one slot array conforms where it starts.
-use Rattle.zl_verify.proofs.Common.{◌≡◌, ℕ, zero, suc, ◌+◌, ◌<◌, ◌≤◌, Bool, true, false, ◌&&◌, ◌==◌, List, [], ◌∷◌, replicate, refl, sym, subst, Option, Some}
-use Rattle.zl_verify.proofs.Common.{None, arith, inl, inr, slice_index, if◌then◌else◌, is_some, slice_get, get, World, Process, Ready, rights_of, READ, Entry}
-use Rattle.zl_verify.proofs.Common.{SlotArray, Image, creates, Word, Has, ANY, State, value_at, with_value, with_all, start_state, Table, IsHandle, Describes}
-use Rattle.zl_verify.proofs.Common.{one_if, is_it, owns, owners, keepers, place_at, Holds, Conforms, called}
+use Rattle.zl_verify.proofs.Common.{ANY, Bool, Conforms, Describes, Entry, Has, Holds, Image, IsHandle, List, None, Option, Process, READ, Ready, SlotArray}
+use Rattle.zl_verify.proofs.Common.{Some, State, Table, Word, World, [], arith, called, creates, false, get, if◌then◌else◌, inl, inr, is_it, is_some, keepers}
+use Rattle.zl_verify.proofs.Common.{one_if, owners, owns, place_at, refl, replicate, rights_of, slice_get, slice_index, start_state, subst, suc, sym, true}
+use Rattle.zl_verify.proofs.Common.{value_at, with_all, with_value, zero, ℕ, ◌&&◌, ◌+◌, ◌<◌, ◌==◌, ◌∷◌, ◌≡◌, ◌≤◌}
 use Rattle.zl_rights.specs.declared.kind.Kind.TheVariants as kind
 use Rattle.zl_code.specs.declared.instr.Instr.TheVariants as instr
 use Rattle.zl_code.specs.declared.instr.LocalInstr.TheVariants as local

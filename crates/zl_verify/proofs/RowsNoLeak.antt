@@ -1,10 +1,10 @@
 -- A worked example: a process with one handle in a register and one in a slot array conforms, and its table has just these two; and tables, states and places
 -- of which that isn't so.
-use Rattle.zl_verify.proofs.Common.{◌≡◌, ℕ, zero, suc, ◌+◌, ◌<◌, ◌≤◌, Bool, true, false, ◌&&◌, ◌||◌, ◌==◌, List, [], ◌∷◌, replicate, refl, sym, subst, Option}
-use Rattle.zl_verify.proofs.Common.{Some, None, arith, inl, inr, slice_index, ◌↔◌, IsTrue, if◌then◌else◌, is_some, slice_get, Contains, IsDistinct, list_any}
-use Rattle.zl_verify.proofs.Common.{eqb-true, nat_tests, same_Some, get, has_key, Map, World, Cpu, Process, Ready, rights_of, READ, Entry, SlotArray, Start}
-use Rattle.zl_verify.proofs.Common.{Image, creates, AbsVal, Word, Has, ANY, State, value_at, IsHandle, Describes, one_if, is_it, owns, owners, keepers}
-use Rattle.zl_verify.proofs.Common.{place_at, Holds, Conforms, values_in_registers, values_in_slots, handle_values, HoldsJustItsHandles, called}
+use Rattle.zl_verify.proofs.Common.{ANY, AbsVal, Bool, Conforms, Contains, Cpu, Describes, Entry, Has, Holds, HoldsJustItsHandles, Image, IsDistinct, IsHandle}
+use Rattle.zl_verify.proofs.Common.{IsTrue, List, Map, None, Option, Process, READ, Ready, SlotArray, Some, Start, State, Word, World, [], arith, called}
+use Rattle.zl_verify.proofs.Common.{creates, eqb-true, false, get, handle_values, has_key, if◌then◌else◌, inl, inr, is_it, is_some, keepers, list_any}
+use Rattle.zl_verify.proofs.Common.{nat_tests, one_if, owners, owns, place_at, refl, replicate, rights_of, same_Some, slice_get, slice_index, subst, suc, sym}
+use Rattle.zl_verify.proofs.Common.{true, value_at, values_in_registers, values_in_slots, zero, ℕ, ◌&&◌, ◌+◌, ◌<◌, ◌==◌, ◌||◌, ◌↔◌, ◌∷◌, ◌≡◌, ◌≤◌}
 use Rattle.zl_rights.specs.declared.kind.Kind.TheVariants as kind
 use Rattle.zl_code.specs.declared.instr.Instr.TheVariants as instr
 use Rattle.zl_code.specs.declared.instr.LocalInstr.TheVariants as local

@@ -1,7 +1,7 @@
 -- The search for the least typing, block by block: what holds at each turn of it.
-use Rattle.zl_verify.proofs.Common.{◌≡◌, ◌≢◌, ℕ, ◌+◌, ◌<◌, ◌≤◌, Bool, true, false, List, Option, Some, None, refl, sym, ◌∙◌, subst, length, ◌⊎◌, inl, inr}
-use Rattle.zl_verify.proofs.Common.{arith, slice_get, slice_set, Result, Ok, Err, same_Some, length-set, Image, Cause, State, start_state, Edge, IsAbove}
-use Rattle.zl_verify.proofs.Common.{IsTyping, at, raised_all, cleared, Blocks, AreBlocks, block, none-some}
+use Rattle.zl_verify.proofs.Common.{AreBlocks, Blocks, Bool, Cause, Edge, Err, Image, IsAbove, IsTyping, List, None, Ok, Option, Result, Some, State, arith, at}
+use Rattle.zl_verify.proofs.Common.{block, cleared, false, inl, inr, length, length-set, none-some, raised_all, refl, same_Some, slice_get, slice_set}
+use Rattle.zl_verify.proofs.Common.{start_state, subst, sym, true, ℕ, ◌+◌, ◌<◌, ◌∙◌, ◌≡◌, ◌≢◌, ◌≤◌, ◌⊎◌}
 use Rattle.zl_abs.specs.Typing.{Holds}
 use Rattle.zl_verify.specs.Search.{Table}
 use Rattle.zl_verify.proofs.Places.{get_put, get_put_other, off, nowhere, equal_or_not, mapped}

@@ -1,6 +1,6 @@
 -- A call as it stands at its instruction. By its name a call goes by a row that is known, so that its site computes.
-use Rattle.zl_verify.proofs.Common.{◌≡◌, Bool, true, false, ℕ, List, refl, sym, ap, ◌∙◌, subst, Some, is_some, then_some, same_Some, Cpu, CallName, CallInstr}
-use Rattle.zl_verify.proofs.Common.{call_row, has_its_memory, Site, site_of}
+use Rattle.zl_verify.proofs.Common.{Bool, CallInstr, CallName, Cpu, List, Site, Some, ap, call_row, false, has_its_memory, is_some, refl, same_Some, site_of}
+use Rattle.zl_verify.proofs.Common.{subst, sym, then_some, true, ℕ, ◌∙◌, ◌≡◌}
 use Rattle.zl_code.specs.Request.{site_at}
 use Rattle.zl_code.proofs.CallRows.{site_named}
 

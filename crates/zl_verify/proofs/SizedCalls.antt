@@ -1,24 +1,21 @@
 -- Whatever a call does, and however it is answered, its world stays sized.
-use Rattle.zl_verify.proofs.Common.{◌≡◌, ℕ, suc, ◌+◌, ◌≤◌, Bool, true, false, not, ◌||◌, ◌==◌, List, [], ◌∷◌, ◌++◌, length, drop, slice_index, refl, sym, ap}
-use Rattle.zl_verify.proofs.Common.{◌∙◌, subst, Option, Some, None, arith, inl, inr, ◌⊎◌, ⊤, is_some, if◌then◌else◌, nat_lt, slice_get, bit_and, bit_xor}
-use Rattle.zl_verify.proofs.Common.{AllByRecursion, filter, option_to_list, cases_Bool, eqb-true, nat_tests, and_le_l, same_Some, Entry, Status, get, has_key}
-use Rattle.zl_verify.proofs.Common.{lives, without, within, runs, queue_of, World, Cpu, Process, Object, Body, ChannelEnd, EventBody, JobBody, PairEnd}
-use Rattle.zl_verify.proofs.Common.{PortBody, ProcessBody, Ended, written, Message, Packet, status_magnitude, KILLED, Setting, setting_of, Outcome, CallName}
-use Rattle.zl_verify.proofs.Common.{CallInstr, Library, reg, object_at, body_of, entry_at, queue_at, first_bytes, first_handles, packets_in, packets_at}
-use Rattle.zl_verify.proofs.Common.{first_values, created_process, started_with, job_within, body_with_policy, body_killed, object_killed, process_killed}
-use Rattle.zl_verify.proofs.Common.{is_within, with_killed, on_process, insert_all, remove_all, with_object, process_with, process_without, may_get_after}
-use Rattle.zl_verify.proofs.Common.{may_get_all, told_of, Request, replace, chan_create, chan_write, chan_read_etc, event_create, eventpair_create, signal}
-use Rattle.zl_verify.proofs.Common.{signal_peer, wait_one, wait_poll, wait_async, port_create, port_queue, port_wait, port_poll, port_cancel, process_create}
-use Rattle.zl_verify.proofs.Common.{process_start, task_kill, job_create, job_set_policy, listed, new_handles, receiver_of, choosing, entering_at, effect}
-use Rattle.zl_verify.proofs.Common.{stored_by, gives_ok, gives_refused, awaited_by, refusal, Site, site_of, taken_handles, may_choose, taken, cpu_answered}
-use Rattle.zl_verify.proofs.Common.{replied, with_effect, after_refusal, after_ok, ok_outcome, Calls, IsSound, is_value, get_without, gone_without, Each, ANY}
-use Rattle.zl_verify.proofs.Common.{both, IsSizedMessage, IsSizedPacket, IsSizedCpu, IsSized, IsSizedObject}
-use Rattle.zl_rights.specs.Numbers.{changed}
+use Rattle.zl_verify.proofs.Common.{ANY, AllByRecursion, Body, Bool, CallInstr, CallName, Calls, ChannelEnd, Cpu, Each, Ended, Entry, EventBody, IsSized}
+use Rattle.zl_verify.proofs.Common.{IsSizedCpu, IsSizedMessage, IsSizedObject, IsSizedPacket, IsSound, IsSoundTable, JobBody, KILLED, Library, List, Message}
+use Rattle.zl_verify.proofs.Common.{None, Object, Option, Outcome, Packet, PairEnd, PortBody, Process, ProcessBody, Request, Setting, Site, Some, Status, World}
+use Rattle.zl_verify.proofs.Common.{[], after_ok, after_refusal, and_le_l, ap, arith, awaited_by, bit_and, bit_xor, body_after_read, body_killed, body_of}
+use Rattle.zl_verify.proofs.Common.{body_packed, body_with_message, body_with_policy, both, cases_Bool, chan_create, chan_read_etc, chan_write, changed}
+use Rattle.zl_verify.proofs.Common.{choosing, cpu_answered, created_process, drop, effect, entering_at, entries_at, entry_at, eqb-true, event_create}
+use Rattle.zl_verify.proofs.Common.{eventpair_create, false, filter, first_bytes, first_handles, first_values, get, get_without, gets_all, gives_ok}
+use Rattle.zl_verify.proofs.Common.{gives_refused, gone_without, has_key, if◌then◌else◌, inl, inr, insert_all, is_by_handle, is_keyed, is_some, is_too_large}
+use Rattle.zl_verify.proofs.Common.{is_value, is_within, job_create, job_set_policy, job_within, length, listed, lives, may_change, may_choose, may_get_after}
+use Rattle.zl_verify.proofs.Common.{may_get_all, nat_lt, nat_tests, new_handles, not, object_at, object_killed, ok_outcome, on_process, option_to_list}
+use Rattle.zl_verify.proofs.Common.{packets_at, packets_in, peer_at, port_cancel, port_create, port_poll, port_queue, port_wait, process_create, process_killed}
+use Rattle.zl_verify.proofs.Common.{process_start, process_with, process_without, queue_at, queue_of, receiver_of, refl, refusal, reg, remove_all, replace}
+use Rattle.zl_verify.proofs.Common.{replied, runs, same_Some, settable_of, setting_of, signal, signal_peer, site_of, slice_get, slice_index, source_at}
+use Rattle.zl_verify.proofs.Common.{started_with, status_magnitude, stored_by, subst, suc, sym, taken, taken_handles, task_kill, told_of, true, wait_async}
+use Rattle.zl_verify.proofs.Common.{wait_of, wait_one, wait_poll, with_effect, with_killed, with_object, within, without, written, ℕ, ⊤, ◌++◌, ◌+◌, ◌==◌, ◌||◌}
+use Rattle.zl_verify.proofs.Common.{◌∙◌, ◌∷◌, ◌≡◌, ◌≤◌, ◌⊎◌}
 use Rattle.zl_rights.specs.Packets.{user_packet, is_from}
-use Rattle.zl_code.specs.Tests.{settable_of, may_change, peer_at, entries_at, is_too_large}
-use Rattle.zl_code.specs.Waiting.{is_keyed, is_by_handle, body_packed, source_at, wait_of}
-use Rattle.zl_code.specs.Effects.{gets_all, body_with_message, body_after_read}
-use Rattle.zl_code.specs.Sound.{IsSoundTable}
 use Rattle.zl_rights.specs.declared.status.Status.TheVariants as status
 use Rattle.zl_code.specs.declared.history.Outcome.TheVariants as outcome
 use Rattle.zl_code.specs.declared.history.CallName.TheVariants as name

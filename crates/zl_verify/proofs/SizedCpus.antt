@@ -1,9 +1,9 @@
 -- Registers, memories and slot arrays stay sized, whatever a local instruction does.
-use Rattle.zl_verify.proofs.Common.{◌≡◌, ℕ, zero, suc, ◌+◌, ◌-◌, ◌<◌, ◌≤◌, Bool, true, false, List, [], ◌∷◌, length, map, take, drop, refl, subst, Option, Some}
-use Rattle.zl_verify.proofs.Common.{None, IfSome, arith, slice_set, slice_index, if◌then◌else◌, nat_lt, slice_get, slice_index_or, replicate, bit_and, ◌^◌}
-use Rattle.zl_verify.proofs.Common.{AllByRecursion, get_or_from_slice_get, and_le_l, answered, Cpu, written, SlotArray, LocalInstr, Program, number_of}
-use Rattle.zl_verify.proofs.Common.{bytes_of, is_local_in_range, local_parts, reg, sets, is_in_memory, overwritten, swaps, local_effect, blank_cpu, set_from}
-use Rattle.zl_verify.proofs.Common.{with_handles, cpu_given, ANY, shifted, IsSizedCpu}
+use Rattle.zl_verify.proofs.Common.{ANY, AllByRecursion, Bool, Cpu, IfSome, IsSizedCpu, List, LocalInstr, None, Option, Program, SlotArray, Some, [], and_le_l}
+use Rattle.zl_verify.proofs.Common.{answered, arith, bit_and, blank_cpu, bytes_of, cpu_given, drop, false, get_or_from_slice_get, if◌then◌else◌, is_in_memory}
+use Rattle.zl_verify.proofs.Common.{is_local_in_range, length, local_effect, local_parts, map, nat_lt, number_of, overwritten, refl, reg, replicate, set_from}
+use Rattle.zl_verify.proofs.Common.{sets, shifted, slice_get, slice_index, slice_index_or, slice_set, subst, suc, swaps, take, true, with_handles, written}
+use Rattle.zl_verify.proofs.Common.{zero, ℕ, ◌+◌, ◌-◌, ◌<◌, ◌^◌, ◌∷◌, ◌≡◌, ◌≤◌}
 use Rattle.zl_code.specs.Local.{loads, stores, swaps_in}
 use Rattle.zl_code.specs.declared.instr.LocalInstr.TheVariants as local
 use Rattle.zl_verify.proofs.Agreeing.{wrapped_few, or_few, xor_few, up_few, down_less, imm_in}

@@ -1,13 +1,12 @@
 -- Every world of a run from a boot world, and of a legal history from one, is sized.
-use Rattle.zl_verify.proofs.Common.{◌≡◌, ℕ, zero, suc, ◌+◌, ◌≤◌, Bool, true, false, ◌==◌, List, [], ◌∷◌, refl, subst, IsTrue, Option, Some, None, IfSome, ⊤}
-use Rattle.zl_verify.proofs.Common.{if◌then◌else◌, slice_get, AllByRecursion, flat_map, same_Some, none-some, Entry, STUCK, get, World, Cpu, Process, Object}
-use Rattle.zl_verify.proofs.Common.{EventBody, PairEnd, PortBody, ChannelEnd, JobBody, ProcessBody, Statement, job_within, body_of, TraceItem, Instr, CallInstr}
-use Rattle.zl_verify.proofs.Common.{Image, Library, instr_at, is_in_range, is_instr_in_range, local_effect, Site, site_of, with_object, process_with, setting}
-use Rattle.zl_verify.proofs.Common.{Boots, may_boot, boot_effect, handles_given, process_with_all, origin, created_process, Next, Moves, AtCall, IsStuck, moves}
-use Rattle.zl_verify.proofs.Common.{calls_at, next_of, next_at, next_in, next_for, Acts, Step, pid_of, Runs, single, IsSound, word_of, IsSizedBoot, ranges}
-use Rattle.zl_verify.proofs.Common.{step_sound, boot_sound, ANY, IsSizedCpu, IsSized, IsSizedObject}
+use Rattle.zl_verify.proofs.Common.{ANY, Acts, AllByRecursion, AtCall, Bool, Boots, CallInstr, ChannelEnd, Cpu, Entry, EventBody, IfSome, Image, Instr, IsSized}
+use Rattle.zl_verify.proofs.Common.{IsSizedBoot, IsSizedCpu, IsSizedObject, IsSound, IsStuck, IsTrue, JobBody, Library, List, Moves, Next, None, Object, Option}
+use Rattle.zl_verify.proofs.Common.{PairEnd, PortBody, Process, ProcessBody, Runs, STUCK, Site, Some, Statement, Step, Throughout, TraceItem, World, []}
+use Rattle.zl_verify.proofs.Common.{body_of, boot_effect, boot_sound, calls_at, created_process, false, flat_map, get, handles_given, if◌then◌else◌, instr_at}
+use Rattle.zl_verify.proofs.Common.{is_in_range, is_instr_in_range, job_within, local_effect, may_boot, moves, next_at, next_for, next_in, next_of, none-some}
+use Rattle.zl_verify.proofs.Common.{origin, pid_of, process_with, process_with_all, ranges, refl, same_Some, setting, single, site_of, slice_get, step_sound}
+use Rattle.zl_verify.proofs.Common.{subst, suc, true, with_object, word_of, zero, ℕ, ⊤, ◌+◌, ◌==◌, ◌∷◌, ◌≡◌, ◌≤◌}
 use Rattle.zl_code.specs.Steps.{IsLegalHistory}
-use Rattle.zl_code.specs.Handles.{Throughout}
 use Rattle.zl_code.specs.declared.boot.Statement.TheVariants as statement
 use Rattle.zl_code.specs.declared.instr.Instr.TheVariants as instr
 use Rattle.zl_verify.proofs.LocalSteps.{in_range_at}

@@ -1,18 +1,16 @@
 -- Worlds in which registers, memories and what is queued are sized; what changes a world leaves it so, and so do settling and waking.
-use Rattle.zl_verify.proofs.Common.{◌≡◌, ℕ, ◌≤◌, Bool, true, false, not, ◌&&◌, ◌==◌, List, [], ◌∷◌, ◌++◌, map, refl, sym, ◌∙◌, subst, Option, Some, None, arith}
-use Rattle.zl_verify.proofs.Common.{ℤ, cond, if◌then◌else◌, AllByRecursion, filter, option_map, same_Some, none-some, Entry, lives, get, without, has_key}
-use Rattle.zl_verify.proofs.Common.{Settles, process_settled, without_others, fired, wakes, Map, World, Process, Blocked, Ended, Object, Body, PortBody}
-use Rattle.zl_verify.proofs.Common.{Awaited, Packet, active, body_with_packets, packets_for, made_ready, packet_values, with_body, woken, get-update, get-each}
-use Rattle.zl_verify.proofs.Common.{on_process, on_object, process_with, process_without, insert_all, remove_all, with_object, process_ended, ended, storing}
-use Rattle.zl_verify.proofs.Common.{waiting, overwritten, Each, ANY, IsSizedPacket, QueuesAreSized, IsSizedCpu, IsSizedObject, IsSized}
+use Rattle.zl_verify.proofs.Common.{ANY, AllByRecursion, Awaited, Blocked, Body, Bool, Each, Ended, Entry, IsSized, IsSizedCpu, IsSizedObject, IsSizedPacket}
+use Rattle.zl_verify.proofs.Common.{IsSizedWait, List, Map, None, Object, Option, Packet, PortBody, Process, QueuesAreSized, Settles, Some, World, [], active}
+use Rattle.zl_verify.proofs.Common.{arith, body_with_packets, cond, ended, false, filter, fired, get, get-each, get-update, has_key, if◌then◌else◌, insert_all}
+use Rattle.zl_verify.proofs.Common.{lives, made_ready, map, none-some, not, on_object, on_process, option_map, overwritten, packet_values, packets_for}
+use Rattle.zl_verify.proofs.Common.{process_ended, process_settled, process_with, process_without, refl, registered, remove_all, same_Some, storing, subst, sym}
+use Rattle.zl_verify.proofs.Common.{true, waiting, wakes, with_body, with_object, with_process, without, without_others, woken, ℕ, ℤ, ◌&&◌, ◌++◌, ◌==◌, ◌∙◌}
+use Rattle.zl_verify.proofs.Common.{◌∷◌, ◌≡◌, ◌≤◌}
 use Rattle.zl_rights.specs.Common.{each, update}
 use Rattle.zl_rights.specs.World.{Wait}
 use Rattle.zl_rights.specs.Settle.{is_made_by_handle}
 use Rattle.zl_rights.specs.Wakes.{holds, packet_of}
-use Rattle.zl_code.specs.Effects.{with_process}
-use Rattle.zl_code.specs.Waiting.{registered}
 use Rattle.zl_code.proofs.MapKept.{each_put, each_where_key}
-use Rattle.zl_verify.specs.SizedLaws.{IsSizedWait}
 use Rattle.zl_verify.proofs.Waking.{turn_by, wakes_by}
 use Rattle.zl_verify.proofs.Memories.{AreBytes, bytes_over}
 use Rattle.zl_verify.proofs.Calm.{active_few}

@@ -1,10 +1,9 @@
 -- A call that stands next where a process is as a state says, and whose rule holds there.
-use Rattle.zl_verify.proofs.Common.{◌≡◌, ℕ, Bool, true, false, not, List, [], ◌∷◌, refl, sym, ap, ◌∙◌, subst, Some, None, Result, Ok, Err, if◌then◌else◌, get}
-use Rattle.zl_verify.proofs.Common.{World, Cpu, Process, answered, written, Status, status_magnitude, SlotArray, CallInstr, Image, is_call_in_range, Site}
-use Rattle.zl_verify.proofs.Common.{site_of, by_policy, handle_operands, condition_of, taken_handles, taken, cpu_answered, Cause, State, IsState, with_all}
-use Rattle.zl_verify.proofs.Common.{and_then, passes, are_words, range_fits, is_declared, are_distinct, has_one, examined_all, finished, Uses, uses_of, goes_on}
-use Rattle.zl_verify.proofs.Common.{stops, call_rule, Ways, Table, Holds}
-use Rattle.zl_code.specs.Tests.{handles_in}
+use Rattle.zl_verify.proofs.Common.{Bool, CallInstr, Cause, Cpu, Err, Holds, Image, IsState, List, None, Ok, Process, Result, Site, SlotArray, Some, State}
+use Rattle.zl_verify.proofs.Common.{Status, Table, Uses, Ways, World, [], and_then, answered, ap, are_distinct, are_words, by_policy, call_rule, condition_of}
+use Rattle.zl_verify.proofs.Common.{cpu_answered, examined_all, false, finished, get, goes_on, handle_operands, handles_in, has_one, if◌then◌else◌}
+use Rattle.zl_verify.proofs.Common.{is_call_in_range, is_declared, not, passes, range_fits, refl, site_of, status_magnitude, stops, subst, sym, taken}
+use Rattle.zl_verify.proofs.Common.{taken_handles, true, uses_of, with_all, written, ℕ, ◌∙◌, ◌∷◌, ◌≡◌}
 use Rattle.zl_code.specs.Operands.{examined as examined_at}
 use Rattle.zl_abs.specs.declared.cause.Cause.TheVariants as cause
 use Rattle.zl_verify.proofs.Examining.{Passed, operands_from, unseen, seen_all, Reads}

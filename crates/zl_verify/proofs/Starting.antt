@@ -1,14 +1,13 @@
 -- A process that starts properly is as a typing of its image says at instruction 0.
-use Rattle.zl_verify.proofs.Common.{◌≡◌, ◌≢◌, ℕ, zero, suc, ◌+◌, ◌<◌, ◌≤◌, Bool, true, false, ◌||◌, ◌==◌, List, [], ◌∷◌, map, length, refl, sym, ap, ◌∙◌}
-use Rattle.zl_verify.proofs.Common.{subst, Option, Some, None, arith, inl, inr, slice_set, slice_index, replicate, sum_by, option_to_list, nat_tests}
-use Rattle.zl_verify.proofs.Common.{sum_by-cons, none-some, Entry, bits, within, get, World, Cpu, Process, same_kind, takes, Kind, written, SlotArray, Start}
-use Rattle.zl_verify.proofs.Common.{Image, Library, register_count, is_in_range, process_with, may_get, may_get_all, are_declared, process_with_all, blank_cpu}
-use Rattle.zl_verify.proofs.Common.{created_process, set_from, with_handles, cpu_given, IsProperStart, ranges, AbsVal, Word, ANY, kind_below, State, IsState}
-use Rattle.zl_verify.proofs.Common.{value_at, with_value, with_all, start_state, IsAbove, IsTyping, is_result, are_distinct, has_one, both, one_if, is_it}
-use Rattle.zl_verify.proofs.Common.{owners, keepers, place_at, Holds, IsAs, IsMemory, Conforms}
+use Rattle.zl_verify.proofs.Common.{ANY, AbsVal, Bool, Conforms, Cpu, Entry, Holds, Image, IsAbove, IsAs, IsMemory, IsProperStart, IsState, IsTyping, Kind}
+use Rattle.zl_verify.proofs.Common.{Library, List, None, Option, Process, SlotArray, Some, Start, State, Word, World, [], ap, are_declared, are_distinct, arith}
+use Rattle.zl_verify.proofs.Common.{bits, blank_cpu, both, cpu_given, created_process, false, get, has_one, inl, inr, is_in_range, is_it, is_result, keepers}
+use Rattle.zl_verify.proofs.Common.{kind_below, length, map, may_get, may_get_all, nat_tests, none-some, one_if, option_to_list, owners, place_at, process_with}
+use Rattle.zl_verify.proofs.Common.{process_with_all, ranges, refl, register_count, replicate, same_kind, set_from, slice_index, slice_set, start_results}
+use Rattle.zl_verify.proofs.Common.{start_state, start_value, starts_from, subst, suc, sum_by, sum_by-cons, sym, takes, true, value_at, with_all, with_handles}
+use Rattle.zl_verify.proofs.Common.{with_value, within, written, zero, ℕ, ◌+◌, ◌<◌, ◌==◌, ◌||◌, ◌∙◌, ◌∷◌, ◌≡◌, ◌≢◌, ◌≤◌}
 use Rattle.std.proofs.lemmas.List.{length-replicate}
 use Rattle.zl_code.specs.Jobs.{is_declared}
-use Rattle.zl_abs.specs.States.{start_value, starts_from, start_results}
 use Rattle.zl_verify.proofs.Owners.{not_0, owns_0}
 use Rattle.zl_verify.proofs.Weakening.{weaken}
 use Rattle.zl_verify.proofs.Fitting.{Fits, AreInside, results}

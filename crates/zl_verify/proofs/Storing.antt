@@ -1,7 +1,7 @@
 -- The bytes that a call stores leave its caller's memory whole, and the rest of the caller as it was.
-use Rattle.zl_verify.proofs.Common.{◌≡◌, ℕ, ◌+◌, ◌≤◌, List, [], ◌∷◌, length, true, refl, sym, ap, ◌∙◌, subst, Some, None, arith, slice_index, is_some, nat_le}
-use Rattle.zl_verify.proofs.Common.{nat_tests, World, Process, Image, Library, CallName, CallInstr, call_row, number_at, has_its_memory, reg, overwritten}
-use Rattle.zl_verify.proofs.Common.{first_bytes, queue_at, stored_by, refusal, Site, site_of, IsMemory, QueuesAreSized}
+use Rattle.zl_verify.proofs.Common.{CallInstr, CallName, Image, IsMemory, Library, List, None, Process, QueuesAreSized, Site, Some, World, [], ap, arith}
+use Rattle.zl_verify.proofs.Common.{call_row, first_bytes, has_its_memory, is_some, length, nat_le, nat_tests, number_at, overwritten, queue_at, refl, refusal}
+use Rattle.zl_verify.proofs.Common.{reg, site_of, slice_index, stored_by, subst, sym, true, ℕ, ◌+◌, ◌∙◌, ◌∷◌, ◌≡◌, ◌≤◌}
 use Rattle.zl_code.specs.declared.history.CallName.TheVariants as name
 use Rattle.zl_verify.proofs.Memories.{AreBytes, bytes_stored}
 use Rattle.zl_verify.proofs.OwnTable.{storing_in}

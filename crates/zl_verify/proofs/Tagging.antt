@@ -1,6 +1,6 @@
 -- A written register keeps that tags name registers that are 0 or have a handle.
-use Rattle.zl_verify.proofs.Common.{◌≡◌, ◌≢◌, ℕ, ◌<◌, ◌⊎◌, true, false, ◌==◌, length, refl, ◌∙◌, IsTrue, inl, inr, cases_Bool, cases_eq, eqb-true, AbsVal, Word}
-use Rattle.zl_verify.proofs.Common.{Has, KindOf, RightsOf, untagged, State, IsState, can_be_named, is_named_well, value_at, with_value, ANY}
+use Rattle.zl_verify.proofs.Common.{ANY, AbsVal, Has, IsState, IsTrue, KindOf, RightsOf, State, Word, can_be_named, cases_Bool, cases_eq, eqb-true, false, inl}
+use Rattle.zl_verify.proofs.Common.{inr, is_named_well, length, refl, true, untagged, value_at, with_value, ℕ, ◌<◌, ◌==◌, ◌∙◌, ◌≡◌, ◌≢◌, ◌⊎◌}
 use Rattle.zl_verify.proofs.Owners.{by_register, value_at-with, value_at-here}
 use Rattle.zl_verify.proofs.Writing.{long_with}
 

@@ -1,15 +1,13 @@
 -- What holds at each turn of the search, and what its end says.
-use Rattle.zl_verify.proofs.Common.{◌≡◌, ◌≢◌, ℕ, zero, suc, ◌+◌, ◌<◌, ◌≤◌, Bool, true, false, List, Option, Some, None, refl, sym, ap, ◌∙◌, subst, IsTrue}
-use Rattle.zl_verify.proofs.Common.{length, ◌⊎◌, inl, inr, arith, slice_get, slice_set, replicate, Result, Ok, Err, same_Some, length-set, length-replicate}
-use Rattle.zl_verify.proofs.Common.{Image, is_in_range, Cause, State, start_state, Edge, IsFine, IsAbove, IsTyping, all_below_refl, at, raised_all, turned_over}
-use Rattle.zl_verify.proofs.Common.{cleared, Blocks, AreBlocks, block, states_of, IsLeastTyping}
+use Rattle.zl_verify.proofs.Common.{AreBlocks, Blocks, Bool, Cause, Edge, Err, HasNoTyping, Image, IsAbove, IsFine, IsLeastTyping, IsRefused, IsTrue, IsTyping}
+use Rattle.zl_verify.proofs.Common.{List, None, Ok, Option, Result, Some, State, all_below_refl, ap, arith, at, block, cleared, false, inl, inr, is_in_range}
+use Rattle.zl_verify.proofs.Common.{is_of_rules, length, length-replicate, length-set, raised_all, refl, replicate, same_Some, slice_get, slice_set, start_fine}
+use Rattle.zl_verify.proofs.Common.{start_state, states_of, subst, suc, sym, true, turned_over, zero, ℕ, ◌+◌, ◌<◌, ◌∙◌, ◌≡◌, ◌≢◌, ◌≤◌, ◌⊎◌}
 use Rattle.zl_abs.specs.Typing.{Holds}
-use Rattle.zl_abs.proofs.FineStates.{start_fine}
 use Rattle.zl_verify.specs.Lists.{within}
 use Rattle.zl_verify.specs.Search.{Table, started}
 use Rattle.zl_verify.specs.Blocks.{turned_at, turned}
 use Rattle.zl_verify.specs.declared.refusal.RefusalCause.{RefusalCause}
-use Rattle.zl_verify.specs.Checks.{HasNoTyping, IsRefused, is_of_rules}
 use Rattle.zl_verify.specs.declared.refusal.RefusalCause.TheVariants as why
 use Rattle.zl_verify.proofs.Places.{get_put, get_put_other, equal_or_not, there}
 use Rattle.zl_verify.proofs.Searching.{Searching, turned_on, cleared_on, moved_on, all_settled, none_by_rule, none_by_edge}

@@ -1,12 +1,12 @@
 -- A process that was made and isn't started yet is as it was made, and its job allows what its program needs; what a step does keeps this.
-use Rattle.zl_verify.proofs.Common.{◌≡◌, ℕ, ◌<◌, ◌⊎◌, Bool, true, false, ◌==◌, List, [], ◌∷◌, refl, sym, ap, ◌∙◌, subst, Option, Some, None, option_map, inl}
-use Rattle.zl_verify.proofs.Common.{inr, ℤ, if◌then◌else◌, cases_Bool, eqb-true, same_Some, Entry, get, put, World, Process, Life, Created, Ready, Blocked}
-use Rattle.zl_verify.proofs.Common.{Ended, ProcessBody, KILLED, has_ended, Awaited, get-put, get-update, get-each, Outcome, TraceItem, Library, object_at}
-use Rattle.zl_verify.proofs.Common.{on_process, on_object, with_object, process_with, process_ended, insert_all, ended, waiting, is_created, created_process}
-use Rattle.zl_verify.proofs.Common.{started_with, is_within, process_killed, with_killed, refusal, Request, process_create, process_start, task_kill, effect}
-use Rattle.zl_verify.proofs.Common.{new_handles, receiver_of, entering_at, stored_by, gives_ok, gives_refused, awaited_by, ends_caller, Site, taken_handles}
-use Rattle.zl_verify.proofs.Common.{taken, cpu_answered, replied, with_effect, after_refusal, after_ok, ok_outcome, Next, Moves, AtCall, IsStuck, Acts}
-use Rattle.zl_verify.proofs.Common.{left_behind, Calls, eq-eqb}
+use Rattle.zl_verify.proofs.Common.{Acts, AtCall, Awaited, Blocked, Bool, Calls, Created, Ended, Entry, IsStuck, KILLED, Library, Life, List, Moves, Next, None}
+use Rattle.zl_verify.proofs.Common.{Option, Outcome, Process, ProcessBody, Ready, Request, Site, Some, TraceItem, World, [], after_ok, after_refusal, ap}
+use Rattle.zl_verify.proofs.Common.{awaited_by, cases_Bool, cpu_answered, created_process, effect, ended, ends_caller, entering_at, eq-eqb, eqb-true, false}
+use Rattle.zl_verify.proofs.Common.{get, get-each, get-put, get-update, gives_ok, gives_refused, has_ended, if◌then◌else◌, inl, inr, insert_all, is_created}
+use Rattle.zl_verify.proofs.Common.{is_within, left_behind, new_handles, object_at, ok_outcome, on_object, on_process, option_map, process_create}
+use Rattle.zl_verify.proofs.Common.{process_ended, process_killed, process_start, process_with, put, receiver_of, refl, refusal, replied, same_Some}
+use Rattle.zl_verify.proofs.Common.{started_with, stored_by, subst, sym, taken, taken_handles, task_kill, true, waiting, with_effect, with_killed, with_object}
+use Rattle.zl_verify.proofs.Common.{ℕ, ℤ, ◌<◌, ◌==◌, ◌∙◌, ◌∷◌, ◌≡◌, ◌⊎◌}
 use Rattle.zl_rights.specs.declared.status.Status.TheVariants as status
 use Rattle.zl_code.specs.declared.history.Outcome.TheVariants as outcome
 use Rattle.zl_verify.proofs.CallEnds.{call_ends}

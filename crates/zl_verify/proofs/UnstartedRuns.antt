@@ -1,14 +1,11 @@
 -- In every world of a run from a boot world, a process that isn't started yet is as it was made, and its job allows what its program needs.
-use Rattle.zl_verify.proofs.Common.{◌≡◌, ℕ, ◌<◌, ◌⊎◌, Bool, true, false, not, ◌&&◌, ◌||◌, ◌==◌, List, [], ◌∷◌, refl, sym, ap, ◌∙◌, subst, Option, Some, None}
-use Rattle.zl_verify.proofs.Common.{option_map, arith, inl, inr, is_some, if◌then◌else◌, slice_get, unwrap_or, list_any, cases_Bool, eqb-true, same_Some, Entry}
-use Rattle.zl_verify.proofs.Common.{Action, Condition, condition_number, answered, get, put, lives, Settles, process_settled, without_others, fired, wakes}
-use Rattle.zl_verify.proofs.Common.{World, Process, Life, Created, Ready, Object, ProcessBody, state_without, made_ready, woken, get-put, get-each, TraceItem}
-use Rattle.zl_verify.proofs.Common.{Library, Program, is_among, object_at, body_in, body_of, parent_in, parent_of, policy_in, action_of, unless_allowed}
-use Rattle.zl_verify.proofs.Common.{creates, is_created, created_process, refusal, IsSound, process_create, listed, Step, next_for, AreUnstarted, IsFitStep}
-use Rattle.zl_verify.proofs.Common.{eq-eqb}
-use Rattle.zl_code.specs.Tests.{koid_in}
-use Rattle.zl_code.specs.Jobs.{is_allowing, lacks_need}
-use Rattle.zl_verify.specs.Covered.{IsUnstarted}
+use Rattle.zl_verify.proofs.Common.{Action, AreUnstarted, Bool, Condition, Created, Entry, IsFitStep, IsSound, IsUnstarted, Library, Life, List, None, Object}
+use Rattle.zl_verify.proofs.Common.{Option, Process, ProcessBody, Program, Ready, Settles, Some, Step, TraceItem, World, [], action_of, answered, ap, arith}
+use Rattle.zl_verify.proofs.Common.{body_in, body_of, cases_Bool, condition_number, created_process, creates, eq-eqb, eqb-true, false, fired, get, get-each}
+use Rattle.zl_verify.proofs.Common.{get-put, if◌then◌else◌, inl, inr, is_allowing, is_among, is_created, is_some, koid_in, lacks_need, list_any, listed, lives}
+use Rattle.zl_verify.proofs.Common.{made_ready, next_for, not, object_at, option_map, parent_in, parent_of, policy_in, process_create, process_settled, put}
+use Rattle.zl_verify.proofs.Common.{refl, refusal, same_Some, slice_get, state_without, subst, sym, true, unless_allowed, unwrap_or, wakes, without_others}
+use Rattle.zl_verify.proofs.Common.{woken, ℕ, ◌&&◌, ◌<◌, ◌==◌, ◌||◌, ◌∙◌, ◌∷◌, ◌≡◌, ◌⊎◌}
 use Rattle.zl_rights.specs.declared.policy.Action.TheVariants as action
 use Rattle.zl_rights.specs.declared.status.Status.TheVariants as status
 use Rattle.zl_verify.proofs.Waking.{turn_by_answer, wakes_by}

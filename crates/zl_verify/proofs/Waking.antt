@@ -1,7 +1,7 @@
 -- What each turn of waking keeps, waking keeps. A turn changes nothing, or the process that waits gets its answer.
-use Rattle.zl_verify.proofs.Common.{◌≡◌, ℕ, Bool, true, false, List, [], ◌∷◌, refl, Option, Some, None, fold, if◌then◌else◌, World, Process, Object, Body}
-use Rattle.zl_verify.proofs.Common.{PortBody, Packet, Life, Blocked, Awaited, SignalOf, PacketAt, get, active, meets, fired, made_ready, packet_values}
-use Rattle.zl_verify.proofs.Common.{with_body, wakes, woken, woken_at_port, woken_by, woken_by_first, woken_from, woken_if_there}
+use Rattle.zl_verify.proofs.Common.{Awaited, Blocked, Body, Bool, Life, List, None, Object, Option, Packet, PacketAt, PortBody, Process, SignalOf, Some, World}
+use Rattle.zl_verify.proofs.Common.{[], active, false, fired, fold, get, if◌then◌else◌, made_ready, meets, packet_values, refl, true, wakes, with_body, woken}
+use Rattle.zl_verify.proofs.Common.{woken_at_port, woken_by, woken_by_first, woken_from, woken_if_there, ℕ, ◌∷◌, ◌≡◌}
 
 module _ (Q : World → Type 0) where
   -- ---- one turn

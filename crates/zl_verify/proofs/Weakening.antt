@@ -1,10 +1,9 @@
 -- What a state describes, a state above describes too.
-use Rattle.zl_verify.proofs.Common.{◌≡◌, ℕ, suc, ◌+◌, ◌≤◌, Bool, true, false, ◌||◌, not, ◌==◌, List, [], ◌∷◌, length, refl, sym, ap, ◌∙◌, subst, IsTrue, Option}
-use Rattle.zl_verify.proofs.Common.{Some, None, arith, inl, inr, slice_index, eqb-true, nat_tests, Entry, Kind, Rights, bits, within, SlotArray, AbsVal, Word}
-use Rattle.zl_verify.proofs.Common.{Has, KindOf, RightsOf, ANY, kind_below, State, value_at, all_below, both, within_trans, Table, IsAs, IsHandle, Describes}
-use Rattle.zl_verify.proofs.Common.{one_if, owns, owners, keepers, Holds}
+use Rattle.zl_verify.proofs.Common.{ANY, AbsVal, Bool, Describes, Entry, Has, Holds, IsAs, IsHandle, IsTrue, Kind, KindOf, List, None, Option, Rights, RightsOf}
+use Rattle.zl_verify.proofs.Common.{SlotArray, Some, State, Table, Word, [], all_below, ap, arith, bits, both, eqb-true, false, inl, inr, keepers, kind_below}
+use Rattle.zl_verify.proofs.Common.{kind_trans, length, nat_tests, not, one_if, owners, owns, parts, refl, slice_index, subst, suc, sym, true, value_at, within}
+use Rattle.zl_verify.proofs.Common.{within_trans, ℕ, ◌+◌, ◌==◌, ◌||◌, ◌∙◌, ◌∷◌, ◌≡◌, ◌≤◌}
 use Rattle.zl_abs.specs.Values.{below}
-use Rattle.zl_abs.proofs.Order.{parts, kind_trans}
 use Rattle.zl_abs.proofs.Lowering.{value_below}
 use Rattle.zl_verify.proofs.Owners.{owns_0}
 

@@ -1,19 +1,15 @@
 -- What a call that is answered OK gives fits what its rule says.
-use Rattle.zl_verify.proofs.Common.{◌≡◌, ℕ, zero, suc, ◌+◌, ◌*◌, ◌<◌, ◌≤◌, Bool, true, false, ◌&&◌, not, ◌==◌, List, [], ◌∷◌, length, refl, sym, ap, ◌∙◌, subst}
-use Rattle.zl_verify.proofs.Common.{Option, Some, None, Ok, arith, inl, inr, slice_index, slice_set, if◌then◌else◌, nat_le, bit_and, AllByRecursion, nat_tests}
-use Rattle.zl_verify.proofs.Common.{bits, default_rights_of, rights_of, within, get, is_empty, World, Process, Packet, active, KNOWN_RIGHTS, Entry, Kind}
-use Rattle.zl_verify.proofs.Common.{Status, first_some, Library, register_count, Outcome, SlotArray, CallName, CallInstr, reg, number_at, answer_if, entry_at}
-use Rattle.zl_verify.proofs.Common.{object_at, first_bytes, first_handles, queue_at, Operand, any, examined, by_policy, first_values, packets_at, process_with}
-use Rattle.zl_verify.proofs.Common.{may_get_all, told_of, Request, dup, replace, chan_read_etc, process_start, listed, new_handles, entering_at, gives_ok}
-use Rattle.zl_verify.proofs.Common.{needs, taking, handle_operands, condition_of, refusal, taken_handles, may_choose, Site, site_of, IsSound, AbsVal, Word, Has}
-use Rattle.zl_verify.proofs.Common.{ANY, rounded, State, value_at, with_value, fault_of, examined_all, narrowed_value, triple_results, Uses, uses_of, both}
-use Rattle.zl_verify.proofs.Common.{within_is, IsSizedPacket, QueuesAreSized, Table, IsAs, Describes, eq-eqb}
-use Rattle.std.proofs.lemmas.Nat.{and_assoc}
+use Rattle.zl_verify.proofs.Common.{ANY, AbsVal, AllByRecursion, Bool, CallInstr, CallName, DUPLICATE, Describes, Entry, Has, IsAs, IsSizedPacket, IsSound}
+use Rattle.zl_verify.proofs.Common.{KNOWN_RIGHTS, Kind, Library, List, None, Ok, Operand, Option, Outcome, Packet, Process, QueuesAreSized, Request}
+use Rattle.zl_verify.proofs.Common.{SAME_RIGHTS, Site, SlotArray, Some, State, Status, Table, Uses, Word, World, [], active, and_assoc, answer_if, any, ap}
+use Rattle.zl_verify.proofs.Common.{arith, bit_and, bits, both, by_policy, chan_read_etc, condition_of, copy_of, default_rights_of, dup, entering_at, entry_at}
+use Rattle.zl_verify.proofs.Common.{eq-eqb, examined, examined_all, false, fault_of, first_bytes, first_handles, first_some, first_values, get, gives_ok}
+use Rattle.zl_verify.proofs.Common.{handle_operands, if◌then◌else◌, inl, inr, is_empty, length, listed, may_choose, may_get_all, narrowed_value, nat_le}
+use Rattle.zl_verify.proofs.Common.{nat_tests, needs, new, new_entry, new_handles, not, number_at, object_at, packets_at, process_start, process_with, queue_at}
+use Rattle.zl_verify.proofs.Common.{refl, refusal, reg, register_count, replace, rights_of, rounded, site_of, slice_index, slice_set, subst, suc, sym}
+use Rattle.zl_verify.proofs.Common.{taken_handles, taking, told_of, triple_results, true, uses_of, value_at, with_rights, with_value, within, within_is, zero}
+use Rattle.zl_verify.proofs.Common.{ℕ, ◌&&◌, ◌*◌, ◌+◌, ◌<◌, ◌==◌, ◌∙◌, ◌∷◌, ◌≡◌, ◌≤◌}
 use Rattle.std.specs.Int.Bits.{and_self}
-use Rattle.zl_rights.specs.Numbers.{SAME_RIGHTS, DUPLICATE}
-use Rattle.zl_code.specs.Tests.{with_rights, copy_of}
-use Rattle.zl_code.specs.Effects.{new_entry}
-use Rattle.zl_abs.specs.CallRules.{new}
 use Rattle.zl_rights.specs.declared.kind.Kind.TheVariants as kind
 use Rattle.zl_rights.specs.declared.status.Status.TheVariants as status
 use Rattle.zl_code.specs.declared.history.CallName.TheVariants as name

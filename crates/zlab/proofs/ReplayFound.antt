@@ -1,6 +1,6 @@
 -- What comes of a scenario and a trace, from what their parts give.
-use Rattle.zlab.proofs.Common.{FitsInput, IsBoot, IsFirstFaultBy, IsInOrder, IsRead, IsScenario, IsStatementFault, LineFault, List, MOST_INPUT, None, Option}
-use Rattle.zlab.proofs.Common.{Reading, Some, Statement, TraceItem, ap, arith, fault_alone, length, length-take, of_reading, refl, subst, sym, take, take_all}
+use Rattle.zlab.proofs.Common.{FitsInput, IsBoot, IsFirstFaultBy, IsInOrder, IsRead, IsScenario, IsStatementFault, LineFault, List, MOST_INPUT, None}
+use Rattle.zlab.proofs.Common.{Reading, Some, Statement, TraceItem, ap, arith, fault_alone, length, length-take, of_reading, subst, take_all}
 use Rattle.zlab.proofs.Common.{too_long, ℕ, ◌+◌, ◌<◌, ◌∙◌, ◌≡◌, ◌≤◌}
 use Rattle.zl_code.specs.Common.{World}
 use Rattle.zl_trace.specs.Reading.{AreLinesOf, IsFirstWrong, item_lines_of}
@@ -8,7 +8,7 @@ use Rattle.zl_scenario.specs.declared.cause.Cause.TheVariants as cause
 use Rattle.zlab.specs.declared.replaying.Replayed.{Replayed}
 use Rattle.zlab.specs.declared.replaying.Replayed.TheVariants as replayed
 use Rattle.zl_scenario.specs.declared.reading.Scenario.{Scenario as Made}
-use Rattle.zlab.specs.Replay.{AreItems, Boots, Comes, HasItems, IsScenarioOf, IsTraceFault, IsTrueOf, MOST_TRACE, trace_front}
+use Rattle.zlab.specs.Replay.{Boots, Comes, HasItems, IsScenarioOf, IsTraceFault, IsTrueOf, MOST_TRACE, trace_front}
 use Rattle.zlab.specs.Replay.{wrong, too_long as trace_too_long}
 use Rattle.zlab.proofs.Booting.{statement_fault}
 

@@ -1,8 +1,7 @@
 -- In a world that boots no process is blocked, and no wait is registered.
-use Rattle.zl_calls.proofs.Common.{◌≡◌, ℕ, List, [], if◌then◌else◌, Bool, true, false, Option, IsTrue, arith, subst, sym, is_process, state_passes, Library}
-use Rattle.zl_calls.proofs.Common.{Objects, world_blocked, world_value, AreBlocked, Statement, IsUnwatched}
-use Rattle.zl_code.proofs.Common.{IsBoot, IsSound, Process as ProcessValue, is_blocked}
-use Rattle.zl_code.proofs.SoundRuns.{boot_sound}
+use Rattle.zl_calls.proofs.Common.{AreBlocked, Bool, IsBoot, IsTrue, IsUnwatched, Library, List, Objects, Option, Statement, [], arith, boot_sound, false}
+use Rattle.zl_calls.proofs.Common.{if◌then◌else◌, is_blocked, is_process, state_passes, subst, sym, true, world_blocked, world_value, ℕ, ◌≡◌}
+use Rattle.zl_code.proofs.Common.{IsSound, Process as ProcessValue}
 use Rattle.zl_calls.specs.declared.process.Process.{Process}
 
 pub none_blocked : (lib : Library) (statements : List Statement) (ps : List Process) (r : Objects) (blocked : List ℕ) → IsBoot lib statements (world_value ps r)

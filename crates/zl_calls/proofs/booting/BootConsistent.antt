@@ -1,10 +1,7 @@
 -- What a boot has made meets the invariant of the world, once what isn't held is gone.
-use Rattle.std.specs.List.{filter}
-use Rattle.zl_objects.specs.Listed.{is_there}
-use Rattle.zl_calls.proofs.Common.{ap, ◌≡◌, ◌<◌, ◌+◌, ◌==◌, ◌++◌, ◌⊎◌, false, false≢true, ℕ, zero, suc, List, [], ◌∷◌, refl, ◌∙◌, subst, IsTrue, arith}
-use Rattle.zl_calls.proofs.Common.{list_any, or_left, or_right, inl, inr, cases_Bool, nat_tests, get, none-some, Objects, AreKeptBut, Cascades, Releases}
-use Rattle.zl_calls.proofs.Common.{none_left, IsMaking, LeavesListed, IsUnwatched}
-use Rattle.zl_objects.proofs.Released.{cascades_then}
+use Rattle.zl_calls.proofs.Common.{AreKeptBut, Cascades, IsMaking, IsTrue, IsUnwatched, LeavesListed, List, Objects, Releases, [], ap, arith, cascades_then}
+use Rattle.zl_calls.proofs.Common.{cases_Bool, false, false≢true, filter, get, inl, inr, is_there, list_any, nat_tests, none-some, none_left, or_left, or_right}
+use Rattle.zl_calls.proofs.Common.{refl, subst, suc, zero, ℕ, ◌++◌, ◌+◌, ◌<◌, ◌==◌, ◌∙◌, ◌∷◌, ◌≡◌, ◌⊎◌}
 use Rattle.zl_calls.specs.declared.process.Process.{Process}
 use Rattle.zl_calls.proofs.objects.Settled.{IsSettled, settled}
 

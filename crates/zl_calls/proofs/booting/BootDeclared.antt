@@ -1,10 +1,9 @@
 -- Whether the handles of a statement are those that a checked program declares, and whether its job allows what the program needs.
-use Rattle.zl_calls.proofs.Common.{◌≡◌, ◌≢◌, ◌<◌, ◌≤◌, ◌+◌, ◌&&◌, ℕ, zero, suc, Bool, true, false, not, List, [], ◌∷◌, ◌++◌, length, get_or, refl, sym, ap, ◌∙◌}
-use Rattle.zl_calls.proofs.Common.{false≢true, Option, Some, None, IsTrue, arith, is_some, and_parts, list_all, list_any, Map, get, Program, body_in}
-use Rattle.zl_calls.proofs.Common.{has_default_rights, handle_given, handles_given, allowed, if_default, Objects, world_value, option_to_list, Entry}
-use Rattle.zl_calls.proofs.Common.{are_declared, is_allowing, lacks_need, Grant, get_seen, job_at, needs_more}
+use Rattle.zl_calls.proofs.Common.{Bool, Entry, Grant, IsTrue, List, Map, None, Objects, Option, Program, Some, [], allowed, and_parts, ap, are_declared, arith}
+use Rattle.zl_calls.proofs.Common.{body_in, drop, false, false≢true, get, get_or, get_seen, handle_given, handles_given, has_default_rights, if_default}
+use Rattle.zl_calls.proofs.Common.{is_allowing, is_some, job_at, lacks_need, length, list_all, list_any, needs_more, not, option_to_list, refl, suc, sym, true}
+use Rattle.zl_calls.proofs.Common.{world_value, zero, ℕ, ◌&&◌, ◌++◌, ◌+◌, ◌<◌, ◌∙◌, ◌∷◌, ◌≡◌, ◌≢◌, ◌≤◌}
 use Rattle.zl_code.proofs.Common.{Object as ObjectValue}
-use Rattle.std.specs.Prelude.{drop}
 use Rattle.std.proofs.lemmas.List.{at_drop_more, drop_all}
 use Rattle.zl_code.specs.Jobs.{is_declared, is_only_start}
 use Rattle.zl_code.specs.declared.image.Start.{Start}

@@ -1,14 +1,12 @@
 -- Which fault a statement of a boot has, from what the code tests.
-use Rattle.zl_calls.proofs.Common.{◌+◌, ◌≡◌, ◌<◌, ◌≤◌, ◌&&◌, ◌||◌, ◌⊎◌, ℕ, Bool, true, false, not, List, [], ◌∷◌, ◌++◌, length, map, refl, sym, ap, ◌∙◌}
-use Rattle.zl_calls.proofs.Common.{false≢true, Option, Some, None, inl, inr, IsTrue, arith, or_left, or_right, and_parts, is_some, slice_get, nat_lt, nat_le}
-use Rattle.zl_calls.proofs.Common.{option_map, nat_tests, then_some, first_some, Map, get, has_key, Library, Program, body_in, boot_fault, has_default_rights}
-use Rattle.zl_calls.proofs.Common.{within, default_rights_of, rights_of, kind_of, ◌^◌, bit_and, cases_Bool, eqb-true, list_all, Objects, body_value}
-use Rattle.zl_calls.proofs.Common.{object_entry, object_value, world_value, kind_in, kind_at, allowed, if_default, rights_if, World, and_le_l, rights_given}
-use Rattle.zl_calls.proofs.Common.{is_job, all_known, may_start_with, handle_given, handles_given, MOST_PROCESSES, MOST_KOIDS, MOST_GRANTS, lacks_need}
-use Rattle.zl_calls.proofs.Common.{option_to_list, Entry, Kind, BootCause, Grant, get_seen}
+use Rattle.zl_calls.proofs.Common.{Bool, BootCause, Entry, Grant, IsTrue, Kind, Library, List, MOST_GRANTS, MOST_KOIDS, MOST_PROCESSES, Map, None, Objects}
+use Rattle.zl_calls.proofs.Common.{Option, Program, Some, World, [], all_known, allowed, and_le_l, and_parts, ap, are_misfits, arith, bit_and, body_in}
+use Rattle.zl_calls.proofs.Common.{body_value, boot_fault, cases_Bool, default_rights_of, eqb-true, false, false≢true, first_some, get, get_seen, handle_given}
+use Rattle.zl_calls.proofs.Common.{handles_given, has_default_rights, has_key, if_default, inl, inr, is_job, is_some, kind_at, kind_in, kind_of, lacks_need}
+use Rattle.zl_calls.proofs.Common.{length, list_all, map, may_start_with, nat_le, nat_lt, nat_tests, not, object_entry, object_value, option_map}
+use Rattle.zl_calls.proofs.Common.{option_to_list, or_left, or_right, refl, rights_given, rights_if, rights_of, slice_get, slice_get_past, sym, then_some, true}
+use Rattle.zl_calls.proofs.Common.{within, world_value, ℕ, ◌&&◌, ◌++◌, ◌+◌, ◌<◌, ◌^◌, ◌||◌, ◌∙◌, ◌∷◌, ◌≡◌, ◌≤◌, ◌⊎◌}
 use Rattle.zl_code.proofs.Common.{Object as ObjectValue, is_job_body}
-use Rattle.zl_code.specs.Boot.{are_misfits}
-use Rattle.std.proofs.lemmas.Option.{slice_get_past}
 use Rattle.zl_rights.specs.declared.kind.Kind.TheVariants as kind
 use Rattle.zl_code.specs.declared.boot.BootCause.TheVariants as cause
 use Rattle.zl_code.specs.declared.boot.Statement.TheVariants as statement

@@ -1,11 +1,11 @@
 -- The handles of a statement enter the table of its process, one after another.
-use Rattle.zl_calls.proofs.Common.{◌≡◌, ◌<◌, ◌≤◌, ◌+◌, ◌^◌, ◌==◌, ℕ, zero, suc, Bool, true, false, List, [], ◌∷◌, ◌++◌, map, length, get_or, take, take_more}
-use Rattle.zl_calls.proofs.Common.{take_all, refl, sym, ap, ◌∙◌, subst, Option, Some, None, IsTrue, arith, is_some, count_by, slice_set, false≢true, none-some}
-use Rattle.zl_calls.proofs.Common.{same_Some, and_parts, and_from, nat_tests, Map, get, Cpu, body_in, has_default_rights, may_get, process_with, list_all}
-use Rattle.zl_calls.proofs.Common.{may_get_all, Handles, IsTable, Inserts, length-put_new, Objects, held_once_more, holding, process_value, object_entry}
-use Rattle.zl_calls.proofs.Common.{object_value, body_value, IsNamed, IsMaking, seen, allowed, if_default, IsBare, process_given, Gives, World, length-append}
-use Rattle.zl_calls.proofs.Common.{length-take-le, handle_given, handles_given, process_with_all, register_set, handle_register, option_map, then_some}
-use Rattle.zl_calls.proofs.Common.{option_to_list, count_by-le-length, Entry, Grant, set_from, with_handles, is_killed, Made, get_seen}
+use Rattle.zl_calls.proofs.Common.{Bool, Cpu, Entry, Gives, Grant, Handles, Inserts, IsBare, IsMaking, IsNamed, IsTable, IsTrue, List, Made, Map, None, Objects}
+use Rattle.zl_calls.proofs.Common.{Option, Some, World, [], allowed, and_from, and_parts, ap, arith, body_in, body_value, count_by, count_by-le-length, false}
+use Rattle.zl_calls.proofs.Common.{false≢true, get, get_or, get_seen, handle_given, handle_register, handles_given, has_default_rights, held_once_more, holding}
+use Rattle.zl_calls.proofs.Common.{if_default, is_killed, is_some, length, length-append, length-put_new, length-take-le, list_all, map, may_get, may_get_all}
+use Rattle.zl_calls.proofs.Common.{nat_tests, none-some, object_entry, object_value, option_map, option_to_list, process_given, process_value, process_with}
+use Rattle.zl_calls.proofs.Common.{process_with_all, refl, register_set, same_Some, seen, set_from, slice_set, subst, suc, sym, take, take_all, take_more}
+use Rattle.zl_calls.proofs.Common.{then_some, true, with_handles, zero, ℕ, ◌++◌, ◌+◌, ◌<◌, ◌==◌, ◌^◌, ◌∙◌, ◌∷◌, ◌≡◌, ◌≤◌}
 use Rattle.zl_code.proofs.Common.{Process as ProcessValue, Object as ObjectValue}
 use Rattle.zl_objects.specs.declared.object.Object.{Object}
 use Rattle.zl_calls.specs.declared.process.Process.{Process}

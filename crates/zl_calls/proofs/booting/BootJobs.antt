@@ -1,12 +1,11 @@
 -- The statements of a boot on jobs: a job is made in another, and a policy is set.
-use Rattle.zl_calls.proofs.Common.{◌≡◌, ◌||◌, ℕ, Bool, true, false, List, [], ◌∷◌, refl, sym, ap, ◌∙◌, subst, if◌then◌else◌, Option, Some, None, Result, Ok}
-use Rattle.zl_calls.proofs.Common.{Err, ⊤, OnOk, IsTrue, arith, false≢true, then_some, first_some, Map, get, runs, Library, boot_effect, boot_fault}
-use Rattle.zl_calls.proofs.Common.{with_object, on_object, body_of, Objects, with_new, is_job_at, is_job_in, is_job_body, object_value, body_value, is_in_job}
-use Rattle.zl_calls.proofs.Common.{IsMaking, IsCauseOf, Makes, seen, World, has_child, policy_changed, BootCause, Condition, Status, conflicts, Job, job_within}
-use Rattle.zl_calls.proofs.Common.{JobFault, job_at, new_in, setting_policy, with_policy_body, with_policy_set, keeper_of, is_above, ShowStates, job_shown}
-use Rattle.zl_calls.proofs.Common.{process_shown, koid_fault, is_killed, has_child_at, Made}
+use Rattle.zl_calls.proofs.Common.{Bool, BootCause, Condition, Err, IsCauseOf, IsMaking, IsTrue, Job, JobFault, Library, List, Made, Makes, Map, None, Objects}
+use Rattle.zl_calls.proofs.Common.{Ok, OnOk, Option, Result, ShowStates, Some, Status, World, [], ap, arith, body_of, body_value, boot_effect, boot_fault}
+use Rattle.zl_calls.proofs.Common.{conflicts, false, false≢true, first_some, get, has_child, has_child_at, if◌then◌else◌, is_above, is_in_job, is_job}
+use Rattle.zl_calls.proofs.Common.{is_job_at, is_job_body, is_job_in, is_killed, job_at, job_shown, job_within, keeper_of, koid_fault, lacks_koids, new_in}
+use Rattle.zl_calls.proofs.Common.{object_value, on_object, policy_changed, process_shown, refl, runs, seen, setting, setting_policy, subst, sym, then_some}
+use Rattle.zl_calls.proofs.Common.{true, with_new, with_object, with_policy_body, with_policy_set, ℕ, ⊤, ◌||◌, ◌∙◌, ◌∷◌, ◌≡◌}
 use Rattle.zl_code.proofs.Common.{Object as ObjectValue}
-use Rattle.zl_code.specs.Boot.{is_job, lacks_koids, setting}
 use Rattle.zl_code.specs.Jobs.{job_within as body_within}
 use Rattle.zl_code.specs.declared.boot.BootCause.TheVariants as cause
 use Rattle.zl_code.specs.declared.boot.Statement.TheVariants as statement

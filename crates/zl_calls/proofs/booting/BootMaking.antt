@@ -1,12 +1,13 @@
 -- One process more, with its handles: what was made goes on being what the definitions make.
-use Rattle.zl_calls.proofs.Common.{cond, cases_Bool, eqb-true, false≢true, or_right, ◌==◌, ◌≡◌, ◌<◌, ◌≤◌, ◌+◌, ℕ, zero, suc, Bool, true, false, List, [], ◌∷◌}
-use Rattle.zl_calls.proofs.Common.{◌++◌, map, refl, sym, ap, ◌∙◌, subst, Option, Some, None, Result, Ok, Err, OnOk, ⊤, inl, inr, IsTrue, arith, length, is_some}
-use Rattle.zl_calls.proofs.Common.{slice_get, slice_set, list_any, count_by, none-some, same_Some, get, put, ProcessBody, is_process, runs, handles_to, Image}
-use Rattle.zl_calls.proofs.Common.{Library, Program, option_map, with_object, boot_fault, boot_effect, process_with, body_in, may_get_all, IsTable, Objects}
-use Rattle.zl_calls.proofs.Common.{new_object, with_new, is_job_at, process_entry, process_value, state_value, world_value, IsNamed, Agrees, AreNamed, All}
-use Rattle.zl_calls.proofs.Common.{All-nil, lives, is_in_job, IsSound, IsMaking, root_alone, Makes, seen, IsBare, process_given, Gives, World, length-append}
-use Rattle.zl_calls.proofs.Common.{started_process, process_with_all, handles_given, with_process, started_cpu, count_by-le-length, Entry, Grant, set_from}
-use Rattle.zl_calls.proofs.Common.{with_handles, cpu_given, created_process, started_with, can_start, is_killed, Made, Message, Found, any_found, counted_any}
+use Rattle.zl_calls.proofs.Common.{Agrees, All, All-nil, AreNamed, Bool, Entry, Err, Found, Gives, Grant, Image, IsBare, IsMaking, IsNamed, IsSound, IsTable}
+use Rattle.zl_calls.proofs.Common.{IsTrue, Library, List, Made, Makes, Message, None, Objects, Ok, OnOk, Option, ProcessBody, Program, Result, Some, World}
+use Rattle.zl_calls.proofs.Common.{any_found, ap, arith, body_in, boot_effect, boot_fault, can_start, cases_Bool, cond, count_by, count_by-le-length}
+use Rattle.zl_calls.proofs.Common.{counted_any, cpu_given, created_process, eqb-true, false, false≢true, get, handles_given, handles_to, has_ended, inl, inr}
+use Rattle.zl_calls.proofs.Common.{is_in_job, is_job_at, is_killed, is_process, is_some, length, length-append, list_any, lives, map, may_get_all, new_object}
+use Rattle.zl_calls.proofs.Common.{none-some, option_map, or_right, process_entry, process_given, process_value, process_with, process_with_all, put, refl}
+use Rattle.zl_calls.proofs.Common.{root_alone, runs, same_Some, seen, set_from, slice_get, slice_set, started_cpu, started_process, started_with, state_value}
+use Rattle.zl_calls.proofs.Common.{subst, suc, sym, true, with_handles, with_new, with_object, with_process, world_value, zero, ℕ, ⊤, ◌++◌, ◌+◌, ◌<◌, ◌==◌, ◌∙◌}
+use Rattle.zl_calls.proofs.Common.{◌∷◌, ◌≡◌, ◌≤◌, []}
 use Rattle.zl_code.proofs.Common.{Process as ProcessValue, State as StateValue, is_job_body}
 use Rattle.std.specs.Result.{is_err}
 use Rattle.zl_code.specs.declared.boot.Statement.TheVariants as statement
@@ -20,7 +21,6 @@ use Rattle.zl_calls.specs.declared.process.Process.{Process}
 use Rattle.zl_calls.specs.declared.process.State.{State as OwnState}
 use Rattle.zl_calls.specs.declared.process.State.TheVariants as state
 use Rattle.zl_calls.proofs.booting.BootFaults.{job_seen}
-use Rattle.zl_rights.specs.Signals.{has_ended}
 use Rattle.zl_objects.specs.Objects.{queue_of}
 use Rattle.zl_calls.proofs.objects.Grown.{found_grown, grown_seen, job_grown}
 use Rattle.zl_calls.proofs.processes.OneProcess.{counts, new_is, process_sound, processes_are}
@@ -134,11 +134,6 @@ cpu_stays : (es : List Entry) (vs : List ℕ) (q : ProcessValue) → (process_wi
 cpu_stays [] vs q = refl
 cpu_stays (e ∷ es) [] q = refl
 cpu_stays (e ∷ es) (v ∷ vs) q = cpu_stays es vs (process_with v e q)
-
-state_stays : (es : List Entry) (vs : List ℕ) (q : ProcessValue) → (process_with_all es vs q).state ≡ q.state
-state_stays [] vs q = refl
-state_stays (e ∷ es) [] q = refl
-state_stays (e ∷ es) (v ∷ vs) q = state_stays es vs (process_with v e q)
 
 given_is_started : (es : List Entry) (vs : List ℕ) (word : ℕ) (q : ProcessValue)
     → process_given es vs (started_with [] word q) ≡ started_with vs word (process_with_all es vs q)

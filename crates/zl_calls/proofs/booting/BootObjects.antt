@@ -1,16 +1,14 @@
 -- Objects that a statement makes, and that no handle names yet: an event, a port, the two ends of a pair.
-use Rattle.zl_calls.proofs.Common.{◌≡◌, ◌<◌, ◌≤◌, ◌+◌, ◌^◌, ℕ, Bool, true, false, ◌==◌, List, [], refl, sym, ap, ◌∙◌, subst, None, Result, Ok, Err, ⊤, OnOk}
-use Rattle.zl_calls.proofs.Common.{none-some, cond, may_boot, seen, IsTrue, arith, nat_lt, nat_tests, then_some, Map, is_process, runs, with_object}
-use Rattle.zl_calls.proofs.Common.{boot_effect, boot_fault, Library, World, body_value, Objects, with_new, world_value, IsSound, IsMaking, Makes}
-use Rattle.zl_calls.proofs.Common.{IsCauseOf, Agrees, is_in_job, MOST_KOIDS, BootCause, Statement, koid_fault, is_killed, Made}
+use Rattle.zl_calls.proofs.Common.{Agrees, Bool, BootCause, Err, IsCauseOf, IsMaking, IsSound, IsTrue, Library, List, MOST_KOIDS, Made, Makes, Map, None}
+use Rattle.zl_calls.proofs.Common.{Objects, Ok, OnOk, Pair, Result, Statement, World, [], ap, arith, body_value, boot_effect, boot_fault, cond, false}
+use Rattle.zl_calls.proofs.Common.{is_in_job, is_killed, is_process, koid_fault, making_pair, may_boot, nat_lt, nat_tests, none-some, refl, runs, seen, subst}
+use Rattle.zl_calls.proofs.Common.{sym, then_some, true, with_new, with_object, world_value, ℕ, ⊤, ◌+◌, ◌<◌, ◌==◌, ◌^◌, ◌∙◌, ◌≡◌, ◌≤◌}
 use Rattle.zl_code.proofs.Common.{State as StateValue, Object as ObjectValue}
 use Rattle.zl_code.specs.declared.boot.BootCause.TheVariants as cause
 use Rattle.zl_objects.specs.declared.object.Body.{Body}
 use Rattle.zl_objects.specs.declared.object.Object.{Object}
-use Rattle.zl_objects.specs.declared.object.Pair.{Pair}
 use Rattle.zl_objects.specs.declared.object.Pair.TheVariants as pair
 use Rattle.zl_objects.specs.Objects.{end_to, queue_of, with_pair}
-use Rattle.zl_calls.specs.Makes.{making_pair}
 use Rattle.zl_calls.specs.declared.process.Process.{Process}
 use Rattle.zl_calls.proofs.objects.Counting.{queues_grown, same_tables}
 use Rattle.zl_calls.proofs.objects.Grown.{end_quiet, found_grown, grown_seen, grown_sound, none_queued}

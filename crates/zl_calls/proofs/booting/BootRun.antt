@@ -1,12 +1,8 @@
 -- One statement after another: what was made is what the definitions make, up to the first fault.
-use Rattle.zl_calls.proofs.Common.{◌≢◌, ◌≡◌, ◌<◌, ◌≤◌, ◌+◌, ℕ, List, [], ◌∷◌, ◌++◌, take, length, refl, sym, ap, ◌∙◌, Option, Some, None, get_or, IsTrue, arith}
-use Rattle.zl_calls.proofs.Common.{take_more, take_all, slice_get-get_or, Library, boot_effect, boot_fault, may_boot, Boots, at_statement, at_limit}
-use Rattle.zl_calls.proofs.Common.{false≢true}
-use Rattle.zl_code.specs.Boot.{BootRefusal, for_fault, for_place, gives_more}
-use Rattle.zl_calls.specs.Makes.{is_want}
-use Rattle.zl_calls.proofs.Common.{MOST_ITEMS, origin, IsMaking, root_alone, Makes, IsCauseOf, IsReached, seen, World, Statement, word_of, most_word, BootCause}
-use Rattle.zl_calls.proofs.Common.{Made}
-use Rattle.std.specs.List.{AllByRecursion}
+use Rattle.zl_calls.proofs.Common.{AllByRecursion, BootCause, BootRefusal, Boots, IsCauseOf, IsMaking, IsReached, IsTrue, Library, List, MOST_ITEMS, Made}
+use Rattle.zl_calls.proofs.Common.{Makes, None, Option, Some, Statement, World, [], ap, arith, at_limit, at_statement, boot_effect, boot_fault, false≢true}
+use Rattle.zl_calls.proofs.Common.{for_fault, for_place, get_or, gives_more, is_want, length, may_boot, most_word, origin, refl, root_alone, seen}
+use Rattle.zl_calls.proofs.Common.{slice_get-get_or, sym, take, take_all, take_more, word_of, ℕ, ◌++◌, ◌+◌, ◌<◌, ◌∙◌, ◌∷◌, ◌≡◌, ◌≢◌, ◌≤◌}
 use Rattle.zl_code.specs.declared.boot.BootCause.TheVariants as cause
 use Rattle.zl_calls.proofs.booting.BootMaking.{starts_making}
 

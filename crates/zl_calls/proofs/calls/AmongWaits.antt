@@ -1,8 +1,7 @@
 -- A call that looks at registered waits: it is done beside them and any blocked processes, or refused with nothing changed.
-use Rattle.zl_calls.proofs.Common.{◌≡◌, ℕ, Bool, List, [], sym, ap, ◌∙◌, subst, Option, Result, Ok, Err, Library, Site}
-use Rattle.zl_calls.proofs.Common.{refusal, replied, taken, Handles, Objects, Does, Replies, status_of, values_of, world_blocked, world_value, IsConsistent}
-use Rattle.zl_calls.proofs.Common.{World, Status, Outcome, replied_among, with_waiters, may_want}
-use Rattle.zl_rights.specs.World.{Wait}
+use Rattle.zl_calls.proofs.Common.{Bool, Does, Err, Handles, IsConsistent, Library, List, Objects, Ok, Option, Outcome, Replies, Result, Site, Status, Wait}
+use Rattle.zl_calls.proofs.Common.{World, [], ap, may_want, refusal, replied, replied_among, status_of, subst, sym, taken, values_of, with_waiters}
+use Rattle.zl_calls.proofs.Common.{world_blocked, world_value, ℕ, ◌∙◌, ◌≡◌}
 use Rattle.zl_rights.specs.declared.status.Status.TheVariants as status
 use Rattle.zl_code.specs.declared.history.Outcome.TheVariants as outcome
 use Rattle.zl_calls.specs.declared.process.Process.{Process}

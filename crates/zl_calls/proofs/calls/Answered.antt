@@ -1,8 +1,8 @@
 -- From what a call does to its parts to the relation of calls.
-use Rattle.zl_calls.proofs.Common.{◌≡◌, ℕ, List, [], ◌∷◌, refl, sym, ap, ◌∙◌, Option, Some, None, Result, Ok, Err, IsTrue, map, eq-eqb, arith, ⊤, IfSome}
-use Rattle.zl_calls.proofs.Common.{nat_tests, subst, true, and_from, Map, get, put, update, may_get_all, Handles, Site, table_of, on_process, process_with}
-use Rattle.zl_calls.proofs.Common.{may_get, replied, cpu_answered, Inserts, Objects, Replies, status_of, values_of, no_value, process_entry, process_value}
-use Rattle.zl_calls.proofs.Common.{world_value, World, object_value, on_object, Status, Entry}
+use Rattle.zl_calls.proofs.Common.{Entry, Err, Handles, IfSome, Inserts, IsTrue, List, Map, None, Objects, Ok, Option, Replies, Result, Site, Some, Status}
+use Rattle.zl_calls.proofs.Common.{World, [], and_from, ap, arith, cpu_answered, eq-eqb, get, map, may_get, may_get_all, nat_tests, no_value, object_value}
+use Rattle.zl_calls.proofs.Common.{on_object, on_process, process_entry, process_value, process_with, put, refl, replied, status_of, subst, sym, table_of, true}
+use Rattle.zl_calls.proofs.Common.{update, values_of, world_value, ℕ, ⊤, ◌∙◌, ◌∷◌, ◌≡◌}
 use Rattle.zl_code.proofs.Common.{Object as ObjectValue, Process as ProcessValue}
 use Rattle.zl_objects.specs.declared.object.Object.{Object}
 use Rattle.zl_rights.specs.declared.status.Status.TheVariants as status

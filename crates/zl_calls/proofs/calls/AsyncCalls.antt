@@ -1,18 +1,15 @@
 -- The call wait_async, from its table and objects to a step beside the registered waits.
-use Rattle.zl_calls.proofs.Common.{◌≡◌, ℕ, not, List, [], ◌∷◌, ◌++◌, ◌+◌, refl, sym, ap, ◌∙◌, subst, Some}
-use Rattle.zl_calls.proofs.Common.{get, Ready, Library, Site, site, refusal, handle_operands, any, listed}
-use Rattle.zl_calls.proofs.Common.{may_choose, new_handles, insert_all, remove_all, taken_handles, effect, gives_ok, gives_refused, AtCall, next_for, Values}
-use Rattle.zl_calls.proofs.Common.{replied, Objects, IsAnswered, Replies, told_by, no_value, process_value, state_value, world_blocked, world_value}
-use Rattle.zl_calls.proofs.Common.{IsConsistent, World, operands_fault, WAIT, WRITE, wait_async, is_mask, CallName, Outcome, may_register}
-use Rattle.zl_calls.proofs.Common.{wait_value, watching, WaitAsyncDoes, wants_memory}
+use Rattle.zl_calls.proofs.Common.{AtCall, CallName, IsAnswered, IsConsistent, Library, List, Objects, Outcome, Ready, RegistersWait, Replies, Site, Some}
+use Rattle.zl_calls.proofs.Common.{Values, WAIT, WRITE, WaitAsyncDoes, World, [], any, ap, async_refusal, effect, get, gives_ok, gives_refused, handle_operands}
+use Rattle.zl_calls.proofs.Common.{insert_all, is_mask, listed, may_choose, may_register, new_handles, next_for, no_value, not, operands_fault, process_value}
+use Rattle.zl_calls.proofs.Common.{refl, refusal, remove_all, replied, site, state_value, subst, sym, taken_handles, told_by, wait_async, wait_for, wait_of}
+use Rattle.zl_calls.proofs.Common.{wait_value, wants_memory, watching, world_blocked, world_value, ℕ, ◌++◌, ◌+◌, ◌∙◌, ◌∷◌, ◌≡◌}
 use Rattle.zl_rights.specs.World.{Wait as WaitValue}
 use Rattle.zl_rights.specs.declared.kind.Kind.TheVariants as kind
 use Rattle.zl_rights.specs.declared.status.Status.TheVariants as status
-use Rattle.zl_code.specs.Waiting.{wait_of}
 use Rattle.zl_code.specs.declared.history.Outcome.TheVariants as outcome
 use Rattle.zl_objects.specs.declared.wait.Wait.{Wait}
 use Rattle.zl_calls.specs.declared.process.Process.{Process}
-use Rattle.zl_calls.specs.calls.Async.{RegistersWait, async_refusal, wait_for}
 use Rattle.zl_calls.proofs.calls.AmongWaits.{answered_among, ends_among}
 use Rattle.zl_calls.proofs.calls.Answered.{IsWrite, same_world, table_is}
 use Rattle.zl_calls.proofs.objects.SameButWaits.{beside_consistent, beside_world, watching_beside}

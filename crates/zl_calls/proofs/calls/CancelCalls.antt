@@ -1,18 +1,14 @@
 -- The call port_cancel, from its table and objects to a step beside the registered waits.
-use Rattle.zl_calls.proofs.Common.{◌≡◌, ℕ, not, ◌||◌, List, [], ◌∷◌, refl, ◌∙◌, list_any, get, Ready}
-use Rattle.zl_calls.proofs.Common.{Library, Site, site, refusal, handle_operands, any, listed, may_choose, new_handles}
-use Rattle.zl_calls.proofs.Common.{insert_all, remove_all, taken_handles, effect, on_object, gives_ok, gives_refused, AtCall, next_for, Values, replied}
-use Rattle.zl_calls.proofs.Common.{Objects, IsAnswered, Replies, told_by, no_value, process_value, state_value, world_blocked, world_value}
-use Rattle.zl_calls.proofs.Common.{IsConsistent, World, operands_fault, WRITE, Packet, Port, is_from, without_packets}
-use Rattle.zl_calls.proofs.Common.{port_cancel, object_at, CallName, Outcome, changing_port, packets_in, PortCancelDoes, source_of, wants_nothing}
-use Rattle.std.specs.List.{filter}
-use Rattle.zl_rights.specs.World.{Source}
+use Rattle.zl_calls.proofs.Common.{AtCall, CallName, Cancels, IsAnswered, IsConsistent, Library, List, Objects, Outcome, Packet, Port, PortCancelDoes, Ready}
+use Rattle.zl_calls.proofs.Common.{Replies, Site, Source, Values, WRITE, World, [], any, cancel_refusal, changing_port, effect, filter, get, gives_ok}
+use Rattle.zl_calls.proofs.Common.{gives_refused, handle_operands, insert_all, is_from, is_keyed, list_any, listed, may_choose, new_handles, next_for, no_value}
+use Rattle.zl_calls.proofs.Common.{not, object_at, on_object, operands_fault, packets_cancelled, packets_in, port_cancel, process_value, refl, refusal}
+use Rattle.zl_calls.proofs.Common.{remove_all, replied, site, source_at, source_of, state_value, taken_handles, told_by, wants_nothing, without_keyed}
+use Rattle.zl_calls.proofs.Common.{without_packets, world_blocked, world_value, ℕ, ◌||◌, ◌∙◌, ◌∷◌, ◌≡◌}
 use Rattle.zl_rights.specs.declared.kind.Kind.TheVariants as kind
 use Rattle.zl_rights.specs.declared.status.Status.TheVariants as status
-use Rattle.zl_code.specs.Waiting.{is_keyed, packets_cancelled, source_at, without_keyed}
 use Rattle.zl_code.specs.declared.history.Outcome.TheVariants as outcome
 use Rattle.zl_calls.specs.declared.process.Process.{Process}
-use Rattle.zl_calls.specs.calls.Async.{Cancels, cancel_refusal}
 use Rattle.zl_calls.proofs.calls.AmongWaits.{answered_among, ends_among}
 use Rattle.zl_calls.proofs.calls.Answered.{IsWrite, table_is}
 use Rattle.zl_calls.proofs.objects.SameButWaits.{beside_consistent, beside_world}

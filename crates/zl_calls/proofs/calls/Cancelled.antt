@@ -1,13 +1,11 @@
 -- What wait_async and port_cancel find: the handles of the caller, and that where no packet passes a test none leaves the port.
-use Rattle.zl_calls.proofs.Common.{◌≡◌, ℕ, Bool, true, false, not, ◌||◌, ◌==◌, ◌⊎◌, List, [], ◌∷◌, length, list_any, refl, sym, ap, ◌∙◌, inl}
-use Rattle.zl_calls.proofs.Common.{inr, Option, Some, None, Ok, Err, cases_Bool, eqb-true, none-some, same_Some, IsTrue, option_map, bits}
-use Rattle.zl_calls.proofs.Common.{Map, get, update, Handles, Objects, Entry, Signals, granted, looked_up, WAIT, WRITE, Packet, is_from, without_packets}
-use Rattle.zl_calls.proofs.Common.{is_mask, may_register, watching, at_port, changed_port, changing_port, packets_in, packets_of, EndsWaits, PortCancelDoes}
-use Rattle.zl_calls.proofs.Common.{WaitAsyncDoes, source_of, port_at}
+use Rattle.zl_calls.proofs.Common.{Bool, EndsWaits, Entry, Err, Handles, IsTrue, List, Map, None, Objects, Ok, Option, Packet, PortCancelDoes, Signals, Some}
+use Rattle.zl_calls.proofs.Common.{WAIT, WRITE, WaitAsyncDoes, [], ap, at_port, bits, cases_Bool, changed_port, changing_port, eqb-true, false, filter, get}
+use Rattle.zl_calls.proofs.Common.{granted, inl, inr, is_from, is_keyed, is_mask, length, list_any, looked_up, may_register, none-some, not, option_map}
+use Rattle.zl_calls.proofs.Common.{packets_in, packets_of, port_at, refl, same_Some, source_of, sym, true, update, watching, without_packets, ℕ, ◌==◌, ◌||◌}
+use Rattle.zl_calls.proofs.Common.{◌∙◌, ◌∷◌, ◌≡◌, ◌⊎◌}
 use Rattle.std.proofs.Math.Nat.{suc-ne-zero}
-use Rattle.std.specs.List.{filter}
 use Rattle.zl_rights.specs.declared.status.Status.TheVariants as status
-use Rattle.zl_code.specs.Waiting.{is_keyed}
 use Rattle.zl_objects.specs.declared.object.Body.{Body}
 use Rattle.zl_objects.specs.declared.object.Body.TheVariants as body
 use Rattle.zl_objects.specs.declared.object.Object.{Object}

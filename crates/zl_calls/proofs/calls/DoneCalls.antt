@@ -1,7 +1,7 @@
 -- That a call is done: it is a step up to where processes wake, and the invariant holds afterwards.
-use Rattle.zl_calls.proofs.Common.{◌≡◌, ℕ, Bool, List, [], ap, sym, ◌∙◌, subst, Option, Result, Ok, Err, Ready, Library, Site, refusal, AtCall, next_for, Calls}
-use Rattle.zl_calls.proofs.Common.{replied, taken, Handles, Objects, Does, Replies, status_of, values_of, process_value, state_value, world_blocked}
-use Rattle.zl_calls.proofs.Common.{world_value, IsConsistent, World, IsActed, IsAnswered, told_by, Status, CallName, Outcome, Told, may_want}
+use Rattle.zl_calls.proofs.Common.{AtCall, Bool, CallName, Calls, Does, Err, Handles, IsActed, IsAnswered, IsConsistent, Library, List, Objects, Ok, Option}
+use Rattle.zl_calls.proofs.Common.{Outcome, Ready, Replies, Result, Site, Status, Told, World, [], ap, may_want, next_for, process_value, refusal, replied}
+use Rattle.zl_calls.proofs.Common.{state_value, status_of, subst, sym, taken, told_by, values_of, world_blocked, world_value, ℕ, ◌∙◌, ◌≡◌}
 use Rattle.zl_rights.specs.declared.status.Status.TheVariants as status
 use Rattle.zl_code.specs.declared.history.Outcome.TheVariants as outcome
 use Rattle.zl_code.specs.declared.history.TraceItem.TheVariants as item

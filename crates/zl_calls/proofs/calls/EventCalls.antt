@@ -1,14 +1,13 @@
 -- The call event_create, and those that change signals, signal and signal_peer, each from its table and objects to a step.
-use Rattle.zl_calls.proofs.Common.{◌≡◌, ℕ, not, List, [], ◌∷◌, map, refl, sym, ap, ◌∙◌, Some, None, is_some, Map, get, Library, Site, site, event_create}
-use Rattle.zl_calls.proofs.Common.{has_room, has_koids, refusal, handle_operands, listed, may_choose, new_handles, insert_all, remove_all, taken_handles}
-use Rattle.zl_calls.proofs.Common.{effect, gives_ok, gives_refused, Values, replied, ⊤, bits, within, SIGNAL, kind_of, signal, body_of, body_in, on_object}
-use Rattle.zl_calls.proofs.Common.{object_changed, Objects, raised_changed, changing, told_by, one_value, Replies, no_value, process_value, object_entry}
-use Rattle.zl_calls.proofs.Common.{world_value, body_value, IsConsistent, IsNamed, runs, settable_of, World, operands_fault, signal_peer, Entry, peer_at}
-use Rattle.zl_calls.proofs.Common.{settable_at, get_seen, wants_nothing}
+use Rattle.zl_calls.proofs.Common.{Entry, IsConsistent, IsNamed, Library, List, Map, None, Objects, Replies, SIGNAL, SIGNAL_PEER, Site, Some, Values, World, []}
+use Rattle.zl_calls.proofs.Common.{ap, bits, body_in, body_of, body_value, changing, effect, event_create, get, get_seen, gives_ok, gives_refused}
+use Rattle.zl_calls.proofs.Common.{handle_operands, has_koids, has_room, insert_all, is_some, kind_of, listed, map, may_choose, new_handles, no_value, not}
+use Rattle.zl_calls.proofs.Common.{object_changed, object_entry, on_object, one_value, operands_fault, peer_at, process_value, raised_changed, refl, refusal}
+use Rattle.zl_calls.proofs.Common.{remove_all, replied, runs, settable_at, settable_of, signal, signal_peer, site, sym, taken_handles, told_by, wants_nothing}
+use Rattle.zl_calls.proofs.Common.{within, world_value, ℕ, ⊤, ◌∙◌, ◌∷◌, ◌≡◌}
 use Rattle.zl_code.specs.Tests.{peer_at as peer_named}
 use Rattle.zl_rights.specs.declared.kind.Kind.TheVariants as kind
 use Rattle.zl_rights.specs.declared.status.Status.TheVariants as status
-use Rattle.zl_rights.specs.Numbers.{SIGNAL_PEER}
 use Rattle.zl_code.specs.declared.history.Outcome.TheVariants as outcome
 use Rattle.zl_objects.specs.declared.object.Body.{Body}
 use Rattle.zl_objects.specs.declared.object.Body.TheVariants as body

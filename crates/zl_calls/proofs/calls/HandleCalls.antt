@@ -1,20 +1,20 @@
 -- The calls on handles, close, dup and replace, each from its table and objects to a step.
-use Rattle.zl_calls.proofs.Common.{◌≡◌, ◌<◌, ℕ, Bool, true, false, ◌==◌, List, [], ◌∷◌, refl, sym, ap, ◌∙◌, subst, cond, Option, Some, None, inl, inr, ◌⊎◌}
-use Rattle.zl_calls.proofs.Common.{IsTrue, arith, eq-eqb, bit_and, ◌||◌, if◌then◌else◌, is_some, cases_Bool, same_Some, first_some, bits, within, Map, get}
-use Rattle.zl_calls.proofs.Common.{has_key, without, Ready, Library, Site, site, close, table_of, any, refusal, handle_operands, listed, on_process}
-use Rattle.zl_calls.proofs.Common.{process_without, may_choose, new_handles, remove_all, taken_handles, insert_all, effect, gives_ok, gives_refused, AtCall}
-use Rattle.zl_calls.proofs.Common.{next_for, Calls, Values, Refused, replied, taken, cpu_answered, ◌^◌, not, map, nat_lt, eqb-true, nat_tests, option_or}
-use Rattle.zl_calls.proofs.Common.{narrowed, default_rights_of, DUPLICATE, is_empty, dup, has_room, handles_to, entry_at, copy_of, with_rights, with_effect}
-use Rattle.zl_calls.proofs.Common.{get-update, IsTable, get-without, sorted_without, Objects, has_place, held_once_more, holding, told_by, no_value, Replies}
-use Rattle.zl_calls.proofs.Common.{status_of, one_value, has_room_in, process_value, state_value, world_value, process_entry, object_value, IsConsistent}
-use Rattle.zl_calls.proofs.Common.{IsNamed, World, and_le_r, put, update, is_sorted, nat_cmp, sorted_put, get-put, option_map, is_sorted-update, has_key-update}
-use Rattle.zl_calls.proofs.Common.{process_with, operands_fault, IsSound, replace, Status, Entry, CallName, without_handle, Closes, Replaces, ReplaceDoes}
-use Rattle.zl_calls.proofs.Common.{replace_refusal, passes, result_err, granted, same_map, wants_place, wants_nothing}
-use Rattle.zl_code.proofs.Common.{Object as ObjectValue, Process as ProcessValue, on_process}
+use Rattle.zl_calls.proofs.Common.{AtCall, Bool, CallName, Calls, CloseDoes, Closes, DUPLICATE, DupDoes, Dups, Entry, IsConsistent, IsNamed, IsSound, IsTable}
+use Rattle.zl_calls.proofs.Common.{IsTrue, Library, List, Map, None, Objects, Option, Ready, Refused, ReplaceDoes, Replaces, Replies, Site, Some, Status}
+use Rattle.zl_calls.proofs.Common.{Values, World, [], and_le_r, any, ap, arith, bit_and, bits, cases_Bool, close, close_answer, cond, copy_of, cpu_answered}
+use Rattle.zl_calls.proofs.Common.{default_rights_of, dup, dup_refusal, effect, entry_at, eq-eqb, eqb-true, false, first_some, get, get-put, get-update}
+use Rattle.zl_calls.proofs.Common.{get-without, gives_ok, gives_refused, granted, handle_operands, handles_to, has_key, has_key-update, has_place, has_room}
+use Rattle.zl_calls.proofs.Common.{has_room_in, held_once_more, holding, if◌then◌else◌, inl, inr, insert_all, is_empty, is_some, is_sorted, is_sorted-update}
+use Rattle.zl_calls.proofs.Common.{listed, map, may_choose, narrowed, nat_cmp, nat_lt, nat_tests, new_handles, next_for, no_value, not, object_value}
+use Rattle.zl_calls.proofs.Common.{on_process, one_value, operands_fault, option_map, option_or, passes, process_entry, process_value, process_with}
+use Rattle.zl_calls.proofs.Common.{process_without, put, refl, refusal, remove_all, replace, replace_refusal, replied, result_err, same_Some, same_map, site}
+use Rattle.zl_calls.proofs.Common.{sorted_put, sorted_without, state_value, status_of, subst, sym, table_of, taken, taken_handles, told_by, true, update}
+use Rattle.zl_calls.proofs.Common.{wants_nothing, wants_place, with_effect, with_rights, within, without, without_handle, world_value, ℕ, ◌<◌, ◌==◌, ◌^◌, ◌||◌}
+use Rattle.zl_calls.proofs.Common.{◌∙◌, ◌∷◌, ◌≡◌, ◌⊎◌}
+use Rattle.zl_code.proofs.Common.{Object as ObjectValue, Process as ProcessValue}
 use Rattle.zl_rights.specs.declared.status.Status.TheVariants as status
 use Rattle.zl_code.specs.declared.history.Outcome.TheVariants as outcome
 use Rattle.zl_calls.specs.declared.process.Process.{Process}
-use Rattle.zl_calls.specs.calls.Handle.{CloseDoes, close_answer, Dups, DupDoes, dup_refusal}
 use Rattle.zl_calls.proofs.objects.SameButWaits.{beside_consistent, beside_world}
 use Rattle.zl_calls.proofs.calls.Answered.{IsWrite, table_is, replies_none, replied_with, may_get_inserted, replied_inserted}
 use Rattle.zl_calls.proofs.calls.DoneCalls.{IsDone, IsDoneBy, IsCalled, answered_done}

@@ -1,28 +1,27 @@
 -- The calls on jobs, job_create and job_set_policy, each from its table and objects to a step.
-use Rattle.zl_calls.proofs.Common.{◌≡◌, ◌+◌, ◌==◌, ◌^◌, ◌&&◌, ◌||◌, ℕ, Bool, true, false, not, List, [], ◌∷◌, map, refl, sym, ap, ◌∙◌, subst, Option, Some}
-use Rattle.zl_calls.proofs.Common.{None, Result, Ok, Err, ⊤, IsTrue, nat_le, if◌then◌else◌, false≢true, then_some, first_some, option_or, is_some, Map, get}
-use Rattle.zl_calls.proofs.Common.{Library, Site, site, has_room, has_koids, answer_if, refusal, handle_operands, listed, may_choose, new_handles, insert_all}
-use Rattle.zl_calls.proofs.Common.{remove_all, taken_handles, effect, with_object, gives_ok, gives_refused, Values, replied, kind_of, body_of, new_entry}
-use Rattle.zl_calls.proofs.Common.{on_object, on_process, process_with, runs, Objects, with_new, told_by, one_value, no_value, Replies, has_room_in}
-use Rattle.zl_calls.proofs.Common.{process_entry, process_value, object_value, body_value, world_value, is_in_job, IsConsistent, IsNamed, IsSound, World}
-use Rattle.zl_calls.proofs.Common.{operands_fault, result_err, Status, Entry, Condition, looked_up, takes, Setting, conflicts, Job, job_within, JobFault}
-use Rattle.zl_calls.proofs.Common.{job_create, job_set_policy, has_child, policy_changed, object_at, job_at, new_in, setting_policy, with_policy_body}
-use Rattle.zl_calls.proofs.Common.{with_policy_set, keeper_of, is_above, get_seen, job_shown, process_shown, has_child_at, wants_place, wants_nothing}
-use Rattle.zl_code.proofs.Common.{Body as BodyValue, JobBody}
+use Rattle.zl_calls.proofs.Common.{Bool, Condition, Entry, Err, IsConsistent, IsNamed, IsSound, IsTrue, Job, JobBody, JobFault, Library, List, MANAGE_JOB, Map}
+use Rattle.zl_calls.proofs.Common.{None, Objects, Ok, Option, Replies, Result, SET_POLICY, Setting, Site, Some, Status, Values, World, [], answer_if, ap}
+use Rattle.zl_calls.proofs.Common.{body_of, body_value, conflicts, effect, false, false≢true, first_some, get, get_seen, gives_ok, gives_refused}
+use Rattle.zl_calls.proofs.Common.{handle_operands, has_child, has_child_at, has_koids, has_room, has_room_in, if◌then◌else◌, insert_all, is_above, is_in_job}
+use Rattle.zl_calls.proofs.Common.{is_job_at, is_some, job_at, job_create, job_set_policy, job_shown, job_within, keeper_of, kind_of, listed, looked_up, map}
+use Rattle.zl_calls.proofs.Common.{may_choose, nat_le, new_entry, new_handles, new_in, no_value, not, object_at, object_value, on_object, on_process, one_value}
+use Rattle.zl_calls.proofs.Common.{operands_fault, option_or, policy_changed, policy_in, process_entry, process_shown, process_value, process_with, refl}
+use Rattle.zl_calls.proofs.Common.{refusal, remove_all, replied, result_err, runs, setting_policy, site, subst, sym, taken_handles, takes, then_some, told_by}
+use Rattle.zl_calls.proofs.Common.{true, wants_nothing, wants_place, with_new, with_object, with_policy_body, with_policy_set, world_value, ℕ, ⊤, ◌&&◌, ◌+◌}
+use Rattle.zl_calls.proofs.Common.{◌==◌, ◌^◌, ◌||◌, ◌∙◌, ◌∷◌, ◌≡◌}
+use Rattle.zl_code.proofs.Common.{Body as BodyValue}
 use Rattle.zl_rights.specs.declared.kind.Kind.TheVariants as kind
 use Rattle.zl_rights.specs.declared.status.Status.TheVariants as status
 use Rattle.zl_rights.specs.declared.policy.Action.{Action}
-use Rattle.zl_rights.specs.Numbers.{MANAGE_JOB, SET_POLICY}
 use Rattle.zl_rights.specs.Policies.{is_absolute, policy_set, setting_of}
 use Rattle.zl_jobs.specs.Jobs.{is_deepest as is_deepest_job}
 use Rattle.zl_jobs.specs.declared.job.JobFault.TheVariants as fault
 use Rattle.zl_code.specs.declared.history.Outcome.TheVariants as outcome
 use Rattle.zl_code.specs.Jobs.{body_with_policy, is_conflict, is_dead as is_dead_body, is_deepest as is_deepest_body, job_within as body_within}
-use Rattle.zl_code.specs.Tests.{policy_in}
 use Rattle.zl_objects.specs.declared.object.Body.{Body}
 use Rattle.zl_objects.specs.declared.object.Body.TheVariants as body
 use Rattle.zl_objects.specs.declared.object.Object.{Object}
-use Rattle.zl_objects.specs.Objects.{is_job_at, queue_of}
+use Rattle.zl_objects.specs.Objects.{queue_of}
 use Rattle.zl_calls.specs.declared.process.Process.{Process}
 use Rattle.zl_calls.specs.calls.Job.{CreatesJob, JobCreateDoes, JobSetPolicyDoes, SetsPolicy, fault_status, job_refusal, job_refusal_of}
 use Rattle.zl_calls.specs.calls.Job.{policy_refusal, policy_refusal_of}

@@ -1,16 +1,16 @@
 -- A call that makes one object: how it is refused, and what is left of the world and of the invariant. Each call that makes one goes by it.
-use Rattle.zl_calls.proofs.Common.{Inserts, ◌≡◌, ◌<◌, ◌+◌, ◌^◌, ◌&&◌, ℕ, Bool, true, false, not, List, [], ◌∷◌, map, length, refl, ap, ◌∙◌, Some, None, IsTrue}
-use Rattle.zl_calls.proofs.Common.{nat_le, nat_tests, arith, none-some, sym, then_some, first_some, Map, get, Library, Site, Values, refusal, taken}
-use Rattle.zl_calls.proofs.Common.{answer_if, with_object, replied, may_get, new_entry, on_process, process_with, is_process, Objects, new_object, with_new}
-use Rattle.zl_calls.proofs.Common.{Replies, told_by, one_value, has_room_in, process_entry, process_value, body_value, world_value, Agrees, is_in_job}
-use Rattle.zl_calls.proofs.Common.{IsConsistent, IsNamed, World, Entry, CallBy, MakeDoes, MakesOne, room_refusal, may_want, wants_place}
+use Rattle.zl_calls.proofs.Common.{Agrees, Bool, CallBy, Entry, Inserts, IsConsistent, IsNamed, IsTrue, Library, List, MakeDoes, MakesOne, Map, None, Objects}
+use Rattle.zl_calls.proofs.Common.{Replies, Site, Some, Values, World, [], answer_if, ap, arith, body_value, false, first_some, get, has_room_in, is_in_job}
+use Rattle.zl_calls.proofs.Common.{is_process, kind_in, length, map, may_get, may_want, nat_le, nat_tests, new_entry, new_object, none-some, not, on_process}
+use Rattle.zl_calls.proofs.Common.{one_value, process_entry, process_value, process_with, refl, refusal, replied, room_refusal, sym, taken, then_some, told_by}
+use Rattle.zl_calls.proofs.Common.{true, wants_place, with_new, with_object, world_value, ℕ, ◌&&◌, ◌+◌, ◌<◌, ◌^◌, ◌∙◌, ◌∷◌, ◌≡◌}
 use Rattle.zl_code.proofs.Common.{Object as ObjectValue, State as StateValue}
 use Rattle.zl_rights.specs.declared.status.Status.TheVariants as status
 use Rattle.zl_code.specs.declared.history.Outcome.TheVariants as outcome
 use Rattle.zl_objects.specs.declared.object.Body.{Body}
 use Rattle.zl_objects.specs.declared.object.Body.TheVariants as body
 use Rattle.zl_objects.specs.declared.object.Object.{Object}
-use Rattle.zl_objects.specs.Objects.{kind_in, queue_of}
+use Rattle.zl_objects.specs.Objects.{queue_of}
 use Rattle.zl_calls.specs.declared.process.Process.{Process}
 use Rattle.zl_calls.proofs.calls.Answered.{IsWrite, may_get_inserted, replied_inserted}
 use Rattle.zl_calls.proofs.calls.DoneCalls.{IsCalled, IsDoneBy, answered_done}

@@ -1,5 +1,5 @@
 -- What a program needs, looked for among all that can be needed.
-use Rattle.zl_calls.proofs.Common.{◌≡◌, ◌&&◌, ◌||◌, Bool, true, false, List, [], ◌∷◌, refl, sym, ap, ◌∙◌, list_any, Image, Condition, can_be_needed, is_among}
+use Rattle.zl_calls.proofs.Common.{Bool, Condition, Image, List, [], ap, can_be_needed, false, is_among, list_any, refl, sym, true, ◌&&◌, ◌||◌, ◌∙◌, ◌∷◌, ◌≡◌}
 use Rattle.std.specs.Prelude.{filter}
 use Rattle.zl_code.specs.Spells.{is_in_range}
 use Rattle.zl_code.proofs.ImageNeeds.{needs_named-needs}

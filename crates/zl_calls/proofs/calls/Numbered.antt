@@ -1,12 +1,11 @@
 -- What a call sets, by the numbers of its mode, its condition and its action.
-use Rattle.zl_calls.proofs.Common.{Condition, Setting}
-use Rattle.std.proofs.Common.{◌≡◌, ◌≢◌, ℕ, Option, Some, None, refl, sym, ne_eqb, IfSome, IfNone}
+use Rattle.zl_calls.proofs.Common.{Condition, IfNone, IfSome, None, Option, Setting, Some, action_number, condition_number, mode_number, refl, sym, ℕ, ◌≡◌, ◌≢◌}
+use Rattle.std.proofs.Common.{ne_eqb}
 use Rattle.zl_rights.specs.declared.policy.Action.{Action}
 use Rattle.zl_rights.specs.declared.policy.Action.TheVariants as action
 use Rattle.zl_rights.specs.declared.policy.Condition.TheVariants as condition
 use Rattle.zl_rights.specs.declared.policy.Mode.{Mode}
 use Rattle.zl_rights.specs.declared.policy.Mode.TheVariants as mode
-use Rattle.zl_rights.specs.Numbers.{action_number, condition_number, mode_number}
 use Rattle.zl_rights.specs.Policies.{action_numbered, condition_numbered, mode_numbered, setting_if, setting_of}
 
 mode_again : (m : Mode) → Some m ≡ mode_numbered (mode_number m)

@@ -1,24 +1,20 @@
 -- Calls that make both ends of a pair, chan_create and eventpair_create: how they are refused, and what is left of the world and of the invariant.
-use Rattle.zl_calls.proofs.Common.{◌≡◌, ◌≤◌, ◌+◌, ◌^◌, ℕ, Bool, true, false, not, ◌&&◌, ◌==◌, List, [], ◌∷◌, map, length, refl, sym, ap, ◌∙◌, subst, cond, None}
-use Rattle.zl_calls.proofs.Common.{IsTrue, arith, nat_le, nat_tests, ne_eqb, Some, none-some, and_parts, count_by, sum_by-cons, then_some, Map, get, put}
-use Rattle.zl_calls.proofs.Common.{CallBy, Library, Site, answer_if, body_value, eventpair_create, first_some, may_get_all, on_process, process_with}
-use Rattle.zl_calls.proofs.Common.{site, has_room, has_koids, handles_to, refusal, handle_operands, listed, may_choose, new_handles}
-use Rattle.zl_calls.proofs.Common.{insert_all, remove_all, taken_handles, effect, with_object, gives_ok, gives_refused, Values, replied, taken}
-use Rattle.zl_calls.proofs.Common.{new_entry, IsTable, Inserts, Handles, Objects, new_object, with_new, told_by, Replies, process_entry, process_value}
-use Rattle.zl_calls.proofs.Common.{world_value, object_value, IsConsistent, IsNamed, runs, World, operands_fault, chan_create, Entry}
-use Rattle.zl_calls.proofs.Common.{may_want, wants_place}
+use Rattle.zl_calls.proofs.Common.{Bool, CallBy, ChanCreateDoes, Entry, Handles, Inserts, IsConsistent, IsNamed, IsTable, IsTrue, Library, List, MakePairDoes}
+use Rattle.zl_calls.proofs.Common.{MakesPair, Map, None, Objects, Pair, Replies, Site, Some, Values, World, [], and_parts, answer_if, ap, arith, body_value}
+use Rattle.zl_calls.proofs.Common.{chan_create, cond, count_by, effect, eventpair_create, false, first_some, get, gives_ok, gives_refused, handle_operands}
+use Rattle.zl_calls.proofs.Common.{handles_to, has_koids, has_room, insert_all, length, listed, map, may_choose, may_get_all, may_want, nat_le, nat_tests}
+use Rattle.zl_calls.proofs.Common.{ne_eqb, new_entry, new_handles, new_object, none-some, not, object_value, on_process, operands_fault, pair_refusal}
+use Rattle.zl_calls.proofs.Common.{process_entry, process_value, process_with, put, refl, refusal, remove_all, replied, runs, site, subst, sum_by-cons, sym}
+use Rattle.zl_calls.proofs.Common.{taken, taken_handles, then_some, told_by, true, two_values, wants_place, with_new, with_object, world_value, ℕ, ◌&&◌, ◌+◌}
+use Rattle.zl_calls.proofs.Common.{◌==◌, ◌^◌, ◌∙◌, ◌∷◌, ◌≡◌, ◌≤◌}
 use Rattle.zl_code.proofs.Common.{Object as ObjectValue}
 use Rattle.zl_rights.specs.declared.status.Status.TheVariants as status
 use Rattle.zl_code.specs.declared.history.Outcome.TheVariants as outcome
 use Rattle.zl_objects.specs.declared.object.Body.{Body}
-use Rattle.zl_objects.specs.declared.object.Pair.{Pair}
 use Rattle.zl_objects.specs.declared.object.Pair.TheVariants as pair
 use Rattle.zl_objects.specs.Objects.{end_to, kind_of_pair}
 use Rattle.zl_calls.specs.declared.process.Process.{Process}
-use Rattle.zl_calls.specs.calls.Answer.{two_values}
-use Rattle.zl_calls.specs.calls.Channel.{ChanCreateDoes}
 use Rattle.zl_calls.specs.calls.Event.{EventpairCreateDoes}
-use Rattle.zl_calls.specs.calls.Making.{MakePairDoes, MakesPair, pair_refusal}
 use Rattle.zl_calls.proofs.calls.Answered.{IsWrite, table_is, may_get_both, replied_inserted_two}
 use Rattle.zl_calls.proofs.objects.Counting.{count_put, counts_written}
 use Rattle.zl_calls.proofs.calls.DoneCalls.{IsDoneBy, IsCalled, answered_done}

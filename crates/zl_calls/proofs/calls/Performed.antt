@@ -1,13 +1,11 @@
 -- Any call: it blocks, or what it does is a step up to where processes wake; and it leaves its process its pid.
-use Rattle.zl_calls.proofs.Common.{◌≡◌, ◌⊎◌, ℕ, true, false, false≢true, ⊤, inl, inr, List, ap, refl, sym, subst, Result, Ok, Err, Status, KeepSleepers}
-use Rattle.zl_calls.proofs.Common.{WaitAsyncDoes, PortCancelDoes, ◌∙◌, Option, Some, None, Ready, Library, Request}
-use Rattle.zl_calls.proofs.Common.{Site, site, close, dup, chan_write, event_create, signal, process_exit, AtCall, calls_at, next_for, refusal, Handles}
-use Rattle.zl_calls.proofs.Common.{Objects, Action, answers, exits, reaches, process_value, state_value, world_value, IsConsistent, Acted, Acts, action_of}
-use Rattle.zl_calls.proofs.Common.{CallName, Outcome, chan_create, replace, true≢false, awaited_by, eventpair_create, job_create, job_set_policy, port_cancel}
-use Rattle.zl_calls.proofs.Common.{port_create}
-use Rattle.zl_calls.proofs.Common.{port_poll, port_queue, port_wait, wait_async, wait_one, Awaited, next_looks, is_blocking, looks_at_waits, signal_peer}
-use Rattle.zl_code.proofs.Common.{is_blocked}
-use Rattle.zl_calls.specs.calls.Answer.{Blocks, waits}
+use Rattle.zl_calls.proofs.Common.{Acted, Action, Acts, AtCall, Awaited, Blocks, CallName, Err, Handles, IsConsistent, KeepSleepers, Library, List, None}
+use Rattle.zl_calls.proofs.Common.{Objects, Ok, Option, Outcome, PortCancelDoes, Ready, Request, Result, Site, Some, Status, WaitAsyncDoes, action_of, answers}
+use Rattle.zl_calls.proofs.Common.{ap, awaited_by, calls_at, chan_create, chan_read_etc, chan_write, close, dup, event_create, eventpair_create, exits, false}
+use Rattle.zl_calls.proofs.Common.{false≢true, inl, inr, is_blocked, is_blocking, job_create, job_set_policy, looks_at_waits, next_for, next_looks, port_cancel}
+use Rattle.zl_calls.proofs.Common.{port_create, port_poll, port_queue, port_wait, process_exit, process_value, reaches, refl, refusal, replace, signal}
+use Rattle.zl_calls.proofs.Common.{signal_peer, site, state_value, subst, sym, task_kill, true, true≢false, wait_async, wait_one, wait_poll, waits, world_value}
+use Rattle.zl_calls.proofs.Common.{ℕ, ⊤, ◌∙◌, ◌≡◌, ◌⊎◌}
 use Rattle.zl_calls.specs.declared.process.Process.{Process}
 use Rattle.zl_calls.proofs.calls.Answered.{IsWrite}
 use Rattle.zl_calls.proofs.calls.DoneCalls.{IsCalledAmong, IsDone}
@@ -20,8 +18,6 @@ use Rattle.zl_calls.proofs.calls.HandleCalls.{close_done, dup_done, replace_done
 use Rattle.zl_calls.proofs.calls.PortCalls.{port_create_done, port_passes, port_poll_done, port_queue_done, port_wait_done, port_waits}
 use Rattle.zl_calls.proofs.calls.ProcessCalls.{exit_done}
 use Rattle.zl_calls.proofs.calls.ReadCalls.{read_done}
-use Rattle.zl_code.proofs.Common.{chan_read_etc}
-use Rattle.zl_code.specs.Common.{task_kill, wait_poll}
 use Rattle.zl_calls.proofs.calls.WaitCalls.{one_done, one_passes, one_waits, poll_done}
 use Rattle.zl_calls.proofs.waking.Sleeping.{IsAsleep}
 use Rattle.zl_calls.proofs.calls.WriteCalls.{write_done}

@@ -1,8 +1,7 @@
 -- What is taken from a port: its first packet, or nothing, and then nothing has changed.
-use Rattle.zl_calls.proofs.Common.{◌≡◌, ℕ, ◌==◌, List, [], ◌∷◌, refl, sym, ap, ◌∙◌, inl, inr, Some, None, Ok, Err, cases_Bool, eqb-true, none-some}
-use Rattle.zl_calls.proofs.Common.{slice_get, then_some, is_empty, Map, get, update, Handles, Objects, Does, IsRefusedBy, Entry, READ, Packet, without_front}
-use Rattle.zl_calls.proofs.Common.{at_port, changed_port, changing_port, packets_in, packets_of, TakesPacket, poll_refusal, port_at, wants_nothing}
-use Rattle.std.specs.Prelude.{drop}
+use Rattle.zl_calls.proofs.Common.{Does, Entry, Err, Handles, IsRefusedBy, List, Map, None, Objects, Ok, Packet, READ, Some, TakesPacket, [], ap, at_port}
+use Rattle.zl_calls.proofs.Common.{cases_Bool, changed_port, changing_port, drop, eqb-true, get, inl, inr, is_empty, none-some, packets_in, packets_of}
+use Rattle.zl_calls.proofs.Common.{poll_refusal, port_at, refl, slice_get, sym, then_some, update, wants_nothing, without_front, ℕ, ◌==◌, ◌∙◌, ◌∷◌, ◌≡◌}
 use Rattle.zl_rights.specs.declared.status.Status.TheVariants as status
 use Rattle.zl_objects.specs.declared.object.Body.{Body}
 use Rattle.zl_objects.specs.declared.object.Body.TheVariants as body

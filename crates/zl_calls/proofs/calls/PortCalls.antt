@@ -1,21 +1,18 @@
 -- The calls on ports, port_create, port_queue, port_poll and port_wait, each from its table and objects to a step.
-use Rattle.zl_calls.proofs.Common.{◌≡◌, ℕ, List, [], ◌∷◌, refl, sym, ap, ◌∙◌, Some, None, Ok, on_object, none-some}
-use Rattle.zl_calls.proofs.Common.{slice_get, same_Some, ◌++◌, is_empty, get, Library, Site, site, has_room, has_koids, refusal}
-use Rattle.zl_calls.proofs.Common.{handle_operands, listed, may_choose, new_handles, insert_all, remove_all, taken_handles, effect, gives_ok, gives_refused}
-use Rattle.zl_calls.proofs.Common.{Values, replied, ⊤, body_of, Objects, told_by, no_value, one_value, Replies}
-use Rattle.zl_calls.proofs.Common.{world_value, IsConsistent, runs, World, operands_fault, Entry, READ, WRITE, packet_values}
-use Rattle.zl_calls.proofs.Common.{Packet, PacketAt, Port, with_packet, without_front, awaited_by, port_create, port_poll, port_queue}
-use Rattle.zl_calls.proofs.Common.{port_wait, result_err, object_at, packet_taken, new_port, packets_in, TakesPacket, poll_refusal, port_at}
-use Rattle.zl_calls.proofs.Common.{wants_memory, wants_nothing}
-use Rattle.std.specs.Prelude.{drop}
+use Rattle.zl_calls.proofs.Common.{Entry, IsConsistent, Library, List, None, Objects, Ok, Packet, PacketAt, Port, READ, Replies, Site, Some, TakesPacket}
+use Rattle.zl_calls.proofs.Common.{Values, WRITE, World, [], ap, awaited_by, body_of, drop, effect, first_values, get, gives_ok, gives_refused, handle_operands}
+use Rattle.zl_calls.proofs.Common.{has_koids, has_room, insert_all, is_empty, is_full, listed, may_choose, new_handles, new_port, no_value, none-some}
+use Rattle.zl_calls.proofs.Common.{object_at, on_object, one_value, operands_fault, packet_awaited, packet_taken, packet_values, packets_at, packets_in}
+use Rattle.zl_calls.proofs.Common.{poll_refusal, port_at, port_create, port_poll, port_queue, port_wait, refl, refusal, remove_all, replied, result_err, runs}
+use Rattle.zl_calls.proofs.Common.{same_Some, site, slice_get, sym, taken_handles, told_by, wants_memory, wants_nothing, with_packet, without_front}
+use Rattle.zl_calls.proofs.Common.{world_value, ℕ, ⊤, ◌++◌, ◌∙◌, ◌∷◌, ◌≡◌}
 use Rattle.zl_rights.specs.declared.kind.Kind.TheVariants as kind
 use Rattle.zl_rights.specs.declared.status.Status.TheVariants as status
 use Rattle.zl_port.specs.Packets.{user_packet}
 use Rattle.zl_code.specs.declared.history.Outcome.TheVariants as outcome
-use Rattle.zl_code.specs.Waiting.{first_values, is_full, packet_awaited, packets_at, packets_in as packets_seen}
+use Rattle.zl_code.specs.Waiting.{packets_in as packets_seen}
 use Rattle.zl_calls.specs.declared.process.Process.{Process}
-use Rattle.zl_calls.specs.calls.Port.{PortCreateDoes, PortPollDoes, PortQueueDoes, PortWaitDoes, QueuesPacket}
-use Rattle.zl_calls.specs.calls.Port.{queue_refusal}
+use Rattle.zl_calls.specs.calls.Port.{PortCreateDoes, PortPollDoes, PortQueueDoes, PortWaitDoes, QueuesPacket, queue_refusal}
 use Rattle.zl_calls.proofs.calls.Answered.{IsWrite, table_is}
 use Rattle.zl_calls.proofs.calls.DoneCalls.{IsDoneBy, IsCalled, answered_done}
 use Rattle.zl_calls.proofs.calls.MakeCalls.{made_done, room_refused}

@@ -1,9 +1,9 @@
 -- The calls on processes: the end of a process, by process_exit or because it is stuck, to a step up to where processes wake.
-use Rattle.zl_calls.proofs.Common.{◌≡◌, ◌+◌, ◌==◌, ℕ, ℤ, List, [], refl, ap, ◌∙◌, subst, Some, count_by, arith, false≢true, none-some, STUCK, Map, get, Ready}
-use Rattle.zl_calls.proofs.Common.{Ended, Settles, Library, Site, site, process_exit, refusal, handle_operands, listed, on_process, ended, may_choose}
-use Rattle.zl_calls.proofs.Common.{new_handles, insert_all, remove_all, taken_handles, effect, AtCall, IsStuck, next_for, Calls, Values, signed_word, IsTable}
-use Rattle.zl_calls.proofs.Common.{Objects, Releases, stopping, process_value, state_value, world_value, IsConsistent, IsNamed, World, Ends, IsActed}
-use Rattle.zl_calls.proofs.Common.{operands_fault, CallName, Entry, releases_then}
+use Rattle.zl_calls.proofs.Common.{AtCall, CallName, Calls, Ended, Ends, Entry, IsActed, IsConsistent, IsNamed, IsStuck, IsTable, Library, List, Map, Objects}
+use Rattle.zl_calls.proofs.Common.{Ready, Releases, STUCK, Settles, Site, Some, Values, World, [], ap, arith, count_by, effect, ended, false≢true, get}
+use Rattle.zl_calls.proofs.Common.{handle_operands, insert_all, listed, may_choose, new_handles, next_for, none-some, on_process, operands_fault, process_exit}
+use Rattle.zl_calls.proofs.Common.{process_value, refl, refusal, releases_then, remove_all, signed_word, site, state_value, stopping, subst, taken_handles}
+use Rattle.zl_calls.proofs.Common.{world_value, ℕ, ℤ, ◌+◌, ◌==◌, ◌∙◌, ◌≡◌}
 use Rattle.zl_code.proofs.Common.{Process as ProcessValue}
 use Rattle.zl_code.specs.declared.history.Outcome.TheVariants as outcome
 use Rattle.zl_code.specs.declared.history.TraceItem.TheVariants as item

@@ -1,20 +1,18 @@
 -- The call chan_read_etc, from its table and objects to a step.
-use Rattle.zl_calls.proofs.Common.{◌≡◌, ◌≤◌, ◌+◌, ℕ, Bool, true, false, not, ◌&&◌, ◌==◌, List, [], ◌∷◌, map, length, refl, sym, ap, ◌∙◌, subst, if◌then◌else◌}
-use Rattle.zl_calls.proofs.Common.{Option, Some, None, Result, Ok, Err, IsTrue, arith, nat_tests, is_empty, is_some, count_by, sum_by, sum_by-cons, none-some}
-use Rattle.zl_calls.proofs.Common.{All, All-nil, bits, within, Map, get, update, Library, Site, site, refusal, handle_operands, listed, has_room, answer_if}
-use Rattle.zl_calls.proofs.Common.{first_some, may_choose, new_handles, insert_all, remove_all, taken_handles, effect, with_effect, gives_ok, gives_refused}
-use Rattle.zl_calls.proofs.Common.{on_object, on_process, Refused, Wants, Values, replied, taken, cpu_answered, process_with, process_with_all, slice_get}
-use Rattle.zl_calls.proofs.Common.{nat_le, option_map, Objects, process_entry, process_value, object_entry, object_value, world_value, body_value, body_in}
-use Rattle.zl_calls.proofs.Common.{body_of, handles_to, queued_to, IsConsistent, IsNamed, AreNamed, World, operands_fault, false≢true, IsSound, All-head}
-use Rattle.zl_calls.proofs.Common.{All-tail, Status, Entry, granted, READ, takes, Message, Outcome, told_of, first_handles, object_at, peer_at}
-use Rattle.zl_calls.proofs.Common.{queue_in, get_seen, sum_fewer, Received, ReadFault, IsTold, with_stored, ChanReadDoes}
-use Rattle.zl_calls.proofs.Common.{nat_lt, wanted}
-use Rattle.zl_code.proofs.Common.{Object as ObjectValue, Process as ProcessValue, chan_read_etc}
-use Rattle.std.specs.Prelude.{drop}
+use Rattle.zl_calls.proofs.Common.{All, All-head, All-nil, All-tail, AreNamed, Bool, ChanReadDoes, Entry, Err, IsConsistent, IsFaultBy, IsNamed, IsSound}
+use Rattle.zl_calls.proofs.Common.{IsTold, IsTrue, Library, List, Map, Message, None, Objects, Ok, Option, Outcome, READ, ReadFault, ReadsMessage, Received}
+use Rattle.zl_calls.proofs.Common.{Refused, Result, Site, Some, Status, Values, Wants, World, [], answer_if, ap, arith, bits, body_after_read, body_in, body_of}
+use Rattle.zl_calls.proofs.Common.{body_value, chan_read_etc, count_by, cpu_answered, drop, effect, false, false≢true, first_handles, first_some, front_at}
+use Rattle.zl_calls.proofs.Common.{front_by, front_in, get, get_seen, gives_ok, gives_refused, granted, handle_operands, handles_to, has_room, if◌then◌else◌}
+use Rattle.zl_calls.proofs.Common.{insert_all, is_empty, is_some, length, listed, map, may_choose, message_read, nat_le, nat_lt, nat_tests, new_handles}
+use Rattle.zl_calls.proofs.Common.{none-some, not, object_at, object_entry, object_value, on_object, on_process, operands_fault, option_map, peer_at}
+use Rattle.zl_calls.proofs.Common.{process_entry, process_value, process_with, process_with_all, queue_in, queued_to, refl, refusal, remove_all, replied, site}
+use Rattle.zl_calls.proofs.Common.{slice_get, storing, subst, sum_by, sum_by-cons, sum_fewer, sym, taken, taken_handles, takes, told_of, told_read, true}
+use Rattle.zl_calls.proofs.Common.{update, wanted, with_effect, with_stored, within, world_value, ℕ, ◌&&◌, ◌+◌, ◌==◌, ◌∙◌, ◌∷◌, ◌≡◌, ◌≤◌}
+use Rattle.zl_code.proofs.Common.{Object as ObjectValue, Process as ProcessValue}
 use Rattle.zl_rights.specs.declared.kind.Kind.TheVariants as kind
 use Rattle.zl_rights.specs.declared.status.Status.TheVariants as status
 use Rattle.zl_code.specs.declared.history.Outcome.TheVariants as outcome
-use Rattle.zl_code.specs.Effects.{body_after_read, message_read, storing}
 use Rattle.zl_code.specs.Tests.{has_place_for, queue_at, queue_in as queue_seen_in, sizes_of}
 use Rattle.zl_channel.specs.Queue.{front_handles}
 use Rattle.zl_objects.specs.declared.object.Body.{Body}
@@ -23,7 +21,6 @@ use Rattle.zl_objects.specs.declared.object.Object.{Object}
 use Rattle.zl_objects.specs.Objects.{queue_of, received, received_body, receiving}
 use Rattle.zl_calls.specs.declared.process.Process.{Process}
 use Rattle.zl_calls.specs.declared.calls.reading.ReadFault.TheVariants as fault
-use Rattle.zl_calls.specs.calls.Reading.{IsFaultBy, ReadsMessage, front_at, front_by, front_in, told_read}
 use Rattle.zl_calls.proofs.calls.Answered.{IsWrite, table_is, replied_with}
 use Rattle.zl_calls.proofs.objects.Counted.{queue_seen}
 use Rattle.zl_calls.proofs.objects.Counting.{counts_written, queues, naming, numbered, numbered_naming}

@@ -1,20 +1,13 @@
 -- What a reader is told, in its registers and its memory.
-use Rattle.zl_calls.proofs.Common.{◌≡◌, ◌<◌, ◌+◌, ℕ, zero, suc, List, [], ◌∷◌, ◌++◌, length, take, refl, sym, ap, ◌∙◌, Option, Some, None, Ok, Bool, true}
-use Rattle.zl_calls.proofs.Common.{false, IsSome, then_some, subst, arith, slice_get, slice_set, Objects, Site, site, site_of, false≢true, Entry, written}
-use Rattle.zl_calls.proofs.Common.{triples_from, told_of, status_magnitude, reg, Outcome, CallInstr, Received, with_stored, ChanReadDoes}
-use Rattle.std.specs.Prelude.{◌*◌, ◌-◌, drop, slice_index}
-use Rattle.zl_code.proofs.Common.{Cpu, number_at, take-append-drop}
+use Rattle.zl_calls.proofs.Common.{Acted, Bool, CallInstr, ChanReadDoes, Cpu, Entry, Handles, IsSome, List, None, Objects, Ok, Option, Outcome, Received, Site}
+use Rattle.zl_calls.proofs.Common.{Some, [], answered, ap, arith, chan_read_etc, drop, false, false≢true, length, number_at, read_into, refl, reg, register_set}
+use Rattle.zl_calls.proofs.Common.{site, site_of, slice_get, slice_index, slice_set, status_magnitude, subst, suc, sym, take, take-append-drop, then_some}
+use Rattle.zl_calls.proofs.Common.{told_of, triple_of, triples_from, true, with_stored, written, zero, ℕ, ◌*◌, ◌++◌, ◌+◌, ◌-◌, ◌<◌, ◌∙◌, ◌∷◌, ◌≡◌}
 use Rattle.zl_code.specs.Local.{overwritten}
-use Rattle.zl_rights.specs.World.{answered}
 use Rattle.zl_rights.specs.declared.status.Status.TheVariants as status
 use Rattle.zl_code.specs.declared.history.Outcome.TheVariants as outcome
 use Rattle.zl_code.specs.declared.history.CallName.TheVariants as name
-use Rattle.zl_code.specs.CallTable.{chan_read_etc}
-use Rattle.zl_table.specs.Table.{Handles}
-use Rattle.zl_calls.specs.Acted.{Acted}
-use Rattle.zl_interp.specs.Common.{register_set}
 use Rattle.zl_calls.specs.declared.process.Process.{Process}
-use Rattle.zl_calls.specs.calls.Reading.{read_into, triple_of}
 
 -- ---- triples
 

@@ -1,9 +1,8 @@
 -- The answers other than OK, where no policy has a say: they follow from the caller's table and from counts.
-use Rattle.zl_calls.proofs.Common.{◌≡◌, ℕ, Bool, true, false, not, List, [], ◌∷◌, refl, sym, ap, ◌∙◌, subst, if◌then◌else◌, Option, Some, None, Result, Ok, Err}
-use Rattle.zl_calls.proofs.Common.{option_or, then_some, bits, within, Map, get, Library, Request, Site, handle_operands, listed, table_of, answer_if}
-use Rattle.zl_calls.proofs.Common.{first_some, operands_fault, refusal, gives_refused, Calls, Wants, Refused, may_want, replied, taken, IsRefusedBy}
-use Rattle.zl_calls.proofs.Common.{IsTrue, World, false≢true, wants_nothing}
-use Rattle.zl_calls.proofs.Common.{result_err, granted, looked_up, takes, Entry, Kind, Status, Outcome}
+use Rattle.zl_calls.proofs.Common.{Bool, Calls, Entry, Err, IsRefusedBy, IsTrue, Kind, Library, List, Map, None, Ok, Option, Outcome, Refused, Request, Result}
+use Rattle.zl_calls.proofs.Common.{Site, Some, Status, Wants, World, [], answer_if, ap, bits, false, false≢true, first_some, get, gives_refused, granted}
+use Rattle.zl_calls.proofs.Common.{handle_operands, if◌then◌else◌, listed, looked_up, may_want, not, operands_fault, option_or, refl, refusal, replied}
+use Rattle.zl_calls.proofs.Common.{result_err, subst, sym, table_of, taken, takes, then_some, true, wants_nothing, within, ℕ, ◌∙◌, ◌∷◌, ◌≡◌}
 use Rattle.zl_rights.specs.declared.status.Status.TheVariants as status
 use Rattle.zl_code.specs.declared.history.Outcome.TheVariants as outcome
 pub use Rattle.zl_calls.proofs.policy.Plain.{answers}

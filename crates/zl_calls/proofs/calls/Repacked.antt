@@ -1,7 +1,7 @@
 -- What the calls on a port have in common: what packets are there, and what it means that those of one port change.
-use Rattle.zl_calls.proofs.Common.{◌≡◌, ℕ, List, map, refl, ap, Option, Some, None, option_map, Map, get, Site, replied, body_in, on_object, Objects, Replies}
-use Rattle.zl_calls.proofs.Common.{object_entry, object_value, body_value, world_value, IsConsistent, World, Packet, Port, repacked, at_port, changing_port}
-use Rattle.zl_calls.proofs.Common.{packets_in, packets_of, get_seen}
+use Rattle.zl_calls.proofs.Common.{IsConsistent, List, Map, None, Objects, Option, Packet, Port, Replies, Site, Some, World, ap, at_port, body_in, body_value}
+use Rattle.zl_calls.proofs.Common.{changing_port, get, get_seen, map, object_entry, object_value, on_object, option_map, packets_in, packets_of, refl, repacked}
+use Rattle.zl_calls.proofs.Common.{replied, world_value, ℕ, ◌≡◌}
 use Rattle.zl_rights.specs.declared.status.Status.TheVariants as status
 use Rattle.zl_code.specs.Waiting.{packets_in as packets_seen}
 use Rattle.zl_objects.specs.declared.object.Body.{Body}

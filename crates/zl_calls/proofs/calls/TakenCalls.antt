@@ -1,11 +1,11 @@
 -- A call that takes handles: they leave the table of its caller, and close where the call is refused.
-use Rattle.zl_calls.proofs.Common.{◌≡◌, ◌+◌, ℕ, Bool, true, false, ◌==◌, List, [], ◌∷◌, ◌++◌, map, refl, sym, ap, ◌∙◌, subst, cond, if◌then◌else◌, Option, Some}
-use Rattle.zl_calls.proofs.Common.{None, Result, Ok, Err, inl, inr, ◌⊎◌, IsTrue, arith, eq-eqb, eqb-true, is_some, count_by, sum_by-cons, cases_Bool}
-use Rattle.zl_calls.proofs.Common.{false≢true, none-some, nat_cmp, is_sorted, Map, get, put, has_key, update, without, Ready, Library, Site, refusal}
-use Rattle.zl_calls.proofs.Common.{taken_handles, remove_all, on_process, process_without, replied, cpu_answered, AtCall, next_for, get-put, get-without}
-use Rattle.zl_calls.proofs.Common.{sorted_put, sorted_without, length-without, Handles, IsTable, Objects, Releases, koids_of, Replies, status_of, values_of}
-use Rattle.zl_calls.proofs.Common.{process_entry, process_value, state_value, world_value, IsConsistent, IsNamed, World, IsSound, option_to_list, Entry, Status}
-use Rattle.zl_calls.proofs.Common.{CallName, Outcome, DoesTaking, taken_from, without_handle, without_handles, may_want}
+use Rattle.zl_calls.proofs.Common.{AtCall, Bool, CallName, DoesTaking, Entry, Err, Handles, IsConsistent, IsNamed, IsSound, IsTable, IsTrue, Library, List, Map}
+use Rattle.zl_calls.proofs.Common.{None, Objects, Ok, Option, Outcome, Ready, Releases, Replies, Result, Site, Some, Status, World, [], ap, arith, cases_Bool}
+use Rattle.zl_calls.proofs.Common.{cond, count_by, cpu_answered, eq-eqb, eqb-true, false, false≢true, get, get-put, get-without, has_key, if◌then◌else◌, inl}
+use Rattle.zl_calls.proofs.Common.{inr, is_some, is_sorted, koids_of, length-without, map, may_want, nat_cmp, next_for, none-some, on_process, option_to_list}
+use Rattle.zl_calls.proofs.Common.{process_entry, process_value, process_without, put, refl, refusal, remove_all, replied, sorted_put, sorted_without}
+use Rattle.zl_calls.proofs.Common.{state_value, status_of, subst, sum_by-cons, sym, taken_from, taken_handles, true, update, values_of, without, without_handle}
+use Rattle.zl_calls.proofs.Common.{without_handles, world_value, ℕ, ◌++◌, ◌+◌, ◌==◌, ◌∙◌, ◌∷◌, ◌≡◌, ◌⊎◌}
 use Rattle.zl_code.proofs.Common.{Process as ProcessValue}
 use Rattle.zl_rights.specs.declared.status.Status.TheVariants as status
 use Rattle.zl_code.specs.declared.history.Outcome.TheVariants as outcome

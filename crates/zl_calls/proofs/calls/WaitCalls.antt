@@ -1,14 +1,10 @@
 -- The calls wait_one and wait_poll, from their table and objects to a step.
-use Rattle.zl_calls.proofs.Common.{◌≡◌, ℕ, Bool, true, false, not, List, [], ◌∷◌, refl, sym, ap, ◌∙◌, subst, if◌then◌else◌, Option, Some, None, Result, Ok, Err}
-use Rattle.zl_calls.proofs.Common.{bits, within, Map, get, Library, Site, site, refusal, handle_operands, any, listed}
-use Rattle.zl_calls.proofs.Common.{answer_if, first_some, may_choose, new_handles, insert_all, remove_all, taken_handles, effect, gives_ok}
-use Rattle.zl_calls.proofs.Common.{gives_refused, Refused, Values, replied, koid_in, Objects, Replies, told_by}
-use Rattle.zl_calls.proofs.Common.{world_value, IsConsistent, World, operands_fault, false≢true, awaited_by, wait_one, object_at}
-use Rattle.zl_calls.proofs.Common.{is_mask, SignalOf, result_err, granted, looked_up, WAIT, Status, Entry, Signals, Outcome, signals_at, IsTold}
-use Rattle.zl_calls.proofs.Common.{wants_nothing}
-use Rattle.zl_code.specs.Common.{wait_poll}
-use Rattle.zl_code.specs.Waiting.{active_at, is_active_at}
-use Rattle.zl_rights.specs.Numbers.{meets}
+use Rattle.zl_calls.proofs.Common.{Bool, Entry, Err, IsConsistent, IsTold, Library, List, Map, None, Objects, Ok, Option, Outcome, Refused, Replies, Result}
+use Rattle.zl_calls.proofs.Common.{SignalOf, Signals, Site, Some, Status, Values, WAIT, World, [], active_at, answer_if, any, ap, awaited_by, bits, effect}
+use Rattle.zl_calls.proofs.Common.{false, false≢true, first_some, get, gives_ok, gives_refused, granted, handle_operands, if◌then◌else◌, insert_all}
+use Rattle.zl_calls.proofs.Common.{is_active_at, is_mask, koid_in, listed, looked_up, may_choose, meets, new_handles, not, object_at, operands_fault, refl}
+use Rattle.zl_calls.proofs.Common.{refusal, remove_all, replied, result_err, signals_at, site, subst, sym, taken_handles, told_by, true, wait_one, wait_poll}
+use Rattle.zl_calls.proofs.Common.{wants_nothing, within, world_value, ℕ, ◌∙◌, ◌∷◌, ◌≡◌}
 use Rattle.zl_rights.specs.declared.status.Status.TheVariants as status
 use Rattle.zl_code.specs.declared.history.Outcome.TheVariants as outcome
 use Rattle.zl_objects.specs.declared.object.Object.{Object}

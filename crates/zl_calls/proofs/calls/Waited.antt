@@ -1,7 +1,7 @@
 -- What port_wait does in each of its cases: it is refused, it takes a packet, or it blocks.
-use Rattle.zl_calls.proofs.Common.{◌≡◌, ◌<◌, ◌^◌, ℕ, List, [], refl, sym, ap, ◌∙◌, subst, inl, inr, None, Some, Result, Ok, Err, slice_get, get, Blocked, Site}
-use Rattle.zl_calls.proofs.Common.{site, Objects, Acts, action_of, state_value, told_by, port_wait, Outcome, READ, packet_values, Packet, PacketAt, Entry}
-use Rattle.zl_calls.proofs.Common.{Status, changing_port, packets_in, without_front, IsTold, answered_in, TakesPacket, port_at}
+use Rattle.zl_calls.proofs.Common.{Acts, Blocked, Entry, Err, IsTold, List, None, Objects, Ok, Outcome, Packet, PacketAt, READ, Result, Site, Some, Status}
+use Rattle.zl_calls.proofs.Common.{TakesPacket, [], action_of, answered_in, ap, changing_port, get, inl, inr, packet_values, packets_in, port_at, port_wait}
+use Rattle.zl_calls.proofs.Common.{refl, site, slice_get, state_value, subst, sym, told_by, without_front, ℕ, ◌<◌, ◌^◌, ◌∙◌, ◌≡◌}
 use Rattle.zl_code.specs.declared.history.Outcome.TheVariants as outcome
 use Rattle.zl_rights.specs.declared.status.Status.TheVariants as status
 use Rattle.zl_calls.specs.declared.process.Process.{Process}

@@ -1,31 +1,25 @@
 -- The call chan_write, from its table and objects to a step.
-use Rattle.zl_calls.proofs.Common.{◌≡◌, ◌<◌, ◌+◌, ℕ, Bool, true, false, not, ◌||◌, ◌==◌, List, [], ◌∷◌, ◌++◌, map, length, refl, sym, ap, ◌∙◌, cond}
-use Rattle.zl_calls.proofs.Common.{if◌then◌else◌, Option, Some, None, inl, inr, ◌⊎◌, IsTrue, arith, eq-eqb, is_some, count_by, sum_by-cons, then_some}
-use Rattle.zl_calls.proofs.Common.{option_or, option_map, cases_Bool, false≢true, none-some, same_Some, All, All-nil, Map, get, has_key, update, without}
-use Rattle.zl_calls.proofs.Common.{Library, Site, site, chan_write, refusal, handle_operands, any, listed, answer_if, first_some, may_choose, new_handles}
-use Rattle.zl_calls.proofs.Common.{insert_all, remove_all, taken_handles, effect, with_effect, gives_ok, gives_refused, on_object, on_process, Values, replied}
-use Rattle.zl_calls.proofs.Common.{taken, get-update, get-without, Handles, Objects, told_by, no_value, Replies, process_entry, object_entry, object_value}
-use Rattle.zl_calls.proofs.Common.{world_value, body_value, body_in, koids_of, handles_to, IsConsistent, IsNamed, AreNamed, World, operands_fault, IsSound}
-use Rattle.zl_calls.proofs.Common.{or_parts, list_any-append, sum_by-append, option_to_list, result_err, Status, Entry, looked_up, TRANSFER, WRITE, Message}
-use Rattle.zl_calls.proofs.Common.{operand_by, Operand, kind_of, peer_at, process_value, takes, Ok, get_seen, has_seen, taken_from, without_handle, fault_of}
-use Rattle.zl_calls.proofs.Common.{list_refusal, wants_memory}
-use Rattle.zl_code.proofs.Common.{Object as ObjectValue, All-cons}
-use Rattle.std.proofs.lemmas.List.Elements.{All-append}
-use Rattle.std.specs.List.{filter, flat_map}
+use Rattle.zl_calls.proofs.Common.{All, All-append, All-cons, All-nil, AreNamed, Bool, ChanWriteDoes, Entry, Handles, IsConsistent, IsNamed, IsSound, IsTrue}
+use Rattle.zl_calls.proofs.Common.{Library, List, Map, Message, None, Objects, Ok, Operand, Option, Replies, Site, Some, Status, TRANSFER, Values, WRITE, World}
+use Rattle.zl_calls.proofs.Common.{WritesMessage, [], answer_if, any, ap, arith, body_in, body_value, body_with_message, cases_Bool, chan_write, cond, consumes}
+use Rattle.zl_calls.proofs.Common.{contains, count_by, effect, eq-eqb, false, false≢true, fault_of, filter, first_some, flat_map, get, get-update, get-without}
+use Rattle.zl_calls.proofs.Common.{get_seen, gives_ok, gives_refused, handle_operands, handles_to, has_key, has_seen, if◌then◌else◌, inl, inr, insert_all}
+use Rattle.zl_calls.proofs.Common.{is_some, kind_of, koids_of, length, list_any-append, list_refusal, listed, looked_up, map, may_choose, message_sent}
+use Rattle.zl_calls.proofs.Common.{new_handles, no_value, none-some, not, object_entry, object_value, on_object, on_process, operand_by, operands_fault}
+use Rattle.zl_calls.proofs.Common.{option_map, option_or, option_to_list, or_parts, peer_at, process_entry, process_value, queued_to, refl, refusal, remove_all}
+use Rattle.zl_calls.proofs.Common.{replied, result_err, same_Some, site, sum_by-append, sum_by-cons, sym, taken, taken_from, taken_handles, takes, then_some}
+use Rattle.zl_calls.proofs.Common.{told_by, true, update, wants_memory, with_effect, without, without_handle, world_value, write_refusal, ℕ, ◌++◌, ◌+◌, ◌<◌}
+use Rattle.zl_calls.proofs.Common.{◌==◌, ◌||◌, ◌∙◌, ◌∷◌, ◌≡◌, ◌⊎◌}
+use Rattle.zl_code.proofs.Common.{Object as ObjectValue}
 use Rattle.zl_rights.specs.declared.kind.Kind.TheVariants as kind
 use Rattle.zl_rights.specs.declared.status.Status.TheVariants as status
-use Rattle.zl_rights.specs.Counts.{queued_to}
 use Rattle.zl_code.specs.declared.history.Outcome.TheVariants as outcome
-use Rattle.zl_code.specs.Effects.{body_with_message, message_sent}
-use Rattle.zl_code.specs.Instructions.{consumes}
 use Rattle.zl_code.specs.Tests.{entries_at, is_too_large, peer_at as peer_named, peer_in as peer_seen}
-use Rattle.zl_code.specs.Operands.{contains}
 use Rattle.zl_objects.specs.declared.object.Body.{Body}
 use Rattle.zl_objects.specs.declared.object.Body.TheVariants as body
 use Rattle.zl_objects.specs.declared.object.Object.{Object}
 use Rattle.zl_objects.specs.Objects.{if_there, is_channel_body, is_channel_in, peer_in, peer_of, queue_of, reader_at, reader_of, sending, sent, sent_body}
 use Rattle.zl_calls.specs.declared.process.Process.{Process}
-use Rattle.zl_calls.specs.calls.Channel.{ChanWriteDoes, WritesMessage, write_refusal}
 use Rattle.zl_calls.proofs.calls.Answered.{IsWrite, table_is}
 use Rattle.zl_calls.proofs.objects.Counting.{queues, sum_update}
 use Rattle.zl_calls.proofs.calls.DoneCalls.{IsCalled, IsDoneBy}

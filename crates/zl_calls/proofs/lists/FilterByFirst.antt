@@ -1,10 +1,8 @@
 -- A walk along a list that takes the elements out that pass a test: what is left is what doesn't pass.
-use Rattle.zl_calls.proofs.Common.{◌≡◌, ◌≤◌, ◌+◌, ℕ, Bool, true, false, not, List, [], ◌∷◌, ◌++◌, length, refl, sym, ap, ◌∙◌, subst, Some, None, inl, inr, zero}
-use Rattle.zl_calls.proofs.Common.{suc, same_Some, cases_Bool, false≢true, slice_get, take, take_more, length-take-le, list_any, arith, length-append, take_all}
-use Rattle.zl_calls.proofs.Common.{none-some, filter-append, list_any-append, or_parts, get_or_from_slice_get, slice_get_within, filter_all, without_first}
-use Rattle.std.specs.Prelude.{drop}
-use Rattle.std.specs.List.{filter, find, position_or_len}
-use Rattle.std.proofs.lemmas.Option.{slice_get_cases}
+use Rattle.zl_calls.proofs.Common.{Bool, List, None, Some, [], ap, arith, cases_Bool, drop, false, false≢true, filter, filter-append, filter_all, find}
+use Rattle.zl_calls.proofs.Common.{get_or_from_slice_get, inl, inr, length, length-append, length-take-le, list_any, list_any-append, none-some, not, or_parts}
+use Rattle.zl_calls.proofs.Common.{position_or_len, refl, same_Some, slice_get, slice_get_cases, slice_get_within, subst, suc, sym, take, take_all, take_more}
+use Rattle.zl_calls.proofs.Common.{true, without_first, zero, ℕ, ◌++◌, ◌+◌, ◌∙◌, ◌∷◌, ◌≡◌, ◌≤◌}
 use Rattle.std.proofs.Math.Seq.{take-append_seam}
 
 module _ {X : Type 0} where

@@ -1,7 +1,6 @@
 -- A loop that takes out of a list what doesn't pass, and lists at one place.
-use Rattle.zl_rights.proofs.Common.{◌≡◌, ◌<◌, ◌≤◌, ◌+◌, ℕ, Bool, true, false, List, [], ◌∷◌, ◌++◌, length, take, drop, zero, suc, refl, sym, ap, ◌∙◌, arith}
-use Rattle.zl_rights.proofs.Common.{get_or, take_more, take_all, append-nil, append_assoc}
-use Rattle.std.specs.List.{filter}
+use Rattle.zl_calls.proofs.Common.{Bool, List, [], ap, append-nil, append_assoc, arith, drop, false, filter, get_or, length, refl, suc, sym, take, take_all}
+use Rattle.zl_calls.proofs.Common.{take_more, true, zero, ℕ, ◌++◌, ◌+◌, ◌<◌, ◌∙◌, ◌∷◌, ◌≡◌, ◌≤◌}
 
 module _ {X : Type 0} where
   pub drop_out : (xs : List X) (i : ℕ) → i < length xs → drop i (take i xs ++ drop (suc i) xs) ≡ drop (suc i) xs

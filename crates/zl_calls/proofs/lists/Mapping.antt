@@ -1,6 +1,6 @@
 -- A list of which one item after another becomes what a function makes of it.
-use Rattle.zl_calls.proofs.Common.{◌≡◌, ◌+◌, ◌<◌, ◌≤◌, ℕ, zero, suc, List, [], ◌∷◌, ◌++◌, map, length, take, refl, ap, ◌∙◌, sym, arith}
-use Rattle.std.specs.Prelude.{drop, slice_index_or, slice_set}
+use Rattle.zl_calls.proofs.Common.{List, ap, arith, drop, length, map, refl, slice_index_or, slice_set, suc, sym, take, zero, ℕ, ◌++◌, ◌+◌, ◌<◌, ◌∙◌, ◌∷◌, ◌≡◌}
+use Rattle.zl_calls.proofs.Common.{◌≤◌, []}
 
 -- the items before the place are made, and making those behind it makes all
 pub record IsMapped {A : Type 0} (f : A → A) (before now : List A) (place : ℕ) : Type 0 where
@@ -17,9 +17,6 @@ same_length : {A : Type 0} (xs : List A) (n : ℕ) (y : A) → length (slice_set
 same_length [] n y = refl
 same_length (x ∷ xs) zero y = refl
 same_length (x ∷ xs) (suc n) y = ap suc (same_length xs n y)
-
-pub none_mapped : {A : Type 0} (f : A → A) (xs : List A) → IsMapped f xs xs 0
-none_mapped f xs = record { so_far = refl; long = refl }
 
 pub one_mapped : {A : Type 0} (f : A → A) (before now : List A) (n : ℕ) (x y : A) → IsMapped f before now n → n < length now → x ≡ slice_index_or now n x
     → y ≡ f x → IsMapped f before (slice_set now n y) (n + 1)

@@ -1,7 +1,7 @@
 -- The first element with a key: what it reads and writes, in the map by keys.
-use Rattle.zl_calls.proofs.Common.{◌≡◌, ◌<◌, ℕ, zero, suc, Bool, true, false, ◌==◌, List, [], ◌∷◌, length, map, get_or, set, refl, sym, ap, ◌∙◌, Some, None}
-use Rattle.zl_calls.proofs.Common.{inl, inr, arith, ◌≤◌, nat_lt, position, cases_Bool, eqb-true, nat_tests, none-some, Map, get, update, position_or_len}
-use Rattle.zl_calls.proofs.Common.{position-Some}
+use Rattle.zl_calls.proofs.Common.{Bool, List, Map, None, Some, [], ap, arith, cases_Bool, eqb-true, false, get, get_or, inl, inr, length, map, nat_lt}
+use Rattle.zl_calls.proofs.Common.{nat_tests, none-some, position, position-Some, position_or_len, refl, set, suc, sym, true, update, zero, ℕ, ◌<◌, ◌==◌, ◌∙◌}
+use Rattle.zl_calls.proofs.Common.{◌∷◌, ◌≡◌, ◌≤◌}
 
 -- the element at place i is the first with the key k
 pub record IsFirst {X : Type 0} (key : X → ℕ) (xs : List X) (k i : ℕ) (d : X) : Type 0 where

@@ -1,7 +1,7 @@
 -- Changes of one value of a map or a list: two after another, none, and as they are seen from outside. Maps in order: what is found, and seen.
-use Rattle.zl_calls.proofs.Common.{◌≡◌, ◌<◌, ℕ, zero, suc, true, false, ◌==◌, List, [], ◌∷◌, refl, sym, ap, ◌∙◌, subst, inl, inr, map, eq-eqb, cases_Bool}
-use Rattle.zl_calls.proofs.Common.{eqb-true, Map, update}
-use Rattle.zl_calls.proofs.Common.{Some, IsTrue, arith, below_all, get, get_or, set, is_sorted, nat_cmp, nat_tests, none-some, sorted_parts, below_parts}
+use Rattle.zl_calls.proofs.Common.{IsTrue, List, Map, Some, [], ap, arith, below_all, below_parts, cases_Bool, eq-eqb, eqb-true, false, get, get_or, inl, inr}
+use Rattle.zl_calls.proofs.Common.{is_sorted, map, nat_cmp, nat_tests, none-some, refl, set, sorted_parts, subst, suc, sym, true, update, zero, ℕ, ◌<◌, ◌==◌}
+use Rattle.zl_calls.proofs.Common.{◌∙◌, ◌∷◌, ◌≡◌}
 
 pub update_twice : {X : Type 0} (m : Map X) (k : ℕ) (f g : X → X) → update (update m k f) k g ≡ update m k (λ x. g (f x))
 unfolding update

@@ -1,7 +1,6 @@
 -- What is active at an object: the objects tell it, without the processes.
-use Rattle.zl_calls.proofs.Common.{◌≡◌, ◌<◌, ℕ, List, Some, IsTrue, nat_cmp, is_sorted, Map, get, has_key, Objects, Agrees, world_value, IsConsistent, World}
-use Rattle.zl_calls.proofs.Common.{ShowStates, signals_at}
-use Rattle.zl_rights.specs.Signals.{active}
+use Rattle.zl_calls.proofs.Common.{Agrees, IsConsistent, IsTrue, List, Map, Objects, ShowStates, Some, World, active, get, has_key, is_sorted, nat_cmp}
+use Rattle.zl_calls.proofs.Common.{signals_at, world_value, ℕ, ◌<◌, ◌≡◌}
 use Rattle.zl_objects.specs.declared.object.Body.{Body}
 use Rattle.zl_objects.specs.declared.object.Body.TheVariants as body
 use Rattle.zl_objects.specs.declared.object.Object.{Object}

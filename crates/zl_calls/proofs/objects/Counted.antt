@@ -1,15 +1,12 @@
 -- A handle that counts is in a table or in a queue, and names an object that is there.
-use Rattle.zl_calls.proofs.Common.{◌≡◌, ◌<◌, ℕ, zero, suc, Bool, ◌==◌, List, [], ◌∷◌, map, refl, sym, ◌∙◌, subst, inl, inr, ◌⊎◌, All, IsTrue, arith, sum_by}
-use Rattle.zl_calls.proofs.Common.{count_by, list_any, eqb-true, false≢true, Map, has_key, handles_to, queued_to, IsTable, Objects, object_entry, body_value}
-use Rattle.zl_calls.proofs.Common.{process_entry, world_value, AreNamed, IsNamed, IsSound, All-head, All-tail, or_cases, Entry, Message, Found, any_found}
-use Rattle.zl_calls.proofs.Common.{positive_part}
+use Rattle.zl_calls.proofs.Common.{All, All-head, All-tail, AreNamed, Bool, Entry, Found, IsNamed, IsSound, IsTable, IsTrue, List, Map, Message, Objects, []}
+use Rattle.zl_calls.proofs.Common.{any_found, any_seen, arith, body_value, count_by, count_none, eqb-true, false≢true, handles_to, has_key, inl, inr, list_any}
+use Rattle.zl_calls.proofs.Common.{map, named_queue, names, object_entry, or_cases, positive_part, process_entry, queued_to, refl, subst, suc, sum_by}
+use Rattle.zl_calls.proofs.Common.{summed_any, sym, world_value, zero, ℕ, ◌<◌, ◌==◌, ◌∙◌, ◌∷◌, ◌≡◌, ◌⊎◌}
 use Rattle.zl_code.proofs.Common.{queue_of as queue_value}
-use Rattle.zl_rights.specs.Settle.{names}
 use Rattle.zl_objects.specs.declared.object.Body.{Body}
 use Rattle.zl_objects.specs.declared.object.Body.TheVariants as body
 use Rattle.zl_objects.specs.Objects.{queue_of}
-use Rattle.zl_objects.proofs.Law.{any_seen, named_queue}
-use Rattle.zl_objects.proofs.Sums.{summed_any, count_none}
 use Rattle.zl_calls.specs.declared.process.Process.{Process}
 
 -- what is true of each is true of the one that passes

@@ -1,12 +1,11 @@
 -- How many handles name an object, in tables and in queues, after a change of one table or of the objects.
-use Rattle.zl_calls.proofs.Common.{◌≡◌, ◌+◌, ℕ, Bool, true, false, ◌==◌, List, [], ◌∷◌, map, refl, sym, ap, ◌∙◌, cond, None, Some, inl, inr, IsTrue, arith}
-use Rattle.zl_calls.proofs.Common.{nat_lt, sum_by, count_by, sum_by-cons, map-append, cases_Bool, eqb-true, none-some, nat_cmp, is_sorted, same_Some, Map, get}
-use Rattle.zl_calls.proofs.Common.{put, update, without, handles_to, queued_to, Objects, object_entry, process_entry, process_value, body_value, new_object}
-use Rattle.zl_calls.proofs.Common.{with_new, world_value, suc, sum_by-append, sum_fewer, Entry}
+use Rattle.zl_calls.proofs.Common.{Bool, Entry, IsTrue, List, Map, None, Objects, Some, ap, arith, body_value, cases_Bool, cond, count_by, eqb-true, false, get}
+use Rattle.zl_calls.proofs.Common.{handles_to, inl, inr, is_sorted, map, map-append, nat_cmp, nat_lt, new_object, none-some, object_entry, process_entry}
+use Rattle.zl_calls.proofs.Common.{process_value, put, queued_to, refl, same_Some, suc, sum_by, sum_by-append, sum_by-cons, sum_fewer, sum_without, sym, true}
+use Rattle.zl_calls.proofs.Common.{update, with_new, without, world_value, ℕ, ◌+◌, ◌==◌, ◌∙◌, ◌∷◌, ◌≡◌, []}
 use Rattle.zl_code.proofs.Common.{Process as ProcessValue}
 use Rattle.zl_objects.specs.declared.object.Body.{Body}
 use Rattle.zl_objects.specs.declared.object.Object.{Object}
-use Rattle.zl_objects.proofs.Sums.{sum_without}
 use Rattle.zl_calls.specs.declared.process.Process.{Process}
 use Rattle.zl_calls.proofs.calls.Answered.{IsWrite}
 
@@ -35,10 +34,6 @@ queues_kept f j same (e ∷ os) k = elim (cases_Bool (e.0 == k)) as (λ _. queue
     queues_kept f j same os k,
   ))
 ]
-
--- one that leaves each body as it is
-pub queues_updated : (f : Object → Object) → ((o : Object) → (f o).body ≡ o.body) → (os : Map Object) (k j : ℕ) → queues (update os k f) j ≡ queues os j
-queues_updated f same os k j = queues_kept f j (λ o. ap (λ (b : Body). queued_to j (body_value b)) (same o)) os k
 
 -- an object more, in whose queue nothing is
 pub queues_grown : (r : Objects) (b : Body) (handles j : ℕ) → ◌≡◌ {A = ℕ} (queued_to j (body_value b)) 0

@@ -1,20 +1,18 @@
 -- One object more, with the handles that name it and are to enter a table: what the invariant says of both.
-use Rattle.zl_calls.proofs.Common.{◌≡◌, ◌<◌, ◌+◌, ◌^◌, ℕ, Bool, nat_cmp, is_sorted, nat_lt, true, false, ◌||◌, ◌==◌, List, [], ◌∷◌, ◌++◌, map, refl, sym, ap}
-use Rattle.zl_calls.proofs.Common.{◌∙◌, subst, cond, Option, Some, None, inl, inr, IsTrue, arith, eq-eqb, if◌then◌else◌, is_some, list_any, count_by}
-use Rattle.zl_calls.proofs.Common.{sum_by-cons, cases_Bool, eqb-true, false≢true, same_Some, Map, get, put, has_key, is_process, map-append, state_passes, All}
-use Rattle.zl_calls.proofs.Common.{All-nil, has_living_child, handles_to, get-put, sorted_put, put_key, queued_to, body_value, Objects, AreKeptBut, new_object}
-use Rattle.zl_calls.proofs.Common.{with_new, is_kept, stays_alone, is_child, is_job_at, is_job_in, object_entry, object_value, process_entry, world_value}
-use Rattle.zl_calls.proofs.Common.{IsConsistent, IsSound, AreNamed, IsNamed, Agrees, is_in_job, default_rights_of, is_killed, kind_of, runs, within, World}
-use Rattle.zl_calls.proofs.Common.{Entry, Message, put_last, has_seen, kept_all}
+use Rattle.zl_calls.proofs.Common.{Agrees, All, All-nil, AreKeptBut, AreNamed, Bool, Entry, IsConsistent, IsNamed, IsSound, IsTrue, List, Map, Message, None}
+use Rattle.zl_calls.proofs.Common.{Objects, Option, Pair, Some, World, [], ap, arith, body_value, cases_Bool, cond, count_by, default_rights_of, eq-eqb}
+use Rattle.zl_calls.proofs.Common.{eqb-true, false, false≢true, get, get-put, handles_to, has_key, has_living_child, has_seen, if◌then◌else◌, inl, inr}
+use Rattle.zl_calls.proofs.Common.{is_child, is_in_job, is_job_at, is_job_in, is_kept, is_killed, is_process, is_some, is_sorted, kept_all, kind_of, list_any}
+use Rattle.zl_calls.proofs.Common.{map, map-append, more_in_job, nat_cmp, nat_lt, new_object, object_entry, object_value, process_entry, put, put_key, put_last}
+use Rattle.zl_calls.proofs.Common.{queued_to, refl, runs, same_Some, sorted_put, state_passes, stays_alone, subst, sum_by-cons, sym, true, with_new, within}
+use Rattle.zl_calls.proofs.Common.{world_value, ℕ, ◌++◌, ◌+◌, ◌<◌, ◌==◌, ◌^◌, ◌||◌, ◌∙◌, ◌∷◌, ◌≡◌}
 use Rattle.zl_code.proofs.Common.{Process as ProcessValue, State as StateValue}
 use Rattle.zl_objects.specs.declared.object.Body.{Body}
 use Rattle.zl_objects.specs.declared.object.Body.TheVariants as body
 use Rattle.zl_objects.specs.declared.object.Object.{Object}
 use Rattle.zl_calls.specs.declared.process.Process.{Process}
-use Rattle.zl_objects.specs.declared.object.Pair.{Pair}
 use Rattle.zl_objects.specs.declared.object.Pair.TheVariants as pair
 use Rattle.zl_objects.specs.Objects.{end_to, kind_of_pair, queue_of}
-use Rattle.zl_objects.proofs.Bodies.{more_in_job}
 use Rattle.zl_calls.proofs.objects.Counted.{never_named}
 use Rattle.zl_calls.proofs.objects.Counting.{queues_grown, same_tables}
 use Rattle.zl_calls.proofs.objects.SameBodies.{kept_each, still_agrees, still_named}

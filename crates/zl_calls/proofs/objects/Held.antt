@@ -1,6 +1,7 @@
 -- An object is held once more: what the world sees of it, and the invariant, where the handle is to enter a table.
-use Rattle.zl_calls.proofs.Common.{◌≡◌, ◌+◌, ◌<◌, ◌^◌, ◌==◌, ℕ, [], true, false, refl, ap, cond, Some, None, IsTrue, arith, nat_lt, nat_tests, count_by, eq-eqb}
-use Rattle.zl_calls.proofs.Common.{get, put, List, Map, handles_to, held_once_more, holding, object_value, Objects, AreKeptBut, IsSound, world_value, Entry}
+use Rattle.zl_calls.proofs.Common.{AreKeptBut, Entry, IsSound, IsTrue, List, Map, None, Objects, Some, [], ap, arith, cond, count_by, eq-eqb, false, get}
+use Rattle.zl_calls.proofs.Common.{handles_to, held_once_more, holding, nat_lt, nat_tests, object_value, put, refl, true, world_value, ℕ, ◌+◌, ◌<◌, ◌==◌, ◌^◌}
+use Rattle.zl_calls.proofs.Common.{◌≡◌}
 use Rattle.zl_objects.specs.declared.object.Object.{Object}
 use Rattle.zl_objects.specs.Objects.{queue_of}
 use Rattle.zl_calls.specs.declared.process.Process.{Process}

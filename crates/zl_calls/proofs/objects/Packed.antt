@@ -1,6 +1,6 @@
 -- The packets of one port change, and nothing else: what is seen of it, and the invariant.
-use Rattle.zl_calls.proofs.Common.{◌≡◌, ℕ, List, refl, ap, PortBody, Objects, object_value, body_value, IsConsistent, Packet, Port, body_packed, repacked}
-use Rattle.zl_calls.proofs.Common.{at_port, changed_port, changing_port}
+use Rattle.zl_calls.proofs.Common.{IsConsistent, List, Objects, Packet, Port, PortBody, ap, at_port, body_packed, body_value, changed_port, changing_port}
+use Rattle.zl_calls.proofs.Common.{object_value, refl, repacked, ℕ, ◌≡◌}
 use Rattle.zl_objects.specs.declared.object.Body.{Body}
 use Rattle.zl_objects.specs.declared.object.Body.TheVariants as body
 use Rattle.zl_objects.specs.declared.object.Object.{Object}

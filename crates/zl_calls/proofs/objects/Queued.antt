@@ -1,6 +1,6 @@
 -- The queue of one object changes, and nothing else of it: what the invariant says of the objects.
-use Rattle.zl_calls.proofs.Common.{◌≡◌, ◌+◌, ℕ, ◌==◌, List, [], refl, Some, arith, count_by, Map, get, update, handles_to, Objects, AreKeptBut, AreNamed}
-use Rattle.zl_calls.proofs.Common.{IsNamed, IsSound, world_value, Message, Entry}
+use Rattle.zl_calls.proofs.Common.{AreKeptBut, AreNamed, Entry, IsNamed, IsSound, List, Map, Message, Objects, Some, [], arith, count_by, get, handles_to, refl}
+use Rattle.zl_calls.proofs.Common.{update, world_value, ℕ, ◌+◌, ◌==◌, ◌≡◌}
 use Rattle.zl_objects.specs.declared.object.Body.{Body}
 use Rattle.zl_objects.specs.declared.object.Body.TheVariants as body
 use Rattle.zl_objects.specs.declared.object.Object.{Object}

@@ -1,13 +1,12 @@
 -- One object becomes another that is of its kind and is kept as it was: what the invariant says of the objects.
-use Rattle.zl_calls.proofs.Common.{◌≡◌, ◌+◌, ℕ, false, ◌==◌, List, [], refl, sym, ap, ◌∙◌, subst, Some, inl, inr, IsTrue, nat_lt, or_left, or_right, count_by}
-use Rattle.zl_calls.proofs.Common.{sum_by, Map, get, update, kind_of, handles_to, queued_to, is_process, has_key-update, is_sorted-update, Objects, AreKeptBut}
-use Rattle.zl_calls.proofs.Common.{is_kept, is_child, stays_alone, is_in_job, body_value, world_value, Agrees, AreNamed, IsConsistent, IsNamed, IsSound, World}
-use Rattle.zl_calls.proofs.Common.{or_cases, Entry, Message, same_in_job, kept_all}
+use Rattle.zl_calls.proofs.Common.{Agrees, AreKeptBut, AreNamed, Entry, IsConsistent, IsNamed, IsSound, IsTrue, List, Map, Message, Objects, Some, World, []}
+use Rattle.zl_calls.proofs.Common.{alone_changed, ap, body_value, count_by, false, get, handles_to, has_key-update, inl, inr, is_child, is_in_job, is_kept}
+use Rattle.zl_calls.proofs.Common.{is_process, is_sorted-update, kept_all, kind_of, nat_lt, or_cases, or_left, or_right, queued_to, refl, same_in_job}
+use Rattle.zl_calls.proofs.Common.{stays_alone, subst, sum_by, sym, update, world_value, ℕ, ◌+◌, ◌==◌, ◌∙◌, ◌≡◌}
 use Rattle.zl_objects.specs.declared.object.Body.{Body}
 use Rattle.zl_objects.specs.declared.object.Body.TheVariants as body
 use Rattle.zl_objects.specs.declared.object.Object.{Object}
 use Rattle.zl_objects.specs.Objects.{queue_of}
-use Rattle.zl_objects.proofs.Bodies.{alone_changed}
 use Rattle.zl_calls.specs.declared.process.Process.{Process}
 use Rattle.zl_calls.proofs.objects.Counting.{queues_kept, same_tables}
 use Rattle.zl_calls.proofs.objects.SameBodies.{each_updated, jobs_kept, kept_each, named_kept, still_agrees, still_named}

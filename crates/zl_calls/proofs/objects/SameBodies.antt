@@ -1,15 +1,13 @@
 -- A change of one object that leaves its kind or its body as it is: what the invariant says of those stays.
-use Rattle.zl_calls.proofs.Common.{◌≡◌, ℕ, Bool, true, false, ◌==◌, List, refl, sym, ◌∙◌, subst, Option, Some, None, inl, inr, IsTrue, if◌then◌else◌}
-use Rattle.zl_calls.proofs.Common.{option_map, cases_Bool, none-some, same_Some, Map, get, update, get-update, false≢true, [], nat_cmp, is_sorted, is_kept}
-use Rattle.zl_calls.proofs.Common.{AreKeptBut, is_process, runs, lives, Agrees, AreNamed, IsNamed, World, ap, kind_of, body_value, is_job_at, is_job_body}
-use Rattle.zl_calls.proofs.Common.{eqb-true, Entry, Kind, Message}
-use Rattle.zl_code.proofs.Common.{State as StateValue, slice_index_or}
-use Rattle.zl_rights.specs.Signals.{has_ended}
+use Rattle.zl_calls.proofs.Common.{Agrees, AreKeptBut, AreNamed, Bool, Entry, IsNamed, IsTrue, Kind, List, Map, Message, None, Option, Some, World, [], ap}
+use Rattle.zl_calls.proofs.Common.{body_value, cases_Bool, eqb-true, false, false≢true, get, get-update, has_ended, if◌then◌else◌, inl, inr, is_job_at}
+use Rattle.zl_calls.proofs.Common.{is_job_body, is_kept, is_process, is_sorted, job_changed, kind_of, lives, nat_cmp, none-some, option_map, refl, runs}
+use Rattle.zl_calls.proofs.Common.{same_Some, slice_index_or, subst, sym, true, update, ℕ, ◌==◌, ◌∙◌, ◌≡◌}
+use Rattle.zl_code.proofs.Common.{State as StateValue}
 use Rattle.zl_rights.specs.declared.kind.Kind.TheVariants as kind
 use Rattle.zl_objects.specs.declared.object.Body.{Body}
 use Rattle.zl_objects.specs.declared.object.Body.TheVariants as body
 use Rattle.zl_objects.specs.declared.object.Object.{Object}
-use Rattle.zl_objects.proofs.Bodies.{job_changed}
 use Rattle.zl_objects.specs.Objects.{queue_of}
 
 -- an object afterwards is one that was there before, perhaps changed

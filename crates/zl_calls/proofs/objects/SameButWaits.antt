@@ -1,20 +1,15 @@
 -- Objects that are the same but for waits and the places for their packets: the world sees the same, and the invariant holds.
-use Rattle.zl_calls.proofs.Common.{◌≡◌, ℕ, Bool, ◌==◌, List, [], ◌∷◌, map, refl, sym, ap, ◌∙◌, subst, Option, Some, None, inl, inr, IsTrue, cases_Bool}
-use Rattle.zl_calls.proofs.Common.{eqb-true, false, false≢true, same_Some, is_some, Map, get, has_key, update, kind_of, handles_to, Objects, Agrees}
-use Rattle.zl_calls.proofs.Common.{object_entry}
-use Rattle.zl_calls.proofs.Common.{body_value, world_value, AreNamed, IsConsistent, IsNamed, World, Entry, Watch, Port, without_place, watching, at_port}
-use Rattle.zl_calls.proofs.Common.{changed_port, at_port_of, unwatched, unwatching, waits_in, AreBeside}
-use Rattle.zl_code.proofs.Common.{each}
-use Rattle.std.specs.List.{find}
+use Rattle.zl_calls.proofs.Common.{Agrees, AreBeside, AreNamed, AreSameButWaits, Bool, Entry, IsConsistent, IsNamed, IsTrue, List, Map, None, Objects, Option}
+use Rattle.zl_calls.proofs.Common.{Port, Some, Watch, World, ap, at_port, at_port_of, bare, body_value, cases_Bool, changed_port, each, eqb-true, false}
+use Rattle.zl_calls.proofs.Common.{false≢true, find, get, handles_to, has_key, inl, inr, is_some, kind_of, map, object_entry, refl, same_Some, subst, sym, []}
+use Rattle.zl_calls.proofs.Common.{unwatched, unwatching, update, waits_in, watch_of, watched, watching, without_place, world_value, ℕ, ◌==◌, ◌∙◌, ◌∷◌, ◌≡◌}
 use Rattle.zl_port.specs.Packets.{with_place}
 use Rattle.zl_objects.specs.declared.object.Body.{Body}
 use Rattle.zl_objects.specs.declared.object.Body.TheVariants as body
 use Rattle.zl_objects.specs.declared.object.Object.{Object}
 use Rattle.zl_objects.specs.declared.wait.Wait.{Wait}
-use Rattle.zl_objects.specs.Listed.{watch_of}
 use Rattle.zl_objects.specs.Objects.{queue_of}
 use Rattle.zl_objects.specs.Ports.{unreserved}
-use Rattle.zl_objects.specs.Waits.{AreSameButWaits, bare, watched}
 use Rattle.zl_objects.proofs.Bare.{IsAlike, agrees_same, alike, has_same, in_job_same, of_body, same_then, seen_same, still_kept}
 use Rattle.zl_calls.specs.declared.process.Process.{Process}
 use Rattle.zl_calls.proofs.objects.SameBodies.{still_named}
@@ -109,10 +104,6 @@ place_bare f same o = λ i. record {
     by_body : (b : Body) → unreserved (changed_port f b) ≡ unreserved b
     by_body (body.Port p) = λ i. body.Port (record { packets = same p i; reserved = 0 })
     by_body _ = refl
-
-pub ported_beside : (r : Objects) (k : ℕ) (f : Port → Port) → ((p : Port) → (f p).packets ≡ p.packets)
-    → AreBeside r (record r { objects = update r.objects k (at_port f) })
-ported_beside r k f same = record { objects = one_bare r.objects k (at_port f) (place_bare f same); koids = refl }
 
 -- a wait begins
 pub watching_beside : (r : Objects) (x : Wait) → AreBeside r (watching r x)

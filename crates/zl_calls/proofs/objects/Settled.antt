@@ -1,21 +1,17 @@
 -- Handles go, and what nothing keeps any more with them: the invariant holds afterwards, and the worlds are settled.
-use Rattle.zl_calls.proofs.Common.{◌≡◌, ◌<◌, ℕ, zero, suc, Bool, true, ◌==◌, List, [], ◌∷◌, map, length, refl, sym, ap, ◌∙◌, subst, cond, Option, Some, None}
-use Rattle.zl_calls.proofs.Common.{inl, inr, ◌⊎◌, IsTrue, arith, eq-eqb, count_by, list_any, sum_by-cons, append-nil, is_some, or_left, or_right, false≢true}
-use Rattle.zl_calls.proofs.Common.{none-some, same_Some, nat_cmp, is_sorted, Map, get, has_key, without, kind_of, Settles, handles_to, queued_to}
-use Rattle.zl_calls.proofs.Common.{sorted_without, Objects, AreKeptBut, Cascades, none_left, Releases, IsExact, body_value, object_value, object_entry}
-use Rattle.zl_calls.proofs.Common.{process_entry, world_value, AreNamed, IsConsistent, IsNamed, IsSound, World, is_process, Entry, Message, Found, any_found}
-use Rattle.zl_calls.proofs.Common.{get_seen, Was, cascaded_was, releases_then, counted_any, positive_part}
-use Rattle.zl_code.proofs.Common.{Process as ProcessValue, queue_of as queue_value, slice_index_or}
-use Rattle.zl_rights.specs.Settle.{names}
+use Rattle.zl_calls.proofs.Common.{AreKeptBut, AreNamed, Bool, Cascades, Drained, Entry, Found, IsConsistent, IsExact, IsNamed, IsSound, IsTrue, List, Map}
+use Rattle.zl_calls.proofs.Common.{Message, None, Objects, Option, Releases, Settles, Some, Was, World, [], any_counted, any_found, any_summed, ap, append-nil}
+use Rattle.zl_calls.proofs.Common.{arith, body_value, cascaded, cascaded_was, cond, count_by, counted_any, eq-eqb, false≢true, get, get_seen, handles_to}
+use Rattle.zl_calls.proofs.Common.{has_key, inl, inr, is_process, is_some, is_sorted, kind_of, length, list_any, map, names, nat_cmp, none-some, none_left}
+use Rattle.zl_calls.proofs.Common.{object_entry, object_value, or_left, or_right, positive_part, process_entry, queue_named, queued_to, refl, releases_then}
+use Rattle.zl_calls.proofs.Common.{same_Some, settles_left, slice_index_or, sorted_without, subst, suc, sum_by-cons, sym, true, was_queue, was_seen}
+use Rattle.zl_calls.proofs.Common.{with_objects, without, world_value, zero, ℕ, ◌<◌, ◌==◌, ◌∙◌, ◌∷◌, ◌≡◌, ◌⊎◌}
+use Rattle.zl_code.proofs.Common.{Process as ProcessValue, queue_of as queue_value}
 use Rattle.zl_objects.specs.declared.object.Object.{Object}
 use Rattle.zl_objects.specs.Objects.{queue_of}
-use Rattle.zl_objects.specs.Seen.{with_objects}
 use Rattle.zl_objects.proofs.Found.{any_at}
-use Rattle.zl_objects.proofs.Law.{cascaded, queue_named, settles_left}
-use Rattle.zl_objects.proofs.Released.{was_queue, was_seen}
-use Rattle.zl_objects.proofs.Sums.{any_counted, any_summed}
 use Rattle.zl_calls.specs.declared.process.Process.{Process}
-use Rattle.zl_calls.specs.calls.Process.{Drained, none_left as none_drained, one_more}
+use Rattle.zl_calls.specs.calls.Process.{none_left as none_drained, one_more}
 use Rattle.zl_calls.proofs.objects.Counted.{counted_there, is_there, queue_seen}
 use Rattle.zl_calls.proofs.objects.Counting.{count_without}
 use Rattle.zl_calls.proofs.processes.Departed.{all_stay, settled_world}

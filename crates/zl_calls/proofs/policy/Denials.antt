@@ -1,20 +1,16 @@
 -- What a verdict makes of a call for the definitions: it is answered, or its caller ends.
-use Rattle.zl_calls.proofs.Common.{true≢false, chan_create, BY_POLICY, Entry, Condition, Status, condition_of, job_at, on_fault_by, verdict_by, verdict_in}
-use Rattle.zl_calls.proofs.Common.{verdict_on, Verdict}
-use Rattle.zl_code.proofs.Common.{◌≡◌, ℕ, Bool, true, false, [], refl, sym, ap, ◌∙◌, Option, Some, None, none-some, get, World, Library, Request}
-use Rattle.zl_code.proofs.Common.{Site, is_some, if◌then◌else◌, chan_read_etc, handle_operands, refusal, gives_refused, remove_all, taken_handles, replied}
-use Rattle.zl_code.proofs.Common.{ended, Calls, Refused}
-use Rattle.zl_rights.specs.Common.{Map}
+use Rattle.zl_calls.proofs.Common.{BY_POLICY, Bool, Condition, Entry, Library, Map, None, Option, Refused, Request, Site, Some, Status, Verdict, World, [], ap}
+use Rattle.zl_calls.proofs.Common.{chan_create, chan_read_etc, condition_of, ended, false, get, gives_refused, handle_operands, if◌then◌else◌, is_some, job_at}
+use Rattle.zl_calls.proofs.Common.{job_in, none-some, on_fault_by, operands_fault, refl, remove_all, replied, sym, taken_handles, true, true≢false, verdict_by}
+use Rattle.zl_calls.proofs.Common.{verdict_in, verdict_on, wait_poll, ℕ, ◌∙◌, ◌≡◌}
+use Rattle.zl_code.proofs.Common.{refusal, Calls}
 use Rattle.zl_rights.specs.declared.policy.Action.{Action}
 use Rattle.zl_rights.specs.declared.policy.Action.TheVariants as action
 use Rattle.zl_rights.specs.declared.policy.Condition.TheVariants as condition
 use Rattle.zl_rights.specs.declared.status.Status.TheVariants as status
-use Rattle.zl_code.specs.CallTable.{wait_poll}
 use Rattle.zl_code.specs.declared.history.Outcome.TheVariants as outcome
 use Rattle.zl_objects.specs.Jobs.{action_of}
-use Rattle.zl_objects.specs.Objects.{job_in}
 use Rattle.zl_objects.specs.declared.object.Object.{Object}
-use Rattle.zl_calls.specs.Policed.{operands_fault}
 use Rattle.zl_calls.specs.declared.policy.Verdict.TheVariants as verdict
 use Rattle.zl_calls.proofs.policy.Policies.{ending}
 

@@ -1,24 +1,18 @@
 -- What a policy is asked goes by the row of the call: its condition, and the faults of its handle operands from left to right.
-use Rattle.zl_calls.proofs.Common.{result_err, reg, condition_of, operand_by, CallInstr, CallName, looked_up, TRANSFER, WRITE, Entry, Condition, Status}
-use Rattle.zl_calls.proofs.Common.{field_of, fields_fault, last_fault, job_at, verdict_by, verdict_in, verdict_on, Verdict, fault_of, list_refusal}
-use Rattle.zl_code.proofs.Common.{Bool, Cpu, IfSome, List, Map, None, Ok, Err, Option, Result, Row, Site, Some, [], ap, call_row, consumes, contains}
-use Rattle.zl_code.proofs.Common.{flat_map, get, handle_operands, if◌then◌else◌, map, option_or, refl, slice_index, site_of, subst, sym, then_some, true}
-use Rattle.zl_code.proofs.Common.{false, ℕ, ◌++◌, ◌==◌, ◌||◌, ◌∙◌, ◌∷◌, ◌≡◌}
-use Rattle.zl_code.proofs.Common.{arith, drop, get_or, length, zero, suc, ◌<◌}
+use Rattle.zl_calls.proofs.Common.{Bool, CallInstr, CallName, Condition, Cpu, Entry, Err, IfSome, List, Map, None, Ok, Option, Result, Row, Site, Some, Status}
+use Rattle.zl_calls.proofs.Common.{TRANSFER, Verdict, WRITE, [], ap, arith, call_row, condition_of, consumes, contains, drop, false, fault_of, field_of}
+use Rattle.zl_calls.proofs.Common.{fields_fault, flat_map, get, get_or, handle_operands, if◌then◌else◌, job_at, job_in, last_fault, length, list_refusal}
+use Rattle.zl_calls.proofs.Common.{looked_up, map, operand_by, operands_fault, option_or, refl, reg, result_err, site_at, site_named, site_of, slice_index}
+use Rattle.zl_calls.proofs.Common.{subst, suc, sym, then_some, true, used, verdict_by, verdict_in, verdict_on, zero, ℕ, ◌++◌, ◌<◌, ◌==◌, ◌||◌, ◌∙◌, ◌∷◌, ◌≡◌}
 use Rattle.std.proofs.Math.Bool.{or_comm}
 use Rattle.std.proofs.lemmas.List.Recursion.{or_push}
-use Rattle.zl_code.specs.Asked.{used}
-use Rattle.zl_code.specs.Request.{site_at}
-use Rattle.zl_code.proofs.CallRows.{site_named}
 use Rattle.zl_code.specs.declared.history.CallName.TheVariants as name
 use Rattle.zl_rights.specs.declared.kind.Kind.TheVariants as kind
 use Rattle.zl_rights.specs.declared.status.Status.TheVariants as status
 use Rattle.zl_code.specs.declared.layout.Field.{Field}
 use Rattle.zl_calls.specs.FieldFaults.{field_fault}
 use Rattle.zl_objects.specs.Jobs.{action_of}
-use Rattle.zl_objects.specs.Objects.{job_in}
 use Rattle.zl_objects.specs.declared.object.Object.{Object}
-use Rattle.zl_calls.specs.Policed.{operands_fault}
 
 -- a site that may not be there
 pub if_there : (there : Bool) (s : Site) (P : Site → Type 0) → P s → IfSome (then_some there s) P

@@ -1,10 +1,6 @@
 -- What is known of the operands of a call by its name.
-use Rattle.zl_calls.proofs.Common.{◌≡◌, ◌∙◌, Bool, true, false, [], ap, subst, None, IsSome, Map, Entry, CallInstr, CallName, call_row, site_of, then_some}
-use Rattle.zl_calls.proofs.Common.{Cpu, handle_operands, operands_fault}
-use Rattle.zl_code.specs.Asked.{has_its_memory}
-use Rattle.zl_code.specs.Request.{site_at, site_in}
-use Rattle.zl_code.proofs.CallRows.{site_named}
-use Rattle.zl_calls.specs.Sure.{IsFaultless}
+use Rattle.zl_calls.proofs.Common.{Bool, CallInstr, CallName, Cpu, Entry, IsFaultless, IsSome, Map, None, [], ap, call_row, false, handle_operands}
+use Rattle.zl_calls.proofs.Common.{has_its_memory, operands_fault, site_at, site_in, site_named, site_of, subst, then_some, true, ◌∙◌, ◌≡◌}
 
 -- no operand of the call has a fault, where its memory is there
 pub faultless_at : (i : CallInstr) (c : Cpu) (n : CallName) (entries : Map Entry) → i.name ≡ n → IsSome (site_of i c) → IsFaultless entries (site_of i c)

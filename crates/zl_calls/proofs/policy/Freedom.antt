@@ -1,13 +1,11 @@
 -- Where the policy of a process's job has no verdict on its call, no policy has a say at all.
-use Rattle.zl_calls.proofs.Common.{◌≡◌, ℕ, true, false, List, map, refl, sym, ap, ◌∙◌, Option, Some, None, arith, false≢true, same_Some, subst, option_map}
-use Rattle.zl_calls.proofs.Common.{is_ready, lives, Library, Site, AtCall, next_for, refusal, get, Objects, body_in, body_value, is_job_at, is_job_body}
-use Rattle.zl_calls.proofs.Common.{is_job_in, object_entry, object_value, process_entry, process_value, state_value, world_blocked, IsConsistent, World, Next}
-use Rattle.zl_calls.proofs.Common.{CallName, get_seen, verdict_on}
-use Rattle.zl_code.proofs.Common.{Body as BodyValue, JobBody, Process as ProcessValue}
-use Rattle.std.specs.Prelude.{Bool}
+use Rattle.zl_calls.proofs.Common.{AtCall, Bool, CallName, IsConsistent, JobBody, Library, List, Map, Next, None, Objects, Option, Site, Some, World, ap, arith}
+use Rattle.zl_calls.proofs.Common.{body_in, body_value, false, false≢true, get, get_seen, is_job_at, is_job_body, is_job_in, is_ready, lives, map, next_for}
+use Rattle.zl_calls.proofs.Common.{object_entry, object_value, option_map, process_entry, process_value, refl, refusal, same_Some, state_value, subst, sym}
+use Rattle.zl_calls.proofs.Common.{true, verdict_on, world_blocked, ℕ, ◌∙◌, ◌≡◌}
+use Rattle.zl_code.proofs.Common.{Body as BodyValue, Process as ProcessValue}
 use Rattle.zl_code.specs.Refusals.{refusal as policed_refusal}
 use Rattle.zl_code.specs.Sound.{IsSound as IsSoundWorld}
-use Rattle.zl_rights.specs.Map.{Map}
 use Rattle.zl_objects.specs.declared.object.Body.{Body}
 use Rattle.zl_objects.specs.declared.object.Body.TheVariants as body
 use Rattle.zl_objects.specs.declared.object.Object.{Object}

@@ -1,7 +1,6 @@
 -- A call in the midst of all processes that the policy of its process's job ends.
-use Rattle.zl_calls.proofs.Common.{◌≡◌, ℕ, false, List, set, refl, ap, Library, Site, AtCall}
-use Rattle.zl_calls.proofs.Common.{next_for, Objects, process_value, CallName, Outcome, is_blocking}
-use Rattle.zl_calls.proofs.Common.{EndsBy, KeepSleepers, Policed, Parts, parts, subst, sym, Verdict}
+use Rattle.zl_calls.proofs.Common.{AtCall, CallName, EndsBy, KeepSleepers, Library, List, Objects, Outcome, Parts, Policed, Site, Verdict, ap, false}
+use Rattle.zl_calls.proofs.Common.{is_blocking, next_for, parts, process_value, refl, set, subst, sym, ℕ, ◌≡◌}
 use Rattle.zl_code.specs.declared.history.TraceItem.TheVariants as item
 use Rattle.zl_calls.specs.Reaching.{IsAlone}
 use Rattle.zl_calls.specs.declared.policy.Verdict.TheVariants as verdict

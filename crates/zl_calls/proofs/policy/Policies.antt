@@ -1,27 +1,23 @@
 -- The refusal of a call: the verdict of a policy, and behind it the refusal where no policy decides.
-use Rattle.zl_calls.proofs.Common.{result_err, granted, BY_POLICY, Entry, Condition, Status, true≢false, condition_of, Operand, Outcome, get_seen, job_at}
-use Rattle.zl_calls.proofs.Common.{on_fault_by, verdict_by, verdict_in, verdict_on, Verdict}
-use Rattle.std.specs.Prelude.{ℕ, ◌≡◌, Bool, true, false, ◌&&◌, ◌==◌, List, [], ◌∷◌, map, Option, Some, None, Result, Ok, Err, if◌then◌else◌, unwrap_or}
-use Rattle.std.specs.Option.{option_map, option_or}
-use Rattle.zl_rights.specs.Common.{World, Map, condition_number}
+use Rattle.zl_calls.proofs.Common.{BY_POLICY, Bool, Condition, Entry, Err, Library, List, Map, None, Ok, Operand, Option, Outcome, Request, Result, Some}
+use Rattle.zl_calls.proofs.Common.{Status, Verdict, World, [], ap, body_in, body_value, condition_number, condition_of, contains, entry_at, examined, false}
+use Rattle.zl_calls.proofs.Common.{first_some, get, get_seen, granted, handle_operands, if◌then◌else◌, is_job_at, is_job_body, is_job_in, job_at, job_in}
+use Rattle.zl_calls.proofs.Common.{job_of, listed, map, object_entry, object_value, on_fault_by, operand, operands_fault, option_map, option_or, parent_of}
+use Rattle.zl_calls.proofs.Common.{policy_in, refl, result_err, subst, sym, table_of, true, true≢false, unwrap_or, verdict_by, verdict_in, verdict_on, ℕ, ◌&&◌}
+use Rattle.zl_calls.proofs.Common.{◌==◌, ◌∙◌, ◌∷◌, ◌≡◌}
 use Rattle.zl_rights.specs.declared.policy.Action.{Action}
 use Rattle.zl_rights.specs.declared.policy.Action.TheVariants as action
 use Rattle.zl_rights.specs.declared.policy.Condition.TheVariants as condition
 use Rattle.zl_rights.specs.declared.status.Status.TheVariants as status
-use Rattle.zl_code.proofs.Common.{get, refusal, examined, operand, handle_operands, listed, ap, refl, subst, sym, ◌∙◌}
-use Rattle.zl_code.specs.CallTable.{Request}
-use Rattle.zl_code.specs.First.{first_some}
-use Rattle.zl_code.specs.Image.{Library}
-use Rattle.zl_code.specs.Tests.{action_of, body_in, entry_at, parent_in, parent_of, policy_in, table_of}
-use Rattle.zl_code.specs.Operands.{by_look_up, by_policy, contains, creates, ends_if_kill, operand_after, seen_after, unless_allowed}
+use Rattle.zl_code.proofs.Common.{refusal}
+use Rattle.zl_code.specs.Tests.{action_of, parent_in}
+use Rattle.zl_code.specs.Operands.{by_look_up, by_policy, creates, ends_if_kill, operand_after, seen_after, unless_allowed}
 use Rattle.zl_code.specs.declared.history.Outcome.TheVariants as outcome
 use Rattle.zl_objects.specs.Jobs.{action_of as job_action, as_job, as_job_in}
-use Rattle.zl_objects.specs.Objects.{is_job_at, is_job_body, is_job_in, job_in, job_of}
-use Rattle.zl_objects.specs.Seen.{body_value, object_entry, object_value}
 use Rattle.zl_objects.specs.declared.object.Body.{Body}
 use Rattle.zl_objects.specs.declared.object.Body.TheVariants as body
 use Rattle.zl_objects.specs.declared.object.Object.{Object}
-use Rattle.zl_calls.specs.Policed.{fault_after, on_making, operands_fault}
+use Rattle.zl_calls.specs.Policed.{fault_after, on_making}
 use Rattle.zl_calls.specs.declared.policy.Verdict.TheVariants as verdict
 use Rattle.zl_calls.proofs.policy.Plain.{answers, refusal as plain_refusal}
 

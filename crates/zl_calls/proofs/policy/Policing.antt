@@ -1,18 +1,15 @@
 -- A call that the policy of its process's job ends: it is a step up to where processes wake, and the invariant holds afterwards.
-use Rattle.zl_calls.proofs.Common.{KeepSleepers}
-use Rattle.zl_calls.proofs.Common.{◌≡◌, ◌==◌, ℕ, false, not, List, [], refl, sym, ap, ◌∙◌, subst, Some, is_ready, Ready, Library, Site, AtCall, next_for}
-use Rattle.zl_calls.proofs.Common.{Objects, AreBlocked, process_value, state_value, world_blocked, world_value, IsConsistent, IsActed, World, BY_POLICY}
-use Rattle.zl_calls.proofs.Common.{ActsAndSettles, settles_waiting, is_blocking, replied_among, with_waiters, CallName, Outcome, EndsBy, IsDenied, Policed}
-use Rattle.zl_calls.proofs.Common.{verdict_on, world_left, Verdict}
-use Rattle.std.specs.List.{filter}
+use Rattle.zl_calls.proofs.Common.{ActsAndSettles, AreBlocked, AtCall, BY_POLICY, CallName, EndsBy, Exits, IsActed, IsConsistent, IsDenied, KeepSleepers}
+use Rattle.zl_calls.proofs.Common.{Library, List, Objects, Outcome, Policed, Ready, Site, Some, Verdict, World, [], ap, ended, false, filter, is_blocked}
+use Rattle.zl_calls.proofs.Common.{is_blocking, is_ready, next_for, not, process_value, refl, replied, replied_among, settles_waiting, state_value, subst, sym}
+use Rattle.zl_calls.proofs.Common.{verdict_on, with_waiters, world_blocked, world_left, world_value, ℕ, ◌==◌, ◌∙◌, ◌≡◌}
 use Rattle.zl_rights.specs.declared.status.Status.TheVariants as status
-use Rattle.zl_code.proofs.Common.{IsSound as IsSoundWorld, is_blocked, ended, replied}
+use Rattle.zl_code.proofs.Common.{IsSound as IsSoundWorld}
 use Rattle.zl_code.specs.Calls.{Calls}
 use Rattle.zl_code.specs.Refusals.{refusal as policed_refusal}
 use Rattle.zl_code.proofs.StepsWaiting.{is_left as is_left_at_port}
 use Rattle.zl_code.proofs.Waiters.{ended_among}
 use Rattle.zl_code.specs.declared.history.TraceItem.TheVariants as item
-use Rattle.zl_calls.specs.Acted.{Exits}
 use Rattle.zl_calls.specs.declared.policy.Verdict.TheVariants as verdict
 use Rattle.zl_calls.specs.declared.process.Process.{Process}
 use Rattle.zl_calls.proofs.calls.Answered.{IsWrite, same_world}

@@ -1,6 +1,5 @@
 -- An answer goes into its destinations, one after another.
-use Rattle.zl_calls.proofs.Common.{◌≡◌, ◌<◌, ◌+◌, ℕ, zero, suc, List, [], ◌∷◌, length, get_or, refl, sym, ◌∙◌, arith, written}
-use Rattle.std.specs.Prelude.{drop, slice_index, slice_set}
+use Rattle.zl_calls.proofs.Common.{List, [], arith, drop, get_or, length, refl, slice_index, slice_set, suc, sym, written, zero, ℕ, ◌+◌, ◌<◌, ◌∙◌, ◌∷◌, ◌≡◌}
 
 nothing_left : (n : ℕ) → (drop {A = ℕ} n [] ≡ []) × (slice_index [] n ≡ 0)
 nothing_left zero = (refl, refl)

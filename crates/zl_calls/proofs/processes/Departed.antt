@@ -1,16 +1,14 @@
 -- Processes that were never started go with their objects: what settling leaves of a world, and that the invariant stays.
-use Rattle.zl_calls.proofs.Common.{◌≡◌, ◌+◌, ◌<◌, ◌^◌, ◌==◌, ℕ, count_by, sum_by, sum_by-cons, queued_to, IsTable, true, false, List, [], ◌∷◌, map, refl, sym}
-use Rattle.zl_calls.proofs.Common.{ap, ◌∙◌, subst, Option, Some, None, IsTrue, eq-eqb, is_some, none-some, same_Some, cond, if◌then◌else◌, option_map, nat_cmp}
-use Rattle.zl_calls.proofs.Common.{is_sorted, Map, get, has_key, where_key, each, lives, Koids, handles_to, process_settled, Objects, AreBlocked, IsConsistent}
-use Rattle.zl_calls.proofs.Common.{object_entry, process_entry, state_value, world_value, without_others, state_without, state_passes, is_process, Bool, World}
-use Rattle.zl_calls.proofs.Common.{in_order-each, same_map, passes, has_seen, has_handle}
-use Rattle.zl_code.proofs.Common.{Process as ProcessValue, Object as ObjectValue, State as StateValue, Created, is_blocked}
-use Rattle.zl_rights.proofs.MapLaws.{get-each}
+use Rattle.zl_calls.proofs.Common.{AreBlocked, Bool, Created, IsConsistent, IsTable, IsTrue, Koids, List, Map, None, Objects, Option, Some, World, [], ap, cond}
+use Rattle.zl_calls.proofs.Common.{count_by, each, eq-eqb, false, get, get-each, handles_to, has_handle, has_key, has_seen, if◌then◌else◌, in_order-each}
+use Rattle.zl_calls.proofs.Common.{is_blocked, is_process, is_some, is_sorted, left_beside, left_state, lives, map, nat_cmp, none-some, object_entry}
+use Rattle.zl_calls.proofs.Common.{option_map, passes, process_entry, process_settled, queued_to, refl, same_Some, same_map, state_passes, state_value}
+use Rattle.zl_calls.proofs.Common.{state_without, subst, sum_by, sum_by-cons, sym, true, where_key, with_all, without_others, world_value, ℕ, ◌+◌, ◌<◌, ◌==◌}
+use Rattle.zl_calls.proofs.Common.{◌^◌, ◌∙◌, ◌∷◌, ◌≡◌}
+use Rattle.zl_code.proofs.Common.{Process as ProcessValue, Object as ObjectValue, State as StateValue}
 use Rattle.zl_calls.specs.declared.process.State.{State}
 use Rattle.zl_calls.specs.declared.process.State.TheVariants as state
 use Rattle.zl_calls.specs.declared.process.Process.{Process}
-use Rattle.zl_calls.specs.Leaving.{left_beside, left_state}
-use Rattle.zl_objects.specs.Seen.{with_all}
 use Rattle.zl_calls.proofs.objects.SameBodies.{still_agrees}
 
 -- the processes, of which those that were never started are gone without their objects

@@ -1,10 +1,8 @@
 -- Processes that were made and not started have no handles, nor have those that are over; and each process stands where its koid is.
-use Rattle.zl_calls.proofs.Common.{◌≡◌, ℕ, zero, suc, true, false, List, [], ◌∷◌, map, refl, sym, Some, IsTrue, eq-eqb, false≢true, none-some}
-use Rattle.zl_calls.proofs.Common.{same_Some, nat_cmp}
-use Rattle.zl_calls.proofs.Common.{is_sorted, slice_get, sorted_parts, get, lives, runs, Objects, process_entry, process_value, state_value}
-use Rattle.zl_calls.proofs.Common.{world_blocked, is_created}
+use Rattle.zl_calls.proofs.Common.{AreClosed, IsTrue, List, Objects, Some, [], eq-eqb, false, false≢true, get, is_created, is_sorted, lives, map, nat_cmp}
+use Rattle.zl_calls.proofs.Common.{none-some, process_entry, process_value, refl, runs, same_Some, slice_get, sorted_parts, state_value, suc, sym, true}
+use Rattle.zl_calls.proofs.Common.{world_blocked, zero, ℕ, ◌∷◌, ◌≡◌}
 use Rattle.zl_code.specs.Sound.{IsSound as IsSoundWorld}
-use Rattle.zl_calls.specs.Killing.{AreClosed}
 use Rattle.zl_calls.specs.declared.process.State.{State}
 use Rattle.zl_calls.specs.declared.process.State.TheVariants as state
 use Rattle.zl_calls.specs.declared.process.Process.{Process}

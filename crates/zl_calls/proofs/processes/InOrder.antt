@@ -1,9 +1,8 @@
 -- The list of processes stays in order where none changes its koid, and where a newer one comes behind the others.
-use Rattle.zl_calls.proofs.Common.{◌≡◌, ◌<◌, ◌++◌, ℕ, zero, suc, List, [], ◌∷◌, map, refl, sym, ap, ◌∙◌, Some, IsTrue, get_or, set, slice_get, has_key}
-use Rattle.zl_calls.proofs.Common.{is_sorted, nat_cmp, map-append, put, update, has_key-update, is_sorted-update, put_last, sorted_put}
-use Rattle.zl_calls.proofs.Common.{ClosesEnded, Objects, lives_on, process_entry, process_value}
+use Rattle.zl_calls.proofs.Common.{ClosesEnded, IsTrue, List, Objects, Some, [], ap, get_or, has_key, has_key-update, is_over, is_sorted, is_sorted-update}
+use Rattle.zl_calls.proofs.Common.{lives_on, map, map-append, nat_cmp, process_entry, process_value, put, put_last, refl, set, slice_get, sorted_put, suc, sym}
+use Rattle.zl_calls.proofs.Common.{update, zero, ℕ, ◌++◌, ◌<◌, ◌∙◌, ◌∷◌, ◌≡◌}
 use Rattle.zl_code.proofs.Common.{Process as ProcessValue}
-use Rattle.zl_calls.specs.calls.Task.{is_over}
 use Rattle.zl_calls.specs.declared.process.Process.{Process}
 use Rattle.zl_calls.proofs.lists.Updates.{seen_entry, sorted_seen}
 use Rattle.zl_calls.proofs.tasks.StartCalls.{writes_at}

@@ -1,9 +1,9 @@
 -- One process more, with its object: what the invariant says of both.
-use Rattle.zl_calls.proofs.Common.{cases_Bool, eqb-true, eq-eqb, ◌==◌, if◌then◌else◌, ◌≡◌, ◌<◌, ◌+◌, ◌^◌, ◌⊎◌, ℕ, Bool, false, List, [], ◌∷◌, ◌++◌, map, refl}
-use Rattle.zl_calls.proofs.Common.{sym, ap, ◌∙◌, subst, cond, Some, inl, inr, IsTrue, arith, sum_by, count_by, sum_by-cons, map-append, same_Some, Map, get}
-use Rattle.zl_calls.proofs.Common.{put, is_process, handles_to, get-put, IsTable, sorted_put, put_key, Objects, new_object, with_new, process_entry}
-use Rattle.zl_calls.proofs.Common.{process_value, state_value, world_value, IsNamed, Agrees, AreNamed, All, All-nil, is_in_job, IsSound, sum_by-append, Entry}
-use Rattle.zl_calls.proofs.Common.{Message, Life, put_last}
+use Rattle.zl_calls.proofs.Common.{Agrees, All, All-nil, AreNamed, Bool, Entry, IsNamed, IsSound, IsTable, IsTrue, Life, List, Map, Message, Objects, Some, []}
+use Rattle.zl_calls.proofs.Common.{ap, arith, cases_Bool, cond, count_by, eq-eqb, eqb-true, false, get, get-put, handles_to, if◌then◌else◌, inl, inr, is_in_job}
+use Rattle.zl_calls.proofs.Common.{is_process, map, map-append, new_object, process_entry, process_value, put, put_key, put_last, refl, same_Some, sorted_put}
+use Rattle.zl_calls.proofs.Common.{state_value, subst, sum_by, sum_by-append, sum_by-cons, sym, with_new, world_value, ℕ, ◌++◌, ◌+◌, ◌<◌, ◌==◌, ◌^◌, ◌∙◌, ◌∷◌}
+use Rattle.zl_calls.proofs.Common.{◌≡◌, ◌⊎◌}
 use Rattle.zl_code.proofs.Common.{Process as ProcessValue, State as StateValue}
 use Rattle.zl_objects.specs.declared.object.Body.{Body}
 use Rattle.zl_objects.specs.declared.object.Body.TheVariants as body

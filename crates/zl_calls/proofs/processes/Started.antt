@@ -1,14 +1,9 @@
 -- No process before a place is unstarted: so it stays, as none becomes so that was made before.
-use Rattle.zl_calls.proofs.Common.{◌≡◌, ◌≤◌, ◌++◌, ◌∙◌, ℕ, zero, suc, Bool, false, List, [], ◌∷◌, map, length, take, refl, sym, ap, subst, arith, inl, inr}
-use Rattle.zl_calls.proofs.Common.{Option, Some, None, All-nil, All-head, All-tail, get_or, set, IfSome, IfNone, IsSome, false≢true, Site, Outcome}
-use Rattle.zl_calls.proofs.Common.{is_created, state_value, Objects, Acted, Acts, action_of, Action, answers, exits, reaches, Policed, EndsBy, Verdict}
-use Rattle.zl_calls.proofs.Common.{true, lives, is_within, ◌&&◌, ClosesEnded, lives_on, ended_if, ended_within}
-use Rattle.std.specs.Prelude.{drop}
-use Rattle.zl_code.proofs.Common.{All-cons}
-use Rattle.zl_calls.specs.Leaving.{IsStarted, NoneUnstarted, left_beside, left_state}
-use Rattle.zl_calls.specs.Waking.{awake}
-use Rattle.zl_calls.specs.calls.Answer.{waits}
-use Rattle.zl_calls.specs.calls.Task.{is_over}
+use Rattle.zl_calls.proofs.Common.{Acted, Action, Acts, All-cons, All-head, All-nil, All-tail, Bool, ClosesEnded, EndsBy, IfNone, IfSome, IsSome, IsStarted}
+use Rattle.zl_calls.proofs.Common.{List, None, NoneUnstarted, Objects, Option, Outcome, Policed, Site, Some, Verdict, [], action_of, answers, ap, arith, awake}
+use Rattle.zl_calls.proofs.Common.{drop, ended_if, ended_within, exits, false, false≢true, get_or, inl, inr, is_created, is_over, is_within, left_beside}
+use Rattle.zl_calls.proofs.Common.{left_state, length, lives, lives_on, map, reaches, refl, set, state_value, subst, suc, sym, take, true, waits, zero, ℕ, ◌&&◌}
+use Rattle.zl_calls.proofs.Common.{◌++◌, ◌∙◌, ◌∷◌, ◌≡◌, ◌≤◌}
 use Rattle.zl_calls.specs.declared.policy.Verdict.TheVariants as verdict
 use Rattle.zl_calls.specs.declared.process.Process.{Process}
 use Rattle.zl_calls.specs.declared.process.State.{State}

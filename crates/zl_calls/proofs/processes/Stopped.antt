@@ -1,11 +1,10 @@
 -- A process loses handles, or ends: the invariant but for what keeps the objects, and what nothing may keep then.
-use Rattle.zl_calls.proofs.Common.{◌≡◌, ℤ, ◌+◌, ◌<◌, ℕ, Bool, true, false, ◌==◌, List, [], ◌∷◌, map, object_entry, none-some, update, runs, lives, sum_by}
-use Rattle.zl_calls.proofs.Common.{queued_to, job_in, job_of, AreKeptBut, Releases, Agrees, AreNamed, refl, sym, ap, ◌∙◌, subst, Option, Some, None, inl, inr}
-use Rattle.zl_calls.proofs.Common.{IsTrue, eq-eqb, count_by, cases_Bool, eqb-true, Map, get, has_key, kind_of, is_process, handles_to, IsTable}
-use Rattle.zl_calls.proofs.Common.{is_sorted-update, has_key-update, Objects, stopped, stopped_body, stopping, process_entry, process_value, object_value}
-use Rattle.zl_calls.proofs.Common.{body_value, world_value, IsConsistent, IsNamed, is_in_job, IsSound, arith, Entry, same_in_job}
-use Rattle.zl_code.proofs.Common.{Process as ProcessValue, Object as ObjectValue, State as StateValue, Ended}
-use Rattle.zl_rights.specs.Signals.{has_ended}
+use Rattle.zl_calls.proofs.Common.{Agrees, AreKeptBut, AreNamed, Bool, Ended, Entry, IsConsistent, IsNamed, IsSound, IsTable, IsTrue, List, Map, None, Objects}
+use Rattle.zl_calls.proofs.Common.{Option, Releases, Some, [], ap, arith, body_value, cases_Bool, count_by, eq-eqb, eqb-true, false, get, handles_to, has_ended}
+use Rattle.zl_calls.proofs.Common.{has_key, has_key-update, inl, inr, is_in_job, is_process, is_sorted-update, job_in, job_of, kind_of, lives, map, none-some}
+use Rattle.zl_calls.proofs.Common.{object_entry, object_value, process_entry, process_value, queued_to, refl, runs, same_in_job, stopped, stopped_body}
+use Rattle.zl_calls.proofs.Common.{stopped_loose, stopping, subst, sum_by, sym, true, update, world_value, ℕ, ℤ, ◌+◌, ◌<◌, ◌==◌, ◌∙◌, ◌∷◌, ◌≡◌}
+use Rattle.zl_code.proofs.Common.{Process as ProcessValue, Object as ObjectValue, State as StateValue}
 use Rattle.zl_objects.specs.declared.object.Body.{Body}
 use Rattle.zl_objects.specs.declared.object.Body.TheVariants as body
 use Rattle.zl_objects.specs.declared.object.Object.{Object}
@@ -13,7 +12,6 @@ use Rattle.zl_calls.specs.declared.process.State.TheVariants as state
 use Rattle.zl_calls.specs.declared.process.Process.{Process}
 use Rattle.zl_objects.specs.Objects.{queue_of}
 use Rattle.zl_objects.specs.Release.{Ends as ObjectEnds, Ended as ObjectEnded}
-use Rattle.zl_objects.proofs.Released.{stopped_loose}
 use Rattle.zl_calls.proofs.calls.Answered.{IsWrite}
 use Rattle.zl_calls.proofs.lists.Updates.{update_unseen}
 use Rattle.zl_calls.proofs.objects.Counting.{counts_fewer, queues}

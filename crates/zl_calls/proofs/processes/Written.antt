@@ -1,11 +1,10 @@
 -- A process of the list is written: the map by pids, and what the invariant says of processes.
-use Rattle.zl_calls.proofs.Common.{Option, None, ◌≡◌, ◌<◌, ◌+◌, ℕ, Bool, false, ◌==◌, List, map, length, get_or, set, refl, sym, ap, ◌∙◌, cond, Some, inl, inr}
-use Rattle.zl_calls.proofs.Common.{◌⊎◌, subst, IsTrue, arith, [], ◌∷◌, position, count_by, option_map, cases_Bool, eqb-true, none-some, same_Some}
-use Rattle.zl_calls.proofs.Common.{slice_get-get_or, Map, get, update, is_process, state_passes, handles_to, get-update, IsTable, Inserts, is_sorted-update}
-use Rattle.zl_calls.proofs.Common.{has_key-update, Objects, AreKeptBut, process_entry, process_value, state_value, world_value, IsPlaceOf, IsConsistent}
-use Rattle.zl_calls.proofs.Common.{IsNamed, IsSound, Agrees, sum_by-cons, Entry}
+use Rattle.zl_calls.proofs.Common.{Agrees, AreKeptBut, Bool, Entry, Inserts, IsConsistent, IsNamed, IsPlaceOf, IsSound, IsTable, IsTrue, List, Map, MatchOption}
+use Rattle.zl_calls.proofs.Common.{None, Objects, Option, Some, [], ap, arith, cases_Bool, cond, count_by, eqb-true, false, get, get-update, get_or, handles_to}
+use Rattle.zl_calls.proofs.Common.{has_key-update, inl, inr, is_process, is_sorted-update, length, map, none-some, option_map, position, process_entry}
+use Rattle.zl_calls.proofs.Common.{process_value, refl, same_Some, set, slice_get-get_or, state_passes, state_value, subst, sum_by-cons, sym, update}
+use Rattle.zl_calls.proofs.Common.{world_value, ℕ, ◌+◌, ◌<◌, ◌==◌, ◌∙◌, ◌∷◌, ◌≡◌, ◌⊎◌}
 use Rattle.zl_code.proofs.Common.{Process as ProcessValue, State as StateValue}
-use Rattle.std.specs.Prelude.{MatchOption}
 use Rattle.zl_calls.specs.declared.process.State.{State}
 use Rattle.zl_objects.specs.declared.object.Body.{Body}
 use Rattle.zl_calls.specs.declared.process.Process.{Process}

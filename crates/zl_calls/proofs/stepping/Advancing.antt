@@ -1,10 +1,10 @@
 -- What a process did by itself comes back to the world: what stands there for it, and the steps that these instructions are.
-use Rattle.zl_calls.proofs.Common.{◌≡◌, ◌<◌, ◌≤◌, ℕ, IsTrue, false≢true, Result, Ok, Err, arith, is_some, is_process, is_ready_in, List, length, map, get_or}
-use Rattle.zl_calls.proofs.Common.{set, replicate, refl, sym, ap, ◌∙◌, subst, Option, Some, None, none-some, same_Some, option_map, true}
-use Rattle.zl_calls.proofs.Common.{slice_get, slice_get-get_or, get, Cpu, Program, is_ready, Settles, wakes, on_process, Library, Objects, process_entry}
-use Rattle.zl_calls.proofs.Common.{process_value, state_value, world_blocked, IsPlaceOf, World, slice_get_within, Runs, step_programs}
-use Rattle.zl_calls.proofs.Common.{step_sound, HavePrograms, after_locals, Stands}
-use Rattle.zl_code.proofs.Common.{IfOk, IsSound as IsSoundWorld}
+use Rattle.zl_calls.proofs.Common.{Cpu, Err, HavePrograms, IfOk, IsPlaceOf, IsTrue, Library, List, None, Objects, Ok, Option, Program, Result, Runs, Settles}
+use Rattle.zl_calls.proofs.Common.{Some, Stands, World, after_locals, ap, arith, false≢true, get, get_or, is_process, is_ready, is_ready_in, is_some, length}
+use Rattle.zl_calls.proofs.Common.{map, none-some, on_process, option_map, process_entry, process_value, refl, replicate, same_Some, set, slice_get}
+use Rattle.zl_calls.proofs.Common.{slice_get-get_or, slice_get_within, state_value, step_programs, step_sound, subst, sym, true, wakes, world_blocked, ℕ, ◌<◌}
+use Rattle.zl_calls.proofs.Common.{◌∙◌, ◌≡◌, ◌≤◌}
+use Rattle.zl_code.proofs.Common.{IsSound as IsSoundWorld}
 use Rattle.zl_code.specs.declared.history.TraceItem.TheVariants as item
 use Rattle.zl_calls.specs.declared.process.Process.{Process}
 use Rattle.zl_calls.proofs.stepping.LocalMoves.{stands, moved_awake, moved_rests, moved_world}

@@ -1,25 +1,16 @@
 -- Behind a step that ended processes each registered wait is left: those of the ended have ended with their handles.
-use Rattle.zl_calls.proofs.Common.{◌≡◌, ℕ, ℤ, true, ◌==◌, List, map, set, refl, sym, ap, ◌∙◌, subst, Option, Some, None, Result, Ok, Err, inl, inr, ⊤, Status}
-use Rattle.zl_calls.proofs.Common.{none-some, same_Some, IsTrue, and_from, and_parts, cases_Bool, eqb-true, false≢true, get, has_key}
-use Rattle.zl_calls.proofs.Common.{has_seen, slice_get, slice_set, has_handle, Library, Request, Site, site, Entry, Objects, Outcome, CallName, Ends}
-use Rattle.zl_calls.proofs.Common.{process_entry, process_value, world_blocked, CallActs, CalledAmong, acts, starts, kills, kills_itself, Parts, parts, Verdict}
-use Rattle.zl_calls.proofs.Common.{EndsBy, TaskKillDoes, action_of, is_left, world_value, ◌&&◌}
-use Rattle.zl_calls.proofs.Common.{Acts as ActsBy}
-use Rattle.std.specs.List.{Contains}
-use Rattle.std.specs.Prelude.{slice_index_or}
-use Rattle.std.proofs.lemmas.List.Elements.{All-contains, All-contains_itself}
+use Rattle.zl_calls.proofs.Common.{Acts as ActsBy, All-contains, All-contains_itself, AreKnown, CallActs, CallName, CalledAmong, Contains, Ends, EndsBy, Entry}
+use Rattle.zl_calls.proofs.Common.{Err, IsSoundWait, IsTrue, Library, List, None, NotesNext, Objects, Ok, Option, Outcome, Parts, Request, Result, Site, Some}
+use Rattle.zl_calls.proofs.Common.{Status, Taken, TaskKillDoes, Verdict, action_of, acts, and_from, and_parts, ap, asks_again, cases_Bool, entry_at, eqb-true}
+use Rattle.zl_calls.proofs.Common.{false≢true, get, handles_in, has_handle, has_key, has_seen, inl, inr, is_end, is_left, is_made_by_handle, kills}
+use Rattle.zl_calls.proofs.Common.{kills_itself, map, name_of, none-some, parts, process_entry, process_value, refl, same_Some, set, site, slice_get}
+use Rattle.zl_calls.proofs.Common.{slice_index_or, slice_set, starts, subst, sym, task_kill, true, world_blocked, world_value, ℕ, ℤ, ⊤, ◌&&◌, ◌==◌, ◌∙◌, ◌≡◌}
 use Rattle.zl_rights.specs.World.{Wait as WaitValue}
-use Rattle.zl_rights.specs.Settle.{is_made_by_handle}
-use Rattle.zl_code.proofs.Common.{IsSoundWait, Process as ProcessValue, entry_at, handles_in}
-use Rattle.zl_code.proofs.CallRows.{asks_again}
-use Rattle.zl_code.specs.CallTable.{name_of}
-use Rattle.zl_code.specs.Common.{task_kill}
+use Rattle.zl_code.proofs.Common.{Process as ProcessValue}
 use Rattle.zl_code.specs.declared.history.TraceItem.TheVariants as item
 use Rattle.zl_calls.specs.Reaching.{creates, policed, reaches}
-use Rattle.zl_calls.specs.Taken.{AreKnown, NotesNext, is_end}
 use Rattle.zl_calls.specs.declared.policy.Verdict.TheVariants as verdict
 use Rattle.zl_calls.specs.declared.process.Process.{Process}
-use Rattle.zl_calls.specs.declared.taken.Taken.{Taken}
 use Rattle.zl_calls.proofs.processes.Departed.{handles_left, left_all}
 use Rattle.zl_calls.proofs.processes.Written.{get_after}
 use Rattle.zl_calls.proofs.stepping.Performing.{AtTurn, HasActed, here, key, there, write_of}

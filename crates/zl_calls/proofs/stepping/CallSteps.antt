@@ -1,13 +1,11 @@
 -- Any call of a process in the midst of all others: from what was done among them to the relation of steps, up to where processes wake.
-use Rattle.zl_calls.proofs.Common.{refl, ◌≡◌, ◌≢◌, ℕ, slice_get-get_or, Moves, IsStuck, STUCK, Ends, true, ◌==◌, List, get_or, set, sym, ap}
-use Rattle.zl_calls.proofs.Common.{◌∙◌, subst, Some, same_Some, position, slice_get, is_ready, Library, Site, AtCall, next_for, calls_at, Objects}
-use Rattle.zl_calls.proofs.Common.{process_value, state_value, world_blocked, CallName, Outcome, StaysAwake, world_left}
-use Rattle.zl_calls.proofs.Common.{CallActs, CalledAmong, acts, Parts, parts}
+use Rattle.zl_calls.proofs.Common.{AtCall, CallActs, CallName, CalledAmong, Ends, IsCovered, IsStuck, IsVerified, Library, List, Moves, Objects, Outcome, Parts}
+use Rattle.zl_calls.proofs.Common.{STUCK, Site, Some, StaysAwake, acts, ap, calls_at, get_or, is_checked, is_ready, next_for, parts, position, process_value}
+use Rattle.zl_calls.proofs.Common.{refl, same_Some, set, slice_get, slice_get-get_or, state_value, subst, sym, true, world_blocked, world_left, ℕ, ◌==◌, ◌∙◌}
+use Rattle.zl_calls.proofs.Common.{◌≡◌, ◌≢◌}
 use Rattle.zl_code.specs.declared.history.TraceItem.TheVariants as item
 use Rattle.zl_calls.specs.Reaching.{policed, reaches}
 use Rattle.zl_calls.specs.declared.process.Process.{Process}
-use Rattle.zl_verify.specs.Covered.{IsCovered, IsVerified}
-use Rattle.zl_calls.specs.Sure.{is_checked}
 use Rattle.zl_calls.proofs.processes.Departed.{left_all}
 use Rattle.zl_calls.proofs.stepping.AllKnown.{over_left}
 use Rattle.zl_calls.proofs.stepping.LocalMoves.{moved_stays}

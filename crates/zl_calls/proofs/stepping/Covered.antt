@@ -1,13 +1,9 @@
 -- The processes of checked programs stay as their typings say, behind a step and behind what one of them did by itself.
-use Rattle.zl_calls.proofs.Common.{◌≡◌, ◌∙◌, ℕ, Bool, true, ap, sym, subst, List, [], ◌∷◌, Some, slice_get, set, get, map, wakes, Library, Objects}
-use Rattle.zl_calls.proofs.Common.{Program, Runs, TakesStep, TraceItem, World, after_locals, is_ready, pid_of, process_entry, process_value}
-use Rattle.zl_calls.proofs.Common.{replicate, runs, state_value, step_sound, world_blocked}
+use Rattle.zl_calls.proofs.Common.{Bool, IsAbleIn, IsAsTyped, IsCovered, IsVerified, Library, List, Objects, Program, Runs, Some, TakesStep, TraceItem, World}
+use Rattle.zl_calls.proofs.Common.{[], able_of, after_locals, ap, get, is_ready, map, pid_of, process_entry, process_value, program_in, replicate, runs, set}
+use Rattle.zl_calls.proofs.Common.{slice_get, state_value, step_covered, step_sound, subst, sym, true, wakes, world_blocked, ℕ, ◌∙◌, ◌∷◌, ◌≡◌}
 use Rattle.zl_code.proofs.Common.{IsSound as IsSoundWorld}
 use Rattle.zl_code.specs.declared.history.TraceItem.TheVariants as item
-use Rattle.zl_verify.specs.Covered.{IsAbleIn, IsAsTyped, IsCovered, IsVerified}
-use Rattle.zl_verify.proofs.Covering.{step_covered}
-use Rattle.zl_verify.proofs.Headline.{program_in}
-use Rattle.zl_verify.proofs.LocalSteps.{able_of}
 use Rattle.zl_calls.specs.declared.process.Process.{Process}
 use Rattle.zl_calls.proofs.stepping.Advancing.{advances}
 use Rattle.zl_calls.proofs.stepping.Performing.{AtTurn, ready_state}

@@ -1,7 +1,7 @@
 -- What follows from the invariant of the world, and that it makes a call a step up to where processes wake.
-use Rattle.zl_calls.proofs.Common.{◌≡◌, ◌<◌, ◌^◌, ℕ, not, List, map, refl, sym, ◌∙◌, Some, IsTrue, arith, nat_le, nat_tests, get, has_key, Ready, Option, subst}
-use Rattle.zl_calls.proofs.Common.{refusal, Settles, Library, Site, handles_to, AtCall, next_for, Calls, Objects, has_place, process_entry, process_value}
-use Rattle.zl_calls.proofs.Common.{state_value, world_value, IsConsistent, IsNamed, World, IsActed, Entry, CallBy, CallName, Outcome, has_seen}
+use Rattle.zl_calls.proofs.Common.{AtCall, CallBy, CallName, Calls, Entry, IsActed, IsConsistent, IsNamed, IsTrue, Library, List, Objects, Option, Outcome}
+use Rattle.zl_calls.proofs.Common.{Ready, Settles, Site, Some, World, arith, get, handles_to, has_key, has_place, has_seen, map, nat_le, nat_tests, next_for}
+use Rattle.zl_calls.proofs.Common.{not, process_entry, process_value, refl, refusal, state_value, subst, sym, world_value, ℕ, ◌<◌, ◌^◌, ◌∙◌, ◌≡◌}
 use Rattle.zl_code.proofs.Common.{Process as ProcessValue}
 use Rattle.zl_code.specs.Calls.{Calls as PolicedCalls}
 use Rattle.zl_code.specs.Refusals.{refusal as policed_refusal}

@@ -1,23 +1,15 @@
 -- What an answered call takes out of tables: the handles that are taken on every answer, and no other.
-use Rattle.zl_calls.proofs.Common.{arith, ◌≡◌, ◌⊎◌, ℕ, Bool, true, false, false≢true, ◌==◌, List, [], ◌∷◌, refl, sym, ap, ◌∙◌, subst, Option, Some, None, inl}
-use Rattle.zl_calls.proofs.Common.{inr}
-use Rattle.zl_calls.proofs.Common.{is_some, IsTrue, if◌then◌else◌, option_map, cases_Bool, eqb-true, not, get, get-put, get-update, has_key, without}
-use Rattle.zl_calls.proofs.Common.{Library, Site, Refused, Values, Wants, Request, Entry, Settles, Status, on_process, process_with, process_without}
-use Rattle.zl_calls.proofs.Common.{has_handle}
-use Rattle.zl_calls.proofs.Common.{insert_all, remove_all, replied, taken, taken_handles, effect, with_object, process_settled, where_key, without_others}
-use Rattle.zl_calls.proofs.Common.{gives_ok, gives_refused, Outcome, AtCall}
+use Rattle.zl_calls.proofs.Common.{AtCall, Awaited, Bool, CallBy, CallName, Choice, Contains, Contains-append_right, Entry, IsTrue, Library, List, None, Option}
+use Rattle.zl_calls.proofs.Common.{Outcome, Process, Refused, Request, Settles, Site, Some, Status, Values, Wants, World, [], after_ok, after_refusal, ap}
+use Rattle.zl_calls.proofs.Common.{arith, awaited_by, cases_Bool, created_process, effect, entering_at, eqb-true, false, false≢true, get, get-each, get-put}
+use Rattle.zl_calls.proofs.Common.{get-update, get-where_key-in, gives_ok, gives_refused, has_handle, has_key, if◌then◌else◌, inl, inr, insert_all, is_end}
+use Rattle.zl_calls.proofs.Common.{is_some, new_handles, not, on_object, on_process, option_map, process_create, process_settled, process_start, process_with}
+use Rattle.zl_calls.proofs.Common.{process_without, receiver_of, refl, remove_all, replied, stored_by, storing, subst, sym, taken, taken_handles, task_kill}
+use Rattle.zl_calls.proofs.Common.{true, waiting, where_key, with_object, without, without_others, ℕ, ◌==◌, ◌∙◌, ◌∷◌, ◌≡◌, ◌⊎◌}
 use Rattle.zl_rights.specs.declared.status.Status.TheVariants as status
-use Rattle.zl_code.proofs.Common.{Process, World, after_ok, after_refusal, Acts, CallBy, Choice, get-each, get-where_key-in, new_handles, refusal}
-use Rattle.zl_calls.specs.Taken.{is_end}
-use Rattle.zl_rights.specs.World.{Awaited}
+use Rattle.zl_code.proofs.Common.{Acts, refusal}
 use Rattle.zl_code.specs.Calls.{ok_outcome}
-use Rattle.std.specs.List.{Contains}
-use Rattle.std.proofs.lemmas.List.Elements.{Contains-append_right}
-use Rattle.zl_code.specs.CallTable.{awaited_by, entering_at, process_create, process_start, receiver_of, stored_by, task_kill}
-use Rattle.zl_code.specs.Effects.{on_object, storing, waiting}
-use Rattle.zl_code.specs.Starting.{created_process}
 use Rattle.zl_code.specs.declared.history.Outcome.TheVariants as outcome
-use Rattle.zl_code.specs.declared.history.CallName.{CallName}
 use Rattle.zl_code.specs.declared.history.TraceItem.TheVariants as item
 
 -- the process k has a handle of the value v

@@ -1,12 +1,9 @@
 -- A ready process gets another Cpu: what is held stays held, no wait ends, and nothing becomes due.
-use Rattle.zl_calls.proofs.Common.{◌≡◌, ℕ, suc, false, ◌==◌, List, [], ◌∷◌, length, map, set, refl, sym, ap, ◌∙◌, subst, Some, inl, inr, IsTrue, arith}
-use Rattle.zl_calls.proofs.Common.{nat_tests, cases_Bool, list_any, Map, get, has_key, lives, is_process, Settles, wakes, on_process, Objects, process_entry}
-use Rattle.zl_calls.proofs.Common.{process_value, state_value, world_blocked, world_value, AreBlocked, IsConsistent, World, settles_waiting, StaysAwake}
-use Rattle.zl_calls.proofs.Common.{is_left, world_left}
-use Rattle.std.specs.List.{filter}
-use Rattle.std.specs.Prelude.{slice_index_or}
-use Rattle.zl_rights.specs.World.{Wait}
-use Rattle.zl_code.proofs.Common.{Process as ProcessValue, is_blocked}
+use Rattle.zl_calls.proofs.Common.{AreBlocked, IsConsistent, IsTrue, List, Map, Objects, Settles, Some, StaysAwake, Wait, World, [], ap, arith, cases_Bool}
+use Rattle.zl_calls.proofs.Common.{false, filter, get, has_key, inl, inr, is_blocked, is_left, is_process, length, list_any, lives, map, nat_tests, on_process}
+use Rattle.zl_calls.proofs.Common.{process_entry, process_value, refl, set, settles_waiting, slice_index_or, state_value, subst, suc, sym, wakes, world_blocked}
+use Rattle.zl_calls.proofs.Common.{world_left, world_value, ℕ, ◌==◌, ◌∙◌, ◌∷◌, ◌≡◌}
+use Rattle.zl_code.proofs.Common.{Process as ProcessValue}
 use Rattle.zl_code.proofs.AwakeMoves.{moves_awake}
 use Rattle.zl_code.proofs.StepsWaiting.{is_left as is_left_at_port}
 use Rattle.zl_calls.specs.declared.process.Process.{Process}

@@ -1,8 +1,8 @@
 -- Local instructions in a row are steps, one after another, where what a process computes with neither holds an object nor wakes anybody.
-use Rattle.zl_calls.proofs.Common.{◌≡◌, ℕ, zero, suc, List, [], ◌∷◌, ◌++◌, replicate, refl, sym, ap, ◌∙◌, subst, Option, Some, None, inl, inr, none-some}
-use Rattle.zl_calls.proofs.Common.{same_Some, cases_Bool, eq-eqb, eqb-true, ◌==◌, slice_get, Map, get, update, get-update, Cpu, Program, Ready, Settles, wakes}
-use Rattle.zl_calls.proofs.Common.{on_process, Library, Moves, AtCall, IsStuck, Step, World, Next, Runs, pid_of, TraceItem, after_locals}
-use Rattle.zl_code.proofs.Common.{Process as ProcessValue, next_at}
+use Rattle.zl_calls.proofs.Common.{AtCall, Cpu, IsStuck, Library, List, Map, Moves, Next, None, Option, Program, Ready, Runs, Settles, Some, Step, TraceItem}
+use Rattle.zl_calls.proofs.Common.{World, [], after_locals, ap, cases_Bool, eq-eqb, eqb-true, get, get-update, inl, inr, next_at, none-some, on_process, pid_of}
+use Rattle.zl_calls.proofs.Common.{refl, replicate, same_Some, slice_get, subst, suc, sym, update, wakes, zero, ℕ, ◌++◌, ◌==◌, ◌∙◌, ◌∷◌, ◌≡◌}
+use Rattle.zl_code.proofs.Common.{Process as ProcessValue}
 use Rattle.zl_code.specs.declared.history.TraceItem.TheVariants as item
 use Rattle.zl_interp.specs.Bursts.{moved_to, then_moved}
 

@@ -1,14 +1,13 @@
 -- A process of the world acts by itself: from the list of processes to the relation of steps, up to where processes wake.
-use Rattle.zl_calls.proofs.Common.{KeepSleepers}
-use Rattle.zl_calls.proofs.Common.{◌≡◌, ◌⊎◌, inl, inr, ℕ, true, false, List, map, get_or, set, refl, sym, ap, ◌∙◌, Option, Some, None, IfNone, ◌==◌, position}
-use Rattle.zl_calls.proofs.Common.{false≢true, STUCK, Map, get, Ready, is_ready, on_process, state_passes, Library, Site, cases_Bool, IsStuck, Moves, next_for}
-use Rattle.zl_calls.proofs.Common.{Objects, process_entry, process_value, state_value, world_blocked, world_value, IsConsistent, AreBlocked, DoesNext}
-use Rattle.zl_calls.proofs.Common.{is_process, IsActed, Ends, Settles, lives, has_key, is_some, none-some, subst, IsTrue, AtCall, ProcessBody, body_in}
-use Rattle.zl_calls.proofs.Common.{object_entry, Acted, pid_of, CallName, Outcome, TraceItem, world_left, next_looks, tells_blocking, waits_by}
-use Rattle.zl_calls.proofs.Common.{then_blocked, is_blocking, has_seen, ◌<◌, length, slice_get, slice_get-get_or, get_or_from_slice_get, Parts, parts}
-use Rattle.zl_code.proofs.Common.{Object as ObjectValue, Process as ProcessValue, Body, is_blocked}
+use Rattle.zl_calls.proofs.Common.{Acted, AreBlocked, AreLeft, AtCall, Body, CallName, DoesNext, Ends, IsActed, IsConsistent, IsStuck, IsTrue, KeepSleepers}
+use Rattle.zl_calls.proofs.Common.{Library, List, Map, Moves, None, Objects, Option, Outcome, Parts, ProcessBody, Ready, STUCK, Settles, Site, Some, TraceItem}
+use Rattle.zl_calls.proofs.Common.{ap, body_in, cases_Bool, false, false≢true, get, get_or, get_or_from_slice_get, has_key, has_seen, inl, inr, is_blocked}
+use Rattle.zl_calls.proofs.Common.{is_blocking, is_process, is_ready, is_some, length, lives, map, next_for, next_looks, none-some, object_entry, on_process}
+use Rattle.zl_calls.proofs.Common.{parts, pid_of, position, process_entry, process_value, refl, set, slice_get, slice_get-get_or, state_passes, state_value}
+use Rattle.zl_calls.proofs.Common.{subst, sym, tells_blocking, then_blocked, true, waits_by, world_blocked, world_left, world_value, ℕ, ◌<◌, ◌==◌, ◌∙◌, ◌≡◌}
+use Rattle.zl_calls.proofs.Common.{◌⊎◌}
+use Rattle.zl_code.proofs.Common.{Object as ObjectValue, Process as ProcessValue}
 use Rattle.zl_code.specs.declared.history.TraceItem.TheVariants as item
-use Rattle.zl_calls.specs.Blocked.{AreLeft}
 use Rattle.zl_calls.specs.declared.process.State.{State}
 use Rattle.zl_calls.specs.declared.process.State.TheVariants as state
 use Rattle.zl_calls.specs.declared.process.Process.{Process}
@@ -31,12 +30,6 @@ use Rattle.zl_calls.proofs.lists.Positions.{first_at}
 pub ready_state : (s : State) → is_ready (state_value s) ≡ true → state_value s ≡ Ready
 ready_state state.Ready h = refl
 ready_state _ h = absurd (false≢true h)
-
--- a number that no process has isn't that of a ready one
-pub absent : {A : Type 0} (ps : List Process) (pid : ℕ) (o : Option A) → get (map process_entry ps) pid ≡ None
-    → IfNone o (state_passes is_ready (get (map process_entry ps) pid) ≡ false)
-absent ps pid None missing = rw missing refl
-absent ps pid (Some x) missing = tt
 
 -- what a step did to the processes and objects, where these block, in the order in which they did before
 pub record HasActed (lib : Library) (before after : List Process) (r r2 : Objects) (blocked blocked2 : List ℕ) (pid : ℕ) (x : TraceItem) : Type 0 where

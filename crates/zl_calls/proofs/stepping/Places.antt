@@ -1,19 +1,12 @@
 -- Where a process stands in the list, and what stands next for it.
-use Rattle.zl_calls.proofs.Common.{◌≡◌, ◌<◌, ◌∙◌, ℕ, List, length, map, get_or, Option, Some, None, refl, sym, ap, slice_get, IfNone, IsSome, IsTrue}
-use Rattle.zl_calls.proofs.Common.{call_row, true, false, arith, subst, ◌^◌, process_value, get_or_from_slice_get, is_some, false≢true, get, Cpu}
-use Rattle.zl_calls.proofs.Common.{is_process, is_ready, Library, Program, Site, site_of, Moves, IsStuck, ◌≢◌, calls_at}
-use Rattle.zl_calls.proofs.Common.{next_for, process_entry}
-use Rattle.zl_calls.proofs.Common.{StandsNext, call_in, World, slice_get-map, CallInstr}
-use Rattle.std.specs.Prelude.{OnSome}
+use Rattle.zl_calls.proofs.Common.{CallInstr, CallsNext, Cpu, IfNone, IsSome, IsStuck, Library, List, Moves, None, OnSome, Option, Program, Site, Some}
+use Rattle.zl_calls.proofs.Common.{StandsNext, ap, arith, call_at, call_in, call_row, calls_at, false, false≢true, get_or, get_or_from_slice_get}
+use Rattle.zl_calls.proofs.Common.{has_its_memory, is_some, length, map, next_at, next_for, process_entry, process_value, refl, site_of, slice_get}
+use Rattle.zl_calls.proofs.Common.{slice_get-map, slice_get_read, stands_next, subst, sym, true, ℕ, ◌<◌, ◌^◌, ◌∙◌, ◌≡◌, ◌≢◌}
 use Rattle.zl_code.proofs.Common.{Process as ProcessValue}
-use Rattle.std.proofs.lemmas.Option.{slice_get_read}
-use Rattle.zl_code.specs.Steps.{next_at}
-use Rattle.zl_code.specs.Asked.{has_its_memory}
-use Rattle.zl_code.specs.Image.{call_at}
 use Rattle.zl_interp.specs.Common.{IsStuckOrCalls}
 use Rattle.zl_interp.proofs.Standing.{comes, no_call}
 use Rattle.zl_verify.proofs.Sites.{has_site}
-use Rattle.zl_calls.specs.World.{CallsNext, stands_next}
 use Rattle.zl_calls.specs.declared.process.Process.{Process}
 
 -- ---- reads of the list
@@ -83,8 +76,3 @@ module _ (lib : Library) (ps : List Process) (place : ℕ) (q : Process) (read :
 
   pub counter_at : q.cpu.counter < 4096 → p.cpu.counter < 2 ^ 32
   counter_at few = let within : p.cpu.counter < 4096 = subst (λ (r : Process). r.cpu.counter < 4096) (same q read) few in omega (arith, within)
-
--- a process that isn't there isn't ready
-pub absent_is_not_ready : (w : World) (pid : ℕ) → get w.processes pid ≡ None → IsTrue (is_process w is_ready pid) → ⊥
-unfolding is_process
-absent_is_not_ready w pid absent ready = false≢true (rw absent at ready)

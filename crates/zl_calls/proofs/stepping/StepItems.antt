@@ -1,30 +1,21 @@
 -- What the item of a step tells of the process: which call it did, that it ran, or that it was stuck.
-use Rattle.zl_calls.proofs.Common.{◌≡◌, ℕ, true, false, false≢true, List, ap, refl, sym, ◌∙◌, subst, Option, Some, None, IsTrue, IfSome, get, is_ready}
-use Rattle.zl_calls.proofs.Common.{is_process, state_passes, Library, call_row, Program, Site, site_of, Step, AtCall, IsStuck, Moves, calls_at, next_for}
-use Rattle.zl_calls.proofs.Common.{call_in, call_for, is_ready_in, StepsTo, TakesStep, Performs, takes_memory, map, wakes, Objects, IfNone, process_entry}
-use Rattle.zl_calls.proofs.Common.{world_blocked, DoesNext, Next, CallName, Outcome, TraceItem, CallInstr, pid_of, step_programs, step_sound, HavePrograms}
-use Rattle.zl_calls.proofs.Common.{is_local, then_blocked, EndsUnheld, world_left, fold}
-use Rattle.zl_code.proofs.Common.{Acts, Cpu, World as WorldValue, Process as ProcessValue, next_at}
+use Rattle.zl_calls.proofs.Common.{AtCall, CallInstr, CallName, Cpu, DoesNext, EndsUnheld, HaveLeft, HavePrograms, IfNone, IfSome, IsStuck, IsTrue, Library}
+use Rattle.zl_calls.proofs.Common.{List, Machine, Moves, Next, None, Objects, Option, Outcome, Performs, Program, Site, Some, Step, StepsAndWakes, StepsTo}
+use Rattle.zl_calls.proofs.Common.{TakesStep, TraceItem, Woke, ap, asks_again, call_for, call_in, call_of, call_row, calls_at, false, false≢true, fired, fold}
+use Rattle.zl_calls.proofs.Common.{get, instr_at, is_local, is_process, is_ready, is_ready_in, local_effect, map, name_of, next_at, next_for, pid_of}
+use Rattle.zl_calls.proofs.Common.{process_entry, refl, site_of, slice_get, state_passes, step_awake, step_programs, step_sound, subst, sym, takes_memory}
+use Rattle.zl_calls.proofs.Common.{then_blocked, true, wakes, woken, world_blocked, world_left, ℕ, ◌∙◌, ◌≡◌}
+use Rattle.zl_code.proofs.Common.{Acts, World as WorldValue, Process as ProcessValue}
 use Rattle.zl_rights.specs.declared.status.Status.TheVariants as status
 use Rattle.zl_code.specs.declared.history.Outcome.TheVariants as outcome
 use Rattle.zl_code.specs.declared.history.TraceItem.TheVariants as item
 use Rattle.zl_code.specs.declared.instr.Instr.{Instr}
 use Rattle.zl_code.specs.declared.instr.Instr.TheVariants as instr
-use Rattle.zl_code.specs.CallTable.{name_of}
-use Rattle.zl_code.specs.Image.{instr_at}
-use Rattle.zl_code.specs.Local.{local_effect}
 use Rattle.zl_code.specs.Steps.{moves, next_of, next_in}
-use Rattle.zl_code.proofs.CallRows.{asks_again}
 use Rattle.zl_code.proofs.Stepping.{wanting_step}
-use Rattle.std.specs.Prelude.{slice_get}
 use Rattle.zl_calls.specs.declared.process.Process.{Process}
-use Rattle.zl_code.proofs.AwakeRuns.{step_awake}
 use Rattle.zl_code.specs.Sound.{IsSound}
-use Rattle.zl_calls.specs.World.{Machine, call_of}
-use Rattle.zl_calls.specs.Woke.{HaveLeft, StepsAndWakes}
-use Rattle.zl_calls.specs.declared.waking.Woke.{Woke}
 use Rattle.zl_calls.specs.declared.waking.Woke.TheVariants as woke
-use Rattle.zl_rights.specs.Wakes.{fired, woken}
 
 -- ---- the process that acts, and the item
 

@@ -1,20 +1,12 @@
 -- What a step tells of who became ready: who woke, and whom it started.
-use Rattle.zl_calls.proofs.Common.{◌≡◌, ◌∙◌, ℕ, true, ap, refl, subst, sym, Library, List, Objects, Option, Some, None, get}
-use Rattle.zl_calls.proofs.Common.{CallName, CalledAmong, Outcome, Parts, TraceItem, calls_at, is_local, next_for, process_value}
-use Rattle.zl_calls.proofs.Common.{same_Some, world_blocked}
+use Rattle.zl_calls.proofs.Common.{CallName, CalledAmong, Library, List, Machine, None, NotesNextChild, NotesStarted, Objects, Option, Outcome, Parts, Some}
+use Rattle.zl_calls.proofs.Common.{StepsAndTells, StepsAndWakes, Taken, TraceItem, Woke, ap, calls_at, child_next, get, get_or, if_started, is_local, next_for}
+use Rattle.zl_calls.proofs.Common.{position, process_value, refl, same_Some, subst, sym, true, with_started, world_blocked, ℕ, ◌==◌, ◌∙◌, ◌≡◌}
 use Rattle.zl_code.proofs.Common.{Process as ProcessValue}
 use Rattle.zl_code.specs.declared.history.CallName.TheVariants as name
 use Rattle.zl_code.specs.declared.history.TraceItem.TheVariants as item
-use Rattle.zl_calls.specs.Started.{StepsAndTells, child_next, if_started, with_started}
-use Rattle.zl_calls.specs.Taken.{NotesNextChild, NotesStarted}
-use Rattle.zl_calls.specs.Woke.{StepsAndWakes}
-use Rattle.zl_calls.specs.World.{Machine}
 use Rattle.zl_calls.specs.declared.process.Process.{Process}
-use Rattle.zl_calls.specs.declared.taken.Taken.{Taken}
-use Rattle.zl_calls.specs.declared.waking.Woke.{Woke}
 use Rattle.zl_calls.proofs.stepping.Performing.{stands_there}
-use Rattle.std.specs.List.{position}
-use Rattle.std.specs.Prelude.{◌==◌, get_or}
 
 -- what is so of a start is so of the item
 same_started : (pid : ℕ) (n : CallName) (o : Outcome) (a b : Option ℕ) → (n ≡ name.ProcessStart → a ≡ b)

@@ -1,36 +1,23 @@
 -- Behind a call that ends no process each registered wait is left, or its caller made it by a handle that the call took.
-use Rattle.zl_calls.proofs.Common.{◌≡◌, ℕ, Bool, true, false, false≢true, true≢false, not, List, [], ◌∷◌, map, refl, sym, ap, ◌∙◌, subst, Option, Some, None}
-use Rattle.zl_calls.proofs.Common.{Result, Ok, Err, inl, inr, is_some, none-some, same_Some, IsTrue, All, All-nil, and_from, and_parts, cases_Bool, arith}
-use Rattle.zl_calls.proofs.Common.{get, has_key}
-use Rattle.zl_calls.proofs.Common.{has_seen, Library, Request, Site, Status, CallName, Outcome, AtCall, calls_at, looks_at_waits, Objects, Entry}
-use Rattle.zl_calls.proofs.Common.{taken_handles, is_empty}
-use Rattle.zl_calls.proofs.Common.{process_entry, process_value, world_blocked, world_left, world_value, has_handle, is_left}
-use Rattle.zl_calls.proofs.Common.{CallActs, CalledAmong, acts, starts, kills, kills_itself, Parts, parts, Verdict, EndsBy, ListsBut, KeepsListed}
-use Rattle.zl_calls.proofs.Common.{ProcessStartDoes}
-use Rattle.zl_calls.proofs.Common.{Acts as ActsBy, Does, Handles, ProcessCreateDoes, WAIT, action_of, chan_write, process_start, handle_operands, site}
-use Rattle.zl_calls.proofs.Common.{DoesNext, TraceItem, ⊤, ◌<◌, EndsUnheld, close, replace, next_for, then_blocked}
-use Rattle.zl_code.proofs.Common.{All-append, All-cons, All-filter, Process as ProcessValue, World as WorldValue, handles_in, entry_at, Acts}
-use Rattle.zl_code.proofs.CallRows.{asks_again}
-use Rattle.zl_code.proofs.Waiters.{waits_after}
-use Rattle.zl_code.specs.CallTable.{name_of}
-use Rattle.zl_code.specs.Common.{task_kill, wait_async, port_cancel}
+use Rattle.zl_calls.proofs.Common.{Acts as ActsBy, All, All-append, All-cons, All-contains, All-filter, All-nil, AreKnown, AtCall, Bool, CallActs, CallName}
+use Rattle.zl_calls.proofs.Common.{CalledAmong, Contains, Does, DoesNext, EndsBy, EndsUnheld, Entry, Err, Handles, IsKnown, IsNoted, IsTrue, KeepsListed}
+use Rattle.zl_calls.proofs.Common.{Library, List, ListsBut, None, NotesNext, Objects, Ok, Option, Outcome, Parts, ProcessCreateDoes, ProcessStartDoes, Request}
+use Rattle.zl_calls.proofs.Common.{Result, Site, Some, Status, Taken, TraceItem, Verdict, WAIT, [], action_of, acts, and_from, and_parts, ap, arith, asks_again}
+use Rattle.zl_calls.proofs.Common.{calls_at, cases_Bool, chan_write, close, entry_at, false, false≢true, get, handle_operands, handles_in, has_handle, has_key}
+use Rattle.zl_calls.proofs.Common.{has_noted, has_seen, inl, inr, is_empty, is_end, is_left, is_made_by_handle, is_some, is_there, keeps_handles, kills}
+use Rattle.zl_calls.proofs.Common.{kills_itself, looks_at_waits, map, name_of, next_for, none-some, not, parts, port_cancel, process_entry, process_start}
+use Rattle.zl_calls.proofs.Common.{process_value, refl, replace, same_Some, site, slice_get, slice_index_or, starts, subst, sym, taken_handles, task_kill}
+use Rattle.zl_calls.proofs.Common.{then_blocked, true, true≢false, wait_async, waits_after, world_blocked, world_left, world_value, ℕ, ⊤, ◌<◌, ◌∙◌, ◌∷◌, ◌≡◌}
+use Rattle.zl_code.proofs.Common.{Process as ProcessValue, World as WorldValue, Acts}
 use Rattle.zl_code.specs.declared.history.CallName.TheVariants as name
 use Rattle.zl_code.specs.declared.history.Outcome.TheVariants as outcome
 use Rattle.zl_code.specs.declared.history.TraceItem.TheVariants as item
 use Rattle.zl_rights.specs.declared.status.Status.TheVariants as status
-use Rattle.std.specs.List.{Contains}
-use Rattle.std.proofs.lemmas.List.Elements.{All-contains}
 use Rattle.zl_rights.specs.World.{Wait as WaitValue}
-use Rattle.zl_rights.specs.Settle.{is_made_by_handle}
-use Rattle.zl_objects.specs.Listed.{is_there}
 use Rattle.zl_calls.specs.Reaching.{creates, policed, reaches}
-use Rattle.std.specs.Prelude.{slice_get, slice_index_or}
 use Rattle.zl_calls.specs.Calling.{OwnWaits}
-use Rattle.zl_calls.specs.Taken.{AreKnown, IsKnown, IsNoted, NotesNext, has_noted}
-use Rattle.zl_calls.specs.Taken.{is_end, keeps_handles}
 use Rattle.zl_calls.specs.declared.policy.Verdict.TheVariants as verdict
 use Rattle.zl_calls.specs.declared.process.Process.{Process}
-use Rattle.zl_calls.specs.declared.taken.Taken.{Taken}
 use Rattle.zl_calls.proofs.processes.Departed.{left_all}
 use Rattle.zl_calls.proofs.stepping.HandlesStay.{KeepsBut, acted_keeps, spares}
 use Rattle.zl_calls.proofs.stepping.Performing.{AtTurn, HasActed, is_caller, key, there}

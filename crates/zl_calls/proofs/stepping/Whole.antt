@@ -1,17 +1,10 @@
 -- The invariant of the world behind each step, whether something was due or not.
-use Rattle.zl_calls.proofs.Common.{◌≡◌, ◌≤◌, ◌∙◌, ℕ, false, List, ap, sym, length, list_any, Library, Objects, TraceItem, TakesStep}
-use Rattle.zl_calls.proofs.Common.{DoesNext, EndsUnheld, FiresWaits, IsConsistent, AreBlocked, KeepSleepers, Seeks, then_blocked, wakes}
-use Rattle.zl_calls.proofs.Common.{world_blocked, world_left, refl}
-use Rattle.zl_rights.specs.Wakes.{fired}
-use Rattle.zl_objects.specs.Calm.{holds_now, is_due}
+use Rattle.zl_calls.proofs.Common.{AreBlocked, AreLeft, AreOrdered, AreSought, DoesNext, EndsUnheld, FiresWaits, IsConsistent, IsWhole, KeepSleepers, Library}
+use Rattle.zl_calls.proofs.Common.{List, Objects, Seeks, StepsAndWakes, TakesStep, TraceItem, Wakes, Woke, ap, awaited_of, false, fired, holds_now, is_due}
+use Rattle.zl_calls.proofs.Common.{length, list_any, refl, sym, then_blocked, wakes, world_blocked, world_left, ℕ, ◌∙◌, ◌≡◌, ◌≤◌}
 use Rattle.zl_objects.specs.declared.awaited.Awaited.{Awaited}
-use Rattle.zl_calls.specs.Blocked.{AreLeft, AreOrdered, AreSought, IsWhole}
 use Rattle.zl_calls.specs.Blocking.{FallsAsleep}
-use Rattle.zl_calls.specs.Waking.{Wakes}
-use Rattle.zl_calls.specs.World.{awaited_of}
-use Rattle.zl_calls.specs.Woke.{StepsAndWakes}
 use Rattle.zl_calls.specs.declared.process.Process.{Process}
-use Rattle.zl_calls.specs.declared.waking.Woke.{Woke}
 use Rattle.zl_calls.specs.declared.waking.Woke.TheVariants as woke
 use Rattle.zl_calls.proofs.objects.SameButWaits.{beside_consistent}
 use Rattle.zl_calls.proofs.stepping.Covered.{stepped_covered}

@@ -1,8 +1,7 @@
 -- Handles that enter a table one after another, and those that are taken back in reverse.
-use Rattle.zl_calls.proofs.Common.{◌≡◌, ◌<◌, ◌≤◌, ◌+◌, ℕ, zero, suc, Bool, true, false, ◌==◌, List, [], ◌∷◌, ◌++◌, length, take, refl, sym, ap, ◌∙◌, subst}
-use Rattle.zl_calls.proofs.Common.{Option, Some, None, arith, if◌then◌else◌, Handles, Inserts, IfSome, Entry}
-use Rattle.zl_calls.proofs.Common.{InsertsEach}
-use Rattle.zl_code.proofs.Common.{get_or, take_more, is_empty, ne_eqb, eq-eqb, length-take-le}
+use Rattle.zl_calls.proofs.Common.{Bool, Entry, Handles, IfSome, Inserts, InsertsEach, List, None, Option, Some, [], ap, arith, eq-eqb, false, get_or}
+use Rattle.zl_calls.proofs.Common.{if◌then◌else◌, is_empty, length, length-take-le, ne_eqb, refl, subst, suc, sym, take, take_more, true, zero, ℕ, ◌++◌, ◌+◌}
+use Rattle.zl_calls.proofs.Common.{◌<◌, ◌==◌, ◌∙◌, ◌∷◌, ◌≡◌, ◌≤◌}
 use Rattle.zl_table.specs.Table.{TakesBack}
 
 -- ---- one more behind the others

@@ -1,8 +1,8 @@
 -- A table that handles entered one after another: the invariant, the counts, and the same in a process.
-use Rattle.zl_calls.proofs.Common.{◌≡◌, ◌≤◌, ◌+◌, ◌==◌, ℕ, true, List, [], ◌∷◌, length, refl, sym, ap, ◌∙◌, subst, cond, Option, Some, None, IsTrue, IfSome}
-use Rattle.zl_calls.proofs.Common.{arith, nat_tests, eq-eqb, count_by, sum_by-cons, All, Map, get, Handles, IsTable, process_with, process_with_all, may_get}
-use Rattle.zl_calls.proofs.Common.{may_get_all, All-head, All-tail, Entry, InsertsEach}
-use Rattle.zl_code.proofs.Common.{Process as ProcessValue, may_get_after}
+use Rattle.zl_calls.proofs.Common.{All, All-head, All-tail, Entry, Handles, IfSome, InsertsEach, IsTable, IsTrue, List, Map, None, Option, Some, [], ap, arith}
+use Rattle.zl_calls.proofs.Common.{cond, count_by, eq-eqb, get, length, may_get, may_get_after, may_get_all, nat_tests, process_with, process_with_all, refl}
+use Rattle.zl_calls.proofs.Common.{subst, sum_by-cons, sym, true, ℕ, ◌+◌, ◌==◌, ◌∙◌, ◌∷◌, ◌≡◌, ◌≤◌}
+use Rattle.zl_code.proofs.Common.{Process as ProcessValue}
 use Rattle.zl_calls.proofs.objects.Counting.{count_put}
 use Rattle.zl_calls.proofs.tables.Tables.{found_inserted, inserted_table}
 use Rattle.zl_calls.proofs.tables.Taking.{one_longer}

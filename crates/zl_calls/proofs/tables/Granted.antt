@@ -1,12 +1,9 @@
 -- What is looked up without a fault: it is live, and it is what stands there.
-use Rattle.zl_calls.proofs.Common.{◌≡◌, ◌||◌, ◌==◌, ℕ, Bool, true, false, List, [], refl, Option, Some, None, Result, Ok, Err, Map, Entry, Kind}
-use Rattle.zl_calls.proofs.Common.{Status, IsTrue, has_key, get, granted, if◌then◌else◌, is_some, looked_up, option_or, result_err, within, bits}
-use Rattle.std.specs.Prelude.{IsOk}
-use Rattle.zl_rights.specs.Numbers.{takes}
+use Rattle.zl_calls.proofs.Common.{Bool, Entry, Err, IsOk, IsTrue, Kind, List, Map, None, Ok, Option, Result, Some, Status, [], bits, close_answer, false, get}
+use Rattle.zl_calls.proofs.Common.{granted, has_key, if◌then◌else◌, is_some, looked_up, option_or, refl, result_err, takes, true, within, ℕ, ◌==◌, ◌||◌, ◌≡◌}
 use Rattle.zl_rights.specs.declared.status.Status.TheVariants as status
 use Rattle.zl_code.specs.Refusals.{taking}
 use Rattle.zl_calls.specs.Policed.{fault_after}
-use Rattle.zl_calls.specs.calls.Handle.{close_answer}
 
 -- ---- faults, one after another
 

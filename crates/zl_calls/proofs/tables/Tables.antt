@@ -1,8 +1,8 @@
 -- Tables that handles enter and leave, and empty ones.
-use Rattle.zl_calls.proofs.Common.{false, ◌^◌, bit_and, ◌≡◌, ◌<◌, ◌≤◌, ℕ, [], ◌∷◌, length, Some, None, Result, Err, List, refl, sym, ap, ◌∙◌, arith, inl, inr}
-use Rattle.zl_calls.proofs.Common.{◌==◌, if◌then◌else◌, cases_Bool, eqb-true, same_Some, Map, get, without, within, get-put, Handles, IsTable, Inserts, Removes}
-use Rattle.zl_calls.proofs.Common.{sorted_put, length-put_new, put_key, Objects, Releases, Drained, and_le_l, Entry, Kind, Status, looked_up, without_handle}
-use Rattle.zl_calls.proofs.Common.{settable_at}
+use Rattle.zl_calls.proofs.Common.{Drained, Entry, Err, Handles, Inserts, IsTable, Kind, List, Map, None, Objects, Releases, Removes, Result, Some, Status, []}
+use Rattle.zl_calls.proofs.Common.{and_le_l, ap, arith, bit_and, cases_Bool, eqb-true, false, get, get-put, if◌then◌else◌, inl, inr, length, length-put_new}
+use Rattle.zl_calls.proofs.Common.{looked_up, put_key, refl, same_Some, settable_at, sorted_put, sym, within, without, without_handle, ℕ, ◌<◌, ◌==◌, ◌^◌, ◌∙◌}
+use Rattle.zl_calls.proofs.Common.{◌∷◌, ◌≡◌, ◌≤◌}
 use Rattle.zl_rights.specs.declared.kind.Kind.TheVariants as kind
 use Rattle.zl_rights.specs.declared.status.Status.TheVariants as status
 use Rattle.zl_calls.specs.calls.Process.{none_left, one_more}

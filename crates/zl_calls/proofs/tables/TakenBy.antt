@@ -1,13 +1,8 @@
 -- The handles that a call takes, by its name: a call that isn't named here takes none.
-use Rattle.zl_calls.proofs.Common.{◌≡◌, ◌≢◌, ◌∙◌, Bool, true, false, [], ap, refl, subst, sym, All, All-nil, CallInstr, CallName, Cpu, Entry, IfSome, Map}
-use Rattle.zl_calls.proofs.Common.{call_row}
-use Rattle.zl_calls.proofs.Common.{ℕ, get, IsTrue, None, Option, Some, handle_operands, site_of, taken_handles, then_some}
+use Rattle.zl_calls.proofs.Common.{All, All-nil, Bool, CallInstr, CallName, Cpu, Entry, IfSome, IsNoted, IsTrue, Map, None, NotesFor, Option, Some, Taken, []}
+use Rattle.zl_calls.proofs.Common.{ap, call_row, false, get, handle_operands, has_its_memory, has_noted, refl, site_at, site_in, site_named, site_of, subst}
+use Rattle.zl_calls.proofs.Common.{sym, taken_handles, then_some, true, ℕ, ◌∙◌, ◌≡◌, ◌≢◌}
 use Rattle.zl_code.specs.declared.history.CallName.TheVariants as name
-use Rattle.zl_code.specs.Asked.{has_its_memory}
-use Rattle.zl_code.specs.Request.{site_at, site_in}
-use Rattle.zl_code.proofs.CallRows.{site_named}
-use Rattle.zl_calls.specs.Taken.{IsNoted, NotesFor, has_noted}
-use Rattle.zl_calls.specs.declared.taken.Taken.{Taken}
 
 -- where the call has this name, and its handles are noted
 pub notes_at : (i : CallInstr) (c : Cpu) (n : CallName) (entries : Map Entry) (t : Taken) → i.name ≡ n

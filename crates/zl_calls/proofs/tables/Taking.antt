@@ -1,11 +1,9 @@
 -- Handles that a call takes: they leave the table one after another, and close where the call is refused.
-use Rattle.zl_calls.proofs.Common.{koids_of, map-append, take, ◌-◌, ◌≡◌, ◌<◌, ◌≤◌, ◌+◌, ℕ, List, [], ◌∷◌, length, refl, sym, subst, ◌∙◌, ap, Option}
-use Rattle.zl_calls.proofs.Common.{Some, None, arith, ◌++◌, append-nil, Map, get, Objects, none_left, Releases, AreKeptBut, Err, Entry, option_to_list}
-use Rattle.zl_calls.proofs.Common.{releases_then, ClosesEach, DoesTaking, taken_from, without_handle, without_handles, Closes, Replaces, replace_refusal}
-use Rattle.zl_calls.proofs.Common.{KeepsListed, wants_nothing}
-use Rattle.zl_table.specs.Table.{Handles, Inserts}
-use Rattle.zl_code.proofs.Common.{append_assoc, length-append, get_or, take_more}
-use Rattle.std.specs.Option.{option_map}
+use Rattle.zl_calls.proofs.Common.{AreKeptBut, Closes, ClosesEach, DoesTaking, Entry, Err, Handles, Inserts, KeepsListed, List, Map, None, Objects, Option}
+use Rattle.zl_calls.proofs.Common.{Releases, Replaces, Some, [], ap, append-nil, append_assoc, arith, get, get_or, koids_of, length, map-append, none_left}
+use Rattle.zl_calls.proofs.Common.{option_map, option_to_list, refl, releases_then, replace_refusal, subst, sym, take, take_more, taken_from, wants_nothing}
+use Rattle.zl_calls.proofs.Common.{without_handle, without_handles, ℕ, ◌++◌, ◌+◌, ◌-◌, ◌<◌, ◌∙◌, ◌∷◌, ◌≡◌, ◌≤◌}
+use Rattle.zl_code.proofs.Common.{length-append}
 use Rattle.zl_rights.specs.declared.status.Status.TheVariants as status
 use Rattle.zl_code.proofs.Entering.{length_put}
 use Rattle.zl_calls.proofs.waits.WaitsLost.{listed_same, listed_then}

@@ -1,19 +1,16 @@
 -- The call process_create: how it is refused, and what a process that is made leaves of the world and of the invariant.
-use Rattle.zl_calls.proofs.Common.{IsSound, with_process, ◌≡◌, ◌<◌, ◌+◌, ◌^◌, ◌==◌, ◌&&◌, ℕ, Bool, false, not, List, [], ◌∷◌, ◌++◌, map, map-append, refl}
-use Rattle.zl_calls.proofs.Common.{sym, ap, ◌∙◌, subst, cond, if◌then◌else◌, Option, Some, None, Ok, inl, inr, IsTrue, arith, nat_le, eqb-true, cases_Bool}
-use Rattle.zl_calls.proofs.Common.{false≢true, none-some, is_some, option_or, then_some, first_some, slice_get, sum_by-cons, count_by, Map, get, put, update}
-use Rattle.zl_calls.proofs.Common.{Created, lives, runs, state_passes, is_process, Library, Site, site, Inserts, IsTable, has_room, has_koids}
-use Rattle.zl_calls.proofs.Common.{answer_if, refusal, handle_operands, listed, may_choose, new_handles, insert_all, remove_all, taken_handles, effect}
-use Rattle.zl_calls.proofs.Common.{with_effect, with_object, on_process, process_with, gives_ok, Calls, Values, replied, taken, ProcessBody}
-use Rattle.zl_calls.proofs.Common.{new_entry, body_of, Objects, with_new, Replies, has_room_in, process_entry, process_value, object_entry}
-use Rattle.zl_calls.proofs.Common.{state_value, world_value, Agrees, AreBlocked, IsConsistent, World, operands_fault, process_create, lacks_need}
-use Rattle.zl_calls.proofs.Common.{created_process, object_at, looked_up, MANAGE_PROCESS, Entry, is_dead, job_at, create_refusal}
-use Rattle.zl_calls.proofs.Common.{needs_more}
-use Rattle.zl_code.proofs.Common.{Process as ProcessValue, State as StateValue, is_blocked}
-use Rattle.zl_code.specs.Image.{Program}
+use Rattle.zl_calls.proofs.Common.{Agrees, AreBlocked, Bool, Calls, Created, Entry, Inserts, IsConsistent, IsSound, IsTable, IsTrue, Library, List}
+use Rattle.zl_calls.proofs.Common.{MANAGE_PROCESS, Map, None, Objects, Ok, Option, ProcessBody, Program, Replies, Site, Some, Values, World, [], answer_if, ap}
+use Rattle.zl_calls.proofs.Common.{arith, body_of, cases_Bool, cond, count_by, create_refusal, created_process, effect, eqb-true, false, false≢true, first_some}
+use Rattle.zl_calls.proofs.Common.{get, gives_ok, handle_operands, has_ended, has_koids, has_room, has_room_in, if◌then◌else◌, inl, inr, insert_all, is_blocked}
+use Rattle.zl_calls.proofs.Common.{is_dead, is_process, is_some, job_at, lacks_need, listed, lives, looked_up, map, map-append, may_choose, nat_le, needs_more}
+use Rattle.zl_calls.proofs.Common.{new_entry, new_handles, none-some, not, object_at, object_entry, on_process, operands_fault, option_or, process_create}
+use Rattle.zl_calls.proofs.Common.{process_entry, process_value, process_with, put, refl, refusal, remove_all, replied, runs, site, slice_get, state_passes}
+use Rattle.zl_calls.proofs.Common.{state_value, subst, sum_by-cons, sym, taken, taken_handles, then_some, update, with_effect, with_new, with_object}
+use Rattle.zl_calls.proofs.Common.{with_process, world_value, ℕ, ◌&&◌, ◌++◌, ◌+◌, ◌<◌, ◌==◌, ◌^◌, ◌∙◌, ◌∷◌, ◌≡◌}
+use Rattle.zl_code.proofs.Common.{Process as ProcessValue, State as StateValue}
 use Rattle.zl_code.specs.Jobs.{is_dead as is_dead_body}
 use Rattle.zl_code.specs.declared.history.Outcome.TheVariants as outcome
-use Rattle.zl_rights.specs.Signals.{has_ended}
 use Rattle.zl_rights.specs.declared.kind.Kind.TheVariants as kind
 use Rattle.zl_rights.specs.declared.status.Status.TheVariants as status
 use Rattle.zl_objects.specs.declared.object.Body.{Body}

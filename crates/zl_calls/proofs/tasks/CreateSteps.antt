@@ -1,10 +1,9 @@
 -- The call process_create in the midst of all processes: from what it did to a step, up to where processes wake.
-use Rattle.zl_calls.proofs.Common.{◌≡◌, ℕ, zero, suc, List, [], ◌∷◌, ◌++◌, refl, sym, ap, ◌∙◌, subst, Some, None, Result, Ok, Err, IsActed}
-use Rattle.zl_calls.proofs.Common.{none-some, same_Some, slice_get, slice_set, set, Library, Site, site, refusal, handle_operands}
-use Rattle.zl_calls.proofs.Common.{remove_all, taken_handles, gives_refused, AtCall, next_for, cpu_answered, Objects, with_new, told_by, one_value, Replies}
-use Rattle.zl_calls.proofs.Common.{status_of, process_value, world_value, AreBlocked, IsConsistent, IsRefusedBy, process_create}
-use Rattle.zl_calls.proofs.Common.{CallName, Outcome, next_looks, looked_up, MANAGE_PROCESS, Entry, Status, IsAnsweredIn, IsToldIn}
-use Rattle.zl_calls.proofs.Common.{CreatesProcess, Parts, ProcessCreateDoes, create_refusal, parts, MakesOne, wants_place}
+use Rattle.zl_calls.proofs.Common.{AreBlocked, AtCall, CallName, CreatesProcess, Entry, Err, IsActed, IsAnsweredIn, IsConsistent, IsRefusedBy, IsToldIn}
+use Rattle.zl_calls.proofs.Common.{Library, List, MANAGE_PROCESS, MakesOne, None, Objects, Ok, Outcome, Parts, ProcessCreateDoes, Replies, Result, Site, Some}
+use Rattle.zl_calls.proofs.Common.{Status, [], ap, cpu_answered, create_refusal, gives_refused, handle_operands, looked_up, next_for, next_looks, none-some}
+use Rattle.zl_calls.proofs.Common.{one_value, parts, process_create, process_value, refl, refusal, remove_all, same_Some, set, site, slice_get, slice_set}
+use Rattle.zl_calls.proofs.Common.{status_of, subst, suc, sym, taken_handles, told_by, wants_place, with_new, world_value, zero, ℕ, ◌++◌, ◌∙◌, ◌∷◌, ◌≡◌}
 use Rattle.zl_code.specs.declared.history.Outcome.TheVariants as outcome
 use Rattle.zl_code.specs.declared.history.TraceItem.TheVariants as item
 use Rattle.zl_rights.specs.declared.kind.Kind.TheVariants as kind

@@ -1,9 +1,8 @@
 -- What process_create does where memory or a place is wanted, from what its parts do.
-use Rattle.zl_calls.proofs.Common.{◌≡◌, ℕ, List, [], ◌∷◌, sym, ap, ◌∙◌, subst, Option, Some, None, Result, Ok, Err, none-some, option_or}
-use Rattle.zl_calls.proofs.Common.{then_some, is_some, Map, get_or, slice_get, slice_set, Bool, true, false, not, Handles, IsRefusedBy, IsTrue, Library}
-use Rattle.zl_calls.proofs.Common.{Objects, wants_place}
-use Rattle.zl_calls.proofs.Common.{get_or_from_slice_get, Status, looked_up, MANAGE_PROCESS, Entry, is_dead, job_at, MakeDoes, room_refusal, ProcessCreateDoes}
-use Rattle.zl_calls.proofs.Common.{create_refusal, create_refusal_of, needs_more, parts}
+use Rattle.zl_calls.proofs.Common.{Bool, Entry, Err, Handles, IsRefusedBy, IsTrue, Library, List, MANAGE_PROCESS, MakeDoes, Map, None, Objects, Ok, Option}
+use Rattle.zl_calls.proofs.Common.{ProcessCreateDoes, Result, Some, Status, [], ap, create_refusal, create_refusal_of, false, get_or, get_or_from_slice_get}
+use Rattle.zl_calls.proofs.Common.{is_dead, is_some, job_at, looked_up, needs_more, none-some, not, option_or, parts, room_refusal, slice_get, slice_set, subst}
+use Rattle.zl_calls.proofs.Common.{sym, then_some, true, wants_place, ℕ, ◌∙◌, ◌∷◌, ◌≡◌}
 use Rattle.zl_rights.specs.declared.status.Status.TheVariants as status
 use Rattle.zl_rights.specs.declared.kind.Kind.TheVariants as kind
 use Rattle.zl_objects.specs.declared.object.Body.{Body}

@@ -1,33 +1,28 @@
 -- The call task_kill, from what it did among all processes to the relation of steps, up to where processes wake.
-use Rattle.zl_calls.proofs.Common.{◌≡◌, ◌<◌, ◌^◌, ℕ, ℤ, zero, suc, Bool, true, false, not, ◌&&◌, ◌==◌, List, [], ◌∷◌, map, refl, sym, ap, ◌∙◌, subst, Option}
-use Rattle.zl_calls.proofs.Common.{Some, None, Ok, inl, inr, ◌⊎◌, IsTrue, arith, option_map, Map, get, each, update, lives, state_passes, none-some, same_Some}
-use Rattle.zl_calls.proofs.Common.{slice_get, eq-eqb, false≢true, is_sorted, nat_cmp, nat_tests, object_entry, process_entry, process_value, state_value}
-use Rattle.zl_calls.proofs.Common.{Objects, World, world_value, world_blocked, Library, Site, AtCall, next_for, cpu_answered, replied, taken, AreBlocked}
-use Rattle.zl_calls.proofs.Common.{IsConsistent, Releases, Ready, if◌then◌else◌, cases_Bool, eqb-true, refusal, site, slice_set, handle_operands, listed}
-use Rattle.zl_calls.proofs.Common.{IsNamed, ◌+◌, table_of, may_choose, sum_by, count_by, get-update, is_sorted-update, new_handles, taken_handles, remove_all}
-use Rattle.zl_calls.proofs.Common.{insert_all, effect, gives_ok, ended, on_process, Values, operands_fault, result_err, looked_up, DESTROY, KILLED, Entry}
-use Rattle.zl_calls.proofs.Common.{times, in_order-each, settles_waiting, is_blocking, with_waiters, object_at, object_killed, process_killed, CallName}
-use Rattle.zl_calls.proofs.Common.{Outcome, is_within, killing, all_koids, releases_then, ListsWithout, has_handle, ClosesAllEnded, ClosesEnded}
-use Rattle.zl_calls.proofs.Common.{lives_on, Parts, ended_if}
-use Rattle.zl_calls.proofs.Common.{ended_within, kill_refusal, parts}
-use Rattle.std.specs.List.{filter}
+use Rattle.zl_calls.proofs.Common.{AreBlocked, AreLeft, AtCall, Bool, CallName, ClosesAllEnded, ClosesEnded, Cpu, DESTROY, Ended, Entry, IsConsistent, IsNamed}
+use Rattle.zl_calls.proofs.Common.{IsTrue, KILLED, KillsTask, Library, List, ListsWithout, Map, None, Objects, Ok, Option, Outcome, Parts, Ready, Releases}
+use Rattle.zl_calls.proofs.Common.{Site, Some, Values, World, [], all_koids, ap, arith, cases_Bool, count_by, cpu_answered, each, effect, ended, ended_if}
+use Rattle.zl_calls.proofs.Common.{ended_within, eq-eqb, eqb-true, false, false≢true, filter, get, get-each, get-update, gives_ok, handle_operands, has_handle}
+use Rattle.zl_calls.proofs.Common.{if◌then◌else◌, in_order-each, inl, inr, insert_all, is_blocked, is_blocking, is_over, is_sorted, is_sorted-update, is_within}
+use Rattle.zl_calls.proofs.Common.{kill_refusal, killing, listed, lives, lives_on, looked_up, map, may_choose, nat_cmp, nat_tests, new_handles, next_for}
+use Rattle.zl_calls.proofs.Common.{none-some, not, object_at, object_entry, object_killed, on_process, one_more, operands_fault, option_map, parts}
+use Rattle.zl_calls.proofs.Common.{process_ended, process_entry, process_killed, process_value, refl, refusal, releases_then, remove_all, replied, result_err}
+use Rattle.zl_calls.proofs.Common.{same_Some, settles_waiting, site, slice_get, slice_set, state_passes, state_value, subst, suc, sum_by, sym, table_of, taken}
+use Rattle.zl_calls.proofs.Common.{taken_handles, task_kill, times, true, update, with_waiters, world_blocked, world_value, zero, ℕ, ℤ, ◌&&◌, ◌+◌, ◌<◌, ◌==◌}
+use Rattle.zl_calls.proofs.Common.{◌^◌, ◌∙◌, ◌∷◌, ◌≡◌, ◌⊎◌}
 use Rattle.zl_rights.specs.declared.kind.Kind.TheVariants as kind
 use Rattle.zl_rights.specs.declared.status.Status.TheVariants as status
-use Rattle.zl_code.proofs.Common.{Process as ProcessValue, State as StateValue, Ended, get-each, Cpu, is_blocked}
-use Rattle.zl_code.specs.CallTable.{task_kill}
+use Rattle.zl_code.proofs.Common.{Process as ProcessValue, State as StateValue}
 use Rattle.zl_code.specs.Calls.{Calls as PolicedCalls, ok_outcome}
 use Rattle.zl_code.specs.Refusals.{refusal as policed_refusal}
-use Rattle.zl_code.specs.Effects.{process_ended}
 use Rattle.zl_code.specs.Jobs.{is_within as is_within_value, with_killed}
 use Rattle.zl_code.specs.Sound.{IsSound as IsSoundWorld}
 use Rattle.zl_code.specs.declared.history.Outcome.TheVariants as outcome
 use Rattle.zl_objects.specs.Jobs.{all_killed}
-use Rattle.zl_calls.specs.Blocked.{AreLeft}
 use Rattle.zl_calls.specs.declared.process.Process.{Process}
 use Rattle.zl_calls.specs.declared.process.State.{State}
 use Rattle.zl_calls.specs.declared.process.State.TheVariants as state
-use Rattle.zl_calls.specs.calls.Task.{is_over, none_left}
-use Rattle.zl_calls.specs.calls.Task.{one_more, KillsTask}
+use Rattle.zl_calls.specs.calls.Task.{none_left}
 use Rattle.zl_code.specs.declared.history.TraceItem.TheVariants as item
 use Rattle.zl_calls.proofs.waking.BlockedLists.{same_list, still_blocked}
 use Rattle.zl_calls.proofs.objects.Counting.{sum_update, naming, numbered, numbered_naming}

@@ -1,19 +1,13 @@
 -- A kill goes over the processes that were listed alone: what it makes of these is what it makes of all.
-use Rattle.zl_calls.proofs.Common.{◌≡◌, ◌<◌, ◌≤◌, ◌+◌, ◌-◌, ◌==◌, ◌||◌, ◌&&◌, ◌++◌, ◌∙◌, ◌∷◌, ◌⊎◌, arith, ℕ, zero, suc, Bool, true, false, List, []}
-use Rattle.zl_calls.proofs.Common.{map, length}
-use Rattle.zl_calls.proofs.Common.{refl, sym, ap, subst, IfNone, Option, Some, None, inl, inr, IsTrue, if◌then◌else◌, cases_Bool, cases_lt, eq-eqb}
-use Rattle.zl_calls.proofs.Common.{eqb-true, false≢true, none-some}
-use Rattle.zl_calls.proofs.Common.{same_Some, nat_cmp, nat_tests, is_sorted, below_all, sorted_parts, get, get_or, set, slice_get, position, lives}
-use Rattle.zl_calls.proofs.Common.{get_or_from_slice_get, slice_get-get_or, Objects, process_entry, process_value, state_value, is_within, ended_if}
-use Rattle.zl_calls.proofs.Common.{ended_within, lives_on}
-use Rattle.zl_calls.proofs.Common.{ClosesAllEnded, ClosesEnded, Drained, Entry, Map}
+use Rattle.zl_calls.proofs.Common.{AreClosed, AreClosedBut, Bool, ClosesAllEnded, ClosesEnded, Drained, Entry, IfNone, IsClosed, IsTrue, List, Map, None}
+use Rattle.zl_calls.proofs.Common.{Objects, Option, Some, StandsBefore, [], ap, arith, below_all, below_parts, cases_Bool, cases_lt, ended_among, ended_if}
+use Rattle.zl_calls.proofs.Common.{ended_within, eq-eqb, eqb-true, false, false≢true, get, get_or, get_or_from_slice_get, if◌then◌else◌, inl, inr, is_over}
+use Rattle.zl_calls.proofs.Common.{is_sorted, is_within, length, list_any-append, lives, lives_on, map, nat_cmp, nat_tests, none-some, position, process_entry}
+use Rattle.zl_calls.proofs.Common.{process_value, refl, same_Some, set, slice_get, slice_get-get_or, sorted_parts, state_value, subst, suc, sym, true, zero, ℕ}
+use Rattle.zl_calls.proofs.Common.{◌&&◌, ◌++◌, ◌+◌, ◌-◌, ◌<◌, ◌==◌, ◌||◌, ◌∙◌, ◌∷◌, ◌≡◌, ◌≤◌, ◌⊎◌}
 use Rattle.std.specs.List.Sorted.{IsNonDecreasing}
-use Rattle.std.proofs.lemmas.List.Folds.{list_any-append}
-use Rattle.zl_table.proofs.MapEdits.{below_parts}
 use Rattle.zl_objects.specs.Below.{HasTask, is_among}
-use Rattle.zl_calls.specs.Killing.{AreClosed, AreClosedBut, IsClosed, StandsBefore, ended_among}
 use Rattle.zl_calls.specs.calls.Process.{none_left as none_drained}
-use Rattle.zl_calls.specs.calls.Task.{is_over}
 use Rattle.zl_calls.specs.declared.process.Process.{Process}
 use Rattle.zl_calls.proofs.lists.Positions.{IsFirst, first_at}
 use Rattle.zl_calls.proofs.lists.Updates.{set_same}

@@ -1,20 +1,15 @@
 -- What a kill makes of the list of processes: koids stay, and each process that is over closes its handles in turn.
-use Rattle.zl_calls.proofs.Common.{ClosesAllEnded, ClosesEnded, IsCallerStill, TaskKillDoes, ended_if, ended_within, lives_on, parts, get_or_from_slice_get}
-use Rattle.zl_calls.proofs.Common.{slice_get-map, looked_up, DESTROY, Entry, Status, is_within, killed_if, killing, LeavesListed, all_koids, KeepsListed}
-use Rattle.zl_rights.proofs.Common.{◌≡◌, ◌<◌, ◌≤◌, ◌+◌, ℕ, Bool, true, false, List, [], ◌∷◌, ◌++◌, length, map, take, drop, refl, sym, ap, ◌∙◌, subst}
-use Rattle.zl_rights.proofs.Common.{arith, zero, suc, get_or, set, slice_get, state_passes, Option, Some, None, Result}
-use Rattle.zl_rights.proofs.Common.{Ok, filter, has_key, is_some, option_map, Map, get, each, length-map, none-some, same_Some}
-use Rattle.zl_objects.specs.Objects.{Objects}
-use Rattle.zl_calls.specs.World.{process_entry}
+use Rattle.zl_calls.proofs.Common.{Bool, ClosesAllEnded, ClosesEnded, DESTROY, Entry, IsCallerStill, KeepsListed, LeavesListed, List, Map, None, Objects, Ok}
+use Rattle.zl_calls.proofs.Common.{Option, Releases, Result, Some, Status, TaskKillDoes, [], all_koids, ap, arith, drop, each, ended_if, ended_within, false}
+use Rattle.zl_calls.proofs.Common.{get, get-each, get_or, get_or_from_slice_get, has_key, is_blocked, is_over, is_some, is_within, killed_if, killing, length}
+use Rattle.zl_calls.proofs.Common.{length-map, lives_on, looked_up, map, none-some, one_more, option_map, parts, process_entry, refl, same_Some, set, slice_get}
+use Rattle.zl_calls.proofs.Common.{slice_get-map, state_passes, subst, suc, sym, take, true, zero, ℕ, ◌++◌, ◌+◌, ◌<◌, ◌∙◌, ◌∷◌, ◌≡◌, ◌≤◌}
+use Rattle.zl_rights.proofs.Common.{filter}
 use Rattle.zl_calls.specs.declared.process.Process.{Process}
-use Rattle.zl_calls.specs.calls.Task.{is_over, none_left}
-use Rattle.zl_calls.specs.calls.Task.{one_more}
+use Rattle.zl_calls.specs.calls.Task.{none_left}
 use Rattle.zl_calls.proofs.lists.FilterInPlace.{drop_here, none_behind}
-use Rattle.zl_rights.proofs.MapLaws.{get-each}
 use Rattle.zl_rights.specs.declared.kind.Kind.TheVariants as kind
-use Rattle.zl_code.specs.Sound.{is_blocked}
 use Rattle.zl_objects.specs.Jobs.{all_killed}
-use Rattle.zl_objects.specs.Release.{Releases}
 use Rattle.zl_calls.proofs.waits.WaitsLost.{listed_gone}
 
 -- ---- koids stay

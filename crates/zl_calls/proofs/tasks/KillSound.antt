@@ -1,24 +1,21 @@
 -- A kill: the handles of all who end count still and are in no table, and the invariant holds but for what keeps the objects.
-use Rattle.zl_calls.proofs.Common.{◌≡◌, ℕ, suc, ◌+◌, ◌<◌, Bool, true, false, not, ◌==◌, List, [], ◌∷◌, ◌++◌, map, refl, sym, ap, ◌∙◌, subst, cond, Option, Some}
-use Rattle.zl_calls.proofs.Common.{None, inl, inr, IsTrue, arith, option_map, Map, get, has_key, each, lives, runs, none-some, same_Some, eq-eqb, false≢true}
-use Rattle.zl_calls.proofs.Common.{below_all, is_sorted, nat_cmp, is_some, object_entry, body_value, process_entry, process_value, Objects, world_value}
-use Rattle.zl_calls.proofs.Common.{count_by, sum_by, sum_by-cons, queued_to, handles_to, is_process, state_passes, kind_of, is_job_at, is_job_in, is_in_job}
-use Rattle.zl_calls.proofs.Common.{Agrees, AreNamed, IsNamed, IsConsistent, IsTable, Releases, AreKeptBut, if◌then◌else◌, ⊤, list_any, cases_Bool, and_from}
-use Rattle.zl_calls.proofs.Common.{nat_tests, or_left, or_right, ◌||◌, sum_by-append, in_order-each, KILLED, Entry, process_killed, Life, is_within}
-use Rattle.zl_calls.proofs.Common.{killed_body, killed_if, killing, all_koids, same_in_job, releases_then, ClosesAllEnded, ClosesEnded, ended_if, ended_within}
-use Rattle.zl_calls.proofs.Common.{lives_on}
-use Rattle.zl_calls.specs.Making.{IsSound}
-use Rattle.zl_code.proofs.Common.{Process as ProcessValue, State as StateValue, Ended, Gone, get-each, Cpu}
-use Rattle.zl_rights.specs.Signals.{has_ended}
-use Rattle.zl_table.proofs.MapEdits.{sorted_parts}
+use Rattle.zl_calls.proofs.Common.{Agrees, AreKeptBut, AreNamed, Bool, ClosesAllEnded, ClosesEnded, Cpu, Ended, Entry, Gone, IsConsistent, IsNamed, IsSound}
+use Rattle.zl_calls.proofs.Common.{IsTable, IsTrue, KILLED, Life, List, Map, None, Objects, Option, Releases, Some, [], all_koids, and_from, ap, arith}
+use Rattle.zl_calls.proofs.Common.{below_all, body_value, cases_Bool, cond, count_by, each, ended_if, ended_within, eq-eqb, false, false≢true, get, get-each}
+use Rattle.zl_calls.proofs.Common.{handles_to, has_ended, has_key, if◌then◌else◌, in_order-each, inl, inr, is_in_job, is_job_at, is_job_body, is_job_in}
+use Rattle.zl_calls.proofs.Common.{is_over, is_process, is_some, is_sorted, is_within, killed_body, killed_if, killing, kind_of, list_any, lives, lives_on, map}
+use Rattle.zl_calls.proofs.Common.{nat_cmp, nat_tests, none-some, not, object_entry, one_more, option_map, or_left, or_right, process_entry, process_killed}
+use Rattle.zl_calls.proofs.Common.{process_value, queued_to, refl, releases_then, runs, same_Some, same_in_job, sorted_parts, state_passes, subst, suc, sum_by}
+use Rattle.zl_calls.proofs.Common.{sum_by-append, sum_by-cons, sym, true, world_value, ℕ, ⊤, ◌++◌, ◌+◌, ◌<◌, ◌==◌, ◌||◌, ◌∙◌, ◌∷◌, ◌≡◌}
+use Rattle.zl_code.proofs.Common.{Process as ProcessValue, State as StateValue}
 use Rattle.zl_objects.specs.declared.object.Body.{Body}
 use Rattle.zl_objects.specs.declared.object.Body.TheVariants as body
 use Rattle.zl_objects.specs.declared.object.Object.{Object}
 use Rattle.zl_objects.specs.Jobs.{all_killed}
-use Rattle.zl_objects.specs.Objects.{is_alive, is_job_body, queue_of}
+use Rattle.zl_objects.specs.Objects.{is_alive, queue_of}
 use Rattle.zl_calls.specs.declared.process.Process.{Process}
 use Rattle.zl_calls.proofs.lists.Updates.{found_behind}
-use Rattle.zl_calls.specs.calls.Task.{is_over, none_left, one_more}
+use Rattle.zl_calls.specs.calls.Task.{none_left}
 use Rattle.zl_calls.proofs.objects.SameBodies.{still_named}
 use Rattle.zl_calls.proofs.objects.Settled.{AreGone, drained, unchanged}
 use Rattle.zl_calls.proofs.booting.BootGiving.{bare_table}

@@ -1,19 +1,15 @@
 -- The call task_kill as a step: refused, done, or with the end of its caller.
-use Rattle.zl_calls.proofs.Common.{◌≡◌, ℕ, ℤ, false, List, [], refl, sym, ap, ◌∙◌, subst, slice_get, slice_set, set, Result, Ok, Err}
-use Rattle.zl_calls.proofs.Common.{Library, Site, site, AtCall, next_for, Objects, process_value, state_value, world_blocked, world_value}
-use Rattle.zl_calls.proofs.Common.{IsConsistent, IsRefusedBy, cpu_answered, handle_operands, remove_all, taken_handles, gives_refused, refusal}
-use Rattle.zl_calls.proofs.Common.{status_of, ⊤, Ready, Status, CallName, Outcome, IsAnsweredIn, IsToldIn, Parts}
-use Rattle.zl_calls.proofs.Common.{TaskKillDoes, kill_refusal, parts, wants_nothing}
+use Rattle.zl_calls.proofs.Common.{AtCall, CallName, Err, IsAnsweredIn, IsConsistent, IsRefusedBy, IsToldIn, KillsNamed, Library, List, Objects, Ok, Outcome}
+use Rattle.zl_calls.proofs.Common.{Parts, Ready, Result, Site, Status, TaskKillDoes, [], ap, cpu_answered, false, gives_refused, handle_operands, is_blocked}
+use Rattle.zl_calls.proofs.Common.{kill_refusal, next_for, no_value, parts, process_value, refl, refusal, remove_all, set, site, slice_get, slice_set}
+use Rattle.zl_calls.proofs.Common.{state_value, status_of, subst, sym, taken_handles, task_kill, told_by, wants_nothing, world_blocked, world_value, ℕ, ℤ, ⊤}
+use Rattle.zl_calls.proofs.Common.{◌∙◌, ◌≡◌}
 use Rattle.zl_rights.specs.declared.status.Status.TheVariants as status
-use Rattle.zl_code.proofs.Common.{is_blocked}
-use Rattle.zl_code.specs.CallTable.{task_kill}
 use Rattle.zl_code.specs.declared.history.Outcome.TheVariants as outcome
 use Rattle.zl_code.specs.declared.history.TraceItem.TheVariants as item
 use Rattle.zl_code.specs.Calls.{Calls as PolicedCalls}
 use Rattle.zl_code.specs.Refusals.{refusal as policed_refusal}
 use Rattle.zl_calls.specs.Reaching.{EndsCaller}
-use Rattle.zl_calls.specs.calls.Answer.{no_value, told_by}
-use Rattle.zl_calls.specs.calls.Task.{KillsNamed}
 use Rattle.zl_calls.specs.declared.process.Process.{Process}
 use Rattle.zl_calls.specs.declared.process.State.TheVariants as state
 use Rattle.zl_calls.proofs.tasks.KillCalls.{dies_so, kill_refused, leaves_so, lives_so}

@@ -1,12 +1,11 @@
 -- What a kill leaves of registered waits: none of a process that it ended, and those of the others as they were.
-use Rattle.zl_calls.proofs.Common.{◌≡◌, ℕ, Bool, true, false, not, ◌==◌, List, [], ◌∷◌, map, refl, sym, ap, ◌∙◌, subst, Option, Some, inl, inr}
-use Rattle.zl_calls.proofs.Common.{IsTrue, All, All-head, All-tail, cases_Bool, eqb-true, false≢true, none-some, same_Some, if◌then◌else◌, get, is_sorted}
-use Rattle.zl_calls.proofs.Common.{nat_cmp, lives, state_passes, state_value, process_entry, process_value, has_handle, Entry, Objects, Parts, parts}
-use Rattle.zl_calls.proofs.Common.{ClosesAllEnded, ClosesEnded, KeepsWithout, ended_if, ended_within, lives_on, is_within, ◌&&◌, Map, get_or, slice_get-get_or}
-use Rattle.std.specs.List.{Contains}
+use Rattle.zl_calls.proofs.Common.{All, All-head, All-tail, Bool, ClosesAllEnded, ClosesEnded, Contains, Entry, IsTrue, KeepsWithout, KillsTask, List, Map}
+use Rattle.zl_calls.proofs.Common.{Objects, Option, Parts, Some, Wait, [], ap, cases_Bool, ended_if, ended_within, eqb-true, false, false≢true, get, get_or}
+use Rattle.zl_calls.proofs.Common.{has_handle, if◌then◌else◌, inl, inr, is_over, is_sorted, is_within, lives, lives_on, map, nat_cmp, none-some, not, one_more}
+use Rattle.zl_calls.proofs.Common.{parts, process_entry, process_value, refl, same_Some, slice_get-get_or, state_passes, state_value, subst, sym, true, ℕ, ◌&&◌}
+use Rattle.zl_calls.proofs.Common.{◌==◌, ◌∙◌, ◌∷◌, ◌≡◌}
 use Rattle.zl_code.proofs.Common.{Process as ProcessValue}
-use Rattle.zl_rights.specs.World.{Wait}
-use Rattle.zl_calls.specs.calls.Task.{KillsTask, is_over, none_left, one_more}
+use Rattle.zl_calls.specs.calls.Task.{none_left}
 use Rattle.zl_calls.specs.declared.process.Process.{Process}
 use Rattle.zl_calls.proofs.processes.InOrder.{all_in_order}
 use Rattle.zl_calls.proofs.tasks.KillParts.{ended_pid}

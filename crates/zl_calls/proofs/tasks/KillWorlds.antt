@@ -1,21 +1,18 @@
 -- What a kill makes of the world: the definitions see the same of its processes, objects and list of the blocked.
-use Rattle.zl_calls.proofs.Common.{◌≡◌, ℕ, zero, suc, Bool, true, false, not, ◌&&◌, ◌||◌, ◌==◌, List, [], ◌∷◌, map, refl, sym, ap, ◌∙◌, Option, Some, None, inl}
-use Rattle.zl_calls.proofs.Common.{inr, arith, cases_Bool, option_map, Map, get, each, lives, length, ◌<◌, state_passes, AreBlocked, eq-eqb}
-use Rattle.zl_calls.proofs.Common.{false≢true, object_entry, object_value, body_value, process_entry, process_value, state_value, Objects}
-use Rattle.zl_calls.proofs.Common.{if◌then◌else◌, KILLED, object_killed, process_killed, is_within, killed_body, killed_if, get_seen}
-use Rattle.zl_calls.proofs.Common.{ClosesAllEnded, ClosesEnded, ended_if, ended_within, lives_on}
-use Rattle.zl_code.proofs.Common.{Process as ProcessValue, Object as ObjectValue, State as StateValue, Blocked, Ended, is_blocked}
-use Rattle.zl_code.proofs.Common.{get-each}
-use Rattle.std.specs.List.{filter}
+use Rattle.zl_calls.proofs.Common.{AreBlocked, AreClosed, Blocked, Bool, ClosesAllEnded, ClosesEnded, Ended, IsClosed, KILLED, List, Map, None, Objects, Option}
+use Rattle.zl_calls.proofs.Common.{Some, [], ap, arith, body_in, body_value, cases_Bool, each, ended_if, ended_within, eq-eqb, false, false≢true, filter, get}
+use Rattle.zl_calls.proofs.Common.{get-each, get_seen, if◌then◌else◌, inl, inr, is_blocked, is_over, is_within, killed_body, killed_if, length, lives, lives_on}
+use Rattle.zl_calls.proofs.Common.{map, not, object_entry, object_killed, object_value, one_more, option_map, process_entry, process_killed, process_value}
+use Rattle.zl_calls.proofs.Common.{refl, state_passes, state_value, suc, sym, true, zero, ℕ, ◌&&◌, ◌<◌, ◌==◌, ◌||◌, ◌∙◌, ◌∷◌, ◌≡◌}
+use Rattle.zl_code.proofs.Common.{Process as ProcessValue, Object as ObjectValue, State as StateValue}
 use Rattle.zl_code.specs.Jobs.{body_killed, is_under_by, is_within as is_within_value}
-use Rattle.zl_code.specs.Tests.{body_in, parent_in as parent_in_value}
+use Rattle.zl_code.specs.Tests.{parent_in as parent_in_value}
 use Rattle.zl_objects.specs.declared.object.Body.{Body}
 use Rattle.zl_objects.specs.declared.object.Body.TheVariants as body
 use Rattle.zl_objects.specs.declared.object.Object.{Object}
 use Rattle.zl_objects.specs.Jobs.{all_killed, is_below_by, parent_at, parent_of}
-use Rattle.zl_calls.specs.Killing.{AreClosed, IsClosed}
 use Rattle.zl_calls.specs.declared.process.Process.{Process}
-use Rattle.zl_calls.specs.calls.Task.{is_over, none_left, one_more}
+use Rattle.zl_calls.specs.calls.Task.{none_left}
 use Rattle.zl_calls.proofs.waking.BlockedLists.{blocked_there}
 
 -- ---- who stands below

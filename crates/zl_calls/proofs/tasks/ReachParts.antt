@@ -1,17 +1,12 @@
 -- The calls that reach other processes, from what they do to how they are answered.
-use Rattle.zl_calls.proofs.Common.{◌≡◌, ◌<◌, ◌++◌, ◌^◌, ℕ, ℤ, zero, suc, Bool, false, List, [], ◌∷◌, length, refl, sym, ap, ◌∙◌, subst, Option, Some, None}
-use Rattle.zl_calls.proofs.Common.{Result, Ok, Err, ⊤, true, false≢true, none-some, same_Some, is_ready, get_or, slice_get, slice_set, Library, Site, site}
-use Rattle.zl_calls.proofs.Common.{cpu_answered, Objects, no_value, one_value, status_of, told_by, values_of, state_value, slice_get_within, Status}
-use Rattle.zl_calls.proofs.Common.{process_create, process_start, Outcome, IsAnsweredIn, Reaches, kills, kills_itself, starts, answered_in, CreatesProcess}
-use Rattle.zl_calls.proofs.Common.{IsCallerStill, Parts, ProcessCreateDoes, ProcessStartDoes, TaskKillDoes, parts}
-use Rattle.zl_code.specs.CallTable.{task_kill}
+use Rattle.zl_calls.proofs.Common.{Bool, CreatesProcess, EndsOrAnswers, Err, IsAnsweredIn, IsCallerStill, IsStarted, Library, List, None, Objects, Ok, Option}
+use Rattle.zl_calls.proofs.Common.{Outcome, Parts, ProcessCreateDoes, ProcessStartDoes, Reaches, Result, Site, Some, Status, TaskKillDoes, [], answered_in, ap}
+use Rattle.zl_calls.proofs.Common.{cpu_answered, ending_of, false, false≢true, get_or, is_created, is_ready, kills, kills_itself, length, no_value, none-some}
+use Rattle.zl_calls.proofs.Common.{one_value, parts, process_create, process_start, refl, register_set, same_Some, site, slice_get, slice_get_within, slice_set}
+use Rattle.zl_calls.proofs.Common.{starts, state_value, status_of, subst, suc, sym, task_kill, told_by, told_unless_over, true, values_of, zero, ℕ, ℤ, ⊤, ◌++◌}
+use Rattle.zl_calls.proofs.Common.{◌<◌, ◌^◌, ◌∙◌, ◌∷◌, ◌≡◌}
 use Rattle.zl_code.specs.declared.history.Outcome.TheVariants as outcome
-use Rattle.zl_interp.specs.Common.{register_set}
 use Rattle.zl_calls.specs.Reaching.{creates}
-use Rattle.zl_calls.specs.calls.Task.{EndsOrAnswers, ending_of}
-use Rattle.zl_calls.specs.calls.Task.{told_unless_over}
-use Rattle.zl_code.specs.Starting.{is_created}
-use Rattle.zl_calls.specs.Leaving.{IsStarted}
 use Rattle.zl_calls.specs.declared.process.Process.{Process}
 use Rattle.zl_calls.specs.declared.process.State.{State}
 use Rattle.zl_calls.specs.declared.process.State.TheVariants as state

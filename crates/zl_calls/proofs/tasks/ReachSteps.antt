@@ -1,12 +1,9 @@
 -- A call that reaches other processes: from what it did among them to a step, up to where processes wake.
-use Rattle.zl_calls.proofs.Common.{◌≡◌, ℕ, ℤ, List, refl, sym, ap, ◌∙◌, subst, None, Library, Request, Site, site}
-use Rattle.zl_calls.proofs.Common.{AtCall, next_for, Objects, process_value, world_blocked, world_value, process_create}
-use Rattle.zl_calls.proofs.Common.{process_start, CallName, Outcome, verdict_on, IsAnsweredIn, Reaches, kills, kills_itself, starts, Parts, ProcessCreateDoes}
-use Rattle.zl_calls.proofs.Common.{ProcessStartDoes, TaskKillDoes, parts}
-use Rattle.zl_code.specs.CallTable.{task_kill}
+use Rattle.zl_calls.proofs.Common.{AtCall, CallName, IsAnsweredIn, Library, List, None, Objects, Outcome, Parts, ProcessCreateDoes, ProcessStartDoes, Reaches}
+use Rattle.zl_calls.proofs.Common.{Request, Site, TaskKillDoes, ap, kills, kills_itself, next_for, no_value, one_value, parts, process_create, process_start}
+use Rattle.zl_calls.proofs.Common.{process_value, refl, site, starts, subst, sym, task_kill, told_by, verdict_on, world_blocked, world_value, ℕ, ℤ, ◌∙◌, ◌≡◌}
 use Rattle.zl_code.specs.declared.history.TraceItem.TheVariants as item
 use Rattle.zl_calls.specs.Reaching.{creates}
-use Rattle.zl_calls.specs.calls.Answer.{no_value, one_value, told_by}
 use Rattle.zl_calls.specs.declared.process.Process.{Process}
 use Rattle.zl_calls.specs.declared.process.State.TheVariants as state
 use Rattle.zl_calls.proofs.policy.Freedom.{is_free}

@@ -1,15 +1,14 @@
 -- The call process_start, from all processes and the objects to the relation of calls.
-use Rattle.zl_calls.proofs.Common.{◌≡◌, ◌<◌, ℕ, zero, suc, Bool, true, false, not, ◌==◌, List, [], ◌∷◌, map, refl, sym, ap, ◌∙◌, subst, Option, Some, None, Ok}
-use Rattle.zl_calls.proofs.Common.{inl, inr, IsTrue, arith, cases_Bool, eqb-true, eq-eqb, ne_eqb, option_map, if◌then◌else◌, first_some, answer_if, and_from}
-use Rattle.zl_calls.proofs.Common.{same_Some, none-some, nat_cmp, is_sorted, Map, get, has_key, update, without, slice_get, slice_set, is_process, state_passes}
-use Rattle.zl_calls.proofs.Common.{Library, Site, site, refusal, handle_operands, listed, may_choose, may_get, new_handles, insert_all, remove_all}
-use Rattle.zl_calls.proofs.Common.{taken_handles, effect, gives_ok, replied, taken, table_of, on_process, process_with, process_without, cpu_answered, Values}
-use Rattle.zl_calls.proofs.Common.{Calls, Ready, get-update, sorted_parts, Inserts, Objects, process_entry, process_value, object_entry, object_value}
-use Rattle.zl_calls.proofs.Common.{body_value, state_value, world_value, World, operands_fault, below_parts, looked_up, TRANSFER, WRITE, Entry, process_start}
-use Rattle.zl_calls.proofs.Common.{misfits, cpu_given, is_created, started_with, started, started_body, starting, without_handle, child_refusal, process_at}
-use Rattle.zl_calls.proofs.Common.{start_refusal}
+use Rattle.zl_calls.proofs.Common.{Bool, Calls, Entry, Inserts, IsTrue, Library, List, Map, None, Objects, Ok, Option, Ready, Site, Some, TRANSFER, Values}
+use Rattle.zl_calls.proofs.Common.{WRITE, World, [], and_from, answer_if, ap, arith, below_all, below_parts, body_value, cases_Bool, child_refusal}
+use Rattle.zl_calls.proofs.Common.{cpu_answered, cpu_given, effect, eq-eqb, eqb-true, false, first_some, get, get-update, gives_ok, handle_operands, has_key}
+use Rattle.zl_calls.proofs.Common.{if◌then◌else◌, inl, inr, insert_all, is_created, is_process, is_sorted, listed, looked_up, map, may_choose, may_get, misfits}
+use Rattle.zl_calls.proofs.Common.{nat_cmp, ne_eqb, new_handles, none-some, not, object_entry, object_value, on_process, operands_fault, option_map, process_at}
+use Rattle.zl_calls.proofs.Common.{process_entry, process_start, process_value, process_with, process_without, refl, refusal, remove_all, replied, same_Some}
+use Rattle.zl_calls.proofs.Common.{site, slice_get, slice_set, sorted_parts, start_refusal, started, started_body, started_with, starting, state_passes}
+use Rattle.zl_calls.proofs.Common.{state_value, subst, suc, sym, table_of, taken, taken_handles, true, update, without, without_handle, world_value, zero, ℕ}
+use Rattle.zl_calls.proofs.Common.{◌<◌, ◌==◌, ◌∙◌, ◌∷◌, ◌≡◌}
 use Rattle.zl_code.proofs.Common.{Process as ProcessValue}
-use Rattle.zl_rights.proofs.Common.{below_all}
 use Rattle.zl_rights.specs.declared.kind.Kind.TheVariants as kind
 use Rattle.zl_rights.specs.declared.status.Status.TheVariants as status
 use Rattle.zl_code.specs.Starting.{program_in}

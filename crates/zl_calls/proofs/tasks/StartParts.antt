@@ -1,24 +1,16 @@
 -- The process that a call starts: how it is found by its koid, and what becomes of all processes.
-use Rattle.zl_calls.proofs.Common.{length-set, position-Some, get_or_from_slice_get, slice_get_within, misfits, is_created, Entry, Status, cpu_given, starting}
-use Rattle.zl_calls.proofs.Common.{ClosesEach, without_handle, IsCallerStill, ProcessStartDoes, child_refusal, parts, process_at, start_refusal}
-use Rattle.zl_rights.proofs.Common.{◌≡◌, ◌≢◌, ◌<◌, ℕ, Bool, true, false, ◌==◌, List, [], ◌∷◌, length, Option, Some, None, Ok, Err, refl, sym, ap, ◌∙◌, subst}
-use Rattle.zl_rights.proofs.Common.{arith, zero, suc, false≢true, same_Some, none-some, position, find, slice_get, slice_set, slice_get-get_or, nat_tests}
-use Rattle.zl_rights.proofs.Common.{eqb-true, get_or}
-use Rattle.std.specs.List.{position_or_len}
-use Rattle.std.proofs.lemmas.List.Folds.{find_at}
+use Rattle.zl_calls.proofs.Common.{Bool, ClosesEach, Enters, Entry, Err, Handles, Inserts, IsCallerStill, IsCreatedAt, IsFound, IsRefusedBy, Library, List}
+use Rattle.zl_calls.proofs.Common.{None, Objects, Ok, Option, ProcessStartDoes, Some, Status, [], ap, arith, child_refusal, cpu_given, eqb-true, false}
+use Rattle.zl_calls.proofs.Common.{false≢true, find, find_at, get_or, get_or_from_slice_get, is_created, is_ready, length, length-set, misfits, nat_tests}
+use Rattle.zl_calls.proofs.Common.{none-some, parts, position, position-Some, position_or_len, process_at, refl, same_Some, slice_get, slice_get-get_or}
+use Rattle.zl_calls.proofs.Common.{slice_get_within, slice_set, start_refusal, starting, state_value, subst, suc, sym, true, wants_memory, without_handle, zero}
+use Rattle.zl_calls.proofs.Common.{ℕ, ◌<◌, ◌==◌, ◌∙◌, ◌∷◌, ◌≡◌, ◌≢◌}
 use Rattle.zl_signals.proofs.Takes.{none_found}
-use Rattle.zl_code.specs.Common.{Library}
 use Rattle.zl_rights.specs.declared.status.Status.TheVariants as status
-use Rattle.zl_rights.specs.Signals.{is_ready}
-use Rattle.zl_objects.specs.Objects.{Objects}
-use Rattle.zl_calls.specs.World.{state_value}
-use Rattle.zl_calls.specs.calls.Answer.{IsRefusedBy, wants_memory}
 use Rattle.zl_calls.specs.declared.process.State.{State}
 use Rattle.zl_calls.specs.declared.process.State.TheVariants as state
 use Rattle.zl_calls.specs.declared.calls.process.Started.{Started}
 use Rattle.zl_calls.specs.declared.process.Process.{Process}
-use Rattle.zl_table.specs.Table.{Handles, Inserts}
-use Rattle.zl_calls.specs.calls.Task.{Enters, IsCreatedAt, IsFound}
 
 -- ---- the process that is found
 

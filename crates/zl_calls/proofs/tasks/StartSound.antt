@@ -1,12 +1,11 @@
 -- A process was started with a handle of another: the invariant of all processes and of the objects holds afterwards.
-use Rattle.zl_calls.proofs.Common.{◌≡◌, ◌+◌, ◌||◌, ◌==◌, ℕ, Bool, true, false, List, [], ◌∷◌, map, refl, sym, ap, ◌∙◌, subst, cond, Some, inl, inr, IsTrue}
-use Rattle.zl_calls.proofs.Common.{arith, list_any, eq-eqb, cases_Bool, false≢true, same_Some, count_by, sum_by, Map, get, update, has_key, kind_of}
-use Rattle.zl_calls.proofs.Common.{has_key-update, is_sorted-update, Created, Ready, lives, runs, is_process, Inserts, IsTable, handles_to, queued_to, Objects}
-use Rattle.zl_calls.proofs.Common.{is_kept, is_child, stays_alone, has_living_child, process_entry, process_value, object_value, body_value, state_value}
-use Rattle.zl_calls.proofs.Common.{world_value, is_in_job, Agrees, AreNamed, AreBlocked, IsConsistent, IsNamed, or_cases, is_created, Entry, Kind, keeper_of}
-use Rattle.zl_calls.proofs.Common.{started, started_body, starting, is_above, same_in_job, kept_all, without_handle}
-use Rattle.zl_code.proofs.Common.{Process as ProcessValue, State as StateValue, is_blocked, or_left, or_right}
-use Rattle.zl_rights.specs.Signals.{has_ended}
+use Rattle.zl_calls.proofs.Common.{Agrees, AreBlocked, AreNamed, Bool, Created, Entry, Inserts, IsConsistent, IsNamed, IsTable, IsTrue, Kind, List, Map}
+use Rattle.zl_calls.proofs.Common.{Objects, Ready, Some, [], ap, arith, body_value, cases_Bool, cond, count_by, eq-eqb, false, false≢true, get, handles_to}
+use Rattle.zl_calls.proofs.Common.{has_ended, has_key, has_key-update, has_living_child, inl, inr, is_above, is_blocked, is_child, is_created, is_in_job}
+use Rattle.zl_calls.proofs.Common.{is_kept, is_process, is_sorted-update, keeper_of, kept_all, kind_of, list_any, lives, map, object_value, or_cases, or_left}
+use Rattle.zl_calls.proofs.Common.{or_right, process_entry, process_value, queued_to, refl, runs, same_Some, same_in_job, started, started_body, starting}
+use Rattle.zl_calls.proofs.Common.{state_value, stays_alone, subst, sum_by, sym, true, update, without_handle, world_value, ℕ, ◌+◌, ◌==◌, ◌||◌, ◌∙◌, ◌∷◌, ◌≡◌}
+use Rattle.zl_code.proofs.Common.{Process as ProcessValue, State as StateValue}
 use Rattle.zl_rights.specs.declared.kind.Kind.TheVariants as kind
 use Rattle.zl_objects.specs.Objects.{queue_of}
 use Rattle.zl_objects.specs.declared.object.Body.{Body}

@@ -1,10 +1,9 @@
 -- The call process_start where it is done: in the world it is what the definitions make of it.
-use Rattle.zl_calls.proofs.Common.{◌≡◌, ◌≢◌, ℕ, true, false, ◌==◌, List, [], ◌∷◌, map, refl, sym, ap, ◌∙◌, subst, Some, None, Ok, inl, inr, IsTrue}
-use Rattle.zl_calls.proofs.Common.{cases_Bool, eqb-true, same_Some, nat_cmp, is_sorted, Map, get, update, slice_get, slice_set, is_ready}
-use Rattle.zl_calls.proofs.Common.{Library, Site, site, Calls}
-use Rattle.zl_calls.proofs.Common.{cpu_answered, process_with, process_without, is_sorted-update, Objects, process_entry, process_value, state_value}
-use Rattle.zl_calls.proofs.Common.{world_value, looked_up, TRANSFER, WRITE, process_start, is_created, started_with, IsToldIn, no_value, told_by}
-use Rattle.zl_calls.proofs.Common.{without_handle, Parts, StartsProcess, parts, start_refusal}
+use Rattle.zl_calls.proofs.Common.{Calls, IsToldIn, IsTrue, Library, List, Map, None, Objects, Ok, Parts, Site, Some, StartsProcess, TRANSFER, WRITE, [], ap}
+use Rattle.zl_calls.proofs.Common.{cases_Bool, cpu_answered, eqb-true, false, get, inl, inr, is_created, is_ready, is_sorted, is_sorted-update, looked_up, map}
+use Rattle.zl_calls.proofs.Common.{nat_cmp, no_value, parts, process_entry, process_start, process_value, process_with, process_without, refl, same_Some, site}
+use Rattle.zl_calls.proofs.Common.{slice_get, slice_set, start_refusal, started_with, state_value, subst, sym, told_by, true, update, without_handle}
+use Rattle.zl_calls.proofs.Common.{world_value, ℕ, ◌==◌, ◌∙◌, ◌∷◌, ◌≡◌, ◌≢◌}
 use Rattle.zl_code.proofs.Common.{Process as ProcessValue, State as StateValue}
 use Rattle.zl_rights.specs.declared.kind.Kind.TheVariants as kind
 use Rattle.zl_rights.specs.declared.status.Status.TheVariants as status

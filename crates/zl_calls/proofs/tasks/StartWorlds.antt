@@ -1,15 +1,14 @@
 -- The call process_start in the midst of all processes: from what it did to a step, up to where processes wake.
-use Rattle.zl_calls.proofs.Common.{◌≡◌, ℕ, true, List, [], ◌∷◌, refl, sym, ap, ◌∙◌, subst, Some, Result, Ok, Err, ⊤, false≢true, same_Some}
-use Rattle.zl_calls.proofs.Common.{slice_get, slice_set, set, get, Library, Site, site, Calls, AtCall, next_for, Handles, Objects}
-use Rattle.zl_calls.proofs.Common.{cpu_answered, no_value, told_by, status_of, process_value, state_value, world_value, taken_handles}
-use Rattle.zl_calls.proofs.Common.{handle_operands, gives_refused, AreBlocked, IsActed, IsConsistent, IsNamed, IsRefusedBy, World, next_looks, process_start}
-use Rattle.zl_calls.proofs.Common.{CallName, Outcome, looked_up, TRANSFER, WRITE, takes, Kind, Status, starting, IsAnsweredIn, IsToldIn}
-use Rattle.zl_calls.proofs.Common.{ClosesEach, without_handle, Parts, ProcessStartDoes, StartsProcess, parts, start_refusal, wants_memory}
+use Rattle.zl_calls.proofs.Common.{AreBlocked, AtCall, CallName, Calls, ClosesEach, ClosesHandle, Err, Handles, IsActed, IsAnsweredIn, IsConsistent, IsNamed}
+use Rattle.zl_calls.proofs.Common.{IsRefusedBy, IsToldIn, Kind, Library, List, Objects, Ok, Outcome, Parts, ProcessStartDoes, Result, Site, Some, StartsProcess}
+use Rattle.zl_calls.proofs.Common.{Status, TRANSFER, WRITE, World, [], ap, cpu_answered, false≢true, get, gives_refused, handle_operands, looked_up, next_for}
+use Rattle.zl_calls.proofs.Common.{next_looks, no_value, parts, process_start, process_value, refl, same_Some, set, site, slice_get, slice_set, start_refusal}
+use Rattle.zl_calls.proofs.Common.{starting, state_value, status_of, subst, sym, taken_handles, takes, told_by, true, wants_memory, without_handle, world_value}
+use Rattle.zl_calls.proofs.Common.{ℕ, ⊤, ◌∙◌, ◌∷◌, ◌≡◌}
 use Rattle.zl_code.specs.declared.history.Outcome.TheVariants as outcome
 use Rattle.zl_code.specs.declared.history.TraceItem.TheVariants as item
 use Rattle.zl_rights.specs.declared.kind.Kind.TheVariants as kind
 use Rattle.zl_rights.specs.declared.status.Status.TheVariants as status
-use Rattle.zl_calls.specs.calls.Task.{ClosesHandle}
 use Rattle.zl_calls.specs.declared.process.Process.{Process}
 use Rattle.zl_calls.specs.declared.process.State.TheVariants as state
 use Rattle.zl_calls.proofs.calls.Answered.{IsWrite}

@@ -1,10 +1,7 @@
 -- A step that ends its process: no wait of it is left, and all else that was there is left still.
-use Rattle.zl_calls.proofs.Common.{◌≡◌, ℕ, ℤ, true, false, ◌&&◌, ◌==◌, List, [], map, refl, sym, ap, ◌∙◌, inl, inr, IsTrue}
-use Rattle.zl_calls.proofs.Common.{and_parts, eq-eqb, eqb-true, false≢true, get, has_handle, process_entry, Objects, Outcome, Site, Acts}
-use Rattle.zl_calls.proofs.Common.{action_of, subst}
-use Rattle.zl_calls.specs.Acted.{Exits}
-use Rattle.zl_calls.specs.Taken.{is_end}
-use Rattle.zl_calls.specs.calls.Answer.{Action, answers, exits, reaches, waits}
+use Rattle.zl_calls.proofs.Common.{Action, Acts, Exits, IsTrue, List, Objects, Outcome, Site, [], action_of, and_parts, answers, ap, eq-eqb, eqb-true, exits}
+use Rattle.zl_calls.proofs.Common.{false, false≢true, get, has_handle, inl, inr, is_end, map, process_entry, reaches, refl, subst, sym, true, waits, ℕ, ℤ, ◌&&◌}
+use Rattle.zl_calls.proofs.Common.{◌==◌, ◌∙◌, ◌≡◌}
 use Rattle.zl_calls.specs.declared.process.Process.{Process}
 use Rattle.zl_calls.proofs.calls.Answered.{IsWrite}
 use Rattle.zl_calls.proofs.processes.Departed.{handles_left, left_all}

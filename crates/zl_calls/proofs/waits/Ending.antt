@@ -1,15 +1,10 @@
 -- Waits end one after another: the objects stay the same but for waits, and of the list just what isn't to end is left.
-use Rattle.zl_calls.proofs.Common.{◌≡◌, ◌<◌, ◌+◌, ◌*◌, ◌-◌, ℕ, Bool, true, false, not, ◌&&◌, ◌==◌, and_parts, eq-eqb, eqb-true, List, length}
-use Rattle.zl_calls.proofs.Common.{map, refl, sym, ap, ◌∙◌, subst, Option, Some, None, is_some, option_map, slice_get, slice_get-get_or, get_or, arith, Map}
-use Rattle.zl_calls.proofs.Common.{get, has_key, Objects, kind_at, kind_in, object_entry, process_entry, process_value, world_value, IsConsistent}
-use Rattle.zl_calls.proofs.Common.{IsPlaceOf, World, slice_get_within, has_handle, Watch, unlisting, unwatching, has_seen, AreBeside, EndsUnheld, EndsWaits}
-use Rattle.zl_calls.proofs.Common.{is_left}
-use Rattle.std.specs.List.{filter}
-use Rattle.zl_rights.specs.Settle.{is_made_by_handle}
-use Rattle.zl_rights.specs.World.{Wait}
-use Rattle.zl_objects.specs.Awaited.{KeepSleepers}
+use Rattle.zl_calls.proofs.Common.{AreBeside, Bool, EndsUnheld, EndsWaits, IsConsistent, IsPlaceOf, KeepSleepers, List, Map, None, Objects, Option, Some, Wait}
+use Rattle.zl_calls.proofs.Common.{Watch, World, and_parts, ap, arith, eq-eqb, eqb-true, false, filter, get, get_or, has_handle, has_key, has_seen, is_keyed_at}
+use Rattle.zl_calls.proofs.Common.{is_left, is_made_by_handle, is_some, kind_at, kind_in, length, map, not, object_entry, option_map, process_entry}
+use Rattle.zl_calls.proofs.Common.{process_value, refl, slice_get, slice_get-get_or, slice_get_within, subst, sym, true, unlisting, unwatching, world_value, ℕ}
+use Rattle.zl_calls.proofs.Common.{◌&&◌, ◌*◌, ◌+◌, ◌-◌, ◌<◌, ◌==◌, ◌∙◌, ◌≡◌}
 use Rattle.zl_objects.specs.declared.object.Object.{Object}
-use Rattle.zl_objects.specs.Listed.{is_keyed_at}
 use Rattle.zl_calls.specs.declared.process.Process.{Process}
 use Rattle.zl_calls.proofs.objects.SameButWaits.{beside_consistent, beside_same, beside_then, beside_world, unwatching_beside}
 use Rattle.zl_calls.proofs.lists.FilterByFirst.{IsSifting, one_less, sifting_ends, sifting_starts, sifting_stays, sifting_takes}

@@ -1,16 +1,10 @@
 -- One registered wait that holds gives its packet before the others do: the world at the end is the same.
-use Rattle.zl_calls.proofs.Common.{◌≡◌, ℕ, Bool, true, false, not, ◌&&◌, ◌||◌, ◌==◌, List, [], ◌∷◌, ◌++◌, map, refl, sym, ap, ◌∙◌, if◌then◌else◌, Option, Some}
-use Rattle.zl_calls.proofs.Common.{None, inl, inr, IsTrue, cases_Bool, eqb-true, option_map, list_any, nat_cmp, below_all, is_sorted, is_sorted-update, Map}
-use Rattle.zl_calls.proofs.Common.{get, has_key-update, update, get-update, PortBody, is_process, lives, fired, each, World, passes, filter-append, Packet}
-use Rattle.zl_calls.proofs.Common.{packet_of, same_map, filter_all, list_any-and, body_packed, repacked}
-use Rattle.std.specs.List.{filter}
-use Rattle.std.specs.Prelude.{bit_or}
-use Rattle.std.proofs.Common.{append-nil, append_assoc, cond}
-use Rattle.zl_rights.specs.Numbers.{meets}
-use Rattle.zl_rights.specs.World.{Object, Body, ChannelEnd, JobBody, PairEnd, ProcessBody, Wait}
-use Rattle.zl_rights.specs.Signals.{active, active_of, implied, has_child_job, has_child_process, is_job_below, is_process_of}
-use Rattle.zl_rights.specs.Wakes.{body_with_packets, holds, packets_for}
-use Rattle.zl_rights.proofs.MapLaws.{get-each}
+use Rattle.zl_calls.proofs.Common.{Body, Bool, ChannelEnd, IsTrue, JobBody, List, Map, None, Object, Option, Packet, PairEnd, PortBody, ProcessBody, Some, Wait}
+use Rattle.zl_calls.proofs.Common.{World, [], active, active_of, ap, append-nil, append_assoc, below_all, bit_or, body_packed, body_with_packets, cases_Bool}
+use Rattle.zl_calls.proofs.Common.{cond, each, eqb-true, false, filter, filter-append, filter_all, fired, get, get-each, get-update, has_child_job}
+use Rattle.zl_calls.proofs.Common.{has_child_process, has_key-update, holds, if◌then◌else◌, implied, inl, inr, is_job_below, is_process, is_process_of}
+use Rattle.zl_calls.proofs.Common.{is_sorted, is_sorted-update, list_any, list_any-and, lives, map, meets, nat_cmp, not, option_map, packet_of, packets_for}
+use Rattle.zl_calls.proofs.Common.{passes, refl, repacked, same_map, sym, true, update, ℕ, ◌&&◌, ◌++◌, ◌==◌, ◌||◌, ◌∙◌, ◌∷◌, ◌≡◌}
 use Rattle.zl_rights.proofs.MapTests.{each_same, filter_none}
 use Rattle.zl_rights.proofs.SameSignals.{IsAlike}
 

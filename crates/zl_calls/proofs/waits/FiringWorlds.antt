@@ -1,24 +1,16 @@
 -- Registered waits fire one after another, in the order of the list.
-use Rattle.zl_calls.proofs.Common.{KeepSleepers}
-use Rattle.zl_calls.proofs.Common.{◌≡◌, ◌<◌, ℕ, Bool, true, false, ◌&&◌, ◌==◌, ◌++◌, List, [], ◌∷◌, ◌||◌, length, map, refl}
-use Rattle.zl_calls.proofs.Common.{sym, ap, ◌∙◌, subst, cond, inl, inr, Option, Some, None, arith, cases_Bool, eqb-true, eq-eqb, none-some, same_Some}
-use Rattle.zl_calls.proofs.Common.{option_map, list_any, length-append, and_from, and_parts, false≢true, is_process, Map, update, get, fired, Objects}
-use Rattle.zl_calls.proofs.Common.{IsConsistent, object_entry, object_value, world_blocked, world_value, World, packet_of, Packet, zero, suc, take, or_parts}
-use Rattle.zl_calls.proofs.Common.{Watch, without_first, Port, with_packet, without_place, repacked, unlisting, at_port, changed_port, changing_port}
-use Rattle.zl_calls.proofs.Common.{signals_at, at_port_of, unwatched, unwatching, waits_in, AreBeside, FiresWaits}
-use Rattle.std.specs.List.{find}
-use Rattle.zl_rights.specs.Numbers.{meets}
-use Rattle.zl_rights.specs.Signals.{active, has_child_job, has_child_process}
-use Rattle.zl_rights.specs.Wakes.{holds}
-use Rattle.zl_rights.specs.World.{Wait}
+use Rattle.zl_calls.proofs.Common.{AreBeside, Bool, FiresWaits, IsConsistent, KeepSleepers, List, Map, None, Objects, Option, Packet, Port, Some, Wait, Watch}
+use Rattle.zl_calls.proofs.Common.{World, [], active, and_from, and_parts, ap, arith, at_port, at_port_of, cases_Bool, changed_port, changing_port, cond}
+use Rattle.zl_calls.proofs.Common.{eq-eqb, eqb-true, false, false≢true, find, fired, firing, first_out, get, has_child_job, has_child_process, holds, holds_at}
+use Rattle.zl_calls.proofs.Common.{holds_now, inl, inr, is_process, length, length-append, list_any, map, meets, none-some, object_entry, object_value}
+use Rattle.zl_calls.proofs.Common.{option_map, or_parts, packet_of, refl, repacked, same_Some, signals_at, subst, suc, sym, take, true, unlisting, unwatched}
+use Rattle.zl_calls.proofs.Common.{unwatching, update, waits_in, with_packet, without_first, without_place, world_blocked, world_value, zero, ℕ, ◌&&◌, ◌++◌}
+use Rattle.zl_calls.proofs.Common.{◌<◌, ◌==◌, ◌||◌, ◌∙◌, ◌∷◌, ◌≡◌}
 use Rattle.zl_signals.specs.Waits.{holds as holds_there, wait_at}
 use Rattle.zl_objects.specs.declared.object.Body.{Body}
 use Rattle.zl_objects.specs.declared.object.Body.TheVariants as body
 use Rattle.zl_objects.specs.declared.object.Object.{Object}
-use Rattle.zl_objects.specs.Calm.{holds_now}
-use Rattle.zl_objects.specs.Listed.{holds_at}
-use Rattle.zl_objects.proofs.Places.{first_out}
-use Rattle.zl_objects.specs.Waits.{firing, packet_of as packet_given}
+use Rattle.zl_objects.specs.Waits.{packet_of as packet_given}
 use Rattle.zl_calls.specs.declared.process.Process.{Process}
 use Rattle.zl_calls.proofs.objects.Active.{signals_active}
 use Rattle.zl_calls.proofs.objects.SameButWaits.{beside_consistent, beside_seen, unwatching_beside}

@@ -1,21 +1,14 @@
 -- What a process does beside registered waits and blocked processes: those waits are left whose handle, object and port are.
-use Rattle.zl_calls.proofs.Common.{◌≡◌, ℕ, suc, Bool, true, false, ◌&&◌, List, [], ◌∷◌, map, refl, sym, ap, ◌∙◌, subst, Option, Some, None, inl, inr, IsTrue}
-use Rattle.zl_calls.proofs.Common.{arith, cases_Bool, false≢true, none-some, All, and_from, and_parts, entry_at, get, has_key, state_passes, AtCall, Library}
-use Rattle.zl_calls.proofs.Common.{Ready, Settles, Site, next_for, Objects, process_entry, object_entry, world_blocked, world_value, IsActed, AreBlocked, Entry}
-use Rattle.zl_calls.proofs.Common.{pid_of, IsSoundWait, CallName, Outcome, TraceItem, ActsAndSettles, next_looks, tells_blocking, waits_by, settles_waiting}
-use Rattle.zl_calls.proofs.Common.{with_waiters, has_seen, has_handle, not, ListsWithout, is_left, stays_but, world_left}
-use Rattle.std.specs.List.{filter}
-use Rattle.std.specs.Prelude.{slice_index_or}
-use Rattle.std.proofs.lemmas.List.Elements.{filter_passes}
-use Rattle.zl_rights.specs.Settle.{is_made_by_handle}
-use Rattle.zl_rights.specs.World.{Wait, World}
-use Rattle.zl_code.proofs.Common.{Process as ProcessValue, is_blocked, names_its_object, IsSound as IsSoundWorld}
+use Rattle.zl_calls.proofs.Common.{ActsAndSettles, All, AreBlocked, AtCall, Bool, CallName, Entry, IsActed, IsSoundWait, IsTrue, KeepSleepers, Library, List}
+use Rattle.zl_calls.proofs.Common.{ListsWithout, None, Objects, Option, Outcome, Ready, Settles, Site, Some, TraceItem, Wait, World, [], and_from, and_parts}
+use Rattle.zl_calls.proofs.Common.{ap, arith, cases_Bool, entry_at, false, false≢true, filter, filter_passes, get, has_handle, has_key, has_seen, inl, inr}
+use Rattle.zl_calls.proofs.Common.{is_blocked, is_left, is_made_by_handle, is_there, map, names_its_object, next_for, next_looks, none-some, not, object_entry}
+use Rattle.zl_calls.proofs.Common.{pid_of, process_entry, refl, settled_sound, settles_waiting, slice_index_or, state_passes, stays_but, subst, suc, sym}
+use Rattle.zl_calls.proofs.Common.{tells_blocking, true, waits_by, with_waiters, world_blocked, world_left, world_value, ℕ, ◌&&◌, ◌∙◌, ◌∷◌, ◌≡◌}
+use Rattle.zl_code.proofs.Common.{Process as ProcessValue, IsSound as IsSoundWorld}
 use Rattle.zl_code.specs.Calls.{Calls}
 use Rattle.zl_code.specs.declared.history.TraceItem.TheVariants as item
-use Rattle.zl_code.proofs.SoundRuns.{settled_sound}
 use Rattle.zl_code.proofs.StepsWaiting.{step_waiting, is_left as is_left_at_port}
-use Rattle.zl_objects.specs.Awaited.{KeepSleepers}
-use Rattle.zl_objects.specs.Listed.{is_there}
 use Rattle.zl_calls.specs.declared.process.Process.{Process}
 use Rattle.zl_calls.proofs.waking.BlockedLists.{same_blocked}
 use Rattle.zl_calls.proofs.processes.Departed.{left_all, settled_world}

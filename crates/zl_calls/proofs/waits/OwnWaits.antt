@@ -1,11 +1,7 @@
 -- The waits of a process end as its handles close: what is left of the list was made by none of those that have closed.
-use Rattle.zl_calls.proofs.Common.{◌≡◌, ◌⊎◌, ℕ, Bool, true, false, not, ◌==◌, List, [], ◌∷◌, refl, sym, ap, ◌∙◌, subst, Some, inl, inr, IsTrue, cases_Bool}
-use Rattle.zl_calls.proofs.Common.{false≢true, none-some, same_Some, and_from, eq-eqb, eqb-true, Map, get, Entry, Handles, Removes, Objects}
-use Rattle.zl_calls.proofs.Common.{AreBeside, EndsOwn, EndsWaits, KeepsListed, KeepsWithout, Releases, LeavesListed, is_empty}
-use Rattle.std.specs.List.{Contains, filter}
-use Rattle.zl_rights.specs.World.{Wait}
-use Rattle.zl_table.proofs.MapEdits.{get-without}
-use Rattle.zl_objects.specs.Listed.{is_made_at}
+use Rattle.zl_calls.proofs.Common.{AreBeside, Bool, Contains, EndsOwn, EndsWaits, Entry, Handles, IsTrue, KeepsListed, KeepsWithout, LeavesListed, List, Map}
+use Rattle.zl_calls.proofs.Common.{Objects, Releases, Removes, Some, Wait, [], and_from, ap, cases_Bool, eq-eqb, eqb-true, false, false≢true, filter, get}
+use Rattle.zl_calls.proofs.Common.{get-without, inl, inr, is_empty, is_made_at, none-some, not, refl, same_Some, subst, sym, true, ℕ, ◌==◌, ◌∙◌, ◌∷◌, ◌≡◌, ◌⊎◌}
 use Rattle.zl_objects.specs.Release.{waits_end}
 use Rattle.zl_objects.proofs.Bare.{still_kept}
 use Rattle.zl_calls.proofs.objects.SameButWaits.{beside_same}

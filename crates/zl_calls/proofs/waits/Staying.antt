@@ -1,16 +1,9 @@
 -- Tables and objects from which nothing goes: each registered wait that was left is left still.
-use Rattle.zl_calls.proofs.Common.{◌≡◌, ℕ, zero, suc, Bool, true, false, ◌++◌, ◌==◌, List, [], ◌∷◌, map, refl, sym, ap, ◌∙◌, if◌then◌else◌}
-use Rattle.zl_calls.proofs.Common.{Option, Some, None, is_some, none-some, same_Some, IsTrue, false≢true, All, All-head, All-tail, and_from, and_parts}
-use Rattle.zl_calls.proofs.Common.{Map, get, has_key, has_seen, slice_get, slice_set, body_in, Entry}
-use Rattle.zl_calls.proofs.Common.{Objects, object_entry, process_entry, process_value, world_blocked, world_value, has_handle}
-use Rattle.zl_calls.proofs.Common.{IsSoundWait, is_left}
-use Rattle.std.specs.List.{filter}
-use Rattle.std.specs.Prelude.{slice_index_or}
-use Rattle.zl_code.proofs.Common.{Object as ObjectValue, Process as ProcessValue, handles_in, is_port_there, IsSound as IsSoundWorld}
-use Rattle.zl_rights.specs.Settle.{is_made_by_handle}
-use Rattle.zl_rights.specs.World.{Wait}
-use Rattle.zl_objects.specs.Objects.{with_new}
-use Rattle.zl_objects.specs.declared.object.Body.{Body}
+use Rattle.zl_calls.proofs.Common.{All, All-head, All-tail, Bool, Entry, IsSoundWait, IsTrue, List, Map, None, Objects, Option, Some, Wait, and_from, and_parts}
+use Rattle.zl_calls.proofs.Common.{ap, body_in, false, false≢true, filter, get, handles_in, has_handle, has_key, has_seen, if◌then◌else◌, is_left}
+use Rattle.zl_calls.proofs.Common.{is_made_by_handle, is_port_there, is_some, map, none-some, object_entry, process_entry, process_value, refl, same_Some}
+use Rattle.zl_calls.proofs.Common.{slice_get, slice_index_or, slice_set, suc, sym, true, world_blocked, world_value, zero, ℕ, ◌++◌, ◌==◌, ◌∙◌, ◌∷◌, ◌≡◌, []}
+use Rattle.zl_code.proofs.Common.{Object as ObjectValue, Process as ProcessValue, IsSound as IsSoundWorld}
 use Rattle.zl_calls.specs.declared.process.Process.{Process}
 use Rattle.zl_calls.proofs.waits.LeftWaits.{watched_there}
 
@@ -67,10 +60,6 @@ KeepsObjects r r2 = (k : ℕ) → IsTrue (has_key r.objects k) → IsTrue (has_k
 -- where none has changed
 pub same_objects : (r r2 : Objects) → r2 ≡ r → KeepsObjects r r2
 same_objects r r2 same k there = ap (λ (x : Objects). has_key x.objects k) same ∙ there
-
--- one object more
-pub more_objects : (r : Objects) (b : Body) (handles : ℕ) → KeepsObjects r (with_new r b handles)
-more_objects r b handles k there = ap is_some (behind r.objects _ k there) ∙ there
 
 -- ---- the waits
 

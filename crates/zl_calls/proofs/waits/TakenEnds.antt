@@ -1,20 +1,11 @@
 -- Waits end by the handles that a call took: object by object those that its caller made by a handle that is gone.
-use Rattle.zl_calls.proofs.Common.{◌≡◌, ◌<◌, ◌+◌, ℕ, suc, Bool, true, false, not, ◌&&◌, ◌||◌, ◌==◌, List, [], ◌∷◌, length, take, refl, sym, ap, ◌∙◌, subst}
-use Rattle.zl_calls.proofs.Common.{cond, Some, None, inl, inr, IsTrue, All, All-head, All-tail, cases_Bool, false≢true, eq-eqb, eqb-true, arith}
-use Rattle.zl_calls.proofs.Common.{and_from, and_parts, if◌then◌else◌, list_any, list_any-append, none-some, ◌≤◌, take_all, take_more, without_first, get_or}
-use Rattle.zl_calls.proofs.Common.{is_empty, world_blocked, world_left, map, get, process_entry, Objects, AreBeside, EndsUnheld, EndsWaits, IsConsistent}
-use Rattle.zl_calls.proofs.Common.{Watch, has_handle, is_left, unlisting, unwatching, world_value}
-use Rattle.std.specs.List.{filter, find}
-use Rattle.std.specs.Prelude.{slice_index_or}
-use Rattle.std.proofs.lemmas.List.Folds.{list_any_none}
-use Rattle.zl_rights.specs.Settle.{is_made_by_handle}
-use Rattle.zl_rights.specs.World.{Wait, World}
-use Rattle.zl_objects.specs.Awaited.{KeepSleepers}
-use Rattle.zl_objects.specs.Listed.{is_made_at}
-use Rattle.zl_objects.proofs.Places.{first_out}
-use Rattle.zl_calls.specs.Taken.{AreKnown, IsKnown, has_noted, is_gone, is_over_by}
+use Rattle.zl_calls.proofs.Common.{All, All-head, All-tail, AreBeside, AreKnown, Bool, EndsUnheld, EndsWaits, IsConsistent, IsKnown, IsTrue, KeepSleepers, List}
+use Rattle.zl_calls.proofs.Common.{None, Objects, Some, Taken, Wait, Watch, World, [], and_from, and_parts, ap, arith, cases_Bool, cond, eq-eqb, eqb-true}
+use Rattle.zl_calls.proofs.Common.{false, false≢true, filter, find, first_out, get, get_or, has_handle, has_noted, if◌then◌else◌, inl, inr, is_empty, is_gone}
+use Rattle.zl_calls.proofs.Common.{is_left, is_made_at, is_made_by_handle, is_over_by, length, list_any, list_any-append, list_any_none, map, none-some, not}
+use Rattle.zl_calls.proofs.Common.{process_entry, refl, slice_index_or, subst, suc, sym, take, take_all, take_more, true, unlisting, unwatching, without_first}
+use Rattle.zl_calls.proofs.Common.{world_blocked, world_left, world_value, ℕ, ◌&&◌, ◌+◌, ◌<◌, ◌==◌, ◌||◌, ◌∙◌, ◌∷◌, ◌≡◌, ◌≤◌}
 use Rattle.zl_calls.specs.declared.process.Process.{Process}
-use Rattle.zl_calls.specs.declared.taken.Taken.{Taken}
 use Rattle.zl_calls.specs.declared.taken.TakenHandle.{TakenHandle}
 use Rattle.zl_calls.proofs.waits.FiringWorlds.{none_passes}
 use Rattle.zl_calls.proofs.waits.WaitsLost.{filter_within}

@@ -1,31 +1,19 @@
 -- What each call leaves of handles and objects, if it takes no handle, and of the list of registered waits: replace ends its own, and others end with
 -- objects and ports alone.
-use Rattle.zl_calls.proofs.Common.{◌≡◌, ℕ, Bool, true, false, true≢false, false≢true, List, refl, sym, subst, ap, ◌∙◌, Option, Some, None, Result, Ok}
-use Rattle.zl_calls.proofs.Common.{Err, inl, inr}
-use Rattle.zl_calls.proofs.Common.{⊤, get, update, is_empty, narrowed, then_some, with_rights, IsRefusedBy, Request, Site, site, close}
-use Rattle.zl_calls.proofs.Common.{dup, replace, chan_create, chan_write, event_create, eventpair_create, signal, signal_peer, wait_one, wait_async}
-use Rattle.zl_calls.proofs.Common.{port_create, port_queue, port_poll, port_wait, port_cancel, process_start, process_exit, job_create, job_set_policy}
-use Rattle.zl_calls.proofs.Common.{calls_at, next_looks, waits_by, looks_at_waits, Objects, with_new, Entry, Status, CallName, Outcome, Does, status_of, Acted}
-use Rattle.zl_calls.proofs.Common.{Acts, action_of, ◌&&◌, ◌==◌, ListsBut, ListsWithout, MakesOne, ReplaceDoes, ChanReadDoes, Received, ReadFault, wants_nothing}
-use Rattle.std.specs.List.{filter}
-use Rattle.zl_code.proofs.Common.{chan_read_etc}
-use Rattle.zl_code.proofs.Waiters.{waits_after}
-use Rattle.zl_code.specs.CallTable.{name_of}
-use Rattle.zl_code.specs.Common.{task_kill, wait_poll}
+use Rattle.zl_calls.proofs.Common.{Acted, Acts, Bool, CallName, ChanReadDoes, ChanWriteDoes, Does, Entry, Err, Handles, IsRefusedBy, KeepSleepers, List}
+use Rattle.zl_calls.proofs.Common.{ListsBut, ListsWithout, MakesOne, MakesPair, None, Objects, Ok, Option, Outcome, Pair, ReadFault, Received, ReplaceDoes}
+use Rattle.zl_calls.proofs.Common.{Request, Result, Site, Some, Status, Wait, action_of, ap, calls_at, chan_create, chan_read_etc, chan_write, close, dup}
+use Rattle.zl_calls.proofs.Common.{event_create, eventpair_create, false, false≢true, filter, get, inl, inr, is_empty, is_end, job_create, job_set_policy}
+use Rattle.zl_calls.proofs.Common.{keeps_handles, looks_at_waits, name_of, narrowed, next_looks, port_cancel, port_create, port_poll, port_queue, port_wait}
+use Rattle.zl_calls.proofs.Common.{process_exit, process_start, refl, replace, replace_refusal_of, signal, signal_peer, site, status_of, subst, sym, task_kill}
+use Rattle.zl_calls.proofs.Common.{then_some, true, true≢false, update, wait_async, wait_one, wait_poll, waits_after, waits_by, wants_nothing, with_new}
+use Rattle.zl_calls.proofs.Common.{with_rights, ℕ, ⊤, ◌&&◌, ◌==◌, ◌∙◌, ◌≡◌}
 use Rattle.zl_code.specs.declared.history.Outcome.TheVariants as outcome
 use Rattle.zl_code.specs.declared.history.TraceItem.TheVariants as item
-use Rattle.zl_rights.specs.World.{Wait}
-use Rattle.zl_objects.specs.Awaited.{KeepSleepers}
 use Rattle.zl_rights.specs.declared.status.Status.TheVariants as status
-use Rattle.zl_table.specs.Table.{Handles}
 use Rattle.zl_objects.specs.Objects.{with_pair}
 use Rattle.zl_objects.specs.declared.object.Body.{Body}
 use Rattle.zl_objects.specs.declared.object.Object.{Object}
-use Rattle.zl_objects.specs.declared.object.Pair.{Pair}
-use Rattle.zl_calls.specs.Taken.{is_end, keeps_handles}
-use Rattle.zl_calls.specs.calls.Channel.{ChanWriteDoes}
-use Rattle.zl_calls.specs.calls.Handle.{replace_refusal_of}
-use Rattle.zl_calls.specs.calls.Making.{MakesPair}
 use Rattle.zl_calls.specs.declared.process.Process.{Process}
 use Rattle.zl_calls.proofs.calls.Refused.{nothing_wanted}
 use Rattle.zl_calls.proofs.waits.WaitsLost.{lists_wide}

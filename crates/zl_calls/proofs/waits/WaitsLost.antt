@@ -1,13 +1,8 @@
 -- The list of registered waits, as handles and objects go: it loses those alone whose object or port is gone, or whose process ends.
-use Rattle.zl_calls.proofs.Common.{◌≡◌, ℕ, Bool, true, false, subst, List, [], ◌∷◌, refl, sym, ap, ◌∙◌, Option, Some, None, inl, inr, IsTrue}
-use Rattle.zl_calls.proofs.Common.{cases_Bool, false≢true, is_some}
-use Rattle.zl_calls.proofs.Common.{if◌then◌else◌, Map, get, has_key, has_key-update, Objects, stopping, stopped, job_in, Releases, LeavesListed, Was}
-use Rattle.zl_calls.proofs.Common.{cascaded_was, KeepsWithout, ListsWithout, stays_but, not, EndsWaits, ◌&&◌, ◌==◌}
-use Rattle.zl_code.proofs.Common.{and_from, and_parts}
-use Rattle.std.specs.List.{Contains, filter}
-use Rattle.std.proofs.lemmas.List.Elements.{All-contains, All-contains_itself, All-filter, filter_passes}
-use Rattle.zl_rights.specs.World.{Wait}
-use Rattle.zl_objects.specs.Listed.{is_made_at, is_there}
+use Rattle.zl_calls.proofs.Common.{All-contains, All-contains_itself, All-filter, Bool, Contains, EndsWaits, IsTrue, KeepsWithout, LeavesListed, List}
+use Rattle.zl_calls.proofs.Common.{ListsWithout, Map, None, Objects, Option, Releases, Some, Wait, Was, [], and_from, and_parts, ap, cascaded_was, cases_Bool}
+use Rattle.zl_calls.proofs.Common.{false, false≢true, filter, filter_passes, get, has_key, has_key-update, if◌then◌else◌, inl, inr, is_made_at, is_some}
+use Rattle.zl_calls.proofs.Common.{is_there, job_in, not, refl, stays_but, stopped, stopping, subst, sym, true, ℕ, ◌&&◌, ◌==◌, ◌∙◌, ◌∷◌, ◌≡◌}
 use Rattle.zl_objects.proofs.Bare.{has_same}
 use Rattle.zl_objects.specs.Release.{Ends as ObjectEnds, Ended as ObjectEnded}
 use Rattle.zl_objects.specs.declared.object.Object.{Object}

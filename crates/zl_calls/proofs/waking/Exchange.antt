@@ -1,23 +1,12 @@
 -- The turn of a process may come before those of others that take no packets from its port.
-use Rattle.zl_calls.proofs.Common.{◌≡◌, ◌+◌, ℕ, Bool, true, false, not, ◌==◌, ◌⊎◌, List, [], ◌∷◌, refl, sym, ap, ◌∙◌, subst, if◌then◌else◌, Option}
-use Rattle.zl_calls.proofs.Common.{Some, None, inl}
-use Rattle.zl_calls.proofs.Common.{inr, IsTrue, arith, cases_Bool, eq-eqb, eqb-true, false≢true, state_passes, Map, get, World, fold, times}
-use Rattle.zl_calls.proofs.Common.{slice_get, same_Some}
-use Rattle.std.specs.List.{filter}
-use Rattle.std.specs.Ordering.{nat_cmp}
+use Rattle.zl_calls.proofs.Common.{Blocked, Body, Bool, IsLater, IsTrue, List, Map, None, Object, Option, Packet, PacketAt, PortBody, Process, Ready, SignalOf}
+use Rattle.zl_calls.proofs.Common.{Some, State, T, World, [], active, answered, ap, arith, cases_Bool, eq-eqb, eqb-true, false, false≢true, filter, fold, get}
+use Rattle.zl_calls.proofs.Common.{get-put, has_no_packet, if◌then◌else◌, inl, inr, is_blocked, is_sorted, made_ready, meets, nat_cmp, not, offers_nothing}
+use Rattle.zl_calls.proofs.Common.{packet_values, put, refl, same_Some, same_map, slice_get, state_passes, subst, sym, takes_from, times, true, with_body}
+use Rattle.zl_calls.proofs.Common.{woken, woken-later, ℕ, ◌+◌, ◌==◌, ◌∙◌, ◌∷◌, ◌≡◌, ◌⊎◌}
 use Rattle.std.specs.Cmp.{nat_cmp_total}
-use Rattle.std.specs.FinMap.Entries.{is_sorted, is_sorted-put}
-use Rattle.std.specs.Prelude.{T}
-use Rattle.zl_rights.specs.Numbers.{meets}
-use Rattle.zl_rights.specs.Map.{put}
-use Rattle.zl_rights.specs.World.{Process, State, Ready, answered, Blocked, SignalOf, PacketAt, Object, Body, PortBody, Packet}
-use Rattle.zl_rights.specs.Signals.{active}
-use Rattle.zl_rights.specs.Wakes.{made_ready, with_body, packet_values, woken}
-use Rattle.zl_rights.proofs.MapLaws.{get-put}
-use Rattle.zl_rights.proofs.Canonical.{put-std, same_map}
-use Rattle.zl_rights.proofs.Waking.{IsLater, has_no_packet, offers_nothing, woken-later}
-use Rattle.zl_code.proofs.Common.{is_blocked}
-use Rattle.zl_calls.specs.Blocked.{takes_from}
+use Rattle.std.specs.FinMap.Entries.{is_sorted-put}
+use Rattle.zl_rights.proofs.Canonical.{put-std}
 use Rattle.zl_calls.proofs.waking.BlockedLists.{none_filtered}
 use Rattle.zl_calls.proofs.waking.WakeLoop.{times_cons}
 

@@ -1,30 +1,19 @@
 -- Those that may wake are taken off the list one after another, and all blocked processes have had their turns then.
-use Rattle.zl_calls.proofs.Common.{◌≡◌, ◌==◌, ◌&&◌, ℕ, Bool, true, false, not, List, [], ◌∷◌, length, map, refl, sym, ap, ◌∙◌, subst, if◌then◌else◌}
-use Rattle.zl_calls.proofs.Common.{Option, Some, None, inl, inr, IsTrue, arith, cases_Bool, eq-eqb, eqb-true, false≢true, none-some, same_Some, and_parts}
-use Rattle.zl_calls.proofs.Common.{◌<◌, ◌^◌, get_or, position, state_value, state_passes, get, Objects, object_value, process_entry, world_blocked}
-use Rattle.zl_calls.proofs.Common.{IsConsistent, AreBlocked, KeepSleepers}
-use Rattle.zl_calls.proofs.Common.{Seeks, World, WakesOne, fold, times, slice_get, is_some, is_empty, signals_at, packets_in, packet_values, option_map}
-use Rattle.std.specs.Bool.{passes, then_some}
-use Rattle.std.specs.List.{All, Contains, filter}
-use Rattle.std.proofs.lemmas.List.Elements.{All-contains}
-use Rattle.zl_rights.specs.World.{Awaited as AwaitedValue, State, Created, Ready, Ended, Gone, Blocked, PacketAt, SignalOf, Packet}
-use Rattle.zl_code.proofs.Common.{Process as ProcessValue, each, is_blocked, meets, woken}
-use Rattle.zl_code.proofs.Changes.{times-same}
+use Rattle.zl_calls.proofs.Common.{All, All-contains, AreBlocked, AreOrdered, AreSought, Blocked, Bool, Contains, Created, Ended, Gone, HaveCounters, HaveLeft}
+use Rattle.zl_calls.proofs.Common.{IsConsistent, IsTrue, KeepSleepers, List, None, Objects, Option, Packet, PacketAt, Ready, Seeks, SignalOf, Sleeper, Some}
+use Rattle.zl_calls.proofs.Common.{StandInOrder, State, TakesDue, Wakes, WakesOne, WakesSleeper, Woke, World, [], and_one, and_parts, ap, arith, awaited_of}
+use Rattle.zl_calls.proofs.Common.{bare, cases_Bool, each, eq-eqb, eqb-true, false, false≢true, filter, fold, get, get_or, given_awake, if◌then◌else◌, inl, inr}
+use Rattle.zl_calls.proofs.Common.{is_blocked, is_due, is_empty, is_for, is_same, is_some, length, listed_for, map, meets, none-some, not, object_value}
+use Rattle.zl_calls.proofs.Common.{option_map, packet_values, packets_in, passes, position, process_entry, refl, same_Some, signals_at, slice_get, state_passes}
+use Rattle.zl_calls.proofs.Common.{state_value, subst, sym, takes_at, takes_from, then_some, times, times-same, true, woken, world_blocked, ℕ, ◌&&◌, ◌<◌, ◌==◌}
+use Rattle.zl_calls.proofs.Common.{◌^◌, ◌∙◌, ◌∷◌, ◌≡◌}
+use Rattle.zl_rights.specs.World.{Awaited as AwaitedValue}
+use Rattle.zl_code.proofs.Common.{Process as ProcessValue}
 use Rattle.zl_objects.specs.declared.awaited.Awaited.{Awaited}
 use Rattle.zl_objects.specs.declared.awaited.Awaited.TheVariants as awaits
-use Rattle.zl_objects.specs.declared.awaited.Sleeper.{Sleeper}
-use Rattle.zl_objects.specs.Awaited.{is_same}
-use Rattle.zl_objects.specs.Calm.{is_due}
-use Rattle.zl_objects.specs.Sleepers.{TakesDue, is_for, listed_for}
-use Rattle.zl_objects.specs.Waits.{bare}
 use Rattle.zl_objects.proofs.Sleeping.{at_port}
-use Rattle.zl_calls.specs.Blocked.{AreOrdered, AreSought, StandInOrder, takes_at, takes_from}
 use Rattle.zl_calls.specs.Blocking.{awaited_by, awaited_in}
-use Rattle.zl_calls.specs.Waking.{HaveCounters, Wakes, WakesSleeper, given_awake}
-use Rattle.zl_calls.specs.Woke.{HaveLeft, and_one}
-use Rattle.zl_calls.specs.World.{awaited_of}
 use Rattle.zl_calls.specs.declared.process.Process.{Process}
-use Rattle.zl_calls.specs.declared.waking.Woke.{Woke}
 use Rattle.zl_calls.specs.declared.waking.Woke.TheVariants as woke
 use Rattle.zl_calls.proofs.lists.Updates.{sorted_seen}
 use Rattle.zl_calls.proofs.stepping.Performing.{stands_there}

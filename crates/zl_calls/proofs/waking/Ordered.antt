@@ -1,20 +1,14 @@
 -- Of the processes listed for packets of a port those that are blocked there stand in the order in which they blocked.
-use Rattle.zl_calls.proofs.Common.{◌≡◌, ◌==◌, ◌≤◌, ◌+◌, ◌&&◌, ◌||◌, ◌++◌, ℕ, Bool, true, false, not, List, [], ◌∷◌, map, refl, sym, ap, ◌∙◌, subst}
-use Rattle.zl_calls.proofs.Common.{Option, Some, None, inl}
-use Rattle.zl_calls.proofs.Common.{inr, IsTrue, get, Objects, process_entry, state_value, AreBlocked, length, list_any, state_passes, cases_Bool}
-use Rattle.zl_calls.proofs.Common.{false≢true, times}
-use Rattle.zl_calls.proofs.Common.{KeepSleepers, and_parts, arith, none-some, same_Some, if◌then◌else◌, eqb-true}
+use Rattle.zl_calls.proofs.Common.{AreBlocked, AreLeft, AreOrdered, Blocked, Bool, Created, Ended, Gone, IsTrue, KeepSleepers, List, None, Objects, Option}
+use Rattle.zl_calls.proofs.Common.{PacketAt, Ready, SignalOf, Some, State, [], and_parts, ap, arith, awaited_of, cases_Bool, eqb-true, false, false≢true}
+use Rattle.zl_calls.proofs.Common.{filter, filter-append, get, if◌then◌else◌, inl, inr, is_blocked, is_for, length, list_any, listed_for, map, none-some, not}
+use Rattle.zl_calls.proofs.Common.{process_entry, refl, same_Some, state_passes, state_value, subst, sym, takes_at, takes_from, times, true, ℕ, ◌&&◌, ◌++◌, ◌+◌}
+use Rattle.zl_calls.proofs.Common.{◌==◌, ◌||◌, ◌∙◌, ◌∷◌, ◌≡◌, ◌≤◌}
 use Rattle.std.proofs.Math.Dec.{ltb}
 use Rattle.std.proofs.lemmas.Bool.{ltb-false, ltb-true}
-use Rattle.std.specs.List.{filter}
-use Rattle.std.proofs.lemmas.List.Elements.{filter-append}
-use Rattle.zl_rights.specs.World.{State, Created, Ready, Ended, Gone, Blocked, PacketAt, SignalOf}
-use Rattle.zl_code.proofs.Common.{Process as ProcessValue, is_blocked}
-use Rattle.zl_objects.specs.Sleepers.{is_for, listed_for}
+use Rattle.zl_code.proofs.Common.{Process as ProcessValue}
 use Rattle.zl_objects.specs.declared.awaited.Awaited.{Awaited}
-use Rattle.zl_calls.specs.Blocked.{AreLeft, AreOrdered, takes_at, takes_from}
 use Rattle.zl_calls.specs.Blocking.{awaited_by, awaited_in}
-use Rattle.zl_calls.specs.World.{awaited_of}
 use Rattle.zl_calls.specs.declared.process.Process.{Process}
 use Rattle.zl_calls.proofs.calls.Answered.{IsWrite}
 use Rattle.zl_calls.proofs.processes.Written.{get_after}

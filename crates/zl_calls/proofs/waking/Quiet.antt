@@ -1,22 +1,16 @@
 -- Where the objects are quiet, no wait fires and no process wakes.
-use Rattle.zl_calls.proofs.Common.{◌≡◌, ℕ, Bool, true, false, not, List, [], ◌∷◌, map, refl, sym, ap, ◌∙◌, Option, Some, None, false≢true, list_any}
-use Rattle.zl_calls.proofs.Common.{get, Objects, process_entry, object_value, world_blocked, IsConsistent, World, fold, get_seen, is_empty}
-use Rattle.zl_calls.proofs.Common.{is_process}
-use Rattle.zl_calls.proofs.Common.{FiresWaits, PacketAt, SignalOf, Packet, packets_in, packets_of, signals_at}
-use Rattle.zl_rights.specs.Wakes.{holds, woken, woken_at_port}
-use Rattle.zl_rights.specs.World.{Awaited as AwaitedValue, State, Blocked, Wait}
-use Rattle.zl_code.proofs.Common.{Process as ProcessValue, active, has_child_job, has_child_process, meets}
+use Rattle.zl_calls.proofs.Common.{Blocked, Bool, FiresWaits, IsConsistent, List, None, Objects, Option, Packet, PacketAt, SignalOf, Some, State, Wait, World}
+use Rattle.zl_calls.proofs.Common.{[], active, ap, awaited_of, false, false≢true, fold, get, get_seen, has_child_job, has_child_process, holds, holds_now}
+use Rattle.zl_calls.proofs.Common.{is_due, is_empty, is_process, list_any, made_ready, map, meets, none_holds, not, object_value, packets_in, packets_of}
+use Rattle.zl_calls.proofs.Common.{process_entry, refl, signals_at, subst, sym, wakes, woken, woken_at_port, world_blocked, ℕ, ◌∙◌, ◌∷◌, ◌≡◌}
+use Rattle.zl_rights.specs.World.{Awaited as AwaitedValue}
+use Rattle.zl_code.proofs.Common.{Process as ProcessValue}
 use Rattle.zl_objects.specs.declared.object.Body.{Body}
 use Rattle.zl_objects.specs.declared.object.Body.TheVariants as body
 use Rattle.zl_objects.specs.declared.object.Object.{Object}
-use Rattle.zl_objects.specs.Calm.{holds_now, is_due}
-use Rattle.zl_calls.specs.World.{awaited_of}
 use Rattle.zl_calls.specs.declared.process.Process.{Process}
 use Rattle.zl_calls.proofs.objects.Active.{signals_active}
 use Rattle.zl_calls.proofs.waits.Firing.{fired_none}
-use Rattle.zl_calls.proofs.Common.{subst, wakes}
-use Rattle.zl_rights.specs.Wakes.{made_ready}
-use Rattle.zl_rights.proofs.Waking.{none_holds}
 
 module _ (ps : List Process) (r : Objects) (consistent : IsConsistent ps r) where
   active_there : (blocked : List ℕ) (k : ℕ) → active (world_blocked ps r blocked) k ≡ signals_at r.objects k

@@ -1,12 +1,11 @@
 -- A call blocks: it is a step up to where processes wake, its process is the last of the blocked, and the invariant holds afterwards.
-use Rattle.zl_calls.proofs.Common.{◌≡◌, ◌<◌, ◌^◌, ℕ, List, [], ◌∷◌, ◌++◌, refl, sym, ap, ◌∙◌, subst, Some, None, Ready, Blocked, Library, Site, refusal}
-use Rattle.zl_calls.proofs.Common.{on_process, runs, lives, Map, AtCall, next_for, Objects, Settles, process_value, state_value, world_blocked, world_value}
-use Rattle.zl_calls.proofs.Common.{AreBlocked, IsActed, IsConsistent, Agrees, Awaited, awaited_by, CallName, Outcome, world_left}
-use Rattle.zl_code.proofs.Common.{Process as ProcessValue, State as StateValue, is_blocked}
-use Rattle.zl_rights.specs.Signals.{has_ended}
+use Rattle.zl_calls.proofs.Common.{Agrees, AreBlocked, AtCall, Awaited, Blocked, CallName, IsActed, IsConsistent, Library, List, Map, None, Objects, Outcome}
+use Rattle.zl_calls.proofs.Common.{Ready, Settles, Site, Some, [], ap, awaited_by, blocked_in, has_ended, is_blocked, lives, next_for, on_process}
+use Rattle.zl_calls.proofs.Common.{process_value, refl, refusal, runs, state_value, subst, sym, world_blocked, world_left, world_value, ℕ, ◌++◌, ◌<◌, ◌^◌, ◌∙◌}
+use Rattle.zl_calls.proofs.Common.{◌∷◌, ◌≡◌}
+use Rattle.zl_code.proofs.Common.{Process as ProcessValue, State as StateValue}
 use Rattle.zl_code.specs.declared.history.Outcome.TheVariants as outcome
 use Rattle.zl_code.specs.declared.history.TraceItem.TheVariants as item
-use Rattle.zl_code.proofs.StepsBeside.{blocked_in}
 use Rattle.zl_code.proofs.StepsWaiting.{block_waiting}
 use Rattle.zl_code.specs.Sound.{IsSound as IsSoundWorld}
 use Rattle.zl_objects.specs.declared.object.Body.{Body}

@@ -1,28 +1,19 @@
 -- Who is blocked once a process has acted was so before, on the same, but for that process; so what each waits for stays known.
-use Rattle.zl_calls.proofs.Common.{◌≡◌, ◌==◌, ◌⊎◌, ◌≤◌, ◌++◌, ℕ, Bool, true, false, List, [], ◌∷◌, map, refl, sym, ap, ◌∙◌, subst, Option, Some, None, inl}
-use Rattle.zl_calls.proofs.Common.{inr, IsTrue, get, Objects, process_entry, state_value, world_blocked, AreBlocked}
-use Rattle.zl_calls.proofs.Common.{Library, TraceItem, state_passes, cases_Bool, false≢true, same_Some, lives, times, DoesNext, world_left}
-use Rattle.zl_calls.proofs.Common.{KeepSleepers, Seeks, then_blocked, arith, eq-eqb, if◌then◌else◌, eqb-true, is_local}
-use Rattle.zl_code.proofs.Common.{each}
-use Rattle.std.specs.List.{filter}
+use Rattle.zl_calls.proofs.Common.{AreBlocked, AreLeft, AreOrdered, AreSameButSleepers, AreSought, Blocked, Bool, DoesNext, IsTrue, IsUnlisted, KeepSleepers}
+use Rattle.zl_calls.proofs.Common.{Library, List, ListsLast, None, Objects, Option, Seeks, Sleeper, Some, State, TraceItem, [], ap, arith, awaited_of, bare}
+use Rattle.zl_calls.proofs.Common.{cases_Bool, each, eq-eqb, eqb-true, false, false≢true, filter, filter-append, get, if◌then◌else◌, inl, inr, is_blocked}
+use Rattle.zl_calls.proofs.Common.{is_for, is_local, knowing, koid_of, listed_for, lives, map, process_entry, refl, same_Some, slept, state_passes, state_value}
+use Rattle.zl_calls.proofs.Common.{subst, sym, takes_at, then_blocked, times, times-behind, times-last, true, world_blocked, world_left, ℕ, ◌++◌, ◌==◌, ◌∙◌}
+use Rattle.zl_calls.proofs.Common.{◌∷◌, ◌≡◌, ◌≤◌, ◌⊎◌}
 use Rattle.std.proofs.lemmas.List.{append-nil}
-use Rattle.std.proofs.lemmas.List.Elements.{filter-append}
-use Rattle.zl_rights.specs.World.{Awaited as AwaitedValue, State, Blocked}
-use Rattle.zl_code.proofs.Common.{Process as ProcessValue, IsSound as IsSoundWorld, is_blocked}
-use Rattle.zl_code.proofs.Changes.{times-behind, times-last}
+use Rattle.zl_rights.specs.World.{Awaited as AwaitedValue}
+use Rattle.zl_code.proofs.Common.{Process as ProcessValue, IsSound as IsSoundWorld}
 use Rattle.zl_code.proofs.Frame.{act_leaves_others}
 use Rattle.zl_code.specs.Frame.{OthersMake, left_alone, woken as was_woken, was_started, was_killed, dropped}
 use Rattle.zl_code.specs.declared.history.Outcome.TheVariants as outcome
 use Rattle.zl_code.specs.declared.history.TraceItem.TheVariants as item
-use Rattle.zl_objects.specs.Awaited.{AreSameButSleepers, koid_of}
-use Rattle.zl_objects.specs.Sleepers.{IsUnlisted, ListsLast, is_for, listed_for}
-use Rattle.zl_objects.specs.declared.awaited.Sleeper.{Sleeper}
-use Rattle.zl_objects.specs.Calm.{knowing, slept}
-use Rattle.zl_objects.specs.Waits.{bare}
 use Rattle.zl_objects.specs.declared.awaited.Awaited.{Awaited}
-use Rattle.zl_calls.specs.Blocked.{AreLeft, AreOrdered, AreSought, takes_at}
 use Rattle.zl_calls.specs.Blocking.{ComesLast, FallsAsleep, awaited_by, awaited_in, tells_asleep}
-use Rattle.zl_calls.specs.World.{awaited_of}
 use Rattle.zl_calls.specs.declared.process.Process.{Process}
 use Rattle.zl_calls.proofs.calls.Answered.{IsWrite}
 use Rattle.zl_calls.proofs.objects.SameButWaits.{beside_same, beside_world, one_bare}

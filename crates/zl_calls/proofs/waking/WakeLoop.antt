@@ -1,15 +1,12 @@
 -- Blocked processes wake one after another, in the order of the list.
-use Rattle.zl_calls.proofs.Common.{◌≡◌, ◌<◌, ◌≤◌, ◌+◌, ◌^◌, ℕ, zero, suc, Bool, true, false, not, ◌==◌, ◌++◌, List, [], ◌∷◌, length, take, map, get_or, refl}
-use Rattle.zl_calls.proofs.Common.{sym, ap, ◌∙◌, subst, if◌then◌else◌, inl, inr, Some, IsTrue, arith, cases_Bool, eq-eqb, eqb-true, state_passes, get, Objects}
-use Rattle.zl_calls.proofs.Common.{None, nat_lt, nat_tests, none-some, position, position_or_len, position-Some}
+use Rattle.zl_calls.proofs.Common.{AreBlocked, Bool, HaveLeft, IsConsistent, IsTrue, KeepSleepers, List, None, Objects, Some, WakesOne, Woke, World, []}
+use Rattle.zl_calls.proofs.Common.{and_one, ap, arith, cases_Bool, drop, eq-eqb, eqb-true, false, filter, fold, get, get_or, if◌then◌else◌, inl, inr}
+use Rattle.zl_calls.proofs.Common.{is_blocked, length, map, nat_lt, nat_tests, none-some, not, position, position-Some, position_or_len, process_entry, refl}
+use Rattle.zl_calls.proofs.Common.{state_passes, subst, suc, sym, take, times, true, woken, world_blocked, zero, ℕ, ◌++◌, ◌+◌, ◌<◌, ◌==◌, ◌^◌, ◌∙◌, ◌∷◌, ◌≡◌}
+use Rattle.zl_calls.proofs.Common.{◌≤◌}
 use Rattle.std.proofs.lemmas.List.Sums.{fails_before_first}
-use Rattle.zl_calls.proofs.Common.{process_entry, world_blocked, IsConsistent, AreBlocked, KeepSleepers, World, fold, times, WakesOne}
-use Rattle.std.specs.List.{filter}
-use Rattle.std.specs.Prelude.{drop}
-use Rattle.zl_code.proofs.Common.{Process as ProcessValue, is_blocked, woken}
-use Rattle.zl_calls.specs.Woke.{HaveLeft, and_one}
+use Rattle.zl_code.proofs.Common.{Process as ProcessValue}
 use Rattle.zl_calls.specs.declared.process.Process.{Process}
-use Rattle.zl_calls.specs.declared.waking.Woke.{Woke}
 use Rattle.zl_calls.specs.declared.waking.Woke.TheVariants as woke
 use Rattle.zl_calls.proofs.waking.BlockedLists.{none_filtered}
 

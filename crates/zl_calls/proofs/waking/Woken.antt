@@ -1,24 +1,18 @@
 -- A blocked process wakes, or stays blocked: the world afterwards, its invariant, and the list.
-use Rattle.zl_calls.proofs.Common.{◌≡◌, ℕ, Bool, true, false, not, ◌==◌, List, [], ◌∷◌, length, map, get_or, set, refl, sym, ap, ◌∙◌, if◌then◌else◌, Option}
-use Rattle.zl_calls.proofs.Common.{Some, None, is_some, inl, inr, ◌⊎◌, IsTrue, position, cases_Bool, eqb-true, false≢true, option_map, is_sorted, nat_cmp, Map}
-use Rattle.zl_calls.proofs.Common.{get, put, update, get-put, get-update, is_sorted-update, sorted_put, runs, lives, is_process, Objects, body_value}
-use Rattle.zl_calls.proofs.Common.{object_entry, object_value, process_entry, process_value, state_value, world_blocked, world_value, Agrees, IsConsistent}
-use Rattle.zl_calls.proofs.Common.{PortBody, passes, length-set, same_map, Packet, PacketAt, SignalOf, packet_values, body_packed, packet_taken, at_port}
-use Rattle.zl_calls.proofs.Common.{changed_port, changing_port, packets_in, packets_of, signals_at, get_seen, without_front, KeepSleepers, WakesOne}
-use Rattle.std.specs.Bool.{then_some}
-use Rattle.std.specs.List.{filter}
-use Rattle.std.specs.Prelude.{slice_get, drop}
-use Rattle.zl_code.proofs.Common.{Process as ProcessValue, Body as BodyValue, Object as ObjectValue, State as StateValue, Blocked, Ready, answered, meets}
-use Rattle.zl_code.proofs.Common.{active}
-use Rattle.zl_code.proofs.Common.{has_child_job, has_child_process, is_blocked, woken, made_ready}
-use Rattle.zl_rights.specs.Signals.{has_ended}
-use Rattle.zl_rights.specs.Wakes.{woken_by, woken_from, woken_at_port}
+use Rattle.zl_calls.proofs.Common.{Agrees, Blocked, Bool, IsConsistent, IsTrue, KeepSleepers, List, Map, None, Objects, Option, Packet, PacketAt, PortBody}
+use Rattle.zl_calls.proofs.Common.{Ready, SignalOf, Some, WakesOne, [], active, answered, ap, at_port, awake, body_packed, body_value, cases_Bool, changed_port}
+use Rattle.zl_calls.proofs.Common.{changing_port, destinations_of, drop, eqb-true, false, false≢true, filter, get, get-put, get-update, get_or, get_seen}
+use Rattle.zl_calls.proofs.Common.{given_awake, has_child_job, has_child_process, has_ended, if◌then◌else◌, inl, inr, is_blocked, is_process, is_some}
+use Rattle.zl_calls.proofs.Common.{is_sorted, is_sorted-update, length, length-set, lives, made_ready, map, meets, nat_cmp, not, object_entry, object_value}
+use Rattle.zl_calls.proofs.Common.{option_map, packet_taken, packet_values, packets_in, packets_of, passes, position, process_entry, process_value, put, refl}
+use Rattle.zl_calls.proofs.Common.{runs, same_map, set, signals_at, slice_get, sorted_put, state_value, sym, then_some, true, update, without_front}
+use Rattle.zl_calls.proofs.Common.{without_taken, woken, woken_at_port, woken_by, woken_from, world_blocked, world_value, ℕ, ◌==◌, ◌∙◌, ◌∷◌, ◌≡◌, ◌⊎◌}
+use Rattle.zl_code.proofs.Common.{Process as ProcessValue, Body as BodyValue, Object as ObjectValue, State as StateValue}
 use Rattle.zl_objects.specs.declared.object.Object.{Object as OwnObject}
 use Rattle.zl_objects.specs.declared.object.Body.{Body}
 use Rattle.zl_objects.specs.declared.object.Body.TheVariants as body
 use Rattle.zl_calls.specs.declared.process.State.TheVariants as state
 use Rattle.zl_calls.specs.declared.process.Process.{Process}
-use Rattle.zl_calls.specs.Waking.{awake, destinations_of, given_awake, without_taken}
 use Rattle.zl_calls.proofs.calls.Answered.{IsWrite}
 use Rattle.zl_calls.proofs.waking.BlockedLists.{one_awake}
 use Rattle.zl_calls.proofs.objects.Active.{signals_active}

@@ -1,4 +1,4 @@
-use Rattle.std.proofs.Common.{arith}
+use Rattle.zl_abs.proofs.Common.{arith}
 use Rattle.zl_abs.proofs.SortedBounds.{gathered_step, gathered_end}
 use Rattle.zl_abs.proofs.bounds.gathered.Goals as goal
 

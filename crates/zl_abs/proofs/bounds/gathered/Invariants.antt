@@ -1,5 +1,4 @@
-use Rattle.std.proofs.Common.{◌≡◌, ◌++◌, drop}
-use Rattle.zl_abs.specs.Bounds.{bounds_of, imm_bounds}
+use Rattle.zl_abs.proofs.Common.{bounds_of, drop, imm_bounds, ◌++◌, ◌≡◌}
 use Rattle.zl_abs.proofs.bounds.gathered.Given as goal
 
 abbrev pub invariant-loop-instr : goal.invariant-loop-instr

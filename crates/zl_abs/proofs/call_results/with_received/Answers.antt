@@ -1,5 +1,4 @@
-use Rattle.std.proofs.Common.{arith}
-use Rattle.std.proofs.lemmas.Grind.{get_or_default_zero}
+use Rattle.zl_abs.proofs.Common.{arith, get_or_default_zero}
 use Rattle.zl_abs.proofs.call_results.with_received.Goals as goal
 
 pub returns : goal.returns

@@ -1,6 +1,4 @@
-use Rattle.std.proofs.Common.{map, zip}
-use Rattle.zl_code.specs.Asked.{those, is_written}
-use Rattle.zl_code.specs.Instructions.{field_of}
+use Rattle.zl_abs.proofs.Common.{field_of, is_written, map, those, zip}
 use Rattle.zl_abs.proofs.WrittenSteps.{IsBegun}
 use Rattle.zl_abs.proofs.call_results.written.Given as goal
 

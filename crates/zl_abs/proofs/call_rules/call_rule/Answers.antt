@@ -1,8 +1,4 @@
-use Rattle.std.proofs.Common.{◌≡◌, ◌∙◌, true, subst, sym}
-use Rattle.zl_code.specs.Instructions.{Row, row_value}
-use Rattle.zl_code.specs.Spells.{names_registers, call_reading}
-use Rattle.zl_code.proofs.ImageCalls.{whole}
-use Rattle.zl_abs.specs.Found.{bounds_in}
+use Rattle.zl_abs.proofs.Common.{Row, bounds_in, call_reading, names_registers, row_value, subst, sym, true, whole, ◌∙◌, ◌≡◌}
 use Rattle.zl_abs.proofs.CallByRow.{stopped, ended}
 use Rattle.zl_abs.proofs.call_rules.call_rule.Goals as goal
 

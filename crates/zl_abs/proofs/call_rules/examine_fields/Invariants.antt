@@ -1,4 +1,4 @@
-use Rattle.std.proofs.Common.{◌≡◌}
+use Rattle.zl_abs.proofs.Common.{◌≡◌}
 use Rattle.zl_abs.proofs.CallSteps.{examined_from}
 use Rattle.zl_abs.proofs.call_rules.examine_fields.Given as goal
 

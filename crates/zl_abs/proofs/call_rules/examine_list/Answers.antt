@@ -1,5 +1,4 @@
-use Rattle.std.proofs.Common.{arith}
-use Rattle.zl_code.specs.Instructions.{field_of}
+use Rattle.zl_abs.proofs.Common.{arith, field_of}
 use Rattle.zl_abs.proofs.ListSteps.{listed_more, listed_end}
 use Rattle.zl_abs.proofs.call_rules.examine_list.Goals as goal
 

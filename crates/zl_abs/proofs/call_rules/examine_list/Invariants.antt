@@ -1,5 +1,4 @@
-use Rattle.std.proofs.Common.{◌≡◌, drop}
-use Rattle.zl_code.specs.Instructions.{field_of}
+use Rattle.zl_abs.proofs.Common.{drop, field_of, ◌≡◌}
 use Rattle.zl_abs.proofs.ListSteps.{listed}
 use Rattle.zl_abs.proofs.call_rules.examine_list.Given as goal
 

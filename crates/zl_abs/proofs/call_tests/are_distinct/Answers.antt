@@ -1,6 +1,4 @@
-use Rattle.std.proofs.Common.{◌∙◌, ◌+◌, List, ℕ, ap, sym, arith}
-use Rattle.zl_abs.specs.declared.value.AbsVal.{AbsVal}
-use Rattle.zl_abs.specs.CallRules.{is_result}
+use Rattle.zl_abs.proofs.Common.{AbsVal, List, ap, arith, is_result, sym, ℕ, ◌+◌, ◌∙◌}
 use Rattle.zl_abs.proofs.CallSteps.{distinct_end, distinct_stop, distinct_more, rest_of}
 use Rattle.zl_abs.proofs.call_tests.are_distinct.Goals as goal
 

@@ -1,5 +1,4 @@
-use Rattle.std.proofs.Common.{◌≡◌, drop}
-use Rattle.zl_abs.specs.CallRules.{are_distinct}
+use Rattle.zl_abs.proofs.Common.{are_distinct, drop, ◌≡◌}
 use Rattle.zl_abs.proofs.call_tests.are_distinct.Given as goal
 
 abbrev pub invariant-loop-i : goal.invariant-loop-i

@@ -1,4 +1,4 @@
-use Rattle.std.proofs.Common.{◌≡◌}
+use Rattle.zl_abs.proofs.Common.{◌≡◌}
 use Rattle.zl_abs.proofs.CallSteps.{are_words_from}
 use Rattle.zl_abs.proofs.call_tests.are_words.Given as goal
 

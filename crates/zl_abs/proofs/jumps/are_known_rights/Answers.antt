@@ -1,5 +1,4 @@
-use Rattle.std.proofs.Common.{◌∙◌, refl}
-use Rattle.bitflags.specs.Sets.{known_from}
+use Rattle.zl_abs.proofs.Common.{known_from, refl, ◌∙◌}
 use Rattle.zl_abs.proofs.jumps.are_known_rights.Goals as goal
 
 pub returns : goal.returns

@@ -1,5 +1,4 @@
-use Rattle.std.proofs.Common.{sym, ◌∙◌, arith, ap, drop, ◌+◌, ℕ}
-use Rattle.zl_abs.specs.Bounds.{least_from}
+use Rattle.zl_abs.proofs.Common.{ap, arith, drop, least_from, sym, ℕ, ◌+◌, ◌∙◌}
 use Rattle.zl_abs.proofs.Rounding.{least_step, least_end}
 use Rattle.zl_abs.proofs.round_up.least_in.Goals as goal
 

@@ -1,5 +1,4 @@
-use Rattle.std.proofs.Common.{◌≡◌, drop}
-use Rattle.zl_abs.specs.Bounds.{least_from}
+use Rattle.zl_abs.proofs.Common.{drop, least_from, ◌≡◌}
 use Rattle.zl_abs.proofs.round_up.least_in.Given as goal
 
 abbrev pub invariant-loop-bound : goal.invariant-loop-bound

@@ -1,5 +1,4 @@
-use Rattle.std.proofs.Common.{sym, ◌∙◌, arith, ap, drop, ◌+◌, ℕ}
-use Rattle.zl_abs.specs.Bounds.{least_from, imm_bounds}
+use Rattle.zl_abs.proofs.Common.{ap, arith, drop, imm_bounds, least_from, sym, ℕ, ◌+◌, ◌∙◌}
 use Rattle.zl_abs.proofs.Rounding.{code_step, code_end}
 use Rattle.zl_abs.proofs.round_up.least_in_code.Goals as goal
 

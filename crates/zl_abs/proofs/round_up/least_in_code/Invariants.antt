@@ -1,5 +1,4 @@
-use Rattle.std.proofs.Common.{◌≡◌, drop}
-use Rattle.zl_abs.specs.Bounds.{least_from, imm_bounds}
+use Rattle.zl_abs.proofs.Common.{drop, imm_bounds, least_from, ◌≡◌}
 use Rattle.zl_abs.proofs.round_up.least_in_code.Given as goal
 
 abbrev pub invariant-loop-instr : goal.invariant-loop-instr

@@ -1,5 +1,4 @@
-use Rattle.std.proofs.Common.{◌∙◌, sym}
-use Rattle.zl_abs.specs.Found.{bounds_in}
+use Rattle.zl_abs.proofs.Common.{bounds_in, sym, ◌∙◌}
 use Rattle.zl_abs.proofs.RuleSteps.{local_there, call_there}
 use Rattle.zl_abs.proofs.rules.steps_rounding.Goals as goal
 

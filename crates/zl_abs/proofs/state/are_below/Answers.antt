@@ -1,4 +1,4 @@
-use Rattle.std.proofs.Common.{sym, ◌∙◌, arith, refl}
+use Rattle.zl_abs.proofs.Common.{arith, refl, sym, ◌∙◌}
 use Rattle.zl_abs.proofs.StateSteps.{below_step, below_end}
 use Rattle.zl_abs.proofs.state.are_below.Goals as goal
 

@@ -1,5 +1,4 @@
-use Rattle.std.proofs.Common.{◌≡◌, drop}
-use Rattle.zl_abs.specs.States.{all_below}
+use Rattle.zl_abs.proofs.Common.{all_below, drop, ◌≡◌}
 use Rattle.zl_abs.proofs.state.are_below.Given as goal
 
 abbrev pub invariant-loop-i : goal.invariant-loop-i

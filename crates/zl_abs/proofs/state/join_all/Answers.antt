@@ -1,6 +1,4 @@
-use Rattle.std.proofs.Common.{◌++◌, List, take, sym, ◌∙◌, arith, ap}
-use Rattle.std.specs.Option.{option_map}
-use Rattle.zl_abs.specs.declared.value.AbsVal.{AbsVal}
+use Rattle.zl_abs.proofs.Common.{AbsVal, List, ap, arith, option_map, sym, take, ◌++◌, ◌∙◌}
 use Rattle.zl_abs.proofs.StateSteps.{joined_more, joined_stop, joined_end}
 use Rattle.zl_abs.proofs.state.join_all.Goals as goal
 

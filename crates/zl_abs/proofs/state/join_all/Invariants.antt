@@ -1,6 +1,4 @@
-use Rattle.std.proofs.Common.{◌≡◌, ◌++◌, take, drop}
-use Rattle.std.specs.Option.{option_map}
-use Rattle.zl_abs.specs.States.{all_joined}
+use Rattle.zl_abs.proofs.Common.{all_joined, drop, option_map, take, ◌++◌, ◌≡◌}
 use Rattle.zl_abs.proofs.state.join_all.Given as goal
 
 abbrev pub invariant-loop-i : goal.invariant-loop-i

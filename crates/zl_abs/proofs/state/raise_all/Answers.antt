@@ -1,4 +1,4 @@
-use Rattle.std.proofs.Common.{sym, ◌∙◌, arith}
+use Rattle.zl_abs.proofs.Common.{arith, sym, ◌∙◌}
 use Rattle.zl_abs.proofs.RaiseSteps.{still_apart, raised_more, raised_same, raised_stop, raised_joined, raised_rises}
 use Rattle.zl_abs.proofs.state.raise_all.Goals as goal
 use Rattle.zl_abs.proofs.state.raise_all.Goals.{then-not-is_below+in-Some, else-not-is_below}

@@ -1,5 +1,4 @@
-use Rattle.std.proofs.Common.{◌≡◌, ◌++◌, take, drop, map}
-use Rattle.zl_abs.specs.Values.{retagged}
+use Rattle.zl_abs.proofs.Common.{drop, map, retagged, take, ◌++◌, ◌≡◌}
 use Rattle.zl_abs.proofs.state.retag.Given as goal
 
 abbrev pub invariant-loop-value : goal.invariant-loop-value

@@ -1,5 +1,4 @@
-use Rattle.std.proofs.Common.{◌≡◌, ◌++◌, take, drop, map}
-use Rattle.zl_abs.specs.Values.{untagged}
+use Rattle.zl_abs.proofs.Common.{drop, map, take, untagged, ◌++◌, ◌≡◌}
 use Rattle.zl_abs.proofs.state.untag.Given as goal
 
 abbrev pub invariant-loop-value : goal.invariant-loop-value

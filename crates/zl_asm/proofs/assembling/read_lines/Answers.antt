@@ -1,4 +1,4 @@
-use Rattle.zl_asm.proofs.Common.{ℕ, List, length, eqb, rules, sym, subst, inl, inr, ◌∷◌, [], map-append, lines_of, held_by}
+use Rattle.zl_asm.proofs.Common.{List, [], eqb, held_by, inl, inr, length, lines_of, map-append, rules, subst, sym, ℕ, ◌∷◌}
 use Rattle.std.proofs.lemmas.Iterator.Consumers.{YieldsList-so_far, YieldsList-turn, YieldsList-end, YieldsList-from_enumerate}
 use Rattle.std.proofs.lemmas.Iterator.Splits.{YieldsList-from_slice_split}
 use Rattle.zl_asm.proofs.Numbered.{lines_so_far, lines_all}

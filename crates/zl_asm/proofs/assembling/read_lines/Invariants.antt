@@ -1,4 +1,4 @@
-use Rattle.zl_asm.proofs.Common.{map, held_by}
+use Rattle.zl_asm.proofs.Common.{held_by, map}
 use Rattle.zl_asm.proofs.ListingText.{SoFar}
 use Rattle.zl_asm.proofs.assembling.read_lines.Given as goal
 

@@ -1,4 +1,4 @@
-use Rattle.zl_asm.proofs.Common.{subst, sym, List, ℕ, Denotes}
+use Rattle.zl_asm.proofs.Common.{Denotes, List, subst, sym, ℕ}
 use Rattle.zl_asm.proofs.Laid.{text_written, needs_in_range}
 use Rattle.zl_asm.proofs.RoundWhole.{each_text_denotes}
 use Rattle.zl_asm.proofs.disassembling.disassemble.Goals as goal

@@ -1,4 +1,4 @@
-use Rattle.zl_asm.proofs.Common.{◌≡◌, ◌++◌, take, string_bytes, hex_text}
+use Rattle.zl_asm.proofs.Common.{hex_text, string_bytes, take, ◌++◌, ◌≡◌}
 use Rattle.zl_asm.proofs.disassembling.push_bytes.Given as goal
 
 abbrev pub invariant-loop-byte : goal.invariant-loop-byte

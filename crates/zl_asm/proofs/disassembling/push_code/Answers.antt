@@ -1,5 +1,5 @@
-use Rattle.zl_asm.proofs.Common.{◌≡◌, ◌<◌, ◌≤◌, ◌++◌, ℕ, List, false, map, get_or, length, string_bytes, append-nil, sym, ap, ◌∙◌, arith, length-map}
-use Rattle.zl_asm.proofs.Common.{get_or-map, instr_bytes, drop_all, is_target, code_lines_from, ended, line_text}
+use Rattle.zl_asm.proofs.Common.{List, ap, append-nil, arith, code_lines_from, drop_all, ended, false, get_or, get_or-map, instr_bytes, is_target, length}
+use Rattle.zl_asm.proofs.Common.{length-map, line_text, map, string_bytes, sym, ℕ, ◌++◌, ◌<◌, ◌∙◌, ◌≡◌, ◌≤◌}
 use Rattle.zl_asm.proofs.Laid.{line_written}
 use Rattle.zl_asm.proofs.disassembling.push_code.Goals as goal
 

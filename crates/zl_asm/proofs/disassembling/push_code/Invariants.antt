@@ -1,4 +1,4 @@
-use Rattle.zl_asm.proofs.Common.{◌≡◌, ◌++◌, map, drop, string_bytes, instr_bytes, code_lines_from, code_lines, ended}
+use Rattle.zl_asm.proofs.Common.{code_lines, code_lines_from, drop, ended, instr_bytes, map, string_bytes, ◌++◌, ◌≡◌}
 use Rattle.zl_asm.proofs.disassembling.push_code.Given as goal
 
 abbrev pub invariant-loop-n : goal.invariant-loop-n

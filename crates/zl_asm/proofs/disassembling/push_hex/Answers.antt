@@ -1,4 +1,4 @@
-use Rattle.zl_asm.proofs.Common.{false, arith}
+use Rattle.zl_asm.proofs.Common.{arith, false}
 use Rattle.std.proofs.lemmas.Fmt.{hex_byte}
 use Rattle.zl_asm.proofs.disassembling.push_hex.Goals as goal
 

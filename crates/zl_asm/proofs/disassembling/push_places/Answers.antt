@@ -1,5 +1,5 @@
-use Rattle.zl_asm.proofs.Common.{◌≡◌, ℕ, List, ◌++◌, true, false, eqb, not, take, get_or, string_bytes, append_assoc, sym, ap, ◌∙◌, arith, nat_tests}
-use Rattle.zl_asm.proofs.Common.{register_text, behind}
+use Rattle.zl_asm.proofs.Common.{List, ap, append_assoc, arith, behind, eqb, false, get_or, nat_tests, not, register_text, string_bytes, sym, take, true, ℕ}
+use Rattle.zl_asm.proofs.Common.{◌++◌, ◌∙◌, ◌≡◌}
 use Rattle.zl_asm.proofs.Joined.{texts, between_now, place_written, place_after, place_passed}
 use Rattle.zl_asm.proofs.disassembling.push_places.Goals as goal
 use Rattle.zl_asm.proofs.disassembling.push_places.Goals.{then-place+in_ok-push_register, else-place}

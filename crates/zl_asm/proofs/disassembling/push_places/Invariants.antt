@@ -1,4 +1,4 @@
-use Rattle.zl_asm.proofs.Common.{◌≡◌, ◌++◌, take, string_bytes, behind}
+use Rattle.zl_asm.proofs.Common.{behind, string_bytes, take, ◌++◌, ◌≡◌}
 use Rattle.zl_asm.proofs.Joined.{texts, between_now}
 use Rattle.zl_asm.proofs.disassembling.push_places.Given as goal
 

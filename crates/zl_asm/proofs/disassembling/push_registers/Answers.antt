@@ -1,4 +1,4 @@
-use Rattle.zl_asm.proofs.Common.{ℕ, List, [], ◌++◌, cond, eqb, codes, get_or, string_bytes, append_assoc, append-nil, sym, ap, ◌∙◌, joined, register_text}
+use Rattle.zl_asm.proofs.Common.{List, [], ap, append-nil, append_assoc, codes, cond, eqb, get_or, joined, register_text, string_bytes, sym, ℕ, ◌++◌, ◌∙◌}
 use Rattle.zl_asm.proofs.Joined.{register_more}
 use Rattle.zl_asm.proofs.disassembling.push_registers.Goals as goal
 

@@ -1,4 +1,4 @@
-use Rattle.zl_asm.proofs.Common.{◌≡◌, ◌++◌, codes, map, take, string_bytes, joined, register_text}
+use Rattle.zl_asm.proofs.Common.{codes, joined, map, register_text, string_bytes, take, ◌++◌, ◌≡◌}
 use Rattle.zl_asm.proofs.disassembling.push_registers.Given as goal
 
 abbrev pub invariant-loop-place : goal.invariant-loop-place

@@ -1,4 +1,4 @@
-use Rattle.zl_asm.proofs.Common.{◌≡◌, length, take, string_bytes, arith, length-take-le, reading_of, tail_texts}
+use Rattle.zl_asm.proofs.Common.{arith, length, length-take-le, reading_of, string_bytes, tail_texts, take, ◌≡◌}
 use Rattle.zl_asm.proofs.Joined.{row_written}
 use Rattle.zl_asm.proofs.disassembling.push_row.Goals as goal
 

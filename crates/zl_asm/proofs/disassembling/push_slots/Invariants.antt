@@ -1,4 +1,4 @@
-use Rattle.zl_asm.proofs.Common.{◌≡◌, ◌++◌, take, string_bytes, flat_map, slot_array_text}
+use Rattle.zl_asm.proofs.Common.{flat_map, slot_array_text, string_bytes, take, ◌++◌, ◌≡◌}
 use Rattle.zl_asm.proofs.disassembling.push_slots.Given as goal
 
 abbrev pub invariant-loop-array : goal.invariant-loop-array

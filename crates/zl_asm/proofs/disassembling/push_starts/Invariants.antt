@@ -1,4 +1,4 @@
-use Rattle.zl_asm.proofs.Common.{◌≡◌, ◌++◌, take, string_bytes, flat_map, start_text}
+use Rattle.zl_asm.proofs.Common.{flat_map, start_text, string_bytes, take, ◌++◌, ◌≡◌}
 use Rattle.zl_asm.proofs.disassembling.push_starts.Given as goal
 
 abbrev pub invariant-loop-start : goal.invariant-loop-start

@@ -1,4 +1,4 @@
-use Rattle.zl_asm.proofs.Common.{◌≡◌, ◌<◌, ◌||◌, ℕ, List, false, map, get_or, length, sym, ap, ◌∙◌, arith, length-map, get_or-map, instr_bytes, aims_at}
+use Rattle.zl_asm.proofs.Common.{List, aims_at, ap, arith, false, get_or, get_or-map, instr_bytes, length, length-map, map, sym, ℕ, ◌<◌, ◌||◌, ◌∙◌, ◌≡◌}
 use Rattle.zl_asm.proofs.Laid.{targets_more}
 use Rattle.zl_asm.proofs.disassembling.targets_of.Goals as goal
 

@@ -1,4 +1,4 @@
-use Rattle.zl_asm.proofs.Common.{length, map, take, instr_bytes, TargetsAre}
+use Rattle.zl_asm.proofs.Common.{TargetsAre, instr_bytes, length, map, take}
 use Rattle.zl_asm.proofs.disassembling.targets_of.Given as goal
 
 abbrev pub invariant-loop-instr : goal.invariant-loop-instr

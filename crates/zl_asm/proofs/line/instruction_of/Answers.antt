@@ -1,7 +1,6 @@
-use Rattle.zl_asm.proofs.Common.{◌≡◌, Option, List, ℕ, ap, sym, ◌∙◌, operands_of, instruction_of, then_with, source_of, source_value, texts, option_map}
-use Rattle.zl_asm.proofs.Common.{result_ok}
+use Rattle.zl_asm.proofs.Common.{List, Option, Row, ap, instruction_of, operands_of, option_map, result_ok, row_value, source_of, source_value, sym, texts}
+use Rattle.zl_asm.proofs.Common.{then_with, ℕ, ◌∙◌, ◌≡◌}
 use Rattle.zl_asm.specs.declared.fault.AsmCause.TheVariants.{NoMemory}
-use Rattle.zl_code.specs.Instructions.{Row, row_value}
 use Rattle.zl_asm.proofs.Answered.{value_if_ok, none_if_err}
 use Rattle.zl_asm.proofs.LineOperands.{Text}
 use Rattle.zl_asm.proofs.line.instruction_of.Goals as goal

@@ -1,4 +1,4 @@
-use Rattle.zl_asm.proofs.Common.{sym, ap, ◌∙◌, option_map}
+use Rattle.zl_asm.proofs.Common.{ap, option_map, sym, ◌∙◌}
 use Rattle.zl_asm.proofs.LineNames.{with_colon, no_colon, no_byte, as_name, as_none}
 use Rattle.zl_asm.proofs.line.label_of.Goals as goal
 use Rattle.zl_asm.proofs.line.label_of.Goals.{else-last-eq58-via-then-last-eq58+else-is_name, else-last-eq58-via-else-last-eq58}

@@ -1,5 +1,4 @@
-use Rattle.zl_asm.proofs.Common.{arith}
-use Rattle.std.proofs.lemmas.Grind.{common_steps}
+use Rattle.zl_asm.proofs.Common.{arith, common_steps}
 use Rattle.zl_asm.proofs.WordsHex.{not_sixteen, next_byte, no_byte, last_byte}
 use Rattle.zl_asm.proofs.numbers.sixteen_bytes.Goals as goal
 

@@ -1,4 +1,4 @@
-use Rattle.zl_asm.proofs.Common.{◌≡◌, ◌*◌, ◌++◌, length, take, drop, hex_bytes, option_map}
+use Rattle.zl_asm.proofs.Common.{drop, hex_bytes, length, option_map, take, ◌*◌, ◌++◌, ◌≡◌}
 use Rattle.zl_asm.proofs.numbers.sixteen_bytes.Given as goal
 
 abbrev pub invariant-loop-i : goal.invariant-loop-i

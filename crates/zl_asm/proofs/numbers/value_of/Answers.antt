@@ -1,5 +1,5 @@
-use Rattle.zl_asm.proofs.Common.{◌≡◌, ℕ, ◌+◌, ◌*◌, ◌<◌, true, Some, length, get_or, take, sym, ap, ◌∙◌, arith, list_all, nat_tests, value_of, is_digit}
-use Rattle.zl_asm.proofs.Common.{take_all}
+use Rattle.zl_asm.proofs.Common.{Some, ap, arith, get_or, is_digit, length, list_all, nat_tests, sym, take, take_all, true, value_of, ℕ, ◌*◌, ◌+◌, ◌<◌, ◌∙◌}
+use Rattle.zl_asm.proofs.Common.{◌≡◌}
 use Rattle.zl_asm.proofs.WordsNumber.{none_empty, none_digit, none_longer, some_number, not_digit, one_longer, all_longer}
 use Rattle.zl_asm.proofs.numbers.value_of.Goals as goal
 

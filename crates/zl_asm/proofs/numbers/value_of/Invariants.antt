@@ -1,4 +1,4 @@
-use Rattle.zl_asm.proofs.Common.{◌≡◌, ◌^◌, ◌<◌, true, take, list_all, value_of, is_digit}
+use Rattle.zl_asm.proofs.Common.{is_digit, list_all, take, true, value_of, ◌<◌, ◌^◌, ◌≡◌}
 use Rattle.zl_asm.proofs.numbers.value_of.Given as goal
 
 abbrev pub invariant-loop-byte : goal.invariant-loop-byte

@@ -1,4 +1,4 @@
-use Rattle.zl_asm.proofs.Common.{ap, ◌∙◌, tail_value, option_map}
+use Rattle.zl_asm.proofs.Common.{ap, option_map, tail_value, ◌∙◌}
 use Rattle.zl_asm.proofs.LineOperands.{too_many, no_handles, handles_placed}
 use Rattle.zl_asm.proofs.Answered.{no_answer}
 use Rattle.zl_asm.proofs.operands.handles.Goals as goal

@@ -1,5 +1,4 @@
-use Rattle.zl_asm.proofs.Common.{ℕ, Option, List, drop, sym, ap, ◌++◌, length, arith, option_map}
-use Rattle.std.proofs.lemmas.Grind.{common_steps}
+use Rattle.zl_asm.proofs.Common.{List, Option, ap, arith, common_steps, drop, length, option_map, sym, ℕ, ◌++◌}
 use Rattle.zl_asm.proofs.LineOperands.{next_register, no_register, last_register}
 use Rattle.zl_asm.proofs.operands.put_registers.Goals as goal
 

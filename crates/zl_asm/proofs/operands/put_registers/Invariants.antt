@@ -1,4 +1,4 @@
-use Rattle.zl_asm.proofs.Common.{◌≡◌, ◌++◌, map, take, drop, register_of, all_of, option_map}
+use Rattle.zl_asm.proofs.Common.{all_of, drop, map, option_map, register_of, take, ◌++◌, ◌≡◌}
 use Rattle.zl_asm.proofs.operands.put_registers.Given as goal
 
 abbrev pub invariant-loop-i : goal.invariant-loop-i

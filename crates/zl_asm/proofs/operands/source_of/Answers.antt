@@ -1,5 +1,4 @@
-use Rattle.zl_asm.proofs.Common.{length-map, source_of, tail_value}
-use Rattle.zl_code.specs.Instructions.{field_of}
+use Rattle.zl_asm.proofs.Common.{field_of, length-map, source_of, tail_value}
 use Rattle.zl_asm.proofs.LineOperands.{assembled}
 use Rattle.zl_asm.proofs.operands.source_of.Goals as goal
 

@@ -1,4 +1,4 @@
-use Rattle.zl_asm.proofs.Common.{sym, inr, arith, map-append, nat_tests, operands_of, texts}
+use Rattle.zl_asm.proofs.Common.{arith, inr, map-append, nat_tests, operands_of, sym, texts}
 use Rattle.zl_asm.proofs.LineOperands.{no_words, at_first, one_more, at_comma, at_words, at_last, at_last_comma, at_end}
 use Rattle.zl_asm.proofs.operands.split_operands.Goals as goal
 use Rattle.zl_asm.proofs.operands.split_operands.Goals.{then-is-via-then-is, then-is-via-else-is+then-not-is}

@@ -1,4 +1,4 @@
-use Rattle.zl_asm.proofs.Common.{◌≡◌, ◌++◌, length, map, operands_of, operands_after, option_map}
+use Rattle.zl_asm.proofs.Common.{length, map, operands_after, operands_of, option_map, ◌++◌, ◌≡◌}
 use Rattle.zl_asm.proofs.operands.split_operands.Given as goal
 
 abbrev pub invariant-loop-rest : goal.invariant-loop-rest

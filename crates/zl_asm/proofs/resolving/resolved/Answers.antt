@@ -1,4 +1,4 @@
-use Rattle.zl_asm.proofs.Common.{Some, sym, ap, ◌∙◌, option_copied}
+use Rattle.zl_asm.proofs.Common.{Some, ap, option_copied, sym, ◌∙◌}
 use Rattle.zl_asm.proofs.DraftGives.{resolved_by}
 use Rattle.zl_asm.proofs.resolving.resolved.Goals as goal
 

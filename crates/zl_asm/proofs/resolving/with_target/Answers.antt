@@ -1,4 +1,4 @@
-use Rattle.zl_asm.proofs.Common.{rules, ◌∷◌, ◌++◌, ◌∙◌, ap, ℕ, bytes_of}
+use Rattle.zl_asm.proofs.Common.{ap, bytes_of, rules, ℕ, ◌++◌, ◌∙◌, ◌∷◌}
 use Rattle.zl_asm.proofs.DraftGives.{retargeted}
 use Rattle.zl_asm.proofs.resolving.with_target.Goals as goal
 

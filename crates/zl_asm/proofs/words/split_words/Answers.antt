@@ -1,4 +1,4 @@
-use Rattle.zl_asm.proofs.Common.{◌<◌, ◌≢◌, get_or, map, length, arith, map-append, words_of}
+use Rattle.zl_asm.proofs.Common.{arith, get_or, length, map, map-append, words_of, ◌<◌, ◌≢◌}
 use Rattle.std.proofs.lemmas.Result.{IfOk-equal}
 use Rattle.zl_asm.proofs.WordsSplit.{after_semicolon, after_space, after_comma, after_letter, at_line_end}
 use Rattle.zl_asm.proofs.words.split_words.Goals as goal

@@ -1,4 +1,4 @@
-use Rattle.zl_asm.proofs.Common.{◌≡◌, ◌-◌, ◌≤◌, ◌++◌, map, take, drop, words_from, words_of}
+use Rattle.zl_asm.proofs.Common.{drop, map, take, words_from, words_of, ◌++◌, ◌-◌, ◌≡◌, ◌≤◌}
 use Rattle.zl_asm.proofs.words.split_words.Given as goal
 
 abbrev pub invariant-loop-i : goal.invariant-loop-i

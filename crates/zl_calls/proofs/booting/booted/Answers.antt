@@ -1,5 +1,4 @@
-use Rattle.zl_calls.proofs.Common.{◌∙◌, ◌≤◌, ap, subst, get_or, List, boot_fault, Makes, IsCauseOf, seen, Statement, word_of, most_word}
-use Rattle.zl_code.specs.Boot.{gives_more}
+use Rattle.zl_calls.proofs.Common.{IsCauseOf, List, Makes, Statement, ap, boot_fault, get_or, gives_more, most_word, seen, subst, word_of, ◌∙◌, ◌≤◌}
 use Rattle.zl_calls.proofs.booting.BootRun.{none_made, one_more, all_small, first_fault, limit_fault, none_reached, some_reached}
 use Rattle.zl_calls.proofs.booting.booted.Goals as goal
 

@@ -1,5 +1,4 @@
-use Rattle.std.specs.Prelude.{◌-◌, length}
-use Rattle.zl_calls.specs.Leaving.{NoneUnstarted}
+use Rattle.zl_calls.proofs.Common.{NoneUnstarted, length, ◌-◌}
 use Rattle.zl_calls.proofs.leaving.first_unstarted.Given as goal
 
 abbrev pub invariant-loop-process : goal.invariant-loop-process

@@ -1,5 +1,4 @@
-use Rattle.zl_calls.proofs.Common.{refl}
-use Rattle.zl_calls.specs.Leaving.{left_beside}
+use Rattle.zl_calls.proofs.Common.{left_beside, refl}
 use Rattle.zl_calls.proofs.processes.InOrder.{all_in_order}
 use Rattle.zl_calls.proofs.processes.Started.{left_started_too, map_started}
 use Rattle.zl_calls.proofs.leaving.leave.Goals as goal

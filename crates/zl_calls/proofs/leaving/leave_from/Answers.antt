@@ -1,5 +1,4 @@
-use Rattle.zl_calls.proofs.Common.{◌<◌, ◌≤◌, length, arith, refl}
-use Rattle.zl_calls.specs.Leaving.{left_beside}
+use Rattle.zl_calls.proofs.Common.{arith, left_beside, length, refl, ◌<◌, ◌≤◌}
 use Rattle.zl_calls.proofs.lists.Mapping.{all_mapped, one_mapped}
 use Rattle.zl_calls.proofs.processes.Started.{none_left_before}
 use Rattle.zl_calls.proofs.leaving.leave_from.Goals as goal

@@ -1,4 +1,4 @@
-use Rattle.zl_calls.specs.Leaving.{left_beside}
+use Rattle.zl_calls.proofs.Common.{left_beside}
 use Rattle.zl_calls.proofs.lists.Mapping.{IsMapped}
 use Rattle.zl_calls.proofs.leaving.leave_from.Given as goal
 

@@ -1,5 +1,4 @@
-use Rattle.zl_calls.proofs.Common.{◌≡◌, ◌∙◌, ◌+◌, arith, sym, ap, suc, common_steps, result_err, reg}
-use Rattle.std.specs.Prelude.{slice_index}
+use Rattle.zl_calls.proofs.Common.{ap, arith, common_steps, reg, result_err, slice_index, suc, sym, ◌+◌, ◌∙◌, ◌≡◌}
 use Rattle.zl_calls.proofs.policy.Examining.{one_examined}
 use Rattle.zl_calls.proofs.policy.examine.Goals as goal
 

@@ -1,5 +1,4 @@
-use Rattle.zl_calls.proofs.Common.{◌≡◌, map, field_of, fields_fault, last_fault}
-use Rattle.std.specs.Prelude.{drop}
+use Rattle.zl_calls.proofs.Common.{drop, field_of, fields_fault, last_fault, map, ◌≡◌}
 use Rattle.zl_calls.proofs.policy.examine.Given as goal
 
 abbrev pub invariant-loop-n : goal.invariant-loop-n

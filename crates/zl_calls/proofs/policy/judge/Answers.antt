@@ -1,4 +1,4 @@
-use Rattle.zl_calls.proofs.Common.{◌≡◌, ◌∙◌, None, Some, ap, site_of, sym, verdict_on, fault_of}
+use Rattle.zl_calls.proofs.Common.{None, Some, ap, fault_of, site_of, sym, verdict_on, ◌∙◌, ◌≡◌}
 use Rattle.zl_calls.proofs.policy.Examining.{judged}
 use Rattle.zl_calls.proofs.policy.Verdicts.{at_site, unset}
 use Rattle.zl_calls.proofs.policy.judge.Goals as goal

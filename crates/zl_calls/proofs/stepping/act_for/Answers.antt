@@ -1,8 +1,8 @@
+use Rattle.zl_calls.proofs.Common.{ap, inl, is_created, is_ready, parts, set, state_value, sym, true, ◌∙◌, ◌≡◌}
 use Rattle.zl_calls.specs.declared.process.Process.{Process}
 use Rattle.zl_calls.proofs.processes.Idle.{are_closed}
 use Rattle.zl_calls.proofs.processes.InOrder.{set_in_order}
 use Rattle.zl_calls.proofs.processes.Started.{set_started}
-use Rattle.zl_calls.proofs.Common.{ap, inl, is_created, ◌≡◌, true, set, sym, ◌∙◌, parts, is_ready, state_value}
 use Rattle.zl_calls.proofs.waking.BlockedLists.{no_more}
 use Rattle.zl_calls.proofs.stepping.CallSteps.{called_so, caller_ready, goes_from, moves_from, over_from, stays_from, stops_from}
 use Rattle.zl_calls.proofs.stepping.Performing.{HasActed, HasLeft, here, turn_at, within}

@@ -1,6 +1,5 @@
-use Rattle.zl_calls.proofs.Common.{ap}
+use Rattle.zl_calls.proofs.Common.{Taken, ap}
 use Rattle.zl_calls.proofs.tables.ChildBy.{child_noted}
-use Rattle.zl_calls.specs.declared.taken.Taken.{Taken}
 use Rattle.zl_calls.proofs.stepping.note_taken.Goals as goal
 
 pub returns-then-is_start-clause-child : goal.returns-then-is_start-clause-child

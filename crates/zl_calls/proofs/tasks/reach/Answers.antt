@@ -1,13 +1,10 @@
-use Rattle.zl_calls.proofs.Common.{ap, arith, ◌≡◌, ◌∙◌, Some, slice_get, common_steps, get_or_from_slice_get, reg, IsCallerStill, parts}
-use Rattle.std.specs.Prelude.{slice_index}
-use Rattle.zl_code.specs.Request.{site_of}
+use Rattle.zl_calls.proofs.Common.{IsCallerStill, None, Some, TRANSFER, WRITE, [], ap, arith, common_steps, get_or_from_slice_get, handle_operands, is_created}
+use Rattle.zl_calls.proofs.Common.{looked_up, operands_fault, parts, refl, reg, site_of, slice_get, slice_index, state_value, ◌∙◌, ◌∷◌, ◌≡◌}
 use Rattle.zl_calls.specs.declared.process.Process.{Process}
 use Rattle.zl_calls.proofs.tasks.ReachParts.{counter_still, create_reaches, created_still, kill_reaches, start_reaches, still_within, told_pid, told_started}
 use Rattle.zl_calls.proofs.tasks.StartParts.{stands_at}
 use Rattle.zl_calls.proofs.processes.InOrder.{set_in_order}
-use Rattle.zl_calls.proofs.Common.{is_created, state_value}
 use Rattle.zl_calls.proofs.processes.Started.{set_started}
-use Rattle.zl_calls.proofs.Common.{[], ◌∷◌, None, TRANSFER, WRITE, handle_operands, looked_up, operands_fault, refl}
 use Rattle.zl_rights.specs.declared.kind.Kind.TheVariants as kind
 use Rattle.zl_code.specs.declared.history.CallName.TheVariants as name
 use Rattle.zl_calls.proofs.policy.Faultless.{faultless_at}

@@ -1,7 +1,5 @@
-use Rattle.zl_calls.proofs.Common.{refl, sym, and_parts}
-use Rattle.zl_code.specs.Waiting.{is_keyed}
+use Rattle.zl_calls.proofs.Common.{and_parts, is_keyed, is_keyed_at, refl, sym}
 use Rattle.zl_signals.specs.Waits.{is_keyed as is_asked, wait_at}
-use Rattle.zl_objects.specs.Listed.{is_keyed_at}
 use Rattle.zl_calls.proofs.waits.TakenEnds.{all_at, all_taken, any_ended, fewer_taken, one_cancelled}
 use Rattle.zl_calls.proofs.waits.cancel_waits.Goals as goal
 

@@ -1,5 +1,4 @@
-use Rattle.std.specs.Prelude.{length}
-use Rattle.zl_objects.specs.Listed.{is_keyed_at}
+use Rattle.zl_calls.proofs.Common.{is_keyed_at, length}
 use Rattle.zl_calls.proofs.waits.TakenEnds.{IsCancelling}
 use Rattle.zl_calls.proofs.waits.cancel_waits.Given as goal
 

@@ -1,4 +1,4 @@
-use Rattle.zl_code.specs.Waiting.{is_by_handle}
+use Rattle.zl_calls.proofs.Common.{is_by_handle}
 use Rattle.zl_calls.proofs.waits.TakenEnds.{all_at}
 use Rattle.zl_calls.proofs.waits.end_handle.Goals as goal
 

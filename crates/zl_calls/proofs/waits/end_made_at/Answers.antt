@@ -1,6 +1,5 @@
-use Rattle.zl_calls.proofs.Common.{sym, ◌∙◌}
+use Rattle.zl_calls.proofs.Common.{is_made_at, sym, ◌∙◌}
 use Rattle.zl_signals.specs.Waits.{is_by_handle, wait_at}
-use Rattle.zl_objects.specs.Listed.{is_made_at}
 use Rattle.zl_calls.proofs.waits.OwnWaits.{none_end}
 use Rattle.zl_calls.proofs.waits.TakenEnds.{all_taken, fewer_taken, one_taken, unless_empty}
 use Rattle.zl_calls.proofs.waits.end_made_at.Goals as goal

@@ -1,5 +1,4 @@
-use Rattle.std.specs.Prelude.{length}
-use Rattle.zl_objects.specs.Listed.{is_made_at}
+use Rattle.zl_calls.proofs.Common.{is_made_at, length}
 use Rattle.zl_calls.proofs.waits.TakenEnds.{IsTaking}
 use Rattle.zl_calls.proofs.waits.end_made_at.Given as goal
 

@@ -1,4 +1,4 @@
-use Rattle.zl_calls.proofs.Common.{take, EndsWaits}
+use Rattle.zl_calls.proofs.Common.{EndsWaits, take}
 use Rattle.zl_calls.proofs.waits.TakenEnds.{is_over}
 use Rattle.zl_calls.proofs.waits.end_taken.Given as goal
 

@@ -1,4 +1,4 @@
-use Rattle.std.specs.Prelude.{◌*◌, ◌-◌, length}
+use Rattle.zl_calls.proofs.Common.{length, ◌*◌, ◌-◌}
 use Rattle.zl_calls.proofs.waits.Ending.{IsEnding, is_over}
 use Rattle.zl_calls.proofs.waits.end_unheld.Given as goal
 

@@ -1,4 +1,4 @@
-use Rattle.std.specs.Prelude.{length}
+use Rattle.zl_calls.proofs.Common.{length}
 use Rattle.zl_calls.proofs.waits.FiringWorlds.{IsFiring}
 use Rattle.zl_calls.proofs.waits.fire_waits.Given as goal
 

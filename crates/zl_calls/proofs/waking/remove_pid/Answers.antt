@@ -1,4 +1,4 @@
-use Rattle.zl_calls.proofs.Common.{◌∙◌, sym}
+use Rattle.zl_calls.proofs.Common.{sym, ◌∙◌}
 use Rattle.zl_calls.proofs.waking.WakeLoop.{removed_first, removed_none}
 use Rattle.zl_calls.proofs.waking.remove_pid.Goals as goal
 

@@ -1,5 +1,4 @@
-use Rattle.zl_calls.proofs.Common.{vec_capacity, vec_len}
-use Rattle.std.specs.Prelude.{◌-◌}
+use Rattle.zl_calls.proofs.Common.{vec_capacity, vec_len, ◌-◌}
 use Rattle.zl_calls.proofs.waking.WakeLoop.{IsWaking}
 use Rattle.zl_calls.proofs.waking.wake_each.Given as goal
 

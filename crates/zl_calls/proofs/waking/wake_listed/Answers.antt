@@ -1,4 +1,4 @@
-use Rattle.zl_calls.proofs.Common.{arith, ap, length, refl, ◌∙◌}
+use Rattle.zl_calls.proofs.Common.{ap, arith, length, refl, ◌∙◌}
 use Rattle.zl_calls.proofs.waking.Listed.{listed_begins, listed_ends, sleeper_stays, sleeper_wakes, stands_once, taken_consistent}
 use Rattle.zl_calls.proofs.waking.wake_listed.Goals as goal
 

@@ -1,5 +1,4 @@
-use Rattle.std.specs.Prelude.{◌≡◌, length}
-use Rattle.std.specs.Vec.{vec_capacity}
+use Rattle.zl_calls.proofs.Common.{length, vec_capacity, ◌≡◌}
 use Rattle.zl_calls.proofs.waking.Listed.{IsWakingListed}
 use Rattle.zl_calls.proofs.waking.wake_listed.Given as goal
 

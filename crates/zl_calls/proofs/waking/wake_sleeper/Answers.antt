@@ -1,6 +1,5 @@
-use Rattle.zl_calls.proofs.Common.{ap, false≢true, none-some, refl, same_Some, subst, sym, ◌≡◌, ◌∙◌, Some, true}
+use Rattle.zl_calls.proofs.Common.{Some, ap, false≢true, is_same, none-some, refl, same_Some, subst, sym, true, ◌∙◌, ◌≡◌}
 use Rattle.zl_objects.specs.declared.awaited.Awaited.{Awaited}
-use Rattle.zl_objects.specs.Awaited.{is_same}
 use Rattle.zl_calls.proofs.waking.Listed.{awaited_same, counter_of, same_awaited, sleeper_misses, sleeper_turn}
 use Rattle.zl_calls.proofs.waking.wake_sleeper.Goals as goal
 

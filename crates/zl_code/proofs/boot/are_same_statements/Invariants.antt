@@ -1,4 +1,4 @@
-use Rattle.zl_code.proofs.Common.{◌≡◌, take}
+use Rattle.zl_code.proofs.Common.{take, ◌≡◌}
 use Rattle.zl_code.proofs.boot.are_same_statements.Given as goal
 
 abbrev pub invariant-loop-n : goal.invariant-loop-n

@@ -1,5 +1,4 @@
-use Rattle.std.proofs.Common.{rules}
-use Rattle.zl_code.proofs.Common.{slice_eq-Decides}
+use Rattle.zl_code.proofs.Common.{rules, slice_eq-Decides}
 use Rattle.zl_code.proofs.comparing.are_same_starts.Goals as goal
 
 pub returns : goal.returns

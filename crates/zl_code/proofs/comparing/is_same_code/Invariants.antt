@@ -1,4 +1,4 @@
-use Rattle.zl_code.proofs.Common.{◌≡◌, take, flat_map, instr_bytes}
+use Rattle.zl_code.proofs.Common.{flat_map, instr_bytes, take, ◌≡◌}
 use Rattle.zl_code.proofs.comparing.is_same_code.Given as goal
 
 abbrev pub invariant-loop-n : goal.invariant-loop-n

@@ -1,4 +1,4 @@
-use Rattle.zl_code.proofs.Common.{rules, true, false, err_from_is_err_and}
+use Rattle.zl_code.proofs.Common.{err_from_is_err_and, false, rules, true}
 use Rattle.zl_code.proofs.ImageDeclared.{slot_bytes-read, slot_in_range-read, slot_fault-by, slot_fault-length}
 use Rattle.zl_code.proofs.declarations.slot_array_of.Goals as goal
 

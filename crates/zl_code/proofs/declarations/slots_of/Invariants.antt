@@ -1,4 +1,4 @@
-use Rattle.zl_code.proofs.Common.{◌≡◌, true, None, map, take, list_all, first_some, slot_bytes, is_slot_in_range, slot_fault}
+use Rattle.zl_code.proofs.Common.{None, first_some, is_slot_in_range, list_all, map, slot_bytes, slot_fault, take, true, ◌≡◌}
 use Rattle.zl_code.proofs.declarations.slots_of.Given as goal
 
 abbrev pub invariant-loop-piece : goal.invariant-loop-piece

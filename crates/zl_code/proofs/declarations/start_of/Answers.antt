@@ -1,4 +1,4 @@
-use Rattle.zl_code.proofs.Common.{rules, true, false, sym, err_from_is_err_and}
+use Rattle.zl_code.proofs.Common.{err_from_is_err_and, false, rules, sym, true}
 use Rattle.zl_code.proofs.ImageDeclared.{start_bytes-read, start_fault-by, start_fault-zero}
 use Rattle.zl_code.proofs.declarations.start_of.Goals as goal
 

@@ -1,4 +1,4 @@
-use Rattle.zl_code.proofs.Common.{inr, err_from_is_err_and, start_bytes, is_start_in_range, start_fault}
+use Rattle.zl_code.proofs.Common.{err_from_is_err_and, inr, is_start_in_range, start_bytes, start_fault}
 use Rattle.zl_code.proofs.ImageCode.{first_fault_at, no_fault_more, bytes_more, list_all_push}
 use Rattle.zl_code.proofs.declarations.starts_of.Goals as goal
 

@@ -1,4 +1,4 @@
-use Rattle.zl_code.proofs.Common.{◌≡◌, true, None, map, take, list_all, first_some, start_bytes, is_start_in_range, start_fault}
+use Rattle.zl_code.proofs.Common.{None, first_some, is_start_in_range, list_all, map, start_bytes, start_fault, take, true, ◌≡◌}
 use Rattle.zl_code.proofs.declarations.starts_of.Given as goal
 
 abbrev pub invariant-loop-piece : goal.invariant-loop-piece

@@ -1,4 +1,4 @@
-use Rattle.zl_code.proofs.Common.{◌∙◌, ap, take}
+use Rattle.zl_code.proofs.Common.{ap, take, ◌∙◌}
 use Rattle.zl_code.proofs.ImagePieces.{chunks_of_8}
 use Rattle.zl_code.proofs.decoding.declarations_at.Goals as goal
 

@@ -1,4 +1,4 @@
-use Rattle.zl_code.proofs.Common.{◌∙◌, ap, sym, map, inl, inr, arith, err_from_is_err_and, first_some, start_fault, slot_fault, instr_fault}
+use Rattle.zl_code.proofs.Common.{ap, arith, err_from_is_err_and, first_some, inl, inr, instr_fault, map, slot_fault, start_fault, sym, ◌∙◌}
 use Rattle.zl_code.proofs.ImageNeeds.{are_needs-value}
 use Rattle.zl_code.proofs.ImageWhole.{starts_read, slots_read, code_read, spells_read, first_fault-header, first_fault-starts, first_fault-slots}
 use Rattle.zl_code.proofs.ImageWhole.{first_fault-code}

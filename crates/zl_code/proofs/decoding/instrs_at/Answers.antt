@@ -1,4 +1,4 @@
-use Rattle.zl_code.proofs.Common.{◌∙◌, ap, take}
+use Rattle.zl_code.proofs.Common.{ap, take, ◌∙◌}
 use Rattle.zl_code.proofs.ImagePieces.{chunks_of_16}
 use Rattle.zl_code.proofs.decoding.instrs_at.Goals as goal
 

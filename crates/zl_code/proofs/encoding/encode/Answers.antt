@@ -1,5 +1,4 @@
-use Rattle.zl_code.proofs.Common.{ap, arith, flat_map, header, instr_bytes, nat_tests, slot_bytes, start_bytes, take_all, List, ◌++◌, ◌≤◌, ◌∙◌, length}
-use Rattle.zl_code.specs.declared.instr.Instr.{Instr}
+use Rattle.zl_code.proofs.Common.{Instr, List, ap, arith, flat_map, header, instr_bytes, length, nat_tests, slot_bytes, start_bytes, take_all, ◌++◌, ◌∙◌, ◌≤◌}
 use Rattle.zl_code.proofs.encoding.encode.Goals as goal
 
 pub returns : goal.returns

@@ -1,4 +1,4 @@
-use Rattle.zl_code.proofs.Common.{◌≡◌, ◌++◌, take, flat_map, start_bytes, slot_bytes, instr_bytes, header}
+use Rattle.zl_code.proofs.Common.{flat_map, header, instr_bytes, slot_bytes, start_bytes, take, ◌++◌, ◌≡◌}
 use Rattle.zl_code.proofs.encoding.encode.Given as goal
 
 abbrev pub invariant-loop-instr : goal.invariant-loop-instr

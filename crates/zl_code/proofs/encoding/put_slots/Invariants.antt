@@ -1,4 +1,4 @@
-use Rattle.zl_code.proofs.Common.{◌≡◌, ◌++◌, take, flat_map, slot_bytes}
+use Rattle.zl_code.proofs.Common.{flat_map, slot_bytes, take, ◌++◌, ◌≡◌}
 use Rattle.zl_code.proofs.encoding.put_slots.Given as goal
 
 abbrev pub invariant-loop-array : goal.invariant-loop-array

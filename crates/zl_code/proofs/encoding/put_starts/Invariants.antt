@@ -1,4 +1,4 @@
-use Rattle.zl_code.proofs.Common.{◌≡◌, ◌++◌, take, flat_map, start_bytes}
+use Rattle.zl_code.proofs.Common.{flat_map, start_bytes, take, ◌++◌, ◌≡◌}
 use Rattle.zl_code.proofs.encoding.put_starts.Given as goal
 
 abbrev pub invariant-loop-start : goal.invariant-loop-start

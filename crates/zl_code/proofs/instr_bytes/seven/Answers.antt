@@ -1,4 +1,4 @@
-use Rattle.zl_code.proofs.Common.{arith, refl, ap, replicate}
+use Rattle.zl_code.proofs.Common.{ap, arith, refl, replicate}
 use Rattle.std.proofs.lemmas.Grind.{common_steps}
 use Rattle.zl_code.proofs.ImageCells.{one_placed, all_placed}
 use Rattle.zl_code.proofs.instr_bytes.seven.Goals as goal

@@ -1,4 +1,4 @@
-use Rattle.zl_code.proofs.Common.{◌≡◌, length, take, drop, replicate}
+use Rattle.zl_code.proofs.Common.{drop, length, replicate, take, ◌≡◌}
 use Rattle.zl_code.proofs.instr_bytes.seven.Given as goal
 
 abbrev pub invariant-loop-place : goal.invariant-loop-place

@@ -1,4 +1,4 @@
-use Rattle.zl_code.proofs.Common.{inr, err_from_is_err_and, instr_bytes, is_instr_in_range, instr_fault}
+use Rattle.zl_code.proofs.Common.{err_from_is_err_and, inr, instr_bytes, instr_fault, is_instr_in_range}
 use Rattle.zl_code.proofs.ImageCode.{first_fault_at, no_fault_more, bytes_more, list_all_push}
 use Rattle.zl_code.proofs.known.code_of.Goals as goal
 

@@ -1,4 +1,4 @@
-use Rattle.zl_code.proofs.Common.{◌≡◌, true, None, map, take, list_all, first_some, instr_bytes, is_instr_in_range, instr_fault}
+use Rattle.zl_code.proofs.Common.{None, first_some, instr_bytes, instr_fault, is_instr_in_range, list_all, map, take, true, ◌≡◌}
 use Rattle.zl_code.proofs.known.code_of.Given as goal
 
 abbrev pub invariant-loop-piece : goal.invariant-loop-piece

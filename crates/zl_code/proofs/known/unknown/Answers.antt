@@ -1,4 +1,4 @@
-use Rattle.zl_code.proofs.Common.{rules, refl, ◌∙◌}
+use Rattle.zl_code.proofs.Common.{refl, rules, ◌∙◌}
 use Rattle.zl_code.proofs.ImageInstr.{unknown_in_range, instr_fault-unknown}
 use Rattle.zl_code.proofs.known.unknown.Goals as goal
 

@@ -1,6 +1,5 @@
-use Rattle.zl_command.proofs.Common.{ap, ◌≡◌, ◌∙◌, true, ap₂, app_of, with_subcommand, app_of_fields, on_top}
-use Rattle.zl_command.proofs.Common.{assembling, checking, program, replaying, running, stepping}
-use Rattle.std.proofs.lemmas.Result.{IfOk-weaker}
+use Rattle.zl_command.proofs.Common.{IfOk-weaker, ap, app_of, app_of_fields, ap₂, assembling, checking, on_top, program, replaying, running, stepping, true}
+use Rattle.zl_command.proofs.Common.{with_subcommand, ◌∙◌, ◌≡◌}
 use Rattle.clap.proofs.SimpleLemmas.{plain_fields}
 use Rattle.zl_command.proofs.command.command.Goals as goal
 

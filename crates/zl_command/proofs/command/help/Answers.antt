@@ -1,4 +1,4 @@
-use Rattle.zl_command.proofs.Common.{◌∙◌, ap, sym, map, subst, is_simple_and_free, MayAskForHelp}
+use Rattle.zl_command.proofs.Common.{MayAskForHelp, ap, is_simple_and_free, map, subst, sym, ◌∙◌}
 use Rattle.zl_command.proofs.CommandLine.{asks_for_help, asks_nothing, kinds_of_set}
 use Rattle.zl_command.proofs.command.help.Goals as goal
 

@@ -1,5 +1,4 @@
-use Rattle.zl_command.proofs.Common.{ap, ◌∙◌, ap₂, with_rule, app_of_fields}
-use Rattle.std.proofs.lemmas.Result.{IfOk-weaker}
+use Rattle.zl_command.proofs.Common.{IfOk-weaker, ap, app_of_fields, ap₂, with_rule, ◌∙◌}
 use Rattle.zl_command.proofs.command.replaying.Goals as goal
 
 pub returns : goal.returns

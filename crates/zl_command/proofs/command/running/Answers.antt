@@ -1,6 +1,5 @@
-use Rattle.zl_command.proofs.Common.{ap, ◌≡◌, ◌∙◌, ap₂, codes, with_rule, app_of_fields, numbered}
+use Rattle.zl_command.proofs.Common.{IfOk-weaker, ap, app_of_fields, ap₂, codes, numbered, with_rule, ◌∙◌, ◌≡◌}
 use Rattle.std.proofs.Common.{rules}
-use Rattle.std.proofs.lemmas.Result.{IfOk-weaker}
 use Rattle.clap.specs.Words.{rule_of}
 use Rattle.zl_command.proofs.command.running.Goals as goal
 

@@ -1,5 +1,4 @@
-use Rattle.zl_command.proofs.Common.{◌∙◌, ap, sym, is_some, found_of}
-use Rattle.std.proofs.Common.{option_map}
+use Rattle.zl_command.proofs.Common.{ap, found_of, is_some, option_map, sym, ◌∙◌}
 use Rattle.clap.proofs.WalkLemmas.{first_value-rows}
 use Rattle.zl_command.proofs.CommandLine.{mapped_some}
 use Rattle.zl_command.proofs.command.value.Goals as goal

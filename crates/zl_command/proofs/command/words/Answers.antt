@@ -1,6 +1,5 @@
-use Rattle.zl_command.proofs.Common.{◌≡◌, ◌∙◌, sym, subst, ap, map, true, []}
-use Rattle.zl_command.proofs.Common.{app_of, fault_of, is_simple_and_free, is_simple, subcommand_of, HasValues, commands}
-use Rattle.clap.specs.Takes.{takes}
+use Rattle.zl_command.proofs.Common.{HasValues, [], ap, app_of, commands, fault_of, is_simple, is_simple_and_free, map, subcommand_of, subst, sym, takes, true}
+use Rattle.zl_command.proofs.Common.{◌∙◌, ◌≡◌}
 use Rattle.zl_command.proofs.CommandLine.{found_values, refused_by}
 use Rattle.zl_command.proofs.command.words.Goals as goal
 

@@ -1,6 +1,4 @@
-use Rattle.zl_command.proofs.Common.{codes, found_of}
-use Rattle.std.proofs.Common.{arith}
-use Rattle.std.specs.Str.Parse.{ExplainsUnsignedError, HasUnsignedDigitsIfOk, ParsesUnsigned}
+use Rattle.zl_command.proofs.Common.{ExplainsUnsignedError, HasUnsignedDigitsIfOk, ParsesUnsigned, arith, codes, found_of}
 use Rattle.zl_command.proofs.ValueRows.{reads_number, reads_some}
 use Rattle.zl_command.proofs.command.workers.Goals as goal
 

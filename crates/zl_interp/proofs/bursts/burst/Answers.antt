@@ -1,8 +1,4 @@
-use Rattle.std.proofs.Common.{◌≡◌, arith, length}
-use Rattle.std.specs.Arc.{arc_value}
-use Rattle.std.proofs.lemmas.List.{with_items_is}
-use Rattle.zl_code.specs.Image.{Image}
-use Rattle.zl_interp.specs.Program.{program_value}
+use Rattle.zl_interp.proofs.Common.{Image, arc_value, arith, length, program_value, with_items_is, ◌≡◌}
 use Rattle.zl_interp.proofs.Going.{is_burst}
 use Rattle.zl_interp.proofs.Spelled.{can_stand}
 use Rattle.zl_interp.proofs.bursts.burst.Goals as goal

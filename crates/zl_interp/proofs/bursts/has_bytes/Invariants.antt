@@ -1,8 +1,4 @@
-use Rattle.std.proofs.Common.{◌≡◌, ◌<◌, ℕ, Some}
-use Rattle.std.specs.Prelude.{slice_get}
-use Rattle.std.specs.Option.{option_map}
-use Rattle.zl_code.specs.Spells.{instr_bytes}
-use Rattle.zl_code.specs.declared.instr.Instr.{Instr}
+use Rattle.zl_interp.proofs.Common.{Instr, Some, instr_bytes, option_map, slice_get, ℕ, ◌<◌, ◌≡◌}
 use Rattle.zl_interp.proofs.bursts.has_bytes.Given as goal
 
 abbrev pub invariant-loop-n : goal.invariant-loop-n

@@ -1,5 +1,4 @@
-use Rattle.zl_code.specs.Local.{goes_to}
-use Rattle.zl_interp.specs.Bursts.{Leads}
+use Rattle.zl_interp.proofs.Common.{Leads, goes_to}
 use Rattle.zl_interp.proofs.bursts.run_on.Given as goal
 
 abbrev pub invariant-loop-ran : goal.invariant-loop-ran

@@ -1,5 +1,4 @@
-use Rattle.std.proofs.Common.{rules, arith, refl}
-use Rattle.zl_code.specs.Local.{goes_to}
+use Rattle.zl_interp.proofs.Common.{arith, goes_to, refl, rules}
 use Rattle.zl_interp.proofs.Going.{able_then, goes, leads_on, leads_still, next_alike}
 use Rattle.zl_interp.proofs.bursts.run_on_sure.Goals as goal
 

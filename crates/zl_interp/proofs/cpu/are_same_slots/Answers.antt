@@ -1,4 +1,4 @@
-use Rattle.zl_code.proofs.Common.{false≢true, arith, []}
+use Rattle.zl_interp.proofs.Common.{[], arith, false≢true}
 use Rattle.zl_interp.proofs.Slots.{same_at}
 use Rattle.zl_interp.proofs.cpu.are_same_slots.Goals as goal
 

@@ -1,4 +1,4 @@
-use Rattle.zl_code.proofs.Common.{◌≡◌, map, take}
+use Rattle.zl_interp.proofs.Common.{map, take, ◌≡◌}
 use Rattle.zl_interp.proofs.cpu.are_same_slots.Given as goal
 
 abbrev pub invariant-loop-n : goal.invariant-loop-n

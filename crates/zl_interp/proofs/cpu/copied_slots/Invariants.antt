@@ -1,4 +1,4 @@
-use Rattle.zl_code.proofs.Common.{◌≡◌, map, take}
+use Rattle.zl_interp.proofs.Common.{map, take, ◌≡◌}
 use Rattle.zl_interp.proofs.cpu.copied_slots.Given as goal
 
 abbrev pub invariant-loop-array : goal.invariant-loop-array

@@ -1,4 +1,4 @@
-use Rattle.zl_code.proofs.Common.{◌≡◌, map, take, replicate}
+use Rattle.zl_interp.proofs.Common.{map, replicate, take, ◌≡◌}
 use Rattle.zl_interp.proofs.cpu.empty_slots.Given as goal
 
 abbrev pub invariant-loop-array : goal.invariant-loop-array

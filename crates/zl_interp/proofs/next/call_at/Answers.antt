@@ -1,5 +1,4 @@
-use Rattle.zl_code.proofs.Common.{sym, ◌∙◌}
-use Rattle.zl_interp.specs.Program.{program_value}
+use Rattle.zl_interp.proofs.Common.{program_value, sym, ◌∙◌}
 use Rattle.zl_interp.proofs.Standing.{call_stands, call_missing, no_call}
 use Rattle.zl_interp.proofs.next.call_at.Goals as goal
 

@@ -1,4 +1,4 @@
-use Rattle.zl_interp.specs.Program.{program_value}
+use Rattle.zl_interp.proofs.Common.{program_value}
 use Rattle.zl_interp.proofs.Standing.{local_moves, no_local}
 use Rattle.zl_interp.proofs.next.local_at.Goals as goal
 

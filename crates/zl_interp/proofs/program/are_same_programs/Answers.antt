@@ -1,6 +1,4 @@
-use Rattle.zl_code.proofs.Common.{false≢true, arith}
-use Rattle.std.specs.Arc.{arc_value}
-use Rattle.zl_interp.specs.Program.{program_value}
+use Rattle.zl_interp.proofs.Common.{arc_value, arith, false≢true, program_value}
 use Rattle.zl_interp.proofs.Slots.{same_at}
 use Rattle.zl_interp.proofs.program.are_same_programs.Goals as goal
 

@@ -1,6 +1,4 @@
-use Rattle.zl_code.proofs.Common.{◌≡◌, map, take}
-use Rattle.std.specs.Arc.{arc_value}
-use Rattle.zl_interp.specs.Program.{program_value}
+use Rattle.zl_interp.proofs.Common.{arc_value, map, program_value, take, ◌≡◌}
 use Rattle.zl_interp.proofs.program.shared_all.Given as goal
 
 abbrev pub invariant-loop-program : goal.invariant-loop-program

@@ -1,5 +1,4 @@
-use Rattle.std.proofs.Common.{ℕ, ◌≡◌, ◌-◌, arith, subst, suc}
-use Rattle.zl_objects.specs.Below.{HasBelow}
+use Rattle.zl_objects.proofs.Common.{HasBelow, arith, subst, suc, ℕ, ◌-◌, ◌≡◌}
 use Rattle.zl_objects.proofs.Descending.{no_levels, until_all}
 use Rattle.zl_objects.proofs.below.+list_below.Goals as goal
 

@@ -1,5 +1,4 @@
-use Rattle.std.specs.Prelude.{ℕ, ◌^◌, ◌-◌, IsTrue}
-use Rattle.zl_objects.specs.Below.{is_among}
+use Rattle.zl_objects.proofs.Common.{IsTrue, is_among, ℕ, ◌-◌, ◌^◌}
 use Rattle.zl_objects.proofs.Descending.{HasUntil}
 use Rattle.zl_objects.proofs.below.+list_below.Given as goal
 

@@ -1,8 +1,4 @@
-use Rattle.zl_rights.proofs.Common.{rules, ◌∙◌, filter, get}
-use Rattle.std.proofs.lemmas.Iterator.Consumers.{YieldsList-from_rest}
-use Rattle.std.proofs.lemmas.Iterator.Search.{any_from_yields_List}
-use Rattle.zl_objects.specs.Index.{passes_in}
-use Rattle.zl_objects.specs.Objects.{has_living_child, is_child}
+use Rattle.zl_objects.proofs.Common.{YieldsList-from_rest, any_from_yields_List, filter, get, has_living_child, is_child, passes_in, rules, ◌∙◌}
 use Rattle.zl_objects.proofs.Index.{any_child, in_range}
 use Rattle.zl_objects.proofs.children.has_living_child.Goals as goal
 

@@ -1,5 +1,4 @@
-use Rattle.zl_rights.proofs.Common.{◌+◌, ◌∙◌, ℕ, Option, ap, at_drop_all, at_drop_more, drop, get_or, refl, sym}
-use Rattle.zl_objects.specs.Due.{earlier, earliest_from, order_at}
+use Rattle.zl_objects.proofs.Common.{Option, ap, at_drop_all, at_drop_more, drop, earlier, earliest_from, get_or, order_at, refl, sym, ℕ, ◌+◌, ◌∙◌}
 use Rattle.zl_objects.proofs.due.earliest_among.Goals as goal
 
 pub loop-koid-init : goal.loop-koid-init

@@ -1,5 +1,4 @@
-use Rattle.std.specs.Prelude.{◌≡◌, None, drop}
-use Rattle.zl_objects.specs.Due.{earliest_from, order_at}
+use Rattle.zl_objects.proofs.Common.{None, drop, earliest_from, order_at, ◌≡◌}
 use Rattle.zl_objects.proofs.due.earliest_among.Given as goal
 
 abbrev pub invariant-loop-koid : goal.invariant-loop-koid

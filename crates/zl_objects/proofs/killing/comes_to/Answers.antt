@@ -1,4 +1,4 @@
-use Rattle.std.proofs.Common.{arith, sym, ◌∙◌}
+use Rattle.zl_objects.proofs.Common.{arith, sym, ◌∙◌}
 use Rattle.zl_objects.proofs.Climbing.{met, passed, at_top}
 use Rattle.zl_objects.proofs.killing.comes_to.Goals as goal
 

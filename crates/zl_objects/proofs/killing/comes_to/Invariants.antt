@@ -1,5 +1,4 @@
-use Rattle.std.proofs.Common.{◌≡◌, ◌-◌}
-use Rattle.zl_objects.specs.Jobs.{is_below_by}
+use Rattle.zl_objects.proofs.Common.{is_below_by, ◌-◌, ◌≡◌}
 use Rattle.zl_objects.proofs.killing.comes_to.Given as goal
 
 abbrev pub invariant-loop : goal.invariant-loop

@@ -1,4 +1,4 @@
-use Rattle.std.proofs.Common.{arith}
+use Rattle.zl_objects.proofs.Common.{arith}
 use Rattle.zl_objects.proofs.Walks.{kill_begins, kill_ends, kill_goes_on, there_before}
 use Rattle.zl_objects.proofs.killing.kill_all.Goals as goal
 

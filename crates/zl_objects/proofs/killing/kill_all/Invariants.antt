@@ -1,6 +1,4 @@
-use Rattle.std.proofs.Common.{◌≡◌, ◌-◌, ◌^◌}
-use Rattle.zl_rights.specs.Map.{each}
-use Rattle.zl_objects.specs.Calm.{KeepsCalm, is_marked}
+use Rattle.zl_objects.proofs.Common.{KeepsCalm, each, is_marked, ◌-◌, ◌^◌, ◌≡◌}
 use Rattle.zl_objects.proofs.Walks.{till, kills}
 use Rattle.zl_objects.proofs.killing.kill_all.Given as goal
 

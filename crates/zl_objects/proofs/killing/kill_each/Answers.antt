@@ -1,5 +1,4 @@
-use Rattle.zl_rights.proofs.Common.{◌∙◌, ℕ, List, ap, arith, sym, take_all, take_more}
-use Rattle.zl_objects.specs.Below.{killed_among}
+use Rattle.zl_objects.proofs.Common.{List, ap, arith, killed_among, sym, take_all, take_more, ℕ, ◌∙◌}
 use Rattle.zl_objects.proofs.Descending.{none_among, one_among}
 use Rattle.zl_objects.proofs.killing.kill_each.Goals as goal
 

@@ -1,6 +1,4 @@
-use Rattle.std.specs.Prelude.{◌≡◌, take}
-use Rattle.zl_objects.specs.Below.{killed_among}
-use Rattle.zl_objects.specs.Calm.{KeepsCalm, is_marked}
+use Rattle.zl_objects.proofs.Common.{KeepsCalm, is_marked, killed_among, take, ◌≡◌}
 use Rattle.zl_objects.proofs.killing.kill_each.Given as goal
 
 abbrev pub invariant-loop-koid : goal.invariant-loop-koid

@@ -1,5 +1,4 @@
-use Rattle.std.proofs.Common.{◌≡◌, refl, rules, true, false}
-use Rattle.zl_objects.specs.Jobs.{killed_if}
+use Rattle.zl_objects.proofs.Common.{false, killed_if, refl, rules, true, ◌≡◌}
 use Rattle.zl_objects.proofs.ByKoid.{by_koid, written}
 use Rattle.zl_objects.proofs.CalmEnds.{ended_calm, spared_calm}
 use Rattle.zl_objects.proofs.Index.{killed_none}

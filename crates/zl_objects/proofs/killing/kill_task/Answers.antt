@@ -1,4 +1,4 @@
-use Rattle.std.proofs.Common.{◌∙◌}
+use Rattle.zl_objects.proofs.Common.{◌∙◌}
 use Rattle.zl_objects.proofs.Descending.{all_among}
 use Rattle.zl_objects.proofs.killing.kill_task.Goals as goal
 

@@ -1,7 +1,5 @@
-use Rattle.zl_rights.proofs.Common.{◌≡◌, ◌+◌, ◌∙◌, ℕ, arith, suc, ap, sym, list_any, option_map, take}
+use Rattle.zl_objects.proofs.Common.{Listed, ap, arith, is_entry_due, list_any, option_map, suc, sym, take, ℕ, ◌+◌, ◌∙◌, ◌≡◌}
 use Rattle.std.proofs.lemmas.Option.{slice_get_within}
-use Rattle.zl_objects.specs.declared.wait.Listed.{Listed}
-use Rattle.zl_objects.specs.Due.{is_entry_due}
 use Rattle.zl_objects.proofs.Lists.{found_at, none_found, none_next}
 use Rattle.zl_objects.proofs.listing.first_holding.Goals as goal
 

@@ -1,6 +1,4 @@
-use Rattle.std.specs.Prelude.{◌≡◌, ◌-◌, false, length, take}
-use Rattle.std.specs.List.{list_any}
-use Rattle.zl_objects.specs.Due.{is_entry_due}
+use Rattle.zl_objects.proofs.Common.{false, is_entry_due, length, list_any, take, ◌-◌, ◌≡◌}
 use Rattle.zl_objects.proofs.listing.first_holding.Given as goal
 
 abbrev pub invariant-loop-listed : goal.invariant-loop-listed

@@ -1,7 +1,5 @@
-use Rattle.zl_rights.proofs.Common.{◌≡◌, ◌<◌, ◌==◌, Some, ap, find, not, filter, option_map, sym, ◌∙◌}
-use Rattle.std.proofs.lemmas.List.Elements.{All-filter}
+use Rattle.zl_objects.proofs.Common.{All-filter, Listed, Some, ap, filter, find, not, option_map, sym, ◌<◌, ◌==◌, ◌∙◌, ◌≡◌}
 use Rattle.zl_signals.proofs.Takes.{all_stay, first_found, none_found, others_stay}
-use Rattle.zl_objects.specs.declared.wait.Listed.{Listed}
 use Rattle.zl_objects.proofs.PortWaits.{removed_found}
 use Rattle.zl_objects.proofs.Rising.{first_is_only, rises_left}
 use Rattle.zl_objects.proofs.listing.unlist.Goals as goal

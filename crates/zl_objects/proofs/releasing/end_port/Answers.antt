@@ -1,8 +1,4 @@
-use Rattle.zl_rights.proofs.Common.{ap, refl, sym, update, ◌∙◌}
-use Rattle.zl_table.proofs.MapEdits.{is_sorted-update}
-use Rattle.zl_objects.specs.declared.wait.Wait.{Wait}
-use Rattle.zl_objects.specs.PortWaits.{is_entry_to, without_given}
-use Rattle.zl_objects.specs.Waits.{without_port_waits}
+use Rattle.zl_objects.proofs.Common.{Wait, ap, is_entry_to, is_sorted-update, refl, sym, update, without_given, without_port_waits, ◌∙◌}
 use Rattle.zl_objects.proofs.Lists.{none_first}
 use Rattle.zl_objects.proofs.Unlisted.{known_first, known_less, none_found_left, none_known, none_taken, one_ended, rest_same, shorter, taken}
 use Rattle.zl_objects.proofs.releasing.end_port.Goals as goal

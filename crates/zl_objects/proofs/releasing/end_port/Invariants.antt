@@ -1,9 +1,4 @@
-use Rattle.std.proofs.Common.{◌≡◌, length, IsTrue}
-use Rattle.std.specs.FinMap.Entries.{is_sorted}
-use Rattle.std.specs.Ordering.{nat_cmp}
-use Rattle.zl_rights.specs.Map.{each}
-use Rattle.zl_objects.specs.PortWaits.{without_given}
-use Rattle.zl_objects.specs.Waits.{without_port_waits}
+use Rattle.zl_objects.proofs.Common.{IsTrue, each, is_sorted, length, nat_cmp, without_given, without_port_waits, ◌≡◌}
 use Rattle.zl_objects.proofs.Unlisted.{AreKnown}
 use Rattle.zl_objects.proofs.releasing.end_port.Given as goal
 

@@ -1,5 +1,4 @@
-use Rattle.std.proofs.Common.{ap, refl, sym, ◌∙◌}
-use Rattle.zl_signals.specs.Waits.{SignalState}
+use Rattle.zl_objects.proofs.Common.{SignalState, ap, refl, sym, ◌∙◌}
 use Rattle.zl_objects.proofs.Ending.{fewer_waits, given_back, none_to_give}
 use Rattle.zl_objects.proofs.Unlisted.{all_out, one_more_out}
 use Rattle.zl_objects.proofs.releasing.give_all_back.Goals as goal

@@ -1,5 +1,4 @@
-use Rattle.std.proofs.Common.{◌≡◌, ℕ, length}
-use Rattle.zl_objects.specs.Waits.{giving_back}
+use Rattle.zl_objects.proofs.Common.{giving_back, length, ℕ, ◌≡◌}
 use Rattle.zl_objects.proofs.Unlisted.{AreOut}
 use Rattle.zl_objects.proofs.releasing.give_all_back.Given as goal
 

@@ -1,4 +1,4 @@
-use Rattle.std.proofs.Common.{arith, ◌<◌, length, sym, ◌∙◌, vec_capacity}
+use Rattle.zl_objects.proofs.Common.{arith, length, sym, vec_capacity, ◌<◌, ◌∙◌}
 use Rattle.zl_objects.proofs.Budget.{has_room, last_went, other_went}
 use Rattle.zl_objects.proofs.releasing.let_go.Goals as goal
 

@@ -1,4 +1,4 @@
-use Rattle.std.proofs.Common.{◌∙◌}
+use Rattle.zl_objects.proofs.Common.{◌∙◌}
 use Rattle.zl_objects.proofs.Budget.{handle_went}
 use Rattle.zl_objects.proofs.CalmChanges.{less_still, still_then}
 use Rattle.zl_objects.proofs.releasing.let_go_all.Goals as goal

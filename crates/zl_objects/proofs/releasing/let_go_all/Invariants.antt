@@ -1,7 +1,4 @@
-use Rattle.std.proofs.Common.{◌≡◌, take, vec_capacity}
-use Rattle.zl_objects.specs.Calm.{StayStill}
-use Rattle.zl_objects.specs.Release.{koids_of}
-use Rattle.zl_objects.specs.Dying.{LetsGo}
+use Rattle.zl_objects.proofs.Common.{LetsGo, StayStill, koids_of, take, vec_capacity, ◌≡◌}
 use Rattle.zl_objects.proofs.releasing.let_go_all.Given as goal
 
 abbrev pub invariant-loop-handle : goal.invariant-loop-handle

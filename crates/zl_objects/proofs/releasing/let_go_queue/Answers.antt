@@ -1,5 +1,4 @@
-use Rattle.std.proofs.Common.{arith, ◌≡◌, ◌∙◌, sym, ap}
-use Rattle.zl_rights.specs.World.{Message}
+use Rattle.zl_objects.proofs.Common.{Message, ap, arith, sym, ◌∙◌, ◌≡◌}
 use Rattle.zl_objects.proofs.Budget.{message_went}
 use Rattle.zl_objects.proofs.CalmChanges.{still_then}
 use Rattle.zl_objects.proofs.releasing.let_go_queue.Goals as goal

@@ -1,9 +1,4 @@
-use Rattle.std.proofs.Common.{◌≡◌, ◌≤◌, ℕ, List, length, vec_capacity}
-use Rattle.zl_rights.specs.Map.{Map}
-use Rattle.zl_objects.specs.declared.object.Object.{Object}
-use Rattle.zl_objects.specs.Calm.{StayStill}
-use Rattle.zl_objects.specs.Release.{named_in}
-use Rattle.zl_objects.specs.Dying.{LetsGo, budget}
+use Rattle.zl_objects.proofs.Common.{LetsGo, List, Map, Object, StayStill, budget, length, named_in, vec_capacity, ℕ, ◌≡◌, ◌≤◌}
 use Rattle.zl_objects.proofs.releasing.let_go_queue.Given as goal
 
 abbrev pub invariant-loop-message : goal.invariant-loop-message

@@ -1,5 +1,4 @@
-use Rattle.std.proofs.Common.{arith, ◌≡◌, ◌<◌, ◌≤◌, ◌+◌, ◌++◌, ◌∷◌, ◌∙◌, [], ℕ, List, length, refl, subst, sym, vec_capacity}
-use Rattle.zl_objects.specs.Dying.{budget}
+use Rattle.zl_objects.proofs.Common.{List, [], arith, budget, length, refl, subst, sym, vec_capacity, ℕ, ◌++◌, ◌+◌, ◌<◌, ◌∙◌, ◌∷◌, ◌≡◌, ◌≤◌}
 use Rattle.zl_objects.proofs.Budget.{both_went, none_went}
 use Rattle.zl_objects.proofs.Listed.{all_there}
 use Rattle.zl_objects.proofs.Released.{cascades_of}

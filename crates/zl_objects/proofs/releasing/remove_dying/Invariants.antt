@@ -1,10 +1,5 @@
-use Rattle.std.proofs.Common.{◌≡◌, ◌+◌, [], length, vec_capacity}
-use Rattle.zl_objects.specs.Dying.{LetsGo, budget}
-use Rattle.zl_objects.specs.Calm.{KeepsCalm, is_marked}
+use Rattle.zl_objects.proofs.Common.{AreRegistered, IsIndexed, KeepsCalm, LetsGo, [], budget, is_entry_there, is_marked, length, vec_capacity, ◌+◌, ◌≡◌}
 use Rattle.std.specs.List.{filter}
-use Rattle.zl_objects.specs.Listed.{is_entry_there}
-use Rattle.zl_objects.specs.PortWaits.{AreRegistered}
-use Rattle.zl_objects.specs.Index.{IsIndexed}
 use Rattle.zl_objects.proofs.releasing.remove_dying.Given as goal
 
 abbrev pub invariant-loop-koid : goal.invariant-loop-koid

@@ -1,13 +1,6 @@
-use Rattle.zl_rights.proofs.Common.{arith, refl, ◌≡◌, ◌+◌, ◌++◌, ◌∷◌, [], length, nat_lt, ℕ, Option, ap, sym, ◌∙◌, without, None}
-use Rattle.std.specs.Option.{option_to_list}
+use Rattle.zl_objects.proofs.Common.{LetsGo, None, Option, [], ap, arith, ending_waits, keeper_of, length, named_in, nat_lt, option_to_list, queue_of, refl}
+use Rattle.zl_objects.proofs.Common.{reserved_of, sorted_without, sym, unkept_at, without, without_ended, ℕ, ◌++◌, ◌+◌, ◌∙◌, ◌∷◌, ◌≡◌}
 use Rattle.std.specs.Vec.{vec_capacity}
-use Rattle.zl_table.proofs.MapEdits.{sorted_without}
-use Rattle.zl_objects.specs.Objects.{keeper_of, queue_of}
-use Rattle.zl_objects.specs.Ports.{reserved_of}
-use Rattle.zl_objects.specs.PortWaits.{without_ended}
-use Rattle.zl_objects.specs.Release.{named_in}
-use Rattle.zl_objects.specs.Dying.{unkept_at, LetsGo}
-use Rattle.zl_objects.specs.Waits.{ending_waits}
 use Rattle.zl_objects.proofs.Budget.{IsTaken, fewer_ending, kept_went, less_ending, less_noted, none_left_at, none_taken, one_taken}
 use Rattle.zl_objects.proofs.Budget.{room_noted, taken, unkept_went}
 use Rattle.zl_objects.proofs.Ending.{ended_by}

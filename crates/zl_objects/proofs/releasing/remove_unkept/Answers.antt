@@ -1,4 +1,4 @@
-use Rattle.std.proofs.Common.{arith, ◌≡◌, ◌∷◌, [], refl, sym, ◌∙◌, vec_capacity}
+use Rattle.zl_objects.proofs.Common.{[], arith, refl, sym, vec_capacity, ◌∙◌, ◌∷◌, ◌≡◌}
 use Rattle.zl_objects.proofs.Budget.{none_noted, test_fits, test_kept}
 use Rattle.zl_objects.proofs.Listed.{all_there}
 use Rattle.zl_objects.proofs.releasing.remove_unkept.Goals as goal

@@ -1,4 +1,4 @@
-use Rattle.std.proofs.Common.{[], arith, refl, sym, ◌∙◌}
+use Rattle.zl_objects.proofs.Common.{[], arith, refl, sym, ◌∙◌}
 use Rattle.zl_objects.proofs.Listed.{all_there}
 use Rattle.zl_objects.proofs.Released.{cascades_of}
 use Rattle.zl_objects.proofs.Sweeps.{sweep_begins, sweep_ends, sweep_goes_on, swept_shorter, swept_there}

@@ -1,9 +1,5 @@
-use Rattle.std.proofs.Common.{◌≡◌, ◌-◌, ◌^◌, [], vec_capacity}
-use Rattle.zl_objects.specs.Calm.{KeepsCalm, is_marked}
+use Rattle.zl_objects.proofs.Common.{AreRegistered, IsIndexed, KeepsCalm, [], is_entry_there, is_marked, vec_capacity, ◌-◌, ◌^◌, ◌≡◌}
 use Rattle.std.specs.List.{filter}
-use Rattle.zl_objects.specs.Listed.{is_entry_there}
-use Rattle.zl_objects.specs.PortWaits.{AreRegistered}
-use Rattle.zl_objects.specs.Index.{IsIndexed}
 use Rattle.zl_objects.proofs.Sweeps.{Sweeps}
 use Rattle.zl_objects.proofs.releasing.sweep.Given as goal
 

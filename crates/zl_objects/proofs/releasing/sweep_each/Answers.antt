@@ -1,5 +1,4 @@
-use Rattle.zl_rights.proofs.Common.{◌+◌, ◌∙◌, [], ℕ, List, arith, at_drop_all, at_drop_more, drop, get_or, refl, subst, sym}
-use Rattle.zl_objects.specs.Dying.{LetsGo}
+use Rattle.zl_objects.proofs.Common.{LetsGo, List, [], arith, at_drop_all, at_drop_more, drop, get_or, refl, subst, sym, ℕ, ◌+◌, ◌∙◌}
 use Rattle.zl_objects.proofs.Budget.{none_went}
 use Rattle.zl_objects.proofs.Descending.{one_swept}
 use Rattle.zl_objects.proofs.Listed.{all_there}

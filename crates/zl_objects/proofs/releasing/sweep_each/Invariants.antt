@@ -1,10 +1,5 @@
-use Rattle.std.proofs.Common.{◌≡◌, [], drop, vec_capacity}
-use Rattle.zl_objects.specs.Calm.{KeepsCalm, is_marked}
-use Rattle.zl_objects.specs.Dying.{LetsGo}
+use Rattle.zl_objects.proofs.Common.{AreRegistered, IsIndexed, KeepsCalm, LetsGo, [], drop, is_entry_there, is_marked, vec_capacity, ◌≡◌}
 use Rattle.std.specs.List.{filter}
-use Rattle.zl_objects.specs.Listed.{is_entry_there}
-use Rattle.zl_objects.specs.PortWaits.{AreRegistered}
-use Rattle.zl_objects.specs.Index.{IsIndexed}
 use Rattle.zl_objects.proofs.releasing.sweep_each.Given as goal
 
 abbrev pub invariant-loop-koid : goal.invariant-loop-koid

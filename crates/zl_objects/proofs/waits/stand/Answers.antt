@@ -1,7 +1,4 @@
-use Rattle.zl_rights.proofs.Common.{◌≡◌, ◌∙◌, sym, ap, Map, update}
-use Rattle.zl_port.specs.Packets.{with_place, without_place}
-use Rattle.zl_objects.specs.declared.object.Object.{Object}
-use Rattle.zl_objects.specs.Ports.{at_port}
+use Rattle.zl_objects.proofs.Common.{Map, Object, ap, at_port, sym, update, with_place, without_place, ◌∙◌, ◌≡◌}
 use Rattle.zl_objects.proofs.Places.{place_back}
 use Rattle.zl_objects.proofs.Whole.{if_err}
 use Rattle.zl_objects.proofs.waits.stand.Goals as goal

@@ -1,4 +1,4 @@
-use Rattle.std.proofs.Common.{rules, ◌≡◌, [], refl, sym}
+use Rattle.std.proofs.Common.{rules, [], refl, sym}
 use Rattle.std.proofs.lemmas.List.{append-nil}
 use Rattle.zl_sched.specs.Opening.{GoesOn, opening_of}
 use Rattle.zl_sched.specs.System.{System}

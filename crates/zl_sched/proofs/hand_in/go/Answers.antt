@@ -1,7 +1,4 @@
-use Rattle.zl_sched.proofs.Common.{List, TraceItem, ap, append_assoc, refl, run_items, ◌++◌, ◌∙◌}
-use Rattle.zl_calls.specs.Turns.{advanced}
-use Rattle.zl_sched.specs.HandIn.{EndsFrom, is_more}
-use Rattle.zl_code.specs.Common.{is_ready}
+use Rattle.zl_sched.proofs.Common.{EndsFrom, List, TraceItem, advanced, ap, append_assoc, is_more, is_ready, refl, run_items, ◌++◌, ◌∙◌}
 use Rattle.zl_sched.proofs.MarksKept.{state_kept}
 use Rattle.zl_sched.proofs.hand_in.go.Goals as goal
 

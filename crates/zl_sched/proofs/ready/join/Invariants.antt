@@ -1,5 +1,4 @@
-use Rattle.zl_sched.proofs.Common.{joins, length, pids_of, take, vec_capacity, ◌++◌, ◌≡◌}
-use Rattle.std.specs.List.{filter}
+use Rattle.zl_sched.proofs.Common.{filter, joins, length, pids_of, take, vec_capacity, ◌++◌, ◌≡◌}
 use Rattle.zl_sched.proofs.ready.join.Given as goal
 
 abbrev pub invariant-loop-n : goal.invariant-loop-n

@@ -1,6 +1,5 @@
-use Rattle.zl_sched.proofs.Common.{List, [], ap, arith, itself_ready, length, length-append, none_filtered, refl, requeued, subst, sym, vec_capacity, ℕ, ◌++◌}
-use Rattle.zl_sched.proofs.Common.{◌∙◌, ◌∷◌, ◌≡◌, ◌≤◌}
-use Rattle.zl_sched.specs.Queueing.{woken_but}
+use Rattle.zl_sched.proofs.Common.{List, [], ap, arith, itself_ready, length, length-append, none_filtered, refl, requeued, subst, sym, vec_capacity, woken_but}
+use Rattle.zl_sched.proofs.Common.{ℕ, ◌++◌, ◌∙◌, ◌∷◌, ◌≡◌, ◌≤◌}
 use Rattle.zl_sched.proofs.ready.queue.Goals as goal
 
 pub push_reserved-requires : goal.push_reserved-requires

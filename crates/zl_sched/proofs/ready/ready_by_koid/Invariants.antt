@@ -1,5 +1,4 @@
-use Rattle.zl_sched.proofs.Common.{is_process, is_ready, length, pids_of, take, vec_capacity, ◌≡◌, ◌≤◌}
-use Rattle.std.specs.List.{filter}
+use Rattle.zl_sched.proofs.Common.{filter, is_process, is_ready, length, pids_of, take, vec_capacity, ◌≡◌, ◌≤◌}
 use Rattle.zl_sched.proofs.ready.ready_by_koid.Given as goal
 
 abbrev pub invariant-loop-n : goal.invariant-loop-n

@@ -1,8 +1,5 @@
+use Rattle.zl_sched.proofs.Common.{arith, eqb-true, get_or, length, removed_one, subst, sym, ℕ, ◌-◌, ◌<◌, ◌==◌, ◌∙◌, ◌≡◌}
 use Rattle.std.proofs.lemmas.List.Quantifiers.{position-Some}
-use Rattle.zl_rights.proofs.Common.{eqb-true}
-use Rattle.zl_calls.proofs.Above.{removed_one}
-use Rattle.zl_sched.proofs.Common.{arith, get_or, length, subst, sym, ℕ, ◌-◌, ◌<◌, ◌∙◌, ◌≡◌}
-use Rattle.std.specs.Prelude.{◌==◌}
 use Rattle.zl_sched.proofs.Queued.{not_found}
 use Rattle.zl_sched.proofs.ready.take_out.Goals as goal
 

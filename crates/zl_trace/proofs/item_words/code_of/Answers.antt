@@ -1,8 +1,4 @@
-use Rattle.zl_trace.proofs.Common.{◌≡◌, rules, sym, subst, ◌∙◌}
-use Rattle.std.proofs.Common.{true≢false}
-use Rattle.std.specs.Int.{w32}
-use Rattle.std.specs.Fmt.{signed_decimal}
-use Rattle.std.specs.Str.Parse.{ParsesSigned}
+use Rattle.zl_trace.proofs.Common.{ParsesSigned, rules, signed_decimal, subst, sym, true≢false, w32, ◌∙◌, ◌≡◌}
 use Rattle.zl_trace.proofs.Digits.{not_utf8_signed, not_parsed_signed, not_written_signed}
 use Rattle.zl_trace.proofs.item_words.code_of.Goals as goal
 

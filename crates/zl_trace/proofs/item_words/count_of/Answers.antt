@@ -1,6 +1,4 @@
-use Rattle.zl_trace.proofs.Common.{◌≡◌, arith, sym, ◌∙◌}
-use Rattle.std.specs.Fmt.{decimal}
-use Rattle.std.proofs.lemmas.Fmt.{decimal_injective}
+use Rattle.zl_trace.proofs.Common.{arith, decimal, decimal_injective, sym, ◌∙◌, ◌≡◌}
 use Rattle.zl_trace.proofs.item_words.count_of.Goals.{then-count-eq0-via-then-count-eq0, then-count-eq0-via-else-count-eq0+then-count-from}
 use Rattle.zl_trace.proofs.item_words.count_of.Goals as goal
 

@@ -1,6 +1,4 @@
-use Rattle.zl_trace.proofs.Common.{◌≡◌, sym, subst, ◌∙◌}
-use Rattle.std.proofs.Common.{true≢false}
-use Rattle.std.specs.Str.Parse.{ParsesUnsigned}
+use Rattle.zl_trace.proofs.Common.{ParsesUnsigned, subst, sym, true≢false, ◌∙◌, ◌≡◌}
 use Rattle.zl_trace.proofs.Digits.{not_utf8, not_parsed, not_written}
 use Rattle.zl_trace.proofs.item_words.number.Goals as goal
 

@@ -1,7 +1,6 @@
-use Rattle.zl_trace.proofs.Common.{rules, ◌∙◌}
+use Rattle.zl_trace.proofs.Common.{rules, status_name, ◌∙◌}
 use Rattle.std.proofs.lemmas.Iterator.Search.{find_from_yields_List}
 use Rattle.std.proofs.lemmas.Iterator.{YieldsList-from_slice}
-use Rattle.zl_rights.specs.Names.{status_name}
 use Rattle.zl_code.proofs.Named.{by_name, found, missing}
 use Rattle.zl_trace.proofs.Named.{statuses, status_among}
 use Rattle.zl_trace.proofs.item_words.status_named.Goals as goal

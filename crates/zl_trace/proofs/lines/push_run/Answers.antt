@@ -1,8 +1,6 @@
-use Rattle.zl_trace.proofs.Common.{◌≡◌, ℕ, List, Result, Ok, Err, [], ◌∷◌, ◌++◌, ◌∙◌, ap, sym, append_assoc, arith}
-use Rattle.std.specs.Prelude.{OnOk, string_bytes, if◌then◌else◌}
+use Rattle.zl_trace.proofs.Common.{Err, List, Ok, OnOk, Result, [], ap, append_assoc, arith, decimal, decimal_digit, if◌then◌else◌, string_bytes, sym, ℕ, ◌++◌}
+use Rattle.zl_trace.proofs.Common.{◌∙◌, ◌∷◌, ◌≡◌}
 use Rattle.std.specs.Result.{is_ok}
-use Rattle.std.specs.Fmt.{decimal}
-use Rattle.std.proofs.lemmas.Fmt.{decimal_digit}
 use Rattle.zl_trace.proofs.lines.push_run.Goals as goal
 
 abbrev behind : List ℕ → List ℕ

@@ -1,5 +1,4 @@
-use Rattle.zl_trace.proofs.Common.{◌+◌, arith}
-use Rattle.std.proofs.KnownBytes.{Appends-kept}
+use Rattle.zl_trace.proofs.Common.{Appends-kept, arith, ◌+◌}
 use Rattle.zl_trace.proofs.KnownOutput.{appended_more, begun_by_front}
 use Rattle.zl_trace.proofs.output.write_all.Goals as goal
 

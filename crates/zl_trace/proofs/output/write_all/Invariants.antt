@@ -1,4 +1,4 @@
-use Rattle.zl_trace.proofs.Common.{◌-◌, ◌≤◌, length, take, Appends}
+use Rattle.zl_trace.proofs.Common.{Appends, length, take, ◌-◌, ◌≤◌}
 use Rattle.zl_trace.proofs.output.write_all.Given as goal
 
 abbrev pub invariant-loop-done : goal.invariant-loop-done

@@ -1,9 +1,7 @@
-use Rattle.zl_trace.proofs.Common.{◌≡◌, ◌+◌, ◌∷◌, ◌++◌, [], ℕ, List, length, map, rules, subst, sym, ap, ◌∙◌, map-append}
-use Rattle.std.proofs.Common.{nat_eq}
+use Rattle.zl_trace.proofs.Common.{AreLinesOf, IsFirstWrong, List, [], ap, item_lines_from, length, lines_of, map, map-append, nat_eq, rules, subst, sym, ℕ}
+use Rattle.zl_trace.proofs.Common.{◌++◌, ◌+◌, ◌∙◌, ◌∷◌, ◌≡◌}
 use Rattle.std.proofs.lemmas.Iterator.Consumers.{YieldsList-so_far, YieldsList-turn, YieldsList-end, YieldsList-from_enumerate}
 use Rattle.std.proofs.lemmas.Iterator.Splits.{YieldsList-from_slice_split}
-use Rattle.zl_lines.specs.Lines.{lines_of}
-use Rattle.zl_trace.specs.Reading.{AreLinesOf, IsFirstWrong, item_lines_from}
 use Rattle.zl_trace.proofs.Numbered.{all_yielded, next_by}
 use Rattle.zl_trace.proofs.ReadOn.{ReadOn, all_read, ended, passed, taken, wrong}
 use Rattle.zl_trace.proofs.reading.read_bytes.Goals as goal

@@ -1,4 +1,4 @@
-use Rattle.zl_trace.proofs.Common.{◌≡◌, ◌∷◌, [], inl, inr, refl}
+use Rattle.zl_trace.proofs.Common.{[], inl, inr, refl, ◌∷◌, ◌≡◌}
 use Rattle.zl_code.specs.Steps.{single}
 use Rattle.zl_trace.proofs.Replayed.{differs_one}
 use Rattle.zl_trace.proofs.replaying.repeat.Goals as goal

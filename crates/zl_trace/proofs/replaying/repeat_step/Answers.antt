@@ -1,5 +1,4 @@
-use Rattle.zl_trace.proofs.Common.{sym, ◌∙◌}
-use Rattle.std.proofs.Common.{true≢false}
+use Rattle.zl_trace.proofs.Common.{sym, true≢false, ◌∙◌}
 use Rattle.zl_trace.proofs.Replayed.{differs_by}
 use Rattle.zl_trace.proofs.replaying.repeat_step.Goals as goal
 

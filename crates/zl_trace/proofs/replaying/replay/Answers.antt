@@ -1,6 +1,5 @@
-use Rattle.zl_trace.proofs.Common.{◌≡◌, ◌+◌, inl, inr, subst}
+use Rattle.zl_trace.proofs.Common.{DiffersAt, inl, inr, subst, ◌+◌, ◌≡◌}
 use Rattle.zl_code.specs.declared.history.TraceItem.TheVariants as item
-use Rattle.zl_trace.specs.Replaying.{DiffersAt}
 use Rattle.zl_trace.proofs.Replayed.{differs_at, next_replayed}
 use Rattle.zl_trace.proofs.replaying.replay.Goals.{then-index-eq-MOST_ITEMS-via-then-index-eq-MOST_ITEMS}
 use Rattle.zl_trace.proofs.replaying.replay.Goals.{then-index-eq-MOST_ITEMS-via-else-index-eq-MOST_ITEMS+then-not-repeat}

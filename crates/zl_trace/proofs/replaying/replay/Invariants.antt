@@ -1,5 +1,4 @@
-use Rattle.zl_trace.proofs.Common.{take}
-use Rattle.zl_trace.specs.Replaying.{IsReplayed}
+use Rattle.zl_trace.proofs.Common.{IsReplayed, take}
 use Rattle.zl_trace.proofs.replaying.replay.Given as goal
 
 abbrev pub invariant-loop-index : goal.invariant-loop-index

@@ -1,4 +1,4 @@
-use Rattle.zl_trace.proofs.Common.{string_bytes, take, flat_map, item_line, Gathers}
+use Rattle.zl_trace.proofs.Common.{Gathers, flat_map, item_line, string_bytes, take}
 use Rattle.zl_trace.proofs.writing.write_items.Given as goal
 
 abbrev pub invariant-loop-item : goal.invariant-loop-item

@@ -1,4 +1,4 @@
-use Rattle.zl_trace.proofs.Common.{string_bytes, take, flat_map, states_of, Gathers, state_line}
+use Rattle.zl_trace.proofs.Common.{Gathers, flat_map, state_line, states_of, string_bytes, take}
 use Rattle.zl_trace.proofs.writing.write_states.Given as goal
 
 abbrev pub invariant-loop-n : goal.invariant-loop-n

@@ -1,4 +1,4 @@
-use Rattle.std.proofs.Common.{◌+◌, sym, ap, ◌∙◌}
+use Rattle.zl_verify.proofs.Common.{ap, sym, ◌+◌, ◌∙◌}
 use Rattle.zl_verify.proofs.LookingAhead.{closed_ahead, bounds_all}
 use Rattle.zl_verify.proofs.ahead.bound_ahead.Goals as goal
 

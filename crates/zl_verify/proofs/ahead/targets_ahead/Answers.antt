@@ -1,4 +1,4 @@
-use Rattle.std.proofs.Common.{arith}
+use Rattle.zl_verify.proofs.Common.{arith}
 use Rattle.zl_verify.proofs.LookingAhead.{ahead_more}
 use Rattle.zl_verify.proofs.ahead.targets_ahead.Goals as goal
 

@@ -1,4 +1,4 @@
-use Rattle.zl_verify.specs.Ahead.{AreAhead}
+use Rattle.zl_verify.proofs.Common.{AreAhead}
 use Rattle.zl_verify.proofs.ahead.targets_ahead.Given as goal
 
 abbrev pub invariant-loop-place : goal.invariant-loop-place

@@ -1,4 +1,4 @@
-use Rattle.zl_verify.specs.Marks.{AreMarked}
+use Rattle.zl_verify.proofs.Common.{AreMarked}
 use Rattle.zl_verify.proofs.blocks.begins_of.Given as goal
 
 abbrev pub invariant-loop-place : goal.invariant-loop-place

@@ -1,4 +1,4 @@
-use Rattle.std.proofs.Common.{arith}
+use Rattle.zl_verify.proofs.Common.{arith}
 use Rattle.zl_verify.proofs.Marking.{numbers_pushed}
 use Rattle.zl_verify.proofs.blocks.numbered.Goals as goal
 

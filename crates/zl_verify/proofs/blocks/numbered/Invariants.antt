@@ -1,4 +1,4 @@
-use Rattle.zl_verify.specs.Marks.{AreNumbered}
+use Rattle.zl_verify.proofs.Common.{AreNumbered}
 use Rattle.zl_verify.proofs.blocks.numbered.Given as goal
 
 abbrev pub invariant-loop-place : goal.invariant-loop-place

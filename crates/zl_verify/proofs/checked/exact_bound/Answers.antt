@@ -1,4 +1,4 @@
-use Rattle.std.proofs.Common.{◌+◌, sym, ap, ◌∙◌}
+use Rattle.zl_verify.proofs.Common.{ap, sym, ◌+◌, ◌∙◌}
 use Rattle.zl_verify.proofs.Leading.{closed_targets}
 use Rattle.zl_verify.proofs.Bounding.{step_bound, over_budget}
 use Rattle.zl_verify.proofs.checked.exact_bound.Goals as goal

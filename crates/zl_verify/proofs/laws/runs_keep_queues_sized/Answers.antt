@@ -1,5 +1,4 @@
-use Rattle.zl_verify.specs.CallLaws.{QueuesAreSized}
-use Rattle.zl_verify.specs.SizedLaws.{CpusAreSized}
+use Rattle.zl_verify.proofs.Common.{CpusAreSized, QueuesAreSized}
 use Rattle.zl_verify.proofs.SizedWorlds.{queues_sized}
 use Rattle.zl_verify.proofs.SizedRuns.{runs_keep, histories_keep}
 use Rattle.zl_verify.proofs.laws.runs_keep_queues_sized.Goals as goal

@@ -1,4 +1,4 @@
-use Rattle.std.proofs.Common.{arith}
+use Rattle.zl_verify.proofs.Common.{arith}
 use Rattle.zl_verify.proofs.Turning.{begins, ends, goes_on, turn_goes, turn_none, refused, some_block}
 use Rattle.zl_verify.proofs.search.settle.Goals as goal
 

@@ -1,4 +1,4 @@
-use Rattle.std.proofs.Common.{arith}
+use Rattle.zl_verify.proofs.Common.{arith}
 use Rattle.zl_verify.proofs.Turning.{none_of_empty}
 use Rattle.zl_verify.proofs.search.solve.Goals as goal
 

@@ -1,5 +1,5 @@
-use Rattle.std.specs.Prelude.{◌+◌}
-use Rattle.zl_verify.specs.Numbers.{unnumbered, one_if}
+use Rattle.zl_verify.proofs.Common.{unnumbered, ◌+◌}
+use Rattle.zl_verify.specs.Numbers.{one_if}
 use Rattle.zl_verify.proofs.Numbering.{Going}
 use Rattle.zl_verify.proofs.steps.numbers.Given as goal
 

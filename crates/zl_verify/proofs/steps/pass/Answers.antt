@@ -1,4 +1,4 @@
-use Rattle.std.proofs.Common.{arith, sym, ◌∙◌}
+use Rattle.zl_verify.proofs.Common.{arith, sym, ◌∙◌}
 use Rattle.zl_verify.proofs.Numbering.{given_one}
 use Rattle.zl_verify.proofs.steps.pass.Goals as goal
 

@@ -1,4 +1,4 @@
-use Rattle.zl_verify.specs.Numbers.{places_at}
+use Rattle.zl_verify.proofs.Common.{places_at}
 use Rattle.zl_verify.proofs.Numbering.{Passing}
 use Rattle.zl_verify.proofs.steps.pass.Given as goal
 

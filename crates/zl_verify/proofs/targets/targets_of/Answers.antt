@@ -1,4 +1,4 @@
-use Rattle.std.proofs.Common.{arith}
+use Rattle.zl_verify.proofs.Common.{arith}
 use Rattle.zl_verify.proofs.Leading.{flow_begins, flow_more, flow_ends}
 use Rattle.zl_verify.proofs.targets.targets_of.Goals as goal
 

@@ -1,5 +1,4 @@
-use Rattle.std.proofs.Common.{subst}
-use Rattle.zl_abs.specs.Bounds.{bounds_of, RoundAlike}
+use Rattle.zl_abs.proofs.Common.{RoundAlike, bounds_of, subst}
 use Rattle.zl_abs.proofs.SortedBounds.{made_alike, made_sorted}
 use Rattle.zl_abs.proofs.bounds.Bounds.of.Goals as goal
 

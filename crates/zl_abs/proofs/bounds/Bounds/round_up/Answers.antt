@@ -1,4 +1,4 @@
-use Rattle.std.proofs.Common.{rules, ◌≡◌, ◌≤◌}
+use Rattle.zl_abs.proofs.Common.{rules, ◌≡◌, ◌≤◌}
 use Rattle.zl_abs.proofs.SortedBounds.{found_bound, next_bound, no_bound}
 use Rattle.zl_abs.proofs.bounds.Bounds.round_up.Goals as goal
 

@@ -1,5 +1,4 @@
-use Rattle.std.proofs.Common.{◌≡◌, ◌+◌, ◌*◌, ◌-◌, ◌++◌, length}
-use Rattle.zl_abs.specs.CallRules.{triple_results}
+use Rattle.zl_abs.proofs.Common.{length, triple_results, ◌*◌, ◌++◌, ◌+◌, ◌-◌, ◌≡◌}
 use Rattle.zl_abs.proofs.call_results.Results.receive.Given as goal
 
 abbrev pub invariant-loop-place : goal.invariant-loop-place

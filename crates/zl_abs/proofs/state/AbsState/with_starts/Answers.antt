@@ -1,6 +1,4 @@
-use Rattle.std.proofs.Common.{◌∙◌, ◌+◌, List, drop, sym, ap, arith}
-use Rattle.zl_abs.specs.declared.value.AbsVal.{AbsVal}
-use Rattle.zl_abs.specs.States.{with_all, starts_from}
+use Rattle.zl_abs.proofs.Common.{AbsVal, List, ap, arith, drop, starts_from, sym, with_all, ◌+◌, ◌∙◌}
 use Rattle.zl_abs.proofs.StateSteps.{starts_step, starts_end}
 use Rattle.zl_abs.proofs.state.AbsState.with_starts.Goals as goal
 

@@ -1,5 +1,4 @@
-use Rattle.std.proofs.Common.{◌≡◌, ◌+◌, drop}
-use Rattle.zl_abs.specs.States.{with_all, starts_from}
+use Rattle.zl_abs.proofs.Common.{drop, starts_from, with_all, ◌+◌, ◌≡◌}
 use Rattle.zl_abs.proofs.state.AbsState.with_starts.Given as goal
 
 abbrev pub invariant-loop-place : goal.invariant-loop-place

@@ -1,7 +1,5 @@
-use Rattle.std.proofs.Common.{sym, ◌∙◌, arith, ap, List, drop, ◌+◌}
+use Rattle.zl_abs.proofs.Common.{AbsVal, List, ap, arith, drop, sym, with_all, ◌+◌, ◌∙◌}
 use Rattle.zl_abs.proofs.StateSteps.{with_all_more, with_all_end}
-use Rattle.zl_abs.specs.declared.value.AbsVal.{AbsVal}
-use Rattle.zl_abs.specs.States.{with_all}
 use Rattle.zl_abs.proofs.state.AbsState.write_all.Goals as goal
 
 pub loop-register-preserved : goal.loop-register-preserved

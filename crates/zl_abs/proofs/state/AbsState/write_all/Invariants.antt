@@ -1,5 +1,4 @@
-use Rattle.std.proofs.Common.{◌≡◌, drop}
-use Rattle.zl_abs.specs.States.{with_all}
+use Rattle.zl_abs.proofs.Common.{drop, with_all, ◌≡◌}
 use Rattle.zl_abs.proofs.state.AbsState.write_all.Given as goal
 
 abbrev pub invariant-loop-register : goal.invariant-loop-register

@@ -1,5 +1,4 @@
-use Rattle.zl_asm.proofs.Common.{inr, sym, subst, Declares, held_by, Holds}
-use Rattle.zl_asm.specs.declared.directive.Directive.{Directive}
+use Rattle.zl_asm.proofs.Common.{Declares, Directive, Holds, held_by, inr, subst, sym}
 use Rattle.zl_asm.proofs.DraftHolds.{need_held}
 use Rattle.zl_asm.proofs.DraftRefuses.{behind_refused}
 use Rattle.zl_asm.proofs.draft.Draft.declare.Goals as goal

@@ -1,4 +1,4 @@
-use Rattle.zl_asm.proofs.Common.{sym, held_by}
+use Rattle.zl_asm.proofs.Common.{held_by, sym}
 use Rattle.zl_asm.proofs.DraftHolds.{mark_held}
 use Rattle.zl_asm.proofs.DraftRefuses.{mark_refused}
 use Rattle.zl_asm.proofs.draft.Draft.declare_mark.Goals as goal

@@ -1,4 +1,4 @@
-use Rattle.zl_asm.proofs.Common.{inr, ap, arith, length, held_by}
+use Rattle.zl_asm.proofs.Common.{ap, arith, held_by, inr, length}
 use Rattle.zl_asm.proofs.DraftHolds.{slot_array_held}
 use Rattle.zl_asm.proofs.DraftRefuses.{slot_array_refused}
 use Rattle.zl_asm.proofs.draft.Draft.declare_slot_array.Goals as goal

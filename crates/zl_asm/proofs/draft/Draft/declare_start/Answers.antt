@@ -1,4 +1,4 @@
-use Rattle.zl_asm.proofs.Common.{inr, ap, arith, length, held_by}
+use Rattle.zl_asm.proofs.Common.{ap, arith, held_by, inr, length}
 use Rattle.zl_asm.proofs.DraftHolds.{starts_held}
 use Rattle.zl_asm.proofs.DraftRefuses.{start_refused}
 use Rattle.zl_asm.proofs.draft.Draft.declare_start.Goals as goal

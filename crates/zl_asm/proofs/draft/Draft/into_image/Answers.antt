@@ -1,5 +1,4 @@
-use Rattle.zl_asm.proofs.Common.{List, inl, inr, sym, ap, arith, length, length-map, source_value, held_by, sources_shown}
-use Rattle.zl_asm.specs.declared.draft.SourceLine.{SourceLine}
+use Rattle.zl_asm.proofs.Common.{List, SourceLine, ap, arith, held_by, inl, inr, length, length-map, source_value, sources_shown, sym}
 use Rattle.zl_asm.proofs.DraftGives.{resolves_none, resolves_at, missing_at, faulty_at, gives_image}
 use Rattle.zl_asm.proofs.draft.Draft.into_image.Goals as goal
 

@@ -1,4 +1,4 @@
-use Rattle.zl_asm.proofs.Common.{◌-◌, length, held_by}
+use Rattle.zl_asm.proofs.Common.{held_by, length, ◌-◌}
 use Rattle.zl_asm.proofs.DraftGives.{Resolves}
 use Rattle.zl_asm.proofs.draft.Draft.into_image.Given as goal
 

@@ -1,5 +1,4 @@
-use Rattle.zl_asm.proofs.Common.{ap, map, source_value}
-use Rattle.zl_asm.specs.declared.draft.SourceLine.{SourceLine}
+use Rattle.zl_asm.proofs.Common.{SourceLine, ap, map, source_value}
 use Rattle.zl_asm.proofs.DraftHolds.{nothing_held}
 use Rattle.zl_asm.proofs.draft.Draft.new.Goals as goal
 

@@ -1,6 +1,5 @@
-use Rattle.zl_asm.proofs.Common.{arith, inr, sym, ap, ◌∙◌, is_some, refl, length-map, held_by, source_value}
+use Rattle.zl_asm.proofs.Common.{SourceLine, ap, arith, held_by, inr, is_some, length-map, refl, source_value, sym, ◌∙◌}
 use Rattle.zl_asm.proofs.Labels.{lookup_is}
-use Rattle.zl_asm.specs.declared.draft.SourceLine.{SourceLine}
 use Rattle.zl_asm.proofs.DraftAdds.{label_added, none_by}
 use Rattle.zl_asm.proofs.DraftRefuses.{label_refused}
 use Rattle.indexmap.proofs.CallerLemmas.{insert_entry-new}

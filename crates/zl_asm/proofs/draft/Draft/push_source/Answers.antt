@@ -1,5 +1,4 @@
-use Rattle.zl_asm.proofs.Common.{◌≡◌, true, not, inr, sym, ap, ◌∙◌, arith, refl, length-map, held_by, is_none, source_value}
-use Rattle.zl_asm.specs.declared.draft.SourceLine.{SourceLine}
+use Rattle.zl_asm.proofs.Common.{SourceLine, ap, arith, held_by, inr, is_none, length-map, not, refl, source_value, sym, true, ◌∙◌, ◌≡◌}
 use Rattle.zl_asm.proofs.DraftAdds.{source_added, none_shown}
 use Rattle.zl_asm.proofs.DraftRefuses.{count_refused, fault_refused, fault_found}
 use Rattle.zl_asm.proofs.draft.Draft.push_source.Goals as goal

@@ -1,4 +1,4 @@
-use Rattle.zl_calls.proofs.Common.{◌∙◌, sym, seen}
+use Rattle.zl_calls.proofs.Common.{seen, sym, ◌∙◌}
 use Rattle.zl_calls.proofs.booting.BootDeclared.{all_fit, not_as_many, one_misfit, one_more}
 use Rattle.zl_calls.proofs.booting.Made.are_declared.Goals as goal
 

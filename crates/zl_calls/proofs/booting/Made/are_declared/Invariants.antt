@@ -1,4 +1,4 @@
-use Rattle.zl_calls.proofs.Common.{◌≡◌, handles_given, seen, are_declared}
+use Rattle.zl_calls.proofs.Common.{are_declared, handles_given, seen, ◌≡◌}
 use Rattle.zl_calls.proofs.booting.BootDeclared.{fit_from}
 use Rattle.zl_calls.proofs.booting.Made.are_declared.Given as goal
 

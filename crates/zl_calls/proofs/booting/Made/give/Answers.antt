@@ -1,4 +1,4 @@
-use Rattle.zl_calls.proofs.Common.{◌∙◌, ap, sym, None, get_or, seen, allowed, World, Grant}
+use Rattle.zl_calls.proofs.Common.{Grant, None, World, allowed, ap, get_or, seen, sym, ◌∙◌}
 use Rattle.zl_calls.proofs.booting.BootGiving.{none_given, turn_given, all_given, one_allowed}
 use Rattle.zl_calls.proofs.booting.Made.give.Goals as goal
 

@@ -1,4 +1,4 @@
-use Rattle.zl_calls.proofs.Common.{take, Gives}
+use Rattle.zl_calls.proofs.Common.{Gives, take}
 use Rattle.zl_calls.proofs.booting.Made.give.Given as goal
 
 abbrev pub invariant-loop-number : goal.invariant-loop-number

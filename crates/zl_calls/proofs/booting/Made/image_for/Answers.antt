@@ -1,4 +1,4 @@
-use Rattle.zl_calls.proofs.Common.{◌≡◌, ◌∙◌, inl, inr, sym, arith, length-map, length, seen, process_entry, program_value}
+use Rattle.zl_calls.proofs.Common.{arith, inl, inr, length, length-map, process_entry, program_value, seen, sym, ◌∙◌, ◌≡◌}
 use Rattle.zl_calls.proofs.booting.BootFaults.{job_seen, known_seen, fault_no_program, fault_unknown, fault_handles, fault_misfits, fault_needs, fault_limit}
 use Rattle.zl_calls.proofs.booting.BootFaults.{no_fault}
 use Rattle.zl_calls.proofs.booting.BootDeclared.{needs_seen}

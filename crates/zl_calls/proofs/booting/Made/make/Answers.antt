@@ -1,4 +1,4 @@
-use Rattle.zl_calls.proofs.Common.{refl, runs, boot_effect, boot_fault, new_port}
+use Rattle.zl_calls.proofs.Common.{boot_effect, boot_fault, new_port, refl, runs}
 use Rattle.zl_code.specs.declared.boot.Statement.TheVariants as statement
 use Rattle.zl_objects.specs.declared.object.Body.TheVariants as body
 use Rattle.zl_calls.proofs.booting.BootObjects.{object_makes}

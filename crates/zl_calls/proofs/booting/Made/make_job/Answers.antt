@@ -1,4 +1,4 @@
-use Rattle.zl_calls.proofs.Common.{◌∙◌, sym}
+use Rattle.zl_calls.proofs.Common.{sym, ◌∙◌}
 use Rattle.zl_calls.proofs.booting.BootJobs.{job_fault, job_makes, no_parent, too_deep}
 use Rattle.zl_calls.proofs.booting.Made.make_job.Goals as goal
 

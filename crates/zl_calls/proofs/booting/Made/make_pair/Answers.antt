@@ -1,4 +1,4 @@
-use Rattle.zl_calls.proofs.Common.{◌∙◌, sym}
+use Rattle.zl_calls.proofs.Common.{sym, ◌∙◌}
 use Rattle.zl_calls.proofs.booting.BootObjects.{pair_caused, pair_makes, limit_cause, memory_cause}
 use Rattle.zl_calls.proofs.booting.Made.make_pair.Goals as goal
 

@@ -1,4 +1,4 @@
-use Rattle.zl_calls.proofs.Common.{◌≡◌, ◌∙◌, ap, sym, refl, arith, length, length-map, nat_tests, seen, process_entry, World, can_start}
+use Rattle.zl_calls.proofs.Common.{World, ap, arith, can_start, length, length-map, nat_tests, process_entry, refl, seen, sym, ◌∙◌, ◌≡◌}
 use Rattle.zl_calls.specs.declared.process.State.TheVariants as state
 use Rattle.zl_calls.proofs.booting.BootFaults.{rights_are}
 use Rattle.zl_calls.proofs.booting.BootMaking.{makes}

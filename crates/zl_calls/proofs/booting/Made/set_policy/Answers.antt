@@ -1,4 +1,4 @@
-use Rattle.zl_calls.proofs.Common.{◌∙◌, sym}
+use Rattle.zl_calls.proofs.Common.{sym, ◌∙◌}
 use Rattle.zl_calls.proofs.booting.BootJobs.{conflicting, has_one, no_such_job, policy_makes}
 use Rattle.zl_calls.proofs.booting.Made.set_policy.Goals as goal
 

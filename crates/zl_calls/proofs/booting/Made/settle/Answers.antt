@@ -1,4 +1,4 @@
-use Rattle.zl_calls.proofs.Common.{◌≡◌, ◌+◌, ◌-◌, ℕ, refl, arith}
+use Rattle.zl_calls.proofs.Common.{arith, refl, ℕ, ◌+◌, ◌-◌, ◌≡◌}
 use Rattle.zl_calls.proofs.booting.BootConsistent.{all_swept, none_swept, one_swept}
 use Rattle.zl_calls.proofs.processes.Departed.{left_keeps}
 use Rattle.zl_calls.proofs.booting.Made.settle.Goals as goal

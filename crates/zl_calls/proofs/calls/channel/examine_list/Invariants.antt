@@ -1,5 +1,4 @@
-use Rattle.zl_calls.proofs.Common.{◌≡◌, [], take, list_refusal}
-use Rattle.zl_code.proofs.Common.{drop}
+use Rattle.zl_calls.proofs.Common.{[], drop, list_refusal, take, ◌≡◌}
 use Rattle.zl_calls.proofs.calls.channel.examine_list.Given as goal
 
 abbrev pub invariant-loop-n : goal.invariant-loop-n

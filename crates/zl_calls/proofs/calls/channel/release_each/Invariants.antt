@@ -1,4 +1,4 @@
-use Rattle.zl_calls.proofs.Common.{[], take, koids_of, Releases, KeepsListed}
+use Rattle.zl_calls.proofs.Common.{KeepsListed, Releases, [], koids_of, take}
 use Rattle.zl_calls.proofs.calls.channel.release_each.Given as goal
 
 abbrev pub invariant-loop-handle : goal.invariant-loop-handle

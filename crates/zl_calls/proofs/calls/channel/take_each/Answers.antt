@@ -1,5 +1,4 @@
-use Rattle.zl_calls.proofs.Common.{get, length}
-use Rattle.zl_code.proofs.Common.{get_or}
+use Rattle.zl_calls.proofs.Common.{get, get_or, length}
 use Rattle.zl_calls.proofs.tables.Taking.{room_left, table_more, taken_then}
 use Rattle.zl_calls.proofs.calls.channel.take_each.Goals as goal
 

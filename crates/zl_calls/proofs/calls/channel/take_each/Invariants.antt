@@ -1,4 +1,4 @@
-use Rattle.zl_calls.proofs.Common.{◌≡◌, ◌≤◌, ◌+◌, ◌-◌, ◌++◌, take, length, taken_from, without_handles}
+use Rattle.zl_calls.proofs.Common.{length, take, taken_from, without_handles, ◌++◌, ◌+◌, ◌-◌, ◌≡◌, ◌≤◌}
 use Rattle.zl_calls.proofs.calls.channel.take_each.Given as goal
 
 abbrev pub invariant-loop-value : goal.invariant-loop-value

@@ -1,10 +1,8 @@
 use Rattle.zl_code.specs.declared.history.CallName.TheVariants as name
+use Rattle.zl_calls.proofs.Common.{[], arith, common_steps, handle_operands, map, operands_fault, refl, reg, slice_index, take, used, ◌∙◌, ◌≡◌}
 use Rattle.zl_calls.proofs.policy.Faultless.{faultless_at}
-use Rattle.zl_code.specs.Asked.{used}
 use Rattle.zl_calls.proofs.policy.Examining.{list_fault}
 use Rattle.zl_calls.proofs.tables.Granted.{behind, finds}
-use Rattle.zl_calls.proofs.Common.{arith, common_steps, ◌≡◌, ◌∙◌, [], map, refl, take, handle_operands, operands_fault, reg}
-use Rattle.std.specs.Prelude.{slice_index}
 use Rattle.zl_calls.proofs.calls.channel.write.Goals as goal
 
 pub chan_write-answer-requires-clause-channel : goal.chan_write-answer-requires-clause-channel

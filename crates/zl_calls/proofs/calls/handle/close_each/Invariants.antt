@@ -1,4 +1,4 @@
-use Rattle.zl_calls.proofs.Common.{take, ClosesEach}
+use Rattle.zl_calls.proofs.Common.{ClosesEach, take}
 use Rattle.zl_calls.proofs.calls.handle.close_each.Given as goal
 
 abbrev pub invariant-loop-value : goal.invariant-loop-value

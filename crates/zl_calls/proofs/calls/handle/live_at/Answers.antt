@@ -1,4 +1,4 @@
-use Rattle.zl_calls.proofs.Common.{sym, refl, ◌∙◌}
+use Rattle.zl_calls.proofs.Common.{refl, sym, ◌∙◌}
 use Rattle.zl_calls.proofs.tables.Taking.{none_in}
 use Rattle.zl_calls.proofs.calls.handle.live_at.Goals as goal
 

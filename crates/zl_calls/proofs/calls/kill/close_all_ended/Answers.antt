@@ -1,4 +1,4 @@
-use Rattle.zl_calls.proofs.Common.{◌<◌, ◌∙◌, arith, length, length-set, sym}
+use Rattle.zl_calls.proofs.Common.{arith, length, length-set, sym, ◌<◌, ◌∙◌}
 use Rattle.zl_calls.proofs.processes.InOrder.{closed_pid, set_in_order}
 use Rattle.zl_calls.proofs.processes.Started.{closed_started, set_started}
 use Rattle.zl_calls.proofs.tasks.KillParts.{closing_ends, closing_goes_on}

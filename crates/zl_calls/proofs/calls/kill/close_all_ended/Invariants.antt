@@ -1,4 +1,4 @@
-use Rattle.std.proofs.Common.{◌≡◌, length}
+use Rattle.zl_calls.proofs.Common.{length, ◌≡◌}
 use Rattle.zl_calls.proofs.tasks.KillParts.{IsClosing}
 use Rattle.zl_calls.proofs.calls.kill.close_all_ended.Given as goal
 

@@ -1,6 +1,4 @@
-use Rattle.zl_calls.proofs.Common.{ap, refl, sym, ◌∙◌, lives_on}
-use Rattle.zl_table.specs.Table.{Handles}
-use Rattle.zl_calls.specs.calls.Task.{is_over}
+use Rattle.zl_calls.proofs.Common.{Handles, ap, is_over, lives_on, refl, sym, ◌∙◌}
 use Rattle.zl_calls.proofs.calls.kill.close_if_ended.Goals as goal
 
 pub returns-then-lives : goal.returns-then-lives

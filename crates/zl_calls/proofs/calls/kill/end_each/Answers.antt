@@ -1,6 +1,4 @@
-use Rattle.zl_calls.proofs.Common.{ℕ, List, ◌∙◌, ap, arith, map, sym, take_all, take_more}
-use Rattle.std.proofs.lemmas.Bool.{and_parts}
-use Rattle.zl_calls.specs.Killing.{ended_among}
+use Rattle.zl_calls.proofs.Common.{List, and_parts, ap, arith, ended_among, map, sym, take_all, take_more, ℕ, ◌∙◌}
 use Rattle.zl_calls.proofs.tasks.KillLists.{none_ended, one_ended}
 use Rattle.zl_calls.proofs.calls.kill.end_each.Goals as goal
 

@@ -1,5 +1,4 @@
-use Rattle.std.specs.Prelude.{◌≡◌, true, map, take}
-use Rattle.zl_calls.specs.Killing.{StayBlocked, ended_among}
+use Rattle.zl_calls.proofs.Common.{StayBlocked, ended_among, map, take, true, ◌≡◌}
 use Rattle.zl_calls.proofs.calls.kill.end_each.Given as goal
 
 abbrev pub invariant-loop-koid : goal.invariant-loop-koid

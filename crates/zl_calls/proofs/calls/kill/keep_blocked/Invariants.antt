@@ -1,11 +1,4 @@
-use Rattle.zl_calls.proofs.Common.{vec_capacity, vec_len}
-use Rattle.std.proofs.Common.{map}
-use Rattle.std.specs.Prelude.{◌-◌}
-use Rattle.std.proofs.Common.{◌≡◌}
-use Rattle.zl_rights.specs.Map.{get}
-use Rattle.zl_rights.specs.Signals.{state_passes}
-use Rattle.zl_code.specs.Sound.{is_blocked}
-use Rattle.zl_calls.specs.World.{process_entry}
+use Rattle.zl_calls.proofs.Common.{get, is_blocked, map, process_entry, state_passes, vec_capacity, vec_len, ◌-◌, ◌≡◌}
 use Rattle.zl_calls.proofs.lists.FilterInPlace.{IsKeeping}
 use Rattle.zl_calls.proofs.calls.kill.keep_blocked.Given as goal
 

@@ -1,4 +1,4 @@
-use Rattle.zl_calls.proofs.Common.{◌≤◌, arith}
+use Rattle.zl_calls.proofs.Common.{arith, ◌≤◌}
 use Rattle.zl_calls.proofs.tasks.KillLists.{nobody, none_after, whichever}
 use Rattle.zl_calls.proofs.calls.kill.place_from.Goals as goal
 

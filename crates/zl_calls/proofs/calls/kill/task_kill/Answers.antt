@@ -1,5 +1,5 @@
-use Rattle.zl_calls.proofs.Common.{◌∙◌, [], ap, map, subst, sym, AreKeptBut, LeavesListed, Objects, Ok, Releases, TaskKillDoes, all_koids, ended_within}
-use Rattle.zl_calls.proofs.Common.{killing, parts}
+use Rattle.zl_calls.proofs.Common.{AreKeptBut, LeavesListed, Objects, Ok, Releases, TaskKillDoes, [], all_koids, ap, ended_within, killing, map, parts, subst}
+use Rattle.zl_calls.proofs.Common.{sym, ◌∙◌}
 use Rattle.zl_calls.proofs.tasks.KillLists.{others_closed}
 use Rattle.zl_calls.proofs.tasks.KillParts.{killed_so, still_as_many, still_there}
 use Rattle.zl_calls.proofs.calls.kill.task_kill.Goals as goal

@@ -1,4 +1,4 @@
-use Rattle.zl_calls.proofs.Common.{◌≡◌, ◌∙◌, sym, get}
+use Rattle.zl_calls.proofs.Common.{get, sym, ◌∙◌, ◌≡◌}
 use Rattle.zl_calls.proofs.calls.Cancelled.{found_entry, found_some, found_value, none_cancelled, some_cancelled}
 use Rattle.zl_calls.proofs.calls.port.port_cancel.Goals as goal
 

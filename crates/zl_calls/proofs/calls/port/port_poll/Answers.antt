@@ -1,4 +1,4 @@
-use Rattle.std.proofs.Common.{sym, ◌∙◌}
+use Rattle.zl_calls.proofs.Common.{sym, ◌∙◌}
 use Rattle.zl_calls.proofs.calls.Polled.{nothing_polled, packet_polled}
 use Rattle.zl_calls.proofs.calls.port.port_poll.Goals as goal
 

@@ -1,12 +1,10 @@
-use Rattle.zl_calls.proofs.Common.{◌≡◌, arith, refl, sym, ◌∙◌, site_of, common_steps, reg}
-use Rattle.std.specs.Prelude.{slice_index}
+use Rattle.zl_calls.proofs.Common.{None, arith, common_steps, handle_operands, operands_fault, refl, reg, site_of, slice_index, sym, ◌∙◌, ◌≡◌}
 use Rattle.zl_objects.specs.declared.awaited.Awaited.TheVariants as awaits
 use Rattle.zl_calls.specs.declared.process.State.TheVariants as state
 use Rattle.zl_calls.proofs.calls.Waited.{packet_comes, port_blocks, port_refuses}
 use Rattle.zl_code.specs.declared.history.CallName.TheVariants as name
 use Rattle.zl_calls.proofs.policy.Faultless.{faultless_at}
 use Rattle.zl_calls.proofs.tables.Granted.{finds}
-use Rattle.zl_calls.proofs.Common.{None, handle_operands, operands_fault}
 use Rattle.zl_calls.proofs.calls.port.port_wait.Goals as goal
 
 pub returns-in-Err : goal.returns-in-Err

@@ -1,4 +1,4 @@
-use Rattle.zl_calls.proofs.Common.{length, Objects, Drained}
+use Rattle.zl_calls.proofs.Common.{Drained, Objects, length}
 use Rattle.zl_calls.proofs.waits.OwnWaits.{IsEndingOwn}
 use Rattle.zl_calls.proofs.calls.process.close_all.Given as goal
 

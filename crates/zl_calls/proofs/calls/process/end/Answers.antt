@@ -1,4 +1,4 @@
-use Rattle.zl_calls.proofs.Common.{subst, rules, EndsOwn}
+use Rattle.zl_calls.proofs.Common.{EndsOwn, rules, subst}
 use Rattle.zl_calls.proofs.waits.OwnWaits.{own_over}
 use Rattle.zl_calls.proofs.waits.WaitsLost.{listed_over}
 use Rattle.zl_objects.specs.Release.{Ends as ObjectEnds}

@@ -1,4 +1,4 @@
-use Rattle.zl_calls.proofs.Common.{arith, ◌<◌, length, refl}
+use Rattle.zl_calls.proofs.Common.{arith, length, refl, ◌<◌}
 use Rattle.zl_calls.proofs.tasks.StartParts.{child_within, enters_so}
 use Rattle.zl_calls.proofs.processes.InOrder.{set_in_order}
 use Rattle.zl_calls.proofs.processes.Started.{set_started}

@@ -1,4 +1,4 @@
-use Rattle.zl_calls.proofs.Common.{rules, ◌&&◌, ◌∙◌, ap, sym, not, list_any, Image, can_be_needed, is_among, is_allowing, job_at}
+use Rattle.zl_calls.proofs.Common.{Image, ap, can_be_needed, is_allowing, is_among, job_at, list_any, not, rules, sym, ◌&&◌, ◌∙◌}
 use Rattle.std.proofs.lemmas.Iterator.Search.{any_from_yields_List}
 use Rattle.std.proofs.lemmas.Iterator.{YieldsList-from_slice}
 use Rattle.zl_objects.specs.Jobs.{action_of}

@@ -1,4 +1,4 @@
-use Rattle.zl_calls.proofs.Common.{◌≡◌, ◌<◌, length, refl}
+use Rattle.zl_calls.proofs.Common.{length, refl, ◌<◌, ◌≡◌}
 use Rattle.zl_rights.specs.declared.status.Status.TheVariants as status
 use Rattle.zl_calls.proofs.processes.InOrder.{pushed_in_order, set_in_order}
 use Rattle.zl_calls.proofs.processes.Started.{set_started}

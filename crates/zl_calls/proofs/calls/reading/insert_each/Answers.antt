@@ -1,4 +1,4 @@
-use Rattle.zl_calls.proofs.Common.{◌≡◌, arith, sym, take, length}
+use Rattle.zl_calls.proofs.Common.{arith, length, sym, take, ◌≡◌}
 use Rattle.zl_calls.proofs.tables.Entered.{one_more, places_left}
 use Rattle.zl_calls.proofs.calls.reading.insert_each.Goals as goal
 

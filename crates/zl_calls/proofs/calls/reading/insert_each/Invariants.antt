@@ -1,4 +1,4 @@
-use Rattle.zl_calls.proofs.Common.{◌≤◌, length, take, InsertsEach}
+use Rattle.zl_calls.proofs.Common.{InsertsEach, length, take, ◌≤◌}
 use Rattle.zl_calls.proofs.calls.reading.insert_each.Given as goal
 
 abbrev pub invariant-loop-handle : goal.invariant-loop-handle

@@ -1,10 +1,8 @@
-use Rattle.zl_calls.proofs.Common.{arith, common_steps}
+use Rattle.zl_calls.proofs.Common.{None, arith, common_steps, handle_operands, operands_fault, reg, slice_index, ◌≡◌}
 use Rattle.zl_calls.proofs.calls.ReaderTold.{at_read, length_same, parts_act}
 use Rattle.zl_code.specs.declared.history.CallName.TheVariants as name
 use Rattle.zl_calls.proofs.policy.Faultless.{faultless_at}
 use Rattle.zl_calls.proofs.tables.Granted.{finds}
-use Rattle.zl_calls.proofs.Common.{◌≡◌, None, handle_operands, operands_fault, reg}
-use Rattle.std.specs.Prelude.{slice_index}
 use Rattle.zl_calls.proofs.calls.reading.read.Goals as goal
 
 pub returns-in-Ok : goal.returns-in-Ok

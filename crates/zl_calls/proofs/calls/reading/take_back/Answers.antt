@@ -1,4 +1,4 @@
-use Rattle.zl_calls.proofs.Common.{◌≡◌, ◌-◌, ℕ, arith, subst, take}
+use Rattle.zl_calls.proofs.Common.{arith, subst, take, ℕ, ◌-◌, ◌≡◌}
 use Rattle.zl_calls.proofs.tables.Entered.{Grown, told_at, told_first, told_none, may_tell, one_back, all_back}
 use Rattle.zl_calls.proofs.calls.reading.take_back.Goals as goal
 use Rattle.zl_calls.proofs.calls.reading.take_back.Goals.{then-n-eq0, else-n-eq0}

@@ -1,5 +1,4 @@
-use Rattle.zl_calls.proofs.Common.{take}
-use Rattle.zl_calls.specs.calls.Reading.{CameFrom}
+use Rattle.zl_calls.proofs.Common.{CameFrom, take}
 use Rattle.zl_calls.proofs.tables.Entered.{Grown}
 use Rattle.zl_calls.proofs.calls.reading.take_back.Given as goal
 

@@ -1,5 +1,4 @@
-use Rattle.zl_calls.proofs.Common.{◌≡◌, ◌+◌, ◌-◌, written, triples_from, told_of}
-use Rattle.std.specs.Prelude.{◌*◌, drop}
+use Rattle.zl_calls.proofs.Common.{drop, told_of, triples_from, written, ◌*◌, ◌+◌, ◌-◌, ◌≡◌}
 use Rattle.zl_calls.proofs.calls.reading.tell.Given as goal
 
 abbrev pub invariant-loop-n : goal.invariant-loop-n

@@ -1,4 +1,4 @@
-use Rattle.zl_calls.proofs.Common.{◌≡◌, ◌^◌, true, nat_lt, ◌∙◌, sym, get, rules}
+use Rattle.zl_calls.proofs.Common.{get, nat_lt, rules, sym, true, ◌^◌, ◌∙◌, ◌≡◌}
 use Rattle.zl_calls.proofs.calls.Cancelled.{found_value, wait_registered}
 use Rattle.zl_calls.proofs.calls.wait.wait_async.Goals as goal
 

@@ -1,9 +1,8 @@
-use Rattle.zl_calls.proofs.Common.{◌≡◌, arith, refl, sym, ap, ◌∙◌, site_of, inr, common_steps, reg, SignalOf}
-use Rattle.std.specs.Prelude.{slice_index}
+use Rattle.zl_calls.proofs.Common.{None, SignalOf, ap, arith, common_steps, handle_operands, inr, operands_fault, refl, reg, site_of, slice_index, sym, ◌∙◌}
+use Rattle.zl_calls.proofs.Common.{◌≡◌}
 use Rattle.zl_code.specs.declared.history.CallName.TheVariants as name
 use Rattle.zl_calls.proofs.policy.Faultless.{faultless_at}
 use Rattle.zl_calls.proofs.tables.Granted.{finds}
-use Rattle.zl_calls.proofs.Common.{None, handle_operands, operands_fault}
 use Rattle.zl_calls.proofs.calls.wait.wait_one.Goals as goal
 
 pub returns : goal.returns

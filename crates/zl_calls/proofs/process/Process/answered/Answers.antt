@@ -1,4 +1,4 @@
-use Rattle.zl_calls.proofs.Common.{◌∷◌, ap, ◌∙◌, status_magnitude}
+use Rattle.zl_calls.proofs.Common.{ap, status_magnitude, ◌∙◌, ◌∷◌}
 use Rattle.zl_calls.proofs.processes.Answering.{one_written}
 use Rattle.zl_calls.proofs.process.Process.answered.Goals as goal
 

@@ -1,5 +1,4 @@
-use Rattle.zl_calls.proofs.Common.{◌≡◌, ◌∷◌, status_magnitude, written}
-use Rattle.std.specs.Prelude.{drop}
+use Rattle.zl_calls.proofs.Common.{drop, status_magnitude, written, ◌∷◌, ◌≡◌}
 use Rattle.zl_calls.proofs.process.Process.answered.Given as goal
 
 abbrev pub invariant-loop-n : goal.invariant-loop-n

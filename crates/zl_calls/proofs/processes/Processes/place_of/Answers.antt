@@ -1,4 +1,4 @@
-use Rattle.zl_calls.proofs.Common.{rules, ◌∙◌, process_value}
+use Rattle.zl_calls.proofs.Common.{process_value, rules, ◌∙◌}
 use Rattle.std.proofs.lemmas.List.Sorted.{answers_always}
 use Rattle.zl_calls.specs.declared.process.Process.{Process}
 use Rattle.zl_objects.proofs.Searching.{searched}

@@ -1,9 +1,6 @@
-use Rattle.zl_calls.proofs.Common.{◌≡◌, ◌∙◌, [], All-nil, arith, common_steps, false, handle_operands, map, reg, subst, sym, taken_handles, All}
-use Rattle.std.specs.Prelude.{slice_index}
-use Rattle.std.proofs.lemmas.List.Elements.{All-cons}
-use Rattle.zl_code.specs.Asked.{used}
+use Rattle.zl_calls.proofs.Common.{All, All-cons, All-nil, IsNoted, [], arith, common_steps, false, handle_operands, map, reg, slice_index, subst, sym}
+use Rattle.zl_calls.proofs.Common.{taken_handles, used, ◌∙◌, ◌≡◌}
 use Rattle.zl_code.specs.declared.history.CallName.TheVariants as name
-use Rattle.zl_calls.specs.Taken.{IsNoted}
 use Rattle.zl_calls.proofs.calls.WriteCalls.{takes_listed}
 use Rattle.zl_calls.proofs.tables.TakenBy.{notes_at, notes_none}
 use Rattle.zl_calls.proofs.taken.Taken.note_call.Goals as goal

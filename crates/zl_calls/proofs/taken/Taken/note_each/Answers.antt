@@ -1,6 +1,4 @@
-use Rattle.zl_calls.proofs.Common.{arith, subst, take, take_all, All, List, ℕ}
-use Rattle.std.proofs.lemmas.List.Elements.{All-more, All-weaker}
-use Rattle.zl_calls.specs.Taken.{IsNoted}
+use Rattle.zl_calls.proofs.Common.{All, All-more, All-weaker, IsNoted, List, arith, subst, take, take_all, ℕ}
 use Rattle.zl_calls.proofs.tables.TakenBy.{more_noted}
 use Rattle.zl_calls.proofs.taken.Taken.note_each.Goals as goal
 

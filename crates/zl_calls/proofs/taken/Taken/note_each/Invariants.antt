@@ -1,5 +1,4 @@
-use Rattle.zl_calls.proofs.Common.{take, All}
-use Rattle.zl_calls.specs.Taken.{IsNoted}
+use Rattle.zl_calls.proofs.Common.{All, IsNoted, take}
 use Rattle.zl_calls.proofs.taken.Taken.note_each.Given as goal
 
 abbrev pub invariant-loop-value : goal.invariant-loop-value

@@ -1,5 +1,5 @@
-use Rattle.zl_calls.proofs.Common.{◌≡◌, ◌∙◌, ◌==◌, true, ap, get, map, on_process, position, refl, slice_get, sym, Some, Cpu, Program, is_ready}
-use Rattle.zl_calls.proofs.Common.{process_entry, process_value, state_value, world_blocked, length-set, after_locals, Stands}
+use Rattle.zl_calls.proofs.Common.{Cpu, Program, Some, Stands, after_locals, ap, get, is_ready, length-set, map, on_process, position, process_entry}
+use Rattle.zl_calls.proofs.Common.{process_value, refl, slice_get, state_value, sym, true, world_blocked, ◌==◌, ◌∙◌, ◌≡◌}
 use Rattle.zl_calls.specs.declared.process.Process.{Process}
 use Rattle.zl_calls.proofs.stepping.Advancing.{advances, advanced_programs, advanced_sound, cpu_stands, program_stands, read_there, ready_there}
 use Rattle.zl_calls.proofs.stepping.Covered.{advanced_covered}

@@ -1,9 +1,5 @@
-use Rattle.zl_code.proofs.AwakeRuns.{boot_awake}
+use Rattle.zl_calls.proofs.Common.{All-nil, AreBlocked, IsBoot, IsStarted, arith, boot_awake, boot_covered, world_blocked}
 use Rattle.zl_code.proofs.ProgramsKept.{boot_programs}
-use Rattle.zl_code.specs.Boot.{IsBoot}
-use Rattle.zl_verify.proofs.Covering.{boot_covered}
-use Rattle.zl_calls.proofs.Common.{All-nil, AreBlocked, arith, world_blocked}
-use Rattle.zl_calls.specs.Leaving.{IsStarted}
 use Rattle.zl_calls.proofs.booting.BootBlocked.{booted_boots, booted_sound, none_blocked}
 use Rattle.zl_calls.proofs.waking.Ordered.{none_ordered}
 use Rattle.zl_calls.proofs.waking.StillBlocked.{none_sought}

@@ -1,5 +1,4 @@
-use Rattle.zl_calls.proofs.Common.{false≢true, subst, TraceItem}
-use Rattle.zl_calls.specs.Steps.{TakesStep}
+use Rattle.zl_calls.proofs.Common.{TakesStep, TraceItem, false≢true, subst}
 use Rattle.zl_calls.proofs.stepping.StepItems.{unready_no_call, wants_memory}
 use Rattle.zl_calls.proofs.world.World.perform.Goals as goal
 

@@ -1,6 +1,5 @@
-use Rattle.zl_calls.proofs.Common.{◌≡◌, ◌≤◌, ◌∙◌, ℕ, true, false, false≢true, Seeks, arith, length, subst, sym, vec_capacity, List, AreBlocked}
-use Rattle.zl_calls.proofs.Common.{TakesStep, is_local}
-use Rattle.zl_calls.proofs.Common.{then_blocked}
+use Rattle.zl_calls.proofs.Common.{AreBlocked, List, Seeks, TakesStep, arith, false, false≢true, is_local, length, subst, sym, then_blocked, true, vec_capacity}
+use Rattle.zl_calls.proofs.Common.{ℕ, ◌∙◌, ◌≡◌, ◌≤◌}
 use Rattle.zl_objects.specs.declared.awaited.Awaited.{Awaited}
 use Rattle.zl_calls.specs.Blocking.{tells_asleep}
 use Rattle.zl_calls.specs.declared.waking.Woke.TheVariants as woke

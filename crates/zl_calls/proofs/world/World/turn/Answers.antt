@@ -1,4 +1,4 @@
-use Rattle.zl_calls.proofs.Common.{refl, process_value}
+use Rattle.zl_calls.proofs.Common.{process_value, refl}
 use Rattle.zl_calls.specs.Turns.{IsTurn}
 use Rattle.zl_calls.proofs.stepping.Advancing.{listed_there, made_passes, none_ready, read_there, ready_there, they_stand}
 use Rattle.zl_calls.proofs.stepping.Covered.{able_there}

@@ -1,5 +1,4 @@
-use Rattle.zl_code.proofs.Common.{◌∙◌, ap, refl, sym}
-use Rattle.zl_code.specs.Image.{Image}
+use Rattle.zl_code.proofs.Common.{Image, ap, refl, sym, ◌∙◌}
 use Rattle.zl_code.proofs.Same.{same_fields}
 use Rattle.zl_code.proofs.image.Image.is_same.Goals as goal
 

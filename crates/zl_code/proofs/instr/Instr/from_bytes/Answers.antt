@@ -1,4 +1,4 @@
-use Rattle.zl_code.proofs.Common.{rules, true, false, ap, sym, ◌∙◌, err_from_is_err_and, layout_of}
+use Rattle.zl_code.proofs.Common.{ap, err_from_is_err_and, false, layout_of, rules, sym, true, ◌∙◌}
 use Rattle.zl_code.proofs.ImageBytes.{IsBytes}
 use Rattle.zl_code.proofs.ImageInstr.{IfSome-at, row_bytes-read, instr_fault-register, instr_fault-named, instr_fault-known}
 use Rattle.zl_code.proofs.instr.Instr.from_bytes.Goals as goal

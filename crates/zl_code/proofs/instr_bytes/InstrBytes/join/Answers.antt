@@ -1,4 +1,4 @@
-use Rattle.zl_code.proofs.Common.{ℕ, List, ◌∷◌, ◌++◌, ap, ◌∙◌, rules}
+use Rattle.zl_code.proofs.Common.{List, ap, rules, ℕ, ◌++◌, ◌∙◌, ◌∷◌}
 use Rattle.zl_code.proofs.ImageCells.{cells_7, cells_8}
 use Rattle.zl_code.proofs.instr_bytes.InstrBytes.join.Goals as goal
 

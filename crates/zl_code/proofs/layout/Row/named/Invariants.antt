@@ -1,4 +1,4 @@
-use Rattle.zl_code.proofs.Common.{◌≡◌, ◌≤◌, Some, Row, row_named}
+use Rattle.zl_code.proofs.Common.{Row, Some, row_named, ◌≡◌, ◌≤◌}
 use Rattle.zl_code.proofs.layout.Row.named.Given as goal
 
 -- no opcode so far has the name

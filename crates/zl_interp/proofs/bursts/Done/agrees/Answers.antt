@@ -1,4 +1,4 @@
-use Rattle.zl_code.proofs.Common.{IsTrue}
+use Rattle.zl_interp.proofs.Common.{IsTrue}
 use Rattle.zl_interp.proofs.Spelled.{same_test}
 use Rattle.zl_interp.proofs.bursts.Done.agrees.Goals as goal
 

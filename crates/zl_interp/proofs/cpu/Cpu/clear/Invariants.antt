@@ -1,7 +1,5 @@
-use Rattle.zl_code.proofs.Common.{◌≡◌, []}
-use Rattle.std.specs.Prelude.{drop}
+use Rattle.zl_interp.proofs.Common.{[], drop, used, ◌≡◌}
 use Rattle.zl_rights.specs.World.{written}
-use Rattle.zl_code.specs.Asked.{used}
 use Rattle.zl_interp.proofs.cpu.Cpu.clear.Given as goal
 
 abbrev pub invariant-loop-place : goal.invariant-loop-place

@@ -1,5 +1,4 @@
-use Rattle.zl_code.proofs.Common.{arith, ◌∙◌}
-use Rattle.std.proofs.lemmas.Grind.{common_steps}
+use Rattle.zl_interp.proofs.Common.{arith, common_steps, ◌∙◌}
 use Rattle.zl_interp.proofs.Listing.{read_step}
 use Rattle.zl_interp.proofs.cpu.Cpu.listed.Goals as goal
 

@@ -1,6 +1,4 @@
-use Rattle.zl_code.proofs.Common.{◌≡◌, ◌≤◌, ◌++◌, map, take, length}
-use Rattle.std.specs.Prelude.{drop, slice_index}
-use Rattle.zl_code.specs.Asked.{used}
+use Rattle.zl_interp.proofs.Common.{drop, length, map, slice_index, take, used, ◌++◌, ◌≡◌, ◌≤◌}
 use Rattle.zl_interp.proofs.cpu.Cpu.listed.Given as goal
 
 abbrev pub invariant-loop-place : goal.invariant-loop-place

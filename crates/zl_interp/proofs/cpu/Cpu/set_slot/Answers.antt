@@ -1,4 +1,4 @@
-use Rattle.zl_code.proofs.Common.{ℕ, List, ap, slice_set}
+use Rattle.zl_interp.proofs.Common.{List, ap, slice_set, ℕ}
 use Rattle.std.specs.Vec.{with_item}
 use Rattle.zl_interp.proofs.Slots.{slot_written}
 use Rattle.zl_interp.proofs.cpu.Cpu.set_slot.Goals as goal

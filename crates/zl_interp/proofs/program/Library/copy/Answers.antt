@@ -1,5 +1,4 @@
-use Rattle.zl_code.proofs.Common.{subst, sym}
-use Rattle.zl_verify.specs.Covered.{IsVerified}
+use Rattle.zl_interp.proofs.Common.{IsVerified, subst, sym}
 use Rattle.zl_interp.proofs.program.Library.copy.Goals as goal
 
 pub invariant_of-result : goal.invariant_of-result

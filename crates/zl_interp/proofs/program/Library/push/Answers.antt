@@ -1,6 +1,4 @@
-use Rattle.zl_code.proofs.Common.{ap}
-use Rattle.std.specs.Arc.{arc_value}
-use Rattle.zl_interp.specs.Program.{program_value}
+use Rattle.zl_interp.proofs.Common.{ap, arc_value, program_value}
 use Rattle.zl_interp.proofs.Verified.{pushed}
 use Rattle.zl_interp.proofs.program.Library.push.Goals as goal
 

@@ -1,7 +1,5 @@
-use Rattle.zl_rights.proofs.Common.{rules, ℕ, subst, ◌∙◌}
+use Rattle.zl_objects.proofs.Common.{IsSearchInRange, Listed, rules, subst, ℕ, ◌∙◌}
 use Rattle.std.proofs.lemmas.List.Sorted.{answers_always}
-use Rattle.std.specs.List.Sorted.{IsSearchInRange}
-use Rattle.zl_objects.specs.declared.wait.Listed.{Listed}
 use Rattle.zl_objects.proofs.Searching.{searched}
 use Rattle.zl_objects.proofs.listing.WaitList.place_of.Goals as goal
 

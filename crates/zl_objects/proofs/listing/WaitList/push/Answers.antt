@@ -1,6 +1,4 @@
-use Rattle.zl_rights.proofs.Common.{arith, ◌<◌, ◌+◌}
-use Rattle.std.proofs.lemmas.List.Elements.{All-push, All-weaker}
-use Rattle.zl_objects.specs.Listed.{entry_of}
+use Rattle.zl_objects.proofs.Common.{All-push, All-weaker, arith, entry_of, ◌+◌, ◌<◌}
 use Rattle.zl_objects.proofs.PortWaits.{pushed_found}
 use Rattle.zl_objects.proofs.Rising.{rises_last}
 use Rattle.zl_objects.proofs.listing.WaitList.push.Goals as goal

@@ -1,5 +1,4 @@
-use Rattle.zl_rights.proofs.Common.{ap, option_map, sym, ◌∙◌}
-use Rattle.zl_objects.specs.declared.wait.Listed.{Listed}
+use Rattle.zl_objects.proofs.Common.{Listed, ap, option_map, sym, ◌∙◌}
 use Rattle.zl_objects.proofs.Lists.{none_first}
 use Rattle.zl_objects.proofs.PortWaits.{given_first, given_goes, none_given}
 use Rattle.zl_objects.proofs.listing.WaitList.take_given.Goals as goal

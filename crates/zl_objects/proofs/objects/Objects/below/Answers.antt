@@ -1,8 +1,5 @@
-use Rattle.zl_rights.proofs.Common.{rules, ◌∙◌, ap, map, filter, slice_get}
-use Rattle.std.specs.BTreeMap.{keys}
-use Rattle.std.proofs.lemmas.Iterator.Consumers.{YieldsList-from_rest, YieldsList-from_filter, nth_from_yields_List}
-use Rattle.zl_objects.specs.Jobs.{descendants, is_below}
-use Rattle.zl_objects.specs.Objects.{Objects}
+use Rattle.zl_objects.proofs.Common.{Objects, YieldsList-from_filter, YieldsList-from_rest, ap, descendants, filter, is_below, keys, map, nth_from_yields_List}
+use Rattle.zl_objects.proofs.Common.{rules, slice_get, ◌∙◌}
 use Rattle.zl_objects.proofs.objects.Objects.below.Goals as goal
 
 pub returns : goal.returns

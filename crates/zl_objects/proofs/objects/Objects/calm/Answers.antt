@@ -1,5 +1,4 @@
-use Rattle.std.proofs.Common.{map}
-use Rattle.zl_objects.specs.Listed.{listed_value}
+use Rattle.zl_objects.proofs.Common.{listed_value, map}
 use Rattle.zl_objects.proofs.CalmMade.{calmed}
 use Rattle.zl_objects.proofs.Listed.{seen_listed}
 use Rattle.zl_objects.proofs.objects.Objects.calm.Goals as goal

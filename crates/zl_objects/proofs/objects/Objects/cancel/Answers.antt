@@ -1,9 +1,4 @@
-use Rattle.std.proofs.Common.{rules, refl, ◌≡◌, Some, vec_capacity}
-use Rattle.std.specs.BTreeMap.{is_at}
-use Rattle.std.specs.Map.{lookup, set_value}
-use Rattle.std.specs.Ordering.{nat_cmp}
-use Rattle.zl_port.specs.Packets.{Port, is_from, without_packets}
-use Rattle.zl_objects.specs.Ports.{at_port}
+use Rattle.zl_objects.proofs.Common.{Port, Some, at_port, is_at, is_from, lookup, nat_cmp, refl, rules, set_value, vec_capacity, without_packets, ◌≡◌}
 use Rattle.zl_objects.proofs.ByKoid.{written}
 use Rattle.zl_objects.proofs.CalmChanges.{port_calm, some_out}
 use Rattle.zl_objects.proofs.Kept.{port_kept}

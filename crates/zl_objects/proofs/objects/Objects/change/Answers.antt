@@ -1,6 +1,5 @@
-use Rattle.std.proofs.Common.{rules, vec_capacity}
+use Rattle.zl_objects.proofs.Common.{raised_changed, rules, vec_capacity}
 use Rattle.zl_objects.proofs.ByKoid.{by_koid}
-use Rattle.zl_objects.specs.Objects.{raised_changed}
 use Rattle.zl_objects.proofs.CalmChanges.{found_calm, keeps_changed}
 use Rattle.zl_objects.proofs.Kept.{changed_kept}
 use Rattle.zl_objects.proofs.Index.{kept_indexed}

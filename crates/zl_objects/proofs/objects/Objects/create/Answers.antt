@@ -1,5 +1,4 @@
-use Rattle.std.proofs.Common.{arith, ap, sym, vec_capacity}
-use Rattle.zl_signals.specs.Waits.{SignalState}
+use Rattle.zl_objects.proofs.Common.{SignalState, ap, arith, sym, vec_capacity}
 use Rattle.zl_objects.proofs.CalmMade.{created_calm}
 use Rattle.zl_objects.proofs.Index.{alone_paired, inserted_indexed}
 use Rattle.zl_objects.proofs.Kept.{inserted_kept}

@@ -1,5 +1,5 @@
-use Rattle.std.proofs.Common.{◌≡◌, ◌+◌, arith, nat_cmp, refl, sym, vec_capacity}
-use Rattle.std.specs.BTreeMap.{insert_entry}
+use Rattle.zl_objects.proofs.Common.{arith, insert_entry, refl, sym, vec_capacity, ◌+◌, ◌≡◌}
+use Rattle.std.proofs.Common.{nat_cmp}
 use Rattle.zl_objects.proofs.CalmMade.{pair_calm}
 use Rattle.zl_objects.proofs.Index.{pair_indexed}
 use Rattle.zl_objects.proofs.Kept.{pair_kept, roomy_kept}

@@ -1,5 +1,4 @@
-use Rattle.std.proofs.Common.{None, Option, Some}
-use Rattle.std.specs.Option.{IfNone}
+use Rattle.zl_objects.proofs.Common.{IfNone, None, Option, Some}
 use Rattle.zl_objects.proofs.Sleeping.{none_due}
 use Rattle.zl_objects.proofs.objects.Objects.due_place.Goals as goal
 

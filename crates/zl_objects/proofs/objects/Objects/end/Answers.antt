@@ -1,6 +1,4 @@
-use Rattle.zl_rights.proofs.Common.{ap, filter, ◌≡◌, ◌∷◌, Some, get, arith, refl, sym, [], ◌∙◌}
-use Rattle.zl_objects.specs.Listed.{is_there}
-use Rattle.zl_objects.specs.Objects.{Objects, job_in}
+use Rattle.zl_objects.proofs.Common.{Objects, Some, [], ap, arith, filter, get, is_there, job_in, refl, sym, ◌∙◌, ◌∷◌, ◌≡◌}
 use Rattle.zl_objects.proofs.Kept.{left_kept}
 use Rattle.zl_objects.proofs.Listed.{all_seen}
 use Rattle.zl_objects.proofs.Released.{both_left, both_released, cascaded_shorter, cascades_of, waits_left}

@@ -1,8 +1,5 @@
-use Rattle.std.proofs.Common.{refl, rules, sym, ap, option_map, vec_capacity, ◌∙◌}
-use Rattle.zl_rights.specs.Numbers.{meets}
-use Rattle.zl_port.specs.Packets.{Port, with_packet, without_place}
-use Rattle.zl_signals.specs.Waits.{holds, wait_at}
-use Rattle.zl_objects.specs.Ports.{at_port}
+use Rattle.zl_objects.proofs.Common.{Port, ap, at_port, holds, meets, refl, rules, sym, vec_capacity, wait_at, with_packet, without_place, ◌∙◌}
+use Rattle.std.proofs.Common.{option_map}
 use Rattle.zl_objects.proofs.CalmChanges.{keeps_port, unless_wanted, unwatched_calm, watched_after, written_calm}
 use Rattle.zl_objects.proofs.Index.{port_indexed, unwatched_indexed}
 use Rattle.zl_objects.proofs.Kept.{gone_kept, gone_seen, none_out_kept, none_out_seen}

@@ -1,6 +1,5 @@
-use Rattle.std.proofs.Common.{rules, vec_capacity}
+use Rattle.zl_objects.proofs.Common.{held_once_more, rules, vec_capacity}
 use Rattle.zl_objects.proofs.ByKoid.{by_koid}
-use Rattle.zl_objects.specs.Objects.{held_once_more}
 use Rattle.zl_objects.proofs.CalmChanges.{keeps_more, more_stays, quiet_calm}
 use Rattle.zl_objects.proofs.Kept.{more_kept}
 use Rattle.zl_objects.proofs.Index.{kept_indexed}

@@ -1,11 +1,4 @@
-use Rattle.zl_rights.proofs.Common.{None, [], ap, refl, subst, Map}
-use Rattle.std.proofs.Common.{vec_capacity}
-use Rattle.zl_objects.specs.declared.object.Object.{Object}
-use Rattle.zl_objects.specs.Below.{looked_at}
-use Rattle.zl_objects.specs.Dying.{IsKept, LetsGo}
-use Rattle.zl_objects.specs.Jobs.{killing}
-use Rattle.zl_objects.specs.Objects.{Objects}
-use Rattle.zl_objects.specs.Release.{all_koids}
+use Rattle.zl_objects.proofs.Common.{IsKept, LetsGo, Map, None, Object, Objects, [], all_koids, ap, killing, looked_at, refl, subst, vec_capacity}
 use Rattle.zl_objects.proofs.Descending.{all_swept}
 use Rattle.zl_objects.proofs.Index.{killed_indexed}
 use Rattle.zl_objects.proofs.Kept.{left_kept}

@@ -1,4 +1,4 @@
-use Rattle.std.proofs.Common.{vec_capacity}
+use Rattle.zl_objects.proofs.Common.{vec_capacity}
 use Rattle.zl_objects.proofs.CalmMade.{none_calm}
 use Rattle.zl_objects.proofs.Index.{none_indexed}
 use Rattle.zl_objects.proofs.Kept.{none_kept}

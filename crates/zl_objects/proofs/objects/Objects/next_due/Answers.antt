@@ -1,6 +1,4 @@
-use Rattle.zl_rights.proofs.Common.{ℕ, option_map, ap, sym, ◌∙◌}
-use Rattle.zl_objects.specs.Calm.{holds_now, is_marked}
-use Rattle.zl_objects.specs.Listed.{listed_value}
+use Rattle.zl_objects.proofs.Common.{ap, holds_now, is_marked, listed_value, option_map, sym, ℕ, ◌∙◌}
 use Rattle.zl_objects.proofs.Earliest.{before_seen, due_seen, earliest_is}
 use Rattle.zl_objects.proofs.Lists.{any_taken}
 use Rattle.zl_objects.proofs.objects.Objects.next_due.Goals as goal

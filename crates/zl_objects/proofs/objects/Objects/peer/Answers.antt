@@ -1,5 +1,4 @@
-use Rattle.std.proofs.Common.{rules, Some, ◌≡◌}
-use Rattle.zl_objects.specs.Objects.{peer_at}
+use Rattle.zl_objects.proofs.Common.{Some, peer_at, rules, ◌≡◌}
 use Rattle.zl_objects.proofs.ByKoid.{by_koid}
 use Rattle.zl_objects.proofs.Peers.{peer_of_kind}
 use Rattle.zl_objects.proofs.objects.Objects.peer.Goals as goal

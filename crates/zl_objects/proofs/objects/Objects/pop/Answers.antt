@@ -1,5 +1,4 @@
-use Rattle.std.proofs.Common.{rules, refl, vec_capacity}
-use Rattle.zl_port.specs.Packets.{without_front}
+use Rattle.zl_objects.proofs.Common.{refl, rules, vec_capacity, without_front}
 use Rattle.zl_objects.proofs.ByKoid.{by_koid}
 use Rattle.zl_objects.proofs.CalmChanges.{front_out, port_calm}
 use Rattle.zl_objects.proofs.Kept.{port_kept}

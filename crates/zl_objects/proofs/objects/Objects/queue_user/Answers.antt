@@ -1,9 +1,4 @@
-use Rattle.std.proofs.Common.{rules, refl, ◌≡◌, Some, vec_capacity}
-use Rattle.std.specs.BTreeMap.{is_at}
-use Rattle.std.specs.Map.{lookup, set_value}
-use Rattle.std.specs.Ordering.{nat_cmp}
-use Rattle.zl_port.specs.Packets.{user_packet, with_packet}
-use Rattle.zl_objects.specs.Ports.{at_port}
+use Rattle.zl_objects.proofs.Common.{Some, at_port, is_at, lookup, nat_cmp, refl, rules, set_value, user_packet, vec_capacity, with_packet, ◌≡◌}
 use Rattle.zl_objects.proofs.ByKoid.{written}
 use Rattle.zl_objects.proofs.Refusable.{when_ok}
 use Rattle.zl_objects.proofs.CalmChanges.{found_or_same_calm, keeps_port}

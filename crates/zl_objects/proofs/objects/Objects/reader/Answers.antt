@@ -1,5 +1,4 @@
-use Rattle.std.proofs.Common.{rules, Some, ◌≡◌}
-use Rattle.zl_objects.specs.Objects.{reader_at}
+use Rattle.zl_objects.proofs.Common.{Some, reader_at, rules, ◌≡◌}
 use Rattle.zl_objects.proofs.ByKoid.{by_koid}
 use Rattle.zl_objects.proofs.Peers.{reader_of_channel}
 use Rattle.zl_objects.proofs.objects.Objects.reader.Goals as goal

@@ -1,6 +1,5 @@
-use Rattle.std.proofs.Common.{rules, vec_capacity}
+use Rattle.zl_objects.proofs.Common.{received, rules, vec_capacity}
 use Rattle.zl_objects.proofs.ByKoid.{by_koid}
-use Rattle.zl_objects.specs.Objects.{received}
 use Rattle.zl_objects.proofs.CalmChanges.{keeps_received, quiet_calm, received_stays}
 use Rattle.zl_objects.proofs.Kept.{received_kept}
 use Rattle.zl_objects.proofs.Index.{kept_indexed}

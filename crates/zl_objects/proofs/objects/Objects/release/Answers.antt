@@ -1,7 +1,6 @@
-use Rattle.std.proofs.Common.{ℕ, List, arith, eqb-true, length, vec_len, ◌≡◌, ◌∷◌, [], None, vec_capacity, map, refl, sym, ◌∙◌}
-use Rattle.zl_objects.specs.Dying.{IsKept, LetsGo}
-use Rattle.zl_objects.specs.Listed.{listed_value}
-use Rattle.zl_objects.specs.Objects.{held_once_less}
+use Rattle.zl_objects.proofs.Common.{IsKept, LetsGo, List, None, [], arith, held_once_less, length, listed_value, map, refl, sym, vec_capacity, vec_len, ℕ, ◌∙◌}
+use Rattle.zl_objects.proofs.Common.{◌∷◌, ◌≡◌}
+use Rattle.std.proofs.Common.{eqb-true}
 use Rattle.zl_objects.proofs.Budget.{both_went}
 use Rattle.zl_objects.proofs.CalmChanges.{keeps_less, less_still}
 use Rattle.zl_objects.proofs.Index.{kept_indexed}

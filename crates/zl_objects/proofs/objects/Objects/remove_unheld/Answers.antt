@@ -1,5 +1,4 @@
-use Rattle.std.proofs.Common.{refl, ◌∷◌, [], map}
-use Rattle.zl_objects.specs.Listed.{listed_value}
+use Rattle.zl_objects.proofs.Common.{[], listed_value, map, refl, ◌∷◌}
 use Rattle.zl_objects.proofs.Kept.{left_kept}
 use Rattle.zl_objects.proofs.Law.{leaves_largest}
 use Rattle.zl_objects.proofs.Released.{left_by, released, waits_left}

@@ -1,8 +1,4 @@
-use Rattle.std.proofs.Common.{rules, refl, vec_capacity, ◌≡◌, Some}
-use Rattle.std.specs.BTreeMap.{is_at}
-use Rattle.std.specs.Map.{lookup, set_value}
-use Rattle.std.specs.Ordering.{nat_cmp}
-use Rattle.zl_objects.specs.Objects.{sent}
+use Rattle.zl_objects.proofs.Common.{Some, is_at, lookup, nat_cmp, refl, rules, sent, set_value, vec_capacity, ◌≡◌}
 use Rattle.zl_objects.proofs.ByKoid.{written, written_back}
 use Rattle.zl_objects.proofs.Refusable.{when_err, when_ok}
 use Rattle.zl_objects.proofs.CalmChanges.{found_or_same_calm, keeps_sent}

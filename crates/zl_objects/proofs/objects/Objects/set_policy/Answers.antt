@@ -1,8 +1,4 @@
-use Rattle.std.proofs.Common.{rules, ◌≡◌, Some, vec_capacity}
-use Rattle.std.specs.BTreeMap.{is_at}
-use Rattle.std.specs.Map.{lookup, set_value}
-use Rattle.std.specs.Ordering.{nat_cmp}
-use Rattle.zl_objects.specs.Jobs.{with_policy_set}
+use Rattle.zl_objects.proofs.Common.{Some, is_at, lookup, nat_cmp, rules, set_value, vec_capacity, with_policy_set, ◌≡◌}
 use Rattle.zl_objects.proofs.ByKoid.{written_back}
 use Rattle.zl_objects.proofs.Refusable.{when_err}
 use Rattle.zl_objects.proofs.CalmChanges.{keeps_policy, policy_calm}

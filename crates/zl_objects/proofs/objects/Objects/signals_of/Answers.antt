@@ -1,4 +1,4 @@
-use Rattle.std.proofs.Common.{◌∙◌}
+use Rattle.zl_objects.proofs.Common.{◌∙◌}
 use Rattle.zl_objects.proofs.Showing.{are_active}
 use Rattle.zl_objects.proofs.objects.Objects.signals_of.Goals as goal
 

@@ -1,7 +1,4 @@
-use Rattle.std.proofs.Common.{◌≡◌, ◌∙◌, sym, vec_capacity}
-use Rattle.zl_rights.specs.Map.{update}
-use Rattle.zl_objects.specs.Awaited.{koid_of}
-use Rattle.zl_objects.specs.Calm.{slept}
+use Rattle.zl_objects.proofs.Common.{koid_of, slept, sym, update, vec_capacity, ◌∙◌, ◌≡◌}
 use Rattle.zl_objects.proofs.CalmMade.{keeps_slept, slept_calm}
 use Rattle.zl_objects.proofs.Index.{kept_indexed}
 use Rattle.zl_objects.proofs.Kept.{slept_kept}

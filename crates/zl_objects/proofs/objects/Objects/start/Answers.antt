@@ -1,5 +1,4 @@
-use Rattle.std.proofs.Common.{rules, vec_capacity}
-use Rattle.zl_objects.specs.Objects.{started}
+use Rattle.zl_objects.proofs.Common.{rules, started, vec_capacity}
 use Rattle.zl_objects.proofs.CalmChanges.{keeps_started, quiet_calm, started_stays}
 use Rattle.zl_objects.proofs.ByKoid.{by_koid}
 use Rattle.zl_objects.proofs.Tasks.{started_kept}

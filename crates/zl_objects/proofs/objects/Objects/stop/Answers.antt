@@ -1,5 +1,4 @@
-use Rattle.std.proofs.Common.{refl, rules, vec_capacity}
-use Rattle.zl_objects.specs.Objects.{stopped}
+use Rattle.zl_objects.proofs.Common.{refl, rules, stopped, vec_capacity}
 use Rattle.zl_objects.proofs.ByKoid.{by_koid}
 use Rattle.zl_objects.proofs.CalmEnds.{ended_calm}
 use Rattle.zl_objects.proofs.Kept.{stopped_kept}

@@ -1,4 +1,4 @@
-use Rattle.std.proofs.Common.{refl}
+use Rattle.zl_objects.proofs.Common.{refl}
 use Rattle.zl_objects.proofs.Sleeping.{taken_calm, takes_due}
 use Rattle.zl_objects.proofs.objects.Objects.take_due.Goals as goal
 

@@ -1,6 +1,5 @@
-use Rattle.std.proofs.Common.{refl, rules, sym, ap, option_map, ◌==◌, ◌&&◌, ◌∙◌}
-use Rattle.zl_port.specs.Packets.{without_place}
-use Rattle.zl_signals.specs.Waits.{is_keyed, wait_at}
+use Rattle.zl_objects.proofs.Common.{ap, is_keyed, refl, rules, sym, wait_at, without_place, ◌&&◌, ◌==◌, ◌∙◌}
+use Rattle.std.proofs.Common.{option_map}
 use Rattle.zl_objects.proofs.CalmChanges.{port_calm, unwatched_calm}
 use Rattle.zl_objects.proofs.Index.{port_indexed, unwatched_indexed}
 use Rattle.zl_objects.proofs.Kept.{gone_kept, gone_seen, none_out_kept, none_out_seen, unwatched_none}

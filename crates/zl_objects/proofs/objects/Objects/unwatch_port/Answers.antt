@@ -1,6 +1,4 @@
-use Rattle.std.proofs.Common.{refl, rules, sym, ◌==◌, ◌∙◌}
-use Rattle.zl_port.specs.Packets.{without_place}
-use Rattle.zl_signals.specs.Waits.{is_at_port}
+use Rattle.zl_objects.proofs.Common.{is_at_port, refl, rules, sym, without_place, ◌==◌, ◌∙◌}
 use Rattle.zl_objects.proofs.CalmChanges.{port_calm, unwatched_calm}
 use Rattle.zl_objects.proofs.Index.{port_indexed, unwatched_indexed}
 use Rattle.zl_objects.proofs.Kept.{gone_kept, gone_seen, none_out_kept, none_out_seen}

@@ -1,9 +1,5 @@
-use Rattle.zl_rights.proofs.Common.{◌≡◌, ◌∙◌, ◌==◌, ap, filter, not, refl, sym, update}
+use Rattle.zl_objects.proofs.Common.{ap, at_port, filter, not, refl, sym, update, watch_of, watched, with_place, ◌==◌, ◌∙◌, ◌≡◌}
 use Rattle.std.specs.Vec.{vec_capacity}
-use Rattle.zl_port.specs.Packets.{with_place}
-use Rattle.zl_objects.specs.Listed.{watch_of}
-use Rattle.zl_objects.specs.Ports.{at_port}
-use Rattle.zl_objects.specs.Waits.{watched}
 use Rattle.zl_objects.proofs.CalmChanges.{keeps_watched, marked_calm, port_calm}
 use Rattle.zl_objects.proofs.Kept.{watched_kept}
 use Rattle.zl_objects.proofs.Index.{kept_indexed, port_indexed}

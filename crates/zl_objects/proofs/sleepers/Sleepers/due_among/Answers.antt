@@ -1,7 +1,4 @@
-use Rattle.std.proofs.lemmas.List.Elements.{All-more, All-same}
-use Rattle.std.proofs.lemmas.List.{take_all}
-use Rattle.std.proofs.Common.{sym}
-use Rattle.zl_objects.specs.Sleepers.{NoneDueAt}
+use Rattle.zl_objects.proofs.Common.{All-more, All-same, NoneDueAt, sym, take_all}
 use Rattle.zl_objects.proofs.sleepers.Sleepers.due_among.Goals as goal
 
 pub loop-koid-preserved : goal.loop-koid-preserved

@@ -1,6 +1,4 @@
-use Rattle.std.specs.Prelude.{take}
-use Rattle.std.specs.List.{All}
-use Rattle.zl_objects.specs.Sleepers.{NoneDueAt}
+use Rattle.zl_objects.proofs.Common.{All, NoneDueAt, take}
 use Rattle.zl_objects.proofs.sleepers.Sleepers.due_among.Given as goal
 
 abbrev pub invariant-loop-koid : goal.invariant-loop-koid

@@ -1,7 +1,4 @@
-use Rattle.std.proofs.lemmas.List.Elements.{All-more, All-same}
-use Rattle.std.proofs.lemmas.List.{take_all}
-use Rattle.std.proofs.Common.{◌≡◌, arith, false, sym}
-use Rattle.zl_objects.specs.Calm.{is_due}
+use Rattle.zl_objects.proofs.Common.{All-more, All-same, arith, false, is_due, sym, take_all, ◌≡◌}
 use Rattle.zl_objects.proofs.sleepers.Sleepers.due_anywhere.Goals as goal
 
 pub loop-place-preserved : goal.loop-place-preserved

@@ -1,6 +1,4 @@
-use Rattle.std.specs.Prelude.{take, ◌≡◌, false}
-use Rattle.std.specs.List.{All}
-use Rattle.zl_objects.specs.Calm.{is_due}
+use Rattle.zl_objects.proofs.Common.{All, false, is_due, take, ◌≡◌}
 use Rattle.zl_objects.proofs.sleepers.Sleepers.due_anywhere.Given as goal
 
 abbrev pub invariant-loop-place : goal.invariant-loop-place

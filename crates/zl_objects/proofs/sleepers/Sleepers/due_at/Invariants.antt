@@ -1,4 +1,4 @@
-use Rattle.zl_objects.specs.Calm.{is_due}
+use Rattle.zl_objects.proofs.Common.{is_due}
 use Rattle.zl_objects.proofs.Sleeping.{HasLooked}
 use Rattle.zl_objects.proofs.sleepers.Sleepers.due_at.Given as goal
 

@@ -1,5 +1,4 @@
-use Rattle.std.proofs.Common.{◌==◌, ◌∙◌, ap, sym}
-use Rattle.zl_objects.specs.Awaited.{koid_of}
+use Rattle.zl_objects.proofs.Common.{ap, koid_of, sym, ◌==◌, ◌∙◌}
 use Rattle.zl_objects.proofs.Sleeping.{at_port, look_ends, none_listed}
 use Rattle.zl_objects.proofs.sleepers.Sleepers.is_listed.Goals as goal
 

@@ -1,4 +1,4 @@
-use Rattle.std.specs.Prelude.{◌==◌}
+use Rattle.zl_objects.proofs.Common.{◌==◌}
 use Rattle.zl_objects.proofs.Sleeping.{HasLooked}
 use Rattle.zl_objects.proofs.sleepers.Sleepers.is_listed.Given as goal
 

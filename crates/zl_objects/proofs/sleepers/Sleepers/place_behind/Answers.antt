@@ -1,10 +1,5 @@
-use Rattle.std.proofs.Common.{◌<◌, ◌≤◌, List, arith, leb, rules, subst, sym}
-use Rattle.std.specs.List.Sorted.{IsPartitionedBy}
-use Rattle.std.proofs.lemmas.Bool.{leb-false, leb-true}
+use Rattle.zl_objects.proofs.Common.{IsPartitionedBy, IsPlace, List, Sleeper, arith, koid_of, leb, leb-false, leb-true, rules, subst, sym, ◌<◌, ◌≤◌}
 use Rattle.std.proofs.lemmas.List.Sorted.{IsPartitionPoint-from_clause, IsPartitionedBy-leb}
-use Rattle.zl_objects.specs.declared.awaited.Sleeper.{Sleeper}
-use Rattle.zl_objects.specs.Awaited.{koid_of}
-use Rattle.zl_objects.specs.Sleepers.{IsPlace}
 use Rattle.zl_objects.proofs.sleepers.Sleepers.place_behind.Goals as goal
 
 pub returns : goal.returns

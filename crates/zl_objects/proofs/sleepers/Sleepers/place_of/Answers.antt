@@ -1,10 +1,6 @@
-use Rattle.std.proofs.Common.{◌<◌, ◌≤◌, List, arith, ltb, rules, subst, sym}
-use Rattle.std.specs.List.Sorted.{IsPartitionedBy}
-use Rattle.std.proofs.lemmas.Bool.{ltb-false, ltb-true}
+use Rattle.zl_objects.proofs.Common.{IsPartitionedBy, IsPlace, List, Sleeper, arith, koid_of, ltb-false, ltb-true, rules, subst, sym, ◌<◌, ◌≤◌}
+use Rattle.std.proofs.Common.{ltb}
 use Rattle.std.proofs.lemmas.List.Sorted.{IsPartitionPoint-from_clause, IsPartitionedBy-ltb}
-use Rattle.zl_objects.specs.declared.awaited.Sleeper.{Sleeper}
-use Rattle.zl_objects.specs.Awaited.{koid_of}
-use Rattle.zl_objects.specs.Sleepers.{IsPlace}
 use Rattle.zl_objects.proofs.sleepers.Sleepers.place_of.Goals as goal
 
 pub returns : goal.returns

@@ -1,4 +1,4 @@
-use Rattle.std.proofs.Common.{inl, is_ok, refl}
+use Rattle.zl_objects.proofs.Common.{inl, is_ok, refl}
 use Rattle.zl_objects.proofs.Sleeping.{insert_in_order, insert_listed}
 use Rattle.zl_objects.proofs.sleepers.Sleepers.put.Goals as goal
 

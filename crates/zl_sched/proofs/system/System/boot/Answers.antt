@@ -1,5 +1,4 @@
-use Rattle.zl_code.proofs.SoundRuns.{boot_sound}
-use Rattle.zl_sched.proofs.Common.{◌≡◌, [], ap, arith, length, rules}
+use Rattle.zl_sched.proofs.Common.{[], ap, arith, boot_sound, length, rules, ◌≡◌}
 use Rattle.zl_sched.proofs.Marked.{listed_alone}
 use Rattle.zl_sched.proofs.Queued.{by_koid_ready}
 use Rattle.zl_sched.proofs.system.System.boot.Goals as goal

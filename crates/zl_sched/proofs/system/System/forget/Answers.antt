@@ -1,5 +1,4 @@
-use Rattle.zl_sched.proofs.Common.{◌≡◌, false, arith, ap, length, is_process, System}
-use Rattle.zl_code.specs.Common.{lives}
+use Rattle.zl_sched.proofs.Common.{System, ap, arith, false, is_process, length, lives, ◌≡◌}
 use Rattle.zl_sched.proofs.HandedIn.{forgets_whole}
 use Rattle.zl_sched.proofs.Marked.{shorter}
 use Rattle.zl_sched.proofs.Held.{held}

@@ -1,6 +1,4 @@
-use Rattle.zl_sched.proofs.Common.{◌≡◌, ◌∙◌, [], length, sym, rules}
-use Rattle.std.specs.Prelude.{◌==◌}
-use Rattle.zl_rights.proofs.Common.{false≢true}
+use Rattle.zl_sched.proofs.Common.{[], false≢true, length, rules, sym, ◌==◌, ◌∙◌, ◌≡◌}
 use Rattle.zl_sched.proofs.MarksMoved.{empty_by, empty_there, empty_where_idle, idle_where_empty}
 use Rattle.zl_sched.proofs.system.System.idle.Goals as goal
 

@@ -1,5 +1,4 @@
-use Rattle.zl_sched.proofs.Common.{System, ap, arith, done, false, is_in, length, queued_after, requeued, rules, sym, vec_capacity}
-use Rattle.zl_sched.proofs.Common.{◌≡◌, ◌≤◌}
+use Rattle.zl_sched.proofs.Common.{System, ap, arith, done, false, is_in, length, queued_after, requeued, rules, sym, vec_capacity, ◌≡◌, ◌≤◌}
 use Rattle.zl_sched.proofs.TurnTold.{limit_told, step_told}
 use Rattle.zl_sched.proofs.TurnQueued.{by_requeue, once, places, queue_room, still_whole, told_so}
 use Rattle.zl_sched.proofs.Held.{held}

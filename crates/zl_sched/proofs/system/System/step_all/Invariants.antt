@@ -1,4 +1,4 @@
-use Rattle.zl_sched.proofs.Common.{◌≡◌, [], take, turns_of, Walks}
+use Rattle.zl_sched.proofs.Common.{Walks, [], take, turns_of, ◌≡◌}
 use Rattle.zl_sched.specs.declared.system.End.TheVariants as end
 use Rattle.zl_sched.proofs.system.System.step_all.Given as goal
 

@@ -1,4 +1,4 @@
-use Rattle.zl_sched.proofs.Common.{◌≡◌, [], replicate, Walks}
+use Rattle.zl_sched.proofs.Common.{Walks, [], replicate, ◌≡◌}
 use Rattle.zl_sched.specs.declared.system.End.TheVariants as end
 use Rattle.zl_sched.proofs.system.System.step_turns.Given as goal
 

@@ -1,4 +1,4 @@
-use Rattle.zl_sched.proofs.Common.{◌≡◌, ◌∷◌, ◌++◌, [], ap, arith, length, System, rules}
+use Rattle.zl_sched.proofs.Common.{System, [], ap, arith, length, rules, ◌++◌, ◌∷◌, ◌≡◌}
 use Rattle.zl_sched.proofs.HandedIn.{takes_whole}
 use Rattle.zl_sched.proofs.MarksMoved.{taken_room}
 use Rattle.zl_sched.proofs.Held.{held}

@@ -1,4 +1,4 @@
-use Rattle.zl_rights.proofs.Common.{◌≡◌, Some, is_some, sym, ap, ◌∙◌}
+use Rattle.zl_rights.proofs.Common.{is_some, sym, ap, ◌∙◌}
 use Rattle.zl_table.proofs.Stored.{at_key}
 use Rattle.zl_table.proofs.table.Table.entry.Goals as goal
 

@@ -1,4 +1,4 @@
-use Rattle.zl_rights.proofs.Common.{refl, ◌≡◌, Some, None, is_some, sym, ap, ◌∙◌}
+use Rattle.zl_rights.proofs.Common.{refl, ◌≡◌, Some, is_some, sym, ap, ◌∙◌}
 use Rattle.slab.specs.Slab.{get as slot_at}
 use Rattle.slab.proofs.SlabLemmas.{Updates-with_value}
 use Rattle.zl_table.proofs.MapEdits.{update_missing}

@@ -1,4 +1,4 @@
-use Rattle.std.proofs.Common.{arith, ap, ◌∙◌, not, Some}
+use Rattle.zl_verify.proofs.Common.{Some, ap, arith, not, ◌∙◌}
 use Rattle.zl_verify.proofs.Raising.{raised_none, raised_same, raised_up, there}
 use Rattle.zl_verify.proofs.search.Search.raise.Goals as goal
 

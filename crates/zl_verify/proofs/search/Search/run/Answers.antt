@@ -1,4 +1,4 @@
-use Rattle.std.proofs.Common.{◌∙◌, sym, arith}
+use Rattle.zl_verify.proofs.Common.{arith, sym, ◌∙◌}
 use Rattle.zl_verify.proofs.Leaving.{ran_on, ran_out, ran_none, ran_past}
 use Rattle.zl_verify.proofs.search.Search.run.Goals as goal
 

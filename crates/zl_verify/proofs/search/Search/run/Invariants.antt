@@ -1,4 +1,4 @@
-use Rattle.zl_verify.proofs.Common.{◌≡◌, turned_over, out_from}
+use Rattle.zl_verify.proofs.Common.{out_from, turned_over, ◌≡◌}
 use Rattle.zl_verify.proofs.search.Search.run.Given as goal
 
 abbrev pub invariant-loop-place : goal.invariant-loop-place

@@ -19,15 +19,20 @@ pub struct SignalState {
     raised: Signals,
     // The earliest registered first.
     waits: VecDeque<Watch>,
+    // None of the waits gives its packet to this port. A port that goes may have many waits here, each
+    // of which leads to `end_port`: those are gone through once.
+    ended: Option<Koid>,
 }
 
 impl Model for SignalState {
     ghost use Rattle.zl_signals.specs.Asked.{takes};
-    ghost use Rattle.zl_signals.specs.Waits.{SignalState as SignalStateValue};
+    ghost use Rattle.zl_signals.specs.Waits.{NoneGives, SignalState as SignalStateValue};
 
     ghost Value = { SignalStateValue };
 
     ghost view = { λ s. record { raised = s.raised.0; waits = s.waits.items } };
+
+    ghost invariant = { λ s. NoneGives s.ended s.waits.items };
 }
 
 impl SignalState {
@@ -38,6 +43,7 @@ impl SignalState {
         SignalState {
             raised: Signals::empty(),
             waits: VecDeque::new(alloc),
+            ended: None,
         }
     }
 
@@ -73,6 +79,7 @@ impl SignalState {
         ensures unchanged { OnErr result (self.new ≡ self.old) }
         ensures handed_back { IfErr result (λ refused. refused.value ≡ watch) }
     {
+        self.ended = None;
         self.waits.push_back(watch)
     }
 
@@ -86,6 +93,7 @@ impl SignalState {
         ensures rest { self.new ≡ without_wait self.old (is_by_handle pid value) }
         ensures unchanged { IfNone result (self.new ≡ self.old) }
     {
+        self.ended = None;
         take_first(&mut self.waits, Asked::ByHandle(pid, value))
     }
 
@@ -98,6 +106,7 @@ impl SignalState {
         ensures rest { self.new ≡ without_wait self.old (is_at_port port) }
         ensures unchanged { IfNone result (self.new ≡ self.old) }
     {
+        self.ended = None;
         take_first(&mut self.waits, Asked::AtPort(port))
     }
 
@@ -107,7 +116,11 @@ impl SignalState {
     pub fn end_port(&mut self, port: Koid)
         ensures { self.new ≡ without_port self.old port }
     {
+        if self.ended == Some(port) {
+            return;
+        }
         keep_others(&mut self.waits, port);
+        self.ended = Some(port);
     }
 
     /// Takes out the earliest wait, or nothing where there is none. It takes no memory.
@@ -117,6 +130,7 @@ impl SignalState {
         ensures first { result ≡ slice_get self.old.waits 0 }
         ensures rest { self.new ≡ record self.old { waits = drop 1 self.old.waits } }
     {
+        self.ended = None;
         self.waits.pop_front()
     }
 
@@ -129,6 +143,7 @@ impl SignalState {
         ensures rest { self.new ≡ without_wait self.old (is_keyed pid value port key) }
         ensures unchanged { IfNone result (self.new ≡ self.old) }
     {
+        self.ended = None;
         take_first(&mut self.waits, Asked::Keyed(pid, value, port, key))
     }
 
@@ -153,6 +168,7 @@ impl SignalState {
         ensures rest { self.new ≡ without_wait self.old (holds active.0) }
         ensures unchanged { IfNone result (self.new ≡ self.old) }
     {
+        self.ended = None;
         take_first(&mut self.waits, Asked::Holding(active))
     }
 }

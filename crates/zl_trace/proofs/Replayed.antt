@@ -84,6 +84,7 @@ module _ (lib : Library) (statements : List Statement) (limit : ℕ) where
         programs = repeats.programs ∙ replayed.programs;
         boot = replayed.boot;
         boots = replayed.boots;
+        sized = replayed.sized;
         legal = record {
           counts = rw (list_all-append has_count items (x ∷ []), replayed.legal.counts, repeats.count) refl;
           run = subst (λ (run : List TraceItem). Runs lib replayed.boot run m2.world) steps

@@ -3,9 +3,9 @@ import re
 from dataclasses import dataclass, field
 from pathlib import Path
 
-from assembler import assemble
 from meaning.instructions import BY_OPCODE
 from meaning.scenario import is_scenario
+from meaning.texts import TextFault, assembled
 from runs import read_trace, without_turns
 
 TOP = Path(__file__).resolve().parent.parent
@@ -37,10 +37,10 @@ def blocks_in(scenario, form):
 
 
 def image_of(text):
-    """The image of a text, if the assembler of the tests takes it."""
+    """The image of a text, if the assembler of tools/meaning takes it."""
     try:
-        return assemble(text)
-    except (ValueError, KeyError, IndexError, OverflowError):
+        return assembled(text)
+    except (TextFault, ValueError, OverflowError):
         return None
 
 

@@ -91,11 +91,11 @@ class Chart:
         """What came of an item."""
         if came.kind == "packet":
             mark = self.row("sent", item.line, item.pid, came.text)
-            self.sent[came.packet.sending] = len(self.rows) - 1, mark
+            self.sent[came.packet.sent] = len(self.rows) - 1, mark
         elif came.kind == "woken":
             self.row("wakes", item.line, item.pid, came.text, to=came.pid)
-            if came.packet and came.packet.sending in self.sent:
-                self.sent[came.packet.sending][1].is_read = True
+            if came.packet and came.packet.sent in self.sent:
+                self.sent[came.packet.sent][1].is_read = True
         elif came.kind == "over":
             self.row("over", item.line, came.pid, came.text)
         elif came.kind == "gone":

@@ -44,6 +44,11 @@ class Instruction:
         return self.registers + self.handles
 
     @cached_property
+    def has_range(self):
+        """Whether its third and fourth register are an address and a length."""
+        return self.row is not None and self.row.has_range
+
+    @cached_property
     def handle_places(self):
         return handle_places(self)
 

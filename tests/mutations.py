@@ -4,9 +4,9 @@ from dataclasses import dataclass, field
 from pathlib import Path
 
 from meaning.instructions import BY_OPCODE
-from meaning.scenario import is_scenario
+from meaning.scenario import is_scenario, without_turns
 from meaning.texts import TextFault, assembled
-from runs import read_trace, without_turns
+from runs import whole_trace
 
 TOP = Path(__file__).resolve().parent.parent
 FOLDERS = ("examples", "tests/cases", "tests/hints", "tests/tools")
@@ -74,7 +74,7 @@ def add_scenario(found, path, text):
         if re.fullmatch("(?:[0-9a-f]{2})+", digits):
             found.images.append(bytes.fromhex(digits))
     written = path.with_name(path.name + ".stdout")
-    if written.exists() and written.stat().st_size <= MOST_BYTES and read_trace(written.read_text("latin-1")):
+    if written.exists() and written.stat().st_size <= MOST_BYTES and whole_trace(written.read_text("latin-1")):
         found.traces.append((without_turns(text).encode("latin-1"), written.read_bytes()))
 
 

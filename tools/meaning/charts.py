@@ -5,7 +5,7 @@ concern their process have no chart.
 """
 from dataclasses import dataclass
 
-from meaning.following import state_in
+from meaning.trace import STATE
 from meaning.trouble import Trouble
 
 MOST_ROWS = 5000
@@ -108,9 +108,9 @@ class Chart:
     def end(self, rest):
         """The states at the end."""
         for line, text in rest:
-            state = state_in(text)
-            if state and not state[1].startswith("ended"):
-                self.row("note", line, state[0], f"at the end: {state[1]}")
+            state = STATE.fullmatch(text)
+            if state and not state[2].startswith("ended"):
+                self.row("note", line, int(state[1]), f"at the end: {state[2]}")
 
 
 def plain(text):

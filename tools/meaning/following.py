@@ -1,11 +1,11 @@
 """Goes along with a trace: each item with what it was about, as long as the model has the same items."""
-import re
 from dataclasses import dataclass, field
 
 from meaning.calls import perform
 from meaning.cpu import Stuck
 from meaning.numbers import STUCK
 from meaning.telling import Done, done_by, local_text, settled
+from meaning.trace import STATE
 from meaning.trouble import Trouble
 
 
@@ -87,10 +87,7 @@ class Follower:
 
     def compare_end(self, rest):
         """The lines behind the items say of each process what the model has."""
-        told = {}
-        for place, line in rest:
-            if state := state_in(line):
-                told[state[0]] = (place, state[1])
+        told = {int(found[1]): (place, found[2]) for place, line in rest if (found := STATE.fullmatch(line))}
         for pid, (place, text) in told.items():
             process = self.world.processes.get(pid)
             here = process.state_text() if process else "no process"
@@ -99,12 +96,6 @@ class Follower:
         missing = sorted(set(self.world.processes) - set(told))
         if told and missing:
             raise Trouble(f"the trace says nothing of process {missing[0]} at its end")
-
-
-def state_in(line):
-    """The number of a process and its state, in a line at the end of a trace that says them."""
-    found = re.fullmatch(r"process ([0-9]{1,20}) (.*)", line)
-    return (int(found[1]), found[2]) if found else None
 
 
 def parting(item):

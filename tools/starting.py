@@ -1,4 +1,5 @@
 """How tools/explore and tools/try-all start the lab, and how they end."""
+import argparse
 import os
 import signal
 import subprocess
@@ -14,6 +15,17 @@ MOST_INPUT = 4_194_304
 # The proved program, if it is newer than the sources, or else the file of their quick build.
 FIND = 'top=$1; . "$top/tools/program.sh"; ' \
        'if is_newer_than_the_sources "$proved"; then echo "$proved"; else quick_of_the_sources; fi'
+
+
+class Words(argparse.ArgumentParser):
+    """A parser by a program's own head; wrong words are one line."""
+
+    def __init__(self, tool, head, usage):
+        super().__init__(prog=f"tools/{tool}", description=head, usage=f"tools/{tool} {usage}",
+                         formatter_class=argparse.RawDescriptionHelpFormatter)
+
+    def error(self, message):
+        raise Trouble(f"{message}; {self.prog} --help says what it takes")
 
 
 def read_file(path):

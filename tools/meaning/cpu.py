@@ -7,7 +7,7 @@ TESTS = {
     "jeq": operator.eq, "jne": operator.ne, "jlt": operator.lt, "jge": operator.ge,
     "jhas": lambda x, n: x & n == n, "jnhas": lambda x, n: x & n != n,
 }
-# What each makes of two numbers: of the registers behind the first, or of the last one and the number of the instruction.
+# What each makes of two numbers: of the registers behind the first, or of one and the number of the instruction.
 RESULTS = {
     "add": lambda x, y: x + y & WORD, "sub": lambda x, y: x - y & WORD, "and": operator.and_, "or": operator.or_,
     "xor": operator.xor, "addi": lambda x, n: x + n & WORD, "shl": lambda x, n: x << n & WORD if n < 64 else 0,

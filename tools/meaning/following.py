@@ -4,7 +4,7 @@ from dataclasses import dataclass, field
 from meaning.calls import perform
 from meaning.cpu import Stuck
 from meaning.numbers import STUCK
-from meaning.telling import Done, done_by, local_text, settled
+from meaning.about import Done, done_by, local_text, settled
 from meaning.trace import STATE
 from meaning.trouble import Trouble
 

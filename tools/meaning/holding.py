@@ -1,6 +1,6 @@
 """Who holds what in a world, and who waits: handles of those that live, and what lies in queues."""
 from meaning.numbers import signals_text
-from meaning.telling import entry_text, message_text, packet_text
+from meaning.about import entry_text, message_text, packet_text
 
 
 def registers_with(process, value):

@@ -5,10 +5,10 @@ from pathlib import Path
 from meaning.numbers import RIGHTS
 
 TABLE = Path(__file__).with_name("instructions.txt")
-# What an instruction does with a register: it is written, read as a number, both, names a handle, names one
+# What an instruction does with a register: it is written, read as a number, names a handle, names one
 # that is gone afterwards, or is the first of those that get the handles of a message.
-WRITTEN, READ, CHANGED, HANDLE, CONSUMED, FIRST = "wrxhcf"
-USES = {"writes": WRITTEN, "reads": READ, "changes": CHANGED, "names": HANDLE, "consumes": CONSUMED,
+WRITTEN, READ, HANDLE, CONSUMED, FIRST = "wrhcf"
+USES = {"writes": WRITTEN, "reads": READ, "changes": WRITTEN, "names": HANDLE, "consumes": CONSUMED,
         "closes": CONSUMED, "triples": FIRST}
 ENDINGS = {"": "", "number": "n", "target": "t", "number, target": "nt", "handles": "l", "room": "m"}
 

@@ -95,7 +95,8 @@ class Object(NamedTuple):
 
 
 class Process:
-    """A process: its state, the code of its end, and its handles by their values. The value freed last is given first."""
+    """A process: its state, the code of its end, and its handles by their values, of which the one freed last is
+    given first."""
 
     __slots__ = ("program", "state", "code", "cpu", "handles", "freed", "awaits")
 

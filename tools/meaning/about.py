@@ -184,7 +184,8 @@ def told_of(world, came):
     if kind == "woken":
         awaited, packet = what
         at = world.objects[awaited.koid].kind
-        text = packet_text(packet) if packet else f"{at} {awaited.koid} is {signals_text(world.active(awaited.koid), at)}"
+        active = signals_text(world.active(awaited.koid), at)
+        text = packet_text(packet) if packet else f"{at} {awaited.koid} is {active}"
         return Told(kind, f"{koid} goes on: {text}", koid, packet)
     # of an ended process its end was told
     ended = koid in world.processes and world.processes[koid].state == "ended"

@@ -11,6 +11,8 @@ MOST_BYTES = 65536
 MOST_SIGNALS = 0xFFFFFFFF
 MOST_PACKETS = 2048
 MOST_DEPTH = 16
+# What a policy may kill for beside what is made.
+CONDITIONS_OF = {"BAD_HANDLE": "BAD_HANDLE", "WRONG_TYPE": "WRONG_OBJECT"}
 # These carry SIGNALED too.
 SIGNALED_KINDS = ("event", "eventpair")
 
@@ -62,8 +64,8 @@ class Call:
         """The object of its first handle."""
         return self.world.objects[self.entries[1].koid]
 
-    def examine(self):
-        """Refuses for the first handle that won't do, and where a policy wants it; the entries of all are kept."""
+    def look_up(self):
+        """The status of the first handle that won't do, if there is one; the entries of all are kept."""
         refused, listed = None, len(self.one.registers)
         for place, (kinds, rights), _ in self.one.handle_places:
             value = self.values[place]
@@ -78,13 +80,17 @@ class Call:
                 refused = "WRONG_TYPE"
             elif rights & ~entry.rights:
                 refused = "ACCESS_DENIED"
-        condition = {"BAD_HANDLE": "BAD_HANDLE", "WRONG_TYPE": "WRONG_OBJECT"}.get(refused) \
-            if refused else self.one.row.condition
+        return refused
+
+    def examine(self):
+        """Refuses for a handle, or where the policy of the caller's job denies what is made; it may kill for either."""
+        refused = self.look_up()
+        condition = CONDITIONS_OF.get(refused) if refused else self.one.row.condition
         action = condition and self.world.action_for(self.world.objects[self.pid].job, condition)
         if action == "KILL":
             raise Ended
-        if refused or action == "DENY":
-            raise Refused(refused or "ACCESS_DENIED")
+        refuse_if(refused, refused)
+        refuse_if(action == "DENY", "ACCESS_DENIED")
 
     def want(self, room=0):
         """The last test of a call that may want memory: there is room for so many handles, and there is memory."""

@@ -29,23 +29,23 @@ class Lab:
         # how often it was started for a trace
         self.runs = 0
 
-    def start(self, words, given, said=subprocess.PIPE):
+    def start(self, words, given, said=subprocess.PIPE, is_apart=False):
         """Its status, what it writes to these words and this standard input, and what it says on standard error,
-        unless that goes elsewhere; none where it doesn't end in time."""
+        unless that goes elsewhere; none where it doesn't end in time. Apart, in a group of its own, all that it
+        starts can be ended with it."""
         try:
-            # in a group of its own, so that all that it starts can be ended
             process = subprocess.Popen([self.program, *map(str, words)], cwd=self.room, stdin=subprocess.PIPE,
-                                       stdout=subprocess.PIPE, stderr=said, start_new_session=True)
+                                       stdout=subprocess.PIPE, stderr=said, start_new_session=is_apart)
         except OSError as error:
             raise Trouble(f"can't start {self.program}: {error.strerror}") from error
         try:
             output, errors = process.communicate(given, self.seconds)
             return process.returncode, output, errors
         except subprocess.TimeoutExpired:
-            stop(process, signal.SIGKILL)
+            stop(process, is_apart)
             return None
         except BaseException:
-            stop(process, signal.SIGTERM)
+            stop(process, is_apart)
             raise
 
     def answer(self, words, given, is_told=True):
@@ -58,7 +58,7 @@ class Lab:
         teller = threading.Thread(target=pass_on, args=(reading, telling), daemon=True)
         teller.start()
         try:
-            status, output, _ = self.start(words, given, writing)
+            status, output, _ = self.start(words, given, writing, True)
         except BaseException:
             telling.clear()
             raise
@@ -92,8 +92,8 @@ class Lab:
         return self.written([], b"%s--\n%s" % (scenario, schedule)).decode().splitlines()
 
 
-def stop(process, number):
-    """Ends the program by a signal and waits for its end, so that it clears up what it made."""
+def stop(process, is_apart):
+    """Ends the program and waits for its end; apart it can clear up what it made."""
     for stream in (process.stdin, process.stdout, process.stderr):
         try:
             if stream:
@@ -101,7 +101,10 @@ def stop(process, number):
         except OSError:
             pass
     try:
-        os.killpg(process.pid, number)
+        if is_apart:
+            os.killpg(process.pid, signal.SIGTERM)
+        else:
+            process.kill()
     except ProcessLookupError:
         pass
     process.wait()

@@ -1,5 +1,9 @@
 """Cases: an input, and what stands beside it; for tests/try-cases, which says what these are, and tests/try-memory."""
-from assembler import assemble
+import sys
+from pathlib import Path
+
+sys.path.insert(0, str(Path(__file__).resolve().parent.parent / "tools"))
+from meaning.texts import assembled  # noqa: E402
 
 STATUSES = {"refused": 1, "wrong_words": 2, "failing_files": 3, "no_memory": 4,
             "status_1": 1, "status_2": 2, "status_3": 3}
@@ -27,7 +31,7 @@ def content(path):
     """The bytes of an input; of a text that is to be checked, those of its image."""
     words = beside(path, ".args")
     if path.suffix == ".zasm" and words.exists() and words.read_text().startswith("check\n"):
-        return assemble(path.read_text())
+        return assembled(path.read_text())
     return path.read_bytes()
 
 

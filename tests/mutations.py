@@ -3,10 +3,10 @@ import re
 from dataclasses import dataclass, field
 from pathlib import Path
 
-from assembler import assemble
 from meaning.instructions import BY_OPCODE
-from meaning.scenario import is_scenario
-from runs import read_trace, without_turns
+from meaning.scenario import is_scenario, without_turns
+from meaning.texts import TextFault, assembled
+from runs import whole_trace
 
 TOP = Path(__file__).resolve().parent.parent
 FOLDERS = ("examples", "tests/cases", "tests/hints", "tests/tools")
@@ -37,10 +37,10 @@ def blocks_in(scenario, form):
 
 
 def image_of(text):
-    """The image of a text, if the assembler of the tests takes it."""
+    """The image of a text, if the assembler of tools/meaning takes it."""
     try:
-        return assemble(text)
-    except (ValueError, KeyError, IndexError, OverflowError):
+        return assembled(text)
+    except (TextFault, ValueError, OverflowError):
         return None
 
 
@@ -74,7 +74,7 @@ def add_scenario(found, path, text):
         if re.fullmatch("(?:[0-9a-f]{2})+", digits):
             found.images.append(bytes.fromhex(digits))
     written = path.with_name(path.name + ".stdout")
-    if written.exists() and written.stat().st_size <= MOST_BYTES and read_trace(written.read_text("latin-1")):
+    if written.exists() and written.stat().st_size <= MOST_BYTES and whole_trace(written.read_text("latin-1")):
         found.traces.append((without_turns(text).encode("latin-1"), written.read_bytes()))
 
 

@@ -1,12 +1,18 @@
 """What a run on worker threads has, whatever the order of its items: for tests/try-run, tests/try-checked and others."""
 import re
-import subprocess
+import sys
 from dataclasses import dataclass
 from pathlib import Path
 
-ITEM = r"\d+ (?:run [1-9]\d*|stuck|[a-z_]+ (?:[A-Z_]+|blocked|ended -?\d+))"
-STATE = r"process \d+ (?:created|ready|blocked|ended -?\d+|gone)"
-TRACE = re.compile(rf"((?:{ITEM}\n)*)((?:{STATE}\n)*)end (\w+)\n")
+sys.path.insert(0, str(Path(__file__).resolve().parent.parent / "tools"))
+from meaning.booting import boot  # noqa: E402
+from meaning.lab import Lab  # noqa: E402
+from meaning.scenario import read_scenario, without_turns  # noqa: E402, F401
+from meaning.trace import read_trace  # noqa: E402
+from meaning.trouble import Trouble  # noqa: E402
+
+# The lines behind the items, as the lab writes them.
+LAST = re.compile(r"(?:process \d+ (?:created|ready|blocked|ended -?\d+|gone)\n)*end \w+\n")
 FAULTS = {"BAD_HANDLE", "WRONG_TYPE", "ACCESS_DENIED"}
 # Behind these an instruction is the first of its budget.
 RESTS = {"wait_one", "port_wait", "process_exit"}
@@ -26,53 +32,28 @@ class Trace:
         return [*(f"process {pid} {state}" for pid, state in self.states.items()), f"end {self.end}"]
 
 
-def read_trace(text):
-    """The trace of a run; none of another text."""
-    found = TRACE.fullmatch(text)
-    if found is None:
+def whole_trace(text):
+    """The trace of a run; none of another text, nor where its lines aren't written as the lab does."""
+    try:
+        trace = read_trace(text)
+    except Trouble:
         return None
-    states = [line.split(" ", 2)[1:] for line in found[2].splitlines()]
-    return Trace(found[1].splitlines(), {int(pid): state for pid, state in states}, found[3])
-
-
-def without_turns(text):
-    """The lines of a scenario before its schedule."""
-    lines = text.splitlines(keepends=True)
-    dashes = [at for at, line in enumerate(lines) if line.split() == ["--"]]
-    return "".join(lines[:dashes[0]] if dashes else lines)
-
-
-def budget_of(words, block):
-    """The budget that the block of a program states, if the program is checked."""
-    if words[1] != "checked":
+    items = [item.text for item in trace.items]
+    last = "".join(f"{line}\n" for _, line in trace.rest)
+    if not LAST.fullmatch(last) or text != "".join(f"{item}\n" for item in items) + last:
         return None
-    if words[2] == "hex":
-        # docs/IMAGE.md: four bytes from the twelfth on
-        return int.from_bytes(bytes.fromhex("".join(block))[12:16], "little")
-    stated = re.search(r"^ *\.budget +(0x)?(\w+)", "\n".join(block), re.MULTILINE)
-    return int(stated[2], 16 if stated[1] else 10) if stated else 1
+    return Trace(items, trace.states, trace.rest[-1][1].split()[1])
+
+
+def budgets_of(world):
+    """The processes of a world of tools/meaning, with the budgets of their programs; none for raw ones."""
+    programs = {pid: world.programs[process.program] for pid, process in world.processes.items()}
+    return {pid: program.image.budget if program.is_checked else None for pid, program in programs.items()}
 
 
 def started_processes(scenario):
-    """The processes that the lines of a scenario start, with the budgets of their programs; none for raw ones."""
-    programs, found, koid, opening, block = [], {}, 1, None, []
-    for line in scenario.splitlines():
-        words = line.split()
-        if not words or line.startswith("#"):
-            continue
-        if opening:
-            if words == ["end"]:
-                programs.append(budget_of(opening, block))
-                opening, block = None, []
-            else:
-                block.append(line)
-        elif words[0] == "program":
-            opening = words
-        else:
-            koid += {"job": 1, "event": 1, "port": 1, "process": 1, "channel": 2, "eventpair": 2}.get(words[0], 0)
-            if words[0] == "process":
-                found[koid] = programs[int(words[2])]
-    return found
+    """The processes that the lines of a scenario start, with their budgets."""
+    return budgets_of(boot(read_scenario(scenario)))
 
 
 def checked_processes(scenario):
@@ -109,22 +90,18 @@ def wrong_end(trace, limit):
         yield "the processes aren't in order"
 
 
-class Lab:
+class Runs(Lab):
     """A program, and a folder for its traces."""
 
     def __init__(self, program, room, seconds):
-        self.program, self.room, self.seconds = Path(program).resolve(), Path(room), seconds
+        super().__init__(Path(program).resolve(), Path(room), seconds)
         # The last trace.
         self.kept = self.room / "kept.trace"
 
     def answer(self, *words):
         """Status, standard output and standard error; none where it doesn't end in time."""
-        try:
-            ran = subprocess.run([self.program, *map(str, words)], cwd=self.room, stdin=subprocess.DEVNULL,
-                                 capture_output=True, text=True, errors="replace", timeout=self.seconds)
-        except subprocess.TimeoutExpired:
-            return None
-        return ran.returncode, ran.stdout, ran.stderr
+        ran = self.start(words, b"")
+        return ran and (ran[0], *(text.decode(errors="replace") for text in ran[1:]))
 
     def run(self, scenario, workers, limit):
         """The trace of a run of the scenario, a file, and what is wrong with it."""
@@ -132,7 +109,7 @@ class Lab:
         if answer is None:
             return None, [f"it goes on after {self.seconds} s"]
         status, written, said = answer
-        trace = read_trace(written)
+        trace = whole_trace(written)
         if status != 0 or trace is None:
             return None, [f"status {status}: {written[-200:]!r}, {said[-200:]!r}"]
         faults = [*wrong_end(trace, limit), *breaches(trace.items, checked_processes(scenario.read_text()))]

@@ -1,9 +1,13 @@
-"""How the tools start the lab: which program it is, and what it answers."""
+"""How tools/explore and tools/try-all start the lab, and how they end."""
+import argparse
 import os
 import signal
 import subprocess
 import sys
 from pathlib import Path
+
+from meaning.lab import Lab
+from meaning.trouble import Trouble
 
 TOP = Path(__file__).resolve().parent.parent
 # The bytes that the program takes of its input at most.
@@ -13,8 +17,15 @@ FIND = 'top=$1; . "$top/tools/program.sh"; ' \
        'if is_newer_than_the_sources "$proved"; then echo "$proved"; else quick_of_the_sources; fi'
 
 
-class Trouble(Exception):
-    """What ends a tool: the line that it says."""
+class Words(argparse.ArgumentParser):
+    """A parser by a program's own head; wrong words are one line."""
+
+    def __init__(self, tool, head, usage):
+        super().__init__(prog=f"tools/{tool}", description=head, usage=f"tools/{tool} {usage}",
+                         formatter_class=argparse.RawDescriptionHelpFormatter)
+
+    def error(self, message):
+        raise Trouble(f"{message}; {self.prog} --help says what it takes")
 
 
 def read_file(path):
@@ -66,37 +77,9 @@ def run_tool(tool, main):
     sys.exit(status)
 
 
-class Lab:
-    """The program, as the tools start it."""
-
-    def __init__(self, tool, program=None):
-        self.program = Path(program).resolve() if program else find_program(tool)
-        # How often it was started for a trace.
-        self.runs = 0
-        if not self.answer(b"", "--version").startswith(b"zlab "):
-            raise Trouble(f"{self.program} isn't zlab")
-
-    def run(self, given, *words):
-        """The program's status, and what it writes to standard output and to standard error."""
-        try:
-            run = subprocess.run([self.program, *words], input=given, capture_output=True)
-        except OSError as fault:
-            raise Trouble(f"can't start {self.program}: {fault.strerror}") from None
-        return run.returncode, run.stdout, run.stderr
-
-    def answer(self, given, *words):
-        """What the program writes, where it ends with status 0."""
-        status, written, said = self.run(given, *words)
-        if status != 0:
-            lines = [line for line in (written + said).decode(errors="replace").splitlines() if line]
-            raise Trouble("; ".join(lines[:2]) or f"{self.program} ended with status {status}")
-        return written
-
-    def trace(self, scenario, schedule):
-        """The lines of the trace of a scenario, which has no schedule, along the turns of one."""
-        self.runs += 1
-        return self.answer(b"%s--\n%s" % (scenario, schedule)).decode().splitlines()
-
-    def image(self, text):
-        """The image of an assembler text."""
-        return self.answer(text, "asm", "/dev/stdin", "/dev/stdout")
+def lab_of(tool, program=None):
+    """The lab that is named, or the one that there is."""
+    lab = Lab(Path(program).resolve() if program else find_program(tool))
+    if not lab.written(["--version"], b"").startswith(b"zlab "):
+        raise Trouble(f"{lab.program} isn't zlab")
+    return lab

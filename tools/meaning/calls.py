@@ -1,373 +1,410 @@
-"""What the calls do that aren't refused, and what each was about."""
-from dataclasses import dataclass, field
-
-from meaning.cpu import Cpu, signed
-from meaning.instructions import handle_places
+"""The calls: why each is refused, in the order in which that is looked for, and what it does."""
+from meaning.cpu import signed
 from meaning.numbers import (
-    ACTION_NAMES, BY_POLICY, CONDITION_NAMES, KILLED, KINDS, MODE_NAMES, SAME_RIGHTS, STATUSES, signals_text,
+    ACTION_NAMES, BY_POLICY, CONDITION_NAMES, KILLED, KINDS, MODE_NAMES, NEEDS, SAME_RIGHTS, SIGNALED, STATUSES,
+    USER_SIGNALS,
 )
-from meaning.objects import Message, Packet, Wait, first_entry
-from meaning.refusals import cancelled, conditions_of, refusal, request_of
-from meaning.world import Awaited, packet_text
+from meaning.objects import Awaited, Entry, Message, Packet, Wait
+
+MOST_HANDLES = 1024
+MOST_BYTES = 65536
+MOST_SIGNALS = 0xFFFFFFFF
+MOST_PACKETS = 2048
+MOST_DEPTH = 16
+# What a policy may kill for beside what is made.
+CONDITIONS_OF = {"BAD_HANDLE": "BAD_HANDLE", "WRONG_TYPE": "WRONG_OBJECT"}
+# These carry SIGNALED too.
+SIGNALED_KINDS = ("event", "eventpair")
 
 
-@dataclass
-class Done:
-    """How a call ended, as traces have it, and what it was about."""
+class Refused(Exception):
+    """The answer isn't OK; the values go to the registers behind the status all the same."""
 
-    outcome: str
-    # what its handles name, at length and in short
-    operands: list = field(default_factory=list)
-    names: list = field(default_factory=list)
-    about: list = field(default_factory=list)
-    came: list = field(default_factory=list)
-    # what went from one process to another: (what, whose or whom, which sending, in words)
-    arrows: list = field(default_factory=list)
+    def __init__(self, status, values=()):
+        super().__init__(status)
+        self.status, self.values = status, values
 
 
-def perform(world, process, one, is_without_memory=False):
-    """One call, with all that comes of it. Memory is refused where the trace says so."""
-    request = request_of(world, process, one)
-    refused = refusal(request)
-    done = Done("", operands_told(request), names_of(request))
-    if not refused and is_without_memory and one.row.grows:
-        refused = "NO_MEMORY"
-    if refused == "ended":
-        done.outcome = f"ended {BY_POLICY}"
-        world.end(process, BY_POLICY)
-    elif refused:
-        done.outcome = refused
-        given = given_by_refusal(request, refused)
-        consume(request)
-        answer(request, STATUSES[refused], given)
-    else:
-        EFFECTS[one.name](request, done)
-    done.came = world.settle()
-    return done
+class Ended(Exception):
+    """The call ends its caller with the code, that of a policy if no other is said."""
+
+    def __init__(self, code=BY_POLICY):
+        super().__init__(code)
+        self.code = code
 
 
-def operands_told(request):
-    """What each handle of a call names."""
-    told = []
-    for place, _, _ in handle_places(request.one):
-        register = (request.one.registers + request.one.handles)[place]
-        value, entry = request.values[place], request.entries.get(place)
-        if entry:
-            told.append(f"r{register} has handle {value}: {request.world.name(entry)}")
-        elif value or request.name != "close":
-            told.append(f"r{register} has {value}: no handle")
-    return told
+class Blocked(Exception):
+    """The caller waits for signals of the mask or, without one, for a packet."""
+
+    def __init__(self, mask=None):
+        super().__init__(mask)
+        self.mask = mask
 
 
-def names_of(request):
-    """The same in short."""
-    entries = [(request.values[place], request.entries.get(place)) for place, _, _ in handle_places(request.one)]
-    return [f"{entry.kind} {entry.koid}" if entry else f"{value} is no handle" for value, entry in entries]
+class Call:
+    """A call with the values of its operands by their places, and the entries of those that are handles."""
+
+    def __init__(self, world, pid, one, is_without_memory):
+        self.world, self.pid, self.one = world, pid, one
+        self.process = world.processes[pid]
+        registers = self.process.cpu.registers
+        self.values = [registers[register] for register in one.operands]
+        self.entries = {}
+        self.is_without_memory = is_without_memory
+        # how it ended as traces have it, what it gave behind the status, and what it moved for others to tell of
+        self.outcome, self.given, self.moved = "", (), None
+
+    @property
+    def koid(self):
+        """That of its first handle."""
+        return self.entries[1].koid
+
+    @property
+    def target(self):
+        """The object of its first handle."""
+        return self.world.objects[self.entries[1].koid]
+
+    def look_up(self):
+        """The status of the first handle that won't do, if there is one; the entries of all are kept."""
+        refused, listed = None, len(self.one.registers)
+        for place, (kinds, rights), _ in self.one.handle_places:
+            value = self.values[place]
+            entry = self.process.handles.get(value)
+            if entry:
+                self.entries[place] = entry
+            if refused or (value == 0 and self.one.name == "close"):
+                continue
+            if entry is None or (place > listed and value in self.values[listed:place]):
+                refused = "BAD_HANDLE"
+            elif kinds and entry.kind not in kinds:
+                refused = "WRONG_TYPE"
+            elif rights & ~entry.rights:
+                refused = "ACCESS_DENIED"
+        return refused
+
+    def examine(self):
+        """Refuses for a handle, or where the policy of the caller's job denies what is made; it may kill for either."""
+        refused = self.look_up()
+        condition = CONDITIONS_OF.get(refused) if refused else self.one.row.condition
+        action = condition and self.world.action_for(self.world.objects[self.pid].job, condition)
+        if action == "KILL":
+            raise Ended
+        refuse_if(refused, refused)
+        refuse_if(action == "DENY", "ACCESS_DENIED")
+
+    def want(self, room=0):
+        """The last test of a call that may want memory: there is room for so many handles, and there is memory."""
+        refuse_if(len(self.process.handles) + room > MOST_HANDLES, "NO_RESOURCES")
+        refuse_if(self.is_without_memory, "NO_MEMORY")
+
+    def insert(self, koid):
+        """The first handle of a new object."""
+        return self.process.insert(self.world.first_entry(koid))
+
+    def consume(self):
+        """The operands that go are gone from the table."""
+        for place in self.one.consumed:
+            self.world.take_out(self.process, self.values[place])
+
+    def finish(self, status, given):
+        """The registers of what was consumed are 0, and then the others get the answer, or 0."""
+        self.outcome, self.given = status, given
+        for place in self.one.consumed:
+            self.process.cpu.registers[self.one.operands[place]] = 0
+        written = self.one.written
+        values = (STATUSES[status], *given)
+        self.world.answer(self.process, written, values + (0,) * (len(written) - len(values)))
 
 
-def consume(request, kept=None):
-    """The operands that go are gone, but for the one at this place."""
-    for place, _, goes in handle_places(request.one):
-        if goes and place != kept and request.values[place] in request.process.table.entries:
-            request.world.remove(request.process, request.values[place])
+def perform(world, pid, one, is_without_memory=False):
+    """Does the call at which the process stands, without what follows. Memory is refused where a trace says so."""
+    call = Call(world, pid, one, is_without_memory)
+    try:
+        call.examine()
+        call.finish("OK", EFFECTS[one.name](call))
+    except Refused as refused:
+        call.consume()
+        call.finish(refused.status, refused.values)
+    except Blocked as blocked:
+        call.outcome = call.process.state = "blocked"
+        call.process.awaits = Awaited(call.koid, blocked.mask, one.written)
+        world.blocked.append(pid)
+    except Ended as ended:
+        world.end(pid, ended.code)
+        call.outcome = f"ended {call.process.code}"
+    return call
 
 
-def answer(request, status, given=()):
-    """The caller's registers: those of consumed operands are 0, and then the others are written."""
-    registers = request.process.cpu.registers
-    one = request.one
-    for place, _, goes in handle_places(one):
-        if goes:
-            registers[(one.registers + one.handles)[place]] = 0
-    written = [register for register, use in zip(one.registers, one.row.fields) if use == "w"]
-    if one.name == "chan_read_etc":
-        written += range(one.registers[6], one.registers[6] + 3 * one.number)
-    values = [status, *given] + [0] * len(written)
-    for register, value in zip(written, values):
-        registers[register] = value
-    request.process.cpu.place += 1
-
-
-def given_by_refusal(request, status):
-    """What a refused call gives beside its status."""
-    if status == "BUFFER_TOO_SMALL":
-        message = request.object(1).queue[0]
-        return len(message.content), len(message.entries)
-    if status == "TIMED_OUT" and request.name == "wait_poll":
-        return (request.object(1).active(request.world),)
-    return ()
-
-
-def finish(request, done, *given, status="OK"):
-    done.outcome = status
-    answer(request, STATUSES[status], given)
-
-
-def new_handle(request, entry):
-    return request.world.insert(request.process, entry)
-
-
-def register_of(request, place):
-    return f"r{request.one.registers[place]}"
+def refuse_if(holds, status, values=()):
+    if holds:
+        raise Refused(status, values)
 
 
 # ---- handles
 
 
-def close(request, done):
-    consume(request)
-    finish(request, done)
+def close(call):
+    call.consume()
+    return ()
 
 
-def narrowed(request):
-    entry, asked = request.entry(1), request.one.number
-    rights = entry.rights if asked == SAME_RIGHTS else asked
-    return type(entry)(entry.koid, entry.kind, rights)
+def narrowed(call):
+    """The entry with the rights that are asked for."""
+    entry, asked = call.entries[1], call.one.number
+    refuse_if(asked != SAME_RIGHTS and asked & ~entry.rights, "INVALID_ARGS")
+    return Entry(entry.koid, entry.kind, entry.rights if asked == SAME_RIGHTS else asked)
 
 
-def dup(request, done):
-    entry = narrowed(request)
-    done.about.append(f"{register_of(request, 2)} gets {request.world.name(entry)}")
-    finish(request, done, new_handle(request, entry))
+def dup(call):
+    entry = narrowed(call)
+    call.want(1)
+    return (call.process.insert(entry),)
 
 
-def replace(request, done):
-    entry, value = narrowed(request), request.values[1]
-    request.world.end_waits(request.process, value)
-    request.process.table.entries[value] = entry
-    done.about.append(f"{register_of(request, 2)} gets {request.world.name(entry)}")
-    finish(request, done, value)
+def replace(call):
+    value = call.values[1]
+    call.process.handles[value] = narrowed(call)
+    call.world.waits = [wait for wait in call.world.waits if (wait.pid, wait.value) != (call.pid, value)]
+    return (value,)
 
 
 # ---- channels
 
 
 def new_pair(kind):
-    def create(request, done):
-        ends = request.world.make_pair(kind)
-        values = [new_handle(request, first_entry(end, kind)) for end in ends]
-        first, second = register_of(request, 1), register_of(request, 2)
-        done.about.append(f"{first} gets {kind} {ends[0]}, {second} its peer {ends[1]}")
-        finish(request, done, *values)
+    def create(call):
+        call.want(2)
+        return tuple(call.insert(end) for end in call.world.make_pair(kind))
     return create
 
 
-def message_text(world, message):
-    """A message in words: its first bytes, and its handles."""
-    content = message.content
-    shown = f" ({content[:8].hex()}{'..' if len(content) > 8 else ''})" if content else ""
-    return ", ".join([f"{len(content)} bytes{shown}"] + [world.name(entry) for entry in message.entries])
+def peer_of(call):
+    """The other end's koid, which has to be there."""
+    peer = call.target.peer
+    refuse_if(peer not in call.world.objects, "PEER_CLOSED")
+    return peer
 
 
-def chan_write(request, done):
-    world, process = request.world, request.process
-    address, length = request.values[2:4]
-    peer = world.objects[request.object(1).peer]
-    entries = tuple(request.entry(place) for place in range(4, len(request.values)))
-    for entry in entries:
-        # the message holds what the table lets go
-        world.objects[entry.koid].handles += 1
-    message = Message(bytes(process.cpu.memory[address:address + length]), entries, process.koid, world.place)
-    consume(request)
-    peer.queue.append(message)
-    world.touch(peer.koid)
-    text = message_text(world, message)
-    done.about.append(f"{text} to channel {peer.koid}")
-    done.arrows.append(("sent", process.koid, message.sending, text))
-    finish(request, done)
+def chan_write(call):
+    world, (address, length) = call.world, call.values[2:4]
+    refuse_if(call.values[1] in call.values[4:], "NOT_SUPPORTED")
+    refuse_if(length > MOST_BYTES, "OUT_OF_RANGE")
+    peer = peer_of(call)
+    call.want()
+    entries = tuple(call.entries[place] for place in range(4, len(call.values)))
+    call.moved = Message(call.process.cpu.memory[address:address + length], entries, world.sent())
+    call.consume()
+    world.change(peer, queue=(*world.objects[peer].queue, call.moved))
+    return ()
 
 
-def chan_read_etc(request, done):
-    world, end = request.world, request.object(1)
-    message = end.queue.popleft()
-    world.touch(end.koid)
-    address = request.values[2]
-    request.process.cpu.memory[address:address + len(message.content)] = message.content
-    triples = []
+def chan_read_etc(call):
+    queue = call.target.queue
+    if not queue:
+        peer_of(call)
+        raise Refused("SHOULD_WAIT")
+    call.moved = message = queue[0]
+    sizes = len(message.content), len(message.entries)
+    refuse_if(sizes[0] > call.values[3] or sizes[1] > call.one.number, "BUFFER_TOO_SMALL", sizes)
+    call.want(sizes[1])
+    call.process.cpu.store(call.values[2], message.content)
+    told = []
     for entry in message.entries:
-        # the count stays: the handle goes from the message to the table
-        triples += [request.process.table.insert(entry), KINDS[entry.kind], entry.rights]
-    text = message_text(world, message)
-    done.about.append(f"{text}, from process {message.by}")
-    done.arrows.append(("read", message.by, message.sending, text))
-    finish(request, done, len(message.content), len(message.entries), *triples)
+        told += [call.process.insert(entry), KINDS[entry.kind], entry.rights]
+    call.world.change(call.koid, queue=queue[1:])
+    return (*sizes, *told)
 
 
 # ---- events, signals and waits
 
 
 def new_object(kind):
-    def create(request, done):
-        koid = request.world.make(kind)
-        done.about.append(f"{register_of(request, 1)} gets {kind} {koid}")
-        finish(request, done, new_handle(request, first_entry(koid, kind)))
+    def create(call):
+        call.want(1)
+        return (call.insert(call.world.make(kind)),)
     return create
 
 
-def change(request, done, target):
-    clear, given = request.values[2:4]
-    target.raised = target.raised & ~clear | given
-    request.world.touch(target.koid)
-    changes = [f"{word} {signals_text(bits, target.kind)}"
-               for word, bits in (("clears", clear), ("sets", given)) if bits]
-    done.about.append((" and ".join(changes) or "changes nothing") + f" at {target.kind} {target.koid}")
-    finish(request, done)
+def masks(call):
+    """The signals to be cleared and to be set, which calls have to be able to change at the kind."""
+    clear, more = call.values[2:4]
+    allowed = USER_SIGNALS | (SIGNALED if call.entries[1].kind in SIGNALED_KINDS else 0)
+    refuse_if((clear | more) & ~allowed, "INVALID_ARGS")
+    return clear, more
 
 
-def signal(request, done):
-    change(request, done, request.object(1))
+def change_signals(call, koid, clear, more):
+    call.world.change(koid, raised=call.world.objects[koid].raised & ~clear | more)
+    return ()
 
 
-def signal_peer(request, done):
-    change(request, done, request.world.objects[request.object(1).peer])
+def signal(call):
+    return change_signals(call, call.koid, *masks(call))
 
 
-def wait_one(request, done):
-    target, mask = request.object(1), request.values[2]
-    done.about.append(f"for {signals_text(mask, target.kind)}")
-    active = target.active(request.world)
-    if active & mask:
-        done.about.append(f"it is {signals_text(active, target.kind)}")
-        return finish(request, done, active)
-    return block(request, done, mask, (0, 3))
+def signal_peer(call):
+    clear, more = masks(call)
+    return change_signals(call, peer_of(call), clear, more)
 
 
-def wait_poll(request, done):
-    target = request.object(1)
-    active = target.active(request.world)
-    done.about.append(f"it is {signals_text(active, target.kind)}")
-    finish(request, done, active)
+def active_for(call):
+    """The active signals, and those of them that are awaited."""
+    mask = call.values[2]
+    refuse_if(mask > MOST_SIGNALS, "INVALID_ARGS")
+    active = call.world.active(call.koid)
+    return active, active & mask
 
 
-def block(request, done, mask, places):
-    """The caller waits."""
-    registers = tuple(request.one.registers[place] for place in places)
-    awaited = Awaited(request.world.order(), request.process.koid, request.entry(1).koid, mask, registers)
-    request.process.state, request.process.awaits = "blocked", awaited
-    request.object(1).blocked.append(awaited)
-    done.outcome = "blocked"
+def wait_one(call):
+    active, awaited = active_for(call)
+    if not awaited:
+        raise Blocked(call.values[2])
+    return (active,)
 
 
-def wait_async(request, done):
-    world, target, port = request.world, request.object(1), request.object(2)
-    key, mask = request.values[3:5]
-    wait = Wait(world.order(), request.process.koid, request.values[1], target.koid, target.kind, port.koid,
-                key, mask)
-    target.waits.append(wait)
-    port.watching.append(wait)
-    request.process.own_waits.setdefault(wait.value, []).append(wait)
-    world.touch(target.koid)
-    done.about.append(f"a packet with the key {key} is to come at {signals_text(mask, target.kind)}")
-    finish(request, done)
+def wait_poll(call):
+    active, awaited = active_for(call)
+    refuse_if(not awaited, "TIMED_OUT", (active,))
+    return (active,)
+
+
+def wait_async(call):
+    key, mask = call.values[3:5]
+    refuse_if(mask > MOST_SIGNALS, "INVALID_ARGS")
+    call.want()
+    entry = call.entries[1]
+    wait = Wait(call.pid, call.values[1], entry.koid, entry.kind, call.entries[2].koid, key, mask)
+    call.world.waits.append(wait)
+    return ()
 
 
 # ---- ports
 
 
-def port_queue(request, done):
-    world, port = request.world, request.object(1)
-    packet = Packet(*request.values[2:3], 0, request.values[3], 0, request.process.koid, world.place)
-    port.packets.append(packet)
-    world.touch(port.koid)
-    done.about.append(packet_text(packet))
-    done.arrows.append(("sent", packet.by, packet.sending, packet_text(packet)))
-    finish(request, done)
+def port_queue(call):
+    packets = call.target.packets
+    refuse_if(sum(packet.type == 0 for packet in packets) >= MOST_PACKETS, "SHOULD_WAIT")
+    call.want()
+    call.moved = Packet(call.values[2], 0, call.values[3], 0, None, call.world.sent())
+    call.world.change(call.koid, packets=(*packets, call.moved))
+    return ()
 
 
-def take_packet(request, done):
-    packet = request.object(1).packets.popleft()
-    done.about.append(packet_text(packet))
-    done.arrows.append(("read", packet.by, packet.sending, packet_text(packet)))
-    finish(request, done, *packet.fields)
+def port_wait(call):
+    call.moved = call.world.take_packet(call.koid)
+    if not call.moved:
+        raise Blocked
+    return call.moved.fields
 
 
-def port_wait(request, done):
-    if request.object(1).packets:
-        return take_packet(request, done)
-    return block(request, done, None, (0, 2, 3, 4, 5))
+def port_poll(call):
+    call.moved = call.world.take_packet(call.koid)
+    refuse_if(not call.moved, "TIMED_OUT")
+    return call.moved.fields
 
 
-def port_cancel(request, done):
-    waits, packets = cancelled(request)
-    for wait in waits:
-        request.world.forget(wait)
-        request.process.own_waits[wait.value].remove(wait)
-    port = request.object(1)
-    for packet in packets:
-        port.packets.remove(packet)
-    done.about.append(f"key {request.values[3]}: {len(waits)} waits and {len(packets)} packets taken away")
-    finish(request, done)
+def port_cancel(call):
+    """Takes away the waits and the packets of waits that were made by this handle with this key at this port."""
+    world, packets = call.world, call.target.packets
+    meant = call.pid, call.values[2], call.entries[2].koid, call.koid, call.values[3]
+
+    def is_meant(wait):
+        return wait is not None and (wait.pid, wait.value, wait.koid, wait.port, wait.key) == meant
+
+    waits = [wait for wait in world.waits if not is_meant(wait)]
+    left = tuple(packet for packet in packets if not is_meant(packet.wait))
+    call.moved = len(world.waits) - len(waits), len(packets) - len(left)
+    refuse_if(not any(call.moved), "NOT_FOUND")
+    world.waits = waits
+    world.change(call.koid, packets=left)
+    return ()
 
 
 # ---- jobs and processes
 
 
-def process_create(request, done):
-    number, job = request.values[2], request.entry(1)
-    koid = request.world.make_process(job.koid, number)
-    done.about.append(f"{register_of(request, 3)} gets process {koid}, of program {number}")
-    finish(request, done, new_handle(request, first_entry(koid, "process")))
+def process_create(call):
+    world, number = call.world, call.values[2]
+    refuse_if(number >= len(world.programs), "INVALID_ARGS")
+    refuse_if(call.target.is_killed, "BAD_STATE")
+    program = world.programs[number]
+    needs = program.image.needs if program.is_checked else ()
+    refuse_if(any(world.action_for(call.koid, need) != "ALLOW" for need in needs), "NOT_SUPPORTED")
+    call.want(1)
+    return (call.insert(world.make_process(call.koid, number)),)
 
 
-def start(world, target, word):
-    """The process is ready, at its first instruction."""
-    target.cpu = Cpu(world.programs[target.program].image)
-    target.cpu.registers[1] = word
-    target.state = "ready"
+def declares(image, entry):
+    """Whether the program declares just one handle, for which this one will do."""
+    if len(image.starts) != 1:
+        return False
+    kind, rights = image.starts[0]
+    return kind in (None, entry.kind) and not rights & ~entry.rights
 
 
-def process_start(request, done):
-    world, target, entry, word = request.world, request.object(1), request.entry(2), request.values[3]
-    start(world, target, word)
-    target.cpu.registers[0] = world.insert(target, entry)
-    text = f"starts with {world.name(entry)} and the word {word}"
-    done.about.append(f"process {target.koid} {text}")
-    done.arrows.append(("to", target.koid, None, text))
-    consume(request)
-    finish(request, done)
+def process_start(call):
+    world, pid, entry = call.world, call.koid, call.entries[2]
+    process = world.processes[pid]
+    program = world.programs[process.program]
+    refuse_if(process.state != "created", "BAD_STATE")
+    refuse_if(program.is_checked and not declares(program.image, entry), "INVALID_ARGS")
+    call.want()
+    call.consume()
+    world.start(pid, [entry], call.values[3])
+    return ()
 
 
-def process_exit(request, done):
-    code = signed(request.values[0])
-    request.world.end(request.process, code)
-    done.outcome = f"ended {code}"
+def process_exit(call):
+    raise Ended(signed(call.values[0]))
 
 
-def task_kill(request, done):
-    world, target = request.world, request.object(1)
-    world.kill(target.koid)
-    done.arrows += [("to", one.pid, None, "kills it") for one in world.came if one.kind == "over"]
-    if not request.process.lives:
-        done.outcome = f"ended {KILLED}"
-        return
-    finish(request, done)
+def task_kill(call):
+    call.world.kill(call.koid)
+    if not call.process.lives:
+        raise Ended(KILLED)
+    return ()
 
 
-def job_create(request, done):
-    koid = request.world.make_job(request.entry(1).koid)
-    done.about.append(f"{register_of(request, 2)} gets job {koid}")
-    finish(request, done, new_handle(request, first_entry(koid, "job")))
+def job_create(call):
+    refuse_if(call.target.depth >= MOST_DEPTH, "OUT_OF_RANGE")
+    refuse_if(call.target.is_killed, "BAD_STATE")
+    call.want(1)
+    return (call.insert(call.world.make_job(call.koid)),)
 
 
-def set_policy(job, condition, action):
+def conditions_of(name):
+    return NEEDS if name == "NEW_ANY" else (name,)
+
+
+def set_policy(world, job, condition, action):
     """Sets what isn't set yet."""
+    policy = dict(world.objects[job].policy)
     for name in conditions_of(condition):
-        job.policy.setdefault(name, action)
+        policy.setdefault(name, action)
+    world.change(job, policy=tuple(sorted(policy.items())))
 
 
-def job_set_policy(request, done):
-    mode, condition, action = request.values[2:]
-    set_policy(request.object(1), CONDITION_NAMES[condition], ACTION_NAMES[action])
-    done.about.append(f"{CONDITION_NAMES[condition]} {ACTION_NAMES[action]}, {MODE_NAMES[mode]}")
-    finish(request, done)
+def job_set_policy(call):
+    world, (mode, condition, action) = call.world, call.values[2:]
+    known = mode in MODE_NAMES and condition in CONDITION_NAMES and action in ACTION_NAMES
+    refuse_if(not known, "INVALID_ARGS")
+    condition, action = CONDITION_NAMES[condition], ACTION_NAMES[action]
+    has_child = world.has_child(call.koid, "job") or world.has_child(call.koid, "process")
+    refuse_if(call.target.is_killed or has_child, "BAD_STATE")
+    policy = dict(call.target.policy)
+    conflict = any(policy.get(name, action) != action for name in conditions_of(condition))
+    refuse_if(MODE_NAMES[mode] == "ABSOLUTE" and conflict, "ALREADY_EXISTS")
+    set_policy(world, call.koid, condition, action)
+    return ()
 
 
+# What each does that isn't refused for its handles or by a policy; it answers what it gives behind the status.
 EFFECTS = {
     "close": close, "dup": dup, "replace": replace, "chan_create": new_pair("channel"), "chan_write": chan_write,
     "chan_read_etc": chan_read_etc, "event_create": new_object("event"), "signal": signal,
     "signal_peer": signal_peer, "wait_one": wait_one, "wait_poll": wait_poll, "wait_async": wait_async,
-    "port_create": new_object("port"), "port_queue": port_queue, "port_wait": port_wait,
-    "port_poll": take_packet, "port_cancel": port_cancel, "process_create": process_create,
-    "process_start": process_start, "process_exit": process_exit, "task_kill": task_kill,
-    "job_create": job_create, "job_set_policy": job_set_policy, "eventpair_create": new_pair("eventpair"),
+    "port_create": new_object("port"), "port_queue": port_queue, "port_wait": port_wait, "port_poll": port_poll,
+    "port_cancel": port_cancel, "process_create": process_create, "process_start": process_start,
+    "process_exit": process_exit, "task_kill": task_kill, "job_create": job_create,
+    "job_set_policy": job_set_policy, "eventpair_create": new_pair("eventpair"),
 }

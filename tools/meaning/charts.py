@@ -5,7 +5,7 @@ concern their process have no chart.
 """
 from dataclasses import dataclass
 
-from meaning.following import state_in
+from meaning.trace import STATE
 from meaning.trouble import Trouble
 
 MOST_ROWS = 5000
@@ -91,11 +91,11 @@ class Chart:
         """What came of an item."""
         if came.kind == "packet":
             mark = self.row("sent", item.line, item.pid, came.text)
-            self.sent[came.packet.sending] = len(self.rows) - 1, mark
+            self.sent[came.packet.sent] = len(self.rows) - 1, mark
         elif came.kind == "woken":
             self.row("wakes", item.line, item.pid, came.text, to=came.pid)
-            if came.packet and came.packet.sending in self.sent:
-                self.sent[came.packet.sending][1].is_read = True
+            if came.packet and came.packet.sent in self.sent:
+                self.sent[came.packet.sent][1].is_read = True
         elif came.kind == "over":
             self.row("over", item.line, came.pid, came.text)
         elif came.kind == "gone":
@@ -108,9 +108,9 @@ class Chart:
     def end(self, rest):
         """The states at the end."""
         for line, text in rest:
-            state = state_in(text)
-            if state and not state[1].startswith("ended"):
-                self.row("note", line, state[0], f"at the end: {state[1]}")
+            state = STATE.fullmatch(text)
+            if state and not state[2].startswith("ended"):
+                self.row("note", line, int(state[1]), f"at the end: {state[2]}")
 
 
 def plain(text):

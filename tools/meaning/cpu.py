@@ -1,14 +1,19 @@
 """What a process is by itself: registers, memory, slots, and its local instructions."""
 import operator
 
-ANY = (1 << 64) - 1
+WORD = (1 << 64) - 1
 TESTS = {
     "jmp": lambda x, n: True, "jz": lambda x, n: x == 0, "jnz": lambda x, n: x != 0,
     "jeq": operator.eq, "jne": operator.ne, "jlt": operator.lt, "jge": operator.ge,
     "jhas": lambda x, n: x & n == n, "jnhas": lambda x, n: x & n != n,
 }
-SUMS = {"add": operator.add, "sub": operator.sub, "and": operator.and_, "or": operator.or_, "xor": operator.xor}
-WIDTHS = {"ld8": 1, "ld64": 8, "st8": 1, "st64": 8}
+# What each makes of two numbers: of the registers behind the first, or of one and the number of the instruction.
+RESULTS = {
+    "add": lambda x, y: x + y & WORD, "sub": lambda x, y: x - y & WORD, "and": operator.and_, "or": operator.or_,
+    "xor": operator.xor, "addi": lambda x, n: x + n & WORD, "shl": lambda x, n: x << n & WORD if n < 64 else 0,
+    "shr": lambda x, n: x >> n if n < 64 else 0, "mov": lambda x, _: x,
+}
+LOADS, STORES = {"ld8": 1, "ld64": 8}, {"st8": 1, "st64": 8}
 
 
 class Stuck(Exception):
@@ -16,14 +21,26 @@ class Stuck(Exception):
 
 
 class Cpu:
-    """A process as its own instructions see it."""
+    """A process as its own instructions see it. Memory and slot arrays are made anew where they change."""
+
+    __slots__ = ("image", "place", "registers", "memory", "slots")
 
     def __init__(self, image):
         self.image = image
         self.place = 0
         self.registers = [0] * 32
-        self.memory = bytearray(image.memory)
-        self.slots = [[0] * length for _, length, _ in image.slots]
+        self.memory = bytes(image.memory)
+        self.slots = tuple((0,) * length for _, length, _ in image.slots)
+
+    def copy(self):
+        new = object.__new__(Cpu)
+        new.image, new.place, new.memory, new.slots = self.image, self.place, self.memory, self.slots
+        new.registers = self.registers[:]
+        return new
+
+    def parts(self):
+        """All of it but the image, as one value that can be compared."""
+        return self.place, tuple(self.registers), self.memory, self.slots
 
     def next(self):
         """The instruction that stands next, or Stuck."""
@@ -32,7 +49,7 @@ class Cpu:
         one = self.image.code[self.place]
         if one.row is None:
             raise Stuck(f"no instruction has the opcode {one.content[0]}")
-        if one.row.has_range:
+        if one.has_range:
             self.within(self.registers[one.registers[2]], self.registers[one.registers[3]])
         return one
 
@@ -42,69 +59,44 @@ class Cpu:
             raise Stuck(f"{length} bytes from address {address} on, and the memory has {len(self.memory)}")
         return slice(address, address + length)
 
+    def store(self, address, content):
+        where = self.within(address, len(content))
+        self.memory = self.memory[:where.start] + content + self.memory[where.stop:]
+
     def local(self, one):
-        """Does a local instruction. What it wrote, as `r2 = 5`, or where it went on."""
-        name, registers = one.name, self.registers
-        self.place += 1
-        if one.row.is_jump:
-            value = registers[one.registers[0]] if one.registers else 0
-            if TESTS[name](value, one.number):
-                self.place = one.target
-            return f"goes on at {self.place}"
-        if name == "swap":
-            return self.swap(*one.registers, one.number)
-        if name in WIDTHS:
-            return self.move(one, WIDTHS[name])
-        registers[one.registers[0]], emptied = self.computed(one)
-        if emptied is not None:
-            registers[emptied] = 0
-        return self.now(one.registers[0])
+        """Does a local instruction; where it can't be done it is Stuck, and nothing has changed."""
+        name, registers, number, values = one.name, one.registers, one.number, self.registers
+        after = self.place + 1
+        if name in TESTS:
+            if TESTS[name](values[registers[0]] if registers else 0, number):
+                after = one.target
+        elif name in RESULTS:
+            last = values[registers[2]] if len(registers) == 3 else number
+            values[registers[0]] = RESULTS[name](values[registers[1]], last)
+        elif name == "const":
+            values[registers[0]] = number
+        elif name == "take":
+            values[registers[0]] = values[registers[1]]
+            values[registers[1]] = 0
+        elif name == "swap":
+            self.swap(registers[0], values[registers[1]], number)
+        elif name in LOADS:
+            where = self.within(values[registers[1]] + number, LOADS[name])
+            values[registers[0]] = int.from_bytes(self.memory[where], "little")
+        else:
+            value = values[registers[1]] & (1 << 8 * STORES[name]) - 1
+            self.store(values[registers[0]] + number, value.to_bytes(STORES[name], "little"))
+        self.place = after
 
-    def now(self, register):
-        return f"r{register} = {self.registers[register]}"
-
-    def computed(self, one):
-        """What the first register becomes, and which one is then emptied."""
-        registers, name = self.registers, one.name
-        given = [registers[register] for register in one.registers[1:]]
-        if name == "const":
-            return one.number, None
-        if name == "mov":
-            return given[0], None
-        if name == "take":
-            return given[0], one.registers[1]
-        if name == "addi":
-            return (given[0] + one.number) & ANY, None
-        if name == "shl":
-            return (given[0] << one.number) & ANY if one.number < 64 else 0, None
-        if name == "shr":
-            return given[0] >> one.number if one.number < 64 else 0, None
-        return SUMS[name](*given) & ANY, None
-
-    def swap(self, register, by, array):
+    def swap(self, register, place, array):
         """Exchanges a register with a place of a slot array."""
-        place = self.registers[by]
         if array >= len(self.slots):
             raise Stuck(f"there is no slot array {array}")
         if place >= len(self.slots[array]):
             raise Stuck(f"slot array {array} has {len(self.slots[array])} places, and no place {place}")
-        kept = self.slots[array][place]
-        self.slots[array][place] = self.registers[register]
-        self.registers[register] = kept
-        return f"{self.now(register)}, place {place} = {self.slots[array][place]}"
-
-    def move(self, one, width):
-        """Loads from the memory, or stores there."""
-        first, second = one.registers
-        loads = one.name.startswith("ld")
-        address = self.registers[second if loads else first] + one.number
-        where = self.within(address, width)
-        if loads:
-            self.registers[first] = int.from_bytes(self.memory[where], "little")
-            return self.now(first)
-        value = self.registers[second] & ((1 << 8 * width) - 1)
-        self.memory[where] = value.to_bytes(width, "little")
-        return f"{value} at address {address}"
+        places = list(self.slots[array])
+        self.registers[register], places[place] = places[place], self.registers[register]
+        self.slots = (*self.slots[:array], tuple(places), *self.slots[array + 1:])
 
 
 def signed(code):

@@ -1,10 +1,11 @@
 """Goes along with a trace: each item with what it was about, as long as the model has the same items."""
-import re
 from dataclasses import dataclass, field
 
-from meaning.calls import Done, perform
+from meaning.calls import perform
 from meaning.cpu import Stuck
 from meaning.numbers import STUCK
+from meaning.about import Done, done_by, local_text, settled
+from meaning.trace import STATE
 from meaning.trouble import Trouble
 
 
@@ -38,7 +39,7 @@ class Follower:
             return Followed(item, place, self.text(process, place), self.stuck(process, item, stuck))
         followed = Followed(item, place, self.text(process, place))
         if one.is_call:
-            followed.done = self.call(process, one, item)
+            followed.done = self.call(one, item)
         else:
             followed.done = self.run(process, item)
         return followed
@@ -51,27 +52,29 @@ class Follower:
     def stuck(self, process, item, stuck):
         if item.name != "stuck":
             raise Trouble(f"{parting(item)}; here it is stuck: {stuck}")
-        self.world.end(process, STUCK)
-        return Done("stuck", about=[str(stuck)], came=self.world.settle())
+        self.world.end(item.pid, STUCK)
+        return Done("stuck", about=[str(stuck)], came=settled(self.world))
 
-    def call(self, process, one, item):
+    def call(self, one, item):
         if item.name != one.name:
             raise Trouble(f"{parting(item)}; here {item.pid} stands at {one.name}")
-        wanted_memory = item.outcome == "NO_MEMORY"
-        done = perform(self.world, process, one, wanted_memory)
+        done = done_by(perform(self.world, item.pid, one, item.outcome == "NO_MEMORY"))
         if done.outcome != item.outcome:
             raise Trouble(f"{parting(item)}; here it is {item.pid} {one.name} {done.outcome}")
+        done.came = settled(self.world)
         return done
 
     def run(self, process, item):
         """Local instructions in a row; of several the last one is told."""
-        told = ""
+        told, cpu = "", process.cpu
         for n in range(item.count or 1):
             try:
-                one = process.cpu.next()
+                one, before = cpu.next(), cpu.registers[:]
                 if one.is_call or item.name not in ("run", "stuck"):
                     raise Trouble(f"{parting(item)}; here {item.pid} stands at {one.name}")
-                told = process.cpu.local(one)
+                cpu.local(one)
+                if n + 1 == (item.count or 1):
+                    told = local_text(one, before, cpu)
             except Stuck as stuck:
                 if item.name == "stuck":
                     return self.stuck(process, item, stuck)
@@ -84,10 +87,7 @@ class Follower:
 
     def compare_end(self, rest):
         """The lines behind the items say of each process what the model has."""
-        told = {}
-        for place, line in rest:
-            if state := state_in(line):
-                told[state[0]] = (place, state[1])
+        told = {int(found[1]): (place, found[2]) for place, line in rest if (found := STATE.fullmatch(line))}
         for pid, (place, text) in told.items():
             process = self.world.processes.get(pid)
             here = process.state_text() if process else "no process"
@@ -96,12 +96,6 @@ class Follower:
         missing = sorted(set(self.world.processes) - set(told))
         if told and missing:
             raise Trouble(f"the trace says nothing of process {missing[0]} at its end")
-
-
-def state_in(line):
-    """The number of a process and its state, in a line at the end of a trace that says them."""
-    found = re.fullmatch(r"process ([0-9]{1,20}) (.*)", line)
-    return (int(found[1]), found[2]) if found else None
 
 
 def parting(item):

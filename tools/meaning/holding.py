@@ -1,7 +1,6 @@
 """Who holds what in a world, and who waits: handles of those that live, and what lies in queues."""
-from meaning.calls import message_text
 from meaning.numbers import signals_text
-from meaning.world import packet_text
+from meaning.about import entry_text, message_text, packet_text
 
 
 def registers_with(process, value):
@@ -14,29 +13,28 @@ def registers_with(process, value):
 
 def awaited_text(world, awaited):
     """What a blocked process waits for."""
-    at = world.objects[awaited.koid]
-    what = "a packet" if awaited.mask is None else signals_text(awaited.mask, at.kind)
-    return f"{what} at {at.kind} {at.koid}"
+    kind = world.objects[awaited.koid].kind
+    what = "a packet" if awaited.mask is None else signals_text(awaited.mask, kind)
+    return f"{what} at {kind} {awaited.koid}"
 
 
 def held(world):
     """All of it in lines."""
-    for process in world.processes.values():
+    for pid, process in world.processes.items():
         if process.state not in ("ready", "blocked"):
             continue
         if process.awaits:
-            yield f"process {process.koid} waits for {awaited_text(world, process.awaits)}"
-        for value, entry in sorted(process.table.entries.items()):
-            yield f"process {process.koid} has handle {value}, by {registers_with(process, value)}: {world.name(entry)}"
-    for one in world.objects.values():
-        if one.kind == "channel":
-            for message in one.queue:
-                yield f"channel {one.koid} has a message of process {message.by}: {message_text(world, message)}"
-        elif one.kind == "port":
-            for packet in one.packets:
-                yield f"port {one.koid} has {packet_text(packet)}"
-        elif one.raised:
-            yield f"{one.kind} {one.koid} is {signals_text(one.active(world), one.kind)}"
-        for wait in one.waits:
-            yield (f"process {wait.pid} has a wait at {one.kind} {one.koid}, key {wait.key}, port {wait.port},"
-                   f" for {signals_text(wait.mask, one.kind)}")
+            yield f"process {pid} waits for {awaited_text(world, process.awaits)}"
+        for value, entry in sorted(process.handles.items()):
+            yield f"process {pid} has handle {value}, by {registers_with(process, value)}: {entry_text(entry)}"
+    for koid, one in world.objects.items():
+        for message in one.queue:
+            yield f"channel {koid} has a message of process {message.sent.by}: {message_text(message)}"
+        for packet in one.packets:
+            yield f"port {koid} has {packet_text(packet)}"
+        if one.raised and one.kind != "channel":
+            yield f"{one.kind} {koid} is {signals_text(world.active(koid), one.kind)}"
+        for wait in world.waits:
+            if wait.koid == koid:
+                yield (f"process {wait.pid} has a wait at {one.kind} {koid}, key {wait.key}, port {wait.port},"
+                       f" for {signals_text(wait.mask, one.kind)}")

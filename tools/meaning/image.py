@@ -1,9 +1,10 @@
 """Images: the bytes of a program read into its parts, and their faults by the names of docs/IMAGE.md."""
 import re
 from dataclasses import dataclass
+from functools import cached_property
 
-from meaning.instructions import BY_OPCODE, PAUSES, Row
-from meaning.numbers import DEFAULT_RIGHTS, KIND_NAMES, KNOWN_RIGHTS, NEEDS
+from meaning.instructions import BY_OPCODE, PAUSES, WRITTEN, Row, handle_places
+from meaning.numbers import DEFAULT_RIGHTS, KIND_NAMES, KINDS, KNOWN_RIGHTS, NEEDS
 
 MAGIC = b"ZLAB"
 MOST_BYTES = 65676
@@ -25,17 +26,44 @@ class Instruction:
     target: int = 0
     handles: tuple = ()
 
-    @property
+    @cached_property
     def name(self):
         return self.row.name if self.row else ".bytes"
 
-    @property
+    @cached_property
     def is_call(self):
         return self.row is not None and self.row.is_call
 
     @property
     def is_pause(self):
         return self.name in PAUSES
+
+    @cached_property
+    def operands(self):
+        """All its registers in the order of the text."""
+        return self.registers + self.handles
+
+    @cached_property
+    def has_range(self):
+        """Whether its third and fourth register are an address and a length."""
+        return self.row is not None and self.row.has_range
+
+    @cached_property
+    def handle_places(self):
+        return handle_places(self)
+
+    @cached_property
+    def consumed(self):
+        """The places of the operands that are gone behind it."""
+        return [place for place, _, goes in self.handle_places if goes]
+
+    @cached_property
+    def written(self):
+        """The registers that it writes."""
+        registers = [register for register, use in zip(self.registers, self.row.fields) if use == WRITTEN]
+        if self.name == "chan_read_etc":
+            registers += range(self.registers[6], self.registers[6] + 3 * self.number)
+        return tuple(registers)
 
 
 @dataclass(frozen=True)
@@ -140,6 +168,32 @@ def has_unused(row, number, target, handles, listed):
     if row.ending == "l":
         return any(register != NO_REGISTER for register in handles[listed:])
     return bool((number and not row.has_number) or (target and not row.is_jump))
+
+
+def encode(image):
+    """The bytes of an image."""
+    def little(number, length=4):
+        return number.to_bytes(length, "little")
+
+    def declaration(kind, length, rights):
+        return little(KINDS[kind] if kind else 0, 2) + little(length, 2) + little(rights)
+
+    needs = sum(NEEDS[need] for need in image.needs)
+    header = (MAGIC + bytes([1, image.raw]) + little(len(image.code), 2) + little(image.memory) + little(image.budget)
+              + bytes([needs, len(image.starts), len(image.slots), 0]))
+    declarations = [declaration(kind, 0, rights) for kind, rights in image.starts]
+    declarations += [declaration(*slots) for slots in image.slots]
+    return header + b"".join(declarations) + b"".join(encoded(one) for one in image.code)
+
+
+def encoded(one):
+    """The 16 bytes of an instruction."""
+    if one.row is None:
+        return one.content
+    first = bytes([one.row.opcode, *one.registers]).ljust(8, b"\0")
+    if one.row.ending == "l":
+        return first + bytes(one.handles).ljust(8, b"\xff")
+    return first + one.number.to_bytes(4, "little") + one.target.to_bytes(4, "little")
 
 
 def of_digits(text):

@@ -1,11 +1,16 @@
 """The table of the instructions: decoder, texts, model and verifier read it."""
 from dataclasses import dataclass
+from pathlib import Path
 
 from meaning.numbers import RIGHTS
 
+TABLE = Path(__file__).with_name("instructions.txt")
 # What an instruction does with a register: it is written, read as a number, names a handle, names one
 # that is gone afterwards, or is the first of those that get the handles of a message.
 WRITTEN, READ, HANDLE, CONSUMED, FIRST = "wrhcf"
+USES = {"writes": WRITTEN, "reads": READ, "changes": WRITTEN, "names": HANDLE, "consumes": CONSUMED,
+        "closes": CONSUMED, "triples": FIRST}
+ENDINGS = {"": "", "number": "n", "target": "t", "number, target": "nt", "handles": "l", "room": "m"}
 
 
 @dataclass(frozen=True)
@@ -42,53 +47,24 @@ class Row:
         return self.ending in ("l", "m")
 
 
-def wants(text):
-    """What is wanted of handles, as `channel WRITE, any TRANSFER`: kinds by `|`, and no right as -."""
-    given = []
-    for one in text.split(", "):
-        kinds, right = one.split(" ")
-        given.append((() if kinds == "any" else tuple(kinds.split("|")), RIGHTS.get(right, 0)))
-    return tuple(given)
+def wanted(kinds="any", right="-"):
+    """What is wanted of a handle, by the words of the table."""
+    return () if kinds == "any" else tuple(kinds.split("/")), RIGHTS.get(right, 0)
 
 
-LOCALS = [
-    Row(1, "const", "w", "n"), Row(2, "mov", "wr"), Row(3, "add", "wrr"), Row(4, "addi", "wr", "n"),
-    Row(5, "sub", "wrr"), Row(6, "and", "wrr"), Row(7, "or", "wrr"), Row(8, "xor", "wrr"),
-    Row(9, "shl", "wr", "n"), Row(10, "shr", "wr", "n"), Row(11, "take", "wc"),
-    Row(12, "swap", "wr", "n"), Row(13, "ld8", "wr", "n"), Row(14, "ld64", "wr", "n"),
-    Row(15, "st8", "rr", "n"), Row(16, "st64", "rr", "n"), Row(17, "jmp", "", "t"),
-    Row(18, "jz", "r", "t"), Row(19, "jnz", "r", "t"), Row(20, "jeq", "r", "nt"),
-    Row(21, "jne", "r", "nt"), Row(22, "jlt", "r", "nt"), Row(23, "jge", "r", "nt"),
-    Row(24, "jhas", "r", "nt"), Row(25, "jnhas", "r", "nt"),
-]
-CALLS = [
-    Row(64, "close", "wc", wants=wants("any -")),
-    Row(65, "dup", "whw", "n", wants("any DUPLICATE"), grows=True),
-    Row(66, "replace", "wcw", "n", wants("any -")),
-    Row(67, "chan_create", "www", condition="NEW_CHANNEL", grows=True),
-    Row(68, "chan_write", "whrr", "l", wants("channel WRITE, any TRANSFER"), grows=True),
-    Row(69, "chan_read_etc", "whrrwwf", "m", wants("channel READ"), grows=True),
-    Row(70, "event_create", "ww", condition="NEW_EVENT", grows=True),
-    Row(71, "signal", "whrr", wants=wants("any SIGNAL")),
-    Row(72, "signal_peer", "whrr", wants=wants("channel|eventpair SIGNAL_PEER")),
-    Row(73, "wait_one", "whrw", wants=wants("any WAIT")),
-    Row(74, "wait_poll", "whrw", wants=wants("any WAIT")),
-    Row(75, "wait_async", "whhrr", wants=wants("any WAIT, port WRITE"), grows=True),
-    Row(76, "port_create", "ww", condition="NEW_PORT", grows=True),
-    Row(77, "port_queue", "whrr", wants=wants("port WRITE"), grows=True),
-    Row(78, "port_wait", "whwwww", wants=wants("port READ")),
-    Row(79, "port_poll", "whwwww", wants=wants("port READ")),
-    Row(80, "port_cancel", "whhr", wants=wants("port WRITE, any -")),
-    Row(81, "process_create", "whrw", "", wants("job MANAGE_PROCESS"), "NEW_PROCESS", True),
-    Row(82, "process_start", "whcr", wants=wants("process WRITE, any TRANSFER"), grows=True),
-    Row(83, "process_exit", "r"),
-    Row(84, "task_kill", "wh", wants=wants("process|job DESTROY")),
-    Row(85, "job_create", "whw", wants=wants("job MANAGE_JOB"), grows=True),
-    Row(86, "job_set_policy", "whrrr", wants=wants("job SET_POLICY")),
-    Row(87, "eventpair_create", "www", condition="NEW_EVENTPAIR", grows=True),
-]
-BY_NAME = {row.name: row for row in LOCALS + CALLS}
-BY_OPCODE = {row.opcode: row for row in LOCALS + CALLS}
+def row_in(line):
+    """The row of a line of the table."""
+    opcode, name, uses, ending, condition, grows = (line.split(" | ") + [""] * 6)[:6]
+    ending, _, listed = ending.partition(", each ")
+    words = [use.split() for use in [*uses.split(", "), listed] if use]
+    wants = tuple(wanted(*use[1:]) for use in words if USES[use[0]] in (HANDLE, CONSUMED))
+    fields = "".join(USES[use[0]] for use in words[:len(words) - bool(listed)])
+    return Row(int(opcode), name, fields, ENDINGS[ending], wants, condition or None, bool(grows))
+
+
+ROWS = [row_in(line) for line in TABLE.read_text().splitlines() if not line.startswith("#")]
+BY_NAME = {row.name: row for row in ROWS}
+BY_OPCODE = {row.opcode: row for row in ROWS}
 # At these the count of instructions begins anew.
 PAUSES = ("wait_one", "port_wait", "process_exit")
 
@@ -96,8 +72,7 @@ PAUSES = ("wait_one", "port_wait", "process_exit")
 def handle_places(one):
     """The places of handles among the operands, each with what is wanted of it and whether it goes."""
     places = [place for place, use in enumerate(one.row.fields) if use in (HANDLE, CONSUMED)]
-    found = [(place, wanted, one.row.fields[place] == CONSUMED)
-             for place, wanted in zip(places, one.row.wants)]
+    found = [(place, want, one.row.fields[place] == CONSUMED) for place, want in zip(places, one.row.wants)]
     first = len(one.row.fields)
     found += [(first + n, one.row.wants[1], True) for n in range(len(one.handles))]
     return found

@@ -21,10 +21,32 @@ def add_option(parser):
 
 
 class Lab:
-    """The lab's program."""
+    """The lab's program, which is started in a folder, and may have so many seconds."""
 
-    def __init__(self, program=None):
+    def __init__(self, program=None, room=None, seconds=None):
         self.program = program or str(PROVED if os.access(PROVED, os.X_OK) else TOP / "run")
+        self.room, self.seconds = room, seconds
+        # how often it was started for a trace
+        self.runs = 0
+
+    def start(self, words, given, said=subprocess.PIPE, is_apart=False):
+        """Its status, what it writes to these words and this standard input, and what it says on standard error,
+        unless that goes elsewhere; none where it doesn't end in time. Apart, in a group of its own, all that it
+        starts can be ended with it."""
+        try:
+            process = subprocess.Popen([self.program, *map(str, words)], cwd=self.room, stdin=subprocess.PIPE,
+                                       stdout=subprocess.PIPE, stderr=said, start_new_session=is_apart)
+        except OSError as error:
+            raise Trouble(f"can't start {self.program}: {error.strerror}") from error
+        try:
+            output, errors = process.communicate(given, self.seconds)
+            return process.returncode, output, errors
+        except subprocess.TimeoutExpired:
+            stop(process, is_apart)
+            return None
+        except BaseException:
+            stop(process, is_apart)
+            raise
 
     def answer(self, words, given, is_told=True):
         """What it writes to the words and to this standard input, and its status. What it says on
@@ -36,23 +58,16 @@ class Lab:
         teller = threading.Thread(target=pass_on, args=(reading, telling), daemon=True)
         teller.start()
         try:
-            # in a group of its own, so that all that it starts can be ended
-            process = subprocess.Popen([self.program, *words], stdin=subprocess.PIPE, stdout=subprocess.PIPE,
-                                       stderr=writing, start_new_session=True)
-        except OSError as error:
-            raise Trouble(f"can't start {self.program}: {error.strerror}") from error
-        finally:
-            os.close(writing)
-        try:
-            output, _ = process.communicate(given)
+            status, output, _ = self.start(words, given, writing, True)
         except BaseException:
             telling.clear()
-            stop(process)
             raise
+        finally:
+            os.close(writing)
         teller.join(2)
-        if process.returncode < 0:
-            raise Trouble(f"{self.program} was ended by signal {-process.returncode}")
-        return process.returncode, output
+        if status < 0:
+            raise Trouble(f"{self.program} was ended by signal {-status}")
+        return status, output
 
     def must(self, words, given):
         """What it writes, where its status is 0; else its answer is passed on, and that is all."""
@@ -63,16 +78,33 @@ class Lab:
             raise Answered(status)
         return output
 
+    def written(self, words, given):
+        """What it writes, where its status is 0; else Trouble says in its words what is wrong."""
+        status, output, said = self.start(words, given)
+        if status:
+            lines = [line for line in (output + said).decode(errors="replace").splitlines() if line]
+            raise Trouble("; ".join(lines[:2]) or f"{self.program} ended with status {status}")
+        return output
 
-def stop(process):
-    """Ends the program and waits for its end, so that it clears up what it made."""
-    for stream in (process.stdin, process.stdout):
+    def trace(self, scenario, schedule):
+        """The lines of the trace of a scenario, which has no schedule, along the turns of one."""
+        self.runs += 1
+        return self.written([], b"%s--\n%s" % (scenario, schedule)).decode().splitlines()
+
+
+def stop(process, is_apart):
+    """Ends the program and waits for its end; apart it can clear up what it made."""
+    for stream in (process.stdin, process.stdout, process.stderr):
         try:
-            stream.close()
+            if stream:
+                stream.close()
         except OSError:
             pass
     try:
-        os.killpg(process.pid, signal.SIGTERM)
+        if is_apart:
+            os.killpg(process.pid, signal.SIGTERM)
+        else:
+            process.kill()
     except ProcessLookupError:
         pass
     process.wait()

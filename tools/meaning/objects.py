@@ -1,16 +1,17 @@
-"""Objects of each kind, and the handles of a process."""
-from collections import deque
-from dataclasses import dataclass, field
+"""Objects of each kind, what lies in their queues, and processes with their handles.
 
-from meaning.numbers import (
-    DEFAULT_RIGHTS, NO_JOBS, NO_PROCESSES, PEER_CLOSED, READABLE, TERMINATED, WRITABLE,
-)
+All but a process is a value that never changes, so that worlds can share it.
+"""
+from typing import NamedTuple
 
-MOST_HANDLES = 1024
+from meaning.cpu import Cpu
+from meaning.numbers import DEFAULT_RIGHTS
+
+# Objects of these kinds are made two at a time, each the other's peer.
+PAIRS = ("channel", "eventpair")
 
 
-@dataclass(frozen=True)
-class Entry:
+class Entry(NamedTuple):
     """What a handle is: an object and rights."""
 
     koid: int
@@ -22,31 +23,17 @@ def first_entry(koid, kind):
     return Entry(koid, kind, DEFAULT_RIGHTS[kind])
 
 
-class Table:
-    """The handles of a process by their values. The value freed last is given first."""
+class Sent(NamedTuple):
+    """Whose item it was in which something was sent, the item's place in a trace, and which packet of it."""
 
-    def __init__(self):
-        self.entries = {}
-        self.freed = []
-
-    def has_room(self, count):
-        return len(self.entries) + count <= MOST_HANDLES
-
-    def insert(self, entry):
-        value = self.freed.pop() if self.freed else len(self.entries) + 1
-        self.entries[value] = entry
-        return value
-
-    def remove(self, value):
-        self.freed.append(value)
-        return self.entries.pop(value)
+    by: int
+    place: int
+    number: int
 
 
-@dataclass(eq=False)
-class Wait:
+class Wait(NamedTuple):
     """A registered wait: whose handle watches which object, and where its packet goes."""
 
-    order: int
     pid: int
     value: int
     koid: int
@@ -56,143 +43,100 @@ class Wait:
     mask: int
 
 
-@dataclass(frozen=True)
-class Packet:
-    """A packet with the process by which it came; one of a wait has that wait."""
+class Packet(NamedTuple):
+    """A packet; one of a wait has that wait."""
 
     key: int
     type: int
     value: int
     observed: int
-    by: int
-    place: int
-    wait: Wait | None = None
+    wait: Wait | None
+    sent: Sent | None
 
     @property
     def fields(self):
-        return self.key, self.type, self.value, self.observed
-
-    @property
-    def sending(self):
-        """Which sending it is: the item, and of its packets the one of this wait."""
-        return self.place, self.wait.order if self.wait else 0
+        return self[:4]
 
 
-@dataclass(frozen=True)
-class Message:
-    """What lies in a queue, by whom it was sent, and in which item."""
+class Message(NamedTuple):
+    """What lies in the queue of a channel's end."""
 
     content: bytes
     entries: tuple
-    by: int
-    place: int
-
-    @property
-    def sending(self):
-        return self.place, 0
+    sent: Sent | None
 
 
-@dataclass(eq=False)
-class Object:
-    """An object of any kind: how many handles name it, and what is raised at it by calls."""
+class Awaited(NamedTuple):
+    """What a blocked process waits for: signals of an object, or, without a mask, a packet of a port.
+    `registers` get the answer: the status first."""
 
     koid: int
+    mask: int | None
+    registers: tuple
+
+
+class Object(NamedTuple):
+    """An object, with what is raised at it by calls; each kind has fields of its own."""
+
     kind: str
-    handles: int = 0
     raised: int = 0
-    waits: list = field(default_factory=list)
-    blocked: list = field(default_factory=list)
-
-    def is_held(self):
-        return self.handles > 0
-
-    def active(self, _world):
-        return self.raised
-
-
-@dataclass(eq=False)
-class Channel(Object):
-    """One end of a channel."""
-
+    # of an end of a channel or an event pair: the other end
     peer: int = 0
-    queue: deque = field(default_factory=deque)
-
-    def active(self, world):
-        of_peer = WRITABLE if self.peer in world.objects else PEER_CLOSED
-        return self.raised | of_peer | (READABLE if self.queue else 0)
-
-
-@dataclass(eq=False)
-class EventPair(Object):
-    """One end of an event pair."""
-
-    peer: int = 0
-
-    def active(self, world):
-        return self.raised | (0 if self.peer in world.objects else PEER_CLOSED)
-
-
-@dataclass(eq=False)
-class Port(Object):
-    """A port, and the waits whose packets are to come to it."""
-
-    packets: deque = field(default_factory=deque)
-    watching: list = field(default_factory=list)
-
-    def active(self, _world):
-        return 0
-
-
-@dataclass(eq=False)
-class Job(Object):
-    """A job, how many jobs and processes live in it, and its policy."""
-
-    parent: int = 0
-    depth: int = 1
-    is_killed: bool = False
-    jobs: int = 0
-    processes: int = 0
-    policy: dict = field(default_factory=dict)
-
-    def is_held(self):
-        return self.handles > 0 or self.jobs > 0 or self.processes > 0
-
-    def active(self, _world):
-        ended = TERMINATED if self.is_killed else 0
-        return self.raised | ended | (0 if self.jobs else NO_JOBS) | (0 if self.processes else NO_PROCESSES)
-
-
-@dataclass(eq=False)
-class Process(Object):
-    """A process: in which state it is, and the code of its end."""
-
+    # of an end of a channel: the messages to be read there
+    queue: tuple = ()
+    # of a port
+    packets: tuple = ()
+    # of a job or a process: the job in which it is
     job: int = 0
-    program: int = 0
-    state: str = "created"
-    code: int = 0
-    table: Table = field(default_factory=Table)
-    cpu: object = None
-    # its registered waits by the value of their handle
-    own_waits: dict = field(default_factory=dict)
-    # what it waits for while it is blocked
-    awaits: object = None
+    # of a job: the policy as pairs of a condition and an action
+    depth: int = 0
+    policy: tuple = ()
+    is_killed: bool = False
+
+
+class Process:
+    """A process: its state, the code of its end, and its handles by their values, of which the one freed last is
+    given first."""
+
+    __slots__ = ("program", "state", "code", "cpu", "handles", "freed", "awaits")
+
+    def __init__(self, program, image):
+        self.program = program
+        self.state, self.code = "created", 0
+        self.cpu = Cpu(image)
+        self.handles, self.freed = {}, []
+        # what it waits for while it is blocked
+        self.awaits = None
+
+    def copy(self):
+        """One that changes by itself; one that is over never does."""
+        if not self.lives:
+            return self
+        new = object.__new__(Process)
+        new.program, new.state, new.code, new.awaits = self.program, self.state, self.code, self.awaits
+        new.cpu, new.handles, new.freed = self.cpu.copy(), self.handles.copy(), self.freed[:]
+        return new
+
+    def parts(self):
+        """All of it that counts for what comes, as one value that can be compared."""
+        if not self.lives:
+            return self.state, self.code
+        return (self.program, self.state, self.cpu.parts(), tuple(sorted(self.handles.items())), tuple(self.freed),
+                self.awaits)
 
     @property
     def lives(self):
         return self.state in ("created", "ready", "blocked")
 
-    def is_held(self):
-        return self.handles > 0 or self.state in ("ready", "blocked")
+    def insert(self, entry):
+        """The value of the new handle."""
+        value = self.freed.pop() if self.freed else len(self.handles) + 1
+        self.handles[value] = entry
+        return value
 
-    def active(self, _world):
-        return self.raised | (0 if self.lives else TERMINATED)
+    def end(self, code):
+        self.state, self.code = "ended", code
+        self.handles, self.freed, self.awaits = {}, [], None
 
     def state_text(self):
         return f"ended {self.code}" if self.state == "ended" else self.state
-
-
-KINDS = {
-    "event": Object, "eventpair": EventPair, "channel": Channel, "port": Port, "job": Job, "process": Process,
-}
-# Objects of these kinds are made two at a time, each the other's peer.
-PAIRS = ("channel", "eventpair")

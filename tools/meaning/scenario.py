@@ -33,6 +33,11 @@ class Scenario:
     statements: list = field(default_factory=list)
     turns_from: int | None = None
 
+    @property
+    def limit(self):
+        """How many items its trace may have."""
+        return next((int(words[1]) for _, words in reversed(self.statements) if words[0] == "limit"), 1000)
+
 
 def words_of(line):
     """The words of a line; only spaces part them."""

@@ -4,7 +4,7 @@ A text with a fault is the lab's to refuse; here it is no more than a TextFault 
 """
 import re
 
-from meaning.image import Image, Instruction
+from meaning.image import Image, Instruction, encode
 from meaning.instructions import BY_NAME
 from meaning.numbers import KINDS, NEEDS
 
@@ -102,6 +102,11 @@ def assemble(lines):
         needs=tuple(need for need in NEEDS if need in needs), starts=tuple(starts), slots=tuple(slots),
         code=tuple(with_line(words, labels, place) for words, place in zip(code, places)),
     ), places
+
+
+def assembled(text):
+    """The bytes of the image of a whole text."""
+    return encode(assemble([*enumerate(text.split("\n"), 1)])[0])
 
 
 def with_line(words, labels, place):

@@ -1,6 +1,6 @@
 """Traces: their items, what is said of processes, and the end."""
 import re
-from dataclasses import dataclass
+from typing import NamedTuple
 
 from meaning.instructions import BY_NAME
 from meaning.numbers import STATUSES
@@ -15,11 +15,11 @@ STUCK = re.compile(rf"({NUMBER}) +stuck")
 MOST_PID = 2**64 - 1
 MOST_COUNT = 2**32 - 1
 CODES = range(-2**31, 2**31)
+STATE = re.compile(r"process ([0-9]{1,20}) (.*)")
 CALL = re.compile(rf"({NUMBER}) +([a-z_]+) +([A-Z_]+|blocked|ended +(?:0|-?[1-9][0-9]*))")
 
 
-@dataclass(frozen=True)
-class Item:
+class Item(NamedTuple):
     """One item: what a process did. `outcome` is the name of a status, `blocked`, or `ended CODE`."""
 
     line: int
@@ -31,6 +31,24 @@ class Item:
     @property
     def text(self):
         return " ".join(str(part) for part in (self.pid, self.name, self.count, self.outcome) if part)
+
+
+class Trace(NamedTuple):
+    """A trace: its items, and the lines behind them with their numbers."""
+
+    items: list
+    rest: list
+
+    @property
+    def states(self):
+        """The state of each process in a line behind the items, by its number."""
+        found = (STATE.fullmatch(line) for _, line in self.rest)
+        return {int(one[1]): one[2] for one in found if one}
+
+    @property
+    def lines(self):
+        """All lines, as the lab writes them."""
+        return [*(item.text for item in self.items), *(line for _, line in self.rest)]
 
 
 def is_end(outcome):
@@ -55,7 +73,7 @@ def item_in(line, place):
 
 
 def read_trace(text):
-    """The items, and the lines behind them with their numbers."""
+    """The trace of a text; Trouble where a line is none of one."""
     items, rest = [], []
     for place, line in enumerate(text.split("\n"), 1):
         words = words_of(line)
@@ -67,4 +85,4 @@ def read_trace(text):
             items.append(item_in(line, place))
             if len(items) > MOST_ITEMS:
                 raise Trouble(f"line {place} of the trace is behind {MOST_ITEMS:,} items, the most that there are")
-    return items, rest
+    return Trace(items, rest)

@@ -1,258 +1,241 @@
-"""The world of a running lab: its objects, what becomes of those that nobody holds, and who wakes.
+"""The world of a running lab: its objects and processes, what becomes of those that nobody holds, and who wakes.
 
-It is this program's own model by the rules of docs/calls, not the lab's, and nothing of it is proved.
+It is these programs' own model by the rules of docs/calls, not the lab's, and nothing of it is proved.
 """
-from dataclasses import dataclass, field
+from typing import NamedTuple
 
-from meaning.numbers import KILLED, rights_text, signals_text
-from meaning.objects import KINDS, PAIRS, Packet
-
-ROOT = 1
-
-
-@dataclass(eq=False)
-class Awaited:
-    """What a blocked process waits for: signals of an object, or, without a mask, a packet of a port.
-    `registers` get the answer: the status first."""
-
-    order: int
-    pid: int
-    koid: int
-    mask: int | None
-    registers: tuple
+from meaning.numbers import (
+    KILLED, NO_JOBS, NO_PROCESSES, PEER_CLOSED, READABLE, STATUSES, TERMINATED, WRITABLE,
+)
+from meaning.objects import Object, Packet, Process, Sent, first_entry
 
 
-@dataclass(frozen=True)
-class Came:
-    """Something that came of a step: `gone`, `packet`, `woken`, `over`, in words. `packet` is the one that
-    came, or that somebody was woken by."""
+class Came(NamedTuple):
+    """Something that came of a step: of which object, and what of it.
+
+    over    a process other than the one whose step it is has ended, with what code
+    gone    an object is held by nothing any more: what it was
+    packet  a registered wait has given its packet: that packet, of the port
+    woken   a process goes on: what it had waited for, and the packet if it got one
+    """
 
     kind: str
-    text: str
-    pid: int = 0
-    packet: Packet | None = None
+    koid: int
+    what: object
 
 
-@dataclass(eq=False)
 class World:
-    """All objects by koid, and every process ever made. `place` is the number of the item that is being
-    done, and `actor` whose item it is."""
+    """All objects by koid, every process ever made, and waits and blocked processes, the longest there first."""
 
-    programs: list = field(default_factory=list)
-    objects: dict = field(default_factory=dict)
-    processes: dict = field(default_factory=dict)
-    next_koid: int = 1
-    orders: int = 0
-    place: int = 0
-    actor: int = 0
-    suspects: list = field(default_factory=list)
-    touched: dict = field(default_factory=dict)
-    came: list = field(default_factory=list)
+    def __init__(self, programs):
+        self.programs = programs
+        self.objects, self.processes = {}, {}
+        self.waits, self.blocked = [], []
+        self.next_koid = 1
+        # something may be held by nothing any more
+        self.has_dropped = False
+        # where a trace is followed: the number of the item that is being done, and whose item it is
+        self.place, self.actor = 0, 0
+        self.came = []
 
-    # ---- names
+    # ---- objects
 
-    def name(self, entry):
-        return f"{entry.kind} {entry.koid} ({rights_text(entry.rights, entry.kind)})"
-
-    def order(self):
-        self.orders += 1
-        return self.orders
-
-    def touch(self, koid):
-        """Its signals, or its packets, may be others now."""
-        self.touched[koid] = True
-
-    # ---- making
-
-    def make(self, kind, **fields):
+    def add(self, thing):
+        """A new object; its koid."""
         koid = self.next_koid
         self.next_koid += 1
-        self.objects[koid] = KINDS[kind](koid, kind, **fields)
-        self.suspects.append(koid)
+        self.objects[koid] = thing
         return koid
+
+    def change(self, koid, **fields):
+        self.objects[koid] = self.objects[koid]._replace(**fields)
+
+    def make(self, kind):
+        return self.add(Object(kind))
 
     def make_pair(self, kind):
-        first = self.make(kind)
-        second = self.make(kind, peer=first)
-        self.objects[first].peer = second
+        """Two new ends, each the other's peer; their koids."""
+        first = self.add(Object(kind))
+        second = self.add(Object(kind, peer=first))
+        self.change(first, peer=second)
         return first, second
 
-    def make_job(self, parent):
-        above = self.objects[parent]
-        above.jobs += 1
-        self.touch(parent)
-        return self.make("job", parent=parent, depth=above.depth + 1, policy=dict(above.policy))
+    def make_job(self, job):
+        above = self.objects.get(job, Object("job"))
+        return self.add(Object("job", job=job, depth=above.depth + 1, policy=above.policy))
 
     def make_process(self, job, program):
-        koid = self.make("process", job=job, program=program)
-        self.processes[koid] = self.objects[koid]
-        self.objects[job].processes += 1
-        self.touch(job)
-        return koid
+        pid = self.add(Object("process", job=job))
+        self.processes[pid] = Process(program, self.programs[program].image)
+        return pid
 
-    # ---- handles
+    def first_entry(self, koid):
+        return first_entry(koid, self.objects[koid].kind)
 
-    def insert(self, process, entry):
-        self.objects[entry.koid].handles += 1
-        return process.table.insert(entry)
+    def lives(self, koid):
+        """Whether a process or a job lives."""
+        return self.processes[koid].lives if koid in self.processes else not self.objects[koid].is_killed
 
-    def remove(self, process, value):
-        """Takes a handle out of its table; its waits end."""
-        self.end_waits(process, value)
-        entry = process.table.remove(value)
-        self.let_go(entry)
-        return entry
+    def has_child(self, job, kind):
+        """Whether a living job or process stands directly below the job."""
+        return any(thing.job == job and thing.kind == kind and self.lives(koid) for koid, thing in self.objects.items())
 
-    def let_go(self, entry):
-        self.objects[entry.koid].handles -= 1
-        self.suspects.append(entry.koid)
+    def is_within(self, top, koid):
+        """Whether the process or job is the top one, or stands below it."""
+        while koid != top and koid in self.objects:
+            koid = self.objects[koid].job
+        return koid == top
 
-    def end_waits(self, process, value):
-        for wait in process.own_waits.pop(value, ()):
-            self.forget(wait)
+    def action_for(self, job, condition):
+        """What the policy of the job says to the condition; unset it allows."""
+        return dict(self.objects[job].policy).get(condition, "ALLOW")
 
-    def forget(self, wait):
-        """The wait is gone from its object and its port."""
-        self.objects[wait.koid].waits.remove(wait)
-        self.objects[wait.port].watching.remove(wait)
+    def active(self, koid):
+        """The active signals of an object, none where it is gone."""
+        thing = self.objects.get(koid)
+        if thing is None:
+            return 0
+        signals = thing.raised
+        if thing.kind == "channel":
+            signals |= (READABLE if thing.queue else 0) | (WRITABLE if thing.peer in self.objects else PEER_CLOSED)
+        elif thing.kind == "eventpair":
+            signals |= 0 if thing.peer in self.objects else PEER_CLOSED
+        elif thing.kind == "process" and not self.processes[koid].lives:
+            signals |= TERMINATED
+        elif thing.kind == "job":
+            signals |= TERMINATED if thing.is_killed else 0
+            signals |= 0 if self.has_child(koid, "job") else NO_JOBS
+            signals |= 0 if self.has_child(koid, "process") else NO_PROCESSES
+        return signals
 
-    # ---- ends
+    def sent(self, number=0):
+        """What is known of a sending where a trace is followed; else nothing, so that worlds can be the same."""
+        return Sent(self.actor, self.place, number) if self.place else None
 
-    def end(self, process, code):
-        """The process ends, and its handles close."""
-        process.state, process.code, process.awaits = "ended", code, None
-        for value in list(process.table.entries):
-            self.remove(process, value)
-        self.objects[process.job].processes -= 1
-        for koid in (process.koid, process.job):
-            self.touch(koid)
-            self.suspects.append(koid)
-        if process.koid != self.actor:
-            self.came.append(Came("over", f"process {process.koid} ends with {code}", process.koid))
+    # ---- processes
+
+    def start(self, pid, entries, word):
+        """The process is ready, with handles in register 0 and from 2 on, and the word in 1."""
+        process = self.processes[pid]
+        process.state = "ready"
+        registers = process.cpu.registers
+        for register, entry in zip((0, *range(2, 8)), entries):
+            registers[register] = process.insert(entry)
+        registers[1] = word
+
+    def take_out(self, process, value):
+        """The handle leaves the table, if it is live. Its waits end when the world settles."""
+        if value in process.handles:
+            self.has_dropped = True
+            process.freed.append(value)
+            del process.handles[value]
+
+    def end(self, pid, code):
+        """The process ends, if it lives, and its handles close."""
+        process = self.processes[pid]
+        if not process.lives:
+            return
+        self.has_dropped = True
+        process.end(code)
+        self.blocked = [other for other in self.blocked if other != pid]
+        if pid != self.actor:
+            self.came.append(Came("over", pid, code))
 
     def kill(self, koid):
         """Kills a process, or a job and all below it."""
-        target = self.objects[koid]
-        if target.kind == "process":
-            if target.lives:
-                self.end(target, KILLED)
-            return
-        if target.is_killed:
-            return
-        target.is_killed = True
-        self.touch(koid)
-        self.suspects.append(koid)
-        if target.parent in self.objects:
-            self.objects[target.parent].jobs -= 1
-            self.touch(target.parent)
-            self.suspects.append(target.parent)
-        for below in [one.koid for one in self.objects.values()
-                      if koid in (getattr(one, "parent", 0), getattr(one, "job", 0))]:
-            self.kill(below)
+        # what holds the job above it may be gone
+        self.has_dropped = True
+        if koid in self.processes:
+            self.end(koid, KILLED)
+        elif not self.objects[koid].is_killed:
+            self.change(koid, is_killed=True)
+            for below in [other for other, thing in self.objects.items() if thing.job == koid]:
+                self.kill(below)
+
+    def answer(self, process, registers, values):
+        """The registers get the values, and the next instruction stands next."""
+        for register, value in zip(registers, values):
+            process.cpu.registers[register] = value
+        process.cpu.place += 1
+
+    def take_packet(self, port):
+        """The first packet of the port leaves it; nothing where there is none."""
+        packets = self.objects[port].packets if port in self.objects else ()
+        if not packets:
+            return None
+        self.change(port, packets=packets[1:])
+        return packets[0]
 
     # ---- after a step
 
     def settle(self):
-        """Removes what nobody holds, queues packets of waits, and wakes who waits."""
-        gone = []
-        while self.suspects:
-            koid = self.suspects.pop()
-            if koid in self.objects and not self.objects[koid].is_held():
-                gone.append(self.objects[koid])
-                self.drop(gone[-1])
-        self.came += [Came("gone", f"{one.kind} {one.koid} is gone")
-                      for one in sorted(gone, key=lambda one: one.koid) if is_told(one)]
-        self.fire()
-        self.wake()
-        self.touched.clear()
+        """Removes what nothing holds, queues packets of waits, and wakes who waits: what came of the step."""
+        if self.has_dropped:
+            self.remove()
+        if self.waits:
+            self.fire()
+        if self.blocked:
+            self.wake()
         came, self.came = self.came, []
         return came
 
-    def drop(self, gone):
-        """An object that nobody holds is gone, and what lies in it."""
-        del self.objects[gone.koid]
-        if gone.kind in PAIRS:
-            self.touch(gone.peer)
-        if gone.kind == "channel":
-            for message in gone.queue:
-                for entry in message.entries:
-                    if entry.koid in self.objects:
-                        self.let_go(entry)
-        elif gone.kind == "port":
-            for wait in gone.watching:
-                self.objects[wait.koid].waits.remove(wait)
-                self.processes[wait.pid].own_waits[wait.value].remove(wait)
-        elif gone.kind == "process" and gone.state == "created":
-            gone.state = "gone"
-            self.leaves(gone.job, "processes")
-        elif gone.kind == "job" and not gone.is_killed and gone.parent in self.objects:
-            self.leaves(gone.parent, "jobs")
+    def held(self):
+        """The koids that a table, a queue, a running process or a living child holds."""
+        koids = {entry.koid for process in self.processes.values() for entry in process.handles.values()}
+        for koid, thing in self.objects.items():
+            if thing.queue:
+                koids.update(entry.koid for message in thing.queue for entry in message.entries)
+            elif thing.kind == "process":
+                if self.processes[koid].state in ("ready", "blocked"):
+                    koids.add(koid)
+                if self.processes[koid].lives:
+                    koids.add(thing.job)
+            elif thing.kind == "job" and not thing.is_killed:
+                koids.add(thing.job)
+        return koids
 
-    def leaves(self, job, what):
-        """One job or process fewer lives in a job."""
-        setattr(self.objects[job], what, getattr(self.objects[job], what) - 1)
-        self.touch(job)
-        self.suspects.append(job)
+    def remove(self):
+        """Objects that nothing holds go, until none is left, and so do waits without their handle or their port."""
+        all_gone = {}
+        while gone := self.objects.keys() - self.held():
+            for koid in gone:
+                all_gone[koid] = self.objects.pop(koid)
+                if koid in self.processes and self.processes[koid].state == "created":
+                    self.processes[koid].state = "gone"
+        self.came += [Came("gone", koid, all_gone[koid]) for koid in sorted(all_gone)]
+        self.waits = [wait for wait in self.waits
+                      if wait.port in self.objects and wait.value in self.processes[wait.pid].handles]
+        self.has_dropped = False
 
     def fire(self):
-        """Each registered wait that sees one of its signals queues its packet, and is gone."""
-        waits = []
-        for koid in self.touched:
-            if koid in self.objects and self.objects[koid].waits:
-                active = self.objects[koid].active(self)
-                waits += [(wait, active) for wait in self.objects[koid].waits if wait.mask & active]
-        for wait, active in sorted(waits, key=lambda one: one[0].order):
-            self.forget(wait)
-            self.processes[wait.pid].own_waits[wait.value].remove(wait)
-            packet = Packet(wait.key, 1, wait.mask, active, self.actor, self.place, wait)
-            self.objects[wait.port].packets.append(packet)
-            self.touch(wait.port)
-            seen = self.objects[wait.koid]
-            text = (f"{seen.kind} {seen.koid} is {signals_text(active, seen.kind)}:"
-                    f" a packet with the key {wait.key} comes to port {wait.port}")
-            self.came.append(Came("packet", text, packet=packet))
+        """Each wait that holds gives its packet and is gone."""
+        active = {koid: self.active(koid) for koid in {wait.koid for wait in self.waits}}
+        left = []
+        for wait in self.waits:
+            if active[wait.koid] & wait.mask:
+                packet = Packet(wait.key, 1, wait.mask, active[wait.koid], wait, self.sent(len(self.came) + 1))
+                self.change(wait.port, packets=(*self.objects[wait.port].packets, packet))
+                self.came.append(Came("packet", wait.port, packet))
+            else:
+                left.append(wait)
+        self.waits = left
+
+    def what_came(self, awaited):
+        """The packet and the values that are there for what is awaited, or nothing."""
+        if awaited.mask is None:
+            packet = self.take_packet(awaited.koid)
+            return packet and (packet, packet.fields)
+        active = self.active(awaited.koid)
+        return (None, (active,)) if active & awaited.mask else None
 
     def wake(self):
         """Each blocked process that has what it waits for is ready."""
-        waiting = []
-        for koid in self.touched:
-            if koid in self.objects:
-                still = [one for one in self.objects[koid].blocked if self.processes[one.pid].awaits is one]
-                self.objects[koid].blocked = still
-                waiting += still
-        for one in sorted(waiting, key=lambda one: one.order):
-            self.answer_to(one)
-
-    def answer_to(self, one):
-        """The wait of a blocked process is answered, if what it waits for is there."""
-        process, at = self.processes[one.pid], self.objects[one.koid]
-        packet = None
-        if one.mask is None:
-            if not at.packets:
-                return
-            packet = at.packets.popleft()
-            given, text = packet.fields, packet_text(packet)
-        else:
-            active = at.active(self)
-            if not active & one.mask:
-                return
-            given, text = (active,), f"{at.kind} {at.koid} is {signals_text(active, at.kind)}"
-        process.state, process.awaits = "ready", None
-        at.blocked.remove(one)
-        for register, value in zip(one.registers, (0, *given)):
-            process.cpu.registers[register] = value
-        process.cpu.place += 1
-        self.came.append(Came("woken", f"{one.pid} goes on: {text}", one.pid, packet))
-
-
-def is_told(gone):
-    """Whether it is worth a word that the object is gone; of an ended process its end was told."""
-    return gone.koid != ROOT and not (gone.kind == "process" and gone.state == "ended")
-
-
-def packet_text(packet):
-    """A packet in words."""
-    if packet.type == 0:
-        return f"the packet with the key {packet.key} and the value {packet.value}"
-    seen = packet.wait
-    return f"the packet with the key {packet.key} of a wait at {seen.kind} {seen.koid}"
+        for pid in self.blocked[:]:
+            process = self.processes[pid]
+            awaited = process.awaits
+            if there := self.what_came(awaited):
+                packet, values = there
+                self.blocked.remove(pid)
+                process.state, process.awaits = "ready", None
+                self.answer(process, awaited.registers, (STATUSES["OK"], *values))
+                self.came.append(Came("woken", pid, (awaited, packet)))

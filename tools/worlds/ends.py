@@ -1,8 +1,11 @@
 """What an end of all orders is: the state of each process, who waits for what, and who could bring it."""
-from .cpu import FAR, ROUND
-from .numbers import (
-    DESTROY, NO_JOBS, NO_PROCESSES, PEER_CLOSED, READABLE, SIGNAL, SIGNALED, SIGNALED_KINDS, SIGNAL_PEER, TERMINATED,
-    USER_SIGNALS, WRITE, signals_named)
+from meaning.calls import SIGNALED_KINDS
+from meaning.numbers import (
+    NO_JOBS, NO_PROCESSES, PEER_CLOSED, READABLE, RIGHTS, SIGNALED, SIGNALS, SIGNALS_OF, TERMINATED, USER_SIGNALS,
+    USERS)
+from meaning.objects import PAIRS
+
+from .world import FAR, ROUND
 
 
 def end_name(world):
@@ -12,21 +15,22 @@ def end_name(world):
 
 def is_cut(world):
     """Whether a process has more local instructions ahead than the trace may have items."""
-    return any(process.state == "ready" and process.stop == FAR for process in world.processes.values())
+    return any(stop == FAR for _, stop in world.ready())
 
 
-def holders(world, koid, rights):
-    """The living processes that have a handle to the object with these rights."""
+def holders(world, koid, right=None):
+    """The living processes that have a handle to the object, with the right of this name if there is one."""
+    bit = RIGHTS[right] if right else 0
     return {pid for pid, process in world.processes.items() for entry in process.handles.values()
-            if entry.koid == koid and entry.rights & rights == rights}
+            if entry.koid == koid and entry.rights & bit == bit}
 
 
 def killers(world, koid):
     """Those that could kill the process or the job."""
     pids = set()
     while koid in world.objects:
-        pids |= holders(world, koid, DESTROY)
-        koid = world.objects[koid].above
+        pids |= holders(world, koid, "DESTROY")
+        koid = world.objects[koid].job
     return pids
 
 
@@ -38,12 +42,12 @@ def changers(world, koid, mask):
     pids = set()
     by_calls = mask & (USER_SIGNALS | (SIGNALED if thing.kind in SIGNALED_KINDS else 0))
     if by_calls:
-        pids |= holders(world, koid, SIGNAL)
-    if thing.kind in ("channel", "eventpair"):
-        pids |= holders(world, thing.peer, 0) if mask & PEER_CLOSED else set()
-        pids |= holders(world, thing.peer, SIGNAL_PEER) if by_calls else set()
+        pids |= holders(world, koid, "SIGNAL")
+    if thing.kind in PAIRS:
+        pids |= holders(world, thing.peer) if mask & PEER_CLOSED else set()
+        pids |= holders(world, thing.peer, "SIGNAL_PEER") if by_calls else set()
     if thing.kind == "channel":
-        pids |= holders(world, thing.peer, WRITE) if mask & READABLE else set()
+        pids |= holders(world, thing.peer, "WRITE") if mask & READABLE else set()
     elif thing.kind in ("process", "job"):
         pids |= killers(world, koid) if mask & (TERMINATED | NO_JOBS | NO_PROCESSES) else set()
         pids |= {pid for pid in world.processes if pid in world.objects and world.is_within(koid, pid)}
@@ -52,20 +56,26 @@ def changers(world, koid, mask):
 
 def bringers(world, pid):
     """The other living processes that could end the wait of a blocked one."""
-    koid, mask, _ = world.processes[pid].awaited
+    koid, mask, _ = world.processes[pid].awaits
     if mask is not None:
         pids = changers(world, koid, mask)
     else:
-        pids = holders(world, koid, WRITE)
+        pids = holders(world, koid, "WRITE")
         for wait in world.waits:
             if wait.port == koid:
-                pids |= changers(world, wait.object, wait.mask)
-    return {other for other in pids if other != pid and world.processes[other].lives()}
+                pids |= changers(world, wait.koid, wait.mask)
+    return {other for other in pids if other != pid and world.processes[other].lives}
+
+
+def signals_named(signals, kind):
+    """The names of these signals of an object of the kind."""
+    known = [name for name in (*SIGNALS_OF[kind], *USERS) if signals & SIGNALS[name]]
+    return " or ".join(known) if known else f"signals {signals}"
 
 
 def wait_text(world, pid, others):
     """What a blocked process waits for, and who could bring it."""
-    koid, mask, _ = world.processes[pid].awaited
+    koid, mask, _ = world.processes[pid].awaits
     if mask is None:
         what = f"in port_wait for a packet at port {koid}"
     elif mask == 0:
@@ -96,8 +106,7 @@ def end_reasons(world):
     lines = []
     if waits:
         lines.append(("deadlock: " if in_circle else "blocked for good: ") + "; ".join(waits))
-    rounds = [str(pid) for pid, process in world.processes.items()
-              if process.state == "ready" and process.stop == ROUND]
+    rounds = [str(pid) for pid, stop in world.ready() if stop == ROUND]
     if rounds:
         lines.append(f"goes round for ever without a call: {', '.join(rounds)}")
     return lines

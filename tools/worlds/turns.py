@@ -1,30 +1,30 @@
 """Turns taken in a world: what the trace has of them, and schedules as the lab reads them."""
-from .calls import do_call
-from .cpu import AT_CALL, AT_STUCK, ROUND
-from .numbers import STUCK
+from meaning.calls import perform
+from meaning.numbers import STUCK
+
+from .world import AT_CALL, AT_STUCK, ROUND
 
 
 def choices(world):
     """The processes that come to another call, or to their end, by turns of their own."""
-    return [pid for pid, process in world.processes.items()
-            if process.state == "ready" and process.stop in (AT_CALL, AT_STUCK)]
+    return [pid for pid, stop in world.ready() if stop in (AT_CALL, AT_STUCK)]
 
 
 def turns_to_call(world, pid):
     """How many turns take the process through its next call."""
-    return world.processes[pid].ahead + 1
+    return world.ahead[pid][0] + 1
 
 
 def go(world, pid):
     """Takes the process through its next call: what the trace says of it."""
-    process = world.processes[pid]
     world.items += turns_to_call(world, pid)
-    if process.stop == AT_STUCK:
+    _, stop = world.ahead.pop(pid)
+    if stop == AT_STUCK:
         world.end(pid, STUCK)
         said = f"{pid} stuck"
     else:
-        name = world.images[process.program].code[process.cpu.counter].name
-        said = f"{pid} {name} {do_call(world, pid)}"
+        one = world.processes[pid].cpu.next()
+        said = f"{pid} {one.name} {perform(world, pid, one).outcome}"
     world.follow()
     return said
 
@@ -35,10 +35,11 @@ def take_turns(world, pid, count):
         process = world.processes.get(pid)
         if process is None or process.state != "ready" or world.items >= world.limit:
             return
-        if process.ahead == 0 and process.stop in (AT_CALL, AT_STUCK):
+        ahead, stop = world.ahead[pid]
+        if ahead == 0 and stop in (AT_CALL, AT_STUCK):
             yield go(world, pid)
         else:
-            process.ahead -= process.stop != ROUND
+            world.ahead[pid] = ahead - (stop != ROUND), stop
             world.items += 1
             yield f"{pid} run 1"
 

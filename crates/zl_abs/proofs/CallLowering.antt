@@ -1,18 +1,18 @@
 -- The rules of the calls at a state and at one below it.
 use Rattle.zl_abs.proofs.Common.{ANY, AbsVal, Bool, CallInstr, Cause, Gives, Image, IsTrue, KNOWN_RIGHTS, Kind, List, None, Ok, Operand, Option, Rights}
-use Rattle.zl_abs.proofs.Common.{SAME_RIGHTS, Some, State, [], all_below, answers, are_distinct, are_words, arith, below, bit_and, bits, bound_at, bound_of}
-use Rattle.zl_abs.proofs.Common.{call_row, call_rule, copies, eqb, examined, examined_all, examined_by, false, fault_of, finished, gives, goes_on, has_one}
-use Rattle.zl_abs.proofs.Common.{if◌then◌else◌, is_declared, is_has, is_result, is_some, is_written, kind_below, narrowed_value, nat_tests, not, number_at}
-use Rattle.zl_abs.proofs.Common.{passes, range_fits, refl, rights_of, slice_index, state_after, stops, sum_fits, taken_from, takes_any, those, true, uses}
-use Rattle.zl_abs.proofs.Common.{uses_of, value_at, values_by, values_of, with_all, with_value, within, zip, ℕ, ◌&&◌, ◌++◌, ◌+◌, ◌||◌, ◌∷◌, ◌≡◌, ◌≤◌}
-use Rattle.zl_rights.specs.declared.policy.Condition.{Condition}
+use Rattle.zl_abs.proofs.Common.{SAME_RIGHTS, Some, State, [], all_below, and_parts, answers, are_distinct, are_words, arith, below, bit_and, bits, bound_at}
+use Rattle.zl_abs.proofs.Common.{bound_of, call_row, call_rule, copies, eqb, examined, examined_all, examined_by, false, fault_of, finished, gives, goes_on}
+use Rattle.zl_abs.proofs.Common.{has_one, if◌then◌else◌, is_declared, is_has, is_result, is_some, is_written, kind_below, narrowed_value, nat_tests, not}
+use Rattle.zl_abs.proofs.Common.{number_at, passes, range_fits, refl, rights_of, slice_index, state_after, stops, sum_fits, taken_from, takes_any, those, true}
+use Rattle.zl_abs.proofs.Common.{uses, uses_of, value_at, values_by, values_of, with_all, with_value, within, zip, ℕ, ◌&&◌, ◌++◌, ◌+◌, ◌||◌, ◌∷◌, ◌≡◌, ◌≤◌}
 use Rattle.zl_abs.specs.declared.value.AbsVal.TheVariants.{Word, Has, KindOf, RightsOf}
 use Rattle.zl_abs.specs.declared.cause.Cause.TheVariants as cause
 use Rattle.zl_abs.proofs.Order.{below_refl, same_kind_is, within_trans, within_refl}
-use Rattle.zl_abs.proofs.StateOrder.{both, and, all_below_refl}
+use Rattle.zl_abs.proofs.StateOrder.{and, all_below_refl}
 use Rattle.zl_abs.proofs.Lowering.{Lowers, IsBelow, WaysBelow, lowers_then, lowers_unless, not_kept, value_below, with_below, no_has, leb_le, le_leb}
 use Rattle.zl_abs.proofs.TestLowering.{has_parts, has_from, zero_of, tag_there}
-use Rattle.zl_abs.proofs.LocalLowering.{true_of, no_some}
+use Rattle.zl_abs.proofs.LocalLowering.{no_some}
+use Rattle.zl_code.proofs.Common.{Condition, not-false, or_parts}
 
 -- ---- handle operands
 
@@ -42,8 +42,8 @@ has_passes o m m2 k k2 r r2 h e =
     let f =
     three_faults (m2 && not o.may_be_zero) (not (takes_any o.kinds k2)) (not (within o.needed (bits r2))) cause.NotLive cause.WrongKind cause.LacksRight e in
     let a = maybe_kept m m2 o.may_be_zero p.0 f.0 in
-    let b = any_kept o.kinds k k2 p.1 (true_of _ f.1) in
-    let c = within_trans (bits r) (bits r2) o.needed p.2 (true_of _ f.2) in
+    let b = any_kept o.kinds k k2 p.1 (not-false _ f.1) in
+    let c = within_trans (bits r) (bits r2) o.needed p.2 (not-false _ f.2) in
     rw (a, b, c) refl
 
 zero_passes : (z m : Bool) → m ≡ true → (m && not z) ≡ false → z ≡ true
@@ -67,14 +67,14 @@ fault_below o (Word n) (Has m2 k2 r2) h e =
     three_faults (m2 && not o.may_be_zero) (not (takes_any o.kinds k2)) (not (within o.needed (bits r2))) cause.NotLive cause.WrongKind cause.LacksRight e in
     rw (z.0, zero_passes o.may_be_zero m2 z.1 f.0) refl
 fault_below o (Word m) (Word n) h e =
-    let p = both o.may_be_zero (eqb n 0) (word_passes (o.may_be_zero && eqb n 0) e) in
+    let p = and_parts o.may_be_zero (eqb n 0) (word_passes (o.may_be_zero && eqb n 0) e) in
     let q : eqb m 0 ≡ true = grind (arith, nat_tests) in
     rw (p.0, q) refl
 fault_below o (Word _) (KindOf _) h e = cc
 fault_below o (Word _) (RightsOf _) h e = cc
-fault_below o (KindOf _) (Word n) h e = absurd (tag_there n h ((both o.may_be_zero (eqb n 0) (word_passes (o.may_be_zero && eqb n 0) e)).1))
+fault_below o (KindOf _) (Word n) h e = absurd (tag_there n h ((and_parts o.may_be_zero (eqb n 0) (word_passes (o.may_be_zero && eqb n 0) e)).1))
 fault_below o (KindOf _) _ h e = cc
-fault_below o (RightsOf _) (Word n) h e = absurd (tag_there n h ((both o.may_be_zero (eqb n 0) (word_passes (o.may_be_zero && eqb n 0) e)).1))
+fault_below o (RightsOf _) (Word n) h e = absurd (tag_there n h ((and_parts o.may_be_zero (eqb n 0) (word_passes (o.may_be_zero && eqb n 0) e)).1))
 fault_below o (RightsOf _) _ h e = cc
 
 taken_below : (s t : State) (o : Operand) → IsBelow s t → IsBelow (taken_from s o) (taken_from t o)
@@ -114,7 +114,7 @@ bound_kept (Has _ _ _) (RightsOf _) h e = cc
 words_kept : (s t : State) (rs : List ℕ) → IsBelow s t → are_words t rs ≡ true → are_words s rs ≡ true
 words_kept s t [] h e = refl
 words_kept s t (r ∷ rs) h e =
-    let p = both (is_some (bound_at t r)) (are_words t rs) e in
+    let p = and_parts (is_some (bound_at t r)) (are_words t rs) e in
     and _ _ (bound_kept _ _ (value_below s t r h) p.0) (words_kept s t rs h p.1)
 
 abbrev BoundBelow : Option ℕ → Option ℕ → Type 0
@@ -169,17 +169,12 @@ same_distinct [] (y ∷ ys) h = absurd h
 same_distinct (x ∷ xs) [] h = absurd h
 same_distinct (x ∷ xs) (y ∷ ys) h = rw (h.0, same_result (y.0) xs ys (h.2), same_distinct xs ys (h.2)) refl
 
-or_false : (a b : Bool) → (a || b) ≡ false → (a ≡ false) × (b ≡ false)
-or_false false false e = (refl, refl)
-or_false false true e = cc
-or_false true b e = cc
-
 none_kept : (s t : State) (xs ys : List (ℕ × AbsVal)) → IsBelow s t → ResultsBelow xs ys → has_one t ys ≡ false → has_one s xs ≡ false
 none_kept s t [] [] h k e = refl
 none_kept s t [] (y ∷ ys) h k e = absurd k
 none_kept s t (x ∷ xs) [] h k e = absurd k
 none_kept s t (x ∷ xs) (y ∷ ys) h k e =
-    let p = or_false (is_has (value_at t (y.0))) (has_one t ys) e in
+    let p = or_parts (is_has (value_at t (y.0))) (has_one t ys) e in
     let q = no_has (value_at s (y.0)) (value_at t (y.0)) (value_below s t (y.0) h) (p.0) in
     rw (k.0, q, none_kept s t xs ys h (k.2) (p.1)) refl
 
@@ -254,7 +249,7 @@ zip_below [] vs ws more h = same_below more
 zip_below (r ∷ rs) [] [] more h = same_below more
 zip_below (r ∷ rs) [] (w ∷ ws) more h = cc
 zip_below (r ∷ rs) (v ∷ vs) [] more h = cc
-zip_below (r ∷ rs) (v ∷ vs) (w ∷ ws) more h = let p = both (below v w) (all_below vs ws) h in (refl, p.0, zip_below rs vs ws more p.1)
+zip_below (r ∷ rs) (v ∷ vs) (w ∷ ws) more h = let p = and_parts (below v w) (all_below vs ws) h in (refl, p.0, zip_below rs vs ws more p.1)
 
 status_first : (vs ws : List AbsVal) → IsTrue (all_below vs ws) → IsTrue (all_below (Word 30 ∷ vs) (Word 30 ∷ ws))
 unfolding all_below

@@ -1,8 +1,8 @@
 -- The rule of each instruction leads from a fine state to fine states.
 use Rattle.zl_abs.proofs.Common.{ANY, AbsVal, AllFine, Bool, CallInstr, Cause, Edge, Err, Fits, Gives, IfOk, IfSome, Image, Instr, IsFine, IsTrue, KNOWN_RIGHTS}
 use Rattle.zl_abs.proofs.Common.{Kind, List, LocalInstr, None, Ok, Operand, Option, Result, SAME_RIGHTS, SlotArray, Some, State, Uses, Ways, [], and_le_r}
-use Rattle.zl_abs.proofs.Common.{and_then, are_distinct, are_words, arith, bit_and, bits, call_reading, call_rule, capped, computes, copies, edge_to, edges}
-use Rattle.zl_abs.proofs.Common.{eqb, examined, examined_all, examined_by, false, fault_of, gives, goes_on, has_one, if◌then◌else◌, in_memory, instr_at}
+use Rattle.zl_abs.proofs.Common.{and_parts, and_then, are_distinct, are_words, arith, bit_and, bits, call_reading, call_rule, capped, computes, copies, edge_to}
+use Rattle.zl_abs.proofs.Common.{edges, eqb, examined, examined_all, examined_by, false, fault_of, gives, goes_on, has_one, if◌then◌else◌, in_memory, instr_at}
 use Rattle.zl_abs.proofs.Common.{is_call_in_range, is_declared, is_has, is_in_range, is_instr_in_range, is_local_in_range, is_room, is_slot_in_range}
 use Rattle.zl_abs.proofs.Common.{least_from, leb, length, list_all, loads, local_parts, local_rule, ltb, makes, map, may_move, moved, names_registers}
 use Rattle.zl_abs.proofs.Common.{narrowed_value, nat_tests, new, not, nothing, number_at, packet, packet_values, passes, range_fits, ranges, received_in, refl}
@@ -16,9 +16,9 @@ use Rattle.zl_code.specs.declared.layout.Ending.{Ending}
 use Rattle.zl_code.specs.declared.layout.Ending.TheVariants as ending
 use Rattle.zl_abs.specs.declared.value.AbsVal.TheVariants.{Word, Has, KindOf, RightsOf}
 use Rattle.zl_abs.specs.declared.cause.Cause.TheVariants as cause
-use Rattle.zl_abs.proofs.StateOrder.{both}
 use Rattle.zl_abs.proofs.FineStates.{Suits, Named, is_plain, named_self, named_there, plain_suits, fine_with, fine_moved, rights_fit}
 use Rattle.zl_abs.proofs.FineTests.{FineWays, then_fine, IsBound, word_fine, zero_fine, equal_fine, below_fine, has_fine}
+use Rattle.zl_code.proofs.Common.{not-false}
 
 if_fine : {B : Type 0} (Q : B → Type 0) (t : Bool) (x : Result B Cause) (c : Cause) → IfOk x Q → IfOk (if t then x else Err c) Q
 if_fine Q true x c h = h
@@ -66,11 +66,7 @@ stores_fine i s n a b offset h = two s a b _ h (λ m x. if_fine FineWays (in_mem
 -- ---- moves
 
 may_named : (v : AbsVal) → not (may_move v) ≡ false → Named v
-may_named (Word m) h = by (eqb m 0) h
-  where
-    by : (t : Bool) → not t ≡ false → t ≡ true
-    by true e = refl
-    by false e = cc
+may_named (Word m) h = not-false (eqb m 0) h
 may_named (Has a k q) h = refl
 may_named _ h = cc
 
@@ -92,9 +88,9 @@ swaps_fine s a b (Some t) h k = one s b _ h (λ place. if_fine FineWays (ltb pla
 slots_fit : (slots : List SlotArray) (n : ℕ) → list_all is_slot_in_range slots ≡ true → IfSome (slice_get slots n) (λ t. Fits (slot_value t))
 slots_fit [] n h = tt
 slots_fit (t ∷ slots) zero h =
-    let p = (both (is_slot_in_range t) (list_all is_slot_in_range slots) h).0 in
-    rights_fit t.kind (bits t.rights) (both _ _ (both _ _ p).1).1
-slots_fit (t ∷ slots) (suc n) h = slots_fit slots n (both (is_slot_in_range t) (list_all is_slot_in_range slots) h).1
+    let p = (and_parts (is_slot_in_range t) (list_all is_slot_in_range slots) h).0 in
+    rights_fit t.kind (bits t.rights) (and_parts _ _ (and_parts _ _ p).1).1
+slots_fit (t ∷ slots) (suc n) h = slots_fit slots n (and_parts (is_slot_in_range t) (list_all is_slot_in_range slots) h).1
 
 -- ---- the local instructions
 
@@ -263,11 +259,11 @@ edges_fine size place target w h =
 
 -- ---- the rule
 
-in_range_at : (raw : Bool) (code : List Instr) (n : ℕ) → list_all (is_instr_in_range raw) code ≡ true
+pub in_range_at : (raw : Bool) (code : List Instr) (n : ℕ) → list_all (is_instr_in_range raw) code ≡ true
     → IfSome (slice_get code n) (λ x. is_instr_in_range raw x ≡ true)
 in_range_at raw [] n h = tt
-in_range_at raw (x ∷ code) zero h = (both (is_instr_in_range raw x) (list_all (is_instr_in_range raw) code) h).0
-in_range_at raw (x ∷ code) (suc n) h = in_range_at raw code n (both (is_instr_in_range raw x) (list_all (is_instr_in_range raw) code) h).1
+in_range_at raw (x ∷ code) zero h = (and_parts (is_instr_in_range raw x) (list_all (is_instr_in_range raw) code) h).0
+in_range_at raw (x ∷ code) (suc n) h = in_range_at raw code n (and_parts (is_instr_in_range raw x) (list_all (is_instr_in_range raw) code) h).1
 
 by_instr : (bounds : List ℕ) (i : Image) (n : ℕ) (s : State) (o : Option Instr) → IsTrue (is_in_range i) → IfSome o (λ x. is_instr_in_range i.raw x ≡ true)
     → IsFine s → IfOk (rule_by bounds i n s o) AllFine

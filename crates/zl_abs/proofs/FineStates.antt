@@ -1,12 +1,11 @@
 -- Fine states: what may be written in one, the join of two, and the start.
 use Rattle.zl_abs.proofs.Common.{ANY, AbsVal, Bool, Decides-eqb, Fits, IfSome, Image, IsFine, IsTrue, Kind, List, None, Option, Some, Start, State, []}
-use Rattle.zl_abs.proofs.Common.{all_joined, and_le_l, ap, arith, bit_and, bits, can_be_named, cons_if, eqb, false, get_or-set_other, if◌then◌else◌}
+use Rattle.zl_abs.proofs.Common.{all_joined, and_le_l, and_parts, ap, arith, bit_and, bits, can_be_named, cons_if, eqb, false, get_or-set_other, if◌then◌else◌}
 use Rattle.zl_abs.proofs.Common.{is_in_range, is_named_well, is_start_in_range, joined, larger, length, length-map, length-set, list_all, map, moved, nat_tests}
 use Rattle.zl_abs.proofs.Common.{ranges, refined, refl, replicate, retagged, rights_allowed, slice_set, start_results, start_state, start_value, starts_from}
 use Rattle.zl_abs.proofs.Common.{subst, suc, sym, true, untagged, value_at, with_all, with_value, within, zero, ℕ, ◌+◌, ◌<◌, ◌∙◌, ◌∷◌, ◌≡◌, ◌≤◌}
 use Rattle.zl_rights.specs.declared.kind.Kind.TheVariants as kind
 use Rattle.zl_abs.specs.declared.value.AbsVal.TheVariants.{Word, Has, KindOf, RightsOf}
-use Rattle.zl_abs.proofs.StateOrder.{both}
 
 -- ---- registers of a state that was written
 
@@ -26,7 +25,7 @@ set_self P (a ∷ s) (suc r) v h k = set_self P s r v h k
 pub set_other : (s : State) (r q : ℕ) (v : AbsVal) → eqb q r ≡ false → value_at (slice_set s r v) q ≡ value_at s q
 set_other s r q v e = get_or-set_other s r q v (Word 0) (λ p. let y = (Decides-eqb q r).1 p in let z : true ≡ false = sym y ∙ e in cc)
 
-mapped_at : (f : AbsVal → AbsVal) → f (Word 0) ≡ Word 0 → (s : State) (q : ℕ) → value_at (map f s) q ≡ f (value_at s q)
+pub mapped_at : (f : AbsVal → AbsVal) → f (Word 0) ≡ Word 0 → (s : State) (q : ℕ) → value_at (map f s) q ≡ f (value_at s q)
 mapped_at f z [] q = sym z
 mapped_at f z (a ∷ s) zero = refl
 mapped_at f z (a ∷ s) (suc q) = mapped_at f z s q
@@ -351,13 +350,13 @@ start_fits x h = rights_fit x.kind (bits x.rights) h
 starts_plain : (r : ℕ) (xs : List Start) → list_all is_start_in_range xs ≡ true → ArePlain (starts_from r xs)
 starts_plain r [] h = tt
 starts_plain r (x ∷ xs) h =
-    let p = both (is_start_in_range x) (list_all is_start_in_range xs) h in
+    let p = and_parts (is_start_in_range x) (list_all is_start_in_range xs) h in
     (refl, start_fits x p.0, starts_plain (r + 1) xs p.1)
 
 results_plain : (xs : List Start) → list_all is_start_in_range xs ≡ true → ArePlain (start_results xs)
 results_plain [] h = (refl, (omega arith), tt)
 results_plain (x ∷ xs) h =
-    let p = both (is_start_in_range x) (list_all is_start_in_range xs) h in
+    let p = and_parts (is_start_in_range x) (list_all is_start_in_range xs) h in
     (refl, start_fits x p.0, (refl, omega arith, starts_plain 2 xs p.1))
 
 pub start_fine : (i : Image) → IsTrue (is_in_range i) → IsFine (start_state i)

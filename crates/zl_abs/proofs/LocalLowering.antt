@@ -1,18 +1,18 @@
 -- The rules of the local instructions at a state and at one below it.
 use Rattle.zl_abs.proofs.Common.{ANY, AbsVal, Bool, Cause, Decides-eqb, Image, IsTrue, Kind, List, LocalInstr, None, Ok, Option, Result, Rights, SlotArray}
-use Rattle.zl_abs.proofs.Common.{Some, State, Ways, and_then, arith, below, bits, capped, eqb, false, if◌then◌else◌, in_memory, is_has, kind_below, le-div, leb}
-use Rattle.zl_abs.proofs.Common.{loads, local_rule, ltb, may_move, moved, nat_tests, not, passes, pow_pos, refl, shifted, slice_get, slot_fault, slot_value}
-use Rattle.zl_abs.proofs.Common.{smaller, stores, swaps_by, swaps_in, takes, true, unless, value_at, within, word_at, ℕ, ◌&&◌, ◌+◌, ◌/◌, ◌<◌, ◌^◌, ◌||◌, ◌≡◌}
-use Rattle.zl_abs.proofs.Common.{◌≤◌}
+use Rattle.zl_abs.proofs.Common.{Some, State, Ways, and_parts, and_then, arith, below, bits, capped, eqb, false, if◌then◌else◌, in_memory, is_has, kind_below}
+use Rattle.zl_abs.proofs.Common.{le-div, leb, loads, local_rule, ltb, may_move, moved, nat_tests, not, passes, pow_pos, refl, shifted, slice_get, slot_fault}
+use Rattle.zl_abs.proofs.Common.{slot_value, smaller, stores, swaps_by, swaps_in, takes, true, unless, value_at, within, word_at, ℕ, ◌&&◌, ◌+◌, ◌/◌, ◌<◌, ◌^◌}
+use Rattle.zl_abs.proofs.Common.{◌||◌, ◌≡◌, ◌≤◌}
 use Rattle.std.proofs.Math.Nat.{div-mul-le_self}
 use Rattle.zl_code.specs.declared.instr.LocalInstr.TheVariants as local
 use Rattle.zl_abs.specs.declared.value.AbsVal.TheVariants.{Word, Has, KindOf, RightsOf}
 use Rattle.zl_abs.specs.declared.cause.Cause.TheVariants as cause
 use Rattle.zl_abs.proofs.Order.{below_refl, kind_trans, within_trans, parts}
-use Rattle.zl_abs.proofs.StateOrder.{both}
 use Rattle.zl_abs.proofs.Lowering.{Lowers, IsBelow, WaysBelow, lowers_then, lowers_if, lowers_unless, not_kept, value_below, with_below, moved_below, no_has}
 use Rattle.zl_abs.proofs.Lowering.{leb_le, le_leb, word_at_below, writes_below, computes_below}
 use Rattle.zl_abs.proofs.TestLowering.{zero_below, equal_below, below_below, has_below}
+use Rattle.zl_code.proofs.Common.{not-false}
 
 abbrev Le : ℕ → ℕ → Type 0
 Le m n = m ≤ n
@@ -59,7 +59,7 @@ tag_apart n h k = let z : n ≡ 0 = (Decides-eqb n 0).0 k in let b : leb ANY 0 �
 move_below : (v w : AbsVal) → IsTrue (below v w) → may_move w ≡ true → may_move v ≡ true
 unfolding below
 move_below (Word m) (Word n) h k = grind (arith, nat_tests)
-move_below (Word m) (Has x y z) h k = (both (eqb m 0) x h).0
+move_below (Word m) (Has x y z) h k = (and_parts (eqb m 0) x h).0
 move_below (Word m) _ h k = cc
 move_below (Has _ _ _) w h k = refl
 move_below (KindOf _) (Word n) h k = absurd (tag_apart n h k)
@@ -86,17 +86,13 @@ two_faults true q c d e = cc
 two_faults false true c d e = cc
 two_faults false false c d e = (refl, refl)
 
-pub true_of : (b : Bool) → not b ≡ false → b ≡ true
-true_of true e = refl
-true_of false e = cc
-
 has_enters : (x : SlotArray) (m m2 : Bool) (k k2 : Option Kind) (r r2 : Rights) → ((not m || m2) && (kind_below k k2 && within (bits r2) (bits r))) ≡ true
     → slot_fault x (Has m2 k2 r2) ≡ None → slot_fault x (Has m k r) ≡ None
 has_enters x m m2 k k2 r r2 h e =
     let p = parts (not m || m2) (kind_below k k2) (within (bits r2) (bits r)) h in
     let f = two_faults (not (kind_below k2 x.kind)) (not (within (bits x.rights) (bits r2))) cause.WrongKind cause.LacksRight e in
-    let a = kind_trans k k2 x.kind p.1 (true_of _ f.0) in
-    let b = within_trans (bits r) (bits r2) (bits x.rights) p.2 (true_of _ f.1) in
+    let a = kind_trans k k2 x.kind p.1 (not-false _ f.0) in
+    let b = within_trans (bits r) (bits r2) (bits x.rights) p.2 (not-false _ f.1) in
     rw (a, b) refl
 
 word_enters : (t : Bool) (c : Cause) → (if t then None else Some c) ≡ None → t ≡ true
@@ -106,7 +102,7 @@ word_enters false c e = cc
 enters_below : (x : SlotArray) (v w : AbsVal) → IsTrue (below v w) → slot_fault x w ≡ None → slot_fault x v ≡ None
 unfolding below
 enters_below x (Word m) (Word n) h e = let z = word_enters (eqb n 0) cause.NotLive e in let y : eqb m 0 ≡ true = grind (arith, nat_tests) in rw y refl
-enters_below x (Word m) (Has b k r) h e = let y = (both (eqb m 0) b h).0 in rw y refl
+enters_below x (Word m) (Has b k r) h e = let y = (and_parts (eqb m 0) b h).0 in rw y refl
 enters_below x (Word m) _ h e = cc
 enters_below x (Has m k r) (Has m2 k2 r2) h e = has_enters x m m2 k k2 r r2 h e
 enters_below x (Has _ _ _) (Word _) h e = cc
@@ -137,7 +133,7 @@ swaps_below s t a b (Some x) h =
 div_kept : (m n k : ℕ) → 0 < k → m ≤ n → m / k ≤ n / k
 div_kept m n k p h = le-div (m / k) n k p (let e = div-mul-le_self m k in omega arith)
 
-shifted_below : (m m2 places : ℕ) → m ≤ m2 → shifted m places ≤ shifted m2 places
+pub shifted_below : (m m2 places : ℕ) → m ≤ m2 → shifted m places ≤ shifted m2 places
 shifted_below m m2 places h = by (ltb places 64)
   where
     by : (t : Bool) → (if t then m / 2 ^ places else 0) ≤ (if t then m2 / 2 ^ places else 0)

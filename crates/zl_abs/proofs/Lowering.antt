@@ -1,11 +1,11 @@
 -- Where a state is below another, so is what a rule writes there.
-use Rattle.zl_abs.proofs.Common.{ANY, AbsVal, Bool, Cause, Decides-eqb, Err, IsTrue, List, None, Ok, Option, Result, Some, State, Ways, [], all_below, and_then}
-use Rattle.zl_abs.proofs.Common.{arith, below, bound_of, computes, eqb, false, if◌then◌else◌, is_has, least_from, leb, ltb, map, moved, nat_tests, not, passes}
-use Rattle.zl_abs.proofs.Common.{refl, retagged, rounded, slice_set, suc, true, untagged, value_at, with_value, word_at, word_or, writes, zero, ℕ, ◌&&◌, ◌∷◌}
-use Rattle.zl_abs.proofs.Common.{◌≡◌, ◌≤◌}
+use Rattle.zl_abs.proofs.Common.{ANY, AbsVal, Bool, Cause, Decides-eqb, Err, IsTrue, List, None, Ok, Option, Result, Some, State, Ways, [], all_below}
+use Rattle.zl_abs.proofs.Common.{and_parts, and_then, arith, below, bound_of, computes, eqb, false, if◌then◌else◌, is_has, least_from, leb, ltb, map, moved}
+use Rattle.zl_abs.proofs.Common.{nat_tests, not, passes, refl, retagged, rounded, slice_set, suc, true, untagged, value_at, with_value, word_at, word_or}
+use Rattle.zl_abs.proofs.Common.{writes, zero, ℕ, ◌&&◌, ◌∷◌, ◌≡◌, ◌≤◌}
 use Rattle.zl_abs.specs.declared.value.AbsVal.TheVariants.{Word, Has, KindOf, RightsOf}
 use Rattle.zl_abs.proofs.Order.{below_refl}
-use Rattle.zl_abs.proofs.StateOrder.{both, and}
+use Rattle.zl_abs.proofs.StateOrder.{and}
 
 -- ---- rules that hold
 
@@ -59,16 +59,16 @@ unfolding all_below
 value_below [] [] r h = below_refl (Word 0)
 value_below [] (b ∷ t) r h = cc
 value_below (a ∷ s) [] r h = cc
-value_below (a ∷ s) (b ∷ t) zero h = (both (below a b) (all_below s t) h).0
-value_below (a ∷ s) (b ∷ t) (suc r) h = value_below s t r ((both (below a b) (all_below s t) h).1)
+value_below (a ∷ s) (b ∷ t) zero h = (and_parts (below a b) (all_below s t) h).0
+value_below (a ∷ s) (b ∷ t) (suc r) h = value_below s t r ((and_parts (below a b) (all_below s t) h).1)
 
 pub set_below : (s t : State) (r : ℕ) (v w : AbsVal) → IsBelow s t → IsTrue (below v w) → IsBelow (slice_set s r v) (slice_set t r w)
 unfolding all_below
 set_below [] [] r v w h k = h
 set_below [] (b ∷ t) r v w h k = cc
 set_below (a ∷ s) [] r v w h k = cc
-set_below (a ∷ s) (b ∷ t) zero v w h k = and _ _ k ((both (below a b) (all_below s t) h).1)
-set_below (a ∷ s) (b ∷ t) (suc r) v w h k = and _ _ ((both (below a b) (all_below s t) h).0) (set_below s t r v w ((both (below a b) (all_below s t) h).1) k)
+set_below (a ∷ s) (b ∷ t) zero v w h k = and _ _ k ((and_parts (below a b) (all_below s t) h).1)
+set_below (a ∷ s) (b ∷ t) (suc r) v w h k = let p = and_parts (below a b) (all_below s t) h in and _ _ p.0 (set_below s t r v w p.1 k)
 
 -- the lower state has already what the upper gets
 pub set_above : (s t : State) (r : ℕ) (w : AbsVal) → IsBelow s t → IsTrue (below (value_at s r) w) → IsBelow s (slice_set t r w)
@@ -76,8 +76,8 @@ unfolding all_below
 set_above [] [] r w h k = h
 set_above [] (b ∷ t) r w h k = cc
 set_above (a ∷ s) [] r w h k = cc
-set_above (a ∷ s) (b ∷ t) zero w h k = and _ _ k ((both (below a b) (all_below s t) h).1)
-set_above (a ∷ s) (b ∷ t) (suc r) w h k = and _ _ ((both (below a b) (all_below s t) h).0) (set_above s t r w ((both (below a b) (all_below s t) h).1) k)
+set_above (a ∷ s) (b ∷ t) zero w h k = and _ _ k ((and_parts (below a b) (all_below s t) h).1)
+set_above (a ∷ s) (b ∷ t) (suc r) w h k = let p = and_parts (below a b) (all_below s t) h in and _ _ p.0 (set_above s t r w p.1 k)
 
 -- more is known below
 pub set_under : (s t : State) (r : ℕ) (v : AbsVal) → IsBelow s t → IsTrue (below v (value_at t r)) → IsBelow (slice_set s r v) t
@@ -85,8 +85,8 @@ unfolding all_below
 set_under [] [] r v h k = h
 set_under [] (b ∷ t) r v h k = cc
 set_under (a ∷ s) [] r v h k = cc
-set_under (a ∷ s) (b ∷ t) zero v h k = and _ _ k ((both (below a b) (all_below s t) h).1)
-set_under (a ∷ s) (b ∷ t) (suc r) v h k = and _ _ ((both (below a b) (all_below s t) h).0) (set_under s t r v ((both (below a b) (all_below s t) h).1) k)
+set_under (a ∷ s) (b ∷ t) zero v h k = and _ _ k ((and_parts (below a b) (all_below s t) h).1)
+set_under (a ∷ s) (b ∷ t) (suc r) v h k = let p = and_parts (below a b) (all_below s t) h in and _ _ p.0 (set_under s t r v p.1 k)
 
 pub map_below : (f : AbsVal → AbsVal) → ((v w : AbsVal) → IsTrue (below v w) → IsTrue (below (f v) (f w))) → (s t : State) → IsBelow s t
     → IsBelow (map f s) (map f t)
@@ -94,7 +94,7 @@ unfolding all_below
 map_below f kept [] [] h = h
 map_below f kept [] (b ∷ t) h = cc
 map_below f kept (a ∷ s) [] h = cc
-map_below f kept (a ∷ s) (b ∷ t) h = and _ _ (kept a b ((both (below a b) (all_below s t) h).0)) (map_below f kept s t ((both (below a b) (all_below s t) h).1))
+map_below f kept (a ∷ s) (b ∷ t) h = let p = and_parts (below a b) (all_below s t) h in and _ _ (kept a b p.0) (map_below f kept s t p.1)
 
 -- a tag that gets this or that, below a word
 tag_word : (t : Bool) (v w u : AbsVal) → IsTrue (below v u) → IsTrue (below w u) → IsTrue (below (if t then v else w) u)

@@ -5,6 +5,7 @@ use Rattle.zl_abs.proofs.Common.{length, nat_tests, not, refl, same_kind, subst,
 use Rattle.zl_abs.proofs.Common.{◌≡◌, ◌≢◌, ◌≤◌, ◌⊎◌}
 use Rattle.zl_abs.specs.declared.value.AbsVal.TheVariants.{Word, Has, KindOf, RightsOf}
 use Rattle.zl_abs.proofs.Order.{same_kind_is, same_kind_refl}
+use Rattle.std.proofs.lemmas.Bool.{and_cases}
 
 -- ---- what it is
 
@@ -162,11 +163,6 @@ abbrev AllLessens : State → State → Option State → Type 0
 AllLessens s t None = Unit {0}
 AllLessens s t (Some u) = (room u ≤ room s) × (all_below t s ≡ false → room u < room s)
 
-and_false : (a b : Bool) → (a && b) ≡ false → (a ≡ false) ⊎ (b ≡ false)
-and_false false b h = inl refl
-and_false true false h = inr refl
-and_false true true h = cc
-
 all_lessens : (s t : State) → ((r : ℕ) → Fits (value_at s r)) → ((r : ℕ) → Fits (value_at t r)) → AllLessens s t (all_joined s t)
 unfolding all_joined all_below room
 all_lessens [] [] f g = (omega arith, (λ h. cc))
@@ -179,7 +175,7 @@ all_lessens (a ∷ s) (b ∷ t) f g = by (joined a b) (all_joined s t) (lessens 
     by (Some v) None h k = tt
     by (Some v) (Some u) h k = (
       omega (arith, h.0, k.0),
-      (λ e. elim (and_false (below b a) (all_below t s) e) [ inl x ↦ (let y = h.1 x in omega (arith, k.0)) | inr x ↦ (let y = k.1 x in omega (arith, h.0)) ]),
+      (λ e. elim (and_cases (below b a) (all_below t s) e) [ inl x ↦ (let y = h.1 x in omega (arith, k.0)) | inr x ↦ (let y = k.1 x in omega (arith, h.0)) ]),
     )
 
 -- a join with what isn't below takes some of the room

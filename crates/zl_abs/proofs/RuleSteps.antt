@@ -4,6 +4,7 @@ use Rattle.zl_abs.proofs.Common.{call_in, call_rule, edges, instr_at, is_call_in
 use Rattle.zl_abs.proofs.Common.{none-some, ranges, refl, rule_by, rule_with, same_Some, slice_get, suc, sym, target_of, true, zero, ℕ, ◌<◌, ◌∷◌, ◌≡◌, ◌≤◌}
 use Rattle.zl_code.specs.declared.instr.Instr.TheVariants as instr
 use Rattle.zl_abs.specs.declared.cause.Cause.TheVariants as cause
+use Rattle.std.proofs.lemmas.Option.{slice_get_past}
 
 local_by : (bounds : List ℕ) (i : Image) (n : ℕ) (s : State) (o : Option Instr) (x : LocalInstr) → Some x ≡ local_in o
     → rule_by bounds i n s o ≡ and_then (local_rule bounds i x s) (edges (length i.code) n (target_of x))
@@ -34,11 +35,6 @@ get_some [] n h e = absurd (omega arith)
 get_some (x ∷ xs) zero h e = none-some x e
 get_some (x ∷ xs) (suc n) h e = get_some xs n (omega arith) e
 
-get_none : {A : Type 0} (xs : List A) (n : ℕ) → length xs ≤ n → slice_get xs n ≡ None
-get_none [] n h = refl
-get_none (x ∷ xs) zero h = absurd (omega arith)
-get_none (x ∷ xs) (suc n) h = get_none xs n (omega arith)
-
 unknown_by : (bounds : List ℕ) (i : Image) (n : ℕ) (s : State) (o : Option Instr) → (None ≡ o → ⊥) → None ≡ local_in o → None ≡ call_in o
     → rule_by bounds i n s o ≡ Err cause.IllegalOp
 unknown_by bounds i n s None h e k = absurd (h refl)
@@ -53,7 +49,7 @@ unknown_there bounds i n s h e k = sym (unknown_by bounds i n s (instr_at i n) (
 
 pub nothing_there : (bounds : List ℕ) (i : Image) (n : ℕ) (s : State) → length i.code ≤ n → Err cause.FallsOff ≡ rule_with bounds i n s
 unfolding rule_with
-nothing_there bounds i n s h = rw (get_none i.code n h) refl
+nothing_there bounds i n s h = rw (slice_get_past i.code n h) refl
 
 -- ---- a call of an image is in range
 

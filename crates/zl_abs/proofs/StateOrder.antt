@@ -1,12 +1,7 @@
 -- The order of states, and that their join is the least above both.
 use Rattle.zl_abs.proofs.Common.{AbsVal, AllAboveJoin, Bool, IsAboveJoin, IsTrue, JoinIsAbove, JoinIsAllAbove, List, None, Option, Some, [], all_below}
-use Rattle.zl_abs.proofs.Common.{all_joined, below, cons_if, false, joined, refl, true, ◌&&◌, ◌∷◌, ◌≡◌}
+use Rattle.zl_abs.proofs.Common.{all_joined, and_parts, below, cons_if, joined, refl, true, ◌&&◌, ◌∷◌, ◌≡◌}
 use Rattle.zl_abs.proofs.Order.{below_refl, below_trans, joined_left, joined_right, joined_least}
-
-pub both : (a b : Bool) → (a && b) ≡ true → (a ≡ true) × (b ≡ true)
-both true true h = (refl, refl)
-both true false h = cc
-both false _ h = cc
 
 pub and : (a b : Bool) → a ≡ true → b ≡ true → (a && b) ≡ true
 and a b p q = rw (p, q) refl
@@ -23,8 +18,8 @@ all_below_trans [] (b ∷ t) u h k = cc
 all_below_trans (a ∷ s) [] u h k = cc
 all_below_trans (a ∷ s) (b ∷ t) [] h k = cc
 all_below_trans (a ∷ s) (b ∷ t) (c ∷ u) h k =
-    let p = both (below a b) (all_below s t) h in
-    let q = both (below b c) (all_below t u) k in
+    let p = and_parts (below a b) (all_below s t) h in
+    let q = and_parts (below b c) (all_below t u) k in
     and _ _ (below_trans a b c p.0 q.0) (all_below_trans s t u p.1 q.1)
 
 pub all_joined_left : (s t : List AbsVal) → JoinIsAllAbove s (all_joined s t)
@@ -60,8 +55,8 @@ all_joined_least (a ∷ s) [] [] h k = cc
 all_joined_least (a ∷ s) [] (c ∷ d) h k = cc
 all_joined_least (a ∷ s) (b ∷ t) [] h k = cc
 all_joined_least (a ∷ s) (b ∷ t) (c ∷ d) h k =
-    let p = both (below a c) (all_below s d) h in
-    let q = both (below b c) (all_below t d) k in
+    let p = and_parts (below a c) (all_below s d) h in
+    let q = and_parts (below b c) (all_below t d) k in
     by (joined a b) (all_joined s t) (joined_least a b c p.0 q.0) (all_joined_least s t d p.1 q.1)
   where
     by : (o : Option AbsVal) (p : Option (List AbsVal)) → IsAboveJoin c o → AllAboveJoin d p → AllAboveJoin (c ∷ d) (cons_if o p)

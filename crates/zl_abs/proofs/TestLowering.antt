@@ -1,11 +1,11 @@
 -- What the tests of jumps teach, at a state and at one below it.
-use Rattle.zl_abs.proofs.Common.{ANY, AbsVal, Bool, Decides-eqb, IsTrue, KNOWN_RIGHTS, Kind, None, Option, Rights, Some, State, Ways, ap, arith, becomes, below}
-use Rattle.zl_abs.proofs.Common.{below_ways, bit_or, bits, capped, eqb, equal_ways, false, has_ways, if◌then◌else◌, kind_below, kind_numbered, kind_ways}
-use Rattle.zl_abs.proofs.Common.{known_kind, known_other, known_rights, known_there, known_zero, leb, ltb, nat_tests, not, refined, refl, rights_of, same_kind}
-use Rattle.zl_abs.proofs.Common.{smaller, subst, true, value_at, within, word_at, zero_ways, ℕ, ◌&&◌, ◌-◌, ◌<◌, ◌||◌, ◌∙◌, ◌≡◌, ◌≤◌}
+use Rattle.zl_abs.proofs.Common.{ANY, AbsVal, Bool, Decides-eqb, IsTrue, KNOWN_RIGHTS, Kind, None, Option, Rights, Some, State, Ways, and_parts, ap, arith}
+use Rattle.zl_abs.proofs.Common.{becomes, below, below_ways, bit_or, bits, capped, eqb, equal_ways, false, has_ways, if◌then◌else◌, kind_below, kind_numbered}
+use Rattle.zl_abs.proofs.Common.{kind_ways, known_kind, known_other, known_rights, known_there, known_zero, leb, ltb, nat_tests, not, refined, refl, rights_of}
+use Rattle.zl_abs.proofs.Common.{same_kind, smaller, subst, true, value_at, within, word_at, zero_ways, ℕ, ◌&&◌, ◌-◌, ◌<◌, ◌||◌, ◌∙◌, ◌≡◌, ◌≤◌}
 use Rattle.zl_abs.specs.declared.value.AbsVal.TheVariants.{Word, Has, KindOf, RightsOf}
 use Rattle.zl_abs.proofs.Order.{below_refl, kind_trans, kind_refl, within_refl, parts, three, same_kind_is}
-use Rattle.zl_abs.proofs.StateOrder.{both, all_below_refl, all_below_trans}
+use Rattle.zl_abs.proofs.StateOrder.{all_below_refl, all_below_trans}
 use Rattle.zl_abs.proofs.Lowering.{Lowers, IsBelow, WayBelow, WaysBelow, lowers_then, value_below, set_below, set_above, set_under, leb_le, word_at_below}
 use Rattle.zl_abs.proofs.Lowering.{word_below}
 use Rattle.zl_abs.proofs.RightsLowering.{within_gained, within_more}
@@ -28,7 +28,7 @@ zero_zero = below_refl (Word 0)
 -- a word below a handle is 0
 pub zero_of : (m : ℕ) (b : Bool) (k : Option Kind) (r : Rights) → IsTrue (below (Word m) (Has b k r)) → (m ≡ 0) × (b ≡ true)
 unfolding below
-zero_of m b k r h = let p = both (eqb m 0) b h in ((Decides-eqb m 0).0 p.0, p.1)
+zero_of m b k r h = let p = and_parts (eqb m 0) b h in ((Decides-eqb m 0).0 p.0, p.1)
 
 lt_of : (m n : ℕ) → ltb m n ≡ true → m < n
 lt_of m n h = grind (arith, nat_tests)

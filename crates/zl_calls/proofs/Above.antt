@@ -3,3 +3,4 @@ pub use Rattle.zl_calls.proofs.booting.BootMaking.{done}
 pub use Rattle.zl_calls.proofs.waking.BlockedLists.{none_filtered}
 pub use Rattle.zl_calls.proofs.stepping.StepItems.{asked_next}
 pub use Rattle.zl_calls.proofs.waking.WakeLoop.{removed_one}
+pub use Rattle.zl_calls.proofs.stepping.HandlesStay.{still_free}

@@ -84,11 +84,12 @@ impl World {
     /// `NeedDenied` where the policy of the job doesn't allow what a checked program needs; else
     /// `BadState` for the policy of a job in which a job or a process lives; else `Conflict` for an
     /// action where another is set; else `Limit` for the 65th process, for the 17th level of jobs,
-    /// or where fewer koids up to 1,024 are left than the statement takes, two for a channel, none
-    /// for a policy and one for any other. A statement without a fault may be refused with `Limit` for
-    /// a handle behind its first, as no clause says which value a new table then offers. A limit of the trace above `Boot::MOST_ITEMS` is `Limit`
-    /// of a statement one past the last. `NoMemory` may come at any statement, and for the root job
-    /// and the room for blocked processes as of statement 0, which need not be there.
+    /// or where fewer koids up to 1,024 are left than the statement takes, two for a channel or an
+    /// event pair, none for a policy and one for any other. A statement without a fault may be refused
+    /// with `Limit` for a handle behind its first, as no clause says which value a new table then
+    /// offers. A limit of the trace above `Boot::MOST_ITEMS` is `Limit` of a statement one past the
+    /// last. `NoMemory` may come at any statement, and for the root job and the room for blocked
+    /// processes as of statement 0, which need not be there.
     pub fn boot(alloc: Global, library: Library, boot: &Boot) -> Result<World, BootFault>
         ensures ok { IfOk result (λ world. IsBoot library boot.now.statements.items world.world) }
         ensures sized { IfOk result

@@ -35,26 +35,26 @@ module _ (p q : ℕ) (apart : (p == q) ≡ false) where
   unfolding on_process
   on_other w f = get-update w.processes p f q ∙ rw apart refl
 
-  ended_other : (w : World) (code : _) → Same (ended w p code) w
+  pub ended_other : (w : World) (code : _) → Same (ended w p code) w
   unfolding ended
   ended_other w code = on_other w (process_ended code)
 
-  enter_other : (w : World) (es : List Entry) (vs : List ℕ) → Same (insert_all w p es vs) w
+  pub enter_other : (w : World) (es : List Entry) (vs : List ℕ) → Same (insert_all w p es vs) w
   unfolding insert_all
   enter_other w [] vs = refl
   enter_other w (e ∷ es) [] = refl
   enter_other w (e ∷ es) (v ∷ vs) = enter_other (on_process w p (process_with v e)) es vs ∙ on_other w (process_with v e)
 
-  leave_other : (w : World) (hs : List ℕ) → Same (remove_all w p hs) w
+  pub left_other : (hs : List ℕ) (w : World) → Same (remove_all w p hs) w
   unfolding remove_all
-  leave_other w [] = refl
-  leave_other w (h ∷ hs) = leave_other (on_process w p (process_without h)) hs ∙ on_other w (process_without h)
+  left_other [] w = refl
+  left_other (h ∷ hs) w = left_other hs (on_process w p (process_without h)) ∙ on_other w (process_without h)
 
-  stored_other : (w : World) (at : ℕ × List ℕ) → Same (storing w p at) w
-  stored_other w (address, []) = refl
-  stored_other w (address, b ∷ bytes) = on_other w _
+  pub stored_other : (at : ℕ × List ℕ) (w : World) → Same (storing w p at) w
+  stored_other (address, []) w = refl
+  stored_other (address, b ∷ bytes) w = on_other w _
 
-  waiting_other : (w : World) (ds : List ℕ) (awaited : Option Awaited) → Same (waiting w p ds awaited) w
+  pub waiting_other : (w : World) (ds : List ℕ) (awaited : Option Awaited) → Same (waiting w p ds awaited) w
   waiting_other w ds None = refl
   waiting_other w ds (Some awaited) = on_other w _
 
@@ -83,12 +83,12 @@ module _ (p q : ℕ) (apart : (p == q) ≡ false) where
   receiver_other w (close h) free = apart
   receiver_other w _ free = apart
 
-  replied_other : (w u : World) (s : Site) (answer : _) (values : List ℕ) → Same u w → Same (replied u p s answer values) w
+  pub replied_other : (u : World) (s : Site) (answer : _) (values : List ℕ) → Same (replied u p s answer values) u
   unfolding replied
-  replied_other w u s answer values same = on_other u _ ∙ same
+  replied_other u s answer values = on_other u _
 
   refused_other : (w : World) (s : Site) (o : Outcome) → Same (after_refusal w p s o) w
-  refused_other w s (outcome.Answered answer) = replied_other w (taken w p s) s answer _ (leave_other w (taken_handles s.request))
+  refused_other w s (outcome.Answered answer) = replied_other (taken w p s) s answer _ ∙ left_other (taken_handles s.request) w
   refused_other w s (outcome.Ended code) = ended_other w code
   refused_other w s outcome.Blocked = refl
 
@@ -269,11 +269,11 @@ module _ (p q : ℕ) (apart : (p == q) ≡ false) (lib : Library) (w : World) (x
   spared_done : (r : Request) (vs : List ℕ) → spares p q apart w r ≡ true
       → get (with_effect lib w (remove_all w p (taken_handles r)) p r vs).processes q ≡ get w.processes q
   spared_done r vs free =
-      stored_other p q apart _ (stored_by w p r)
+      stored_other p q apart (stored_by w p r) _
       ∙ (enter_other (receiver_of w p r) q (receiver_other p q apart w r free) (effect lib w (remove_all w p (taken_handles r)) p r vs) (new_handles w p r)
       (entering_at r vs)
       ∙ (effect_other p q apart lib w (remove_all w p (taken_handles r)) r vs old (same_objects w (taken_handles r)) free
-      ∙ leave_other p q apart w (taken_handles r)))
+      ∙ left_other p q apart (taken_handles r) w))
     where
       same_objects : (u : World) (hs : List ℕ) → (remove_all u p hs).objects ≡ u.objects
       same_objects u hs = objects_left p u hs
@@ -287,7 +287,7 @@ module _ (p q : ℕ) (apart : (p == q) ≡ false) (lib : Library) (w : World) (x
         let (e, arg) = arg_there lib w p caller process_there ready process h word passes in
         let child = child_of lib w p caller process_there ready process h word passes in
         let u = remove_all w p (taken_handles (process_start process h word)) in
-        let at : get u.processes q ≡ Some x = leave_other p q apart w (taken_handles (process_start process h word)) ∙ there in
+        let at : get u.processes q ≡ Some x = left_other p q apart (taken_handles (process_start process h word)) w ∙ there in
         let created : x.state ≡ Created =
         ap (λ (y : Process). y.state) (same_Some x child.0 (sym there ∙ (ap (get w.processes) (sym here) ∙ child.1))) ∙ child.2 in
         subst (λ k. Made q x (insert_all (on_process u k (started_with vs word)) k (option_to_list (entry_at w p h)) vs)) (sym here)

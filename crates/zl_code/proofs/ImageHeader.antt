@@ -1,10 +1,11 @@
 -- The header: its tests, and its 20 bytes.
 use Rattle.zl_code.proofs.Common.{Bool, DecodeFault, Image, List, None, Option, [], and_parts, ap, arith, bytes_of, cond, count_at, drop, eq-eqb, eqb, eqb-true}
 use Rattle.zl_code.proofs.Common.{false, first_some, get_or, get_or-drop, header, header_fault, is_header_in_range, is_needs_byte, is_raw_at, le-ltb, leb}
-use Rattle.zl_code.proofs.Common.{leb-true, length, length-drop, length_at, ltb-false, magic, nat_le, nat_lt, needs_byte, not, number_at, pointwise, refl}
+use Rattle.zl_code.proofs.Common.{leb-true, length, length-drop, length_at, ltb-false, magic, nat_le, nat_lt, needs_byte, not, not-false, number_at, refl}
 use Rattle.zl_code.proofs.Common.{slice_index, slots_at, starts_at, starts_with, suc, sym, take, then_some, true, zero, ℕ, ◌++◌, ◌==◌, ◌∙◌, ◌∷◌, ◌≡◌, ◌≤◌}
 use Rattle.zl_code.specs.declared.image.DecodeFault.TheVariants as faults
 use Rattle.zl_code.proofs.ImageBytes.{IsBytes, bytes_of-number_at, parts_at}
+use Rattle.zl_code.proofs.Named.{same_names}
 
 -- what bytes without a fault of the header keep
 pub record HeaderFits (bytes : List ℕ) : Type 0 where
@@ -18,10 +19,6 @@ no_fault_if : (b : Bool) (f : DecodeFault) (rest : List (Option DecodeFault)) �
     → (b ≡ false) × (first_some rest ≡ None)
 no_fault_if true f rest h = absurd cc
 no_fault_if false f rest h = (refl, h)
-
-not-false : (b : Bool) → not b ≡ false → b ≡ true
-not-false true h = refl
-not-false false h = absurd cc
 
 pub header_fits : (bytes : List ℕ) → header_fault bytes ≡ None → HeaderFits bytes
 unfolding header_fault
@@ -44,12 +41,6 @@ unfolding header_fault
 no_header_fault bytes h = rw (le-ltb (length bytes) 20 h.long, h.front, eq-eqb _ _ h.version, h.in_range, eq-eqb _ _ h.len) refl
 
 -- ---- what passes the tests is the header of an image
-
-same_from_pointwise : (xs ys : List ℕ) → pointwise ◌==◌ xs ys ≡ true → xs ≡ ys
-same_from_pointwise [] [] h = refl
-same_from_pointwise [] (y ∷ ys) h = absurd cc
-same_from_pointwise (x ∷ xs) [] h = absurd cc
-same_from_pointwise (x ∷ xs) (y ∷ ys) h = let p = and_parts (eqb x y) (pointwise ◌==◌ xs ys) h in λ i. eqb-true x y p.0 i ∷ same_from_pointwise xs ys p.1 i
 
 first_two : (xs : List ℕ) → 2 ≤ length xs → take 2 xs ≡ get_or xs 0 0 ∷ get_or xs 1 0 ∷ []
 first_two [] le = absurd (omega arith)
@@ -117,7 +108,7 @@ pub header_spelled : (bytes : List ℕ) (i : Image) → IsBytes bytes → Header
 header_spelled bytes i fits h has =
     let long = h.long in
     let r = header_ranges bytes h.in_range in
-    let front : take 4 bytes ≡ magic = sym (same_from_pointwise magic (take 4 bytes) h.front) in
+    let front : take 4 bytes ≡ magic = sym (same_names magic (take 4 bytes) h.front) in
     let two : take 2 (drop 4 bytes) ≡ get_or bytes 4 0 ∷ get_or bytes 5 0 ∷ [] =
     first_two (drop 4 bytes) (omega (arith, length-drop 4 bytes)) ∙ (λ k. get_or-drop 4 bytes 0 0 k ∷ get_or-drop 4 bytes 1 0 k ∷ []) in
     let mark : slice_index bytes 5 ≡ cond i.raw 1 0 = mark_is (slice_index bytes 5) r.mark ∙ ap (λ (b : Bool). cond b 1 0) (sym has.raw) in

@@ -3,9 +3,9 @@ use Rattle.zl_code.proofs.Common.{Action, Body, Bool, Ended, Gone, IsSound, IsSo
 use Rattle.zl_code.proofs.Common.{ProcessBody, Some, StandsBelow, State, World, [], ap, arith, body_in, body_killed, body_of, cases_Bool, depth_in, eqb-true}
 use Rattle.zl_code.proofs.Common.{false, false≢true, get, get-each, get-put, if◌then◌else◌, inl, inr, is_dead, is_deepest, is_job_below, is_process_of, is_some}
 use Rattle.zl_code.proofs.Common.{is_under_by, is_within, job_within, lives, nat_tests, ne_eqb, none-some, object_killed, option_map, or_left, or_right}
-use Rattle.zl_code.proofs.Common.{parent_in, process_killed, refl, same_Some, subst, suc, sym, true, true≢false, with_killed, with_object, zero, ℕ, ◌&&◌, ◌+◌}
-use Rattle.zl_code.proofs.Common.{◌<◌, ◌==◌, ◌||◌, ◌∙◌, ◌≡◌, ◌≤◌}
-use Rattle.std.proofs.lemmas.Bool.{or_cases}
+use Rattle.zl_code.proofs.Common.{parent_in, process_killed, refl, same_Some, subst, suc, sym, true, true≢false, with_killed, with_object, zero, ℕ, ◌+◌, ◌<◌}
+use Rattle.zl_code.proofs.Common.{◌==◌, ◌||◌, ◌∙◌, ◌≡◌, ◌≤◌}
+use Rattle.std.proofs.lemmas.Bool.{and_right, or_cases}
 use Rattle.zl_code.proofs.Changes.{IsChildless}
 
 -- ---- the way up
@@ -111,10 +111,6 @@ module _ (m : Map Object) (tree : IsTree m) where
 
 -- ---- a kill
 
-and_false : (a : Bool) → (a && false) ≡ false
-and_false true = refl
-and_false false = refl
-
 module _ (w : World) (s : IsSound w) (t : ℕ) (some : (0 == t) ≡ false) where
   -- directly below what is killed nothing lives
   pub childless : (k : ℕ) → is_within w.objects t k ≡ true → IsChildless (with_killed w t) k
@@ -143,12 +139,12 @@ module _ (w : World) (s : IsSound w) (t : ℕ) (some : (0 == t) ≡ false) where
       ]
 
       by_body : (c : ℕ) (x : Object) (b : Body) → get w.objects c ≡ Some x → x.body ≡ b → is_within w.objects t c ≡ false → is_job_below k b ≡ false
-      by_body c x (JobBody parent depth policy true) at is outside = and_false (parent == k)
+      by_body c x (JobBody parent depth policy true) at is outside = and_right (parent == k) false refl
       by_body c x (JobBody parent depth policy false) at is outside = rw (no_job c x parent depth policy at is outside) refl
       by_body c x _ at is outside = refl
 
       dead_body : (b : Body) → is_job_below k (body_killed b) ≡ false
-      dead_body (JobBody parent depth policy killed) = and_false (parent == k)
+      dead_body (JobBody parent depth policy killed) = and_right (parent == k) false refl
       dead_body _ = refl
 
       by_reach : (c : ℕ) (x : Object) (b : Bool) → get w.objects c ≡ Some x → is_within w.objects t c ≡ b → is_job_below k (object_killed b x).body ≡ false

@@ -41,6 +41,9 @@ pub test_fails : (b : Bool) (s : Status) → answer_if b s ≡ None → b ≡ fa
 test_fails true s h = cc
 test_fails false s h = refl
 
+pub test_passes : (b : Bool) (s : Status) → answer_if (not b) s ≡ None → b ≡ true
+test_passes b s h = not-false b (test_fails (not b) s h)
+
 -- there is room for n handles, where its want or b would refuse the call
 pub room_or : (w : World) (p n : ℕ) (b : Bool) → answer_if (not (has_room w p n) || b) status.NoResources ≡ None → has_room w p n ≡ true
 room_or w p n b h = not-false _ (or_parts (not (has_room w p n)) b (test_fails _ status.NoResources h)).0

@@ -22,7 +22,7 @@ use Rattle.zl_code.proofs.Passing.{listed_none, test_fails}
 -- ---- maps
 
 module _ {X : Type 0} (P : X → Type 0) (m : Map X) (all : Each P m) where
-  each_update : (q : ℕ) (f : X → X) → ((x : X) → P x → P (f x)) → Each P (update m q f)
+  pub each_update : (q : ℕ) (f : X → X) → ((x : X) → P x → P (f x)) → Each P (update m q f)
   each_update q f keeps k x there = by (q == k) (get m k) refl (sym (get-update m q f k) ∙ there)
     where
       by : (b : Bool) (o : Option X) → get m k ≡ o → (if b then option_map f o else o) ≡ Some x → P x
@@ -30,7 +30,7 @@ module _ {X : Type 0} (P : X → Type 0) (m : Map X) (all : Each P m) where
       by true (Some y) is e = subst P (same_Some (f y) x e) (keeps y (all k y is))
       by false o is e = all k x (is ∙ e)
 
-  each_each : (f : ℕ → X → X) → ((k : ℕ) (x : X) → P x → P (f k x)) → Each P (each f m)
+  pub each_each : (f : ℕ → X → X) → ((k : ℕ) (x : X) → P x → P (f k x)) → Each P (each f m)
   each_each f keeps k x there = by (get m k) refl (sym (get-each m f k) ∙ there)
     where
       by : (o : Option X) → get m k ≡ o → option_map (f k) o ≡ Some x → P x
@@ -191,7 +191,7 @@ module _ (lib : Library) where
   step_programs w p x after all step =
       rw step.ends_awake (awake step.settled (settled step.acted step.settled step.settles (acted w p (next_for lib step.process) x step.acted all step.acts)))
 
-  holding : (es : List Entry) (vs : List ℕ) (q : Process) → (process_with_all es vs q).program ≡ q.program
+  pub holding : (es : List Entry) (vs : List ℕ) (q : Process) → (process_with_all es vs q).program ≡ q.program
   holding [] vs q = refl
   holding (e ∷ es) [] q = refl
   holding (e ∷ es) (v ∷ vs) q = holding es vs (process_with v e q)

@@ -68,7 +68,7 @@ settled_sound lib w p x after s step =
     wholly_sound after (live_settled step.acted after step.settles) (nearly_kept w after (settling_changes lib w p x after step) s)
 
 -- a boot registers no wait
-no_wait_booted : (lib : Library) (w : World) (s : Statement) (vs : List ℕ) → (boot_effect lib w s vs).waits ≡ w.waits
+pub no_wait_booted : (lib : Library) (w : World) (s : Statement) (vs : List ℕ) → (boot_effect lib w s vs).waits ≡ w.waits
 unfolding boot_effect with_object on_object
 no_wait_booted lib w (statement.Process job program word handles) vs = refl
 no_wait_booted lib w _ vs = refl

@@ -66,7 +66,7 @@ abbrev pub boot : World
 boot = settled_in made 1
 
 -- The world with one ready process, and the root job that it keeps, is a boot world of the one statement.
-is_boot : IsBoot library statements boot
+pub is_boot : IsBoot library statements boot
 unfolding computing boot_fault boot_effect
 is_boot = record { made = made; boots = ([], refl, refl, refl); settles = Settles-by made 1 refl }
 

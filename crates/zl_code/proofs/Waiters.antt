@@ -172,15 +172,20 @@ is_blocking outcome.Blocked = true
 is_blocking _ = false
 
 -- it isn't answered OK
-abbrev refuses : Option Outcome → Bool
+abbrev pub refuses : Option Outcome → Bool
 refuses (Some (outcome.Answered status.Ok)) = false
 refuses _ = true
 
-module _ (lib : Library) (w : World) (p : ℕ) where
-  fault_refuses : (a : Action) (s : Status) → refuses (Some (outcome.Answered s)) ≡ true → refuses (Some (ends_if_kill a (outcome.Answered s))) ≡ true
-  fault_refuses action.Kill s bad = refl
-  fault_refuses _ s bad = bad
+pub first_refuses : (a : Option Outcome) (rest : List (Option Outcome)) → refuses a ≡ true → refuses (first_some rest) ≡ true
+    → refuses (first_some (a ∷ rest)) ≡ true
+first_refuses None rest one more = more
+first_refuses (Some o) rest one more = one
 
+fault_refuses : (a : Action) (s : Status) → refuses (Some (outcome.Answered s)) ≡ true → refuses (Some (ends_if_kill a (outcome.Answered s))) ≡ true
+fault_refuses action.Kill s bad = refl
+fault_refuses _ s bad = bad
+
+module _ (lib : Library) (w : World) (p : ℕ) where
   policy_refuses : (c : Option Condition) → refuses (by_policy w p c) ≡ true
   unfolding creates
   policy_refuses None = refl
@@ -190,7 +195,7 @@ module _ (lib : Library) (w : World) (p : ℕ) where
       by_action action.Allow = refl
       by_action _ = refl
 
-  operand_refuses : (kinds : List Kind) (needed : ℕ) (e : Option Entry) → refuses (operand_of w p kinds needed e) ≡ true
+  pub operand_refuses : (kinds : List Kind) (needed : ℕ) (e : Option Entry) → refuses (operand_of w p kinds needed e) ≡ true
   operand_refuses kinds needed None = fault_refuses _ status.BadHandle refl
   operand_refuses kinds needed (Some e) = by_tests (takes kinds e.kind) (within needed (bits e.rights))
     where
@@ -198,11 +203,6 @@ module _ (lib : Library) (w : World) (p : ℕ) where
       by_tests true true = refl
       by_tests true false = refl
       by_tests false may = fault_refuses _ status.WrongType refl
-
-  first_refuses : (a : Option Outcome) (rest : List (Option Outcome)) → refuses a ≡ true → refuses (first_some rest) ≡ true
-      → refuses (first_some (a ∷ rest)) ≡ true
-  first_refuses None rest one more = more
-  first_refuses (Some o) rest one more = one
 
   examined_refuses : (seen : List ℕ) (os : List Operand) → refuses (examined w p seen os) ≡ true
   unfolding examined operand

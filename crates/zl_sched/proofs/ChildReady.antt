@@ -1,51 +1,26 @@
 -- A process whose start is answered OK wasn't ready, and is.
-use Rattle.zl_sched.proofs.Common.{Bool, Calls, Entry, Err, Library, List, None, Ok, Option, Outcome, Process, Ready, Request, Site, Some, Status, World, []}
-use Rattle.zl_sched.proofs.Common.{after_ok, answer_if, ap, bits, call_ends, child_of, effect, entry_at, eq-eqb, examined, false, false≢true, first_some, get}
-use Rattle.zl_sched.proofs.Common.{get-update, gives_ok, handle_operands, if◌then◌else◌, is_created, is_ok, is_process, is_ready, listed, may_want, none-some}
-use Rattle.zl_sched.proofs.Common.{not, object_at, on_process, operand, option_to_list, process_start, program_of, refl, row_of, same_Some, site, started_with}
-use Rattle.zl_sched.proofs.Common.{subst, sym, taken, taken_handles, takes, true, true≢false, with_effect, within, ℕ, ◌∙◌, ◌∷◌, ◌≡◌}
-use Rattle.zl_code.proofs.Common.{refusal, new_handles}
-use Rattle.zl_rights.specs.declared.kind.Kind.{Kind}
-use Rattle.zl_rights.specs.declared.policy.Action.{Action}
+use Rattle.zl_sched.proofs.Common.{Bool, Calls, Library, List, None, Ok, Outcome, Process, Ready, Request, Site, Some, Status, World, [], after_ok, answer_if}
+use Rattle.zl_sched.proofs.Common.{ap, call_ends, child_of, effect, entry_at, eq-eqb, examined, false, false≢true, first_some, get, get-update, gives_ok}
+use Rattle.zl_sched.proofs.Common.{handle_operands, is_created, is_ok, is_process, is_ready, listed, may_want, new_handles, none-some, not, object_at}
+use Rattle.zl_sched.proofs.Common.{on_process, operand, option_to_list, process_start, program_of, refl, refusal, row_of, same_Some, site, started_with, subst}
+use Rattle.zl_sched.proofs.Common.{sym, taken, taken_handles, true, true≢false, with_effect, ℕ, ◌∙◌, ◌∷◌, ◌≡◌}
 use Rattle.zl_rights.specs.declared.policy.Action.TheVariants as action
 use Rattle.zl_rights.specs.declared.status.Status.TheVariants as status
 use Rattle.zl_code.specs.declared.history.Outcome.TheVariants as outcome
-use Rattle.zl_code.specs.Operands.{by_look_up, ends_if_kill, operand_of}
 use Rattle.zl_code.specs.Jobs.{misfits}
 use Rattle.zl_code.proofs.TaskLaws.{child_apart, child_of as child_found, leave_other}
 use Rattle.zl_sched.proofs.StillReady.{answers, entered, left_then}
+use Rattle.zl_code.proofs.Waiters.{first_refuses, operand_refuses, refuses}
 
 -- ---- a refusal isn't OK
 
-abbrev refuses : Option Outcome → Bool
-refuses (Some (outcome.Answered status.Ok)) = false
-refuses _ = true
-
-first_refuses : (a : Option Outcome) (rest : List (Option Outcome)) → refuses a ≡ true → refuses (first_some rest) ≡ true
-    → refuses (first_some (a ∷ rest)) ≡ true
-first_refuses None rest one more = more
-first_refuses (Some o) rest one more = one
-
-fault_refuses : (a : Action) (s : Status) → refuses (Some (outcome.Answered s)) ≡ true → refuses (Some (ends_if_kill a (outcome.Answered s))) ≡ true
-fault_refuses action.Kill s bad = refl
-fault_refuses _ s bad = bad
-
 module _ (w : World) (p : ℕ) where
-  operand_refuses : (kinds : List Kind) (needed : ℕ) (e : Option Entry) → refuses (operand_of w p kinds needed e) ≡ true
-  operand_refuses kinds needed None = fault_refuses _ status.BadHandle refl
-  operand_refuses kinds needed (Some e) = by_tests (takes kinds e.kind) (within needed (bits e.rights))
-    where
-      by_tests : (fits may : Bool) → refuses (by_look_up w p (if fits then (if may then Ok e else Err status.AccessDenied) else Err status.WrongType)) ≡ true
-      by_tests true true = refl
-      by_tests true false = refl
-      by_tests false may = fault_refuses _ status.WrongType refl
-
   start_refuses : (lib : Library) (process h word : ℕ) → refuses (refusal lib w p (process_start process h word)) ≡ true
   unfolding row_of refusal handle_operands examined operand listed
   start_refuses lib process h word =
       first_refuses _ _
-      (first_refuses _ _ (operand_refuses _ _ (entry_at w p process))
-      (first_refuses _ [] (first_refuses _ (None ∷ []) (operand_refuses _ _ (entry_at w p h)) refl) refl))
+      (first_refuses _ _ (operand_refuses lib w p _ _ (entry_at w p process))
+      (first_refuses _ [] (first_refuses _ (None ∷ []) (operand_refuses lib w p _ _ (entry_at w p h)) refl) refl))
       (first_refuses None (listed lib w p (process_start process h word)) refl
       (by_tests (not (is_process w is_created (object_at w p process))) (misfits (program_of lib w (object_at w p process)) (entry_at w p h))))
     where

@@ -6,25 +6,6 @@ use Rattle.zl_sched.proofs.Common.{◌+◌, ◌==◌, ◌∙◌, ◌∷◌, ◌�
 use Rattle.std.specs.Ordering.{is_lt}
 use Rattle.zl_code.proofs.Changes.{times}
 
--- ---- filters
-
-pub times-filter : (f : ℕ → Bool) (k : ℕ) (xs : List ℕ) → times k (filter f xs) ≡ (if f k then times k xs else 0)
-times-filter f k [] = elim (f k) as (λ b. ◌≡◌ {A = ℕ} 0 (if b then 0 else 0)) [ true ↦ refl | false ↦ refl ]
-times-filter f k (x ∷ xs) = elim (cases_Bool (x == k)) as (λ _. times k (filter f (x ∷ xs)) ≡ (if f k then times k (x ∷ xs) else 0)) [
-  | inl here ↦ here_too here (f k) (times-filter f k xs) (ap f (eqb-true x k here))
-  | inr apart ↦ rw apart (elsewhere apart (f x) (times-filter f k xs))
-]
-  where
-    here_too : (x == k) ≡ true → (b : Bool) → times k (filter f xs) ≡ (if b then times k xs else 0) → f x ≡ b
-        → times k (filter f (x ∷ xs)) ≡ (if b then times k (x ∷ xs) else 0)
-    here_too here true e same = rw (same, here) (ap suc e)
-    here_too here false e same = rw same e
-
-    elsewhere : (x == k) ≡ false → (b : Bool) → times k (filter f xs) ≡ (if f k then times k xs else 0)
-        → length (filter (λ q. q == k) (if b then x ∷ filter f xs else filter f xs)) ≡ (if f k then times k xs else 0)
-    elsewhere apart true e = rw apart e
-    elsewhere apart false e = e
-
 pub times-append : (k : ℕ) (xs ys : List ℕ) → times k (xs ++ ys) ≡ times k xs + times k ys
 times-append k xs ys = ap length (filter-append (λ q. q == k) xs ys) ∙ length-append (filter (λ q. q == k) xs) (filter (λ q. q == k) ys)
 

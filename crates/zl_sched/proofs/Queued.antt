@@ -9,7 +9,8 @@ use Rattle.std.proofs.lemmas.Map.Views.{any-filter_same}
 use Rattle.zl_sched.specs.declared.change.Change.TheVariants as change
 use Rattle.zl_sched.proofs.ReadyChange.{IsChanged, OthersCome, OthersReady}
 use Rattle.std.proofs.lemmas.Option.{slice_get_within, get_or_from_slice_get}
-use Rattle.zl_sched.proofs.Counted.{times-filter, times-append, any_counted, key_once, no_longer}
+use Rattle.zl_calls.proofs.lists.Positions.{times-filter}
+use Rattle.zl_sched.proofs.Counted.{times-append, any_counted, key_once, no_longer}
 use Rattle.zl_sched.proofs.Marked.{AreBut, no_mark, other_way}
 
 -- ---- filters

@@ -9,17 +9,15 @@ use Rattle.zl_sched.proofs.Common.{process_create, process_ended, process_killed
 use Rattle.zl_sched.proofs.Common.{refl, remove_all, replied, row_of, started_with, state_passes, state_without, stored_by, storing, subst, sym, taken}
 use Rattle.zl_sched.proofs.Common.{task_kill, times-other, times-same, true, waiting, wakes, with_body, with_effect, with_killed, with_object, without}
 use Rattle.zl_sched.proofs.Common.{without_others, woken_at_port, woken_by, woken_by_first, woken_from, woken_if_there, ℕ, ◌&&◌, ◌==◌, ◌∙◌, ◌∷◌, ◌≡◌, ◌⊎◌}
-use Rattle.zl_code.proofs.Common.{new_handles, taken_handles}
-use Rattle.zl_rights.specs.Wakes.{woken}
-use Rattle.zl_rights.specs.Numbers.{KILLED}
+use Rattle.zl_code.proofs.Common.{KILLED, koid_in, new_handles, taken_handles, woken}
 use Rattle.zl_rights.specs.declared.status.Status.TheVariants as status
 use Rattle.zl_code.specs.declared.history.Outcome.TheVariants as outcome
 use Rattle.zl_code.specs.declared.history.TraceItem.TheVariants as item
-use Rattle.zl_code.specs.Tests.{koid_in}
 use Rattle.zl_code.proofs.Changes.{times}
 use Rattle.zl_calls.specs.declared.waking.Woke.TheVariants as woke
 use Rattle.zl_sched.proofs.Marked.{other_way}
 use Rattle.zl_sched.proofs.MarksKept.{state_kept}
+use Rattle.zl_calls.proofs.Above.{still_free}
 
 -- ---- what a turn of waking makes of k
 
@@ -157,17 +155,6 @@ abbrev pub goes_on : Outcome → Bool
 goes_on (outcome.Answered answer) = true
 goes_on _ = false
 
--- handles that leave a table make no process
-still_free : (w : World) (p k : ℕ) (hs : List ℕ) → get w.processes k ≡ None → get (remove_all w p hs).processes k ≡ None
-unfolding remove_all on_process
-still_free w p k [] free = free
-still_free w p k (h ∷ hs) free =
-    still_free (on_process w p (process_without h)) p k hs (get-update w.processes p (process_without h) k ∙ rw free (by_test (p == k)))
-  where
-    by_test : (b : Bool) → (if b then option_map (process_without h) None else None) ≡ None
-    by_test true = refl
-    by_test false = refl
-
 module _ (k : ℕ) where
   pub moved : (w : World) (p : ℕ) (f : Process → Process) → ((x : Process) → (f x).state ≡ x.state) → Left k (on_process w p f) w
   moved w p f keeps test made gone = state_kept w p f keeps test k
@@ -249,7 +236,7 @@ module _ (k : ℕ) where
     effect_so s vs left =
         left_then k _ _ w (stored _ p (stored_by w p s.request))
         (left_then k _ _ w (entered _ (receiver_of w p s.request) (new_handles w p s.request) (entering_at s.request vs))
-        (left_then k _ _ w (effected lib w (taken w p s) p s.request vs (still_free w p w.next_koid (taken_handles s.request) free) left)
+        (left_then k _ _ w (effected lib w (taken w p s) p s.request vs (still_free p w.next_koid (taken_handles s.request) w free) left)
         (removed w p (taken_handles s.request))))
 
     done_so : (s : Site) (vs : List ℕ) (o : Outcome) → spares w p k s.request ≡ true → (goes_on o ≡ false → (p == k) ≡ false)

@@ -1,9 +1,9 @@
 -- A checked program that goes through each of the 24 calls: its process starts properly, each call but its exit is answered OK, it waits
--- for a checked child that it starts, and wakes. So the headline speaks of something.
+-- for a checked child that it starts, and wakes. Both are covered, one by the boot and one by a call, so the headline speaks of something.
 use Rattle.std.proofs.lemmas.Option.{none-some, same_Some}
 use Rattle.zl_code.proofs.Common.{◌≡◌, ℕ, zero, suc, subst, slice_get, arith, true, false, List, [], ◌∷◌, ◌++◌, refl, map, replicate, pos, Some, None, World}
 use Rattle.zl_code.proofs.Common.{Process, Library, Choice, Values, IsBoot, IsLegalHistory, boot_fault, boot_effect, origin, settled_in, Settles-by}
-use Rattle.zl_code.proofs.Common.{started_process, creates, rights_of}
+use Rattle.zl_code.proofs.Common.{started_process, creates, rights_of, Option, get, flat_map, is_some, process_start, single, unwrap_or}
 use Rattle.zl_rights.specs.declared.kind.Kind.{Kind}
 use Rattle.zl_rights.specs.declared.kind.Kind.TheVariants as kind
 use Rattle.zl_rights.specs.declared.policy.Condition.{Condition}
@@ -23,8 +23,11 @@ use Rattle.zl_code.specs.declared.instr.Instr.TheVariants as instr
 use Rattle.zl_code.specs.declared.instr.LocalInstr.TheVariants as local
 use Rattle.zl_code.specs.Image.{Image, Program}
 use Rattle.zl_code.specs.Spells.{local_parts}
-use Rattle.zl_code.specs.Headline.{GoesWell, IsNeverRefused, IsStarted, IsSizedBoot, IsProperStart, IsCoveredFrom, CoveredGoWell, by_boot}
+use Rattle.zl_code.specs.Headline.{GoesWell, IsNeverRefused, IsStarted, IsSizedBoot, IsProperStart, IsCoveredFrom, CoveredGoWell, StartsChild, by_boot}
+use Rattle.zl_code.specs.Starting.{created_process, program_of}
+use Rattle.zl_code.proofs.JoinedItems.{joined_go_well}
 use Rattle.zl_code.proofs.Running.{run_by, IsLegalHistory-by, computing, world_after}
+use Rattle.zl_code.proofs.RowsHeadline.{covered_by_call}
 use Rattle.zl_verify.specs.Checks.{IsAccepted, HasStepBound}
 use Rattle.zl_verify.specs.Covered.{IsVerified}
 use Rattle.zl_verify.proofs.CoveredRuns.{covered_go_well}
@@ -98,17 +101,21 @@ image = record {
       ∷ [];
 }
 
--- the child gets an event that it may signal, and exits with its word
+-- the child gets an event that it may signal, does three instructions by itself, and exits with its word
 abbrev child_image : Image
 child_image = record {
   raw = false;
   memory = 0;
-  budget = 1;
+  budget = 3;
   needs = [];
   starts = start kind.Event 4096 ∷ [];
   slots = [];
-  code = instr.Call
-      (called name.ProcessExit (1 ∷ []) 0) ∷ [];
+  code =
+      instr.Local (local.Const 2 1)
+      ∷ instr.Local (local.Const 3 2)
+      ∷ instr.Local (local.Const 4 3)
+      ∷ instr.Call (called name.ProcessExit (1 ∷ []) 0)
+      ∷ [];
 }
 
 -- program 0 is the first, program 1 that of the child, both checked
@@ -238,8 +245,11 @@ first_turns = own_turns (
     ∷ (20 ∷ 21 ∷ []) ∷ [] ∷ [] ∷ (21 ∷ []) ∷ [] ∷ [] ∷ [] ∷ (21 ∷ []) ∷ [] ∷ [] ∷ (21 ∷ []) ∷ [] ∷ []))
 
 -- the start; process 7 waits until the child has ended, and goes on to its own end
+abbrev last_turns : List (ℕ × Choice)
+last_turns = own_turns ((9 ∷ []) ∷ [] ∷ []) ++ (replicate 4 (15, Values []) ++ own_turns (replicate 4 []))
+
 abbrev turns : List (ℕ × Choice)
-turns = first_turns ++ (own_turns ((9 ∷ []) ∷ [] ∷ []) ++ ((15, Values []) ∷ own_turns (replicate 4 [])))
+turns = first_turns ++ last_turns
 
 abbrev ok : CallName → TraceItem
 ok call = item.Call 7 call (outcome.Answered status.Ok)
@@ -257,10 +267,11 @@ first_items =
     ∷ ok name.EventpairCreate ∷ ok name.Close ∷ ok name.Close ∷ ok name.PortCreate ∷ ok name.Close
     ∷ one ∷ ok name.JobSetPolicy ∷ ok name.JobCreate ∷ ok name.Close ∷ one ∷ ok name.ProcessCreate ∷ one ∷ []
 
--- and behind it: process 7 waits, the child ends, and process 7 is awake and ends
+-- and behind it: process 7 waits, the child does its three instructions, which are one item, and ends, and process 7 is awake and ends
 abbrev last_items : List TraceItem
 last_items =
     item.Call 7 name.WaitOne outcome.Blocked
+    ∷ item.Run 15 3
     ∷ item.Call 15 name.ProcessExit (outcome.Ended (pos 0))
     ∷ ok name.TaskKill ∷ ok name.Close ∷ ok name.Replace
     ∷ item.Call 7 name.ProcessExit (outcome.Ended (pos 0))
@@ -279,7 +290,8 @@ is_legal = IsLegalHistory-by library boot turns items refl refl refl
 -- Where the headline holds of the image, it holds of this run.
 goes_well : IsNeverRefused image → GoesWell image 7 items
 unfolding computing boot_effect
-goes_well never_refused = never_refused library statements boot boot end [] items 7 sized refl starts is_legal.run
+goes_well never_refused =
+    (joined_go_well image 7 items).1 (never_refused library statements boot boot end [] (flat_map single items) 7 sized refl starts is_legal.run)
 
 -- ---- who is covered
 
@@ -288,7 +300,55 @@ covered : IsCoveredFrom library boot items image 7 0 items
 unfolding computing boot_effect
 covered = record { items = []; parts = refl; place = refl; world = boot; comes = refl; started = by_boot refl refl refl; after = end; goes = is_legal.run }
 
--- So who is covered goes well, process 7 and its child: no premise of the law is left.
+-- the world in which process 7 stands at process_start
+abbrev at_start : World
+at_start = world_after boot (run_by library boot first_turns)
+
+abbrev starting : Process
+starting = unwrap_or (get at_start.processes 7) (created_process library 0)
+
+some_by : {A : Type 0} (o : Option A) (other : A) → is_some o ≡ true → o ≡ Some (unwrap_or o other)
+some_by None other is = cc
+some_by (Some a) other is = refl
+
+-- It is there, which is computed without comparing two processes.
+is_there : get at_start.processes 7 ≡ Some starting
+unfolding computing boot_effect
+is_there = some_by (get at_start.processes 7) (created_process library 0) refl
+
+-- and the child is made, of the checked program 1
+runs_child : program_of library at_start 15 ≡ Some (record { checked = true; image = child_image })
+unfolding computing boot_effect
+runs_child = refl
+
+starts_child : StartsChild library at_start 7 starting 15
+unfolding computing boot_effect
+starts_child = record {
+  site = record { request = process_start 21 13 0; consumed = 3 ∷ []; destinations = 31 ∷ [] };
+  next = refl;
+  process = 21;
+  handle = 13;
+  word = 0;
+  asks = refl;
+  child = refl;
+}
+
+-- its child, process 15, from behind the start on
+child_covered : IsCoveredFrom library boot items child_image 15 35 last_items
+unfolding computing boot_effect
+child_covered =
+    covered_by_call library boot at_start last first_items last_items 7 15 child_image starting first.run second.run is_there starts_child runs_child
+  where
+    first : IsLegalHistory library boot first_items at_start
+    first = IsLegalHistory-by library boot first_turns first_items refl refl refl
+
+    last : World
+    last = world_after at_start (run_by library at_start last_turns)
+
+    second : IsLegalHistory library at_start (ok name.ProcessStart ∷ last_items) last
+    second = IsLegalHistory-by library at_start last_turns (ok name.ProcessStart ∷ last_items) refl refl refl
+
+-- So all who are covered go well: both programs have a typing and a step bound, and no premise of the law is left.
 all_go_well : CoveredGoWell library boot items
 unfolding computing boot_effect
 all_go_well = covered_go_well library statements boot verified sized items
@@ -305,3 +365,11 @@ all_go_well = covered_go_well library statements boot verified sized items
         bound (suc zero) i at = subst (λ (g : Program). HasStepBound g.image) (same_Some _ _ at)
             (record { states = _; typing = accepted_child.typing; steps = _; bound = accepted_child.bound })
         bound (suc (suc n)) i at = absurd (none-some _ at)
+
+-- process 7 is one of them, from the boot to the end
+process_goes_well : GoesWell image 7 items
+process_goes_well = all_go_well image 7 0 items covered
+
+-- and so is its child, from behind its start to the end
+child_goes_well : GoesWell child_image 15 last_items
+child_goes_well = all_go_well child_image 15 35 last_items child_covered

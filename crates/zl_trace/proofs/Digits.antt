@@ -24,7 +24,7 @@ not_written word r m parsed ok other n below is =
 -- ---- with a sign
 
 -- 32 bits with a sign are less than 2 ^ 63
-small : (z : ℤ) → FitsSigned w32 z → mag z < 2 ^ 63
+pub small : (z : ℤ) → FitsSigned w32 z → mag z < 2 ^ 63
 small z fits = omega (arith, fits)
 
 pub not_utf8_signed : (word : List ℕ) → (IsUtf8 word → ⊥) → (z : ℤ) → FitsSigned w32 z → word ≢ signed_decimal z

@@ -3,6 +3,7 @@ pub mod Digits
 pub mod KnownOutput
 pub mod Named
 pub mod Numbered
+pub mod OneHistory
 pub mod States
 pub mod Pieces
 pub mod ReadOn

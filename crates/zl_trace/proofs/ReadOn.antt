@@ -15,7 +15,7 @@ over : (n : ℕ) → item_lines_from n [] ≡ []
 unfolding item_lines_from
 over n = refl
 
-ending : (n : ℕ) (line : List ℕ) (lines : List (List ℕ)) → ends_items line ≡ true → item_lines_from n (line ∷ lines) ≡ []
+pub ending : (n : ℕ) (line : List ℕ) (lines : List (List ℕ)) → ends_items line ≡ true → item_lines_from n (line ∷ lines) ≡ []
 unfolding item_lines_from
 ending n line lines ends = rw ends refl
 
@@ -24,7 +24,7 @@ passing : (n : ℕ) (line : List ℕ) (lines : List (List ℕ)) → ends_items l
 unfolding item_lines_from
 passing n line lines goes nothing = rw (goes, nothing) refl
 
-coming : (n : ℕ) (line : List ℕ) (lines : List (List ℕ)) → ends_items line ≡ false → says_nothing line ≡ false
+pub coming : (n : ℕ) (line : List ℕ) (lines : List (List ℕ)) → ends_items line ≡ false → says_nothing line ≡ false
     → item_lines_from n (line ∷ lines) ≡ (n, line) ∷ item_lines_from (n + 1) lines
 unfolding item_lines_from
 coming n line lines goes some = rw (goes, some) refl

@@ -1,21 +1,13 @@
 -- A legal history that goes on by one item, and an item that differs.
+use Rattle.zl_code.proofs.Common.{Library, MOST_ITEMS, Runs, Step, has_count, list_all-append, pid_of, single}
+use Rattle.zl_code.specs.declared.boot.Statement.{Statement}
 use Rattle.zl_trace.proofs.Common.{Differs, DiffersAt, IsReplayed, List, Machine, Repeats, StepDiffers, TraceItem, [], another, ap, append-nil, arith}
 use Rattle.zl_trace.proofs.Common.{at_drop_more, at_step, drop, flat_map, flat_map-append, get_or, inl, inr, length, length-take-le, refl, replicate, subst}
 use Rattle.zl_trace.proofs.Common.{suc, sym, take, take-append-drop, take_more, true, zero, ℕ, ◌++◌, ◌+◌, ◌-◌, ◌<◌, ◌∙◌, ◌∷◌, ◌≡◌, ◌≢◌, ◌⊎◌}
-use Rattle.std.proofs.lemmas.List.Folds.{list_all-append}
-use Rattle.zl_code.specs.Common.{World as WorldValue, Library, Step, MOST_ITEMS, single, pid_of}
-use Rattle.zl_code.specs.Steps.{Runs, has_count}
-use Rattle.zl_code.specs.declared.boot.Statement.{Statement}
+use Rattle.zl_code.specs.Common.{World as WorldValue}
 use Rattle.zl_code.specs.declared.history.TraceItem.TheVariants as item
 use Rattle.zl_calls.specs.Steps.{StepsTo, TakesStep}
-
--- ---- runs
-
--- one run after another
-runs_joined : (lib : Library) (w : WorldValue) (xs : List TraceItem) (mid : WorldValue) (ys : List TraceItem) (w2 : WorldValue) → Runs lib w xs mid
-    → Runs lib mid ys w2 → Runs lib w (xs ++ ys) w2
-runs_joined lib w [] mid ys w2 same more = subst (λ v. Runs lib v ys w2) same more
-runs_joined lib w (x ∷ xs) mid ys w2 (first, step, rest) more = (first, step, runs_joined lib first xs mid ys w2 rest more)
+use Rattle.zl_code.proofs.AwakeRuns.{runs_joined}
 
 -- ---- one item
 
@@ -84,6 +76,7 @@ module _ (lib : Library) (statements : List Statement) (limit : ℕ) where
         programs = repeats.programs ∙ replayed.programs;
         boot = replayed.boot;
         boots = replayed.boots;
+        sized = replayed.sized;
         legal = record {
           counts = rw (list_all-append has_count items (x ∷ []), replayed.legal.counts, repeats.count) refl;
           run = subst (λ (run : List TraceItem). Runs lib replayed.boot run m2.world) steps

@@ -2,6 +2,7 @@
 use Rattle.std.specs.Prelude.{ℕ, ◌≡◌, ◌≢◌, ◌+◌, true, false, ◌⊎◌, List, ◌∷◌, ◌++◌, length}
 use Rattle.zl_code.specs.Common.{World as WorldValue, is_process, is_ready, Library, MOST_ITEMS, Step, IsLegalHistory, single, pid_of}
 use Rattle.zl_code.specs.Boot.{IsBooted}
+use Rattle.zl_code.specs.Headline.{IsSizedBoot}
 use Rattle.zl_code.specs.Steps.{Runs, has_count}
 use Rattle.zl_code.specs.declared.boot.Statement.{Statement}
 use Rattle.zl_code.specs.declared.history.TraceItem.{TraceItem}
@@ -12,6 +13,8 @@ pub record IsReplayed (lib : Library) (statements : List Statement) (limit : ℕ
   pub programs : m.programs ≡ lib
   pub boot : WorldValue
   pub boots : IsBooted lib statements limit boot
+  -- images and words are in their ranges, so that what is promised of checked programs holds of these items
+  pub sized : IsSizedBoot lib statements boot
   pub legal : IsLegalHistory lib boot items m.world
 
 -- ---- one item

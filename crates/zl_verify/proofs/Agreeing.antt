@@ -3,8 +3,8 @@ use Rattle.zl_verify.proofs.Common.{ANY, AbsVal, Bool, Cause, Cpu, Describes, En
 use Rattle.zl_verify.proofs.Common.{LocalInstr, None, Ok, Option, Result, SlotArray, Some, State, Table, Word, [], and_le_l, and_le_r, and_then, ap}
 use Rattle.zl_verify.proofs.Common.{are_registers, arith, below_ways, bit_and, bit_or, bit_xor, bits, both, capped, computes, copies, div-mul-le_self, drop}
 use Rattle.zl_verify.proofs.Common.{eq-eqb, equal_ways, false, has_ways, if◌then◌else◌, in_memory, inl, inr, is_32_bits, is_has, is_in_memory, is_it}
-use Rattle.zl_verify.proofs.Common.{is_local_in_range, kind_below, le-div, length, loads, local_effect, local_parts, local_rule, may_move, mod-le, mod-lt}
-use Rattle.zl_verify.proofs.Common.{moved, nat_le, nat_lt, nat_tests, not, number_of, one_if, or_lt, owns, passes, pow_pos, refl, reg, rounded, sets, shifted}
+use Rattle.zl_verify.proofs.Common.{is_local_in_range, kind_below, length, loads, local_effect, local_parts, local_rule, may_move, mod-le, mod-lt, moved}
+use Rattle.zl_verify.proofs.Common.{nat_le, nat_lt, nat_tests, not, number_of, one_if, or_lt, owns, passes, pow_pos, refl, reg, rounded, sets, shifted}
 use Rattle.zl_verify.proofs.Common.{slice_get, slice_index_or, slice_set, slot_fault, smaller, stores, subst, suc, swaps, swaps_by, swaps_in, sym, take}
 use Rattle.zl_verify.proofs.Common.{target_of, true, unless, value_at, with_value, within, word_at, writes, xor_lt, zero, zero_ways, ℕ, ◌%◌, ◌&&◌, ◌*◌, ◌+◌}
 use Rattle.zl_verify.proofs.Common.{◌-◌, ◌/◌, ◌<◌, ◌==◌, ◌^◌, ◌||◌, ◌∷◌, ◌≡◌, ◌≢◌, ◌≤◌, ◌⊎◌}
@@ -20,6 +20,7 @@ use Rattle.zl_verify.proofs.Moving.{take_holds, swap_holds, array_there}
 use Rattle.zl_verify.proofs.Refining.{Known, Splits, unless_splits, zero_splits, equal_splits, below_splits, has_splits}
 use Rattle.zl_verify.proofs.Memories.{byte_less, word_less, stored}
 use Rattle.zl_verify.proofs.Owners.{not_0}
+use Rattle.zl_abs.proofs.LocalLowering.{shifted_below}
 
 -- ---- numbers
 
@@ -57,16 +58,6 @@ up_few x places = by (nat_lt places 64)
   where
     by : (t : Bool) → (if t then wrapped (x * 2 ^ places) else 0) ≤ ANY
     by true = wrapped_few (x * 2 ^ places)
-    by false = omega arith
-
-div_fits : (x m places : ℕ) → x ≤ m → x / 2 ^ places ≤ m / 2 ^ places
-div_fits x m places h = le-div (x / 2 ^ places) m (2 ^ places) (pow_pos places) (let k = div-mul-le_self x (2 ^ places) in omega arith)
-
-down_fits : (x m places : ℕ) → x ≤ m → shifted x places ≤ shifted m places
-down_fits x m places h = by (nat_lt places 64)
-  where
-    by : (t : Bool) → (if t then x / 2 ^ places else 0) ≤ (if t then m / 2 ^ places else 0)
-    by true = div_fits x m places h
     by false = omega arith
 
 pub down_less : (x places : ℕ) → shifted x places ≤ x
@@ -298,7 +289,7 @@ module _ {f : Table} {i : Image} {s : State} (c : Cpu) (h : Holds f s c.register
       (λ m le p. word_written c h states memory 0 a ANY _ (first_in imm 0 a (b ∷ []) r) (up_few (reg c b) imm) (up_few (reg c b) imm))
   agrees (local.ShiftRight a b imm) r =
       with_word c h states memory 0 b _ _ (λ m le p. computed c h states memory 0 bounds a (shifted m imm) (shifted (reg c b) imm) (first_in imm 0 a (b ∷ []) r)
-      (let k = down_less (reg c b) imm in let few = h.small b in omega arith) (down_fits (reg c b) m imm le))
+      (let k = down_less (reg c b) imm in let few = h.small b in omega arith) (shifted_below (reg c b) m imm le))
   agrees (local.Take a b) r = taken c h states memory 0 a b (first_in 0 0 a (b ∷ []) r) (second_in 0 0 a b [] r)
   agrees (local.Swap a b imm) r = swapped c h states memory 0 a b imm (first_in imm 0 a (b ∷ []) r) (slice_get i.slots imm) refl
   agrees (local.LoadByte a b imm) r =

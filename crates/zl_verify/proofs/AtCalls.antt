@@ -4,7 +4,7 @@ use Rattle.zl_verify.proofs.Common.{RuleHolds, Site, Some, StandsAtCall, State, 
 use Rattle.zl_verify.proofs.Common.{calls_at, edges, goes_on, if◌then◌else◌, inl, inr, instr_at, is_call_in_range, is_declared, length, local_effect, moves}
 use Rattle.zl_verify.proofs.Common.{next_at, next_of, passes, ranges, refl, rule_with, site_of, stops, true, uses_of, with_all, ℕ, ◌∙◌, ◌≡◌, ◌⊎◌}
 use Rattle.zl_code.specs.declared.instr.Instr.TheVariants as instr
-use Rattle.zl_verify.proofs.LocalSteps.{in_range_at}
+use Rattle.zl_abs.proofs.FineRules.{in_range_at}
 use Rattle.zl_verify.proofs.Aligned.{aligned}
 use Rattle.zl_verify.proofs.Standing.{has_rule, Stands}
 

@@ -10,7 +10,8 @@ use Rattle.zl_verify.specs.Conforms.{answered_in}
 use Rattle.zl_rights.specs.declared.status.Status.TheVariants as status
 use Rattle.zl_code.specs.declared.instr.Instr.TheVariants as instr
 use Rattle.zl_code.specs.declared.history.CallName.TheVariants as name
-use Rattle.zl_verify.proofs.LocalSteps.{in_range_at, reached}
+use Rattle.zl_abs.proofs.FineRules.{in_range_at}
+use Rattle.zl_verify.proofs.LocalSteps.{reached}
 use Rattle.zl_verify.proofs.Refining.{Known}
 use Rattle.zl_verify.proofs.Agreeing.{Arrives}
 use Rattle.zl_verify.proofs.Fitting.{Fits}

@@ -1,20 +1,21 @@
 -- In a boot world each process is as a statement started it, and properly where its program is checked.
+use Rattle.zl_code.proofs.Common.{are_misfits, boot_fault, started_process}
 use Rattle.zl_verify.proofs.Common.{ANY, AllByRecursion, Bool, Boots, ChannelEnd, Condition, Entry, EventBody, Image, IsBooting, IsProperStart, IsSizedBoot}
 use Rattle.zl_verify.proofs.Common.{IsSound, IsStarted, IsTrue, Library, List, None, Option, PairEnd, PortBody, Process, ProcessBody, Program, Settles, Some}
 use Rattle.zl_verify.proofs.Common.{Statement, World, [], ap, are_declared, arith, body_of, boot_effect, boot_sound, cases_Bool, created_process, creates}
 use Rattle.zl_verify.proofs.Common.{eqb-true, false, get, get-each, get-put, handles_given, has_child_job, has_child_process, if◌then◌else◌, inl, inr, is_among}
 use Rattle.zl_verify.proofs.Common.{job_within, lives, may_boot, may_get_all, none-some, not-false, on_object, option_map, origin, origin_booting}
-use Rattle.zl_verify.proofs.Common.{process_settled, process_with, process_with_all, program_in, program_of, refl, same_Some, setting, slice_get, still_booting}
-use Rattle.zl_verify.proofs.Common.{subst, sym, true, with_object, without_others, word_of, ℕ, ◌+◌, ◌==◌, ◌∙◌, ◌∷◌, ◌≡◌, ◌≤◌, ◌⊎◌}
-use Rattle.zl_code.specs.declared.boot.Grant.{Grant}
-use Rattle.zl_code.specs.Boot.{are_misfits, boot_fault, started_process}
+use Rattle.zl_verify.proofs.Common.{process_settled, program_in, program_of, refl, same_Some, setting, slice_get, still_booting, subst, sym, true, with_object}
+use Rattle.zl_verify.proofs.Common.{without_others, word_of, ℕ, ◌+◌, ◌==◌, ◌∙◌, ◌∷◌, ◌≡◌, ◌≤◌, ◌⊎◌}
 use Rattle.zl_code.proofs.CanStart.{CanStart, can_start}
 use Rattle.zl_code.proofs.StepChanges.{no_child_booted, job_is_there}
 use Rattle.zl_verify.specs.WakeLaws.{IsBooted}
+use Rattle.zl_code.specs.declared.boot.Grant.{Grant}
 use Rattle.zl_code.specs.declared.boot.Statement.TheVariants as statement
 use Rattle.zl_verify.proofs.OwnEffect.{AreAlike, alike_then, same_objects, made_alike, pair_alike, neither_one, set_alike, same_policy}
 use Rattle.zl_verify.proofs.Woken.{settled_allowed}
 use Rattle.zl_verify.proofs.UnstartedRuns.{made_allows}
+use Rattle.zl_code.proofs.ProgramsKept.{holding}
 
 -- ---- handles as they are declared
 
@@ -143,13 +144,8 @@ boot_starts lib statements boot b =
 
 -- ---- the laws
 
-same_program : (es : List Entry) (vs : List ℕ) (q : Process) → (process_with_all es vs q).program ≡ q.program
-same_program [] vs q = refl
-same_program (e ∷ es) [] q = refl
-same_program (e ∷ es) (v ∷ vs) q = same_program es vs (process_with v e q)
-
 still_runs : (lib : Library) (q : Process) (s : IsBooted lib q) → s.program ≡ q.program
-still_runs lib q s = sym (ap (λ (z : Process). z.program) s.made ∙ same_program s.handles s.values (created_process lib s.program))
+still_runs lib q s = sym (ap (λ (z : Process). z.program) s.made ∙ holding lib s.handles s.values (created_process lib s.program))
 
 module _ (lib : Library) (statements : List Statement) (boot : World) (b : IsSizedBoot lib statements boot) (p : ℕ) where
   pub is_booted : (q : Process) → get boot.processes p ≡ Some q → IsBooted lib q

@@ -1,9 +1,9 @@
 -- A process that conforms is never refused for a handle, no policy ends it, and it keeps its budget, till it ends itself or another kills it.
 use Rattle.zl_verify.proofs.Common.{AllBelow, AllByRecursion, Awaited, Blocked, Conforms, Ended, HasEnded, Image, IsBelow, IsFineItem, IsFitStep, IsSizedBoot}
 use Rattle.zl_verify.proofs.Common.{IsSomeAnd, IsStepBound, IsTyping, IsUnderWay, KILLED, KeepsBudget, Library, List, None, OneOf, Option, OthersLeave, Process}
-use Rattle.zl_verify.proofs.Common.{Ready, Runs, Some, State, Statement, Step, TraceItem, World, [], ap, arith, call_at, cases_Bool, eqb-true, executed, false}
-use Rattle.zl_verify.proofs.Common.{get, has_ended, inl, inr, is_in_range, is_pause, left_so, nat_le, nat_tests, pid_of, refl, runs, same_Some, slice_get}
-use Rattle.zl_verify.proofs.Common.{stays, subst, sym, true, was_killed, ℕ, ◌++◌, ◌+◌, ◌-◌, ◌<◌, ◌==◌, ◌∙◌, ◌∷◌, ◌≡◌, ◌≢◌, ◌≤◌, ◌⊎◌}
+use Rattle.zl_verify.proofs.Common.{Ready, Runs, Some, State, Statement, TraceItem, World, [], ap, arith, call_at, cases_Bool, eqb-true, executed, false, get}
+use Rattle.zl_verify.proofs.Common.{has_ended, inl, inr, is_in_range, is_pause, left_so, nat_le, nat_tests, pid_of, refl, runs, same_Some, slice_get, stays}
+use Rattle.zl_verify.proofs.Common.{subst, sym, true, was_killed, ℕ, ◌++◌, ◌+◌, ◌-◌, ◌<◌, ◌==◌, ◌∙◌, ◌∷◌, ◌≡◌, ◌≢◌, ◌≤◌, ◌⊎◌}
 use Rattle.zl_code.specs.Headline.{left_behind}
 use Rattle.zl_verify.specs.WakeLaws.{wakes}
 use Rattle.zl_verify.proofs.Counting.{has_edge}
@@ -11,13 +11,7 @@ use Rattle.zl_verify.proofs.Woken.{fit_of, sound_before}
 use Rattle.zl_verify.proofs.Others.{others_end, over_after_act}
 use Rattle.zl_verify.proofs.Ended.{ended_still}
 use Rattle.zl_verify.proofs.OwnSteps.{fine_other, Went, goes, pauses, Stopped, by_exit, by_kill, under_way, under_way_steps}
-
--- ---- runs
-
-pub one_more : (lib : Library) (boot : World) (items : List TraceItem) (w : World) (x : TraceItem) (mid : World) → Runs lib boot items w
-    → Step lib w (pid_of x) x mid → Runs lib boot (items ++ (x ∷ [])) mid
-one_more lib boot [] w x mid e step = (mid, subst (λ v. Step lib v (pid_of x) x mid) e step, refl)
-one_more lib boot (y ∷ items) w x mid (first, before, rest) step = (first, before, one_more lib first items w x mid rest step)
+use Rattle.zl_code.proofs.AwakeRuns.{runs_joined}
 
 -- who is over takes no step
 no_step : (lib : Library) (w : World) (p : ℕ) (x : TraceItem) (w2 : World) → IsFitStep lib w p x w2 → HasEnded w p → ⊥
@@ -82,7 +76,7 @@ module _ (lib : Library) (i : Image) (t : ℕ → Option State) (range : is_in_r
     run_stands (x ∷ more) items w after run s (mid, step, rest) =
         let (fine, later) = stands_still w x mid (fit_of lib w (pid_of x) x mid
         (record { statements = statements; boot = boot; items = items; begins = begins; run = run; step = step })) p s in
-        let (all, last) = run_stands more (items ++ (x ∷ [])) mid after (one_more lib boot items w x mid run step) later rest in
+        let (all, last) = run_stands more (items ++ (x ∷ [])) mid after (runs_joined lib boot items w (x ∷ []) mid run (mid, step, refl)) later rest in
         ((fine, all), last)
 
     pub stays_so : (items more : List TraceItem) (w after : World) → Runs lib boot items w → IsUnderWay lib i t w p → Runs lib w more after → StandsIn after p
@@ -200,7 +194,7 @@ module _ (lib : Library) (i : Image) (t : ℕ → Option State) (range : is_in_r
           → KeepsBudget i.budget p left more
       run_counts [] items w after left run s e = tt
       run_counts (x ∷ more) items w after left run s (mid, step, rest) =
-          by (λ fewer still. run_counts more (items ++ (x ∷ [])) mid after fewer (one_more lib boot items w x mid run step) still rest)
+          by (λ fewer still. run_counts more (items ++ (x ∷ [])) mid after fewer (runs_joined lib boot items w (x ∷ []) mid run (mid, step, refl)) still rest)
           (cases_Bool (pid_of x == p))
         where
           b : IsFitStep lib w (pid_of x) x mid

@@ -1,15 +1,14 @@
 -- A process that another starts is started properly, where its program is checked.
+use Rattle.zl_code.proofs.Common.{by_look_up, ends_if_kill, faults, granted}
 use Rattle.zl_verify.proofs.Common.{ANY, Action, Acts, AllByRecursion, AreUnstarted, AtCall, Bool, CallBy, Calls, Choice, Condition, Entry, Err, Image}
 use Rattle.zl_verify.proofs.Common.{IsFitStep, IsRunStep, IsSizedBoot, IsSound, IsStarted, Kind, Library, List, None, Ok, Operand, Option, Outcome, Process}
 use Rattle.zl_verify.proofs.Common.{Program, Ready, Refused, Request, Runs, Site, Some, Start, StartsChild, Statement, Status, TraceItem, Values, Wants, World}
 use Rattle.zl_verify.proofs.Common.{[], action_of, ap, are_declared, bits, by_policy, condition_of, contains, creates, effect, entry_at, examined, false}
 use Rattle.zl_verify.proofs.Common.{first_some, get, gives_ok, handle_operands, if◌then◌else◌, is_created, is_only_start, is_process, listed, may_choose}
-use Rattle.zl_verify.proofs.Common.{may_get, may_get_all, may_want, misfits, new_handles, next_in, not, object_at, on_process, operand, operand_after}
-use Rattle.zl_verify.proofs.Common.{option_map, option_to_list, parent_of, pid_of, process_start, process_with, program_in, program_of, refl, refusal, replied}
-use Rattle.zl_verify.proofs.Common.{same_Some, seen_after, site, slice_get, started_with, state_passes, subst, sym, taken, taken_handles, takes, true}
-use Rattle.zl_verify.proofs.Common.{unless_allowed, with_effect, within, ℕ, ◌&&◌, ◌++◌, ◌==◌, ◌∙◌, ◌∷◌, ◌≡◌, ◌≤◌}
-use Rattle.zl_rights.specs.LookUp.{granted}
-use Rattle.zl_code.specs.Operands.{ends_if_kill, faults, by_look_up}
+use Rattle.zl_verify.proofs.Common.{may_get, may_get_all, may_want, misfits, new_handles, next_in, not, not-false, object_at, on_process, operand}
+use Rattle.zl_verify.proofs.Common.{operand_after, option_map, option_to_list, parent_of, pid_of, process_start, process_with, program_in, program_of, refl}
+use Rattle.zl_verify.proofs.Common.{refusal, replied, same_Some, seen_after, site, slice_get, started_with, state_passes, subst, sym, taken, taken_handles}
+use Rattle.zl_verify.proofs.Common.{takes, true, unless_allowed, with_effect, within, ℕ, ◌&&◌, ◌++◌, ◌==◌, ◌∙◌, ◌∷◌, ◌≡◌, ◌≤◌}
 use Rattle.zl_rights.specs.declared.policy.Action.TheVariants as action
 use Rattle.zl_rights.specs.declared.policy.Condition.TheVariants as condition
 use Rattle.zl_rights.specs.declared.status.Status.TheVariants as status
@@ -17,16 +16,17 @@ use Rattle.zl_code.specs.declared.history.CallName.TheVariants as name
 use Rattle.zl_code.specs.declared.history.Outcome.TheVariants as outcome
 use Rattle.zl_code.specs.declared.history.TraceItem.TheVariants as item
 use Rattle.zl_verify.proofs.Ordinary.{is_good, AreOrdinary, listed_ordinary}
-use Rattle.zl_verify.proofs.Working.{listed_none, test_fails}
+use Rattle.zl_code.proofs.Passing.{listed_none, test_fails}
 use Rattle.zl_verify.proofs.OwnEffect.{starts_created, no_child, same_policy}
 use Rattle.zl_verify.proofs.AtCalls.{at_call}
-use Rattle.zl_verify.proofs.Others.{left_other, replied_other, left_by_step}
+use Rattle.zl_code.proofs.Frame.{left_other, replied_other}
+use Rattle.zl_verify.proofs.Others.{left_by_step}
 use Rattle.zl_verify.proofs.Giving.{getting_all}
 use Rattle.zl_verify.proofs.OwnTable.{other_way}
 use Rattle.zl_verify.proofs.SizedCalls.{IsSizedRequest, request_sized}
 use Rattle.zl_verify.proofs.Woken.{fit_of, sound_before, settled_there, allowed_after}
 use Rattle.zl_verify.proofs.Ended.{awake_still}
-use Rattle.zl_verify.proofs.CheckedRuns.{one_more}
+use Rattle.zl_code.proofs.AwakeRuns.{runs_joined}
 use Rattle.zl_verify.proofs.BootStarts.{is_booted}
 use Rattle.zl_verify.proofs.Unstarted.{inserted_at, changed_at}
 use Rattle.zl_verify.proofs.UnstartedRuns.{lives_new, step_unstarted}
@@ -112,11 +112,7 @@ fits_declared : (o : Option Program) (i : Image) (e : Option Entry) → o ≡ So
     → is_only_start i.starts e ≡ true
 fits_declared None i e is fits = cc
 fits_declared (Some g) i e is fits =
-    by (is_only_start i.starts e) (subst (λ (h : Program). (h.checked && not (is_only_start h.image.starts e)) ≡ false) (same_Some g _ is) fits)
-  where
-    by : (b : Bool) → not b ≡ false → b ≡ true
-    by true k = refl
-    by false k = cc
+    not-false (is_only_start i.starts e) (subst (λ (h : Program). (h.checked && not (is_only_start h.image.starts e)) ≡ false) (same_Some g _ is) fits)
 
 -- one handle gets one value
 record IsOneValue (x : Process) (e : Entry) (vs : List ℕ) : Type 0 where
@@ -229,7 +225,7 @@ module _ (lib : Library) (statements : List Statement) (boot : World) (begins : 
   run_unstarted (x ∷ more) items w after run all (mid, step, rest) =
       let b : IsFitStep lib w (pid_of x) x mid =
       fit_of lib w (pid_of x) x mid (record { statements = statements; boot = boot; items = items; begins = begins; run = run; step = step }) in
-      run_unstarted more (items ++ (x ∷ [])) mid after (one_more lib boot items w x mid run step)
+      run_unstarted more (items ++ (x ∷ [])) mid after (runs_joined lib boot items w (x ∷ []) mid run (mid, step, refl))
       (step_unstarted lib w (pid_of x) x mid b (sound_before lib w (pid_of x) x mid b) all) rest
 
 module _ (lib : Library) (w : World) (p : ℕ) (x : TraceItem) (w2 : World) (b : IsFitStep lib w p x w2) (unstarted : AreUnstarted lib w) (i : Image) (k : ℕ)

@@ -2,11 +2,12 @@
 use Rattle.zl_verify.proofs.Common.{ANY, AbsVal, AllByRecursion, Bool, Entry, Has, Holds, IsAs, IsState, KindOf, List, None, RightsOf, SlotArray, Some, State}
 use Rattle.zl_verify.proofs.Common.{Table, Word, [], are_distinct, can_be_named, eqb-false, false, has_one, inl, inr, is_has, is_result, kind_in, length, map}
 use Rattle.zl_verify.proofs.Common.{not, refl, register_count, rights_in, slice_index, slice_set, subst, sym, true, value_at, with_all, with_value, written, ℕ}
-use Rattle.zl_verify.proofs.Common.{◌&&◌, ◌<◌, ◌==◌, ◌||◌, ◌∷◌, ◌≡◌, ◌≤◌, ◌⊎◌}
+use Rattle.zl_verify.proofs.Common.{◌&&◌, ◌<◌, ◌==◌, ◌∷◌, ◌≡◌, ◌≤◌, ◌⊎◌}
 use Rattle.zl_verify.proofs.Owners.{value_at-with, is_has-untagged}
 use Rattle.zl_verify.proofs.Writing.{write_word}
 use Rattle.zl_verify.proofs.Tagging.{test_apart, named_with, states_with}
 use Rattle.zl_verify.proofs.Consuming.{added, write_none, write_handle, write_kind, write_rights}
+use Rattle.std.proofs.lemmas.Bool.{or_from, or_parts}
 
 -- ---- which values an answer may give
 
@@ -55,13 +56,6 @@ module _ {f : Table} {s : State} {xs : List ℕ} {arrays : List SlotArray} {slot
 
 -- ---- all destinations
 
-neither : (a b : Bool) → (a || b) ≡ false → (a ≡ false) × (b ≡ false)
-neither true b e = cc
-neither false b e = (refl, e)
-
-none_of : (a b : Bool) → a ≡ false → b ≡ false → (a || b) ≡ false
-none_of a b e g = rw (e, g) refl
-
 pub apart_then : (a b : Bool) → (not a && b) ≡ true → (a ≡ false) × (b ≡ true)
 apart_then true b e = cc
 apart_then false b e = (refl, e)
@@ -74,9 +68,9 @@ written_next xs r ds (v ∷ vs) = refl
 still_free : (s : State) (r : ℕ) (a : AbsVal) (ds : List (ℕ × AbsVal)) → is_result ds r ≡ false → has_one s ds ≡ false → has_one (with_value s r a) ds ≡ false
 still_free s r a [] other e = refl
 still_free s r a (d ∷ ds) other e =
-    let apart = neither (d.0 == r) (is_result ds r) other in
-    let free = neither (is_has (value_at s d.0)) (has_one s ds) e in
-    none_of (is_has (value_at (with_value s r a) d.0)) (has_one (with_value s r a) ds)
+    let apart = or_parts (d.0 == r) (is_result ds r) other in
+    let free = or_parts (is_has (value_at s d.0)) (has_one s ds) e in
+    or_from (is_has (value_at (with_value s r a) d.0)) (has_one (with_value s r a) ds)
     (rw (value_at-with s r d.0 a (eqb-false d.0 r apart.0), is_has-untagged r (value_at s d.0)) free.0)
     (still_free s r a ds apart.1 free.1)
 
@@ -92,7 +86,7 @@ unfolding are_distinct with_all
 results [] vs f s xs arrays slots g h states inside distinct free fits = rw fits h
 results (d ∷ ds) vs f s xs arrays slots g h states (inside, more) distinct free (mid, here, later) =
     let apart = apart_then (is_result ds d.0) (are_distinct ds) distinct in
-    let unheld = neither (is_has (value_at s d.0)) (has_one s ds) free in
+    let unheld = or_parts (is_has (value_at s d.0)) (has_one s ds) free in
     let lt : d.0 < length s = subst (λ n. d.0 < n) (sym states.long) inside in
     rw (written_next xs d.0 (map (λ x. x.0) ds) vs)
     (results ds (more_values vs) mid (with_value s d.0 d.1) (slice_set xs d.0 (first_value vs)) arrays slots g

@@ -16,7 +16,7 @@ use Rattle.zl_verify.proofs.Waking.{turn_by_answer, wakes_by}
 use Rattle.zl_verify.proofs.OwnEffect.{starts_created}
 use Rattle.zl_verify.proofs.AtCalls.{IsAtCall, at_call}
 use Rattle.zl_verify.proofs.OwnTable.{changed_elsewhere, inserted_elsewhere}
-use Rattle.zl_verify.proofs.Others.{left_other, stored_other, ended_other, waiting_other, replied_other}
+use Rattle.zl_code.proofs.Frame.{left_other, stored_other, ended_other, waiting_other, replied_other}
 
 -- no process of this koid runs
 abbrev pub IsIdle : World → ℕ → Type 0

@@ -11,6 +11,7 @@ use Rattle.zl_code.specs.declared.instr.LocalInstr.TheVariants as local
 use Rattle.zl_code.specs.declared.history.CallName.TheVariants as name
 use Rattle.zl_abs.specs.declared.cause.Cause.TheVariants as cause
 use Rattle.zl_verify.proofs.PassingOn.{then_on, one, passes_on}
+use Rattle.zl_code.proofs.Common.{or_right}
 
 -- one of the two edges is followed
 abbrev HasWay : Outcome → Type 0
@@ -18,12 +19,8 @@ HasWay w = (is_some w.jumped || is_some w.passed) ≡ true
 
 -- ---- jumps: where the test can't succeed it can fail
 
-or_true : (b : Bool) → (b || true) ≡ true
-or_true true = refl
-or_true false = refl
-
 exchanged : (p q : Bool) → (p || q) ≡ true → (q || p) ≡ true
-exchanged true q h = or_true q
+exchanged true q h = or_right q true refl
 exchanged false true h = refl
 exchanged false false h = h
 
@@ -32,7 +29,7 @@ unless_ways (Err c) h = tt
 unless_ways (Ok w) h = exchanged (is_some w.jumped) (is_some w.passed) h
 
 zero_or_there : (s : State) (a r : ℕ) (v : AbsVal) → HasWay (record { jumped = becomes a 0 (known_zero s r v); passed = known_there s r v })
-zero_or_there s a r (Has maybe k q) = or_true _
+zero_or_there s a r (Has maybe k q) = or_right _ true refl
 zero_or_there s a r _ = refl
 
 kind_or_other : (s : State) (a imm r : ℕ) (k : Option Kind) (v : AbsVal)
@@ -77,7 +74,7 @@ equal_on s a imm (Word m) = by (ltb m (capped imm)) (eqb m 0 && eqb imm 0) (apar
     by true true h = let z : true ≡ false = h refl in cc
 
 zero_on : (s : State) (a : ℕ) (v : AbsVal) → IfOk (zero_ways s a v) HasWay
-zero_on s a (Has maybe k r) = or_true _
+zero_on s a (Has maybe k r) = or_right _ true refl
 zero_on s a v = equal_on s a 0 v
 
 below_on : (s : State) (a imm : ℕ) → IfOk (below_ways s a imm) HasWay
@@ -88,7 +85,7 @@ below_on s a imm = one HasWay s a _ (λ m. either (eqb imm 0) (ltb m imm) s _ (a
 
 has_on : (s : State) (imm : ℕ) (v : AbsVal) → IfOk (has_ways s imm v) HasWay
 has_on s imm (Has maybe k r) = tt
-has_on s imm (RightsOf r) = or_true _
+has_on s imm (RightsOf r) = or_right _ true refl
 has_on s imm _ = refl
 
 -- ---- the rows

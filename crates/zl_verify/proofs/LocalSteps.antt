@@ -1,11 +1,11 @@
 -- The law of the local steps of a process that conforms.
-use Rattle.zl_verify.proofs.Common.{Bool, CallInstr, CallName, Cause, Condition, Conforms, Cpu, Edge, Entry, Err, HandlesAreSound, Holds, IfSome, Image, Instr}
-use Rattle.zl_verify.proofs.Common.{IsAble, IsAbove, IsMemory, IsStuck, IsTrue, IsTyping, KNOWN_RIGHTS, Kind, List, LocalInstr, Moves, Next, None, Ok, OneOf}
-use Rattle.zl_verify.proofs.Common.{Option, Process, Ready, Result, RuleHolds, Site, Some, StandsBy, State, Table, WaitsAt, World, [], and_then, ap, bits, both}
+use Rattle.zl_verify.proofs.Common.{Bool, CallInstr, CallName, Cause, Condition, Conforms, Cpu, Edge, Entry, Err, HandlesAreSound, Holds, Image, Instr, IsAble}
+use Rattle.zl_verify.proofs.Common.{IsAbove, IsMemory, IsStuck, IsTrue, IsTyping, KNOWN_RIGHTS, Kind, List, LocalInstr, Moves, Next, None, Ok, OneOf, Option}
+use Rattle.zl_verify.proofs.Common.{Process, Ready, Result, RuleHolds, Site, Some, StandsBy, State, Table, WaitsAt, World, [], and_then, ap, bits, both}
 use Rattle.zl_verify.proofs.Common.{bounds_of, call_at, call_rule, calls_at, creates, default_rights_of, edge_to, edges, false, get, if◌then◌else◌, inl, inr}
-use Rattle.zl_verify.proofs.Common.{instr_at, is_among, is_in_range, is_instr_in_range, is_local_in_range, is_some, leads, length, list_all, local_effect}
-use Rattle.zl_verify.proofs.Common.{local_rule, moves, nat_lt, next_at, next_of, on_process, ranges, refl, rule_by, rule_with, site_of, slice_get, subst, suc}
-use Rattle.zl_verify.proofs.Common.{sym, target_of, targets_of, true, within, within_trans, zero, ℕ, ◌++◌, ◌+◌, ◌∙◌, ◌∷◌, ◌≡◌, ◌≢◌, ◌⊎◌}
+use Rattle.zl_verify.proofs.Common.{instr_at, is_among, is_in_range, is_local_in_range, is_some, leads, length, local_effect, local_rule, moves, nat_lt}
+use Rattle.zl_verify.proofs.Common.{next_at, next_of, on_process, ranges, refl, rule_by, rule_with, site_of, subst, sym, target_of, targets_of, true, within}
+use Rattle.zl_verify.proofs.Common.{within_trans, ℕ, ◌++◌, ◌+◌, ◌∙◌, ◌∷◌, ◌≡◌, ◌≢◌, ◌⊎◌}
 use Rattle.zl_abs.specs.Outcome.{Outcome}
 use Rattle.zl_verify.specs.LocalLaws.{GoesOn}
 use Rattle.zl_rights.specs.declared.kind.Kind.TheVariants as kind
@@ -16,14 +16,9 @@ use Rattle.zl_verify.proofs.Refining.{Known}
 use Rattle.zl_verify.proofs.Agreeing.{Arrives, agrees}
 use Rattle.zl_verify.proofs.CallSites.{IsGiven, memory_there}
 use Rattle.zl_verify.proofs.Sites.{has_site}
+use Rattle.zl_abs.proofs.FineRules.{in_range_at}
 
 -- ---- facts of an image and of a world
-
-pub in_range_at : (raw : Bool) (code : List Instr) (n : ℕ) → list_all (is_instr_in_range raw) code ≡ true
-    → IfSome (slice_get code n) (λ x. is_instr_in_range raw x ≡ true)
-in_range_at raw [] n h = tt
-in_range_at raw (x ∷ code) zero h = (both (is_instr_in_range raw x) (list_all (is_instr_in_range raw) code) h).0
-in_range_at raw (x ∷ code) (suc n) h = in_range_at raw code n (both (is_instr_in_range raw x) (list_all (is_instr_in_range raw) code) h).1
 
 defaults_known : (k : Kind) → within (default_rights_of k) KNOWN_RIGHTS ≡ true
 defaults_known kind.Process = refl

@@ -4,9 +4,9 @@ use Rattle.zl_verify.proofs.Common.{IsTyping, KILLED, Library, Life, List, Moves
 use Rattle.zl_verify.proofs.Common.{State, Status, Step, TraceItem, World, [], after_ok, after_refusal, ap, arith, awaited_by, created_process, creates, effect}
 use Rattle.zl_verify.proofs.Common.{ended, entering_at, false, get, get-each, get-put, gives_ok, gives_refused, has_ended, insert_all, is_among, is_created}
 use Rattle.zl_verify.proofs.Common.{is_in_range, is_some, is_within, left_behind, left_so, lives, new_handles, next_for, object_at, ok_outcome, on_object}
-use Rattle.zl_verify.proofs.Common.{on_process, option_map, process_create, process_ended, process_killed, process_start, process_without, receiver_of, refl}
-use Rattle.zl_verify.proofs.Common.{refusal, remove_all, replied, runs, started_with, stored_by, storing, taken, taken_handles, task_kill, true, waiting}
-use Rattle.zl_verify.proofs.Common.{was_killed, with_effect, with_killed, with_object, ℕ, ◌<◌, ◌==◌, ◌∙◌, ◌∷◌, ◌≡◌}
+use Rattle.zl_verify.proofs.Common.{on_process, option_map, process_create, process_ended, process_killed, process_start, receiver_of, refl, refusal, replied}
+use Rattle.zl_verify.proofs.Common.{runs, started_with, stored_by, taken, taken_handles, task_kill, true, waiting, was_killed, with_effect, with_killed}
+use Rattle.zl_verify.proofs.Common.{with_object, ℕ, ◌<◌, ◌==◌, ◌∙◌, ◌≡◌}
 use Rattle.zl_rights.specs.declared.status.Status.TheVariants as status
 use Rattle.zl_code.specs.declared.history.Outcome.TheVariants as outcome
 use Rattle.zl_verify.proofs.CallEnds.{call_ends}
@@ -14,6 +14,7 @@ use Rattle.zl_verify.proofs.OwnTable.{changed_elsewhere, inserted_elsewhere}
 use Rattle.zl_verify.proofs.OwnEffect.{starts_created, no_child, other_koid, AreAlike, alike_then, same_objects, alike_after, same_policy}
 use Rattle.zl_verify.proofs.Woken.{lives_then, sound_before, ends_step}
 use Rattle.zl_verify.proofs.Ended.{ended_still}
+use Rattle.zl_code.proofs.Frame.{ended_other, left_other, replied_other, stored_other, waiting_other}
 
 -- ---- the others
 
@@ -27,31 +28,6 @@ left_same y a b same (as_before is) = as_before (same ∙ is)
 left_same y a b same (was_ended is) = was_ended (same ∙ is)
 
 module _ (p q : ℕ) (apart : (p == q) ≡ false) where
-  -- the same stands at q
-  abbrev Same : World → World → Type 0
-  Same u w = get u.processes q ≡ get w.processes q
-
-  pub left_other : (hs : List ℕ) (w : World) → Same (remove_all w p hs) w
-  unfolding remove_all
-  left_other [] w = refl
-  left_other (h ∷ hs) w = left_other hs (on_process w p (process_without h)) ∙ changed_elsewhere w p (process_without h) q apart
-
-  pub stored_other : (at : ℕ × List ℕ) (w : World) → Same (storing w p at) w
-  stored_other (address, []) w = refl
-  stored_other (address, b ∷ bytes) w = changed_elsewhere w p _ q apart
-
-  pub ended_other : (w : World) (code : _) → Same (ended w p code) w
-  unfolding ended
-  ended_other w code = changed_elsewhere w p (process_ended code) q apart
-
-  pub waiting_other : (w : World) (ds : List ℕ) (awaited : Option Awaited) → Same (waiting w p ds awaited) w
-  waiting_other w ds None = refl
-  waiting_other w ds (Some awaited) = changed_elsewhere w p _ q apart
-
-  pub replied_other : (u : World) (t : Site) (answer : Status) (values : List ℕ) → Same (replied u p t answer values) u
-  unfolding replied
-  replied_other u t answer values = changed_elsewhere u p _ q apart
-
   -- q was not only created
   module _ (w : World) (y : Process) (there : get w.processes q ≡ Some y) (old : is_created y.state ≡ false) where
     -- the started process is another
@@ -60,7 +36,7 @@ module _ (p q : ℕ) (apart : (p == q) ≡ false) where
 
     -- handles enter another table
     entered_other : (r : Request) (lib : Library) → refusal lib w p r ≡ None → (es : List Entry) (vs : List ℕ) (v : World)
-        → Same (insert_all v (receiver_of w p r) es vs) v
+        → get (insert_all v (receiver_of w p r) es vs).processes q ≡ get v.processes q
     entered_other (process_start process h word) lib passes es vs v =
         inserted_elsewhere es vs v (object_at w p process) q (not_started lib process h word passes)
     entered_other _ lib passes es vs v = inserted_elsewhere es vs v p q apart

@@ -15,7 +15,7 @@ use Rattle.zl_rights.specs.declared.status.Status.TheVariants as status
 use Rattle.zl_rights.specs.declared.policy.Action.TheVariants as action
 use Rattle.zl_verify.proofs.Giving.{getting_all}
 use Rattle.zl_verify.proofs.OwnTable.{changed_elsewhere, inserted_here, inserted_elsewhere, own_handles, storing_in, stored_here}
-use Rattle.zl_verify.proofs.Working.{listed_none, test_fails, test_passes}
+use Rattle.zl_code.proofs.Passing.{listed_none, test_fails, test_passes}
 
 -- ---- the caller
 

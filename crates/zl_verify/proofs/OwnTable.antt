@@ -6,6 +6,7 @@ use Rattle.zl_verify.proofs.Common.{process_without, refl, remove_all, slice_ind
 use Rattle.zl_verify.proofs.Consuming.{removed}
 use Rattle.zl_verify.proofs.Examining.{unseen, unseen_more, seen_all, valued}
 use Rattle.zl_verify.proofs.Giving.{none_at, getting_all}
+use Rattle.zl_code.proofs.Frame.{enter_other}
 
 pub changed_here : (w : World) (p : ℕ) (f : Process → Process) (q : Process) → get w.processes p ≡ Some q → get (on_process w p f).processes p ≡ Some (f q)
 unfolding on_process
@@ -84,11 +85,7 @@ inserted_here (e ∷ es) (v ∷ vs) w p q there =
     inserted_here es vs (on_process w p (process_with v e)) p (process_with v e q) (changed_here w p (process_with v e) q there)
 
 pub inserted_elsewhere : (es : List Entry) (vs : List ℕ) (w : World) (k p : ℕ) → (k == p) ≡ false → get (insert_all w k es vs).processes p ≡ get w.processes p
-unfolding insert_all
-inserted_elsewhere [] vs w k p apart = refl
-inserted_elsewhere (e ∷ es) [] w k p apart = refl
-inserted_elsewhere (e ∷ es) (v ∷ vs) w k p apart =
-    inserted_elsewhere es vs (on_process w k (process_with v e)) k p apart ∙ changed_elsewhere w k (process_with v e) p apart
+inserted_elsewhere es vs w k p apart = enter_other k p apart w es vs
 
 -- the new handles that enter the caller's own table: not that of the process that it starts
 abbrev pub own_handles : World → ℕ → Request → List Entry

@@ -3,6 +3,7 @@ use Rattle.zl_verify.proofs.Common.{ANY, AbsVal, Bool, Has, Kind, KindOf, List, 
 use Rattle.zl_verify.proofs.Common.{false, get_or-set_other, get_or-set_same, if◌then◌else◌, inl, inr, is_has, is_it, keepers, length, map, nat_lt, nat_tests}
 use Rattle.zl_verify.proofs.Common.{one_if, owners, owns, place_at, refl, slice_index, slice_index_or, slice_set, suc, sum_by, sum_by-cons, sum_by-set, sym}
 use Rattle.zl_verify.proofs.Common.{true, untagged, value_at, with_value, zero, ℕ, ◌&&◌, ◌+◌, ◌<◌, ◌==◌, ◌∙◌, ◌∷◌, ◌≡◌, ◌≢◌, ◌≤◌, ◌⊎◌}
+pub use Rattle.zl_abs.proofs.FineStates.{mapped_at as value_at-map}
 
 -- ---- one place
 
@@ -60,11 +61,6 @@ set_same s r a lt = get_or-set_same s r a (Word 0) lt
 
 pub set_apart : (s : State) (r q : ℕ) (a : AbsVal) → q ≢ r → value_at (slice_set s r a) q ≡ value_at s q
 set_apart s r q a apart = get_or-set_other s r q a (Word 0) apart
-
-pub value_at-map : (f : AbsVal → AbsVal) → f (Word 0) ≡ Word 0 → (s : State) (q : ℕ) → value_at (map f s) q ≡ f (value_at s q)
-value_at-map f e [] q = sym e
-value_at-map f e (b ∷ s) zero = refl
-value_at-map f e (b ∷ s) (suc q) = value_at-map f e s q
 
 pub value_at-with : (s : State) (r q : ℕ) (a : AbsVal) → q ≢ r → value_at (with_value s r a) q ≡ untagged r (value_at s q)
 unfolding with_value

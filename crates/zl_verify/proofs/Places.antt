@@ -1,7 +1,9 @@
 -- Lists by their places: what a write leaves.
-use Rattle.zl_verify.proofs.Common.{Bool, List, None, Option, Some, [], ap, arith, at, false, inl, inr, length, refl, slice_get, slice_set, suc, true, zero, ℕ}
-use Rattle.zl_verify.proofs.Common.{◌<◌, ◌∷◌, ◌≡◌, ◌≢◌, ◌≤◌, ◌⊎◌}
+use Rattle.zl_verify.proofs.Common.{Bool, List, None, Option, Some, [], ap, arith, at, false, length, refl, slice_get, slice_set, suc, true, zero, ℕ, ◌<◌, ◌∷◌}
+use Rattle.zl_verify.proofs.Common.{◌≡◌, ◌≢◌}
 use Rattle.zl_verify.specs.Lists.{within}
+pub use Rattle.std.proofs.lemmas.Bool.{cases_eq as equal_or_not, cases_lt as below_or_not}
+pub use Rattle.std.proofs.lemmas.Option.{slice_get_past as get_past, slice_get_within as there}
 
 pub get_put : {X : Type 0} (xs : List X) (n : ℕ) (v : X) → n < length xs → slice_get (slice_set xs n v) n ≡ Some v
 get_put [] n v h = absurd (omega arith)
@@ -15,11 +17,6 @@ get_put_other (x ∷ xs) zero (suc m) v h = refl
 get_put_other (x ∷ xs) (suc n) zero v h = refl
 get_put_other (x ∷ xs) (suc n) (suc m) v h = get_put_other xs n m v (λ e. h (ap suc e))
 
-pub there : {X : Type 0} (xs : List X) (n : ℕ) (x : X) → slice_get xs n ≡ Some x → n < length xs
-there [] n x h = cc
-there (y ∷ xs) zero x h = omega arith
-there (y ∷ xs) (suc n) x h = let k = there xs n x h in omega arith
-
 pub mapped : {X : Type 0} (xs : List (Option X)) (n : ℕ) (x : X) → at xs n ≡ Some x → n < length xs
 mapped {X} xs n x e = by (slice_get xs n) refl e
   where
@@ -32,24 +29,7 @@ nowhere [] n e h = omega arith
 nowhere (x ∷ xs) zero e h = cc
 nowhere (x ∷ xs) (suc n) e h = nowhere xs n e (omega arith)
 
-pub get_past : {X : Type 0} (xs : List X) (n : ℕ) → length xs ≤ n → slice_get xs n ≡ None
-get_past [] n h = refl
-get_past (x ∷ xs) zero h = absurd (omega arith)
-get_past (x ∷ xs) (suc n) h = get_past xs n (omega arith)
-
 pub off : (xs : List Bool) (n : ℕ) → slice_get (slice_set xs n false) n ≡ Some true → ⊥
 off [] n e = cc
 off (x ∷ xs) zero e = cc
 off (x ∷ xs) (suc n) e = off xs n e
-
-pub equal_or_not : (n m : ℕ) → (n ≡ m) ⊎ (n ≢ m)
-equal_or_not zero zero = inl refl
-equal_or_not zero (suc m) = inr (λ e. omega arith)
-equal_or_not (suc n) zero = inr (λ e. omega arith)
-equal_or_not (suc n) (suc m) = elim (equal_or_not n m) [ inl e ↦ inl (ap suc e) | inr d ↦ inr (λ e. d (omega arith)) ]
-
-pub below_or_not : (n m : ℕ) → (n < m) ⊎ (m ≤ n)
-below_or_not zero zero = inr (omega arith)
-below_or_not zero (suc m) = inl (omega arith)
-below_or_not (suc n) zero = inr (omega arith)
-below_or_not (suc n) (suc m) = elim (below_or_not n m) [ inl h ↦ inl (omega arith) | inr h ↦ inr (omega arith) ]

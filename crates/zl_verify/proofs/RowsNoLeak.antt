@@ -4,7 +4,7 @@ use Rattle.zl_verify.proofs.Common.{ANY, AbsVal, Bool, Conforms, Contains, Cpu, 
 use Rattle.zl_verify.proofs.Common.{IsTrue, List, Map, None, Option, Process, READ, Ready, SlotArray, Some, Start, State, Word, World, [], arith, called}
 use Rattle.zl_verify.proofs.Common.{creates, eqb-true, false, get, handle_values, has_key, if◌then◌else◌, inl, inr, is_it, is_some, keepers, list_any}
 use Rattle.zl_verify.proofs.Common.{nat_tests, one_if, owners, owns, place_at, refl, replicate, rights_of, same_Some, slice_get, slice_index, subst, suc, sym}
-use Rattle.zl_verify.proofs.Common.{true, value_at, values_in_registers, values_in_slots, zero, ℕ, ◌&&◌, ◌+◌, ◌<◌, ◌==◌, ◌||◌, ◌↔◌, ◌∷◌, ◌≡◌, ◌≤◌}
+use Rattle.zl_verify.proofs.Common.{true, value_at, values_in_registers, values_in_slots, zero, ℕ, ◌&&◌, ◌+◌, ◌<◌, ◌==◌, ◌↔◌, ◌∷◌, ◌≡◌, ◌≤◌}
 use Rattle.zl_rights.specs.declared.kind.Kind.TheVariants as kind
 use Rattle.zl_code.specs.declared.instr.Instr.TheVariants as instr
 use Rattle.zl_code.specs.declared.instr.LocalInstr.TheVariants as local
@@ -12,6 +12,7 @@ use Rattle.zl_code.specs.declared.history.CallName.TheVariants as name
 use Rattle.zl_verify.proofs.RowsConforms.{zeros_small, zeros_described}
 use Rattle.zl_verify.proofs.Owners.{not_0}
 use Rattle.zl_verify.proofs.Starting.{owners_none}
+use Rattle.zl_code.proofs.Common.{or_right}
 
 -- ---- the example
 
@@ -158,11 +159,7 @@ by_state s q h = subst (λ (x : State). Exactly x q) (same_Some h.state s (sym h
 among : (xs : List ℕ) (v : ℕ) → Contains xs v → list_any (λ x. x == v) xs ≡ true
 among [] v (k, inside, is) = absurd (omega arith)
 among (x ∷ xs) v (zero, inside, is) = let here : (x == v) ≡ true = grind (arith, nat_tests) in rw here refl
-among (x ∷ xs) v (suc k, inside, is) = rw (among xs v (k, omega arith, is)) (by (x == v))
-  where
-    by : (b : Bool) → (b || true) ≡ true
-    by true = refl
-    by false = refl
+among (x ∷ xs) v (suc k, inside, is) = rw (among xs v (k, omega arith, is)) (or_right (x == v) true refl)
 
 -- a handle more in the table
 one_more : HoldsJustItsHandles (λ n. Some known) (process cpu ((17, channel 4) ∷ (23, channel 6) ∷ (31, channel 8) ∷ [])) → ⊥

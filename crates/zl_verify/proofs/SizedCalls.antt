@@ -24,7 +24,7 @@ use Rattle.zl_verify.proofs.Memories.{AreBytes, all_taken, all_dropped}
 use Rattle.zl_verify.proofs.Calm.{both_few, within_few, first_sizes, first_are_bytes, first_rights, packets_at_sized}
 use Rattle.zl_verify.proofs.Giving.{status_few, kind_few, HasFewRights}
 use Rattle.zl_verify.proofs.Sites.{call, AtSite, of_site}
-use Rattle.zl_verify.proofs.Working.{listed_none, test_fails, test_passes}
+use Rattle.zl_code.proofs.Passing.{listed_none, test_fails, test_passes}
 use Rattle.zl_verify.proofs.SizedCpus.{AreSmall, registers_written, answered_sized, blank_sized, started_sized}
 use Rattle.zl_verify.proofs.SizedWorlds.{pair_sized, IsSizedProcess, IsSizedAt, all_filtered, all_behind, each_update, each_each, queues_sized, active_sized}
 use Rattle.zl_verify.proofs.SizedWorlds.{process_sized, one_sized, new_process_sized, removed_sized, inserted_sized, stored_sized, ended_sized, waiting_sized}

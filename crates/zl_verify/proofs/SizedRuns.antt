@@ -9,7 +9,7 @@ use Rattle.zl_verify.proofs.Common.{subst, suc, true, with_object, word_of, zero
 use Rattle.zl_code.specs.Steps.{IsLegalHistory}
 use Rattle.zl_code.specs.declared.boot.Statement.TheVariants as statement
 use Rattle.zl_code.specs.declared.instr.Instr.TheVariants as instr
-use Rattle.zl_verify.proofs.LocalSteps.{in_range_at}
+use Rattle.zl_abs.proofs.FineRules.{in_range_at}
 use Rattle.zl_verify.proofs.SizedCpus.{blank_sized, started_sized, local_sized}
 use Rattle.zl_verify.proofs.SizedWorlds.{pair_sized, object_sized, process_sized, new_process_sized, ended_sized, new_object_sized, settled_sized, wakes_sized}
 use Rattle.zl_verify.proofs.SizedCalls.{policy_set_sized, IsSizedRequest, request_sized, chosen_small, empty_sized, call_sized}

@@ -1,20 +1,18 @@
 -- Worlds in which registers, memories and what is queued are sized; what changes a world leaves it so, and so do settling and waking.
-use Rattle.zl_verify.proofs.Common.{ANY, AllByRecursion, Awaited, Blocked, Body, Bool, Each, Ended, Entry, IsSized, IsSizedCpu, IsSizedObject, IsSizedPacket}
-use Rattle.zl_verify.proofs.Common.{IsSizedWait, List, Map, None, Object, Option, Packet, PortBody, Process, QueuesAreSized, Settles, Some, World, [], active}
-use Rattle.zl_verify.proofs.Common.{arith, body_with_packets, cond, ended, false, filter, fired, get, get-each, get-update, has_key, if◌then◌else◌, insert_all}
-use Rattle.zl_verify.proofs.Common.{lives, made_ready, map, none-some, not, on_object, on_process, option_map, overwritten, packet_values, packets_for}
-use Rattle.zl_verify.proofs.Common.{process_ended, process_settled, process_with, process_without, refl, registered, remove_all, same_Some, storing, subst, sym}
-use Rattle.zl_verify.proofs.Common.{true, waiting, wakes, with_body, with_object, with_process, without, without_others, woken, ℕ, ℤ, ◌&&◌, ◌++◌, ◌==◌, ◌∙◌}
-use Rattle.zl_verify.proofs.Common.{◌∷◌, ◌≡◌, ◌≤◌}
-use Rattle.zl_rights.specs.Common.{each, update}
-use Rattle.zl_rights.specs.World.{Wait}
-use Rattle.zl_rights.specs.Settle.{is_made_by_handle}
-use Rattle.zl_rights.specs.Wakes.{holds, packet_of}
+use Rattle.zl_code.proofs.Common.{Wait, each, holds, is_made_by_handle}
+use Rattle.zl_verify.proofs.Common.{ANY, AllByRecursion, Awaited, Blocked, Body, Bool, Ended, Entry, IsSized, IsSizedCpu, IsSizedObject, IsSizedPacket}
+use Rattle.zl_verify.proofs.Common.{IsSizedWait, List, None, Object, Option, Packet, PortBody, Process, QueuesAreSized, Settles, Some, World, [], active, arith}
+use Rattle.zl_verify.proofs.Common.{body_with_packets, cond, ended, false, filter, fired, has_key, if◌then◌else◌, insert_all, lives, made_ready, map, not}
+use Rattle.zl_verify.proofs.Common.{on_object, on_process, overwritten, packet_values, packets_for, process_ended, process_settled, process_with}
+use Rattle.zl_verify.proofs.Common.{process_without, registered, remove_all, storing, subst, true, waiting, wakes, with_body, with_object, with_process}
+use Rattle.zl_verify.proofs.Common.{without, without_others, woken, ℕ, ℤ, ◌&&◌, ◌++◌, ◌==◌, ◌∷◌, ◌≤◌}
+use Rattle.zl_rights.specs.Wakes.{packet_of}
 use Rattle.zl_code.proofs.MapKept.{each_put, each_where_key}
 use Rattle.zl_verify.proofs.Waking.{turn_by, wakes_by}
 use Rattle.zl_verify.proofs.Memories.{AreBytes, bytes_over}
 use Rattle.zl_verify.proofs.Calm.{active_few}
 use Rattle.zl_verify.proofs.SizedCpus.{AreSmall, answered_sized}
+pub use Rattle.zl_code.proofs.ProgramsKept.{each_each, each_update}
 
 -- ---- lists
 
@@ -35,24 +33,6 @@ all_made : {X Y : Type 0} (P : X → Type 0) (Q : Y → Type 0) (f : X → Y) �
     → AllByRecursion Q (map f xs)
 all_made P Q f each [] h = tt
 all_made P Q f each (x ∷ xs) (one, more) = (each x one, all_made P Q f each xs more)
-
--- ---- maps
-
-module _ {X : Type 0} (P : X → Type 0) (m : Map X) (all : Each P m) where
-  pub each_update : (q : ℕ) (f : X → X) → ((x : X) → P x → P (f x)) → Each P (update m q f)
-  each_update q f keeps k x there = by (q == k) (get m k) refl (sym (get-update m q f k) ∙ there)
-    where
-      by : (b : Bool) (o : Option X) → get m k ≡ o → (if b then option_map f o else o) ≡ Some x → P x
-      by true None is e = absurd (none-some x e)
-      by true (Some y) is e = subst P (same_Some (f y) x e) (keeps y (all k y is))
-      by false o is e = all k x (is ∙ e)
-
-  pub each_each : (f : ℕ → X → X) → ((k : ℕ) (x : X) → P x → P (f k x)) → Each P (each f m)
-  each_each f keeps k x there = by (get m k) refl (sym (get-each m f k) ∙ there)
-    where
-      by : (o : Option X) → get m k ≡ o → option_map (f k) o ≡ Some x → P x
-      by None is e = absurd (none-some x e)
-      by (Some y) is e = subst P (same_Some (f k y) x e) (keeps k y (all k y is))
 
 -- ---- sized worlds
 

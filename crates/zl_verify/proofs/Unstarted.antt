@@ -14,7 +14,7 @@ use Rattle.zl_verify.proofs.Giving.{getting_all}
 use Rattle.zl_verify.proofs.OwnTable.{changed_here, changed_elsewhere, inserted_elsewhere, own_handles, losing_all, losing_same, removed_here, getting_same}
 use Rattle.zl_verify.proofs.Storing.{storing_same}
 use Rattle.zl_verify.proofs.OwnEffect.{IsDone, caller_after, caller_ending, inserted_objects, stored_objects}
-use Rattle.zl_verify.proofs.Others.{left_other, stored_other, ended_other, waiting_other, replied_other}
+use Rattle.zl_code.proofs.Frame.{left_other, stored_other, ended_other, waiting_other, replied_other}
 
 -- ---- where such a process comes from
 

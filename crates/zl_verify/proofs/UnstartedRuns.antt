@@ -9,7 +9,7 @@ use Rattle.zl_verify.proofs.Common.{woken, ℕ, ◌&&◌, ◌<◌, ◌==◌, ◌
 use Rattle.zl_rights.specs.declared.policy.Action.TheVariants as action
 use Rattle.zl_rights.specs.declared.status.Status.TheVariants as status
 use Rattle.zl_verify.proofs.Waking.{turn_by_answer, wakes_by}
-use Rattle.zl_verify.proofs.Working.{listed_none, test_fails}
+use Rattle.zl_code.proofs.Passing.{listed_none, test_fails}
 use Rattle.zl_verify.proofs.OwnEffect.{other_koid, same_policy}
 use Rattle.zl_verify.proofs.Others.{keys_below, left_by_step}
 use Rattle.zl_verify.proofs.Woken.{allowed_after}

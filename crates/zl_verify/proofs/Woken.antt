@@ -1,4 +1,5 @@
 -- What settling and waking leave of a process that is as its typing says, and of what its job allows it.
+use Rattle.zl_code.proofs.Common.{Koids, get-where_key-in, get-where_key-out, where_key}
 use Rattle.zl_verify.proofs.Common.{Awaited, Blocked, Body, Condition, Conforms, Created, Ended, EndsStep, HasItsObject, Image, IsFitStep, IsRunStep, IsSized}
 use Rattle.zl_verify.proofs.Common.{IsSizedObject, IsSound, IsTrue, IsTyping, Library, Life, List, None, Object, Option, Packet, PacketAt, PortBody, Process}
 use Rattle.zl_verify.proofs.Common.{ProcessBody, Ready, Settles, SignalOf, Some, State, TraceItem, World, [], action_of, active, answered, ap, body_in, body_of}
@@ -6,8 +7,6 @@ use Rattle.zl_verify.proofs.Common.{body_with_packets, cases_Bool, condition_num
 use Rattle.zl_verify.proofs.Common.{if◌then◌else◌, inl, inr, is_among, is_in_range, lives, made_ready, none-some, option_map, packet_values, packets_for}
 use Rattle.zl_verify.proofs.Common.{parent_in, parent_of, policy_in, process_settled, refl, run_sound, runs, same_Some, state_without, stays, step_sound, subst}
 use Rattle.zl_verify.proofs.Common.{sym, true, unless_allowed, unwrap_or, wakes, with_body, without_others, woken, ℕ, ◌==◌, ◌∙◌, ◌∷◌, ◌≡◌, ◌⊎◌}
-use Rattle.zl_rights.specs.Common.{where_key, Koids}
-use Rattle.zl_rights.proofs.MapLaws.{get-where_key-in, get-where_key-out}
 use Rattle.zl_verify.specs.WakeLaws.{wakes as is_woken}
 use Rattle.zl_rights.specs.declared.policy.Action.TheVariants as action
 use Rattle.zl_verify.proofs.Waking.{turn_by, wakes_by}

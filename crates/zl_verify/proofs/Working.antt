@@ -1,14 +1,13 @@
 -- What a call that is answered OK gives fits what its rule says.
 use Rattle.zl_verify.proofs.Common.{ANY, AbsVal, AllByRecursion, Bool, CallInstr, CallName, DUPLICATE, Describes, Entry, Has, IsAs, IsSizedPacket, IsSound}
-use Rattle.zl_verify.proofs.Common.{KNOWN_RIGHTS, Kind, Library, List, None, Ok, Operand, Option, Outcome, Packet, Process, QueuesAreSized, Request}
-use Rattle.zl_verify.proofs.Common.{SAME_RIGHTS, Site, SlotArray, Some, State, Status, Table, Uses, Word, World, [], active, and_assoc, answer_if, any, ap}
-use Rattle.zl_verify.proofs.Common.{arith, bit_and, bits, both, by_policy, chan_read_etc, condition_of, copy_of, default_rights_of, dup, entering_at, entry_at}
-use Rattle.zl_verify.proofs.Common.{eq-eqb, examined, examined_all, false, fault_of, first_bytes, first_handles, first_some, first_values, get, gives_ok}
-use Rattle.zl_verify.proofs.Common.{handle_operands, if◌then◌else◌, inl, inr, is_empty, length, listed, may_choose, may_get_all, narrowed_value, nat_le}
-use Rattle.zl_verify.proofs.Common.{nat_tests, needs, new, new_entry, new_handles, not, number_at, object_at, packets_at, process_start, process_with, queue_at}
-use Rattle.zl_verify.proofs.Common.{refl, refusal, reg, register_count, replace, rights_of, rounded, site_of, slice_index, slice_set, subst, suc, sym}
-use Rattle.zl_verify.proofs.Common.{taken_handles, taking, told_of, triple_results, true, uses_of, value_at, with_rights, with_value, within, within_is, zero}
-use Rattle.zl_verify.proofs.Common.{ℕ, ◌&&◌, ◌*◌, ◌+◌, ◌<◌, ◌==◌, ◌∙◌, ◌∷◌, ◌≡◌, ◌≤◌}
+use Rattle.zl_verify.proofs.Common.{KNOWN_RIGHTS, Kind, Library, List, None, Ok, Operand, Option, Packet, Process, QueuesAreSized, Request, SAME_RIGHTS, Site}
+use Rattle.zl_verify.proofs.Common.{SlotArray, Some, State, Table, Uses, Word, World, [], active, and_assoc, answer_if, any, ap, arith, bit_and, bits, both}
+use Rattle.zl_verify.proofs.Common.{chan_read_etc, copy_of, default_rights_of, dup, entering_at, entry_at, eq-eqb, examined_all, false, fault_of, first_bytes}
+use Rattle.zl_verify.proofs.Common.{first_handles, first_values, get, gives_ok, handle_operands, if◌then◌else◌, inl, inr, is_empty, length, listed, may_choose}
+use Rattle.zl_verify.proofs.Common.{may_get_all, narrowed_value, nat_le, nat_tests, needs, new, new_entry, new_handles, number_at, object_at, packets_at}
+use Rattle.zl_verify.proofs.Common.{process_start, process_with, queue_at, refl, refusal, reg, register_count, replace, rights_of, rounded, site_of}
+use Rattle.zl_verify.proofs.Common.{slice_index, slice_set, subst, suc, sym, taken_handles, taking, told_of, triple_results, true, uses_of, value_at}
+use Rattle.zl_verify.proofs.Common.{with_rights, with_value, within, within_is, zero, ℕ, ◌&&◌, ◌*◌, ◌+◌, ◌<◌, ◌==◌, ◌∙◌, ◌∷◌, ◌≡◌, ◌≤◌}
 use Rattle.std.specs.Int.Bits.{and_self}
 use Rattle.zl_rights.specs.declared.kind.Kind.TheVariants as kind
 use Rattle.zl_rights.specs.declared.status.Status.TheVariants as status
@@ -22,28 +21,7 @@ use Rattle.zl_verify.proofs.Sites.{call, AtSite, of_site}
 use Rattle.zl_verify.proofs.Aligned.{places_end}
 use Rattle.zl_verify.proofs.Standing.{Stands, reads_own}
 use Rattle.zl_verify.proofs.Calm.{signals_few, first_sizes, packets_at_sized, first_rights}
-
--- ---- what isn't refused
-
-abbrev AreNone : List (Option Outcome) → Type 0
-AreNone os = AllByRecursion (λ (o : Option Outcome). o ≡ None) os
-
-all_none : (os : List (Option Outcome)) → first_some os ≡ None → AreNone os
-all_none [] e = tt
-all_none (None ∷ os) e = (refl, all_none os e)
-all_none (Some o ∷ os) e = cc
-
-pub listed_none : (lib : Library) (w : World) (p : ℕ) (r : Request) → refusal lib w p r ≡ None → AreNone (listed lib w p r)
-unfolding refusal
-listed_none lib w p r e = (all_none (examined w p [] (handle_operands r) ∷ by_policy w p (condition_of r) ∷ listed lib w p r) e).1.1
-
-pub test_fails : (b : Bool) (st : Status) → answer_if b st ≡ None → b ≡ false
-test_fails true st e = cc
-test_fails false st e = refl
-
-pub test_passes : (b : Bool) (st : Status) → answer_if (not b) st ≡ None → b ≡ true
-test_passes true st e = refl
-test_passes false st e = cc
+use Rattle.zl_code.proofs.Passing.{listed_none, test_fails, test_passes}
 
 -- ---- a copy of a handle
 

@@ -11,6 +11,9 @@ use Rattle.zl_scenario.specs.declared.reading.Scenario.{Scenario as Made}
 use Rattle.zlab.specs.Replay.{Boots, Comes, HasItems, IsScenarioOf, IsTraceFault, IsTrueOf, MOST_TRACE, trace_front}
 use Rattle.zlab.specs.Replay.{wrong, too_long as trace_too_long}
 use Rattle.zlab.proofs.Booting.{statement_fault}
+use Rattle.zlab.proofs.SoundWorlds.{always_sound}
+use Rattle.zl_scenario.proofs.Programs.{are_verified}
+use Rattle.zl_verify.proofs.CoveredRuns.{covered_go_well}
 
 -- ---- the scenario
 
@@ -50,6 +53,8 @@ module _ (text : List ℕ) (fits : FitsInput text) (scenario : Made) (reading : 
         boots = boots;
         last = last;
         legal = legal;
+        covered = covered_go_well scenario.library scenario.boot.statements.items boot (are_verified scenario.library boots.images is.accepted) boots items;
+        sound = always_sound scenario.library scenario.boot.statements.items boot last items boots.boots legal;
       },
     )
     comes_of trace items (replayed.Differs n) has differs = (

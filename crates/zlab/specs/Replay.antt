@@ -2,7 +2,8 @@
 use Rattle.std.specs.Prelude.{ℕ, ◌≡◌, ◌<◌, ◌≤◌, ◌+◌, List, ◌++◌, codes, length, take, Option, Some, None, slice_index_or}
 use Rattle.std.specs.Fmt.{decimal}
 use Rattle.std.specs.Io.KnownBytes.{Appends}
-use Rattle.zl_code.specs.Common.{World, IsBoot, BootRefusal, Library, IsLegalHistory}
+use Rattle.zl_code.specs.Common.{World, IsBoot, BootRefusal, Library, IsLegalHistory, IsSound}
+use Rattle.zl_code.specs.Headline.{IsSizedBoot, CoveredGoWell}
 use Rattle.zl_code.specs.declared.boot.BootCause.{BootCause}
 use Rattle.zl_code.specs.declared.boot.Statement.{Statement}
 use Rattle.zl_code.specs.declared.history.TraceItem.{TraceItem}
@@ -17,7 +18,7 @@ use Rattle.zlab.specs.declared.replaying.Items.{Items}
 use Rattle.zlab.specs.declared.replaying.Items.TheVariants as items
 use Rattle.zlab.specs.declared.replaying.Replayed.{Replayed}
 use Rattle.zlab.specs.declared.replaying.Replayed.TheVariants as replayed
-use Rattle.zlab.specs.Engine.{IsFirstFaultBy, IsTextOf, line_cause}
+use Rattle.zlab.specs.Engine.{InEachWorld, IsFirstFaultBy, IsTextOf, line_cause}
 use Rattle.zlab.specs.Input.{FitsInput, TakesAtMost}
 use Rattle.zl_scenario.specs.Reading.{Lists, AreAccepted}
 use Rattle.zl_scenario.specs.Reads.{IsRead}
@@ -67,9 +68,14 @@ pub record IsHistoryOf (text : List ℕ) (items : List TraceItem) : Type 0 where
   pub statements : List Statement
   pub scenario : IsScenarioOf text library statements
   pub boot : World
-  pub boots : IsBoot library statements boot
+  pub boots : IsSizedBoot library statements boot
   pub last : World
   pub legal : IsLegalHistory library boot items last
+  -- no process of a checked program is answered BAD_HANDLE, WRONG_TYPE or ACCESS_DENIED, is stuck, ended by a policy or past its
+  -- budget, until somebody kills it
+  pub covered : CoveredGoWell library boot items
+  -- no two handles stand at one place, none has a right that its kind doesn't give, and each names an object that is there
+  pub sound : InEachWorld IsSound library boot items last legal
 
 -- the items before number n, from 1, can be replayed; item n then differs, or is one past the most that a trace has
 pub record DiffersFrom (text : List ℕ) (items : List TraceItem) (n : ℕ) : Type 0 where
@@ -152,7 +158,7 @@ AreItems trace (items.Faulty fault) = IsTraceFault trace fault
 
 -- what comes of the items after a boot of the statements, which stand in these lines
 abbrev pub Comes : Library → List Statement → ℕ → List ℕ → List TraceItem → Replayed → Type 0
-Comes library statements limit lines items (replayed.All n) = (n ≡ length items) × ((boot : World) × (last : World) × IsBoot library statements boot × IsLegalHistory library boot items last)
+Comes library statements limit lines items (replayed.All n) = (n ≡ length items) × ((boot : World) × (last : World) × IsSizedBoot library statements boot × IsLegalHistory library boot items last)
 Comes library statements limit lines items (replayed.Differs n) = DiffersAt library statements limit items n
 Comes library statements limit lines items (replayed.Refused fault) = IsStatementFault library statements limit lines fault
 Comes library statements limit lines items (replayed.RefusedTrace fault) = ⊥

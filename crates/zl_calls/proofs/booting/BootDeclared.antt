@@ -3,26 +3,22 @@ use Rattle.zl_calls.proofs.Common.{Bool, Entry, Grant, IsTrue, List, Map, None, 
 use Rattle.zl_calls.proofs.Common.{body_in, drop, false, false≢true, get, get_or, get_seen, handle_given, handles_given, has_default_rights, if_default}
 use Rattle.zl_calls.proofs.Common.{is_allowing, is_some, job_at, lacks_need, length, list_all, list_any, needs_more, not, option_to_list, refl, suc, sym, true}
 use Rattle.zl_calls.proofs.Common.{world_value, zero, ℕ, ◌&&◌, ◌++◌, ◌+◌, ◌<◌, ◌∙◌, ◌∷◌, ◌≡◌, ◌≢◌, ◌≤◌}
-use Rattle.zl_code.proofs.Common.{Object as ObjectValue}
-use Rattle.std.proofs.lemmas.List.{at_drop_more, drop_all}
-use Rattle.zl_code.specs.Jobs.{is_declared, is_only_start}
+use Rattle.zl_code.proofs.Common.{Object as ObjectValue, at_drop_more, drop_all}
 use Rattle.zl_code.specs.declared.image.Start.{Start}
+use Rattle.zl_code.specs.Jobs.{is_declared, is_only_start}
 use Rattle.zl_objects.specs.Jobs.{action_of}
 use Rattle.zl_calls.specs.declared.process.Process.{Process}
 use Rattle.zl_calls.proofs.policy.Policies.{seen_action}
+use Rattle.std.proofs.Math.Bool.{and-false}
 
 -- ---- handles
-
-no_more : (b : Bool) → (b && false) ≡ false
-no_more true = refl
-no_more false = refl
 
 -- more are declared than are given, or fewer
 miscounted : (ss : List Start) (es : List Entry) → length ss ≢ length es → are_declared ss es ≡ false
 miscounted [] [] apart = absurd (apart refl)
 miscounted [] (e ∷ es) apart = refl
 miscounted (s ∷ ss) [] apart = refl
-miscounted (s ∷ ss) (e ∷ es) apart = rw (miscounted ss es (λ same. apart (ap (λ (n : ℕ). suc n) same))) (no_more (is_declared s e))
+miscounted (s ∷ ss) (e ∷ es) apart = rw (miscounted ss es (λ same. apart (ap (λ (n : ℕ). suc n) same))) (and-false (is_declared s e))
 
 module _ (objects : Map ObjectValue) where
   -- each of them may be given

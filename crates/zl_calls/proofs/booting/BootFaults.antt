@@ -15,6 +15,7 @@ use Rattle.zl_objects.specs.declared.object.Body.TheVariants as body
 use Rattle.zl_objects.specs.declared.object.Object.{Object}
 use Rattle.zl_calls.specs.declared.process.Process.{Process}
 use Rattle.zl_objects.specs.Objects.{is_job_in as is_job_object, is_job_body as is_job_here}
+use Rattle.zl_calls.proofs.waits.Ending.{kind_there}
 
 -- ---- jobs
 
@@ -32,16 +33,9 @@ job_seen ps r k = rw (get_seen r.objects k) (by_object (get r.objects k))
 -- ---- handles
 
 module _ (objects : Map Object) where
-  kind_there : (k : ℕ) → is_some (kind_at objects k) ≡ has_key (map object_entry objects) k
-  kind_there k = rw (get_seen objects k) (by_object (get objects k))
-    where
-      by_object : (o : Option Object) → is_some (option_map (λ (x : Object). kind_in x.body) o) ≡ is_some (option_map object_value o)
-      by_object None = refl
-      by_object (Some o) = refl
-
   pub known_seen : (gs : List Grant) → all_known (map object_entry objects) gs ≡ list_all (λ g. is_some (kind_at objects g.koid)) gs
   known_seen [] = refl
-  known_seen (g ∷ gs) = λ i. sym (kind_there g.koid) i && known_seen gs i
+  known_seen (g ∷ gs) = λ i. sym (kind_there objects g.koid) i && known_seen gs i
 
   -- the handle that is given, from the kind of its object
   abbrev pub with_kind : Grant → Option Kind → Option Entry

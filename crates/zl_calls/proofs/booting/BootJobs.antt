@@ -5,11 +5,10 @@ use Rattle.zl_calls.proofs.Common.{conflicts, false, false≢true, first_some, g
 use Rattle.zl_calls.proofs.Common.{is_job_at, is_job_body, is_job_in, is_killed, job_at, job_shown, job_within, keeper_of, koid_fault, lacks_koids, new_in}
 use Rattle.zl_calls.proofs.Common.{object_value, on_object, policy_changed, process_shown, refl, runs, seen, setting, setting_policy, subst, sym, then_some}
 use Rattle.zl_calls.proofs.Common.{true, with_new, with_object, with_policy_body, with_policy_set, ℕ, ⊤, ◌||◌, ◌∙◌, ◌∷◌, ◌≡◌}
-use Rattle.zl_code.proofs.Common.{Object as ObjectValue}
+use Rattle.zl_code.proofs.Common.{Action, Object as ObjectValue}
 use Rattle.zl_code.specs.Jobs.{job_within as body_within}
 use Rattle.zl_code.specs.declared.boot.BootCause.TheVariants as cause
 use Rattle.zl_code.specs.declared.boot.Statement.TheVariants as statement
-use Rattle.zl_rights.specs.declared.policy.Action.{Action}
 use Rattle.zl_rights.specs.declared.policy.Mode.TheVariants as mode
 use Rattle.zl_rights.specs.declared.status.Status.TheVariants as status
 use Rattle.zl_jobs.specs.Jobs.{is_deepest as is_deepest_job}

@@ -11,7 +11,7 @@ use Rattle.zl_calls.proofs.Common.{process_without, put, refl, refusal, remove_a
 use Rattle.zl_calls.proofs.Common.{sorted_put, sorted_without, state_value, status_of, subst, sym, table_of, taken, taken_handles, told_by, true, update}
 use Rattle.zl_calls.proofs.Common.{wants_nothing, wants_place, with_effect, with_rights, within, without, without_handle, world_value, ℕ, ◌<◌, ◌==◌, ◌^◌, ◌||◌}
 use Rattle.zl_calls.proofs.Common.{◌∙◌, ◌∷◌, ◌≡◌, ◌⊎◌}
-use Rattle.zl_code.proofs.Common.{Object as ObjectValue, Process as ProcessValue}
+use Rattle.zl_code.proofs.Common.{Object as ObjectValue, Process as ProcessValue, narrowed_within}
 use Rattle.zl_rights.specs.declared.status.Status.TheVariants as status
 use Rattle.zl_code.specs.declared.history.Outcome.TheVariants as outcome
 use Rattle.zl_calls.specs.declared.process.Process.{Process}
@@ -25,7 +25,6 @@ use Rattle.zl_calls.proofs.calls.TakenCalls.{closed, replied_taking, taking_done
 use Rattle.zl_calls.proofs.objects.Settled.{IsSettled, still_settles, sound_of}
 use Rattle.zl_calls.proofs.processes.Written.{refusal_keeps, entered, one_entered, same_agrees}
 use Rattle.zl_table.proofs.MapEdits.{length-update}
-use Rattle.zl_rights.proofs.Narrowed.{narrowed_within}
 use Rattle.zl_objects.specs.declared.object.Object.{Object}
 use Rattle.zl_calls.proofs.lists.Updates.{update_twice, update_unseen}
 use Rattle.zl_calls.proofs.objects.Held.{held_body, held_value, holding_kept, holding_sound}

@@ -9,15 +9,14 @@ use Rattle.zl_calls.proofs.Common.{operands_fault, option_or, policy_changed, po
 use Rattle.zl_calls.proofs.Common.{refusal, remove_all, replied, result_err, runs, setting_policy, site, subst, sym, taken_handles, takes, then_some, told_by}
 use Rattle.zl_calls.proofs.Common.{true, wants_nothing, wants_place, with_new, with_object, with_policy_body, with_policy_set, world_value, ℕ, ⊤, ◌&&◌, ◌+◌}
 use Rattle.zl_calls.proofs.Common.{◌==◌, ◌^◌, ◌||◌, ◌∙◌, ◌∷◌, ◌≡◌}
-use Rattle.zl_code.proofs.Common.{Body as BodyValue}
+use Rattle.zl_code.proofs.Common.{Action, Body as BodyValue, body_with_policy, policy_set, setting_of}
 use Rattle.zl_rights.specs.declared.kind.Kind.TheVariants as kind
 use Rattle.zl_rights.specs.declared.status.Status.TheVariants as status
-use Rattle.zl_rights.specs.declared.policy.Action.{Action}
-use Rattle.zl_rights.specs.Policies.{is_absolute, policy_set, setting_of}
+use Rattle.zl_rights.specs.Policies.{is_absolute}
 use Rattle.zl_jobs.specs.Jobs.{is_deepest as is_deepest_job}
 use Rattle.zl_jobs.specs.declared.job.JobFault.TheVariants as fault
 use Rattle.zl_code.specs.declared.history.Outcome.TheVariants as outcome
-use Rattle.zl_code.specs.Jobs.{body_with_policy, is_conflict, is_dead as is_dead_body, is_deepest as is_deepest_body, job_within as body_within}
+use Rattle.zl_code.specs.Jobs.{is_conflict, is_dead as is_dead_body, is_deepest as is_deepest_body, job_within as body_within}
 use Rattle.zl_objects.specs.declared.object.Body.{Body}
 use Rattle.zl_objects.specs.declared.object.Body.TheVariants as body
 use Rattle.zl_objects.specs.declared.object.Object.{Object}

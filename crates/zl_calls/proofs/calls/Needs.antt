@@ -1,7 +1,6 @@
 -- What a program needs, looked for among all that can be needed.
+use Rattle.zl_code.proofs.Common.{filter, is_in_range}
 use Rattle.zl_calls.proofs.Common.{Bool, Condition, Image, List, [], ap, can_be_needed, false, is_among, list_any, refl, sym, true, ◌&&◌, ◌||◌, ◌∙◌, ◌∷◌, ◌≡◌}
-use Rattle.std.specs.Prelude.{filter}
-use Rattle.zl_code.specs.Spells.{is_in_range}
 use Rattle.zl_code.proofs.ImageNeeds.{needs_named-needs}
 use Rattle.zl_code.proofs.ImageRanges.{ranges}
 

@@ -1,6 +1,7 @@
 -- A loop that takes out of a list what doesn't pass, and lists at one place.
 use Rattle.zl_calls.proofs.Common.{Bool, List, [], ap, append-nil, append_assoc, arith, drop, false, filter, get_or, length, refl, suc, sym, take, take_all}
 use Rattle.zl_calls.proofs.Common.{take_more, true, zero, ℕ, ◌++◌, ◌+◌, ◌<◌, ◌∙◌, ◌∷◌, ◌≡◌, ◌≤◌}
+use Rattle.zl_code.proofs.Common.{drop_all}
 
 module _ {X : Type 0} where
   pub drop_out : (xs : List X) (i : ℕ) → i < length xs → drop i (take i xs ++ drop (suc i) xs) ≡ drop (suc i) xs
@@ -18,12 +19,6 @@ module _ {X : Type 0} where
   drop_here (x ∷ xs) zero d within = refl
   drop_here (x ∷ xs) (suc i) d within = drop_here xs i d (omega (arith, within))
 
-  pub none_behind : (xs : List X) (i : ℕ) → length xs ≤ i → drop i xs ≡ []
-  none_behind [] zero long = refl
-  none_behind [] (suc i) long = refl
-  none_behind (x ∷ xs) zero long = absurd (omega (arith, long))
-  none_behind (x ∷ xs) (suc i) long = none_behind xs i (omega (arith, long))
-
 -- ---- those that pass are left
 
 module _ {X : Type 0} (test : X → Bool) (before : List X) where
@@ -37,7 +32,7 @@ module _ {X : Type 0} (test : X → Bool) (before : List X) where
   module _ (place : ℕ) (xs : List X) (so_far : IsKeeping place xs) where
     pub keeping_ends : length xs ≤ place → xs ≡ filter test before
     keeping_ends long =
-        sym (append-nil xs) ∙ ((λ i. sym (take_all place xs long) i ++ filter test (sym (none_behind xs place long) i)) ∙ so_far.left)
+        sym (append-nil xs) ∙ ((λ i. sym (take_all place xs long) i ++ filter test (sym (drop_all place xs long) i)) ∙ so_far.left)
 
     module _ (d x : X) (within : place < length xs) (at : get_or xs place d ≡ x) where
       stands : drop place xs ≡ x ∷ drop (suc place) xs

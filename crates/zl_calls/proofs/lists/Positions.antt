@@ -1,7 +1,7 @@
 -- The first element with a key: what it reads and writes, in the map by keys.
-use Rattle.zl_calls.proofs.Common.{Bool, List, Map, None, Some, [], ap, arith, cases_Bool, eqb-true, false, get, get_or, inl, inr, length, map, nat_lt}
-use Rattle.zl_calls.proofs.Common.{nat_tests, none-some, position, position-Some, position_or_len, refl, set, suc, sym, true, update, zero, ℕ, ◌<◌, ◌==◌, ◌∙◌}
-use Rattle.zl_calls.proofs.Common.{◌∷◌, ◌≡◌, ◌≤◌}
+use Rattle.zl_calls.proofs.Common.{Bool, List, Map, None, Some, [], ap, arith, cases_Bool, eqb-true, false, filter, get, get_or, if◌then◌else◌, inl, inr}
+use Rattle.zl_calls.proofs.Common.{length, map, nat_lt, nat_tests, none-some, position, position-Some, position_or_len, refl, set, suc, sym, times, true}
+use Rattle.zl_calls.proofs.Common.{update, zero, ℕ, ◌<◌, ◌==◌, ◌∙◌, ◌∷◌, ◌≡◌, ◌≤◌}
 
 -- the element at place i is the first with the key k
 pub record IsFirst {X : Type 0} (key : X → ℕ) (xs : List X) (k i : ℕ) (d : X) : Type 0 where
@@ -70,3 +70,22 @@ module _ {X Y : Type 0} (key : X → ℕ) (value : X → Y) where
 
   pub get_missing : (xs : List X) (k : ℕ) → position (λ x. key x == k) xs ≡ None → get (map entry xs) k ≡ None
   get_missing xs k none = get_behind xs k (missing_from xs k none)
+
+-- ---- how often one stands among those that pass
+
+pub times-filter : (f : ℕ → Bool) (k : ℕ) (xs : List ℕ) → times k (filter f xs) ≡ (if f k then times k xs else 0)
+times-filter f k [] = elim (f k) as (λ b. ◌≡◌ {A = ℕ} 0 (if b then 0 else 0)) [ true ↦ refl | false ↦ refl ]
+times-filter f k (x ∷ xs) = elim (cases_Bool (x == k)) as (λ _. times k (filter f (x ∷ xs)) ≡ (if f k then times k (x ∷ xs) else 0)) [
+  | inl here ↦ here_too here (f k) (times-filter f k xs) (ap f (eqb-true x k here))
+  | inr apart ↦ rw apart (elsewhere apart (f x) (times-filter f k xs))
+]
+  where
+    here_too : (x == k) ≡ true → (b : Bool) → times k (filter f xs) ≡ (if b then times k xs else 0) → f x ≡ b
+        → times k (filter f (x ∷ xs)) ≡ (if b then times k (x ∷ xs) else 0)
+    here_too here true e same = rw (same, here) (ap suc e)
+    here_too here false e same = rw same e
+
+    elsewhere : (x == k) ≡ false → (b : Bool) → times k (filter f xs) ≡ (if f k then times k xs else 0)
+        → length (filter (λ q. q == k) (if b then x ∷ filter f xs else filter f xs)) ≡ (if f k then times k xs else 0)
+    elsewhere apart true e = rw apart e
+    elsewhere apart false e = e

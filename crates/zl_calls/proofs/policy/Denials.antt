@@ -3,8 +3,7 @@ use Rattle.zl_calls.proofs.Common.{BY_POLICY, Bool, Condition, Entry, Library, M
 use Rattle.zl_calls.proofs.Common.{chan_create, chan_read_etc, condition_of, ended, false, get, gives_refused, handle_operands, if◌then◌else◌, is_some, job_at}
 use Rattle.zl_calls.proofs.Common.{job_in, none-some, on_fault_by, operands_fault, refl, remove_all, replied, sym, taken_handles, true, true≢false, verdict_by}
 use Rattle.zl_calls.proofs.Common.{verdict_in, verdict_on, wait_poll, ℕ, ◌∙◌, ◌≡◌}
-use Rattle.zl_code.proofs.Common.{refusal, Calls}
-use Rattle.zl_rights.specs.declared.policy.Action.{Action}
+use Rattle.zl_code.proofs.Common.{Action, Calls, refusal}
 use Rattle.zl_rights.specs.declared.policy.Action.TheVariants as action
 use Rattle.zl_rights.specs.declared.policy.Condition.TheVariants as condition
 use Rattle.zl_rights.specs.declared.status.Status.TheVariants as status

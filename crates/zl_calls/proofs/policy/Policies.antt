@@ -5,13 +5,11 @@ use Rattle.zl_calls.proofs.Common.{first_some, get, get_seen, granted, handle_op
 use Rattle.zl_calls.proofs.Common.{job_of, listed, map, object_entry, object_value, on_fault_by, operand, operands_fault, option_map, option_or, parent_of}
 use Rattle.zl_calls.proofs.Common.{policy_in, refl, result_err, subst, sym, table_of, true, true≢false, unwrap_or, verdict_by, verdict_in, verdict_on, ℕ, ◌&&◌}
 use Rattle.zl_calls.proofs.Common.{◌==◌, ◌∙◌, ◌∷◌, ◌≡◌}
-use Rattle.zl_rights.specs.declared.policy.Action.{Action}
 use Rattle.zl_rights.specs.declared.policy.Action.TheVariants as action
 use Rattle.zl_rights.specs.declared.policy.Condition.TheVariants as condition
 use Rattle.zl_rights.specs.declared.status.Status.TheVariants as status
-use Rattle.zl_code.proofs.Common.{refusal}
-use Rattle.zl_code.specs.Tests.{action_of, parent_in}
-use Rattle.zl_code.specs.Operands.{by_look_up, by_policy, creates, ends_if_kill, operand_after, seen_after, unless_allowed}
+use Rattle.zl_code.proofs.Common.{Action, action_of, by_look_up, by_policy, creates, ends_if_kill, operand_after, parent_in, refusal, seen_after}
+use Rattle.zl_code.proofs.Common.{unless_allowed}
 use Rattle.zl_code.specs.declared.history.Outcome.TheVariants as outcome
 use Rattle.zl_objects.specs.Jobs.{action_of as job_action, as_job, as_job_in}
 use Rattle.zl_objects.specs.declared.object.Body.{Body}

@@ -4,8 +4,7 @@ use Rattle.zl_calls.proofs.Common.{Library, List, Objects, Outcome, Policed, Rea
 use Rattle.zl_calls.proofs.Common.{is_blocking, is_ready, next_for, not, process_value, refl, replied, replied_among, settles_waiting, state_value, subst, sym}
 use Rattle.zl_calls.proofs.Common.{verdict_on, with_waiters, world_blocked, world_left, world_value, ℕ, ◌==◌, ◌∙◌, ◌≡◌}
 use Rattle.zl_rights.specs.declared.status.Status.TheVariants as status
-use Rattle.zl_code.proofs.Common.{IsSound as IsSoundWorld}
-use Rattle.zl_code.specs.Calls.{Calls}
+use Rattle.zl_code.proofs.Common.{Calls, IsSound as IsSoundWorld}
 use Rattle.zl_code.specs.Refusals.{refusal as policed_refusal}
 use Rattle.zl_code.proofs.StepsWaiting.{is_left as is_left_at_port}
 use Rattle.zl_code.proofs.Waiters.{ended_among}

@@ -1,4 +1,5 @@
 -- What an answered call takes out of tables: the handles that are taken on every answer, and no other.
+use Rattle.zl_code.specs.Common.{Acts, ok_outcome, refusal}
 use Rattle.zl_calls.proofs.Common.{AtCall, Awaited, Bool, CallBy, CallName, Choice, Contains, Contains-append_right, Entry, IsTrue, Library, List, None, Option}
 use Rattle.zl_calls.proofs.Common.{Outcome, Process, Refused, Request, Settles, Site, Some, Status, Values, Wants, World, [], after_ok, after_refusal, ap}
 use Rattle.zl_calls.proofs.Common.{arith, awaited_by, cases_Bool, created_process, effect, entering_at, eqb-true, false, false≢true, get, get-each, get-put}
@@ -7,8 +8,6 @@ use Rattle.zl_calls.proofs.Common.{is_some, new_handles, not, on_object, on_proc
 use Rattle.zl_calls.proofs.Common.{process_without, receiver_of, refl, remove_all, replied, stored_by, storing, subst, sym, taken, taken_handles, task_kill}
 use Rattle.zl_calls.proofs.Common.{true, waiting, where_key, with_object, without, without_others, ℕ, ◌==◌, ◌∙◌, ◌∷◌, ◌≡◌, ◌⊎◌}
 use Rattle.zl_rights.specs.declared.status.Status.TheVariants as status
-use Rattle.zl_code.proofs.Common.{Acts, refusal}
-use Rattle.zl_code.specs.Calls.{ok_outcome}
 use Rattle.zl_code.specs.declared.history.Outcome.TheVariants as outcome
 use Rattle.zl_code.specs.declared.history.TraceItem.TheVariants as item
 
@@ -134,7 +133,7 @@ settled u v (K, largest, is) k n has = rw (is, get-each u.processes (process_set
     by_process (Some x) there = there
 
 -- handles that leave a table make no process
-still_free : (p k : ℕ) (hs : List ℕ) (w : World) → get w.processes k ≡ None → get (remove_all w p hs).processes k ≡ None
+pub still_free : (p k : ℕ) (hs : List ℕ) (w : World) → get w.processes k ≡ None → get (remove_all w p hs).processes k ≡ None
 unfolding remove_all on_process
 still_free p k [] w free = free
 still_free p k (h ∷ hs) w free =

@@ -5,6 +5,8 @@ use Rattle.zl_calls.proofs.Common.{refl, replicate, same_Some, slice_get, subst,
 use Rattle.zl_code.proofs.Common.{Process as ProcessValue}
 use Rattle.zl_code.specs.declared.history.TraceItem.TheVariants as item
 use Rattle.zl_interp.specs.Bursts.{moved_to, then_moved}
+use Rattle.zl_code.proofs.AwakeRuns.{runs_joined}
+use Rattle.zl_calls.proofs.lists.Updates.{update_twice}
 
 -- ---- maps
 
@@ -21,15 +23,6 @@ module _ {X : Type 0} where
     | inr apart ↦ rw apart (ap (λ (rest : Map X). e ∷ rest) (update_same m k f x (rw apart at there) same))
   ]
 
-  -- two changes at one key are one
-  update_twice : (m : Map X) (k : ℕ) (f g : X → X) → update (update m k f) k g ≡ update m k (λ x. g (f x))
-  unfolding update
-  update_twice [] k f g = refl
-  update_twice (e ∷ m) k f g = elim (cases_Bool (e.0 == k)) as (λ _. update (update (e ∷ m) k f) k g ≡ update (e ∷ m) k (λ x. g (f x))) [
-    | inl here ↦ rw (here, eq-eqb k k refl) refl
-    | inr apart ↦ rw (apart, apart) (ap (λ (rest : Map X). e ∷ rest) (update_twice m k f g))
-  ]
-
 -- ---- runs
 
 last_one : (n : ℕ) (x : TraceItem) → replicate n x ++ (x ∷ []) ≡ replicate (suc n) x
@@ -37,12 +30,6 @@ last_one zero x = refl
 last_one (suc n) x = ap (λ (xs : List TraceItem). x ∷ xs) (last_one n x)
 
 module _ (lib : Library) where
-  -- one step more, at the end
-  step_behind : (w : World) (xs : List TraceItem) (mid : World) (x : TraceItem) (w2 : World) → Runs lib w xs mid → Step lib mid (pid_of x) x w2
-      → Runs lib w (xs ++ (x ∷ [])) w2
-  step_behind w [] mid x w2 e step = (w2, subst (λ (v : World). Step lib v (pid_of x) x w2) e step, refl)
-  step_behind w (y ∷ ys) mid x w2 (first, own, rest) step = (first, own, step_behind first ys mid x w2 rest step)
-
   -- what each step keeps, a run keeps
   pub along : (P : World → Type 0) → ((w : World) (p : ℕ) (x : TraceItem) (w2 : World) → P w → Step lib w p x w2 → P w2)
       → (w : World) (xs : List TraceItem) (w2 : World) → P w → Runs lib w xs w2 → P w2
@@ -103,4 +90,5 @@ module _ (lib : Library) (w : World) (p : ℕ) (q : ProcessValue) (there : get w
         by None is e before = absurd (none-some d e)
         by (Some c) is e before =
             subst (λ (xs : List TraceItem). Runs lib w xs (at d)) (last_one n (item.Run p 1))
-            (step_behind lib w (replicate n (item.Run p 1)) (at c) (item.Run p 1) (at d) (before c is) (one_step c d (moves_there (next_at g.image c) d e)))
+            (runs_joined lib w (replicate n (item.Run p 1)) (at c) (item.Run p 1 ∷ []) (at d) (before c is)
+            (at d, one_step c d (moves_there (next_at g.image c) d e), refl))

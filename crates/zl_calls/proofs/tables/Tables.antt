@@ -6,20 +6,13 @@ use Rattle.zl_calls.proofs.Common.{◌∷◌, ◌≡◌, ◌≤◌}
 use Rattle.zl_rights.specs.declared.kind.Kind.TheVariants as kind
 use Rattle.zl_rights.specs.declared.status.Status.TheVariants as status
 use Rattle.zl_calls.specs.calls.Process.{none_left, one_more}
-
-length-without : {X : Type 0} (m : Map X) (k : ℕ) → length (without m k) ≤ length m
-unfolding without
-length-without [] k = omega arith
-length-without (e ∷ m) k = elim (cases_Bool (e.0 == k)) as (λ _. length (without (e ∷ m) k) ≤ length (e ∷ m)) [
-  | inl here ↦ rw here (omega (arith, length-without m k))
-  | inr apart ↦ rw apart (omega (arith, length-without m k))
-]
+use Rattle.zl_objects.proofs.Sums.{length_left}
 
 shorter : {X : Type 0} (m : Map X) (k : ℕ) (v : X) → get m k ≡ Some v → length (without m k) < length m
 unfolding get without
 shorter [] k v h = absurd cc
 shorter (e ∷ m) k v h = elim (cases_Bool (e.0 == k)) as (λ _. length (without (e ∷ m) k) < length (e ∷ m)) [
-  | inl here ↦ rw here (omega (arith, length-without m k))
+  | inl here ↦ rw here (omega (arith, length_left m k))
   | inr apart ↦ rw apart (omega (arith, shorter m k v (rw apart at h)))
 ]
 

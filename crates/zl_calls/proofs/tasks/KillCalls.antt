@@ -39,6 +39,8 @@ use Rattle.zl_calls.proofs.calls.Refused.{answers, is_found, first_looked_up}
 use Rattle.zl_calls.proofs.objects.Settled.{IsSettled, settled}
 use Rattle.zl_calls.proofs.tasks.StartCalls.{writes_at}
 use Rattle.zl_calls.proofs.calls.Answered.{IsWrite}
+use Rattle.zl_calls.proofs.waking.Woken.{update_fixed}
+use Rattle.zl_calls.proofs.lists.Positions.{times-filter}
 
 -- ---- the answer
 
@@ -179,15 +181,6 @@ module _ (lib : Library) (ps : List Process) (r : Objects) (blocked : List ℕ) 
 
 -- ---- task_kill
 
--- a change that leaves what stands there leaves the map
-update_still : {X : Type 0} (m : Map X) (k : ℕ) (f : X → X) → ((x : X) → get m k ≡ Some x → f x ≡ x) → update m k f ≡ m
-unfolding update get
-update_still [] k f same = refl
-update_still {X} (e ∷ m) k f same = elim (cases_Bool (e.0 == k)) as (λ _. update (e ∷ m) k f ≡ e ∷ m) [
-  | inl here ↦ rw here (λ i. (sym (eqb-true e.0 k here) i, same e.1 (rw here refl) i) ∷ m)
-  | inr apart ↦ rw apart (ap (λ (rest : Map X). e ∷ rest) (update_still m k f (λ x at. same x (rw apart at))))
-]
-
 -- whom a test leaves out anyway needs no test of its own
 filter_still : (test : ℕ → Bool) (p : ℕ) → test p ≡ false → (xs : List ℕ) → filter (λ q. not (q == p)) (filter test xs) ≡ filter test xs
 filter_still test p out [] = refl
@@ -196,24 +189,6 @@ filter_still test p out (x ∷ xs) = elim (cases_Bool (test x)) as (λ _. filter
   | inl passes ↦ elim (cases_Bool (x == p)) as (λ _. filter (λ q. not (q == p)) (filter test (x ∷ xs)) ≡ filter test (x ∷ xs)) [
     | inl here ↦ absurd (false≢true (sym out ∙ (ap test (sym (eqb-true x p here)) ∙ passes)))
     | inr apart ↦ rw (passes, apart) (ap (λ ys. x ∷ ys) (filter_still test p out xs))
-  ]
-]
-
--- how often one stands among those that pass
-times_kept : (test : ℕ → Bool) (k : ℕ) (xs : List ℕ) → times k (filter test xs) ≡ (if test k then times k xs else 0)
-times_kept test k [] =
-    elim (cases_Bool (test k))
-    as (λ _. times k (filter test []) ≡ (if test k then times k [] else 0)) [ inl passes ↦ rw passes refl | inr fails ↦ rw fails refl ]
-times_kept test k (x ∷ xs) = elim (cases_Bool (x == k)) as (λ _. times k (filter test (x ∷ xs)) ≡ (if test k then times k (x ∷ xs) else 0)) [
-  | inl here ↦
-      let is : x ≡ k = eqb-true x k here in
-      elim (cases_Bool (test k)) as (λ _. times k (filter test (x ∷ xs)) ≡ (if test k then times k (x ∷ xs) else 0)) [
-        | inl passes ↦ rw (ap test is ∙ passes, here, passes) (ap suc (times_kept test k xs ∙ rw passes refl))
-        | inr fails ↦ rw (ap test is ∙ fails, fails) (times_kept test k xs ∙ rw fails refl)
-      ]
-  | inr apart ↦ elim (cases_Bool (test x)) as (λ _. times k (filter test (x ∷ xs)) ≡ (if test k then times k (x ∷ xs) else 0)) [
-    | inl passes ↦ rw (passes, apart) (times_kept test k xs)
-    | inr fails ↦ rw (fails, apart) (times_kept test k xs)
   ]
 ]
 
@@ -295,7 +270,7 @@ module _ (lib : Library) (ps : List Process) (r : Objects) (whole : IsConsistent
       once =
           λ k. ap (times k) (kills.blocked
           ∙ (λ i. filter (λ j. states_stay (map (ended_within r t) ps) all2.processes kills.between all2.objects kills.closes is_blocked j i) blocked))
-          ∙ (times_kept (λ j. state_passes is_blocked (get (map process_entry all2.processes) j)) k blocked
+          ∙ (times-filter (λ j. state_passes is_blocked (get (map process_entry all2.processes) j)) k blocked
           ∙ by_state k (get (map process_entry ps) k) refl);
       counters = λ k q at h. by_process k (get (map process_entry ps) k) refl q (sym (got_killed ps r whole blocked sound t given all2 kills k) ∙ at) h;
     }
@@ -370,7 +345,7 @@ module _ (lib : Library) (ps : List Process) (r : Objects) (whole : IsConsistent
     ended_still : dies ≡ true → ◌≡◌ {A = World} (ended (with_killed w t) p.pid KILLED) (with_killed w t)
     unfolding with_killed ended on_process
     ended_still among = λ i. record w {
-      processes = update_still (each (λ k. process_killed (within_value k)) w.processes) p.pid (process_ended KILLED)
+      processes = update_fixed (each (λ k. process_killed (within_value k)) w.processes) p.pid (process_ended KILLED)
           (λ x at. no_more x (sym (get-each w.processes (λ k. process_killed (within_value k)) p.pid ∙ rw there refl) ∙ at)) i;
       objects = each (λ k. object_killed (within_value k)) w.objects;
       blocked = filter_still (λ k. not (within_value k)) p.pid (ap not (same_within r.objects t given p.pid ∙ among)) blocked i;

@@ -4,13 +4,13 @@ use Rattle.zl_calls.proofs.Common.{Option, Releases, Result, Some, Status, TaskK
 use Rattle.zl_calls.proofs.Common.{get, get-each, get_or, get_or_from_slice_get, has_key, is_blocked, is_over, is_some, is_within, killed_if, killing, length}
 use Rattle.zl_calls.proofs.Common.{length-map, lives_on, looked_up, map, none-some, one_more, option_map, parts, process_entry, refl, same_Some, set, slice_get}
 use Rattle.zl_calls.proofs.Common.{slice_get-map, state_passes, subst, suc, sym, take, true, zero, ℕ, ◌++◌, ◌+◌, ◌<◌, ◌∙◌, ◌∷◌, ◌≡◌, ◌≤◌}
-use Rattle.zl_rights.proofs.Common.{filter}
 use Rattle.zl_calls.specs.declared.process.Process.{Process}
 use Rattle.zl_calls.specs.calls.Task.{none_left}
-use Rattle.zl_calls.proofs.lists.FilterInPlace.{drop_here, none_behind}
+use Rattle.zl_calls.proofs.lists.FilterInPlace.{drop_here}
 use Rattle.zl_rights.specs.declared.kind.Kind.TheVariants as kind
 use Rattle.zl_objects.specs.Jobs.{all_killed}
 use Rattle.zl_calls.proofs.waits.WaitsLost.{listed_gone}
+use Rattle.zl_code.proofs.Common.{drop_all, filter}
 
 -- ---- koids stay
 
@@ -32,7 +32,7 @@ module _ (first : List Process) (start : Objects) where
     pub closing_ends : length ps ≤ i → ClosesAllEnded first start ps r
     closing_ends long =
         subst (λ (qs : List Process). ClosesAllEnded first start qs r) (whole i ps long)
-        (so_far.closes [] r (subst (λ (qs : List Process). ClosesAllEnded qs r [] r) (sym (none_behind ps i long)) (none_left r)))
+        (so_far.closes [] r (subst (λ (qs : List Process). ClosesAllEnded qs r [] r) (sym (drop_all i ps long)) (none_left r)))
       where
         whole : (i : ℕ) (ps : List Process) → length ps ≤ i → take i ps ++ [] ≡ ps
         whole zero [] long = refl

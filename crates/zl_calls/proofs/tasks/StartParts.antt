@@ -11,6 +11,7 @@ use Rattle.zl_calls.specs.declared.process.State.{State}
 use Rattle.zl_calls.specs.declared.process.State.TheVariants as state
 use Rattle.zl_calls.specs.declared.calls.process.Started.{Started}
 use Rattle.zl_calls.specs.declared.process.Process.{Process}
+use Rattle.zl_verify.proofs.Places.{get_put_other}
 
 -- ---- the process that is found
 
@@ -122,13 +123,6 @@ module _ {X : Type 0} where
   get_set (z ∷ xs) zero x y at = refl
   get_set (z ∷ xs) (suc i) x y at = get_set xs i x y at
 
-  pub get_apart : (xs : List X) (i j : ℕ) (y : X) → i ≢ j → slice_get (slice_set xs i y) j ≡ slice_get xs j
-  get_apart [] i j y apart = refl
-  get_apart (z ∷ xs) zero zero y apart = absurd (apart refl)
-  get_apart (z ∷ xs) zero (suc j) y apart = refl
-  get_apart (z ∷ xs) (suc i) zero y apart = refl
-  get_apart (z ∷ xs) (suc i) (suc j) y apart = get_apart xs i j y (λ e. apart (ap suc e))
-
 -- all stay in their places
 module _ (lib : Library) (ps ps1 : List Process) (place process h : ℕ) (started : Started) (within : place < length ps)
     (enters : (caller : Process) → slice_get ps place ≡ Some caller → Enters lib ps caller process h started ps1) where
@@ -169,7 +163,7 @@ module _ (lib : Library) (ps : List Process) (r : Objects) (blocked : List ℕ) 
         not_both child.state enters.found.at.is_created (subst (λ (q : Process). is_ready (state_value q.state) ≡ true) one ready)
 
     caller_stays : slice_get ps1 place ≡ Some caller
-    caller_stays = ap (λ (xs : List Process). slice_get xs place) enters.entered ∙ (get_apart ps started.place place enters.child apart ∙ is_caller)
+    caller_stays = ap (λ (xs : List Process). slice_get xs place) enters.entered ∙ (get_put_other ps started.place place enters.child apart ∙ is_caller)
 
     child_there : slice_get ps1 started.place ≡ Some enters.child
     child_there = ap (λ (xs : List Process). slice_get xs started.place) enters.entered ∙ get_set ps started.place child enters.child child_at
@@ -185,7 +179,7 @@ module _ (lib : Library) (ps : List Process) (r : Objects) (blocked : List ℕ) 
       ps2 = slice_set ps1 place (record p { table = t })
 
       child_still : slice_get ps2 started.place ≡ Some enters.child
-      child_still = get_apart ps1 place started.place (record p { table = t }) (λ e. apart (sym e)) ∙ child_there
+      child_still = get_put_other ps1 place started.place (record p { table = t }) (λ e. apart (sym e)) ∙ child_there
 
       pub child_inside : started.place < length ps2
       child_inside = slice_get_within ps2 started.place enters.child child_still
@@ -211,7 +205,7 @@ module _ (lib : Library) (ps : List Process) (r : Objects) (blocked : List ℕ) 
         pub caller_still : IsCallerStill caller (slice_get (slice_set ps2 started.place q2) place)
         caller_still =
             subst (λ (o : Option Process). IsCallerStill caller o)
-            (sym (get_apart ps2 started.place place q2 apart ∙ get_set ps1 place caller (record p { table = t }) caller_stays))
+            (sym (get_put_other ps2 started.place place q2 apart ∙ get_set ps1 place caller (record p { table = t }) caller_stays))
             (ap (λ (x : Process). x.cpu) is_it)
 
         pub starts_so : (r2 : Objects) → r2 ≡ starting r q.pid

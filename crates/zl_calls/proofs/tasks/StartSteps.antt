@@ -11,7 +11,8 @@ use Rattle.zl_code.specs.declared.history.Outcome.TheVariants as outcome
 use Rattle.zl_calls.specs.declared.process.Process.{Process}
 use Rattle.zl_calls.proofs.calls.Answered.{IsWrite}
 use Rattle.zl_calls.proofs.tasks.StartCalls.{caller_is, child_is, start_calls, writes_at}
-use Rattle.zl_calls.proofs.tasks.StartParts.{get_apart, get_set, not_both, set_apart, set_twice}
+use Rattle.zl_calls.proofs.tasks.StartParts.{get_set, not_both, set_apart, set_twice}
+use Rattle.zl_verify.proofs.Places.{get_put_other}
 
 module _ {lib : Library} {ps : List Process} {r : Objects} {blocked : List ℕ} {place process h word : ℕ} {p : Process} {all1 all2 : Parts}
     {consumed destinations : List ℕ} (is_caller : slice_get ps place ≡ Some p) (ready : is_ready (state_value p.state) ≡ true)
@@ -39,7 +40,7 @@ module _ {lib : Library} {ps : List Process} {r : Objects} {blocked : List ℕ} 
   caller_there : slice_get all1.processes place ≡ Some does.after
   caller_there =
       ap (λ (qs : List Process). slice_get qs place) does.processes
-      ∙ (get_apart (slice_set ps place does.after) does.at_place place does.started apart ∙ get_set ps place does.caller does.after does.is_caller.is_there)
+      ∙ (get_put_other (slice_set ps place does.after) does.at_place place does.started apart ∙ get_set ps place does.caller does.after does.is_caller.is_there)
 
   told_is : (record tells.caller { cpu = cpu_answered s status.Ok [] tells.caller.cpu }) ≡ p2
   told_is =
@@ -64,7 +65,7 @@ module _ {lib : Library} {ps : List Process} {r : Objects} {blocked : List ℕ} 
 
   pub caller_write : IsWrite (slice_set ps does.at_place does.started) (slice_set (slice_set ps does.at_place does.started) place p2) p p2
   caller_write =
-      writes_at (slice_set ps does.at_place does.started) place p p2 still_sorted (get_apart ps does.at_place place does.started apart ∙ is_caller) refl
+      writes_at (slice_set ps does.at_place does.started) place p p2 still_sorted (get_put_other ps does.at_place place does.started apart ∙ is_caller) refl
 
   caller_held : get (map process_entry ps) p.pid ≡ Some (process_value p)
   caller_held = (writes_at ps place p p sorted is_caller refl).there

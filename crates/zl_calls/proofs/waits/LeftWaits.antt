@@ -5,8 +5,7 @@ use Rattle.zl_calls.proofs.Common.{ap, arith, cases_Bool, entry_at, false, false
 use Rattle.zl_calls.proofs.Common.{is_blocked, is_left, is_made_by_handle, is_there, map, names_its_object, next_for, next_looks, none-some, not, object_entry}
 use Rattle.zl_calls.proofs.Common.{pid_of, process_entry, refl, settled_sound, settles_waiting, slice_index_or, state_passes, stays_but, subst, suc, sym}
 use Rattle.zl_calls.proofs.Common.{tells_blocking, true, waits_by, with_waiters, world_blocked, world_left, world_value, ℕ, ◌&&◌, ◌∙◌, ◌∷◌, ◌≡◌}
-use Rattle.zl_code.proofs.Common.{Process as ProcessValue, IsSound as IsSoundWorld}
-use Rattle.zl_code.specs.Calls.{Calls}
+use Rattle.zl_code.proofs.Common.{Calls, IsSound as IsSoundWorld, Process as ProcessValue}
 use Rattle.zl_code.specs.declared.history.TraceItem.TheVariants as item
 use Rattle.zl_code.proofs.StepsWaiting.{step_waiting, is_left as is_left_at_port}
 use Rattle.zl_calls.specs.declared.process.Process.{Process}

@@ -10,18 +10,11 @@ use Rattle.zl_calls.specs.declared.taken.TakenHandle.{TakenHandle}
 use Rattle.zl_calls.proofs.waits.FiringWorlds.{none_passes}
 use Rattle.zl_calls.proofs.waits.WaitsLost.{filter_within}
 use Rattle.zl_calls.proofs.objects.SameButWaits.{beside_consistent, beside_same, beside_then, beside_world, unwatching_beside}
+use Rattle.zl_objects.proofs.Unlisted.{rest_same}
 
 -- ---- lists
 
 module _ {X : Type 0} (test : X → Bool) where
-  -- without the first that passes just what doesn't pass is left, if there is no other
-  left_first : (xs : List X) → filter (λ x. not (test x)) (without_first test xs) ≡ filter (λ x. not (test x)) xs
-  left_first [] = refl
-  left_first (x ∷ xs) = elim (cases_Bool (test x)) as (λ _. filter (λ y. not (test y)) (without_first test (x ∷ xs)) ≡ filter (λ y. not (test y)) (x ∷ xs)) [
-    | inl here ↦ rw (first_out test x xs, here) refl
-    | inr apart ↦ rw (first_out test x xs, apart) (rw apart (ap (λ (ys : List X). x ∷ ys) (left_first xs)))
-  ]
-
   none_first : (xs : List X) → find test xs ≡ None → without_first test xs ≡ filter (λ x. not (test x)) xs
   none_first [] none = refl
   none_first (x ∷ xs) none = elim (cases_Bool (test x)) as (λ _. without_first test (x ∷ xs) ≡ filter (λ y. not (test y)) (x ∷ xs)) [
@@ -123,7 +116,7 @@ module _ (test : Wait → Bool) (old : Objects) where
 
     pub one_taken : IsTaking test old after
     one_taken = subst (λ (r : Objects). IsTaking test old r) (sym is)
-        (record { beside = beside; made = so_far.made; asleep = so_far.asleep; left = left_first test now.waits ∙ so_far.left })
+        (record { beside = beside; made = so_far.made; asleep = so_far.asleep; left = rest_same test now.waits ∙ so_far.left })
 
     pub all_taken : find test now.waits ≡ None → EndsWaits test old after
     all_taken none = subst (λ (r : Objects). EndsWaits test old r) (sym is)

@@ -12,23 +12,25 @@ use Rattle.zl_calls.proofs.calls.Answered.{IsWrite}
 use Rattle.zl_calls.proofs.processes.Written.{found_after, get_after}
 
 module _ {before after : List Process} {p p2 : Process} (write : IsWrite before after p p2) where
+  -- a process that is blocked just if it was
+  same_there : is_blocked (state_value p2.state) ≡ is_blocked (state_value p.state) → (k : ℕ)
+      → state_passes is_blocked (get (map process_entry after) k) ≡ state_passes is_blocked (get (map process_entry before) k)
+  same_there same k =
+      elim (cases_Bool (p.pid == k))
+      as (λ _. state_passes is_blocked (get (map process_entry after) k) ≡ state_passes is_blocked (get (map process_entry before) k)) [
+        | inl here ↦ rw (get_after write k, here, ← eqb-true p.pid k here, write.there, same) refl
+        | inr apart ↦ rw (get_after write k, apart) refl
+      ]
+
   -- a process that isn't blocked before it changes, nor afterwards
   pub still_blocked : is_blocked (state_value p.state) ≡ false → is_blocked (state_value p2.state) ≡ false → (blocked : List ℕ) → AreBlocked before blocked
       → AreBlocked after blocked
   still_blocked was is blocked are = record {
-    once = λ k. are.once k ∙ ap (λ (b : Bool). if b then 1 else 0) (sym (same_there k));
+    once = λ k. are.once k ∙ ap (λ (b : Bool). if b then 1 else 0) (sym (same_there (is ∙ sym was) k));
     counters = λ k q at h. found_after write (q.cpu.counter < 2 ^ 32) k q at
         (λ here. absurd (false≢true (sym is ∙ (ap (λ (x : ProcessValue). is_blocked x.state) here ∙ h))))
         (λ old. are.counters k q old h);
   }
-    where
-      same_there : (k : ℕ) → state_passes is_blocked (get (map process_entry after) k) ≡ state_passes is_blocked (get (map process_entry before) k)
-      same_there k =
-          elim (cases_Bool (p.pid == k))
-          as (λ _. state_passes is_blocked (get (map process_entry after) k) ≡ state_passes is_blocked (get (map process_entry before) k)) [
-            | inl here ↦ rw (get_after write k, here, ← eqb-true p.pid k here, write.there, was, is) refl
-            | inr apart ↦ rw (get_after write k, apart) refl
-          ]
 
   -- a process that was blocked, and isn't any more
   pub one_awake : is_blocked (state_value p2.state) ≡ false → (blocked : List ℕ) → AreBlocked before blocked
@@ -62,7 +64,7 @@ module _ {before after : List Process} {p p2 : Process} (write : IsWrite before 
   -- a process that is blocked just if it was, with the same Cpu
   pub stay_blocked : is_blocked (state_value p2.state) ≡ is_blocked (state_value p.state) → p2.cpu ≡ p.cpu → StayBlocked before after
   stay_blocked same cpu blocked are = record {
-    once = λ k. are.once k ∙ ap (λ (b : Bool). if b then 1 else 0) (sym (same_there k));
+    once = λ k. are.once k ∙ ap (λ (b : Bool). if b then 1 else 0) (sym (same_there same k));
     counters = λ k q at h. found_after write (q.cpu.counter < 2 ^ 32) k q at
         (λ here.
         let was : IsTrue (is_blocked (state_value p.state)) = sym same ∙ (ap (λ (x : ProcessValue). is_blocked x.state) here ∙ h) in
@@ -70,14 +72,6 @@ module _ {before after : List Process} {p p2 : Process} (write : IsWrite before 
         (let within : p.cpu.counter < 2 ^ 32 = are.counters p.pid (process_value p) write.there was in rw cpu within))
         (λ old. are.counters k q old h);
   }
-    where
-      same_there : (k : ℕ) → state_passes is_blocked (get (map process_entry after) k) ≡ state_passes is_blocked (get (map process_entry before) k)
-      same_there k =
-          elim (cases_Bool (p.pid == k))
-          as (λ _. state_passes is_blocked (get (map process_entry after) k) ≡ state_passes is_blocked (get (map process_entry before) k)) [
-            | inl here ↦ rw (get_after write k, here, ← eqb-true p.pid k here, write.there, same) refl
-            | inr apart ↦ rw (get_after write k, apart) refl
-          ]
 
 -- ---- who is in it
 

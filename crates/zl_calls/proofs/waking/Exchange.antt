@@ -1,9 +1,9 @@
 -- The turn of a process may come before those of others that take no packets from its port.
 use Rattle.zl_calls.proofs.Common.{Blocked, Body, Bool, IsLater, IsTrue, List, Map, None, Object, Option, Packet, PacketAt, PortBody, Process, Ready, SignalOf}
 use Rattle.zl_calls.proofs.Common.{Some, State, T, World, [], active, answered, ap, arith, cases_Bool, eq-eqb, eqb-true, false, false≢true, filter, fold, get}
-use Rattle.zl_calls.proofs.Common.{get-put, has_no_packet, if◌then◌else◌, inl, inr, is_blocked, is_sorted, made_ready, meets, nat_cmp, not, offers_nothing}
-use Rattle.zl_calls.proofs.Common.{packet_values, put, refl, same_Some, same_map, slice_get, state_passes, subst, sym, takes_from, times, true, with_body}
-use Rattle.zl_calls.proofs.Common.{woken, woken-later, ℕ, ◌+◌, ◌==◌, ◌∙◌, ◌∷◌, ◌≡◌, ◌⊎◌}
+use Rattle.zl_calls.proofs.Common.{get-put, has_no_packet, if◌then◌else◌, inl, inr, is_blocked, is_sorted, made_ready, meets, nat_cmp, nat_tests, not}
+use Rattle.zl_calls.proofs.Common.{offers_nothing, packet_values, put, refl, same_Some, same_map, slice_get, state_passes, subst, sym, takes_from, times, true}
+use Rattle.zl_calls.proofs.Common.{with_body, woken, woken-later, ℕ, ◌+◌, ◌==◌, ◌∙◌, ◌∷◌, ◌≡◌, ◌⊎◌}
 use Rattle.std.specs.Cmp.{nat_cmp_total}
 use Rattle.std.specs.FinMap.Entries.{is_sorted-put}
 use Rattle.zl_rights.proofs.Canonical.{put-std}
@@ -283,10 +283,7 @@ module _ (w : World) (p q : ℕ) (sorted : AreSorted w) (apart : (p == q) ≡ fa
 -- ---- a turn comes first
 
 apart_back : (p q : ℕ) → (q == p) ≡ false → (p == q) ≡ false
-apart_back p q apart = elim (cases_Bool (p == q)) as (λ _. (p == q) ≡ false) [
-  | inl here ↦ absurd (false≢true (sym apart ∙ eq-eqb q p (sym (eqb-true p q here))))
-  | inr other ↦ other
-]
+apart_back p q apart = grind (arith, nat_tests, apart)
 
 -- after a turn of one that takes no packets from the port the same processes wait for these
 same_takes : (w : World) (port q : ℕ) → takes_in w port q ≡ false → (x : ℕ) → takes_in (woken w q) port x ≡ takes_in w port x

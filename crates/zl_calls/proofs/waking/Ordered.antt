@@ -5,8 +5,7 @@ use Rattle.zl_calls.proofs.Common.{filter, filter-append, get, if◌then◌else�
 use Rattle.zl_calls.proofs.Common.{process_entry, refl, same_Some, state_passes, state_value, subst, sym, takes_at, takes_from, times, true, ℕ, ◌&&◌, ◌++◌, ◌+◌}
 use Rattle.zl_calls.proofs.Common.{◌==◌, ◌||◌, ◌∙◌, ◌∷◌, ◌≡◌, ◌≤◌}
 use Rattle.std.proofs.Math.Dec.{ltb}
-use Rattle.std.proofs.lemmas.Bool.{ltb-false, ltb-true}
-use Rattle.zl_code.proofs.Common.{Process as ProcessValue}
+use Rattle.zl_code.proofs.Common.{Process as ProcessValue, ltb-false, ltb-true}
 use Rattle.zl_objects.specs.declared.awaited.Awaited.{Awaited}
 use Rattle.zl_calls.specs.Blocking.{awaited_by, awaited_in}
 use Rattle.zl_calls.specs.declared.process.Process.{Process}

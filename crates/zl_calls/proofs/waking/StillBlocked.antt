@@ -1,10 +1,10 @@
 -- Who is blocked once a process has acted was so before, on the same, but for that process; so what each waits for stays known.
 use Rattle.zl_calls.proofs.Common.{AreBlocked, AreLeft, AreOrdered, AreSameButSleepers, AreSought, Blocked, Bool, DoesNext, IsTrue, IsUnlisted, KeepSleepers}
 use Rattle.zl_calls.proofs.Common.{Library, List, ListsLast, None, Objects, Option, Seeks, Sleeper, Some, State, TraceItem, [], ap, arith, awaited_of, bare}
-use Rattle.zl_calls.proofs.Common.{cases_Bool, each, eq-eqb, eqb-true, false, false≢true, filter, filter-append, get, if◌then◌else◌, inl, inr, is_blocked}
-use Rattle.zl_calls.proofs.Common.{is_for, is_local, knowing, koid_of, listed_for, lives, map, process_entry, refl, same_Some, slept, state_passes, state_value}
-use Rattle.zl_calls.proofs.Common.{subst, sym, takes_at, then_blocked, times, times-behind, times-last, true, world_blocked, world_left, ℕ, ◌++◌, ◌==◌, ◌∙◌}
-use Rattle.zl_calls.proofs.Common.{◌∷◌, ◌≡◌, ◌≤◌, ◌⊎◌}
+use Rattle.zl_calls.proofs.Common.{cases_Bool, each, eqb-true, false, false≢true, filter, filter-append, get, if◌then◌else◌, inl, inr, is_blocked, is_for}
+use Rattle.zl_calls.proofs.Common.{is_local, knowing, koid_of, listed_for, lives, map, nat_tests, process_entry, refl, same_Some, slept, state_passes}
+use Rattle.zl_calls.proofs.Common.{state_value, subst, sym, takes_at, then_blocked, times, times-behind, times-last, true, world_blocked, world_left, ℕ, ◌++◌}
+use Rattle.zl_calls.proofs.Common.{◌==◌, ◌∙◌, ◌∷◌, ◌≡◌, ◌≤◌, ◌⊎◌}
 use Rattle.std.proofs.lemmas.List.{append-nil}
 use Rattle.zl_rights.specs.World.{Awaited as AwaitedValue}
 use Rattle.zl_code.proofs.Common.{Process as ProcessValue, IsSound as IsSoundWorld}
@@ -23,10 +23,7 @@ use Rattle.zl_calls.proofs.waking.Ordered.{ends_in_order, left_fewer, none_among
 -- ---- the list
 
 pub turned : (q pid : ℕ) → (q == pid) ≡ false → (pid == q) ≡ false
-turned q pid other = elim (cases_Bool (pid == q)) as (λ _. (pid == q) ≡ false) [
-  | inl here ↦ absurd (false≢true (sym other ∙ eq-eqb q pid (sym (eqb-true pid q here))))
-  | inr apart ↦ apart
-]
+turned q pid other = grind (arith, nat_tests, other)
 
 -- ---- what is known stays known
 

@@ -5,10 +5,11 @@ use Rattle.zl_calls.proofs.Common.{is_blocked, length, map, nat_lt, nat_tests, n
 use Rattle.zl_calls.proofs.Common.{state_passes, subst, suc, sym, take, times, true, woken, world_blocked, zero, ℕ, ◌++◌, ◌+◌, ◌<◌, ◌==◌, ◌^◌, ◌∙◌, ◌∷◌, ◌≡◌}
 use Rattle.zl_calls.proofs.Common.{◌≤◌}
 use Rattle.std.proofs.lemmas.List.Sums.{fails_before_first}
-use Rattle.zl_code.proofs.Common.{Process as ProcessValue}
+use Rattle.zl_code.proofs.Common.{Process as ProcessValue, drop_all}
 use Rattle.zl_calls.specs.declared.process.Process.{Process}
 use Rattle.zl_calls.specs.declared.waking.Woke.TheVariants as woke
 use Rattle.zl_calls.proofs.waking.BlockedLists.{none_filtered}
+use Rattle.zl_calls.proofs.lists.FilterInPlace.{drop_here, drop_out}
 
 -- those before the place in the list have had their turn; the list was first at the start
 pub record IsWaking (ps0 : List Process) (r0 : Objects) (first : List ℕ) (capacity0 place : ℕ) (ps : List Process) (r : Objects) (blocked : List ℕ)
@@ -20,24 +21,6 @@ pub record IsWaking (ps0 : List Process) (r0 : Objects) (first : List ℕ) (capa
   pub same_room : capacity ≡ capacity0
   pub asleep : KeepSleepers r0 r
   pub told : HaveLeft first who blocked
-
--- ---- places of a list
-
-drop_at : (xs : List ℕ) (i d : ℕ) → i < length xs → drop i xs ≡ get_or xs i d ∷ drop (suc i) xs
-drop_at [] i d within = absurd (omega (arith, within))
-drop_at (x ∷ xs) zero d within = refl
-drop_at (x ∷ xs) (suc i) d within = drop_at xs i d (omega (arith, within))
-
-drop_removed : (xs : List ℕ) (i : ℕ) → i < length xs → drop i (take i xs ++ drop (suc i) xs) ≡ drop (suc i) xs
-drop_removed [] i within = absurd (omega (arith, within))
-drop_removed (x ∷ xs) zero within = refl
-drop_removed (x ∷ xs) (suc i) within = drop_removed xs i (omega (arith, within))
-
-drop_end : (xs : List ℕ) (i : ℕ) → length xs ≤ i → drop i xs ≡ []
-drop_end [] zero past = refl
-drop_end [] (suc i) past = refl
-drop_end (x ∷ xs) zero past = absurd (omega (arith, past))
-drop_end (x ∷ xs) (suc i) past = drop_end xs i (omega (arith, past))
 
 pub times_cons : (p x : ℕ) (xs : List ℕ) → times p (x ∷ xs) ≡ (if x == p then 1 else 0) + times p xs
 times_cons p x xs = by_test (x == p)
@@ -143,7 +126,7 @@ module _ (ps0 : List Process) (r0 : Objects) (first : List ℕ) (capacity0 : ℕ
       (so_far : IsWaking ps0 r0 first capacity0 i ps r blocked capacity w) where
     module _ (d pid : ℕ) (within : i < length blocked) (at : get_or blocked i d ≡ pid) (ps2 : List Process) (r2 : Objects) where
       turn_is : fold woken (world_blocked ps r blocked) (drop i blocked) ≡ fold woken (woken (world_blocked ps r blocked) pid) (drop (suc i) blocked)
-      turn_is = ap (fold woken (world_blocked ps r blocked)) (drop_at blocked i d within ∙ ap (λ (x : ℕ). x ∷ drop (suc i) blocked) at)
+      turn_is = ap (fold woken (world_blocked ps r blocked)) (drop_here blocked i d within ∙ ap (λ (x : ℕ). x ∷ drop (suc i) blocked) at)
 
       -- it woke, and left the list
       pub turn_awake : WakesOne pid true ps r ps2 r2 → KeepSleepers r r2 → IsWaking ps0 r0 first capacity0 i ps2 r2 (take i blocked ++ drop (suc i) blocked)
@@ -151,7 +134,7 @@ module _ (ps0 : List Process) (r0 : Objects) (first : List ℕ) (capacity0 : ℕ
       turn_awake wakes_it same =
           let gone = removed_is ps blocked so_far.list i d pid within at in
           record {
-            so_far = ap (fold woken (world_blocked ps2 r2 (take i blocked ++ drop (suc i) blocked))) (drop_removed blocked i within)
+            so_far = ap (fold woken (world_blocked ps2 r2 (take i blocked ++ drop (suc i) blocked))) (drop_out blocked i within)
                 ∙ (ap (λ (w : World). fold woken w (drop (suc i) blocked)) (ap (world_blocked ps2 r2) (sym gone) ∙ wakes_it.world blocked)
                 ∙ (sym turn_is ∙ so_far.so_far));
             consistent = wakes_it.consistent;
@@ -180,4 +163,4 @@ module _ (ps0 : List Process) (r0 : Objects) (first : List ℕ) (capacity0 : ℕ
           add_one = omega arith
 
     pub all_had_turns : length blocked ≤ i → world_blocked ps r blocked ≡ fold woken (world_blocked ps0 r0 first) first
-    all_had_turns past = ap (fold woken (world_blocked ps r blocked)) (sym (drop_end blocked i past)) ∙ so_far.so_far
+    all_had_turns past = ap (fold woken (world_blocked ps r blocked)) (sym (drop_all i blocked past)) ∙ so_far.so_far

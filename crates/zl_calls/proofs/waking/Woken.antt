@@ -32,7 +32,7 @@ put_there {X} m k x f sorted there =
     by_key j (inr apart) = rw apart refl
 
 -- a change that leaves the one value as it is
-update_fixed : {X : Type 0} (m : Map X) (k : ℕ) (f : X → X) → ((x : X) → get m k ≡ Some x → f x ≡ x) → update m k f ≡ m
+pub update_fixed : {X : Type 0} (m : Map X) (k : ℕ) (f : X → X) → ((x : X) → get m k ≡ Some x → f x ≡ x) → update m k f ≡ m
 unfolding get update
 update_fixed [] k f fixed = refl
 update_fixed {X} (e ∷ m) k f fixed = elim (cases_Bool (e.0 == k)) as (λ _. update (e ∷ m) k f ≡ e ∷ m) [

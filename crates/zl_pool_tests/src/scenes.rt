@@ -13,9 +13,13 @@ pub enum Act {
     Take(Pid),
     /// The same where the list is empty: nothing is taken out.
     TakeNothing,
+    /// As `Take` of each process from the one to the other, in turn.
+    TakeEach(Pid, Pid),
     /// Of the turns of the process that are held the first does its burst, which is handed in. This is
     /// the answer.
     HandIn(Pid, HandIn),
+    /// As `HandIn` of each process from the one to the other, in turn.
+    HandInEach(Pid, Pid, HandIn),
     /// The first turn of the process that is held is dropped.
     LetGo(Pid),
     /// A turn of the process in the other system, which is new, does its burst, which is handed in to
@@ -83,7 +87,11 @@ fn comes_so(
     match act {
         Act::Take(pid) => takes(system, held, *pid),
         Act::TakeNothing => Ok(system.take()?.is_none()),
+        Act::TakeEach(first, last) => takes_each(system, held, *first, *last),
         Act::HandIn(pid, answer) => Ok(hands_in(system, first_of(held, *pid), *answer)),
+        Act::HandInEach(first, last, answer) => {
+            Ok(hands_in_each(system, held, *first, *last, *answer))
+        }
         Act::LetGo(pid) => Ok(first_of(held, *pid).is_some()),
         Act::Foreign(pid, answer) => Ok(hands_in(system, foreign(alloc, other, *pid)?, *answer)),
         Act::Step(pid) => Ok(matches!(system.step(*pid), Stepped::Ran)),
@@ -101,6 +109,21 @@ fn takes(system: &mut System, held: &mut Vec<Turn>, pid: Pid) -> Result<bool, Fa
     Ok(is_so)
 }
 
+/// Whether these processes are the first of the ready list, in turn.
+fn takes_each(
+    system: &mut System,
+    held: &mut Vec<Turn>,
+    first: Pid,
+    last: Pid,
+) -> Result<bool, Fail> {
+    for pid in first..=last {
+        if !takes(system, held, pid)? {
+            return Ok(false);
+        }
+    }
+    Ok(true)
+}
+
 /// The first turn of the process that is held. It isn't any more then.
 fn first_of(held: &mut Vec<Turn>, pid: Pid) -> Option<Turn> {
     let place = held.iter().position(|turn| turn.pid() == pid)?;
@@ -113,6 +136,22 @@ fn hands_in(system: &mut System, turn: Option<Turn>, answer: HandIn) -> bool {
         Some(turn) => system.hand_in(burst(turn, 256)) == answer,
         None => false,
     }
+}
+
+/// Whether there is a turn of each of these processes, whose burst is answered so.
+fn hands_in_each(
+    system: &mut System,
+    held: &mut Vec<Turn>,
+    first: Pid,
+    last: Pid,
+    answer: HandIn,
+) -> bool {
+    for pid in first..=last {
+        if !hands_in(system, first_of(held, pid), answer) {
+            return false;
+        }
+    }
+    true
 }
 
 /// The turn of the process that a new system of these hands out.

@@ -80,7 +80,7 @@ def in_table(path):
     text = "".join(f"{line}\n" for line in lines)
     while at < len(text):
         part = PART.match(text, at)
-        where = f"edits/{path.parent.name}/{path.name}"
+        where = str(path.relative_to(TOP))
         if not part or part["old"] and not edits or part["key"] and edits and part["key"] != "file":
             line, *_ = text[at:].split("\n")
             raise Unreadable(f"{where}: this can't stand here: {line}")

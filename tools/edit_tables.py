@@ -20,6 +20,9 @@ lines mean nothing, nor do those that begin with #.
 What changes a definition stands with the law that refuses it, or in a table edits/CRATE/FILE.edits that names
 no function, but a file of definitions.
 
+A clause that no wrong body can break stands above them with why, as `untried: table, the type has it`. One
+without a name is called `its clause`. A table may have nothing else.
+
 The toolchain reads a file for each, in which each text is one line:
 
     file: src/job.rt
@@ -31,7 +34,7 @@ from fnmatch import fnmatch
 from pathlib import Path
 
 TOP = Path(__file__).resolve().parent.parent
-PART = re.compile(r"(?P<key>function|file|clause): (?P<value>.+)\n"
+PART = re.compile(r"(?P<key>function|file|clause|untried): (?P<value>.+)\n"
                   r"|(?P<old>(?:-(?: .*)?\n)+)(?P<new>(?:\+(?: .*)?\n)+)"
                   r"|(?P<name>[A-Za-z0-9_]+)(?:: (?P<clause>.+))?\n")
 COMMENT = re.compile(r"//|(?<!\S)--(?!\S)")
@@ -39,6 +42,17 @@ COMMENT = re.compile(r"//|(?<!\S)--(?!\S)")
 
 class Unreadable(Exception):
     """What is wrong with a table or with one of its edits."""
+
+
+class Untried:
+    """A clause of a function that no wrong body can break, and why."""
+
+    def __init__(self, path, function, value):
+        self.path, self.function = path, function
+        self.clause, _, self.why = value.partition(", ")
+
+    def __str__(self):
+        return f"edits/{self.path.parent.name}/{self.path.name}"
 
 
 class Edit:
@@ -74,8 +88,8 @@ class Edit:
 
 
 def in_table(path):
-    """The edits of a table."""
-    head, edits, at = {}, [], 0
+    """The edits of a table, and the clauses that none can break."""
+    head, edits, untried, at = {}, [], [], 0
     lines = [line for line in path.read_text(encoding="utf-8").split("\n") if line.strip() and not line.startswith("#")]
     text = "".join(f"{line}\n" for line in lines)
     while at < len(text):
@@ -88,6 +102,8 @@ def in_table(path):
             edits[-1].pairs.append((text_of(part["old"], where), text_of(part["new"], where)))
         elif part["key"] and edits:
             edits[-1].file = part["value"]
+        elif part["key"] == "untried":
+            untried.append(Untried(path, head.get("function", ""), part["value"]))
         elif part["key"]:
             head[part["key"]] = part["value"]
         else:
@@ -95,7 +111,7 @@ def in_table(path):
             edits[-1].clause = part["clause"] or edits[-1].clause
             edits[-1].is_of_head = not part["clause"]
         at = part.end()
-    return edits
+    return edits, untried
 
 
 def text_of(lines, where):
@@ -116,13 +132,23 @@ def in_file(path, crate):
     return edit
 
 
-def edits_of(crate):
-    """The edits of the crate that stand outside of the gate."""
+def tables_of(crate):
+    """What each table of the crate has."""
     files = sorted((TOP / "edits" / crate).glob("*"))
     for file in files:
         if file.suffix != ".edits":
             raise Unreadable(f"edits/{crate}/{file.name} is no table")
-    return [edit for file in files for edit in in_table(file)]
+    return [in_table(file) for file in files]
+
+
+def edits_of(crate):
+    """The edits of the crate that stand outside of the gate."""
+    return [edit for edits, _ in tables_of(crate) for edit in edits]
+
+
+def untried_of(crate):
+    """The clauses of the crate that no wrong body can break."""
+    return [it for _, untried in tables_of(crate) for it in untried]
 
 
 def edits_in_gate(crate):

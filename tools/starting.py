@@ -5,7 +5,8 @@ import subprocess
 import sys
 from pathlib import Path
 
-TOP = Path(__file__).resolve().parent.parent
+from programs import NO_PROGRAM, TOOLS, TOP, installed, is_checkout, is_quick_package, named
+
 # The bytes that the program takes of its input at most.
 MOST_INPUT = 4_194_304
 # The proved program, if it is newer than the sources, or else the file of their quick build.
@@ -18,16 +19,21 @@ class Trouble(Exception):
 
 
 def read_file(path):
-    """The bytes of a file, no more than one past the most that the lab takes."""
+    """The bytes of a file, no more than one past the most that the lab takes; `-` is standard input."""
     try:
-        with open(path, "rb") as file:
+        with open(0 if path == "-" else path, "rb", closefd=path != "-") as file:
             return file.read(MOST_INPUT + 1)
     except OSError as fault:
         raise Trouble(f"can't read {path}: {fault.strerror}") from None
 
 
 def find_program(tool):
-    """The file of the program that ./run would take; a quick build is made if there is none."""
+    """The file of the program that ./run would take; a quick build is made if there is none. Outside of a checkout
+    it is the one that is installed."""
+    if not is_checkout():
+        if is_quick_package():
+            print(f"{tool}: an unproved quick build answers", file=sys.stderr)
+        return installed_program()
     found = subprocess.run(["bash", "-c", FIND, "bash", TOP], stdout=subprocess.PIPE, text=True)
     program = Path(found.stdout.strip())
     if found.returncode != 0 or not found.stdout.strip():
@@ -36,10 +42,17 @@ def find_program(tool):
         return program
     if not program.exists():
         print(f"{tool}: makes a quick build, which takes a minute or two and is kept", file=sys.stderr)
-        if subprocess.run([TOP / "tools/quick-build"], stdout=subprocess.DEVNULL).returncode != 0:
+        if subprocess.run([TOOLS / "quick-build"], stdout=subprocess.DEVNULL).returncode != 0:
             raise Trouble("no quick build; --zlab PROGRAM names another program")
     print(f"{tool}: an unproved quick build answers (./build proves one, which takes an hour)", file=sys.stderr)
     return program
+
+
+def installed_program():
+    program = installed()
+    if program is None:
+        raise Trouble(NO_PROGRAM)
+    return Path(program)
 
 
 def run_tool(tool, main):
@@ -70,7 +83,7 @@ class Lab:
     """The program, as the tools start it."""
 
     def __init__(self, tool, program=None):
-        self.program = Path(program).resolve() if program else find_program(tool)
+        self.program = Path(named(program)) if program else find_program(tool)
         # How often it was started for a trace.
         self.runs = 0
         if not self.answer(b"", "--version").startswith(b"zlab "):

@@ -4,11 +4,10 @@ import signal
 import subprocess
 import sys
 import threading
-from pathlib import Path
 
 from meaning.trouble import Answered, Trouble
+from programs import NO_PROGRAM, TOP, installed, is_checkout, named
 
-TOP = Path(__file__).resolve().parent.parent.parent
 PROVED = TOP / "crates/zlab/out/zlab"
 # What ./run says at each start of a build that isn't proved; these programs aren't proved either.
 UNPROVED = b"run: an unproved quick build answers"
@@ -20,11 +19,21 @@ def add_option(parser):
                         help="the lab's program: the proved one if there is one, else ./run")
 
 
+def found_program():
+    """The program where none is named."""
+    if is_checkout():
+        return str(PROVED if os.access(PROVED, os.X_OK) else TOP / "run")
+    program = installed()
+    if program is None:
+        raise Trouble(NO_PROGRAM)
+    return program
+
+
 class Lab:
     """The lab's program."""
 
     def __init__(self, program=None):
-        self.program = program or str(PROVED if os.access(PROVED, os.X_OK) else TOP / "run")
+        self.program = named(program) if program else found_program()
 
     def answer(self, words, given, is_told=True):
         """What it writes to the words and to this standard input, and its status. What it says on

@@ -5,6 +5,8 @@ import subprocess
 import sys
 from pathlib import Path
 
+from meaning.trouble import Trouble as NotTaken
+from meaning.zlt import taken
 from programs import NO_PROGRAM, TOOLS, TOP, installed, is_checkout, is_quick_package, named
 
 # The bytes that the program takes of its input at most.
@@ -86,6 +88,8 @@ class Lab:
         self.program = Path(named(program)) if program else find_program(tool)
         # How often it was started for a trace.
         self.runs = 0
+        # How a line of standard error is told, if it has other numbers of lines than the file.
+        self.told = None
         if not self.answer(b"", "--version").startswith(b"zlab "):
             raise Trouble(f"{self.program} isn't zlab")
 
@@ -97,11 +101,20 @@ class Lab:
             raise Trouble(f"can't start {self.program}: {fault.strerror}") from None
         return run.returncode, run.stdout, run.stderr
 
+    def take(self, path, content):
+        """A file as the lab takes it: with numbers, where it has names."""
+        try:
+            content, self.told = taken(path, content, Asking(self))
+        except NotTaken as trouble:
+            raise Trouble(str(trouble)) from None
+        return content
+
     def answer(self, given, *words):
         """What the program writes, where it ends with status 0."""
         status, written, said = self.run(given, *words)
         if status != 0:
-            lines = [line for line in (written + said).decode(errors="replace").splitlines() if line]
+            lines = [self.told(line) if self.told else line
+                     for line in (written + said).decode(errors="replace").splitlines() if line]
             raise Trouble("; ".join(lines[:2]) or f"{self.program} ended with status {status}")
         return written
 
@@ -113,3 +126,13 @@ class Lab:
     def image(self, text):
         """The image of an assembler text."""
         return self.answer(text, "asm", "/dev/stdin", "/dev/stdout")
+
+
+class Asking:
+    """The lab, as those ask it who want its status beside what it writes."""
+
+    def __init__(self, lab):
+        self.lab = lab
+
+    def answer(self, words, given, is_told):
+        return self.lab.run(given, *words)[:2]

@@ -6,6 +6,7 @@ import sys
 import threading
 
 from meaning.trouble import Answered, Trouble
+from meaning.zlt import taken
 from programs import NO_PROGRAM, TOP, installed, is_checkout, named
 
 PROVED = TOP / "crates/zlab/out/zlab"
@@ -13,10 +14,9 @@ PROVED = TOP / "crates/zlab/out/zlab"
 UNPROVED = b"run: an unproved quick build answers"
 
 
-def add_option(parser):
+def add_option(parser, about="the lab's program"):
     """The word for the program."""
-    parser.add_argument("--zlab", metavar="PROGRAM",
-                        help="the lab's program: the proved one if there is one, else ./run")
+    parser.add_argument("--zlab", metavar="PROGRAM", help=f"{about}: the proved one if there is one, else ./run")
 
 
 def found_program():
@@ -34,6 +34,13 @@ class Lab:
 
     def __init__(self, program=None):
         self.program = named(program) if program else found_program()
+        # how a line of standard error is told, if it has other numbers of lines than the file
+        self.told = None
+
+    def take(self, path, content):
+        """A file as the lab takes it: with numbers, where it has names."""
+        content, self.told = taken(path, content, self)
+        return content
 
     def answer(self, words, given, is_told=True):
         """What it writes to the words and to this standard input, and its status. What it says on
@@ -42,7 +49,7 @@ class Lab:
         telling = threading.Event()
         if is_told:
             telling.set()
-        teller = threading.Thread(target=pass_on, args=(reading, telling), daemon=True)
+        teller = threading.Thread(target=pass_on, args=(reading, telling, self.told), daemon=True)
         teller.start()
         try:
             # in a group of its own, so that all that it starts can be ended
@@ -87,10 +94,11 @@ def stop(process):
     process.wait()
 
 
-def pass_on(reading, telling):
+def pass_on(reading, telling, told):
     """Passes standard error on, line by line."""
     with open(reading, "rb") as lines:
         for line in lines:
             if telling.is_set() and not line.startswith(UNPROVED):
-                sys.stderr.write(line.decode("ascii", "replace"))
+                text = line.decode("ascii", "replace")
+                sys.stderr.write(told(text) if told else text)
                 sys.stderr.flush()

@@ -1,9 +1,17 @@
 """Cases: an input, and what stands beside it; for tests/try-cases, which says what these are, and tests/try-memory."""
+import sys
+from pathlib import Path
+
 from assembler import assemble
 
-STATUSES = {"refused": 1, "wrong_words": 2, "failing_files": 3, "no_memory": 4,
+TOOLS = Path(__file__).resolve().parent.parent / "tools"
+sys.path.insert(0, str(TOOLS))
+from meaning.lab import Lab  # noqa: E402
+from meaning.zlt import taken  # noqa: E402
+
+STATUSES = {"refused": 1, "mistakes": 1, "wrong_words": 2, "failing_files": 3, "no_memory": 4,
             "status_1": 1, "status_2": 2, "status_3": 3}
-BESIDE = [".args", ".stdout", ".stderr", ".scenario", ".last", ".refused"]
+BESIDE = [".args", ".stdout", ".stderr", ".scenario", ".last", ".end", ".refused"]
 
 
 def cases_in(folders):
@@ -23,12 +31,15 @@ def beside(path, ending):
     return path.with_name(path.name + ending)
 
 
-def content(path):
-    """The bytes of an input; of a text that is to be checked, those of its image."""
-    words = beside(path, ".args")
-    if path.suffix == ".zasm" and words.exists() and words.read_text().startswith("check\n"):
-        return assemble(path.read_text())
-    return path.read_bytes()
+def content(path, program=None):
+    """The bytes of an input, with numbers for its names; of a text that is to be checked, those of its image. What
+    stands for a line `rest` is asked of the program."""
+    words, given = beside(path, ".args"), path.read_bytes()
+    if path.suffix == ".zlt":
+        given, _ = taken(path, given, program and Lab(program))
+    if path.suffix in (".zasm", ".zlt") and words.exists() and words.read_text().startswith("check\n"):
+        return assemble(given.decode())
+    return given
 
 
 def words_of(path):

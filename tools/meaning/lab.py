@@ -42,14 +42,14 @@ class Lab:
         content, self.told = taken(path, content, self)
         return content
 
-    def answer(self, words, given, is_told=True):
-        """What it writes to the words and to this standard input, and its status. What it says on
-        standard error is passed on, if it is to be told."""
+    def answer(self, words, given, is_told=True, said=None):
+        """What it writes to the words and to this standard input, and its status. What it says on standard
+        error is passed on, if it is to be told, or its lines become those of `said`."""
         reading, writing = os.pipe()
         telling = threading.Event()
         if is_told:
             telling.set()
-        teller = threading.Thread(target=pass_on, args=(reading, telling, self.told), daemon=True)
+        teller = threading.Thread(target=pass_on, args=(reading, telling, said, self.told), daemon=True)
         teller.start()
         try:
             # in a group of its own, so that all that it starts can be ended
@@ -94,11 +94,15 @@ def stop(process):
     process.wait()
 
 
-def pass_on(reading, telling, told):
+def pass_on(reading, telling, said, told):
     """Passes standard error on, line by line."""
     with open(reading, "rb") as lines:
         for line in lines:
-            if telling.is_set() and not line.startswith(UNPROVED):
-                text = line.decode("ascii", "replace")
-                sys.stderr.write(told(text) if told else text)
-                sys.stderr.flush()
+            text = line.decode("ascii", "replace")
+            if not telling.is_set() or line.startswith(UNPROVED):
+                continue
+            if said is not None:
+                said.append(text.rstrip("\n"))
+                continue
+            sys.stderr.write(told(text) if told else text)
+            sys.stderr.flush()

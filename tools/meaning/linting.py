@@ -34,6 +34,8 @@ CURES = {
     "Budget": "a larger .budget, or a wait in the loop",
     "IllegalOp": "no instruction is so, whatever the registers hold",
 }
+# How what to do ends where a handle may be 0.
+NIL_TEST = " above it"
 # Of these the tools' text says as much in fewer words.
 SHORT = ("NotLive", "Budget", "UndeclaredNeed", "NotWord", "Leak")
 WANTED = {"NotLive": "wants a handle", "WrongKind": "wants a handle of another kind", "LacksRight": "wants a right more",
@@ -147,7 +149,12 @@ class Linting:
         text, cure, page = told_by_tools(lines, places, found, refusal)
         if said and (heard := SAID.fullmatch(said[0])):
             its_text, its_cure = parted(heard[3].split(": ", 1)[-1], ": " if refusal.cause == "MemoryRange" else "; ")
-            text, cure, page = text if refusal.cause in SHORT else its_text, its_cure or cure, heard[4] or page
+            if refusal.cause not in SHORT:
+                text = its_text
+            if not cure.endswith(NIL_TEST):
+                # the dots of the lab stand for what only the text knows
+                cure = its_cure.replace(", ..", f", {way_out(lines)}") or cure
+            page = heard[4] or page
         number, note = self.operand(found, refusal, at, places)
         self.add(place, number, refusal.cause, text, cure, page, by, note)
 
@@ -259,7 +266,7 @@ def told_by_tools(lines, places, found, refusal):
         return bare(lines.get(places[refusal.at], "")) if refusal.at < len(places) else "the end", CURES[cause], page
     value = state[register]
     if cause == "NotLive" and isinstance(value, Has) and value.maybe:
-        return f"r{register} may be 0 here", f"jz r{register}, {way_out(lines)} above it", page
+        return f"r{register} may be 0 here", f"jz r{register}, {way_out(lines)}{NIL_TEST}", page
     if cause == "MemoryRange" and (told := range_text(found.image, refusal)):
         return told, CURES[cause], page
     if cause == "JoinConflict" and refusal.other:
@@ -288,7 +295,7 @@ def range_text(image, refusal):
 def way_out(lines):
     """A label of the text to go to."""
     labels = [bare(line)[:-1] for line in lines.values() if bare(line).endswith(":")]
-    return "out" if "out" in labels or not labels else labels[-1]
+    return "out" if "out" in labels else labels[-1] if labels else ".."
 
 
 def giver_of(code, refusal):

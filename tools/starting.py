@@ -106,7 +106,7 @@ class Lab:
         try:
             content, self.told = taken(path, content, Asking(self))
         except NotTaken as trouble:
-            raise Trouble(str(trouble)) from None
+            raise Trouble(f"{path}: {trouble}") from None
         return content
 
     def answer(self, given, *words):

@@ -80,8 +80,11 @@ def spans(text):
 
 
 def span_of(text, number):
-    """The columns of the word of this number, or of all words."""
+    """The columns of the word of this number, or of all words. Words that give a name don't count."""
     found = spans(text)
+    given = [n for n, (first, last) in enumerate(found) if text[first:last] == "="]
+    if number is not None and given and text.lstrip(" ").startswith("@"):
+        number += given[0] + 1
     if not found:
         return 1, 2
     first, last = (found[0][0], found[-1][1]) if number is None or number >= len(found) else found[number]
@@ -89,10 +92,11 @@ def span_of(text, number):
 
 
 class Linting:
-    """The faults of one file. `source` has its lines, and `origins` for each line of the lab's its place there."""
+    """The faults of one file. `source` has its lines, `origins` for each line of the lab's its place there, and `tell`
+    tells the lines of which the lab speaks by these places."""
 
-    def __init__(self, lab, path, source, origins):
-        self.lab, self.path, self.source, self.origins = lab, path, source, origins
+    def __init__(self, lab, path, source, origins, tell):
+        self.lab, self.path, self.source, self.origins, self.tell = lab, path, source, origins, tell
         self.faults = []
         self.programs = 0
 
@@ -101,6 +105,7 @@ class Linting:
         line = self.origins[place - 1] if place <= len(self.origins) else place
         shown = self.source[line - 1] if 0 < line <= len(self.source) else ""
         column, end = span_of(shown, number)
+        text, cure = self.tell(text), self.tell(cure)
         self.faults.append(Fault(self.path, line, column, end, cause, text, cure, page, by, shown, note))
 
     # ---- texts
@@ -237,9 +242,11 @@ def word_at_fault(line, told):
     words = [line[first:last] for first, last in spans(line)]
     if found := re.match(r"(?:the )?operands? ([0-9]+)\b", told):
         return int(found[1])
-    for word in re.findall(r"[^\s,;:]+", told.split("; ")[0]):
-        if word in words and (word not in ("a", "an", "is", "no") or len(words) == 1):
-            return words.index(word)
+    named = [word for word in re.findall(r"[^\s,;]+", told.split("; ")[0]) if word.rstrip(":") in words or word in words]
+    named = [word for word in named if word not in ("a", "an", "is", "no") or len(words) == 1]
+    if named:
+        word = max(named, key=len)
+        return words.index(word if word in words else word.rstrip(":"))
     return next((n for word in re.findall(r"\S+", told) for n, one in enumerate(words) if word in one and not word.isalpha()),
                 None)
 
@@ -312,10 +319,12 @@ def giver_of(code, refusal):
 
 def linted(lab, path, content, numbered):
     """The faults of a file's bytes, and how many programs it has."""
+    if content.startswith(b"ZLAB"):
+        raise Trouble(f"{path} is an image, and no text: tools/disasm writes its text, and check judges it")
     text = (numbered.content() if numbered else content).decode("latin-1")
     source = content.decode("latin-1").split("\n")
     origins = [line.place for line in numbered.lines] if numbered else list(range(1, len(source) + 1))
-    linting = Linting(lab, path, source, origins)
+    linting = Linting(lab, path, source, origins, numbered.told if numbered else str)
     if is_scenario(text.encode("latin-1")):
         linting.scenario(text)
     else:

@@ -8,7 +8,6 @@ import re
 from dataclasses import dataclass
 
 from meaning.image import decode
-from meaning.instructions import WRITTEN, handle_places
 from meaning.mending import all_refusals
 from meaning.rules import WIDTHS
 from meaning.scenario import is_scenario, is_skipped, words_of
@@ -171,12 +170,11 @@ class Linting:
         if refusal.register is None or refusal.at >= len(code) or code[refusal.at].row is None:
             return 0, ""
         one = code[refusal.at]
-        words = [*one.registers, *one.handles]
-        at_fault = [n for n, register in enumerate(words) if register == refusal.register]
-        if refusal.cause == "MemoryRange" and one.row.has_range:
+        at_fault = [n for n, register in enumerate(one.operands) if register == refusal.register]
+        if refusal.cause == "MemoryRange" and one.has_range:
             at_fault = [max((2, 3), key=lambda n: bound_of(refusal.state[one.registers[n]]))]
         if refusal.cause in ("NotLive", "WrongKind", "LacksRight"):
-            handles = [n for n, _, _ in handle_places(one)]
+            handles = [n for n, _, _ in one.handle_places]
             at_fault = [n for n in at_fault if n in handles] or at_fault
         note = WANTED.get(refusal.cause, "")
         giver = giver_of(code, refusal)
@@ -289,7 +287,7 @@ def bound_of(value):
 def range_text(image, refusal):
     """How far an access to the memory may go."""
     one = image.code[refusal.at]
-    if one.row.has_range:
+    if one.has_range:
         address, length = one.registers[2:4]
         most = bound_of(refusal.state[address]) + bound_of(refusal.state[length])
         return f"r{address} + r{length} may be {most}, and the memory has {image.memory}"
@@ -312,7 +310,7 @@ def giver_of(code, refusal):
         one = code[at]
         if at + 1 in targets or one.row is None:
             return None
-        if any(use == WRITTEN and register == refusal.register for use, register in zip(one.row.fields, one.registers)):
+        if refusal.register in one.written:
             return at if one.is_call else None
     return None
 

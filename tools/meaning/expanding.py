@@ -9,14 +9,13 @@ from dataclasses import dataclass, field
 from meaning.instructions import BY_NAME
 from meaning.naming import NAMES, NUMBER, meant, replaced
 from meaning.scenario import BEGINS, MOST_BYTES, is_skipped, words_of
-from meaning.texts import bare
+from meaning.texts import REGISTER, bare
 from meaning.trouble import Trouble
 
 MOST_LINES = 100_000
 MOST_DEPTH = 16
 MOST_LETTERS = 32
 NAME = re.compile(r"[A-Za-z][A-Za-z0-9_]*")
-REGISTER = re.compile(r"r(?:[12]?[0-9]|3[01])")
 LET = re.compile(r"let +(\S+) *= *(.*)")
 PARAM = re.compile(r"param +(\S+) *= *(\S+)")
 FOR = re.compile(r"for +(\S+) +in +([^\s.]+) *\.\. *([^\s.]+)")

@@ -1,5 +1,4 @@
 """The verifier's search that goes on behind what is refused, as if its author had mended that place alone."""
-from meaning.instructions import handle_places
 from meaning.numbers import KNOWN_RIGHTS
 from meaning.rules import Refused, edges
 from meaning.values import ANYTHING, ZERO, Has, refined
@@ -45,8 +44,7 @@ def mended(one, refused, state):
         return Has(False, value.kind, value.rights)
     if refused.cause not in ("NotLive", "WrongKind", "LacksRight"):
         return None
-    wanted = [kinds for number, (kinds, _), _ in handle_places(one)
-              if (one.registers + one.handles)[number] == refused.register]
+    wanted = [kinds for number, (kinds, _), _ in one.handle_places if one.operands[number] == refused.register]
     if not wanted:
         return ZERO
     kind = value.kind if isinstance(value, Has) and refused.cause == "LacksRight" else None

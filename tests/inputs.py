@@ -3,11 +3,13 @@ import sys
 from pathlib import Path
 
 sys.path.insert(0, str(Path(__file__).resolve().parent.parent / "tools"))
+from meaning.lab import Lab  # noqa: E402
 from meaning.texts import assembled  # noqa: E402
+from meaning.zlt import taken  # noqa: E402
 
-STATUSES = {"refused": 1, "wrong_words": 2, "failing_files": 3, "no_memory": 4,
+STATUSES = {"refused": 1, "mistakes": 1, "wrong_words": 2, "failing_files": 3, "no_memory": 4,
             "status_1": 1, "status_2": 2, "status_3": 3}
-BESIDE = [".args", ".stdout", ".stderr", ".scenario", ".last", ".refused"]
+BESIDE = [".args", ".stdout", ".stderr", ".scenario", ".last", ".end", ".refused"]
 
 
 def cases_in(folders):
@@ -27,12 +29,15 @@ def beside(path, ending):
     return path.with_name(path.name + ending)
 
 
-def content(path):
-    """The bytes of an input; of a text that is to be checked, those of its image."""
-    words = beside(path, ".args")
-    if path.suffix == ".zasm" and words.exists() and words.read_text().startswith("check\n"):
-        return assembled(path.read_text())
-    return path.read_bytes()
+def content(path, program=None):
+    """The bytes of an input, with numbers for its names; of a text that is to be checked, those of its image. What
+    stands for a line `rest` is asked of the program."""
+    words, given = beside(path, ".args"), path.read_bytes()
+    if path.suffix == ".zlt":
+        given, _ = taken(path, given, program and Lab(program))
+    if path.suffix in (".zasm", ".zlt") and words.exists() and words.read_text().startswith("check\n"):
+        return assembled(given.decode())
+    return given
 
 
 def words_of(path):

@@ -10,7 +10,7 @@ from runs import whole_trace
 
 TOP = Path(__file__).resolve().parent.parent
 FOLDERS = ("examples", "tests/cases", "tests/hints", "tests/tools")
-NO_INPUTS = (".args", ".stdout", ".stderr", ".last", ".refused")
+NO_INPUTS = (".args", ".stdout", ".stderr", ".last", ".end", ".refused")
 # Larger inputs are left out: what is slow is timed by bench.
 MOST_BYTES = 20_000
 NUMBERS = (0, 1, 2, 3, 4, 7, 8, 9, 15, 16, 31, 32, 63, 64, 65, 127, 128, 255, 256, 257, 1000, 1024, 4095, 4096, 4097,

@@ -19,3 +19,13 @@ quick_of_the_sources() {
         LC_ALL=C sort -z | xargs -0 sha256sum | sha256sum | cut -c 1-32)
     echo "$kept/zlab-$sum"
 }
+
+# revision LENGTH PATH ..: the revision of this checkout in so many digits, and whether something below the paths
+# differs from it. Status 1 where it is no checkout, or no git can tell.
+revision() {
+    local hash changes
+    [ -e "$top/.git" ] || return 1
+    hash=$(git -C "$top" rev-parse --short="$1" HEAD 2> /dev/null) || return 1
+    changes=$(git -C "$top" status --porcelain -- "${@:2}" 2> /dev/null) || return 1
+    echo "$hash${changes:+ with changes}"
+}

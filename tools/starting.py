@@ -8,8 +8,8 @@ from pathlib import Path
 
 from meaning.lab import Lab
 from meaning.trouble import Trouble
+from programs import NO_PROGRAM, TOOLS, TOP, installed, is_checkout, is_quick_package
 
-TOP = Path(__file__).resolve().parent.parent
 # The bytes that the program takes of its input at most.
 MOST_INPUT = 4_194_304
 # The proved program, if it is newer than the sources, or else the file of their quick build.
@@ -29,16 +29,21 @@ class Words(argparse.ArgumentParser):
 
 
 def read_file(path):
-    """The bytes of a file, no more than one past the most that the lab takes."""
+    """The bytes of a file, no more than one past the most that the lab takes; `-` is standard input."""
     try:
-        with open(path, "rb") as file:
+        with open(0 if path == "-" else path, "rb", closefd=path != "-") as file:
             return file.read(MOST_INPUT + 1)
     except OSError as fault:
         raise Trouble(f"can't read {path}: {fault.strerror}") from None
 
 
 def find_program(tool):
-    """The file of the program that ./run would take; a quick build is made if there is none."""
+    """The file of the program that ./run would take; a quick build is made if there is none. Outside of a checkout
+    it is the one that is installed."""
+    if not is_checkout():
+        if is_quick_package():
+            print(f"{tool}: an unproved quick build answers", file=sys.stderr)
+        return installed_program()
     found = subprocess.run(["bash", "-c", FIND, "bash", TOP], stdout=subprocess.PIPE, text=True)
     program = Path(found.stdout.strip())
     if found.returncode != 0 or not found.stdout.strip():
@@ -47,10 +52,17 @@ def find_program(tool):
         return program
     if not program.exists():
         print(f"{tool}: makes a quick build, which takes a minute or two and is kept", file=sys.stderr)
-        if subprocess.run([TOP / "tools/quick-build"], stdout=subprocess.DEVNULL).returncode != 0:
+        if subprocess.run([TOOLS / "quick-build"], stdout=subprocess.DEVNULL).returncode != 0:
             raise Trouble("no quick build; --zlab PROGRAM names another program")
     print(f"{tool}: an unproved quick build answers (./build proves one, which takes an hour)", file=sys.stderr)
     return program
+
+
+def installed_program():
+    program = installed()
+    if program is None:
+        raise Trouble(NO_PROGRAM)
+    return Path(program)
 
 
 def run_tool(tool, main):
@@ -79,7 +91,7 @@ def run_tool(tool, main):
 
 def lab_of(tool, program=None):
     """The lab that is named, or the one that there is."""
-    lab = Lab(Path(program).resolve() if program else find_program(tool))
+    lab = Lab(program or find_program(tool))
     if not lab.written(["--version"], b"").startswith(b"zlab "):
         raise Trouble(f"{lab.program} isn't zlab")
     return lab

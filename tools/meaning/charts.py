@@ -30,9 +30,10 @@ class Mark:
 class Chart:
     """The rows of a chart, and the processes in the order in which they come in."""
 
-    def __init__(self, world, title):
+    def __init__(self, world, title, telling):
         self.world = world
         self.title = title
+        self.telling = telling
         self.rows = []
         self.pids = sorted(world.processes)
         # the rows in which something was sent, by which sending it was
@@ -41,7 +42,7 @@ class Chart:
     def name(self, pid):
         process = self.world.processes[pid]
         kind = "checked" if self.world.programs[process.program].is_checked else "raw"
-        return f"{pid}: program {process.program}, {kind}"
+        return f"{self.telling.who(pid)}: program {process.program}, {kind}"
 
     def row(self, kind, line, pid, text, **more):
         if len(self.rows) >= MOST_ROWS:
@@ -49,7 +50,7 @@ class Chart:
         for one in (pid, more.get("to", 0)):
             if one and one not in self.pids:
                 self.pids.append(one)
-        self.rows.append(Mark(kind, line, pid, text, **more))
+        self.rows.append(Mark(kind, line, pid, self.telling.told(text), **more))
         return self.rows[-1]
 
     def add(self, followed):

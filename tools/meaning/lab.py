@@ -4,30 +4,41 @@ import signal
 import subprocess
 import sys
 import threading
-from pathlib import Path
 
 from meaning.trouble import Answered, Trouble
+from meaning.zlt import taken
+from programs import NO_PROGRAM, TOP, installed, is_checkout, named
 
-TOP = Path(__file__).resolve().parent.parent.parent
 PROVED = TOP / "crates/zlab/out/zlab"
 # What ./run says at each start of a build that isn't proved; these programs aren't proved either.
 UNPROVED = b"run: an unproved quick build answers"
 
 
-def add_option(parser):
+def add_option(parser, about="the lab's program"):
     """The word for the program."""
-    parser.add_argument("--zlab", metavar="PROGRAM",
-                        help="the lab's program: the proved one if there is one, else ./run")
+    parser.add_argument("--zlab", metavar="PROGRAM", help=f"{about}: the proved one if there is one, else ./run")
+
+
+def found_program():
+    """The program where none is named."""
+    if is_checkout():
+        return str(PROVED if os.access(PROVED, os.X_OK) else TOP / "run")
+    program = installed()
+    if program is None:
+        raise Trouble(NO_PROGRAM)
+    return program
 
 
 class Lab:
     """The lab's program, which is started in a folder, and may have so many seconds."""
 
     def __init__(self, program=None, room=None, seconds=None):
-        self.program = program or str(PROVED if os.access(PROVED, os.X_OK) else TOP / "run")
+        self.program = named(program) if program else found_program()
         self.room, self.seconds = room, seconds
         # how often it was started for a trace
         self.runs = 0
+        # how a line of standard error is told, if it has other numbers of lines than the file
+        self.told = None
 
     def start(self, words, given, said=subprocess.PIPE, is_apart=False):
         """Its status, what it writes to these words and this standard input, and what it says on standard error,
@@ -48,14 +59,22 @@ class Lab:
             stop(process, is_apart)
             raise
 
-    def answer(self, words, given, is_told=True):
-        """What it writes to the words and to this standard input, and its status. What it says on
-        standard error is passed on, if it is to be told."""
+    def take(self, path, content):
+        """A file as the lab takes it: with numbers, where it has names."""
+        try:
+            content, self.told = taken(path, content, self)
+        except Trouble as trouble:
+            raise Trouble(f"{trouble}" if str(path) == "-" else f"{path}: {trouble}", trouble.status) from None
+        return content
+
+    def answer(self, words, given, is_told=True, said=None):
+        """What it writes to the words and to this standard input, and its status. What it says on standard
+        error is passed on, if it is to be told, or its lines become those of `said`."""
         reading, writing = os.pipe()
         telling = threading.Event()
         if is_told:
             telling.set()
-        teller = threading.Thread(target=pass_on, args=(reading, telling), daemon=True)
+        teller = threading.Thread(target=pass_on, args=(reading, telling, said, self.told), daemon=True)
         teller.start()
         try:
             status, output, _ = self.start(words, given, writing, True)
@@ -82,7 +101,8 @@ class Lab:
         """What it writes, where its status is 0; else Trouble says in its words what is wrong."""
         status, output, said = self.start(words, given)
         if status:
-            lines = [line for line in (output + said).decode(errors="replace").splitlines() if line]
+            lines = [self.told(line) if self.told else line
+                     for line in (output + said).decode(errors="replace").splitlines() if line]
             raise Trouble("; ".join(lines[:2]) or f"{self.program} ended with status {status}")
         return output
 
@@ -110,10 +130,15 @@ def stop(process, is_apart):
     process.wait()
 
 
-def pass_on(reading, telling):
+def pass_on(reading, telling, said, told):
     """Passes standard error on, line by line."""
     with open(reading, "rb") as lines:
         for line in lines:
-            if telling.is_set() and not line.startswith(UNPROVED):
-                sys.stderr.write(line.decode("ascii", "replace"))
-                sys.stderr.flush()
+            text = line.decode("ascii", "replace")
+            if not telling.is_set() or line.startswith(UNPROVED):
+                continue
+            if said is not None:
+                said.append(text.rstrip("\n"))
+                continue
+            sys.stderr.write(told(text) if told else text)
+            sys.stderr.flush()

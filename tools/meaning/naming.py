@@ -1,4 +1,7 @@
-"""Names in scenarios and texts to their numbers. Lines keep their places, and what has no name is as it was."""
+"""Names in scenarios and texts to their numbers. Lines keep their places, and what has no name is as it was.
+
+A line has its text, and an origin: its place in the file, as it is told.
+"""
 import difflib
 import re
 
@@ -26,7 +29,7 @@ FAMILIES = {
 IN_ZIRCON = {"USER_SIGNALS": "ZX_USER_SIGNAL_ALL", "OK": "ZX_OK"}
 NUMBER = re.compile(r"[0-9]{1,20}|0x[0-9a-fA-F]{1,16}")
 DEFINITION = re.compile(r"( *)(@\S+(?:, *@\S+)*) *= *(\S.*?)( *)")
-LABEL = re.compile(r"@[a-z][a-z0-9_]*")
+LABEL = re.compile(r"@[a-z][a-z0-9_]*(?:\[[0-9]+\])?")
 OBJECTS = {"job": 1, "event": 1, "eventpair": 2, "port": 1, "channel": 2, "process": 1}
 
 
@@ -52,6 +55,8 @@ def all_names():
 
 
 NAMES = all_names()
+# A line of a policy has names of conditions and actions, which may be Zircon's.
+IN_POLICIES = [{zircon_names(family, name)[0]: name for name in FAMILIES[family][0]} for family in ("condition", "action")]
 
 
 class Names:
@@ -59,14 +64,16 @@ class Names:
 
     def __init__(self):
         self.own = {"@root": 1}
-        self.line = 0
+        # those of objects, by their koids
+        self.objects = {}
+        self.line = None
 
     def fail(self, text):
-        raise Trouble(f"line {self.line}: {text}")
+        raise Trouble(f"line {self.line.origin}: {text}")
 
     def define(self, name, given):
         if not LABEL.fullmatch(name):
-            self.fail(f"{name} is no name: @, a small letter, then small letters, digits or _")
+            self.fail(f"{name} is no name: @, a small letter, then small letters, digits or _, and perhaps an index as [2]")
         if name in self.own:
             self.fail(f"{name} is {self.own[name]} already")
         self.own[name] = given
@@ -158,18 +165,15 @@ def in_numbers(name):
 
 def in_statement(names, line):
     """A line of a scenario, outside of blocks, with its numbers."""
-    body, plain, _ = line.partition("\r")
-    definition = DEFINITION.fullmatch(body)
+    definition = DEFINITION.fullmatch(line)
     if definition and NUMBER.fullmatch(definition[3]):
         return f"# {line}"
     if definition:
-        body = definition[1] + definition[3] + definition[4]
+        line = definition[1] + definition[3] + definition[4]
 
     def find(words):
-        first = 2 if words[:1] == ["policy"] else len(words)
-        return {place: in_word(names, word, words[0], place)
-                for place, word in enumerate(words[:first]) if "@" in word or place}
-    return replaced(body, find) + plain
+        return {place: in_word(names, word, words[0], place) for place, word in enumerate(words) if "@" in word or place}
+    return replaced(line, find)
 
 
 def in_word(names, word, statement, place):
@@ -182,39 +186,43 @@ def in_word(names, word, statement, place):
         return names.own_number(word)
     if statement == "process" and place == 3:
         return names.value(word)
+    if statement == "policy" and place > 1:
+        return IN_POLICIES[place == 3].get(word, word)
     return word
 
 
 def parts_of(lines):
     """Each line with what it is: `statement`, `text` of a block, or `other`."""
     inside = None
-    for place, line in enumerate(lines, 1):
-        words = words_of(line)
-        if is_skipped(line):
-            yield place, line, "other"
+    for line in lines:
+        words = words_of(line.text)
+        if is_skipped(line.text):
+            yield line, "other"
         elif inside and words == ["end"]:
             inside = None
-            yield place, line, "other"
+            yield line, "other"
         elif inside:
-            yield place, line, "text" if inside == "asm" else "other"
+            yield line, "text" if inside == "asm" else "other"
         else:
             if "program" in words:
                 inside = words[-1]
-            yield place, line, "statement"
+            yield line, "statement"
 
 
 def defined(lines):
     """The names that the lines define."""
     names, koid, program = Names(), 2, 0
-    for place, line, what in parts_of(lines):
-        names.line = place
-        definition = DEFINITION.fullmatch(line.partition("\r")[0]) if what == "statement" else None
-        words = words_of(definition[3] if definition else line)
+    for line, what in parts_of(lines):
+        if what != "statement":
+            continue
+        names.line = line
+        definition = DEFINITION.fullmatch(line.text)
+        words = words_of(definition[3] if definition else line.text)
         given = re.findall(r"@[^\s,]+", definition[2]) if definition else []
-        makes = OBJECTS.get(words[0], 0) if what == "statement" else 0
-        if NUMBER.fullmatch(words[0] if words else "") and given:
+        makes = OBJECTS.get(words[0], 0)
+        if NUMBER.fullmatch(words[0]) and given:
             numbers = [number(words[0])]
-        elif what == "statement" and words[0] == "program":
+        elif words[0] == "program":
             numbers, program = [program], program + 1
         else:
             numbers, koid = list(range(koid, koid + makes)), koid + makes
@@ -222,21 +230,21 @@ def defined(lines):
             names.fail(f"{given[len(numbers)]} has nothing to name")
         for name, value in zip(given, numbers):
             names.define(name, value)
+            if words[0] != "program":
+                names.objects.setdefault(value, name)
     return names
 
 
-def scenario_numbered(lines):
+def scenario_numbered(lines, names):
     """The lines of a scenario with numbers for names."""
-    names = defined(lines)
-    ways = {"statement": in_statement, "text": in_text, "other": lambda _, line: line}
-    for place, line, what in parts_of(lines):
-        names.line = place
-        yield ways[what](names, line)
+    ways = {"statement": in_statement, "text": in_text, "other": lambda _, text: text}
+    for line, what in parts_of(lines):
+        names.line = line
+        yield ways[what](names, line.text)
 
 
-def text_numbered(lines):
+def text_numbered(lines, names):
     """The lines of a text with numbers for names."""
-    names = Names()
-    for place, line in enumerate(lines, 1):
-        names.line = place
-        yield in_text(names, line)
+    for line in lines:
+        names.line = line
+        yield in_text(names, line.text)

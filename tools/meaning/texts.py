@@ -8,6 +8,8 @@ from meaning.image import Image, Instruction, encode
 from meaning.instructions import BY_NAME
 from meaning.numbers import KINDS, NEEDS
 
+REGISTER = re.compile(r"r(?:[12]?[0-9]|3[01])")
+
 
 class TextFault(Exception):
     """A line that isn't understood."""
@@ -44,7 +46,7 @@ def number(word):
 
 
 def register(word):
-    if not re.fullmatch(r"r(?:[12]?[0-9]|3[01])", word):
+    if not REGISTER.fullmatch(word):
         raise ValueError(word)
     return int(word[1:])
 

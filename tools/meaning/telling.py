@@ -1,0 +1,30 @@
+"""Names of objects in what a tool tells of them, by the table below a scenario."""
+import re
+
+OBJECT = re.compile(r"\b(channel|event|port|eventpair|job|process) ([0-9]{1,7})\b( \((?!taken))?")
+FIRST = re.compile(r"^([0-9]{1,7})(?= )")
+
+
+class Telling:
+    """The names of objects, by their numbers."""
+
+    def __init__(self, names):
+        self.names = names
+
+    def who(self, pid):
+        """A process as it is told at the front of an item."""
+        return self.names.get(pid, str(pid))
+
+    def told(self, text):
+        """A text with names: of a process in place of its number, of other objects behind it."""
+        if not self.names:
+            return text
+        return OBJECT.sub(self.named, FIRST.sub(lambda found: self.who(int(found[1])), text))
+
+    def named(self, found):
+        name = self.names.get(int(found[2]))
+        if name is None:
+            return found[0]
+        if found[1] == "process":
+            return name + (found[3] or "")
+        return f"{found[1]} {found[2]} ({name}" + (", " if found[3] else ")")

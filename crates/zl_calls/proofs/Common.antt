@@ -50,7 +50,7 @@ pub use Rattle.zl_calls.specs.FieldFaults.{fields_fault, last_fault}
 pub use Rattle.zl_calls.specs.Gives.{Gives, IsBare, allowed, if_default, process_given, rights_if}
 pub use Rattle.zl_calls.specs.Killing.{AreClosed, AreClosedBut, IsClosed, StandsBefore, StayBlocked, ended_among}
 pub use Rattle.zl_calls.specs.Leaving.{IsStarted, NoneUnstarted, left_beside, left_state}
-pub use Rattle.zl_calls.specs.Makes.{IsCauseOf, IsReached, Makes, is_want, koid_fault, making_pair, seen}
+pub use Rattle.zl_calls.specs.Makes.{IsCauseOf, IsReached, Makes, koid_fault, making_pair, seen}
 pub use Rattle.zl_calls.specs.Making.{IsMaking, IsSound, IsUnwatched, is_killed}
 pub use Rattle.zl_calls.specs.Policed.{EndsBy, IsDenied, Policed, on_fault_by, verdict_by, verdict_in, verdict_on}
 unfoldable pub use Rattle.zl_calls.specs.Policed.{operands_fault}
@@ -67,7 +67,7 @@ pub use Rattle.zl_calls.specs.World.{CallsNext, IsPlaceOf, Machine, awaited_of, 
 pub use Rattle.zl_calls.specs.World.{state_value, world_blocked, world_value}
 pub use Rattle.zl_calls.specs.calls.Answer.{Action, Blocks, ClosesEach, Does, DoesTaking, IsAnswered, IsRefusedBy, IsTold, Replies, Told, answered_in, answers}
 pub use Rattle.zl_calls.specs.calls.Answer.{exits, has_room_in, no_value, one_value, reaches, status_of, taken_from, told_by, two_values, values_of, waits}
-pub use Rattle.zl_calls.specs.calls.Answer.{wants_memory, wants_nothing, wants_place, with_stored, without_handle, without_handles}
+pub use Rattle.zl_calls.specs.calls.Answer.{wants_memory, wants_nothing, with_stored, without_handle, without_handles}
 pub use Rattle.zl_calls.specs.calls.Async.{Cancels, PortCancelDoes, RegistersWait, WaitAsyncDoes, async_refusal, cancel_refusal, source_of, wait_for}
 pub use Rattle.zl_calls.specs.calls.Channel.{ChanCreateDoes, ChanWriteDoes, WritesMessage, fault_of, list_refusal, write_refusal}
 pub use Rattle.zl_calls.specs.calls.Event.{settable_at}
@@ -100,7 +100,7 @@ pub use Rattle.zl_code.proofs.StepsBeside.{ActsAndSettles, blocked_by, blocked_i
 pub use Rattle.zl_code.proofs.StepsWaiting.{settles_waiting}
 pub use Rattle.zl_code.proofs.Waiters.{is_blocking, looks_at_waits, replied_among, waits_after, with_waiters}
 pub use Rattle.zl_code.specs.Asked.{has_its_memory, triples_from, used}
-pub use Rattle.zl_code.specs.Boot.{BootRefusal, MOST_GRANTS, MOST_KOIDS, MOST_PROCESSES, all_known, are_declared, are_misfits, for_fault, for_place, gives_more}
+pub use Rattle.zl_code.specs.Boot.{MOST_GRANTS, MOST_KOIDS, MOST_PROCESSES, all_known, are_declared, are_misfits}
 pub use Rattle.zl_code.specs.Boot.{handle_given, handles_given, is_job, lacks_koids, may_start_with, process_with_all, rights_given, setting, started_process}
 pub use Rattle.zl_code.specs.CallTable.{awaited_by, entering_at, eventpair_create, job_create, job_set_policy, name_of, port_cancel, port_create, port_poll}
 pub use Rattle.zl_code.specs.CallTable.{port_queue, port_wait, process_create, process_start, receiver_of, stored_by, task_kill, wait_async, wait_one}
@@ -185,8 +185,8 @@ pub use Rattle.zl_rights.specs.declared.signals.Signals.{Signals}
 pub use Rattle.zl_rights.specs.declared.status.Status.{Status}
 pub use Rattle.zl_signals.specs.Waits.{without_first}
 pub use Rattle.zl_signals.specs.declared.watch.Watch.{Watch}
-pub use Rattle.zl_table.proofs.MapEdits.{below_parts, get-without, has_key-update, is_sorted-update, length-put_new, length-without, put_key, sorted_parts}
-pub use Rattle.zl_table.proofs.MapEdits.{sorted_put, sorted_without, update_missing, without_lower}
+pub use Rattle.zl_rights.proofs.MapEdits.{below_parts, get-without, has_key-update, is_sorted-update, length-put_new, length-without, put_key, sorted_parts}
+pub use Rattle.zl_rights.proofs.MapEdits.{sorted_put, sorted_without, update_missing, without_lower}
 pub use Rattle.zl_table.specs.Table.{Handles, Inserts, IsTable, Removes}
 pub use Rattle.zl_verify.proofs.Covering.{boot_covered, step_covered}
 pub use Rattle.zl_verify.proofs.Headline.{program_in}

@@ -29,11 +29,11 @@ if_default (Some e) = then_some (has_default_rights e) e
 abbrev pub allowed : Map ObjectValue → Grant → Option Entry
 allowed objects g = if_default (handle_given g (body_in (get objects g.koid)))
 
--- the process has no handle, and had none, so that its table offers the first value
+-- the process has no handle, and had none, so that its table offers 1, 2, ..
 pub record IsBare (p : Process) : Type 0 where
   pub no_handles : p.table.entries ≡ []
   pub none_removed : p.table.last ≡ None
-  pub offers_first : p.table.offered ≡ 1
+  pub offers_first : p.table.free ≡ record { freed = []; made = 0 }
 
 -- the process with the handles es at the values vs, which stand in its registers too
 abbrev pub process_given : List Entry → List ℕ → ProcessValue → ProcessValue

@@ -25,16 +25,10 @@ pub record Makes (lib : Library) (s : Statement) (old new : Made) : Type 0 where
   pub effect : seen new ≡ boot_effect lib (seen old) s values
   pub making : IsMaking new.processes.items [] new.objects
 
--- the causes for a want: of memory, and of a place for a handle behind the first of a table
-abbrev pub is_want : (more : Bool) → BootCause → Bool
-is_want more cause.NoMemory = true
-is_want more cause.Limit = more
-is_want more c = false
-
--- the cause is that of the statement; where it has none it is that for a want
-abbrev pub IsCauseOf : (more : Bool) → Option BootCause → BootCause → Type 0
-IsCauseOf more None c = IsTrue (is_want more c)
-IsCauseOf more (Some found) c = c ≡ found
+-- the cause is that of the statement; where it has none, memory is wanted
+abbrev pub IsCauseOf : Option BootCause → BootCause → Type 0
+IsCauseOf None c = c ≡ cause.NoMemory
+IsCauseOf (Some found) c = c ≡ found
 
 -- the statement that makes such a pair
 abbrev pub making_pair : Pair → Statement

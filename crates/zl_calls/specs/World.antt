@@ -1,7 +1,7 @@
 -- What the definitions see of the world of this crate.
 use Rattle.std.specs.Prelude.{ℕ, ◌≡◌, ◌<◌, Bool, length, slice_get, slice_index, List, [], ◌∷◌, map, Option, Some, None, if◌then◌else◌}
 use Rattle.std.specs.Option.{option_map}
-use Rattle.zl_code.specs.Common.{get, World as WorldValue, Process as ProcessValue, State as StateValue, Created, Ready, Blocked, Ended, Gone, is_ready, is_process, Library, site_of, Next, calls_at, next_for}
+use Rattle.zl_code.specs.Common.{Map, get, World as WorldValue, Process as ProcessValue, State as StateValue, Created, Ready, Blocked, Ended, Gone, is_ready, is_process, Library, site_of, Next, calls_at, next_for}
 use Rattle.zl_code.specs.declared.history.CallName.{CallName}
 use Rattle.zl_code.specs.declared.history.ProcState.{ProcState}
 use Rattle.zl_code.specs.declared.history.ProcState.TheVariants as seen
@@ -13,13 +13,19 @@ use Rattle.zl_objects.specs.declared.awaited.Awaited.TheVariants as awaits
 use Rattle.zl_calls.specs.declared.process.State.{State}
 use Rattle.zl_calls.specs.declared.process.State.TheVariants as state
 use Rattle.zl_calls.specs.declared.process.Process.{Process}
+use Rattle.zl_rights.specs.Values.{Free}
 use Rattle.zl_objects.specs.Objects.{Objects}
 use Rattle.zl_objects.specs.Seen.{object_entry}
 
--- the programs, and the world in which they run
+-- the programs, the world in which they run, and by process the values that new handles get
 pub record Machine : Type 0 where
   pub programs : Library
   pub world : WorldValue
+  pub free : Map Free
+
+-- the values of a process under its koid
+abbrev pub free_entry : Process → ℕ × Free
+free_entry p = (p.pid, p.table.free)
 
 -- ---- views
 

@@ -6,7 +6,7 @@ ghost use Rattle.std.specs.Option.{option_map};
 ghost use Rattle.std.specs.Result.{result_err};
 ghost use Rattle.zl_rights.specs.Numbers.{within, default_rights_of};
 ghost use Rattle.zl_rights.specs.Settle.{Settles};
-ghost use Rattle.zl_code.specs.Boot.{IsBoot, BootRefusal, MOST_ITEMS, MOST_GRANTS, MOST_PROCESSES, MOST_KOIDS, are_declared, are_misfits, boot_fault, gives_more, handles_given, rights_given};
+ghost use Rattle.zl_code.specs.Boot.{IsBoot, FirstFault, MOST_ITEMS, MOST_GRANTS, MOST_PROCESSES, MOST_KOIDS, are_declared, are_misfits, boot_fault, handles_given, rights_given};
 ghost use Rattle.zl_code.specs.Headline.{word_of};
 ghost use Rattle.zl_code.specs.Jobs.{is_only_start};
 ghost use Rattle.zl_code.specs.Limits.{most_word};
@@ -15,7 +15,7 @@ ghost use Rattle.zl_objects.specs.Objects.{is_end_body, kind_at, root_alone, wit
 ghost use Rattle.zl_objects.specs.Ports.{reserved_of};
 ghost use Rattle.zl_interp.specs.Program.{program_value};
 ghost use Rattle.zl_calls.specs.Making.{IsMaking, IsUnwatched};
-ghost use Rattle.zl_calls.specs.Makes.{Makes, seen, IsCauseOf, IsReached, is_want, koid_fault, making_pair};
+ghost use Rattle.zl_calls.specs.Makes.{Makes, seen, IsCauseOf, IsReached, koid_fault, making_pair};
 ghost use Rattle.zl_calls.specs.Gives.{allowed, rights_if, IsBare, Gives};
 
 use crate::calls::job::has_children;
@@ -28,7 +28,7 @@ use zl_code::{Boot, BootCause, BootFault, Grant, Grants, Image, Start, Statement
 use zl_interp::{Cpu, Library, Program};
 use zl_objects::{Body, Life, Objects, Pair};
 use zl_rights::{Action, Condition, Entry, Kind, Koid, Mode, Rights};
-use zl_table::{InsertFault, Table};
+use zl_table::Table;
 
 /// The most processes that a boot makes (own profile).
 const MOST_PROCESSES: usize = 64;
@@ -52,7 +52,7 @@ pub fn booted(alloc: Global, library: &Library, boot: &Boot) -> Result<Made, Boo
         (AllByRecursion (λ s. word_of s ≤ most_word) boot.now.statements.items) }
     ensures limit { OnOk result (boot.now.limit ≤ MOST_ITEMS) }
     ensures err { IfErr result (λ fault. fault.cause ≢ BootCause.NoMemory
-        → BootRefusal library.now boot.now.statements.items boot.now.limit
+        → FirstFault library.now boot.now.statements.items boot.now.limit
         fault.statement fault.cause) }
     ensures reached { IfErr result (λ fault. fault.cause ≡ BootCause.NoMemory
         → IsReached library.now boot.now.statements.items fault.statement) }
@@ -96,8 +96,7 @@ impl Made {
         ensures ok { OnOk result (Makes library.now statement.now self.old self.new) }
         ensures word { word_of statement.now ≤ most_word }
         ensures err { IfErr result
-            (IsCauseOf (gives_more statement.now)
-            (boot_fault library.now (seen self.old) statement.now)) }
+            (IsCauseOf (boot_fault library.now (seen self.old) statement.now)) }
     {
         match statement {
             Statement::Job { parent } => self.make_job(*parent),
@@ -132,7 +131,7 @@ impl Made {
             → OnOk result (Makes lib (Statement.Job parent) self.old self.new) }
         ensures err { (lib : Library)
             → IfErr result
-            (IsCauseOf false (boot_fault lib (seen self.old) (Statement.Job parent))) }
+            (IsCauseOf (boot_fault lib (seen self.old) (Statement.Job parent))) }
     {
         if !self.objects.is_job(parent) {
             return Err(BootCause::Unknown);
@@ -155,7 +154,7 @@ impl Made {
         ensures ok { OnOk result ((lib : Library)
             → Makes lib (Statement.Policy job condition action) self.old self.new) }
         ensures err { IfErr result (λ cause. (lib : Library)
-            → IsCauseOf false
+            → IsCauseOf
             (boot_fault lib (seen self.old) (Statement.Policy job condition action)) cause) }
     {
         if !self.objects.is_job(job) {
@@ -180,7 +179,7 @@ impl Made {
         ensures left { OnOk result (koid_fault self.old ≡ None) }
         ensures made { OnOk result
             (self.new ≡ record self.old { objects = with_new self.old.objects body 0 }) }
-        ensures err { IfErr result (IsCauseOf false (koid_fault self.old)) }
+        ensures err { IfErr result (IsCauseOf (koid_fault self.old)) }
     {
         if self.lacks_koids(1) {
             return Err(BootCause::Limit);
@@ -197,7 +196,7 @@ impl Made {
         ensures ok { OnOk result ((lib : Library)
             → Makes lib (making_pair pair) self.old self.new) }
         ensures err { IfErr result (λ cause. (lib : Library)
-            → IsCauseOf false (boot_fault lib (seen self.old) (making_pair pair)) cause) }
+            → IsCauseOf (boot_fault lib (seen self.old) (making_pair pair)) cause) }
     {
         if self.lacks_koids(2) {
             return Err(BootCause::Limit);
@@ -228,7 +227,7 @@ impl Made {
         requires { IsMaking self.old.processes.items [] self.old.objects }
         ensures ok { OnOk result (Makes library.now
             (Statement.Process job program word handles.now) self.old self.new) }
-        ensures err { IfErr result (IsCauseOf (nat_lt 1 (length handles.now))
+        ensures err { IfErr result (IsCauseOf
             (boot_fault library.now (seen self.old)
             (Statement.Process job program word handles.now))) }
     {
@@ -364,9 +363,7 @@ impl Made {
         })
     }
 
-    /// Gives the handles to the process, which has none yet and isn't among the others. Its table has
-    /// a place for the first; behind it `slab` doesn't say which value it offers, so that `Limit` may
-    /// come.
+    /// Gives the handles to the process, which has none yet and isn't among the others.
     fn give(&mut self, process: &mut Process, handles: &[Grant]) -> Result<(), BootCause>
         requires making { IsMaking self.old.processes.items [] self.old.objects }
         requires place { length self.old.processes.items < MOST_PROCESSES }
@@ -375,16 +372,14 @@ impl Made {
         requires may { IsTrue (list_all
             (λ g. is_some (allowed (seen self.old).objects g)) handles.now) }
         ensures ok { OnOk result (Gives handles.now self.old process.old self.new process.new) }
-        ensures err { IfErr result (λ cause. IsTrue (is_want (nat_lt 1 (length handles.now)) cause)) }
+        ensures err { IfErr result (λ cause. cause ≡ BootCause.NoMemory) }
     {
         for (number, grant) in handles.iter().enumerate() {
             let Some(entry) = self.handle(*grant) else {
                 unreachable!()
             };
-            let value = match process.table.insert(entry) {
-                Ok(value) => value,
-                Err(InsertFault::Full(_)) => return Err(BootCause::Limit),
-                Err(InsertFault::NoMemory(_)) => return Err(BootCause::NoMemory),
+            let Ok(value) = process.table.insert(entry) else {
+                return Err(BootCause::NoMemory);
             };
             process.cpu.give(number, value);
             self.objects.hold(entry.koid);

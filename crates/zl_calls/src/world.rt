@@ -4,7 +4,7 @@ ghost use Rattle.std.specs.FinMap.Entries.{is_sorted};
 ghost use Rattle.std.specs.Option.{option_map};
 ghost use Rattle.zl_rights.specs.Map.{get};
 ghost use Rattle.zl_code.specs.declared.boot.BootCause.TheVariants.{NoMemory};
-ghost use Rattle.zl_code.specs.Boot.{IsBoot, BootRefusal, MOST_ITEMS};
+ghost use Rattle.zl_code.specs.Boot.{IsBoot, FirstFault, MOST_ITEMS};
 ghost use Rattle.zl_code.specs.Headline.{IsSizedBoot};
 ghost use Rattle.zl_code.specs.Starting.{program_of};
 ghost use Rattle.zl_code.specs.Steps.{Runs};
@@ -45,17 +45,18 @@ pub struct World {
 }
 
 impl Model for World {
-    ghost use Rattle.std.specs.Prelude.{vec_capacity};
+    ghost use Rattle.std.specs.Prelude.{map, vec_capacity};
     ghost use Rattle.zl_calls.specs.World.{Machine};
 
     ghost Value = { Machine };
 
-    ghost use Rattle.zl_calls.specs.World.{world_blocked};
+    ghost use Rattle.zl_calls.specs.World.{free_entry, world_blocked};
     ghost use Rattle.zl_calls.specs.Blocked.{IsWhole};
 
     ghost view = { λ w. record {
       programs = w.library;
       world = world_blocked w.processes.list.items w.objects w.blocked.items;
+      free = map free_entry w.processes.list.items;
     } };
 
     ghost invariant = { λ w.
@@ -97,7 +98,7 @@ impl World {
         ensures programs { IfOk result (λ world. world.programs ≡ library) }
         ensures limit { OnOk result (boot.now.limit ≤ MOST_ITEMS) }
         ensures err { IfErr result (λ fault. fault.cause ≢ NoMemory
-            → BootRefusal library boot.now.statements.items boot.now.limit
+            → FirstFault library boot.now.statements.items boot.now.limit
             fault.statement fault.cause) }
         ensures reached { IfErr result (λ fault. fault.cause ≡ NoMemory
             → IsReached library boot.now.statements.items fault.statement) }

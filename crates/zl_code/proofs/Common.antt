@@ -25,7 +25,7 @@ pub use Rattle.std.specs.Cmp.Lexicographic.{pointwise}
 pub use Rattle.std.specs.List.{AllByRecursion, HoldsAt}
 pub use Rattle.std.specs.Option.{option_to_list}
 pub use Rattle.std.specs.Prelude.{IsSomeAnd, MatchOption, bit_or, bit_xor, negsuc, option_copied, unwrap_or, ◌↔◌}
-pub use Rattle.zl_code.specs.Boot.{BootRefusal, IsBooted, MOST_GRANTS, MOST_KOIDS, MOST_PROCESSES, all_known, are_declared, are_misfits, for_place, gives_more}
+pub use Rattle.zl_code.specs.Boot.{IsBooted, MOST_GRANTS, MOST_KOIDS, MOST_PROCESSES, all_known, are_declared, are_misfits}
 pub use Rattle.zl_code.specs.Boot.{gives_no_handle, handle_given, handles_given, is_job, lacks_koids, may_start_with, process_with_all, setting}
 pub use Rattle.zl_code.specs.Boot.{started_process, values_given}
 pub use Rattle.zl_code.specs.CallTable.{awaited_by, choosing, ends_caller, entering_at, job_create, job_set_policy, outcome_of, port_cancel, port_create}
@@ -83,7 +83,7 @@ pub use Rattle.zl_code.specs.declared.instr.Instr.{Instr}
 pub use Rattle.zl_code.specs.declared.instr.LocalInstr.{LocalInstr}
 pub use Rattle.zl_rights.proofs.MapLaws.{get-each, get-put, get-update, get-where_key-in, get-where_key-out}
 pub use Rattle.zl_rights.proofs.Narrowed.{narrowed_within}
-pub use Rattle.zl_rights.proofs.Settling.{Settles-by, Settles-exists, Settles-unique, is_held-larger, keys_of, settled_in, shrunk, stays}
+pub use Rattle.zl_rights.proofs.Settling.{Settles-by, Settles-exists, Settles-unique, is_held-larger, stays}
 pub use Rattle.zl_rights.specs.LookUp.{granted}
 pub use Rattle.zl_rights.specs.Numbers.{BY_POLICY, DESTROY, KILLED, MANAGE_JOB, MANAGE_PROCESS, NO_JOBS, NO_PROCESSES, PEER_CLOSED, READ, READABLE, SAME_RIGHTS}
 pub use Rattle.zl_rights.specs.Numbers.{SET_POLICY, SIGNAL_PEER, TERMINATED, TRANSFER, USER_SIGNALS, WAIT, WRITABLE, WRITE, action_number, kind_number, meets}
@@ -93,6 +93,7 @@ pub use Rattle.zl_rights.specs.Policies.{Setting, condition_numbered}
 unfoldable pub use Rattle.zl_rights.specs.Policies.{conflicts, policy_set, setting_of, with_unset}
 pub use Rattle.zl_rights.specs.Settle.{IsLargestHeld, has_handle, state_without}
 unfoldable pub use Rattle.zl_rights.specs.Settle.{is_made_by_handle}
+pub use Rattle.zl_rights.specs.Settled.{keys_of, settled_in, shrunk}
 pub use Rattle.zl_rights.specs.Signals.{is_job_below, is_process_of}
 unfoldable pub use Rattle.zl_rights.specs.Signals.{active, has_child_job, has_child_process}
 pub use Rattle.zl_rights.specs.Wakes.{body_with_packets, packet_values, packets_for, with_body, woken_at_port, woken_by, woken_by_first, woken_from}

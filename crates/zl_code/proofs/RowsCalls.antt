@@ -147,9 +147,8 @@ rows_of_dup :
     -- Where memory is wanted, no handle is made.
     × (told (turn (called name.Dup (0 ∷ 1 ∷ 2 ∷ []) SIGNAL) (with_rights FIRST_RIGHTS) (Wants status.NoMemory))
     ≡ Some (item.Call 2 name.Dup (outcome.Answered status.NoMemory), 4 ∷ 7 ∷ 0 ∷ 0 ∷ 0 ∷ 0 ∷ []))
-    -- The table may have no place.
-    × (told (turn (called name.Dup (0 ∷ 1 ∷ 2 ∷ []) SIGNAL) (with_rights FIRST_RIGHTS) (Wants status.NoResources))
-    ≡ Some (item.Call 2 name.Dup (outcome.Answered status.NoResources), 3 ∷ 7 ∷ 0 ∷ 0 ∷ 0 ∷ 0 ∷ []))
+    -- No place is ever wanted: the listed test tells whether there is one.
+    × (told (turn (called name.Dup (0 ∷ 1 ∷ 2 ∷ []) SIGNAL) (with_rights FIRST_RIGHTS) (Wants status.NoResources)) ≡ None)
     -- There is no other want.
     × (told (turn (called name.Dup (0 ∷ 1 ∷ 2 ∷ []) SIGNAL) (with_rights FIRST_RIGHTS) (Wants status.BadState)) ≡ None)
 unfolding computing

@@ -156,9 +156,8 @@ rows_of_chan_create :
     -- Where memory is wanted, nothing is made.
     × (told (turn name.ChanCreate creating bare (Wants status.NoMemory))
     ≡ Some (item.Call 2 name.ChanCreate (outcome.Answered status.NoMemory), 4 ∷ 0 ∷ 0 ∷ 0 ∷ 0 ∷ 0 ∷ []))
-    -- The table may have no place.
-    × (told (turn name.ChanCreate creating bare (Wants status.NoResources))
-    ≡ Some (item.Call 2 name.ChanCreate (outcome.Answered status.NoResources), 3 ∷ 0 ∷ 0 ∷ 0 ∷ 0 ∷ 0 ∷ []))
+    -- No place is ever wanted: the listed test tells whether there is one.
+    × (told (turn name.ChanCreate creating bare (Wants status.NoResources)) ≡ None)
 unfolding computing
 rows_of_chan_create = (refl, refl, refl, refl, refl, refl, refl, refl, refl, refl, refl, refl, refl, refl, refl)
 
@@ -299,12 +298,8 @@ rows_of_chan_read_etc :
     × (told (turn name.ChanReadEtc (reading 2) readable (Wants status.NoMemory))
     ≡ Some (item.Call 2 name.ChanReadEtc (outcome.Answered status.NoMemory), 4 ∷ 0 ∷ 0 ∷ 0 ∷ 0 ∷ 0 ∷ []))
     × (queue_of_object (after sent (turn name.ChanReadEtc (reading 2) readable (Wants status.NoMemory))) 4 ≡ queue_of_object readable 4)
-    -- The table may have no place for the handle, and the message stays.
-    × (told (turn name.ChanReadEtc (reading 2) readable (Wants status.NoResources))
-    ≡ Some (item.Call 2 name.ChanReadEtc (outcome.Answered status.NoResources), 3 ∷ 0 ∷ 0 ∷ 0 ∷ 0 ∷ 0 ∷ []))
-    × (queue_of_object (after sent (turn name.ChanReadEtc (reading 2) readable (Wants status.NoResources))) 4 ≡ queue_of_object readable 4)
-    -- A message without handles wants none.
-    × (told (turn name.ChanReadEtc (reading 2) read (Wants status.NoResources)) ≡ None)
+    -- No place is ever wanted: the listed test tells whether there is one.
+    × (told (turn name.ChanReadEtc (reading 2) readable (Wants status.NoResources)) ≡ None)
     -- Both counts are told, and of the handle its value, the number of its kind and its rights.
     × (told (turn name.ChanReadEtc (reading 2) with_memory (Values (20 ∷ [])))
     ≡ Some (item.Call 2 name.ChanReadEtc (outcome.Answered status.Ok), 0 ∷ 2 ∷ 1 ∷ 20 ∷ 5 ∷ FIRST_RIGHTS ∷ []))
@@ -316,4 +311,4 @@ rows_of_chan_read_etc :
     × (queue_of_object read 4 ≡ message [] [] ∷ [])
 unfolding computing
 rows_of_chan_read_etc =
-    (refl, refl, refl, refl, refl, refl, refl, refl, refl, refl, refl, refl, refl, refl, refl, refl, refl, refl, refl, refl, refl, refl, refl)
+    (refl, refl, refl, refl, refl, refl, refl, refl, refl, refl, refl, refl, refl, refl, refl, refl, refl, refl, refl, refl, refl)

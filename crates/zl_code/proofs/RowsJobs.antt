@@ -151,9 +151,8 @@ rows_of_process_create :
     -- It may want memory.
     × (told (turn_in name.ProcessCreate (making 0) (beside_job (JobBody 1 2 [] false)) (Wants status.NoMemory))
     ≡ Some (item.Call 2 name.ProcessCreate (outcome.Answered status.NoMemory), 4 ∷ 7 ∷ 0 ∷ 0 ∷ 0 ∷ 0 ∷ []))
-    -- The table may have no place.
-    × (told (turn_in name.ProcessCreate (making 0) (beside_job (JobBody 1 2 [] false)) (Wants status.NoResources))
-    ≡ Some (item.Call 2 name.ProcessCreate (outcome.Answered status.NoResources), 3 ∷ 7 ∷ 0 ∷ 0 ∷ 0 ∷ 0 ∷ []))
+    -- No place is ever wanted: the listed test tells whether there is one.
+    × (told (turn_in name.ProcessCreate (making 0) (beside_job (JobBody 1 2 [] false)) (Wants status.NoResources)) ≡ None)
 unfolding computing
 rows_of_process_create = (refl, refl, refl, refl, refl, refl, refl, refl, refl, refl, refl, refl, refl, refl, refl, refl)
 

@@ -68,9 +68,8 @@ rows_of_eventpair_create :
     -- Where memory is wanted, no handle is made.
     × (told (turn_of 2 name.EventpairCreate creating bare (Wants status.NoMemory))
     ≡ Some (item.Call 2 name.EventpairCreate (outcome.Answered status.NoMemory), 4 ∷ 0 ∷ 0 ∷ 0 ∷ 0 ∷ 0 ∷ []))
-    -- The table may have no place.
-    × (told (turn_of 2 name.EventpairCreate creating bare (Wants status.NoResources))
-    ≡ Some (item.Call 2 name.EventpairCreate (outcome.Answered status.NoResources), 3 ∷ 0 ∷ 0 ∷ 0 ∷ 0 ∷ 0 ∷ []))
+    -- No place is ever wanted: the listed test tells whether there is one.
+    × (told (turn_of 2 name.EventpairCreate creating bare (Wants status.NoResources)) ≡ None)
 unfolding computing
 rows_of_eventpair_create = (refl, refl, refl, refl, refl, refl, refl, refl, refl, refl, refl, refl, refl, refl, refl, refl, refl)
 

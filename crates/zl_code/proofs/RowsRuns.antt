@@ -1,7 +1,7 @@
 -- Boot, its faults, and the run of a program that ends stuck, by computation.
-use Rattle.zl_code.proofs.Common.{Bool, BootRefusal, Boots, Choice, Ended, FirstFault, IsBoot, IsLegalHistory, IsTrue, Library, List, None, Option, Ready}
+use Rattle.zl_code.proofs.Common.{Bool, Boots, Choice, Ended, FirstFault, IsBoot, IsLegalHistory, IsTrue, Library, List, None, Option, Ready}
 use Rattle.zl_code.proofs.Common.{Refused, Settles-by, Some, Statement, TraceItem, World, [], and_parts, arith, at_limit, at_statement, boot_effect, boot_fault}
-use Rattle.zl_code.proofs.Common.{false, for_place, gives_more, is_some, map, may_boot, negsuc, not, origin, refl, replicate, settled_in, started_process, take}
+use Rattle.zl_code.proofs.Common.{is_some, map, may_boot, negsuc, not, origin, refl, replicate, settled_in, started_process, take}
 use Rattle.zl_code.proofs.Common.{true, ℕ, ◌&&◌, ◌∷◌, ◌≡◌}
 use Rattle.zl_code.specs.declared.boot.BootCause.TheVariants as cause
 use Rattle.zl_code.specs.declared.boot.Statement.TheVariants as statement
@@ -118,19 +118,6 @@ too_many_processes = at_statement (booted library origin (replicate 64 one)) 64 
 too_many_items : FirstFault library (one ∷ []) 1000001 1 cause.Limit
 unfolding computing boot_fault boot_effect
 too_many_items = at_limit (booted library origin (one ∷ [])) (Boots-by library origin (one ∷ []) refl) (omega arith)
-
--- A table may have no place for the second of two handles, though the statement has no fault.
-abbrev two_handles : Statement
-two_handles = statement.Process 1 0 0 (replicate 2 (record { koid = 2; rights = None }))
-
-no_place_for_the_second : BootRefusal library (statement.Event ∷ two_handles ∷ []) 100 1 cause.Limit
-unfolding computing boot_fault boot_effect
-no_place_for_the_second =
-    for_place (booted library origin (statement.Event ∷ [])) 1 two_handles (Boots-by library origin (statement.Event ∷ []) refl) refl refl refl
-
--- It has one for the first.
-place_for_the_first : gives_more (statement.Process 1 0 0 (record { koid = 2; rights = None } ∷ [])) ≡ false
-place_for_the_first = refl
 
 -- ---- stuck
 

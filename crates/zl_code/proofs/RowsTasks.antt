@@ -140,7 +140,7 @@ rows_of_process_start_2 :
     × (told (turn_in name.ProcessStart (starting 8) created (Wants status.NoMemory))
     ≡ Some (item.Call 2 name.ProcessStart (outcome.Answered status.NoMemory), 4 ∷ 0 ∷ 9 ∷ 0 ∷ 0 ∷ 0 ∷ []))
     × (state_of (after created (turn_in name.ProcessStart (starting 8) created (Wants status.NoMemory))) 5 ≡ Some Created)
-    -- Its table has a place for the handle.
+    -- No place is ever wanted: the listed test tells whether there is one.
     × (told (turn_in name.ProcessStart (starting 8) created (Wants status.NoResources)) ≡ None)
 unfolding computing
 rows_of_process_start_2 = (refl, refl, refl, refl, refl, refl, refl, refl, refl)

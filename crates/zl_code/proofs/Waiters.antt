@@ -76,10 +76,6 @@ module _ (lib : Library) (w : World) (p : ℕ) (ws : List Wait) (n : ℕ) (b : L
   choosing_same (close h) = refl
   choosing_same _ = refl
 
-  wants_same : (r : Request) (want : Status) → may_want among p r want ≡ may_want w p r want
-  wants_same (close h) want = refl
-  wants_same _ want = refl
-
   stored_same : (r : Request) → stored_by among p r ≡ stored_by w p r
   stored_same (close h) = refl
   stored_same _ = refl
@@ -240,7 +236,7 @@ module _ (lib : Library) (w : World) (p : ℕ) where
   refused_waits ws (close h) o is = refl
   refused_waits ws r o is = refl
 
-  wanting_waits : (ws : List Wait) (r : Request) (want : Status) → IsTrue (may_want w p r want) → waits_after r (outcome.Answered want) p ws ≡ ws
+  wanting_waits : (ws : List Wait) (r : Request) (want : Status) → IsTrue (may_want r want) → waits_after r (outcome.Answered want) p ws ≡ ws
   wanting_waits ws (replace h rights) status.Ok may = absurd (true≢false (sym may))
   wanting_waits ws (replace h rights) want may = refl
   wanting_waits ws (close h) want may = refl
@@ -295,7 +291,7 @@ module _ (lib : Library) (w : World) (p : ℕ) where
           ∙ refused_among a (sym (ap is_blocking c.0) ∙ goes)),
     )
     by_among (Wants want) None o w2 is goes c = (
-      wants_same lib w p ws n b s.request want ∙ c.0,
+      c.0,
       c.1,
       (λ i. with_waiters (c.2 i) (waits_after s.request (c.1 i) p ws) n (blocked_after (c.1 i) p b))
           ∙ (ap (λ xs. with_waiters (after_refusal w p s (outcome.Answered want)) xs n b) (wanting_waits ws s.request want c.0)

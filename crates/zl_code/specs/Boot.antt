@@ -217,21 +217,3 @@ pub data FirstFault (lib : Library) (statements : List Statement) (limit : ℕ) 
       → Boots lib origin (take n statements) made → slice_get statements n ≡ Some s → boot_fault lib made s ≡ Some c
       → FirstFault lib statements limit n c
   at_limit : (made : World) → Boots lib origin statements made → MOST_ITEMS < limit → FirstFault lib statements limit (length statements) cause.Limit
-
--- the statement gives a table a handle behind its first
-abbrev pub gives_more : Statement → Bool
-gives_more (statement.Process job program word handles) = nat_lt 1 (length handles)
-gives_more (statement.Job parent) = false
-gives_more (statement.Policy job condition action) = false
-gives_more statement.Event = false
-gives_more statement.Port = false
-gives_more statement.Channel = false
-gives_more statement.Eventpair = false
-
--- Why a boot is refused: for its first fault, or with Limit at a statement that has none and gives a table a handle behind its
--- first, as that table may have no place for it.
-pub data BootRefusal (lib : Library) (statements : List Statement) (limit : ℕ) : ℕ → BootCause → Type 0 where
-  for_fault : (n : ℕ) (c : BootCause) → FirstFault lib statements limit n c → BootRefusal lib statements limit n c
-  for_place : (made : World) (n : ℕ) (s : Statement)
-      → Boots lib origin (take n statements) made → slice_get statements n ≡ Some s → boot_fault lib made s ≡ None → IsTrue (gives_more s)
-      → BootRefusal lib statements limit n cause.Limit

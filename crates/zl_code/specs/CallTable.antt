@@ -1,5 +1,5 @@
 -- The table of calls, column by column: all that the definitions say of one call alone, beside its row of the table of instructions.
-use Rattle.std.specs.Prelude.{ℕ, ℤ, ◌+◌, ◌^◌, Bool, true, false, ◌&&◌, ◌||◌, not, nat_le, nat_lt, List, [], ◌∷◌, ◌++◌, length, Option, Some, None, is_some, slice_get}
+use Rattle.std.specs.Prelude.{ℕ, ℤ, ◌+◌, ◌^◌, ◌&&◌, ◌||◌, not, nat_le, List, [], ◌∷◌, ◌++◌, length, Option, Some, None, is_some, slice_get}
 use Rattle.std.specs.Bool.{then_some}
 use Rattle.std.specs.Option.{option_to_list}
 use Rattle.zl_rights.specs.Common.{World, ChannelEnd, EventBody, PairEnd, PortBody, ProcessBody, has_key, is_empty, is_process}
@@ -212,19 +212,6 @@ new_handles w p (process_start process h word) = option_to_list (entry_at w p h)
 new_handles w p (job_create j) = new_entry w.next_koid kind.Job ∷ []
 new_handles w p eventpair_create = new_entry w.next_koid kind.Eventpair ∷ new_entry (w.next_koid + 1) kind.Eventpair ∷ []
 new_handles w p _ = []
-
--- the caller's table is to take a new handle, and may have no place left for it; that of replace keeps its place, and the
--- table of a process that starts has one
-abbrev pub takes_place : World → ℕ → Request → Bool
-takes_place w p (dup h rights) = true
-takes_place w p chan_create = true
-takes_place w p (chan_read_etc c address room places) = nat_lt 0 (length (first_handles (queue_at w p c)))
-takes_place w p event_create = true
-takes_place w p port_create = true
-takes_place w p (process_create job program) = true
-takes_place w p (job_create j) = true
-takes_place w p eventpair_create = true
-takes_place w p request = false
 
 -- the process whose table new handles enter
 abbrev pub receiver_of : World → ℕ → Request → ℕ

@@ -25,6 +25,7 @@ mod instr_bytes;
 mod known;
 pub mod laws;
 mod layout;
+pub mod own_laws;
 mod register;
 mod rows;
 

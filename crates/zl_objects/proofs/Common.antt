@@ -77,5 +77,5 @@ pub use Rattle.zl_rights.specs.declared.kind.Kind.{Kind}
 pub use Rattle.zl_rights.specs.declared.policy.Condition.{Condition}
 pub use Rattle.zl_signals.specs.Waits.{SignalState, holds, is_at_port, is_by_handle, is_keyed, wait_at, without_first}
 pub use Rattle.zl_signals.specs.declared.watch.Watch.{Watch}
-pub use Rattle.zl_table.proofs.MapEdits.{below_parts, get-without, has_key-update, is_sorted-update, length-update, length-without, put_key, sorted_parts}
-pub use Rattle.zl_table.proofs.MapEdits.{sorted_put, sorted_without, update_missing, without_lower}
+pub use Rattle.zl_rights.proofs.MapEdits.{below_parts, get-without, has_key-update, is_sorted-update, length-update, length-without, put_key, sorted_parts}
+pub use Rattle.zl_rights.proofs.MapEdits.{sorted_put, sorted_without, update_missing, without_lower}

@@ -5,7 +5,7 @@ use Rattle.std.specs.List.{list_any, filter}
 use Rattle.std.proofs.lemmas.Bool.{cases_Bool, and_right, or_parts, or_cases, or_left, or_right, false≢true, eqb-true}
 use Rattle.std.proofs.lemmas.Option.{same_Some}
 use Rattle.zl_rights.specs.Map.{Map, get, put, each}
-use Rattle.zl_rights.proofs.Settling.{among}
+use Rattle.zl_rights.specs.Settled.{among}
 
 module _ {X : Type 0} where
   -- ---- where no entry passes

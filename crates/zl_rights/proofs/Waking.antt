@@ -11,7 +11,7 @@ use Rattle.zl_rights.specs.Signals.{active, lives, has_ended}
 use Rattle.zl_rights.specs.Wakes.{holds, fired, body_with_packets, packets_for, packet_of, made_ready, with_body, woken, woken_if_there, woken_from}
 use Rattle.zl_rights.specs.Wakes.{woken_at_port, woken_by, wakes}
 use Rattle.zl_rights.proofs.MapLaws.{get-put}
-use Rattle.zl_rights.proofs.Settling.{among}
+use Rattle.zl_rights.specs.Settled.{among}
 use Rattle.zl_rights.proofs.MapTests.{filter_none, filter_all, none_left, list_any-and, each_same, gone, among-filtered, apart_from}
 use Rattle.zl_rights.proofs.SameSignals.{fired-active, made_ready-active, with_rest-active}
 

@@ -6,6 +6,8 @@ pub mod LookUp
 pub mod World
 pub mod Signals
 pub mod Settle
+pub mod Settled
+pub mod Values
 pub mod Wakes
 pub mod Counts
 pub mod Packets

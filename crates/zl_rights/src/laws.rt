@@ -3,11 +3,13 @@
 ghost use Rattle.std.specs.Prelude.{◌≡◌};
 ghost use Rattle.zl_rights.specs.World.{World};
 ghost use Rattle.zl_rights.specs.Settle.{Settles};
+ghost use Rattle.zl_rights.specs.Settled.{settled};
 ghost use Rattle.zl_rights.specs.Wakes.{wakes};
 
-/// Every world settles.
+/// Every world settles, and what it leaves is computed.
 pub fn every_world_settles()
-    ensures { (w : World) → (settled : World) × Settles w settled }
+    ensures settles { (w : World) → (left : World) × Settles w left }
+    ensures computed { (w : World) → Settles w (settled w) }
 {}
 
 /// What settling leaves of a world is one world.

@@ -60,7 +60,7 @@ module _ (lib : Library) (w : World) (p : ℕ) (caller : Process) (there : get w
           rw (child.1, child.2) refl,
         )
 
-    wants_no_ok : (want : Status) → is_ok (outcome.Answered want) ≡ true → may_want w p (process_start process h word) want ≡ true → ⊥
+    wants_no_ok : (want : Status) → is_ok (outcome.Answered want) ≡ true → may_want (process_start process h word) want ≡ true → ⊥
     wants_no_ok status.Ok ok may = false≢true may
     wants_no_ok _ ok may = false≢true ok
 

@@ -1,7 +1,7 @@
 //! A world with its trace, booted from statements and stepped along a schedule.
 ghost use Rattle.std.specs.Prelude.{◌≡◌, ◌≢◌, ◌≤◌, ◌↔◌, [], false, IfOk, IfErr, OnOk, IsTrue, length, replicate, vec_capacity, if◌then◌else◌};
 ghost use Rattle.zl_code.specs.declared.boot.BootCause.TheVariants.{NoMemory};
-ghost use Rattle.zl_code.specs.Boot.{BootRefusal};
+ghost use Rattle.zl_code.specs.Boot.{FirstFault};
 ghost use Rattle.zl_calls.specs.Makes.{IsReached};
 ghost use Rattle.zl_sched.specs.Follows.{turns_of};
 ghost use Rattle.zl_sched.specs.Ready.{Listed, is_in};
@@ -98,7 +98,7 @@ impl System {
         ensures ok { IfOk result
             (HasBooted library boot.statements.items boot.limit) }
         ensures err { IfErr result (λ fault. fault.cause ≢ NoMemory
-            → BootRefusal library boot.statements.items boot.limit
+            → FirstFault library boot.statements.items boot.limit
             fault.statement fault.cause) }
         ensures reached { IfErr result (λ fault. fault.cause ≡ NoMemory
             → IsReached library boot.statements.items fault.statement) }

@@ -1,8 +1,9 @@
 -- The handles in a slab as a map, and what changes of the slab make of it.
-use Rattle.zl_rights.proofs.Common.{◌≡◌, ◌≢◌, ℕ, zero, suc, ◌+◌, ◌-◌, ◌<◌, ◌≤◌, List, [], ◌∷◌, length, refl, sym, ap, ◌∙◌, Option, Some, None, inl, inr}
-use Rattle.zl_rights.proofs.Common.{arith, IsTrue, IfSome, is_some, nat_cmp, Bool, ◌==◌, ◌⊎◌, is_sorted, below_all, and_from, ne_eqb, eq-eqb, nat_tests}
+use Rattle.zl_rights.proofs.Common.{◌≡◌, ◌≢◌, ℕ, zero, suc, ◌+◌, ◌-◌, ◌<◌, ◌≤◌, List, [], ◌∷◌, length, refl, sym, subst, ap, ◌∙◌, Option, Some, None, inl, inr}
+use Rattle.zl_rights.proofs.Common.{arith, IsTrue, IfSome, is_some, nat_cmp, Bool, ◌==◌, is_sorted, below_all, and_from, ne_eqb, eq-eqb, nat_tests}
 use Rattle.zl_rights.proofs.Common.{Map, get, put, without, update, has_key}
-use Rattle.std.specs.Prelude.{IsSome, slice_index_or, ◌↔◌}
+use Rattle.std.specs.Prelude.{IsSome, slice_index_or, ◌↔◌, reverse, count_by, is_err, Result, Ok, Err, OnOk, false}
+use Rattle.std.proofs.lemmas.List.{length-reverse}
 use Rattle.std.specs.Bool.{passes}
 use Rattle.std.proofs.lemmas.Bool.{cases_eq, cases_lt, eqb-true, false≢true}
 use Rattle.slab.specs.Slab.{Slab, entries, entries_from, slab_len, Updates, get as slot_at}
@@ -10,9 +11,11 @@ use Rattle.slab.proofs.SlabLemmas.{length-entries_from, length-entries, Contains
 use Rattle.zl_rights.specs.declared.entry.Entry.{Entry}
 use Rattle.zl_rights.proofs.MapLaws.{get-put, get-update}
 use Rattle.zl_rights.proofs.Canonical.{same_map}
-use Rattle.zl_table.proofs.MapEdits.{sorted_put, sorted_without, get-without, is_sorted-update}
+use Rattle.zl_rights.proofs.MapEdits.{sorted_put, sorted_without, get-without, is_sorted-update, length-update, length-without}
+use Rattle.zl_rights.proofs.Values.{comes_again, free_inserted, free_new, free_removed, free_updated, live_made, made_given, made_taken, next_small}
 use Rattle.zl_table.specs.Table.{MOST_VALUE, IsFull, IsTable, Inserts, Removes}
-use Rattle.zl_table.specs.Stored.{IsStored, handles_in, table_in}
+use Rattle.zl_rights.specs.Values.{CAPACITY, Free, IsFree, given_back, offered, taken}
+use Rattle.zl_table.specs.Stored.{IsStored, free_in, handles_in, table_in}
 
 module _ {X : Type 0} where
   -- ---- the entries of slots, by keys from the first one on
@@ -101,7 +104,20 @@ module _ {X : Type 0} where
 
 -- ---- a table in a slab
 
-module _ (s : Slab Entry) (last : Option ℕ) (stored : IsStored s last) where
+-- what is stored, by what is true of its values
+stored_by : (s : Slab Entry) (values : List ℕ) (made room : ℕ) (last : Option ℕ) → slab_len s ≤ CAPACITY → IsFree (handles_in s) (free_in values made)
+    → made ≤ room → IfSome last (λ v. v ≡ offered (free_in values made)) → IsStored s values made room last
+stored_by s values made room last few free roomy again = record {
+  few = few;
+  keys = λ key there.
+      let live = live_made (handles_in s) (free_in values made) free (key + 1) (ap is_some (get_key s key) ∙ there) in
+      omega (arith, live.1, free.few);
+  free = free;
+  roomy = roomy;
+  again = again;
+}
+
+module _ (s : Slab Entry) (values : List ℕ) (made room : ℕ) (last : Option ℕ) (stored : IsStored s values made room last) where
   -- what stands at a value
   pub at_key : (v key : ℕ) → (0 < v → key + 1 ≡ v) → (v ≡ 0 → MOST_VALUE ≤ key) → get (handles_in s) v ≡ slot_at s key
   at_key v key above zero_above = elim (cases_lt 0 v) [
@@ -138,44 +154,121 @@ module _ (s : Slab Entry) (last : Option ℕ) (stored : IsStored s last) where
   pub live_key : (key : ℕ) → IsSome (slot_at s key) → IsTrue (has_key (handles_in s) (key + 1)) × (key < MOST_VALUE)
   live_key key there = (ap is_some (get_key s key) ∙ there, stored.keys key there)
 
-  pub full_by : (len key : ℕ) → len ≡ slab_len s → key ≡ s.vacant_key → (len ≡ 1024) ⊎ ((len ≡ 1024 → ⊥) × (65535 ≤ key)) → IsFull (table_in s last)
-  full_by len key counted offered (inl all) = inl (length_handles s ∙ (sym counted ∙ all))
-  full_by len key counted offered (inr late) = inr (omega (arith, offered, late.1))
+  pub full_by : (len : ℕ) → len ≡ slab_len s → len ≡ 1024 → IsFull (table_in s values made last)
+  full_by len counted all = length_handles s ∙ (sym counted ∙ all)
 
-  pub not_full : (len key : ℕ) → len ≡ slab_len s → key ≡ s.vacant_key → (len ≡ 1024 → ⊥) → key < 65535 → IsFull (table_in s last) → ⊥
-  not_full len key counted offered few low (inl all) = few (counted ∙ (sym (length_handles s) ∙ all))
-  not_full len key counted offered few low (inr late) = omega (arith, offered, low, late)
+  pub not_full : (len : ℕ) → len ≡ slab_len s → (len ≡ 1024 → ⊥) → IsFull (table_in s values made last) → ⊥
+  not_full len counted few all = few (counted ∙ (sym (length_handles s) ∙ all))
 
-  pub inserts : (new : Slab Entry) (e : Entry) (key : ℕ) → key ≡ s.vacant_key → slot_at s key ≡ None → Updates s new key (Some e)
-      → key < MOST_VALUE → Inserts (table_in s last) e (key + 1) (table_in new None)
-  inserts new e key offered vacant updates low = record {
-    offered = ap (λ (n : ℕ). n + 1) offered;
-    unused = get_key s key ∙ vacant;
-    above = omega arith;
-    below = omega (arith, low);
-    again = again_at last stored.again;
-    entries = put_slot s new key e updates;
-    last = refl;
-  }
-    where
-      again_at : (l : Option ℕ) → IfSome l (λ v. (v ≡ s.vacant_key + 1) × (v ≤ MOST_VALUE)) → IfSome l (λ v. key + 1 ≡ v)
-      again_at None a = tt
-      again_at (Some v) a = omega (arith, a.0, offered)
+  -- the value that comes next
+  pub next_fits : (len : ℕ) → len ≡ slab_len s → (len ≡ 1024 → ⊥) → (0 < offered (free_in values made)) × (offered (free_in values made) ≤ CAPACITY)
+  next_fits len counted few = next_small (handles_in s) (free_in values made) stored.free (omega (arith, counted, few, stored.few, length_handles s))
 
-  pub removes : (new : Slab Entry) (v key : ℕ) (e : Entry) → (0 < v → key + 1 ≡ v) → (v ≡ 0 → MOST_VALUE ≤ key) → slot_at s key ≡ Some e
-      → Updates s new key None → new.vacant_key ≡ key → Removes (table_in s last) v e (table_in new (Some v))
-  removes new v key e above zero_above there updates offered =
-      let is = (key_above v key e above zero_above there).0 in
-      record {
-        was = at_key v key above zero_above ∙ there;
-        entries = rw (← is) (clear_slot s new key updates);
+  module _ (new : Slab Entry) (new_values : List ℕ) (new_made new_room : ℕ) where
+    module _ (e : Entry) (value key len : ℕ) (is : value ≡ offered (free_in values made)) (at : key + 1 ≡ value) (vacant : slot_at s key ≡ None)
+        (updates : Updates s new key (Some e)) (left : free_in new_values new_made ≡ taken (free_in values made)) (counted : len ≡ slab_len s)
+        (few : len ≡ 1024 → ⊥) where
+      fewer : length (handles_in s) < CAPACITY
+      fewer = omega (arith, counted, few, stored.few, length_handles s)
+
+      small : (0 < offered (free_in values made)) × (offered (free_in values made) ≤ CAPACITY)
+      small = next_small (handles_in s) (free_in values made) stored.free fewer
+
+      with_it : handles_in new ≡ put (handles_in s) value e
+      with_it = rw (← at) (put_slot s new key e updates)
+
+      pub inserts : Inserts (table_in s values made last) e value (table_in new new_values new_made None)
+      inserts = record {
+        offered = is;
+        normal = stored.free.normal;
+        unused = rw (← at) (get_key s key ∙ vacant);
+        above = rw is small.0;
+        below = rw is (omega (arith, small.1));
+        again = again_at last stored.again;
+        entries = with_it;
+        free = left;
         last = refl;
-        offered = ap (λ (n : ℕ). n + 1) offered ∙ is;
       }
+        where
+          again_at : (l : Option ℕ) → IfSome l (λ v. v ≡ offered (free_in values made)) → IfSome l (λ v. value ≡ v)
+          again_at None a = tt
+          again_at (Some v) a = is ∙ sym a
+
+      pub inserted : (new_made ≤ new_room) → slab_len new ≡ slab_len s + 1 → IsStored new new_values new_made new_room None
+      inserted roomy longer = stored_by new new_values new_made new_room None
+          (omega (arith, counted, few, stored.few, longer))
+          (rw (with_it, is, left) (free_inserted (handles_in s) (free_in values made) e stored.free fewer))
+          roomy tt
+
+    module _ (v key : ℕ) (e : Entry) (above : 0 < v → key + 1 ≡ v) (zero_above : v ≡ 0 → MOST_VALUE ≤ key) (there : slot_at s key ≡ Some e)
+        (updates : Updates s new key None) (left : free_in new_values new_made ≡ given_back v (free_in values made)) where
+      is : key + 1 ≡ v
+      is = (key_above v key e above zero_above there).0
+
+      without_it : handles_in new ≡ without (handles_in s) v
+      without_it = rw (← is) (clear_slot s new key updates)
+
+      pub removes : Removes (table_in s values made last) v e (table_in new new_values new_made (Some v))
+      removes = record {
+        was = at_key v key above zero_above ∙ there;
+        entries = without_it;
+        last = refl;
+        free = left;
+      }
+
+      pub removed : new_made ≤ new_room → slab_len new + 1 ≡ slab_len s → IsStored new new_values new_made new_room (Some v)
+      removed roomy shorter = stored_by new new_values new_made new_room (Some v)
+          (omega (arith, stored.few, shorter))
+          (rw (without_it, left) (free_removed (handles_in s) (free_in values made) v stored.free (sorted_handles s)
+          (ap is_some (at_key v key above zero_above ∙ there))))
+          roomy
+          (sym (ap offered left ∙ comes_again v (free_in values made) (omega (arith, is))))
 
   pub rewrites : (new : Slab Entry) (v key : ℕ) (e : Entry) (f : Entry → Entry) → (0 < v → key + 1 ≡ v) → (v ≡ 0 → MOST_VALUE ≤ key)
       → slot_at s key ≡ Some e → Updates s new key (Some (f e)) → handles_in new ≡ update (handles_in s) v f
   rewrites new v key e f above zero_above there updates = rw (← (key_above v key e above zero_above there).0) (write_slot s new key e f there updates)
+
+  pub rewritten : (new : Slab Entry) (v key : ℕ) (e : Entry) (f : Entry → Entry) → (0 < v → key + 1 ≡ v) → (v ≡ 0 → MOST_VALUE ≤ key)
+      → slot_at s key ≡ Some e → Updates s new key (Some (f e)) → IsStored new values made room None
+  rewritten new v key e f above zero_above there updates = stored_by new values made room None
+      (omega (
+        arith,
+        stored.few,
+        length_handles new,
+        length_handles s,
+        ap length (rewrites new v key e f above zero_above there updates),
+        length-update (handles_in s) v f,
+      ))
+      (rw (rewrites new v key e f above zero_above there updates) (free_updated (handles_in s) (free_in values made) v f stored.free))
+      stored.roomy
+      tt
+
+  -- an entry that is taken out leaves room for its value
+  pub room_left : (key : ℕ) (e : Entry) → slot_at s key ≡ Some e → length values < room
+  room_left key e there =
+      let live = length-without (handles_in s) (key + 1) (sorted_handles s) (ap is_some (get_key s key ∙ there)) in
+      omega (arith, live, stored.free.counted, stored.roomy, length-reverse values)
+
+  -- room for the values that were made, when the next insertion has its value
+  pub room_taken : (new_values : List ℕ) (new_made more : ℕ) → free_in new_values new_made ≡ taken (free_in values made)
+      → (length values ≡ 0 → made + 1 ≤ more) → room ≤ more → new_made ≤ more
+  room_taken new_values new_made more left enough grown =
+      let least = made_taken (reverse values) made more (λ none. enough (sym (length-reverse values) ∙ none)) (omega (arith, stored.roomy, grown)) in
+      subst (λ (n : ℕ). n ≤ more) (sym (ap (λ (f : Free). f.made) left)) least
+
+  pub room_given : (new_values : List ℕ) (new_made v : ℕ) → free_in new_values new_made ≡ given_back v (free_in values made) → new_made ≤ room
+  room_given new_values new_made v left =
+      subst (λ (n : ℕ). n ≤ room) (sym (ap (λ (f : Free). f.made) left)) (made_given v (reverse values) made room stored.roomy)
+
+pub when_ok : {A E : Type 0} {P : Type 0} (r : Result A E) → is_err r ≡ false → OnOk r P → P
+when_ok (Ok a) ok p = p
+when_ok (Err e) wrong p = absurd (false≢true (sym wrong))
+
+pub stored_new : (s : Slab Entry) (values : List ℕ) (room : ℕ) → s.slots ≡ [] → values ≡ [] → IsStored s values 0 room None
+stored_new s values room empty none = stored_by s values 0 room None (few_in s.slots empty) (rw (empty, none) free_new) (omega arith) tt
+  where
+    few_in : (slots : List (Option Entry)) → slots ≡ [] → count_by is_some slots ≤ CAPACITY
+    few_in slots empty = rw empty (omega arith)
 
 -- ---- whether it is empty
 

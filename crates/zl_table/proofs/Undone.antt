@@ -3,6 +3,7 @@ use Rattle.zl_rights.proofs.Common.{◌≡◌, ℕ, [], ◌∷◌, refl, sym, �
 use Rattle.std.proofs.lemmas.Bool.{eq-eqb}
 use Rattle.zl_rights.specs.declared.entry.Entry.{Entry}
 use Rattle.zl_rights.proofs.MapLaws.{get-put}
+use Rattle.zl_rights.proofs.Values.{taken_given}
 use Rattle.zl_table.specs.Table.{Handles, Removes, TakesBack}
 
 module _ {X : Type 0} where
@@ -22,8 +23,8 @@ module _ {X : Type 0} where
   get_put m k v = rw (get-put m k v k, eq-eqb k k refl) refl
 
 -- a table of these parts
-same_table : (t u : Handles) → t.entries ≡ u.entries → t.last ≡ u.last → t.offered ≡ u.offered → t ≡ u
-same_table t u entries last offered i = record { entries = entries i; last = last i; offered = offered i }
+same_table : (t u : Handles) → t.entries ≡ u.entries → t.last ≡ u.last → t.free ≡ u.free → t ≡ u
+same_table t u entries last free i = record { entries = entries i; last = last i; free = free i }
 
 -- an entry was removed, and the value removed last is written
 pub taken_back : (old removed : Handles) (value : ℕ) (told : Option ℕ) (entry : Entry) → Removes old value entry removed
@@ -34,7 +35,7 @@ taken_back old removed value told entry removes = record {
       same_table (record removed { last = told }) before
       (removes.entries ∙ rw inserts.entries (without_put before.entries value given inserts.unused))
       last
-      (removes.offered ∙ inserts.offered);
+      (removes.free ∙ rw (inserts.free, inserts.offered) (taken_given before.free inserts.normal));
 }
 
 -- nothing comes out only where no insertion was

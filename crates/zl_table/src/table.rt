@@ -1,12 +1,15 @@
-ghost use Rattle.std.specs.Prelude.{◌≡◌, ◌↔◌, ◌+◌, ◌<◌, ◌≤◌, IsTrue, [], length, IfOk, OnErr, IfErr, Some, IfSome, IfNone};
+ghost use Rattle.std.specs.Prelude.{◌≡◌, ◌↔◌, ◌+◌, ◌<◌, ◌≤◌, IsTrue, [], length, IfOk, OnOk, OnErr, IfErr, Some, IfSome, IfNone};
 ghost use Rattle.std.specs.Bool.{OnTrue, OnFalse};
 ghost use Rattle.zl_rights.specs.Numbers.{bits, takes};
 ghost use Rattle.zl_rights.specs.Map.{get, has_key, update};
 ghost use Rattle.zl_rights.specs.LookUp.{looked_up};
-ghost use Rattle.zl_table.specs.Table.{CAPACITY, MOST_VALUE, IsFull, IsTable, Inserts, Removes, Undoes, TakesBack, refused_entry};
+ghost use Rattle.std.specs.Vec.{vec_capacity};
+ghost use Rattle.zl_table.specs.Stored.{free_in};
+ghost use Rattle.zl_rights.specs.Values.{CAPACITY, IsFree, given_back, offered, taken};
+ghost use Rattle.zl_table.specs.Table.{MOST_VALUE, IsFull, IsTable, Inserts, Removes, Undoes, TakesBack, refused_entry};
 
 use slab::Slab;
-use std::alloc::Global;
+use std::alloc::{AllocError, Global};
 use std::marker::Model;
 use zl_rights::{Entry, HValue, Kind, Rights, Status};
 
@@ -15,33 +18,40 @@ use zl_rights::{Entry, HValue, Kind, Rights, Status};
 /// Source: own profile.
 #[derive(Debug, Drop)]
 pub enum InsertFault {
-    /// The table holds `Table::CAPACITY` handles, or the value that is offered is above 65,535.
+    /// The table holds `Table::CAPACITY` handles.
     Full(Entry),
-    /// There was no memory for one more handle.
+    /// There was no memory for one more handle. (The slab's next key is compared with the value that
+    /// the handle is to get, and where they differed this would be answered; they never do.)
     NoMemory(Entry),
 }
 
-/// The handles of a process by their values, and the value removed last.
+/// The handles of a process by their values, the values that insertions get, and the value removed last.
 ///
 /// Source: the page "Handles" of the Fuchsia documentation; which value a handle gets is own profile.
 #[derive(Drop)]
 pub struct Table {
     // The value of a handle is its key plus 1.
     slots: Slab<Entry>,
+    // The values that were freed and not given since, the last one last; there is room for each that
+    // was made, so that a removal takes no memory.
+    freed: Vec<HValue>,
+    // The values that were made are 1 to this one.
+    made: HValue,
     last: Option<HValue>,
     // Where a drain goes on, so that it reads no empty slot twice. Any number would do.
     drained: usize,
 }
 
 impl Model for Table {
+    ghost use Rattle.std.specs.Vec.{vec_capacity};
     ghost use Rattle.zl_table.specs.Table.{Handles};
     ghost use Rattle.zl_table.specs.Stored.{table_in, IsStored};
 
     ghost Value = { Handles };
 
-    ghost view = { λ t. table_in t.slots t.last };
+    ghost view = { λ t. table_in t.slots t.freed.items t.made t.last };
 
-    ghost invariant = { λ t. IsStored t.slots t.last };
+    ghost invariant = { λ t. IsStored t.slots t.freed.items t.made (vec_capacity t.freed) t.last };
 }
 
 impl Table {
@@ -54,10 +64,12 @@ impl Table {
     pub fn new(alloc: Global) -> Table
         ensures entries { result.entries ≡ [] }
         ensures last { result.last ≡ None }
-        ensures offered { result.offered ≡ 1 }
+        ensures free { result.free ≡ record { freed = []; made = 0 } }
     {
         Table {
             slots: Slab::new(alloc),
+            freed: Vec::new(alloc),
+            made: 0,
             last: None,
             drained: 0,
         }
@@ -68,6 +80,7 @@ impl Table {
         ensures count { result ≡ length self.now.entries }
         // What is public of the invariant: callers learn it here of any table.
         ensures table { IsTable self.now.entries }
+        ensures free { IsFree self.now.entries self.now.free }
     {
         self.slots.len()
     }
@@ -115,12 +128,11 @@ impl Table {
         Ok(entry)
     }
 
-    /// Gives the entry a value that isn't live: the value removed last, if nothing was inserted
-    /// since, and else the one freed most recently, or a fresh one.
+    /// Gives the entry a value that isn't live: the value freed last and not given since, or a fresh
+    /// one.
     ///
-    /// `Full` where the table holds `CAPACITY` handles, or where the value that is offered is above
-    /// 65,535, and at no other time; `NoMemory` where there is no memory. Directly after a removal only
-    /// a table of `CAPACITY` handles is full, and a new one never is.
+    /// `Full` where the table holds `CAPACITY` handles, and at no other time; `NoMemory` where there
+    /// is no memory.
     ///
     /// Source: own profile.
     pub fn insert(&mut self, entry: Entry) -> Result<HValue, InsertFault>
@@ -130,14 +142,22 @@ impl Table {
         ensures full { IsFull self.old → result ≡ Err (InsertFault.Full entry) }
         ensures full_only { result ≡ Err (InsertFault.Full entry) → IsFull self.old }
     {
-        let key = self.slots.vacant_key();
-        if self.slots.len() == Table::CAPACITY || key >= Table::MOST_VALUE {
+        if self.slots.len() == Table::CAPACITY {
             return Err(InsertFault::Full(entry));
+        }
+        let key = self.slots.vacant_key();
+        let value = next_value(&self.freed, self.made);
+        if key != key_of(value) {
+            return Err(InsertFault::NoMemory(entry));
+        }
+        if make_room(&mut self.freed, self.made).is_err() {
+            return Err(InsertFault::NoMemory(entry));
         }
         match self.slots.insert(entry) {
             Ok(_) => {
+                take_value(&mut self.freed, &mut self.made);
                 self.last = None;
-                Ok(key as u32 + 1)
+                Ok(value)
             }
             Err(failed) => Err(InsertFault::NoMemory(failed.value)),
         }
@@ -152,6 +172,7 @@ impl Table {
         ensures unchanged { IfNone result (self.new ≡ self.old) }
     {
         let entry = self.slots.try_remove(key_of(value))?;
+        give_back(&mut self.freed, &mut self.made, value);
         self.last = Some(value);
         Some(entry)
     }
@@ -164,7 +185,7 @@ impl Table {
         ensures last { result ≡ self.now.last }
         // It is what the next insertion gets.
         ensures offered { IfSome result (λ value.
-            (value ≡ self.now.offered) × (value ≤ MOST_VALUE)) }
+            value ≡ offered self.now.free) }
     {
         self.last
     }
@@ -197,6 +218,7 @@ impl Table {
         ensures live { result ≡ has_key self.old.entries value }
         ensures entries { self.new.entries
             ≡ update self.old.entries value (λ entry. record entry { rights = rights }) }
+        ensures free { self.new.free ≡ self.old.free }
         ensures last { OnTrue result (self.new.last ≡ None) }
         ensures unchanged { OnFalse result (self.new ≡ self.old) }
     {
@@ -238,6 +260,55 @@ impl Table {
         }
         let (key, _) = self.slots.iter().next()?;
         Some(key)
+    }
+}
+
+/// The value that the next insertion gets.
+fn next_value(freed: &Vec<HValue>, made: HValue) -> HValue
+    requires { made ≤ CAPACITY }
+    ensures { result ≡ offered (free_in freed.now.items made) }
+{
+    match freed.last() {
+        Some(value) => *value,
+        None => made + 1,
+    }
+}
+
+/// Makes room for one value more to be freed, if the next insertion makes it.
+fn make_room(freed: &mut Vec<HValue>, made: HValue) -> Result<(), AllocError>
+    requires { made ≤ CAPACITY }
+    ensures values { freed.new.items ≡ freed.old.items }
+    ensures room { OnOk result (length freed.old.items ≡ 0 → made + 1 ≤ vec_capacity freed.new) }
+    ensures grown { vec_capacity freed.old ≤ vec_capacity freed.new }
+{
+    if freed.is_empty() {
+        freed.reserve(made as usize + 1)?;
+    }
+    Ok(())
+}
+
+/// The next insertion gets its value.
+fn take_value(freed: &mut Vec<HValue>, made: &mut HValue)
+    requires { made.old ≤ CAPACITY }
+    ensures free { free_in freed.new.items made.new ≡ taken (free_in freed.old.items made.old) }
+    ensures room { vec_capacity freed.new ≡ vec_capacity freed.old }
+{
+    if freed.pop().is_none() {
+        *made += 1;
+    }
+}
+
+/// The value is free again.
+fn give_back(freed: &mut Vec<HValue>, made: &mut HValue, value: HValue)
+    requires some { 0 < value }
+    requires room { length freed.old.items < vec_capacity freed.old }
+    ensures free { free_in freed.new.items made.new ≡ given_back value (free_in freed.old.items made.old) }
+    ensures room { vec_capacity freed.new ≡ vec_capacity freed.old }
+{
+    if freed.is_empty() && value == *made {
+        *made -= 1;
+    } else {
+        freed.push_reserved(value);
     }
 }
 

@@ -2,7 +2,7 @@
 ghost use Rattle.std.specs.Prelude.{◌≡◌, ◌≢◌, IfOk, IfErr, true, false, ℕ};
 ghost use Rattle.zl_code.specs.declared.boot.BootCause.TheVariants.{NoMemory};
 ghost use Rattle.zl_code.specs.declared.boot.BootFault.{BootFault as BootFaultValue};
-ghost use Rattle.zl_code.specs.Boot.{BootRefusal};
+ghost use Rattle.zl_code.specs.Boot.{FirstFault};
 ghost use Rattle.zl_code.specs.Steps.{pid_of};
 ghost use Rattle.zl_calls.specs.Makes.{IsReached};
 ghost use Rattle.zl_calls.specs.Steps.{StepsTo};
@@ -37,7 +37,7 @@ pub fn replay(
     ensures at { IfErr result (λ fault. (n : ℕ) → fault ≡ ReplayFault.At n
         → DiffersAt library boot.statements.items boot.limit items.now n) }
     ensures boot { IfErr result (λ fault. (lost : BootFaultValue) → fault ≡ ReplayFault.Boot lost
-        → lost.cause ≢ NoMemory → BootRefusal library boot.statements.items boot.limit
+        → lost.cause ≢ NoMemory → FirstFault library boot.statements.items boot.limit
         lost.statement lost.cause) }
     ensures reached { IfErr result (λ fault. (lost : BootFaultValue)
         → fault ≡ ReplayFault.Boot lost → lost.cause ≡ NoMemory

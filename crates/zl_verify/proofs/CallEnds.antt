@@ -5,7 +5,7 @@ use Rattle.zl_code.specs.declared.history.Outcome.TheVariants as outcome
 
 module _ (lib : Library) (w : World) (p : ℕ) (t : Site) (Q : Outcome → World → Type 0)
     (refused : (o : Outcome) → refusal lib w p t.request ≡ Some o → Q o (after_refusal w p t o))
-    (wants : (want : Status) → IsTrue (may_want w p t.request want) → Q (outcome.Answered want) (after_refusal w p t (outcome.Answered want)))
+    (wants : (want : Status) → IsTrue (may_want t.request want) → Q (outcome.Answered want) (after_refusal w p t (outcome.Answered want)))
     (done : refusal lib w p t.request ≡ None → (vs : List ℕ) → may_choose w (taken w p t) p t.request vs ≡ true
     → Q (ok_outcome w p t.request) (after_ok lib w p t vs (ok_outcome w p t.request))) where
   by_choice : (choice : Choice) (r : Option Outcome) → refusal lib w p t.request ≡ r → (answer : Outcome) (w2 : World) → CallBy lib w p t choice r answer w2

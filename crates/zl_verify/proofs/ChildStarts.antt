@@ -204,7 +204,7 @@ module _ (lib : Library) (w : World) (p : ℕ) (caller : Process) (there : get w
   by_choice (Wants want) None is ok u c =
       let ends = c.1 in
       let same : want ≡ status.Ok = cc in
-      let bad : false ≡ true = subst (λ x. may_want w p (process_start process h word) x ≡ true) same c.0 in cc
+      let bad : false ≡ true = subst (λ x. may_want (process_start process h word) x ≡ true) same c.0 in cc
   by_choice (Values vs) None is ok u c = started is vs c.0 u c.2
   by_choice _ _ is ok u c = absurd c
 

@@ -56,7 +56,7 @@ unfolding refusal handle_operands examined listed
 only_exits lib w p n cs ds answer w2 (Refused, h) = absurd h
 only_exits lib w p n cs ds answer w2 (Wants want, h) = absurd (no_want want h.0)
   where
-    no_want : (a : Status) → wanted false false a ≡ true → ⊥
+    no_want : (a : Status) → wanted false a ≡ true → ⊥
     no_want status.NoMemory e = false≢true e
     no_want _ e = false≢true e
 only_exits lib w p n cs ds answer w2 (Values vs, h) = h.1
@@ -233,9 +233,8 @@ module _ (i : Image) (t : ℕ → Option State) (w : World) (p : ℕ) (q : Proce
     by_refusal _ h = absurd h
 
     -- a want is no fault
-    by_want : (want : Status) → IsTrue (may_want w p s.request want) → Ends (outcome.Answered want) (after_refusal w p s (outcome.Answered want))
+    by_want : (want : Status) → IsTrue (may_want s.request want) → Ends (outcome.Answered want) (after_refusal w p s (outcome.Answered want))
     by_want status.NoMemory may = (refl, after_refused status.NoMemory refl)
-    by_want status.NoResources may = (refl, after_refused status.NoResources refl)
     by_want _ may = absurd (false≢true may)
 
     -- it ends its caller, or is answered

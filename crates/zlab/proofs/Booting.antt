@@ -1,7 +1,7 @@
 -- What the text leads to before the first step.
-use Rattle.zlab.proofs.Common.{BootCause, BootRefusal, FirstFault, FitsInput, IsBoot, IsFirstFault, IsFirstFaultBy, IsInOrder, IsRead, IsScenario}
+use Rattle.zlab.proofs.Common.{BootCause, FirstFault, FitsInput, IsBoot, IsFirstFault, IsFirstFaultBy, IsInOrder, IsRead, IsScenario}
 use Rattle.zlab.proofs.Common.{IsStart, LineFault}
-use Rattle.zlab.proofs.Common.{List, None, Option, Reading, Some, Statement, System, [], ap, arith, at_limit, at_statement, for_fault, for_place}
+use Rattle.zlab.proofs.Common.{List, None, Option, Reading, Some, Statement, System, [], ap, arith, at_limit, at_statement}
 use Rattle.zlab.proofs.Common.{get_or, length, line_cause}
 use Rattle.zlab.proofs.Common.{none-some, of_reading, of_statement, slice_get, slice_get-get_or, slice_index_or, subst, sym, ℕ, ◌<◌, ◌∙◌, ◌≡◌}
 use Rattle.zl_code.proofs.Common.{World}
@@ -23,24 +23,19 @@ module _ (text : List ℕ) (fits : FitsInput text) (scenario : Made) (reading : 
       ∙ ap (λ (x : ℕ). Some x) (sym (read ∙ ap (λ (xs : List ℕ). get_or xs n 0) is.lines))
 
   pub statement_fault : {fault_of : Reading → Option LineFault} (n : ℕ) (found : BootCause) (fault : LineFault)
-      → ((found ≡ boot.NoMemory → ⊥) → BootRefusal scenario.library scenario.boot.statements.items scenario.boot.limit n found)
+      → ((found ≡ boot.NoMemory → ⊥) → FirstFault scenario.library scenario.boot.statements.items scenario.boot.limit n found)
       → line_cause found ≡ Some fault.cause → fault.line ≡ slice_index_or scenario.lines.items n 0 → IsFirstFaultBy fault_of text fault
   statement_fault n found fault first named read =
-      let faulty : BootRefusal scenario.library reading.said.statements reading.said.limit n found
-      = subst (λ (limit : ℕ). BootRefusal scenario.library reading.said.statements limit n found) is.limit
-      (subst (λ (ss : List Statement). BootRefusal scenario.library ss scenario.boot.limit n found) is.statements
+      let faulty : FirstFault scenario.library reading.said.statements reading.said.limit n found
+      = subst (λ (limit : ℕ). FirstFault scenario.library reading.said.statements limit n found) is.limit
+      (subst (λ (ss : List Statement). FirstFault scenario.library ss scenario.boot.limit n found) is.statements
       (first (other_than_memory found fault.cause named))) in
-      of_statement reading scenario.library n found fault fits reads is.programs faulty (line_at n fault.line (at_some n found faulty) read) named
+      of_statement reading scenario.library n found fault fits reads is.programs faulty (line_at n fault.line (at_first n found faulty) read) named
     where
       at_first : (n : ℕ) (found : BootCause) → FirstFault scenario.library reading.said.statements reading.said.limit n found
           → n < length reading.said.statements
       at_first _ _ (at_statement made n s c boots at faulty) = slice_get_within reading.said.statements n s at
       at_first _ _ (at_limit made boots above) = absurd (omega (arith, above, order.limit))
-
-      at_some : (n : ℕ) (found : BootCause) → BootRefusal scenario.library reading.said.statements reading.said.limit n found
-          → n < length reading.said.statements
-      at_some _ _ (for_fault n c first) = at_first n c first
-      at_some _ _ (for_place made n s boots at fine more) = slice_get_within reading.said.statements n s at
 
   pub reading_fault : (w : World) (fault : LineFault) → IsBoot scenario.library scenario.boot.statements.items w → reading.fault ≡ Some fault
       → IsFirstFault text fault

@@ -1,5 +1,4 @@
 -- The names that most proofs of this crate cite, passed on from one place. Declares nothing.
-pub use Rattle.zl_code.specs.Boot.{BootRefusal, for_fault, for_place}
 pub use Rattle.zl_code.proofs.Common.{Err, FirstFault, IfOk, Image, IsBoot, IsLegalHistory, IsSound, Library, List, None, Ok, OnOk, Option, Result, Some}
 pub use Rattle.zl_code.proofs.Common.{Spells, [], ap, append-nil, arith, at_limit, at_statement, codes, get_or, inl, inr, length, length-append, none-some}
 pub use Rattle.zl_code.proofs.Common.{refl, slice_get, slice_get-get_or, subst, sym, take, ℕ, ◌++◌, ◌+◌, ◌-◌, ◌<◌, ◌∙◌, ◌∷◌, ◌≡◌, ◌≤◌, ◌⊎◌}

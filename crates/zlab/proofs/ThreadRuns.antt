@@ -1,9 +1,9 @@
 -- What a scenario alone leads to, and the text of a run on threads.
-use Rattle.zlab.proofs.Common.{Appends, AppendsBeginning, BootCause, BootRefusal, End, FirstFault, FitsInput, IsBoot, IsFirstFaultBy, IsInOrder, IsRead}
+use Rattle.zlab.proofs.Common.{Appends, AppendsBeginning, BootCause, FirstFault, End, FitsInput, IsBoot, IsFirstFaultBy, IsInOrder, IsRead}
 use Rattle.zlab.proofs.Common.{IsScenario}
 use Rattle.zlab.proofs.Common.{IsStatementFault, IsTextOf, Library, LineFault, List, None, Option, Reading, Some, Statement, System, Verdict, arith, at_limit}
 use Rattle.zlab.proofs.Common.{at_statement, cause_name, fault_alone, line_cause, no_trace, not_begun, refl, refused_line, slice_index_or, subst, sym}
-use Rattle.zlab.proofs.Common.{trace_text, ℕ, ◌∙◌, ◌≡◌, ◌≤◌, for_fault, for_place}
+use Rattle.zlab.proofs.Common.{trace_text, ℕ, ◌∙◌, ◌≡◌, ◌≤◌}
 use Rattle.std.specs.Prelude.{IfSome, IfNone}
 use Rattle.std.specs.Option.{unwrap_or}
 use Rattle.zl_code.proofs.Common.{World}
@@ -29,10 +29,6 @@ fault_with : (lib : Library) (ss : List Statement) (a b n : ℕ) (c : BootCause)
 fault_with lib ss a b _ _ within (at_statement made n s c boots at faulty) = at_statement made n s c boots at faulty
 fault_with lib ss a b _ _ within (at_limit made boots above) = absurd (omega (arith, within, above))
 
-with_limit : (lib : Library) (ss : List Statement) (a b n : ℕ) (c : BootCause) → a ≤ MOST_ITEMS → BootRefusal lib ss a n c → BootRefusal lib ss b n c
-with_limit lib ss a b _ _ within (for_fault n c first) = for_fault n c (fault_with lib ss a b n c within first)
-with_limit lib ss a b _ _ within (for_place made n s boots at fine more) = for_place made n s boots at fine more
-
 module _ (text : List ℕ) (fits : FitsInput text) (scenario : Made) (reading : Reading) (reads : IsRead text reading)
     (is : IsScenario reading.said scenario) (order : IsInOrder reading) where
   -- a fault of reading, or an earlier one of a statement
@@ -45,10 +41,10 @@ module _ (text : List ℕ) (fits : FitsInput text) (scenario : Made) (reading : 
 
   module _ (limit : ℕ) (within : limit ≤ MOST_ITEMS) where
     pub first_of_statements : (n : ℕ) (found : BootCause) (fault : LineFault)
-        → ((found ≡ boot.NoMemory → ⊥) → BootRefusal scenario.library scenario.boot.statements.items limit n found)
+        → ((found ≡ boot.NoMemory → ⊥) → FirstFault scenario.library scenario.boot.statements.items limit n found)
         → line_cause found ≡ Some fault.cause → fault.line ≡ slice_index_or scenario.lines.items n 0 → IsFirstFaultBy fault_alone text fault
     first_of_statements n found fault first named line = statement_fault text fits scenario reading reads is order n found fault
-        (λ other. with_limit scenario.library scenario.boot.statements.items limit scenario.boot.limit n found within (first other)) named line
+        (λ other. fault_with scenario.library scenario.boot.statements.items limit scenario.boot.limit n found within (first other)) named line
 
     pub of_scenario : (s : System) → fault_alone reading ≡ None → s.machine.programs ≡ scenario.library → s.statements ≡ scenario.boot.statements.items
         → s.limit ≡ limit → IsOfScenario text limit s

@@ -1,7 +1,7 @@
 -- What the step engine answers to the bytes that it has read.
 use Rattle.std.specs.Prelude.{ℕ, ◌≡◌, ◌<◌, ◌≤◌, List, [], length, Option, Some, None, IfSome, slice_get}
 use Rattle.std.specs.List.{flat_map}
-use Rattle.zl_code.specs.Common.{World, IsBoot, BootRefusal, Library, IsLegalHistory, single, IsSound}
+use Rattle.zl_code.specs.Common.{World, IsBoot, FirstFault, Library, IsLegalHistory, single, IsSound}
 use Rattle.std.specs.Io.KnownBytes.{Appends}
 use Rattle.zl_code.specs.declared.boot.BootCause.{BootCause}
 use Rattle.zl_code.specs.declared.boot.BootCause.TheVariants as boot
@@ -76,7 +76,7 @@ fault_read reading = reading.fault
 pub data IsFirstFaultBy (fault_of : Reading → Option LineFault) (text : List ℕ) : LineFault → Type 0 where
   too_long : MOST_INPUT < length text → IsFirstFaultBy fault_of text (record { line = 0; cause = cause.Limit })
   of_statement : (reading : Reading) (library : Library) (n : ℕ) (found : BootCause) (fault : LineFault)
-      → FitsInput text → IsRead text reading → Lists reading.said.programs library → BootRefusal library reading.said.statements reading.said.limit n found
+      → FitsInput text → IsRead text reading → Lists reading.said.programs library → FirstFault library reading.said.statements reading.said.limit n found
       → slice_get reading.said.lines n ≡ Some fault.line → line_cause found ≡ Some fault.cause → IsFirstFaultBy fault_of text fault
   of_reading : (reading : Reading) (library : Library) (w : World) (fault : LineFault)
       → FitsInput text → IsRead text reading → Lists reading.said.programs library → IsBoot library reading.said.statements w

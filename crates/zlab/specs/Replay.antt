@@ -2,7 +2,7 @@
 use Rattle.std.specs.Prelude.{ℕ, ◌≡◌, ◌<◌, ◌≤◌, ◌+◌, List, ◌++◌, codes, length, take, Option, Some, None, slice_index_or}
 use Rattle.std.specs.Fmt.{decimal}
 use Rattle.std.specs.Io.KnownBytes.{Appends}
-use Rattle.zl_code.specs.Common.{World, IsBoot, BootRefusal, Library, IsLegalHistory, IsSound}
+use Rattle.zl_code.specs.Common.{World, IsBoot, FirstFault, Library, IsLegalHistory, IsSound}
 use Rattle.zl_code.specs.Headline.{IsSizedBoot, CoveredGoWell}
 use Rattle.zl_code.specs.declared.boot.BootCause.{BootCause}
 use Rattle.zl_code.specs.declared.boot.Statement.{Statement}
@@ -147,7 +147,7 @@ pub data BeginsReplay (told told_trace old : Option (List ℕ)) : Option (List �
 pub record IsStatementFault (library : Library) (statements : List Statement) (limit : ℕ) (lines : List ℕ) (fault : LineFault) : Type 0 where
   pub number : ℕ
   pub found : BootCause
-  pub first : BootRefusal library statements limit number found
+  pub first : FirstFault library statements limit number found
   pub named : line_cause found ≡ Some fault.cause
   pub line : fault.line ≡ slice_index_or lines number 0
 

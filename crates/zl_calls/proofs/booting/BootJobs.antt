@@ -79,7 +79,7 @@ module _ (lib : Library) (before : Made) (making : IsMaking before.processes.ite
     abbrev new_job : Result Job JobFault
     new_job = new_in parent (job_at r.objects parent)
 
-    pub no_parent : is_job_at r.objects parent ≡ false → IsCauseOf false (boot_fault lib w (statement.Job parent)) cause.Unknown
+    pub no_parent : is_job_at r.objects parent ≡ false → IsCauseOf (boot_fault lib w (statement.Job parent)) cause.Unknown
     unfolding boot_fault
     no_parent missing = rw (job_seen ps r parent, missing) refl
 
@@ -102,10 +102,10 @@ module _ (lib : Library) (before : Made) (making : IsMaking before.processes.ite
           alone false = refl
 
       -- it would stand too deep
-      pub too_deep : ((x : Job) → new_job ≡ Ok x → ⊥) → IsCauseOf false (boot_fault lib w (statement.Job parent)) cause.Limit
+      pub too_deep : ((x : Job) → new_job ≡ Ok x → ⊥) → IsCauseOf (boot_fault lib w (statement.Job parent)) cause.Limit
       too_deep none = rw fault_is (by_depth (is_deepest_job at.job) refl)
         where
-          by_depth : (b : Bool) → is_deepest_job at.job ≡ b → IsCauseOf false (then_some (b || lacks_koids w (statement.Job parent)) cause.Limit) cause.Limit
+          by_depth : (b : Bool) → is_deepest_job at.job ≡ b → IsCauseOf (then_some (b || lacks_koids w (statement.Job parent)) cause.Limit) cause.Limit
           by_depth true is = refl
           by_depth false is = absurd (none (job_within parent at.job) (new_is ∙ rw is refl))
 
@@ -145,7 +145,7 @@ module _ (lib : Library) (before : Made) (making : IsMaking before.processes.ite
     abbrev answer : Result ⊤ Status
     answer = policy_answer (job_at r.objects k) c a mode.Absolute
 
-    pub no_such_job : is_job_at r.objects k ≡ false → IsCauseOf false (boot_fault lib w (statement.Policy k c a)) cause.Unknown
+    pub no_such_job : is_job_at r.objects k ≡ false → IsCauseOf (boot_fault lib w (statement.Policy k c a)) cause.Unknown
     unfolding boot_fault
     no_such_job missing = rw (job_seen ps r k, missing) refl
 
@@ -167,18 +167,18 @@ module _ (lib : Library) (before : Made) (making : IsMaking before.processes.ite
       unfolding boot_fault
       policy_fault = rw (is_seen k there, child_is, body_seen ps r k job_is) refl
 
-      pub has_one : has_child_at r.objects k ≡ true → IsCauseOf false (boot_fault lib w (statement.Policy k c a)) cause.BadState
+      pub has_one : has_child_at r.objects k ≡ true → IsCauseOf (boot_fault lib w (statement.Policy k c a)) cause.BadState
       has_one child = rw (policy_fault, child) refl
 
       answer_is : answer ≡ (if conflict then Err status.AlreadyExists else Ok tt)
       answer_is = rw (job_found r.objects k job_is) refl
 
       module _ (childless : has_child_at r.objects k ≡ false) where
-        pub conflicting : (s : Status) → answer ≡ Err s → IsCauseOf false (boot_fault lib w (statement.Policy k c a)) cause.Conflict
+        pub conflicting : (s : Status) → answer ≡ Err s → IsCauseOf (boot_fault lib w (statement.Policy k c a)) cause.Conflict
         conflicting s refused = rw (policy_fault, childless) (by_test conflict (sym answer_is ∙ refused))
           where
             by_test : (b : Bool) → ◌≡◌ {A = Result ⊤ Status} (if b then Err status.AlreadyExists else Ok tt) (Err s)
-                → IsCauseOf false (first_some (None ∷ None ∷ then_some b cause.Conflict ∷ [])) cause.Conflict
+                → IsCauseOf (first_some (None ∷ None ∷ then_some b cause.Conflict ∷ [])) cause.Conflict
             by_test true h = refl
             by_test false h = absurd cc
 

@@ -53,11 +53,11 @@ pub enough_koids : (n count : ℕ) → nat_lt (MOST_KOIDS + 1) (n + count) ≡ f
 enough_koids n count enough = grind (arith, nat_tests, enough)
 
 -- the cause is that of a statement whose only fault is this test
-pub limit_cause : (test : Bool) → test ≡ true → IsCauseOf false (then_some test cause.Limit) cause.Limit
+pub limit_cause : (test : Bool) → test ≡ true → IsCauseOf (then_some test cause.Limit) cause.Limit
 limit_cause test is = rw is refl
 
 -- or it has no fault
-pub memory_cause : (test : Bool) → test ≡ false → IsCauseOf false (then_some test cause.Limit) cause.NoMemory
+pub memory_cause : (test : Bool) → test ≡ false → IsCauseOf (then_some test cause.Limit) cause.NoMemory
 memory_cause test is = rw is refl
 
 -- the fault of a statement that makes a pair

@@ -1,7 +1,7 @@
 -- One statement after another: what was made is what the definitions make, up to the first fault.
-use Rattle.zl_calls.proofs.Common.{AllByRecursion, BootCause, BootRefusal, Boots, IsCauseOf, IsMaking, IsReached, IsTrue, Library, List, MOST_ITEMS, Made}
+use Rattle.zl_calls.proofs.Common.{AllByRecursion, BootCause, FirstFault, Boots, IsCauseOf, IsMaking, IsReached, IsTrue, Library, List, MOST_ITEMS, Made}
 use Rattle.zl_calls.proofs.Common.{Makes, None, Option, Some, Statement, World, [], ap, arith, at_limit, at_statement, boot_effect, boot_fault, false≢true}
-use Rattle.zl_calls.proofs.Common.{for_fault, for_place, get_or, gives_more, is_want, length, may_boot, most_word, origin, refl, root_alone, seen}
+use Rattle.zl_calls.proofs.Common.{get_or, length, may_boot, most_word, origin, refl, root_alone, seen}
 use Rattle.zl_calls.proofs.Common.{slice_get-get_or, sym, take, take_all, take_more, word_of, ℕ, ◌++◌, ◌+◌, ◌<◌, ◌∙◌, ◌∷◌, ◌≡◌, ◌≢◌, ◌≤◌}
 use Rattle.zl_code.specs.declared.boot.BootCause.TheVariants as cause
 use Rattle.zl_calls.proofs.booting.BootMaking.{starts_making}
@@ -49,24 +49,18 @@ all_small lib ss i made all so_far = rw take_all at so_far.words
 
 pub first_fault : (lib : Library) (ss : List Statement) (limit i : ℕ) (d : Statement) (made : Made) (c : BootCause) → i < length ss
     → IsMadeBy lib (take i ss) made
-    → IsCauseOf (gives_more (get_or ss i d)) (boot_fault lib (seen made) (get_or ss i d)) c → c ≢ cause.NoMemory → BootRefusal lib ss limit i c
+    → IsCauseOf (boot_fault lib (seen made) (get_or ss i d)) c → c ≢ cause.NoMemory → FirstFault lib ss limit i c
 first_fault lib ss limit i d made c lt so_far causes other = by_fault (boot_fault lib (seen made) (get_or ss i d)) refl causes
   where
-    by_want : (x : BootCause) → boot_fault lib (seen made) (get_or ss i d) ≡ None → IsTrue (is_want (gives_more (get_or ss i d)) x) → x ≢ cause.NoMemory
-        → BootRefusal lib ss limit i x
-    by_want cause.NoMemory is want other = absurd (other refl)
-    by_want cause.Limit is want other = for_place (seen made) i (get_or ss i d) so_far.boots (slice_get-get_or ss i d lt) is want
-    by_want _ is want other = absurd (false≢true want)
-
-    by_fault : (o : Option BootCause) → boot_fault lib (seen made) (get_or ss i d) ≡ o → IsCauseOf (gives_more (get_or ss i d)) o c
-        → BootRefusal lib ss limit i c
-    by_fault None is want = by_want c is want other
-    by_fault (Some found) is same = for_fault i c
-        (at_statement (seen made) i (get_or ss i d) c so_far.boots (slice_get-get_or ss i d lt) (is ∙ ap (λ (x : BootCause). Some x) (sym same)))
+    by_fault : (o : Option BootCause) → boot_fault lib (seen made) (get_or ss i d) ≡ o → IsCauseOf o c
+        → FirstFault lib ss limit i c
+    by_fault None is wants = absurd (other wants)
+    by_fault (Some found) is same =
+        at_statement (seen made) i (get_or ss i d) c so_far.boots (slice_get-get_or ss i d lt) (is ∙ ap (λ (x : BootCause). Some x) (sym same))
 
 pub limit_fault : (lib : Library) (ss : List Statement) (limit i : ℕ) (made : Made) → length ss ≤ i → IsMadeBy lib (take i ss) made → MOST_ITEMS < limit
-    → BootRefusal lib ss limit (length ss) cause.Limit
-limit_fault lib ss limit i made all so_far above = for_fault (length ss) cause.Limit (at_limit (seen made) (rw take_all at so_far.boots) above)
+    → FirstFault lib ss limit (length ss) cause.Limit
+limit_fault lib ss limit i made all so_far above = at_limit (seen made) (rw take_all at so_far.boots) above
 
 -- ---- the statements before a fault
 

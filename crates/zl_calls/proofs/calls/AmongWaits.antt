@@ -23,7 +23,7 @@ module _ {before after : List Process} {r : Objects} {p p2 : Process} (lib : Lib
 
   module _ {A : Type 0} (values : A → List ℕ) (Done : A → Handles → Objects → Type 0) (wants : Status → Bool) (o : Option Status)
       (refused : (blocked : List ℕ) → refusal lib (world_blocked before r blocked) p.pid s.request ≡ answers o)
-      (wanting : (blocked : List ℕ) → wants ≡ may_want (world_blocked before r blocked) p.pid s.request)
+      (wanting : (blocked : List ℕ) → wants ≡ may_want s.request)
       (takes_none : (blocked : List ℕ) → taken (world_blocked before r blocked) p.pid s ≡ world_blocked before r blocked)
       (nothing : (blocked : List ℕ) → TellsNothing lib (world_blocked before r blocked) p.pid s)
       (done : (x : A) → Done x p2.table r2 → Replies s status.Ok (values x) p p2

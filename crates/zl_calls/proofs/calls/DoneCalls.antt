@@ -54,7 +54,7 @@ module _ {before after : List Process} {r : Objects} {p p2 : Process} (lib : Lib
   module _ {A : Type 0} (s : Site) (values : A → List ℕ) (Acts : Handles → Objects → Result A Status → Handles → Objects → Type 0)
       (Done : A → Handles → Objects → Type 0) (wants : Status → Bool) (o : Option Status)
       (does : (answer : Result A Status) → Acts p.table r answer p2.table r2 → Does Done wants o p.table r answer p2.table r2)
-      (refused : refusal lib w p.pid s.request ≡ answers o) (wanting : wants ≡ may_want w p.pid s.request) (takes_none : taken w p.pid s ≡ w)
+      (refused : refusal lib w p.pid s.request ≡ answers o) (wanting : wants ≡ may_want s.request) (takes_none : taken w p.pid s ≡ w)
       (nothing : TellsNothing lib w p.pid s)
       (done : (x : A) → Done x p2.table r2 → Replies s status.Ok (values x) p p2 → IsCalled lib before after r r2 p.pid s (outcome.Answered status.Ok)) where
     by_answer : (answer : Result A Status) → Does Done wants o p.table r answer p2.table r2 → Replies s (status_of answer) (values_of values answer) p p2

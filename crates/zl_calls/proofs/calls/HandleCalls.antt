@@ -9,7 +9,7 @@ use Rattle.zl_calls.proofs.Common.{listed, map, may_choose, narrowed, nat_cmp, n
 use Rattle.zl_calls.proofs.Common.{on_process, one_value, operands_fault, option_map, option_or, passes, process_entry, process_value, process_with}
 use Rattle.zl_calls.proofs.Common.{process_without, put, refl, refusal, remove_all, replace, replace_refusal, replied, result_err, same_Some, same_map, site}
 use Rattle.zl_calls.proofs.Common.{sorted_put, sorted_without, state_value, status_of, subst, sym, table_of, taken, taken_handles, told_by, true, update}
-use Rattle.zl_calls.proofs.Common.{wants_nothing, wants_place, with_effect, with_rights, within, without, without_handle, world_value, ℕ, ◌<◌, ◌==◌, ◌^◌, ◌||◌}
+use Rattle.zl_calls.proofs.Common.{wants_nothing, wants_memory, with_effect, with_rights, within, without, without_handle, world_value, ℕ, ◌<◌, ◌==◌, ◌^◌, ◌||◌}
 use Rattle.zl_calls.proofs.Common.{◌∙◌, ◌∷◌, ◌≡◌, ◌⊎◌}
 use Rattle.zl_code.proofs.Common.{Object as ObjectValue, Process as ProcessValue, narrowed_within}
 use Rattle.zl_rights.specs.declared.status.Status.TheVariants as status
@@ -24,7 +24,7 @@ use Rattle.zl_calls.proofs.calls.Refused.{answers, any_looked_up, one_test, thre
 use Rattle.zl_calls.proofs.calls.TakenCalls.{closed, replied_taking, taking_done}
 use Rattle.zl_calls.proofs.objects.Settled.{IsSettled, still_settles, sound_of}
 use Rattle.zl_calls.proofs.processes.Written.{refusal_keeps, entered, one_entered, same_agrees}
-use Rattle.zl_table.proofs.MapEdits.{length-update}
+use Rattle.zl_rights.proofs.MapEdits.{length-update}
 use Rattle.zl_objects.specs.declared.object.Object.{Object}
 use Rattle.zl_calls.proofs.lists.Updates.{update_twice, update_unseen}
 use Rattle.zl_calls.proofs.objects.Held.{held_body, held_value, holding_kept, holding_sound}
@@ -195,7 +195,7 @@ module _ {before after : List Process} {r : Objects} {p p2 : Process} (lib : Lib
     pub dup_done : IsDoneBy lib before after r r2 p p2 dup_site (told_by one_value) (DupDoes h asked)
     unfolding taken_handles handle_operands remove_all gives_refused
     dup_done =
-        answered_done lib r2 consistent write dup_site one_value (DupDoes h asked) (Dups p.table r h asked) wants_place
+        answered_done lib r2 consistent write dup_site one_value (DupDoes h asked) (Dups p.table r h asked) wants_memory
         (dup_refusal p.table.entries r.objects h asked) (λ answer acts. acts) refused refl refl (λ answer. refl) dup_called
 
   -- ---- replace

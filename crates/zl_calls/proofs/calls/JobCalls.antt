@@ -7,7 +7,7 @@ use Rattle.zl_calls.proofs.Common.{is_job_at, is_some, job_at, job_create, job_s
 use Rattle.zl_calls.proofs.Common.{may_choose, nat_le, new_entry, new_handles, new_in, no_value, not, object_at, object_value, on_object, on_process, one_value}
 use Rattle.zl_calls.proofs.Common.{operands_fault, option_or, policy_changed, policy_in, process_entry, process_shown, process_value, process_with, refl}
 use Rattle.zl_calls.proofs.Common.{refusal, remove_all, replied, result_err, runs, setting_policy, site, subst, sym, taken_handles, takes, then_some, told_by}
-use Rattle.zl_calls.proofs.Common.{true, wants_nothing, wants_place, with_new, with_object, with_policy_body, with_policy_set, world_value, ℕ, ⊤, ◌&&◌, ◌+◌}
+use Rattle.zl_calls.proofs.Common.{true, wants_nothing, wants_memory, with_new, with_object, with_policy_body, with_policy_set, world_value, ℕ, ⊤, ◌&&◌, ◌+◌}
 use Rattle.zl_calls.proofs.Common.{◌==◌, ◌^◌, ◌||◌, ◌∙◌, ◌∷◌, ◌≡◌}
 use Rattle.zl_code.proofs.Common.{Action, Body as BodyValue, body_with_policy, policy_set, setting_of}
 use Rattle.zl_rights.specs.declared.kind.Kind.TheVariants as kind
@@ -201,7 +201,7 @@ module _ {before after : List Process} {r : Objects} {p p2 : Process} (lib : Lib
     pub job_done : IsDoneBy lib before after r r2 p p2 create_site (told_by one_value) (JobCreateDoes j)
     unfolding taken_handles handle_operands remove_all gives_refused
     job_done =
-        answered_done lib r2 consistent write create_site one_value (JobCreateDoes j) (CreatesJob p.table r j) wants_place
+        answered_done lib r2 consistent write create_site one_value (JobCreateDoes j) (CreatesJob p.table r j) wants_memory
         (job_refusal p.table.entries r j) (λ answer acts. acts) refused_create refl refl (λ answer. refl) create_called
 
   -- ---- job_set_policy

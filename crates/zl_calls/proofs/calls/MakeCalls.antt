@@ -3,7 +3,7 @@ use Rattle.zl_calls.proofs.Common.{Agrees, Bool, CallBy, Entry, Inserts, IsConsi
 use Rattle.zl_calls.proofs.Common.{Replies, Site, Some, Values, World, [], answer_if, ap, arith, body_value, false, first_some, get, has_room_in, is_in_job}
 use Rattle.zl_calls.proofs.Common.{is_process, kind_in, length, map, may_get, may_want, nat_le, nat_tests, new_entry, new_object, none-some, not, on_process}
 use Rattle.zl_calls.proofs.Common.{one_value, process_entry, process_value, process_with, refl, refusal, replied, room_refusal, sym, taken, then_some, told_by}
-use Rattle.zl_calls.proofs.Common.{true, wants_place, with_new, with_object, world_value, ℕ, ◌&&◌, ◌+◌, ◌<◌, ◌^◌, ◌∙◌, ◌∷◌, ◌≡◌}
+use Rattle.zl_calls.proofs.Common.{true, wants_memory, with_new, with_object, world_value, ℕ, ◌&&◌, ◌+◌, ◌<◌, ◌^◌, ◌∙◌, ◌∷◌, ◌≡◌}
 use Rattle.zl_code.proofs.Common.{Object as ObjectValue, State as StateValue}
 use Rattle.zl_rights.specs.declared.status.Status.TheVariants as status
 use Rattle.zl_code.specs.declared.history.Outcome.TheVariants as outcome
@@ -115,9 +115,9 @@ module _ {before after : List Process} {r : Objects} {p p2 : Process} (lib : Lib
 
     -- ---- the step of a call that nothing else refuses
 
-    pub made_done : refusal lib w p.pid s.request ≡ answers (room_refusal p.table.entries n) → wants_place ≡ may_want w p.pid s.request → taken w p.pid s ≡ w
+    pub made_done : refusal lib w p.pid s.request ≡ answers (room_refusal p.table.entries n) → wants_memory ≡ may_want s.request → taken w p.pid s ≡ w
         → TellsNothing lib w p.pid s → ((made : ℕ) → Makes made) → IsDoneBy lib before after r r2 p p2 s (told_by one_value) (MakeDoes b)
     made_done refused wanting takes_none nothing by =
-        answered_done lib r2 consistent write s one_value (MakeDoes b) (MakesOne b p.table r) wants_place (room_refusal p.table.entries n)
+        answered_done lib r2 consistent write s one_value (MakeDoes b) (MakesOne b p.table r) wants_memory (room_refusal p.table.entries n)
         (λ answer acts. acts) refused wanting takes_none nothing
         (λ made makes replies. made_called made makes replies (refused ∙ ap answers makes.unrefused) (by made))

@@ -5,7 +5,7 @@ use Rattle.zl_calls.proofs.Common.{chan_create, cond, count_by, effect, eventpai
 use Rattle.zl_calls.proofs.Common.{handles_to, has_koids, has_room, insert_all, length, listed, map, may_choose, may_get_all, may_want, nat_le, nat_tests}
 use Rattle.zl_calls.proofs.Common.{ne_eqb, new_entry, new_handles, new_object, none-some, not, object_value, on_process, operands_fault, pair_refusal}
 use Rattle.zl_calls.proofs.Common.{process_entry, process_value, process_with, put, refl, refusal, remove_all, replied, runs, site, subst, sum_by-cons, sym}
-use Rattle.zl_calls.proofs.Common.{taken, taken_handles, then_some, told_by, true, two_values, wants_place, with_new, with_object, world_value, ℕ, ◌&&◌, ◌+◌}
+use Rattle.zl_calls.proofs.Common.{taken, taken_handles, then_some, told_by, true, two_values, wants_memory, with_new, with_object, world_value, ℕ, ◌&&◌, ◌+◌}
 use Rattle.zl_calls.proofs.Common.{◌==◌, ◌^◌, ◌∙◌, ◌∷◌, ◌≡◌, ◌≤◌}
 use Rattle.zl_code.proofs.Common.{Object as ObjectValue}
 use Rattle.zl_rights.specs.declared.status.Status.TheVariants as status
@@ -171,10 +171,10 @@ module _ {before after : List Process} {r : Objects} {p p2 : Process} (lib : Lib
 
     -- ---- the step
 
-    pair_done : refusal lib w p.pid s.request ≡ answers (pair_refusal p.table.entries n) → wants_place ≡ may_want w p.pid s.request → taken w p.pid s ≡ w
+    pair_done : refusal lib w p.pid s.request ≡ answers (pair_refusal p.table.entries n) → wants_memory ≡ may_want s.request → taken w p.pid s ≡ w
         → TellsNothing lib w p.pid s → ((made : ℕ × ℕ) → Makes made) → IsDoneBy lib before after r r2 p p2 s (told_by two_values) (MakePairDoes pair)
     pair_done refused wanting takes_none nothing by =
-        answered_done lib r2 consistent write s two_values (MakePairDoes pair) (MakesPair pair p.table r) wants_place (pair_refusal p.table.entries n)
+        answered_done lib r2 consistent write s two_values (MakePairDoes pair) (MakesPair pair p.table r) wants_memory (pair_refusal p.table.entries n)
         (λ answer acts. acts) refused wanting takes_none nothing
         (λ made makes replies. pair_called made makes replies (refused ∙ ap answers makes.unrefused) (by made))
 

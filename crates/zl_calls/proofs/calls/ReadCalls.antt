@@ -8,7 +8,7 @@ use Rattle.zl_calls.proofs.Common.{insert_all, is_empty, is_some, length, listed
 use Rattle.zl_calls.proofs.Common.{none-some, not, object_at, object_entry, object_value, on_object, on_process, operands_fault, option_map, peer_at}
 use Rattle.zl_calls.proofs.Common.{process_entry, process_value, process_with, process_with_all, queue_in, queued_to, refl, refusal, remove_all, replied, site}
 use Rattle.zl_calls.proofs.Common.{slice_get, storing, subst, sum_by, sum_by-cons, sum_fewer, sym, taken, taken_handles, takes, told_of, told_read, true}
-use Rattle.zl_calls.proofs.Common.{update, wanted, with_effect, with_stored, within, world_value, ℕ, ◌&&◌, ◌+◌, ◌==◌, ◌∙◌, ◌∷◌, ◌≡◌, ◌≤◌}
+use Rattle.zl_calls.proofs.Common.{update, wants_memory, with_effect, with_stored, within, world_value, ℕ, ◌&&◌, ◌+◌, ◌==◌, ◌∙◌, ◌∷◌, ◌≡◌, ◌≤◌}
 use Rattle.zl_code.proofs.Common.{Object as ObjectValue, Process as ProcessValue}
 use Rattle.zl_rights.specs.declared.kind.Kind.TheVariants as kind
 use Rattle.zl_rights.specs.declared.status.Status.TheVariants as status
@@ -373,18 +373,10 @@ module _ {before after : List Process} {r : Objects} {p p2 : Process} (lib : Lib
     Called f =
         IsTold read_site (told_read address (Err f)) p p2 → IsCalled lib before after r r2 p.pid read_site (outcome.Answered (told_read address (Err f)).status)
 
-    -- its handles are those of the message for the definitions
-    handles_same : (end : ℕ) → front_now ≡ Ok end → front_handles (queue_in (get r.objects end)) ≡ first_handles (queue_at w p.pid c)
-    handles_same end is =
-        let found : IsFrontOf p.table.entries r.objects c end = known (Ok end) is in
-        let koid : object_at w p.pid c ≡ end = rw (table_is write r, found.there) found.koid in
-        first_alike (queue_in (get r.objects end))
-        ∙ ap first_handles (sym (ap (λ (j : ℕ). queue_seen_in (body_of w j)) koid ∙ queue_there r.objects end))
-
-    want_tells : (s : Status) (place : Bool) → IsTrue (wanted true place s) → gives_refused w p.pid (chan_read_etc c address room places) s ≡ []
+    want_tells : (s : Status) → IsTrue (wants_memory s) → gives_refused w p.pid (chan_read_etc c address room places) s ≡ []
     unfolding gives_refused
-    want_tells status.BufferTooSmall place want = absurd (false≢true want)
-    want_tells _ place want = refl
+    want_tells status.BufferTooSmall want = absurd (false≢true want)
+    want_tells _ want = refl
 
     wanting : (end : ℕ) → front_now ≡ Ok end → (s : Status) → IsFaultBy r.objects (Ok end) (fault.Refused s) → Called (fault.Refused s)
     unfolding taken_handles handle_operands remove_all
@@ -392,16 +384,13 @@ module _ {before after : List Process} {r : Objects} {p p2 : Process} (lib : Lib
       calls = (
         Wants s,
         rw (refused, is) (
-          seen,
+          want,
           refl,
-          told_world s [] told ∙ ap (replied w p.pid read_site s) (sym (want_tells s (nat_lt 0 (length (first_handles (queue_at w p.pid c)))) seen)),
+          told_world s [] told ∙ ap (replied w p.pid read_site s) (sym (want_tells s want)),
         ),
       );
       keeps = kept (ap (λ (q : Process). q.state) told);
     }
-      where
-        seen : IsTrue (wanted true (nat_lt 0 (length (first_handles (queue_at w p.pid c)))) s)
-        seen = subst (λ (es : List Entry). IsTrue (wanted true (nat_lt 0 (length es)) s)) (handles_same end is) want
 
     sizes_same : (bytes handles : ℕ) → front_now ≡ Err (fault.TooSmall bytes handles) → sizes_of (queue_at w p.pid c) ≡ bytes ∷ handles ∷ []
     sizes_same bytes handles is =

@@ -107,7 +107,6 @@ module _ (lib : Library) (w : World) (p : ℕ) (entries : Map Entry) (table : ta
 
 pub nothing_wanted : (s : Status) → IsTrue (wants_nothing s) → ⊥
 nothing_wanted status.NoMemory want = false≢true want
-nothing_wanted status.NoResources want = false≢true want
 nothing_wanted _ want = false≢true want
 
 module _ (lib : Library) (w : World) (p : ℕ) (s : Site) where
@@ -116,7 +115,7 @@ module _ (lib : Library) (w : World) (p : ℕ) (s : Site) where
   TellsNothing = (answer : Status) → gives_refused w p s.request answer ≡ []
 
   pub refused_calls : (wants : Status → Bool) (o : Option Status) (answer : Status) (w2 : World) → TellsNothing → refusal lib w p s.request ≡ answers o
-      → wants ≡ may_want w p s.request → IsRefusedBy wants o answer
+      → wants ≡ may_want s.request → IsRefusedBy wants o answer
       → w2 ≡ replied (taken w p s) p s answer [] → Calls lib w p s (outcome.Answered answer) w2
   refused_calls wants (Some r) answer w2 nothing refused may by is =
       (Refused, rw refused (ap (λ (x : Status). outcome.Answered x) by, is ∙ rw (by, nothing r) refl))

@@ -1,4 +1,5 @@
 -- A call that takes handles: they leave the table of its caller, and close where the call is refused.
+use Rattle.zl_rights.specs.Values.{given_back}
 use Rattle.zl_calls.proofs.Common.{AtCall, Bool, CallName, DoesTaking, Entry, Err, Handles, IsConsistent, IsNamed, IsSound, IsTable, IsTrue, Library, List, Map}
 use Rattle.zl_calls.proofs.Common.{None, Objects, Ok, Option, Outcome, Ready, Releases, Replies, Result, Site, Some, Status, World, [], ap, arith, cases_Bool}
 use Rattle.zl_calls.proofs.Common.{cond, count_by, cpu_answered, eq-eqb, eqb-true, false, false≢true, get, get-put, get-without, has_key, if◌then◌else◌, inl}
@@ -33,7 +34,7 @@ left_one t h v e at = by_live (has_key t.entries h) at
     by_key (inl here) read = absurd (none-some e (rw here at read))
     by_key (inr apart) read = rw apart at read
 
-    by_live : (live : Bool) → get (if live then record { entries = without t.entries h; last = Some h; offered = h } else t).entries v ≡ Some e
+    by_live : (live : Bool) → get (if live then record { entries = without t.entries h; last = Some h; free = given_back h t.free } else t).entries v ≡ Some e
         → get t.entries v ≡ Some e
     by_live true read = by_key (cases_Bool (h == v)) (sym (get-without t.entries h v) ∙ read)
     by_live false read = read
@@ -45,7 +46,7 @@ gone_one t h = by_entry (get t.entries h) refl
     same j = eq-eqb j j refl
 
     by_entry : (o : Option Entry) → get t.entries h ≡ o
-        → get (if is_some o then record { entries = without t.entries h; last = Some h; offered = h } else t).entries h ≡ None
+        → get (if is_some o then record { entries = without t.entries h; last = Some h; free = given_back h t.free } else t).entries h ≡ None
     by_entry None is = is
     by_entry (Some e) is = get-without t.entries h h ∙ rw (same h) refl
 
@@ -61,7 +62,7 @@ table_left t h table = by_entry (get t.entries h) refl
     ]
 
     by_entry : (o : Option Entry) → get t.entries h ≡ o
-        → IsTable (if is_some o then record { entries = without t.entries h; last = Some h; offered = h } else t).entries
+        → IsTable (if is_some o then record { entries = without t.entries h; last = Some h; free = given_back h t.free } else t).entries
     by_entry None is = table
     by_entry (Some e) is = record {
       sorted = sorted_without t.entries h table.sorted;
@@ -181,8 +182,8 @@ without_one h t q = by_live (has_key t.entries h)
   where
     by_live : (live : Bool) → (if live then record (with_table t q) { handles = without t.entries h; last = Some h } else with_table t q)
         ≡ record q {
-          handles = (if live then record { entries = without t.entries h; last = Some h; offered = h } else t).entries;
-          last = (if live then record { entries = without t.entries h; last = Some h; offered = h } else t).last;
+          handles = (if live then record { entries = without t.entries h; last = Some h; free = given_back h t.free } else t).entries;
+          last = (if live then record { entries = without t.entries h; last = Some h; free = given_back h t.free } else t).last;
         }
     by_live true = refl
     by_live false = refl
@@ -251,7 +252,7 @@ module _ {before after : List Process} {r : Objects} {p p2 : Process} (lib : Lib
   w = world_value before r
 
   module _ {A : Type 0} (values : A → List ℕ) (Done : A → Handles → Objects → Type 0) (wants : Status → Bool) (o : Option Status)
-      (refused : refusal lib w p.pid s.request ≡ answers o) (wanting : wants ≡ may_want w p.pid s.request) (nothing : TellsNothing lib w p.pid s)
+      (refused : refusal lib w p.pid s.request ≡ answers o) (wanting : wants ≡ may_want s.request) (nothing : TellsNothing lib w p.pid s)
       (done : (x : A) → Done x p2.table r2 → Replies s status.Ok (values x) p p2 → IsCalled lib before after r r2 p.pid s (outcome.Answered status.Ok)) where
     refused_done : (answer : Status) → DoesTaking Done wants o hs p.table r (Err answer) p2.table r2 → Replies s answer [] p p2
         → IsDone lib before after r r2 p.pid call (outcome.Answered answer)

@@ -1,4 +1,5 @@
 -- The call chan_write, from its table and objects to a step.
+use Rattle.zl_rights.specs.Values.{given_back}
 use Rattle.zl_calls.proofs.Common.{All, All-append, All-cons, All-nil, AreNamed, Bool, ChanWriteDoes, Entry, Handles, IsConsistent, IsNamed, IsSound, IsTrue}
 use Rattle.zl_calls.proofs.Common.{Library, List, Map, Message, None, Objects, Ok, Operand, Option, Replies, Site, Some, Status, TRANSFER, Values, WRITE, World}
 use Rattle.zl_calls.proofs.Common.{WritesMessage, [], answer_if, any, ap, arith, body_in, body_value, body_with_message, cases_Bool, chan_write, cond, consumes}
@@ -97,7 +98,7 @@ none_then (Some s) b h = absurd (none-some s (sym h))
 other_one : (t : Handles) (h v : ℕ) → (h == v) ≡ false → get (without_handle t h).entries v ≡ get t.entries v
 other_one t h v apart = by_live (has_key t.entries h)
   where
-    by_live : (live : Bool) → get (if live then record { entries = without t.entries h; last = Some h; offered = h } else t).entries v ≡ get t.entries v
+    by_live : (live : Bool) → get (if live then record { entries = without t.entries h; last = Some h; free = given_back h t.free } else t).entries v ≡ get t.entries v
     by_live true = get-without t.entries h v ∙ rw apart refl
     by_live false = refl
 

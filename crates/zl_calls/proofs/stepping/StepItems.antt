@@ -1,4 +1,5 @@
 -- What the item of a step tells of the process: which call it did, that it ran, or that it was stuck.
+use Rattle.zl_calls.specs.World.{free_entry}
 use Rattle.zl_calls.proofs.Common.{AtCall, CallInstr, CallName, Cpu, DoesNext, EndsUnheld, HaveLeft, HavePrograms, IfNone, IfSome, IsStuck, IsTrue, Library}
 use Rattle.zl_calls.proofs.Common.{List, Machine, Moves, Next, None, Objects, Option, Outcome, Performs, Program, Site, Some, Step, StepsAndWakes, StepsTo}
 use Rattle.zl_calls.proofs.Common.{TakesStep, TraceItem, Woke, ap, asks_again, call_for, call_in, call_of, call_row, calls_at, false, false≢true, fired, fold}
@@ -140,7 +141,7 @@ local_list pid (item.Call at call o) blocked local = absurd (false≢true local)
 local_list pid (item.Stuck at) blocked local = absurd (false≢true local)
 
 abbrev pub machine_value : Library → List Process → Objects → List ℕ → Machine
-machine_value lib ps r blocked = record { programs = lib; world = world_blocked ps r blocked }
+machine_value lib ps r blocked = record { programs = lib; world = world_blocked ps r blocked; free = map free_entry ps }
 
 -- the process acted up to where processes wake, and then these did
 does_step : (m : Machine) (pid : ℕ) (m2 : Machine) (x : TraceItem) (who : Woke) (settled : WorldValue) → m2.programs ≡ m.programs

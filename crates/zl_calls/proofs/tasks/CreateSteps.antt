@@ -3,7 +3,7 @@ use Rattle.zl_calls.proofs.Common.{AreBlocked, AtCall, CallName, CreatesProcess,
 use Rattle.zl_calls.proofs.Common.{Library, List, MANAGE_PROCESS, MakesOne, None, Objects, Ok, Outcome, Parts, ProcessCreateDoes, Replies, Result, Site, Some}
 use Rattle.zl_calls.proofs.Common.{Status, [], ap, cpu_answered, create_refusal, gives_refused, handle_operands, looked_up, next_for, next_looks, none-some}
 use Rattle.zl_calls.proofs.Common.{one_value, parts, process_create, process_value, refl, refusal, remove_all, same_Some, set, site, slice_get, slice_set}
-use Rattle.zl_calls.proofs.Common.{status_of, subst, suc, sym, taken_handles, told_by, wants_place, with_new, world_value, zero, ℕ, ◌++◌, ◌∙◌, ◌∷◌, ◌≡◌}
+use Rattle.zl_calls.proofs.Common.{status_of, subst, suc, sym, taken_handles, told_by, wants_memory, with_new, world_value, zero, ℕ, ◌++◌, ◌∙◌, ◌∷◌, ◌≡◌}
 use Rattle.zl_code.specs.declared.history.Outcome.TheVariants as outcome
 use Rattle.zl_code.specs.declared.history.TraceItem.TheVariants as item
 use Rattle.zl_rights.specs.declared.kind.Kind.TheVariants as kind
@@ -53,7 +53,7 @@ module _ {ps : List Process} {r : Objects} {blocked : List ℕ} {pid place : ℕ
 
   -- ---- it is refused
 
-  module _ (answer : Status) (refuses : IsRefusedBy wants_place (create_refusal lib p.table.entries r job program) answer) where
+  module _ (answer : Status) (refuses : IsRefusedBy wants_memory (create_refusal lib p.table.entries r job program) answer) where
     abbrev told : Process
     told = record p { cpu = cpu_answered s answer [] p.cpu }
 
@@ -67,7 +67,7 @@ module _ {ps : List Process} {r : Objects} {blocked : List ℕ} {pid place : ℕ
     unfolding taken_handles handle_operands remove_all gives_refused
     refused_called = record {
       calls =
-          refused_calls lib (world_value ps r) p.pid s wants_place (create_refusal lib p.table.entries r job program) answer (world_value after_it r)
+          refused_calls lib (world_value ps r) p.pid s wants_memory (create_refusal lib p.table.entries r job program) answer (world_value after_it r)
           (λ a. refl) refused_here refl refuses
           (same_world write_told r r s answer [] refl refl refl);
       keeps = refusal_keeps write_told r turn.consistent refl refl;

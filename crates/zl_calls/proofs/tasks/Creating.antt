@@ -1,8 +1,8 @@
--- What process_create does where memory or a place is wanted, from what its parts do.
+-- What process_create does where memory is wanted, from what its parts do.
 use Rattle.zl_calls.proofs.Common.{Bool, Entry, Err, Handles, IsRefusedBy, IsTrue, Library, List, MANAGE_PROCESS, MakeDoes, Map, None, Objects, Ok, Option}
 use Rattle.zl_calls.proofs.Common.{ProcessCreateDoes, Result, Some, Status, [], ap, create_refusal, create_refusal_of, false, get_or, get_or_from_slice_get}
 use Rattle.zl_calls.proofs.Common.{is_dead, is_some, job_at, looked_up, needs_more, none-some, not, option_or, parts, room_refusal, slice_get, slice_set, subst}
-use Rattle.zl_calls.proofs.Common.{sym, then_some, true, wants_place, ℕ, ◌∙◌, ◌∷◌, ◌≡◌}
+use Rattle.zl_calls.proofs.Common.{sym, then_some, true, wants_memory, ℕ, ◌∙◌, ◌∷◌, ◌≡◌}
 use Rattle.zl_rights.specs.declared.status.Status.TheVariants as status
 use Rattle.zl_rights.specs.declared.kind.Kind.TheVariants as kind
 use Rattle.zl_objects.specs.declared.object.Body.{Body}
@@ -38,11 +38,11 @@ module _ (lib : Library) (ps ps2 : List Process) (r : Objects) (blocked blocked2
   unrefused = ap (λ (p : Process). create_refusal lib p.table.entries r job program) (sym is_caller) ∙ sym passes
 
   -- there is a want, and nothing has changed
-  pub wanting : (s : Status) → IsTrue (wants_place s) → (r2 : Objects) → r2 ≡ r → (ps3 : List Process) → ps3 ≡ ps2
+  pub wanting : (s : Status) → IsTrue (wants_memory s) → (r2 : Objects) → r2 ≡ r → (ps3 : List Process) → ps3 ≡ ps2
       → ProcessCreateDoes lib place job program caller (parts ps r blocked) (Err s) (parts ps3 r2 blocked2)
   wanting s want r2 same_objects ps3 same = record {
     ok = tt;
-    err = subst (λ (o : Option Status). IsRefusedBy wants_place o s) (sym unrefused) want;
+    err = subst (λ (o : Option Status). IsRefusedBy wants_memory o s) (sym unrefused) want;
     refused = λ i. parts ((same ∙ same_ps) i) (same_objects i) (same_blocked i);
   }
 
@@ -57,6 +57,6 @@ module _ (lib : Library) (ps ps2 : List Process) (r : Objects) (blocked blocked2
       same : written ≡ caller
       same = is_written ∙ (ap (λ (qs : List Process). get_or qs place written) same_ps ∙ get_or_from_slice_get ps place caller written there)
 
-      want : IsTrue (wants_place s)
-      want = subst (λ (o : Option Status). IsRefusedBy wants_place o s)
+      want : IsTrue (wants_memory s)
+      want = subst (λ (o : Option Status). IsRefusedBy wants_memory o s)
           (ap (λ (p : Process). room_refusal p.table.entries r.next_koid) same ∙ room_is_left lib caller.table.entries r job program unrefused) does.err

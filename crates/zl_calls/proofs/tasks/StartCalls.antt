@@ -1,4 +1,5 @@
 -- The call process_start, from all processes and the objects to the relation of calls.
+use Rattle.zl_rights.specs.Values.{given_back}
 use Rattle.zl_calls.proofs.Common.{Bool, Calls, Entry, Inserts, IsTrue, Library, List, Map, None, Objects, Ok, Option, Ready, Site, Some, TRANSFER, Values}
 use Rattle.zl_calls.proofs.Common.{WRITE, World, [], and_from, answer_if, ap, arith, below_all, below_parts, body_value, cases_Bool, child_refusal}
 use Rattle.zl_calls.proofs.Common.{cpu_answered, cpu_given, effect, eq-eqb, eqb-true, false, first_some, get, get-update, gives_ok, handle_operands, has_key}
@@ -145,8 +146,8 @@ module _ (lib : Library) (ps : List Process) (r : Objects) (p : Process) (there 
       where
         by_live : (live : Bool) → (record (process_value p) {
           cpu = cpu_answered start_site status.Ok [] p.cpu;
-          handles = (if live then record { entries = without p.table.entries h; last = Some h; offered = h } else p.table).entries;
-          last = (if live then record { entries = without p.table.entries h; last = Some h; offered = h } else p.table).last;
+          handles = (if live then record { entries = without p.table.entries h; last = Some h; free = given_back h p.table.free } else p.table).entries;
+          last = (if live then record { entries = without p.table.entries h; last = Some h; free = given_back h p.table.free } else p.table).last;
         }) ≡ record (if live then record (process_value p) { handles = without p.table.entries h; last = Some h } else process_value p) {
           cpu = cpu_answered start_site status.Ok []
               (if live then record (process_value p) { handles = without p.table.entries h; last = Some h } else process_value p).cpu;

@@ -12,6 +12,7 @@ use Rattle.zl_rights.specs.World.{Awaited}
 use Rattle.zl_code.specs.declared.history.Outcome.{Outcome}
 use Rattle.zl_code.specs.declared.history.Outcome.TheVariants as outcome
 use Rattle.zl_table.specs.Table.{Handles}
+use Rattle.zl_rights.specs.Values.{given_back}
 use Rattle.zl_calls.specs.declared.process.Process.{Process}
 use Rattle.zl_calls.specs.Registered.{KeepsListed}
 use Rattle.zl_calls.specs.World.{state_value}
@@ -20,15 +21,12 @@ use Rattle.zl_objects.specs.Release.{Releases, koids_of}
 
 -- ---- refusals
 
--- the answers for a want of a call that may want nothing; memory alone; memory, and a place in a table
+-- the answers for a want of a call that may want nothing; and of one that may want memory
 abbrev pub wants_nothing : Status → Bool
-wants_nothing = wanted false false
+wants_nothing = wanted false
 
 abbrev pub wants_memory : Status → Bool
-wants_memory = wanted true false
-
-abbrev pub wants_place : Status → Bool
-wants_place = wanted true true
+wants_memory = wanted true
 
 -- the status is the refusal; where nothing refuses the call, it is the answer for a want
 abbrev pub IsRefusedBy : (wants : Status → Bool) → Option Status → Status → Type 0
@@ -50,7 +48,7 @@ pub record Does {A : Type 0} (Done : A → Handles → Objects → Type 0) (want
 
 -- the table without the handle
 abbrev pub without_handle : Handles → ℕ → Handles
-without_handle t value = if has_key t.entries value then record { entries = without t.entries value; last = Some value; offered = value } else t
+without_handle t value = if has_key t.entries value then record { entries = without t.entries value; last = Some value; free = given_back value t.free } else t
 
 -- the table without the handles at these values, which leave it from left to right
 abbrev pub without_handles : Handles → List ℕ → Handles

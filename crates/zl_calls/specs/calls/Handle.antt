@@ -11,7 +11,7 @@ use Rattle.zl_table.specs.Table.{Handles, Inserts}
 use Rattle.zl_objects.specs.declared.object.Object.{Object}
 use Rattle.zl_objects.specs.Objects.{Objects, has_place, holding}
 use Rattle.zl_objects.specs.Release.{Releases}
-use Rattle.zl_calls.specs.calls.Answer.{Does, DoesTaking, has_room_in, status_of, wants_nothing, wants_place, without_handle}
+use Rattle.zl_calls.specs.calls.Answer.{Does, DoesTaking, has_room_in, status_of, wants_nothing, wants_memory, without_handle}
 use Rattle.zl_calls.specs.Registered.{EndsWaits, KeepsListed}
 use Rattle.zl_code.specs.Waiting.{is_by_handle}
 
@@ -61,7 +61,7 @@ pub record Dups (t : Handles) (r : Objects) (value asked made : ℕ) (t2 : Handl
 
 -- dup of the handle at the value, with these rights asked for
 abbrev pub DupDoes : ℕ → ℕ → Handles → Objects → Result ℕ Status → Handles → Objects → Type 0
-DupDoes value asked t r = Does (Dups t r value asked) wants_place (dup_refusal t.entries r.objects value asked) t r
+DupDoes value asked t r = Does (Dups t r value asked) wants_memory (dup_refusal t.entries r.objects value asked) t r
 
 -- ---- replace
 

@@ -20,7 +20,7 @@ use Rattle.zl_objects.specs.declared.object.Body.TheVariants as body
 use Rattle.zl_objects.specs.declared.object.Object.{Object}
 use Rattle.zl_table.specs.Table.{Handles}
 use Rattle.zl_calls.specs.declared.calls.job.Setting.{Setting}
-use Rattle.zl_calls.specs.calls.Answer.{Does, wants_nothing, wants_place}
+use Rattle.zl_calls.specs.calls.Answer.{Does, wants_nothing, wants_memory}
 use Rattle.zl_calls.specs.calls.Making.{MakesOne, room_refusal}
 
 -- ---- job_create
@@ -52,7 +52,7 @@ pub record CreatesJob (t : Handles) (r : Objects) (value made : ℕ) (t2 : Handl
 
 -- job_create in the job of the handle at the value
 abbrev pub JobCreateDoes : (value : ℕ) → Handles → Objects → Result ℕ Status → Handles → Objects → Type 0
-JobCreateDoes value t r = Does (CreatesJob t r value) wants_place (job_refusal t.entries r value) t r
+JobCreateDoes value t r = Does (CreatesJob t r value) wants_memory (job_refusal t.entries r value) t r
 
 -- ---- job_set_policy
 

@@ -10,7 +10,7 @@ use Rattle.zl_table.specs.Table.{Handles, Inserts}
 use Rattle.zl_objects.specs.declared.object.Body.{Body}
 use Rattle.zl_objects.specs.declared.object.Pair.{Pair}
 use Rattle.zl_objects.specs.Objects.{Objects, kind_in, kind_of_pair, with_pair, with_new}
-use Rattle.zl_calls.specs.calls.Answer.{Does, has_room_in, wants_place}
+use Rattle.zl_calls.specs.calls.Answer.{Does, has_room_in, wants_memory}
 
 -- the refusal of a call that makes one object, where the table is full or no koid is left
 abbrev pub room_refusal : Map Entry → ℕ → Option Status
@@ -24,7 +24,7 @@ pub record MakesOne (b : Body) (t : Handles) (r : Objects) (made : ℕ) (t2 : Ha
 
 -- a call that makes it, over the table of its caller
 abbrev pub MakeDoes : Body → Handles → Objects → Result ℕ Status → Handles → Objects → Type 0
-MakeDoes b t r = Does (MakesOne b t r) wants_place (room_refusal t.entries r.next_koid) t r
+MakeDoes b t r = Does (MakesOne b t r) wants_memory (room_refusal t.entries r.next_koid) t r
 
 -- the refusal of a call that makes two ends, where the table hasn't place for two handles or fewer than two koids are left
 abbrev pub pair_refusal : Map Entry → ℕ → Option Status
@@ -42,4 +42,4 @@ pub record MakesPair (pair : Pair) (t : Handles) (r : Objects) (made : ℕ × �
 
 -- a call that makes them, over the table of its caller
 abbrev pub MakePairDoes : Pair → Handles → Objects → Result (ℕ × ℕ) Status → Handles → Objects → Type 0
-MakePairDoes pair t r = Does (MakesPair pair t r) wants_place (pair_refusal t.entries r.next_koid) t r
+MakePairDoes pair t r = Does (MakesPair pair t r) wants_memory (pair_refusal t.entries r.next_koid) t r

@@ -3,7 +3,6 @@ use Rattle.std.specs.Prelude.{ℕ, ◌≡◌, ◌+◌, Bool, true, not, nat_le, 
 use Rattle.std.specs.Prelude.{OnErr, if◌then◌else◌, is_some, slice_get, slice_index}
 use Rattle.zl_code.specs.Common.{Map, get}
 use Rattle.zl_code.specs.Asked.{triples_from}
-use Rattle.zl_code.specs.Calls.{wanted}
 use Rattle.zl_code.specs.Effects.{told_of}
 use Rattle.zl_code.specs.Spells.{number_at}
 use Rattle.zl_code.specs.Tests.{has_place_for, sizes_of}
@@ -22,7 +21,7 @@ use Rattle.zl_objects.specs.Objects.{Objects, peer_at, queue_in, receiving}
 use Rattle.zl_calls.specs.declared.calls.reading.Received.{Received}
 use Rattle.zl_calls.specs.declared.calls.reading.ReadFault.{ReadFault}
 use Rattle.zl_calls.specs.declared.calls.reading.ReadFault.TheVariants as fault
-use Rattle.zl_calls.specs.calls.Answer.{Told}
+use Rattle.zl_calls.specs.calls.Answer.{Told, wants_memory}
 
 -- ---- handles that enter a table one after another
 
@@ -68,10 +67,10 @@ front_at entries objects channel room places = front_by entries objects room pla
 
 -- ---- chan_read_etc
 
--- the fault is this one; where a message can be read, it is the want of memory, or of a place for a handle
+-- the fault is this one; where a message can be read, it is the want of memory
 abbrev pub IsFaultBy : Map Object → Result ℕ ReadFault → ReadFault → Type 0
 IsFaultBy objects (Err f) found = found ≡ f
-IsFaultBy objects (Ok end) (fault.Refused s) = IsTrue (wanted true (nat_lt 0 (length (front_handles (queue_in (get objects end))))) s)
+IsFaultBy objects (Ok end) (fault.Refused s) = IsTrue (wants_memory s)
 IsFaultBy objects (Ok end) (fault.TooSmall bytes handles) = ⊥
 
 -- the first message left the queue of the end k, and its handles are in the table at the values

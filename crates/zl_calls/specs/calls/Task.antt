@@ -28,7 +28,7 @@ use Rattle.zl_objects.specs.declared.object.Body.TheVariants as body
 use Rattle.zl_objects.specs.declared.object.Life.TheVariants as life
 use Rattle.zl_calls.specs.Registered.{EndsOwn, KeepsListed}
 use Rattle.zl_calls.specs.World.{process_entry, process_value, state_value}
-use Rattle.zl_calls.specs.calls.Answer.{ClosesEach, IsRefusedBy, answered_in, no_value, status_of, wants_memory, wants_nothing, wants_place, without_handle}
+use Rattle.zl_calls.specs.calls.Answer.{ClosesEach, IsRefusedBy, answered_in, no_value, status_of, wants_memory, wants_nothing, without_handle}
 use Rattle.zl_calls.specs.calls.Making.{MakesOne, room_refusal}
 use Rattle.zl_calls.specs.calls.Process.{Drained}
 use Rattle.zl_calls.specs.declared.process.Process.{Process}
@@ -127,7 +127,7 @@ pub record CreatesProcess (lib : Library) (all : Parts) (place job program made 
 -- process_create by the process at the place; where it is refused nothing changes
 abbrev pub ProcessCreateDoes : Library → (place job program : ℕ) → (caller : Process) → Parts → Result ℕ Status → Parts → Type 0
 ProcessCreateDoes lib place job program caller all =
-    Tries (CreatesProcess lib all place job program) (λ all2. all2 ≡ all) wants_place (create_refusal lib caller.table.entries all.objects job program)
+    Tries (CreatesProcess lib all place job program) (λ all2. all2 ≡ all) wants_memory (create_refusal lib caller.table.entries all.objects job program)
 
 -- ---- process_start
 

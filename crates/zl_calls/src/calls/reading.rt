@@ -5,13 +5,13 @@ ghost use Rattle.zl_rights.specs.LookUp.{looked_up};
 ghost use Rattle.zl_rights.specs.Numbers.{READ, status_magnitude};
 ghost use Rattle.zl_rights.specs.World.{answered, written};
 ghost use Rattle.zl_code.specs.Asked.{triples_from};
-ghost use Rattle.zl_code.specs.Calls.{wanted};
 ghost use Rattle.zl_code.specs.Effects.{told_of};
 ghost use Rattle.zl_code.specs.Request.{site_of};
 ghost use Rattle.zl_code.specs.declared.history.CallName.TheVariants as name;
 ghost use Rattle.zl_objects.specs.Objects.{peer_at};
 ghost use Rattle.zl_calls.specs.Acted.{Acted};
 ghost use Rattle.zl_calls.specs.Sure.{IsFaultless};
+ghost use Rattle.zl_calls.specs.calls.Answer.{wants_memory};
 ghost use Rattle.zl_calls.specs.calls.Reading.{CameFrom, ChanReadDoes, InsertsEach, front_at, read_into, triple_of};
 
 use crate::calls::{insert, look_up};
@@ -119,13 +119,13 @@ fn why_empty(objects: &Objects, end: Koid) -> Status
     }
 }
 
-/// The handles of a message enter the table, and their values are told. Where memory or a place is
-/// refused for one of them the table is as it was.
+/// The handles of a message enter the table, and their values are told. Where memory is refused for
+/// one of them the table is as it was.
 fn insert_each(alloc: Global, table: &mut Table, handles: &[Entry]) -> Result<Values, Status>
     ensures entered { IfOk result
         (λ values. InsertsEach table.old handles.now values.items table.new) }
     ensures refused { IfErr result
-        (λ refused. IsTrue (wanted true (nat_lt 0 (length handles.now)) refused)) }
+        (λ refused. IsTrue (wants_memory refused)) }
     ensures unchanged { OnErr result (table.new ≡ table.old) }
 {
     let last = table.last();

@@ -1,4 +1,4 @@
-use Rattle.zl_calls.proofs.Common.{IsCauseOf, List, Makes, Statement, ap, boot_fault, get_or, gives_more, most_word, seen, subst, word_of, ◌∙◌, ◌≤◌}
+use Rattle.zl_calls.proofs.Common.{IsCauseOf, List, Makes, Statement, ap, boot_fault, get_or, most_word, seen, subst, word_of, ◌∙◌, ◌≤◌}
 use Rattle.zl_calls.proofs.booting.BootRun.{none_made, one_more, all_small, first_fault, limit_fault, none_reached, some_reached}
 use Rattle.zl_calls.proofs.booting.booted.Goals as goal
 
@@ -21,7 +21,7 @@ returns-in-Err-clause-err c =
     (first_fault c.args.library.now c.args.boot.now.statements.items c.args.boot.now.limit c.loop-number.number c.statement-item.result c.loop-number.made
     c.in-Err.cause
     (rw statements at c.loop-number-test.true) c.loop-number.invariant
-    (subst (λ (s : Statement). IsCauseOf (gives_more s) (boot_fault c.args.library.now (seen c.loop-number.made) s) c.in-Err.cause)
+    (subst (λ (s : Statement). IsCauseOf (boot_fault c.args.library.now (seen c.loop-number.made) s) c.in-Err.cause)
     (c.statement-item.is ∙ ap (λ (ss : List Statement). get_or ss c.loop-number.number c.statement-item.result) statements) (c.in-Err.ensures {u = tt}).err))
 
 pub loop-number-preserved : goal.loop-number-preserved

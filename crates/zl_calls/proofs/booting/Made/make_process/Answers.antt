@@ -41,7 +41,7 @@ returns-clause-ok c =
       program_is = refl;
       cpu = c.in-Ok.ensures {u = tt};
       ready = refl;
-      bare = record { no_handles = c.new-2.ensures.entries; none_removed = c.new-2.ensures.last; offers_first = c.new-2.ensures.offered };
+      bare = record { no_handles = c.new-2.ensures.entries; none_removed = c.new-2.ensures.last; offers_first = c.new-2.ensures.free };
     })
     ((c.in_ok-give.ensures {u = tt}).ok)
     (rw (c.if-is_err.ensures {u = tt}).negation at c.push.ensures.items) c.in-Ok-create.ensures.created

@@ -8,6 +8,7 @@ use Rattle.zl_calls.proofs.stepping.Performing.{AtTurn, turn_at, unblocked, writ
 use Rattle.zl_calls.proofs.stepping.StepItems.{machine_value}
 use Rattle.zl_calls.proofs.waking.Ordered.{written_ordered}
 use Rattle.zl_calls.proofs.waking.StillBlocked.{written_sought}
+use Rattle.zl_calls.proofs.processes.Freed.{set_free}
 use Rattle.zl_calls.proofs.processes.Started.{set_started}
 use Rattle.zl_calls.proofs.world.World.advance.Goals as goal
 
@@ -83,10 +84,11 @@ invariant_of-self c = record {
 
 pub returns-clause-cpu : goal.returns-clause-cpu
 returns-clause-cpu c =
-    rw (← c.self.view_is) (ap (λ w. record { programs = c.self.inside.library; world = w })
-    (moved_world (turn (written c)) (p2 (written c)) refl
+    let world = moved_world (turn (written c)) (p2 (written c)) refl
     ∙ ap (λ (d : Cpu). on_process (world_blocked c.self.inside.processes.list.items c.self.inside.objects c.self.inside.blocked.items) c.args.done.pid
-    (λ q. record q { cpu = d })) c.into_cpu.ensures))
+    (λ q. record q { cpu = d })) c.into_cpu.ensures in
+    let free = set_free c.self.inside.processes.list.items c.in-Some.place (p (written c)) (p2 (written c)) c.index_mut-process.ensures.value refl in
+    rw (← c.self.view_is) (λ i. record { programs = c.self.inside.library; world = world i; free = free i })
 
 pub returns-clause-steps : goal.returns-clause-steps
 returns-clause-steps c =

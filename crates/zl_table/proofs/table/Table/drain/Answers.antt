@@ -1,1 +1,0 @@
-use Rattle.zl_table.proofs.table.Table.drain.Goals as goal

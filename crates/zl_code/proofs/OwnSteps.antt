@@ -1,8 +1,7 @@
 -- The lab's own call is a call, and its own step a step.
 use Rattle.zl_rights.proofs.Common.{◌≡◌, ℕ, ◌≤◌, [], length, refl, sym, ap, subst, ◌∙◌, Option, Some, None, IsTrue, arith}
-use Rattle.zl_rights.proofs.Common.{same_Some, none-some, is_some, eq-eqb, false≢true, Bool, true, false, if◌then◌else◌, get, put, Process, Ready, runs, State, World, is_process, is_ready, state_passes}
+use Rattle.zl_rights.proofs.Common.{same_Some, none-some, is_some, eq-eqb, false≢true, Bool, true, false, if◌then◌else◌, get, Process, Ready, runs, State, World, is_process, is_ready, state_passes}
 use Rattle.std.specs.Option.{option_to_list}
-use Rattle.zl_rights.proofs.MapLaws.{get-put}
 use Rattle.zl_rights.proofs.Settling.{Settles-exists}
 use Rattle.zl_rights.specs.Settled.{settled}
 use Rattle.zl_code.specs.declared.history.CallName.{CallName}
@@ -21,7 +20,7 @@ use Rattle.zl_code.proofs.Entering.{HaveRoom, left_behind}
 use Rattle.zl_code.proofs.CallLaws.{laws}
 use Rattle.zl_code.proofs.TaskLaws.{leave_other, child_of, child_apart, one_entry}
 use Rattle.zl_code.specs.OwnSteps.{own_act, own_behind, own_call, own_of, own_step}
-use Rattle.zl_code.specs.Own.{OwnWorld, IsFreeOf, AreFree, all_given, all_without, free_at, given_by, left_free, own_values}
+use Rattle.zl_code.specs.Own.{OwnWorld, IsFreeOf, AreFree, all_without, free_at, left_free, own_values}
 use Rattle.zl_code.proofs.OwnValues.{all_leave, may_get_coming, without_there}
 
 -- ---- it is a step
@@ -31,11 +30,8 @@ module _ (lib : Library) (o : OwnWorld) (p : ℕ) (q : Process) (there : get o.w
   w = o.world
 
   -- the caller without the handles that are taken
-  left_fine : (r : Request) → IsFreeOf (all_without (taken_handles r) q) (free_at (left_free o p r) p)
-  left_fine r = subst (IsFreeOf (all_without (taken_handles r) q)) (sym is) (all_leave (taken_handles r) q (free_at o.free p) (fine p q there))
-    where
-      is : free_at (left_free o p r) p ≡ all_given (taken_handles r) q (free_at o.free p)
-      is = rw (get-put o.free p (given_by (get o.world.processes p) (taken_handles r) (free_at o.free p)) p, eq-eqb p p refl, there) refl
+  left_fine : (r : Request) → IsFreeOf (all_without (taken_handles r) q) (left_free o p r p)
+  left_fine r = rw (eq-eqb p p refl, there) (all_leave (taken_handles r) q (free_at o.free p) (fine p q there))
 
   own_chosen : (r : Request) → receiver_of w p r ≡ p → refusal lib w p r ≡ None → IsTrue (may_choose w (remove_all w p (taken_handles r)) p r (own_values o p r))
   unfolding may_choose
@@ -45,7 +41,7 @@ module _ (lib : Library) (o : OwnWorld) (p : ℕ) (q : Process) (there : get o.w
       let mine : get (remove_all w p (taken_handles r)).processes p ≡ Some (all_without (taken_handles r) q) = without_there w p q (taken_handles r) there in
       let same : behind.0 ≡ all_without (taken_handles r) q = same_Some behind.0 (all_without (taken_handles r) q) (sym behind.1.is_there ∙ mine) in
       let room : HaveRoom (all_without (taken_handles r) q) (choosing w p r) = subst (λ x. HaveRoom x (choosing w p r)) same (lawful.room own) in
-      rw (own, mine) (may_get_coming (choosing w p r) (all_without (taken_handles r) q) (free_at (left_free o p r) p) (left_fine r) room)
+      rw (own, mine) (may_get_coming (choosing w p r) (all_without (taken_handles r) q) (left_free o p r p) (left_fine r) room)
 
   -- the child of a start
   child_chosen : (process h word : ℕ) → IsSound w → refusal lib w p (process_start process h word) ≡ None
@@ -57,12 +53,11 @@ module _ (lib : Library) (o : OwnWorld) (p : ℕ) (q : Process) (there : get o.w
       let empty : child.0.handles ≡ [] = ((sound.tables (object_at w p process) child.0 child.1).idle (ap runs child.2)).0 in
       let few : length (option_to_list (entry_at w p h)) ≤ 1 = one_entry lib w p q there ready (entry_at w p h) in
       let apart = child_apart lib w p q there ready process h word passes in
-      let given = given_by (get o.world.processes p) (taken_handles (process_start process h word)) (free_at o.free p) in
-      let untouched : free_at (put o.free p given) (object_at w p process) ≡ free_at o.free (object_at w p process)
-      = rw (get-put o.free p given (object_at w p process), apart) refl in
-      ap (λ x. gets_all x (option_to_list (entry_at w p h)) (own_values o p (process_start process h word)))
-      (leave_other lib w p q there ready w (object_at w p process) (taken_handles (process_start process h word)) apart ∙ child.1)
-      ∙ may_get_coming (option_to_list (entry_at w p h)) child.0 (free_at (put o.free p given) (object_at w p process))
+      let start = process_start process h word in
+      let untouched : left_free o p start (object_at w p process) ≡ free_at o.free (object_at w p process) = rw apart refl in
+      ap (λ x. gets_all x (option_to_list (entry_at w p h)) (own_values o p start))
+      (leave_other lib w p q there ready w (object_at w p process) (taken_handles start) apart ∙ child.1)
+      ∙ may_get_coming (option_to_list (entry_at w p h)) child.0 (left_free o p start (object_at w p process))
       (subst (IsFreeOf child.0) (sym untouched) (fine (object_at w p process) child.0 child.1)) (rw empty (omega (arith, few)))
 
   chosen : (r : Request) → IsSound w → refusal lib w p r ≡ None → IsTrue (may_choose w (remove_all w p (taken_handles r)) p r (own_values o p r))

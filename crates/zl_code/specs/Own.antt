@@ -1,8 +1,8 @@
 -- Which of the unused values the new handles of a call get, as the lab chooses.
-use Rattle.std.specs.Prelude.{◌≡◌, ℕ, zero, suc, List, [], ◌∷◌, length, Option, None, Some, map, if◌then◌else◌, IfSome, IsTrue}
+use Rattle.std.specs.Prelude.{◌≡◌, ◌==◌, ℕ, zero, suc, List, [], ◌∷◌, length, Option, None, Some, map, if◌then◌else◌, IfSome, IsTrue}
 use Rattle.std.specs.Ordering.{nat_cmp}
 use Rattle.std.specs.FinMap.Entries.{is_sorted}
-use Rattle.zl_rights.specs.Common.{Map, get, put, has_key, World, Process, lives}
+use Rattle.zl_rights.specs.Common.{Map, get, has_key, World, Process, lives}
 use Rattle.zl_code.specs.declared.history.Outcome.{Outcome}
 use Rattle.zl_code.specs.declared.history.Outcome.TheVariants as outcome
 use Rattle.zl_code.specs.CallTable.{Request, new_handles, choosing, receiver_of}
@@ -42,32 +42,31 @@ abbrev pub given_by : Option Process → List ℕ → Free → Free
 given_by None hs f = f
 given_by (Some q) hs f = all_given hs q f
 
--- the values once the operands that are always consumed are gone
-abbrev pub left_free : OwnWorld → ℕ → Request → Map Free
-left_free o p r = put o.free p (given_by (get o.world.processes p) (taken_handles r) (free_at o.free p))
+-- the values of each process once the operands that are always consumed are gone
+abbrev pub left_free : OwnWorld → ℕ → Request → ℕ → Free
+left_free o p r k = if p == k then given_by (get o.world.processes p) (taken_handles r) (free_at o.free p) else free_at o.free k
 
 -- the values that the new handles get
 abbrev pub own_values : OwnWorld → ℕ → Request → List ℕ
-own_values o p r = coming (length (choosing o.world p r)) (free_at (left_free o p r) (receiver_of o.world p r))
+own_values o p r = coming (length (choosing o.world p r)) (left_free o p r (receiver_of o.world p r))
 
--- the values once the new handles have theirs
-abbrev pub entered_free : OwnWorld → ℕ → Request → Map Free
-entered_free o p r =
-    put (left_free o p r) (receiver_of o.world p r)
-    (taken_all (length (new_handles o.world p r)) (free_at (left_free o p r) (receiver_of o.world p r)))
+-- the values of each process once the new handles have theirs
+abbrev pub entered_free : OwnWorld → ℕ → Request → ℕ → Free
+entered_free o p r k =
+    if receiver_of o.world p r == k then taken_all (length (new_handles o.world p r)) (left_free o p r k) else left_free o p r k
 
 -- the values after a refusal; and after a call that isn't refused
-abbrev pub refused_free : OwnWorld → ℕ → Request → Outcome → Map Free
-refused_free o p r outcome.Blocked = o.free
+abbrev pub refused_free : OwnWorld → ℕ → Request → Outcome → ℕ → Free
+refused_free o p r outcome.Blocked = free_at o.free
 refused_free o p r _ = left_free o p r
 
-abbrev pub done_free : OwnWorld → ℕ → Request → Outcome → Map Free
-done_free o p r outcome.Blocked = o.free
+abbrev pub done_free : OwnWorld → ℕ → Request → Outcome → ℕ → Free
+done_free o p r outcome.Blocked = free_at o.free
 done_free o p r _ = entered_free o p r
 
 -- those of the processes of the world; one that is over has an empty new table
-abbrev pub free_in : World → Map Free → Map Free
-free_in w fs = map (λ e. (e.0, if lives e.1.state then free_at fs e.0 else free_or None)) w.processes
+abbrev pub free_in : World → (ℕ → Free) → Map Free
+free_in w free = map (λ e. (e.0, if lives e.1.state then free e.0 else free_or None)) w.processes
 
 -- what is true of the values of a process
 pub record IsFreeOf (q : Process) (f : Free) : Type 0 where

@@ -1,6 +1,6 @@
 -- The lab's own step: the one step that it does of those that a process may do.
 use Rattle.std.specs.Prelude.{ℕ, Option, None, Some, if◌then◌else◌}
-use Rattle.zl_rights.specs.Common.{Map, get, World, Process, STUCK, is_ready, wakes}
+use Rattle.zl_rights.specs.Common.{get, World, Process, STUCK, is_ready, wakes}
 use Rattle.zl_rights.specs.Settled.{settled}
 use Rattle.zl_rights.specs.Values.{Free}
 use Rattle.zl_code.specs.declared.history.CallName.{CallName}
@@ -13,12 +13,12 @@ use Rattle.zl_code.specs.Refusals.{refusal}
 use Rattle.zl_code.specs.Calls.{after_ok, after_refusal, ok_outcome}
 use Rattle.zl_code.specs.Effects.{ended, on_process}
 use Rattle.zl_code.specs.Steps.{AtCall, IsStuck, Moves, Next, next_for}
-use Rattle.zl_code.specs.Own.{OwnWorld, done_free, free_in, own_values, refused_free}
+use Rattle.zl_code.specs.Own.{OwnWorld, done_free, free_at, free_in, own_values, refused_free}
 
 -- what a process did: the world, the values of each process, and the item
 pub record OwnAct : Type 0 where
   pub world : World
-  pub free : Map Free
+  pub free : ℕ → Free
   pub item : TraceItem
 
 -- a call, which is refused so, or else gives its new handles the values that come
@@ -36,9 +36,9 @@ own_call lib o p call s None = record {
 
 -- what stands next for the process
 abbrev pub own_act : Library → OwnWorld → ℕ → Next → OwnAct
-own_act lib o p (Moves c) = record { world = on_process o.world p (λ q. record q { cpu = c }); free = o.free; item = item.Run p 1 }
+own_act lib o p (Moves c) = record { world = on_process o.world p (λ q. record q { cpu = c }); free = free_at o.free; item = item.Run p 1 }
 own_act lib o p (AtCall call s) = own_call lib o p call s (refusal lib o.world p s.request)
-own_act lib o p IsStuck = record { world = ended o.world p STUCK; free = o.free; item = item.Stuck p }
+own_act lib o p IsStuck = record { world = ended o.world p STUCK; free = free_at o.free; item = item.Stuck p }
 
 -- what follows: what isn't held goes, and processes wake
 abbrev pub own_ending : World → World

@@ -8,6 +8,7 @@ use Rattle.zl_code.specs.declared.boot.Grant.{Grant}
 use Rattle.zl_code.specs.Boot.{handle_given, handles_given, process_with_all}
 use Rattle.zl_code.specs.Effects.{may_get_all}
 use Rattle.zl_code.specs.Starting.{with_handles}
+use Rattle.zl_rights.specs.Values.{new_free}
 use Rattle.zl_table.specs.Table.{IsTable}
 use Rattle.zl_calls.specs.declared.booting.Made.{Made}
 use Rattle.zl_calls.specs.declared.process.Process.{Process}
@@ -33,7 +34,7 @@ allowed objects g = if_default (handle_given g (body_in (get objects g.koid)))
 pub record IsBare (p : Process) : Type 0 where
   pub no_handles : p.table.entries ≡ []
   pub none_removed : p.table.last ≡ None
-  pub offers_first : p.table.free ≡ record { freed = []; made = 0 }
+  pub offers_first : p.table.free ≡ new_free
 
 -- the process with the handles es at the values vs, which stand in its registers too
 abbrev pub process_given : List Entry → List ℕ → ProcessValue → ProcessValue

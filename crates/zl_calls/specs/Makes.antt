@@ -1,6 +1,6 @@
 -- What one statement of a boot does to the processes and objects made so far.
 use Rattle.zl_code.specs.Common.{World, Library, boot_fault, boot_effect, may_boot, Boots, origin}
-use Rattle.std.specs.Prelude.{ℕ, ◌≡◌, ◌<◌, ◌+◌, Bool, true, false, nat_lt, List, [], length, take, Option, Some, None, IsTrue, max}
+use Rattle.std.specs.Prelude.{ℕ, ◌≡◌, ◌<◌, ◌+◌, nat_lt, List, [], length, take, Option, Some, None, IsTrue, max}
 use Rattle.std.specs.Bool.{then_some}
 use Rattle.zl_code.specs.Boot.{MOST_KOIDS}
 use Rattle.zl_code.specs.declared.boot.BootCause.{BootCause}

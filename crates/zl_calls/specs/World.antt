@@ -13,7 +13,8 @@ use Rattle.zl_objects.specs.declared.awaited.Awaited.TheVariants as awaits
 use Rattle.zl_calls.specs.declared.process.State.{State}
 use Rattle.zl_calls.specs.declared.process.State.TheVariants as state
 use Rattle.zl_calls.specs.declared.process.Process.{Process}
-use Rattle.zl_rights.specs.Values.{Free}
+use Rattle.zl_rights.specs.Signals.{lives}
+use Rattle.zl_rights.specs.Values.{Free, new_free}
 use Rattle.zl_objects.specs.Objects.{Objects}
 use Rattle.zl_objects.specs.Seen.{object_entry}
 
@@ -22,10 +23,6 @@ pub record Machine : Type 0 where
   pub programs : Library
   pub world : WorldValue
   pub free : Map Free
-
--- the values of a process under its koid
-abbrev pub free_entry : Process → ℕ × Free
-free_entry p = (p.pid, p.table.free)
 
 -- ---- views
 
@@ -70,6 +67,10 @@ process_value p = record {
   handles = p.table.entries;
   last = p.table.last;
 }
+
+-- the values of a process under its koid; one that is over counts as having a new table
+abbrev pub free_entry : Process → ℕ × Free
+free_entry p = (p.pid, if lives (state_value p.state) then p.table.free else new_free)
 
 -- a process of the world under its koid
 abbrev pub process_entry : Process → ℕ × ProcessValue

@@ -8,7 +8,7 @@ use Rattle.zl_code.specs.declared.history.Outcome.TheVariants as outcome
 use Rattle.zl_code.specs.CallTable.{Request, new_handles, choosing, receiver_of}
 use Rattle.zl_code.specs.Effects.{process_without}
 use Rattle.zl_code.specs.Calls.{taken_handles}
-use Rattle.zl_rights.specs.Values.{Free, IsFree, coming, given_back, offered, taken}
+use Rattle.zl_rights.specs.Values.{Free, IsFree, coming, given_back, new_free, offered, taken}
 
 -- a world, and by process the values that new handles get
 pub record OwnWorld : Type 0 where
@@ -16,7 +16,7 @@ pub record OwnWorld : Type 0 where
   pub free : Map Free
 
 abbrev pub free_or : Option Free → Free
-free_or None = record { freed = []; made = 0 }
+free_or None = new_free
 free_or (Some f) = f
 
 -- the values of the process; of one that has none they are those of a new table
@@ -66,7 +66,7 @@ done_free o p r _ = entered_free o p r
 
 -- those of the processes of the world; one that is over has an empty new table
 abbrev pub free_in : World → (ℕ → Free) → Map Free
-free_in w free = map (λ e. (e.0, if lives e.1.state then free e.0 else free_or None)) w.processes
+free_in w free = map (λ e. (e.0, if lives e.1.state then free e.0 else new_free)) w.processes
 
 -- what is true of the values of a process
 pub record IsFreeOf (q : Process) (f : Free) : Type 0 where

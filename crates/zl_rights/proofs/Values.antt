@@ -6,7 +6,7 @@ use Rattle.std.proofs.lemmas.Bool.{cases_eq}
 use Rattle.zl_rights.specs.declared.entry.Entry.{Entry}
 use Rattle.zl_rights.proofs.MapLaws.{get-put}
 use Rattle.zl_rights.proofs.MapEdits.{get-without, has_key-update, length-put_new, length-update, length-without}
-use Rattle.zl_rights.specs.Values.{CAPACITY, Free, IsFree, IsNormal, given_back, offered, taken, given_of, taken_of, next_of, deepest, times}
+use Rattle.zl_rights.specs.Values.{CAPACITY, Free, IsFree, IsNormal, given_back, offered, taken, given_of, taken_of, new_free, next_of, deepest, times}
 
 -- ---- of the values alone
 
@@ -166,7 +166,7 @@ module _ (entries : Map Entry) where
   }
 
 -- where nothing was made, nothing is live or free
-pub free_new : IsFree [] (record { freed = []; made = 0 })
+pub free_new : IsFree [] new_free
 unfolding times deepest get
 free_new = record {
   counted = refl;

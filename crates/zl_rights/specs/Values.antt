@@ -8,6 +8,10 @@ pub record Free : Type 0 where
   pub freed : List ℕ
   pub made : ℕ
 
+-- those of a new table
+abbrev pub new_free : Free
+new_free = record { freed = []; made = 0 }
+
 abbrev pub next_of : List ℕ → ℕ → ℕ
 next_of [] made = made + 1
 next_of (v ∷ vs) made = v

@@ -5,7 +5,7 @@ ghost use Rattle.zl_rights.specs.Map.{get, has_key, update};
 ghost use Rattle.zl_rights.specs.LookUp.{looked_up};
 ghost use Rattle.std.specs.Vec.{vec_capacity};
 ghost use Rattle.zl_table.specs.Stored.{free_in};
-ghost use Rattle.zl_rights.specs.Values.{CAPACITY, IsFree, given_back, offered, taken};
+ghost use Rattle.zl_rights.specs.Values.{CAPACITY, IsFree, given_back, new_free, offered, taken};
 ghost use Rattle.zl_table.specs.Table.{MOST_VALUE, IsFull, IsTable, Inserts, Removes, Undoes, TakesBack, refused_entry};
 
 use slab::Slab;
@@ -64,7 +64,7 @@ impl Table {
     pub fn new(alloc: Global) -> Table
         ensures entries { result.entries ≡ [] }
         ensures last { result.last ≡ None }
-        ensures free { result.free ≡ record { freed = []; made = 0 } }
+        ensures free { result.free ≡ new_free }
     {
         Table {
             slots: Slab::new(alloc),

@@ -1,6 +1,6 @@
 -- One statement after another: what was made is what the definitions make, up to the first fault.
 use Rattle.zl_calls.proofs.Common.{AllByRecursion, BootCause, FirstFault, Boots, IsCauseOf, IsMaking, IsReached, IsTrue, Library, List, MOST_ITEMS, Made}
-use Rattle.zl_calls.proofs.Common.{Makes, None, Option, Some, Statement, World, [], ap, arith, at_limit, at_statement, boot_effect, boot_fault, false≢true}
+use Rattle.zl_calls.proofs.Common.{Makes, None, Option, Some, Statement, World, [], ap, arith, at_limit, at_statement, boot_effect, boot_fault}
 use Rattle.zl_calls.proofs.Common.{get_or, length, may_boot, most_word, origin, refl, root_alone, seen}
 use Rattle.zl_calls.proofs.Common.{slice_get-get_or, sym, take, take_all, take_more, word_of, ℕ, ◌++◌, ◌+◌, ◌<◌, ◌∙◌, ◌∷◌, ◌≡◌, ◌≢◌, ◌≤◌}
 use Rattle.zl_code.specs.declared.boot.BootCause.TheVariants as cause

@@ -4,7 +4,7 @@ use Rattle.zl_calls.proofs.Common.{IsTold, IsTrue, Library, List, Map, Message, 
 use Rattle.zl_calls.proofs.Common.{Refused, Result, Site, Some, Status, Values, Wants, World, [], answer_if, ap, arith, bits, body_after_read, body_in, body_of}
 use Rattle.zl_calls.proofs.Common.{body_value, chan_read_etc, count_by, cpu_answered, drop, effect, false, false≢true, first_handles, first_some, front_at}
 use Rattle.zl_calls.proofs.Common.{front_by, front_in, get, get_seen, gives_ok, gives_refused, granted, handle_operands, handles_to, has_room, if◌then◌else◌}
-use Rattle.zl_calls.proofs.Common.{insert_all, is_empty, is_some, length, listed, map, may_choose, message_read, nat_le, nat_lt, nat_tests, new_handles}
+use Rattle.zl_calls.proofs.Common.{insert_all, is_empty, is_some, length, listed, map, may_choose, message_read, nat_le, nat_tests, new_handles}
 use Rattle.zl_calls.proofs.Common.{none-some, not, object_at, object_entry, object_value, on_object, on_process, operands_fault, option_map, peer_at}
 use Rattle.zl_calls.proofs.Common.{process_entry, process_value, process_with, process_with_all, queue_in, queued_to, refl, refusal, remove_all, replied, site}
 use Rattle.zl_calls.proofs.Common.{slice_get, storing, subst, sum_by, sum_by-cons, sum_fewer, sym, taken, taken_handles, takes, told_of, told_read, true}

@@ -1,5 +1,5 @@
 -- The values that processes have for new handles, as one of them changes.
-use Rattle.zl_calls.proofs.Common.{List, [], ap, map, set, suc, sym, zero, ℕ, ◌∙◌, ◌∷◌, ◌≡◌, refl}
+use Rattle.zl_calls.proofs.Common.{List, [], ap, map, set, suc, zero, ℕ, ◌∙◌, ◌∷◌, ◌≡◌, refl}
 use Rattle.std.specs.Prelude.{slice_index_or}
 use Rattle.zl_calls.specs.World.{free_entry}
 use Rattle.zl_calls.specs.declared.process.Process.{Process}

@@ -1,7 +1,7 @@
 -- The invariant of the world behind each step, whether something was due or not.
 use Rattle.zl_calls.proofs.Common.{AreBlocked, AreLeft, AreOrdered, AreSought, DoesNext, EndsUnheld, FiresWaits, IsConsistent, IsWhole, KeepSleepers, Library}
 use Rattle.zl_calls.proofs.Common.{List, Objects, Seeks, StepsAndWakes, TakesStep, TraceItem, Wakes, Woke, ap, awaited_of, false, fired, holds_now, is_due}
-use Rattle.zl_calls.proofs.Common.{length, list_any, refl, sym, then_blocked, wakes, world_blocked, world_left, ℕ, ◌∙◌, ◌≡◌, ◌≤◌}
+use Rattle.zl_calls.proofs.Common.{length, list_any, refl, sym, then_blocked, world_blocked, world_left, ℕ, ◌∙◌, ◌≡◌, ◌≤◌}
 use Rattle.zl_objects.specs.declared.awaited.Awaited.{Awaited}
 use Rattle.zl_calls.specs.Blocking.{FallsAsleep}
 use Rattle.zl_calls.specs.declared.process.Process.{Process}

@@ -1,5 +1,5 @@
 -- What chan_read_etc does. No public clause cites this module.
-use Rattle.std.specs.Prelude.{ℕ, ◌≡◌, ◌+◌, Bool, true, not, nat_le, nat_lt, List, [], ◌∷◌, ◌++◌, length, Option, Some, Result, Ok, Err, IfOk, IfErr, IsTrue}
+use Rattle.std.specs.Prelude.{ℕ, ◌≡◌, ◌+◌, Bool, not, nat_le, List, [], ◌∷◌, ◌++◌, length, Option, Some, Result, Ok, Err, IfOk, IfErr, IsTrue}
 use Rattle.std.specs.Prelude.{OnErr, if◌then◌else◌, is_some, slice_get, slice_index}
 use Rattle.zl_code.specs.Common.{Map, get}
 use Rattle.zl_code.specs.Asked.{triples_from}
@@ -15,7 +15,6 @@ use Rattle.zl_rights.specs.LookUp.{looked_up}
 use Rattle.zl_rights.specs.Numbers.{READ, bits, kind_number}
 use Rattle.zl_rights.specs.World.{Message}
 use Rattle.zl_table.specs.Table.{Handles, Inserts}
-use Rattle.zl_channel.specs.Queue.{front_handles}
 use Rattle.zl_objects.specs.declared.object.Object.{Object}
 use Rattle.zl_objects.specs.Objects.{Objects, peer_at, queue_in, receiving}
 use Rattle.zl_calls.specs.declared.calls.reading.Received.{Received}

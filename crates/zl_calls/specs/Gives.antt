@@ -7,8 +7,9 @@ use Rattle.zl_rights.specs.declared.entry.Entry.{Entry}
 use Rattle.zl_code.specs.declared.boot.Grant.{Grant}
 use Rattle.zl_code.specs.Boot.{handle_given, handles_given, process_with_all}
 use Rattle.zl_code.specs.Effects.{may_get_all}
+use Rattle.zl_code.specs.Own.{taken_all}
 use Rattle.zl_code.specs.Starting.{with_handles}
-use Rattle.zl_rights.specs.Values.{new_free}
+use Rattle.zl_rights.specs.Values.{coming, new_free}
 use Rattle.zl_table.specs.Table.{IsTable}
 use Rattle.zl_calls.specs.declared.booting.Made.{Made}
 use Rattle.zl_calls.specs.declared.process.Process.{Process}
@@ -48,7 +49,9 @@ pub record Gives (gs : List Grant) (old : Made) (p : Process) (new : Made) (p2 :
   pub pid : p2.pid ≡ p.pid
   pub is : process_value p2 ≡ process_given (handles_given (seen old).objects gs) values (process_value p)
   pub table : IsTable p2.table.entries
-  pub few : length p2.table.entries ≤ length gs
+  pub few : length p2.table.entries ≡ length gs
+  pub own : values ≡ coming (length gs) p.table.free
+  pub free : p2.table.free ≡ taken_all (length gs) p.table.free
   pub untouched : length gs ≡ 0 → p2.table ≡ p.table
   pub named : (v : ℕ) (e : Entry) → get p2.table.entries v ≡ Some e → IsNamed new.objects.objects e
   pub making : IsMaking new.processes.items p2.table.entries new.objects

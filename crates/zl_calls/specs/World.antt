@@ -13,6 +13,7 @@ use Rattle.zl_objects.specs.declared.awaited.Awaited.TheVariants as awaits
 use Rattle.zl_calls.specs.declared.process.State.{State}
 use Rattle.zl_calls.specs.declared.process.State.TheVariants as state
 use Rattle.zl_calls.specs.declared.process.Process.{Process}
+use Rattle.zl_code.specs.Own.{OwnWorld}
 use Rattle.zl_rights.specs.Signals.{lives}
 use Rattle.zl_rights.specs.Values.{Free, new_free}
 use Rattle.zl_objects.specs.Objects.{Objects}
@@ -23,6 +24,10 @@ pub record Machine : Type 0 where
   pub programs : Library
   pub world : WorldValue
   pub free : Map Free
+
+-- the world of the machine with these values
+abbrev pub own_of : Machine → OwnWorld
+own_of m = record { world = m.world; free = m.free }
 
 -- ---- views
 

@@ -1,6 +1,6 @@
 //! The processes and objects that the statements of a boot make.
 
-ghost use Rattle.std.specs.Prelude.{ℕ, ◌+◌, ◌≡◌, ◌≢◌, ◌≤◌, ◌<◌, nat_lt, false, [], ◌∷◌, length, is_some, None, Some, slice_get, IfOk, OnOk, IfErr, IsTrue};
+ghost use Rattle.std.specs.Prelude.{ℕ, ◌+◌, ◌≡◌, ◌≢◌, ◌≤◌, ◌<◌, nat_lt, false, [], ◌∷◌, length, is_some, map, None, Some, slice_get, IfOk, OnOk, IfErr, IsTrue};
 ghost use Rattle.std.specs.List.{AllByRecursion, list_all};
 ghost use Rattle.std.specs.Option.{option_map};
 ghost use Rattle.std.specs.Result.{result_err};
@@ -10,12 +10,14 @@ ghost use Rattle.zl_code.specs.Boot.{IsBoot, FirstFault, MOST_ITEMS, MOST_GRANTS
 ghost use Rattle.zl_code.specs.Headline.{word_of};
 ghost use Rattle.zl_code.specs.Jobs.{is_only_start};
 ghost use Rattle.zl_code.specs.Limits.{most_word};
+ghost use Rattle.zl_code.specs.OwnBoot.{own_boot};
+ghost use Rattle.zl_calls.specs.Leaving.{left_beside};
 ghost use Rattle.zl_calls.specs.Consistent.{IsConsistent};
 ghost use Rattle.zl_objects.specs.Objects.{is_end_body, kind_at, root_alone, with_new};
 ghost use Rattle.zl_objects.specs.Ports.{reserved_of};
 ghost use Rattle.zl_interp.specs.Program.{program_value};
 ghost use Rattle.zl_calls.specs.Making.{IsMaking, IsUnwatched};
-ghost use Rattle.zl_calls.specs.Makes.{Makes, seen, IsCauseOf, IsReached, koid_fault, making_pair};
+ghost use Rattle.zl_calls.specs.Makes.{Makes, seen, own_seen, IsCauseOf, IsReached, koid_fault, making_pair};
 ghost use Rattle.zl_calls.specs.Gives.{allowed, rights_if, IsBare, Gives};
 
 use crate::calls::job::has_children;
@@ -46,6 +48,8 @@ pub struct Made {
 /// What the statements of a boot make, in their order; `World::boot` says when which fault comes.
 pub fn booted(alloc: Global, library: &Library, boot: &Boot) -> Result<Made, BootFault>
     ensures ok { IfOk result (λ made. IsBoot library.now boot.now.statements.items (seen made)) }
+    ensures own { IfOk result
+        (λ made. own_seen made ≡ own_boot library.now boot.now.statements.items) }
     ensures consistent { IfOk result (λ made. IsConsistent made.processes.items made.objects) }
     ensures unwatched { IfOk result (λ made. IsUnwatched made.objects) }
     ensures words { OnOk result
@@ -391,6 +395,8 @@ impl Made {
     fn settle(&mut self)
         requires { IsMaking self.old.processes.items [] self.old.objects }
         ensures settles { Settles (seen self.old) (seen self.new) }
+        ensures left { self.new.processes.items
+            ≡ map (left_beside self.new.objects.objects) self.old.processes.items }
         ensures consistent { IsConsistent self.new.processes.items self.new.objects }
         ensures unwatched { IsUnwatched self.new.objects }
     {

@@ -5,10 +5,11 @@ ghost use Rattle.std.specs.Option.{option_map};
 ghost use Rattle.zl_rights.specs.Map.{get};
 ghost use Rattle.zl_code.specs.declared.boot.BootCause.TheVariants.{NoMemory};
 ghost use Rattle.zl_code.specs.Boot.{IsBoot, FirstFault, MOST_ITEMS};
+ghost use Rattle.zl_code.specs.OwnBoot.{own_boot};
 ghost use Rattle.zl_code.specs.Headline.{IsSizedBoot};
 ghost use Rattle.zl_code.specs.Starting.{program_of};
 ghost use Rattle.zl_code.specs.Steps.{Runs};
-ghost use Rattle.zl_calls.specs.World.{call_for, state_in, is_ready_in};
+ghost use Rattle.zl_calls.specs.World.{call_for, state_in, is_ready_in, own_of};
 ghost use Rattle.zl_calls.specs.Makes.{IsReached};
 ghost use Rattle.zl_calls.specs.Steps.{Performs, StepsTo, local_item, takes_memory};
 ghost use Rattle.zl_calls.specs.Turns.{Fits, IsTurn, advanced, steps_done};
@@ -86,15 +87,16 @@ impl World {
     /// `BadState` for the policy of a job in which a job or a process lives; else `Conflict` for an
     /// action where another is set; else `Limit` for the 65th process, for the 17th level of jobs,
     /// or where fewer koids up to 1,024 are left than the statement takes, two for a channel or an
-    /// event pair, none for a policy and one for any other. A statement without a fault may be refused
-    /// with `Limit` for a handle behind its first, as no clause says which value a new table then
-    /// offers. A limit of the trace above `Boot::MOST_ITEMS` is `Limit` of a statement one past the
-    /// last. `NoMemory` may come at any statement, and for the root job and the room for blocked
-    /// processes as of statement 0, which need not be there.
+    /// event pair, none for a policy and one for any other. A limit of the trace above
+    /// `Boot::MOST_ITEMS` is `Limit` of a statement one past the last. `NoMemory` may come at any
+    /// statement, and for the root job and the room for blocked processes as of statement 0, which
+    /// need not be there. The handles of each process get the values 1, 2, ..
     pub fn boot(alloc: Global, library: Library, boot: &Boot) -> Result<World, BootFault>
         ensures ok { IfOk result (λ world. IsBoot library boot.now.statements.items world.world) }
         ensures sized { IfOk result
             (λ world. IsSizedBoot library boot.now.statements.items world.world) }
+        ensures own { IfOk result
+            (λ world. own_of world ≡ own_boot library boot.now.statements.items) }
         ensures programs { IfOk result (λ world. world.programs ≡ library) }
         ensures limit { OnOk result (boot.now.limit ≤ MOST_ITEMS) }
         ensures err { IfErr result (λ fault. fault.cause ≢ NoMemory

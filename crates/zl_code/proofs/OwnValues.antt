@@ -1,5 +1,5 @@
 -- Values of a process, as handles enter and leave its table.
-use Rattle.zl_rights.proofs.Common.{◌≡◌, ℕ, suc, ◌-◌, ◌<◌, ◌≤◌, List, [], ◌∷◌, length, refl, sym, ap, ◌∙◌, Option, Some, None, inl, inr}
+use Rattle.zl_rights.proofs.Common.{◌≡◌, ℕ, zero, suc, ◌+◌, ◌++◌, ◌-◌, ◌<◌, ◌≤◌, List, [], ◌∷◌, length, refl, sym, ap, ◌∙◌, Option, Some, None, inl, inr}
 use Rattle.zl_rights.proofs.Common.{if◌then◌else◌, arith, IfSome, true, not, eq-eqb, lt-ltb, and_from, cases_Bool, is_some}
 use Rattle.zl_rights.proofs.Common.{get, put, has_key, World, Process}
 use Rattle.zl_rights.specs.declared.entry.Entry.{Entry}
@@ -9,7 +9,7 @@ use Rattle.zl_code.proofs.Entering.{HaveRoom, length_put}
 use Rattle.zl_rights.specs.Values.{Free, coming, given_back, offered, taken}
 use Rattle.zl_rights.proofs.Values.{comes_again, free_inserted, free_removed, live_made, next_small, next_unused}
 use Rattle.zl_rights.proofs.MapEdits.{sorted_put, sorted_without}
-use Rattle.zl_code.specs.Own.{IsFreeOf, all_given, all_without}
+use Rattle.zl_code.specs.Own.{IsFreeOf, all_given, all_without, taken_all}
 
 -- ---- one handle
 
@@ -65,3 +65,21 @@ without_there w p q [] there = there
 without_there w p q (h ∷ hs) there =
     without_there (on_process w p (process_without h)) p (process_without h q) hs
     (get-update w.processes p (process_without h) p ∙ rw (eq-eqb p p refl, there) refl)
+
+-- ---- one value more
+
+pub coming_more : (n : ℕ) (f : Free) → coming (n + 1) f ≡ coming n f ++ offered (taken_all n f) ∷ []
+unfolding coming taken_all
+coming_more zero f = refl
+coming_more (suc n) f = let shift : suc n + 1 ≡ suc (n + 1) = omega arith in rw shift (ap (λ vs. offered f ∷ vs) (coming_more n (taken f)))
+
+pub taken_more : (n : ℕ) (f : Free) → taken_all (n + 1) f ≡ taken (taken_all n f)
+unfolding taken_all
+taken_more zero f = refl
+taken_more (suc n) f = let shift : suc n + 1 ≡ suc (n + 1) = omega arith in rw shift (taken_more n (taken f))
+
+-- so many from a table from which no handle has gone
+pub taken_fresh : (n made : ℕ) → taken_all n (record { freed = []; made = made }) ≡ record { freed = []; made = made + n }
+unfolding taken_all
+taken_fresh zero made = ap (λ m. record { freed = []; made = m }) (omega arith)
+taken_fresh (suc n) made = taken_fresh n (made + 1) ∙ ap (λ m. record { freed = []; made = m }) (omega arith)

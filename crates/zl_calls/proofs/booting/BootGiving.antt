@@ -9,6 +9,9 @@ use Rattle.zl_calls.proofs.Common.{then_some, true, with_handles, zero, ℕ, ◌
 use Rattle.zl_code.proofs.Common.{Process as ProcessValue, Object as ObjectValue}
 use Rattle.zl_objects.specs.declared.object.Object.{Object}
 use Rattle.zl_calls.specs.declared.process.Process.{Process}
+use Rattle.zl_code.specs.Own.{taken_all}
+use Rattle.zl_code.proofs.OwnValues.{coming_more, taken_more}
+use Rattle.zl_rights.specs.Values.{coming, offered, taken}
 use Rattle.zl_calls.proofs.calls.Answered.{may_get_inserted}
 use Rattle.zl_calls.proofs.objects.SameBodies.{found_updated, named_updated}
 use Rattle.zl_calls.proofs.tables.Tables.{inserted_table, found_inserted}
@@ -113,7 +116,7 @@ unfolding get
 bare_table = record { sorted = refl; few = omega arith; values = λ value there. absurd (false≢true there) }
 
 pub none_given : (old : Made) (p : Process) → IsMaking old.processes.items [] old.objects → IsBare p → Gives [] old p old p
-unfolding get
+unfolding get coming taken_all
 none_given old p making bare = record {
   values = [];
   count = refl;
@@ -121,7 +124,9 @@ none_given old p making bare = record {
   pid = refl;
   is = refl;
   table = rw bare.no_handles bare_table;
-  few = rw bare.no_handles (omega arith);
+  few = rw bare.no_handles refl;
+  own = refl;
+  free = refl;
   untouched = λ none. refl;
   named = λ v e at. absurd (none-some e (rw bare.no_handles at at));
   making = rw bare.no_handles making;
@@ -152,6 +157,9 @@ module _ (gs : List Grant) (old new : Made) (p p2 : Process) (so_far : Gives gs 
 
   abbrev p3 : Process
   p3 = record p2 { cpu = register_set p2.cpu (handle_register (length gs)) value; table = t }
+
+  count_more : length (gs ++ g ∷ []) ≡ length gs + 1
+  count_more = length-append gs (g ∷ [])
 
   is_allowed : IsAllowed r g e
   is_allowed = allowed_is r g e found
@@ -190,6 +198,8 @@ module _ (gs : List Grant) (old new : Made) (p p2 : Process) (so_far : Gives gs 
     is = rw es_more is_more;
     table = inserted_table p2.table e value t so_far.table (omega (arith, so_far.few, fewer)) inserts;
     few = rw (inserts.entries, length-put_new p2.table.entries value e inserts.unused, length-append gs (g ∷ [])) (omega (arith, so_far.few));
+    own = rw (count_more, coming_more (length gs) p.table.free) (λ i. so_far.own i ++ (inserts.offered ∙ ap offered so_far.free) i ∷ []);
+    free = inserts.free ∙ (ap taken so_far.free ∙ rw count_more (sym (taken_more (length gs) p.table.free)));
     untouched = λ none. absurd (omega (arith, none, length-append gs (g ∷ [])));
     named = λ v x at. named_updated held_once_more held_body r.objects e.koid x
         (found_inserted (IsNamed r.objects x) p2.table e value t inserts v x at (λ is. subst (IsNamed r.objects) is is_allowed.named) (so_far.named v x));

@@ -136,7 +136,7 @@ module _ (lib : Library) (before : Made) (making : IsMaking before.processes.ite
         pub job_makes : (x : Result ⊤ BootCause) (after : Made) → OnOk x (koid_fault before ≡ None)
             → OnOk x (after ≡ record before { objects = with_new r job 0 }) → OnOk x (Makes lib (statement.Job parent) before after)
         unfolding boot_effect
-        job_makes = object_makes lib before making (statement.Job parent) job job_fault refl (ap (with_object w) body_is) refl (λ not. not runs) stands
+        job_makes = object_makes lib before making (statement.Job parent) job job_fault refl (ap (with_object w) body_is) refl refl (λ not. not runs) stands
             (ap (λ (x : Job). x.killed) fits.1)
 
   -- ---- a policy
@@ -188,7 +188,9 @@ module _ (lib : Library) (before : Made) (making : IsMaking before.processes.ite
         policy_makes done after is = record {
           no_fault = policy_fault ∙ rw childless (by_test conflict (sym answer_is ∙ done));
           values = [];
+          own = refl;
           chosen = refl;
+          fresh = λ all. all;
           effect = rw is (ap (λ (os : Map ObjectValue). record w { objects = os }) (update_seen object_value r.objects k (with_policy_set c a)
               (policy_changed (setting c a)) (policy_seen c a (record { mode = mode.Absolute; condition = c; action = a }) refl refl)));
           making = rw is (set_making ps r making k c a);

@@ -1,5 +1,5 @@
 -- One process more, with its handles: what was made goes on being what the definitions make.
-use Rattle.zl_calls.proofs.Common.{Agrees, All, All-nil, AreNamed, Bool, Entry, Err, Found, Gives, Grant, Image, IsBare, IsMaking, IsNamed, IsSound, IsTable}
+use Rattle.zl_calls.proofs.Common.{Agrees, All, All-append, All-cons, All-nil, AreNamed, Bool, Entry, Err, Found, Gives, Grant, Image, IsBare, IsMaking, IsNamed, IsSound, IsTable}
 use Rattle.zl_calls.proofs.Common.{IsTrue, Library, List, Made, Makes, Message, None, Objects, Ok, OnOk, Option, ProcessBody, Program, Result, Some, World}
 use Rattle.zl_calls.proofs.Common.{any_found, ap, arith, body_in, boot_effect, boot_fault, can_start, cases_Bool, cond, count_by, count_by-le-length}
 use Rattle.zl_calls.proofs.Common.{counted_any, cpu_given, created_process, eqb-true, false, false≢true, get, handles_given, handles_to, has_ended, inl, inr}
@@ -18,6 +18,10 @@ use Rattle.zl_objects.specs.declared.object.Body.TheVariants as body
 use Rattle.zl_objects.specs.declared.object.Life.TheVariants as life
 use Rattle.zl_objects.specs.declared.object.Object.{Object}
 use Rattle.zl_calls.specs.declared.process.Process.{Process}
+use Rattle.zl_calls.specs.Makes.{IsFresh}
+use Rattle.zl_code.specs.Own.{taken_all}
+use Rattle.zl_code.proofs.OwnValues.{taken_fresh}
+use Rattle.zl_rights.specs.Values.{coming}
 use Rattle.zl_calls.specs.declared.process.State.{State as OwnState}
 use Rattle.zl_calls.specs.declared.process.State.TheVariants as state
 use Rattle.zl_calls.proofs.booting.BootFaults.{job_seen}
@@ -195,11 +199,18 @@ makes lib before mid after job program word gs image p p2 there fine begun gives
     record {
       no_fault = fine;
       values = gives.values;
+      own = gives.own ∙ ap (coming (length gs)) begun.bare.offers_first;
       chosen = sym (started_may_get es gives.values [] word (created_process lib program))
           ∙ subst (λ (q : ProcessValue). IsTrue (may_get_all q es gives.values)) first gives.chosen;
       effect = rw (processes, objects) (process_seen ps p2 mid.objects gives.making job pid ready gives.table gives.named in_job left (seen before)
           (started_process lib program es gives.values word) value gives.same);
       making = rw (processes, objects) (still_making ps p2 mid.objects gives.making job pid ready gives.table gives.named in_job left);
+      fresh = λ all. rw (processes, gives.processes) (All-append IsFresh before.processes.items (p2 ∷ []) all
+          (All-cons IsFresh p2 [] (record {
+            ready = ap (λ (q : ProcessValue). q.state) value ∙ refl;
+            free = gives.free ∙ (ap (taken_all (length gs)) begun.bare.offers_first ∙ (taken_fresh (length gs) 0
+                ∙ ap (λ n. record { freed = []; made = n }) (omega (arith, gives.few))));
+          }) (All-nil IsFresh)));
     }
 
 -- ---- the root job alone

@@ -10,6 +10,7 @@ use Rattle.zl_objects.specs.declared.object.Object.{Object}
 use Rattle.zl_objects.specs.declared.object.Pair.TheVariants as pair
 use Rattle.zl_objects.specs.Objects.{end_to, queue_of, with_pair}
 use Rattle.zl_calls.specs.declared.process.Process.{Process}
+use Rattle.zl_code.specs.OwnBoot.{own_given}
 use Rattle.zl_calls.proofs.objects.Counting.{queues_grown, same_tables}
 use Rattle.zl_calls.proofs.objects.Grown.{end_quiet, found_grown, grown_seen, grown_sound, none_queued}
 
@@ -79,16 +80,18 @@ module _ (lib : Library) (before : Made) (making : IsMaking before.processes.ite
   -- one that makes one object, and that lacks at most a koid
   pub object_makes : (s : Statement) (b : Body) → boot_fault lib (seen before) s ≡ koid_fault before → IsTrue (may_boot lib (seen before) s [])
       → with_object (seen before) (body_value b) ≡ boot_effect lib (seen before) s []
-      → queue_of b ≡ [] → (((test : StateValue → Bool) → is_process (seen before) test k ≡ false) → Agrees (seen before) k b)
+      → own_given s ≡ [] → queue_of b ≡ [] → (((test : StateValue → Bool) → is_process (seen before) test k ≡ false) → Agrees (seen before) k b)
       → IsTrue (is_in_job (with_new before.objects b 0).objects b) → is_killed b ≡ false
       → (x : Result ⊤ BootCause) (after : Made) → OnOk x (koid_fault before ≡ None) → OnOk x (after ≡ record before { objects = with_new before.objects b 0 })
       → OnOk x (Makes lib s before after)
-  object_makes s b faults chosen effect empty quiet in_job unkilled (Err c) after left made = tt
-  object_makes s b faults chosen effect empty quiet in_job unkilled (Ok done) after left made = record {
+  object_makes s b faults chosen effect own empty quiet in_job unkilled (Err c) after left made = tt
+  object_makes s b faults chosen effect own empty quiet in_job unkilled (Ok done) after left made = record {
     no_fault = faults ∙ left;
     values = [];
+    own = sym own;
     chosen = chosen;
     effect = rw made (grown_world ps2 before.objects making b ∙ effect);
+    fresh = λ all. rw made all;
     making = rw made (grown_making ps2 before.objects making b empty quiet in_job (by_test (nat_lt (MOST_KOIDS + 1) (k + 1)) refl left) unkilled);
   }
     where
@@ -132,14 +135,18 @@ module _ (lib : Library) (before : Made) (making : IsMaking before.processes.ite
   pair_makes pair.Channel after enough made = record {
     no_fault = rw enough refl;
     values = [];
+    own = refl;
     chosen = refl;
+    fresh = λ all. all;
     effect = rw made (both_world pair.Channel enough);
     making = rw made (both_making pair.Channel enough);
   }
   pair_makes pair.Eventpair after enough made = record {
     no_fault = rw enough refl;
     values = [];
+    own = refl;
     chosen = refl;
+    fresh = λ all. all;
     effect = rw made (both_world pair.Eventpair enough);
     making = rw made (both_making pair.Eventpair enough);
   }

@@ -3,7 +3,18 @@ use Rattle.zl_calls.proofs.Common.{AllByRecursion, BootCause, FirstFault, Boots,
 use Rattle.zl_calls.proofs.Common.{Makes, None, Option, Some, Statement, World, [], ap, arith, at_limit, at_statement, boot_effect, boot_fault}
 use Rattle.zl_calls.proofs.Common.{get_or, length, may_boot, most_word, origin, refl, root_alone, seen}
 use Rattle.zl_calls.proofs.Common.{slice_get-get_or, sym, take, take_all, take_more, word_of, ℕ, ◌++◌, ◌+◌, ◌<◌, ◌∙◌, ◌∷◌, ◌≡◌, ◌≢◌, ◌≤◌}
+use Rattle.zl_calls.proofs.Common.{All, All-head, All-nil, All-tail, Bool, Map, Ready, Settles, has_key, lives, map, process_entry, state_value, true}
+use Rattle.zl_rights.proofs.Settling.{Settles-exists, Settles-unique}
 use Rattle.zl_code.specs.declared.boot.BootCause.TheVariants as cause
+use Rattle.zl_rights.specs.Settled.{settled}
+use Rattle.zl_code.specs.OwnBoot.{fresh_free, own_boot, own_given, own_made}
+use Rattle.zl_objects.specs.declared.object.Object.{Object}
+use Rattle.zl_calls.specs.Leaving.{left_beside, left_state}
+use Rattle.zl_calls.specs.Makes.{IsFresh, own_seen}
+use Rattle.zl_calls.specs.World.{free_entry}
+use Rattle.zl_calls.specs.declared.process.Process.{Process}
+use Rattle.zl_calls.specs.declared.process.State.{State}
+use Rattle.zl_calls.specs.declared.process.State.TheVariants as state
 use Rattle.zl_calls.proofs.booting.BootMaking.{starts_making}
 
 -- the statements made this
@@ -11,6 +22,8 @@ pub record IsMadeBy (lib : Library) (done : List Statement) (made : Made) : Type
   pub boots : Boots lib origin done (seen made)
   pub making : IsMaking made.processes.items [] made.objects
   pub words : AllByRecursion (λ s. word_of s ≤ most_word) done
+  pub own : seen made ≡ own_made lib origin done
+  pub fresh : All IsFresh made.processes.items
 
 boots_more : (lib : Library) (w w2 w3 : World) (ss : List Statement) (s : Statement) (vs : List ℕ) → Boots lib w ss w2
     → boot_fault lib w2 s ≡ None → IsTrue (may_boot lib w2 s vs) → w3 ≡ boot_effect lib w2 s vs → Boots lib w (ss ++ s ∷ []) w3
@@ -19,11 +32,19 @@ boots_more lib w w2 w3 (t ∷ ss) s vs (xs, fine, may, rest) no_fault chosen eff
     (xs, fine, may, boots_more lib (boot_effect lib w t xs) w2 w3 ss s vs rest no_fault chosen effect)
 
 pub none_made : (lib : Library) (made : Made) → made.processes.items ≡ [] → made.objects ≡ root_alone → IsMadeBy lib [] made
+unfolding own_made
 none_made lib made none root = record {
   boots = rw (none, root) refl;
   making = rw (none, root) starts_making;
   words = tt;
+  own = rw (none, root) refl;
+  fresh = rw none (All-nil IsFresh);
 }
+
+own_more : (lib : Library) (w : World) (ss : List Statement) (s : Statement) → own_made lib w (ss ++ s ∷ []) ≡ boot_effect lib (own_made lib w ss) s (own_given s)
+unfolding own_made
+own_more lib w [] s = refl
+own_more lib w (t ∷ ss) s = own_more lib (boot_effect lib w t (own_given t)) ss s
 
 small_more : (ss : List Statement) (s : Statement) → AllByRecursion (λ x. word_of x ≤ most_word) ss → word_of s ≤ most_word
     → AllByRecursion (λ x. word_of x ≤ most_word) (ss ++ s ∷ [])
@@ -38,12 +59,45 @@ one_more lib ss i d before after lt so_far makes small = record {
       (boots_more lib origin (seen before) (seen after) (take i ss) (get_or ss i d) makes.values so_far.boots makes.no_fault makes.chosen makes.effect);
   making = makes.making;
   words = rw (take_more ss i d lt) (small_more (take i ss) (get_or ss i d) so_far.words small);
+  own = rw (take_more ss i d lt) (makes.effect ∙ ((λ k. boot_effect lib (so_far.own k) (get_or ss i d) (makes.own k))
+      ∙ sym (own_more lib origin (take i ss) (get_or ss i d))));
+  fresh = makes.fresh so_far.fresh;
 }
 
 -- all of them were made
 pub all_small : (lib : Library) (ss : List Statement) (i : ℕ) (made : Made) → length ss ≤ i → IsMadeBy lib (take i ss) made
     → AllByRecursion (λ x. word_of x ≤ most_word) ss
 all_small lib ss i made all so_far = rw take_all at so_far.words
+
+-- ---- the own boot world
+
+-- a ready process stays, whatever objects go
+left_ready : (b : Bool) (s : State) → state_value s ≡ Ready → lives (state_value (left_state b s)) ≡ true
+left_ready b state.Ready is = refl
+left_ready b state.Created is = absurd cc
+left_ready b state.Gone is = absurd cc
+left_ready b (state.Blocked a rs) is = absurd cc
+left_ready b (state.Ended code) is = absurd cc
+
+fresh_left : (os : Map Object) (ps : List Process) → All IsFresh ps
+    → map free_entry (map (left_beside os) ps) ≡ map (λ e. (e.0, record { freed = []; made = length e.1.handles })) (map process_entry (map (left_beside os) ps))
+fresh_left os [] all = refl
+fresh_left os (p ∷ ps) all =
+    let first = All-head IsFresh p ps all in
+    let value : free_entry (left_beside os p) ≡ (p.pid, record { freed = []; made = length p.table.entries })
+    = rw (left_ready (has_key os p.pid) p.state first.ready, first.free) refl in
+    λ i. value i ∷ fresh_left os ps (All-tail IsFresh p ps all) i
+
+-- what was made is the own boot world, once what isn't held is gone
+pub own_booted : (lib : Library) (ss : List Statement) (i : ℕ) (made new : Made) → length ss ≤ i → IsMadeBy lib (take i ss) made → Settles (seen made) (seen new)
+    → new.processes.items ≡ map (left_beside new.objects.objects) made.processes.items → own_seen new ≡ own_boot lib ss
+own_booted lib ss i made new all so_far settles left = λ k. record { world = world k; free = (free ∙ ap fresh_free world) k }
+  where
+    world : seen new ≡ settled (own_made lib origin ss)
+    world = Settles-unique (seen made) (seen new) (settled (seen made)) settles (Settles-exists (seen made)) ∙ ap settled (rw take_all at so_far.own)
+
+    free : map free_entry new.processes.items ≡ fresh_free (seen new)
+    free = rw left (fresh_left new.objects.objects made.processes.items so_far.fresh)
 
 -- ---- faults
 

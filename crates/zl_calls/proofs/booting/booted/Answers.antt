@@ -1,5 +1,5 @@
 use Rattle.zl_calls.proofs.Common.{IsCauseOf, List, Makes, Statement, ap, boot_fault, get_or, most_word, seen, subst, word_of, ◌∙◌, ◌≤◌}
-use Rattle.zl_calls.proofs.booting.BootRun.{none_made, one_more, all_small, first_fault, limit_fault, none_reached, some_reached}
+use Rattle.zl_calls.proofs.booting.BootRun.{none_made, one_more, all_small, first_fault, limit_fault, none_reached, own_booted, some_reached}
 use Rattle.zl_calls.proofs.booting.booted.Goals as goal
 
 pub returns-in_default-clause-reached : goal.returns-in_default-clause-reached
@@ -47,3 +47,9 @@ returns-clause-words c =
     let statements = c.deref-statement-items.ensures.value in
     all_small c.args.library.now c.args.boot.now.statements.items c.loop-number.number c.loop-number.made (rw statements at c.loop-number-test.false)
     c.loop-number.invariant
+
+pub returns-clause-own : goal.returns-clause-own
+returns-clause-own c =
+    let statements = c.deref-statement-items.ensures.value in
+    own_booted c.args.library.now c.args.boot.now.statements.items c.loop-number.number c.loop-number.made c.settle.new.self
+    (rw statements at c.loop-number-test.false) c.loop-number.invariant c.settle.ensures.settles c.settle.ensures.left

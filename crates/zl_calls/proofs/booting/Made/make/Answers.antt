@@ -6,7 +6,7 @@ use Rattle.zl_calls.proofs.booting.Made.make.Goals as goal
 
 pub returns-in-Event-clause-ok : goal.returns-in-Event-clause-ok
 unfolding boot_fault boot_effect
-returns-in-Event-clause-ok c = rw c.in-Event.is (object_makes c.args.library.now c.args.self.now c.requires statement.Event body.Event refl refl refl refl
+returns-in-Event-clause-ok c = rw c.in-Event.is (object_makes c.args.library.now c.args.self.now c.requires statement.Event body.Event refl refl refl refl refl
     (λ not. not runs) refl refl
     c.make_object.result c.make_object.new.self c.make_object.ensures.left c.make_object.ensures.made)
 
@@ -16,7 +16,7 @@ returns-in-Event-clause-err c = rw c.in-Event.is c.make_object.ensures.err
 
 pub returns-in-Port-clause-ok : goal.returns-in-Port-clause-ok
 unfolding boot_fault boot_effect
-returns-in-Port-clause-ok c = rw c.in-Port.is (object_makes c.args.library.now c.args.self.now c.requires statement.Port new_port refl refl refl refl
+returns-in-Port-clause-ok c = rw c.in-Port.is (object_makes c.args.library.now c.args.self.now c.requires statement.Port new_port refl refl refl refl refl
     (λ not. not runs) refl refl
     c.make_object-in-Port.result c.make_object-in-Port.new.self c.make_object-in-Port.ensures.left
     (rw c.new_port-port.ensures at c.make_object-in-Port.ensures.made))

@@ -1,4 +1,5 @@
-use Rattle.zl_calls.proofs.Common.{arith, refl, ℕ, ◌+◌, ◌-◌, ◌≡◌}
+use Rattle.zl_calls.proofs.Common.{ap, arith, map, refl, ℕ, ◌+◌, ◌-◌, ◌∙◌, ◌≡◌}
+use Rattle.zl_calls.specs.Leaving.{left_beside}
 use Rattle.zl_calls.proofs.booting.BootConsistent.{all_swept, none_swept, one_swept}
 use Rattle.zl_calls.proofs.processes.Departed.{left_keeps}
 use Rattle.zl_calls.proofs.booting.Made.settle.Goals as goal
@@ -35,3 +36,6 @@ pub returns-clause-unwatched : goal.returns-clause-unwatched
 returns-clause-unwatched c =
     let all : ◌≡◌ {A = ℕ} c.loop-koid.koid 0 = omega (arith, c.loop-koid-test.false) in
     c.loop-koid.invariant.swept.unwatched c.requires.unwatched
+
+pub returns-clause-left : goal.returns-clause-left
+returns-clause-left c = c.leave_from.ensures ∙ ap (map (left_beside c.loop-koid.self.objects.objects)) c.loop-koid.invariant.processes

@@ -1,6 +1,7 @@
-use Rattle.zl_calls.proofs.Common.{All-nil, AreBlocked, IsBoot, IsStarted, arith, boot_awake, boot_covered, world_blocked}
+use Rattle.zl_calls.proofs.Common.{All-nil, AreBlocked, IsBoot, IsStarted, arith, boot_awake, boot_covered, map, sym, world_blocked, ◌∙◌}
+use Rattle.zl_calls.specs.World.{free_entry}
 use Rattle.zl_code.proofs.ProgramsKept.{boot_programs}
-use Rattle.zl_calls.proofs.booting.BootBlocked.{booted_boots, booted_sound, none_blocked}
+use Rattle.zl_calls.proofs.booting.BootBlocked.{booted_boots, booted_sound, booted_world, none_blocked}
 use Rattle.zl_calls.proofs.waking.Ordered.{none_ordered}
 use Rattle.zl_calls.proofs.waking.StillBlocked.{none_sought}
 use Rattle.zl_calls.proofs.world.World.boot.Goals as goal
@@ -38,3 +39,9 @@ invariant_of-result-2 c = record {
       (record { images = c.len-2.ensures.verified.images; words = c.in_ok-processes.ensures.words; boots = boots c });
   room = omega (arith, (c.in-Ok.ensures {u = tt}).exact, c.len.ensures, c.in_ok-processes.field-0.processes.ok.0);
 }
+
+pub returns-clause-own : goal.returns-clause-own
+returns-clause-own c =
+    let world = booted_world c.in_ok-processes.field-0.processes.items c.in_ok-processes.field-0.objects c.in-Ok.blocked.items
+    c.in_ok-processes.ensures.unwatched ((c.in-Ok.ensures {u = tt}).items) in
+    (λ i. record { world = sym world i; free = map free_entry c.in_ok-processes.field-0.processes.items }) ∙ c.in_ok-processes.ensures.own

@@ -1,5 +1,5 @@
 -- How the handles of a statement get into the table of its process. No public clause cites this module.
-use Rattle.std.specs.Prelude.{ℕ, ◌≡◌, ◌≤◌, Bool, List, [], length, Option, Some, None, IsTrue}
+use Rattle.std.specs.Prelude.{ℕ, ◌≡◌, Bool, List, [], length, Option, Some, None, IsTrue}
 use Rattle.std.specs.Bool.{then_some}
 use Rattle.zl_code.specs.Common.{Map, get, rights_of, Process as ProcessValue, Object as ObjectValue, body_in, has_default_rights}
 use Rattle.zl_rights.specs.declared.rights.Rights.{Rights}

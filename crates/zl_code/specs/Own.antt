@@ -3,8 +3,6 @@ use Rattle.std.specs.Prelude.{◌≡◌, ◌==◌, ℕ, zero, suc, List, [], ◌
 use Rattle.std.specs.Ordering.{nat_cmp}
 use Rattle.std.specs.FinMap.Entries.{is_sorted}
 use Rattle.zl_rights.specs.Common.{Map, get, has_key, World, Process, lives}
-use Rattle.zl_code.specs.declared.history.Outcome.{Outcome}
-use Rattle.zl_code.specs.declared.history.Outcome.TheVariants as outcome
 use Rattle.zl_code.specs.CallTable.{Request, new_handles, choosing, receiver_of}
 use Rattle.zl_code.specs.Effects.{process_without}
 use Rattle.zl_code.specs.Calls.{taken_handles}
@@ -54,15 +52,6 @@ own_values o p r = coming (length (choosing o.world p r)) (left_free o p r (rece
 abbrev pub entered_free : OwnWorld → ℕ → Request → ℕ → Free
 entered_free o p r k =
     if receiver_of o.world p r == k then taken_all (length (new_handles o.world p r)) (left_free o p r k) else left_free o p r k
-
--- the values after a refusal; and after a call that isn't refused
-abbrev pub refused_free : OwnWorld → ℕ → Request → Outcome → ℕ → Free
-refused_free o p r outcome.Blocked = free_at o.free
-refused_free o p r _ = left_free o p r
-
-abbrev pub done_free : OwnWorld → ℕ → Request → Outcome → ℕ → Free
-done_free o p r outcome.Blocked = free_at o.free
-done_free o p r _ = entered_free o p r
 
 -- those of the processes of the world; one that is over has an empty new table
 abbrev pub free_in : World → (ℕ → Free) → Map Free

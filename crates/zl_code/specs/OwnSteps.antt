@@ -13,7 +13,7 @@ use Rattle.zl_code.specs.Refusals.{refusal}
 use Rattle.zl_code.specs.Calls.{after_ok, after_refusal, ok_outcome}
 use Rattle.zl_code.specs.Effects.{ended, on_process}
 use Rattle.zl_code.specs.Steps.{AtCall, IsStuck, Moves, Next, next_for}
-use Rattle.zl_code.specs.Own.{OwnWorld, done_free, free_at, free_in, own_values, refused_free}
+use Rattle.zl_code.specs.Own.{OwnWorld, entered_free, free_at, free_in, left_free, own_values}
 
 -- what a process did: the world, the values of each process, and the item
 pub record OwnAct : Type 0 where
@@ -25,12 +25,12 @@ pub record OwnAct : Type 0 where
 abbrev pub own_call : Library → OwnWorld → ℕ → CallName → Site → Option Outcome → OwnAct
 own_call lib o p call s (Some answer) = record {
   world = after_refusal o.world p s answer;
-  free = refused_free o p s.request answer;
+  free = left_free o p s.request;
   item = item.Call p call answer;
 }
 own_call lib o p call s None = record {
   world = after_ok lib o.world p s (own_values o p s.request) (ok_outcome o.world p s.request);
-  free = done_free o p s.request (ok_outcome o.world p s.request);
+  free = entered_free o p s.request;
   item = item.Call p call (ok_outcome o.world p s.request);
 }
 

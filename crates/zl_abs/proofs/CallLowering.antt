@@ -58,9 +58,6 @@ word_passes false e = cc
 fault_below : (o : Operand) (v w : AbsVal) → IsTrue (below v w) → fault_of o w ≡ None → fault_of o v ≡ None
 unfolding below
 fault_below o (Has m k r) (Has m2 k2 r2) h e = has_passes o m m2 k k2 r r2 h e
-fault_below o (Has _ _ _) (Word _) h e = cc
-fault_below o (Has _ _ _) (KindOf _) h e = cc
-fault_below o (Has _ _ _) (RightsOf _) h e = cc
 fault_below o (Word n) (Has m2 k2 r2) h e =
     let z = zero_of n m2 k2 r2 h in
     let f =
@@ -70,12 +67,9 @@ fault_below o (Word m) (Word n) h e =
     let p = and_parts o.may_be_zero (eqb n 0) (word_passes (o.may_be_zero && eqb n 0) e) in
     let q : eqb m 0 ≡ true = grind (arith, nat_tests) in
     rw (p.0, q) refl
-fault_below o (Word _) (KindOf _) h e = cc
-fault_below o (Word _) (RightsOf _) h e = cc
 fault_below o (KindOf _) (Word n) h e = absurd (tag_there n h ((and_parts o.may_be_zero (eqb n 0) (word_passes (o.may_be_zero && eqb n 0) e)).1))
-fault_below o (KindOf _) _ h e = cc
 fault_below o (RightsOf _) (Word n) h e = absurd (tag_there n h ((and_parts o.may_be_zero (eqb n 0) (word_passes (o.may_be_zero && eqb n 0) e)).1))
-fault_below o (RightsOf _) _ h e = cc
+fault_below o _ _ h e = cc
 
 taken_below : (s t : State) (o : Operand) → IsBelow s t → IsBelow (taken_from s o) (taken_from t o)
 taken_below s t o h = by o.is_taken

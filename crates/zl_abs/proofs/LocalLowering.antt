@@ -103,15 +103,10 @@ enters_below : (x : SlotArray) (v w : AbsVal) → IsTrue (below v w) → slot_fa
 unfolding below
 enters_below x (Word m) (Word n) h e = let z = word_enters (eqb n 0) cause.NotLive e in let y : eqb m 0 ≡ true = grind (arith, nat_tests) in rw y refl
 enters_below x (Word m) (Has b k r) h e = let y = (and_parts (eqb m 0) b h).0 in rw y refl
-enters_below x (Word m) _ h e = cc
 enters_below x (Has m k r) (Has m2 k2 r2) h e = has_enters x m m2 k k2 r r2 h e
-enters_below x (Has _ _ _) (Word _) h e = cc
-enters_below x (Has _ _ _) (KindOf _) h e = cc
-enters_below x (Has _ _ _) (RightsOf _) h e = cc
 enters_below x (KindOf _) (Word n) h e = absurd (tag_apart n h (word_enters (eqb n 0) cause.NotLive e))
-enters_below x (KindOf _) _ h e = cc
 enters_below x (RightsOf _) (Word n) h e = absurd (tag_apart n h (word_enters (eqb n 0) cause.NotLive e))
-enters_below x (RightsOf _) _ h e = cc
+enters_below x _ _ h e = cc
 
 swap_below : (s t : State) (a : ℕ) (x : SlotArray) (o p : Option Cause) → IsBelow s t → (p ≡ None → o ≡ None)
     → Lowers WaysBelow (swaps_by s a x o) (swaps_by t a x p)

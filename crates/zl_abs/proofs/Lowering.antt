@@ -92,9 +92,8 @@ pub map_below : (f : AbsVal → AbsVal) → ((v w : AbsVal) → IsTrue (below v 
     → IsBelow (map f s) (map f t)
 unfolding all_below
 map_below f kept [] [] h = h
-map_below f kept [] (b ∷ t) h = cc
-map_below f kept (a ∷ s) [] h = cc
 map_below f kept (a ∷ s) (b ∷ t) h = let p = and_parts (below a b) (all_below s t) h in and _ _ (kept a b p.0) (map_below f kept s t p.1)
+map_below f kept _ _ h = cc
 
 -- a tag that gets this or that, below a word
 tag_word : (t : Bool) (v w u : AbsVal) → IsTrue (below v u) → IsTrue (below w u) → IsTrue (below (if t then v else w) u)
@@ -105,29 +104,23 @@ pub untagged_below : (r : ℕ) (v w : AbsVal) → IsTrue (below v w) → IsTrue 
 unfolding below
 untagged_below r (Word m) (Word n) h = h
 untagged_below r (Word m) (Has _ _ _) h = h
-untagged_below r (Word m) _ h = cc
 untagged_below r (Has _ _ _) (Has _ _ _) h = h
-untagged_below r (Has _ _ _) _ h = cc
 untagged_below r (KindOf x) (KindOf y) h = let e : x ≡ y = (Decides-eqb x y).0 h in rw e (below_refl (untagged r (KindOf y)))
 untagged_below r (KindOf x) (Word n) h = tag_word (eqb x r) (Word ANY) (KindOf x) (Word n) h h
-untagged_below r (KindOf x) _ h = cc
 untagged_below r (RightsOf x) (RightsOf y) h = let e : x ≡ y = (Decides-eqb x y).0 h in rw e (below_refl (untagged r (RightsOf y)))
 untagged_below r (RightsOf x) (Word n) h = tag_word (eqb x r) (Word ANY) (RightsOf x) (Word n) h h
-untagged_below r (RightsOf x) _ h = cc
+untagged_below r _ _ h = cc
 
 pub retagged_below : (b a : ℕ) (v w : AbsVal) → IsTrue (below v w) → IsTrue (below (retagged b a v) (retagged b a w))
 unfolding below
 retagged_below b a (Word m) (Word n) h = h
 retagged_below b a (Word m) (Has _ _ _) h = h
-retagged_below b a (Word m) _ h = cc
 retagged_below b a (Has _ _ _) (Has _ _ _) h = h
-retagged_below b a (Has _ _ _) _ h = cc
 retagged_below b a (KindOf x) (KindOf y) h = let e : x ≡ y = (Decides-eqb x y).0 h in rw e (below_refl (retagged b a (KindOf y)))
 retagged_below b a (KindOf x) (Word n) h = tag_word (eqb x b) (KindOf a) (KindOf x) (Word n) h h
-retagged_below b a (KindOf x) _ h = cc
 retagged_below b a (RightsOf x) (RightsOf y) h = let e : x ≡ y = (Decides-eqb x y).0 h in rw e (below_refl (retagged b a (RightsOf y)))
 retagged_below b a (RightsOf x) (Word n) h = tag_word (eqb x b) (RightsOf a) (RightsOf x) (Word n) h h
-retagged_below b a (RightsOf x) _ h = cc
+retagged_below b a _ _ h = cc
 
 pub with_below : (s t : State) (r : ℕ) (v w : AbsVal) → IsBelow s t → IsTrue (below v w) → IsBelow (with_value s r v) (with_value t r w)
 unfolding with_value
@@ -161,14 +154,11 @@ pub word_or_below : (v w : AbsVal) → IsTrue (below v w) → Lowers (λ m n. m 
 unfolding below
 word_or_below v (Has _ _ _) h = tt
 word_or_below (Word m) (Word n) h = leb_le m n h
-word_or_below (Has _ _ _) (Word n) h = cc
 word_or_below (KindOf _) (Word n) h = leb_le ANY n h
 word_or_below (RightsOf _) (Word n) h = leb_le ANY n h
 word_or_below (KindOf _) (KindOf _) h = omega arith
-word_or_below _ (KindOf _) h = cc
-word_or_below (Word m) _ h = cc
 word_or_below (RightsOf _) (RightsOf _) h = omega arith
-word_or_below _ (RightsOf _) h = cc
+word_or_below _ _ h = cc
 
 pub word_at_below : (s t : State) (r : ℕ) → IsBelow s t → Lowers (λ m n. m ≤ n) (word_at s r) (word_at t r)
 word_at_below s t r h = word_or_below (value_at s r) (value_at t r) (value_below s t r h)

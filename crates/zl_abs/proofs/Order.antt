@@ -17,12 +17,7 @@ same_kind_is Event Event h = refl
 same_kind_is Port Port h = refl
 same_kind_is Eventpair Eventpair h = refl
 same_kind_is Job Job h = refl
-same_kind_is Process _ h = cc
-same_kind_is Channel _ h = cc
-same_kind_is Event _ h = cc
-same_kind_is Port _ h = cc
-same_kind_is Eventpair _ h = cc
-same_kind_is Job _ h = cc
+same_kind_is _ _ h = cc
 
 pub both : (a b : Bool) → (a && b) ≡ true → (a ≡ true) × (b ≡ true)
 both true true h = (refl, refl)
@@ -117,32 +112,17 @@ pub below_trans : (a b c : AbsVal) → IsTrue (below a b) → IsTrue (below b c)
 unfolding below
 below_trans (Word m) (Word n) (Word o) h k = grind (arith, nat_tests)
 below_trans (Word m) (Word n) (Has x y z) h k = word_word_has m n x h k
-below_trans (Word m) (Word n) _ h k = cc
 below_trans (Word m) (Has x y z) (Has x' y' z') h k = word_has m x x' _ h k
-below_trans (Word m) (Has x y z) _ h k = cc
-below_trans (Word m) (KindOf _) c h k = cc
-below_trans (Word m) (RightsOf _) c h k = cc
 below_trans (Has x y z) (Has x' y' z') (Has x'' y'' z'') h k = has_trans x x' x'' y y' y'' (bits z) (bits z') (bits z'') h k
-below_trans (Has x y z) (Has x' y' z') _ h k = cc
-below_trans (Has x y z) (Word _) c h k = cc
-below_trans (Has x y z) (KindOf _) c h k = cc
-below_trans (Has x y z) (RightsOf _) c h k = cc
 below_trans (KindOf r) (KindOf s) (KindOf t) h k = grind (arith, nat_tests)
 below_trans (KindOf r) (KindOf s) (Word t) h k = k
-below_trans (KindOf r) (KindOf s) _ h k = cc
 below_trans (KindOf r) (Word s) (Word t) h k = grind (arith, nat_tests)
 below_trans (KindOf r) (Word s) (Has x y z) h k = absurd (any_apart s x h k)
-below_trans (KindOf r) (Word s) _ h k = cc
-below_trans (KindOf r) (Has _ _ _) c h k = cc
-below_trans (KindOf r) (RightsOf _) c h k = cc
 below_trans (RightsOf r) (RightsOf s) (RightsOf t) h k = grind (arith, nat_tests)
 below_trans (RightsOf r) (RightsOf s) (Word t) h k = k
-below_trans (RightsOf r) (RightsOf s) _ h k = cc
 below_trans (RightsOf r) (Word s) (Word t) h k = grind (arith, nat_tests)
 below_trans (RightsOf r) (Word s) (Has x y z) h k = absurd (any_apart s x h k)
-below_trans (RightsOf r) (Word s) _ h k = cc
-below_trans (RightsOf r) (Has _ _ _) c h k = cc
-below_trans (RightsOf r) (KindOf _) c h k = cc
+below_trans _ _ _ h k = cc
 
 -- ---- the join is above both
 
@@ -200,6 +180,14 @@ some_case : (t : Bool) (v c : AbsVal) → IsTrue (below v c) → JoinIsAbove v (
 some_case true v c h = h
 some_case false v c h = tt
 
+-- what two tags become is above a value that the first is above if they are equal, and any word
+tag_above : (r s : ℕ) (u v : AbsVal) → (r ≡ s → IsTrue (below u v)) → IsTrue (below u (Word ANY)) → IsTrue (below u (if eqb r s then v else Word ANY))
+tag_above r s u v f h = by (eqb r s) refl
+  where
+    by : (t : Bool) → eqb r s ≡ t → IsTrue (below u (if t then v else Word ANY))
+    by true e = f ((Decides-eqb r s).0 e)
+    by false e = h
+
 pub joined_left : (a b : AbsVal) → JoinIsAbove a (joined a b)
 unfolding below joined
 joined_left (Word m) (Word n) = word_left m n
@@ -211,19 +199,11 @@ joined_left (Has a k r) (Has b j q) = three _ _ _ (or_left a b) (kind_left k j) 
 joined_left (Has a k r) _ = tt
 joined_left (KindOf r) (Has _ _ _) = tt
 joined_left (KindOf r) (Word m) = word_right m ANY
-joined_left (KindOf r) (KindOf s) = by (eqb r s)
-  where
-    by : (t : Bool) → IsTrue (below (KindOf r) (if t then KindOf r else Word ANY))
-    by true = grind (arith, nat_tests)
-    by false = refl
+joined_left (KindOf r) (KindOf s) = tag_above r s (KindOf r) (KindOf r) (λ _. below_refl (KindOf r)) refl
 joined_left (KindOf r) (RightsOf s) = refl
 joined_left (RightsOf r) (Has _ _ _) = tt
 joined_left (RightsOf r) (Word m) = word_right m ANY
-joined_left (RightsOf r) (RightsOf s) = by (eqb r s)
-  where
-    by : (t : Bool) → IsTrue (below (RightsOf r) (if t then RightsOf r else Word ANY))
-    by true = grind (arith, nat_tests)
-    by false = refl
+joined_left (RightsOf r) (RightsOf s) = tag_above r s (RightsOf r) (RightsOf r) (λ _. below_refl (RightsOf r)) refl
 joined_left (RightsOf r) (KindOf s) = refl
 
 pub joined_right : (a b : AbsVal) → JoinIsAbove b (joined a b)
@@ -237,19 +217,11 @@ joined_right (Has a k r) (Has b j q) = three _ _ _ (or_right a b) (kind_right k 
 joined_right (Has a k r) _ = tt
 joined_right (KindOf r) (Has _ _ _) = tt
 joined_right (KindOf r) (Word m) = word_left m ANY
-joined_right (KindOf r) (KindOf s) = by (eqb r s) refl
-  where
-    by : (t : Bool) → eqb r s ≡ t → IsTrue (below (KindOf s) (if t then KindOf r else Word ANY))
-    by true h = grind (arith, nat_tests)
-    by false h = refl
+joined_right (KindOf r) (KindOf s) = tag_above r s (KindOf s) (KindOf r) (λ e. rw e (below_refl (KindOf s))) refl
 joined_right (KindOf r) (RightsOf s) = refl
 joined_right (RightsOf r) (Has _ _ _) = tt
 joined_right (RightsOf r) (Word m) = word_left m ANY
-joined_right (RightsOf r) (RightsOf s) = by (eqb r s) refl
-  where
-    by : (t : Bool) → eqb r s ≡ t → IsTrue (below (RightsOf s) (if t then RightsOf r else Word ANY))
-    by true h = grind (arith, nat_tests)
-    by false h = refl
+joined_right (RightsOf r) (RightsOf s) = tag_above r s (RightsOf s) (RightsOf r) (λ e. rw e (below_refl (RightsOf s))) refl
 joined_right (RightsOf r) (KindOf s) = refl
 
 -- ---- and the least
@@ -315,33 +287,19 @@ pub joined_least : (a b d : AbsVal) → IsTrue (below a d) → IsTrue (below b d
 unfolding below joined
 joined_least (Word m) (Word n) (Word o) h k = larger_least m n o h k
 joined_least (Word m) (Word n) (Has x y z) h k = zero_zero m n x h k
-joined_least (Word m) (Word n) _ h k = cc
 joined_least (Word m) (Has x y z) (Has x' y' z') h k = zero_least m x x' y y' z z' h k
-joined_least (Word m) (Has x y z) _ h k = cc
 joined_least (Word m) (KindOf r) (Word o) h k = larger_least m ANY o h k
-joined_least (Word m) (KindOf r) _ h k = cc
 joined_least (Word m) (RightsOf r) (Word o) h k = larger_least m ANY o h k
-joined_least (Word m) (RightsOf r) _ h k = cc
 joined_least (Has x y z) (Word m) (Has x' y' z') h k = zero_least m x x' y y' z z' k h
 joined_least (Has x y z) (Has x' y' z') (Has x'' y'' z'') h k = has_least x x' x'' y y' y'' (bits z) (bits z') (bits z'') h k
-joined_least (Has x y z) (KindOf _) (Has _ _ _) h k = cc
-joined_least (Has x y z) (RightsOf _) (Has _ _ _) h k = cc
-joined_least (Has x y z) b (Word _) h k = cc
-joined_least (Has x y z) b (KindOf _) h k = cc
-joined_least (Has x y z) b (RightsOf _) h k = cc
 joined_least (KindOf r) (Word n) (Word o) h k = larger_least n ANY o k h
-joined_least (KindOf r) (Has _ _ _) (Word o) h k = cc
 joined_least (KindOf r) (KindOf s) (Word o) h k = tags_least r s (KindOf r) (Word ANY) (Word o) (λ _. h) (λ _. h)
 joined_least (KindOf r) (RightsOf s) (Word o) h k = h
 joined_least (KindOf r) (KindOf s) (KindOf t) h k = tags_least r s (KindOf r) (Word ANY) (KindOf t) (λ _. h) (λ e. absurd (tags_apart r s t h k e))
-joined_least (KindOf r) _ (KindOf t) h k = cc
-joined_least (KindOf r) b (Has _ _ _) h k = cc
-joined_least (KindOf r) b (RightsOf _) h k = cc
 joined_least (RightsOf r) (Word n) (Word o) h k = larger_least n ANY o k h
-joined_least (RightsOf r) (Has _ _ _) (Word o) h k = cc
 joined_least (RightsOf r) (RightsOf s) (Word o) h k = tags_least r s (RightsOf r) (Word ANY) (Word o) (λ _. h) (λ _. h)
 joined_least (RightsOf r) (KindOf s) (Word o) h k = h
 joined_least (RightsOf r) (RightsOf s) (RightsOf t) h k = tags_least r s (RightsOf r) (Word ANY) (RightsOf t) (λ _. h) (λ e. absurd (tags_apart r s t h k e))
-joined_least (RightsOf r) _ (RightsOf t) h k = cc
-joined_least (RightsOf r) b (Has _ _ _) h k = cc
-joined_least (RightsOf r) b (KindOf _) h k = cc
+joined_least (Has _ _ _) _ (Word _) h k = cc
+joined_least _ (Has _ _ _) (Word _) h k = cc
+joined_least _ _ _ h k = cc

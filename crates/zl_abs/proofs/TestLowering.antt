@@ -48,19 +48,16 @@ pub known_zero_below : (s t : State) (r : ℕ) (v w : AbsVal) → IsBelow s t �
 unfolding below
 known_zero_below s t r (Has false k q) w h e b = tt
 known_zero_below s t r (Has true k q) (Has true j p) h e b = set_below s t r _ _ h zero_zero
-known_zero_below s t r (Has true k q) _ h e b = cc
 known_zero_below s t r (Word m) (Has b j p) h e k =
     let z = zero_of m b j p k in
     let u : value_at s r ≡ Word 0 = e ∙ ap Word z.0 in
     rw (z.1) (set_above s t r (Word 0) h (rw u zero_zero))
 known_zero_below s t r (Word m) (Word _) h e b = h
-known_zero_below s t r (Word m) _ h e b = cc
 known_zero_below s t r (KindOf _) (Word _) h e b = h
 known_zero_below s t r (KindOf _) (KindOf _) h e b = h
-known_zero_below s t r (KindOf _) _ h e b = cc
 known_zero_below s t r (RightsOf _) (Word _) h e b = h
 known_zero_below s t r (RightsOf _) (RightsOf _) h e b = h
-known_zero_below s t r (RightsOf _) _ h e b = cc
+known_zero_below s t r _ _ h e b = cc
 
 sure_below : (a b : Bool) (k j : Option Kind) (r q : Rights) → IsTrue (below (Has a k r) (Has b j q)) → IsTrue (below (Has false k r) (Has false j q))
 sure_below a b k j r q h = let p = has_parts a b k j r q h in has_from false false k j r q refl p.1 p.2
@@ -74,18 +71,13 @@ tag_there n h k = let z : n ≡ 0 = (Decides-eqb n 0).0 k in let b : leb ANY 0 �
 pub known_there_below : (s t : State) (r : ℕ) (v w : AbsVal) → IsBelow s t → IsTrue (below v w) → WayBelow (known_there s r v) (known_there t r w)
 unfolding below
 known_there_below s t r (Has a k q) (Has b j p) h e = set_below s t r _ _ h (sure_below a b k j q p e)
-known_there_below s t r (Has _ _ _) (Word _) h e = cc
-known_there_below s t r (Has _ _ _) (KindOf _) h e = cc
-known_there_below s t r (Has _ _ _) (RightsOf _) h e = cc
 known_there_below s t r (Word m) (Has b j p) h e = let z = (zero_of m b j p e).0 in rw z tt
 known_there_below s t r (Word m) (Word n) h e = way_refl s t h (eqb m 0) (eqb n 0) (zero_kept m n e)
-known_there_below s t r (Word m) _ h e = cc
 known_there_below s t r (KindOf _) (Word n) h e = way_refl s t h false (eqb n 0) (λ k. absurd (tag_there n e k))
 known_there_below s t r (KindOf _) (KindOf _) h e = h
-known_there_below s t r (KindOf _) _ h e = cc
 known_there_below s t r (RightsOf _) (Word n) h e = way_refl s t h false (eqb n 0) (λ k. absurd (tag_there n e k))
 known_there_below s t r (RightsOf _) (RightsOf _) h e = h
-known_there_below s t r (RightsOf _) _ h e = cc
+known_there_below s t r _ _ h e = cc
 
 -- an edge that is followed where a test holds, with what it teaches
 way_if : (x y : Bool) (u v : State) → (x ≡ true → y ≡ true) → IsBelow u v → WayBelow (if x then Some u else None) (if y then Some v else None)
@@ -126,19 +118,14 @@ known_other_below s t (Some x) (Has a (Some k) q) (Has b (Some j) p) h e =
 known_other_below s t (Some x) (Has a (Some k) q) (Has b None p) h e = way_some s t (not a && same_kind x k) h
 known_other_below s t (Some x) (Has a None q) (Has b (Some j) p) h e = let c = (has_parts a b None (Some j) q p e).1 in cc
 known_other_below s t (Some x) (Has a None q) (Has b None p) h e = h
-known_other_below s t (Some x) (Has _ _ _) (Word _) h e = cc
-known_other_below s t (Some x) (Has _ _ _) (KindOf _) h e = cc
-known_other_below s t (Some x) (Has _ _ _) (RightsOf _) h e = cc
 known_other_below s t (Some x) (Word m) (Has b (Some j) p) h e = let z = (zero_of m b (Some j) p e).1 in rw z h
 known_other_below s t (Some x) (Word m) (Has b None p) h e = h
 known_other_below s t (Some x) (Word _) (Word _) h e = h
-known_other_below s t (Some x) (Word _) _ h e = cc
 known_other_below s t (Some x) (KindOf _) (Word _) h e = h
 known_other_below s t (Some x) (KindOf _) (KindOf _) h e = h
-known_other_below s t (Some x) (KindOf _) _ h e = cc
 known_other_below s t (Some x) (RightsOf _) (Word _) h e = h
 known_other_below s t (Some x) (RightsOf _) (RightsOf _) h e = h
-known_other_below s t (Some x) (RightsOf _) _ h e = cc
+known_other_below s t (Some x) _ _ h e = cc
 
 pub known_rights_below : (s t : State) (r imm : ℕ) (v w : AbsVal) → IsBelow s t → IsTrue (below v w)
     → WayBelow (known_rights s r imm v) (known_rights t r imm w)
@@ -272,17 +259,13 @@ equal_by s t a imm (Word m) (Word n) h e = (
     way_becomes true y k = tt
     way_becomes false false k = becomes_below a imm (Some s) (Some t) h
     way_becomes false true k = let z = k refl in cc
-equal_by s t a imm (Has _ _ _) (Word n) h e = cc
 equal_by s t a imm (KindOf r) (Word n) h e = subst (λ (w : Ways). WaysBelow (kind_ways s a imm r) w) (word_is_any t a imm n e) (kind_ways_any s t a imm r h)
 equal_by s t a imm (RightsOf r) (Word n) h e =
     subst (λ (w : Ways). WaysBelow (record { jumped = becomes a imm (Some s); passed = Some s }) w) (word_is_any t a imm n e)
     (becomes_below a imm (Some s) (Some t) h, h)
-equal_by s t a imm (Word m) (KindOf _) h e = cc
-equal_by s t a imm (Has _ _ _) (KindOf _) h e = cc
 equal_by s t a imm (KindOf r) (KindOf q) h e = let p : r ≡ q = (Decides-eqb r q).0 e in rw p (kind_ways_below s t a imm q h)
-equal_by s t a imm (RightsOf _) (KindOf _) h e = cc
 equal_by s t a imm (RightsOf _) (RightsOf _) h e = (becomes_below a imm (Some s) (Some t) h, h)
-equal_by s t a imm _ (RightsOf _) h e = cc
+equal_by s t a imm _ _ h e = cc
 
 pub equal_below : (s t : State) (a imm : ℕ) → IsBelow s t → Lowers WaysBelow (equal_ways s a imm (value_at s a)) (equal_ways t a imm (value_at t a))
 equal_below s t a imm h = equal_by s t a imm (value_at s a) (value_at t a) h (value_below s t a h)
@@ -290,23 +273,16 @@ equal_below s t a imm h = equal_by s t a imm (value_at s a) (value_at t a) h (va
 zero_by : (s t : State) (a : ℕ) (v w : AbsVal) → IsBelow s t → value_at s a ≡ v → IsTrue (below v w) → Lowers WaysBelow (zero_ways s a v) (zero_ways t a w)
 unfolding below
 zero_by s t a (Has x k q) (Has y j p) h e b = (known_zero_below s t a (Has x k q) (Has y j p) h e b, known_there_below s t a (Has x k q) (Has y j p) h b)
-zero_by s t a (Has _ _ _) (Word _) h e b = cc
-zero_by s t a (Has _ _ _) (KindOf _) h e b = cc
-zero_by s t a (Has _ _ _) (RightsOf _) h e b = cc
 zero_by s t a (Word m) (Has y j p) h e b =
     let z = zero_of m y j p b in
     let u : value_at s a ≡ Word 0 = e ∙ ap Word z.0 in
     rw (z.0, z.1) (set_below s t a (Word 0) (Word 0) h zero_zero, tt)
-zero_by s t a (KindOf _) (Has _ _ _) h e b = cc
-zero_by s t a (RightsOf _) (Has _ _ _) h e b = cc
 zero_by s t a (Word m) (Word n) h e b = equal_by s t a 0 (Word m) (Word n) h b
-zero_by s t a (Word m) _ h e b = cc
 zero_by s t a (KindOf r) (Word n) h e b = equal_by s t a 0 (KindOf r) (Word n) h b
 zero_by s t a (KindOf r) (KindOf q) h e b = equal_by s t a 0 (KindOf r) (KindOf q) h b
-zero_by s t a (KindOf r) (RightsOf _) h e b = cc
 zero_by s t a (RightsOf r) (Word n) h e b = equal_by s t a 0 (RightsOf r) (Word n) h b
-zero_by s t a (RightsOf r) (KindOf _) h e b = cc
 zero_by s t a (RightsOf r) (RightsOf q) h e b = equal_by s t a 0 (RightsOf r) (RightsOf q) h b
+zero_by s t a _ _ h e b = cc
 
 pub zero_below : (s t : State) (a : ℕ) → IsBelow s t → Lowers WaysBelow (zero_ways s a (value_at s a)) (zero_ways t a (value_at t a))
 zero_below s t a h = zero_by s t a (value_at s a) (value_at t a) h refl (value_below s t a h)
@@ -331,7 +307,6 @@ has_by : (s t : State) (imm : ℕ) (v w : AbsVal) → IsBelow s t → IsTrue (be
 unfolding below
 has_by s t imm v (Has _ _ _) h e = tt
 has_by s t imm (Word _) (Word _) h e = (h, h)
-has_by s t imm (Has _ _ _) (Word _) h e = cc
 has_by s t imm (KindOf _) (Word _) h e = (h, h)
 has_by s t imm (RightsOf r) (Word _) h e = (first (eqb imm 0), h)
   where
@@ -339,15 +314,12 @@ has_by s t imm (RightsOf r) (Word _) h e = (first (eqb imm 0), h)
     first true = h
     first false = rights_under s t r imm (value_at s r) h refl
 has_by s t imm (KindOf _) (KindOf _) h e = (h, h)
-has_by s t imm _ (KindOf _) h e = cc
-has_by s t imm (Word _) (RightsOf _) h e = cc
-has_by s t imm (Has _ _ _) (RightsOf _) h e = cc
-has_by s t imm (KindOf _) (RightsOf _) h e = cc
 has_by s t imm (RightsOf r) (RightsOf q) h e = let p : r ≡ q = (Decides-eqb r q).0 e in rw p (first (eqb imm 0), h)
   where
     first : (c : Bool) → WayBelow (if c then Some s else known_rights s q imm (value_at s q)) (if c then Some t else known_rights t q imm (value_at t q))
     first true = h
     first false = known_rights_below s t q imm (value_at s q) (value_at t q) h (value_below s t q h)
+has_by s t imm _ _ h e = cc
 
 pub has_below : (s t : State) (a imm : ℕ) → IsBelow s t → Lowers WaysBelow (has_ways s imm (value_at s a)) (has_ways t imm (value_at t a))
 has_below s t a imm h = has_by s t imm (value_at s a) (value_at t a) h (value_below s t a h)

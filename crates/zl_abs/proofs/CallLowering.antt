@@ -97,13 +97,9 @@ examined_all_below (o ∷ os) s t h =
 
 bound_kept : (v w : AbsVal) → IsTrue (below v w) → is_some (bound_of w) ≡ true → is_some (bound_of v) ≡ true
 unfolding below
-bound_kept v (Has _ _ _) h e = cc
-bound_kept (Word _) w h e = refl
-bound_kept (KindOf _) w h e = refl
-bound_kept (RightsOf _) w h e = refl
 bound_kept (Has _ _ _) (Word _) h e = cc
-bound_kept (Has _ _ _) (KindOf _) h e = cc
-bound_kept (Has _ _ _) (RightsOf _) h e = cc
+bound_kept (Has _ _ _) _ h e = cc
+bound_kept _ w h e = refl
 
 words_kept : (s t : State) (rs : List ℕ) → IsBelow s t → are_words t rs ≡ true → are_words s rs ≡ true
 words_kept s t [] h e = refl
@@ -120,14 +116,11 @@ bound_below : (v w : AbsVal) → IsTrue (below v w) → BoundBelow (bound_of v) 
 unfolding below
 bound_below v (Has _ _ _) h = tt
 bound_below (Word m) (Word n) h = leb_le m n h
-bound_below (Has _ _ _) (Word n) h = cc
 bound_below (KindOf _) (Word n) h = leb_le ANY n h
 bound_below (RightsOf _) (Word n) h = leb_le ANY n h
 bound_below (KindOf _) (KindOf _) h = omega arith
-bound_below _ (KindOf _) h = cc
-bound_below (Word m) _ h = cc
 bound_below (RightsOf _) (RightsOf _) h = omega arith
-bound_below _ (RightsOf _) h = cc
+bound_below _ _ h = cc
 
 sum_kept : (most : ℕ) (a b c d : Option ℕ) → BoundBelow a c → BoundBelow b d → sum_fits most c d ≡ true → sum_fits most a b ≡ true
 sum_kept most a b None d h k e = cc

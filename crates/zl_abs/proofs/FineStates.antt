@@ -6,6 +6,7 @@ use Rattle.zl_abs.proofs.Common.{ranges, refined, refl, replicate, retagged, rig
 use Rattle.zl_abs.proofs.Common.{subst, suc, sym, true, untagged, value_at, with_all, with_value, within, zero, ℕ, ◌+◌, ◌<◌, ◌∙◌, ◌∷◌, ◌≡◌, ◌≤◌}
 use Rattle.zl_rights.specs.declared.kind.Kind.TheVariants as kind
 use Rattle.zl_abs.specs.declared.value.AbsVal.TheVariants.{Word, Has, KindOf, RightsOf}
+use Rattle.zl_abs.proofs.Order.{either}
 
 -- ---- registers of a state that was written
 
@@ -69,16 +70,8 @@ Named v = can_be_named v ≡ true
 fits_untagged : (r : ℕ) (v : AbsVal) → Fits v → Fits (untagged r v)
 fits_untagged r (Word m) h = h
 fits_untagged r (Has a k q) h = h
-fits_untagged r (KindOf x) h = by (eqb x r)
-  where
-    by : (t : Bool) → Fits (if t then Word ANY else KindOf x)
-    by true = omega arith
-    by false = h
-fits_untagged r (RightsOf x) h = by (eqb x r)
-  where
-    by : (t : Bool) → Fits (if t then Word ANY else RightsOf x)
-    by true = omega arith
-    by false = h
+fits_untagged r (KindOf x) h = either Fits (eqb x r) (Word ANY) (KindOf x) (λ _. omega arith) (λ _. h)
+fits_untagged r (RightsOf x) h = either Fits (eqb x r) (Word ANY) (RightsOf x) (λ _. omega arith) (λ _. h)
 
 named_untagged : (r : ℕ) (v : AbsVal) → Named v → Named (untagged r v)
 named_untagged r (Word m) h = h
@@ -93,16 +86,10 @@ named_there s r x v e h = subst Named (sym (with_other s r x v e)) (named_untagg
 well_untagged : (s : State) (r : ℕ) (v w : AbsVal) → IsTrue (is_named_well s w) → IsTrue (is_named_well (with_value s r v) (untagged r w))
 well_untagged s r v (Word m) h = refl
 well_untagged s r v (Has a k q) h = refl
-well_untagged s r v (KindOf x) h = by (eqb x r) refl
-  where
-    by : (t : Bool) → eqb x r ≡ t → IsTrue (is_named_well (with_value s r v) (if t then Word ANY else KindOf x))
-    by true e = refl
-    by false e = named_there s r x v e h
-well_untagged s r v (RightsOf x) h = by (eqb x r) refl
-  where
-    by : (t : Bool) → eqb x r ≡ t → IsTrue (is_named_well (with_value s r v) (if t then Word ANY else RightsOf x))
-    by true e = refl
-    by false e = named_there s r x v e h
+well_untagged s r v (KindOf x) h =
+    either (λ w. IsTrue (is_named_well (with_value s r v) w)) (eqb x r) (Word ANY) (KindOf x) (λ _. refl) (λ e. named_there s r x v e h)
+well_untagged s r v (RightsOf x) h =
+    either (λ w. IsTrue (is_named_well (with_value s r v) w)) (eqb x r) (Word ANY) (RightsOf x) (λ _. refl) (λ e. named_there s r x v e h)
 
 pub fine_with : (s : State) (r : ℕ) (v : AbsVal) → IsFine s → Suits s v → IsFine (with_value s r v)
 fine_with s r v h k = record {
@@ -162,16 +149,8 @@ named_retagged b a _ h = cc
 fits_retagged : (b a : ℕ) (v : AbsVal) → a < 32 → Fits v → Fits (retagged b a v)
 fits_retagged b a (Word m) less h = h
 fits_retagged b a (Has x k q) less h = h
-fits_retagged b a (KindOf x) less h = by (eqb x b)
-  where
-    by : (t : Bool) → Fits (if t then KindOf a else KindOf x)
-    by true = less
-    by false = h
-fits_retagged b a (RightsOf x) less h = by (eqb x b)
-  where
-    by : (t : Bool) → Fits (if t then RightsOf a else RightsOf x)
-    by true = less
-    by false = h
+fits_retagged b a (KindOf x) less h = either Fits (eqb x b) (KindOf a) (KindOf x) (λ _. less) (λ _. h)
+fits_retagged b a (RightsOf x) less h = either Fits (eqb x b) (RightsOf a) (RightsOf x) (λ _. less) (λ _. h)
 
 -- where the tags that named b name a, and b is 0
 module _ (t : State) (a b : ℕ) (there : Named (value_at t a)) where
@@ -187,16 +166,8 @@ module _ (t : State) (a b : ℕ) (there : Named (value_at t a)) where
   well_left : (w : AbsVal) → IsTrue (is_named_well t w) → IsTrue (is_named_well left (retagged b a w))
   well_left (Word m) h = refl
   well_left (Has x k q) h = refl
-  well_left (KindOf x) h = by (eqb x b)
-    where
-      by : (c : Bool) → IsTrue (is_named_well left (if c then KindOf a else KindOf x))
-      by true = named_left a there
-      by false = named_left x h
-  well_left (RightsOf x) h = by (eqb x b)
-    where
-      by : (c : Bool) → IsTrue (is_named_well left (if c then RightsOf a else RightsOf x))
-      by true = named_left a there
-      by false = named_left x h
+  well_left (KindOf x) h = either (λ w. IsTrue (is_named_well left w)) (eqb x b) (KindOf a) (KindOf x) (λ _. named_left a there) (λ _. named_left x h)
+  well_left (RightsOf x) h = either (λ w. IsTrue (is_named_well left w)) (eqb x b) (RightsOf a) (RightsOf x) (λ _. named_left a there) (λ _. named_left x h)
 
   fine_left : IsFine t → a < 32 → IsFine left
   fine_left h less = record {
@@ -218,10 +189,7 @@ joined_named (Word m) (Word n) h k = let p : eqb (larger m n) 0 ≡ true = grind
 joined_named (Word m) (Has x i r) h k = rw h refl
 joined_named (Has x i r) (Word n) h k = rw k refl
 joined_named (Has x i r) (Has y j q) h k = refl
-joined_named (KindOf r) b h k = cc
-joined_named (RightsOf r) b h k = cc
-joined_named (Word m) _ h k = cc
-joined_named (Has x i r) _ h k = cc
+joined_named _ _ h k = cc
 
 word_fits : (m n : ℕ) → m ≤ ANY → n ≤ ANY → larger m n ≤ ANY
 word_fits m n h k = grind (arith, nat_tests)
@@ -230,10 +198,6 @@ word_fits m n h k = grind (arith, nat_tests)
 handle_if : (P : AbsVal → Type 0) (t : Bool) (v : AbsVal) → P v → IfSome (if t then Some v else None) P
 handle_if P true v h = h
 handle_if P false v h = tt
-
-either : (P : AbsVal → Type 0) (t : Bool) (v w : AbsVal) → P v → P w → P (if t then v else w)
-either P true v w h k = h
-either P false v w h k = k
 
 joined_fits : (a b : AbsVal) → Fits a → Fits b → IfSome (joined a b) Fits
 unfolding joined
@@ -246,15 +210,21 @@ joined_fits (Has x i r) (Has y j q) h k = let z = and_le_l (bits r) (bits q) in 
 joined_fits (Has x i r) _ h k = tt
 joined_fits (KindOf r) (Word n) h k = word_fits n ANY k (omega arith)
 joined_fits (KindOf r) (Has x i q) h k = tt
-joined_fits (KindOf r) (KindOf q) h k = either Fits (eqb r q) (KindOf r) (Word ANY) h (omega arith)
+joined_fits (KindOf r) (KindOf q) h k = either Fits (eqb r q) (KindOf r) (Word ANY) (λ _. h) (λ _. omega arith)
 joined_fits (KindOf r) (RightsOf q) h k = omega arith
 joined_fits (RightsOf r) (Word n) h k = word_fits n ANY k (omega arith)
 joined_fits (RightsOf r) (Has x i q) h k = tt
-joined_fits (RightsOf r) (RightsOf q) h k = either Fits (eqb r q) (RightsOf r) (Word ANY) h (omega arith)
+joined_fits (RightsOf r) (RightsOf q) h k = either Fits (eqb r q) (RightsOf r) (Word ANY) (λ _. h) (λ _. omega arith)
 joined_fits (RightsOf r) (KindOf q) h k = omega arith
 
 -- what both states name, the third names
 module _ (s t u : State) (kept : (x : ℕ) → Named (value_at s x) → Named (value_at t x) → Named (value_at u x)) where
+  kept_well : (r q : ℕ) (v : AbsVal) → (Named (value_at u r) → IsTrue (is_named_well u v)) → Named (value_at s r) → Named (value_at t q)
+      → IsTrue (is_named_well u (if eqb r q then v else Word ANY))
+  kept_well r q v is h k =
+      either (λ w. IsTrue (is_named_well u w)) (eqb r q) v (Word ANY)
+      (λ e. is (kept r h (subst (λ (y : ℕ). Named (value_at t y)) (sym ((Decides-eqb r q).0 e)) k))) (λ _. refl)
+
   joined_well : (a b : AbsVal) → IsTrue (is_named_well s a) → IsTrue (is_named_well t b) → IfSome (joined a b) (λ v. IsTrue (is_named_well u v))
   unfolding joined
   joined_well (Word m) (Has x i r) h k = handle_if (λ v. IsTrue (is_named_well u v)) (eqb m 0) (Has true i r) refl
@@ -264,19 +234,11 @@ module _ (s t u : State) (kept : (x : ℕ) → Named (value_at s x) → Named (v
   joined_well (Has x i r) _ h k = tt
   joined_well (KindOf r) (Word n) h k = refl
   joined_well (KindOf r) (Has x i q) h k = tt
-  joined_well (KindOf r) (KindOf q) h k = by (eqb r q) refl
-    where
-      by : (c : Bool) → eqb r q ≡ c → IsTrue (is_named_well u (if c then KindOf r else Word ANY))
-      by true e = let p : r ≡ q = (Decides-eqb r q).0 e in kept r h (subst (λ (y : ℕ). Named (value_at t y)) (sym p) k)
-      by false e = refl
+  joined_well (KindOf r) (KindOf q) h k = kept_well r q (KindOf r) (λ is. is) h k
   joined_well (KindOf r) (RightsOf q) h k = refl
   joined_well (RightsOf r) (Word n) h k = refl
   joined_well (RightsOf r) (Has x i q) h k = tt
-  joined_well (RightsOf r) (RightsOf q) h k = by (eqb r q) refl
-    where
-      by : (c : Bool) → eqb r q ≡ c → IsTrue (is_named_well u (if c then RightsOf r else Word ANY))
-      by true e = let p : r ≡ q = (Decides-eqb r q).0 e in kept r h (subst (λ (y : ℕ). Named (value_at t y)) (sym p) k)
-      by false e = refl
+  joined_well (RightsOf r) (RightsOf q) h k = kept_well r q (RightsOf r) (λ is. is) h k
   joined_well (RightsOf r) (KindOf q) h k = refl
 
 -- the join of two states, register by register

@@ -64,8 +64,7 @@ zero_known s r _ h = knows_itself s r h
 there_known : (s : State) (r : ℕ) (v : AbsVal) → IsFine s → Fits v → IfSome (known_there s r v) (Knows s r)
 there_known s r (Has a k q) h f = knows s r (Has false k q) h refl f refl
 there_known s r (Word m) h f = knows_itself_if s r (eqb m 0) h
-there_known s r (KindOf x) h f = knows_itself s r h
-there_known s r (RightsOf x) h f = knows_itself s r h
+there_known s r _ h f = knows_itself s r h
 
 kind_known : (s : State) (r : ℕ) (o : Option Kind) (v : AbsVal) → IsFine s → Fits v → IfSome (known_kind s r o v) (Knows s r)
 kind_known s r None v h f = tt
@@ -74,11 +73,8 @@ kind_known s r (Some x) _ h f = tt
 
 other_known : (s : State) (r : ℕ) (o : Option Kind) (v : AbsVal) → IsFine s → IfSome (known_other s o v) (Knows s r)
 other_known s r None v h = knows_itself s r h
-other_known s r (Some x) (Has a None q) h = knows_itself s r h
 other_known s r (Some x) (Has a (Some k) q) h = knows_itself_if s r (not a && same_kind x k) h
-other_known s r (Some x) (Word m) h = knows_itself s r h
-other_known s r (Some x) (KindOf y) h = knows_itself s r h
-other_known s r (Some x) (RightsOf y) h = knows_itself s r h
+other_known s r (Some x) _ h = knows_itself s r h
 
 gained_fit : (q imm : ℕ) → q ≤ 0xffff_ffff → within imm KNOWN_RIGHTS ≡ true → bit_or q imm ≤ 0xffff_ffff
 gained_fit q imm h e =
@@ -90,7 +86,6 @@ gained_fit q imm h e =
 rights_known : (s : State) (r imm : ℕ) (v : AbsVal) → IsFine s → Fits v → IfSome (known_rights s r imm v) (Knows s r)
 rights_known s r imm (Has a k q) h f =
     knows_if s r (Has false k (rights_of (bit_or (bits q) imm))) (within imm KNOWN_RIGHTS) h refl (gained_fit (bits q) imm f) refl
-rights_known s r imm (Word m) h f = tt
 rights_known s r imm _ h f = tt
 
 -- ---- jumps

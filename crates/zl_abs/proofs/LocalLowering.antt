@@ -60,12 +60,10 @@ move_below : (v w : AbsVal) → IsTrue (below v w) → may_move w ≡ true → m
 unfolding below
 move_below (Word m) (Word n) h k = grind (arith, nat_tests)
 move_below (Word m) (Has x y z) h k = (and_parts (eqb m 0) x h).0
-move_below (Word m) _ h k = cc
 move_below (Has _ _ _) w h k = refl
 move_below (KindOf _) (Word n) h k = absurd (tag_apart n h k)
-move_below (KindOf _) _ h k = cc
 move_below (RightsOf _) (Word n) h k = absurd (tag_apart n h k)
-move_below (RightsOf _) _ h k = cc
+move_below _ _ h k = cc
 
 takes_below : (s t : State) (a b : ℕ) → IsBelow s t → Lowers WaysBelow (takes s a b) (takes t a b)
 takes_below s t a b h =

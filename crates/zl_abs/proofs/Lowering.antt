@@ -57,36 +57,32 @@ not_kept false false h e = cc
 pub value_below : (s t : State) (r : ℕ) → IsBelow s t → IsTrue (below (value_at s r) (value_at t r))
 unfolding all_below
 value_below [] [] r h = below_refl (Word 0)
-value_below [] (b ∷ t) r h = cc
-value_below (a ∷ s) [] r h = cc
 value_below (a ∷ s) (b ∷ t) zero h = (and_parts (below a b) (all_below s t) h).0
 value_below (a ∷ s) (b ∷ t) (suc r) h = value_below s t r ((and_parts (below a b) (all_below s t) h).1)
+value_below _ _ r h = cc
 
 pub set_below : (s t : State) (r : ℕ) (v w : AbsVal) → IsBelow s t → IsTrue (below v w) → IsBelow (slice_set s r v) (slice_set t r w)
 unfolding all_below
 set_below [] [] r v w h k = h
-set_below [] (b ∷ t) r v w h k = cc
-set_below (a ∷ s) [] r v w h k = cc
 set_below (a ∷ s) (b ∷ t) zero v w h k = and _ _ k ((and_parts (below a b) (all_below s t) h).1)
 set_below (a ∷ s) (b ∷ t) (suc r) v w h k = let p = and_parts (below a b) (all_below s t) h in and _ _ p.0 (set_below s t r v w p.1 k)
+set_below _ _ r v w h k = cc
 
 -- the lower state has already what the upper gets
 pub set_above : (s t : State) (r : ℕ) (w : AbsVal) → IsBelow s t → IsTrue (below (value_at s r) w) → IsBelow s (slice_set t r w)
 unfolding all_below
 set_above [] [] r w h k = h
-set_above [] (b ∷ t) r w h k = cc
-set_above (a ∷ s) [] r w h k = cc
 set_above (a ∷ s) (b ∷ t) zero w h k = and _ _ k ((and_parts (below a b) (all_below s t) h).1)
 set_above (a ∷ s) (b ∷ t) (suc r) w h k = let p = and_parts (below a b) (all_below s t) h in and _ _ p.0 (set_above s t r w p.1 k)
+set_above _ _ r w h k = cc
 
 -- more is known below
 pub set_under : (s t : State) (r : ℕ) (v : AbsVal) → IsBelow s t → IsTrue (below v (value_at t r)) → IsBelow (slice_set s r v) t
 unfolding all_below
 set_under [] [] r v h k = h
-set_under [] (b ∷ t) r v h k = cc
-set_under (a ∷ s) [] r v h k = cc
 set_under (a ∷ s) (b ∷ t) zero v h k = and _ _ k ((and_parts (below a b) (all_below s t) h).1)
 set_under (a ∷ s) (b ∷ t) (suc r) v h k = let p = and_parts (below a b) (all_below s t) h in and _ _ p.0 (set_under s t r v p.1 k)
+set_under _ _ r v h k = cc
 
 pub map_below : (f : AbsVal → AbsVal) → ((v w : AbsVal) → IsTrue (below v w) → IsTrue (below (f v) (f w))) → (s t : State) → IsBelow s t
     → IsBelow (map f s) (map f t)
@@ -135,13 +131,9 @@ moved_below s t a b v w h k =
 -- a lower value is a handle only where the upper is
 pub no_has : (v w : AbsVal) → IsTrue (below v w) → is_has w ≡ false → is_has v ≡ false
 unfolding below
-no_has (Word m) w h k = refl
-no_has (KindOf r) w h k = refl
-no_has (RightsOf r) w h k = refl
 no_has (Has x y z) (Word m) h k = cc
-no_has (Has x y z) (Has _ _ _) h k = cc
-no_has (Has x y z) (KindOf _) h k = cc
-no_has (Has x y z) (RightsOf _) h k = cc
+no_has (Has x y z) _ h k = cc
+no_has _ w h k = refl
 
 pub leb_le : (m n : ℕ) → leb m n ≡ true → m ≤ n
 leb_le m n h = grind (arith, nat_tests)

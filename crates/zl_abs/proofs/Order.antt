@@ -33,6 +33,11 @@ parts true true false h = cc
 parts true false _ h = cc
 parts false _ _ h = cc
 
+-- what holds of both that a test chooses from
+pub either : {A : Type 0} (P : A → Type 0) (t : Bool) (v w : A) → (t ≡ true → P v) → (t ≡ false → P w) → P (if t then v else w)
+either P true v w f g = f refl
+either P false v w f g = g refl
+
 -- ---- flags, kinds, rights
 
 pub or_trans : (x y z : Bool) → (not x || y) ≡ true → (not y || z) ≡ true → (not x || z) ≡ true
@@ -142,20 +147,13 @@ or_true false = refl
 kind_left : (a b : Option Kind) → kind_below a (kind_joined a b) ≡ true
 kind_left None b = refl
 kind_left (Some j) None = refl
-kind_left (Some j) (Some k) = by (same_kind j k)
-  where
-    by : (t : Bool) → kind_below (Some j) (if t then Some j else None) ≡ true
-    by true = same_kind_refl j
-    by false = refl
+kind_left (Some j) (Some k) = either (λ o. kind_below (Some j) o ≡ true) (same_kind j k) (Some j) None (λ _. same_kind_refl j) (λ _. refl)
 
 kind_right : (a b : Option Kind) → kind_below b (kind_joined a b) ≡ true
 kind_right None b = refl
 kind_right (Some j) None = refl
-kind_right (Some j) (Some k) = by (same_kind j k) refl
-  where
-    by : (t : Bool) → same_kind j k ≡ t → kind_below (Some k) (if t then Some j else None) ≡ true
-    by true h = rw (same_kind_is j k h) (same_kind_refl k)
-    by false h = refl
+kind_right (Some j) (Some k) =
+    either (λ o. kind_below (Some k) o ≡ true) (same_kind j k) (Some j) None (λ h. rw (same_kind_is j k h) (same_kind_refl k)) (λ _. refl)
 
 within_left : (a b : ℕ) → within (bit_and a b) a ≡ true
 within_left a b = within_is _ _ (let e = and_assoc b a a in let f = and_self a in cc)
@@ -170,11 +168,7 @@ word_right : (m n : ℕ) → leb n (if leb m n then n else m) ≡ true
 word_right m n = grind (arith, nat_tests)
 
 zero_case : (m : ℕ) (c : AbsVal) → (m ≡ 0 → JoinIsAbove (Word m) (Some c)) → JoinIsAbove (Word m) (if eqb m 0 then Some c else None)
-zero_case m c f = by (eqb m 0) refl
-  where
-    by : (t : Bool) → eqb m 0 ≡ t → JoinIsAbove (Word m) (if t then Some c else None)
-    by true h = f ((Decides-eqb m 0).0 h)
-    by false h = tt
+zero_case m c f = either (JoinIsAbove (Word m)) (eqb m 0) (Some c) None (λ h. f ((Decides-eqb m 0).0 h)) (λ _. tt)
 
 some_case : (t : Bool) (v c : AbsVal) → IsTrue (below v c) → JoinIsAbove v (if t then Some c else None)
 some_case true v c h = h
@@ -182,11 +176,7 @@ some_case false v c h = tt
 
 -- what two tags become is above a value that the first is above if they are equal, and any word
 tag_above : (r s : ℕ) (u v : AbsVal) → (r ≡ s → IsTrue (below u v)) → IsTrue (below u (Word ANY)) → IsTrue (below u (if eqb r s then v else Word ANY))
-tag_above r s u v f h = by (eqb r s) refl
-  where
-    by : (t : Bool) → eqb r s ≡ t → IsTrue (below u (if t then v else Word ANY))
-    by true e = f ((Decides-eqb r s).0 e)
-    by false e = h
+tag_above r s u v f h = either (λ w. IsTrue (below u w)) (eqb r s) v (Word ANY) (λ e. f ((Decides-eqb r s).0 e)) (λ _. h)
 
 pub joined_left : (a b : AbsVal) → JoinIsAbove a (joined a b)
 unfolding below joined
@@ -268,11 +258,7 @@ zero_least m a b k l r s h g =
 
 tags_least : (r s : ℕ) (x y : AbsVal) (d : AbsVal) → (r ≡ s → IsTrue (below x d)) → (eqb r s ≡ false → IsTrue (below y d))
     → IsTrue (below (if eqb r s then x else y) d)
-tags_least r s x y d f g = by (eqb r s) refl
-  where
-    by : (t : Bool) → eqb r s ≡ t → IsTrue (below (if t then x else y) d)
-    by true h = f ((Decides-eqb r s).0 h)
-    by false h = g h
+tags_least r s x y d f g = either (λ w. IsTrue (below w d)) (eqb r s) x y (λ h. f ((Decides-eqb r s).0 h)) g
 
 zero_zero : (m n : ℕ) (x : Bool) → (eqb m 0 && x) ≡ true → (eqb n 0 && x) ≡ true → (eqb (larger m n) 0 && x) ≡ true
 zero_zero m n x h k =

@@ -14,13 +14,11 @@ all_below_refl (a ∷ s) = and _ _ (below_refl a) (all_below_refl s)
 pub all_below_trans : (s t u : List AbsVal) → IsTrue (all_below s t) → IsTrue (all_below t u) → IsTrue (all_below s u)
 unfolding all_below
 all_below_trans [] [] u h k = k
-all_below_trans [] (b ∷ t) u h k = cc
-all_below_trans (a ∷ s) [] u h k = cc
-all_below_trans (a ∷ s) (b ∷ t) [] h k = cc
 all_below_trans (a ∷ s) (b ∷ t) (c ∷ u) h k =
     let p = and_parts (below a b) (all_below s t) h in
     let q = and_parts (below b c) (all_below t u) k in
     and _ _ (below_trans a b c p.0 q.0) (all_below_trans s t u p.1 q.1)
+all_below_trans _ _ _ h k = cc
 
 pub all_joined_left : (s t : List AbsVal) → JoinIsAllAbove s (all_joined s t)
 unfolding all_below all_joined

@@ -4,7 +4,7 @@ use Rattle.zl_abs.proofs.Common.{becomes, below, below_ways, bit_or, bits, cappe
 use Rattle.zl_abs.proofs.Common.{kind_ways, known_kind, known_other, known_rights, known_there, known_zero, leb, ltb, nat_tests, not, refined, refl, rights_of}
 use Rattle.zl_abs.proofs.Common.{same_kind, smaller, subst, true, value_at, within, word_at, zero_ways, ℕ, ◌&&◌, ◌-◌, ◌<◌, ◌||◌, ◌∙◌, ◌≡◌, ◌≤◌}
 use Rattle.zl_abs.specs.declared.value.AbsVal.TheVariants.{Word, Has, KindOf, RightsOf}
-use Rattle.zl_abs.proofs.Order.{below_refl, kind_trans, kind_refl, within_refl, parts, three, same_kind_is}
+use Rattle.zl_abs.proofs.Order.{below_refl, either, kind_trans, kind_refl, within_refl, parts, three, same_kind_is}
 use Rattle.zl_abs.proofs.StateOrder.{all_below_refl, all_below_trans}
 use Rattle.zl_abs.proofs.Lowering.{Lowers, IsBelow, WayBelow, WaysBelow, lowers_then, value_below, set_below, set_above, set_under, leb_le, word_at_below}
 use Rattle.zl_abs.proofs.Lowering.{word_below}
@@ -93,9 +93,7 @@ known_kind_below s t r (Some x) (Has a k q) (Has b j p) h e =
     let c = has_parts a b k j q p e in
     way_if (kind_below (Some x) k) (kind_below (Some x) j) _ _ (λ y. kind_trans (Some x) k j y c.1)
     (set_below s t r _ _ h (has_from false false (Some x) (Some x) q p refl (kind_refl (Some x)) c.2))
-known_kind_below s t r (Some x) (Has _ _ _) (Word _) h e = cc
-known_kind_below s t r (Some x) (Has _ _ _) (KindOf _) h e = cc
-known_kind_below s t r (Some x) (Has _ _ _) (RightsOf _) h e = cc
+known_kind_below s t r (Some x) (Has _ _ _) _ h e = cc
 known_kind_below s t r (Some x) _ w h e = tt
 
 other_kept : (a b : Bool) (x k j : Kind) → (not a || b) ≡ true → same_kind k j ≡ true → (not b && same_kind x j) ≡ true → (not a && same_kind x k) ≡ true
@@ -135,9 +133,7 @@ known_rights_below s t r imm (Has a k q) (Has b j p) h e =
     way_if (within imm KNOWN_RIGHTS) (within imm KNOWN_RIGHTS) _ _ (λ y. y)
     (set_below s t r _ _ h
     (has_from false false k j (rights_of (bit_or (bits q) imm)) (rights_of (bit_or (bits p) imm)) refl c.1 (within_gained (bits p) (bits q) imm c.2)))
-known_rights_below s t r imm (Has _ _ _) (Word _) h e = cc
-known_rights_below s t r imm (Has _ _ _) (KindOf _) h e = cc
-known_rights_below s t r imm (Has _ _ _) (RightsOf _) h e = cc
+known_rights_below s t r imm (Has _ _ _) _ h e = cc
 known_rights_below s t r imm _ w h e = tt
 
 -- ---- what is known below is below
@@ -155,31 +151,22 @@ zero_under s t r _ h e = h
 
 there_under : (s t : State) (r : ℕ) (v : AbsVal) → IsBelow s t → value_at s r ≡ v → WayBelow (known_there s r v) (Some t)
 there_under s t r (Word m) h e = way_some s t (eqb m 0) h
-there_under s t r (KindOf _) h e = h
-there_under s t r (RightsOf _) h e = h
 there_under s t r (Has a k q) h e =
     all_below_trans _ s t (set_under s s r (Has false k q) (all_below_refl s) (rw e (has_from false a k k q q refl (kind_refl k) (within_refl (bits q))))) h
+there_under s t r _ h e = h
 
 kind_under : (s t : State) (r : ℕ) (o : Option Kind) (v : AbsVal) → IsBelow s t → value_at s r ≡ v → WayBelow (known_kind s r o v) (Some t)
 kind_under s t r None v h e = tt
-kind_under s t r (Some x) (Word _) h e = tt
-kind_under s t r (Some x) (KindOf _) h e = tt
-kind_under s t r (Some x) (RightsOf _) h e = tt
-kind_under s t r (Some x) (Has a k q) h e = by (kind_below (Some x) k) refl
-  where
-    by : (c : Bool) → kind_below (Some x) k ≡ c → WayBelow (if c then Some (refined s r (Has false (Some x) q)) else None) (Some t)
-    by false y = tt
-    by true y =
-        all_below_trans _ s t
-        (set_under s s r (Has false (Some x) q) (all_below_refl s) (rw e (has_from false a (Some x) k q q refl y (within_refl (bits q))))) h
+kind_under s t r (Some x) (Has a k q) h e =
+    either (λ o. WayBelow o (Some t)) (kind_below (Some x) k) (Some (refined s r (Has false (Some x) q))) None
+    (λ y. all_below_trans _ s t
+    (set_under s s r (Has false (Some x) q) (all_below_refl s) (rw e (has_from false a (Some x) k q q refl y (within_refl (bits q))))) h) (λ _. tt)
+kind_under s t r (Some x) _ h e = tt
 
 other_under : (s t : State) (o : Option Kind) (v : AbsVal) → IsBelow s t → WayBelow (known_other s o v) (Some t)
 other_under s t None v h = h
-other_under s t (Some x) (Word _) h = h
-other_under s t (Some x) (KindOf _) h = h
-other_under s t (Some x) (RightsOf _) h = h
-other_under s t (Some x) (Has a None q) h = h
 other_under s t (Some x) (Has a (Some k) q) h = way_some s t (not a && same_kind x k) h
+other_under s t (Some x) _ h = h
 
 rights_under : (s t : State) (r imm : ℕ) (v : AbsVal) → IsBelow s t → value_at s r ≡ v → WayBelow (known_rights s r imm v) (Some t)
 rights_under s t r imm (Has a k q) h e =
@@ -308,11 +295,8 @@ unfolding below
 has_by s t imm v (Has _ _ _) h e = tt
 has_by s t imm (Word _) (Word _) h e = (h, h)
 has_by s t imm (KindOf _) (Word _) h e = (h, h)
-has_by s t imm (RightsOf r) (Word _) h e = (first (eqb imm 0), h)
-  where
-    first : (c : Bool) → WayBelow (if c then Some s else known_rights s r imm (value_at s r)) (Some t)
-    first true = h
-    first false = rights_under s t r imm (value_at s r) h refl
+has_by s t imm (RightsOf r) (Word _) h e =
+    (either (λ o. WayBelow o (Some t)) (eqb imm 0) (Some s) _ (λ _. h) (λ _. rights_under s t r imm (value_at s r) h refl), h)
 has_by s t imm (KindOf _) (KindOf _) h e = (h, h)
 has_by s t imm (RightsOf r) (RightsOf q) h e = let p : r ≡ q = (Decides-eqb r q).0 e in rw p (first (eqb imm 0), h)
   where

@@ -3,7 +3,8 @@ use Rattle.zl_abs.proofs.Common.{ANY, AbsVal, Bool, Decides-eqb, IsTrue, Kind, N
 use Rattle.zl_abs.proofs.Common.{arith, below, bit_and, bits, eqb, false, joined, kind_below, kind_joined, larger, leb, nat_tests, not, refl, rights_of, sym}
 use Rattle.zl_abs.proofs.Common.{true, within, ℕ, ◌&&◌, ◌||◌, ◌∙◌, ◌∷◌, ◌≡◌}
 use Rattle.zl_abs.specs.declared.value.AbsVal.TheVariants.{Word, Has, KindOf, RightsOf}
-use Rattle.zl_abs.proofs.Order.{same_kind_is, same_kind_refl, parts, both, is_within}
+use Rattle.zl_abs.proofs.Order.{same_kind_is, same_kind_refl, parts, is_within}
+use Rattle.std.proofs.lemmas.Bool.{and_parts}
 
 -- ---- joins
 
@@ -32,7 +33,7 @@ unfolding below joined
 absorbs (Word m) (Word n) h = ap (λ (x : ℕ). Some (Word x)) (larger_same m n h)
 absorbs (Word m) (KindOf _) h = ap (λ (x : ℕ). Some (Word x)) (larger_same m ANY h)
 absorbs (Word m) (RightsOf _) h = ap (λ (x : ℕ). Some (Word x)) (larger_same m ANY h)
-absorbs (Has a k r) (Word n) h = let p = both (eqb n 0) a h in rw (p.0, p.1) refl
+absorbs (Has a k r) (Word n) h = let p = and_parts (eqb n 0) a h in rw (p.0, p.1) refl
 absorbs (Has a k r) (Has b j q) h = ap Some (has_same a b k j r q h)
 absorbs (KindOf r) (KindOf s) h = let p : eqb r s ≡ true = grind (arith, nat_tests) in rw p refl
 absorbs (RightsOf r) (RightsOf s) h = let p : eqb r s ≡ true = grind (arith, nat_tests) in rw p refl
@@ -41,7 +42,7 @@ absorbs _ _ h = cc
 pub all_absorb : (s t : State) → IsTrue (all_below t s) → all_joined s t ≡ Some s
 unfolding all_below all_joined
 all_absorb [] [] h = refl
-all_absorb (a ∷ s) (b ∷ t) h = let p = both (below b a) (all_below t s) h in rw (absorbs a b (p.0), all_absorb s t (p.1)) refl
+all_absorb (a ∷ s) (b ∷ t) h = let p = and_parts (below b a) (all_below t s) h in rw (absorbs a b (p.0), all_absorb s t (p.1)) refl
 all_absorb _ _ h = cc
 
 -- ---- the order
@@ -83,6 +84,6 @@ all_below_antisymmetric [] [] h k = refl
 all_below_antisymmetric [] (b ∷ t) h k = cc
 all_below_antisymmetric (a ∷ s) [] h k = cc
 all_below_antisymmetric (a ∷ s) (b ∷ t) h k =
-    let p = both (below a b) (all_below s t) h in
-    let q = both (below b a) (all_below t s) k in
+    let p = and_parts (below a b) (all_below s t) h in
+    let q = and_parts (below b a) (all_below t s) k in
     rw (below_antisymmetric a b p.0 q.0, all_below_antisymmetric s t p.1 q.1) refl

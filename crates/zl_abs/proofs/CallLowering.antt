@@ -8,11 +8,12 @@ use Rattle.zl_abs.proofs.Common.{uses, uses_of, value_at, values_by, values_of, 
 use Rattle.zl_abs.specs.declared.value.AbsVal.TheVariants.{Word, Has, KindOf, RightsOf}
 use Rattle.zl_abs.specs.declared.cause.Cause.TheVariants as cause
 use Rattle.zl_abs.proofs.Order.{below_refl, same_kind_is, within_trans, within_refl}
-use Rattle.zl_abs.proofs.StateOrder.{and, all_below_refl}
-use Rattle.zl_abs.proofs.Lowering.{Lowers, IsBelow, WaysBelow, lowers_then, lowers_unless, not_kept, value_below, with_below, no_has, leb_le, le_leb}
+use Rattle.zl_abs.proofs.StateOrder.{all_below_refl}
+use Rattle.zl_abs.proofs.Lowering.{Lowers, IsBelow, WaysBelow, lowers_then, lowers_unless, not_kept, value_below, with_below, no_has}
 use Rattle.zl_abs.proofs.TestLowering.{has_parts, has_from, zero_of, tag_there}
 use Rattle.zl_abs.proofs.LocalLowering.{no_some}
 use Rattle.zl_code.proofs.Common.{Condition, not-false, or_parts}
+use Rattle.std.proofs.lemmas.Bool.{and_from, leb-true, le-leb}
 
 -- ---- handle operands
 
@@ -105,7 +106,7 @@ words_kept : (s t : State) (rs : List ℕ) → IsBelow s t → are_words t rs �
 words_kept s t [] h e = refl
 words_kept s t (r ∷ rs) h e =
     let p = and_parts (is_some (bound_at t r)) (are_words t rs) e in
-    and _ _ (bound_kept _ _ (value_below s t r h) p.0) (words_kept s t rs h p.1)
+    and_from _ _ (bound_kept _ _ (value_below s t r h) p.0) (words_kept s t rs h p.1)
 
 abbrev BoundBelow : Option ℕ → Option ℕ → Type 0
 BoundBelow o None = Unit {0}
@@ -115,9 +116,9 @@ BoundBelow (Some m) (Some n) = m ≤ n
 bound_below : (v w : AbsVal) → IsTrue (below v w) → BoundBelow (bound_of v) (bound_of w)
 unfolding below
 bound_below v (Has _ _ _) h = tt
-bound_below (Word m) (Word n) h = leb_le m n h
-bound_below (KindOf _) (Word n) h = leb_le ANY n h
-bound_below (RightsOf _) (Word n) h = leb_le ANY n h
+bound_below (Word m) (Word n) h = leb-true m n h
+bound_below (KindOf _) (Word n) h = leb-true ANY n h
+bound_below (RightsOf _) (Word n) h = leb-true ANY n h
 bound_below (KindOf _) (KindOf _) h = omega arith
 bound_below (RightsOf _) (RightsOf _) h = omega arith
 bound_below _ _ h = cc
@@ -127,7 +128,7 @@ sum_kept most a b None d h k e = cc
 sum_kept most a b (Some m) None h k e = cc
 sum_kept most None b (Some m) (Some n) h k e = absurd h
 sum_kept most (Some x) None (Some m) (Some n) h k e = absurd k
-sum_kept most (Some x) (Some y) (Some m) (Some n) h k e = le_leb _ _ (let p = leb_le (m + n) most e in omega arith)
+sum_kept most (Some x) (Some y) (Some m) (Some n) h k e = le-leb _ _ (let p = leb-true (m + n) most e in omega arith)
 
 range_kept : (i : Image) (s t : State) (o : Option (ℕ × ℕ)) → IsBelow s t → range_fits i t o ≡ true → range_fits i s o ≡ true
 range_kept i s t None h e = refl
@@ -145,16 +146,14 @@ ResultsBelow (x ∷ xs) [] = ⊥
 
 same_result : (r : ℕ) (xs ys : List (ℕ × AbsVal)) → ResultsBelow xs ys → is_result xs r ≡ is_result ys r
 same_result r [] [] h = refl
-same_result r [] (y ∷ ys) h = absurd h
-same_result r (x ∷ xs) [] h = absurd h
 same_result r (x ∷ xs) (y ∷ ys) h = rw (h.0, same_result r xs ys (h.2)) refl
+same_result r _ _ h = absurd h
 
 same_distinct : (xs ys : List (ℕ × AbsVal)) → ResultsBelow xs ys → are_distinct xs ≡ are_distinct ys
 unfolding are_distinct
 same_distinct [] [] h = refl
-same_distinct [] (y ∷ ys) h = absurd h
-same_distinct (x ∷ xs) [] h = absurd h
 same_distinct (x ∷ xs) (y ∷ ys) h = rw (h.0, same_result (y.0) xs ys (h.2), same_distinct xs ys (h.2)) refl
+same_distinct _ _ h = absurd h
 
 none_kept : (s t : State) (xs ys : List (ℕ × AbsVal)) → IsBelow s t → ResultsBelow xs ys → has_one t ys ≡ false → has_one s xs ≡ false
 none_kept s t [] [] h k e = refl
@@ -216,7 +215,7 @@ narrowed_below _ _ asked h = refl
 
 one_below : (v w : AbsVal) → IsTrue (below v w) → IsTrue (all_below (v ∷ []) (w ∷ []))
 unfolding all_below
-one_below v w h = and _ _ h refl
+one_below v w h = and_from _ _ h refl
 
 given_below : (bounds : List ℕ) (g : Gives) (v w : AbsVal) (number : ℕ) → IsTrue (below v w)
     → IsTrue (all_below (values_by bounds g v number) (values_by bounds g w number))
@@ -234,13 +233,12 @@ zip_below : (rs : List ℕ) (vs ws : List AbsVal) (more : List (ℕ × AbsVal)) 
 unfolding all_below
 zip_below [] vs ws more h = same_below more
 zip_below (r ∷ rs) [] [] more h = same_below more
-zip_below (r ∷ rs) [] (w ∷ ws) more h = cc
-zip_below (r ∷ rs) (v ∷ vs) [] more h = cc
 zip_below (r ∷ rs) (v ∷ vs) (w ∷ ws) more h = let p = and_parts (below v w) (all_below vs ws) h in (refl, p.0, zip_below rs vs ws more p.1)
+zip_below (r ∷ rs) _ _ more h = cc
 
 status_first : (vs ws : List AbsVal) → IsTrue (all_below vs ws) → IsTrue (all_below (Word 30 ∷ vs) (Word 30 ∷ ws))
 unfolding all_below
-status_first vs ws h = and _ _ (below_refl (Word 30)) h
+status_first vs ws h = and_from _ _ (below_refl (Word 30)) h
 
 way_on : (on : Bool) (u v : State) → IsBelow u v → WaysBelow (if on then passes u else stops) (if on then passes v else stops)
 way_on true u v h = (tt, h)

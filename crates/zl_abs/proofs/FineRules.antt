@@ -19,6 +19,7 @@ use Rattle.zl_abs.specs.declared.cause.Cause.TheVariants as cause
 use Rattle.zl_abs.proofs.FineStates.{Suits, Named, is_plain, named_self, named_there, plain_suits, fine_with, fine_moved, rights_fit}
 use Rattle.zl_abs.proofs.FineTests.{FineWays, then_fine, IsBound, word_fine, zero_fine, equal_fine, below_fine, has_fine}
 use Rattle.zl_code.proofs.Common.{not-false}
+use Rattle.std.proofs.lemmas.Bool.{cond_both}
 
 if_fine : {B : Type 0} (Q : B → Type 0) (t : Bool) (x : Result B Cause) (c : Cause) → IfOk x Q → IfOk (if t then x else Err c) Q
 if_fine Q true x c h = h
@@ -134,11 +135,7 @@ local_fine bounds i (local.JumpHasNot a imm target) s g r h = unless_ways _ (has
 -- ---- the calls
 
 taken_fine : (s : State) (o : Operand) → IsFine s → IsFine (taken_from s o)
-taken_fine s o h = by o.is_taken
-  where
-    by : (b : Bool) → IsFine (if b then with_value s o.value (Word 0) else s)
-    by true = fine_with s o.value (Word 0) h (omega arith, refl)
-    by false = h
+taken_fine s o h = cond_both o.is_taken (with_value s o.value (Word 0)) s IsFine (λ _. fine_with s o.value (Word 0) h (omega arith, refl)) (λ _. h)
 
 examined_fine : (s : State) (o : Operand) → IsFine s → IfOk (examined s o) IsFine
 examined_fine s o h = by (fault_of o (value_at s o.value))
@@ -177,12 +174,9 @@ zip_fine (r ∷ rs) [] more h k = k
 zip_fine (r ∷ rs) (v ∷ vs) more h k = λ t g. zip_fine rs vs more h.2 k (with_value t r v) (fine_with t r v g (plain_suits t v h.0 h.1))
 
 narrowed_values : (v : AbsVal) (asked : ℕ) → Fits v → AreValues (narrowed_value v asked ∷ [])
-narrowed_values (Has a k q) asked h = (refl, by (eqb asked SAME_RIGHTS), tt)
-  where
-    by : (t : Bool) → bits (if t then q else rights_of (bit_and asked KNOWN_RIGHTS)) ≤ 0xffff_ffff
-    by true = h
-    by false = let z = and_le_r asked KNOWN_RIGHTS in omega arith
-narrowed_values (Word m) asked h = (refl, omega arith, tt)
+narrowed_values (Has a k q) asked h =
+    let z = and_le_r asked KNOWN_RIGHTS in
+    (refl, cond_both (eqb asked SAME_RIGHTS) q (rights_of (bit_and asked KNOWN_RIGHTS)) (λ r. bits r ≤ 0xffff_ffff) (λ _. h) (λ _. omega arith), tt)
 narrowed_values _ asked h = (refl, omega arith, tt)
 
 -- a handle, and behind it its kind and its rights

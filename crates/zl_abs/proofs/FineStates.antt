@@ -6,7 +6,7 @@ use Rattle.zl_abs.proofs.Common.{ranges, refined, refl, replicate, retagged, rig
 use Rattle.zl_abs.proofs.Common.{subst, suc, sym, true, untagged, value_at, with_all, with_value, within, zero, ℕ, ◌+◌, ◌<◌, ◌∙◌, ◌∷◌, ◌≡◌, ◌≤◌}
 use Rattle.zl_rights.specs.declared.kind.Kind.TheVariants as kind
 use Rattle.zl_abs.specs.declared.value.AbsVal.TheVariants.{Word, Has, KindOf, RightsOf}
-use Rattle.zl_abs.proofs.Order.{either}
+use Rattle.std.proofs.lemmas.Bool.{cond_both}
 
 -- ---- registers of a state that was written
 
@@ -70,8 +70,8 @@ Named v = can_be_named v ≡ true
 fits_untagged : (r : ℕ) (v : AbsVal) → Fits v → Fits (untagged r v)
 fits_untagged r (Word m) h = h
 fits_untagged r (Has a k q) h = h
-fits_untagged r (KindOf x) h = either Fits (eqb x r) (Word ANY) (KindOf x) (λ _. omega arith) (λ _. h)
-fits_untagged r (RightsOf x) h = either Fits (eqb x r) (Word ANY) (RightsOf x) (λ _. omega arith) (λ _. h)
+fits_untagged r (KindOf x) h = cond_both (eqb x r) (Word ANY) (KindOf x) Fits (λ _. omega arith) (λ _. h)
+fits_untagged r (RightsOf x) h = cond_both (eqb x r) (Word ANY) (RightsOf x) Fits (λ _. omega arith) (λ _. h)
 
 named_untagged : (r : ℕ) (v : AbsVal) → Named v → Named (untagged r v)
 named_untagged r (Word m) h = h
@@ -87,9 +87,9 @@ well_untagged : (s : State) (r : ℕ) (v w : AbsVal) → IsTrue (is_named_well s
 well_untagged s r v (Word m) h = refl
 well_untagged s r v (Has a k q) h = refl
 well_untagged s r v (KindOf x) h =
-    either (λ w. IsTrue (is_named_well (with_value s r v) w)) (eqb x r) (Word ANY) (KindOf x) (λ _. refl) (λ e. named_there s r x v e h)
+    cond_both (eqb x r) (Word ANY) (KindOf x) (λ w. IsTrue (is_named_well (with_value s r v) w)) (λ _. refl) (λ e. named_there s r x v e h)
 well_untagged s r v (RightsOf x) h =
-    either (λ w. IsTrue (is_named_well (with_value s r v) w)) (eqb x r) (Word ANY) (RightsOf x) (λ _. refl) (λ e. named_there s r x v e h)
+    cond_both (eqb x r) (Word ANY) (RightsOf x) (λ w. IsTrue (is_named_well (with_value s r v) w)) (λ _. refl) (λ e. named_there s r x v e h)
 
 pub fine_with : (s : State) (r : ℕ) (v : AbsVal) → IsFine s → Suits s v → IsFine (with_value s r v)
 fine_with s r v h k = record {
@@ -149,8 +149,8 @@ named_retagged b a _ h = cc
 fits_retagged : (b a : ℕ) (v : AbsVal) → a < 32 → Fits v → Fits (retagged b a v)
 fits_retagged b a (Word m) less h = h
 fits_retagged b a (Has x k q) less h = h
-fits_retagged b a (KindOf x) less h = either Fits (eqb x b) (KindOf a) (KindOf x) (λ _. less) (λ _. h)
-fits_retagged b a (RightsOf x) less h = either Fits (eqb x b) (RightsOf a) (RightsOf x) (λ _. less) (λ _. h)
+fits_retagged b a (KindOf x) less h = cond_both (eqb x b) (KindOf a) (KindOf x) Fits (λ _. less) (λ _. h)
+fits_retagged b a (RightsOf x) less h = cond_both (eqb x b) (RightsOf a) (RightsOf x) Fits (λ _. less) (λ _. h)
 
 -- where the tags that named b name a, and b is 0
 module _ (t : State) (a b : ℕ) (there : Named (value_at t a)) where
@@ -166,8 +166,8 @@ module _ (t : State) (a b : ℕ) (there : Named (value_at t a)) where
   well_left : (w : AbsVal) → IsTrue (is_named_well t w) → IsTrue (is_named_well left (retagged b a w))
   well_left (Word m) h = refl
   well_left (Has x k q) h = refl
-  well_left (KindOf x) h = either (λ w. IsTrue (is_named_well left w)) (eqb x b) (KindOf a) (KindOf x) (λ _. named_left a there) (λ _. named_left x h)
-  well_left (RightsOf x) h = either (λ w. IsTrue (is_named_well left w)) (eqb x b) (RightsOf a) (RightsOf x) (λ _. named_left a there) (λ _. named_left x h)
+  well_left (KindOf x) h = cond_both (eqb x b) (KindOf a) (KindOf x) (λ w. IsTrue (is_named_well left w)) (λ _. named_left a there) (λ _. named_left x h)
+  well_left (RightsOf x) h = cond_both (eqb x b) (RightsOf a) (RightsOf x) (λ w. IsTrue (is_named_well left w)) (λ _. named_left a there) (λ _. named_left x h)
 
   fine_left : IsFine t → a < 32 → IsFine left
   fine_left h less = record {
@@ -210,11 +210,11 @@ joined_fits (Has x i r) (Has y j q) h k = let z = and_le_l (bits r) (bits q) in 
 joined_fits (Has x i r) _ h k = tt
 joined_fits (KindOf r) (Word n) h k = word_fits n ANY k (omega arith)
 joined_fits (KindOf r) (Has x i q) h k = tt
-joined_fits (KindOf r) (KindOf q) h k = either Fits (eqb r q) (KindOf r) (Word ANY) (λ _. h) (λ _. omega arith)
+joined_fits (KindOf r) (KindOf q) h k = cond_both (eqb r q) (KindOf r) (Word ANY) Fits (λ _. h) (λ _. omega arith)
 joined_fits (KindOf r) (RightsOf q) h k = omega arith
 joined_fits (RightsOf r) (Word n) h k = word_fits n ANY k (omega arith)
 joined_fits (RightsOf r) (Has x i q) h k = tt
-joined_fits (RightsOf r) (RightsOf q) h k = either Fits (eqb r q) (RightsOf r) (Word ANY) (λ _. h) (λ _. omega arith)
+joined_fits (RightsOf r) (RightsOf q) h k = cond_both (eqb r q) (RightsOf r) (Word ANY) Fits (λ _. h) (λ _. omega arith)
 joined_fits (RightsOf r) (KindOf q) h k = omega arith
 
 -- what both states name, the third names
@@ -222,7 +222,7 @@ module _ (s t u : State) (kept : (x : ℕ) → Named (value_at s x) → Named (v
   kept_well : (r q : ℕ) (v : AbsVal) → (Named (value_at u r) → IsTrue (is_named_well u v)) → Named (value_at s r) → Named (value_at t q)
       → IsTrue (is_named_well u (if eqb r q then v else Word ANY))
   kept_well r q v is h k =
-      either (λ w. IsTrue (is_named_well u w)) (eqb r q) v (Word ANY)
+      cond_both (eqb r q) v (Word ANY) (λ w. IsTrue (is_named_well u w))
       (λ e. is (kept r h (subst (λ (y : ℕ). Named (value_at t y)) (sym ((Decides-eqb r q).0 e)) k))) (λ _. refl)
 
   joined_well : (a b : AbsVal) → IsTrue (is_named_well s a) → IsTrue (is_named_well t b) → IfSome (joined a b) (λ v. IsTrue (is_named_well u v))

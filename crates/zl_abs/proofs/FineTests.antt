@@ -6,6 +6,7 @@ use Rattle.zl_abs.proofs.Common.{known_there, known_zero, ltb, nat_tests, not, o
 use Rattle.zl_abs.proofs.Common.{within, word_at, word_or, zero_ways, ℕ, ◌&&◌, ◌-◌, ◌<◌, ◌∙◌, ◌≡◌, ◌≤◌}
 use Rattle.zl_abs.specs.declared.value.AbsVal.TheVariants.{Word, Has, KindOf, RightsOf}
 use Rattle.zl_abs.proofs.FineStates.{Named, is_plain, set_other, fine_refined}
+use Rattle.std.proofs.lemmas.Bool.{cond_both}
 
 -- the states at the ends of the edges are fine
 abbrev pub FineWays : Ways → Type 0
@@ -139,14 +140,13 @@ not_less m n z e = grind (arith, nat_tests)
 
 equal_by : (s : State) (a imm : ℕ) (v : AbsVal) → IsFine s → value_at s a ≡ v → IfOk (equal_ways s a imm v) FineWays
 equal_by s a imm (Has x k q) h e = tt
-equal_by s a imm (Word m) h e = (jumps (ltb m (capped imm)) refl, fine_unless s (eqb m 0 && eqb imm 0) h)
+equal_by s a imm (Word m) h e = (jumps, fine_unless s (eqb m 0 && eqb imm 0) h)
   where
     zero_of : Named (value_at s a) → m ≡ 0
     zero_of n = (Decides-eqb m 0).0 (subst Named e n)
 
-    jumps : (t : Bool) → ltb m (capped imm) ≡ t → IfSome (if t then None else becomes a imm (Some s)) IsFine
-    jumps true p = tt
-    jumps false p = becomes_fine s a imm h (λ n. not_less m (capped imm) (zero_of n) p)
+    jumps : IfSome (if ltb m (capped imm) then None else becomes a imm (Some s)) IsFine
+    jumps = cond_both (ltb m (capped imm)) _ _ (λ o. IfSome o IsFine) (λ _. tt) (λ p. becomes_fine s a imm h (λ n. not_less m (capped imm) (zero_of n) p))
 equal_by s a imm (KindOf r) h e = kind_fine s a imm r h e
 equal_by s a imm (RightsOf r) h e = (becomes_fine s a imm h (λ n. let z : Named (RightsOf r) = subst Named e n in cc), h)
 
@@ -183,11 +183,8 @@ has_by : (s : State) (imm : ℕ) (v : AbsVal) → IsFine s → IfOk (has_ways s 
 has_by s imm (Has x k q) h = tt
 has_by s imm (Word m) h = (h, h)
 has_by s imm (KindOf r) h = (h, h)
-has_by s imm (RightsOf r) h = (by (eqb imm 0), h)
-  where
-    by : (c : Bool) → IfSome (if c then Some s else known_rights s r imm (value_at s r)) IsFine
-    by true = h
-    by false = known_fine s r _ (rights_known s r imm (value_at s r) h (h.fits r))
+has_by s imm (RightsOf r) h =
+    (cond_both (eqb imm 0) (Some s) _ (λ o. IfSome o IsFine) (λ _. h) (λ _. known_fine s r _ (rights_known s r imm (value_at s r) h (h.fits r))), h)
 
 pub has_fine : (s : State) (a imm : ℕ) → IsFine s → IfOk (has_ways s imm (value_at s a)) FineWays
 has_fine s a imm h = has_by s imm (value_at s a) h

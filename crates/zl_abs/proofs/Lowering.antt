@@ -5,7 +5,7 @@ use Rattle.zl_abs.proofs.Common.{nat_tests, not, passes, refl, retagged, rounded
 use Rattle.zl_abs.proofs.Common.{writes, zero, ℕ, ◌&&◌, ◌∷◌, ◌≡◌, ◌≤◌}
 use Rattle.zl_abs.specs.declared.value.AbsVal.TheVariants.{Word, Has, KindOf, RightsOf}
 use Rattle.zl_abs.proofs.Order.{below_refl}
-use Rattle.zl_abs.proofs.StateOrder.{and}
+use Rattle.std.proofs.lemmas.Bool.{and_from, leb-true, le-leb}
 
 -- ---- rules that hold
 
@@ -64,31 +64,31 @@ value_below _ _ r h = cc
 pub set_below : (s t : State) (r : ℕ) (v w : AbsVal) → IsBelow s t → IsTrue (below v w) → IsBelow (slice_set s r v) (slice_set t r w)
 unfolding all_below
 set_below [] [] r v w h k = h
-set_below (a ∷ s) (b ∷ t) zero v w h k = and _ _ k ((and_parts (below a b) (all_below s t) h).1)
-set_below (a ∷ s) (b ∷ t) (suc r) v w h k = let p = and_parts (below a b) (all_below s t) h in and _ _ p.0 (set_below s t r v w p.1 k)
+set_below (a ∷ s) (b ∷ t) zero v w h k = and_from _ _ k ((and_parts (below a b) (all_below s t) h).1)
+set_below (a ∷ s) (b ∷ t) (suc r) v w h k = let p = and_parts (below a b) (all_below s t) h in and_from _ _ p.0 (set_below s t r v w p.1 k)
 set_below _ _ r v w h k = cc
 
 -- the lower state has already what the upper gets
 pub set_above : (s t : State) (r : ℕ) (w : AbsVal) → IsBelow s t → IsTrue (below (value_at s r) w) → IsBelow s (slice_set t r w)
 unfolding all_below
 set_above [] [] r w h k = h
-set_above (a ∷ s) (b ∷ t) zero w h k = and _ _ k ((and_parts (below a b) (all_below s t) h).1)
-set_above (a ∷ s) (b ∷ t) (suc r) w h k = let p = and_parts (below a b) (all_below s t) h in and _ _ p.0 (set_above s t r w p.1 k)
+set_above (a ∷ s) (b ∷ t) zero w h k = and_from _ _ k ((and_parts (below a b) (all_below s t) h).1)
+set_above (a ∷ s) (b ∷ t) (suc r) w h k = let p = and_parts (below a b) (all_below s t) h in and_from _ _ p.0 (set_above s t r w p.1 k)
 set_above _ _ r w h k = cc
 
 -- more is known below
 pub set_under : (s t : State) (r : ℕ) (v : AbsVal) → IsBelow s t → IsTrue (below v (value_at t r)) → IsBelow (slice_set s r v) t
 unfolding all_below
 set_under [] [] r v h k = h
-set_under (a ∷ s) (b ∷ t) zero v h k = and _ _ k ((and_parts (below a b) (all_below s t) h).1)
-set_under (a ∷ s) (b ∷ t) (suc r) v h k = let p = and_parts (below a b) (all_below s t) h in and _ _ p.0 (set_under s t r v p.1 k)
+set_under (a ∷ s) (b ∷ t) zero v h k = and_from _ _ k ((and_parts (below a b) (all_below s t) h).1)
+set_under (a ∷ s) (b ∷ t) (suc r) v h k = let p = and_parts (below a b) (all_below s t) h in and_from _ _ p.0 (set_under s t r v p.1 k)
 set_under _ _ r v h k = cc
 
 pub map_below : (f : AbsVal → AbsVal) → ((v w : AbsVal) → IsTrue (below v w) → IsTrue (below (f v) (f w))) → (s t : State) → IsBelow s t
     → IsBelow (map f s) (map f t)
 unfolding all_below
 map_below f kept [] [] h = h
-map_below f kept (a ∷ s) (b ∷ t) h = let p = and_parts (below a b) (all_below s t) h in and _ _ (kept a b p.0) (map_below f kept s t p.1)
+map_below f kept (a ∷ s) (b ∷ t) h = let p = and_parts (below a b) (all_below s t) h in and_from _ _ (kept a b p.0) (map_below f kept s t p.1)
 map_below f kept _ _ h = cc
 
 -- a tag that gets this or that, below a word
@@ -135,19 +135,13 @@ no_has (Has x y z) (Word m) h k = cc
 no_has (Has x y z) _ h k = cc
 no_has _ w h k = refl
 
-pub leb_le : (m n : ℕ) → leb m n ≡ true → m ≤ n
-leb_le m n h = grind (arith, nat_tests)
-
-pub le_leb : (m n : ℕ) → m ≤ n → leb m n ≡ true
-le_leb m n h = grind (arith, nat_tests)
-
 -- a word operand
 pub word_or_below : (v w : AbsVal) → IsTrue (below v w) → Lowers (λ m n. m ≤ n) (word_or (bound_of v)) (word_or (bound_of w))
 unfolding below
 word_or_below v (Has _ _ _) h = tt
-word_or_below (Word m) (Word n) h = leb_le m n h
-word_or_below (KindOf _) (Word n) h = leb_le ANY n h
-word_or_below (RightsOf _) (Word n) h = leb_le ANY n h
+word_or_below (Word m) (Word n) h = leb-true m n h
+word_or_below (KindOf _) (Word n) h = leb-true ANY n h
+word_or_below (RightsOf _) (Word n) h = leb-true ANY n h
 word_or_below (KindOf _) (KindOf _) h = omega arith
 word_or_below (RightsOf _) (RightsOf _) h = omega arith
 word_or_below _ _ h = cc
@@ -157,7 +151,7 @@ word_at_below s t r h = word_or_below (value_at s r) (value_at t r) (value_below
 
 pub word_below : (m n : ℕ) → m ≤ n → IsTrue (below (Word m) (Word n))
 unfolding below
-word_below m n h = le_leb m n h
+word_below m n h = le-leb m n h
 
 -- ---- rounding
 

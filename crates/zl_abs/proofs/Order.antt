@@ -5,6 +5,7 @@ use Rattle.zl_abs.proofs.Common.{true, within, ℕ, ◌&&◌, ◌||◌, ◌≡�
 use Rattle.std.specs.Int.Bits.{and_self}
 use Rattle.zl_rights.specs.declared.kind.Kind.TheVariants.{Process, Channel, Event, Port, Eventpair, Job}
 use Rattle.zl_abs.specs.declared.value.AbsVal.TheVariants.{Word, Has, KindOf, RightsOf}
+use Rattle.std.proofs.lemmas.Bool.{and_parts, cond_both}
 
 pub same_kind_refl : (a : Kind) → same_kind a a ≡ true
 same_kind_refl Process = refl
@@ -19,11 +20,6 @@ same_kind_is Eventpair Eventpair h = refl
 same_kind_is Job Job h = refl
 same_kind_is _ _ h = cc
 
-pub both : (a b : Bool) → (a && b) ≡ true → (a ≡ true) × (b ≡ true)
-both true true h = (refl, refl)
-both true false h = cc
-both false _ h = cc
-
 pub three : (a b c : Bool) → a ≡ true → b ≡ true → c ≡ true → (a && (b && c)) ≡ true
 three a b c p q r = rw (p, q, r) refl
 
@@ -33,10 +29,6 @@ parts true true false h = cc
 parts true false _ h = cc
 parts false _ _ h = cc
 
--- what holds of both that a test chooses from
-pub either : {A : Type 0} (P : A → Type 0) (t : Bool) (v w : A) → (t ≡ true → P v) → (t ≡ false → P w) → P (if t then v else w)
-either P true v w f g = f refl
-either P false v w f g = g refl
 
 -- ---- flags, kinds, rights
 
@@ -101,14 +93,14 @@ word_has m x x' c h k = by (eqb m 0) x x' c h k
 
 word_word_has : (m n : ℕ) (x : Bool) → leb m n ≡ true → (eqb n 0 && x) ≡ true → (eqb m 0 && x) ≡ true
 word_word_has m n x h k =
-    let e = both (eqb n 0) x k in
+    let e = and_parts (eqb n 0) x k in
     let z : n ≡ 0 = (Decides-eqb n 0).0 e.0 in
     let y : m ≡ 0 = grind (arith, nat_tests) in
     rw (y, e.1) refl
 
 any_apart : (s : ℕ) (x : Bool) → leb ANY s ≡ true → (eqb s 0 && x) ≡ true → ⊥
 any_apart s x h k =
-    let e = both (eqb s 0) x k in
+    let e = and_parts (eqb s 0) x k in
     let z : s ≡ 0 = (Decides-eqb s 0).0 e.0 in
     let f : leb ANY 0 ≡ true = rw z at h in
     cc
@@ -147,13 +139,13 @@ or_true false = refl
 kind_left : (a b : Option Kind) → kind_below a (kind_joined a b) ≡ true
 kind_left None b = refl
 kind_left (Some j) None = refl
-kind_left (Some j) (Some k) = either (λ o. kind_below (Some j) o ≡ true) (same_kind j k) (Some j) None (λ _. same_kind_refl j) (λ _. refl)
+kind_left (Some j) (Some k) = cond_both (same_kind j k) (Some j) None (λ o. kind_below (Some j) o ≡ true) (λ _. same_kind_refl j) (λ _. refl)
 
 kind_right : (a b : Option Kind) → kind_below b (kind_joined a b) ≡ true
 kind_right None b = refl
 kind_right (Some j) None = refl
 kind_right (Some j) (Some k) =
-    either (λ o. kind_below (Some k) o ≡ true) (same_kind j k) (Some j) None (λ h. rw (same_kind_is j k h) (same_kind_refl k)) (λ _. refl)
+    cond_both (same_kind j k) (Some j) None (λ o. kind_below (Some k) o ≡ true) (λ h. rw (same_kind_is j k h) (same_kind_refl k)) (λ _. refl)
 
 within_left : (a b : ℕ) → within (bit_and a b) a ≡ true
 within_left a b = within_is _ _ (let e = and_assoc b a a in let f = and_self a in cc)
@@ -168,7 +160,7 @@ word_right : (m n : ℕ) → leb n (if leb m n then n else m) ≡ true
 word_right m n = grind (arith, nat_tests)
 
 zero_case : (m : ℕ) (c : AbsVal) → (m ≡ 0 → JoinIsAbove (Word m) (Some c)) → JoinIsAbove (Word m) (if eqb m 0 then Some c else None)
-zero_case m c f = either (JoinIsAbove (Word m)) (eqb m 0) (Some c) None (λ h. f ((Decides-eqb m 0).0 h)) (λ _. tt)
+zero_case m c f = cond_both (eqb m 0) (Some c) None (JoinIsAbove (Word m)) (λ h. f ((Decides-eqb m 0).0 h)) (λ _. tt)
 
 some_case : (t : Bool) (v c : AbsVal) → IsTrue (below v c) → JoinIsAbove v (if t then Some c else None)
 some_case true v c h = h
@@ -176,7 +168,7 @@ some_case false v c h = tt
 
 -- what two tags become is above a value that the first is above if they are equal, and any word
 tag_above : (r s : ℕ) (u v : AbsVal) → (r ≡ s → IsTrue (below u v)) → IsTrue (below u (Word ANY)) → IsTrue (below u (if eqb r s then v else Word ANY))
-tag_above r s u v f h = either (λ w. IsTrue (below u w)) (eqb r s) v (Word ANY) (λ e. f ((Decides-eqb r s).0 e)) (λ _. h)
+tag_above r s u v f h = cond_both (eqb r s) v (Word ANY) (λ w. IsTrue (below u w)) (λ e. f ((Decides-eqb r s).0 e)) (λ _. h)
 
 pub joined_left : (a b : AbsVal) → JoinIsAbove a (joined a b)
 unfolding below joined
@@ -252,19 +244,19 @@ zero_least : (m : ℕ) (a b : Bool) (k l : Option Kind) (r s : Rights) → (eqb 
     → ((not a || b) && (kind_below k l && within (bits s) (bits r))) ≡ true → IsAboveJoin (Has b l s) (if eqb m 0 then Some (Has true k r) else None)
 unfolding below
 zero_least m a b k l r s h g =
-    let e = both (eqb m 0) b h in
+    let e = and_parts (eqb m 0) b h in
     let p = parts (not a || b) (kind_below k l) (within (bits s) (bits r)) g in
     rw (e.0) (three _ _ _ (e.1) (p.1) (p.2))
 
 tags_least : (r s : ℕ) (x y : AbsVal) (d : AbsVal) → (r ≡ s → IsTrue (below x d)) → (eqb r s ≡ false → IsTrue (below y d))
     → IsTrue (below (if eqb r s then x else y) d)
-tags_least r s x y d f g = either (λ w. IsTrue (below w d)) (eqb r s) x y (λ h. f ((Decides-eqb r s).0 h)) g
+tags_least r s x y d f g = cond_both (eqb r s) x y (λ w. IsTrue (below w d)) (λ h. f ((Decides-eqb r s).0 h)) g
 
 zero_zero : (m n : ℕ) (x : Bool) → (eqb m 0 && x) ≡ true → (eqb n 0 && x) ≡ true → (eqb (larger m n) 0 && x) ≡ true
 zero_zero m n x h k =
-    let p : m ≡ 0 = (Decides-eqb m 0).0 (both (eqb m 0) x h).0 in
-    let q : n ≡ 0 = (Decides-eqb n 0).0 (both (eqb n 0) x k).0 in
-    rw (p, q, (both (eqb m 0) x h).1) refl
+    let p : m ≡ 0 = (Decides-eqb m 0).0 (and_parts (eqb m 0) x h).0 in
+    let q : n ≡ 0 = (Decides-eqb n 0).0 (and_parts (eqb n 0) x k).0 in
+    rw (p, q, (and_parts (eqb m 0) x h).1) refl
 
 tags_apart : (r s t : ℕ) → eqb r t ≡ true → eqb s t ≡ true → eqb r s ≡ false → ⊥
 tags_apart r s t h k e = grind (arith, nat_tests)

@@ -4,8 +4,8 @@ use Rattle.zl_abs.proofs.Common.{arith, below, bit_and, bits, cons_if, eqb, fals
 use Rattle.zl_abs.proofs.Common.{length, nat_tests, not, refl, same_kind, subst, suc, sym, true, value_at, within, ℕ, ◌&&◌, ◌*◌, ◌+◌, ◌-◌, ◌<◌, ◌||◌, ◌∙◌, ◌∷◌}
 use Rattle.zl_abs.proofs.Common.{◌≡◌, ◌≢◌, ◌≤◌, ◌⊎◌}
 use Rattle.zl_abs.specs.declared.value.AbsVal.TheVariants.{Word, Has, KindOf, RightsOf}
-use Rattle.zl_abs.proofs.Order.{either, same_kind_is, same_kind_refl}
-use Rattle.std.proofs.lemmas.Bool.{and_cases}
+use Rattle.zl_abs.proofs.Order.{same_kind_is, same_kind_refl}
+use Rattle.std.proofs.lemmas.Bool.{and_cases, cond_both}
 
 -- ---- what it is
 
@@ -61,7 +61,7 @@ flag_less false false h = cc
 kinds_room : (k j : Option Kind) → kind_room (kind_joined k j) ≤ kind_room k
 kinds_room None j = omega arith
 kinds_room (Some x) None = omega arith
-kinds_room (Some x) (Some y) = either (λ o. kind_room o ≤ 1) (same_kind x y) (Some x) None (λ _. omega arith) (λ _. omega arith)
+kinds_room (Some x) (Some y) = cond_both (same_kind x y) (Some x) None (λ o. kind_room o ≤ 1) (λ _. omega arith) (λ _. omega arith)
 
 turned : (x y : Kind) → same_kind x y ≡ true → same_kind y x ≡ false → ⊥
 turned x y e h = let p : same_kind y x ≡ true = rw (same_kind_is x y e) (same_kind_refl y) in let g : true ≡ false = sym p ∙ h in cc
@@ -69,7 +69,7 @@ turned x y e h = let p : same_kind y x ≡ true = rw (same_kind_is x y e) (same_
 kinds_less : (k j : Option Kind) → kind_below j k ≡ false → kind_room (kind_joined k j) < kind_room k
 kinds_less None j h = cc
 kinds_less (Some x) None h = omega arith
-kinds_less (Some x) (Some y) h = either (λ o. kind_room o < 1) (same_kind x y) (Some x) None (λ e. absurd (turned x y e h)) (λ _. omega arith)
+kinds_less (Some x) (Some y) h = cond_both (same_kind x y) (Some x) None (λ o. kind_room o < 1) (λ e. absurd (turned x y e h)) (λ _. omega arith)
 
 rights_less : (r q : ℕ) → within r q ≡ false → bit_and r q < r
 rights_less r q h =
@@ -111,7 +111,7 @@ zero_most m a b e h k = rw e (omega arith)
 
 -- a word and a handle: their join is there where the word is 0
 zero_lessens : (a b c : AbsVal) (m : ℕ) → (eqb m 0 ≡ true → Lessens a b (Some c)) → Lessens a b (if eqb m 0 then Some c else None)
-zero_lessens a b c m f = either (Lessens a b) (eqb m 0) (Some c) None f (λ _. tt)
+zero_lessens a b c m f = cond_both (eqb m 0) (Some c) None (Lessens a b) f (λ _. tt)
 
 tag_lessens : (t : Bool) (x b : AbsVal) → value_room x ≡ 1 → (t ≡ true → below b x ≡ true) → Lessens x b (Some (if t then x else Word ANY))
 tag_lessens true x b e f = (omega arith, (λ h. let z : true ≡ false = sym (f refl) ∙ h in absurd (cc)))

@@ -7,6 +7,7 @@ use Rattle.zl_abs.specs.declared.cause.Cause.TheVariants as cause
 use Rattle.zl_abs.proofs.Lowering.{Lowers, WayBelow, WaysBelow, lowers_then}
 use Rattle.zl_abs.proofs.LocalLowering.{local_below}
 use Rattle.zl_abs.proofs.CallLowering.{call_below}
+use Rattle.std.proofs.lemmas.Bool.{cond_both}
 
 abbrev EdgesBelow : List Edge → List Edge → Type 0
 EdgesBelow es fs = AreAmong fs es
@@ -27,11 +28,7 @@ both_among fs gs (e ∷ es) ds h k = (among_left fs gs e (h.0), both_among fs gs
 
 edge_below : (size : ℕ) (c : Cause) (n : ℕ) (o p : Option State) → WayBelow o p → Lowers EdgesBelow (edge_to size c n o) (edge_to size c n p)
 edge_below size c n None None h = tt
-edge_below size c n None (Some t) h = by (ltb n size)
-  where
-    by : (b : Bool) → Lowers EdgesBelow (Ok []) (if b then Ok ((n, t) ∷ []) else Err c)
-    by true = tt
-    by false = tt
+edge_below size c n None (Some t) h = cond_both (ltb n size) (Ok ((n, t) ∷ [])) (Err c) (λ r. Lowers EdgesBelow (Ok []) r) (λ _. tt) (λ _. tt)
 edge_below size c n (Some s) None h = absurd h
 edge_below size c n (Some s) (Some t) h = by (ltb n size)
   where

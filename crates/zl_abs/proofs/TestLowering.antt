@@ -4,11 +4,12 @@ use Rattle.zl_abs.proofs.Common.{becomes, below, below_ways, bit_or, bits, cappe
 use Rattle.zl_abs.proofs.Common.{kind_ways, known_kind, known_other, known_rights, known_there, known_zero, leb, ltb, nat_tests, not, refined, refl, rights_of}
 use Rattle.zl_abs.proofs.Common.{same_kind, smaller, subst, true, value_at, within, word_at, zero_ways, ℕ, ◌&&◌, ◌-◌, ◌<◌, ◌||◌, ◌∙◌, ◌≡◌, ◌≤◌}
 use Rattle.zl_abs.specs.declared.value.AbsVal.TheVariants.{Word, Has, KindOf, RightsOf}
-use Rattle.zl_abs.proofs.Order.{below_refl, either, kind_trans, kind_refl, within_refl, parts, three, same_kind_is}
+use Rattle.zl_abs.proofs.Order.{below_refl, kind_trans, kind_refl, within_refl, parts, three, same_kind_is}
 use Rattle.zl_abs.proofs.StateOrder.{all_below_refl, all_below_trans}
-use Rattle.zl_abs.proofs.Lowering.{Lowers, IsBelow, WayBelow, WaysBelow, lowers_then, value_below, set_below, set_above, set_under, leb_le, word_at_below}
+use Rattle.zl_abs.proofs.Lowering.{Lowers, IsBelow, WayBelow, WaysBelow, lowers_then, value_below, set_below, set_above, set_under, word_at_below}
 use Rattle.zl_abs.proofs.Lowering.{word_below}
 use Rattle.zl_abs.proofs.RightsLowering.{within_gained, within_more}
+use Rattle.std.proofs.lemmas.Bool.{leb-true, ltb-true, cond_both}
 
 -- ---- values
 
@@ -29,9 +30,6 @@ zero_zero = below_refl (Word 0)
 pub zero_of : (m : ℕ) (b : Bool) (k : Option Kind) (r : Rights) → IsTrue (below (Word m) (Has b k r)) → (m ≡ 0) × (b ≡ true)
 unfolding below
 zero_of m b k r h = let p = and_parts (eqb m 0) b h in ((Decides-eqb m 0).0 p.0, p.1)
-
-lt_of : (m n : ℕ) → ltb m n ≡ true → m < n
-lt_of m n h = grind (arith, nat_tests)
 
 large : (n : ℕ) → leb ANY n ≡ true → eqb n 0 ≡ false
 large n h = grind (arith, nat_tests)
@@ -158,7 +156,7 @@ there_under s t r _ h e = h
 kind_under : (s t : State) (r : ℕ) (o : Option Kind) (v : AbsVal) → IsBelow s t → value_at s r ≡ v → WayBelow (known_kind s r o v) (Some t)
 kind_under s t r None v h e = tt
 kind_under s t r (Some x) (Has a k q) h e =
-    either (λ o. WayBelow o (Some t)) (kind_below (Some x) k) (Some (refined s r (Has false (Some x) q))) None
+    cond_both (kind_below (Some x) k) (Some (refined s r (Has false (Some x) q))) None (λ o. WayBelow o (Some t))
     (λ y. all_below_trans _ s t
     (set_under s s r (Has false (Some x) q) (all_below_refl s) (rw e (has_from false a (Some x) k q q refl y (within_refl (bits q))))) h) (λ _. tt)
 kind_under s t r (Some x) _ h e = tt
@@ -212,7 +210,7 @@ kind_ways_any s t a imm r h = by (eqb imm 0) refl
     by true z = let e : imm ≡ 0 = (Decides-eqb imm 0).0 z in rw e (becomes_below a 0 _ _ (zero_under s t r _ h refl), there_under s t r _ h refl)
     by false z = (becomes_below a imm _ _ (kind_under s t r (kind_numbered imm) _ h refl), other_under s t (kind_numbered imm) _ h)
 
-less_kept : (m n c : ℕ) → leb m n ≡ true → ltb n c ≡ true → ltb m c ≡ true
+pub less_kept : (m n c : ℕ) → m ≤ n → ltb n c ≡ true → ltb m c ≡ true
 less_kept m n c h k = grind (arith, nat_tests)
 
 both_kept : (x y z : Bool) → (y ≡ true → x ≡ true) → (y && z) ≡ true → (x && z) ≡ true
@@ -223,11 +221,11 @@ capped_most : (n imm : ℕ) → leb ANY n ≡ true → ltb n (capped imm) ≡ fa
 capped_most n imm h = by (ltb n (capped imm)) refl
   where
     le : (n : ℕ) → leb ANY n ≡ true → ANY ≤ n
-    le n h = leb_le ANY n h
+    le n h = leb-true ANY n h
 
     by : (b : Bool) → ltb n (capped imm) ≡ b → b ≡ false
     by false e = refl
-    by true e = absurd (let p = le n h in let q : n < capped imm = (lt_of n (capped imm) e) in omega arith)
+    by true e = absurd (let p = le n h in let q : n < capped imm = (ltb-true n (capped imm) e) in omega arith)
 
 -- a tag and a word above it: both edges of the word are followed
 word_is_any : (t : State) (a imm n : ℕ) → leb ANY n ≡ true
@@ -238,7 +236,7 @@ equal_by : (s t : State) (a imm : ℕ) (v w : AbsVal) → IsBelow s t → IsTrue
 unfolding below
 equal_by s t a imm v (Has _ _ _) h e = tt
 equal_by s t a imm (Word m) (Word n) h e = (
-  way_becomes (ltb m (capped imm)) (ltb n (capped imm)) (less_kept m n (capped imm) e),
+  way_becomes (ltb m (capped imm)) (ltb n (capped imm)) (less_kept m n (capped imm) (leb-true m n e)),
   way_refl s t h _ _ (both_kept (eqb m 0) (eqb n 0) (eqb imm 0) (zero_kept m n e)),
 )
   where
@@ -277,13 +275,10 @@ zero_below s t a h = zero_by s t a (value_at s a) (value_at t a) h refl (value_b
 smaller_kept : (m n c : ℕ) → m ≤ n → smaller m c ≤ smaller n c
 smaller_kept m n c h = grind (arith, nat_tests)
 
-less_again : (m n c : ℕ) → m ≤ n → ltb n c ≡ true → ltb m c ≡ true
-less_again m n c h k = grind (arith, nat_tests)
-
 pub below_below : (s t : State) (a imm : ℕ) → IsBelow s t → Lowers WaysBelow (below_ways s a imm) (below_ways t a imm)
 below_below s t a imm h =
     lowers_then (λ m n. m ≤ n) WaysBelow (word_at s a) (word_at t a) _ _ (word_at_below s t a h)
-    (λ m n p. (first m n p (eqb imm 0), way_refl s t h (ltb m imm) (ltb n imm) (less_again m n imm p)))
+    (λ m n p. (first m n p (eqb imm 0), way_refl s t h (ltb m imm) (ltb n imm) (less_kept m n imm p)))
   where
     first : (m n : ℕ) → m ≤ n → (c : Bool)
         → WayBelow (if c then None else Some (refined s a (Word (smaller m (imm - 1))))) (if c then None else Some (refined t a (Word (smaller n (imm - 1)))))
@@ -296,7 +291,7 @@ has_by s t imm v (Has _ _ _) h e = tt
 has_by s t imm (Word _) (Word _) h e = (h, h)
 has_by s t imm (KindOf _) (Word _) h e = (h, h)
 has_by s t imm (RightsOf r) (Word _) h e =
-    (either (λ o. WayBelow o (Some t)) (eqb imm 0) (Some s) _ (λ _. h) (λ _. rights_under s t r imm (value_at s r) h refl), h)
+    (cond_both (eqb imm 0) (Some s) _ (λ o. WayBelow o (Some t)) (λ _. h) (λ _. rights_under s t r imm (value_at s r) h refl), h)
 has_by s t imm (KindOf _) (KindOf _) h e = (h, h)
 has_by s t imm (RightsOf r) (RightsOf q) h e = let p : r ≡ q = (Decides-eqb r q).0 e in rw p (first (eqb imm 0), h)
   where

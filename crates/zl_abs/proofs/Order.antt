@@ -29,7 +29,6 @@ parts true true false h = cc
 parts true false _ h = cc
 parts false _ _ h = cc
 
-
 -- ---- flags, kinds, rights
 
 pub or_trans : (x y z : Bool) → (not x || y) ≡ true → (not y || z) ≡ true → (not x || z) ≡ true

@@ -11,7 +11,9 @@ use Rattle.std.proofs.lemmas.List.{take-append-drop}
 use Rattle.zl_asm.specs.declared.line.Source.{Source as ReadSource}
 use Rattle.zl_asm.proofs.Labels.{same, lookup_is}
 use Rattle.zl_asm.proofs.DraftHolds.{given_is}
-use Rattle.zl_asm.proofs.ListingRefused.{all_of-none, all_of-more, all_of-fault, none_by_fields, and_false-3, not_fine}
+use Rattle.zl_asm.proofs.ListingRefused.{all_of-none, all_of-more, all_of-fault, none_by_fields}
+use Rattle.std.proofs.lemmas.Bool.{and_right, not_from_true}
+use Rattle.std.proofs.Math.Bool.{and-false}
 
 -- ---- the target of a source
 
@@ -85,10 +87,10 @@ none_faulty h front rest s bytes split target fault = λ said k. none_by_fields 
     let same : raw ≡ h.image.raw = cc in
     let whole : all_of (resolved h.labels) (front ++ s ∷ rest) ≡ Some code =
     ap (all_of (resolved h.labels)) (sym split) ∙ (λ j. all_of (resolved (k.labels j)) (k.sources j)) ∙ c in
-    let bad : not (is_some (instr_fault raw bytes)) ≡ false = rw same (not_fine (is_some (instr_fault h.image.raw bytes)) fault) in
+    let bad : not (is_some (instr_fault raw bytes)) ≡ false = rw same (not_from_true (is_some (instr_fault h.image.raw bytes)) fault) in
     let fails : list_all (λ bytes. not (is_some (instr_fault raw bytes))) code ≡ false =
     all_of-fault (resolved h.labels) (λ bytes. not (is_some (instr_fault raw bytes))) front rest code s bytes whole target bad in
-    rw fails (and_false-3 (leb (length (flat_map start_in said)) 7) (leb (length (flat_map slots_in said)) 8) (leb (length code) 4096)))
+    rw (fails, and-false, and-false, and-false) refl)
 
 -- ---- the image
 

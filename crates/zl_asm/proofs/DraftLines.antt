@@ -5,6 +5,7 @@ use Rattle.zl_asm.proofs.Common.{is_slot_in_range, is_start_in_range, is_word, k
 use Rattle.zl_asm.proofs.Common.{option_map, point_line, refl, rights_of, slot_array_with, start_with, starts_with, subst, sym, true, true≢false, unknown_of}
 use Rattle.zl_asm.proofs.Common.{words_of, ℕ, ◌&&◌, ◌∙◌, ◌∷◌, ◌≡◌}
 use Rattle.zl_asm.specs.declared.directive.Directive.TheVariants as directive
+use Rattle.std.proofs.lemmas.Bool.{cond_both, and_parts}
 
 -- ---- reading on
 
@@ -22,15 +23,8 @@ read_by (Err fault) old new line words said plain cut e h = tt
 
 passes : {X : Type 0} (test : X → Bool) (o : Option X) (x : X) → if_fits test o ≡ Some x → test x ≡ true
 passes test None x e = cc
-passes test (Some y) x e = by (test y) refl e
-  where
-    by : (b : Bool) → test y ≡ b → cond b (Some y) None ≡ Some x → test x ≡ true
-    by true f e = let same : y ≡ x = cc in sym (ap test same) ∙ f
-    by false f e = cc
-
-second_of : (a b : Bool) → (a && b) ≡ true → b ≡ true
-second_of true b e = e
-second_of false b e = absurd (true≢false (sym e))
+passes test (Some y) x e =
+    cond_both (test y) (Some y) None (λ o. o ≡ Some x → test x ≡ true) (λ f e. let same : y ≡ x = cc in sym (ap test same) ∙ f) (λ _ e. cc) e
 
 -- a directive that is made of a value in its range
 made_of : {X : Type 0} (make : X → Directive) (o : Option X) (d : Directive) → ((x : X) → o ≡ Some x → is_directive_in_range (make x) ≡ true)
@@ -65,7 +59,7 @@ unfolding directive_of
 directive-fits name [] d e = either (is_word name (codes ".raw")) (Some directive.Raw) None d (raw-fits d) (nothing d) e
 directive-fits name (operand ∷ []) d e =
     either (is_word name (codes ".memory")) (option_map directive.Memory (number_within 0 65536 operand)) _ d
-    (made_of directive.Memory (number_within 0 65536 operand) d (λ n f. second_of _ _ (passes _ (number_of operand) n f)))
+    (made_of directive.Memory (number_within 0 65536 operand) d (λ n f. (and_parts _ _ (passes _ (number_of operand) n f)).1))
     (either (is_word name (codes ".budget")) (option_map directive.Budget (number_within 1 1000000 operand)) _ d
     (made_of directive.Budget (number_within 1 1000000 operand) d (λ n f. passes _ (number_of operand) n f))
     (either (is_word name (codes ".need")) (option_map directive.Need (need_of operand)) None d

@@ -7,6 +7,8 @@ use Rattle.zl_asm.proofs.Common.{needs_named-needs, needs_text, ranges, refl, sl
 use Rattle.zl_asm.proofs.Common.{◌+◌, ◌<◌, ◌||◌, ◌∙◌, ◌∷◌, ◌≡◌}
 use Rattle.zl_rights.specs.declared.policy.Condition.TheVariants as condition
 use Rattle.zl_asm.specs.Pieces.{need_if_among}
+use Rattle.std.proofs.Math.Bool.{or-false}
+use Rattle.std.proofs.lemmas.List.Folds.{list_any-append}
 
 -- ---- instructions
 
@@ -43,16 +45,7 @@ module _ (code : List (List ℕ)) (i : ℕ) (d : List ℕ) (within : i < length 
 -- ---- targets
 
 any_more : (p : List ℕ → Bool) (xs : List (List ℕ)) (x : List ℕ) → list_any p (xs ++ (x ∷ [])) ≡ (list_any p xs || p x)
-any_more p [] x = or_false (p x)
-  where
-    or_false : (b : Bool) → (b || false) ≡ b
-    or_false true = refl
-    or_false false = refl
-any_more p (y ∷ xs) x = by (p y) (any_more p xs x)
-  where
-    by : (b : Bool) → list_any p (xs ++ (x ∷ [])) ≡ (list_any p xs || p x) → (b || list_any p (xs ++ (x ∷ []))) ≡ ((b || list_any p xs) || p x)
-    by true e = refl
-    by false e = e
+any_more p xs x = list_any-append p xs (x ∷ []) ∙ ap (λ (b : Bool). list_any p xs || b) (or-false (p x))
 
 -- one more instruction was looked at
 pub targets_more : (old new : List Bool) (code : List (List ℕ)) (count i : ℕ) (d : List ℕ) → i < length code → TargetsAre old (take i code) count

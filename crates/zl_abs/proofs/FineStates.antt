@@ -43,7 +43,7 @@ with_other : (s : State) (r q : ℕ) (v : AbsVal) → eqb q r ≡ false → valu
 unfolding with_value
 with_other s r q v e = mapped_at (untagged r) refl (slice_set s r v) q ∙ ap (untagged r) (set_other s r q v e)
 
-with_long : (s : State) (r : ℕ) (v : AbsVal) → length (with_value s r v) ≡ length s
+pub with_long : (s : State) (r : ℕ) (v : AbsVal) → length (with_value s r v) ≡ length s
 unfolding with_value
 with_long s r v = length-map (slice_set s r v) (untagged r) ∙ length-set s r v
 

@@ -146,7 +146,7 @@ kind_right (Some j) None = refl
 kind_right (Some j) (Some k) =
     cond_both (same_kind j k) (Some j) None (λ o. kind_below (Some k) o ≡ true) (λ h. rw (same_kind_is j k h) (same_kind_refl k)) (λ _. refl)
 
-within_left : (a b : ℕ) → within (bit_and a b) a ≡ true
+pub within_left : (a b : ℕ) → within (bit_and a b) a ≡ true
 within_left a b = within_is _ _ (let e = and_assoc b a a in let f = and_self a in cc)
 
 within_right : (a b : ℕ) → within (bit_and a b) b ≡ true

@@ -11,6 +11,7 @@ use Rattle.zl_verify.proofs.Owners.{value_at-with, value_at-here}
 use Rattle.zl_verify.proofs.Tagging.{states_with}
 use Rattle.zl_verify.proofs.Consuming.{removed, consume, consume_0}
 use Rattle.zl_verify.proofs.Fitting.{apart_then}
+use Rattle.std.proofs.lemmas.Bool.{cond_both, and_parts}
 
 -- ---- one operand
 
@@ -30,11 +31,8 @@ zero_word false m x e le = cc
 
 -- a word passes as 0 alone
 word_passes : (o : Operand) (m : ℕ) → fault_of o (Word m) ≡ None → (o.may_be_zero && (m == 0)) ≡ true
-word_passes o m = by (o.may_be_zero && (m == 0))
-  where
-    by : (b : Bool) → ◌≡◌ {A = Option Cause} (if b then None else Some cause.NotLive) None → b ≡ true
-    by true e = refl
-    by false e = cc
+word_passes o m e =
+    cond_both (o.may_be_zero && (m == 0)) None (Some cause.NotLive) (λ c. c ≡ None → (o.may_be_zero && (m == 0)) ≡ true) (λ is _. is) (λ _ bad. cc) e
 
 -- the tests of a handle
 record HasPasses (o : Operand) (maybe : Bool) (kind : Option Kind) (rights : Rights) : Type 0 where
@@ -143,11 +141,7 @@ abbrev pub bars_zero : Operand → Bool
 bars_zero o = not o.may_be_zero
 
 not_zero : (o : Operand) → o.may_be_zero ≡ false → fault_of o (Word 0) ≡ None → ⊥
-not_zero o none e = let z : o.may_be_zero ≡ true = by o.may_be_zero (word_passes o 0 e) in cc
-  where
-    by : (b : Bool) → (b && (0 == 0)) ≡ true → b ≡ true
-    by true e = refl
-    by false e = cc
+not_zero o none e = let z : o.may_be_zero ≡ true = (and_parts o.may_be_zero (0 == 0) (word_passes o 0 e)).0 in cc
 
 -- the first passes, and the others do behind it
 pub parts : (s t : State) (o : Operand) (os : List Operand) → examined_all s (o ∷ os) ≡ Ok t

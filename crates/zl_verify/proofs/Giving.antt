@@ -9,9 +9,9 @@ use Rattle.std.proofs.lemmas.List.{length-set}
 use Rattle.zl_rights.specs.declared.kind.Kind.TheVariants as kind
 use Rattle.zl_rights.specs.declared.status.Status.TheVariants as status
 use Rattle.zl_verify.proofs.Owners.{value_at-with, value_at-here}
-use Rattle.zl_verify.proofs.Writing.{long_with}
 use Rattle.zl_verify.proofs.Consuming.{added}
 use Rattle.zl_verify.proofs.Fitting.{Fits}
+use Rattle.zl_abs.proofs.FineStates.{with_long}
 
 pub status_few : (s : Status) → status_magnitude s ≤ 30
 status_few status.Ok = omega arith
@@ -162,7 +162,7 @@ module _ (f : Table) (a : ℕ) (s : State) (xs : List ℕ) (inside : a < length 
 
 -- three writes keep the lengths
 pub long_thrice : (s : State) (a d e : ℕ) (x y z : AbsVal) → length (with_value (with_value (with_value s a x) d y) e z) ≡ length s
-long_thrice s a d e x y z = long_with (with_value (with_value s a x) d y) e z ∙ (long_with (with_value s a x) d y ∙ long_with s a x)
+long_thrice s a d e x y z = with_long (with_value (with_value s a x) d y) e z ∙ (with_long (with_value s a x) d y ∙ with_long s a x)
 
 pub wide_thrice : (xs : List ℕ) (a d e x y z : ℕ) → length (slice_set (slice_set (slice_set xs a x) d y) e z) ≡ length xs
 wide_thrice xs a d e x y z = length-set (slice_set (slice_set xs a x) d y) e z ∙ (length-set (slice_set xs a x) d y ∙ length-set xs a x)

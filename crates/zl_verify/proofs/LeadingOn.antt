@@ -12,6 +12,7 @@ use Rattle.zl_code.specs.declared.history.CallName.TheVariants as name
 use Rattle.zl_abs.specs.declared.cause.Cause.TheVariants as cause
 use Rattle.zl_verify.proofs.PassingOn.{then_on, one, passes_on}
 use Rattle.zl_code.proofs.Common.{or_right}
+use Rattle.std.proofs.lemmas.Bool.{cond_both}
 
 -- one of the two edges is followed
 abbrev HasWay : Outcome → Type 0
@@ -125,11 +126,8 @@ IsThere (e ∷ es) = Unit {0}
 some_edge : (size target next : ℕ) (c d : Cause) (o p : Option State) → (is_some o || is_some p) ≡ true
     → IfOk (and_then (edge_to size c target o) (λ xs. and_then (edge_to size d next p) (λ ys. Ok (xs ++ ys)))) IsThere
 some_edge size target next c d None None h = cc
-some_edge size target next c d None (Some s) h = by (ltb next size)
-  where
-    by : (t : Bool) → IfOk (and_then (if t then Ok ((next, s) ∷ []) else Err d) (λ ys. Ok ys)) IsThere
-    by true = tt
-    by false = tt
+some_edge size target next c d None (Some s) h =
+    cond_both (ltb next size) (Ok ((next, s) ∷ [])) (Err d) (λ r. IfOk (and_then r (λ ys. Ok ys)) IsThere) (λ _. tt) (λ _. tt)
 some_edge size target next c d (Some s) p h = by (ltb target size) (edge_to size d next p)
   where
     by : (t : Bool) (r : Result (List Edge) Cause)

@@ -1,7 +1,7 @@
 -- The law of the local steps of a process that conforms.
 use Rattle.zl_verify.proofs.Common.{Bool, CallInstr, CallName, Cause, Condition, Conforms, Cpu, Edge, Entry, Err, HandlesAreSound, Holds, Image, Instr, IsAble}
 use Rattle.zl_verify.proofs.Common.{IsAbove, IsMemory, IsStuck, IsTrue, IsTyping, KNOWN_RIGHTS, Kind, List, LocalInstr, Moves, Next, None, Ok, OneOf, Option}
-use Rattle.zl_verify.proofs.Common.{Process, Ready, Result, RuleHolds, Site, Some, StandsBy, State, Table, WaitsAt, World, [], and_then, ap, bits, both}
+use Rattle.zl_verify.proofs.Common.{Process, Ready, Result, RuleHolds, Site, Some, StandsBy, State, Table, WaitsAt, World, [], and_then, ap, bits}
 use Rattle.zl_verify.proofs.Common.{bounds_of, call_at, call_rule, calls_at, creates, default_rights_of, edge_to, edges, false, get, if◌then◌else◌, inl, inr}
 use Rattle.zl_verify.proofs.Common.{instr_at, is_among, is_in_range, is_local_in_range, is_some, leads, length, local_effect, local_rule, moves, nat_lt}
 use Rattle.zl_verify.proofs.Common.{next_at, next_of, on_process, ranges, refl, rule_by, rule_with, site_of, subst, sym, target_of, targets_of, true, within}

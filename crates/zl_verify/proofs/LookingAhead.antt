@@ -15,6 +15,7 @@ use Rattle.zl_abs.specs.declared.cause.Cause.TheVariants as cause
 use Rattle.zl_verify.proofs.Places.{get_put, get_put_other, get_past, equal_or_not, below_or_not, mapped}
 use Rattle.zl_verify.proofs.PassingOn.{then_on, passes_on}
 use Rattle.zl_verify.proofs.Bounding.{all_under}
+use Rattle.std.proofs.lemmas.Bool.{cond_both}
 
 -- ---- a rule jumps only where its instruction is a jump, and there to its target
 
@@ -140,11 +141,8 @@ closed_ahead i targets a n = by (below_or_not n (length i.code))
     one m rest false e h = h
 
     next : AllInside size (option_to_list (place_within size (Some (n + 1))))
-    next = by (nat_lt (n + 1) size) refl
-      where
-        by : (b : Bool) → nat_lt (n + 1) size ≡ b → AllInside size (option_to_list (if b then Some (n + 1) else None))
-        by true e = (grind (arith, nat_tests), tt)
-        by false e = tt
+    next =
+        cond_both (nat_lt (n + 1) size) (Some (n + 1)) None (λ o. AllInside size (option_to_list o)) (λ e. (grind (arith, nat_tests), tt)) (λ _. tt)
 
     both : (j : Option ℕ) → AllInside size (option_to_list (place_within size j) ++ option_to_list (place_within size (Some (n + 1))))
     both None = next

@@ -18,8 +18,7 @@ use Rattle.std.proofs.Math.Bool.{and-false}
 -- ---- the target of a source
 
 pub resolved_by : (labels : List (Bor (List ℕ) × ℕ)) (s : ReadSource) (name : Bor (List ℕ)) (o : Option ℕ) → s.label ≡ Some name
-    → lookup (λ k. same name.now k.now) labels ≡ o
-    → resolved (labels_shown labels) (source_value s) ≡ option_map (with_target s.bytes) o
+    → lookup (λ k. same name.now k.now) labels ≡ o → resolved (labels_shown labels) (source_value s) ≡ option_map (with_target s.bytes) o
 resolved_by labels s name o label found = rw (label, sym (lookup_is labels name.now), found) refl
 
 -- the parts with another target are the bytes with that target
@@ -162,16 +161,14 @@ missing_at h ss n e shown below same missing =
     none_missing h _ _ (source_value e.source) (split_at h.sources n (source_value e.source) at.below at.same) (sym missing)
 
 pub faulty_at : (h : Held) (ss : List SourceLine) (n : ℕ) (e : SourceLine) (i : Image) (bytes : List ℕ) → h.sources ≡ sources_shown ss → n < length ss
-    → e ≡ get_or ss n e → Resolves h i
-    → Some bytes ≡ resolved h.labels (source_value e.source) → is_some (instr_fault i.raw bytes) ≡ true → GivesNone h
+    → e ≡ get_or ss n e → Resolves h i → Some bytes ≡ resolved h.labels (source_value e.source) → is_some (instr_fault i.raw bytes) ≡ true → GivesNone h
 faulty_at h ss n e i bytes shown below same r target fault =
     let at = is_at h ss n e shown below same in
     none_faulty h _ _ (source_value e.source) bytes (split_at h.sources n (source_value e.source) at.below at.same) (sym target)
     (ap (λ (x : Image). is_some (instr_fault x.raw bytes)) (sym r.same) ∙ fault)
 
 pub resolves_at : (h : Held) (ss : List SourceLine) (n : ℕ) (e : SourceLine) (i new : Image) (bytes : List ℕ) → h.sources ≡ sources_shown ss → n < length ss
-    → e ≡ get_or ss n e → n ≡ length i.code → Resolves h i
-    → Some bytes ≡ resolved h.labels (source_value e.source) → Pushes i bytes new → Resolves h new
+    → e ≡ get_or ss n e → n ≡ length i.code → Resolves h i → Some bytes ≡ resolved h.labels (source_value e.source) → Pushes i bytes new → Resolves h new
 resolves_at h ss n e i new bytes shown below same count r target p =
     let at = is_at h ss n e shown below same in
     let under : length i.code < length h.sources = omega (arith, at.below) in

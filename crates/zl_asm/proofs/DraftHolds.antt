@@ -137,9 +137,8 @@ AreGiven d lines = IsGiven d.image.raw d.image.raw false (flat_map mark_in lines
 
 held : (lines : List Line) (d : Held) → directives_first lines ≡ true → d.has_body ≡ list_any is_body lines → AreGiven d lines
     → d.labels ≡ labels_from 0 lines → names_once (labels_from 0 lines) ≡ true → d.sources ≡ flat_map source_in lines → IsHeldOf lines d
-held lines d order body g labels once sources = record {
-  order = order; body = body; mark = g.0; memory = g.1; budget = g.2; needs = g.3; starts = g.4; slots = g.5; labels = labels; once = once; sources = sources;
-}
+held lines d o b g l u s =
+    record { order = o; body = b; mark = g.0; memory = g.1; budget = g.2; needs = g.3; starts = g.4; slots = g.5; labels = l; once = u; sources = s }
 
 -- what is given stays behind a line that doesn't give it
 still : {X : Type 0} (f : Line → List X) (said : List Line) (line : Line) (has : Bool) (value usual : X) → f line ≡ []
@@ -154,25 +153,28 @@ needed : (said : List Line) (line : Line) {xs : List Condition} → need_in line
     → xs ≡ needs_named (flat_map need_in (said ++ line ∷ []))
 needed said line e h = h ∙ ap needs_named (sym (kept need_in said line e))
 
--- a line that is no directive gives none of them
-given_still : (said : List Line) (line : Line) (d : Held) → declares line ≡ false → IsHeldOf said d → AreGiven d (said ++ line ∷ [])
-given_still said (Declares x) d e h = absurd (true≢false e)
-given_still said Blank d e h =
-    (still mark_in said Blank _ _ _ refl h.mark, still memory_in said Blank _ _ _ refl h.memory, still budget_in said Blank _ _ _ refl h.budget,
-    needed said Blank refl h.needs, listed start_in said Blank refl h.starts, listed slots_in said Blank refl h.slots)
-given_still said (Label l) d e h =
-    (still mark_in said (Label l) _ _ _ refl h.mark, still memory_in said (Label l) _ _ _ refl h.memory, still budget_in said (Label l) _ _ _ refl h.budget,
-    needed said (Label l) refl h.needs, listed start_in said (Label l) refl h.starts, listed slots_in said (Label l) refl h.slots)
-given_still said (Code s) d e h =
-    (still mark_in said (Code s) _ _ _ refl h.mark, still memory_in said (Code s) _ _ _ refl h.memory, still budget_in said (Code s) _ _ _ refl h.budget,
-    needed said (Code s) refl h.needs, listed start_in said (Code s) refl h.starts, listed slots_in said (Code s) refl h.slots)
+-- a line that gives none of them
+unsaid : (d : Held) (said : List Line) (line : Line) → mark_in line ≡ [] → memory_in line ≡ [] → budget_in line ≡ [] → need_in line ≡ []
+    → start_in line ≡ [] → slots_in line ≡ [] → IsHeldOf said d → AreGiven d (said ++ line ∷ [])
+unsaid d said line no_mark no_memory no_budget no_need no_start no_slots h = (
+  still mark_in said line _ _ _ no_mark h.mark,
+  still memory_in said line _ _ _ no_memory h.memory,
+  still budget_in said line _ _ _ no_budget h.budget,
+  needed said line no_need h.needs,
+  listed start_in said line no_start h.starts,
+  listed slots_in said line no_slots h.slots,
+)
 
 -- a directive leaves all but the fields of the image
 declared : (d : Held) (x : Directive) (image : Image) (memory budget : Bool) (said : List Line) → IsHeldOf said d → d.has_body ≡ false
-    → AreGiven (record d { image = image; has_memory = memory; has_budget = budget }) (said ++ Declares x ∷ [])
+    → IsGiven image.raw image.raw false (flat_map mark_in (said ++ Declares x ∷ []))
+    → IsGiven memory image.memory 0 (flat_map memory_in (said ++ Declares x ∷ []))
+    → IsGiven budget image.budget 1 (flat_map budget_in (said ++ Declares x ∷ []))
+    → image.needs ≡ needs_named (flat_map need_in (said ++ Declares x ∷ []))
+    → image.starts ≡ flat_map start_in (said ++ Declares x ∷ []) → image.slots ≡ flat_map slots_in (said ++ Declares x ∷ [])
     → IsHeldOf (said ++ Declares x ∷ []) (record d { image = image; has_memory = memory; has_budget = budget })
-declared d x image memory budget said h first g =
-    held _ _ (order-declared said x (sym h.body ∙ first)) (h.body ∙ sym (no_body-more said (Declares x) refl)) g
+declared d x image memory budget said h first m n b c s a =
+    held _ _ (order-declared said x (sym h.body ∙ first)) (h.body ∙ sym (no_body-more said (Declares x) refl)) (m, n, b, c, s, a)
     (h.labels ∙ sym (none_declared said x)) (ap names_once (none_declared said x) ∙ h.once) (listed source_in said (Declares x) refl h.sources)
 
 -- ---- one directive more
@@ -181,53 +183,57 @@ pub mark_held : (d : Held) (image : Image) → image ≡ record d.image { raw = 
     → Holds d (Declares directive.Raw) (record d { image = image })
 mark_held d image e first none = subst (λ (im : Image). Holds d (Declares directive.Raw) (record d { image = im })) (sym e) (λ said h.
     let x = Declares directive.Raw in declared d directive.Raw _ _ _ said h first
-    (first_given mark_in said x true (none_given d.image.raw d.image.raw false _ none h.mark) refl, still memory_in said x _ _ _ refl h.memory,
-    still budget_in said x _ _ _ refl h.budget, needed said x refl h.needs, listed start_in said x refl h.starts, listed slots_in said x refl h.slots))
+    (first_given mark_in said x true (none_given d.image.raw d.image.raw false _ none h.mark) refl) (still memory_in said x _ _ _ refl h.memory)
+    (still budget_in said x _ _ _ refl h.budget) (needed said x refl h.needs) (listed start_in said x refl h.starts)
+    (listed slots_in said x refl h.slots))
 
 pub memory_held : (d : Held) (image : Image) (n : ℕ) → image ≡ record d.image { memory = n } → d.has_body ≡ false → d.has_memory ≡ false
     → Holds d (Declares (directive.Memory n)) (record d { image = image; has_memory = true })
 memory_held d image n e first none =
     subst (λ (im : Image). Holds d (Declares (directive.Memory n)) (record d { image = im; has_memory = true })) (sym e) (λ said h.
     let x = Declares (directive.Memory n) in declared d (directive.Memory n) _ _ _ said h first
-    (still mark_in said x _ _ _ refl h.mark, first_given memory_in said x n (none_given d.has_memory d.image.memory 0 _ none h.memory) refl,
-    still budget_in said x _ _ _ refl h.budget, needed said x refl h.needs, listed start_in said x refl h.starts, listed slots_in said x refl h.slots))
+    (still mark_in said x _ _ _ refl h.mark) (first_given memory_in said x n (none_given d.has_memory d.image.memory 0 _ none h.memory) refl)
+    (still budget_in said x _ _ _ refl h.budget) (needed said x refl h.needs) (listed start_in said x refl h.starts)
+    (listed slots_in said x refl h.slots))
 
 pub budget_held : (d : Held) (image : Image) (n : ℕ) → image ≡ record d.image { budget = n } → d.has_body ≡ false → d.has_budget ≡ false
     → Holds d (Declares (directive.Budget n)) (record d { image = image; has_budget = true })
 budget_held d image n e first none =
     subst (λ (im : Image). Holds d (Declares (directive.Budget n)) (record d { image = im; has_budget = true })) (sym e) (λ said h.
     let x = Declares (directive.Budget n) in declared d (directive.Budget n) _ _ _ said h first
-    (still mark_in said x _ _ _ refl h.mark, still memory_in said x _ _ _ refl h.memory,
-    first_given budget_in said x n (none_given d.has_budget d.image.budget 1 _ none h.budget) refl,
-    needed said x refl h.needs, listed start_in said x refl h.starts, listed slots_in said x refl h.slots))
+    (still mark_in said x _ _ _ refl h.mark) (still memory_in said x _ _ _ refl h.memory)
+    (first_given budget_in said x n (none_given d.has_budget d.image.budget 1 _ none h.budget) refl) (needed said x refl h.needs)
+    (listed start_in said x refl h.starts) (listed slots_in said x refl h.slots))
 
 pub need_held : (d : Held) (image : Image) (c : Condition) → image ≡ record d.image { needs = needs_named (c ∷ d.image.needs) } → d.has_body ≡ false
     → Holds d (Declares (directive.Need c)) (record d { image = image })
 need_held d image c e first = subst (λ (im : Image). Holds d (Declares (directive.Need c)) (record d { image = im })) (sym e) (λ said h.
     let x = Declares (directive.Need c) in declared d (directive.Need c) _ _ _ said h first
-    (still mark_in said x _ _ _ refl h.mark, still memory_in said x _ _ _ refl h.memory, still budget_in said x _ _ _ refl h.budget,
-    ap (λ (l : List Condition). needs_named (c ∷ l)) h.needs ∙ needs-more (flat_map need_in said) c ∙ ap needs_named (sym (added need_in said x c refl)),
-    listed start_in said x refl h.starts, listed slots_in said x refl h.slots))
+    (still mark_in said x _ _ _ refl h.mark) (still memory_in said x _ _ _ refl h.memory) (still budget_in said x _ _ _ refl h.budget)
+    (ap (λ (l : List Condition). needs_named (c ∷ l)) h.needs ∙ needs-more (flat_map need_in said) c ∙ ap needs_named (sym (added need_in said x c refl)))
+    (listed start_in said x refl h.starts) (listed slots_in said x refl h.slots))
 
 pub starts_held : (d : Held) (image : Image) (s : Start) → image ≡ record d.image { starts = d.image.starts ++ (s ∷ []) } → d.has_body ≡ false
     → Holds d (Declares (directive.Start s)) (record d { image = image })
 starts_held d image s e first = subst (λ (im : Image). Holds d (Declares (directive.Start s)) (record d { image = im })) (sym e) (λ said h.
     let x = Declares (directive.Start s) in declared d (directive.Start s) _ _ _ said h first
-    (still mark_in said x _ _ _ refl h.mark, still memory_in said x _ _ _ refl h.memory, still budget_in said x _ _ _ refl h.budget, needed said x refl h.needs,
-    ap (λ (l : List Start). l ++ s ∷ []) h.starts ∙ sym (added start_in said x s refl), listed slots_in said x refl h.slots))
+    (still mark_in said x _ _ _ refl h.mark) (still memory_in said x _ _ _ refl h.memory) (still budget_in said x _ _ _ refl h.budget)
+    (needed said x refl h.needs) (ap (λ (l : List Start). l ++ s ∷ []) h.starts ∙ sym (added start_in said x s refl))
+    (listed slots_in said x refl h.slots))
 
 pub slot_array_held : (d : Held) (image : Image) (s : SlotArray) → image ≡ record d.image { slots = d.image.slots ++ (s ∷ []) } → d.has_body ≡ false
     → Holds d (Declares (directive.Slots s)) (record d { image = image })
 slot_array_held d image s e first = subst (λ (im : Image). Holds d (Declares (directive.Slots s)) (record d { image = im })) (sym e) (λ said h.
     let x = Declares (directive.Slots s) in declared d (directive.Slots s) _ _ _ said h first
-    (still mark_in said x _ _ _ refl h.mark, still memory_in said x _ _ _ refl h.memory, still budget_in said x _ _ _ refl h.budget, needed said x refl h.needs,
-    listed start_in said x refl h.starts, ap (λ (l : List SlotArray). l ++ s ∷ []) h.slots ∙ sym (added slots_in said x s refl)))
+    (still mark_in said x _ _ _ refl h.mark) (still memory_in said x _ _ _ refl h.memory) (still budget_in said x _ _ _ refl h.budget)
+    (needed said x refl h.needs) (listed start_in said x refl h.starts)
+    (ap (λ (l : List SlotArray). l ++ s ∷ []) h.slots ∙ sym (added slots_in said x s refl)))
 
 -- ---- one line more behind
 
 pub blank_held : (d : Held) → Holds d Blank d
 blank_held d = λ said h.
-    held _ _ (order-more said Blank refl h.order) (h.body ∙ sym (no_body-more said Blank refl)) (given_still said Blank d refl h)
+    held _ _ (order-more said Blank refl h.order) (h.body ∙ sym (no_body-more said Blank refl)) (unsaid d said Blank refl refl refl refl refl refl h)
     (h.labels ∙ sym (none_in_blank said)) (ap names_once (none_in_blank said) ∙ h.once) (listed source_in said Blank refl h.sources)
 
 counted : {xs ys : List Source} → xs ≡ ys → length xs ≡ 0 + length ys
@@ -236,7 +242,7 @@ counted e = omega (arith, ap length e)
 pub label_held : (d : Held) (name : List ℕ) → position_of d.labels name ≡ None
     → Holds d (Label name) (record d { has_body = true; labels = d.labels ++ (name, length d.sources) ∷ [] })
 label_held d name free = λ said h.
-    held _ _ (order-more said (Label name) refl h.order) (sym (body-more said (Label name) refl)) (given_still said (Label name) d refl h)
+    held _ _ (order-more said (Label name) refl h.order) (sym (body-more said (Label name) refl)) (unsaid d said (Label name) refl refl refl refl refl refl h)
     (ap (λ (l : List (List ℕ × ℕ)). l ++ (name, length d.sources) ∷ []) h.labels
     ∙ ap (λ (k : ℕ). labels_from 0 said ++ (name, k) ∷ []) (counted h.sources) ∙ sym (one_label said name))
     (ap names_once (one_label said name) ∙ once-more (labels_from 0 said) (name, 0 + length (flat_map source_in said)) h.once
@@ -244,7 +250,7 @@ label_held d name free = λ said h.
 
 pub code_held : (d : Held) (s : Source) → Holds d (Code s) (record d { has_body = true; sources = d.sources ++ s ∷ [] })
 code_held d s = λ said h.
-    held _ _ (order-more said (Code s) refl h.order) (sym (body-more said (Code s) refl)) (given_still said (Code s) d refl h)
+    held _ _ (order-more said (Code s) refl h.order) (sym (body-more said (Code s) refl)) (unsaid d said (Code s) refl refl refl refl refl refl h)
     (h.labels ∙ sym (none_in_code said s)) (ap names_once (none_in_code said s) ∙ h.once)
     (ap (λ (l : List Source). l ++ s ∷ []) h.sources ∙ sym (added source_in said (Code s) s refl))
 

@@ -14,8 +14,7 @@ pub said_by : (line : List ℕ) (words : List (List ℕ)) (said : Line) → is_a
 said_by line words said plain cut e = rw (plain, sym cut) e
 
 pub read_by : {A E : Type 0} (r : Result A E) (old new : Held) (line : List ℕ) (words : List (List ℕ)) (said : Line) → is_ascii line ≡ true
-    → words ≡ words_of line → line_of words ≡ Some said → OnOk r (Holds old said new)
-    → OnOk r (Reads old line new)
+    → words ≡ words_of line → line_of words ≡ Some said → OnOk r (Holds old said new) → OnOk r (Reads old line new)
 read_by (Ok x) old new line words said plain cut e h = (said, said_by line words said plain cut e, h)
 read_by (Err fault) old new line words said plain cut e h = tt
 
@@ -34,14 +33,11 @@ made_of make (Some x) d fine e = let same : make x ≡ d = cc in subst (λ (y : 
 
 start-fits : (k : Option (Option Kind)) (r : Option ℕ) (s : Start) → start_with k r ≡ Some s → is_start_in_range s ≡ true
 start-fits (Some k) (Some r) s e = passes is_start_in_range (Some (record { kind = k; rights = rights_of r })) s e
-start-fits (Some k) None s e = cc
-start-fits None r s e = cc
+start-fits _ _ s e = cc
 
 slots-fit : (k : Option (Option Kind)) (l r : Option ℕ) (s : SlotArray) → slot_array_with k l r ≡ Some s → is_slot_in_range s ≡ true
 slots-fit (Some k) (Some l) (Some r) s e = passes is_slot_in_range (Some (record { kind = k; length = l; rights = rights_of r })) s e
-slots-fit (Some k) (Some l) None s e = cc
-slots-fit (Some k) None r s e = cc
-slots-fit None l r s e = cc
+slots-fit _ _ _ s e = cc
 
 either : (b : Bool) (x y : Option Directive) (d : Directive) → (x ≡ Some d → is_directive_in_range d ≡ true) → (y ≡ Some d → is_directive_in_range d ≡ true)
     → cond b x y ≡ Some d → is_directive_in_range d ≡ true
@@ -63,8 +59,7 @@ directive-fits name (operand ∷ []) d e =
     (either (is_word name (codes ".budget")) (option_map directive.Budget (number_within 1 1000000 operand)) _ d
     (made_of directive.Budget (number_within 1 1000000 operand) d (λ n f. passes _ (number_of operand) n f))
     (either (is_word name (codes ".need")) (option_map directive.Need (need_of operand)) None d
-    (made_of directive.Need (need_of operand) d (λ n f. refl)) (nothing d)))
-    e
+    (made_of directive.Need (need_of operand) d (λ n f. refl)) (nothing d))) e
 directive-fits name (kind ∷ rights ∷ []) d e =
     either (is_word name (codes ".start")) (option_map directive.Start (start_with (kind_of kind) (number_of rights))) None d
     (made_of directive.Start (start_with (kind_of kind) (number_of rights)) d (λ s f. start-fits (kind_of kind) (number_of rights) s f)) (nothing d) e

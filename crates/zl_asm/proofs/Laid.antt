@@ -30,8 +30,7 @@ next_line code n bytes rest =
 module _ (code : List (List ℕ)) (i : ℕ) (d : List ℕ) (within : i < length code) where
   -- one more line was written
   pub line_written : (start text new : List ℕ) → text ++ ended (code_lines_from code i (drop i code)) ≡ start
-      → new ≡ text ++ line_text (length code) i (is_target code i) (get_or code i d)
-      → new ++ ended (code_lines_from code (i + 1) (drop (i + 1) code)) ≡ start
+      → new ≡ text ++ line_text (length code) i (is_target code i) (get_or code i d) → new ++ ended (code_lines_from code (i + 1) (drop (i + 1) code)) ≡ start
   line_written start text new before written =
       let here : code_lines_from code i (drop i code) ≡ code_lines_from code i (get_or code i d ∷ drop (i + 1) code) =
       at_drop_more (code_lines_from code i) code i d within in
@@ -96,9 +95,7 @@ filtered_needs needs (c ∷ cs) = by (is_among needs c) (filtered_needs needs cs
 
 needs_ended : (needs : List Condition) → needs_named needs ≡ needs → ended (map (λ c. codes ".need " ++ condition_name c) needs) ≡ needs_text needs
 needs_ended needs same =
-    mapped_ended (λ c. codes ".need " ++ condition_name c) need_text need_ended needs
-    ∙ ap (flat_map need_text) (sym same)
-    ∙ filtered_needs needs can_be_needed
+    mapped_ended (λ c. codes ".need " ++ condition_name c) need_text need_ended needs ∙ ap (flat_map need_text) (sym same) ∙ filtered_needs needs can_be_needed
     ∙ (λ i. need_if_among needs condition.NewChannel ++ (need_if_among needs condition.NewEvent ++ (need_if_among needs condition.NewEventpair
     ++ (need_if_among needs condition.NewPort ++ append-nil (need_if_among needs condition.NewProcess) i))))
 
@@ -111,8 +108,7 @@ numbers_ended memory budget rest =
     append_assoc (codes ".memory " ++ memory) (codes "\n") (((codes ".budget " ++ budget) ++ codes "\n") ++ rest)
     ∙ append_assoc (codes ".memory ") memory (codes "\n" ++ (((codes ".budget " ++ budget) ++ codes "\n") ++ rest))
     ∙ ap (λ (x : List ℕ). codes ".memory " ++ (memory ++ (codes "\n" ++ x))) (append_assoc (codes ".budget " ++ budget) (codes "\n") rest
-    ∙ append_assoc (codes ".budget ") budget (codes "\n" ++ rest)
-    ∙ ap (λ (x : List ℕ). codes ".budget " ++ x) (sym (append_assoc budget (codes "\n") rest)))
+    ∙ append_assoc (codes ".budget ") budget (codes "\n" ++ rest) ∙ ap (λ (x : List ℕ). codes ".budget " ++ x) (sym (append_assoc budget (codes "\n") rest)))
     ∙ sym (ap (λ (x : List ℕ). codes ".memory " ++ x) (append_assoc memory (codes "\n.budget " ++ (budget ++ codes "\n")) rest))
 
 fields_ended : (raw : Bool) (memory budget rest : List ℕ)

@@ -84,8 +84,7 @@ listing_of_fields lines raw memory budget code = record {
 }
 
 -- where no fields that the lines give are in their ranges
-pub none_by_fields : (lines : List Line)
-    → ((raw : Bool) (memory budget : ℕ) (code : List (List ℕ)) → given (flat_map mark_in lines) false ≡ Some raw
+pub none_by_fields : (lines : List Line) → ((raw : Bool) (memory budget : ℕ) (code : List (List ℕ)) → given (flat_map mark_in lines) false ≡ Some raw
     → given (flat_map memory_in lines) 0 ≡ Some memory → given (flat_map budget_in lines) 1 ≡ Some budget
     → all_of (resolved (labels_from 0 lines)) (flat_map source_in lines) ≡ Some code → is_listing (listing_of_fields lines raw memory budget code) ≡ false)
     → listing_from lines ≡ None
@@ -97,8 +96,7 @@ none_by_fields lines fails =
   where
     by : (m : Option Bool) (n b : Option ℕ) (c : Option (List (List ℕ)))
         → ((raw : Bool) (memory budget : ℕ) (code : List (List ℕ)) → m ≡ Some raw → n ≡ Some memory → b ≡ Some budget → c ≡ Some code
-        → is_listing (listing_of_fields lines raw memory budget code) ≡ false)
-        → if_fits is_listing (listing_with lines m n b c) ≡ None
+        → is_listing (listing_of_fields lines raw memory budget code) ≡ false) → if_fits is_listing (listing_with lines m n b c) ≡ None
     by (Some raw) (Some memory) (Some budget) (Some code) h = rw (h raw memory budget code refl refl refl refl) refl
     by (Some raw) (Some memory) (Some budget) None h = refl
     by (Some raw) (Some memory) None c h = refl

@@ -36,17 +36,13 @@ declared_first : (directives rest : List Line) → list_all declares directives 
 unfolding directives_first
 declared_first [] rest h = refl
 declared_first (Declares d ∷ directives) rest h = declared_first directives rest h
-declared_first (Blank ∷ directives) rest h = absurd cc
-declared_first (Label name ∷ directives) rest h = absurd cc
-declared_first (Code s ∷ directives) rest h = absurd cc
+declared_first _ rest h = absurd cc
 
 no_labels : (n : ℕ) (directives rest : List Line) → list_all declares directives ≡ true → labels_from n (directives ++ rest) ≡ labels_from n rest
 unfolding labels_from
 no_labels n [] rest h = refl
 no_labels n (Declares d ∷ directives) rest h = no_labels n directives rest h
-no_labels n (Blank ∷ directives) rest h = absurd cc
-no_labels n (Label name ∷ directives) rest h = absurd cc
-no_labels n (Code s ∷ directives) rest h = absurd cc
+no_labels n _ rest h = absurd cc
 
 none_declared : (lines : List Line) → list_all (λ l. not (declares l)) lines ≡ true → directives_first lines ≡ true
 unfolding directives_first
@@ -62,8 +58,7 @@ unfolding code_said_from
 body_declares_none code n [] = refl
 body_declares_none code n (bytes ∷ rest) = by (is_target code n) (body_declares_none code (suc n) rest)
   where
-    by : (t : Bool) → list_all (λ l. not (declares l)) (code_said_from code (suc n) rest ++ (Blank ∷ [])) ≡ true
-        → list_all (λ l. not (declares l))
+    by : (t : Bool) → list_all (λ l. not (declares l)) (code_said_from code (suc n) rest ++ (Blank ∷ [])) ≡ true → list_all (λ l. not (declares l))
         (((if t then Label (label_text n) ∷ [] else []) ++ (Code (source_said (length code) bytes) ∷ code_said_from code (suc n) rest)) ++ (Blank ∷ [])) ≡ true
     by true h = h
     by false h = h

@@ -95,8 +95,7 @@ taken_then_free [] h = refl
 taken_then_free (b ∷ bs) h = by (λ packed. taken_then_free bs packed) (b == 255) refl h
   where
     by : (is_packed bs ≡ true → filter is_taken bs ++ replicate (length bs - length (filter is_taken bs)) 255 ≡ bs) → (t : Bool) → (b == 255) ≡ t
-        → (if t then list_all (λ x. x == 255) bs else is_packed bs) ≡ true
-        → (if not t then b ∷ filter is_taken bs
+        → (if t then list_all (λ x. x == 255) bs else is_packed bs) ≡ true → (if not t then b ∷ filter is_taken bs
         else filter is_taken bs) ++ replicate (suc (length bs) - length (if not t then b ∷ filter is_taken bs else filter is_taken bs)) 255 ≡ b ∷ bs
     by rest true e all =
         let whole : suc (length bs) - 0 ≡ suc (length bs) = omega arith in

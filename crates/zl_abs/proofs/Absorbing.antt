@@ -58,8 +58,7 @@ kind_is (Some x) (Some y) h k = ap Some (same_kind_is x y h)
 kind_is _ _ h k = cc
 
 has_is : (a b : Bool) (k j : Option Kind) (r q : Rights) → ((not a || b) && (kind_below k j && within (bits q) (bits r))) ≡ true
-    → ((not b || a) && (kind_below j k && within (bits r) (bits q))) ≡ true
-    → Has a k r ≡ Has b j q
+    → ((not b || a) && (kind_below j k && within (bits r) (bits q))) ≡ true → Has a k r ≡ Has b j q
 has_is a b k j r q h g =
     let p = parts (not a || b) (kind_below k j) (within (bits q) (bits r)) h in
     let t = parts (not b || a) (kind_below j k) (within (bits r) (bits q)) g in
@@ -81,9 +80,8 @@ below_antisymmetric _ _ h k = cc
 pub all_below_antisymmetric : (s t : State) → IsTrue (all_below s t) → IsTrue (all_below t s) → s ≡ t
 unfolding all_below
 all_below_antisymmetric [] [] h k = refl
-all_below_antisymmetric [] (b ∷ t) h k = cc
-all_below_antisymmetric (a ∷ s) [] h k = cc
 all_below_antisymmetric (a ∷ s) (b ∷ t) h k =
     let p = and_parts (below a b) (all_below s t) h in
     let q = and_parts (below b a) (all_below t s) k in
     rw (below_antisymmetric a b p.0 q.0, all_below_antisymmetric s t p.1 q.1) refl
+all_below_antisymmetric _ _ h k = cc

@@ -26,10 +26,8 @@ any_kept kinds (Some k) (Some j) h e = let p : k ≡ j = same_kind_is k j h in r
 
 three_faults : (p q r : Bool) (c d f : Cause) → (if p then Some c else (if q then Some d else (if r then Some f else None))) ≡ None
     → (p ≡ false) × (q ≡ false) × (r ≡ false)
-three_faults true q r c d f e = cc
-three_faults false true r c d f e = cc
-three_faults false false true c d f e = cc
 three_faults false false false c d f e = (refl, refl, refl)
+three_faults _ _ _ c d f e = cc
 
 maybe_kept : (m m2 z : Bool) → (not m || m2) ≡ true → (m2 && not z) ≡ false → (m && not z) ≡ false
 maybe_kept true true z h e = e
@@ -132,8 +130,7 @@ sum_kept most (Some x) (Some y) (Some m) (Some n) h k e = le-leb _ _ (let p = le
 
 range_kept : (i : Image) (s t : State) (o : Option (ℕ × ℕ)) → IsBelow s t → range_fits i t o ≡ true → range_fits i s o ≡ true
 range_kept i s t None h e = refl
-range_kept i s t (Some x) h e =
-    sum_kept i.memory _ _ _ _ (bound_below _ _ (value_below s t (x.0) h)) (bound_below _ _ (value_below s t (x.1) h)) e
+range_kept i s t (Some x) h e = sum_kept i.memory _ _ _ _ (bound_below _ _ (value_below s t (x.0) h)) (bound_below _ _ (value_below s t (x.1) h)) e
 
 -- ---- destinations
 
@@ -180,18 +177,15 @@ answers_below s t xs ys h k =
 -- ---- the rule
 
 finished_below : (i : Image) (s t u v : State) (operands : List Operand) (words : List ℕ) (range : Option (ℕ × ℕ)) (condition : Option Condition)
-    (xs ys : List (ℕ × AbsVal))
-    → IsBelow s t → IsBelow u v → ResultsBelow xs ys
+    (xs ys : List (ℕ × AbsVal)) → IsBelow s t → IsBelow u v → ResultsBelow xs ys
     → Lowers IsBelow (finished i s u (uses operands words range condition xs)) (finished i t v (uses operands words range condition ys))
 finished_below i s t u v operands words range condition xs ys h k l =
     lowers_unless IsBelow (not (are_words s words)) (not (are_words t words)) _ _ _ _ (not_kept _ _ (words_kept s t words h))
     (lowers_unless IsBelow (not (range_fits i s range)) (not (range_fits i t range)) _ _ _ _ (not_kept _ _ (range_kept i s t range h))
-    (lowers_unless IsBelow (not (is_declared i condition)) (not (is_declared i condition)) _ _ _ _ (λ e. e)
-    (answers_below u v xs ys k l)))
+    (lowers_unless IsBelow (not (is_declared i condition)) (not (is_declared i condition)) _ _ _ _ (λ e. e) (answers_below u v xs ys k l)))
 
 state_after_below : (i : Image) (s t : State) (operands : List Operand) (words : List ℕ) (range : Option (ℕ × ℕ)) (condition : Option Condition)
-    (xs ys : List (ℕ × AbsVal))
-    → IsBelow s t → ResultsBelow xs ys
+    (xs ys : List (ℕ × AbsVal)) → IsBelow s t → ResultsBelow xs ys
     → Lowers IsBelow (state_after i s (uses operands words range condition xs)) (state_after i t (uses operands words range condition ys))
 state_after_below i s t operands words range condition xs ys h l =
     lowers_then IsBelow IsBelow (examined_all s operands) (examined_all t operands) _ _ (examined_all_below operands s t h)
@@ -208,9 +202,8 @@ narrowed_below (Has m k r) (Has m2 k2 r2) asked h = let p = has_parts m m2 k k2 
     by true e = e
     by false e = within_refl (bit_and asked KNOWN_RIGHTS)
 narrowed_below (Has _ _ _) _ asked h = cc
-narrowed_below (KindOf _) (Has _ _ _) asked h = cc
-narrowed_below (RightsOf _) (Has _ _ _) asked h = cc
 narrowed_below (Word _) (Has _ _ _) asked h = refl
+narrowed_below _ (Has _ _ _) asked h = cc
 narrowed_below _ _ asked h = refl
 
 one_below : (v w : AbsVal) → IsTrue (below v w) → IsTrue (all_below (v ∷ []) (w ∷ []))
@@ -247,7 +240,6 @@ way_on false u v h = (tt, tt)
 pub call_below : (bounds : List ℕ) (i : Image) (c : CallInstr) (s t : State) → IsBelow s t → Lowers WaysBelow (call_rule bounds i c s) (call_rule bounds i c t)
 unfolding call_rule uses_of
 call_below bounds i c s t h =
-    lowers_then IsBelow WaysBelow (state_after i s (uses_of bounds s c)) (state_after i t (uses_of bounds t c)) _ _
-    (state_after_below i s t _ _ _ _ _ _ h
+    lowers_then IsBelow WaysBelow (state_after i s (uses_of bounds s c)) (state_after i t (uses_of bounds t c)) _ _ (state_after_below i s t _ _ _ _ _ _ h
     (zip_below (those is_written (call_row c.name).fields 0 c.registers) _ _ _ (status_first _ _ (values_below bounds s t c h))))
     (λ u v l. way_on (goes_on c.name) u v l)

@@ -73,8 +73,7 @@ may_named _ h = cc
 
 takes_fine : (s : State) (a b : ℕ) → IsFine s → a < 32 → IfOk (takes s a b) FineWays
 takes_fine s a b h less =
-    unless_fine FineWays (eqb a b) _ _ (λ _.
-    unless_fine FineWays (not (may_move (value_at s b))) _ _ (λ e.
+    unless_fine FineWays (eqb a b) _ _ (λ _. unless_fine FineWays (not (may_move (value_at s b))) _ _ (λ e.
     unless_fine FineWays (is_has (value_at s a)) (Ok (passes (moved s a b (value_at s b)))) cause.Leak (λ _.
     (tt, fine_moved s a b (value_at s b) h less (h.fits b, h.state.tags b) (may_named (value_at s b) e)))))
 
@@ -155,10 +154,8 @@ CanGet results = (t : State) → IsFine t → IsFine (with_all t results)
 
 after_fine : (i : Image) (s : State) (u : Uses) → IsFine s → CanGet u.results → IfOk (state_after i s u) IsFine
 after_fine i s u h k =
-    then_fine IsFine IsFine (examined_all s u.operands) _ (examined_all_fine u.operands s h) (λ t g.
-    unless_fine IsFine (not (are_words s u.words)) _ _ (λ _.
-    unless_fine IsFine (not (range_fits i s u.range)) _ _ (λ _.
-    unless_fine IsFine (not (is_declared i u.condition)) _ _ (λ _.
+    then_fine IsFine IsFine (examined_all s u.operands) _ (examined_all_fine u.operands s h) (λ t g. unless_fine IsFine (not (are_words s u.words)) _ _ (λ _.
+    unless_fine IsFine (not (range_fits i s u.range)) _ _ (λ _. unless_fine IsFine (not (is_declared i u.condition)) _ _ (λ _.
     unless_fine IsFine (not (are_distinct u.results)) _ _ (λ _.
     unless_fine IsFine (has_one t u.results) (Ok (with_all t u.results)) cause.Leak (λ _. k t g))))))
 
@@ -248,8 +245,7 @@ edges_fine : (size place target : ℕ) (w : Ways) → FineWays w → IfOk (edges
 edges_fine size place target w h =
     then_fine AllFine AllFine (edge_to size cause.BadJump target w.jumped) _ (edge_fine size cause.BadJump target w.jumped h.0) (λ xs p.
     then_fine AllFine AllFine (edge_to size cause.FallsOff (place + 1) w.passed) (λ ys. Ok (xs ++ ys))
-    (edge_fine size cause.FallsOff (place + 1) w.passed h.1) (λ ys q.
-    both_fine xs ys p q))
+    (edge_fine size cause.FallsOff (place + 1) w.passed h.1) (λ ys q. both_fine xs ys p q))
 
 -- ---- the rule
 

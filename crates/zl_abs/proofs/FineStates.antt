@@ -11,11 +11,9 @@ use Rattle.std.proofs.lemmas.Bool.{cond_both}
 -- ---- registers of a state that was written
 
 set_at : (P : AbsVal → Type 0) (s : State) (r q : ℕ) (v : AbsVal) → P v → P (value_at s q) → P (value_at (slice_set s r v) q)
-set_at P [] r q v h k = k
 set_at P (a ∷ s) zero zero v h k = h
-set_at P (a ∷ s) zero (suc q) v h k = k
-set_at P (a ∷ s) (suc r) zero v h k = k
 set_at P (a ∷ s) (suc r) (suc q) v h k = set_at P s r q v h k
+set_at P _ _ _ v h k = k
 
 -- the register may be none of the state's
 set_self : (P : AbsVal → Type 0) (s : State) (r : ℕ) (v : AbsVal) → P v → P (Word 0) → P (value_at (slice_set s r v) r)
@@ -203,19 +201,15 @@ joined_fits : (a b : AbsVal) → Fits a → Fits b → IfSome (joined a b) Fits
 unfolding joined
 joined_fits (Word m) (Word n) h k = word_fits m n h k
 joined_fits (Word m) (Has x i r) h k = handle_if Fits (eqb m 0) (Has true i r) k
-joined_fits (Word m) (KindOf q) h k = word_fits m ANY h (omega arith)
-joined_fits (Word m) (RightsOf q) h k = word_fits m ANY h (omega arith)
+joined_fits (Word m) _ h k = word_fits m ANY h (omega arith)
 joined_fits (Has x i r) (Word n) h k = handle_if Fits (eqb n 0) (Has true i r) h
 joined_fits (Has x i r) (Has y j q) h k = let z = and_le_l (bits r) (bits q) in omega arith
 joined_fits (Has x i r) _ h k = tt
-joined_fits (KindOf r) (Word n) h k = word_fits n ANY k (omega arith)
-joined_fits (KindOf r) (Has x i q) h k = tt
+joined_fits _ (Word n) h k = word_fits n ANY k (omega arith)
+joined_fits _ (Has x i q) h k = tt
 joined_fits (KindOf r) (KindOf q) h k = cond_both (eqb r q) (KindOf r) (Word ANY) Fits (λ _. h) (λ _. omega arith)
-joined_fits (KindOf r) (RightsOf q) h k = omega arith
-joined_fits (RightsOf r) (Word n) h k = word_fits n ANY k (omega arith)
-joined_fits (RightsOf r) (Has x i q) h k = tt
 joined_fits (RightsOf r) (RightsOf q) h k = cond_both (eqb r q) (RightsOf r) (Word ANY) Fits (λ _. h) (λ _. omega arith)
-joined_fits (RightsOf r) (KindOf q) h k = omega arith
+joined_fits _ _ h k = omega arith
 
 -- what both states name, the third names
 module _ (s t u : State) (kept : (x : ℕ) → Named (value_at s x) → Named (value_at t x) → Named (value_at u x)) where
@@ -228,18 +222,13 @@ module _ (s t u : State) (kept : (x : ℕ) → Named (value_at s x) → Named (v
   joined_well : (a b : AbsVal) → IsTrue (is_named_well s a) → IsTrue (is_named_well t b) → IfSome (joined a b) (λ v. IsTrue (is_named_well u v))
   unfolding joined
   joined_well (Word m) (Has x i r) h k = handle_if (λ v. IsTrue (is_named_well u v)) (eqb m 0) (Has true i r) refl
-  joined_well (Word m) _ h k = refl
   joined_well (Has x i r) (Word n) h k = handle_if (λ v. IsTrue (is_named_well u v)) (eqb n 0) (Has true i r) refl
   joined_well (Has x i r) (Has y j q) h k = refl
   joined_well (Has x i r) _ h k = tt
-  joined_well (KindOf r) (Word n) h k = refl
-  joined_well (KindOf r) (Has x i q) h k = tt
+  joined_well _ (Has x i r) h k = tt
   joined_well (KindOf r) (KindOf q) h k = kept_well r q (KindOf r) (λ is. is) h k
-  joined_well (KindOf r) (RightsOf q) h k = refl
-  joined_well (RightsOf r) (Word n) h k = refl
-  joined_well (RightsOf r) (Has x i q) h k = tt
   joined_well (RightsOf r) (RightsOf q) h k = kept_well r q (RightsOf r) (λ is. is) h k
-  joined_well (RightsOf r) (KindOf q) h k = refl
+  joined_well _ _ h k = refl
 
 -- the join of two states, register by register
 pub record IsJoin (s t u : State) : Type 0 where
@@ -288,10 +277,7 @@ zero_at (suc n) zero = refl
 zero_at (suc n) (suc r) = zero_at n r
 
 zeros_fine : IsFine (replicate 32 (Word 0))
-zeros_fine = record {
-  state = record { long = refl; tags = λ r. rw (zero_at 32 r) refl };
-  fits = λ r. rw (zero_at 32 r) (omega arith);
-}
+zeros_fine = record { state = record { long = refl; tags = λ r. rw (zero_at 32 r) refl }; fits = λ r. rw (zero_at 32 r) (omega arith) }
 
 -- rights that a declaration may name
 pub rights_fit : (o : Option Kind) (r : ℕ) → within r (rights_allowed o) ≡ true → r ≤ 0xffff_ffff

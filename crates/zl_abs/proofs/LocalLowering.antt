@@ -78,9 +78,8 @@ pub no_some : {A : Type 0} (x : A) → Some x ≡ None → ⊥
 no_some x e = cc
 
 two_faults : (p q : Bool) (c d : Cause) → (if p then Some c else (if q then Some d else None)) ≡ None → (p ≡ false) × (q ≡ false)
-two_faults true q c d e = cc
-two_faults false true c d e = cc
 two_faults false false c d e = (refl, refl)
+two_faults _ _ c d e = cc
 
 has_enters : (x : SlotArray) (m m2 : Bool) (k k2 : Option Kind) (r r2 : Rights) → ((not m || m2) && (kind_below k k2 && within (bits r2) (bits r))) ≡ true
     → slot_fault x (Has m2 k2 r2) ≡ None → slot_fault x (Has m k r) ≡ None

@@ -25,17 +25,14 @@ three a b c p q r = rw (p, q, r) refl
 
 pub parts : (a b c : Bool) → (a && (b && c)) ≡ true → (a ≡ true) × (b ≡ true) × (c ≡ true)
 parts true true true h = (refl, refl, refl)
-parts true true false h = cc
-parts true false _ h = cc
-parts false _ _ h = cc
+parts _ _ _ h = cc
 
 -- ---- flags, kinds, rights
 
 pub or_trans : (x y z : Bool) → (not x || y) ≡ true → (not y || z) ≡ true → (not x || z) ≡ true
 or_trans true true true h k = refl
-or_trans true true false h k = cc
-or_trans true false _ h k = cc
 or_trans false _ _ h k = refl
+or_trans _ _ _ h k = cc
 
 pub or_refl : (x : Bool) → (not x || x) ≡ true
 or_refl true = refl
@@ -173,37 +170,29 @@ pub joined_left : (a b : AbsVal) → JoinIsAbove a (joined a b)
 unfolding below joined
 joined_left (Word m) (Word n) = word_left m n
 joined_left (Word m) (Has maybe k r) = zero_case m _ (λ z. rw z refl)
-joined_left (Word m) (KindOf r) = word_left m ANY
-joined_left (Word m) (RightsOf r) = word_left m ANY
+joined_left (Word m) _ = word_left m ANY
 joined_left (Has maybe k r) (Word m) = some_case (eqb m 0) (Has maybe k r) (Has true k r) (three _ _ _ (or_true maybe) (kind_refl k) (within_refl (bits r)))
 joined_left (Has a k r) (Has b j q) = three _ _ _ (or_left a b) (kind_left k j) (within_left (bits r) (bits q))
 joined_left (Has a k r) _ = tt
-joined_left (KindOf r) (Has _ _ _) = tt
-joined_left (KindOf r) (Word m) = word_right m ANY
+joined_left _ (Has _ _ _) = tt
+joined_left _ (Word m) = word_right m ANY
 joined_left (KindOf r) (KindOf s) = tag_above r s (KindOf r) (KindOf r) (λ _. below_refl (KindOf r)) refl
-joined_left (KindOf r) (RightsOf s) = refl
-joined_left (RightsOf r) (Has _ _ _) = tt
-joined_left (RightsOf r) (Word m) = word_right m ANY
 joined_left (RightsOf r) (RightsOf s) = tag_above r s (RightsOf r) (RightsOf r) (λ _. below_refl (RightsOf r)) refl
-joined_left (RightsOf r) (KindOf s) = refl
+joined_left _ _ = refl
 
 pub joined_right : (a b : AbsVal) → JoinIsAbove b (joined a b)
 unfolding below joined
 joined_right (Word m) (Word n) = word_right m n
 joined_right (Word m) (Has maybe k r) = some_case (eqb m 0) (Has maybe k r) (Has true k r) (three _ _ _ (or_true maybe) (kind_refl k) (within_refl (bits r)))
-joined_right (Word m) (KindOf r) = word_right m ANY
-joined_right (Word m) (RightsOf r) = word_right m ANY
+joined_right (Word m) _ = word_right m ANY
 joined_right (Has maybe k r) (Word m) = zero_case m _ (λ z. rw z refl)
 joined_right (Has a k r) (Has b j q) = three _ _ _ (or_right a b) (kind_right k j) (within_right (bits r) (bits q))
 joined_right (Has a k r) _ = tt
-joined_right (KindOf r) (Has _ _ _) = tt
-joined_right (KindOf r) (Word m) = word_left m ANY
+joined_right _ (Has _ _ _) = tt
+joined_right _ (Word m) = word_left m ANY
 joined_right (KindOf r) (KindOf s) = tag_above r s (KindOf s) (KindOf r) (λ e. rw e (below_refl (KindOf s))) refl
-joined_right (KindOf r) (RightsOf s) = refl
-joined_right (RightsOf r) (Has _ _ _) = tt
-joined_right (RightsOf r) (Word m) = word_left m ANY
 joined_right (RightsOf r) (RightsOf s) = tag_above r s (RightsOf s) (RightsOf r) (λ e. rw e (below_refl (RightsOf s))) refl
-joined_right (RightsOf r) (KindOf s) = refl
+joined_right _ _ = refl
 
 -- ---- and the least
 

@@ -53,10 +53,9 @@ flag_room false true = omega arith
 flag_room false false = omega arith
 
 flag_less : (a b : Bool) → (not b || a) ≡ false → one_if (not (a || b)) < one_if (not a)
-flag_less true true h = cc
-flag_less true false h = cc
 flag_less false true h = omega arith
-flag_less false false h = cc
+flag_less true true h = cc
+flag_less _ _ h = cc
 
 kinds_room : (k j : Option Kind) → kind_room (kind_joined k j) ≤ kind_room k
 kinds_room None j = omega arith
@@ -128,8 +127,7 @@ unfolding joined below
 lessens (Word m) (Word n) f g = (word_room m n f g, word_less m n f g)
 lessens (Word m) (Has x k r) f g =
     zero_lessens (Word m) (Has x k r) (Has true k r) m (λ e. let b = zero_most m (kind_room k) (bits r) e (kind_most k) g in (omega arith, λ _. b))
-lessens (Word m) (KindOf r) f g = (word_room m ANY f (omega arith), (λ h. word_less m ANY f (omega arith) h))
-lessens (Word m) (RightsOf r) f g = (word_room m ANY f (omega arith), (λ h. word_less m ANY f (omega arith) h))
+lessens (Word m) _ f g = (word_room m ANY f (omega arith), (λ h. word_less m ANY f (omega arith) h))
 lessens (Has true k r) (Word n) f g =
     zero_lessens (Has true k r) (Word n) (Has true k r) n
     (λ e. (omega arith, λ h. let q : (eqb n 0 && true) ≡ true = rw e refl in let z : true ≡ false = sym q ∙ h in absurd (cc)))
@@ -137,13 +135,11 @@ lessens (Has false k r) (Word n) f g = zero_lessens (Has false k r) (Word n) (Ha
 lessens (Has a k r) (Has b j q) f g = (has_room a b k j (bits r) (bits q), has_less a b k j (bits r) (bits q))
 lessens (Has a k r) _ f g = tt
 lessens (KindOf r) (Word n) f g = any_lessens (KindOf r) (Word n) n refl g
-lessens (KindOf r) (Has _ _ _) f g = tt
+lessens _ (Has _ _ _) f g = tt
 lessens (KindOf r) (KindOf s) f g = tag_lessens (eqb r s) (KindOf r) (KindOf s) refl (same_register r s)
-lessens (KindOf r) (RightsOf s) f g = (omega arith, (λ _. omega arith))
 lessens (RightsOf r) (Word n) f g = any_lessens (RightsOf r) (Word n) n refl g
-lessens (RightsOf r) (Has _ _ _) f g = tt
 lessens (RightsOf r) (RightsOf s) f g = tag_lessens (eqb r s) (RightsOf r) (RightsOf s) refl (same_register r s)
-lessens (RightsOf r) (KindOf s) f g = (omega arith, (λ _. omega arith))
+lessens _ _ f g = (omega arith, (λ _. omega arith))
 
 -- ---- states
 

@@ -143,8 +143,7 @@ way_under s t false u h = tt
 zero_under : (s t : State) (r : ℕ) (v : AbsVal) → IsBelow s t → value_at s r ≡ v → WayBelow (known_zero s r v) (Some t)
 unfolding below
 zero_under s t r (Has false k q) h e = tt
-zero_under s t r (Has true k q) h e =
-    all_below_trans _ s t (set_under s s r (Word 0) (all_below_refl s) (rw e refl)) h
+zero_under s t r (Has true k q) h e = all_below_trans _ s t (set_under s s r (Word 0) (all_below_refl s) (rw e refl)) h
 zero_under s t r _ h e = h
 
 there_under : (s t : State) (r : ℕ) (v : AbsVal) → IsBelow s t → value_at s r ≡ v → WayBelow (known_there s r v) (Some t)
@@ -156,8 +155,7 @@ there_under s t r _ h e = h
 kind_under : (s t : State) (r : ℕ) (o : Option Kind) (v : AbsVal) → IsBelow s t → value_at s r ≡ v → WayBelow (known_kind s r o v) (Some t)
 kind_under s t r None v h e = tt
 kind_under s t r (Some x) (Has a k q) h e =
-    cond_both (kind_below (Some x) k) (Some (refined s r (Has false (Some x) q))) None (λ o. WayBelow o (Some t))
-    (λ y. all_below_trans _ s t
+    cond_both (kind_below (Some x) k) (Some (refined s r (Has false (Some x) q))) None (λ o. WayBelow o (Some t)) (λ y. all_below_trans _ s t
     (set_under s s r (Has false (Some x) q) (all_below_refl s) (rw e (has_from false a (Some x) k q q refl y (within_refl (bits q))))) h) (λ _. tt)
 kind_under s t r (Some x) _ h e = tt
 
@@ -168,9 +166,7 @@ other_under s t (Some x) _ h = h
 
 rights_under : (s t : State) (r imm : ℕ) (v : AbsVal) → IsBelow s t → value_at s r ≡ v → WayBelow (known_rights s r imm v) (Some t)
 rights_under s t r imm (Has a k q) h e =
-    way_under s t (within imm KNOWN_RIGHTS) _
-    (all_below_trans _ s t
-    (set_under s s r (Has false k (rights_of (bit_or (bits q) imm))) (all_below_refl s)
+    way_under s t (within imm KNOWN_RIGHTS) _ (all_below_trans _ s t (set_under s s r (Has false k (rights_of (bit_or (bits q) imm))) (all_below_refl s)
     (rw e (has_from false a k k (rights_of (bit_or (bits q) imm)) q refl (kind_refl k) (within_more (bits q) imm)))) h)
 rights_under s t r imm _ h e = tt
 

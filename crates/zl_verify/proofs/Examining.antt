@@ -158,8 +158,7 @@ module _ (w : World) (p : ℕ) (read : List ℕ) (arrays : List SlotArray) (slot
       → value_at s o.value ≡ a → fault_of o a ≡ None
       → Holds (removed (slice_index xs o.value) f) (with_value s o.value (Word 0)) (slice_set xs o.value 0) arrays slots
   takes_it f s xs o h states lt (Word m) is e =
-      consume_0 h states o.value lt
-      (zero_word o.may_be_zero m (slice_index xs o.value) (word_passes o m e)
+      consume_0 h states o.value lt (zero_word o.may_be_zero m (slice_index xs o.value) (word_passes o m e)
       (subst (λ a. Describes f xs a (slice_index xs o.value)) is (h.described o.value))).1
   takes_it f s xs o h states lt (Has maybe kind rights) is e = consume h states o.value lt maybe kind rights is
   takes_it f s xs o h states lt _ is e = cc
@@ -209,8 +208,7 @@ module _ (w : World) (p : ℕ) (read : List ℕ) (arrays : List SlotArray) (slot
       → IsUnread s xs read → o.value < register_count
       → slice_index xs o.value ≡ slice_index read o.value → fault_of o (value_at s o.value) ≡ None → examined_all (taken_from s o) os ≡ Ok t
       → ((u : State) (ys more : List ℕ) → Holds (unseen (Reads w p) more) u ys arrays slots → IsState u → IsUnread u ys read → examined_all u os ≡ Ok t
-      → Passed w p read arrays slots t ys more os)
-      → Passed w p read arrays slots t xs seen (o ∷ os)
+      → Passed w p read arrays slots t ys more os) → Passed w p read arrays slots t xs seen (o ∷ os)
   step_by o os s t xs seen h states unread inside same passed later rest = by o.is_taken refl
     where
       lt : o.value < length s
@@ -229,8 +227,7 @@ module _ (w : World) (p : ℕ) (read : List ℕ) (arrays : List SlotArray) (slot
       by false is = named_step o os t xs seen is live (rest s xs seen h states unread (rw is at later))
 
   operands : (os : List Operand) (s t : State) (xs seen : List ℕ) → Holds (unseen (Reads w p) seen) s xs arrays slots → IsState s → IsUnread s xs read
-      → AreOperands os → list_all bars_zero os ≡ true → examined_all s os ≡ Ok t
-      → Passed w p read arrays slots t xs seen os
+      → AreOperands os → list_all bars_zero os ≡ true → examined_all s os ≡ Ok t → Passed w p read arrays slots t xs seen os
   unfolding examined_at examined_all
   operands [] s t xs seen h states unread inside live e = let is : s ≡ t = cc in record { none = refl; holds = rw (← is) h; states = rw (← is) states }
   operands (o ∷ os) s t xs seen h states unread (lt, inside) live e =
@@ -241,8 +238,7 @@ module _ (w : World) (p : ℕ) (read : List ℕ) (arrays : List SlotArray) (slot
 
   -- from the registers as they are read; at the first operand 0 may pass
   pub operands_from : (os : List Operand) (s t : State) → Holds (Reads w p) s read arrays slots → IsState s → AreOperands os
-      → list_all bars_zero (drop 1 os) ≡ true → examined_all s os ≡ Ok t
-      → Passed w p read arrays slots t read [] os
+      → list_all bars_zero (drop 1 os) ≡ true → examined_all s os ≡ Ok t → Passed w p read arrays slots t read [] os
   unfolding examined_at examined_all
   operands_from [] s t h states inside live e = let is : s ≡ t = cc in record { none = refl; holds = rw (← is) h; states = rw (← is) states }
   operands_from (o ∷ os) s t h states (lt, inside) live e =

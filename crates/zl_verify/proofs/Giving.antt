@@ -97,8 +97,7 @@ AllAs ((r, Has maybe kind rights) ∷ ds) (e ∷ es) = IsAs kind rights (Some e)
 AllAs _ _ = ⊥
 
 pub handles_fit : (ds : List (ℕ × AbsVal)) (es : List Entry) (vs : List ℕ) (q : Process) (s : State) (xs : List ℕ) → IsFreeLast q
-    → may_get_all q es vs ≡ true → AllAs ds es
-    → Fits (get q.handles) s xs ds vs (get (getting_all es vs q).handles)
+    → may_get_all q es vs ≡ true → AllAs ds es → Fits (get q.handles) s xs ds vs (get (getting_all es vs q).handles)
 handles_fit [] [] [] q s xs sound may a = refl
 handles_fit [] [] (v ∷ vs) q s xs sound may a = cc
 handles_fit ((r, Has maybe kind rights) ∷ ds) (e ∷ es) [] q s xs sound may a = cc
@@ -193,8 +192,7 @@ no_triples_fit (suc n) a f s xs room wide none =
     )
 
 pub triples_fit : (n a : ℕ) (es : List Entry) (vs : List ℕ) (q : Process) (s : State) (xs : List ℕ) → a + 3 * n ≤ length s → length xs ≡ length s
-    → length es ≤ n
-    → get q.handles 0 ≡ None → IsFreeLast q → may_get_all q es vs ≡ true → AllByRecursion HasFewRights es
+    → length es ≤ n → get q.handles 0 ≡ None → IsFreeLast q → may_get_all q es vs ≡ true → AllByRecursion HasFewRights es
     → Fits (get q.handles) s xs (triple_results a n) (told_of es vs) (get (getting_all es vs q).handles)
 triples_fit n a [] [] q s xs room wide few none sound may fewer = no_triples_fit n a (get q.handles) s xs room wide none
 triples_fit n a [] (v ∷ vs) q s xs room wide few none sound may fewer = cc

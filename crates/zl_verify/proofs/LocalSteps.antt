@@ -49,8 +49,7 @@ module _ (t : ℕ → Option State) (f : Table) (i : Image) (c : Cpu) where
     one_edge x c m (Some s) = if x then Ok ((m, s) ∷ []) else Err c
 
     abbrev both_edges : Bool → Bool → Option State → Option State → Result (List Edge) Cause
-    both_edges x y j o =
-        and_then (one_edge x cause.BadJump target j) (λ xs. and_then (one_edge y cause.FallsOff (n + 1) o) (λ ys. Ok (xs ++ ys)))
+    both_edges x y j o = and_then (one_edge x cause.BadJump target j) (λ xs. and_then (one_edge y cause.FallsOff (n + 1) o) (λ ys. Ok (xs ++ ys)))
 
     abbrev StandsAt : Option State → Option State → Type 0
     StandsAt j o = ((c.counter ≡ target) × Known f c.registers i.slots c.slots j) ⊎ ((c.counter ≡ n + 1) × Known f c.registers i.slots c.slots o)
@@ -71,8 +70,7 @@ module _ (t : ℕ → Option State) (f : Table) (i : Image) (c : Cpu) where
 
     reached_with : (j o : Option State)
         → RuleHolds t (and_then (edge_to size cause.BadJump target j) (λ xs. and_then (edge_to size cause.FallsOff (n + 1) o) (λ ys. Ok (xs ++ ys))))
-        → StandsAt j o
-        → Reaches t f i c
+        → StandsAt j o → Reaches t f i c
         (targets_of (and_then (edge_to size cause.BadJump target j) (λ xs. and_then (edge_to size cause.FallsOff (n + 1) o) (λ ys. Ok (xs ++ ys)))))
     reached_with None None = reached_by (nat_lt target size) (nat_lt (n + 1) size) None None
     reached_with None (Some u) = reached_by (nat_lt target size) (nat_lt (n + 1) size) None (Some u)

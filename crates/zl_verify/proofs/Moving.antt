@@ -72,8 +72,7 @@ module _ {f : Table} {s : State} {xs : List ℕ} {arrays : List SlotArray} {slot
 
   -- a tag goes on, follows the handle, or is lost
   tag_moved : (tag : ℕ → AbsVal) (number : Option Entry → ℕ) → ((t x : ℕ) (g : List ℕ) → x ≡ number (f (slice_index g t)) → Describes f g (tag t) x) → (t x : ℕ)
-      → x ≤ ANY → x ≡ number (f (slice_index xs t))
-      → Describes f (moved_to xs a b) (if t == a then Word ANY else (if t == b then tag a else tag t)) x
+      → x ≤ ANY → x ≡ number (f (slice_index xs t)) → Describes f (moved_to xs a b) (if t == a then Word ANY else (if t == b then tag a else tag t)) x
   tag_moved tag number tells t x small d = by (cases_Bool (t == a)) (cases_Bool (t == b))
     where
       by : ((t == a) ≡ true) ⊎ ((t == a) ≡ false) → ((t == b) ≡ true) ⊎ ((t == b) ≡ false)
@@ -137,8 +136,7 @@ owned_kept v t x = refl
 
 -- the slot array is there, with its length
 pub array_there : (slots : List (List ℕ)) (arrays : List SlotArray) (n : ℕ) (t : SlotArray) → map length slots ≡ map (λ a. a.length) arrays
-    → slice_get arrays n ≡ Some t
-    → (n < length slots) × (length (slice_index_or slots n []) ≡ t.length)
+    → slice_get arrays n ≡ Some t → (n < length slots) × (length (slice_index_or slots n []) ≡ t.length)
 array_there slots arrays n t e is =
     let there = there_for arrays n t t is in
     let long : length slots ≡ length arrays = sym (length-map slots length) ∙ (ap length e ∙ length-map arrays (λ a. a.length)) in

@@ -66,10 +66,8 @@ losing_seen f xs (o ∷ os) seen q e = by o.is_taken
     rest : List Operand
     rest = filter (λ (o : Operand). o.is_taken) (map (valued xs) os)
 
-    by : (t : Bool)
-        → get (losing_all (map (λ o. o.value) rest) (process_without (slice_index xs o.value) q)).handles
-        ≡ unseen f (seen_all xs (slice_index xs o.value ∷ seen) os)
-        → get (losing_all (map (λ o. o.value) rest) q).handles ≡ unseen f (seen_all xs seen os)
+    by : (t : Bool) → get (losing_all (map (λ o. o.value) rest) (process_without (slice_index xs o.value) q)).handles
+        ≡ unseen f (seen_all xs (slice_index xs o.value ∷ seen) os) → get (losing_all (map (λ o. o.value) rest) q).handles ≡ unseen f (seen_all xs seen os)
         → get (losing_all (map (λ o. o.value) (cond t (valued xs o ∷ rest) rest)) q).handles
         ≡ unseen f (seen_all xs (if t then slice_index xs o.value ∷ seen else seen) os)
     by true a b = a

@@ -23,10 +23,8 @@ module _ (s : State) (states : IsState s) (r : ℕ) (lt : r < length s) (a : Abs
   others_well : (b : AbsVal) → IsTrue (is_named_well s b) → IsTrue (is_named_well (with_value s r a) (untagged r b))
   others_well (Word m) h = refl
   others_well (Has maybe kind rights) h = refl
-  others_well (KindOf t) h =
-      by_register (λ b. IsTrue (is_named_well (with_value s r a) b)) t r (Word ANY) (KindOf t) refl (λ beside. named_with t beside h)
-  others_well (RightsOf t) h =
-      by_register (λ b. IsTrue (is_named_well (with_value s r a) b)) t r (Word ANY) (RightsOf t) refl (λ beside. named_with t beside h)
+  others_well (KindOf t) h = by_register (λ b. IsTrue (is_named_well (with_value s r a) b)) t r (Word ANY) (KindOf t) refl (λ beside. named_with t beside h)
+  others_well (RightsOf t) h = by_register (λ b. IsTrue (is_named_well (with_value s r a) b)) t r (Word ANY) (RightsOf t) refl (λ beside. named_with t beside h)
 
   pub states_with : IsTrue (is_named_well (with_value s r a) (untagged r a)) → IsState (with_value s r a)
   states_with new = record { long = with_long s r a ∙ states.long; tags = λ q. by q (cases_eq q r) }

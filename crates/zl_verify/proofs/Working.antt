@@ -27,8 +27,7 @@ use Rattle.zl_abs.proofs.Order.{within_left}
 
 -- the first operand is a live handle, as its value says
 named_as : (a : AbsVal) (f : Table) (xs : List ℕ) (x : ℕ) (o : Operand) → o.may_be_zero ≡ false → fault_of o a ≡ None → Describes f xs a x
-    → (asked d : ℕ) (e : Option Entry) → f x ≡ e
-    → is_empty (copy_of e asked) ≡ false → AllAs ((d, narrowed_value a asked) ∷ []) (copy_of e asked)
+    → (asked d : ℕ) (e : Option Entry) → f x ≡ e → is_empty (copy_of e asked) ≡ false → AllAs ((d, narrowed_value a asked) ∷ []) (copy_of e asked)
 named_as (Word m) f xs x o some ok l asked d e is one = cc (rw some at ok)
 named_as (Has maybe kind rights) f xs x o some ok (inl (m, z)) asked d e is one = cc (rw (m, some) at ok)
 named_as (Has maybe kind rights) f xs x o some ok (inr l) asked d None is one = cc

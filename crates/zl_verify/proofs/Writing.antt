@@ -77,8 +77,7 @@ module _ {f : Table} {s : State} {xs : List ℕ} {arrays : List SlotArray} {slot
 
   -- register r gets x, of the value a
   pub write : (a : AbsVal) (x : ℕ) → x ≤ ANY → Describes g (slice_set xs r x) (untagged r a) x
-      → ((v : ℕ) → others r s xs slots v + one_if (owns v a x) ≡ one_if (is_some (g v)))
-      → Holds g (with_value s r a) (slice_set xs r x) arrays slots
+      → ((v : ℕ) → others r s xs slots v + one_if (owns v a x) ≡ one_if (is_some (g v))) → Holds g (with_value s r a) (slice_set xs r x) arrays slots
   write a x few new counts = record {
     width = length-set xs r x ∙ (h.width ∙ sym (with_long s r a));
     small = λ q. small_at q (cases_eq q r);

@@ -9,7 +9,7 @@ use Rattle.zl_abs.specs.declared.value.AbsVal.TheVariants.{Word, Has, KindOf, Ri
 use Rattle.zl_abs.specs.declared.cause.Cause.TheVariants as cause
 use Rattle.zl_abs.proofs.Order.{below_refl, same_kind_is, within_trans, within_refl}
 use Rattle.zl_abs.proofs.StateOrder.{all_below_refl}
-use Rattle.zl_abs.proofs.Lowering.{Lowers, IsBelow, WaysBelow, lowers_then, lowers_unless, not_kept, value_below, with_below, no_has}
+use Rattle.zl_abs.proofs.Lowering.{Lowers, IsBelow, WaysBelow, both_by, lowers_then, lowers_unless, not_kept, value_below, with_below, no_has}
 use Rattle.zl_abs.proofs.TestLowering.{has_parts, has_from, zero_of, tag_there}
 use Rattle.zl_abs.proofs.LocalLowering.{no_some}
 use Rattle.zl_code.proofs.Common.{Condition, not-false, or_parts}
@@ -71,11 +71,7 @@ fault_below o (RightsOf _) (Word n) h e = absurd (tag_there n h ((and_parts o.ma
 fault_below o _ _ h e = cc
 
 taken_below : (s t : State) (o : Operand) → IsBelow s t → IsBelow (taken_from s o) (taken_from t o)
-taken_below s t o h = by o.is_taken
-  where
-    by : (b : Bool) → IsBelow (if b then with_value s o.value (Word 0) else s) (if b then with_value t o.value (Word 0) else t)
-    by true = with_below s t o.value _ _ h (below_refl (Word 0))
-    by false = h
+taken_below s t o h = both_by IsBelow o.is_taken _ s _ t (with_below s t o.value _ _ h (below_refl (Word 0))) h
 
 examined_by_below : (s t : State) (o : Operand) (x y : Option Cause) → IsBelow s t → (y ≡ None → x ≡ None)
     → Lowers IsBelow (examined_by s o x) (examined_by t o y)
@@ -195,12 +191,11 @@ state_after_below i s t operands words range condition xs ys h l =
 
 narrowed_below : (v w : AbsVal) (asked : ℕ) → IsTrue (below v w) → IsTrue (below (narrowed_value v asked) (narrowed_value w asked))
 unfolding below
-narrowed_below (Has m k r) (Has m2 k2 r2) asked h = let p = has_parts m m2 k k2 r r2 h in has_from true true k k2 _ _ refl p.1 (by (eqb asked SAME_RIGHTS) p.2)
-  where
-    by : (t : Bool) → within (bits r2) (bits r) ≡ true
-        → within (bits (if t then r2 else rights_of (bit_and asked KNOWN_RIGHTS))) (bits (if t then r else rights_of (bit_and asked KNOWN_RIGHTS))) ≡ true
-    by true e = e
-    by false e = within_refl (bit_and asked KNOWN_RIGHTS)
+narrowed_below (Has m k r) (Has m2 k2 r2) asked h =
+    let p = has_parts m m2 k k2 r r2 h in
+    let asked_for = rights_of (bit_and asked KNOWN_RIGHTS) in
+    has_from true true k k2 _ _ refl p.1
+    (both_by (λ q q2. within (bits q2) (bits q) ≡ true) (eqb asked SAME_RIGHTS) r asked_for r2 asked_for p.2 (within_refl (bit_and asked KNOWN_RIGHTS)))
 narrowed_below (Has _ _ _) _ asked h = cc
 narrowed_below (Word _) (Has _ _ _) asked h = refl
 narrowed_below _ (Has _ _ _) asked h = cc

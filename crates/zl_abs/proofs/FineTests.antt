@@ -120,16 +120,9 @@ tag_becomes s a imm r (Some t) h e k =
     becomes_fine t a imm k.0 (λ n. let z : Named (KindOf r) = subst Named same n in cc)
 
 kind_fine : (s : State) (a imm r : ℕ) → IsFine s → value_at s a ≡ KindOf r → FineWays (kind_ways s a imm r)
-kind_fine s a imm r h e = by (eqb imm 0)
-  where
-    f : Fits (value_at s r)
-    f = h.fits r
-
-    by : (c : Bool) → FineWays (if c
-        then record { jumped = becomes a 0 (known_zero s r (value_at s r)); passed = known_there s r (value_at s r) }
-        else record { jumped = becomes a imm (known_kind s r (kind_numbered imm) (value_at s r)); passed = known_other s (kind_numbered imm) (value_at s r) })
-    by true = (tag_becomes s a 0 r _ h e (zero_known s r _ h), known_fine s r _ (there_known s r _ h f))
-    by false = (tag_becomes s a imm r _ h e (kind_known s r (kind_numbered imm) _ h f), known_fine s r _ (other_known s r (kind_numbered imm) _ h))
+kind_fine s a imm r h e =
+    cond_both (eqb imm 0) _ _ FineWays (λ _. (tag_becomes s a 0 r _ h e (zero_known s r _ h), known_fine s r _ (there_known s r _ h (h.fits r))))
+    (λ _. (tag_becomes s a imm r _ h e (kind_known s r (kind_numbered imm) _ h (h.fits r)), known_fine s r _ (other_known s r (kind_numbered imm) _ h)))
 
 fine_unless : (s : State) (t : Bool) → IsFine s → IfSome (if t then None else Some s) IsFine
 fine_unless s true h = tt

@@ -10,7 +10,7 @@ use Rattle.zl_abs.specs.declared.value.AbsVal.TheVariants.{Word, Has, KindOf, Ri
 use Rattle.zl_abs.specs.declared.cause.Cause.TheVariants as cause
 use Rattle.zl_abs.proofs.Order.{below_refl, kind_trans, within_trans, parts}
 use Rattle.zl_abs.proofs.Lowering.{Lowers, IsBelow, WaysBelow, lowers_then, lowers_if, lowers_unless, not_kept, value_below, with_below, moved_below, no_has}
-use Rattle.zl_abs.proofs.Lowering.{word_at_below, writes_below, computes_below}
+use Rattle.zl_abs.proofs.Lowering.{both_by, word_at_below, writes_below, computes_below}
 use Rattle.zl_abs.proofs.TestLowering.{zero_below, equal_below, below_below, has_below, tag_there, less_kept}
 use Rattle.zl_code.proofs.Common.{not-false}
 use Rattle.std.proofs.lemmas.Bool.{leb-true, le-leb}
@@ -121,11 +121,7 @@ div_kept : (m n k : ℕ) → 0 < k → m ≤ n → m / k ≤ n / k
 div_kept m n k p h = le-div (m / k) n k p (let e = div-mul-le_self m k in omega arith)
 
 pub shifted_below : (m m2 places : ℕ) → m ≤ m2 → shifted m places ≤ shifted m2 places
-shifted_below m m2 places h = by (ltb places 64)
-  where
-    by : (t : Bool) → (if t then m / 2 ^ places else 0) ≤ (if t then m2 / 2 ^ places else 0)
-    by true = div_kept m m2 (2 ^ places) (pow_pos places) h
-    by false = omega arith
+shifted_below m m2 places h = both_by (λ x y. x ≤ y) (ltb places 64) _ 0 _ 0 (div_kept m m2 (2 ^ places) (pow_pos places) h) (omega arith)
 
 -- ---- the rows
 

@@ -33,6 +33,11 @@ lowers_then R Q x (Err c) f g h k = tt
 lowers_then R Q (Err c) (Ok b) f g h k = absurd h
 lowers_then R Q (Ok a) (Ok b) f g h k = k a b h
 
+-- a test chooses on both sides
+pub both_by : {A : Type 0} (R : A → A → Type 0) (t : Bool) (x y u v : A) → R x u → R y v → R (if t then x else y) (if t then u else v)
+both_by R true x y u v h k = h
+both_by R false x y u v h k = k
+
 -- a test that holds above holds below
 pub lowers_if : {B : Type 0} (Q : B → B → Type 0) (t u : Bool) (x y : Result B Cause) (c d : Cause) → (u ≡ true → t ≡ true) → Lowers Q x y
     → Lowers Q (if t then x else Err c) (if u then y else Err d)

@@ -7,7 +7,7 @@ use Rattle.zl_abs.specs.declared.value.AbsVal.TheVariants.{Word, Has, KindOf, Ri
 use Rattle.zl_abs.proofs.Order.{below_refl, kind_trans, kind_refl, within_refl, parts, three, same_kind_is}
 use Rattle.zl_abs.proofs.StateOrder.{all_below_refl, all_below_trans}
 use Rattle.zl_abs.proofs.Lowering.{Lowers, IsBelow, WayBelow, WaysBelow, lowers_then, value_below, set_below, set_above, set_under, word_at_below}
-use Rattle.zl_abs.proofs.Lowering.{word_below}
+use Rattle.zl_abs.proofs.Lowering.{both_by, word_below}
 use Rattle.zl_abs.proofs.RightsLowering.{within_gained, within_more}
 use Rattle.std.proofs.lemmas.Bool.{leb-true, ltb-true, cond_both}
 
@@ -178,33 +178,20 @@ becomes_below a imm (Some s) None h = absurd h
 becomes_below a imm (Some s) (Some t) h = set_below s t a _ _ h (below_refl (Word (capped imm)))
 
 kind_ways_below : (s t : State) (a imm r : ℕ) → IsBelow s t → WaysBelow (kind_ways s a imm r) (kind_ways t a imm r)
-kind_ways_below s t a imm r h = by (eqb imm 0)
-  where
-    v : IsTrue (below (value_at s r) (value_at t r))
-    v = value_below s t r h
-
-    by : (c : Bool) → WaysBelow (if c
-        then record { jumped = becomes a 0 (known_zero s r (value_at s r)); passed = known_there s r (value_at s r) }
-        else record { jumped = becomes a imm (known_kind s r (kind_numbered imm) (value_at s r)); passed = known_other s (kind_numbered imm) (value_at s r) })
-        (if c
-        then record { jumped = becomes a 0 (known_zero t r (value_at t r)); passed = known_there t r (value_at t r) }
-        else record { jumped = becomes a imm (known_kind t r (kind_numbered imm) (value_at t r)); passed = known_other t (kind_numbered imm) (value_at t r) })
-    by true = (becomes_below a 0 _ _ (known_zero_below s t r _ _ h refl v), known_there_below s t r _ _ h v)
-    by false = (becomes_below a imm _ _ (known_kind_below s t r (kind_numbered imm) _ _ h v), known_other_below s t (kind_numbered imm) _ _ h v)
+kind_ways_below s t a imm r h =
+    let v = value_below s t r h in
+    both_by WaysBelow (eqb imm 0) _ _ _ _ (becomes_below a 0 _ _ (known_zero_below s t r _ _ h refl v), known_there_below s t r _ _ h v)
+    (becomes_below a imm _ _ (known_kind_below s t r (kind_numbered imm) _ _ h v), known_other_below s t (kind_numbered imm) _ _ h v)
 
 -- below any word every edge of a test is followed
 abbrev any_ways : State → ℕ → ℕ → Ways
 any_ways t a imm = record { jumped = becomes a imm (Some t); passed = Some t }
 
 kind_ways_any : (s t : State) (a imm r : ℕ) → IsBelow s t → WaysBelow (kind_ways s a imm r) (any_ways t a imm)
-kind_ways_any s t a imm r h = by (eqb imm 0) refl
-  where
-    by : (c : Bool) → eqb imm 0 ≡ c → WaysBelow (if c
-        then record { jumped = becomes a 0 (known_zero s r (value_at s r)); passed = known_there s r (value_at s r) }
-        else record { jumped = becomes a imm (known_kind s r (kind_numbered imm) (value_at s r)); passed = known_other s (kind_numbered imm) (value_at s r) })
-        (any_ways t a imm)
-    by true z = let e : imm ≡ 0 = (Decides-eqb imm 0).0 z in rw e (becomes_below a 0 _ _ (zero_under s t r _ h refl), there_under s t r _ h refl)
-    by false z = (becomes_below a imm _ _ (kind_under s t r (kind_numbered imm) _ h refl), other_under s t (kind_numbered imm) _ h)
+kind_ways_any s t a imm r h =
+    cond_both (eqb imm 0) _ _ (λ w. WaysBelow w (any_ways t a imm))
+    (λ z. let e : imm ≡ 0 = (Decides-eqb imm 0).0 z in rw e (becomes_below a 0 _ _ (zero_under s t r _ h refl), there_under s t r _ h refl))
+    (λ z. (becomes_below a imm _ _ (kind_under s t r (kind_numbered imm) _ h refl), other_under s t (kind_numbered imm) _ h))
 
 pub less_kept : (m n c : ℕ) → m ≤ n → ltb n c ≡ true → ltb m c ≡ true
 less_kept m n c h k = grind (arith, nat_tests)
@@ -274,12 +261,10 @@ smaller_kept m n c h = grind (arith, nat_tests)
 pub below_below : (s t : State) (a imm : ℕ) → IsBelow s t → Lowers WaysBelow (below_ways s a imm) (below_ways t a imm)
 below_below s t a imm h =
     lowers_then (λ m n. m ≤ n) WaysBelow (word_at s a) (word_at t a) _ _ (word_at_below s t a h)
-    (λ m n p. (first m n p (eqb imm 0), way_refl s t h (ltb m imm) (ltb n imm) (less_kept m n imm p)))
-  where
-    first : (m n : ℕ) → m ≤ n → (c : Bool)
-        → WayBelow (if c then None else Some (refined s a (Word (smaller m (imm - 1))))) (if c then None else Some (refined t a (Word (smaller n (imm - 1)))))
-    first m n p true = tt
-    first m n p false = set_below s t a _ _ h (word_below _ _ (smaller_kept m n (imm - 1) p))
+    (λ m n p. (
+      both_by WayBelow (eqb imm 0) _ _ _ _ tt (set_below s t a _ _ h (word_below _ _ (smaller_kept m n (imm - 1) p))),
+      way_refl s t h (ltb m imm) (ltb n imm) (less_kept m n imm p),
+    ))
 
 has_by : (s t : State) (imm : ℕ) (v w : AbsVal) → IsBelow s t → IsTrue (below v w) → Lowers WaysBelow (has_ways s imm v) (has_ways t imm w)
 unfolding below
@@ -289,11 +274,10 @@ has_by s t imm (KindOf _) (Word _) h e = (h, h)
 has_by s t imm (RightsOf r) (Word _) h e =
     (cond_both (eqb imm 0) (Some s) _ (λ o. WayBelow o (Some t)) (λ _. h) (λ _. rights_under s t r imm (value_at s r) h refl), h)
 has_by s t imm (KindOf _) (KindOf _) h e = (h, h)
-has_by s t imm (RightsOf r) (RightsOf q) h e = let p : r ≡ q = (Decides-eqb r q).0 e in rw p (first (eqb imm 0), h)
-  where
-    first : (c : Bool) → WayBelow (if c then Some s else known_rights s q imm (value_at s q)) (if c then Some t else known_rights t q imm (value_at t q))
-    first true = h
-    first false = known_rights_below s t q imm (value_at s q) (value_at t q) h (value_below s t q h)
+has_by s t imm (RightsOf r) (RightsOf q) h e =
+    let p : r ≡ q = (Decides-eqb r q).0 e in
+    let known = known_rights_below s t q imm (value_at s q) (value_at t q) h (value_below s t q h) in
+    rw p (both_by WayBelow (eqb imm 0) (Some s) _ (Some t) _ h known, h)
 has_by s t imm _ _ h e = cc
 
 pub has_below : (s t : State) (a imm : ℕ) → IsBelow s t → Lowers WaysBelow (has_ways s imm (value_at s a)) (has_ways t imm (value_at t a))

@@ -46,13 +46,8 @@ kind_or_other s a imm r (Some k) (Has maybe (Some j) q) = by maybe (same_kind k 
 kind_or_other s a imm r (Some k) _ = refl
 
 kind_on : (s : State) (a imm r : ℕ) → HasWay (kind_ways s a imm r)
-kind_on s a imm r = by (eqb imm 0)
-  where
-    by : (t : Bool) → HasWay (if t
-        then record { jumped = becomes a 0 (known_zero s r (value_at s r)); passed = known_there s r (value_at s r) }
-        else record { jumped = becomes a imm (known_kind s r (kind_numbered imm) (value_at s r)); passed = known_other s (kind_numbered imm) (value_at s r) })
-    by true = zero_or_there s a r (value_at s r)
-    by false = kind_or_other s a imm r (kind_numbered imm) (value_at s r)
+kind_on s a imm r =
+    cond_both (eqb imm 0) _ _ HasWay (λ _. zero_or_there s a r (value_at s r)) (λ _. kind_or_other s a imm r (kind_numbered imm) (value_at s r))
 
 -- two tests, of which the one isn't passed where the other is
 either : (p q : Bool) (s u : State) → (p ≡ true → q ≡ false) → (is_some (if p then None else Some u) || is_some (if q then None else Some s)) ≡ true

@@ -2,7 +2,7 @@
 use Rattle.zl_asm.proofs.Common.{Bool, Gives, GivesNone, Held, Image, IsBytes, Line, List, Listing, None, Option, Pushes, Some, Source, SourceLine, [], all_of}
 use Rattle.zl_asm.proofs.Common.{and_from, ap, append_assoc, arith, at_drop_more, budget_in, bytes_of, bytes_of-number_at, cond, drop, false, fields_of}
 use Rattle.zl_asm.proofs.Common.{flat_map, get_or, get_or-map, given, if_fits, instr_bytes, instr_fault, is_in_range, is_listing, is_some, labels_from}
-use Rattle.zl_asm.proofs.Common.{labels_shown, le-leb, leb, length, length-append, length-map, list_all, list_all-append, listing_from, lookup, map, map-append}
+use Rattle.zl_asm.proofs.Common.{labels_shown, le-leb, length, length-append, length-map, list_all, list_all-append, listing_from, lookup, map, map-append}
 use Rattle.zl_asm.proofs.Common.{mark_in, memory_in, need_in, needs_named, not, number_at, option_map, ranges, refl, registers_at, resolved, slice_index}
 use Rattle.zl_asm.proofs.Common.{slots_in, source_in, source_value, sources_shown, start_in, sym, take, take-add, take_all, take_more, true, with_target, ℕ}
 use Rattle.zl_asm.proofs.Common.{◌&&◌, ◌++◌, ◌+◌, ◌<◌, ◌∙◌, ◌∷◌, ◌≡◌, ◌≤◌}
@@ -12,7 +12,7 @@ use Rattle.zl_asm.specs.declared.line.Source.{Source as ReadSource}
 use Rattle.zl_asm.proofs.Labels.{same, lookup_is}
 use Rattle.zl_asm.proofs.DraftHolds.{given_is}
 use Rattle.zl_asm.proofs.ListingRefused.{all_of-none, all_of-more, all_of-fault, none_by_fields}
-use Rattle.std.proofs.lemmas.Bool.{and_right, not_from_true}
+use Rattle.std.proofs.lemmas.Bool.{not_from_true}
 use Rattle.std.proofs.Math.Bool.{and-false}
 
 -- ---- the target of a source

@@ -2,8 +2,8 @@
 use Rattle.zl_asm.proofs.Common.{Bool, Code, Declares, Directive, Err, Held, Holds, Kind, Line, List, None, Ok, OnOk, Option, Reads, Result, SlotArray, Some}
 use Rattle.zl_asm.proofs.Common.{Source, Start, [], alone, ap, codes, cond, directive_of, false, if_fits, instruction_of, is_ascii, is_directive_in_range}
 use Rattle.zl_asm.proofs.Common.{is_slot_in_range, is_start_in_range, is_word, kind_of, label_of, line_of, line_said, nat_eq, need_of, number_of, number_within}
-use Rattle.zl_asm.proofs.Common.{option_map, point_line, refl, rights_of, slot_array_with, start_with, starts_with, subst, sym, true, true≢false, unknown_of}
-use Rattle.zl_asm.proofs.Common.{words_of, ℕ, ◌&&◌, ◌∙◌, ◌∷◌, ◌≡◌}
+use Rattle.zl_asm.proofs.Common.{option_map, point_line, refl, rights_of, slot_array_with, start_with, starts_with, subst, sym, true, unknown_of}
+use Rattle.zl_asm.proofs.Common.{words_of, ℕ, ◌∙◌, ◌∷◌, ◌≡◌}
 use Rattle.zl_asm.specs.declared.directive.Directive.TheVariants as directive
 use Rattle.std.proofs.lemmas.Bool.{cond_both, and_parts}
 
@@ -80,12 +80,9 @@ declared None d e = cc
 declared (Some x) d e = cc
 
 point-fits : (name : List ℕ) (words : List (List ℕ)) (d : Directive) → point_line name words ≡ Some (Declares d) → is_directive_in_range d ≡ true
-point-fits name words d e = by (is_word name (codes ".bytes")) e
-  where
-    by : (b : Bool) → cond b (option_map Code (unknown_of words)) (option_map Declares (directive_of name words)) ≡ Some (Declares d)
-        → is_directive_in_range d ≡ true
-    by true e = absurd (not_code (unknown_of words) d e)
-    by false e = directive-fits name words d (declared (directive_of name words) d e)
+point-fits name words d e =
+    cond_both (is_word name (codes ".bytes")) _ _ (λ o. o ≡ Some (Declares d) → is_directive_in_range d ≡ true)
+    (λ _ e. absurd (not_code (unknown_of words) d e)) (λ _ e. directive-fits name words d (declared (directive_of name words) d e)) e
 
 alone-not : (word : List ℕ) (o : Option (List ℕ)) (d : Directive) → alone word o ≡ Some (Declares d) → ⊥
 alone-not word (Some name) d e = cc

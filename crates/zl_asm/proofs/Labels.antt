@@ -1,9 +1,9 @@
 -- The labels of a text: where they stand, and that no name stands twice.
 use Rattle.zl_asm.proofs.Common.{Blank, Bool, Code, Declares, Label, Line, List, None, Option, Some, [], ap, arith, cond, false, find, flat_map, is_some}
 use Rattle.zl_asm.proofs.Common.{labels_from, length, lookup, map, names_once, nat_eq, nat_list_eq_equiv, not, option_map, pointwise, position_of, refl}
-use Rattle.zl_asm.proofs.Common.{source_in, suc, sym, true, true≢false, ℕ, ◌&&◌, ◌++◌, ◌+◌, ◌∙◌, ◌∷◌, ◌≡◌}
+use Rattle.zl_asm.proofs.Common.{source_in, suc, sym, true, true≢false, ℕ, ◌++◌, ◌+◌, ◌∙◌, ◌∷◌, ◌≡◌}
 use denote.Ref.{Bor}
-use Rattle.std.proofs.lemmas.Bool.{and_right, and_parts}
+use Rattle.std.proofs.lemmas.Bool.{and_right, and_parts, cond_both}
 
 abbrev Labels : Type 0
 Labels = List (List ℕ × ℕ)
@@ -44,12 +44,9 @@ position-apart (x ∷ xs) ys name e = by (same x.0 name) (position-apart xs ys n
 
 position-there : (xs ys : Labels) (l : List ℕ × ℕ) (name : List ℕ) → same l.0 name ≡ true → is_some (position_of (xs ++ l ∷ ys) name) ≡ true
 position-there [] ys l name e = rw e refl
-position-there (x ∷ xs) ys l name e = by (same x.0 name) (position-there xs ys l name e)
-  where
-    by : (b : Bool) → is_some (position_of (xs ++ l ∷ ys) name) ≡ true
-        → is_some (option_map (λ m. m.1) (cond b (Some x) (find (λ m. same m.0 name) (xs ++ l ∷ ys)))) ≡ true
-    by true rest = refl
-    by false rest = rest
+position-there (x ∷ xs) ys l name e =
+    cond_both (same x.0 name) (Some x) (find (λ m. same m.0 name) (xs ++ l ∷ ys)) (λ o. is_some (option_map (λ m. m.1) o) ≡ true) (λ _. refl)
+    (λ _. position-there xs ys l name e)
 
 -- ---- no name twice
 

@@ -1,7 +1,7 @@
 -- Lines that give no fields of an image, whatever lines follow.
 use Rattle.zl_asm.proofs.Common.{Blank, Bool, Code, Declares, Directive, Label, Line, List, Listing, None, Option, Some, Source, [], all_of, ap, append-nil}
 use Rattle.zl_asm.proofs.Common.{arith, budget_in, cond, declares, directives_first, false, flat_map, flat_map-append, given, if_fits, instr_fault, is_body}
-use Rattle.zl_asm.proofs.Common.{is_listing, is_some, labels_from, leb, length, length-append, list_all, list_all-append, list_any, listing_from, listing_with}
+use Rattle.zl_asm.proofs.Common.{is_listing, is_some, labels_from, length, length-append, list_all, list_all-append, list_any, listing_from, listing_with}
 use Rattle.zl_asm.proofs.Common.{lt-leb, mark_in, memory_in, names_once, need_in, needs_named, not, onto_all, position_of, refl, resolved, slots_in, source_in}
 use Rattle.zl_asm.proofs.Common.{start_in, sym, true, true≢false, ℕ, ◌&&◌, ◌++◌, ◌+◌, ◌<◌, ◌||◌, ◌∙◌, ◌∷◌, ◌≡◌, ◌≤◌}
 use Rattle.zl_asm.specs.declared.directive.Directive.TheVariants as directive

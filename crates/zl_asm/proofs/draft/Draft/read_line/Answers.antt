@@ -1,4 +1,4 @@
-use Rattle.zl_asm.proofs.Common.{Some, ap, held_by, is_ascii, line_value, map, true, ◌∙◌, ◌≡◌}
+use Rattle.zl_asm.proofs.Common.{Some, ap, held_by, line_value, map, ◌∙◌}
 use Rattle.zl_asm.specs.declared.line.Line.{Line}
 use Rattle.zl_asm.proofs.DraftHolds.{blank_held}
 use Rattle.zl_asm.proofs.DraftLines.{said_by, read_by, said_in_range}

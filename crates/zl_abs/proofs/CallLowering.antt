@@ -8,11 +8,12 @@ use Rattle.zl_abs.proofs.Common.{uses, uses_of, value_at, values_by, values_of, 
 use Rattle.zl_abs.specs.declared.value.AbsVal.TheVariants.{Word, Has, KindOf, RightsOf}
 use Rattle.zl_abs.specs.declared.cause.Cause.TheVariants as cause
 use Rattle.zl_abs.proofs.Order.{below_refl, same_kind_is, within_trans, within_refl}
-use Rattle.zl_abs.proofs.StateOrder.{and, all_below_refl}
-use Rattle.zl_abs.proofs.Lowering.{Lowers, IsBelow, WaysBelow, lowers_then, lowers_unless, not_kept, value_below, with_below, no_has, leb_le, le_leb}
+use Rattle.zl_abs.proofs.StateOrder.{all_below_refl}
+use Rattle.zl_abs.proofs.Lowering.{Lowers, IsBelow, WaysBelow, both_by, lowers_then, lowers_unless, not_kept, value_below, with_below, no_has}
 use Rattle.zl_abs.proofs.TestLowering.{has_parts, has_from, zero_of, tag_there}
 use Rattle.zl_abs.proofs.LocalLowering.{no_some}
 use Rattle.zl_code.proofs.Common.{Condition, not-false, or_parts}
+use Rattle.std.proofs.lemmas.Bool.{and_from, leb-true, le-leb}
 
 -- ---- handle operands
 
@@ -25,10 +26,8 @@ any_kept kinds (Some k) (Some j) h e = let p : k ≡ j = same_kind_is k j h in r
 
 three_faults : (p q r : Bool) (c d f : Cause) → (if p then Some c else (if q then Some d else (if r then Some f else None))) ≡ None
     → (p ≡ false) × (q ≡ false) × (r ≡ false)
-three_faults true q r c d f e = cc
-three_faults false true r c d f e = cc
-three_faults false false true c d f e = cc
 three_faults false false false c d f e = (refl, refl, refl)
+three_faults _ _ _ c d f e = cc
 
 maybe_kept : (m m2 z : Bool) → (not m || m2) ≡ true → (m2 && not z) ≡ false → (m && not z) ≡ false
 maybe_kept true true z h e = e
@@ -58,9 +57,6 @@ word_passes false e = cc
 fault_below : (o : Operand) (v w : AbsVal) → IsTrue (below v w) → fault_of o w ≡ None → fault_of o v ≡ None
 unfolding below
 fault_below o (Has m k r) (Has m2 k2 r2) h e = has_passes o m m2 k k2 r r2 h e
-fault_below o (Has _ _ _) (Word _) h e = cc
-fault_below o (Has _ _ _) (KindOf _) h e = cc
-fault_below o (Has _ _ _) (RightsOf _) h e = cc
 fault_below o (Word n) (Has m2 k2 r2) h e =
     let z = zero_of n m2 k2 r2 h in
     let f =
@@ -70,19 +66,12 @@ fault_below o (Word m) (Word n) h e =
     let p = and_parts o.may_be_zero (eqb n 0) (word_passes (o.may_be_zero && eqb n 0) e) in
     let q : eqb m 0 ≡ true = grind (arith, nat_tests) in
     rw (p.0, q) refl
-fault_below o (Word _) (KindOf _) h e = cc
-fault_below o (Word _) (RightsOf _) h e = cc
 fault_below o (KindOf _) (Word n) h e = absurd (tag_there n h ((and_parts o.may_be_zero (eqb n 0) (word_passes (o.may_be_zero && eqb n 0) e)).1))
-fault_below o (KindOf _) _ h e = cc
 fault_below o (RightsOf _) (Word n) h e = absurd (tag_there n h ((and_parts o.may_be_zero (eqb n 0) (word_passes (o.may_be_zero && eqb n 0) e)).1))
-fault_below o (RightsOf _) _ h e = cc
+fault_below o _ _ h e = cc
 
 taken_below : (s t : State) (o : Operand) → IsBelow s t → IsBelow (taken_from s o) (taken_from t o)
-taken_below s t o h = by o.is_taken
-  where
-    by : (b : Bool) → IsBelow (if b then with_value s o.value (Word 0) else s) (if b then with_value t o.value (Word 0) else t)
-    by true = with_below s t o.value _ _ h (below_refl (Word 0))
-    by false = h
+taken_below s t o h = both_by IsBelow o.is_taken _ s _ t (with_below s t o.value _ _ h (below_refl (Word 0))) h
 
 examined_by_below : (s t : State) (o : Operand) (x y : Option Cause) → IsBelow s t → (y ≡ None → x ≡ None)
     → Lowers IsBelow (examined_by s o x) (examined_by t o y)
@@ -103,19 +92,15 @@ examined_all_below (o ∷ os) s t h =
 
 bound_kept : (v w : AbsVal) → IsTrue (below v w) → is_some (bound_of w) ≡ true → is_some (bound_of v) ≡ true
 unfolding below
-bound_kept v (Has _ _ _) h e = cc
-bound_kept (Word _) w h e = refl
-bound_kept (KindOf _) w h e = refl
-bound_kept (RightsOf _) w h e = refl
 bound_kept (Has _ _ _) (Word _) h e = cc
-bound_kept (Has _ _ _) (KindOf _) h e = cc
-bound_kept (Has _ _ _) (RightsOf _) h e = cc
+bound_kept (Has _ _ _) _ h e = cc
+bound_kept _ w h e = refl
 
 words_kept : (s t : State) (rs : List ℕ) → IsBelow s t → are_words t rs ≡ true → are_words s rs ≡ true
 words_kept s t [] h e = refl
 words_kept s t (r ∷ rs) h e =
     let p = and_parts (is_some (bound_at t r)) (are_words t rs) e in
-    and _ _ (bound_kept _ _ (value_below s t r h) p.0) (words_kept s t rs h p.1)
+    and_from _ _ (bound_kept _ _ (value_below s t r h) p.0) (words_kept s t rs h p.1)
 
 abbrev BoundBelow : Option ℕ → Option ℕ → Type 0
 BoundBelow o None = Unit {0}
@@ -125,27 +110,23 @@ BoundBelow (Some m) (Some n) = m ≤ n
 bound_below : (v w : AbsVal) → IsTrue (below v w) → BoundBelow (bound_of v) (bound_of w)
 unfolding below
 bound_below v (Has _ _ _) h = tt
-bound_below (Word m) (Word n) h = leb_le m n h
-bound_below (Has _ _ _) (Word n) h = cc
-bound_below (KindOf _) (Word n) h = leb_le ANY n h
-bound_below (RightsOf _) (Word n) h = leb_le ANY n h
+bound_below (Word m) (Word n) h = leb-true m n h
+bound_below (KindOf _) (Word n) h = leb-true ANY n h
+bound_below (RightsOf _) (Word n) h = leb-true ANY n h
 bound_below (KindOf _) (KindOf _) h = omega arith
-bound_below _ (KindOf _) h = cc
-bound_below (Word m) _ h = cc
 bound_below (RightsOf _) (RightsOf _) h = omega arith
-bound_below _ (RightsOf _) h = cc
+bound_below _ _ h = cc
 
 sum_kept : (most : ℕ) (a b c d : Option ℕ) → BoundBelow a c → BoundBelow b d → sum_fits most c d ≡ true → sum_fits most a b ≡ true
 sum_kept most a b None d h k e = cc
 sum_kept most a b (Some m) None h k e = cc
 sum_kept most None b (Some m) (Some n) h k e = absurd h
 sum_kept most (Some x) None (Some m) (Some n) h k e = absurd k
-sum_kept most (Some x) (Some y) (Some m) (Some n) h k e = le_leb _ _ (let p = leb_le (m + n) most e in omega arith)
+sum_kept most (Some x) (Some y) (Some m) (Some n) h k e = le-leb _ _ (let p = leb-true (m + n) most e in omega arith)
 
 range_kept : (i : Image) (s t : State) (o : Option (ℕ × ℕ)) → IsBelow s t → range_fits i t o ≡ true → range_fits i s o ≡ true
 range_kept i s t None h e = refl
-range_kept i s t (Some x) h e =
-    sum_kept i.memory _ _ _ _ (bound_below _ _ (value_below s t (x.0) h)) (bound_below _ _ (value_below s t (x.1) h)) e
+range_kept i s t (Some x) h e = sum_kept i.memory _ _ _ _ (bound_below _ _ (value_below s t (x.0) h)) (bound_below _ _ (value_below s t (x.1) h)) e
 
 -- ---- destinations
 
@@ -158,16 +139,14 @@ ResultsBelow (x ∷ xs) [] = ⊥
 
 same_result : (r : ℕ) (xs ys : List (ℕ × AbsVal)) → ResultsBelow xs ys → is_result xs r ≡ is_result ys r
 same_result r [] [] h = refl
-same_result r [] (y ∷ ys) h = absurd h
-same_result r (x ∷ xs) [] h = absurd h
 same_result r (x ∷ xs) (y ∷ ys) h = rw (h.0, same_result r xs ys (h.2)) refl
+same_result r _ _ h = absurd h
 
 same_distinct : (xs ys : List (ℕ × AbsVal)) → ResultsBelow xs ys → are_distinct xs ≡ are_distinct ys
 unfolding are_distinct
 same_distinct [] [] h = refl
-same_distinct [] (y ∷ ys) h = absurd h
-same_distinct (x ∷ xs) [] h = absurd h
 same_distinct (x ∷ xs) (y ∷ ys) h = rw (h.0, same_result (y.0) xs ys (h.2), same_distinct xs ys (h.2)) refl
+same_distinct _ _ h = absurd h
 
 none_kept : (s t : State) (xs ys : List (ℕ × AbsVal)) → IsBelow s t → ResultsBelow xs ys → has_one t ys ≡ false → has_one s xs ≡ false
 none_kept s t [] [] h k e = refl
@@ -194,18 +173,15 @@ answers_below s t xs ys h k =
 -- ---- the rule
 
 finished_below : (i : Image) (s t u v : State) (operands : List Operand) (words : List ℕ) (range : Option (ℕ × ℕ)) (condition : Option Condition)
-    (xs ys : List (ℕ × AbsVal))
-    → IsBelow s t → IsBelow u v → ResultsBelow xs ys
+    (xs ys : List (ℕ × AbsVal)) → IsBelow s t → IsBelow u v → ResultsBelow xs ys
     → Lowers IsBelow (finished i s u (uses operands words range condition xs)) (finished i t v (uses operands words range condition ys))
 finished_below i s t u v operands words range condition xs ys h k l =
     lowers_unless IsBelow (not (are_words s words)) (not (are_words t words)) _ _ _ _ (not_kept _ _ (words_kept s t words h))
     (lowers_unless IsBelow (not (range_fits i s range)) (not (range_fits i t range)) _ _ _ _ (not_kept _ _ (range_kept i s t range h))
-    (lowers_unless IsBelow (not (is_declared i condition)) (not (is_declared i condition)) _ _ _ _ (λ e. e)
-    (answers_below u v xs ys k l)))
+    (lowers_unless IsBelow (not (is_declared i condition)) (not (is_declared i condition)) _ _ _ _ (λ e. e) (answers_below u v xs ys k l)))
 
 state_after_below : (i : Image) (s t : State) (operands : List Operand) (words : List ℕ) (range : Option (ℕ × ℕ)) (condition : Option Condition)
-    (xs ys : List (ℕ × AbsVal))
-    → IsBelow s t → ResultsBelow xs ys
+    (xs ys : List (ℕ × AbsVal)) → IsBelow s t → ResultsBelow xs ys
     → Lowers IsBelow (state_after i s (uses operands words range condition xs)) (state_after i t (uses operands words range condition ys))
 state_after_below i s t operands words range condition xs ys h l =
     lowers_then IsBelow IsBelow (examined_all s operands) (examined_all t operands) _ _ (examined_all_below operands s t h)
@@ -215,21 +191,19 @@ state_after_below i s t operands words range condition xs ys h l =
 
 narrowed_below : (v w : AbsVal) (asked : ℕ) → IsTrue (below v w) → IsTrue (below (narrowed_value v asked) (narrowed_value w asked))
 unfolding below
-narrowed_below (Has m k r) (Has m2 k2 r2) asked h = let p = has_parts m m2 k k2 r r2 h in has_from true true k k2 _ _ refl p.1 (by (eqb asked SAME_RIGHTS) p.2)
-  where
-    by : (t : Bool) → within (bits r2) (bits r) ≡ true
-        → within (bits (if t then r2 else rights_of (bit_and asked KNOWN_RIGHTS))) (bits (if t then r else rights_of (bit_and asked KNOWN_RIGHTS))) ≡ true
-    by true e = e
-    by false e = within_refl (bit_and asked KNOWN_RIGHTS)
+narrowed_below (Has m k r) (Has m2 k2 r2) asked h =
+    let p = has_parts m m2 k k2 r r2 h in
+    let asked_for = rights_of (bit_and asked KNOWN_RIGHTS) in
+    has_from true true k k2 _ _ refl p.1
+    (both_by (λ q q2. within (bits q2) (bits q) ≡ true) (eqb asked SAME_RIGHTS) r asked_for r2 asked_for p.2 (within_refl (bit_and asked KNOWN_RIGHTS)))
 narrowed_below (Has _ _ _) _ asked h = cc
-narrowed_below (KindOf _) (Has _ _ _) asked h = cc
-narrowed_below (RightsOf _) (Has _ _ _) asked h = cc
 narrowed_below (Word _) (Has _ _ _) asked h = refl
+narrowed_below _ (Has _ _ _) asked h = cc
 narrowed_below _ _ asked h = refl
 
 one_below : (v w : AbsVal) → IsTrue (below v w) → IsTrue (all_below (v ∷ []) (w ∷ []))
 unfolding all_below
-one_below v w h = and _ _ h refl
+one_below v w h = and_from _ _ h refl
 
 given_below : (bounds : List ℕ) (g : Gives) (v w : AbsVal) (number : ℕ) → IsTrue (below v w)
     → IsTrue (all_below (values_by bounds g v number) (values_by bounds g w number))
@@ -247,13 +221,12 @@ zip_below : (rs : List ℕ) (vs ws : List AbsVal) (more : List (ℕ × AbsVal)) 
 unfolding all_below
 zip_below [] vs ws more h = same_below more
 zip_below (r ∷ rs) [] [] more h = same_below more
-zip_below (r ∷ rs) [] (w ∷ ws) more h = cc
-zip_below (r ∷ rs) (v ∷ vs) [] more h = cc
 zip_below (r ∷ rs) (v ∷ vs) (w ∷ ws) more h = let p = and_parts (below v w) (all_below vs ws) h in (refl, p.0, zip_below rs vs ws more p.1)
+zip_below (r ∷ rs) _ _ more h = cc
 
 status_first : (vs ws : List AbsVal) → IsTrue (all_below vs ws) → IsTrue (all_below (Word 30 ∷ vs) (Word 30 ∷ ws))
 unfolding all_below
-status_first vs ws h = and _ _ (below_refl (Word 30)) h
+status_first vs ws h = and_from _ _ (below_refl (Word 30)) h
 
 way_on : (on : Bool) (u v : State) → IsBelow u v → WaysBelow (if on then passes u else stops) (if on then passes v else stops)
 way_on true u v h = (tt, h)
@@ -262,7 +235,6 @@ way_on false u v h = (tt, tt)
 pub call_below : (bounds : List ℕ) (i : Image) (c : CallInstr) (s t : State) → IsBelow s t → Lowers WaysBelow (call_rule bounds i c s) (call_rule bounds i c t)
 unfolding call_rule uses_of
 call_below bounds i c s t h =
-    lowers_then IsBelow WaysBelow (state_after i s (uses_of bounds s c)) (state_after i t (uses_of bounds t c)) _ _
-    (state_after_below i s t _ _ _ _ _ _ h
+    lowers_then IsBelow WaysBelow (state_after i s (uses_of bounds s c)) (state_after i t (uses_of bounds t c)) _ _ (state_after_below i s t _ _ _ _ _ _ h
     (zip_below (those is_written (call_row c.name).fields 0 c.registers) _ _ _ (status_first _ _ (values_below bounds s t c h))))
     (λ u v l. way_on (goes_on c.name) u v l)

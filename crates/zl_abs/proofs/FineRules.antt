@@ -19,6 +19,7 @@ use Rattle.zl_abs.specs.declared.cause.Cause.TheVariants as cause
 use Rattle.zl_abs.proofs.FineStates.{Suits, Named, is_plain, named_self, named_there, plain_suits, fine_with, fine_moved, rights_fit}
 use Rattle.zl_abs.proofs.FineTests.{FineWays, then_fine, IsBound, word_fine, zero_fine, equal_fine, below_fine, has_fine}
 use Rattle.zl_code.proofs.Common.{not-false}
+use Rattle.std.proofs.lemmas.Bool.{cond_both}
 
 if_fine : {B : Type 0} (Q : B → Type 0) (t : Bool) (x : Result B Cause) (c : Cause) → IfOk x Q → IfOk (if t then x else Err c) Q
 if_fine Q true x c h = h
@@ -72,8 +73,7 @@ may_named _ h = cc
 
 takes_fine : (s : State) (a b : ℕ) → IsFine s → a < 32 → IfOk (takes s a b) FineWays
 takes_fine s a b h less =
-    unless_fine FineWays (eqb a b) _ _ (λ _.
-    unless_fine FineWays (not (may_move (value_at s b))) _ _ (λ e.
+    unless_fine FineWays (eqb a b) _ _ (λ _. unless_fine FineWays (not (may_move (value_at s b))) _ _ (λ e.
     unless_fine FineWays (is_has (value_at s a)) (Ok (passes (moved s a b (value_at s b)))) cause.Leak (λ _.
     (tt, fine_moved s a b (value_at s b) h less (h.fits b, h.state.tags b) (may_named (value_at s b) e)))))
 
@@ -134,11 +134,7 @@ local_fine bounds i (local.JumpHasNot a imm target) s g r h = unless_ways _ (has
 -- ---- the calls
 
 taken_fine : (s : State) (o : Operand) → IsFine s → IsFine (taken_from s o)
-taken_fine s o h = by o.is_taken
-  where
-    by : (b : Bool) → IsFine (if b then with_value s o.value (Word 0) else s)
-    by true = fine_with s o.value (Word 0) h (omega arith, refl)
-    by false = h
+taken_fine s o h = cond_both o.is_taken (with_value s o.value (Word 0)) s IsFine (λ _. fine_with s o.value (Word 0) h (omega arith, refl)) (λ _. h)
 
 examined_fine : (s : State) (o : Operand) → IsFine s → IfOk (examined s o) IsFine
 examined_fine s o h = by (fault_of o (value_at s o.value))
@@ -158,10 +154,8 @@ CanGet results = (t : State) → IsFine t → IsFine (with_all t results)
 
 after_fine : (i : Image) (s : State) (u : Uses) → IsFine s → CanGet u.results → IfOk (state_after i s u) IsFine
 after_fine i s u h k =
-    then_fine IsFine IsFine (examined_all s u.operands) _ (examined_all_fine u.operands s h) (λ t g.
-    unless_fine IsFine (not (are_words s u.words)) _ _ (λ _.
-    unless_fine IsFine (not (range_fits i s u.range)) _ _ (λ _.
-    unless_fine IsFine (not (is_declared i u.condition)) _ _ (λ _.
+    then_fine IsFine IsFine (examined_all s u.operands) _ (examined_all_fine u.operands s h) (λ t g. unless_fine IsFine (not (are_words s u.words)) _ _ (λ _.
+    unless_fine IsFine (not (range_fits i s u.range)) _ _ (λ _. unless_fine IsFine (not (is_declared i u.condition)) _ _ (λ _.
     unless_fine IsFine (not (are_distinct u.results)) _ _ (λ _.
     unless_fine IsFine (has_one t u.results) (Ok (with_all t u.results)) cause.Leak (λ _. k t g))))))
 
@@ -177,12 +171,9 @@ zip_fine (r ∷ rs) [] more h k = k
 zip_fine (r ∷ rs) (v ∷ vs) more h k = λ t g. zip_fine rs vs more h.2 k (with_value t r v) (fine_with t r v g (plain_suits t v h.0 h.1))
 
 narrowed_values : (v : AbsVal) (asked : ℕ) → Fits v → AreValues (narrowed_value v asked ∷ [])
-narrowed_values (Has a k q) asked h = (refl, by (eqb asked SAME_RIGHTS), tt)
-  where
-    by : (t : Bool) → bits (if t then q else rights_of (bit_and asked KNOWN_RIGHTS)) ≤ 0xffff_ffff
-    by true = h
-    by false = let z = and_le_r asked KNOWN_RIGHTS in omega arith
-narrowed_values (Word m) asked h = (refl, omega arith, tt)
+narrowed_values (Has a k q) asked h =
+    let z = and_le_r asked KNOWN_RIGHTS in
+    (refl, cond_both (eqb asked SAME_RIGHTS) q (rights_of (bit_and asked KNOWN_RIGHTS)) (λ r. bits r ≤ 0xffff_ffff) (λ _. h) (λ _. omega arith), tt)
 narrowed_values _ asked h = (refl, omega arith, tt)
 
 -- a handle, and behind it its kind and its rights
@@ -254,8 +245,7 @@ edges_fine : (size place target : ℕ) (w : Ways) → FineWays w → IfOk (edges
 edges_fine size place target w h =
     then_fine AllFine AllFine (edge_to size cause.BadJump target w.jumped) _ (edge_fine size cause.BadJump target w.jumped h.0) (λ xs p.
     then_fine AllFine AllFine (edge_to size cause.FallsOff (place + 1) w.passed) (λ ys. Ok (xs ++ ys))
-    (edge_fine size cause.FallsOff (place + 1) w.passed h.1) (λ ys q.
-    both_fine xs ys p q))
+    (edge_fine size cause.FallsOff (place + 1) w.passed h.1) (λ ys q. both_fine xs ys p q))
 
 -- ---- the rule
 

@@ -6,15 +6,14 @@ use Rattle.zl_abs.proofs.Common.{ranges, refined, refl, replicate, retagged, rig
 use Rattle.zl_abs.proofs.Common.{subst, suc, sym, true, untagged, value_at, with_all, with_value, within, zero, ℕ, ◌+◌, ◌<◌, ◌∙◌, ◌∷◌, ◌≡◌, ◌≤◌}
 use Rattle.zl_rights.specs.declared.kind.Kind.TheVariants as kind
 use Rattle.zl_abs.specs.declared.value.AbsVal.TheVariants.{Word, Has, KindOf, RightsOf}
+use Rattle.std.proofs.lemmas.Bool.{cond_both}
 
 -- ---- registers of a state that was written
 
 set_at : (P : AbsVal → Type 0) (s : State) (r q : ℕ) (v : AbsVal) → P v → P (value_at s q) → P (value_at (slice_set s r v) q)
-set_at P [] r q v h k = k
 set_at P (a ∷ s) zero zero v h k = h
-set_at P (a ∷ s) zero (suc q) v h k = k
-set_at P (a ∷ s) (suc r) zero v h k = k
 set_at P (a ∷ s) (suc r) (suc q) v h k = set_at P s r q v h k
+set_at P _ _ _ v h k = k
 
 -- the register may be none of the state's
 set_self : (P : AbsVal → Type 0) (s : State) (r : ℕ) (v : AbsVal) → P v → P (Word 0) → P (value_at (slice_set s r v) r)
@@ -42,7 +41,7 @@ with_other : (s : State) (r q : ℕ) (v : AbsVal) → eqb q r ≡ false → valu
 unfolding with_value
 with_other s r q v e = mapped_at (untagged r) refl (slice_set s r v) q ∙ ap (untagged r) (set_other s r q v e)
 
-with_long : (s : State) (r : ℕ) (v : AbsVal) → length (with_value s r v) ≡ length s
+pub with_long : (s : State) (r : ℕ) (v : AbsVal) → length (with_value s r v) ≡ length s
 unfolding with_value
 with_long s r v = length-map (slice_set s r v) (untagged r) ∙ length-set s r v
 
@@ -69,16 +68,8 @@ Named v = can_be_named v ≡ true
 fits_untagged : (r : ℕ) (v : AbsVal) → Fits v → Fits (untagged r v)
 fits_untagged r (Word m) h = h
 fits_untagged r (Has a k q) h = h
-fits_untagged r (KindOf x) h = by (eqb x r)
-  where
-    by : (t : Bool) → Fits (if t then Word ANY else KindOf x)
-    by true = omega arith
-    by false = h
-fits_untagged r (RightsOf x) h = by (eqb x r)
-  where
-    by : (t : Bool) → Fits (if t then Word ANY else RightsOf x)
-    by true = omega arith
-    by false = h
+fits_untagged r (KindOf x) h = cond_both (eqb x r) (Word ANY) (KindOf x) Fits (λ _. omega arith) (λ _. h)
+fits_untagged r (RightsOf x) h = cond_both (eqb x r) (Word ANY) (RightsOf x) Fits (λ _. omega arith) (λ _. h)
 
 named_untagged : (r : ℕ) (v : AbsVal) → Named v → Named (untagged r v)
 named_untagged r (Word m) h = h
@@ -93,16 +84,10 @@ named_there s r x v e h = subst Named (sym (with_other s r x v e)) (named_untagg
 well_untagged : (s : State) (r : ℕ) (v w : AbsVal) → IsTrue (is_named_well s w) → IsTrue (is_named_well (with_value s r v) (untagged r w))
 well_untagged s r v (Word m) h = refl
 well_untagged s r v (Has a k q) h = refl
-well_untagged s r v (KindOf x) h = by (eqb x r) refl
-  where
-    by : (t : Bool) → eqb x r ≡ t → IsTrue (is_named_well (with_value s r v) (if t then Word ANY else KindOf x))
-    by true e = refl
-    by false e = named_there s r x v e h
-well_untagged s r v (RightsOf x) h = by (eqb x r) refl
-  where
-    by : (t : Bool) → eqb x r ≡ t → IsTrue (is_named_well (with_value s r v) (if t then Word ANY else RightsOf x))
-    by true e = refl
-    by false e = named_there s r x v e h
+well_untagged s r v (KindOf x) h =
+    cond_both (eqb x r) (Word ANY) (KindOf x) (λ w. IsTrue (is_named_well (with_value s r v) w)) (λ _. refl) (λ e. named_there s r x v e h)
+well_untagged s r v (RightsOf x) h =
+    cond_both (eqb x r) (Word ANY) (RightsOf x) (λ w. IsTrue (is_named_well (with_value s r v) w)) (λ _. refl) (λ e. named_there s r x v e h)
 
 pub fine_with : (s : State) (r : ℕ) (v : AbsVal) → IsFine s → Suits s v → IsFine (with_value s r v)
 fine_with s r v h k = record {
@@ -162,16 +147,8 @@ named_retagged b a _ h = cc
 fits_retagged : (b a : ℕ) (v : AbsVal) → a < 32 → Fits v → Fits (retagged b a v)
 fits_retagged b a (Word m) less h = h
 fits_retagged b a (Has x k q) less h = h
-fits_retagged b a (KindOf x) less h = by (eqb x b)
-  where
-    by : (t : Bool) → Fits (if t then KindOf a else KindOf x)
-    by true = less
-    by false = h
-fits_retagged b a (RightsOf x) less h = by (eqb x b)
-  where
-    by : (t : Bool) → Fits (if t then RightsOf a else RightsOf x)
-    by true = less
-    by false = h
+fits_retagged b a (KindOf x) less h = cond_both (eqb x b) (KindOf a) (KindOf x) Fits (λ _. less) (λ _. h)
+fits_retagged b a (RightsOf x) less h = cond_both (eqb x b) (RightsOf a) (RightsOf x) Fits (λ _. less) (λ _. h)
 
 -- where the tags that named b name a, and b is 0
 module _ (t : State) (a b : ℕ) (there : Named (value_at t a)) where
@@ -187,16 +164,8 @@ module _ (t : State) (a b : ℕ) (there : Named (value_at t a)) where
   well_left : (w : AbsVal) → IsTrue (is_named_well t w) → IsTrue (is_named_well left (retagged b a w))
   well_left (Word m) h = refl
   well_left (Has x k q) h = refl
-  well_left (KindOf x) h = by (eqb x b)
-    where
-      by : (c : Bool) → IsTrue (is_named_well left (if c then KindOf a else KindOf x))
-      by true = named_left a there
-      by false = named_left x h
-  well_left (RightsOf x) h = by (eqb x b)
-    where
-      by : (c : Bool) → IsTrue (is_named_well left (if c then RightsOf a else RightsOf x))
-      by true = named_left a there
-      by false = named_left x h
+  well_left (KindOf x) h = cond_both (eqb x b) (KindOf a) (KindOf x) (λ w. IsTrue (is_named_well left w)) (λ _. named_left a there) (λ _. named_left x h)
+  well_left (RightsOf x) h = cond_both (eqb x b) (RightsOf a) (RightsOf x) (λ w. IsTrue (is_named_well left w)) (λ _. named_left a there) (λ _. named_left x h)
 
   fine_left : IsFine t → a < 32 → IsFine left
   fine_left h less = record {
@@ -218,10 +187,7 @@ joined_named (Word m) (Word n) h k = let p : eqb (larger m n) 0 ≡ true = grind
 joined_named (Word m) (Has x i r) h k = rw h refl
 joined_named (Has x i r) (Word n) h k = rw k refl
 joined_named (Has x i r) (Has y j q) h k = refl
-joined_named (KindOf r) b h k = cc
-joined_named (RightsOf r) b h k = cc
-joined_named (Word m) _ h k = cc
-joined_named (Has x i r) _ h k = cc
+joined_named _ _ h k = cc
 
 word_fits : (m n : ℕ) → m ≤ ANY → n ≤ ANY → larger m n ≤ ANY
 word_fits m n h k = grind (arith, nat_tests)
@@ -231,53 +197,38 @@ handle_if : (P : AbsVal → Type 0) (t : Bool) (v : AbsVal) → P v → IfSome (
 handle_if P true v h = h
 handle_if P false v h = tt
 
-either : (P : AbsVal → Type 0) (t : Bool) (v w : AbsVal) → P v → P w → P (if t then v else w)
-either P true v w h k = h
-either P false v w h k = k
-
 joined_fits : (a b : AbsVal) → Fits a → Fits b → IfSome (joined a b) Fits
 unfolding joined
 joined_fits (Word m) (Word n) h k = word_fits m n h k
 joined_fits (Word m) (Has x i r) h k = handle_if Fits (eqb m 0) (Has true i r) k
-joined_fits (Word m) (KindOf q) h k = word_fits m ANY h (omega arith)
-joined_fits (Word m) (RightsOf q) h k = word_fits m ANY h (omega arith)
+joined_fits (Word m) _ h k = word_fits m ANY h (omega arith)
 joined_fits (Has x i r) (Word n) h k = handle_if Fits (eqb n 0) (Has true i r) h
 joined_fits (Has x i r) (Has y j q) h k = let z = and_le_l (bits r) (bits q) in omega arith
 joined_fits (Has x i r) _ h k = tt
-joined_fits (KindOf r) (Word n) h k = word_fits n ANY k (omega arith)
-joined_fits (KindOf r) (Has x i q) h k = tt
-joined_fits (KindOf r) (KindOf q) h k = either Fits (eqb r q) (KindOf r) (Word ANY) h (omega arith)
-joined_fits (KindOf r) (RightsOf q) h k = omega arith
-joined_fits (RightsOf r) (Word n) h k = word_fits n ANY k (omega arith)
-joined_fits (RightsOf r) (Has x i q) h k = tt
-joined_fits (RightsOf r) (RightsOf q) h k = either Fits (eqb r q) (RightsOf r) (Word ANY) h (omega arith)
-joined_fits (RightsOf r) (KindOf q) h k = omega arith
+joined_fits _ (Word n) h k = word_fits n ANY k (omega arith)
+joined_fits _ (Has x i q) h k = tt
+joined_fits (KindOf r) (KindOf q) h k = cond_both (eqb r q) (KindOf r) (Word ANY) Fits (λ _. h) (λ _. omega arith)
+joined_fits (RightsOf r) (RightsOf q) h k = cond_both (eqb r q) (RightsOf r) (Word ANY) Fits (λ _. h) (λ _. omega arith)
+joined_fits _ _ h k = omega arith
 
 -- what both states name, the third names
 module _ (s t u : State) (kept : (x : ℕ) → Named (value_at s x) → Named (value_at t x) → Named (value_at u x)) where
+  kept_well : (r q : ℕ) (v : AbsVal) → (Named (value_at u r) → IsTrue (is_named_well u v)) → Named (value_at s r) → Named (value_at t q)
+      → IsTrue (is_named_well u (if eqb r q then v else Word ANY))
+  kept_well r q v is h k =
+      cond_both (eqb r q) v (Word ANY) (λ w. IsTrue (is_named_well u w))
+      (λ e. is (kept r h (subst (λ (y : ℕ). Named (value_at t y)) (sym ((Decides-eqb r q).0 e)) k))) (λ _. refl)
+
   joined_well : (a b : AbsVal) → IsTrue (is_named_well s a) → IsTrue (is_named_well t b) → IfSome (joined a b) (λ v. IsTrue (is_named_well u v))
   unfolding joined
   joined_well (Word m) (Has x i r) h k = handle_if (λ v. IsTrue (is_named_well u v)) (eqb m 0) (Has true i r) refl
-  joined_well (Word m) _ h k = refl
   joined_well (Has x i r) (Word n) h k = handle_if (λ v. IsTrue (is_named_well u v)) (eqb n 0) (Has true i r) refl
   joined_well (Has x i r) (Has y j q) h k = refl
   joined_well (Has x i r) _ h k = tt
-  joined_well (KindOf r) (Word n) h k = refl
-  joined_well (KindOf r) (Has x i q) h k = tt
-  joined_well (KindOf r) (KindOf q) h k = by (eqb r q) refl
-    where
-      by : (c : Bool) → eqb r q ≡ c → IsTrue (is_named_well u (if c then KindOf r else Word ANY))
-      by true e = let p : r ≡ q = (Decides-eqb r q).0 e in kept r h (subst (λ (y : ℕ). Named (value_at t y)) (sym p) k)
-      by false e = refl
-  joined_well (KindOf r) (RightsOf q) h k = refl
-  joined_well (RightsOf r) (Word n) h k = refl
-  joined_well (RightsOf r) (Has x i q) h k = tt
-  joined_well (RightsOf r) (RightsOf q) h k = by (eqb r q) refl
-    where
-      by : (c : Bool) → eqb r q ≡ c → IsTrue (is_named_well u (if c then RightsOf r else Word ANY))
-      by true e = let p : r ≡ q = (Decides-eqb r q).0 e in kept r h (subst (λ (y : ℕ). Named (value_at t y)) (sym p) k)
-      by false e = refl
-  joined_well (RightsOf r) (KindOf q) h k = refl
+  joined_well _ (Has x i r) h k = tt
+  joined_well (KindOf r) (KindOf q) h k = kept_well r q (KindOf r) (λ is. is) h k
+  joined_well (RightsOf r) (RightsOf q) h k = kept_well r q (RightsOf r) (λ is. is) h k
+  joined_well _ _ h k = refl
 
 -- the join of two states, register by register
 pub record IsJoin (s t u : State) : Type 0 where
@@ -326,10 +277,7 @@ zero_at (suc n) zero = refl
 zero_at (suc n) (suc r) = zero_at n r
 
 zeros_fine : IsFine (replicate 32 (Word 0))
-zeros_fine = record {
-  state = record { long = refl; tags = λ r. rw (zero_at 32 r) refl };
-  fits = λ r. rw (zero_at 32 r) (omega arith);
-}
+zeros_fine = record { state = record { long = refl; tags = λ r. rw (zero_at 32 r) refl }; fits = λ r. rw (zero_at 32 r) (omega arith) }
 
 -- rights that a declaration may name
 pub rights_fit : (o : Option Kind) (r : ℕ) → within r (rights_allowed o) ≡ true → r ≤ 0xffff_ffff

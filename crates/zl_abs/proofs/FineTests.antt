@@ -6,6 +6,7 @@ use Rattle.zl_abs.proofs.Common.{known_there, known_zero, ltb, nat_tests, not, o
 use Rattle.zl_abs.proofs.Common.{within, word_at, word_or, zero_ways, ℕ, ◌&&◌, ◌-◌, ◌<◌, ◌∙◌, ◌≡◌, ◌≤◌}
 use Rattle.zl_abs.specs.declared.value.AbsVal.TheVariants.{Word, Has, KindOf, RightsOf}
 use Rattle.zl_abs.proofs.FineStates.{Named, is_plain, set_other, fine_refined}
+use Rattle.std.proofs.lemmas.Bool.{cond_both}
 
 -- the states at the ends of the edges are fine
 abbrev pub FineWays : Ways → Type 0
@@ -64,8 +65,7 @@ zero_known s r _ h = knows_itself s r h
 there_known : (s : State) (r : ℕ) (v : AbsVal) → IsFine s → Fits v → IfSome (known_there s r v) (Knows s r)
 there_known s r (Has a k q) h f = knows s r (Has false k q) h refl f refl
 there_known s r (Word m) h f = knows_itself_if s r (eqb m 0) h
-there_known s r (KindOf x) h f = knows_itself s r h
-there_known s r (RightsOf x) h f = knows_itself s r h
+there_known s r _ h f = knows_itself s r h
 
 kind_known : (s : State) (r : ℕ) (o : Option Kind) (v : AbsVal) → IsFine s → Fits v → IfSome (known_kind s r o v) (Knows s r)
 kind_known s r None v h f = tt
@@ -74,11 +74,8 @@ kind_known s r (Some x) _ h f = tt
 
 other_known : (s : State) (r : ℕ) (o : Option Kind) (v : AbsVal) → IsFine s → IfSome (known_other s o v) (Knows s r)
 other_known s r None v h = knows_itself s r h
-other_known s r (Some x) (Has a None q) h = knows_itself s r h
 other_known s r (Some x) (Has a (Some k) q) h = knows_itself_if s r (not a && same_kind x k) h
-other_known s r (Some x) (Word m) h = knows_itself s r h
-other_known s r (Some x) (KindOf y) h = knows_itself s r h
-other_known s r (Some x) (RightsOf y) h = knows_itself s r h
+other_known s r (Some x) _ h = knows_itself s r h
 
 gained_fit : (q imm : ℕ) → q ≤ 0xffff_ffff → within imm KNOWN_RIGHTS ≡ true → bit_or q imm ≤ 0xffff_ffff
 gained_fit q imm h e =
@@ -90,7 +87,6 @@ gained_fit q imm h e =
 rights_known : (s : State) (r imm : ℕ) (v : AbsVal) → IsFine s → Fits v → IfSome (known_rights s r imm v) (Knows s r)
 rights_known s r imm (Has a k q) h f =
     knows_if s r (Has false k (rights_of (bit_or (bits q) imm))) (within imm KNOWN_RIGHTS) h refl (gained_fit (bits q) imm f) refl
-rights_known s r imm (Word m) h f = tt
 rights_known s r imm _ h f = tt
 
 -- ---- jumps
@@ -124,16 +120,9 @@ tag_becomes s a imm r (Some t) h e k =
     becomes_fine t a imm k.0 (λ n. let z : Named (KindOf r) = subst Named same n in cc)
 
 kind_fine : (s : State) (a imm r : ℕ) → IsFine s → value_at s a ≡ KindOf r → FineWays (kind_ways s a imm r)
-kind_fine s a imm r h e = by (eqb imm 0)
-  where
-    f : Fits (value_at s r)
-    f = h.fits r
-
-    by : (c : Bool) → FineWays (if c
-        then record { jumped = becomes a 0 (known_zero s r (value_at s r)); passed = known_there s r (value_at s r) }
-        else record { jumped = becomes a imm (known_kind s r (kind_numbered imm) (value_at s r)); passed = known_other s (kind_numbered imm) (value_at s r) })
-    by true = (tag_becomes s a 0 r _ h e (zero_known s r _ h), known_fine s r _ (there_known s r _ h f))
-    by false = (tag_becomes s a imm r _ h e (kind_known s r (kind_numbered imm) _ h f), known_fine s r _ (other_known s r (kind_numbered imm) _ h))
+kind_fine s a imm r h e =
+    cond_both (eqb imm 0) _ _ FineWays (λ _. (tag_becomes s a 0 r _ h e (zero_known s r _ h), known_fine s r _ (there_known s r _ h (h.fits r))))
+    (λ _. (tag_becomes s a imm r _ h e (kind_known s r (kind_numbered imm) _ h (h.fits r)), known_fine s r _ (other_known s r (kind_numbered imm) _ h)))
 
 fine_unless : (s : State) (t : Bool) → IsFine s → IfSome (if t then None else Some s) IsFine
 fine_unless s true h = tt
@@ -144,14 +133,13 @@ not_less m n z e = grind (arith, nat_tests)
 
 equal_by : (s : State) (a imm : ℕ) (v : AbsVal) → IsFine s → value_at s a ≡ v → IfOk (equal_ways s a imm v) FineWays
 equal_by s a imm (Has x k q) h e = tt
-equal_by s a imm (Word m) h e = (jumps (ltb m (capped imm)) refl, fine_unless s (eqb m 0 && eqb imm 0) h)
+equal_by s a imm (Word m) h e = (jumps, fine_unless s (eqb m 0 && eqb imm 0) h)
   where
     zero_of : Named (value_at s a) → m ≡ 0
     zero_of n = (Decides-eqb m 0).0 (subst Named e n)
 
-    jumps : (t : Bool) → ltb m (capped imm) ≡ t → IfSome (if t then None else becomes a imm (Some s)) IsFine
-    jumps true p = tt
-    jumps false p = becomes_fine s a imm h (λ n. not_less m (capped imm) (zero_of n) p)
+    jumps : IfSome (if ltb m (capped imm) then None else becomes a imm (Some s)) IsFine
+    jumps = cond_both (ltb m (capped imm)) _ _ (λ o. IfSome o IsFine) (λ _. tt) (λ p. becomes_fine s a imm h (λ n. not_less m (capped imm) (zero_of n) p))
 equal_by s a imm (KindOf r) h e = kind_fine s a imm r h e
 equal_by s a imm (RightsOf r) h e = (becomes_fine s a imm h (λ n. let z : Named (RightsOf r) = subst Named e n in cc), h)
 
@@ -188,11 +176,8 @@ has_by : (s : State) (imm : ℕ) (v : AbsVal) → IsFine s → IfOk (has_ways s 
 has_by s imm (Has x k q) h = tt
 has_by s imm (Word m) h = (h, h)
 has_by s imm (KindOf r) h = (h, h)
-has_by s imm (RightsOf r) h = (by (eqb imm 0), h)
-  where
-    by : (c : Bool) → IfSome (if c then Some s else known_rights s r imm (value_at s r)) IsFine
-    by true = h
-    by false = known_fine s r _ (rights_known s r imm (value_at s r) h (h.fits r))
+has_by s imm (RightsOf r) h =
+    (cond_both (eqb imm 0) (Some s) _ (λ o. IfSome o IsFine) (λ _. h) (λ _. known_fine s r _ (rights_known s r imm (value_at s r) h (h.fits r))), h)
 
 pub has_fine : (s : State) (a imm : ℕ) → IsFine s → IfOk (has_ways s imm (value_at s a)) FineWays
 has_fine s a imm h = has_by s imm (value_at s a) h

@@ -75,10 +75,7 @@ told bounds i (Err v) = v
 told bounds i (Ok f) = if are_typed_from bounds i f 0 f then Typed else Unfinished
 
 abbrev begun : Image → Search
-begun i =
-    if nat_lt 0 (length i.code)
-    then Ok (slice_set (replicate (length i.code) None) 0 (Some (start_state i)))
-    else Err (Refused 0 cause.FallsOff)
+begun i = if nat_lt 0 (length i.code) then Ok (slice_set (replicate (length i.code) None) 0 (Some (start_state i))) else Err (Refused 0 cause.FallsOff)
 
 -- what four rounds over the code come to
 abbrev pub verdict : Image → Verdict

@@ -10,7 +10,7 @@ use Rattle.zl_abs.proofs.CallSteps.{stops_there, goes_on}
 abbrev pub listed : Field → State → List ℕ → Result State Cause
 listed f s places = examined_all s (operands_listed (Some f) (used places))
 
-used_here : (places : List ℕ) (i r : ℕ) → Some r ≡ register_in (slice_get places i) → used (drop i places) ≡ r ∷ used (drop (suc i) places)
+pub used_here : (places : List ℕ) (i r : ℕ) → Some r ≡ register_in (slice_get places i) → used (drop i places) ≡ r ∷ used (drop (suc i) places)
 used_here [] i r h = absurd (none-some r (sym h))
 used_here (b ∷ bs) zero r h = by (nat_lt b 32) refl h
   where

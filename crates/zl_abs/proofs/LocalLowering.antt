@@ -1,7 +1,7 @@
 -- The rules of the local instructions at a state and at one below it.
-use Rattle.zl_abs.proofs.Common.{ANY, AbsVal, Bool, Cause, Decides-eqb, Image, IsTrue, Kind, List, LocalInstr, None, Ok, Option, Result, Rights, SlotArray}
+use Rattle.zl_abs.proofs.Common.{ANY, AbsVal, Bool, Cause, Image, IsTrue, Kind, List, LocalInstr, None, Ok, Option, Result, Rights, SlotArray}
 use Rattle.zl_abs.proofs.Common.{Some, State, Ways, and_parts, and_then, arith, below, bits, capped, eqb, false, if◌then◌else◌, in_memory, is_has, kind_below}
-use Rattle.zl_abs.proofs.Common.{le-div, leb, loads, local_rule, ltb, may_move, moved, nat_tests, not, passes, pow_pos, refl, shifted, slice_get, slot_fault}
+use Rattle.zl_abs.proofs.Common.{le-div, loads, local_rule, ltb, may_move, moved, nat_tests, not, passes, pow_pos, refl, shifted, slice_get, slot_fault}
 use Rattle.zl_abs.proofs.Common.{slot_value, smaller, stores, swaps_by, swaps_in, takes, true, unless, value_at, within, word_at, ℕ, ◌&&◌, ◌+◌, ◌/◌, ◌<◌, ◌^◌}
 use Rattle.zl_abs.proofs.Common.{◌||◌, ◌≡◌, ◌≤◌}
 use Rattle.std.proofs.Math.Nat.{div-mul-le_self}
@@ -10,9 +10,10 @@ use Rattle.zl_abs.specs.declared.value.AbsVal.TheVariants.{Word, Has, KindOf, Ri
 use Rattle.zl_abs.specs.declared.cause.Cause.TheVariants as cause
 use Rattle.zl_abs.proofs.Order.{below_refl, kind_trans, within_trans, parts}
 use Rattle.zl_abs.proofs.Lowering.{Lowers, IsBelow, WaysBelow, lowers_then, lowers_if, lowers_unless, not_kept, value_below, with_below, moved_below, no_has}
-use Rattle.zl_abs.proofs.Lowering.{leb_le, le_leb, word_at_below, writes_below, computes_below}
-use Rattle.zl_abs.proofs.TestLowering.{zero_below, equal_below, below_below, has_below}
+use Rattle.zl_abs.proofs.Lowering.{both_by, word_at_below, writes_below, computes_below}
+use Rattle.zl_abs.proofs.TestLowering.{zero_below, equal_below, below_below, has_below, tag_there, less_kept}
 use Rattle.zl_code.proofs.Common.{not-false}
+use Rattle.std.proofs.lemmas.Bool.{leb-true, le-leb}
 
 abbrev Le : ℕ → ℕ → Type 0
 Le m n = m ≤ n
@@ -39,7 +40,7 @@ any_below : IsTrue (below (Word ANY) (Word ANY))
 any_below = below_refl (Word ANY)
 
 fits_below : (i : Image) (m m2 offset n : ℕ) → m ≤ m2 → in_memory i m2 offset n ≡ true → in_memory i m offset n ≡ true
-fits_below i m m2 offset n h k = le_leb _ _ (let e = leb_le (m2 + (offset + n)) i.memory k in omega arith)
+fits_below i m m2 offset n h k = le-leb _ _ (let e = leb-true (m2 + (offset + n)) i.memory k in omega arith)
 
 loads_below : (i : Image) (s t : State) (n bound a b offset : ℕ) → IsBelow s t → Lowers WaysBelow (loads i s n bound a b offset) (loads i t n bound a b offset)
 loads_below i s t n bound a b offset h =
@@ -53,19 +54,14 @@ stores_below i s t n a b offset h =
 
 -- ---- moves
 
-tag_apart : (n : ℕ) → leb ANY n ≡ true → eqb n 0 ≡ true → ⊥
-tag_apart n h k = let z : n ≡ 0 = (Decides-eqb n 0).0 k in let b : leb ANY 0 ≡ true = rw z at h in cc
-
 move_below : (v w : AbsVal) → IsTrue (below v w) → may_move w ≡ true → may_move v ≡ true
 unfolding below
 move_below (Word m) (Word n) h k = grind (arith, nat_tests)
 move_below (Word m) (Has x y z) h k = (and_parts (eqb m 0) x h).0
-move_below (Word m) _ h k = cc
 move_below (Has _ _ _) w h k = refl
-move_below (KindOf _) (Word n) h k = absurd (tag_apart n h k)
-move_below (KindOf _) _ h k = cc
-move_below (RightsOf _) (Word n) h k = absurd (tag_apart n h k)
-move_below (RightsOf _) _ h k = cc
+move_below (KindOf _) (Word n) h k = absurd (tag_there n h k)
+move_below (RightsOf _) (Word n) h k = absurd (tag_there n h k)
+move_below _ _ h k = cc
 
 takes_below : (s t : State) (a b : ℕ) → IsBelow s t → Lowers WaysBelow (takes s a b) (takes t a b)
 takes_below s t a b h =
@@ -82,9 +78,8 @@ pub no_some : {A : Type 0} (x : A) → Some x ≡ None → ⊥
 no_some x e = cc
 
 two_faults : (p q : Bool) (c d : Cause) → (if p then Some c else (if q then Some d else None)) ≡ None → (p ≡ false) × (q ≡ false)
-two_faults true q c d e = cc
-two_faults false true c d e = cc
 two_faults false false c d e = (refl, refl)
+two_faults _ _ c d e = cc
 
 has_enters : (x : SlotArray) (m m2 : Bool) (k k2 : Option Kind) (r r2 : Rights) → ((not m || m2) && (kind_below k k2 && within (bits r2) (bits r))) ≡ true
     → slot_fault x (Has m2 k2 r2) ≡ None → slot_fault x (Has m k r) ≡ None
@@ -103,24 +98,16 @@ enters_below : (x : SlotArray) (v w : AbsVal) → IsTrue (below v w) → slot_fa
 unfolding below
 enters_below x (Word m) (Word n) h e = let z = word_enters (eqb n 0) cause.NotLive e in let y : eqb m 0 ≡ true = grind (arith, nat_tests) in rw y refl
 enters_below x (Word m) (Has b k r) h e = let y = (and_parts (eqb m 0) b h).0 in rw y refl
-enters_below x (Word m) _ h e = cc
 enters_below x (Has m k r) (Has m2 k2 r2) h e = has_enters x m m2 k k2 r r2 h e
-enters_below x (Has _ _ _) (Word _) h e = cc
-enters_below x (Has _ _ _) (KindOf _) h e = cc
-enters_below x (Has _ _ _) (RightsOf _) h e = cc
-enters_below x (KindOf _) (Word n) h e = absurd (tag_apart n h (word_enters (eqb n 0) cause.NotLive e))
-enters_below x (KindOf _) _ h e = cc
-enters_below x (RightsOf _) (Word n) h e = absurd (tag_apart n h (word_enters (eqb n 0) cause.NotLive e))
-enters_below x (RightsOf _) _ h e = cc
+enters_below x (KindOf _) (Word n) h e = absurd (tag_there n h (word_enters (eqb n 0) cause.NotLive e))
+enters_below x (RightsOf _) (Word n) h e = absurd (tag_there n h (word_enters (eqb n 0) cause.NotLive e))
+enters_below x _ _ h e = cc
 
 swap_below : (s t : State) (a : ℕ) (x : SlotArray) (o p : Option Cause) → IsBelow s t → (p ≡ None → o ≡ None)
     → Lowers WaysBelow (swaps_by s a x o) (swaps_by t a x p)
 swap_below s t a x o (Some c) h k = tt
 swap_below s t a x None None h k = (tt, with_below s t a _ _ h (below_refl (slot_value x)))
 swap_below s t a x (Some c) None h k = absurd (no_some c (k refl))
-
-less_kept : (m m2 n : ℕ) → m ≤ m2 → ltb m2 n ≡ true → ltb m n ≡ true
-less_kept m m2 n h k = grind (arith, nat_tests)
 
 swaps_below : (s t : State) (a b : ℕ) (o : Option SlotArray) → IsBelow s t → Lowers WaysBelow (swaps_in s a b o) (swaps_in t a b o)
 swaps_below s t a b None h = tt
@@ -134,11 +121,7 @@ div_kept : (m n k : ℕ) → 0 < k → m ≤ n → m / k ≤ n / k
 div_kept m n k p h = le-div (m / k) n k p (let e = div-mul-le_self m k in omega arith)
 
 pub shifted_below : (m m2 places : ℕ) → m ≤ m2 → shifted m places ≤ shifted m2 places
-shifted_below m m2 places h = by (ltb places 64)
-  where
-    by : (t : Bool) → (if t then m / 2 ^ places else 0) ≤ (if t then m2 / 2 ^ places else 0)
-    by true = div_kept m m2 (2 ^ places) (pow_pos places) h
-    by false = omega arith
+shifted_below m m2 places h = both_by (λ x y. x ≤ y) (ltb places 64) _ 0 _ 0 (div_kept m m2 (2 ^ places) (pow_pos places) h) (omega arith)
 
 -- ---- the rows
 

@@ -5,7 +5,7 @@ use Rattle.zl_abs.proofs.Common.{nat_tests, not, passes, refl, retagged, rounded
 use Rattle.zl_abs.proofs.Common.{writes, zero, ℕ, ◌&&◌, ◌∷◌, ◌≡◌, ◌≤◌}
 use Rattle.zl_abs.specs.declared.value.AbsVal.TheVariants.{Word, Has, KindOf, RightsOf}
 use Rattle.zl_abs.proofs.Order.{below_refl}
-use Rattle.zl_abs.proofs.StateOrder.{and}
+use Rattle.std.proofs.lemmas.Bool.{and_from, leb-true, le-leb}
 
 -- ---- rules that hold
 
@@ -33,6 +33,11 @@ lowers_then R Q x (Err c) f g h k = tt
 lowers_then R Q (Err c) (Ok b) f g h k = absurd h
 lowers_then R Q (Ok a) (Ok b) f g h k = k a b h
 
+-- a test chooses on both sides
+pub both_by : {A : Type 0} (R : A → A → Type 0) (t : Bool) (x y u v : A) → R x u → R y v → R (if t then x else y) (if t then u else v)
+both_by R true x y u v h k = h
+both_by R false x y u v h k = k
+
 -- a test that holds above holds below
 pub lowers_if : {B : Type 0} (Q : B → B → Type 0) (t u : Bool) (x y : Result B Cause) (c d : Cause) → (u ≡ true → t ≡ true) → Lowers Q x y
     → Lowers Q (if t then x else Err c) (if u then y else Err d)
@@ -57,44 +62,39 @@ not_kept false false h e = cc
 pub value_below : (s t : State) (r : ℕ) → IsBelow s t → IsTrue (below (value_at s r) (value_at t r))
 unfolding all_below
 value_below [] [] r h = below_refl (Word 0)
-value_below [] (b ∷ t) r h = cc
-value_below (a ∷ s) [] r h = cc
 value_below (a ∷ s) (b ∷ t) zero h = (and_parts (below a b) (all_below s t) h).0
 value_below (a ∷ s) (b ∷ t) (suc r) h = value_below s t r ((and_parts (below a b) (all_below s t) h).1)
+value_below _ _ r h = cc
 
 pub set_below : (s t : State) (r : ℕ) (v w : AbsVal) → IsBelow s t → IsTrue (below v w) → IsBelow (slice_set s r v) (slice_set t r w)
 unfolding all_below
 set_below [] [] r v w h k = h
-set_below [] (b ∷ t) r v w h k = cc
-set_below (a ∷ s) [] r v w h k = cc
-set_below (a ∷ s) (b ∷ t) zero v w h k = and _ _ k ((and_parts (below a b) (all_below s t) h).1)
-set_below (a ∷ s) (b ∷ t) (suc r) v w h k = let p = and_parts (below a b) (all_below s t) h in and _ _ p.0 (set_below s t r v w p.1 k)
+set_below (a ∷ s) (b ∷ t) zero v w h k = and_from _ _ k ((and_parts (below a b) (all_below s t) h).1)
+set_below (a ∷ s) (b ∷ t) (suc r) v w h k = let p = and_parts (below a b) (all_below s t) h in and_from _ _ p.0 (set_below s t r v w p.1 k)
+set_below _ _ r v w h k = cc
 
 -- the lower state has already what the upper gets
 pub set_above : (s t : State) (r : ℕ) (w : AbsVal) → IsBelow s t → IsTrue (below (value_at s r) w) → IsBelow s (slice_set t r w)
 unfolding all_below
 set_above [] [] r w h k = h
-set_above [] (b ∷ t) r w h k = cc
-set_above (a ∷ s) [] r w h k = cc
-set_above (a ∷ s) (b ∷ t) zero w h k = and _ _ k ((and_parts (below a b) (all_below s t) h).1)
-set_above (a ∷ s) (b ∷ t) (suc r) w h k = let p = and_parts (below a b) (all_below s t) h in and _ _ p.0 (set_above s t r w p.1 k)
+set_above (a ∷ s) (b ∷ t) zero w h k = and_from _ _ k ((and_parts (below a b) (all_below s t) h).1)
+set_above (a ∷ s) (b ∷ t) (suc r) w h k = let p = and_parts (below a b) (all_below s t) h in and_from _ _ p.0 (set_above s t r w p.1 k)
+set_above _ _ r w h k = cc
 
 -- more is known below
 pub set_under : (s t : State) (r : ℕ) (v : AbsVal) → IsBelow s t → IsTrue (below v (value_at t r)) → IsBelow (slice_set s r v) t
 unfolding all_below
 set_under [] [] r v h k = h
-set_under [] (b ∷ t) r v h k = cc
-set_under (a ∷ s) [] r v h k = cc
-set_under (a ∷ s) (b ∷ t) zero v h k = and _ _ k ((and_parts (below a b) (all_below s t) h).1)
-set_under (a ∷ s) (b ∷ t) (suc r) v h k = let p = and_parts (below a b) (all_below s t) h in and _ _ p.0 (set_under s t r v p.1 k)
+set_under (a ∷ s) (b ∷ t) zero v h k = and_from _ _ k ((and_parts (below a b) (all_below s t) h).1)
+set_under (a ∷ s) (b ∷ t) (suc r) v h k = let p = and_parts (below a b) (all_below s t) h in and_from _ _ p.0 (set_under s t r v p.1 k)
+set_under _ _ r v h k = cc
 
 pub map_below : (f : AbsVal → AbsVal) → ((v w : AbsVal) → IsTrue (below v w) → IsTrue (below (f v) (f w))) → (s t : State) → IsBelow s t
     → IsBelow (map f s) (map f t)
 unfolding all_below
 map_below f kept [] [] h = h
-map_below f kept [] (b ∷ t) h = cc
-map_below f kept (a ∷ s) [] h = cc
-map_below f kept (a ∷ s) (b ∷ t) h = let p = and_parts (below a b) (all_below s t) h in and _ _ (kept a b p.0) (map_below f kept s t p.1)
+map_below f kept (a ∷ s) (b ∷ t) h = let p = and_parts (below a b) (all_below s t) h in and_from _ _ (kept a b p.0) (map_below f kept s t p.1)
+map_below f kept _ _ h = cc
 
 -- a tag that gets this or that, below a word
 tag_word : (t : Bool) (v w u : AbsVal) → IsTrue (below v u) → IsTrue (below w u) → IsTrue (below (if t then v else w) u)
@@ -105,29 +105,23 @@ pub untagged_below : (r : ℕ) (v w : AbsVal) → IsTrue (below v w) → IsTrue 
 unfolding below
 untagged_below r (Word m) (Word n) h = h
 untagged_below r (Word m) (Has _ _ _) h = h
-untagged_below r (Word m) _ h = cc
 untagged_below r (Has _ _ _) (Has _ _ _) h = h
-untagged_below r (Has _ _ _) _ h = cc
 untagged_below r (KindOf x) (KindOf y) h = let e : x ≡ y = (Decides-eqb x y).0 h in rw e (below_refl (untagged r (KindOf y)))
 untagged_below r (KindOf x) (Word n) h = tag_word (eqb x r) (Word ANY) (KindOf x) (Word n) h h
-untagged_below r (KindOf x) _ h = cc
 untagged_below r (RightsOf x) (RightsOf y) h = let e : x ≡ y = (Decides-eqb x y).0 h in rw e (below_refl (untagged r (RightsOf y)))
 untagged_below r (RightsOf x) (Word n) h = tag_word (eqb x r) (Word ANY) (RightsOf x) (Word n) h h
-untagged_below r (RightsOf x) _ h = cc
+untagged_below r _ _ h = cc
 
 pub retagged_below : (b a : ℕ) (v w : AbsVal) → IsTrue (below v w) → IsTrue (below (retagged b a v) (retagged b a w))
 unfolding below
 retagged_below b a (Word m) (Word n) h = h
 retagged_below b a (Word m) (Has _ _ _) h = h
-retagged_below b a (Word m) _ h = cc
 retagged_below b a (Has _ _ _) (Has _ _ _) h = h
-retagged_below b a (Has _ _ _) _ h = cc
 retagged_below b a (KindOf x) (KindOf y) h = let e : x ≡ y = (Decides-eqb x y).0 h in rw e (below_refl (retagged b a (KindOf y)))
 retagged_below b a (KindOf x) (Word n) h = tag_word (eqb x b) (KindOf a) (KindOf x) (Word n) h h
-retagged_below b a (KindOf x) _ h = cc
 retagged_below b a (RightsOf x) (RightsOf y) h = let e : x ≡ y = (Decides-eqb x y).0 h in rw e (below_refl (retagged b a (RightsOf y)))
 retagged_below b a (RightsOf x) (Word n) h = tag_word (eqb x b) (RightsOf a) (RightsOf x) (Word n) h h
-retagged_below b a (RightsOf x) _ h = cc
+retagged_below b a _ _ h = cc
 
 pub with_below : (s t : State) (r : ℕ) (v w : AbsVal) → IsBelow s t → IsTrue (below v w) → IsBelow (with_value s r v) (with_value t r w)
 unfolding with_value
@@ -142,40 +136,27 @@ moved_below s t a b v w h k =
 -- a lower value is a handle only where the upper is
 pub no_has : (v w : AbsVal) → IsTrue (below v w) → is_has w ≡ false → is_has v ≡ false
 unfolding below
-no_has (Word m) w h k = refl
-no_has (KindOf r) w h k = refl
-no_has (RightsOf r) w h k = refl
 no_has (Has x y z) (Word m) h k = cc
-no_has (Has x y z) (Has _ _ _) h k = cc
-no_has (Has x y z) (KindOf _) h k = cc
-no_has (Has x y z) (RightsOf _) h k = cc
-
-pub leb_le : (m n : ℕ) → leb m n ≡ true → m ≤ n
-leb_le m n h = grind (arith, nat_tests)
-
-pub le_leb : (m n : ℕ) → m ≤ n → leb m n ≡ true
-le_leb m n h = grind (arith, nat_tests)
+no_has (Has x y z) _ h k = cc
+no_has _ w h k = refl
 
 -- a word operand
 pub word_or_below : (v w : AbsVal) → IsTrue (below v w) → Lowers (λ m n. m ≤ n) (word_or (bound_of v)) (word_or (bound_of w))
 unfolding below
 word_or_below v (Has _ _ _) h = tt
-word_or_below (Word m) (Word n) h = leb_le m n h
-word_or_below (Has _ _ _) (Word n) h = cc
-word_or_below (KindOf _) (Word n) h = leb_le ANY n h
-word_or_below (RightsOf _) (Word n) h = leb_le ANY n h
+word_or_below (Word m) (Word n) h = leb-true m n h
+word_or_below (KindOf _) (Word n) h = leb-true ANY n h
+word_or_below (RightsOf _) (Word n) h = leb-true ANY n h
 word_or_below (KindOf _) (KindOf _) h = omega arith
-word_or_below _ (KindOf _) h = cc
-word_or_below (Word m) _ h = cc
 word_or_below (RightsOf _) (RightsOf _) h = omega arith
-word_or_below _ (RightsOf _) h = cc
+word_or_below _ _ h = cc
 
 pub word_at_below : (s t : State) (r : ℕ) → IsBelow s t → Lowers (λ m n. m ≤ n) (word_at s r) (word_at t r)
 word_at_below s t r h = word_or_below (value_at s r) (value_at t r) (value_below s t r h)
 
 pub word_below : (m n : ℕ) → m ≤ n → IsTrue (below (Word m) (Word n))
 unfolding below
-word_below m n h = le_leb m n h
+word_below m n h = le-leb m n h
 
 -- ---- rounding
 

@@ -5,6 +5,7 @@ use Rattle.zl_abs.proofs.Common.{true, within, ℕ, ◌&&◌, ◌||◌, ◌≡�
 use Rattle.std.specs.Int.Bits.{and_self}
 use Rattle.zl_rights.specs.declared.kind.Kind.TheVariants.{Process, Channel, Event, Port, Eventpair, Job}
 use Rattle.zl_abs.specs.declared.value.AbsVal.TheVariants.{Word, Has, KindOf, RightsOf}
+use Rattle.std.proofs.lemmas.Bool.{and_parts, cond_both}
 
 pub same_kind_refl : (a : Kind) → same_kind a a ≡ true
 same_kind_refl Process = refl
@@ -17,34 +18,21 @@ same_kind_is Event Event h = refl
 same_kind_is Port Port h = refl
 same_kind_is Eventpair Eventpair h = refl
 same_kind_is Job Job h = refl
-same_kind_is Process _ h = cc
-same_kind_is Channel _ h = cc
-same_kind_is Event _ h = cc
-same_kind_is Port _ h = cc
-same_kind_is Eventpair _ h = cc
-same_kind_is Job _ h = cc
-
-pub both : (a b : Bool) → (a && b) ≡ true → (a ≡ true) × (b ≡ true)
-both true true h = (refl, refl)
-both true false h = cc
-both false _ h = cc
+same_kind_is _ _ h = cc
 
 pub three : (a b c : Bool) → a ≡ true → b ≡ true → c ≡ true → (a && (b && c)) ≡ true
 three a b c p q r = rw (p, q, r) refl
 
 pub parts : (a b c : Bool) → (a && (b && c)) ≡ true → (a ≡ true) × (b ≡ true) × (c ≡ true)
 parts true true true h = (refl, refl, refl)
-parts true true false h = cc
-parts true false _ h = cc
-parts false _ _ h = cc
+parts _ _ _ h = cc
 
 -- ---- flags, kinds, rights
 
 pub or_trans : (x y z : Bool) → (not x || y) ≡ true → (not y || z) ≡ true → (not x || z) ≡ true
 or_trans true true true h k = refl
-or_trans true true false h k = cc
-or_trans true false _ h k = cc
 or_trans false _ _ h k = refl
+or_trans _ _ _ h k = cc
 
 pub or_refl : (x : Bool) → (not x || x) ≡ true
 or_refl true = refl
@@ -101,14 +89,14 @@ word_has m x x' c h k = by (eqb m 0) x x' c h k
 
 word_word_has : (m n : ℕ) (x : Bool) → leb m n ≡ true → (eqb n 0 && x) ≡ true → (eqb m 0 && x) ≡ true
 word_word_has m n x h k =
-    let e = both (eqb n 0) x k in
+    let e = and_parts (eqb n 0) x k in
     let z : n ≡ 0 = (Decides-eqb n 0).0 e.0 in
     let y : m ≡ 0 = grind (arith, nat_tests) in
     rw (y, e.1) refl
 
 any_apart : (s : ℕ) (x : Bool) → leb ANY s ≡ true → (eqb s 0 && x) ≡ true → ⊥
 any_apart s x h k =
-    let e = both (eqb s 0) x k in
+    let e = and_parts (eqb s 0) x k in
     let z : s ≡ 0 = (Decides-eqb s 0).0 e.0 in
     let f : leb ANY 0 ≡ true = rw z at h in
     cc
@@ -117,32 +105,17 @@ pub below_trans : (a b c : AbsVal) → IsTrue (below a b) → IsTrue (below b c)
 unfolding below
 below_trans (Word m) (Word n) (Word o) h k = grind (arith, nat_tests)
 below_trans (Word m) (Word n) (Has x y z) h k = word_word_has m n x h k
-below_trans (Word m) (Word n) _ h k = cc
 below_trans (Word m) (Has x y z) (Has x' y' z') h k = word_has m x x' _ h k
-below_trans (Word m) (Has x y z) _ h k = cc
-below_trans (Word m) (KindOf _) c h k = cc
-below_trans (Word m) (RightsOf _) c h k = cc
 below_trans (Has x y z) (Has x' y' z') (Has x'' y'' z'') h k = has_trans x x' x'' y y' y'' (bits z) (bits z') (bits z'') h k
-below_trans (Has x y z) (Has x' y' z') _ h k = cc
-below_trans (Has x y z) (Word _) c h k = cc
-below_trans (Has x y z) (KindOf _) c h k = cc
-below_trans (Has x y z) (RightsOf _) c h k = cc
 below_trans (KindOf r) (KindOf s) (KindOf t) h k = grind (arith, nat_tests)
 below_trans (KindOf r) (KindOf s) (Word t) h k = k
-below_trans (KindOf r) (KindOf s) _ h k = cc
 below_trans (KindOf r) (Word s) (Word t) h k = grind (arith, nat_tests)
 below_trans (KindOf r) (Word s) (Has x y z) h k = absurd (any_apart s x h k)
-below_trans (KindOf r) (Word s) _ h k = cc
-below_trans (KindOf r) (Has _ _ _) c h k = cc
-below_trans (KindOf r) (RightsOf _) c h k = cc
 below_trans (RightsOf r) (RightsOf s) (RightsOf t) h k = grind (arith, nat_tests)
 below_trans (RightsOf r) (RightsOf s) (Word t) h k = k
-below_trans (RightsOf r) (RightsOf s) _ h k = cc
 below_trans (RightsOf r) (Word s) (Word t) h k = grind (arith, nat_tests)
 below_trans (RightsOf r) (Word s) (Has x y z) h k = absurd (any_apart s x h k)
-below_trans (RightsOf r) (Word s) _ h k = cc
-below_trans (RightsOf r) (Has _ _ _) c h k = cc
-below_trans (RightsOf r) (KindOf _) c h k = cc
+below_trans _ _ _ h k = cc
 
 -- ---- the join is above both
 
@@ -162,22 +135,15 @@ or_true false = refl
 kind_left : (a b : Option Kind) → kind_below a (kind_joined a b) ≡ true
 kind_left None b = refl
 kind_left (Some j) None = refl
-kind_left (Some j) (Some k) = by (same_kind j k)
-  where
-    by : (t : Bool) → kind_below (Some j) (if t then Some j else None) ≡ true
-    by true = same_kind_refl j
-    by false = refl
+kind_left (Some j) (Some k) = cond_both (same_kind j k) (Some j) None (λ o. kind_below (Some j) o ≡ true) (λ _. same_kind_refl j) (λ _. refl)
 
 kind_right : (a b : Option Kind) → kind_below b (kind_joined a b) ≡ true
 kind_right None b = refl
 kind_right (Some j) None = refl
-kind_right (Some j) (Some k) = by (same_kind j k) refl
-  where
-    by : (t : Bool) → same_kind j k ≡ t → kind_below (Some k) (if t then Some j else None) ≡ true
-    by true h = rw (same_kind_is j k h) (same_kind_refl k)
-    by false h = refl
+kind_right (Some j) (Some k) =
+    cond_both (same_kind j k) (Some j) None (λ o. kind_below (Some k) o ≡ true) (λ h. rw (same_kind_is j k h) (same_kind_refl k)) (λ _. refl)
 
-within_left : (a b : ℕ) → within (bit_and a b) a ≡ true
+pub within_left : (a b : ℕ) → within (bit_and a b) a ≡ true
 within_left a b = within_is _ _ (let e = and_assoc b a a in let f = and_self a in cc)
 
 within_right : (a b : ℕ) → within (bit_and a b) b ≡ true
@@ -190,67 +156,43 @@ word_right : (m n : ℕ) → leb n (if leb m n then n else m) ≡ true
 word_right m n = grind (arith, nat_tests)
 
 zero_case : (m : ℕ) (c : AbsVal) → (m ≡ 0 → JoinIsAbove (Word m) (Some c)) → JoinIsAbove (Word m) (if eqb m 0 then Some c else None)
-zero_case m c f = by (eqb m 0) refl
-  where
-    by : (t : Bool) → eqb m 0 ≡ t → JoinIsAbove (Word m) (if t then Some c else None)
-    by true h = f ((Decides-eqb m 0).0 h)
-    by false h = tt
+zero_case m c f = cond_both (eqb m 0) (Some c) None (JoinIsAbove (Word m)) (λ h. f ((Decides-eqb m 0).0 h)) (λ _. tt)
 
 some_case : (t : Bool) (v c : AbsVal) → IsTrue (below v c) → JoinIsAbove v (if t then Some c else None)
 some_case true v c h = h
 some_case false v c h = tt
 
+-- what two tags become is above a value that the first is above if they are equal, and any word
+tag_above : (r s : ℕ) (u v : AbsVal) → (r ≡ s → IsTrue (below u v)) → IsTrue (below u (Word ANY)) → IsTrue (below u (if eqb r s then v else Word ANY))
+tag_above r s u v f h = cond_both (eqb r s) v (Word ANY) (λ w. IsTrue (below u w)) (λ e. f ((Decides-eqb r s).0 e)) (λ _. h)
+
 pub joined_left : (a b : AbsVal) → JoinIsAbove a (joined a b)
 unfolding below joined
 joined_left (Word m) (Word n) = word_left m n
 joined_left (Word m) (Has maybe k r) = zero_case m _ (λ z. rw z refl)
-joined_left (Word m) (KindOf r) = word_left m ANY
-joined_left (Word m) (RightsOf r) = word_left m ANY
+joined_left (Word m) _ = word_left m ANY
 joined_left (Has maybe k r) (Word m) = some_case (eqb m 0) (Has maybe k r) (Has true k r) (three _ _ _ (or_true maybe) (kind_refl k) (within_refl (bits r)))
 joined_left (Has a k r) (Has b j q) = three _ _ _ (or_left a b) (kind_left k j) (within_left (bits r) (bits q))
 joined_left (Has a k r) _ = tt
-joined_left (KindOf r) (Has _ _ _) = tt
-joined_left (KindOf r) (Word m) = word_right m ANY
-joined_left (KindOf r) (KindOf s) = by (eqb r s)
-  where
-    by : (t : Bool) → IsTrue (below (KindOf r) (if t then KindOf r else Word ANY))
-    by true = grind (arith, nat_tests)
-    by false = refl
-joined_left (KindOf r) (RightsOf s) = refl
-joined_left (RightsOf r) (Has _ _ _) = tt
-joined_left (RightsOf r) (Word m) = word_right m ANY
-joined_left (RightsOf r) (RightsOf s) = by (eqb r s)
-  where
-    by : (t : Bool) → IsTrue (below (RightsOf r) (if t then RightsOf r else Word ANY))
-    by true = grind (arith, nat_tests)
-    by false = refl
-joined_left (RightsOf r) (KindOf s) = refl
+joined_left _ (Has _ _ _) = tt
+joined_left _ (Word m) = word_right m ANY
+joined_left (KindOf r) (KindOf s) = tag_above r s (KindOf r) (KindOf r) (λ _. below_refl (KindOf r)) refl
+joined_left (RightsOf r) (RightsOf s) = tag_above r s (RightsOf r) (RightsOf r) (λ _. below_refl (RightsOf r)) refl
+joined_left _ _ = refl
 
 pub joined_right : (a b : AbsVal) → JoinIsAbove b (joined a b)
 unfolding below joined
 joined_right (Word m) (Word n) = word_right m n
 joined_right (Word m) (Has maybe k r) = some_case (eqb m 0) (Has maybe k r) (Has true k r) (three _ _ _ (or_true maybe) (kind_refl k) (within_refl (bits r)))
-joined_right (Word m) (KindOf r) = word_right m ANY
-joined_right (Word m) (RightsOf r) = word_right m ANY
+joined_right (Word m) _ = word_right m ANY
 joined_right (Has maybe k r) (Word m) = zero_case m _ (λ z. rw z refl)
 joined_right (Has a k r) (Has b j q) = three _ _ _ (or_right a b) (kind_right k j) (within_right (bits r) (bits q))
 joined_right (Has a k r) _ = tt
-joined_right (KindOf r) (Has _ _ _) = tt
-joined_right (KindOf r) (Word m) = word_left m ANY
-joined_right (KindOf r) (KindOf s) = by (eqb r s) refl
-  where
-    by : (t : Bool) → eqb r s ≡ t → IsTrue (below (KindOf s) (if t then KindOf r else Word ANY))
-    by true h = grind (arith, nat_tests)
-    by false h = refl
-joined_right (KindOf r) (RightsOf s) = refl
-joined_right (RightsOf r) (Has _ _ _) = tt
-joined_right (RightsOf r) (Word m) = word_left m ANY
-joined_right (RightsOf r) (RightsOf s) = by (eqb r s) refl
-  where
-    by : (t : Bool) → eqb r s ≡ t → IsTrue (below (RightsOf s) (if t then RightsOf r else Word ANY))
-    by true h = grind (arith, nat_tests)
-    by false h = refl
-joined_right (RightsOf r) (KindOf s) = refl
+joined_right _ (Has _ _ _) = tt
+joined_right _ (Word m) = word_left m ANY
+joined_right (KindOf r) (KindOf s) = tag_above r s (KindOf s) (KindOf r) (λ e. rw e (below_refl (KindOf s))) refl
+joined_right (RightsOf r) (RightsOf s) = tag_above r s (RightsOf s) (RightsOf r) (λ e. rw e (below_refl (RightsOf s))) refl
+joined_right _ _ = refl
 
 -- ---- and the least
 
@@ -290,23 +232,19 @@ zero_least : (m : ℕ) (a b : Bool) (k l : Option Kind) (r s : Rights) → (eqb 
     → ((not a || b) && (kind_below k l && within (bits s) (bits r))) ≡ true → IsAboveJoin (Has b l s) (if eqb m 0 then Some (Has true k r) else None)
 unfolding below
 zero_least m a b k l r s h g =
-    let e = both (eqb m 0) b h in
+    let e = and_parts (eqb m 0) b h in
     let p = parts (not a || b) (kind_below k l) (within (bits s) (bits r)) g in
     rw (e.0) (three _ _ _ (e.1) (p.1) (p.2))
 
 tags_least : (r s : ℕ) (x y : AbsVal) (d : AbsVal) → (r ≡ s → IsTrue (below x d)) → (eqb r s ≡ false → IsTrue (below y d))
     → IsTrue (below (if eqb r s then x else y) d)
-tags_least r s x y d f g = by (eqb r s) refl
-  where
-    by : (t : Bool) → eqb r s ≡ t → IsTrue (below (if t then x else y) d)
-    by true h = f ((Decides-eqb r s).0 h)
-    by false h = g h
+tags_least r s x y d f g = cond_both (eqb r s) x y (λ w. IsTrue (below w d)) (λ h. f ((Decides-eqb r s).0 h)) g
 
 zero_zero : (m n : ℕ) (x : Bool) → (eqb m 0 && x) ≡ true → (eqb n 0 && x) ≡ true → (eqb (larger m n) 0 && x) ≡ true
 zero_zero m n x h k =
-    let p : m ≡ 0 = (Decides-eqb m 0).0 (both (eqb m 0) x h).0 in
-    let q : n ≡ 0 = (Decides-eqb n 0).0 (both (eqb n 0) x k).0 in
-    rw (p, q, (both (eqb m 0) x h).1) refl
+    let p : m ≡ 0 = (Decides-eqb m 0).0 (and_parts (eqb m 0) x h).0 in
+    let q : n ≡ 0 = (Decides-eqb n 0).0 (and_parts (eqb n 0) x k).0 in
+    rw (p, q, (and_parts (eqb m 0) x h).1) refl
 
 tags_apart : (r s t : ℕ) → eqb r t ≡ true → eqb s t ≡ true → eqb r s ≡ false → ⊥
 tags_apart r s t h k e = grind (arith, nat_tests)
@@ -315,33 +253,19 @@ pub joined_least : (a b d : AbsVal) → IsTrue (below a d) → IsTrue (below b d
 unfolding below joined
 joined_least (Word m) (Word n) (Word o) h k = larger_least m n o h k
 joined_least (Word m) (Word n) (Has x y z) h k = zero_zero m n x h k
-joined_least (Word m) (Word n) _ h k = cc
 joined_least (Word m) (Has x y z) (Has x' y' z') h k = zero_least m x x' y y' z z' h k
-joined_least (Word m) (Has x y z) _ h k = cc
 joined_least (Word m) (KindOf r) (Word o) h k = larger_least m ANY o h k
-joined_least (Word m) (KindOf r) _ h k = cc
 joined_least (Word m) (RightsOf r) (Word o) h k = larger_least m ANY o h k
-joined_least (Word m) (RightsOf r) _ h k = cc
 joined_least (Has x y z) (Word m) (Has x' y' z') h k = zero_least m x x' y y' z z' k h
 joined_least (Has x y z) (Has x' y' z') (Has x'' y'' z'') h k = has_least x x' x'' y y' y'' (bits z) (bits z') (bits z'') h k
-joined_least (Has x y z) (KindOf _) (Has _ _ _) h k = cc
-joined_least (Has x y z) (RightsOf _) (Has _ _ _) h k = cc
-joined_least (Has x y z) b (Word _) h k = cc
-joined_least (Has x y z) b (KindOf _) h k = cc
-joined_least (Has x y z) b (RightsOf _) h k = cc
 joined_least (KindOf r) (Word n) (Word o) h k = larger_least n ANY o k h
-joined_least (KindOf r) (Has _ _ _) (Word o) h k = cc
 joined_least (KindOf r) (KindOf s) (Word o) h k = tags_least r s (KindOf r) (Word ANY) (Word o) (λ _. h) (λ _. h)
 joined_least (KindOf r) (RightsOf s) (Word o) h k = h
 joined_least (KindOf r) (KindOf s) (KindOf t) h k = tags_least r s (KindOf r) (Word ANY) (KindOf t) (λ _. h) (λ e. absurd (tags_apart r s t h k e))
-joined_least (KindOf r) _ (KindOf t) h k = cc
-joined_least (KindOf r) b (Has _ _ _) h k = cc
-joined_least (KindOf r) b (RightsOf _) h k = cc
 joined_least (RightsOf r) (Word n) (Word o) h k = larger_least n ANY o k h
-joined_least (RightsOf r) (Has _ _ _) (Word o) h k = cc
 joined_least (RightsOf r) (RightsOf s) (Word o) h k = tags_least r s (RightsOf r) (Word ANY) (Word o) (λ _. h) (λ _. h)
 joined_least (RightsOf r) (KindOf s) (Word o) h k = h
 joined_least (RightsOf r) (RightsOf s) (RightsOf t) h k = tags_least r s (RightsOf r) (Word ANY) (RightsOf t) (λ _. h) (λ e. absurd (tags_apart r s t h k e))
-joined_least (RightsOf r) _ (RightsOf t) h k = cc
-joined_least (RightsOf r) b (Has _ _ _) h k = cc
-joined_least (RightsOf r) b (KindOf _) h k = cc
+joined_least (Has _ _ _) _ (Word _) h k = cc
+joined_least _ (Has _ _ _) (Word _) h k = cc
+joined_least _ _ _ h k = cc

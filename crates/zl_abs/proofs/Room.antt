@@ -5,7 +5,7 @@ use Rattle.zl_abs.proofs.Common.{length, nat_tests, not, refl, same_kind, subst,
 use Rattle.zl_abs.proofs.Common.{◌≡◌, ◌≢◌, ◌≤◌, ◌⊎◌}
 use Rattle.zl_abs.specs.declared.value.AbsVal.TheVariants.{Word, Has, KindOf, RightsOf}
 use Rattle.zl_abs.proofs.Order.{same_kind_is, same_kind_refl}
-use Rattle.std.proofs.lemmas.Bool.{and_cases}
+use Rattle.std.proofs.lemmas.Bool.{and_cases, cond_both}
 
 -- ---- what it is
 
@@ -53,19 +53,14 @@ flag_room false true = omega arith
 flag_room false false = omega arith
 
 flag_less : (a b : Bool) → (not b || a) ≡ false → one_if (not (a || b)) < one_if (not a)
-flag_less true true h = cc
-flag_less true false h = cc
 flag_less false true h = omega arith
-flag_less false false h = cc
+flag_less true true h = cc
+flag_less _ _ h = cc
 
 kinds_room : (k j : Option Kind) → kind_room (kind_joined k j) ≤ kind_room k
 kinds_room None j = omega arith
 kinds_room (Some x) None = omega arith
-kinds_room (Some x) (Some y) = by (same_kind x y)
-  where
-    by : (t : Bool) → kind_room (if t then Some x else None) ≤ 1
-    by true = omega arith
-    by false = omega arith
+kinds_room (Some x) (Some y) = cond_both (same_kind x y) (Some x) None (λ o. kind_room o ≤ 1) (λ _. omega arith) (λ _. omega arith)
 
 turned : (x y : Kind) → same_kind x y ≡ true → same_kind y x ≡ false → ⊥
 turned x y e h = let p : same_kind y x ≡ true = rw (same_kind_is x y e) (same_kind_refl y) in let g : true ≡ false = sym p ∙ h in cc
@@ -73,11 +68,7 @@ turned x y e h = let p : same_kind y x ≡ true = rw (same_kind_is x y e) (same_
 kinds_less : (k j : Option Kind) → kind_below j k ≡ false → kind_room (kind_joined k j) < kind_room k
 kinds_less None j h = cc
 kinds_less (Some x) None h = omega arith
-kinds_less (Some x) (Some y) h = by (same_kind x y) refl
-  where
-    by : (t : Bool) → same_kind x y ≡ t → kind_room (if t then Some x else None) < 1
-    by true e = absurd (turned x y e h)
-    by false e = omega arith
+kinds_less (Some x) (Some y) h = cond_both (same_kind x y) (Some x) None (λ o. kind_room o < 1) (λ e. absurd (turned x y e h)) (λ _. omega arith)
 
 rights_less : (r q : ℕ) → within r q ≡ false → bit_and r q < r
 rights_less r q h =
@@ -119,11 +110,7 @@ zero_most m a b e h k = rw e (omega arith)
 
 -- a word and a handle: their join is there where the word is 0
 zero_lessens : (a b c : AbsVal) (m : ℕ) → (eqb m 0 ≡ true → Lessens a b (Some c)) → Lessens a b (if eqb m 0 then Some c else None)
-zero_lessens a b c m f = by (eqb m 0) refl
-  where
-    by : (t : Bool) → eqb m 0 ≡ t → Lessens a b (if t then Some c else None)
-    by true e = f e
-    by false e = tt
+zero_lessens a b c m f = cond_both (eqb m 0) (Some c) None (Lessens a b) f (λ _. tt)
 
 tag_lessens : (t : Bool) (x b : AbsVal) → value_room x ≡ 1 → (t ≡ true → below b x ≡ true) → Lessens x b (Some (if t then x else Word ANY))
 tag_lessens true x b e f = (omega arith, (λ h. let z : true ≡ false = sym (f refl) ∙ h in absurd (cc)))
@@ -140,8 +127,7 @@ unfolding joined below
 lessens (Word m) (Word n) f g = (word_room m n f g, word_less m n f g)
 lessens (Word m) (Has x k r) f g =
     zero_lessens (Word m) (Has x k r) (Has true k r) m (λ e. let b = zero_most m (kind_room k) (bits r) e (kind_most k) g in (omega arith, λ _. b))
-lessens (Word m) (KindOf r) f g = (word_room m ANY f (omega arith), (λ h. word_less m ANY f (omega arith) h))
-lessens (Word m) (RightsOf r) f g = (word_room m ANY f (omega arith), (λ h. word_less m ANY f (omega arith) h))
+lessens (Word m) _ f g = (word_room m ANY f (omega arith), (λ h. word_less m ANY f (omega arith) h))
 lessens (Has true k r) (Word n) f g =
     zero_lessens (Has true k r) (Word n) (Has true k r) n
     (λ e. (omega arith, λ h. let q : (eqb n 0 && true) ≡ true = rw e refl in let z : true ≡ false = sym q ∙ h in absurd (cc)))
@@ -149,13 +135,11 @@ lessens (Has false k r) (Word n) f g = zero_lessens (Has false k r) (Word n) (Ha
 lessens (Has a k r) (Has b j q) f g = (has_room a b k j (bits r) (bits q), has_less a b k j (bits r) (bits q))
 lessens (Has a k r) _ f g = tt
 lessens (KindOf r) (Word n) f g = any_lessens (KindOf r) (Word n) n refl g
-lessens (KindOf r) (Has _ _ _) f g = tt
+lessens _ (Has _ _ _) f g = tt
 lessens (KindOf r) (KindOf s) f g = tag_lessens (eqb r s) (KindOf r) (KindOf s) refl (same_register r s)
-lessens (KindOf r) (RightsOf s) f g = (omega arith, (λ _. omega arith))
 lessens (RightsOf r) (Word n) f g = any_lessens (RightsOf r) (Word n) n refl g
-lessens (RightsOf r) (Has _ _ _) f g = tt
 lessens (RightsOf r) (RightsOf s) f g = tag_lessens (eqb r s) (RightsOf r) (RightsOf s) refl (same_register r s)
-lessens (RightsOf r) (KindOf s) f g = (omega arith, (λ _. omega arith))
+lessens _ _ f g = (omega arith, (λ _. omega arith))
 
 -- ---- states
 

@@ -58,8 +58,7 @@ no_code = refl
 
 abbrev dispatcher : List Instr → Image
 dispatcher code =
-    image 16 (condition.NewPort ∷ [])
-    (record { kind = Some kind.Channel; rights = rights_of 16388 } ∷ [])
+    image 16 (condition.NewPort ∷ []) (record { kind = Some kind.Channel; rights = rights_of 16388 } ∷ [])
     (record { kind = Some kind.Channel; length = 4; rights = rights_of 12 } ∷ []) code
 
 dispatches : verdict (dispatcher (

@@ -1,12 +1,13 @@
 -- The rule of an instruction at a state and at one below it, with its edges.
-use Rattle.zl_abs.proofs.Common.{AreAmong, Bool, Cause, Edge, Err, Image, Instr, IsAmong, IsTrue, List, None, Ok, Option, Result, RuleBelow, Some, State, Ways}
-use Rattle.zl_abs.proofs.Common.{[], all_below, call_rule, edge_to, edges, false, if◌then◌else◌, inl, inr, instr_at, length, local_rule, ltb, refl, rule_by}
-use Rattle.zl_abs.proofs.Common.{rule_with, target_of, true, ℕ, ◌++◌, ◌+◌, ◌∷◌}
+use Rattle.zl_abs.proofs.Common.{AreAmong, Cause, Edge, Err, Image, Instr, IsAmong, IsTrue, List, None, Ok, Option, Result, RuleBelow, Some, State, Ways}
+use Rattle.zl_abs.proofs.Common.{[], all_below, call_rule, edge_to, edges, inl, inr, instr_at, length, local_rule, ltb, refl, rule_by}
+use Rattle.zl_abs.proofs.Common.{rule_with, target_of, ℕ, ◌++◌, ◌+◌, ◌∷◌}
 use Rattle.zl_code.specs.declared.instr.Instr.TheVariants as instr
 use Rattle.zl_abs.specs.declared.cause.Cause.TheVariants as cause
-use Rattle.zl_abs.proofs.Lowering.{Lowers, WayBelow, WaysBelow, lowers_then}
+use Rattle.zl_abs.proofs.Lowering.{both_by, Lowers, WayBelow, WaysBelow, lowers_then}
 use Rattle.zl_abs.proofs.LocalLowering.{local_below}
 use Rattle.zl_abs.proofs.CallLowering.{call_below}
+use Rattle.std.proofs.lemmas.Bool.{cond_both}
 
 abbrev EdgesBelow : List Edge → List Edge → Type 0
 EdgesBelow es fs = AreAmong fs es
@@ -27,17 +28,10 @@ both_among fs gs (e ∷ es) ds h k = (among_left fs gs e (h.0), both_among fs gs
 
 edge_below : (size : ℕ) (c : Cause) (n : ℕ) (o p : Option State) → WayBelow o p → Lowers EdgesBelow (edge_to size c n o) (edge_to size c n p)
 edge_below size c n None None h = tt
-edge_below size c n None (Some t) h = by (ltb n size)
-  where
-    by : (b : Bool) → Lowers EdgesBelow (Ok []) (if b then Ok ((n, t) ∷ []) else Err c)
-    by true = tt
-    by false = tt
+edge_below size c n None (Some t) h = cond_both (ltb n size) (Ok ((n, t) ∷ [])) (Err c) (λ r. Lowers EdgesBelow (Ok []) r) (λ _. tt) (λ _. tt)
 edge_below size c n (Some s) None h = absurd h
-edge_below size c n (Some s) (Some t) h = by (ltb n size)
-  where
-    by : (b : Bool) → Lowers EdgesBelow (if b then Ok ((n, s) ∷ []) else Err c) (if b then Ok ((n, t) ∷ []) else Err c)
-    by true = (inl (refl, h), tt)
-    by false = tt
+edge_below size c n (Some s) (Some t) h =
+    both_by (Lowers EdgesBelow) (ltb n size) (Ok ((n, s) ∷ [])) (Err c) (Ok ((n, t) ∷ [])) (Err c) (inl (refl, h), tt) tt
 
 edges_below : (size place target : ℕ) (v w : Ways) → WaysBelow v w → Lowers EdgesBelow (edges size place target v) (edges size place target w)
 edges_below size place target v w h =

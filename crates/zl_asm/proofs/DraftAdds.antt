@@ -5,8 +5,7 @@ use denote.Ref.{Bor}
 use Rattle.zl_asm.proofs.DraftHolds.{label_held, code_held}
 
 pub label_added : (d : Held) (es new : List (Bor (List ℕ) × ℕ)) (name : Bor (List ℕ)) (n : ℕ) → new ≡ es ++ (name, n) ∷ [] → d.labels ≡ labels_shown es
-    → n ≡ length d.sources → position_of d.labels name.now ≡ None
-    → Holds d (Label name.now) (record d { has_body = true; labels = labels_shown new })
+    → n ≡ length d.sources → position_of d.labels name.now ≡ None → Holds d (Label name.now) (record d { has_body = true; labels = labels_shown new })
 label_added d es new name n entries old count free =
     let shown : d.labels ++ (name.now, length d.sources) ∷ [] ≡ labels_shown new =
     (λ i. old i ++ (name.now, sym count i) ∷ []) ∙ sym (map-append (λ l. (l.0.now, l.1)) es ((name, n) ∷ [])) ∙ ap labels_shown (sym entries) in

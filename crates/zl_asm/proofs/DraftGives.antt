@@ -2,7 +2,7 @@
 use Rattle.zl_asm.proofs.Common.{Bool, Gives, GivesNone, Held, Image, IsBytes, Line, List, Listing, None, Option, Pushes, Some, Source, SourceLine, [], all_of}
 use Rattle.zl_asm.proofs.Common.{and_from, ap, append_assoc, arith, at_drop_more, budget_in, bytes_of, bytes_of-number_at, cond, drop, false, fields_of}
 use Rattle.zl_asm.proofs.Common.{flat_map, get_or, get_or-map, given, if_fits, instr_bytes, instr_fault, is_in_range, is_listing, is_some, labels_from}
-use Rattle.zl_asm.proofs.Common.{labels_shown, le-leb, leb, length, length-append, length-map, list_all, list_all-append, listing_from, lookup, map, map-append}
+use Rattle.zl_asm.proofs.Common.{labels_shown, le-leb, length, length-append, length-map, list_all, list_all-append, listing_from, lookup, map, map-append}
 use Rattle.zl_asm.proofs.Common.{mark_in, memory_in, need_in, needs_named, not, number_at, option_map, ranges, refl, registers_at, resolved, slice_index}
 use Rattle.zl_asm.proofs.Common.{slots_in, source_in, source_value, sources_shown, start_in, sym, take, take-add, take_all, take_more, true, with_target, ℕ}
 use Rattle.zl_asm.proofs.Common.{◌&&◌, ◌++◌, ◌+◌, ◌<◌, ◌∙◌, ◌∷◌, ◌≡◌, ◌≤◌}
@@ -11,13 +11,14 @@ use Rattle.std.proofs.lemmas.List.{take-append-drop}
 use Rattle.zl_asm.specs.declared.line.Source.{Source as ReadSource}
 use Rattle.zl_asm.proofs.Labels.{same, lookup_is}
 use Rattle.zl_asm.proofs.DraftHolds.{given_is}
-use Rattle.zl_asm.proofs.ListingRefused.{all_of-none, all_of-more, all_of-fault, none_by_fields, and_false-3, not_fine}
+use Rattle.zl_asm.proofs.ListingRefused.{all_of-none, all_of-more, all_of-fault, none_by_fields}
+use Rattle.std.proofs.lemmas.Bool.{not_from_true}
+use Rattle.std.proofs.Math.Bool.{and-false}
 
 -- ---- the target of a source
 
 pub resolved_by : (labels : List (Bor (List ℕ) × ℕ)) (s : ReadSource) (name : Bor (List ℕ)) (o : Option ℕ) → s.label ≡ Some name
-    → lookup (λ k. same name.now k.now) labels ≡ o
-    → resolved (labels_shown labels) (source_value s) ≡ option_map (with_target s.bytes) o
+    → lookup (λ k. same name.now k.now) labels ≡ o → resolved (labels_shown labels) (source_value s) ≡ option_map (with_target s.bytes) o
 resolved_by labels s name o label found = rw (label, sym (lookup_is labels name.now), found) refl
 
 -- the parts with another target are the bytes with that target
@@ -85,10 +86,10 @@ none_faulty h front rest s bytes split target fault = λ said k. none_by_fields 
     let same : raw ≡ h.image.raw = cc in
     let whole : all_of (resolved h.labels) (front ++ s ∷ rest) ≡ Some code =
     ap (all_of (resolved h.labels)) (sym split) ∙ (λ j. all_of (resolved (k.labels j)) (k.sources j)) ∙ c in
-    let bad : not (is_some (instr_fault raw bytes)) ≡ false = rw same (not_fine (is_some (instr_fault h.image.raw bytes)) fault) in
+    let bad : not (is_some (instr_fault raw bytes)) ≡ false = rw same (not_from_true (is_some (instr_fault h.image.raw bytes)) fault) in
     let fails : list_all (λ bytes. not (is_some (instr_fault raw bytes))) code ≡ false =
     all_of-fault (resolved h.labels) (λ bytes. not (is_some (instr_fault raw bytes))) front rest code s bytes whole target bad in
-    rw fails (and_false-3 (leb (length (flat_map start_in said)) 7) (leb (length (flat_map slots_in said)) 8) (leb (length code) 4096)))
+    rw (fails, and-false, and-false, and-false) refl)
 
 -- ---- the image
 
@@ -160,16 +161,14 @@ missing_at h ss n e shown below same missing =
     none_missing h _ _ (source_value e.source) (split_at h.sources n (source_value e.source) at.below at.same) (sym missing)
 
 pub faulty_at : (h : Held) (ss : List SourceLine) (n : ℕ) (e : SourceLine) (i : Image) (bytes : List ℕ) → h.sources ≡ sources_shown ss → n < length ss
-    → e ≡ get_or ss n e → Resolves h i
-    → Some bytes ≡ resolved h.labels (source_value e.source) → is_some (instr_fault i.raw bytes) ≡ true → GivesNone h
+    → e ≡ get_or ss n e → Resolves h i → Some bytes ≡ resolved h.labels (source_value e.source) → is_some (instr_fault i.raw bytes) ≡ true → GivesNone h
 faulty_at h ss n e i bytes shown below same r target fault =
     let at = is_at h ss n e shown below same in
     none_faulty h _ _ (source_value e.source) bytes (split_at h.sources n (source_value e.source) at.below at.same) (sym target)
     (ap (λ (x : Image). is_some (instr_fault x.raw bytes)) (sym r.same) ∙ fault)
 
 pub resolves_at : (h : Held) (ss : List SourceLine) (n : ℕ) (e : SourceLine) (i new : Image) (bytes : List ℕ) → h.sources ≡ sources_shown ss → n < length ss
-    → e ≡ get_or ss n e → n ≡ length i.code → Resolves h i
-    → Some bytes ≡ resolved h.labels (source_value e.source) → Pushes i bytes new → Resolves h new
+    → e ≡ get_or ss n e → n ≡ length i.code → Resolves h i → Some bytes ≡ resolved h.labels (source_value e.source) → Pushes i bytes new → Resolves h new
 resolves_at h ss n e i new bytes shown below same count r target p =
     let at = is_at h ss n e shown below same in
     let under : length i.code < length h.sources = omega (arith, at.below) in

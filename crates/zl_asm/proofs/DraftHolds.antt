@@ -6,6 +6,8 @@ use Rattle.zl_asm.proofs.Common.{list_all-append, list_any, list_any-append, mar
 use Rattle.zl_asm.proofs.Common.{position_of, refl, slots_in, source_in, start_in, subst, sym, true, true≢false, ℕ, ◌&&◌, ◌++◌, ◌+◌, ◌==◌, ◌||◌, ◌∙◌, ◌∷◌, ◌≡◌}
 use Rattle.zl_asm.specs.declared.directive.Directive.TheVariants as directive
 use Rattle.zl_asm.proofs.Labels.{labels_from-append, once-more}
+use Rattle.std.proofs.lemmas.Bool.{cond_both, and_right}
+use Rattle.std.proofs.Math.Bool.{or-false, and-true, or_comm}
 
 -- ---- what one line more gives
 
@@ -15,23 +17,16 @@ kept f said line e = flat_map-append f said (line ∷ []) ∙ ap (λ (xs : List 
 added : {X : Type 0} (f : Line → List X) (said : List Line) (line : Line) (x : X) → f line ≡ x ∷ [] → flat_map f (said ++ line ∷ []) ≡ flat_map f said ++ x ∷ []
 added f said line x e = flat_map-append f said (line ∷ []) ∙ ap (λ (xs : List _). flat_map f said ++ (xs ++ [])) e
 
-same_given : {X : Type 0} (has : Bool) (value usual : X) (xs ys : List X) → xs ≡ ys → IsGiven has value usual ys → IsGiven has value usual xs
-same_given has value usual xs ys e h = subst (IsGiven has value usual) (sym e) h
-
 -- ---- the order of lines
 
 chosen : (b : Bool) (x y v w : Bool) → (x ≡ true → v ≡ true) → (y ≡ true → w ≡ true) → cond b x y ≡ true → cond b v w ≡ true
 chosen true x y v w f g e = f e
 chosen false x y v w f g e = g e
 
-always : (b : Bool) → cond b true true ≡ true
-always true = refl
-always false = refl
-
 -- a line that declares nothing can stand anywhere
 order-more : (said : List Line) (line : Line) → declares line ≡ false → directives_first said ≡ true → directives_first (said ++ line ∷ []) ≡ true
 unfolding directives_first
-order-more [] line e h = always (is_body line)
+order-more [] line e h = cond_both (is_body line) true true (λ b. b ≡ true) (λ _. refl) (λ _. refl)
 order-more (x ∷ said) line e h =
     chosen (is_body x) (list_all (λ l. not (declares l)) said) (directives_first said) _ _
     (λ k. list_all-append (λ l. not (declares l)) said (line ∷ []) ∙ (λ i. k i && (not (e i) && true)))
@@ -49,18 +44,10 @@ order-declared (x ∷ said) d e = by (is_body x) (order-declared said d) e
     by false more h = more h
 
 no_body-more : (said : List Line) (line : Line) → is_body line ≡ false → list_any is_body (said ++ line ∷ []) ≡ list_any is_body said
-no_body-more said line e = list_any-append is_body said (line ∷ []) ∙ (λ i. list_any is_body said || (e i || false)) ∙ nothing (list_any is_body said)
-  where
-    nothing : (b : Bool) → (b || false) ≡ b
-    nothing true = refl
-    nothing false = refl
+no_body-more said line e = list_any-append is_body said (line ∷ []) ∙ (λ i. list_any is_body said || (e i || false)) ∙ or-false _
 
 body-more : (said : List Line) (line : Line) → is_body line ≡ true → list_any is_body (said ++ line ∷ []) ≡ true
-body-more said line e = list_any-append is_body said (line ∷ []) ∙ (λ i. list_any is_body said || (e i || false)) ∙ all (list_any is_body said)
-  where
-    all : (b : Bool) → (b || true) ≡ true
-    all true = refl
-    all false = refl
+body-more said line e = list_any-append is_body said (line ∷ []) ∙ or_right _ _ (or_left _ _ e)
 
 -- ---- labels
 
@@ -89,17 +76,9 @@ one_label said name = labels_from-append 0 said (Label name ∷ [])
 same_number : (named : List Condition) (x k : Condition) → (condition_number x == condition_number k) ≡ true → is_among named x ≡ is_among named k
 same_number named x k e = ap (λ (n : ℕ). list_any (λ y. condition_number y == n) named) (eqb-true _ _ e)
 
-and_false : (a : Bool) → (a && false) ≡ false
-and_false true = refl
-and_false false = refl
-
-and_true : (a : Bool) → (a && true) ≡ a
-and_true true = refl
-and_true false = refl
-
 -- those among others that are named
 among-filter : (named xs : List Condition) (k : Condition) → is_among (filter (λ c. is_among named c) xs) k ≡ (is_among named k && is_among xs k)
-among-filter named [] k = sym (and_false (is_among named k))
+among-filter named [] k = sym (and_right (is_among named k) false refl)
 among-filter named (x ∷ xs) k = by (is_among named x) refl (condition_number x == condition_number k) refl (among-filter named xs k)
   where
     by : (p : Bool) → is_among named x ≡ p → (q : Bool) → (condition_number x == condition_number k) ≡ q
@@ -109,12 +88,6 @@ among-filter named (x ∷ xs) k = by (is_among named x) refl (condition_number x
     by true e false f rest = rw (f, rest) refl
     by false e true f rest = let none : is_among named k ≡ false = sym (same_number named x k f) ∙ e in rw (rest, none) refl
     by false e false f rest = rest
-
-swapped : (a b : Bool) → (a || b) ≡ (b || (a || false))
-swapped true true = refl
-swapped true false = refl
-swapped false true = refl
-swapped false false = refl
 
 -- a filter goes by what its test says of the elements
 same_filter : (p q : Condition → Bool) (cs : List Condition) → ((c : Condition) → is_among cs c ≡ true → p c ≡ q c) → filter p cs ≡ filter q cs
@@ -130,8 +103,9 @@ needs-more xs c = same_filter (is_among (c ∷ needs_named xs)) (is_among (xs ++
     at : (k : Condition) → is_among can_be_needed k ≡ true → is_among (c ∷ needs_named xs) k ≡ is_among (xs ++ c ∷ []) k
     at k can =
         ap (λ (b : Bool). (condition_number c == condition_number k) || b)
-        (among-filter xs can_be_needed k ∙ ap (λ (b : Bool). is_among xs k && b) can ∙ and_true _)
-        ∙ swapped _ _
+        (among-filter xs can_be_needed k ∙ ap (λ (b : Bool). is_among xs k && b) can ∙ and-true (is_among xs k))
+        ∙ or_comm (condition_number c == condition_number k) (is_among xs k)
+        ∙ ap (λ (b : Bool). is_among xs k || b) (sym (or-false (condition_number c == condition_number k)))
         ∙ sym (list_any-append (λ x. condition_number x == condition_number k) xs (c ∷ []))
 
 -- ---- what was given
@@ -153,159 +127,132 @@ first_given : {X : Type 0} (f : Line → List X) (said : List Line) (line : Line
     → flat_map f (said ++ line ∷ []) ≡ x ∷ []
 first_given f said line x none e = added f said line x e ∙ ap (λ (l : List _). l ++ x ∷ []) none
 
+-- ---- all that is held
+
+-- the fields of an image that the lines give
+abbrev AreGiven : Held → List Line → Type 0
+AreGiven d lines = IsGiven d.image.raw d.image.raw false (flat_map mark_in lines) × IsGiven d.has_memory d.image.memory 0 (flat_map memory_in lines)
+    × IsGiven d.has_budget d.image.budget 1 (flat_map budget_in lines) × (d.image.needs ≡ needs_named (flat_map need_in lines))
+    × (d.image.starts ≡ flat_map start_in lines) × (d.image.slots ≡ flat_map slots_in lines)
+
+held : (lines : List Line) (d : Held) → directives_first lines ≡ true → d.has_body ≡ list_any is_body lines → AreGiven d lines
+    → d.labels ≡ labels_from 0 lines → names_once (labels_from 0 lines) ≡ true → d.sources ≡ flat_map source_in lines → IsHeldOf lines d
+held lines d o b g l u s =
+    record { order = o; body = b; mark = g.0; memory = g.1; budget = g.2; needs = g.3; starts = g.4; slots = g.5; labels = l; once = u; sources = s }
+
+-- what is given stays behind a line that doesn't give it
+still : {X : Type 0} (f : Line → List X) (said : List Line) (line : Line) (has : Bool) (value usual : X) → f line ≡ []
+    → IsGiven has value usual (flat_map f said) → IsGiven has value usual (flat_map f (said ++ line ∷ []))
+still f said line has value usual e h = subst (IsGiven has value usual) (sym (kept f said line e)) h
+
+listed : {X : Type 0} {xs : List X} (f : Line → List X) (said : List Line) (line : Line) → f line ≡ [] → xs ≡ flat_map f said
+    → xs ≡ flat_map f (said ++ line ∷ [])
+listed f said line e h = h ∙ sym (kept f said line e)
+
+needed : (said : List Line) (line : Line) {xs : List Condition} → need_in line ≡ [] → xs ≡ needs_named (flat_map need_in said)
+    → xs ≡ needs_named (flat_map need_in (said ++ line ∷ []))
+needed said line e h = h ∙ ap needs_named (sym (kept need_in said line e))
+
+-- a line that gives none of them
+unsaid : (d : Held) (said : List Line) (line : Line) → mark_in line ≡ [] → memory_in line ≡ [] → budget_in line ≡ [] → need_in line ≡ []
+    → start_in line ≡ [] → slots_in line ≡ [] → IsHeldOf said d → AreGiven d (said ++ line ∷ [])
+unsaid d said line no_mark no_memory no_budget no_need no_start no_slots h = (
+  still mark_in said line _ _ _ no_mark h.mark,
+  still memory_in said line _ _ _ no_memory h.memory,
+  still budget_in said line _ _ _ no_budget h.budget,
+  needed said line no_need h.needs,
+  listed start_in said line no_start h.starts,
+  listed slots_in said line no_slots h.slots,
+)
+
+-- a directive leaves all but the fields of the image
+declared : (d : Held) (x : Directive) (image : Image) (memory budget : Bool) (said : List Line) → IsHeldOf said d → d.has_body ≡ false
+    → IsGiven image.raw image.raw false (flat_map mark_in (said ++ Declares x ∷ []))
+    → IsGiven memory image.memory 0 (flat_map memory_in (said ++ Declares x ∷ []))
+    → IsGiven budget image.budget 1 (flat_map budget_in (said ++ Declares x ∷ []))
+    → image.needs ≡ needs_named (flat_map need_in (said ++ Declares x ∷ []))
+    → image.starts ≡ flat_map start_in (said ++ Declares x ∷ []) → image.slots ≡ flat_map slots_in (said ++ Declares x ∷ [])
+    → IsHeldOf (said ++ Declares x ∷ []) (record d { image = image; has_memory = memory; has_budget = budget })
+declared d x image memory budget said h first m n b c s a =
+    held _ _ (order-declared said x (sym h.body ∙ first)) (h.body ∙ sym (no_body-more said (Declares x) refl)) (m, n, b, c, s, a)
+    (h.labels ∙ sym (none_declared said x)) (ap names_once (none_declared said x) ∙ h.once) (listed source_in said (Declares x) refl h.sources)
+
 -- ---- one directive more
 
 pub mark_held : (d : Held) (image : Image) → image ≡ record d.image { raw = true } → d.has_body ≡ false → d.image.raw ≡ false
     → Holds d (Declares directive.Raw) (record d { image = image })
-mark_held d image e first none = subst (λ (im : Image). Holds d (Declares directive.Raw) (record d { image = im })) (sym e) (λ said h. record {
-  order = order-declared said directive.Raw (sym h.body ∙ first);
-  body = h.body ∙ sym (no_body-more said (Declares directive.Raw) refl);
-  mark = first_given mark_in said (Declares directive.Raw) true (none_given d.image.raw d.image.raw false _ none h.mark) refl;
-  memory = same_given _ _ _ _ _ (kept memory_in said (Declares directive.Raw) refl) h.memory;
-  budget = same_given _ _ _ _ _ (kept budget_in said (Declares directive.Raw) refl) h.budget;
-  needs = h.needs ∙ ap needs_named (sym (kept need_in said (Declares directive.Raw) refl));
-  starts = h.starts ∙ sym (kept start_in said (Declares directive.Raw) refl);
-  slots = h.slots ∙ sym (kept slots_in said (Declares directive.Raw) refl);
-  labels = h.labels ∙ sym (none_declared said directive.Raw);
-  once = ap names_once (none_declared said directive.Raw) ∙ h.once;
-  sources = h.sources ∙ sym (kept source_in said (Declares directive.Raw) refl);
-})
+mark_held d image e first none = subst (λ (im : Image). Holds d (Declares directive.Raw) (record d { image = im })) (sym e) (λ said h.
+    let x = Declares directive.Raw in declared d directive.Raw _ _ _ said h first
+    (first_given mark_in said x true (none_given d.image.raw d.image.raw false _ none h.mark) refl) (still memory_in said x _ _ _ refl h.memory)
+    (still budget_in said x _ _ _ refl h.budget) (needed said x refl h.needs) (listed start_in said x refl h.starts)
+    (listed slots_in said x refl h.slots))
 
 pub memory_held : (d : Held) (image : Image) (n : ℕ) → image ≡ record d.image { memory = n } → d.has_body ≡ false → d.has_memory ≡ false
     → Holds d (Declares (directive.Memory n)) (record d { image = image; has_memory = true })
 memory_held d image n e first none =
-    subst (λ (im : Image). Holds d (Declares (directive.Memory n)) (record d { image = im; has_memory = true })) (sym e) (λ said h. record {
-      order = order-declared said (directive.Memory n) (sym h.body ∙ first);
-      body = h.body ∙ sym (no_body-more said (Declares (directive.Memory n)) refl);
-      mark = same_given _ _ _ _ _ (kept mark_in said (Declares (directive.Memory n)) refl) h.mark;
-      memory = first_given memory_in said (Declares (directive.Memory n)) n (none_given d.has_memory d.image.memory 0 _ none h.memory) refl;
-      budget = same_given _ _ _ _ _ (kept budget_in said (Declares (directive.Memory n)) refl) h.budget;
-      needs = h.needs ∙ ap needs_named (sym (kept need_in said (Declares (directive.Memory n)) refl));
-      starts = h.starts ∙ sym (kept start_in said (Declares (directive.Memory n)) refl);
-      slots = h.slots ∙ sym (kept slots_in said (Declares (directive.Memory n)) refl);
-      labels = h.labels ∙ sym (none_declared said (directive.Memory n));
-      once = ap names_once (none_declared said (directive.Memory n)) ∙ h.once;
-      sources = h.sources ∙ sym (kept source_in said (Declares (directive.Memory n)) refl);
-    })
+    subst (λ (im : Image). Holds d (Declares (directive.Memory n)) (record d { image = im; has_memory = true })) (sym e) (λ said h.
+    let x = Declares (directive.Memory n) in declared d (directive.Memory n) _ _ _ said h first
+    (still mark_in said x _ _ _ refl h.mark) (first_given memory_in said x n (none_given d.has_memory d.image.memory 0 _ none h.memory) refl)
+    (still budget_in said x _ _ _ refl h.budget) (needed said x refl h.needs) (listed start_in said x refl h.starts)
+    (listed slots_in said x refl h.slots))
 
 pub budget_held : (d : Held) (image : Image) (n : ℕ) → image ≡ record d.image { budget = n } → d.has_body ≡ false → d.has_budget ≡ false
     → Holds d (Declares (directive.Budget n)) (record d { image = image; has_budget = true })
 budget_held d image n e first none =
-    subst (λ (im : Image). Holds d (Declares (directive.Budget n)) (record d { image = im; has_budget = true })) (sym e) (λ said h. record {
-      order = order-declared said (directive.Budget n) (sym h.body ∙ first);
-      body = h.body ∙ sym (no_body-more said (Declares (directive.Budget n)) refl);
-      mark = same_given _ _ _ _ _ (kept mark_in said (Declares (directive.Budget n)) refl) h.mark;
-      memory = same_given _ _ _ _ _ (kept memory_in said (Declares (directive.Budget n)) refl) h.memory;
-      budget = first_given budget_in said (Declares (directive.Budget n)) n (none_given d.has_budget d.image.budget 1 _ none h.budget) refl;
-      needs = h.needs ∙ ap needs_named (sym (kept need_in said (Declares (directive.Budget n)) refl));
-      starts = h.starts ∙ sym (kept start_in said (Declares (directive.Budget n)) refl);
-      slots = h.slots ∙ sym (kept slots_in said (Declares (directive.Budget n)) refl);
-      labels = h.labels ∙ sym (none_declared said (directive.Budget n));
-      once = ap names_once (none_declared said (directive.Budget n)) ∙ h.once;
-      sources = h.sources ∙ sym (kept source_in said (Declares (directive.Budget n)) refl);
-    })
+    subst (λ (im : Image). Holds d (Declares (directive.Budget n)) (record d { image = im; has_budget = true })) (sym e) (λ said h.
+    let x = Declares (directive.Budget n) in declared d (directive.Budget n) _ _ _ said h first
+    (still mark_in said x _ _ _ refl h.mark) (still memory_in said x _ _ _ refl h.memory)
+    (first_given budget_in said x n (none_given d.has_budget d.image.budget 1 _ none h.budget) refl) (needed said x refl h.needs)
+    (listed start_in said x refl h.starts) (listed slots_in said x refl h.slots))
 
 pub need_held : (d : Held) (image : Image) (c : Condition) → image ≡ record d.image { needs = needs_named (c ∷ d.image.needs) } → d.has_body ≡ false
     → Holds d (Declares (directive.Need c)) (record d { image = image })
-need_held d image c e first = subst (λ (im : Image). Holds d (Declares (directive.Need c)) (record d { image = im })) (sym e) (λ said h. record {
-  order = order-declared said (directive.Need c) (sym h.body ∙ first);
-  body = h.body ∙ sym (no_body-more said (Declares (directive.Need c)) refl);
-  mark = same_given _ _ _ _ _ (kept mark_in said (Declares (directive.Need c)) refl) h.mark;
-  memory = same_given _ _ _ _ _ (kept memory_in said (Declares (directive.Need c)) refl) h.memory;
-  budget = same_given _ _ _ _ _ (kept budget_in said (Declares (directive.Need c)) refl) h.budget;
-  needs = ap (λ (l : List Condition). needs_named (c ∷ l)) h.needs ∙ needs-more (flat_map need_in said) c
-      ∙ ap needs_named (sym (added need_in said (Declares (directive.Need c)) c refl));
-  starts = h.starts ∙ sym (kept start_in said (Declares (directive.Need c)) refl);
-  slots = h.slots ∙ sym (kept slots_in said (Declares (directive.Need c)) refl);
-  labels = h.labels ∙ sym (none_declared said (directive.Need c));
-  once = ap names_once (none_declared said (directive.Need c)) ∙ h.once;
-  sources = h.sources ∙ sym (kept source_in said (Declares (directive.Need c)) refl);
-})
+need_held d image c e first = subst (λ (im : Image). Holds d (Declares (directive.Need c)) (record d { image = im })) (sym e) (λ said h.
+    let x = Declares (directive.Need c) in declared d (directive.Need c) _ _ _ said h first
+    (still mark_in said x _ _ _ refl h.mark) (still memory_in said x _ _ _ refl h.memory) (still budget_in said x _ _ _ refl h.budget)
+    (ap (λ (l : List Condition). needs_named (c ∷ l)) h.needs ∙ needs-more (flat_map need_in said) c ∙ ap needs_named (sym (added need_in said x c refl)))
+    (listed start_in said x refl h.starts) (listed slots_in said x refl h.slots))
 
 pub starts_held : (d : Held) (image : Image) (s : Start) → image ≡ record d.image { starts = d.image.starts ++ (s ∷ []) } → d.has_body ≡ false
     → Holds d (Declares (directive.Start s)) (record d { image = image })
-starts_held d image s e first = subst (λ (im : Image). Holds d (Declares (directive.Start s)) (record d { image = im })) (sym e) (λ said h. record {
-  order = order-declared said (directive.Start s) (sym h.body ∙ first);
-  body = h.body ∙ sym (no_body-more said (Declares (directive.Start s)) refl);
-  mark = same_given _ _ _ _ _ (kept mark_in said (Declares (directive.Start s)) refl) h.mark;
-  memory = same_given _ _ _ _ _ (kept memory_in said (Declares (directive.Start s)) refl) h.memory;
-  budget = same_given _ _ _ _ _ (kept budget_in said (Declares (directive.Start s)) refl) h.budget;
-  needs = h.needs ∙ ap needs_named (sym (kept need_in said (Declares (directive.Start s)) refl));
-  starts = ap (λ (l : List Start). l ++ s ∷ []) h.starts ∙ sym (added start_in said (Declares (directive.Start s)) s refl);
-  slots = h.slots ∙ sym (kept slots_in said (Declares (directive.Start s)) refl);
-  labels = h.labels ∙ sym (none_declared said (directive.Start s));
-  once = ap names_once (none_declared said (directive.Start s)) ∙ h.once;
-  sources = h.sources ∙ sym (kept source_in said (Declares (directive.Start s)) refl);
-})
+starts_held d image s e first = subst (λ (im : Image). Holds d (Declares (directive.Start s)) (record d { image = im })) (sym e) (λ said h.
+    let x = Declares (directive.Start s) in declared d (directive.Start s) _ _ _ said h first
+    (still mark_in said x _ _ _ refl h.mark) (still memory_in said x _ _ _ refl h.memory) (still budget_in said x _ _ _ refl h.budget)
+    (needed said x refl h.needs) (ap (λ (l : List Start). l ++ s ∷ []) h.starts ∙ sym (added start_in said x s refl))
+    (listed slots_in said x refl h.slots))
 
 pub slot_array_held : (d : Held) (image : Image) (s : SlotArray) → image ≡ record d.image { slots = d.image.slots ++ (s ∷ []) } → d.has_body ≡ false
     → Holds d (Declares (directive.Slots s)) (record d { image = image })
-slot_array_held d image s e first = subst (λ (im : Image). Holds d (Declares (directive.Slots s)) (record d { image = im })) (sym e) (λ said h. record {
-  order = order-declared said (directive.Slots s) (sym h.body ∙ first);
-  body = h.body ∙ sym (no_body-more said (Declares (directive.Slots s)) refl);
-  mark = same_given _ _ _ _ _ (kept mark_in said (Declares (directive.Slots s)) refl) h.mark;
-  memory = same_given _ _ _ _ _ (kept memory_in said (Declares (directive.Slots s)) refl) h.memory;
-  budget = same_given _ _ _ _ _ (kept budget_in said (Declares (directive.Slots s)) refl) h.budget;
-  needs = h.needs ∙ ap needs_named (sym (kept need_in said (Declares (directive.Slots s)) refl));
-  starts = h.starts ∙ sym (kept start_in said (Declares (directive.Slots s)) refl);
-  slots = ap (λ (l : List SlotArray). l ++ s ∷ []) h.slots ∙ sym (added slots_in said (Declares (directive.Slots s)) s refl);
-  labels = h.labels ∙ sym (none_declared said (directive.Slots s));
-  once = ap names_once (none_declared said (directive.Slots s)) ∙ h.once;
-  sources = h.sources ∙ sym (kept source_in said (Declares (directive.Slots s)) refl);
-})
+slot_array_held d image s e first = subst (λ (im : Image). Holds d (Declares (directive.Slots s)) (record d { image = im })) (sym e) (λ said h.
+    let x = Declares (directive.Slots s) in declared d (directive.Slots s) _ _ _ said h first
+    (still mark_in said x _ _ _ refl h.mark) (still memory_in said x _ _ _ refl h.memory) (still budget_in said x _ _ _ refl h.budget)
+    (needed said x refl h.needs) (listed start_in said x refl h.starts)
+    (ap (λ (l : List SlotArray). l ++ s ∷ []) h.slots ∙ sym (added slots_in said x s refl)))
 
 -- ---- one line more behind
 
 pub blank_held : (d : Held) → Holds d Blank d
-blank_held d = λ said h. record {
-  order = order-more said Blank refl h.order;
-  body = h.body ∙ sym (no_body-more said Blank refl);
-  mark = same_given _ _ _ _ _ (kept mark_in said Blank refl) h.mark;
-  memory = same_given _ _ _ _ _ (kept memory_in said Blank refl) h.memory;
-  budget = same_given _ _ _ _ _ (kept budget_in said Blank refl) h.budget;
-  needs = h.needs ∙ ap needs_named (sym (kept need_in said Blank refl));
-  starts = h.starts ∙ sym (kept start_in said Blank refl);
-  slots = h.slots ∙ sym (kept slots_in said Blank refl);
-  labels = h.labels ∙ sym (none_in_blank said);
-  once = ap names_once (none_in_blank said) ∙ h.once;
-  sources = h.sources ∙ sym (kept source_in said Blank refl);
-}
+blank_held d = λ said h.
+    held _ _ (order-more said Blank refl h.order) (h.body ∙ sym (no_body-more said Blank refl)) (unsaid d said Blank refl refl refl refl refl refl h)
+    (h.labels ∙ sym (none_in_blank said)) (ap names_once (none_in_blank said) ∙ h.once) (listed source_in said Blank refl h.sources)
 
 counted : {xs ys : List Source} → xs ≡ ys → length xs ≡ 0 + length ys
 counted e = omega (arith, ap length e)
 
 pub label_held : (d : Held) (name : List ℕ) → position_of d.labels name ≡ None
     → Holds d (Label name) (record d { has_body = true; labels = d.labels ++ (name, length d.sources) ∷ [] })
-label_held d name free = λ said h. record {
-  order = order-more said (Label name) refl h.order;
-  body = sym (body-more said (Label name) refl);
-  mark = same_given _ _ _ _ _ (kept mark_in said (Label name) refl) h.mark;
-  memory = same_given _ _ _ _ _ (kept memory_in said (Label name) refl) h.memory;
-  budget = same_given _ _ _ _ _ (kept budget_in said (Label name) refl) h.budget;
-  needs = h.needs ∙ ap needs_named (sym (kept need_in said (Label name) refl));
-  starts = h.starts ∙ sym (kept start_in said (Label name) refl);
-  slots = h.slots ∙ sym (kept slots_in said (Label name) refl);
-  labels = ap (λ (l : List (List ℕ × ℕ)). l ++ (name, length d.sources) ∷ []) h.labels
-      ∙ ap (λ (k : ℕ). labels_from 0 said ++ (name, k) ∷ []) (counted h.sources) ∙ sym (one_label said name);
-  once = ap names_once (one_label said name) ∙ once-more (labels_from 0 said) (name, 0 + length (flat_map source_in said)) h.once
-      (ap (λ (l : List (List ℕ × ℕ)). position_of l name) (sym h.labels) ∙ free);
-  sources = h.sources ∙ sym (kept source_in said (Label name) refl);
-}
+label_held d name free = λ said h.
+    held _ _ (order-more said (Label name) refl h.order) (sym (body-more said (Label name) refl)) (unsaid d said (Label name) refl refl refl refl refl refl h)
+    (ap (λ (l : List (List ℕ × ℕ)). l ++ (name, length d.sources) ∷ []) h.labels
+    ∙ ap (λ (k : ℕ). labels_from 0 said ++ (name, k) ∷ []) (counted h.sources) ∙ sym (one_label said name))
+    (ap names_once (one_label said name) ∙ once-more (labels_from 0 said) (name, 0 + length (flat_map source_in said)) h.once
+    (ap (λ (l : List (List ℕ × ℕ)). position_of l name) (sym h.labels) ∙ free)) (listed source_in said (Label name) refl h.sources)
 
 pub code_held : (d : Held) (s : Source) → Holds d (Code s) (record d { has_body = true; sources = d.sources ++ s ∷ [] })
-code_held d s = λ said h. record {
-  order = order-more said (Code s) refl h.order;
-  body = sym (body-more said (Code s) refl);
-  mark = same_given _ _ _ _ _ (kept mark_in said (Code s) refl) h.mark;
-  memory = same_given _ _ _ _ _ (kept memory_in said (Code s) refl) h.memory;
-  budget = same_given _ _ _ _ _ (kept budget_in said (Code s) refl) h.budget;
-  needs = h.needs ∙ ap needs_named (sym (kept need_in said (Code s) refl));
-  starts = h.starts ∙ sym (kept start_in said (Code s) refl);
-  slots = h.slots ∙ sym (kept slots_in said (Code s) refl);
-  labels = h.labels ∙ sym (none_in_code said s);
-  once = ap names_once (none_in_code said s) ∙ h.once;
-  sources = ap (λ (l : List Source). l ++ s ∷ []) h.sources ∙ sym (added source_in said (Code s) s refl);
-}
+code_held d s = λ said h.
+    held _ _ (order-more said (Code s) refl h.order) (sym (body-more said (Code s) refl)) (unsaid d said (Code s) refl refl refl refl refl refl h)
+    (h.labels ∙ sym (none_in_code said s)) (ap names_once (none_in_code said s) ∙ h.once)
+    (ap (λ (l : List Source). l ++ s ∷ []) h.sources ∙ sym (added source_in said (Code s) s refl))
 
 -- ---- before the first line
 
@@ -319,16 +266,4 @@ pub nothing_held : (labels : List (List ℕ × ℕ)) (sources : List Source) →
       sources = sources;
     })
 unfolding directives_first labels_from names_once
-nothing_held labels sources none empty = record {
-  order = refl;
-  body = refl;
-  mark = (refl, refl);
-  memory = (refl, refl);
-  budget = (refl, refl);
-  needs = refl;
-  starts = refl;
-  slots = refl;
-  labels = none;
-  once = refl;
-  sources = empty;
-}
+nothing_held labels sources none empty = held _ _ refl refl ((refl, refl), (refl, refl), (refl, refl), refl, refl, refl) none refl empty

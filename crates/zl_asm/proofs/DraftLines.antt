@@ -2,9 +2,10 @@
 use Rattle.zl_asm.proofs.Common.{Bool, Code, Declares, Directive, Err, Held, Holds, Kind, Line, List, None, Ok, OnOk, Option, Reads, Result, SlotArray, Some}
 use Rattle.zl_asm.proofs.Common.{Source, Start, [], alone, ap, codes, cond, directive_of, false, if_fits, instruction_of, is_ascii, is_directive_in_range}
 use Rattle.zl_asm.proofs.Common.{is_slot_in_range, is_start_in_range, is_word, kind_of, label_of, line_of, line_said, nat_eq, need_of, number_of, number_within}
-use Rattle.zl_asm.proofs.Common.{option_map, point_line, refl, rights_of, slot_array_with, start_with, starts_with, subst, sym, true, true≢false, unknown_of}
-use Rattle.zl_asm.proofs.Common.{words_of, ℕ, ◌&&◌, ◌∙◌, ◌∷◌, ◌≡◌}
+use Rattle.zl_asm.proofs.Common.{option_map, point_line, refl, rights_of, slot_array_with, start_with, starts_with, subst, sym, true, unknown_of}
+use Rattle.zl_asm.proofs.Common.{words_of, ℕ, ◌∙◌, ◌∷◌, ◌≡◌}
 use Rattle.zl_asm.specs.declared.directive.Directive.TheVariants as directive
+use Rattle.std.proofs.lemmas.Bool.{cond_both, and_parts}
 
 -- ---- reading on
 
@@ -13,8 +14,7 @@ pub said_by : (line : List ℕ) (words : List (List ℕ)) (said : Line) → is_a
 said_by line words said plain cut e = rw (plain, sym cut) e
 
 pub read_by : {A E : Type 0} (r : Result A E) (old new : Held) (line : List ℕ) (words : List (List ℕ)) (said : Line) → is_ascii line ≡ true
-    → words ≡ words_of line → line_of words ≡ Some said → OnOk r (Holds old said new)
-    → OnOk r (Reads old line new)
+    → words ≡ words_of line → line_of words ≡ Some said → OnOk r (Holds old said new) → OnOk r (Reads old line new)
 read_by (Ok x) old new line words said plain cut e h = (said, said_by line words said plain cut e, h)
 read_by (Err fault) old new line words said plain cut e h = tt
 
@@ -22,15 +22,8 @@ read_by (Err fault) old new line words said plain cut e h = tt
 
 passes : {X : Type 0} (test : X → Bool) (o : Option X) (x : X) → if_fits test o ≡ Some x → test x ≡ true
 passes test None x e = cc
-passes test (Some y) x e = by (test y) refl e
-  where
-    by : (b : Bool) → test y ≡ b → cond b (Some y) None ≡ Some x → test x ≡ true
-    by true f e = let same : y ≡ x = cc in sym (ap test same) ∙ f
-    by false f e = cc
-
-second_of : (a b : Bool) → (a && b) ≡ true → b ≡ true
-second_of true b e = e
-second_of false b e = absurd (true≢false (sym e))
+passes test (Some y) x e =
+    cond_both (test y) (Some y) None (λ o. o ≡ Some x → test x ≡ true) (λ f e. let same : y ≡ x = cc in sym (ap test same) ∙ f) (λ _ e. cc) e
 
 -- a directive that is made of a value in its range
 made_of : {X : Type 0} (make : X → Directive) (o : Option X) (d : Directive) → ((x : X) → o ≡ Some x → is_directive_in_range (make x) ≡ true)
@@ -40,14 +33,11 @@ made_of make (Some x) d fine e = let same : make x ≡ d = cc in subst (λ (y : 
 
 start-fits : (k : Option (Option Kind)) (r : Option ℕ) (s : Start) → start_with k r ≡ Some s → is_start_in_range s ≡ true
 start-fits (Some k) (Some r) s e = passes is_start_in_range (Some (record { kind = k; rights = rights_of r })) s e
-start-fits (Some k) None s e = cc
-start-fits None r s e = cc
+start-fits _ _ s e = cc
 
 slots-fit : (k : Option (Option Kind)) (l r : Option ℕ) (s : SlotArray) → slot_array_with k l r ≡ Some s → is_slot_in_range s ≡ true
 slots-fit (Some k) (Some l) (Some r) s e = passes is_slot_in_range (Some (record { kind = k; length = l; rights = rights_of r })) s e
-slots-fit (Some k) (Some l) None s e = cc
-slots-fit (Some k) None r s e = cc
-slots-fit None l r s e = cc
+slots-fit _ _ _ s e = cc
 
 either : (b : Bool) (x y : Option Directive) (d : Directive) → (x ≡ Some d → is_directive_in_range d ≡ true) → (y ≡ Some d → is_directive_in_range d ≡ true)
     → cond b x y ≡ Some d → is_directive_in_range d ≡ true
@@ -65,12 +55,11 @@ unfolding directive_of
 directive-fits name [] d e = either (is_word name (codes ".raw")) (Some directive.Raw) None d (raw-fits d) (nothing d) e
 directive-fits name (operand ∷ []) d e =
     either (is_word name (codes ".memory")) (option_map directive.Memory (number_within 0 65536 operand)) _ d
-    (made_of directive.Memory (number_within 0 65536 operand) d (λ n f. second_of _ _ (passes _ (number_of operand) n f)))
+    (made_of directive.Memory (number_within 0 65536 operand) d (λ n f. (and_parts _ _ (passes _ (number_of operand) n f)).1))
     (either (is_word name (codes ".budget")) (option_map directive.Budget (number_within 1 1000000 operand)) _ d
     (made_of directive.Budget (number_within 1 1000000 operand) d (λ n f. passes _ (number_of operand) n f))
     (either (is_word name (codes ".need")) (option_map directive.Need (need_of operand)) None d
-    (made_of directive.Need (need_of operand) d (λ n f. refl)) (nothing d)))
-    e
+    (made_of directive.Need (need_of operand) d (λ n f. refl)) (nothing d))) e
 directive-fits name (kind ∷ rights ∷ []) d e =
     either (is_word name (codes ".start")) (option_map directive.Start (start_with (kind_of kind) (number_of rights))) None d
     (made_of directive.Start (start_with (kind_of kind) (number_of rights)) d (λ s f. start-fits (kind_of kind) (number_of rights) s f)) (nothing d) e
@@ -91,12 +80,9 @@ declared None d e = cc
 declared (Some x) d e = cc
 
 point-fits : (name : List ℕ) (words : List (List ℕ)) (d : Directive) → point_line name words ≡ Some (Declares d) → is_directive_in_range d ≡ true
-point-fits name words d e = by (is_word name (codes ".bytes")) e
-  where
-    by : (b : Bool) → cond b (option_map Code (unknown_of words)) (option_map Declares (directive_of name words)) ≡ Some (Declares d)
-        → is_directive_in_range d ≡ true
-    by true e = absurd (not_code (unknown_of words) d e)
-    by false e = directive-fits name words d (declared (directive_of name words) d e)
+point-fits name words d e =
+    cond_both (is_word name (codes ".bytes")) _ _ (λ o. o ≡ Some (Declares d) → is_directive_in_range d ≡ true)
+    (λ _ e. absurd (not_code (unknown_of words) d e)) (λ _ e. directive-fits name words d (declared (directive_of name words) d e)) e
 
 alone-not : (word : List ℕ) (o : Option (List ℕ)) (d : Directive) → alone word o ≡ Some (Declares d) → ⊥
 alone-not word (Some name) d e = cc

@@ -22,8 +22,7 @@ one_behind between word = append-nil (between ++ word)
 joined-more : (between word : List ℕ) (words more : List (List ℕ))
     → joined between (word ∷ (words ++ more)) ≡ joined between (word ∷ words) ++ each_behind between more
 joined-more between word words more =
-    joined-cons between word (words ++ more)
-    ∙ ap (λ (x : List ℕ). word ++ x) (flat_map-append (λ w. between ++ w) words more)
+    joined-cons between word (words ++ more) ∙ ap (λ (x : List ℕ). word ++ x) (flat_map-append (λ w. between ++ w) words more)
     ∙ sym (append_assoc word (each_behind between words) (each_behind between more))
     ∙ ap (λ (x : List ℕ). x ++ each_behind between more) (sym (joined-cons between word words))
 
@@ -43,10 +42,7 @@ module _ (registers : List ℕ) (i d : ℕ) (within : i < length registers) wher
   pub register_more : joined (codes ", ") (map register_text (take (i + 1) registers))
       ≡ joined (codes ", ") (map register_text (take i registers)) ++ (cond (eqb i 0) [] (codes ", ") ++ register_text (get_or registers i d))
   unfolding joined
-  register_more = elim (cases_Bool (eqb i 0)) [
-    | inl first ↦ at_first first
-    | inr later ↦ at_next later
-  ]
+  register_more = elim (cases_Bool (eqb i 0)) [ inl first ↦ at_first first | inr later ↦ at_next later ]
     where
       at_first : eqb i 0 ≡ true → joined (codes ", ") (map register_text (take (i + 1) registers))
           ≡ joined (codes ", ") (map register_text (take i registers)) ++ (cond (eqb i 0) [] (codes ", ") ++ register_text (get_or registers i d))
@@ -101,8 +97,7 @@ module _ (separator places : List ℕ) (i d : ℕ) (within : i < length places) 
       ∙ sym (append-nil (texts (take i places)))
 
   -- a place with a register
-  pub place_written : has_register (get_or places i d) ≡ true
-      → behind separator (texts (take (i + 1) places))
+  pub place_written : has_register (get_or places i d) ≡ true → behind separator (texts (take (i + 1) places))
       ≡ behind separator (texts (take i places)) ++ (between_now separator (texts (take i places)) ++ register_text (get_or places i d))
   place_written is = ap (behind separator) (kept true is) ∙ behind-more separator (register_text (get_or places i d)) (texts (take i places))
 
@@ -135,8 +130,7 @@ operands_written (r ∷ registers) (word ∷ words) =
 
 -- a whole row
 pub row_written : (text name first second third last : List ℕ) (registers : List ℕ) (separator : List ℕ) (tail : List (List ℕ)) → first ≡ text ++ name
-    → second ≡ first ++ codes " "
-    → third ≡ second ++ joined (codes ", ") (map register_text registers) → last ≡ third ++ behind separator tail
+    → second ≡ first ++ codes " " → third ≡ second ++ joined (codes ", ") (map register_text registers) → last ≡ third ++ behind separator tail
     → separator ≡ cond (eqb (length registers) 0) [] (codes ", ")
     → last ≡ text ++ (name ++ (codes " " ++ joined (codes ", ") (map register_text registers ++ tail)))
 row_written text name first second third last registers separator tail a b c d same =

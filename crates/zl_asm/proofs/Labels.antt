@@ -1,8 +1,9 @@
 -- The labels of a text: where they stand, and that no name stands twice.
 use Rattle.zl_asm.proofs.Common.{Blank, Bool, Code, Declares, Label, Line, List, None, Option, Some, [], ap, arith, cond, false, find, flat_map, is_some}
 use Rattle.zl_asm.proofs.Common.{labels_from, length, lookup, map, names_once, nat_eq, nat_list_eq_equiv, not, option_map, pointwise, position_of, refl}
-use Rattle.zl_asm.proofs.Common.{source_in, suc, sym, true, true≢false, ℕ, ◌&&◌, ◌++◌, ◌+◌, ◌∙◌, ◌∷◌, ◌≡◌}
+use Rattle.zl_asm.proofs.Common.{source_in, suc, sym, true, true≢false, ℕ, ◌++◌, ◌+◌, ◌∙◌, ◌∷◌, ◌≡◌}
 use denote.Ref.{Bor}
+use Rattle.std.proofs.lemmas.Bool.{and_right, and_parts, cond_both}
 
 abbrev Labels : Type 0
 Labels = List (List ℕ × ℕ)
@@ -43,24 +44,9 @@ position-apart (x ∷ xs) ys name e = by (same x.0 name) (position-apart xs ys n
 
 position-there : (xs ys : Labels) (l : List ℕ × ℕ) (name : List ℕ) → same l.0 name ≡ true → is_some (position_of (xs ++ l ∷ ys) name) ≡ true
 position-there [] ys l name e = rw e refl
-position-there (x ∷ xs) ys l name e = by (same x.0 name) (position-there xs ys l name e)
-  where
-    by : (b : Bool) → is_some (position_of (xs ++ l ∷ ys) name) ≡ true
-        → is_some (option_map (λ m. m.1) (cond b (Some x) (find (λ m. same m.0 name) (xs ++ l ∷ ys)))) ≡ true
-    by true rest = refl
-    by false rest = rest
-
-first_of_both : (a b : Bool) → (a && b) ≡ true → a ≡ true
-first_of_both true b e = refl
-first_of_both false b e = e
-
-second_of_both : (a b : Bool) → (a && b) ≡ true → b ≡ true
-second_of_both true b e = e
-second_of_both false b e = absurd (true≢false (sym e))
-
-not_both : (a b : Bool) → b ≡ false → (a && b) ≡ false
-not_both true b e = e
-not_both false b e = refl
+position-there (x ∷ xs) ys l name e =
+    cond_both (same x.0 name) (Some x) (find (λ m. same m.0 name) (xs ++ l ∷ ys)) (λ o. is_some (option_map (λ m. m.1) o) ≡ true) (λ _. refl)
+    (λ _. position-there xs ys l name e)
 
 -- ---- no name twice
 
@@ -72,13 +58,13 @@ alone_none (Some n) e = absurd (true≢false (sym e))
 pub once-more : (xs : Labels) (l : List ℕ × ℕ) → names_once xs ≡ true → position_of xs l.0 ≡ None → names_once (xs ++ l ∷ []) ≡ true
 unfolding names_once
 once-more [] l once apart = refl
-once-more (x ∷ xs) l once apart = by (same x.0 l.0) (once-more xs l (second_of_both _ _ once)) refl apart
+once-more (x ∷ xs) l once apart = by (same x.0 l.0) (once-more xs l (and_parts _ _ once).1) refl apart
   where
     by : (b : Bool) → (position_of xs l.0 ≡ None → names_once (xs ++ l ∷ []) ≡ true) → same x.0 l.0 ≡ b
         → option_map (λ m. m.1) (cond b (Some x) (find (λ m. same m.0 l.0) xs)) ≡ None → names_once (x ∷ xs ++ l ∷ []) ≡ true
     by true rest e none = cc
     by false rest e none =
-        let free = alone_none (position_of xs x.0) (first_of_both _ _ once) in
+        let free = alone_none (position_of xs x.0) (and_parts _ _ once).0 in
         let other : same l.0 x.0 ≡ false = same-symm l.0 x.0 ∙ e in
         let nowhere : position_of (xs ++ l ∷ []) x.0 ≡ None =
         position-apart xs (l ∷ []) x.0 free ∙ ap (λ (b : Bool). option_map (λ m. m.1) (cond b (Some l) None)) other in
@@ -93,7 +79,7 @@ not-once (x ∷ xs) ys l there = by (same x.0 l.0) (not-once xs ys l) refl there
     by : (b : Bool) → (is_some (position_of xs l.0) ≡ true → names_once (xs ++ l ∷ ys) ≡ false) → same x.0 l.0 ≡ b
         → is_some (option_map (λ m. m.1) (cond b (Some x) (find (λ m. same m.0 l.0) xs))) ≡ true → names_once (x ∷ xs ++ l ∷ ys) ≡ false
     by true rest e there = rw (position-there xs ys l x.0 (same-symm l.0 x.0 ∙ e)) refl
-    by false rest e there = not_both _ _ (rest there)
+    by false rest e there = and_right _ _ (rest there)
 
 -- ---- lines in two parts
 

@@ -7,6 +7,8 @@ use Rattle.zl_asm.proofs.Common.{needs_named-needs, needs_text, ranges, refl, sl
 use Rattle.zl_asm.proofs.Common.{◌+◌, ◌<◌, ◌||◌, ◌∙◌, ◌∷◌, ◌≡◌}
 use Rattle.zl_rights.specs.declared.policy.Condition.TheVariants as condition
 use Rattle.zl_asm.specs.Pieces.{need_if_among}
+use Rattle.std.proofs.Math.Bool.{or-false}
+use Rattle.std.proofs.lemmas.List.Folds.{list_any-append}
 
 -- ---- instructions
 
@@ -28,8 +30,7 @@ next_line code n bytes rest =
 module _ (code : List (List ℕ)) (i : ℕ) (d : List ℕ) (within : i < length code) where
   -- one more line was written
   pub line_written : (start text new : List ℕ) → text ++ ended (code_lines_from code i (drop i code)) ≡ start
-      → new ≡ text ++ line_text (length code) i (is_target code i) (get_or code i d)
-      → new ++ ended (code_lines_from code (i + 1) (drop (i + 1) code)) ≡ start
+      → new ≡ text ++ line_text (length code) i (is_target code i) (get_or code i d) → new ++ ended (code_lines_from code (i + 1) (drop (i + 1) code)) ≡ start
   line_written start text new before written =
       let here : code_lines_from code i (drop i code) ≡ code_lines_from code i (get_or code i d ∷ drop (i + 1) code) =
       at_drop_more (code_lines_from code i) code i d within in
@@ -43,16 +44,7 @@ module _ (code : List (List ℕ)) (i : ℕ) (d : List ℕ) (within : i < length 
 -- ---- targets
 
 any_more : (p : List ℕ → Bool) (xs : List (List ℕ)) (x : List ℕ) → list_any p (xs ++ (x ∷ [])) ≡ (list_any p xs || p x)
-any_more p [] x = or_false (p x)
-  where
-    or_false : (b : Bool) → (b || false) ≡ b
-    or_false true = refl
-    or_false false = refl
-any_more p (y ∷ xs) x = by (p y) (any_more p xs x)
-  where
-    by : (b : Bool) → list_any p (xs ++ (x ∷ [])) ≡ (list_any p xs || p x) → (b || list_any p (xs ++ (x ∷ []))) ≡ ((b || list_any p xs) || p x)
-    by true e = refl
-    by false e = e
+any_more p xs x = list_any-append p xs (x ∷ []) ∙ ap (λ (b : Bool). list_any p xs || b) (or-false (p x))
 
 -- one more instruction was looked at
 pub targets_more : (old new : List Bool) (code : List (List ℕ)) (count i : ℕ) (d : List ℕ) → i < length code → TargetsAre old (take i code) count
@@ -103,9 +95,7 @@ filtered_needs needs (c ∷ cs) = by (is_among needs c) (filtered_needs needs cs
 
 needs_ended : (needs : List Condition) → needs_named needs ≡ needs → ended (map (λ c. codes ".need " ++ condition_name c) needs) ≡ needs_text needs
 needs_ended needs same =
-    mapped_ended (λ c. codes ".need " ++ condition_name c) need_text need_ended needs
-    ∙ ap (flat_map need_text) (sym same)
-    ∙ filtered_needs needs can_be_needed
+    mapped_ended (λ c. codes ".need " ++ condition_name c) need_text need_ended needs ∙ ap (flat_map need_text) (sym same) ∙ filtered_needs needs can_be_needed
     ∙ (λ i. need_if_among needs condition.NewChannel ++ (need_if_among needs condition.NewEvent ++ (need_if_among needs condition.NewEventpair
     ++ (need_if_among needs condition.NewPort ++ append-nil (need_if_among needs condition.NewProcess) i))))
 
@@ -118,8 +108,7 @@ numbers_ended memory budget rest =
     append_assoc (codes ".memory " ++ memory) (codes "\n") (((codes ".budget " ++ budget) ++ codes "\n") ++ rest)
     ∙ append_assoc (codes ".memory ") memory (codes "\n" ++ (((codes ".budget " ++ budget) ++ codes "\n") ++ rest))
     ∙ ap (λ (x : List ℕ). codes ".memory " ++ (memory ++ (codes "\n" ++ x))) (append_assoc (codes ".budget " ++ budget) (codes "\n") rest
-    ∙ append_assoc (codes ".budget ") budget (codes "\n" ++ rest)
-    ∙ ap (λ (x : List ℕ). codes ".budget " ++ x) (sym (append_assoc budget (codes "\n") rest)))
+    ∙ append_assoc (codes ".budget ") budget (codes "\n" ++ rest) ∙ ap (λ (x : List ℕ). codes ".budget " ++ x) (sym (append_assoc budget (codes "\n") rest)))
     ∙ sym (ap (λ (x : List ℕ). codes ".memory " ++ x) (append_assoc memory (codes "\n.budget " ++ (budget ++ codes "\n")) rest))
 
 fields_ended : (raw : Bool) (memory budget rest : List ℕ)

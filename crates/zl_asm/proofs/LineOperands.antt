@@ -39,9 +39,8 @@ joined said word (Some more) = ap Some (sym (append_assoc said (word ∷ []) mor
 by_two : (rest : List Text) (d : Text) → 2 ≤ length rest → is_word (get_or rest 0 d).now comma ≡ false → is_word (get_or rest 1 d).now comma ≡ true
     → operands_after (texts rest) ≡ option_map (λ more. (get_or rest 0 d).now ∷ more) (operands_after (texts (drop 2 rest)))
 unfolding operands_after
-by_two [] d two p q = absurd (omega arith)
-by_two (w ∷ []) d two p q = absurd (omega arith)
 by_two (w ∷ n ∷ rest) d two p q = rw (p, q) refl
+by_two _ d two p q = absurd (omega arith)
 
 -- a word with a comma behind it is one more operand
 pub one_more : (whole : Option (List (List ℕ))) (said : List (List ℕ)) (rest : List Text) (d : Text) → 2 ≤ length rest
@@ -59,16 +58,14 @@ refused whole said rest so_far e = so_far ∙ ap (λ (o : Option (List (List ℕ
 
 none_at_comma : (rest : List Text) (d : Text) → 2 ≤ length rest → is_word (get_or rest 0 d).now comma ≡ true → operands_after (texts rest) ≡ None
 unfolding operands_after
-none_at_comma [] d two p = absurd (omega arith)
-none_at_comma (w ∷ []) d two p = absurd (omega arith)
 none_at_comma (w ∷ n ∷ rest) d two p = rw p refl
+none_at_comma _ d two p = absurd (omega arith)
 
 none_at_words : (rest : List Text) (d : Text) → 2 ≤ length rest → is_word (get_or rest 0 d).now comma ≡ false → is_word (get_or rest 1 d).now comma ≡ false
     → operands_after (texts rest) ≡ None
 unfolding operands_after
-none_at_words [] d two p q = absurd (omega arith)
-none_at_words (w ∷ []) d two p q = absurd (omega arith)
 none_at_words (w ∷ n ∷ rest) d two p q = rw (p, q) refl
+none_at_words _ d two p q = absurd (omega arith)
 
 -- a comma stands in the place of a word
 pub at_comma : (whole : Option (List (List ℕ))) (said : List (List ℕ)) (rest : List Text) (d : Text) → 2 ≤ length rest
@@ -83,27 +80,23 @@ at_words whole said rest d two p q so_far = refused whole said rest so_far (none
 last_one : (rest : List Text) (d : Text) → 1 ≤ length rest → length rest < 2 → is_word (get_or rest 0 d).now comma ≡ false
     → operands_after (texts rest) ≡ Some ((get_or rest 0 d).now ∷ [])
 unfolding operands_after
-last_one [] d some below p = absurd (omega arith)
 last_one (w ∷ []) d some below p = rw p refl
-last_one (w ∷ n ∷ rest) d some below p = absurd (omega arith)
+last_one _ d some below p = absurd (omega arith)
 
 -- the last word
 pub at_last : (whole : Option (List (List ℕ))) (said : List (List ℕ)) (rest : List Text) (d : Text) → 1 ≤ length rest → length rest < 2
-    → is_word (get_or rest 0 d).now comma ≡ false
-    → SoFar whole said rest → whole ≡ Some (said ++ (get_or rest 0 d).now ∷ [])
+    → is_word (get_or rest 0 d).now comma ≡ false → SoFar whole said rest → whole ≡ Some (said ++ (get_or rest 0 d).now ∷ [])
 at_last whole said rest d some below p so_far = so_far ∙ ap (λ (o : Option (List (List ℕ))). option_map (λ more. said ++ more) o) (last_one rest d some below p)
 
 none_after_comma : (rest : List Text) (d : Text) → 1 ≤ length rest → length rest < 2 → is_word (get_or rest 0 d).now comma ≡ true
     → operands_after (texts rest) ≡ None
 unfolding operands_after
-none_after_comma [] d some below p = absurd (omega arith)
 none_after_comma (w ∷ []) d some below p = rw p refl
-none_after_comma (w ∷ n ∷ rest) d some below p = absurd (omega arith)
+none_after_comma _ d some below p = absurd (omega arith)
 
 -- the last word is a comma
 pub at_last_comma : (whole : Option (List (List ℕ))) (said : List (List ℕ)) (rest : List Text) (d : Text) → 1 ≤ length rest → length rest < 2
-    → is_word (get_or rest 0 d).now comma ≡ true
-    → SoFar whole said rest → whole ≡ None
+    → is_word (get_or rest 0 d).now comma ≡ true → SoFar whole said rest → whole ≡ None
 at_last_comma whole said rest d some below p so_far = refused whole said rest so_far (none_after_comma rest d some below p)
 
 none_after : (rest : List Text) → length rest < 1 → operands_after (texts rest) ≡ None
@@ -139,8 +132,7 @@ onto_front front r None = refl
 onto_front front r (Some more) = ap Some (sym (append_assoc front (r ∷ []) more))
 
 pub next_register : (words : List Text) (i : ℕ) (d : Text) (places : List ℕ) (r : ℕ) → i < length words → i < length places
-    → Some r ≡ register_of (get_or words i d).now
-    → InPlaces words i places → InPlaces words (i + 1) (set places i r)
+    → Some r ≡ register_of (get_or words i d).now → InPlaces words i places → InPlaces words (i + 1) (set places i r)
 next_register words i d places r within inside e so_far =
     let next : suc i ≡ i + 1 = omega arith in
     let front : take i places ++ r ∷ [] ≡ take (i + 1) (set places i r) = sym (take-suc-set places i r inside) ∙ ap (λ (n : ℕ). take n (set places i r)) next in
@@ -153,13 +145,11 @@ next_register words i d places r within inside e so_far =
 pub no_register : (words : List Text) (i : ℕ) (d : Text) (places : List ℕ) → i < length words → None ≡ register_of (get_or words i d).now
     → InPlaces words i places → all_registers words ≡ None
 no_register words i d places within e so_far =
-    so_far
-    ∙ ap (λ (o : Option (List ℕ)). option_map (λ more. take i places ++ more) o)
+    so_far ∙ ap (λ (o : Option (List ℕ)). option_map (λ more. take i places ++ more) o)
     (at_word words i d within ∙ ap (λ (o : Option ℕ). onto_all o (all_registers (drop (i + 1) words))) (sym e) ∙ onto_none (all_registers (drop (i + 1) words)))
 
 pub last_register : (words : List Text) (i : ℕ) (places start : List ℕ) → length words ≤ i → i ≤ length places → drop i places ≡ drop i start
-    → InPlaces words i places
-    → Some places ≡ option_map (λ registers. registers ++ drop (length registers) start) (all_registers words)
+    → InPlaces words i places → Some places ≡ option_map (λ registers. registers ++ drop (length registers) start) (all_registers words)
 unfolding all_of
 last_register words i places start all inside untouched so_far =
     let front : take i places ++ [] ≡ take i places = append-nil (take i places) in
@@ -173,14 +163,12 @@ last_register words i places start all inside untouched so_far =
 
 counted : (o : Option ℕ) (p : Option (List ℕ)) (registers : List ℕ) (n : ℕ) → onto_all o p ≡ Some registers
     → ((more : List ℕ) → p ≡ Some more → length more ≡ n) → length registers ≡ suc n
-counted None None registers n e h = absurd (cc)
-counted None (Some more) registers n e h = absurd (cc)
-counted (Some r) None registers n e h = absurd (cc)
 counted (Some r) (Some more) registers n e h =
     let same : r ∷ more ≡ registers = cc in
     let inner : length more ≡ n = h more refl in
     let whole : suc (length more) ≡ length registers = ap (λ (x : List ℕ). length x) same in
     omega arith
+counted _ _ registers n e h = absurd (cc)
 
 -- there is a register for each word
 pub count_of : (words : List Text) (registers : List ℕ) → all_registers words ≡ Some registers → length registers ≡ length words
@@ -246,8 +234,7 @@ with_both opcode (Some registers) p places t e q =
 pub assembled : (opcode count : ℕ) (kind : Ending) (operands front back : List Text) (places : List ℕ) (t : Tail) (bytes : List ℕ)
     → front ≡ take count operands → back ≡ drop count operands → length front ≡ count → count ≤ 7
     → Some places ≡ option_map (λ registers. registers ++ drop (length registers) (replicate 7 0)) (all_registers front) → Some t ≡ tail_of kind (texts back)
-    → bytes ≡ opcode ∷ (places ++ t.bytes)
-    → Some (record { bytes = bytes; label = t.label })
+    → bytes ≡ opcode ∷ (places ++ t.bytes) → Some (record { bytes = bytes; label = t.label })
     ≡ source_with opcode (registers_of count (take count (texts operands))) (tail_of kind (drop count (texts operands)))
 assembled opcode count kind operands front back places t bytes f b len few p q whole =
     let first : take count (texts operands) ≡ texts front = take-map _ count operands ∙ ap texts (sym f) in

@@ -1,11 +1,13 @@
 -- Lines that give no fields of an image, whatever lines follow.
 use Rattle.zl_asm.proofs.Common.{Blank, Bool, Code, Declares, Directive, Label, Line, List, Listing, None, Option, Some, Source, [], all_of, ap, append-nil}
 use Rattle.zl_asm.proofs.Common.{arith, budget_in, cond, declares, directives_first, false, flat_map, flat_map-append, given, if_fits, instr_fault, is_body}
-use Rattle.zl_asm.proofs.Common.{is_listing, is_some, labels_from, leb, length, length-append, list_all, list_all-append, list_any, listing_from, listing_with}
+use Rattle.zl_asm.proofs.Common.{is_listing, is_some, labels_from, length, length-append, list_all, list_all-append, list_any, listing_from, listing_with}
 use Rattle.zl_asm.proofs.Common.{lt-leb, mark_in, memory_in, names_once, need_in, needs_named, not, onto_all, position_of, refl, resolved, slots_in, source_in}
 use Rattle.zl_asm.proofs.Common.{start_in, sym, true, true≢false, ℕ, ◌&&◌, ◌++◌, ◌+◌, ◌<◌, ◌||◌, ◌∙◌, ◌∷◌, ◌≡◌, ◌≤◌}
 use Rattle.zl_asm.specs.declared.directive.Directive.TheVariants as directive
 use Rattle.zl_asm.proofs.Labels.{labels_from-append, not-once}
+use Rattle.std.proofs.lemmas.Bool.{and_right, and_parts, not_from_true}
+use Rattle.std.proofs.Math.Bool.{and-false}
 
 -- ---- a value for each
 
@@ -54,11 +56,7 @@ all_of-fault f test [] ys zs x z e here fails =
     rw (made.4, same, fails) refl
 all_of-fault f test (w ∷ xs) ys zs x z e here fails =
     let made = onto_all-some (f w) (all_of f (xs ++ x ∷ ys)) zs e in
-    rw (made.4, all_of-fault f test xs ys made.1 x z made.3 here fails) (by (test made.0))
-  where
-    by : (b : Bool) → (b && false) ≡ false
-    by true = refl
-    by false = refl
+    rw (made.4, all_of-fault f test xs ys made.1 x z made.3 here fails) (and_right _ _ refl)
 
 -- ---- no fields
 
@@ -66,21 +64,13 @@ unless : {X : Type 0} (b : Bool) (o : Option X) → o ≡ None → cond b o None
 unless true o e = e
 unless false o e = refl
 
-both_false : (a b : Bool) → (a && b) ≡ true → (a ≡ true) × (b ≡ true)
-both_false true b e = (refl, e)
-both_false false b e = absurd (true≢false (sym e))
-
-and_false : (a : Bool) → (a && false) ≡ false
-and_false true = refl
-and_false false = refl
-
 pub none_by_order : (lines : List Line) → directives_first lines ≡ false → listing_from lines ≡ None
 unfolding listing_from
 none_by_order lines e = rw e refl
 
 pub none_by_names : (lines : List Line) → names_once (labels_from 0 lines) ≡ false → listing_from lines ≡ None
 unfolding listing_from
-none_by_names lines e = rw (e, and_false (directives_first lines)) refl
+none_by_names lines e = rw (e, and_right (directives_first lines) false refl) refl
 
 abbrev listing_of_fields : List Line → Bool → ℕ → ℕ → List (List ℕ) → Listing
 listing_of_fields lines raw memory budget code = record {
@@ -94,8 +84,7 @@ listing_of_fields lines raw memory budget code = record {
 }
 
 -- where no fields that the lines give are in their ranges
-pub none_by_fields : (lines : List Line)
-    → ((raw : Bool) (memory budget : ℕ) (code : List (List ℕ)) → given (flat_map mark_in lines) false ≡ Some raw
+pub none_by_fields : (lines : List Line) → ((raw : Bool) (memory budget : ℕ) (code : List (List ℕ)) → given (flat_map mark_in lines) false ≡ Some raw
     → given (flat_map memory_in lines) 0 ≡ Some memory → given (flat_map budget_in lines) 1 ≡ Some budget
     → all_of (resolved (labels_from 0 lines)) (flat_map source_in lines) ≡ Some code → is_listing (listing_of_fields lines raw memory budget code) ≡ false)
     → listing_from lines ≡ None
@@ -107,8 +96,7 @@ none_by_fields lines fails =
   where
     by : (m : Option Bool) (n b : Option ℕ) (c : Option (List (List ℕ)))
         → ((raw : Bool) (memory budget : ℕ) (code : List (List ℕ)) → m ≡ Some raw → n ≡ Some memory → b ≡ Some budget → c ≡ Some code
-        → is_listing (listing_of_fields lines raw memory budget code) ≡ false)
-        → if_fits is_listing (listing_with lines m n b c) ≡ None
+        → is_listing (listing_of_fields lines raw memory budget code) ≡ false) → if_fits is_listing (listing_with lines m n b c) ≡ None
     by (Some raw) (Some memory) (Some budget) (Some code) h = rw (h raw memory budget code refl refl refl refl) refl
     by (Some raw) (Some memory) (Some budget) None h = refl
     by (Some raw) (Some memory) None c h = refl
@@ -129,7 +117,7 @@ behind_body (line ∷ said) rest d e = by (is_body line) (behind_body said rest 
   where
     by : (b : Bool) → (list_any is_body said ≡ true → directives_first (said ++ Declares d ∷ rest) ≡ false) → (b || list_any is_body said) ≡ true
         → cond b (list_all (λ l. not (declares l)) (said ++ Declares d ∷ rest)) (directives_first (said ++ Declares d ∷ rest)) ≡ false
-    by true more h = list_all-append (λ l. not (declares l)) said (Declares d ∷ rest) ∙ and_false _
+    by true more h = list_all-append (λ l. not (declares l)) said (Declares d ∷ rest) ∙ and-false _
     by false more h = more h
 
 pub refused_behind : (said rest : List Line) (d : Directive) → list_any is_body said ≡ true → listing_from (said ++ Declares d ∷ rest) ≡ None
@@ -181,18 +169,14 @@ pub refused_slots : (said rest : List Line) (s : _) → 8 ≤ length (flat_map s
 refused_slots said rest s many = none_by_fields _ (λ raw memory budget code m n b c.
     let more = length-more slots_in said rest (Declares (directive.Slots s)) s refl in
     let above : 8 < length (flat_map slots_in (said ++ Declares (directive.Slots s) ∷ rest)) = omega arith in
-    rw (lt-leb _ 8 above) (and_false _))
-
-and_false-2 : (a b : Bool) → (a && (b && false)) ≡ false
-and_false-2 true b = and_false b
-and_false-2 false b = refl
+    rw (lt-leb _ 8 above, and-false) refl)
 
 pub refused_count : (said rest : List Line) (s : Source) → 4096 ≤ length (flat_map source_in said) → listing_from (said ++ Code s ∷ rest) ≡ None
 refused_count said rest s many = none_by_fields _ (λ raw memory budget code m n b c.
     let more = length-more source_in said rest (Code s) s refl in
     let same = all_of-length (resolved (labels_from 0 (said ++ Code s ∷ rest))) _ code c in
     let above : 4096 < length code = omega arith in
-    rw (lt-leb _ 4096 above) (and_false-2 _ _))
+    rw (lt-leb _ 4096 above, and-false, and-false) refl)
 
 -- ---- an instruction with a fault
 
@@ -212,7 +196,7 @@ behind_code (line ∷ said) rest s e = by (is_body line) (behind_code said rest 
     by : (b : Bool) → (directives_first (said ++ Code s ∷ rest) ≡ true → list_all (λ l. not (declares l)) rest ≡ true)
         → cond b (list_all (λ l. not (declares l)) (said ++ Code s ∷ rest)) (directives_first (said ++ Code s ∷ rest)) ≡ true
         → list_all (λ l. not (declares l)) rest ≡ true
-    by true more h = (both_false _ _ (sym (list_all-append (λ l. not (declares l)) said (Code s ∷ rest)) ∙ h)).1
+    by true more h = (and_parts _ _ (sym (list_all-append (λ l. not (declares l)) said (Code s ∷ rest)) ∙ h)).1
     by false more h = more h
 
 -- the marks stay
@@ -220,14 +204,6 @@ same_marks : (said rest : List Line) (s : Source) → directives_first (said ++ 
     → flat_map mark_in (said ++ Code s ∷ rest) ≡ flat_map mark_in said
 same_marks said rest s e =
     flat_map-append mark_in said (Code s ∷ rest) ∙ ap (λ (l : List Bool). flat_map mark_in said ++ l) (no_marks rest (behind_code said rest s e)) ∙ append-nil _
-
-pub and_false-3 : (a b c : Bool) → (a && (b && (c && false))) ≡ false
-and_false-3 true b c = and_false-2 b c
-and_false-3 false b c = refl
-
-pub not_fine : (b : Bool) → b ≡ true → not b ≡ false
-not_fine true e = refl
-not_fine false e = absurd (true≢false (sym e))
 
 -- an instruction without a label, with a fault
 pub refused_fault : (said rest : List Line) (s : Source) (raw : Bool) → s.label ≡ None → given (flat_map mark_in said) false ≡ Some raw
@@ -241,11 +217,10 @@ refused_fault said rest s raw label mark fault = by (directives_first (said ++ C
         ap (λ (l : List Bool). given l false) (same_marks said rest s e) in
         let same : r ≡ raw = cc in
         let here : resolved (labels_from 0 (said ++ Code s ∷ rest)) s ≡ Some s.bytes = rw label refl in
-        let bad : not (is_some (instr_fault r s.bytes)) ≡ false = rw same (not_fine _ fault) in
+        let bad : not (is_some (instr_fault r s.bytes)) ≡ false = rw same (not_from_true _ fault) in
         let split = flat_map-append source_in said (Code s ∷ rest) in
         let fails : list_all (λ bytes. not (is_some (instr_fault r bytes))) code ≡ false =
         all_of-fault (resolved (labels_from 0 (said ++ Code s ∷ rest))) (λ bytes. not (is_some (instr_fault r bytes))) (flat_map source_in said)
         (flat_map source_in rest) code s s.bytes
         (ap (all_of (resolved (labels_from 0 (said ++ Code s ∷ rest)))) (sym split) ∙ c) here bad in
-        rw fails (and_false-3 (leb (length (flat_map start_in (said ++ Code s ∷ rest))) 7) (leb (length (flat_map slots_in (said ++ Code s ∷ rest))) 8)
-        (leb (length code) 4096)))
+        rw (fails, and-false, and-false, and-false) refl)

@@ -9,19 +9,16 @@ use Rattle.zl_asm.specs.declared.fault.AsmFault.{AsmFault}
 use Rattle.zl_asm.specs.declared.fault.AsmCause.TheVariants.{NoMemory}
 use Rattle.zl_asm.proofs.OneImage.{one_image}
 use Rattle.zl_asm.proofs.ListingRefused.{onto_all-some, all_of-none, all_of-more}
+use Rattle.std.proofs.Math.Bool.{and-true}
 
 -- ---- ASCII, line by line
-
-and_true : (b : Bool) → (b && true) ≡ b
-and_true true = refl
-and_true false = refl
 
 and_assoc : (a b c : Bool) → ((a && b) && c) ≡ (a && (b && c))
 and_assoc true b c = refl
 and_assoc false b c = refl
 
 first_ascii : (x : ℕ) (ls : List (List ℕ)) → list_all is_ascii (onto_first x ls) ≡ (ltb x 128 && list_all is_ascii ls)
-first_ascii x [] = and_true (ltb x 128 && true)
+first_ascii x [] = and-true (ltb x 128 && true)
 first_ascii x (l ∷ ls) = and_assoc (ltb x 128) (is_ascii l) (list_all is_ascii ls)
 
 -- each line has ASCII characters just if the text has

@@ -11,8 +11,7 @@ second_shown v (y ∷ ys) = ap (λ (zs : List _). v y.1 ∷ zs) (second_shown v 
 
 -- so many lines were yielded
 pub lines_so_far : {A : Type 0} (v : A → List ℕ) (lines : List (List ℕ)) (ys : List (ℕ × A))
-    → map {B = ℕ × List ℕ} (λ p. (p.0, v p.1)) ys ≡ take (length ys) (enumerate_from 0 lines)
-    → map (λ p. v p.1) ys ≡ take (length ys) lines
+    → map {B = ℕ × List ℕ} (λ p. (p.0, v p.1)) ys ≡ take (length ys) (enumerate_from 0 lines) → map (λ p. v p.1) ys ≡ take (length ys) lines
 lines_so_far v lines ys e =
     sym (second_shown v ys) ∙ ap (map (λ (p : ℕ × List ℕ). p.1)) e ∙ sym (take-map (λ (p : ℕ × List ℕ). p.1) (length ys) (enumerate_from 0 lines))
     ∙ ap (take (length ys)) (second_enumerated 0 lines)

@@ -12,15 +12,7 @@ code_again raw (i ∷ code) h =
 
 -- the image with these fields
 image_of : Listing → Image
-image_of l = record {
-  raw = l.raw;
-  memory = l.memory;
-  budget = l.budget;
-  needs = l.needs;
-  starts = l.starts;
-  slots = l.slots;
-  code = map read_instr l.code;
-}
+image_of l = record { raw = l.raw; memory = l.memory; budget = l.budget; needs = l.needs; starts = l.starts; slots = l.slots; code = map read_instr l.code }
 
 image_again : (i : Image) → list_all (is_instr_in_range i.raw) i.code ≡ true → image_of (fields_of i) ≡ i
 unfolding image_of

@@ -62,25 +62,15 @@ abbrev AllSaid : List Condition → Type 0
 AllSaid [] = Unit {0}
 AllSaid (c ∷ cs) = IsSaid c × AllSaid cs
 
-channel_said : IsSaid condition.NewChannel
+each_said : IsSaid condition.NewChannel × IsSaid condition.NewEvent × IsSaid condition.NewEventpair × IsSaid condition.NewPort × IsSaid condition.NewProcess
 unfolding words_from line_of directive_of is_word condition_named
-channel_said = record { printed = refl; said = refl }
-
-event_said : IsSaid condition.NewEvent
-unfolding words_from line_of directive_of is_word condition_named
-event_said = record { printed = refl; said = refl }
-
-eventpair_said : IsSaid condition.NewEventpair
-unfolding words_from line_of directive_of is_word condition_named
-eventpair_said = record { printed = refl; said = refl }
-
-port_said : IsSaid condition.NewPort
-unfolding words_from line_of directive_of is_word condition_named
-port_said = record { printed = refl; said = refl }
-
-process_said : IsSaid condition.NewProcess
-unfolding words_from line_of directive_of is_word condition_named
-process_said = record { printed = refl; said = refl }
+each_said = (
+  record { printed = refl; said = refl },
+  record { printed = refl; said = refl },
+  record { printed = refl; said = refl },
+  record { printed = refl; said = refl },
+  record { printed = refl; said = refl },
+)
 
 said_if : (t : Bool) (c : Condition) (cs : List Condition) → IsSaid c → AllSaid cs → AllSaid (need_if t c cs)
 said_if true c cs h more = (h, more)
@@ -88,8 +78,8 @@ said_if false c cs h more = more
 
 byte_said : (b : ℕ) → AllSaid (needs_at b)
 byte_said b =
-    said_if (b % 2 == 1) _ _ channel_said (said_if (b / 2 % 2 == 1) _ _ event_said (said_if (b / 4 % 2 == 1) _ _ eventpair_said
-    (said_if (b / 8 % 2 == 1) _ _ port_said (said_if (b / 16 % 2 == 1) _ _ process_said tt))))
+    said_if (b % 2 == 1) _ _ each_said.0 (said_if (b / 2 % 2 == 1) _ _ each_said.1 (said_if (b / 4 % 2 == 1) _ _ each_said.2
+    (said_if (b / 8 % 2 == 1) _ _ each_said.3 (said_if (b / 16 % 2 == 1) _ _ each_said.4 tt))))
 
 abbrev need_line : Condition → List ℕ
 need_line c = codes ".need " ++ condition_name c

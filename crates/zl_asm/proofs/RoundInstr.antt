@@ -57,8 +57,7 @@ whole_of raw row bytes here h =
 -- ---- a line of operands
 
 line_of-operands : (name : List ℕ) (row : Row) (operands : List (List ℕ)) (s : Source) → is_plain_word name ≡ true → starts_with ◌==◌ name (codes ".") ≡ false
-    → row_named name ≡ Some row
-    → 0 < length operands → list_all is_plain_word operands ≡ true → source_of row operands ≡ Some s
+    → row_named name ≡ Some row → 0 < length operands → list_all is_plain_word operands ≡ true → source_of row operands ≡ Some s
     → line_of (words_of (name ++ (codes " " ++ joined (codes ", ") operands))) ≡ Some (Code s)
 unfolding line_of with_commas
 line_of-operands name row [] s plain no_point named there all source = absurd (omega arith)
@@ -108,8 +107,7 @@ instr_said count raw bytes h = by (row_of (slice_index bytes 0)) refl
 -- ---- its bytes again
 
 pub instr_resolved : (labels : List (List ℕ × ℕ)) (count : ℕ) (raw : Bool) (bytes : List ℕ) → IsInstr raw bytes
-    → (aims (row_of (slice_index bytes 0)) ≡ true → IsPlaced labels count (reading_of bytes).target)
-    → resolved labels (source_said count bytes) ≡ Some bytes
+    → (aims (row_of (slice_index bytes 0)) ≡ true → IsPlaced labels count (reading_of bytes).target) → resolved labels (source_said count bytes) ≡ Some bytes
 instr_resolved labels count raw bytes h placed = by (row_of (slice_index bytes 0)) refl placed
   where
     by : (o : Option Row) → row_of (slice_index bytes 0) ≡ o → (aims o ≡ true → IsPlaced labels count (reading_of bytes).target)

@@ -47,10 +47,7 @@ says_nothing = record { printed = refl; says = refl }
 pub says_line : (line : List ℕ) (lines : List (List ℕ)) (said : Line) (more : List Line) → list_all is_printed line ≡ true → line_of (words_of line) ≡ Some said
     → Say lines more → Say (line ∷ lines) (said ∷ more)
 unfolding all_of
-says_line line lines said more printed says rest = record {
-  printed = and_from _ _ printed rest.printed;
-  says = λ i. onto_all (says i) (rest.says i);
-}
+says_line line lines said more printed says rest = record { printed = and_from _ _ printed rest.printed; says = λ i. onto_all (says i) (rest.says i) }
 
 -- the values of both, where all are there
 both_all : {X : Type 0} → Option (List X) → Option (List X) → Option (List X)

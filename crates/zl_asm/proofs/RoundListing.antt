@@ -1,10 +1,11 @@
 -- The fields that lines give, where directives stand before labels and instructions.
-use Rattle.zl_asm.proofs.Common.{Blank, Bool, Code, Declares, Directive, Label, Line, List, Listing, None, Some, Source, [], all_of, ap, budget_in, declares}
+use Rattle.zl_asm.proofs.Common.{Blank, Code, Declares, Directive, Label, Line, List, Listing, None, Some, Source, [], all_of, ap, budget_in, declares}
 use Rattle.zl_asm.proofs.Common.{directives_first, false, flat_map, given, if_fits, if◌then◌else◌, is_listing, is_target, label_text, labels_from, length}
 use Rattle.zl_asm.proofs.Common.{list_all, listing_from, listing_with, map, mark_in, memory_in, names_once, need_in, needs_named, not, refl, resolved, slots_in}
 use Rattle.zl_asm.proofs.Common.{source_in, start_in, suc, true, ℕ, ◌&&◌, ◌++◌, ◌∙◌, ◌∷◌, ◌≡◌}
 use Rattle.zl_asm.proofs.RoundInstr.{source_said}
 use Rattle.zl_asm.proofs.RoundLabels.{code_said_from}
+use Rattle.std.proofs.lemmas.Bool.{cond_both}
 
 -- ---- the whole of it
 
@@ -36,17 +37,13 @@ declared_first : (directives rest : List Line) → list_all declares directives 
 unfolding directives_first
 declared_first [] rest h = refl
 declared_first (Declares d ∷ directives) rest h = declared_first directives rest h
-declared_first (Blank ∷ directives) rest h = absurd cc
-declared_first (Label name ∷ directives) rest h = absurd cc
-declared_first (Code s ∷ directives) rest h = absurd cc
+declared_first _ rest h = absurd cc
 
 no_labels : (n : ℕ) (directives rest : List Line) → list_all declares directives ≡ true → labels_from n (directives ++ rest) ≡ labels_from n rest
 unfolding labels_from
 no_labels n [] rest h = refl
 no_labels n (Declares d ∷ directives) rest h = no_labels n directives rest h
-no_labels n (Blank ∷ directives) rest h = absurd cc
-no_labels n (Label name ∷ directives) rest h = absurd cc
-no_labels n (Code s ∷ directives) rest h = absurd cc
+no_labels n _ rest h = absurd cc
 
 none_declared : (lines : List Line) → list_all (λ l. not (declares l)) lines ≡ true → directives_first lines ≡ true
 unfolding directives_first
@@ -60,13 +57,10 @@ body_declares_none : (code : List (List ℕ)) (n : ℕ) (rest : List (List ℕ))
     → list_all (λ l. not (declares l)) (code_said_from code n rest ++ (Blank ∷ [])) ≡ true
 unfolding code_said_from
 body_declares_none code n [] = refl
-body_declares_none code n (bytes ∷ rest) = by (is_target code n) (body_declares_none code (suc n) rest)
-  where
-    by : (t : Bool) → list_all (λ l. not (declares l)) (code_said_from code (suc n) rest ++ (Blank ∷ [])) ≡ true
-        → list_all (λ l. not (declares l))
-        (((if t then Label (label_text n) ∷ [] else []) ++ (Code (source_said (length code) bytes) ∷ code_said_from code (suc n) rest)) ++ (Blank ∷ [])) ≡ true
-    by true h = h
-    by false h = h
+body_declares_none code n (bytes ∷ rest) =
+    let h = body_declares_none code (suc n) rest in
+    let more = Code (source_said (length code) bytes) ∷ code_said_from code (suc n) rest in
+    cond_both (is_target code n) (Label (label_text n) ∷ []) [] (λ ls. list_all (λ l. not (declares l)) ((ls ++ more) ++ (Blank ∷ [])) ≡ true) (λ _. h) (λ _. h)
 
 pub in_order : (directives : List Line) (code : List (List ℕ)) → list_all declares directives ≡ true
     → directives_first (directives ++ (code_said_from code 0 code ++ (Blank ∷ []))) ≡ true
@@ -98,22 +92,19 @@ pub none_in_body : {A : Type 0} (f : Line → List A) → ((name : List ℕ) →
     → (code : List (List ℕ)) (n : ℕ) (rest : List (List ℕ)) → flat_map f (code_said_from code n rest) ≡ []
 unfolding code_said_from
 none_in_body f label source code n [] = refl
-none_in_body f label source code n (bytes ∷ rest) = by (is_target code n) (none_in_body f label source code (suc n) rest)
-  where
-    by : (t : Bool) → flat_map f (code_said_from code (suc n) rest) ≡ []
-        → flat_map f ((if t then Label (label_text n) ∷ [] else []) ++ (Code (source_said (length code) bytes) ∷ code_said_from code (suc n) rest)) ≡ []
-    by true h = λ i. label (label_text n) i ++ (source (source_said (length code) bytes) i ++ h i)
-    by false h = λ i. source (source_said (length code) bytes) i ++ h i
+none_in_body f label source code n (bytes ∷ rest) =
+    let h = none_in_body f label source code (suc n) rest in
+    let more = Code (source_said (length code) bytes) ∷ code_said_from code (suc n) rest in
+    cond_both (is_target code n) (Label (label_text n) ∷ []) [] (λ ls. flat_map f (ls ++ more) ≡ [])
+    (λ _ i. label (label_text n) i ++ (source (source_said (length code) bytes) i ++ h i)) (λ _ i. source (source_said (length code) bytes) i ++ h i)
 
 -- the instructions
 pub sources_in_body : (code : List (List ℕ)) (n : ℕ) (rest : List (List ℕ))
     → flat_map source_in (code_said_from code n rest) ≡ map (source_said (length code)) rest
 unfolding code_said_from
 sources_in_body code n [] = refl
-sources_in_body code n (bytes ∷ rest) = by (is_target code n) (sources_in_body code (suc n) rest)
-  where
-    by : (t : Bool) → flat_map source_in (code_said_from code (suc n) rest) ≡ map (source_said (length code)) rest
-        → flat_map source_in ((if t then Label (label_text n) ∷ [] else []) ++ (Code (source_said (length code) bytes) ∷ code_said_from code (suc n) rest))
-        ≡ map (source_said (length code)) (bytes ∷ rest)
-    by true h = ap (λ (ss : List Source). source_said (length code) bytes ∷ ss) h
-    by false h = ap (λ (ss : List Source). source_said (length code) bytes ∷ ss) h
+sources_in_body code n (bytes ∷ rest) =
+    let h = ap (λ (ss : List Source). source_said (length code) bytes ∷ ss) (sources_in_body code (suc n) rest) in
+    let more = Code (source_said (length code) bytes) ∷ code_said_from code (suc n) rest in
+    cond_both (is_target code n) (Label (label_text n) ∷ []) [] (λ ls. flat_map source_in (ls ++ more) ≡ map (source_said (length code)) (bytes ∷ rest))
+    (λ _. h) (λ _. h)

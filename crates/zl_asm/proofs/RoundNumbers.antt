@@ -34,11 +34,7 @@ is_digit-decimal b h =
     ap (λ (o : Option ℕ). is_some o && nat_lt (unwrap_or o 0) 10) (digit_of-decimal b h) ∙ lt-ltb (b - 48) 10 (omega arith)
 
 one_digit : (n : ℕ) → n < 10 → IsDecimal n ((48 + n) ∷ [])
-one_digit n lt = record {
-  digits = rw (digit_is n lt) refl;
-  filled = omega arith;
-  value = omega (arith, digit_value-digit n lt);
-}
+one_digit n lt = record { digits = rw (digit_is n lt) refl; filled = omega arith; value = omega (arith, digit_value-digit n lt) }
 
 more_digits : (n : ℕ) (ds : List ℕ) → IsDecimal (n / 10) ds → IsDecimal n (ds ++ ((48 + n % 10) ∷ []))
 more_digits n ds d =

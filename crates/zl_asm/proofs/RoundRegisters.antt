@@ -1,10 +1,12 @@
 -- Registers, and the handles behind them, are read as they are written.
 use Rattle.zl_asm.proofs.Common.{Bool, List, None, Option, Some, [], all_of, and_from, and_parts, ap, are_places, are_registers, arith, eqb-true, false, filter}
 use Rattle.zl_asm.proofs.Common.{if◌then◌else◌, is_packed, le-leb, length, list_all, ltb-true, map, nat_le, nat_lt, not, places_of, refl, register_of}
-use Rattle.zl_asm.proofs.Common.{register_text, replicate, suc, sym, take, true, zero, ℕ, ◌++◌, ◌-◌, ◌<◌, ◌==◌, ◌||◌, ◌∙◌, ◌∷◌, ◌≡◌, ◌≤◌}
+use Rattle.zl_asm.proofs.Common.{register_text, replicate, suc, sym, take, true, zero, ℕ, ◌++◌, ◌-◌, ◌<◌, ◌==◌, ◌||◌, ◌∙◌, ◌∷◌, ◌≡◌}
 use Rattle.std.specs.Fmt.{digits}
 use Rattle.zl_code.proofs.Below.{all_below, below}
 use Rattle.zl_asm.proofs.RoundWords.{is_plain_word}
+use Rattle.std.proofs.Math.Bool.{or-false}
+use Rattle.zl_code.proofs.Entering.{length_filter}
 
 -- the value is there, and is n
 abbrev pub is_just : Option ℕ → ℕ → Bool
@@ -64,19 +66,7 @@ are_registers-taken (b ∷ bs) h =
     by : (t : Bool) → nat_lt b 32 || t ≡ true → are_registers (filter is_taken bs) ≡ true
         → are_registers (if not t then b ∷ filter is_taken bs else filter is_taken bs) ≡ true
     by true here more = more
-    by false here more = and_from _ _ (or_false (nat_lt b 32) here) more
-      where
-        or_false : (x : Bool) → x || false ≡ true → x ≡ true
-        or_false true e = refl
-        or_false false e = e
-
-length-taken : (places : List ℕ) → length (filter is_taken places) ≤ length places
-length-taken [] = omega arith
-length-taken (b ∷ bs) = by (b == 255) (length-taken bs)
-  where
-    by : (t : Bool) → length (filter is_taken bs) ≤ length bs → length (if not t then b ∷ filter is_taken bs else filter is_taken bs) ≤ suc (length bs)
-    by true le = omega arith
-    by false le = omega arith
+    by false here more = and_from _ _ (sym (or-false (nat_lt b 32)) ∙ here) more
 
 none_taken : (places : List ℕ) → list_all (λ x. x == 255) places ≡ true → filter is_taken places ≡ []
 none_taken [] h = refl
@@ -95,8 +85,7 @@ taken_then_free [] h = refl
 taken_then_free (b ∷ bs) h = by (λ packed. taken_then_free bs packed) (b == 255) refl h
   where
     by : (is_packed bs ≡ true → filter is_taken bs ++ replicate (length bs - length (filter is_taken bs)) 255 ≡ bs) → (t : Bool) → (b == 255) ≡ t
-        → (if t then list_all (λ x. x == 255) bs else is_packed bs) ≡ true
-        → (if not t then b ∷ filter is_taken bs
+        → (if t then list_all (λ x. x == 255) bs else is_packed bs) ≡ true → (if not t then b ∷ filter is_taken bs
         else filter is_taken bs) ++ replicate (suc (length bs) - length (if not t then b ∷ filter is_taken bs else filter is_taken bs)) 255 ≡ b ∷ bs
     by rest true e all =
         let whole : suc (length bs) - 0 ≡ suc (length bs) = omega arith in
@@ -107,6 +96,6 @@ taken_then_free (b ∷ bs) h = by (λ packed. taken_then_free bs packed) (b == 2
 
 pub places_of-taken : (places : List ℕ) → length places ≡ 8 → is_packed places ≡ true → places_of (filter is_taken places) ≡ Some places
 places_of-taken places len packed =
-    let few : nat_le (length (filter is_taken places)) 8 ≡ true = le-leb _ 8 (omega (arith, length-taken places)) in
+    let few : nat_le (length (filter is_taken places)) 8 ≡ true = le-leb _ 8 (omega (arith, length_filter is_taken places)) in
     rw few (ap (λ (xs : List ℕ). Some xs)
     (ap (λ (n : ℕ). filter is_taken places ++ replicate (n - length (filter is_taken places)) 255) (sym len) ∙ taken_then_free places packed))

@@ -29,8 +29,7 @@ found (r ∷ rs) opcode row all h =
     by p.0 (λ here. found rs opcode row p.1 here) (r.opcode == opcode) refl h
   where
     by : test r ≡ true → (row_among rs opcode ≡ Some row → (row.opcode ≡ opcode) × (test row ≡ true)) → (t : Bool) → (r.opcode == opcode) ≡ t
-        → (if t then Some r else row_among rs opcode) ≡ Some row
-        → (row.opcode ≡ opcode) × (test row ≡ true)
+        → (if t then Some r else row_among rs opcode) ≡ Some row → (row.opcode ≡ opcode) × (test row ≡ true)
     by first rest true e here = let same : r ≡ row = cc in subst (λ (x : Row). (x.opcode ≡ opcode) × (test x ≡ true)) same (eqb-true r.opcode opcode e, first)
     by first rest false e here = rest here
 

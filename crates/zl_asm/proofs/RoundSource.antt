@@ -74,8 +74,7 @@ module _ (count : ℕ) (row : Row) (r : Reading) (few : length row.fields ≤ 7)
 
   pub source_of-texts : source_of row (operand_texts count row r) ≡ Some (source_read count row r)
   unfolding source_of
-  source_of-texts =
-      λ i. source_with row.opcode (registers_read i) ((ap (tail_of row.ending) behind_read ∙ tail_of-texts count row.ending r h) i)
+  source_of-texts = λ i. source_with row.opcode (registers_read i) ((ap (tail_of row.ending) behind_read ∙ tail_of-texts count row.ending r h) i)
 
 -- ---- plain operands
 

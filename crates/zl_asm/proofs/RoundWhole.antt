@@ -19,9 +19,7 @@ marks raw = if raw then Declares directive.Raw ∷ [] else []
 
 abbrev directives_said : Image → List Line
 directives_said i =
-    marks i.raw
-    ++ ((Declares (directive.Memory i.memory) ∷ [])
-    ++ ((Declares (directive.Budget i.budget) ∷ [])
+    marks i.raw ++ ((Declares (directive.Memory i.memory) ∷ []) ++ ((Declares (directive.Budget i.budget) ∷ [])
     ++ (map (λ c. Declares (directive.Need c)) i.needs
     ++ (map (λ s. Declares (directive.Start s)) i.starts ++ map (λ s. Declares (directive.Slots s)) i.slots))))
 
@@ -50,11 +48,8 @@ mark_declared false = refl
 
 directives_declared : (i : Image) → list_all declares (directives_said i) ≡ true
 directives_declared i =
-    list_all-append declares (marks i.raw) _
-    ∙ and_from _ _ (mark_declared i.raw)
-    (list_all-append declares (map (λ c. Declares (directive.Need c)) i.needs) _
-    ∙ and_from _ _ (all_declared (λ c. directive.Need c) i.needs)
-    (list_all-append declares (map (λ s. Declares (directive.Start s)) i.starts) _
+    list_all-append declares (marks i.raw) _ ∙ and_from _ _ (mark_declared i.raw) (list_all-append declares (map (λ c. Declares (directive.Need c)) i.needs) _
+    ∙ and_from _ _ (all_declared (λ c. directive.Need c) i.needs) (list_all-append declares (map (λ s. Declares (directive.Start s)) i.starts) _
     ∙ and_from _ _ (all_declared (λ s. directive.Start s) i.starts) (all_declared (λ s. directive.Slots s) i.slots)))
 
 -- ---- what stands in the lines
@@ -67,8 +62,7 @@ lines_said_of i code = directives_said i ++ (code_said_from code 0 code ++ (Blan
 gathered : {A : Type 0} (f : Line → List A) (i : Image) (code : List (List ℕ)) (a d e g h : List A) → flat_map f (marks i.raw) ≡ a
     → flat_map f (map (λ c. Declares (directive.Need c)) i.needs) ≡ d
     → flat_map f (map (λ s. Declares (directive.Start s)) i.starts) ≡ e → flat_map f (map (λ s. Declares (directive.Slots s)) i.slots) ≡ g
-    → flat_map f (code_said_from code 0 code) ≡ h → f Blank ≡ []
-    → flat_map f (lines_said_of i code)
+    → flat_map f (code_said_from code 0 code) ≡ h → f Blank ≡ [] → flat_map f (lines_said_of i code)
     ≡ a ++ (f (Declares (directive.Memory i.memory)) ++ (f (Declares (directive.Budget i.budget)) ++ (d ++ (e ++ (g ++ h)))))
 gathered f i code a d e g h mark needs starts slots body blank =
     let ns = map (λ c. Declares (directive.Need c)) i.needs in
@@ -122,22 +116,19 @@ needs_given : (i : Image) (code : List (List ℕ)) → flat_map need_in (lines_s
 needs_given i code =
     gathered need_in i code [] i.needs [] [] [] (no_mark need_in refl i.raw) (kept need_in (λ c. directive.Need c) (λ c. refl) i.needs)
     (skipped need_in (λ s. directive.Start s) (λ s. refl) i.starts) (skipped need_in (λ s. directive.Slots s) (λ s. refl) i.slots)
-    (none_in_body need_in (λ n. refl) (λ s. refl) code 0 code) refl
-    ∙ append-nil i.needs
+    (none_in_body need_in (λ n. refl) (λ s. refl) code 0 code) refl ∙ append-nil i.needs
 
 starts_given : (i : Image) (code : List (List ℕ)) → flat_map start_in (lines_said_of i code) ≡ i.starts
 starts_given i code =
     gathered start_in i code [] [] i.starts [] [] (no_mark start_in refl i.raw) (skipped start_in (λ c. directive.Need c) (λ c. refl) i.needs)
     (kept start_in (λ s. directive.Start s) (λ s. refl) i.starts) (skipped start_in (λ s. directive.Slots s) (λ s. refl) i.slots)
-    (none_in_body start_in (λ n. refl) (λ s. refl) code 0 code) refl
-    ∙ append-nil i.starts
+    (none_in_body start_in (λ n. refl) (λ s. refl) code 0 code) refl ∙ append-nil i.starts
 
 slots_given : (i : Image) (code : List (List ℕ)) → flat_map slots_in (lines_said_of i code) ≡ i.slots
 slots_given i code =
     gathered slots_in i code [] [] [] i.slots [] (no_mark slots_in refl i.raw) (skipped slots_in (λ c. directive.Need c) (λ c. refl) i.needs)
     (skipped slots_in (λ s. directive.Start s) (λ s. refl) i.starts) (kept slots_in (λ s. directive.Slots s) (λ s. refl) i.slots)
-    (none_in_body slots_in (λ n. refl) (λ s. refl) code 0 code) refl
-    ∙ append-nil i.slots
+    (none_in_body slots_in (λ n. refl) (λ s. refl) code 0 code) refl ∙ append-nil i.slots
 
 sources_given : (i : Image) (code : List (List ℕ)) → flat_map source_in (lines_said_of i code) ≡ map (source_said (length code)) code
 sources_given i code =

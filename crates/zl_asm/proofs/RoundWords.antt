@@ -39,8 +39,7 @@ before_plain (b ∷ bs) words h = refl
 -- a word alone
 pub words_of-alone : (word : List ℕ) → is_plain_word word ≡ true → words_of word ≡ word ∷ []
 unfolding words_from
-words_of-alone word h =
-    ap words_of (sym (append-nil word)) ∙ words_from-plain [] word [] (plain_all word h) ∙ before_plain word [] h
+words_of-alone word h = ap words_of (sym (append-nil word)) ∙ words_from-plain [] word [] (plain_all word h) ∙ before_plain word [] h
 
 -- a word and a space
 pub words_of-space : (word rest : List ℕ) → is_plain_word word ≡ true → words_of (word ++ (codes " " ++ rest)) ≡ word ∷ words_of rest

@@ -10,18 +10,12 @@ sixteen o = if_fits (λ bytes. eqb (length bytes) 16) o
 
 counted : (high low : Option ℕ) (more : Option (List ℕ)) (bytes : List ℕ) (n : ℕ) → byte_before high low more ≡ Some bytes
     → ((ys : List ℕ) → more ≡ Some ys → n ≡ 2 * length ys) → suc (suc n) ≡ 2 * length bytes
-counted None None None bytes n e h = absurd (cc)
-counted None None (Some m) bytes n e h = absurd (cc)
-counted None (Some l) None bytes n e h = absurd (cc)
-counted None (Some l) (Some m) bytes n e h = absurd (cc)
-counted (Some h1) None None bytes n e h = absurd (cc)
-counted (Some h1) None (Some m) bytes n e h = absurd (cc)
-counted (Some h1) (Some l) None bytes n e h = absurd (cc)
 counted (Some h1) (Some l) (Some m) bytes n e h =
     let same : (h1 * 16 + l) ∷ m ≡ bytes = cc in
     let inner : n ≡ 2 * length m = h m refl in
     let whole : suc (length m) ≡ length bytes = ap (λ (x : List ℕ). length x) same in
     omega arith
+counted _ _ _ bytes n e h = absurd (cc)
 
 count_of : (digits bytes : List ℕ) → hex_bytes digits ≡ Some bytes → length digits ≡ 2 * length bytes
 unfolding hex_bytes
@@ -47,8 +41,7 @@ not_sixteen digits apart =
 abbrev pub InBytes : List ℕ → ℕ → List ℕ → Type 0
 InBytes digits i bytes = hex_bytes digits ≡ option_map (λ rest. take i bytes ++ rest) (hex_bytes (drop (2 * i) digits))
 
-at_pair : (digits : List ℕ) (i : ℕ) → 2 * i + 1 < length digits
-    → hex_bytes (drop (2 * i) digits)
+at_pair : (digits : List ℕ) (i : ℕ) → 2 * i + 1 < length digits → hex_bytes (drop (2 * i) digits)
     ≡ byte_before (digit_of (get_or digits (2 * i) 0)) (digit_of (get_or digits (2 * i + 1) 0)) (hex_bytes (drop (2 * (i + 1)) digits))
 unfolding hex_bytes
 at_pair digits i within =
@@ -60,13 +53,11 @@ at_pair digits i within =
 
 front_byte : (front : List ℕ) (high low : Option ℕ) (byte : ℕ) (more : Option (List ℕ)) → Some (byte ∷ []) ≡ byte_before high low (Some [])
     → option_map (λ rest. front ++ rest) (byte_before high low more) ≡ option_map (λ rest. (front ++ byte ∷ []) ++ rest) more
-front_byte front None None byte more e = absurd (cc)
-front_byte front None (Some l) byte more e = absurd (cc)
-front_byte front (Some h) None byte more e = absurd (cc)
 front_byte front (Some h) (Some l) byte None e = refl
 front_byte front (Some h) (Some l) byte (Some m) e =
     let same : byte ≡ h * 16 + l = cc in
     ap Some (ap (λ (b : ℕ). front ++ b ∷ m) (sym same) ∙ sym (append_assoc front (byte ∷ []) m))
+front_byte front _ _ byte more e = absurd (cc)
 
 pub next_byte : (digits : List ℕ) (i : ℕ) (bytes : List ℕ) (byte : ℕ) → 2 * i + 1 < length digits → i < length bytes
     → Some (byte ∷ []) ≡ byte_before (digit_of (get_or digits (2 * i) 0)) (digit_of (get_or digits (2 * i + 1) 0)) (Some [])
@@ -81,20 +72,14 @@ next_byte digits i bytes byte within inside e so_far =
     ∙ ap (λ (x : List ℕ). option_map (λ rest. x ++ rest) (hex_bytes (drop (2 * (i + 1)) digits))) front
 
 no_front : (high low : Option ℕ) (more : Option (List ℕ)) → None ≡ byte_before high low (Some []) → byte_before high low more ≡ None
-no_front None None more e = refl
-no_front None (Some l) more e = refl
-no_front (Some h) None more e = refl
 no_front (Some h) (Some l) more e = absurd (cc)
+no_front _ _ more e = refl
 
 pub no_byte : (digits : List ℕ) (i : ℕ) (bytes : List ℕ) → 2 * i + 1 < length digits
     → None ≡ byte_before (digit_of (get_or digits (2 * i) 0)) (digit_of (get_or digits (2 * i + 1) 0)) (Some [])
     → InBytes digits i bytes → None ≡ sixteen (hex_bytes digits)
 no_byte digits i bytes within e so_far =
-    ap sixteen
-    (sym
-    (so_far
-    ∙ ap (λ (o : Option (List ℕ)). option_map (λ rest. take i bytes ++ rest) o)
-    (at_pair digits i within
+    ap sixteen (sym (so_far ∙ ap (λ (o : Option (List ℕ)). option_map (λ rest. take i bytes ++ rest) o) (at_pair digits i within
     ∙ no_front (digit_of (get_or digits (2 * i) 0)) (digit_of (get_or digits (2 * i + 1) 0)) (hex_bytes (drop (2 * (i + 1)) digits)) e)))
 
 pub last_byte : (digits : List ℕ) (i : ℕ) (bytes : List ℕ) → length digits ≡ 32 → 16 ≤ i → length bytes ≡ 16 → InBytes digits i bytes

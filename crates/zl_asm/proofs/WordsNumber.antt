@@ -79,8 +79,7 @@ some_number base digits nonempty all below =
 
 -- a digit more that isn't taken: it isn't below the base, or the number is too large
 pub none_longer : (base value digit i : ℕ) (digits : List ℕ) → i < length digits → value ≡ value_of base (take i digits)
-    → Some digit ≡ digit_of (get_or digits i 0) → ((digit < base) × (value * base + digit < 2 ^ 32) → ⊥)
-    → None ≡ number_in base digits
+    → Some digit ≡ digit_of (get_or digits i 0) → ((digit < base) × (value * base + digit < 2 ^ 32) → ⊥) → None ≡ number_in base digits
 none_longer base value digit i digits within v d refused = by (nat_lt digit base) refl
   where
     by : (t : Bool) → nat_lt digit base ≡ t → None ≡ number_in base digits
@@ -98,8 +97,7 @@ one_longer base digit i digits within d =
     ap (λ (x : ℕ). value_of base (take i digits) * base + x) (value_is (get_or digits i 0) digit d) ∙ sym (fold_more (with base) 0 digits i 0 within)
 
 pub all_longer : (base digit i : ℕ) (digits : List ℕ) → i < length digits → Some digit ≡ digit_of (get_or digits i 0) → digit < base
-    → list_all (is_digit base) (take i digits) ≡ true
-    → list_all (is_digit base) (take (i + 1) digits) ≡ true
+    → list_all (is_digit base) (take i digits) ≡ true → list_all (is_digit base) (take (i + 1) digits) ≡ true
 all_longer base digit i digits within d below all =
     list_all_more (is_digit base) digits i 0 within
     ∙ and_from (list_all (is_digit base) (take i digits)) (is_digit base (get_or digits i 0)) all (digit_below base (get_or digits i 0) digit d below)

@@ -98,14 +98,11 @@ run_limit =
 
 both_given : (a b : Bool) → check_kinds false false (not a || (not b || false)) ≡ [] → (a ≡ true) × (b ≡ true)
 both_given true true e = (refl, refl)
-both_given true false e = cc
-both_given false b e = cc
+both_given _ _ e = cc
 
 three_given : (a b c : Bool) → check_kinds false false (not a || (not b || (not c || false))) ≡ [] → (a ≡ true) × (b ≡ true) × (c ≡ true)
 three_given true true true e = (refl, refl, refl)
-three_given true true false e = cc
-three_given true false c e = cc
-three_given false b c e = cc
+three_given _ _ _ e = cc
 
 one_given : (a : Bool) → check_kinds false false (not a || false) ≡ [] → a ≡ true
 one_given true e = refl
@@ -262,8 +259,7 @@ asks_for_help kinds kind asked (inr among) same (inl help) = inl (subst (λ k. I
 asks_for_help kinds kind asked (inr among) same (inr version) = inr (subst (λ k. IsAmong k kinds) (sym same ∙ version) among)
 
 pub asks_nothing : (kinds : Kinds) (kind asked wanted : ErrorKind) → (kind ≡ OutOfMemory) ⊎ IsAmong kind kinds → asked ≡ kind
-    → (asked ≡ OutOfMemory → ⊥) → (asked ≡ wanted → ⊥) → kinds ≡ wanted ∷ []
-    → false ≡ true
+    → (asked ≡ OutOfMemory → ⊥) → (asked ≡ wanted → ⊥) → kinds ≡ wanted ∷ [] → false ≡ true
 asks_nothing kinds kind asked wanted (inl memory) same no_memory other is = absurd (no_memory (same ∙ memory))
 asks_nothing kinds kind asked wanted (inr among) same no_memory other is = go (subst (IsAmong kind) is among)
   where

@@ -140,8 +140,7 @@ number_keeps rules again name least most place =
 pub other_keeps : (rules : List Rule) (again : Bool) (name : Text) (least most : ℕ) (a : Rule) → action_of a ≡ Set
     → (unwrap_or_range a.range).start_inclusive ≡ 1 → bytes_eq a.id name ≡ false → KeepsRows rules again (IsNumberRow name least most) a
 other_keeps rules again name least most a is_set is_one apart =
-    use_keeps (IsNumberRow name least most) (number_grows name least most) rules again a is_set is_one
-    (λ v vs e same. absurd (true≢false (sym same ∙ apart)))
+    use_keeps (IsNumberRow name least most) (number_grows name least most) rules again a is_set is_one (λ v vs e same. absurd (true≢false (sym same ∙ apart)))
 
 found_passes : {X : Type 0} (p : X → Bool) (xs : List X) (x : X) → find p xs ≡ Some x → p x ≡ true
 found_passes p [] x found = cc

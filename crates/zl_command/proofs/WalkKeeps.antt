@@ -24,8 +24,7 @@ found_has P p [] x each found = cc
 found_has P p (y ∷ ys) x each found = go (p y) found (λ later. found_has P p ys x each.1 later)
   where
     go : (b : Bool) → cond b (Some y) (find p ys) ≡ Some x → (find p ys ≡ Some x → P x) → P x
-    go true is later =
-        let same : y ≡ x = cc in subst P same each.0
+    go true is later = let same : y ≡ x = cc in subst P same each.0
     go false is later = later is
 
 pub none_of : (a b : Kinds) → or_else a b ≡ [] → (a ≡ []) × (b ≡ [])
@@ -111,8 +110,7 @@ module _ (c : List Rule) (again : Bool) (R : Row → Type 0) where
             goes (reacted c a [] h) both.1 (reacted_keeps a (keep a refl) [] h both.0 r)
 
     step_keeps : (first : Option ℕ) (flags : Text) (skip : ℕ) (so_far : Outcome) (h : Held) (fault : Text → ℕ → Held → Kinds)
-        (met : Text → ℕ → Outcome → Held → Held × Outcome)
-        → ((rest : Text) (skip : ℕ) (so_far : Outcome) → Goes (fault rest skip) (met rest skip so_far))
+        (met : Text → ℕ → Outcome → Held → Held × Outcome) → ((rest : Text) (skip : ℕ) (so_far : Outcome) → Goes (fault rest skip) (met rest skip so_far))
         → bundle_step_fault c again first flags skip h fault ≡ [] → Each R h.rows → Each R (bundle_step c first flags skip so_far h met).0.rows
     step_keeps None flags skip so_far h fault met goes e r = r
     step_keeps (Some x) flags zero so_far h fault met goes e r =
@@ -210,8 +208,7 @@ module _ (s : Shape) (names : Names) (R : Row → Type 0) (each : Each (KeepsRow
   Fits w = Each R w.held.rows × IfSome w.stopped (λ p. Q p.0)
 
   step_fits : (w : Walk) (word : Text) (h : Held) (step : Step) → step_fault s w.position h step ≡ [] → IfSome w.stopped (λ p. Q p.0)
-      → Each R h.rows → Named step
-      → Fits (after_step s.rules word w h step)
+      → Each R h.rows → Named step → Fits (after_step s.rules word w h step)
   step_fits w word h (next waiting) e q r n = (r, q)
   step_fits w word h (trailing position) e q r n = (r, q)
   step_fits w word h (subcommand name) e q r n = (r, n)
@@ -229,10 +226,8 @@ module _ (s : Shape) (names : Names) (R : Row → Type 0) (each : Each (KeepsRow
   unfolding walked
   turn_fits w word e fits = go w.stopped e fits.1
     where
-      go : (stopped : Option (Text × List Text))
-          → cond (is_some stopped) [] (or_else (word_fault s names w.is_trailing w.waiting word w.held)
-          (step_fault s w.position (met_by w word).0 (met_by w word).1)) ≡ []
-          → IfSome stopped (λ p. Q p.0) → Fits (walked_from s.rules names stopped w word)
+      go : (stopped : Option (Text × List Text)) → cond (is_some stopped) [] (or_else (word_fault s names w.is_trailing w.waiting word w.held)
+          (step_fault s w.position (met_by w word).0 (met_by w word).1)) ≡ [] → IfSome stopped (λ p. Q p.0) → Fits (walked_from s.rules names stopped w word)
       go (Some p) e q = (fits.0, q)
       go None e q =
           let both = none_of _ _ e in

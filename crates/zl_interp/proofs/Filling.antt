@@ -38,10 +38,7 @@ module _ (code : List Instr) (places : List (Option Instr)) (n : ℕ) (agrees : 
   module _ (other : List Instr) (agrees_then : Agrees other after) where
     -- what agrees then did so before
     pub filled_before : Agrees other places
-    filled_before = record {
-      long = agrees_then.long ∙ length-set places n (slice_get code n);
-      filled = λ m x at. by m x at (equal_or_not n m);
-    }
+    filled_before = record { long = agrees_then.long ∙ length-set places n (slice_get code n); filled = λ m x at. by m x at (equal_or_not n m) }
       where
         by : (m : ℕ) (x : Instr) → slice_get places m ≡ Some (Some x) → (n ≡ m) ⊎ (n ≢ m) → slice_get other m ≡ Some x
         by m x at (inl e) = subst (λ k. slice_get other k ≡ Some x) e (agrees_then.filled n x (here x (ap (slice_get code) e ∙ agrees.filled m x at)))

@@ -9,8 +9,7 @@ set_behind y ys n place value (Some places) = refl
 
 -- the arrays as f sees them, where one that has the place is replaced by the same with the value there
 pub slot_written : {V : Type 0} (f : V → List ℕ) (xs : List V) (array place value : ℕ) (d w : V) → IsSome (slot_in (map f xs) array place)
-    → f w ≡ slice_set (f (get_or xs array d)) place value
-    → map f (slice_set xs array w) ≡ slot_set (map f xs) array place value
+    → f w ≡ slice_set (f (get_or xs array d)) place value → map f (slice_set xs array w) ≡ slot_set (map f xs) array place value
 slot_written f [] array place value d w there same = absurd cc
 slot_written f (x ∷ xs) zero place value d w there same = λ i. same i ∷ map f xs
 slot_written f (x ∷ xs) (suc n) place value d w there same =

@@ -8,18 +8,15 @@ use Rattle.zl_code.proofs.ImageTable.{instr_fits, read_instr}
 
 -- under the raw mark as well
 also_raw : (raw : Bool) (x : Instr) → is_instr_in_range raw x ≡ true → is_instr_in_range true x ≡ true
-also_raw true x range = range
-also_raw false (instr.Local i) range = range
-also_raw false (instr.Call i) range = range
 also_raw false (instr.Unknown bytes) range = cc
+also_raw _ _ range = range
 
 each : (raw : Bool) (code : List Instr) (n : ℕ) (x : Instr) → list_all (is_instr_in_range raw) code ≡ true → slice_get code n ≡ Some x
     → is_instr_in_range true x ≡ true
 each raw [] n x all at = absurd (none-some x at)
 each raw (y ∷ ys) zero x all at =
     ap (is_instr_in_range true) (sym (same_Some y x at)) ∙ also_raw raw y (and_parts (is_instr_in_range raw y) (list_all (is_instr_in_range raw) ys) all).0
-each raw (y ∷ ys) (suc n) x all at =
-    each raw ys n x (and_parts (is_instr_in_range raw y) (list_all (is_instr_in_range raw) ys) all).1 at
+each raw (y ∷ ys) (suc n) x all at = each raw ys n x (and_parts (is_instr_in_range raw y) (list_all (is_instr_in_range raw) ys) all).1 at
 
 -- an instruction of an image can stand in one
 pub stands_there : (i : Image) (n : ℕ) (x : Instr) → IsTrue (is_in_range i) → slice_get i.code n ≡ Some x → is_instr_in_range true x ≡ true
@@ -42,8 +39,7 @@ module _ (i : Image) (places : List (Option Instr)) (range : IsTrue (is_in_range
       by : (n : ℕ) (x : Instr) → slice_get places n ≡ Some (Some x) → (o : Option Instr) → slice_get i.code n ≡ o
           → option_map instr_bytes o ≡ Some (instr_bytes x) → slice_get i.code n ≡ Some x
       by n x at None is same = absurd (none-some (instr_bytes x) same)
-      by n x at (Some y) is same =
-          is ∙ ap Some (one y x (stands_there i n y range is) (can.stands n x at) (same_Some (instr_bytes y) (instr_bytes x) same))
+      by n x at (Some y) is same = is ∙ ap Some (one y x (stands_there i n y range is) (can.stands n x at) (same_Some (instr_bytes y) (instr_bytes x) same))
 
 -- so a test of the bytes is one of the instructions
 pub same_test : (i : Image) (places : List (Option Instr)) → IsTrue (is_in_range i) → CanStand places → (passes : Type 0)

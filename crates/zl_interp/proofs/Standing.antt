@@ -11,10 +11,8 @@ use Rattle.zl_interp.specs.Next.{IsStuckOrCalls, StandsNext, call_in}
 -- ---- a call
 
 call_of : (i : Option Instr) (c : Cpu) (x : CallInstr) → call_found i ≡ Some x → next_of i c ≡ calls_at x.name (site_of x c)
-call_of None c x there = absurd (none-some x there)
-call_of (Some (instr.Local y)) c x there = absurd (none-some x there)
 call_of (Some (instr.Call y)) c x there = ap (λ (z : CallInstr). calls_at z.name (site_of z c)) (same_Some y x there)
-call_of (Some (instr.Unknown bytes)) c x there = absurd (none-some x there)
+call_of _ c x there = absurd (none-some x there)
 
 -- the call at the counter stands next where its operands can be read, and else none does
 module _ (i : Image) (c : Cpu) (x : CallInstr) (there : call_at i c.counter ≡ Some x) where
@@ -54,10 +52,8 @@ no_call i c none = no_call_by (instr_at i c.counter) c none
 -- ---- a local instruction
 
 moves_by : (i : Option Instr) (c : Cpu) → IfSome (local_found i) (λ x. next_of i c ≡ moves (local_effect x c))
-moves_by None c = tt
 moves_by (Some (instr.Local x)) c = refl
-moves_by (Some (instr.Call x)) c = tt
-moves_by (Some (instr.Unknown bytes)) c = tt
+moves_by _ c = tt
 
 -- the local instruction at the counter stands next
 pub local_moves : (i : Image) (c : Cpu) → IfSome (local_at i c.counter) (λ x. next_at i c ≡ moves (local_effect x c))

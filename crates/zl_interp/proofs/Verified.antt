@@ -30,7 +30,5 @@ one_verified lib g v range bound = record {
 pub pushed : {X : Type 0} (f : X → Program) (old between new : List X) (x : X) (g : Program) → IsVerified (map f old) → between ≡ old
     → new ≡ between ++ x ∷ [] → f x ≡ g → InRange g → (g.checked ≡ true → HasStepBound g.image) → IsVerified (map f new)
 pushed f old between new x g v same is made range bound =
-    subst (λ ys. IsVerified (map f ys)) (sym is)
-    (subst (λ ys. IsVerified (map f (ys ++ x ∷ []))) (sym same)
-    (subst IsVerified (sym (map-append f old (x ∷ [])))
+    subst (λ ys. IsVerified (map f ys)) (sym is) (subst (λ ys. IsVerified (map f (ys ++ x ∷ []))) (sym same) (subst IsVerified (sym (map-append f old (x ∷ [])))
     (subst (λ h. IsVerified (map f old ++ h ∷ [])) (sym made) (one_verified (map f old) g v range bound))))

@@ -2,7 +2,7 @@
 use Rattle.zl_scenario.proofs.Common.{◌≡◌, ℕ, ◌+◌, ◌-◌, ◌*◌, ◌^◌, ◌<◌, ◌≤◌, Bool, true, false, ◌&&◌, not, eqb, ltb, cond, List, [], ◌∷◌, length, take, drop}
 use Rattle.zl_scenario.proofs.Common.{get_or, fold, Some, None, refl, sym, ap, ◌∙◌, subst, arith, take-append-drop, list_all, nat_tests, is_number}
 use Rattle.zl_scenario.proofs.Common.{decimal_value, is_decimal_digit, decimal_digit_of, number_of}
-use Rattle.std.proofs.lemmas.Bool.{le-ltb}
+use Rattle.std.proofs.lemmas.Bool.{and_from, and_left, and_right, le-ltb}
 use Rattle.std.proofs.lemmas.List.Folds.{list_all_at}
 use Rattle.std.proofs.lemmas.List.Sums.{fold-append, fold_more}
 
@@ -25,16 +25,6 @@ none_by : (word : List ℕ) → is_number word ≡ false → None ≡ number_of 
 unfolding number_of
 none_by word e = ap (λ (x : Bool). cond x (Some (decimal_value word)) None) (sym e)
 
-first_false : (a b : Bool) → a ≡ false → (a && b) ≡ false
-first_false a b e = ap (λ (x : Bool). x && b) e
-
-last_false : (a b : Bool) → b ≡ false → (a && b) ≡ false
-last_false true b e = e
-last_false false b e = refl
-
-all_true : (a b c : Bool) → a ≡ true → b ≡ true → c ≡ true → (a && (b && c)) ≡ true
-all_true a b c p q r = rw (p, q, r)
-
 pub none_empty : (word : List ℕ) → length word ≡ 0 → None ≡ number_of word
 none_empty word e = none_by word (ap (λ (n : ℕ). not (eqb n 0) && (list_all is_decimal_digit word && ltb (decimal_value word) (2 ^ 64))) e)
 
@@ -42,8 +32,8 @@ none_empty word e = none_by word (ap (λ (n : ℕ). not (eqb n 0) && (list_all i
 pub none_digit : (word : List ℕ) (i : ℕ) → i < length word → is_decimal_digit (get_or word i 0) ≡ false → None ≡ number_of word
 none_digit word i within e =
     let digits : list_all is_decimal_digit word ≡ false = list_all_at is_decimal_digit word i 0 within e in
-    none_by word (last_false (not (eqb (length word) 0)) (list_all is_decimal_digit word && ltb (decimal_value word) (2 ^ 64))
-    (first_false (list_all is_decimal_digit word) (ltb (decimal_value word) (2 ^ 64)) digits))
+    none_by word (and_right (not (eqb (length word) 0)) (list_all is_decimal_digit word && ltb (decimal_value word) (2 ^ 64))
+    (and_left (list_all is_decimal_digit word) (ltb (decimal_value word) (2 ^ 64)) digits))
 
 -- the digits so far and the next one are too large a number
 pub none_large : (word : List ℕ) (i : ℕ) → i < length word → 2 ^ 64 ≤ decimal_value (take i word) * 10 + (get_or word i 0 - 48) → None ≡ number_of word
@@ -51,8 +41,8 @@ none_large word i within large =
     let more : decimal_value (take (i + 1) word) ≡ with (decimal_value (take i word)) (get_or word i 0) = fold_more with 0 word i 0 within in
     let front = value_of_front word (i + 1) in
     let above : ltb (decimal_value word) (2 ^ 64) ≡ false = le-ltb (decimal_value word) (2 ^ 64) (omega arith) in
-    none_by word (last_false (not (eqb (length word) 0)) (list_all is_decimal_digit word && ltb (decimal_value word) (2 ^ 64))
-    (last_false (list_all is_decimal_digit word) (ltb (decimal_value word) (2 ^ 64)) above))
+    none_by word (and_right (not (eqb (length word) 0)) (list_all is_decimal_digit word && ltb (decimal_value word) (2 ^ 64))
+    (and_right (list_all is_decimal_digit word) (ltb (decimal_value word) (2 ^ 64)) above))
 
 -- every byte is a digit, and the number is below the limit
 pub some_number : (word : List ℕ) → 0 < length word → list_all is_decimal_digit word ≡ true → decimal_value word < 2 ^ 64
@@ -62,7 +52,7 @@ some_number word nonempty digits below =
     let filled : not (eqb (length word) 0) ≡ true = grind (arith, nat_tests) in
     let small : ltb (decimal_value word) (2 ^ 64) ≡ true = grind (arith, nat_tests) in
     ap (λ (x : Bool). cond x (Some (decimal_value word)) None)
-    (sym (all_true (not (eqb (length word) 0)) (list_all is_decimal_digit word) (ltb (decimal_value word) (2 ^ 64)) filled digits small))
+    (sym (and_from (not (eqb (length word) 0)) _ filled (and_from (list_all is_decimal_digit word) (ltb (decimal_value word) (2 ^ 64)) digits small)))
 
 false_by : (t : Bool) (n : ℕ) → None ≡ cond t (Some n) None → t ≡ false
 false_by true n e = absurd (cc)

@@ -39,8 +39,7 @@ at_word words i d within = at_drop_more handles_in words i d within
 
 -- a word is one handle more
 pub one_more : (words : List Text) (i : ℕ) (d : Text) (handles : List Grant) (handle : Grant) → i < length words
-    → Some handle ≡ handle_of (get_or words i d).now
-    → SoFar words i handles → SoFar words (i + 1) (handles ++ handle ∷ [])
+    → Some handle ≡ handle_of (get_or words i d).now → SoFar words i handles → SoFar words (i + 1) (handles ++ handle ∷ [])
 one_more words i d handles handle within named so_far =
     so_far
     ∙ ap (option_map (λ more. handles ++ more)) (at_word words i d within ∙ ap (λ (o : Option Grant). onto_all o (handles_in (drop (i + 1) words))) (sym named))

@@ -64,21 +64,14 @@ onto_ok part (Err c) next e = absurd (cc)
 
 -- a statement more, of line n
 statement_below : (n : ℕ) (said : Scenario) (s : Statement) → IsBelow n said → IsBelow (n + 1) (with_statement said n s)
-statement_below n said s h = record {
-  limit = h.limit;
-  placed = simp length-append (omega (arith, h.placed));
-  rising = Rises-push 1 said.lines n h.rising;
-}
+statement_below n said s h = record { limit = h.limit; placed = simp length-append (omega (arith, h.placed)); rising = Rises-push 1 said.lines n h.rising }
 
 process_below : (n : ℕ) (said new : Scenario) (job program word : Option ℕ) (handles : Option (List Grant)) → IsBelow n said
     → process_said n said job program word handles ≡ Ok new → IsBelow (n + 1) new
 unfolding process_said
 process_below n said new (Some job) (Some program) (Some word) (Some handles) h e =
     subst (IsBelow (n + 1)) (if_ok _ _ new _ e).1 (statement_below n said (statement.Process job program word handles) h)
-process_below n said new (Some job) (Some program) (Some word) None h e = absurd (cc)
-process_below n said new (Some job) (Some program) None handles h e = absurd (cc)
-process_below n said new (Some job) None word handles h e = absurd (cc)
-process_below n said new None program word handles h e = absurd (cc)
+process_below n said new _ _ _ _ h e = absurd (cc)
 
 job_below : (n : ℕ) (said new : Scenario) (parent : Option ℕ) → IsBelow n said → job_said n said parent ≡ Ok new → IsBelow (n + 1) new
 unfolding job_said
@@ -92,9 +85,7 @@ unfolding policy_said
 policy_below n said new (Some job) (Some condition) (Some act) h e =
     let same : with_statement said n (statement.Policy job condition act) ≡ new = cc in
     subst (IsBelow (n + 1)) same (statement_below n said (statement.Policy job condition act) h)
-policy_below n said new (Some job) (Some condition) None h e = absurd (cc)
-policy_below n said new (Some job) None act h e = absurd (cc)
-policy_below n said new None condition act h e = absurd (cc)
+policy_below n said new _ _ _ h e = absurd (cc)
 
 object_below : (n : ℕ) (said new : Scenario) (o : Option Statement) → IsBelow n said → object_said n said o ≡ Ok new → IsBelow (n + 1) new
 object_below n said new (Some s) h e = let same : with_statement said n s ≡ new = cc in subst (IsBelow (n + 1)) same (statement_below n said s h)
@@ -172,8 +163,7 @@ body_placed n opened said checked (Ok body) next h before e =
 body_placed n opened said checked (Err c) next h before e = absurd (cc)
 
 block_placed : (n opened : ℕ) (said : Scenario) (checked : Bool) (body : Body) (line : List ℕ) (words : List (List ℕ)) (next : Place)
-    → IsBelow opened said → opened ≤ n
-    → block_said said opened checked body line words ≡ Ok next → IsPlaced (n + 1) next
+    → IsBelow opened said → opened ≤ n → block_said said opened checked body line words ≡ Ok next → IsPlaced (n + 1) next
 unfolding block_said
 block_placed n opened said checked body line words next h before e = go _ e
   where

@@ -36,10 +36,7 @@ line_by : (line : List ℕ) (ascii ends : Bool) (given rest : Option (List ℕ))
     → cond (ascii && not ends) (joined given rest) None ≡ Some whole → IsLine line given rest whole
 line_by line true false (Some front) (Some back) whole a e is =
     record { front = front; back = back; ascii = a; goes_on = e; own = refl; others = refl; all = cc }
-line_by line true false (Some front) None whole a e is = absurd (cc)
-line_by line true false None rest whole a e is = absurd (cc)
-line_by line true true given rest whole a e is = absurd (cc)
-line_by line false ends given rest whole a e is = absurd (cc)
+line_by line _ _ _ _ whole a e is = absurd (cc)
 
 -- what a line gives to a block of digits, and to one of text
 abbrev digits_given : List ℕ → Option (List ℕ)

@@ -1,13 +1,12 @@
 -- What has been written so far, to a writer that may tell its bytes.
-use Rattle.zl_trace.proofs.Common.{Appends, Appends-nil, Appends-trans, AppendsBeginning, Err, Gathers, List, Ok, OnErr, OnOk, Option, Result, [], ap}
-use Rattle.zl_trace.proofs.Common.{append-nil, append_assoc, at_drop_more, drop, flat_map, flat_map-append, get_or, length, refl, subst, sym, take}
+use Rattle.zl_trace.proofs.Common.{Appends, Appends-trans, AppendsBeginning, Err, Gathers, List, Ok, OnErr, OnOk, Option, Result, [], ap}
+use Rattle.zl_trace.proofs.Common.{append-nil, append_assoc, at_drop_more, drop, flat_map, flat_map-append, get_or, length, subst, sym, take}
 use Rattle.zl_trace.proofs.Common.{take-append-drop, take_more, take_rest, ℕ, ◌++◌, ◌+◌, ◌-◌, ◌<◌, ◌∙◌, ◌∷◌, ◌≡◌}
 use Rattle.std.proofs.Math.Seq.{take-add}
 
 -- after the first n bytes, the writer took m of the rest
 pub appended_more : (a b c : Option (List ℕ)) (bytes : List ℕ) (n m : ℕ) → Appends a b (take n bytes)
-    → Appends b c (take m (take (length bytes - n) (drop n bytes)))
-    → Appends a c (take (n + m) bytes)
+    → Appends b c (take m (take (length bytes - n) (drop n bytes))) → Appends a c (take (n + m) bytes)
 appended_more a b c bytes n m first second =
     let rest = drop n bytes in
     let joined : take (n + m) bytes ≡ take n bytes ++ take m (take (length bytes - n) rest) =
@@ -17,22 +16,6 @@ appended_more a b c bytes n m first second =
 -- the first n bytes are a beginning
 pub begun_by_front : (a b : Option (List ℕ)) (bytes : List ℕ) (n : ℕ) → Appends a b (take n bytes) → AppendsBeginning a b bytes
 begun_by_front a b bytes n appended = record { written = take n bytes; rest = drop n bytes; appended = appended; beginning = take-append-drop n bytes }
-
--- nothing written is a beginning of all
-pub begun_by_nothing : (a : Option (List ℕ)) (bytes : List ℕ) → AppendsBeginning a a bytes
-begun_by_nothing a bytes = record { written = []; rest = bytes; appended = Appends-nil a; beginning = refl }
-
--- nothing is written, and the block stays
-pub gathers_nothing : (a : Option (List ℕ)) (b : List ℕ) → Gathers a b a b []
-gathers_nothing a b = record { written = []; appended = Appends-nil a; gathered = append-nil b }
-
--- the block grew before the writer was given it
-pub gathers_grown : (a c : Option (List ℕ)) (b mid d more : List ℕ) → mid ≡ b ++ more → Gathers a mid c d [] → Gathers a b c d more
-gathers_grown a c b mid d more grown g = record {
-  written = g.written;
-  appended = g.appended;
-  gathered = sym grown ∙ sym (append-nil mid) ∙ g.gathered;
-}
 
 -- one after the other
 pub gathers_both : (a c e : Option (List ℕ)) (b d f first second : List ℕ) → Gathers a b c d first → Gathers c d e f second → Gathers a b e f (first ++ second)
@@ -85,8 +68,7 @@ when_err (Err e) p gives = gives p
 
 -- one line more
 pub gathers_line : {X : Type 0} (f : X → List ℕ) (xs : List X) (i : ℕ) (default : X) (a c e : Option (List ℕ)) (b d after : List ℕ) → i < length xs
-    → Gathers a b c d (flat_map f (take i xs)) → Gathers c d e after (f (get_or xs i default))
-    → Gathers a b e after (flat_map f (take (i + 1) xs))
+    → Gathers a b c d (flat_map f (take i xs)) → Gathers c d e after (f (get_or xs i default)) → Gathers a b e after (flat_map f (take (i + 1) xs))
 gathers_line f xs i default a c e b d after within g h =
     let more : flat_map f (take (i + 1) xs) ≡ flat_map f (take i xs) ++ f (get_or xs i default) =
     ap (flat_map f) (take_more xs i default within) ∙ flat_map-append f (take i xs) (get_or xs i default ∷ [])
@@ -95,8 +77,7 @@ gathers_line f xs i default a c e b d after within g h =
 
 -- a beginning of one line more
 pub begun_line : {X : Type 0} (f : X → List ℕ) (xs : List X) (i : ℕ) (default : X) (a c e : Option (List ℕ)) (b d : List ℕ) → i < length xs
-    → Gathers a b c d (flat_map f (take i xs)) → AppendsBeginning c e (d ++ f (get_or xs i default))
-    → AppendsBeginning a e (b ++ flat_map f xs)
+    → Gathers a b c d (flat_map f (take i xs)) → AppendsBeginning c e (d ++ f (get_or xs i default)) → AppendsBeginning a e (b ++ flat_map f xs)
 begun_line f xs i default a c e b d within g h =
     subst (λ (x : List ℕ). AppendsBeginning a e (b ++ x)) (sym (lines_cut f xs i default within))
     (begun_after a c e b d (flat_map f (take i xs)) (f (get_or xs i default)) (flat_map f (drop (i + 1) xs)) g h)

@@ -56,13 +56,10 @@ not_blocked = missing status_name statuses (codes "blocked") status_among None r
 same_outcomes : (o u : Outcome) → HasCode o → HasCode u → outcome_words o ≡ outcome_words u → o ≡ u
 same_outcomes (outcome.Answered s) (outcome.Answered t) a b is = ap outcome.Answered (same_statuses s t cc)
 same_outcomes (outcome.Answered s) outcome.Blocked a b is = absurd (not_blocked s cc)
-same_outcomes (outcome.Answered s) (outcome.Ended d) a b is = absurd cc
 same_outcomes outcome.Blocked (outcome.Answered t) a b is = absurd (not_blocked t cc)
 same_outcomes outcome.Blocked outcome.Blocked a b is = refl
-same_outcomes outcome.Blocked (outcome.Ended d) a b is = absurd cc
-same_outcomes (outcome.Ended c) (outcome.Answered t) a b is = absurd cc
-same_outcomes (outcome.Ended c) outcome.Blocked a b is = absurd cc
 same_outcomes (outcome.Ended c) (outcome.Ended d) a b is = ap outcome.Ended (signed_decimal_injective c d (small c a) (small d b) cc)
+same_outcomes _ _ a b is = absurd cc
 
 -- the process of an item with a line has 64 bits
 wide : (x : TraceItem) → HasLine x → pid_of x < 2 ^ 64
@@ -177,8 +174,7 @@ words_back (w ∷ []) are =
     ap (filter (λ word. not (length word == 0))) (slice_split_none (λ b. b == 32) w (others w 32 (omega arith) are.0))
     ∙ rw (ne_eqb (length w) 0 (λ none. omega (arith, none, are.0.0))) refl
 words_back (w ∷ v ∷ ws) are =
-    ap (filter (λ word. not (length word == 0)))
-    (slice_split_at (λ b. b == 32) w 32 (spaced (v ∷ ws)) (others w 32 (omega arith) are.0) refl)
+    ap (filter (λ word. not (length word == 0))) (slice_split_at (λ b. b == 32) w 32 (spaced (v ∷ ws)) (others w 32 (omega arith) are.0) refl)
     ∙ rw (ne_eqb (length w) 0 (λ none. omega (arith, none, are.0.0))) (ap (λ (l : List (List ℕ)). w ∷ l) (words_back (v ∷ ws) are.1))
 
 -- no end of line stands between them

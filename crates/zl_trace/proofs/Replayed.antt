@@ -3,17 +3,13 @@ use Rattle.zl_code.proofs.Common.{Library, MOST_ITEMS, Runs, Step, has_count, li
 use Rattle.zl_code.specs.declared.boot.Statement.{Statement}
 use Rattle.zl_trace.proofs.Common.{Differs, DiffersAt, IsReplayed, List, Machine, Repeats, StepDiffers, TraceItem, [], another, ap, append-nil, arith}
 use Rattle.zl_trace.proofs.Common.{at_drop_more, at_step, drop, flat_map, flat_map-append, get_or, inl, inr, length, length-take-le, refl, replicate, subst}
-use Rattle.zl_trace.proofs.Common.{suc, sym, take, take-append-drop, take_more, true, zero, ℕ, ◌++◌, ◌+◌, ◌-◌, ◌<◌, ◌∙◌, ◌∷◌, ◌≡◌, ◌≢◌, ◌⊎◌}
+use Rattle.zl_trace.proofs.Common.{suc, sym, take, take-append-drop, take_more, zero, ℕ, ◌++◌, ◌+◌, ◌-◌, ◌<◌, ◌∙◌, ◌∷◌, ◌≡◌, ◌≢◌, ◌⊎◌}
 use Rattle.zl_code.specs.Common.{World as WorldValue}
 use Rattle.zl_code.specs.declared.history.TraceItem.TheVariants as item
 use Rattle.zl_calls.specs.Steps.{StepsTo, TakesStep}
 use Rattle.zl_code.proofs.AwakeRuns.{runs_joined}
 
 -- ---- one item
-
--- an item that stands for one step
-pub repeats_one : (m : Machine) (x : TraceItem) (m2 : Machine) → single x ≡ x ∷ [] → has_count x ≡ true → StepsTo m x m2 → Repeats m x m2
-repeats_one m x m2 one count steps = record { programs = steps.programs; count = count; runs = rw one (m2.world, steps.step, refl) }
 
 pub differs_by : (m : Machine) (pid : ℕ) (x own : TraceItem) (m2 : Machine) → pid_of x ≡ pid → TakesStep m pid m2 own → own ≢ x
     → StepDiffers m.programs m.world x
@@ -29,9 +25,6 @@ differs_one lib w x one differs = at_step [] w x [] one refl differs
 pub record RanOn (pid : ℕ) (m : Machine) (n : ℕ) (m2 : Machine) : Type 0 where
   pub programs : m2.programs ≡ m.programs
   pub runs : Runs m.programs m.world (replicate n (item.Run pid 1)) m2.world
-
-pub none_ran : (pid : ℕ) (m : Machine) → RanOn pid m 0 m
-none_ran pid m = record { programs = refl; runs = refl }
 
 one_longer : {X : Type 0} (n : ℕ) (x : X) → replicate n x ++ (x ∷ []) ≡ replicate (n + 1) x
 one_longer zero x = refl
@@ -56,12 +49,7 @@ pub differs_after : (pid : ℕ) (m : Machine) (n count : ℕ) (m2 : Machine) →
     → Differs m.programs m.world (item.Run pid count)
 differs_after pid m n count m2 below ran differs =
     at_step (replicate n (item.Run pid 1)) m2.world (item.Run pid 1) (replicate (count - (n + 1)) (item.Run pid 1))
-    (cut_before count n (item.Run pid 1) below) ran.runs
-    (subst (λ lib. StepDiffers lib m2.world (item.Run pid 1)) ran.programs differs)
-
-pub all_ran : (pid : ℕ) (m : Machine) (count : ℕ) (m2 : Machine) → has_count (item.Run pid count) ≡ true → RanOn pid m count m2
-    → Repeats m (item.Run pid count) m2
-all_ran pid m count m2 some ran = record { programs = ran.programs; count = some; runs = ran.runs }
+    (cut_before count n (item.Run pid 1) below) ran.runs (subst (λ lib. StepDiffers lib m2.world (item.Run pid 1)) ran.programs differs)
 
 -- ---- many items
 
@@ -95,16 +83,12 @@ module _ (lib : Library) (statements : List Statement) (limit : ℕ) where
     number = refl;
     machine = m;
     replayed = replayed;
-    differs = elim why [
-      | inl differs ↦ inl (subst (λ v. Differs v m.world x) replayed.programs differs)
-      | inr many ↦ inr many
-    ];
+    differs = elim why [ inl differs ↦ inl (subst (λ v. Differs v m.world x) replayed.programs differs) | inr many ↦ inr many ];
   }
 
   -- the item at this place comes next
   pub next_replayed : (items : List TraceItem) (n : ℕ) (d : TraceItem) (m m2 : Machine) → n < length items → IsReplayed lib statements limit (take n items) m
-      → Repeats m (get_or items n d) m2
-      → IsReplayed lib statements limit (take (n + 1) items) m2
+      → Repeats m (get_or items n d) m2 → IsReplayed lib statements limit (take (n + 1) items) m2
   next_replayed items n d m m2 within replayed repeats =
       subst (λ front. IsReplayed lib statements limit front m2) (sym (take_more items n d within))
       (one_more (take n items) m (get_or items n d) m2 replayed repeats)

@@ -24,10 +24,7 @@ items = (
     record { has_line = (omega arith, tt); same = refl },
     (
       record { has_line = (omega arith, tt); same = refl },
-      (
-        record { has_line = (omega arith, search rules); same = refl },
-        (record { has_line = omega arith; same = refl }, tt),
-      ),
+      (record { has_line = (omega arith, search rules); same = refl }, (record { has_line = omega arith; same = refl }, tt)),
     ),
   ),
 )

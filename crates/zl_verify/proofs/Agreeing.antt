@@ -1,13 +1,13 @@
 -- The rule of each local instruction and its effect agree.
 use Rattle.zl_verify.proofs.Common.{ANY, AbsVal, Bool, Cause, Cpu, Describes, Entry, Err, Has, Holds, Image, IsHandle, IsMemory, IsState, KNOWN_RIGHTS, List}
 use Rattle.zl_verify.proofs.Common.{LocalInstr, None, Ok, Option, Result, SlotArray, Some, State, Table, Word, [], and_le_l, and_le_r, and_then, ap}
-use Rattle.zl_verify.proofs.Common.{are_registers, arith, below_ways, bit_and, bit_or, bit_xor, bits, both, capped, computes, copies, div-mul-le_self, drop}
+use Rattle.zl_verify.proofs.Common.{are_registers, arith, below_ways, bit_and, bit_or, bit_xor, bits, both, capped, computes, copies, drop}
 use Rattle.zl_verify.proofs.Common.{eq-eqb, equal_ways, false, has_ways, if◌then◌else◌, in_memory, inl, inr, is_32_bits, is_has, is_in_memory, is_it}
 use Rattle.zl_verify.proofs.Common.{is_local_in_range, kind_below, length, loads, local_effect, local_parts, local_rule, may_move, mod-le, mod-lt, moved}
 use Rattle.zl_verify.proofs.Common.{nat_le, nat_lt, nat_tests, not, number_of, one_if, or_lt, owns, passes, pow_pos, refl, reg, rounded, sets, shifted}
 use Rattle.zl_verify.proofs.Common.{slice_get, slice_index_or, slice_set, slot_fault, smaller, stores, subst, suc, swaps, swaps_by, swaps_in, sym, take}
 use Rattle.zl_verify.proofs.Common.{target_of, true, unless, value_at, with_value, within, word_at, writes, xor_lt, zero, zero_ways, ℕ, ◌%◌, ◌&&◌, ◌*◌, ◌+◌}
-use Rattle.zl_verify.proofs.Common.{◌-◌, ◌/◌, ◌<◌, ◌==◌, ◌^◌, ◌||◌, ◌∷◌, ◌≡◌, ◌≢◌, ◌≤◌, ◌⊎◌}
+use Rattle.zl_verify.proofs.Common.{◌-◌, ◌/◌, ◌<◌, ◌==◌, ◌^◌, ◌∷◌, ◌≡◌, ◌≢◌, ◌≤◌, ◌⊎◌}
 use Rattle.zl_code.specs.Local.{wrapped, loads as loads_from, stores as stores_to, goes_if}
 use Rattle.zl_abs.specs.Outcome.{Outcome}
 use Rattle.zl_abs.specs.Bounds.{least_from}
@@ -21,6 +21,9 @@ use Rattle.zl_verify.proofs.Refining.{Known, Splits, unless_splits, zero_splits,
 use Rattle.zl_verify.proofs.Memories.{byte_less, word_less, stored}
 use Rattle.zl_verify.proofs.Owners.{not_0}
 use Rattle.zl_abs.proofs.LocalLowering.{shifted_below}
+use Rattle.std.proofs.Math.Bool.{or-true}
+use Rattle.std.proofs.lemmas.Bool.{cond_both}
+use Rattle.std.proofs.Math.Nat.{div-le_self}
 
 -- ---- numbers
 
@@ -54,22 +57,10 @@ pub xor_few : (x y : ℕ) → x ≤ ANY → y ≤ ANY → bit_xor x y ≤ ANY
 xor_few x y h k = let z : bit_xor x y < 2 ^ 64 = xor_lt 64 x y (omega arith) (omega arith) in omega arith
 
 pub up_few : (x places : ℕ) → (if nat_lt places 64 then wrapped (x * 2 ^ places) else 0) ≤ ANY
-up_few x places = by (nat_lt places 64)
-  where
-    by : (t : Bool) → (if t then wrapped (x * 2 ^ places) else 0) ≤ ANY
-    by true = wrapped_few (x * 2 ^ places)
-    by false = omega arith
+up_few x places = cond_both (nat_lt places 64) (wrapped (x * 2 ^ places)) 0 (λ n. n ≤ ANY) (λ _. wrapped_few (x * 2 ^ places)) (λ _. omega arith)
 
 pub down_less : (x places : ℕ) → shifted x places ≤ x
-down_less x places = by (nat_lt places 64)
-  where
-    by : (t : Bool) → (if t then x / 2 ^ places else 0) ≤ x
-    by true = let k = div-mul-le_self x (2 ^ places) in let p = pow_pos places in less (x / 2 ^ places) (2 ^ places) x p k
-      where
-        less : (q d x : ℕ) → 0 < d → q * d ≤ x → q ≤ x
-        less q zero x p k = absurd (omega arith)
-        less q (suc d) x p k = omega arith
-    by false = omega arith
+down_less x places = cond_both (nat_lt places 64) (x / 2 ^ places) 0 (λ n. n ≤ x) (λ _. div-le_self x (2 ^ places)) (λ _. omega arith)
 
 -- ---- registers of an instruction
 
@@ -105,14 +96,10 @@ slot_goes f xs t (Word m) x e d = by (m == 0) refl e
     by false is e = cc
 slot_goes f xs t (Has maybe k q) x e d = by (kind_below k t.kind) refl (within (bits t.rights) (bits q)) refl e
   where
-    any : (b : Bool) → (not b || true) ≡ true
-    any true = refl
-    any false = refl
-
     by : (b : Bool) → kind_below k t.kind ≡ b → (c : Bool) → within (bits t.rights) (bits q) ≡ c
         → (if not b then Some cause.WrongKind else if not c then Some cause.LacksRight else None) ≡ None
         → IsHandle f true t.kind t.rights x × ((y : ℕ) → one_if (owns y (Has maybe k q) x) ≡ one_if (is_it y x))
-    by true kind true rights e = (handle_below f maybe true k t.kind q t.rights x (any maybe) kind rights d, λ y. refl)
+    by true kind true rights e = (handle_below f maybe true k t.kind q t.rights x (or-true (not maybe)) kind rights d, λ y. refl)
     by _ kind _ rights e = cc
 slot_goes f xs t _ x e d = cc
 
@@ -142,11 +129,9 @@ module _ {f : Table} {i : Image} {s : State} (c : Cpu) (h : Holds f s c.register
   -- ---- writes
 
   word_written : (a n x : ℕ) → a < 32 → x ≤ ANY → x ≤ n → Ends (writes s a (Word n)) (Some (sets c a x))
-  word_written a n x less few le = by (is_has (value_at s a)) refl
-    where
-      by : (t : Bool) → is_has (value_at s a) ≡ t → Ends (if t then Err cause.Leak else Ok (passes (with_value s a (Word n)))) (Some (sets c a x))
-      by true e = tt
-      by false e = (memory, inr (refl, write_word h states a (there a less) e n x few le))
+  word_written a n x less few le =
+      cond_both (is_has (value_at s a)) (Err cause.Leak) (Ok (passes (with_value s a (Word n)))) (λ r. Ends r (Some (sets c a x))) (λ _. tt)
+      (λ e. (memory, inr (refl, write_word h states a (there a less) e n x few le)))
 
   computed : (bounds : List ℕ) (a n x : ℕ) → a < 32 → x ≤ ANY → x ≤ n → Ends (computes bounds s a n) (Some (sets c a x))
   computed bounds a n x less few le = word_written a (rounded bounds n) x less few (above bounds x n le few)

@@ -153,8 +153,7 @@ module _ (lib : Library) (statements : List Statement) (boot : World) (b : IsSiz
 
   -- where its handles are as its image declares, and its job allows what the image needs, it started properly
   pub proper : (q : Process) (s : IsBooted lib q) → (i : Image) (checked : Bool) → slice_get lib s.program ≡ Some (record { checked = checked; image = i })
-      → are_declared i.starts s.handles ≡ true → ((c : Condition) → IsTrue (is_among i.needs c) → creates boot p c ≡ None)
-      → IsProperStart lib i boot p q
+      → are_declared i.starts s.handles ≡ true → ((c : Condition) → IsTrue (is_among i.needs c) → creates boot p c ≡ None) → IsProperStart lib i boot p q
   proper q s i checked running declared allowed = record {
     checked = checked;
     running = ap (slice_get lib) (sym runs) ∙ running;
@@ -181,8 +180,4 @@ module _ (lib : Library) (statements : List Statement) (boot : World) (b : IsSiz
           let well = boot_starts lib statements boot b p q there in
           let s = well.booted in
           let listed : Checks (slice_get lib s.program) i = ap (slice_get lib) (still_runs lib q s) ∙ is in
-          record {
-            process = q;
-            there = there;
-            proper = proper q s i true listed (well.declared i listed) (well.allowed i listed);
-          }
+          record { process = q; there = there; proper = proper q s i true listed (well.declared i listed) (well.allowed i listed) }

@@ -34,10 +34,7 @@ bounded leads steps most falls (suc j) n k e h f = among (λ m l q b g. bounded 
 
 below_one : (steps : ℕ → Option ℕ) (k : ℕ) (fs : List Edge) (e : Edge) → IsAmong fs e → AllBelow steps k (map (λ x. x.0) fs) → IsBelow (steps (e.0)) k
 below_one steps k [] e h b = absurd h
-below_one steps k (f ∷ fs) e h b = elim h [
-  | inl p ↦ subst (λ (n : ℕ). IsBelow (steps n) k) (sym (p.0)) (b.0)
-  | inr r ↦ below_one steps k fs e r (b.1)
-]
+below_one steps k (f ∷ fs) e h b = elim h [ inl p ↦ subst (λ (n : ℕ). IsBelow (steps n) k) (sym (p.0)) (b.0) | inr r ↦ below_one steps k fs e r (b.1) ]
 
 below_all : (steps : ℕ → Option ℕ) (k : ℕ) (fs es : List Edge) → AreAmong fs es → AllBelow steps k (map (λ x. x.0) fs) → AllBelow steps k (map (λ x. x.0) es)
 below_all steps k fs [] h b = tt

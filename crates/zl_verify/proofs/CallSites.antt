@@ -23,10 +23,8 @@ given_first (Ok a) f k = tt
 range_is_given : (i : Image) (s t : State) (u : Uses) → IsGiven (finished i s t u) → range_fits i s u.range ≡ true
 range_is_given i s t u k = by (are_words s u.words) (range_fits i s u.range) k
   where
-    by : (x y : Bool)
-        → IsGiven (if not x then Err cause.NotWord else if not y then Err cause.MemoryRange else if not (is_declared i u.condition)
-        then Err cause.UndeclaredNeed else answers t u.results)
-        → y ≡ true
+    by : (x y : Bool) → IsGiven (if not x then Err cause.NotWord else if not y then Err cause.MemoryRange else if not (is_declared i u.condition)
+        then Err cause.UndeclaredNeed else answers t u.results) → y ≡ true
     by true true k = refl
     by true false k = absurd k
     by false y k = absurd k

@@ -30,6 +30,7 @@ use Rattle.zl_code.proofs.AwakeRuns.{runs_joined}
 use Rattle.zl_verify.proofs.BootStarts.{is_booted}
 use Rattle.zl_verify.proofs.Unstarted.{inserted_at, changed_at}
 use Rattle.zl_verify.proofs.UnstartedRuns.{lives_new, step_unstarted}
+use Rattle.std.proofs.Math.Bool.{and-false}
 
 -- ---- a refusal isn't OK
 
@@ -123,11 +124,7 @@ record IsOneValue (x : Process) (e : Entry) (vs : List ℕ) : Type 0 where
 one_value : (x : Process) (e : Entry) (vs : List ℕ) → may_get_all x (e ∷ []) vs ≡ true → IsOneValue x e vs
 one_value x e [] k = cc
 one_value x e (v ∷ []) k = record { value = v; same = refl; free = k }
-one_value x e (v ∷ u ∷ vs) k = absurd (by (may_get x v) k)
-  where
-    by : (b : Bool) → (b && false) ≡ true → ⊥
-    by true e = cc
-    by false e = cc
+one_value x e (v ∷ u ∷ vs) k = let none : (may_get x v && false) ≡ false = and-false (may_get x v) in cc
 
 -- ---- the start
 

@@ -28,7 +28,7 @@ unfoldable pub use Rattle.zl_code.proofs.Common.{remove_all, replied, setting_of
 unfoldable pub use Rattle.zl_code.proofs.Common.{without_others, woken}
 pub use Rattle.std.proofs.Math.ListN.{length-replicate, length-set}
 pub use Rattle.std.proofs.Math.Nat.{div-mul-le_self, mod-le, mod-lt, mul-le-mul_right}
-pub use Rattle.std.proofs.lemmas.Bool.{cases_eq, eqb-false, false≢true, not-false}
+pub use Rattle.std.proofs.lemmas.Bool.{and_parts as both, cases_eq, eqb-false, false≢true, not-false}
 pub use Rattle.std.proofs.lemmas.List.{get_or-set_other, get_or-set_same}
 pub use Rattle.std.proofs.lemmas.List.Sums.{sum_by-set}
 pub use Rattle.std.proofs.lemmas.Nat.{and_assoc, and_comm, and_le_l, and_le_r, le-div, or_lt, pow_pos, xor_lt}
@@ -39,7 +39,7 @@ pub use Rattle.std.specs.Option.{option_and_then}
 pub use Rattle.std.specs.Prelude.{IsSomeAnd, unwrap_or, ◌%◌}
 pub use Rattle.zl_abs.proofs.FineRules.{rule_fine}
 pub use Rattle.zl_abs.proofs.FineStates.{fine_joined, start_fine}
-pub use Rattle.zl_abs.proofs.Order.{both, kind_trans, parts, same_kind_refl, within_is, within_trans}
+pub use Rattle.zl_abs.proofs.Order.{kind_trans, parts, same_kind_refl, within_is, within_trans}
 pub use Rattle.zl_abs.proofs.RuleLowering.{rule_below}
 pub use Rattle.zl_abs.proofs.StateOrder.{all_below_refl, all_below_trans}
 pub use Rattle.zl_abs.specs.Bounds.{bounds_of, rounded}

@@ -11,6 +11,7 @@ use Rattle.zl_verify.proofs.Owners.{value_at-with, value_at-here}
 use Rattle.zl_verify.proofs.Tagging.{states_with}
 use Rattle.zl_verify.proofs.Consuming.{removed, consume, consume_0}
 use Rattle.zl_verify.proofs.Fitting.{apart_then}
+use Rattle.std.proofs.lemmas.Bool.{cond_both, and_parts}
 
 -- ---- one operand
 
@@ -30,11 +31,8 @@ zero_word false m x e le = cc
 
 -- a word passes as 0 alone
 word_passes : (o : Operand) (m : ℕ) → fault_of o (Word m) ≡ None → (o.may_be_zero && (m == 0)) ≡ true
-word_passes o m = by (o.may_be_zero && (m == 0))
-  where
-    by : (b : Bool) → ◌≡◌ {A = Option Cause} (if b then None else Some cause.NotLive) None → b ≡ true
-    by true e = refl
-    by false e = cc
+word_passes o m e =
+    cond_both (o.may_be_zero && (m == 0)) None (Some cause.NotLive) (λ c. c ≡ None → (o.may_be_zero && (m == 0)) ≡ true) (λ is _. is) (λ _ bad. cc) e
 
 -- the tests of a handle
 record HasPasses (o : Operand) (maybe : Bool) (kind : Option Kind) (rights : Rights) : Type 0 where
@@ -143,11 +141,7 @@ abbrev pub bars_zero : Operand → Bool
 bars_zero o = not o.may_be_zero
 
 not_zero : (o : Operand) → o.may_be_zero ≡ false → fault_of o (Word 0) ≡ None → ⊥
-not_zero o none e = let z : o.may_be_zero ≡ true = by o.may_be_zero (word_passes o 0 e) in cc
-  where
-    by : (b : Bool) → (b && (0 == 0)) ≡ true → b ≡ true
-    by true e = refl
-    by false e = cc
+not_zero o none e = let z : o.may_be_zero ≡ true = (and_parts o.may_be_zero (0 == 0) (word_passes o 0 e)).0 in cc
 
 -- the first passes, and the others do behind it
 pub parts : (s t : State) (o : Operand) (os : List Operand) → examined_all s (o ∷ os) ≡ Ok t
@@ -164,8 +158,7 @@ module _ (w : World) (p : ℕ) (read : List ℕ) (arrays : List SlotArray) (slot
       → value_at s o.value ≡ a → fault_of o a ≡ None
       → Holds (removed (slice_index xs o.value) f) (with_value s o.value (Word 0)) (slice_set xs o.value 0) arrays slots
   takes_it f s xs o h states lt (Word m) is e =
-      consume_0 h states o.value lt
-      (zero_word o.may_be_zero m (slice_index xs o.value) (word_passes o m e)
+      consume_0 h states o.value lt (zero_word o.may_be_zero m (slice_index xs o.value) (word_passes o m e)
       (subst (λ a. Describes f xs a (slice_index xs o.value)) is (h.described o.value))).1
   takes_it f s xs o h states lt (Has maybe kind rights) is e = consume h states o.value lt maybe kind rights is
   takes_it f s xs o h states lt _ is e = cc
@@ -215,8 +208,7 @@ module _ (w : World) (p : ℕ) (read : List ℕ) (arrays : List SlotArray) (slot
       → IsUnread s xs read → o.value < register_count
       → slice_index xs o.value ≡ slice_index read o.value → fault_of o (value_at s o.value) ≡ None → examined_all (taken_from s o) os ≡ Ok t
       → ((u : State) (ys more : List ℕ) → Holds (unseen (Reads w p) more) u ys arrays slots → IsState u → IsUnread u ys read → examined_all u os ≡ Ok t
-      → Passed w p read arrays slots t ys more os)
-      → Passed w p read arrays slots t xs seen (o ∷ os)
+      → Passed w p read arrays slots t ys more os) → Passed w p read arrays slots t xs seen (o ∷ os)
   step_by o os s t xs seen h states unread inside same passed later rest = by o.is_taken refl
     where
       lt : o.value < length s
@@ -235,8 +227,7 @@ module _ (w : World) (p : ℕ) (read : List ℕ) (arrays : List SlotArray) (slot
       by false is = named_step o os t xs seen is live (rest s xs seen h states unread (rw is at later))
 
   operands : (os : List Operand) (s t : State) (xs seen : List ℕ) → Holds (unseen (Reads w p) seen) s xs arrays slots → IsState s → IsUnread s xs read
-      → AreOperands os → list_all bars_zero os ≡ true → examined_all s os ≡ Ok t
-      → Passed w p read arrays slots t xs seen os
+      → AreOperands os → list_all bars_zero os ≡ true → examined_all s os ≡ Ok t → Passed w p read arrays slots t xs seen os
   unfolding examined_at examined_all
   operands [] s t xs seen h states unread inside live e = let is : s ≡ t = cc in record { none = refl; holds = rw (← is) h; states = rw (← is) states }
   operands (o ∷ os) s t xs seen h states unread (lt, inside) live e =
@@ -247,8 +238,7 @@ module _ (w : World) (p : ℕ) (read : List ℕ) (arrays : List SlotArray) (slot
 
   -- from the registers as they are read; at the first operand 0 may pass
   pub operands_from : (os : List Operand) (s t : State) → Holds (Reads w p) s read arrays slots → IsState s → AreOperands os
-      → list_all bars_zero (drop 1 os) ≡ true → examined_all s os ≡ Ok t
-      → Passed w p read arrays slots t read [] os
+      → list_all bars_zero (drop 1 os) ≡ true → examined_all s os ≡ Ok t → Passed w p read arrays slots t read [] os
   unfolding examined_at examined_all
   operands_from [] s t h states inside live e = let is : s ≡ t = cc in record { none = refl; holds = rw (← is) h; states = rw (← is) states }
   operands_from (o ∷ os) s t h states (lt, inside) live e =

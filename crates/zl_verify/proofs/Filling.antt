@@ -143,8 +143,7 @@ module _ (i : Image) (range : IsTrue (is_in_range i)) (bs : Blocks) (a : AreBloc
   at_begin n b s q h = above n s (let z = mapped bs.numbers n b q in omega (arith, a.long)) (at kept b) (rw q refl) h
 
   behind : (n : ℕ) (s x : State) (j : ℕ) → (n + 1) + j ≡ length i.code → known i bs.numbers kept n ≡ Some s → Holds (at kept) (out bs.numbers i j (n + 1) x)
-      → inner_of bs.numbers (rule i n s) ≡ Some x
-      → at bs.numbers (n + 1) ≡ None → IsAbove (typed (n + 1)) x
+      → inner_of bs.numbers (rule i n s) ≡ Some x → at bs.numbers (n + 1) ≡ None → IsAbove (typed (n + 1)) x
   unfolding flows out
   behind n s x zero l e h q none = absurd h
   behind n s x (suc j) l e h q none =
@@ -160,8 +159,7 @@ module _ (i : Image) (range : IsTrue (is_in_range i)) (bs : Blocks) (a : AreBloc
     lead_all (e ∷ []) p h next = by (at bs.numbers (e.0)) refl h (λ x g. next x g)
       where
         by : (o : Option ℕ) → at bs.numbers (e.0) ≡ o → Holds (at kept) (leaves_last go (e.1) o)
-            → ((x : State) → inner_last (e.1) o ≡ Some x → at bs.numbers (n + 1) ≡ None → IsAbove (typed (n + 1)) x)
-            → IsAbove (typed (e.0)) (e.1) × Unit {0}
+            → ((x : State) → inner_last (e.1) o ≡ Some x → at bs.numbers (n + 1) ≡ None → IsAbove (typed (n + 1)) x) → IsAbove (typed (e.0)) (e.1) × Unit {0}
         by None q g on = (subst (λ (m : ℕ). IsAbove (typed m) (e.1)) (sym (p q)) (on (e.1) refl (subst (λ (m : ℕ). at bs.numbers m ≡ None) (p q) q)), tt)
         by (Some b) q g on = (at_begin (e.0) b (e.1) q (g.0), tt)
     lead_all (e ∷ f ∷ es) p h next = by (at bs.numbers (e.0)) refl h (λ g. lead_all (f ∷ es) (p.1) g next)

@@ -9,9 +9,9 @@ use Rattle.std.proofs.lemmas.List.{length-set}
 use Rattle.zl_rights.specs.declared.kind.Kind.TheVariants as kind
 use Rattle.zl_rights.specs.declared.status.Status.TheVariants as status
 use Rattle.zl_verify.proofs.Owners.{value_at-with, value_at-here}
-use Rattle.zl_verify.proofs.Writing.{long_with}
 use Rattle.zl_verify.proofs.Consuming.{added}
 use Rattle.zl_verify.proofs.Fitting.{Fits}
+use Rattle.zl_abs.proofs.FineStates.{with_long}
 
 pub status_few : (s : Status) → status_magnitude s ≤ 30
 status_few status.Ok = omega arith
@@ -97,8 +97,7 @@ AllAs ((r, Has maybe kind rights) ∷ ds) (e ∷ es) = IsAs kind rights (Some e)
 AllAs _ _ = ⊥
 
 pub handles_fit : (ds : List (ℕ × AbsVal)) (es : List Entry) (vs : List ℕ) (q : Process) (s : State) (xs : List ℕ) → IsFreeLast q
-    → may_get_all q es vs ≡ true → AllAs ds es
-    → Fits (get q.handles) s xs ds vs (get (getting_all es vs q).handles)
+    → may_get_all q es vs ≡ true → AllAs ds es → Fits (get q.handles) s xs ds vs (get (getting_all es vs q).handles)
 handles_fit [] [] [] q s xs sound may a = refl
 handles_fit [] [] (v ∷ vs) q s xs sound may a = cc
 handles_fit ((r, Has maybe kind rights) ∷ ds) (e ∷ es) [] q s xs sound may a = cc
@@ -162,7 +161,7 @@ module _ (f : Table) (a : ℕ) (s : State) (xs : List ℕ) (inside : a < length 
 
 -- three writes keep the lengths
 pub long_thrice : (s : State) (a d e : ℕ) (x y z : AbsVal) → length (with_value (with_value (with_value s a x) d y) e z) ≡ length s
-long_thrice s a d e x y z = long_with (with_value (with_value s a x) d y) e z ∙ (long_with (with_value s a x) d y ∙ long_with s a x)
+long_thrice s a d e x y z = with_long (with_value (with_value s a x) d y) e z ∙ (with_long (with_value s a x) d y ∙ with_long s a x)
 
 pub wide_thrice : (xs : List ℕ) (a d e x y z : ℕ) → length (slice_set (slice_set (slice_set xs a x) d y) e z) ≡ length xs
 wide_thrice xs a d e x y z = length-set (slice_set (slice_set xs a x) d y) e z ∙ (length-set (slice_set xs a x) d y ∙ length-set xs a x)
@@ -193,8 +192,7 @@ no_triples_fit (suc n) a f s xs room wide none =
     )
 
 pub triples_fit : (n a : ℕ) (es : List Entry) (vs : List ℕ) (q : Process) (s : State) (xs : List ℕ) → a + 3 * n ≤ length s → length xs ≡ length s
-    → length es ≤ n
-    → get q.handles 0 ≡ None → IsFreeLast q → may_get_all q es vs ≡ true → AllByRecursion HasFewRights es
+    → length es ≤ n → get q.handles 0 ≡ None → IsFreeLast q → may_get_all q es vs ≡ true → AllByRecursion HasFewRights es
     → Fits (get q.handles) s xs (triple_results a n) (told_of es vs) (get (getting_all es vs q).handles)
 triples_fit n a [] [] q s xs room wide few none sound may fewer = no_triples_fit n a (get q.handles) s xs room wide none
 triples_fit n a [] (v ∷ vs) q s xs room wide few none sound may fewer = cc

@@ -2,7 +2,7 @@
 use Rattle.zl_verify.proofs.Common.{Acts, AtCall, Awaited, Blocked, Bool, CallName, Calls, Created, Entry, IsStuck, Library, Life, List, Moves, Next, None}
 use Rattle.zl_verify.proofs.Common.{Option, Outcome, Process, Program, Ready, Request, Settles, Site, Some, StartsChild, Step, TraceItem, World, after_ok}
 use Rattle.zl_verify.proofs.Common.{after_refusal, answered, ap, asks_again, awaited_by, cases_Bool, created_process, effect, ended, entering_at, eqb-true}
-use Rattle.zl_verify.proofs.Common.{false, fired, get, get-each, get-put, gives_ok, gives_refused, if◌then◌else◌, inl, inr, insert_all, is_created, is_process}
+use Rattle.zl_verify.proofs.Common.{false, fired, get, get-each, get-put, gives_ok, gives_refused, inl, inr, insert_all, is_created, is_process}
 use Rattle.zl_verify.proofs.Common.{is_within, lives, made_ready, name_of, new_handles, next_for, next_in, object_at, ok_outcome, on_object, on_process}
 use Rattle.zl_verify.proofs.Common.{option_map, process_create, process_killed, process_settled, process_start, put, receiver_of, refl, refusal, replied, runs}
 use Rattle.zl_verify.proofs.Common.{slice_get, started_with, state_passes, state_without, stored_by, subst, sym, taken, taken_handles, task_kill, true, waiting}
@@ -17,6 +17,7 @@ use Rattle.zl_verify.proofs.OwnEffect.{starts_created}
 use Rattle.zl_verify.proofs.AtCalls.{IsAtCall, at_call}
 use Rattle.zl_verify.proofs.OwnTable.{changed_elsewhere, inserted_elsewhere}
 use Rattle.zl_code.proofs.Frame.{left_other, stored_other, ended_other, waiting_other, replied_other}
+use Rattle.std.proofs.lemmas.Bool.{cond_both}
 
 -- no process of this koid runs
 abbrev pub IsIdle : World → ℕ → Type 0
@@ -82,11 +83,8 @@ module _ (p q : ℕ) (apart : (p == q) ≡ false) (lib : Library) (w : World) wh
   unfolding effect with_object on_object with_killed
   done (process_create job program) u idle vs ws es =
       idles (ap (state_passes runs) (inserted_elsewhere es ws (effect lib w u p (process_create job program) vs) p q apart
-      ∙ get-put u.processes w.next_koid (created_process lib program) q) ∙ by (w.next_koid == q))
-    where
-      by : (b : Bool) → state_passes runs (if b then Some (created_process lib program) else get u.processes q) ≡ false
-      by true = refl
-      by false = idle
+      ∙ get-put u.processes w.next_koid (created_process lib program) q)
+      ∙ cond_both (w.next_koid == q) (Some (created_process lib program)) (get u.processes q) (λ o. state_passes runs o ≡ false) (λ _. refl) (λ _. idle))
   done (process_start process h word) u idle vs ws es = by (cases_Bool (child == q))
     where
       child : ℕ

@@ -13,6 +13,7 @@ use Rattle.zl_verify.specs.Lists.{within}
 use Rattle.zl_verify.specs.Leading.{flow_in, target_in}
 use Rattle.zl_verify.proofs.Places.{get_put, get_put_other, get_past, equal_or_not, below_or_not, mapped}
 use Rattle.zl_verify.proofs.Filling.{length_listed, at_listed}
+use Rattle.std.proofs.lemmas.Bool.{cond_both}
 
 -- ---- one instruction
 
@@ -31,15 +32,10 @@ pub leads_told : (i : Image) (n : ℕ) (s t : State) (x : Steps) → Ok (step_in
 leads_told i n s t x h = rw (← h) (rw (ends t x.jump x.next) (by_pause (is_pause (call_at i n)) (map (λ e. e.0) (step_in t x.jump ++ step_in t x.next))))
 
 pub leads_nowhere : (i : Image) (n : ℕ) (s : State) (c : Cause) → Err c ≡ rule i n s → [] ≡ leads_by i n (Some s)
-leads_nowhere i n s c h = rw (← h) (by (is_pause (call_at i n)))
-  where
-    by : (b : Bool) → ◌≡◌ {A = List ℕ} [] (if b then [] else [])
-    by true = refl
-    by false = refl
+leads_nowhere i n s c h = rw (← h) (cond_both {A = List ℕ} (is_pause (call_at i n)) [] [] (λ l. [] ≡ l) (λ _. refl) (λ _. refl))
 
 pub inner_told : (numbers : List (Option ℕ)) (o : Option State) (t : State) (x : Steps) (r : Result (List Lead) Cause)
-    → Ok (step_in t x.jump ++ step_in t x.next) ≡ r
-    → o ≡ inner numbers (step_in t x.jump ++ step_in t x.next) → o ≡ inner_of numbers r
+    → Ok (step_in t x.jump ++ step_in t x.next) ≡ r → o ≡ inner numbers (step_in t x.jump ++ step_in t x.next) → o ≡ inner_of numbers r
 inner_told numbers o t x r h k = k ∙ ap (inner_of numbers) h
 
 pub inner_none : (numbers : List (Option ℕ)) (c : Cause) (r : Result (List Lead) Cause) → Err c ≡ r → None ≡ inner_of numbers r
@@ -82,8 +78,7 @@ flow_more i numbers kept targets b s p a inside b2 s2 known_is x places_are b3 s
     same n h (inr d) = ap places_by (get_put_other targets p n x d) ∙ a.same n (omega arith)
 
 pub flow_ends : (i : Image) (numbers : List (Option ℕ)) (kept : List (Option State)) (targets : List Targets) (b : Bool) (s : State) (p : ℕ)
-    → Flowing i numbers kept targets b s p → length i.code ≤ p
-    → AreTargets i (states_of i numbers kept) targets
+    → Flowing i numbers kept targets b s p → length i.code ≤ p → AreTargets i (states_of i numbers kept) targets
 flow_ends i numbers kept targets b s p a past = record {
   long = a.long ∙ sym (length_listed (length i.code) (known i numbers kept));
   same = λ n. same n (below_or_not n (length i.code));

@@ -12,6 +12,7 @@ use Rattle.zl_code.specs.declared.history.CallName.TheVariants as name
 use Rattle.zl_abs.specs.declared.cause.Cause.TheVariants as cause
 use Rattle.zl_verify.proofs.PassingOn.{then_on, one, passes_on}
 use Rattle.zl_code.proofs.Common.{or_right}
+use Rattle.std.proofs.lemmas.Bool.{cond_both}
 
 -- one of the two edges is followed
 abbrev HasWay : Outcome → Type 0
@@ -45,13 +46,8 @@ kind_or_other s a imm r (Some k) (Has maybe (Some j) q) = by maybe (same_kind k 
 kind_or_other s a imm r (Some k) _ = refl
 
 kind_on : (s : State) (a imm r : ℕ) → HasWay (kind_ways s a imm r)
-kind_on s a imm r = by (eqb imm 0)
-  where
-    by : (t : Bool) → HasWay (if t
-        then record { jumped = becomes a 0 (known_zero s r (value_at s r)); passed = known_there s r (value_at s r) }
-        else record { jumped = becomes a imm (known_kind s r (kind_numbered imm) (value_at s r)); passed = known_other s (kind_numbered imm) (value_at s r) })
-    by true = zero_or_there s a r (value_at s r)
-    by false = kind_or_other s a imm r (kind_numbered imm) (value_at s r)
+kind_on s a imm r =
+    cond_both (eqb imm 0) _ _ HasWay (λ _. zero_or_there s a r (value_at s r)) (λ _. kind_or_other s a imm r (kind_numbered imm) (value_at s r))
 
 -- two tests, of which the one isn't passed where the other is
 either : (p q : Bool) (s u : State) → (p ≡ true → q ≡ false) → (is_some (if p then None else Some u) || is_some (if q then None else Some s)) ≡ true
@@ -125,11 +121,8 @@ IsThere (e ∷ es) = Unit {0}
 some_edge : (size target next : ℕ) (c d : Cause) (o p : Option State) → (is_some o || is_some p) ≡ true
     → IfOk (and_then (edge_to size c target o) (λ xs. and_then (edge_to size d next p) (λ ys. Ok (xs ++ ys)))) IsThere
 some_edge size target next c d None None h = cc
-some_edge size target next c d None (Some s) h = by (ltb next size)
-  where
-    by : (t : Bool) → IfOk (and_then (if t then Ok ((next, s) ∷ []) else Err d) (λ ys. Ok ys)) IsThere
-    by true = tt
-    by false = tt
+some_edge size target next c d None (Some s) h =
+    cond_both (ltb next size) (Ok ((next, s) ∷ [])) (Err d) (λ r. IfOk (and_then r (λ ys. Ok ys)) IsThere) (λ _. tt) (λ _. tt)
 some_edge size target next c d (Some s) p h = by (ltb target size) (edge_to size d next p)
   where
     by : (t : Bool) (r : Result (List Edge) Cause)

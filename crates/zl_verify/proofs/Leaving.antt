@@ -29,8 +29,7 @@ module _ (i : Image) (bs : Blocks) (a : AreBlocks i bs) (y : ℕ → Option Stat
   at_start e b q h = subst (λ (m : ℕ). IsAbove (y m) (e.1)) (sym (begins_at i bs a (e.0) b q)) h
 
   leaving : (n : ℕ) (go : State → Out) → ((s : State) → IsAbove (y (n + 1)) s → Holds (at_starts i bs y) (go s)) → (es : List Edge) → AllLead y es
-      → AreParted bs.numbers n es
-      → Holds (at_starts i bs y) (leaves bs.numbers go es)
+      → AreParted bs.numbers n es → Holds (at_starts i bs y) (leaves bs.numbers go es)
   unfolding leaves AreParted
   leaving n go more [] h p = tt
   leaving n go more (e ∷ []) h p = by (at bs.numbers (e.0)) refl

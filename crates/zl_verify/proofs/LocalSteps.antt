@@ -1,7 +1,7 @@
 -- The law of the local steps of a process that conforms.
 use Rattle.zl_verify.proofs.Common.{Bool, CallInstr, CallName, Cause, Condition, Conforms, Cpu, Edge, Entry, Err, HandlesAreSound, Holds, Image, Instr, IsAble}
 use Rattle.zl_verify.proofs.Common.{IsAbove, IsMemory, IsStuck, IsTrue, IsTyping, KNOWN_RIGHTS, Kind, List, LocalInstr, Moves, Next, None, Ok, OneOf, Option}
-use Rattle.zl_verify.proofs.Common.{Process, Ready, Result, RuleHolds, Site, Some, StandsBy, State, Table, WaitsAt, World, [], and_then, ap, bits, both}
+use Rattle.zl_verify.proofs.Common.{Process, Ready, Result, RuleHolds, Site, Some, StandsBy, State, Table, WaitsAt, World, [], and_then, ap, bits}
 use Rattle.zl_verify.proofs.Common.{bounds_of, call_at, call_rule, calls_at, creates, default_rights_of, edge_to, edges, false, get, if◌then◌else◌, inl, inr}
 use Rattle.zl_verify.proofs.Common.{instr_at, is_among, is_in_range, is_local_in_range, is_some, leads, length, local_effect, local_rule, moves, nat_lt}
 use Rattle.zl_verify.proofs.Common.{next_at, next_of, on_process, ranges, refl, rule_by, rule_with, site_of, subst, sym, target_of, targets_of, true, within}
@@ -49,8 +49,7 @@ module _ (t : ℕ → Option State) (f : Table) (i : Image) (c : Cpu) where
     one_edge x c m (Some s) = if x then Ok ((m, s) ∷ []) else Err c
 
     abbrev both_edges : Bool → Bool → Option State → Option State → Result (List Edge) Cause
-    both_edges x y j o =
-        and_then (one_edge x cause.BadJump target j) (λ xs. and_then (one_edge y cause.FallsOff (n + 1) o) (λ ys. Ok (xs ++ ys)))
+    both_edges x y j o = and_then (one_edge x cause.BadJump target j) (λ xs. and_then (one_edge y cause.FallsOff (n + 1) o) (λ ys. Ok (xs ++ ys)))
 
     abbrev StandsAt : Option State → Option State → Type 0
     StandsAt j o = ((c.counter ≡ target) × Known f c.registers i.slots c.slots j) ⊎ ((c.counter ≡ n + 1) × Known f c.registers i.slots c.slots o)
@@ -71,8 +70,7 @@ module _ (t : ℕ → Option State) (f : Table) (i : Image) (c : Cpu) where
 
     reached_with : (j o : Option State)
         → RuleHolds t (and_then (edge_to size cause.BadJump target j) (λ xs. and_then (edge_to size cause.FallsOff (n + 1) o) (λ ys. Ok (xs ++ ys))))
-        → StandsAt j o
-        → Reaches t f i c
+        → StandsAt j o → Reaches t f i c
         (targets_of (and_then (edge_to size cause.BadJump target j) (λ xs. and_then (edge_to size cause.FallsOff (n + 1) o) (λ ys. Ok (xs ++ ys)))))
     reached_with None None = reached_by (nat_lt target size) (nat_lt (n + 1) size) None None
     reached_with None (Some u) = reached_by (nat_lt target size) (nat_lt (n + 1) size) None (Some u)

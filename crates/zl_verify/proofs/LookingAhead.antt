@@ -15,6 +15,7 @@ use Rattle.zl_abs.specs.declared.cause.Cause.TheVariants as cause
 use Rattle.zl_verify.proofs.Places.{get_put, get_put_other, get_past, equal_or_not, below_or_not, mapped}
 use Rattle.zl_verify.proofs.PassingOn.{then_on, passes_on}
 use Rattle.zl_verify.proofs.Bounding.{all_under}
+use Rattle.std.proofs.lemmas.Bool.{cond_both}
 
 -- ---- a rule jumps only where its instruction is a jump, and there to its target
 
@@ -73,8 +74,7 @@ module _ (steps : ℕ → Option ℕ) (k : ℕ) where
         by false g = tt
 
     edges_below : (j : Option ℕ) (target : ℕ) (o p : Option State) → Suits j target o
-        → AllBelow steps k (option_to_list (place_within size j) ++ option_to_list (place_within size (Some (place + 1))))
-        → AllBelow steps k
+        → AllBelow steps k (option_to_list (place_within size j) ++ option_to_list (place_within size (Some (place + 1)))) → AllBelow steps k
         (targets_of (and_then (edge_to size cause.BadJump target o) (λ xs. and_then (edge_to size cause.FallsOff (place + 1) p) (λ ys. Ok (xs ++ ys)))))
     edges_below j target None p h g = behind [] p tt (second (option_to_list (place_within size j)) (option_to_list (place_within size (Some (place + 1)))) g)
     edges_below None target (Some s) p h g = cc
@@ -120,10 +120,7 @@ ahead_begins i targets h = record { long = h; same = λ n k. absurd (omega arith
 -- one more place has its targets
 pub ahead_more : (i : Image) (targets : List Targets) (p : ℕ) (x : Targets) → AreAhead i targets p → p < length targets → places x ≡ ahead i p
     → AreAhead i (slice_set targets p x) (p + 1)
-ahead_more i targets p x a inside are = record {
-  long = length-set targets p x ∙ a.long;
-  same = λ n h. same n h (equal_or_not p n);
-}
+ahead_more i targets p x a inside are = record { long = length-set targets p x ∙ a.long; same = λ n h. same n h (equal_or_not p n) }
   where
     same : (n : ℕ) → n < p + 1 → (p ≡ n) ⊎ (p ≢ n) → places_at (slice_set targets p x) n ≡ ahead i n
     same n h (inl e) = subst (λ (m : ℕ). places_at (slice_set targets p x) m ≡ ahead i m) e (ap places_by (get_put targets p x inside) ∙ are)
@@ -140,11 +137,7 @@ closed_ahead i targets a n = by (below_or_not n (length i.code))
     one m rest false e h = h
 
     next : AllInside size (option_to_list (place_within size (Some (n + 1))))
-    next = by (nat_lt (n + 1) size) refl
-      where
-        by : (b : Bool) → nat_lt (n + 1) size ≡ b → AllInside size (option_to_list (if b then Some (n + 1) else None))
-        by true e = (grind (arith, nat_tests), tt)
-        by false e = tt
+    next = cond_both (nat_lt (n + 1) size) (Some (n + 1)) None (λ o. AllInside size (option_to_list o)) (λ e. (grind (arith, nat_tests), tt)) (λ _. tt)
 
     both : (j : Option ℕ) → AllInside size (option_to_list (place_within size j) ++ option_to_list (place_within size (Some (n + 1))))
     both None = next
@@ -163,8 +156,7 @@ closed_ahead i targets a n = by (below_or_not n (length i.code))
 -- ---- the bound
 
 pub bounds_all : (i : Image) (targets : List Targets) (ns : List (Option ℕ)) (most : ℕ) → most ≡ i.budget + 1 → AreAhead i targets (length i.code)
-    → AreNumbers (places_at targets) (length targets) most ns
-    → position (is_over most) ns ≡ None → BoundsAll i ns
+    → AreNumbers (places_at targets) (length targets) most ns → position (is_over most) ns ≡ None → BoundsAll i ns
 bounds_all i targets ns most is_most a numbers e = record {
   bound = λ states long. record {
     within = λ n s q.

@@ -115,6 +115,5 @@ are_blocks i begins bs h m a = record {
 }
 
 pub numbers_pushed : (begins : List Bool) (numbers : List (Option ℕ)) (starts pushed : List ℕ) (p m : ℕ) → AreNumbered begins numbers starts p
-    → p < length begins → m ≡ length starts → pushed ≡ starts ++ p ∷ []
-    → AreNumbered begins (slice_set numbers p (Some m)) pushed (p + 1)
+    → p < length begins → m ≡ length starts → pushed ≡ starts ++ p ∷ [] → AreNumbered begins (slice_set numbers p (Some m)) pushed (p + 1)
 numbers_pushed begins numbers starts pushed p m a inside count items = rw (count, items) (numbers_more begins numbers starts p a inside)

@@ -57,10 +57,7 @@ bytes_over memory bytes address old new =
 -- the memory keeps its size, and has bytes in it
 pub bytes_stored : (i : Image) (memory bytes : List ℕ) (address : ℕ) → IsMemory i memory → AreBytes bytes → address + length bytes ≤ length memory
     → IsMemory i (overwritten memory address bytes)
-bytes_stored i memory bytes address m are fits = record {
-  long = whole;
-  bytes = bytes_over memory bytes address m.bytes are;
-}
+bytes_stored i memory bytes address m are fits = record { long = whole; bytes = bytes_over memory bytes address m.bytes are }
   where
     whole : length (overwritten memory address bytes) ≡ i.memory
     whole =

@@ -8,7 +8,8 @@ use Rattle.std.proofs.lemmas.List.{length-set, map-set, set-get_or, get_or-map}
 use Rattle.zl_abs.specs.Values.{retagged}
 use Rattle.zl_verify.proofs.Owners.{by_register, owns_free, owners-map, owners-set, owners-with, value_at-map, value_at-with, value_at-here, set_same}
 use Rattle.zl_verify.proofs.Owners.{set_apart, keepers-set}
-use Rattle.zl_verify.proofs.Writing.{nothing_at_0, long_with, other_described}
+use Rattle.zl_verify.proofs.Writing.{nothing_at_0, other_described}
+use Rattle.zl_abs.proofs.FineStates.{with_long}
 
 -- ---- take
 
@@ -36,7 +37,7 @@ module _ {f : Table} {s : State} {xs : List ℕ} {arrays : List SlotArray} {slot
     (in_a : a < length s) (in_b : b < length s)
     (free : is_has (value_at s a) ≡ false) (v : AbsVal) (is : value_at s b ≡ v) (moves : may_move v ≡ true) where
   long_between : length (map (retagged b a) (with_value s a v)) ≡ length s
-  long_between = length-map (with_value s a v) (retagged b a) ∙ long_with s a v
+  long_between = length-map (with_value s a v) (retagged b a) ∙ with_long s a v
 
   value_between : (q : ℕ) → q ≢ a → value_at (map (retagged b a) (with_value s a v)) q ≡ retagged b a (untagged a (value_at s q))
   value_between q na = value_at-map (retagged b a) refl (with_value s a v) q ∙ ap (retagged b a) (value_at-with s a q v na)
@@ -71,8 +72,7 @@ module _ {f : Table} {s : State} {xs : List ℕ} {arrays : List SlotArray} {slot
 
   -- a tag goes on, follows the handle, or is lost
   tag_moved : (tag : ℕ → AbsVal) (number : Option Entry → ℕ) → ((t x : ℕ) (g : List ℕ) → x ≡ number (f (slice_index g t)) → Describes f g (tag t) x) → (t x : ℕ)
-      → x ≤ ANY → x ≡ number (f (slice_index xs t))
-      → Describes f (moved_to xs a b) (if t == a then Word ANY else (if t == b then tag a else tag t)) x
+      → x ≤ ANY → x ≡ number (f (slice_index xs t)) → Describes f (moved_to xs a b) (if t == a then Word ANY else (if t == b then tag a else tag t)) x
   tag_moved tag number tells t x small d = by (cases_Bool (t == a)) (cases_Bool (t == b))
     where
       by : ((t == a) ≡ true) ⊎ ((t == a) ≡ false) → ((t == b) ≡ true) ⊎ ((t == b) ≡ false)
@@ -81,21 +81,16 @@ module _ {f : Table} {s : State} {xs : List ℕ} {arrays : List SlotArray} {slot
       by (inr e) (inl k) = rw (e, k) (tells a x (moved_to xs a b) (d ∙ ap (λ n. number (f n)) (ap (slice_index xs) (eqb-true t b k) ∙ sym moved_a)))
       by (inr e) (inr k) = rw (e, k) (tells t x (moved_to xs a b) (d ∙ ap (λ n. number (f n)) (sym (moved_other t (eqb-false t a e) (eqb-false t b k)))))
 
+  retag : (y : Bool) (v : AbsVal) (x : ℕ) → Describes f (moved_to xs a b) (if y then Word ANY else retagged b a v) x
+      → Describes f (moved_to xs a b) (retagged b a (if y then Word ANY else v)) x
+  retag true v x k = k
+  retag false v x k = k
+
   described_other : (c : AbsVal) (x : ℕ) → x ≤ ANY → Describes f xs c x → Describes f (moved_to xs a b) (retagged b a (untagged a c)) x
   described_other (Word m) x small d = d
   described_other (Has maybe kind rights) x small d = d
-  described_other (KindOf t) x small d = by (t == a) (tag_moved KindOf kind_in (λ t x g e. e) t x small d)
-    where
-      by : (y : Bool) → Describes f (moved_to xs a b) (if y then Word ANY else (if t == b then KindOf a else KindOf t)) x
-          → Describes f (moved_to xs a b) (retagged b a (if y then Word ANY else KindOf t)) x
-      by true k = k
-      by false k = k
-  described_other (RightsOf t) x small d = by (t == a) (tag_moved RightsOf rights_in (λ t x g e. e) t x small d)
-    where
-      by : (y : Bool) → Describes f (moved_to xs a b) (if y then Word ANY else (if t == b then RightsOf a else RightsOf t)) x
-          → Describes f (moved_to xs a b) (retagged b a (if y then Word ANY else RightsOf t)) x
-      by true k = k
-      by false k = k
+  described_other (KindOf t) x small d = retag (t == a) (KindOf t) x (tag_moved KindOf kind_in (λ t x g e. e) t x small d)
+  described_other (RightsOf t) x small d = retag (t == a) (RightsOf t) x (tag_moved RightsOf rights_in (λ t x g e. e) t x small d)
 
   pub take_holds : Holds f (moved s a b v) (moved_to xs a b) arrays slots
   take_holds = record {
@@ -141,8 +136,7 @@ owned_kept v t x = refl
 
 -- the slot array is there, with its length
 pub array_there : (slots : List (List ℕ)) (arrays : List SlotArray) (n : ℕ) (t : SlotArray) → map length slots ≡ map (λ a. a.length) arrays
-    → slice_get arrays n ≡ Some t
-    → (n < length slots) × (length (slice_index_or slots n []) ≡ t.length)
+    → slice_get arrays n ≡ Some t → (n < length slots) × (length (slice_index_or slots n []) ≡ t.length)
 array_there slots arrays n t e is =
     let there = there_for arrays n t t is in
     let long : length slots ≡ length arrays = sym (length-map slots length) ∙ (ap length e ∙ length-map arrays (λ a. a.length)) in
@@ -183,7 +177,7 @@ module _ {f : Table} {s : State} {xs : List ℕ} {arrays : List SlotArray} {slot
   pub swap_holds : Holds f (with_value s a (slot_value t)) (slice_set xs a (place_at slots n k)) arrays
       (slice_set slots n (slice_set (slice_index_or slots n []) k (slice_index xs a)))
   swap_holds = record {
-    width = length-set xs a (place_at slots n k) ∙ (h.width ∙ sym (long_with s a (slot_value t)));
+    width = length-set xs a (place_at slots n k) ∙ (h.width ∙ sym (with_long s a (slot_value t)));
     small = λ q. small_at q (cases_eq q a);
     described = λ q. by q (cases_eq q a);
     lengths = map-set length slots n (slice_set array k (slice_index xs a))

@@ -108,8 +108,7 @@ holds_just_its_handles i t w p q k = record { state = k.state; stands = k.stands
     counted : (v : ℕ) → times v values ≡ one_if (is_some (get q.handles v))
     counted v =
         times-append v (values_in_registers k.state q.cpu.registers) (values_in_slots q.cpu.slots)
-        ∙ (λ i. sym (owners_counted v k.state q.cpu.registers) i + sym (keepers_counted v q.cpu.slots) i)
-        ∙ k.holds.once v
+        ∙ (λ i. sym (owners_counted v k.state q.cpu.registers) i + sym (keepers_counted v q.cpu.slots) i) ∙ k.holds.once v
 
     few : (v : ℕ) → times v values ≤ 1
     few v = let n = counted v in let h = one_at_most (is_some (get q.handles v)) in omega arith

@@ -76,8 +76,7 @@ one_inside P Q size f (n ∷ ns) i h = elim h [ inl p ↦ inl (f n (i.0) p) | in
 
 -- from a place without a number so many steps can be made, where the numbers leave no more to be given
 pub endless : (leads : ℕ → List ℕ) (size : ℕ) (ns : List (Option ℕ)) (most : ℕ) → IsClosed size leads
-    → ((n : ℕ) → n < size → at ns n ≡ None → number_of ns most (leads n) ≡ None)
-    → (k n : ℕ) → n < size → at ns n ≡ None → Follow leads k n
+    → ((n : ℕ) → n < size → at ns n ≡ None → number_of ns most (leads n) ≡ None) → (k n : ℕ) → n < size → at ns n ≡ None → Follow leads k n
 endless leads size ns most closed stuck zero n h e = tt
 endless leads size ns most closed stuck (suc k) n h e =
     one_inside (λ m. at ns m ≡ None) (λ m. Follow leads k m) size (λ m i z. endless leads size ns most closed stuck k m i z) (leads n) (closed n)
@@ -113,10 +112,7 @@ module _ (leads : ℕ → List ℕ) (most : ℕ) where
 
   pub numbered : (ns : List (Option ℕ)) → Given leads most ns → (n k : ℕ) → n < length ns → at ns n ≡ None → number_of ns most (leads n) ≡ Some k
       → Given leads most (slice_set ns n (Some k))
-  numbered ns g n k h z e = record {
-    falls = λ m j a b. falls m j a b (equal_or_not n m);
-    follow = λ m j a. follow m j a (equal_or_not n m);
-  }
+  numbered ns g n k h z e = record { falls = λ m j a b. falls m j a b (equal_or_not n m); follow = λ m j a. follow m j a (equal_or_not n m) }
     where
       new : List (Option ℕ)
       new = slice_set ns n (Some k)

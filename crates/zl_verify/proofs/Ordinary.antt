@@ -1,8 +1,8 @@
 -- The listed answers of a call are answers, neither OK nor faults.
-use Rattle.zl_verify.proofs.Common.{AllByRecursion, Bool, Library, List, None, Option, Outcome, Request, Some, Status, World, [], answer_if, chan_create}
-use Rattle.zl_verify.proofs.Common.{chan_read_etc, chan_write, dup, event_create, eventpair_create, false, first_some, is_fault, job_create, job_set_policy}
-use Rattle.zl_verify.proofs.Common.{listed, port_cancel, port_create, port_poll, port_queue, port_wait, process_create, process_exit, process_start, refl}
-use Rattle.zl_verify.proofs.Common.{replace, signal, signal_peer, task_kill, true, wait_async, wait_one, wait_poll, ℕ, ◌∷◌, ◌≡◌}
+use Rattle.zl_verify.proofs.Common.{AllByRecursion, Bool, Library, List, None, Option, Outcome, Request, Some, Status, World, [], answer_if}
+use Rattle.zl_verify.proofs.Common.{chan_read_etc, chan_write, dup, false, first_some, is_fault, job_create, job_set_policy}
+use Rattle.zl_verify.proofs.Common.{listed, port_wait, process_create, process_exit, process_start, refl}
+use Rattle.zl_verify.proofs.Common.{signal_peer, task_kill, true, wait_async, wait_poll, ℕ, ◌∷◌, ◌≡◌}
 use Rattle.zl_code.specs.CallTable.{close}
 use Rattle.zl_rights.specs.declared.status.Status.TheVariants as status
 use Rattle.zl_code.specs.declared.history.Outcome.TheVariants as outcome
@@ -33,25 +33,16 @@ pub listed_ordinary : (lib : Library) (w : World) (p : ℕ) (r : Request) → Ar
 unfolding listed
 listed_ordinary lib w p (close h) = tt
 listed_ordinary lib w p (dup h rights) = (if_so _ _ refl refl, (if_so _ _ refl refl, tt))
-listed_ordinary lib w p (replace h rights) = (if_so _ _ refl refl, tt)
-listed_ordinary lib w p chan_create = (if_so _ _ refl refl, tt)
 listed_ordinary lib w p (chan_write c bytes hs) = (if_so _ _ refl refl, (if_so _ _ refl refl, (if_so _ _ refl refl, tt)))
 listed_ordinary lib w p (chan_read_etc c address room places) = (if_so _ _ refl refl, (if_so _ _ refl refl, (if_so _ _ refl refl, (if_so _ _ refl refl, tt))))
-listed_ordinary lib w p event_create = (if_so _ _ refl refl, tt)
-listed_ordinary lib w p (signal h clear set) = (if_so _ _ refl refl, tt)
 listed_ordinary lib w p (signal_peer h clear set) = (if_so _ _ refl refl, (if_so _ _ refl refl, tt))
-listed_ordinary lib w p (wait_one h mask) = (if_so _ _ refl refl, tt)
 listed_ordinary lib w p (wait_poll h mask) = (if_so _ _ refl refl, (if_so _ _ refl refl, tt))
 listed_ordinary lib w p (wait_async h port key mask) = (if_so _ _ refl refl, (if_so _ _ refl refl, tt))
-listed_ordinary lib w p port_create = (if_so _ _ refl refl, tt)
-listed_ordinary lib w p (port_queue port key value) = (if_so _ _ refl refl, tt)
 listed_ordinary lib w p (port_wait port) = tt
-listed_ordinary lib w p (port_poll port) = (if_so _ _ refl refl, tt)
-listed_ordinary lib w p (port_cancel port source key) = (if_so _ _ refl refl, tt)
 listed_ordinary lib w p (process_create job program) = (if_so _ _ refl refl, (if_so _ _ refl refl, (if_so _ _ refl refl, (if_so _ _ refl refl, tt))))
 listed_ordinary lib w p (process_start process h word) = (if_so _ _ refl refl, (if_so _ _ refl refl, tt))
 listed_ordinary lib w p (process_exit code) = tt
 listed_ordinary lib w p (task_kill task) = tt
 listed_ordinary lib w p (job_create j) = (if_so _ _ refl refl, (if_so _ _ refl refl, (if_so _ _ refl refl, tt)))
 listed_ordinary lib w p (job_set_policy j mode condition action) = (if_so _ _ refl refl, (if_so _ _ refl refl, (if_so _ _ refl refl, tt)))
-listed_ordinary lib w p eventpair_create = (if_so _ _ refl refl, tt)
+listed_ordinary lib w p _ = (if_so _ _ refl refl, tt)

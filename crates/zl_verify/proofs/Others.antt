@@ -54,8 +54,7 @@ module _ (p q : ℕ) (apart : (p == q) ≡ false) where
         as_before (changed_elsewhere u (object_at w p process) (started_with vs word) q (not_started lib process h word passes) ∙ at)
     effect_other (task_kill task) lib passes u at below vs =
         left_same y _ _ (get-each u.processes (λ k x. process_killed (is_within u.objects (object_at w p task) k) x) q
-        ∙ ap (option_map (process_killed (is_within u.objects (object_at w p task) q))) at)
-        (killed_or_not (is_within u.objects (object_at w p task) q))
+        ∙ ap (option_map (process_killed (is_within u.objects (object_at w p task) q))) at) (killed_or_not (is_within u.objects (object_at w p task) q))
     effect_other _ lib passes u at below vs = as_before at
 
 module _ (lib : Library) (w : World) (p : ℕ) (caller : Process) (there : get w.processes p ≡ Some caller)

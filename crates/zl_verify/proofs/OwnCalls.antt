@@ -244,8 +244,7 @@ module _ (i : Image) (t : ℕ → Option State) (w : World) (p : ℕ) (q : Proce
     by_ending none vs may (Some code) is = subst (λ n. IsOwnEnd w p n s code) asked (ends_so s.request s.consumed s.destinations w p code is)
 
     by_waiting : refusal lib w p s.request ≡ None → (vs : List ℕ) → may_choose w (taken w p s) p s.request vs ≡ true → (o : Option Awaited)
-        → awaited_by w p s.request ≡ o
-        → Ends (outcome_of o (ends_caller w p s.request)) (after_ok lib w p s vs (outcome_of o (ends_caller w p s.request)))
+        → awaited_by w p s.request ≡ o → Ends (outcome_of o (ends_caller w p s.request)) (after_ok lib w p s vs (outcome_of o (ends_caller w p s.request)))
     by_waiting none vs may None is = by_ending none vs may (ends_caller w p s.request) refl
     by_waiting none vs may (Some awaited) is = rw is (waiting_there awaited is)
       where
@@ -284,8 +283,7 @@ module _ (i : Image) (t : ℕ → Option State) (w : World) (p : ℕ) (q : Proce
 
 -- however the call ends, it ends as is promised
 pub promised : (i : Image) (t : ℕ → Option State) (w : World) (p : ℕ) (q : Process) (called : CallName) (s : Site) → StandsAtCall i t w p q called s
-    → (lib : Library) (answer : Outcome) (w2 : World) → Calls lib w p s answer w2
-    → Promised i t w p q called s answer w2
+    → (lib : Library) (answer : Outcome) (w2 : World) → Calls lib w p s answer w2 → Promised i t w p q called s answer w2
 promised i t w p q called s k lib answer w2 h = by (is_ruled i t w p q called s k)
   where
     by : IsRuled i t w p q called s k.conforms.state → Promised i t w p q called s answer w2
@@ -298,8 +296,7 @@ promised i t w p q called s k lib answer w2 h = by (is_ruled i t w p q called s 
 
 -- what a call asks for can be read
 pub can_call : (i : Image) (t : ℕ → Option State) (w : World) (p : ℕ) (q : Process) → IsTrue (is_in_range i) → IsTyping i t → HandlesAreSound w
-    → get w.processes p ≡ Some q → Conforms i t w p q
-    → (x : CallInstr) → call_at i q.cpu.counter ≡ Some x → CanCall i q.cpu x
+    → get w.processes p ≡ Some q → Conforms i t w p q → (x : CallInstr) → call_at i q.cpu.counter ≡ Some x → CanCall i q.cpu x
 can_call i t w p q range typing sound there k x is = by (reads i q.cpu x is)
   where
     by : (next_at i q.cpu ≡ IsStuck) ⊎ ((s : Site) × (next_at i q.cpu ≡ AtCall x.name s)) → CanCall i q.cpu x

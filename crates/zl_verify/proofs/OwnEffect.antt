@@ -16,6 +16,7 @@ use Rattle.zl_rights.specs.declared.policy.Action.TheVariants as action
 use Rattle.zl_verify.proofs.Giving.{getting_all}
 use Rattle.zl_verify.proofs.OwnTable.{changed_elsewhere, inserted_here, inserted_elsewhere, own_handles, storing_in, stored_here}
 use Rattle.zl_code.proofs.Passing.{listed_none, test_fails, test_passes}
+use Rattle.std.proofs.lemmas.Bool.{cond_both}
 
 -- ---- the caller
 
@@ -144,11 +145,8 @@ each_so f same (Some o) = same o
 -- one object changes, and not in this
 changed_alike : (v u : World) (k : ℕ) (f : Object → Object) → ((o : Object) → IsAlike (f o).body o.body) → AreAlike v u (on_object u k f)
 unfolding on_object
-changed_alike v u k f same = so_alike v u _ (λ j less. rw (get-update u.objects k f j) (by (k == j) (get u.objects j)))
-  where
-    by : (b : Bool) (o : Option Object) → AreSo (if b then option_map f o else o) o
-    by true o = each_so f same o
-    by false o = (refl, refl)
+changed_alike v u k f same = so_alike v u _ (λ j less. rw (get-update u.objects k f j)
+    (cond_both (k == j) _ _ (λ o. AreSo o (get u.objects j)) (λ _. each_so f same (get u.objects j)) (λ _. (refl, refl))))
 
 -- an object is made
 pub made_alike : (v u : World) (b : Body) → v.next_koid ≤ u.next_koid → AreAlike v u (with_object u b)
@@ -268,8 +266,7 @@ stored_objects (address, b ∷ bytes) w p = refl
 pub alike_after : (r : Request) (lib : Library) (w u : World) (p : ℕ) → refusal lib w p r ≡ None → w.next_koid ≤ u.next_koid → (vs : List ℕ)
     → AreAlike w u (with_effect lib w u p r vs)
 alike_after r lib w u p passes le vs =
-    alike_then w u (effect lib w u p r vs) _ (effect_alike r lib w u p passes le vs)
-    (same_objects w (effect lib w u p r vs) _
+    alike_then w u (effect lib w u p r vs) _ (effect_alike r lib w u p passes le vs) (same_objects w (effect lib w u p r vs) _
     (stored_objects (stored_by w p r) _ p ∙ inserted_objects (new_handles w p r) (entering_at r vs) (effect lib w u p r vs) (receiver_of w p r)))
 
 -- ---- the policy that the caller is under

@@ -33,11 +33,7 @@ fine_other p _ apart = tt
 ended_there : (w : World) (p : ℕ) (q : Process) → get w.processes p ≡ Some q → (q.state ≡ Ready) ⊎ (has_ended q.state ≡ true) → (code : ℤ)
     → HasEnded (ended w p code) p
 unfolding ended
-ended_there w p q there was code = record {
-  process = process_ended code q;
-  there = changed_here w p (process_ended code) q there;
-  over = by was;
-}
+ended_there w p q there was code = record { process = process_ended code q; there = changed_here w p (process_ended code) q there; over = by was }
   where
     over_still : (l : Life) → q.state ≡ l → has_ended l ≡ true → has_ended (process_ended code q).state ≡ true
     over_still (Ended other) is e = rw is refl

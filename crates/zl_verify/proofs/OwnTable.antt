@@ -7,6 +7,7 @@ use Rattle.zl_verify.proofs.Consuming.{removed}
 use Rattle.zl_verify.proofs.Examining.{unseen, unseen_more, seen_all, valued}
 use Rattle.zl_verify.proofs.Giving.{none_at, getting_all}
 use Rattle.zl_code.proofs.Frame.{enter_other}
+use Rattle.std.proofs.lemmas.Bool.{cond_both}
 
 pub changed_here : (w : World) (p : ℕ) (f : Process → Process) (q : Process) → get w.processes p ≡ Some q → get (on_process w p f).processes p ≡ Some (f q)
 unfolding on_process
@@ -65,10 +66,8 @@ losing_seen f xs (o ∷ os) seen q e = by o.is_taken
     rest : List Operand
     rest = filter (λ (o : Operand). o.is_taken) (map (valued xs) os)
 
-    by : (t : Bool)
-        → get (losing_all (map (λ o. o.value) rest) (process_without (slice_index xs o.value) q)).handles
-        ≡ unseen f (seen_all xs (slice_index xs o.value ∷ seen) os)
-        → get (losing_all (map (λ o. o.value) rest) q).handles ≡ unseen f (seen_all xs seen os)
+    by : (t : Bool) → get (losing_all (map (λ o. o.value) rest) (process_without (slice_index xs o.value) q)).handles
+        ≡ unseen f (seen_all xs (slice_index xs o.value ∷ seen) os) → get (losing_all (map (λ o. o.value) rest) q).handles ≡ unseen f (seen_all xs seen os)
         → get (losing_all (map (λ o. o.value) (cond t (valued xs o ∷ rest) rest)) q).handles
         ≡ unseen f (seen_all xs (if t then slice_index xs o.value ∷ seen else seen) os)
     by true a b = a
@@ -119,11 +118,8 @@ then_same x y = record { cpu = x.cpu ∙ y.cpu; state = x.state ∙ y.state; pro
 
 pub losing_same : (hs : List ℕ) (q : Process) → IsButTable (losing_all hs q) q
 losing_same [] q = record { cpu = refl; state = refl; program = refl }
-losing_same (h ∷ hs) q = then_same (losing_same hs (process_without h q)) (by (has_key q.handles h))
-  where
-    by : (b : Bool) → IsButTable (if b then record q { handles = without q.handles h; last = Some h } else q) q
-    by true = record { cpu = refl; state = refl; program = refl }
-    by false = record { cpu = refl; state = refl; program = refl }
+losing_same (h ∷ hs) q = then_same (losing_same hs (process_without h q)) (cond_both (has_key q.handles h) _ q (λ r. IsButTable r q)
+    (λ _. record { cpu = refl; state = refl; program = refl }) (λ _. record { cpu = refl; state = refl; program = refl }))
 
 pub getting_same : (es : List Entry) (vs : List ℕ) (q : Process) → IsButTable (getting_all es vs q) q
 getting_same [] vs q = record { cpu = refl; state = refl; program = refl }

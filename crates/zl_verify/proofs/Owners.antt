@@ -4,6 +4,8 @@ use Rattle.zl_verify.proofs.Common.{false, get_or-set_other, get_or-set_same, if
 use Rattle.zl_verify.proofs.Common.{one_if, owners, owns, place_at, refl, slice_index, slice_index_or, slice_set, suc, sum_by, sum_by-cons, sum_by-set, sym}
 use Rattle.zl_verify.proofs.Common.{true, untagged, value_at, with_value, zero, ℕ, ◌&&◌, ◌+◌, ◌<◌, ◌==◌, ◌∙◌, ◌∷◌, ◌≡◌, ◌≢◌, ◌≤◌, ◌⊎◌}
 pub use Rattle.zl_abs.proofs.FineStates.{mapped_at as value_at-map}
+use Rattle.std.proofs.Math.Bool.{and-false}
+use Rattle.std.proofs.lemmas.Bool.{and_right}
 
 -- ---- one place
 
@@ -12,22 +14,14 @@ unfolding owns
 owns_it maybe kind rights y h = grind (arith, nat_tests)
 
 pub not_0 : (v : ℕ) → one_if (is_it v 0) ≡ 0
-not_0 v = by (0 == v)
-  where
-    by : (b : Bool) → one_if (b && nat_lt 0 0) ≡ 0
-    by true = refl
-    by false = refl
+not_0 v = ap one_if (and-false (0 == v))
 
 pub it_is_itself : (y : ℕ) → y ≢ 0 → is_it y y ≡ true
 it_is_itself y h = grind (arith, nat_tests)
 
 pub owns_apart : (v : ℕ) (a : AbsVal) (x : ℕ) → (x == v) ≡ false → one_if (owns v a x) ≡ 0
 unfolding owns
-owns_apart v a x e = rw e (by (is_has a))
-  where
-    by : (b : Bool) → one_if (b && false) ≡ 0
-    by true = refl
-    by false = refl
+owns_apart v a x e = rw e (ap one_if (and-false (is_has a)))
 
 pub one_at_most : (b : Bool) → one_if b ≤ 1
 one_at_most true = omega arith
@@ -39,12 +33,7 @@ owns_free v a x e = rw e refl
 
 pub owns_0 : (v : ℕ) (a : AbsVal) → one_if (owns v a 0) ≡ 0
 unfolding owns
-owns_0 v a = by (is_has a) (0 == v)
-  where
-    by : (b c : Bool) → one_if (b && (c && nat_lt 0 0)) ≡ 0
-    by true true = refl
-    by true false = refl
-    by false c = refl
+owns_0 v a = ap one_if (and_right (is_has a) _ (and-false (0 == v)))
 
 -- ---- values at a written state
 

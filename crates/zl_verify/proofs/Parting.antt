@@ -46,8 +46,7 @@ module _ (numbers : List (Option ℕ)) (size n target : ℕ) where
       by None p = behind [] (λ y e k. e) tt p
       by (Some s) p = jumps (nat_lt target size) refl
         where
-          jumps : (b : Bool) → nat_lt target size ≡ b
-              → IfOk (and_then (if b then Ok ((target, s) ∷ []) else Err cause.BadJump)
+          jumps : (b : Bool) → nat_lt target size ≡ b → IfOk (and_then (if b then Ok ((target, s) ∷ []) else Err cause.BadJump)
               (λ xs. and_then (edge_to size cause.FallsOff (n + 1) p) (λ ys. Ok (xs ++ ys)))) (AreParted numbers n)
           jumps false e = tt
           jumps true e = behind ((target, s) ∷ []) (λ y k. (begin (inside true e refl), λ z. k)) (λ z. absurd (begin (inside true e refl) z)) p

@@ -4,6 +4,8 @@ use Rattle.zl_verify.proofs.Common.{◌≡◌, ◌≢◌}
 use Rattle.zl_verify.specs.Lists.{within}
 pub use Rattle.std.proofs.lemmas.Bool.{cases_eq as equal_or_not, cases_lt as below_or_not}
 pub use Rattle.std.proofs.lemmas.Option.{slice_get_past as get_past, slice_get_within as there}
+-- for the crates above
+pub use Rattle.zl_abs.proofs.ListSteps.{used_here}
 
 pub get_put : {X : Type 0} (xs : List X) (n : ℕ) (v : X) → n < length xs → slice_get (slice_set xs n v) n ≡ Some v
 get_put [] n v h = absurd (omega arith)

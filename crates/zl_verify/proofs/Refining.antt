@@ -115,8 +115,7 @@ module _ {f : Table} {s : State} {xs : List ℕ} {arrays : List SlotArray} {slot
   here a = (h, refl, refl)
 
   better : (a r : ℕ) → a ≢ r → (v : AbsVal) → r < length s → Describes f xs v (slice_index xs r)
-      → ((y : ℕ) → one_if (owns y v (slice_index xs r)) ≡ one_if (owns y (value_at s r) (slice_index xs r)))
-      → KnownBeside a (Some (refined s r v))
+      → ((y : ℕ) → one_if (owns y v (slice_index xs r)) ≡ one_if (owns y (value_at s r) (slice_index xs r))) → KnownBeside a (Some (refined s r v))
   better a r apart v lt new same = (refine h r lt v new same, length-set s r v, set_apart s r a v apart)
 
   owned_alike : (y : ℕ) (maybe other : Bool) (k j : Option Kind) (q p : Rights) (x : ℕ) → one_if (owns y (Has maybe k q) x) ≡ one_if (owns y (Has other j p) x)
@@ -200,8 +199,7 @@ module _ {f : Table} {s : State} {xs : List ℕ} {arrays : List SlotArray} {slot
   other_known r imm apart (Some k) is = other_by r k (λ e. apart (e ∙ numbered_is imm k is)) (value_at s r) refl
 
   pub rights_known : (r imm : ℕ) (e : Entry) → f (slice_index xs r) ≡ Some e → within imm (bits e.rights) ≡ true → within imm KNOWN_RIGHTS ≡ true → (v : AbsVal)
-      → value_at s r ≡ v → can_be_named v ≡ true
-      → Known f xs arrays slots (known_rights s r imm v)
+      → value_at s r ≡ v → can_be_named v ≡ true → Known f xs arrays slots (known_rights s r imm v)
   rights_known r imm e there has known (Word m) is fine = absurd (named_has r e there m is fine)
   rights_known r imm e there has known (Has maybe k q) is fine =
       let l = as_there r e there maybe k q is in

@@ -73,15 +73,7 @@ owned v =
 
 holds : Holds (get process.handles) shown process.cpu.registers image.slots process.cpu.slots
 unfolding get
-holds = record {
-  width = refl;
-  small = small;
-  described = described;
-  lengths = refl;
-  narrow = narrow;
-  stored = stored;
-  once = once;
-}
+holds = record { width = refl; small = small; described = described; lengths = refl; narrow = narrow; stored = stored; once = once }
   where
     small : (r : ℕ) → slice_index process.cpu.registers r ≤ ANY
     small zero = omega arith

@@ -74,15 +74,7 @@ owned v =
 
 holds : Holds (get handles) known cpu.registers image.slots cpu.slots
 unfolding get
-holds = record {
-  width = refl;
-  small = small;
-  described = described;
-  lengths = refl;
-  narrow = narrow;
-  stored = stored;
-  once = owned;
-}
+holds = record { width = refl; small = small; described = described; lengths = refl; narrow = narrow; stored = stored; once = owned }
   where
     small : (r : ℕ) → slice_index cpu.registers r ≤ ANY
     small zero = omega arith

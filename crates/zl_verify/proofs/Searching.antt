@@ -96,13 +96,7 @@ cleared_on i bs a t h n e = record {
 -- one instruction on
 pub moved_on : (i : Image) (bs : Blocks) → AreBlocks i bs → (t : Table) → Searching i bs t → slice_get t.waiting t.from ≡ Some false
     → Searching i bs (record t { from = t.from + 1 })
-moved_on i bs a t h e = record {
-  same = h.same;
-  begins = h.begins;
-  settled = h.settled;
-  lower = h.lower;
-  quiet = λ m l g. by m g (equal_or_not t.from m) l;
-}
+moved_on i bs a t h e = record { same = h.same; begins = h.begins; settled = h.settled; lower = h.lower; quiet = λ m l g. by m g (equal_or_not t.from m) l }
   where
     by : (m : ℕ) → slice_get t.waiting m ≡ Some true → (t.from ≡ m) ⊎ (t.from ≢ m) → m < t.from + 1 → ⊥
     by m g (inl p) a = let k : slice_get t.waiting t.from ≡ Some true = rw p g in let z : Some false ≡ Some true = sym e ∙ k in cc

@@ -250,14 +250,12 @@ module _ (lib : Library) (w : World) (p : ℕ) (u : World) (s : IsSized u) (vs :
       (λ o k. signals_changed (body_of w (object_at w p h)) clear set (test_passes _ status.InvalidArgs (listed_none lib w p (signal h clear set) passes).0)
       o.body o.raised k) s
   effect_sized (signal_peer h clear set) fits passes =
-      object_sized u (peer_at w p h) _
-      (λ o k. signals_changed (body_of w (object_at w p h)) clear set
+      object_sized u (peer_at w p h) _ (λ o k. signals_changed (body_of w (object_at w p h)) clear set
       (test_passes _ status.InvalidArgs (listed_none lib w p (signal_peer h clear set) passes).0) o.body o.raised k) s
   effect_sized (wait_async h port key mask) fits passes = wait_sized u (wait_of w p h port key mask) (record { key = fits.0; mask = fits.1 }) s
   effect_sized port_create fits passes = new_object_sized u (PortBody []) (empty_sized _ refl refl) s
   effect_sized (port_queue port key value) fits passes =
-      object_sized u (object_at w p port) _
-      (λ o k. packets_become (λ xs. xs ++ (user_packet key value ∷ []))
+      object_sized u (object_at w p port) _ (λ o k. packets_become (λ xs. xs ++ (user_packet key value ∷ []))
       (λ xs h. all_behind IsSizedPacket xs _ h (record { kind = omega arith; key = fits.0; trigger = fits.1; observed = omega arith }, tt)) o.body o.raised k) s
   effect_sized (port_wait port) fits passes = object_sized u (object_at w p port) _ (λ o k. packets_become (drop 1) first_goes o.body o.raised k) s
   effect_sized (port_poll port) fits passes = object_sized u (object_at w p port) _ (λ o k. packets_become (drop 1) first_goes o.body o.raised k) s

@@ -8,6 +8,7 @@ use Rattle.zl_code.specs.Local.{loads, stores, swaps_in}
 use Rattle.zl_code.specs.declared.instr.LocalInstr.TheVariants as local
 use Rattle.zl_verify.proofs.Agreeing.{wrapped_few, or_few, xor_few, up_few, down_less, imm_in}
 use Rattle.zl_verify.proofs.Memories.{byte_less, word_less, bytes_over, all_of}
+use Rattle.std.proofs.lemmas.Bool.{cond_both}
 
 -- ---- lists by their places
 
@@ -87,19 +88,15 @@ module _ (c : Cpu) (h : IsSizedCpu c) where
   sets_sized a v few = record { small = register_set c.registers a v few h.small; bytes = h.bytes; narrow = h.narrow }
 
   loads_sized : (n a address : ℕ) → number_of (take n (drop address c.memory)) ≤ ANY → IfSome (loads c n a address) IsSizedCpu
-  loads_sized n a address few = by (is_in_memory c address n)
-    where
-      by : (b : Bool) → IfSome (if b then Some (sets c a (number_of (take n (drop address c.memory)))) else None) IsSizedCpu
-      by true = sets_sized a (number_of (take n (drop address c.memory))) few
-      by false = tt
+  loads_sized n a address few =
+      cond_both (is_in_memory c address n) (Some (sets c a (number_of (take n (drop address c.memory))))) None (λ o. IfSome o IsSizedCpu)
+      (λ _. sets_sized a (number_of (take n (drop address c.memory))) few) (λ _. tt)
 
   stores_sized : (n address v : ℕ) → IfSome (stores c n address v) IsSizedCpu
-  stores_sized n address v = by (is_in_memory c address n)
-    where
-      by : (b : Bool)
-          → IfSome (if b then Some (record c { memory = overwritten c.memory address (bytes_of n v); counter = c.counter + 1 }) else None) IsSizedCpu
-      by true = record { small = h.small; bytes = bytes_over c.memory (bytes_of n v) address h.bytes (all_of n v); narrow = h.narrow }
-      by false = tt
+  stores_sized n address v =
+      cond_both (is_in_memory c address n) (Some (record c { memory = overwritten c.memory address (bytes_of n v); counter = c.counter + 1 })) None
+      (λ o. IfSome o IsSizedCpu)
+      (λ _. record { small = h.small; bytes = bytes_over c.memory (bytes_of n v) address h.bytes (all_of n v); narrow = h.narrow }) (λ _. tt)
 
   swaps_sized : (a place array : ℕ) → IfSome (swaps c a place array) IsSizedCpu
   swaps_sized a place array = by_array (slice_get c.slots array) refl

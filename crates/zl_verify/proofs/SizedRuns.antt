@@ -109,11 +109,7 @@ boots_sized lib w (st ∷ statements) after (one, few) s (vs, fine, may, rest) =
 
 origin_sized : IsSized origin
 unfolding get
-origin_sized = record {
-  cpus = λ p q there. absurd (none-some q there);
-  kept = λ k o there. by k o (1 == k) there;
-  waits = tt;
-}
+origin_sized = record { cpus = λ p q there. absurd (none-some q there); kept = λ k o there. by k o (1 == k) there; waits = tt }
   where
     root : Object
     root = record { body = JobBody 0 1 [] false; raised = 0 }

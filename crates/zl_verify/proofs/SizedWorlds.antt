@@ -172,10 +172,8 @@ module _ (w : World) (s : IsSized w) (p : ℕ) where
 
   pub woken_sized : IsSized (woken w p)
   woken_sized =
-      turn_by IsSized w p s
-      (λ q at k mask ds blocked. ready_sized w p q ds (0 ∷ active w k ∷ []) (s.cpus p q at) (omega arith, (active_sized w s k, tt)) s)
-      (λ q at k ds blocked o there x rest port.
-      by_packet q (s.cpus p q at) k ds o x rest (subst (λ b. IsSizedObject b o.raised) port (s.kept k o there)))
+      turn_by IsSized w p s (λ q at k mask ds blocked. ready_sized w p q ds (0 ∷ active w k ∷ []) (s.cpus p q at) (omega arith, (active_sized w s k, tt)) s)
+      (λ q at k ds blocked o there x rest port. by_packet q (s.cpus p q at) k ds o x rest (subst (λ b. IsSizedObject b o.raised) port (s.kept k o there)))
 
 pub wakes_sized : (w : World) → IsSized w → IsSized (wakes w)
 wakes_sized w s = wakes_by IsSized (λ u p s. woken_sized u s p) w (fired_sized w s)

@@ -29,8 +29,7 @@ module _ (i : Image) (s : State) (x : CallInstr) (u : Uses) (r : State) (w : Way
   by_tests : (a b d e f : Bool) → range_fits i s u.range ≡ b → is_declared i u.condition ≡ d → are_distinct u.results ≡ e → has_one r u.results ≡ f
       → and_then (if not a then Err cause.NotWord else if not b then Err cause.MemoryRange else if not d then Err cause.UndeclaredNeed
       else if not e then Err cause.IllegalOp else if f then Err cause.Leak else Ok (with_all r u.results))
-      (λ t. Ok (if goes_on x.name then passes t else stops)) ≡ Ok w
-      → HasRule i s x u r w
+      (λ t. Ok (if goes_on x.name then passes t else stops)) ≡ Ok w → HasRule i s x u r w
   by_tests true true true true false bs ds es fs h = record { operands = operands; range = bs; declared = ds; distinct = es; free = fs; leads = same_Ok _ w h }
   by_tests _ _ _ _ _ bs ds es fs h = cc
 
@@ -47,8 +46,7 @@ has_rule i s x bounds w = by (examined_all s u.operands) refl
     u = uses_of bounds s x
 
     by : (o : Result State Cause) → examined_all s u.operands ≡ o
-        → and_then (and_then o (λ t. finished i s t u)) (λ t. Ok (if goes_on x.name then passes t else stops)) ≡ Ok w
-        → (r : State) × HasRule i s x u r w
+        → and_then (and_then o (λ t. finished i s t u)) (λ t. Ok (if goes_on x.name then passes t else stops)) ≡ Ok w → (r : State) × HasRule i s x u r w
     by (Err c) is h = cc
     by (Ok r) is h = (r, finished_by i s x u r w is h)
 
@@ -109,8 +107,7 @@ module _ {w : World} {p : ℕ} {q : Process} {x : CallInstr} {t : Site} {s : Sta
 
   -- what holds after an answer whose values fit
   pub answer_holds : (st : Status) (values : List ℕ) (c : Cpu) (g : Table) → c.registers ≡ q.cpu.registers
-      → Fits left r zeroed u.results (status_magnitude st ∷ values) g
-      → Holds g (with_all r u.results) (cpu_answered t st values c).registers arrays q.cpu.slots
+      → Fits left r zeroed u.results (status_magnitude st ∷ values) g → Holds g (with_all r u.results) (cpu_answered t st values c).registers arrays q.cpu.slots
   unfolding answered
   answer_holds st values c g same fits = rw (same, is_aligned.destinations)
       (results u.results (status_magnitude st ∷ values) left r zeroed arrays q.cpu.slots g zeroed_hold passed.states

@@ -128,8 +128,7 @@ told [] word = word ∷ []
 told (v ∷ vs) word = v ∷ word ∷ vs
 
 start_fits : (ss : List Start) (es : List Entry) (vs : List ℕ) (word : ℕ) (q : Process) → q.last ≡ None → word ≤ ANY → are_declared ss es ≡ true
-    → may_get_all q es vs ≡ true
-    → Fits (get q.handles) zeros no_values (start_results ss) (told vs word) (get (getting_all es vs q).handles)
+    → may_get_all q es vs ≡ true → Fits (get q.handles) zeros no_values (start_results ss) (told vs word) (get (getting_all es vs q).handles)
 start_fits [] [] [] word q fresh small d may = (get q.handles, (small, small, refl), refl)
 start_fits (s ∷ ss) (e ∷ es) (v ∷ vs) word q fresh small d may =
     let named = both (is_declared s e) (are_declared ss es) d in

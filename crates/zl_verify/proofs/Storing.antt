@@ -46,8 +46,7 @@ module _ (i : Image) (q new : Process) (same : new.cpu ≡ q.cpu) (memory : IsMe
   whole_by lib w p sized _ rs last there = λ passes. subst (λ c. IsMemory i c.memory) (sym same) memory
 
   pub still_whole : (lib : Library) (w : World) (p : ℕ) → QueuesAreSized w → (x : CallInstr) (t : Site) → site_of x q.cpu ≡ Some t
-      → refusal lib w p t.request ≡ None
-      → IsMemory i (storing_in (stored_by w p t.request) new).cpu.memory
+      → refusal lib w p t.request ≡ None → IsMemory i (storing_in (stored_by w p t.request) new).cpu.memory
   still_whole lib w p sized x t site =
       of_site q.cpu x t site (λ t. refusal lib w p t.request ≡ None → IsMemory i (storing_in (stored_by w p t.request) new).cpu.memory)
       (whole_by lib w p sized x.name x.registers x.last (sym (has_site x q.cpu) ∙ ap is_some site))

@@ -2,7 +2,7 @@
 use Rattle.zl_verify.proofs.Common.{ANY, AbsVal, Has, IsState, IsTrue, KindOf, RightsOf, State, Word, can_be_named, cases_Bool, cases_eq, eqb-true, false, inl}
 use Rattle.zl_verify.proofs.Common.{inr, is_named_well, length, refl, true, untagged, value_at, with_value, ℕ, ◌<◌, ◌==◌, ◌∙◌, ◌≡◌, ◌≢◌, ◌⊎◌}
 use Rattle.zl_verify.proofs.Owners.{by_register, value_at-with, value_at-here}
-use Rattle.zl_verify.proofs.Writing.{long_with}
+use Rattle.zl_abs.proofs.FineStates.{with_long}
 
 pub test_apart : (a b : ℕ) → a ≢ b → (a == b) ≡ false
 test_apart a b h = by (cases_Bool (a == b))
@@ -23,13 +23,11 @@ module _ (s : State) (states : IsState s) (r : ℕ) (lt : r < length s) (a : Abs
   others_well : (b : AbsVal) → IsTrue (is_named_well s b) → IsTrue (is_named_well (with_value s r a) (untagged r b))
   others_well (Word m) h = refl
   others_well (Has maybe kind rights) h = refl
-  others_well (KindOf t) h =
-      by_register (λ b. IsTrue (is_named_well (with_value s r a) b)) t r (Word ANY) (KindOf t) refl (λ beside. named_with t beside h)
-  others_well (RightsOf t) h =
-      by_register (λ b. IsTrue (is_named_well (with_value s r a) b)) t r (Word ANY) (RightsOf t) refl (λ beside. named_with t beside h)
+  others_well (KindOf t) h = by_register (λ b. IsTrue (is_named_well (with_value s r a) b)) t r (Word ANY) (KindOf t) refl (λ beside. named_with t beside h)
+  others_well (RightsOf t) h = by_register (λ b. IsTrue (is_named_well (with_value s r a) b)) t r (Word ANY) (RightsOf t) refl (λ beside. named_with t beside h)
 
   pub states_with : IsTrue (is_named_well (with_value s r a) (untagged r a)) → IsState (with_value s r a)
-  states_with new = record { long = long_with s r a ∙ states.long; tags = λ q. by q (cases_eq q r) }
+  states_with new = record { long = with_long s r a ∙ states.long; tags = λ q. by q (cases_eq q r) }
     where
       by : (q : ℕ) → (q ≡ r) ⊎ (q ≢ r) → IsTrue (is_named_well (with_value s r a) (value_at (with_value s r a) q))
       by q (inl e) = rw (e, value_at-here s r a lt) new

@@ -49,8 +49,7 @@ module _ (Q : World → Type 0) where
     pub turn_by_answer : ((v : World) → v.processes ≡ u.processes → (y : Process) → get u.processes m ≡ Some y → (awaited : Awaited) (ds vs : List ℕ)
         → y.state ≡ Blocked awaited ds → Q (made_ready v m y ds vs)) → Q (woken u m)
     turn_by_answer readied =
-        turn_by (λ y at k mask ds blocked. readied u refl y at (SignalOf k mask) ds (0 ∷ active u k ∷ []) blocked)
-        (λ y at k ds blocked o there x rest port.
+        turn_by (λ y at k mask ds blocked. readied u refl y at (SignalOf k mask) ds (0 ∷ active u k ∷ []) blocked) (λ y at k ds blocked o there x rest port.
         readied (with_body u k o (PortBody rest)) refl y at (PacketAt k) ds (0 ∷ packet_values x) blocked)
 
   -- ---- all turns

@@ -61,8 +61,7 @@ put_bare w k o packets rest there port =
 woken_bare : (w : World) (p : ℕ) → AreBare w (woken w p)
 unfolding made_ready
 woken_bare w p =
-    turn_by (AreBare w) w p (same_bare w w refl) (λ y at k mask ds blocked. same_bare w _ refl)
-    (λ y at k ds blocked o there x rest port.
+    turn_by (AreBare w) w p (same_bare w w refl) (λ y at k mask ds blocked. same_bare w _ refl) (λ y at k ds blocked o there x rest port.
     bare_then w (with_body w k o (PortBody rest)) _ (put_bare w k o (x ∷ rest) rest there port) (same_bare (with_body w k o (PortBody rest)) _ refl))
 
 wakes_bare : (w : World) → AreBare w (wakes w)
@@ -179,13 +178,10 @@ module _ (i : Image) (t : ℕ → Option State) (range : is_in_range i ≡ true)
 
     turn : HasBecome i t p q (woken u m)
     turn =
-        turn_by (HasBecome i t p q) u m h
-        (λ y at koid mask ds blocked.
-        readied u refl y at (SignalOf koid mask) ds (0 ∷ active u koid ∷ []) blocked
+        turn_by (HasBecome i t p q) u m h (λ y at koid mask ds blocked. readied u refl y at (SignalOf koid mask) ds (0 ∷ active u koid ∷ []) blocked
         (λ there waited.
         signal_wakes i t range typing u p q there k koid mask ds waited (active u koid) (active_few u koid (λ o is. (s.kept koid o is).signals))))
-        (λ y at koid ds blocked o there x rest port.
-        readied (with_body u koid o (PortBody rest)) refl y at (PacketAt koid) ds (0 ∷ packet_values x) blocked
+        (λ y at koid ds blocked o there x rest port. readied (with_body u koid o (PortBody rest)) refl y at (PacketAt koid) ds (0 ∷ packet_values x) blocked
         (λ here waited.
         packet_wakes i t range typing u p q here k koid ds waited x (subst (λ b. IsSizedObject b o.raised) port (s.kept koid o there)).packets.0))
 

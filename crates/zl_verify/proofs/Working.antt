@@ -1,14 +1,13 @@
 -- What a call that is answered OK gives fits what its rule says.
 use Rattle.zl_verify.proofs.Common.{ANY, AbsVal, AllByRecursion, Bool, CallInstr, CallName, DUPLICATE, Describes, Entry, Has, IsAs, IsSizedPacket, IsSound}
 use Rattle.zl_verify.proofs.Common.{KNOWN_RIGHTS, Kind, Library, List, None, Ok, Operand, Option, Packet, Process, QueuesAreSized, Request, SAME_RIGHTS, Site}
-use Rattle.zl_verify.proofs.Common.{SlotArray, Some, State, Table, Uses, Word, World, [], active, and_assoc, answer_if, any, ap, arith, bit_and, bits, both}
+use Rattle.zl_verify.proofs.Common.{SlotArray, Some, State, Table, Uses, Word, World, [], active, answer_if, any, ap, arith, bit_and, bits, both}
 use Rattle.zl_verify.proofs.Common.{chan_read_etc, copy_of, default_rights_of, dup, entering_at, entry_at, eq-eqb, examined_all, false, fault_of, first_bytes}
 use Rattle.zl_verify.proofs.Common.{first_handles, first_values, get, gives_ok, handle_operands, if◌then◌else◌, inl, inr, is_empty, length, listed, may_choose}
 use Rattle.zl_verify.proofs.Common.{may_get_all, narrowed_value, nat_le, nat_tests, needs, new, new_entry, new_handles, number_at, object_at, packets_at}
 use Rattle.zl_verify.proofs.Common.{process_start, process_with, queue_at, refl, refusal, reg, register_count, replace, rights_of, rounded, site_of}
 use Rattle.zl_verify.proofs.Common.{slice_index, slice_set, subst, suc, sym, taken_handles, taking, told_of, triple_results, true, uses_of, value_at}
-use Rattle.zl_verify.proofs.Common.{with_rights, with_value, within, within_is, zero, ℕ, ◌&&◌, ◌*◌, ◌+◌, ◌<◌, ◌==◌, ◌∙◌, ◌∷◌, ◌≡◌, ◌≤◌}
-use Rattle.std.specs.Int.Bits.{and_self}
+use Rattle.zl_verify.proofs.Common.{with_rights, with_value, within, zero, ℕ, ◌&&◌, ◌*◌, ◌+◌, ◌<◌, ◌==◌, ◌∙◌, ◌∷◌, ◌≡◌, ◌≤◌}
 use Rattle.zl_rights.specs.declared.kind.Kind.TheVariants as kind
 use Rattle.zl_rights.specs.declared.status.Status.TheVariants as status
 use Rattle.zl_code.specs.declared.history.CallName.TheVariants as name
@@ -22,16 +21,13 @@ use Rattle.zl_verify.proofs.Aligned.{places_end}
 use Rattle.zl_verify.proofs.Standing.{Stands, reads_own}
 use Rattle.zl_verify.proofs.Calm.{signals_few, first_sizes, packets_at_sized, first_rights}
 use Rattle.zl_code.proofs.Passing.{listed_none, test_fails, test_passes}
+use Rattle.zl_abs.proofs.Order.{within_left}
 
 -- ---- a copy of a handle
 
-within_part : (a b : ℕ) → within (bit_and a b) a ≡ true
-within_part a b = within_is _ _ (let e = and_assoc b a a in let f = and_self a in cc)
-
 -- the first operand is a live handle, as its value says
 named_as : (a : AbsVal) (f : Table) (xs : List ℕ) (x : ℕ) (o : Operand) → o.may_be_zero ≡ false → fault_of o a ≡ None → Describes f xs a x
-    → (asked d : ℕ) (e : Option Entry) → f x ≡ e
-    → is_empty (copy_of e asked) ≡ false → AllAs ((d, narrowed_value a asked) ∷ []) (copy_of e asked)
+    → (asked d : ℕ) (e : Option Entry) → f x ≡ e → is_empty (copy_of e asked) ≡ false → AllAs ((d, narrowed_value a asked) ∷ []) (copy_of e asked)
 named_as (Word m) f xs x o some ok l asked d e is one = cc (rw some at ok)
 named_as (Has maybe kind rights) f xs x o some ok (inl (m, z)) asked d e is one = cc (rw (m, some) at ok)
 named_as (Has maybe kind rights) f xs x o some ok (inr l) asked d None is one = cc
@@ -42,7 +38,7 @@ named_as (Has maybe kind rights) f xs x o some ok (inr l) asked d (Some y) is on
         → AllAs ((d, Has true kind (if b then rights else rights_of (bit_and asked KNOWN_RIGHTS))) ∷ [])
         (with_rights y (if b then Some y.rights else (if c then Some (rights_of asked) else None)))
     by true c (k, r) e = ((k, r), tt)
-    by false true (k, r) e = ((k, within_part asked KNOWN_RIGHTS), tt)
+    by false true (k, r) e = ((k, within_left asked KNOWN_RIGHTS), tt)
     by false false h e = cc
 named_as _ f xs x o some ok l asked d e is one = cc
 

@@ -1,12 +1,13 @@
 -- One register is written, and the table may change at one value.
 use Rattle.zl_verify.proofs.Common.{ANY, AbsVal, Bool, Describes, Entry, Has, Holds, IsAs, IsHandle, IsState, IsTrue, Kind, KindOf, List, None, Option, Rights}
 use Rattle.zl_verify.proofs.Common.{RightsOf, SlotArray, Some, State, Table, Word, ap, arith, can_be_named, cases_eq, false, get_or-set_other, get_or-set_same}
-use Rattle.zl_verify.proofs.Common.{inl, inr, is_has, is_named_well, is_some, keepers, kind_in, length, length-map, nat_tests, one_if, owners, owns, place_at}
+use Rattle.zl_verify.proofs.Common.{inl, inr, is_has, is_named_well, is_some, keepers, kind_in, length, nat_tests, one_if, owners, owns, place_at}
 use Rattle.zl_verify.proofs.Common.{refl, rights_in, slice_index, slice_set, subst, sym, true, untagged, value_at, with_value, ℕ, ◌+◌, ◌<◌, ◌∙◌, ◌≡◌, ◌≢◌, ◌≤◌}
 use Rattle.zl_verify.proofs.Common.{◌⊎◌}
 use Rattle.std.proofs.lemmas.List.{length-set}
 use Rattle.zl_verify.proofs.Owners.{owns_0, owns_it, owns_free, owners-set, owners-with, owners-at, owners-zero, value_at-with, value_at-here, keepers-at}
 use Rattle.zl_verify.proofs.Owners.{keepers-zero, by_register}
+use Rattle.zl_abs.proofs.FineStates.{with_long}
 
 -- ---- what holds anyway
 
@@ -19,10 +20,6 @@ nothing_at_0 {f} {s} {xs} {arrays} {slots} h = by (f 0) (rw (owners-zero s xs, k
 
 pub live_apart : (f : Table) → f 0 ≡ None → (kind : Option Kind) (rights : Rights) (y : ℕ) → IsAs kind rights (f y) → y ≢ 0
 live_apart f none kind rights y l e = subst (IsAs kind rights) none (subst (λ k. IsAs kind rights (f k)) e l)
-
-pub long_with : (s : State) (r : ℕ) (a : AbsVal) → length (with_value s r a) ≡ length s
-unfolding with_value
-long_with s r a = length-map (slice_set s r a) (untagged r) ∙ length-set s r a
 
 -- how many own v, beside register r
 abbrev pub others : ℕ → State → List ℕ → List (List ℕ) → ℕ → ℕ
@@ -80,10 +77,9 @@ module _ {f : Table} {s : State} {xs : List ℕ} {arrays : List SlotArray} {slot
 
   -- register r gets x, of the value a
   pub write : (a : AbsVal) (x : ℕ) → x ≤ ANY → Describes g (slice_set xs r x) (untagged r a) x
-      → ((v : ℕ) → others r s xs slots v + one_if (owns v a x) ≡ one_if (is_some (g v)))
-      → Holds g (with_value s r a) (slice_set xs r x) arrays slots
+      → ((v : ℕ) → others r s xs slots v + one_if (owns v a x) ≡ one_if (is_some (g v))) → Holds g (with_value s r a) (slice_set xs r x) arrays slots
   write a x few new counts = record {
-    width = length-set xs r x ∙ (h.width ∙ sym (long_with s r a));
+    width = length-set xs r x ∙ (h.width ∙ sym (with_long s r a));
     small = λ q. small_at q (cases_eq q r);
     described = λ q. described_at q (cases_eq q r);
     lengths = h.lengths;

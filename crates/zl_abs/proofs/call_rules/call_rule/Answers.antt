@@ -13,8 +13,5 @@ finish_with-fault-requires-clause-room c =
 
 pub returns : goal.returns
 returns c =
-    c.ended.ensures
-    ∙ ended (bounds_in c.args.bounds) c.args.image.now c.args.state.now c.args.instr (row_value c.row.result) c.row.ensures.row
-    c.values_of-values.result c.values_of-values.ensures _ _
-    (rw c.requires.same at (c.in_default.ensures {u = tt}))
-    c.finish_with-fault.ensures
+    c.ended.ensures ∙ ended (bounds_in c.args.bounds) c.args.image.now c.args.state.now c.args.instr (row_value c.row.result) c.row.ensures.row
+    c.values_of-values.result c.values_of-values.ensures _ _ (rw c.requires.same at (c.in_default.ensures {u = tt})) c.finish_with-fault.ensures

@@ -9,5 +9,4 @@ returns-in-Some c =
 
 pub returns-in-Some-call_at : goal.returns-in-Some-call_at
 returns-in-Some-call_at c =
-    c.steps_of_call.ensures
-    ∙ sym (call_there (bounds_in c.args.bounds) c.args.image.now c.args.at _ c.in-Some-call_at.call c.in-Some-call_at.ensures.value)
+    c.steps_of_call.ensures ∙ sym (call_there (bounds_in c.args.bounds) c.args.image.now c.args.at _ c.in-Some-call_at.call c.in-Some-call_at.ensures.value)

@@ -10,11 +10,9 @@ returns-in_err-call-clause-missing c =
 pub returns-then-has_its_memory-clause-found : goal.returns-then-has_its_memory-clause-found
 returns-then-has_its_memory-clause-found c =
     call_stands (program_value c.args.program.now).image c.args.cpu.now c.in_ok-call.call
-    (sym (rw (c.image.ensures, c.counter.ensures) at c.in_ok-call.ensures.value))
-    (sym c.has_its_memory.ensures ∙ c.if-has_its_memory.true)
+    (sym (rw (c.image.ensures, c.counter.ensures) at c.in_ok-call.ensures.value)) (sym c.has_its_memory.ensures ∙ c.if-has_its_memory.true)
 
 pub returns-else-has_its_memory-clause-missing : goal.returns-else-has_its_memory-clause-missing
 returns-else-has_its_memory-clause-missing c =
     call_missing (program_value c.args.program.now).image c.args.cpu.now c.in_ok-call.call
-    (sym (rw (c.image.ensures, c.counter.ensures) at c.in_ok-call.ensures.value))
-    (sym c.has_its_memory.ensures ∙ c.if-has_its_memory.false)
+    (sym (rw (c.image.ensures, c.counter.ensures) at c.in_ok-call.ensures.value)) (sym c.has_its_memory.ensures ∙ c.if-has_its_memory.false)

@@ -21,6 +21,5 @@ loop-byte-preserved c = elim c.if-byte-ne32.branch [
 
 pub returns : goal.returns
 returns c =
-    sym c.loop-byte.invariant
-    ∙ at_drop_all (λ rest. digits_said c.loop-byte.digits (digits_of rest)) c.args.line.now c.loop-byte.byte-index (omega arith)
+    sym c.loop-byte.invariant ∙ at_drop_all (λ rest. digits_said c.loop-byte.digits (digits_of rest)) c.args.line.now c.loop-byte.byte-index (omega arith)
     ∙ at_line_end c.loop-byte.digits

@@ -12,8 +12,7 @@ returns-in_err-write_state-clause-err g c =
 pub loop-n-preserved : goal.loop-n-preserved
 loop-n-preserved g c =
     one_more_state c.args.world.now c.loop-n.n c.in-Some.pid c.state_of.result c.process_at.ensures.in_order
-    (c.in-Some.ensures {u = tt}).koid c.state_of.ensures
-    _ _ _ _ _ c.loop-n.invariant _ (c.in_ok-write_state.ensures).ok
+    (c.in-Some.ensures {u = tt}).koid c.state_of.ensures _ _ _ _ _ c.loop-n.invariant _ (c.in_ok-write_state.ensures).ok
 
 pub returns-clause-ok : goal.returns-clause-ok
 returns-clause-ok g c = all_states c.args.world.now c.loop-n.n _ _ _ _ c.loop-n.invariant (omega arith)

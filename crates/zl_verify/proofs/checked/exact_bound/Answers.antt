@@ -9,8 +9,7 @@ numbers-requires c = rw c.deref.ensures.value (closed_targets _ _ _ (c.in-Ok.ens
 pub returns-in-None-clause-bound : goal.returns-in-None-clause-bound
 returns-in-None-clause-bound c =
     step_bound _ _ _ _ _ (ap (λ n. n + 1) c.budget-most.ensures.value) (c.in-Ok.ensures {u = tt})
-    (rw c.deref.ensures.value at (c.in-Ok-numbers.ensures {u = tt}))
-    (sym (rw c.deref-2.ensures.value at c.first_over.ensures) ∙ c.in-None.is)
+    (rw c.deref.ensures.value at (c.in-Ok-numbers.ensures {u = tt})) (sym (rw c.deref-2.ensures.value at c.first_over.ensures) ∙ c.in-None.is)
 
 pub returns-clause-exact : goal.returns-clause-exact
 returns-clause-exact c =

@@ -9,5 +9,4 @@ returns-then-self-clause-refused c = inr (behind_refused (held_by c.args.self.no
 pub returns-in-Need-clause-held : goal.returns-in-Need-clause-held
 returns-in-Need-clause-held c =
     subst (λ (x : Directive). Holds (held_by c.args.self.now) (Declares x) (record (held_by c.args.self.now) { image = c.add_need.new.self }))
-    (sym c.in-Need.is)
-    (need_held (held_by c.args.self.now) c.add_need.new.self c.in-Need.condition c.add_need.ensures c.if-self.false)
+    (sym c.in-Need.is) (need_held (held_by c.args.self.now) c.add_need.new.self c.in-Need.condition c.add_need.ensures c.if-self.false)

@@ -1,4 +1,4 @@
-use Rattle.zl_asm.proofs.Common.{Some, ap, held_by, is_ascii, line_value, map, true, ◌∙◌, ◌≡◌}
+use Rattle.zl_asm.proofs.Common.{Some, ap, held_by, line_value, map, ◌∙◌}
 use Rattle.zl_asm.specs.declared.line.Line.{Line}
 use Rattle.zl_asm.proofs.DraftHolds.{blank_held}
 use Rattle.zl_asm.proofs.DraftLines.{said_by, read_by, said_in_range}
@@ -11,28 +11,24 @@ declare-requires c =
 
 pub returns-in-Blank-clause-read : goal.returns-in-Blank-clause-read
 returns-in-Blank-clause-read c =
-    let plain : is_ascii c.args.line.now ≡ true = cc in
     let cut = ap (map (λ word. word.now)) c.deref.ensures.value ∙ c.in_ok-split_words.ensures {u = tt} in
     let said = (c.in_ok-line_of.ensures {u = tt}).ok ∙ ap (λ (l : Line). Some (line_value l)) c.in-Blank.is in
-    (_, said_by c.args.line.now _ _ plain cut said, blank_held (held_by c.args.self.now))
+    (_, said_by c.args.line.now _ _ (cc) cut said, blank_held (held_by c.args.self.now))
 
 pub returns-in-Declares-clause-read : goal.returns-in-Declares-clause-read
 returns-in-Declares-clause-read c =
-    let plain : is_ascii c.args.line.now ≡ true = cc in
     let cut = ap (map (λ word. word.now)) c.deref.ensures.value ∙ c.in_ok-split_words.ensures {u = tt} in
     let said = (c.in_ok-line_of.ensures {u = tt}).ok ∙ ap (λ (l : Line). Some (line_value l)) c.in-Declares.is in
-    read_by c.declare.result (held_by c.args.self.now) (held_by c.declare.new.self) c.args.line.now _ _ plain cut said c.declare.ensures.held
+    read_by c.declare.result (held_by c.args.self.now) (held_by c.declare.new.self) c.args.line.now _ _ (cc) cut said c.declare.ensures.held
 
 pub returns-in-Label-clause-read : goal.returns-in-Label-clause-read
 returns-in-Label-clause-read c =
-    let plain : is_ascii c.args.line.now ≡ true = cc in
     let cut = ap (map (λ word. word.now)) c.deref.ensures.value ∙ c.in_ok-split_words.ensures {u = tt} in
     let said = (c.in_ok-line_of.ensures {u = tt}).ok ∙ ap (λ (l : Line). Some (line_value l)) c.in-Label.is in
-    read_by c.push_label.result (held_by c.args.self.now) (held_by c.push_label.new.self) c.args.line.now _ _ plain cut said c.push_label.ensures.held
+    read_by c.push_label.result (held_by c.args.self.now) (held_by c.push_label.new.self) c.args.line.now _ _ (cc) cut said c.push_label.ensures.held
 
 pub returns-in-Code-clause-read : goal.returns-in-Code-clause-read
 returns-in-Code-clause-read c =
-    let plain : is_ascii c.args.line.now ≡ true = cc in
     let cut = ap (map (λ word. word.now)) c.deref.ensures.value ∙ c.in_ok-split_words.ensures {u = tt} in
     let said = (c.in_ok-line_of.ensures {u = tt}).ok ∙ ap (λ (l : Line). Some (line_value l)) c.in-Code.is in
-    read_by c.push_source.result (held_by c.args.self.now) (held_by c.push_source.new.self) c.args.line.now _ _ plain cut said c.push_source.ensures.held
+    read_by c.push_source.result (held_by c.args.self.now) (held_by c.push_source.new.self) c.args.line.now _ _ (cc) cut said c.push_source.ensures.held

@@ -11,7 +11,4 @@ unfolding all_below
 below test zero b h lt = absurd (omega arith)
 below test (suc n) b h lt =
     let both = and_parts (test n) (all_below test n) h in
-    elim (cases_Bool (b == n)) as (λ _. test b ≡ true) [
-      | inl here ↦ ap test (eqb-true b n here) ∙ both.0
-      | inr apart ↦ below test n b both.1 (grind arith)
-    ]
+    elim (cases_Bool (b == n)) as (λ _. test b ≡ true) [ inl here ↦ ap test (eqb-true b n here) ∙ both.0 | inr apart ↦ below test n b both.1 (grind arith) ]

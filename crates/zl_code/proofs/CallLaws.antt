@@ -84,8 +84,7 @@ module _ (lib : Library) (w : World) (p : ℕ) (q : Process) (there : get w.proc
 
     -- a handle enters at the value that was removed last
     enter_again : (v : World) (h : ℕ) → v.processes ≡ u.processes → MayTake w v.waits p after → (es : List Entry) → length es ≤ 1 → IsTrue (may_get after h)
-        → (IsSound w → HaveRoom after es) → All (IsFine w v.objects) es
-        → Changes w v (insert_all v p es (h ∷ []))
+        → (IsSound w → HaveRoom after es) → All (IsFine w v.objects) es → Changes w v (insert_all v p es (h ∷ []))
     unfolding insert_all
     enter_again v h same may [] few gets room fine = stays v
     enter_again v h same may (e ∷ []) few gets room fine = enter v same may (e ∷ []) (h ∷ []) room (and_from (may_get after h) true gets refl) fine
@@ -222,8 +221,7 @@ module _ (lib : Library) (w : World) (p : ℕ) (q : Process) (there : get w.proc
             (λ o at. signals_change clear set refl
             (may_signal_peer w p h clear set lib passes o (subst (λ (m : Map Object). get m (peer_at w p h) ≡ Some o) left.objects at))));
       }
-  laws (wait_async h port key mask) after left passes =
-      record { room = λ e. omega arith; changes = λ vs gets. wait_registered h port key mask passes }
+  laws (wait_async h port key mask) after left passes = record { room = λ e. omega arith; changes = λ vs gets. wait_registered h port key mask passes }
   laws port_create after left passes =
       let u = left_by port_create in
       let some_room = room_and w p 1 (has_koids w 1) (listed_none lib w p port_create passes).0 in

@@ -210,8 +210,7 @@ state_kept m p f same_state k = ap (state_passes is_blocked) (get-update m p f k
     by_test true (Some x) = ap is_blocked (same_state x)
     by_test false o = refl
 
-pub process_changes : (start w : World) (p : ℕ) (f : Process → Process)
-    → ((x : Process) → get w.processes p ≡ Some x
+pub process_changes : (start w : World) (p : ℕ) (f : Process → Process) → ((x : Process) → get w.processes p ≡ Some x
     → Changed (ProcessChange start (on_process w p f) p) (IsNewProcess start w (on_process w p f) p) (Some x) (Some (f x)))
     → ((x : Process) → (f x).state ≡ x.state) → Change start w (on_process w p f)
 unfolding on_process is_process
@@ -384,8 +383,7 @@ pub object_is_made : (start w : World) (b : Body) → queue_of b ≡ [] → HasP
     → (IsSound start → StandsBelow (with_object w b).objects w.next_koid b) → Change start w (with_object w b)
 unfolding with_object
 object_is_made start w b quiet peer tree =
-    objects_alone start w (with_object w b) refl refl (omega arith) (in_order-put w.objects w.next_koid _)
-    (changed_put _ _ w.objects w.next_koid _
+    objects_alone start w (with_object w b) refl refl (omega arith) (in_order-put w.objects w.next_koid _) (changed_put _ _ w.objects w.next_koid _
     (new _ refl (record { next = omega arith; given = omega arith; quiet = quiet; unraised = refl; peer = peer; tree = tree }))) (alike refl)
 
 -- an object is made as the end of a pair of this kind; nothing is to be read at it

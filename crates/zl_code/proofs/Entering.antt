@@ -133,8 +133,7 @@ pub all_leave : (start u : World) (p : ℕ) (hs : List ℕ) → Changes start u 
 unfolding remove_all
 all_leave start u p [] = stays u
 all_leave start u p (h ∷ hs) =
-    changes u (on_process u p (process_without h)) _ (handle_goes start u p h)
-    (all_leave start (on_process u p (process_without h)) p hs)
+    changes u (on_process u p (process_without h)) _ (handle_goes start u p h) (all_leave start (on_process u p (process_without h)) p hs)
 
 -- what is removed last is kept
 pub removed_last : (w : World) (p v : ℕ) (q : Process) → get w.processes p ≡ Some q → has_key q.handles v ≡ true

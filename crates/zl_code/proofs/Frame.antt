@@ -239,8 +239,7 @@ module _ (p q : ℕ) (apart : (p == q) ≡ false) (lib : Library) (w : World) (x
 
   -- the handle that a child starts with has one value
   started_made : (u : World) (es : List Entry) (vs : List ℕ) (word : ℕ) → get u.processes q ≡ Some x → x.state ≡ Created → (e : Entry) → es ≡ e ∷ []
-      → IsTrue (may_get_all x es vs)
-      → Made q x (insert_all (on_process u q (started_with vs word)) q es vs)
+      → IsTrue (may_get_all x es vs) → Made q x (insert_all (on_process u q (started_with vs word)) q es vs)
   unfolding insert_all on_process
   started_made u [] vs word at created e is may = absurd (none_one is)
     where
@@ -360,8 +359,7 @@ step_made lib w p item after sound step q x apart there alive =
 
 -- what the act of p and settling leave of another process that lives
 pub act_leaves_others : (lib : Library) (w : World) (p : ℕ) (item : TraceItem) (caller : Process) (acted settled : World) → IsSound w
-    → get w.processes p ≡ Some caller
-    → caller.state ≡ Ready → Acts lib w p (next_for lib caller) item acted → Settles acted settled → (q : ℕ) (x : Process)
+    → get w.processes p ≡ Some caller → caller.state ≡ Ready → Acts lib w p (next_for lib caller) item acted → Settles acted settled → (q : ℕ) (x : Process)
     → (p == q) ≡ false → get w.processes q ≡ Some x → IsTrue (lives x.state) → (y : Process) × (get settled.processes q ≡ Some y) × OthersMake x y
 act_leaves_others lib w p item caller acted settled sound at ready acts settles q x apart there alive =
     let a = settled_made lib w p item caller acted settled sound at ready acts settles q x apart there alive in (a.process, a.there, a.made)

@@ -80,8 +80,7 @@ pub number_at_2 : (bytes : List ℕ) (offset : ℕ) → offset + 2 ≤ length by
 number_at_2 bytes offset le =
     two_cells (drop offset bytes) (omega (arith, length-drop offset bytes)) ∙ (λ i. first_of_rest bytes offset i + get_or-drop offset bytes 1 0 i * 256)
 
-pub number_at_4 : (bytes : List ℕ) (offset : ℕ) → offset + 4 ≤ length bytes
-    → number_at bytes offset 4
+pub number_at_4 : (bytes : List ℕ) (offset : ℕ) → offset + 4 ≤ length bytes → number_at bytes offset 4
     ≡ get_or bytes offset 0 + get_or bytes (offset + 1) 0 * 256 + get_or bytes (offset + 2) 0 * 65536 + get_or bytes (offset + 3) 0 * 16777216
 number_at_4 bytes offset le =
     four_cells (drop offset bytes) (omega (arith, length-drop offset bytes))

@@ -76,8 +76,7 @@ reading_again i w =
 
 pub no_fault : (raw : Bool) (i : CallInstr) → IsWhole i → instr_fault raw (call_bytes i) ≡ None
 unfolding instr_fault
-no_fault raw i w =
-    (λ k. fault_by raw (reading_again i w k) (layout_is i.name k)) ∙ rw (w.registers, w.named, w.unused) refl
+no_fault raw i w = (λ k. fault_by raw (reading_again i w k) (layout_is i.name k)) ∙ rw (w.registers, w.named, w.unused) refl
 
 -- the call that has these bytes
 pub call_at : List ℕ → CallInstr
@@ -105,8 +104,7 @@ module _ (n : CallName) (opcode : ℕ) (rs last : List ℕ) (len : length rs ≡
       bytes_of-number_at last 4 4 (omega (arith, eight)) fits ∙ take_all 4 (drop 4 last) (omega (arith, eight, length-drop 4 last)) in
       (λ i. imm i ++ target i) ∙ sym (parts_at 0 4 last)
 
-  pub known_bytes : (call_row n).opcode ≡ opcode
-      → IfSome (layout_of opcode) (λ l. (names_registers l.ending r ≡ true) × (is_unused_zero l r ≡ true))
+  pub known_bytes : (call_row n).opcode ≡ opcode → IfSome (layout_of opcode) (λ l. (names_registers l.ending r ≡ true) × (is_unused_zero l r ≡ true))
       → IfSome (layout_of opcode) (λ l. call_bytes (record { name = n; registers = rs; last = last }) ≡ row_bytes opcode l r)
   known_bytes same clear =
       let l = layout_in (call_row n) in
@@ -114,8 +112,7 @@ module _ (n : CallName) (opcode : ℕ) (rs last : List ℕ) (len : length rs ≡
       subst (λ o. IfSome o (λ k. call_bytes (record { name = n; registers = rs; last = last }) ≡ row_bytes opcode k r)) (sym layout_there)
       (ap (λ (o : ℕ). o ∷ (rs ++ last)) same ∙ sym (row_bytes-unused opcode l r len has_numbers unused))
 
-  pub known_in_range : are_registers rs ≡ true
-      → IfSome (layout_of opcode) (λ l. (names_registers l.ending r ≡ true) × (is_unused_zero l r ≡ true))
+  pub known_in_range : are_registers rs ≡ true → IfSome (layout_of opcode) (λ l. (names_registers l.ending r ≡ true) × (is_unused_zero l r ≡ true))
       → is_call_in_range (record { name = n; registers = rs; last = last }) ≡ true
   known_in_range registers clear =
       let both = IfSome-at (layout_of opcode) _ (layout_in (call_row n)) layout_there clear in

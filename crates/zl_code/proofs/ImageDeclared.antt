@@ -52,8 +52,7 @@ first_and_rest (b ∷ bytes) le = refl
 by_parts : (bytes middle : List ℕ) (k n : ℕ) → length bytes ≡ 8 → IsBytes bytes → k ≡ slice_index bytes 0 → middle ≡ take 3 (drop 1 bytes)
     → n ≡ number_at bytes 4 4 → k ∷ (middle ++ bytes_of 4 n) ≡ bytes
 by_parts bytes middle k n len fits first between rights =
-    (λ i. first i ∷ (between i ++ rights_again bytes n len fits rights i))
-    ∙ ap (λ (r : List ℕ). slice_index bytes 0 ∷ r) (sym (parts_at 1 3 bytes))
+    (λ i. first i ∷ (between i ++ rights_again bytes n len fits rights i)) ∙ ap (λ (r : List ℕ). slice_index bytes 0 ∷ r) (sym (parts_at 1 3 bytes))
     ∙ first_and_rest bytes (omega arith)
 
 pub start_bytes-read : (bytes : List ℕ) (s : Start) → length bytes ≡ 8 → IsBytes bytes → kind_byte s.kind ≡ slice_index bytes 0

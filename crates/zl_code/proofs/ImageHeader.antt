@@ -63,11 +63,8 @@ mark_is (suc (suc b)) h = absurd (omega (arith, leb-true _ _ h))
 header_parts : (bytes : List ℕ) → bytes ≡ take 4 bytes
     ++ (take 2 (drop 4 bytes) ++ (take 2 (drop 6 bytes) ++ (take 4 (drop 8 bytes) ++ (take 4 (drop 12 bytes) ++ (take 4 (drop 16 bytes) ++ drop 20 bytes)))))
 header_parts bytes =
-    parts_at 0 4 bytes
-    ∙ ap (λ (r : List ℕ). take 4 bytes ++ r) (parts_at 4 2 bytes
-    ∙ ap (λ (r : List ℕ). take 2 (drop 4 bytes) ++ r) (parts_at 6 2 bytes
-    ∙ ap (λ (r : List ℕ). take 2 (drop 6 bytes) ++ r) (parts_at 8 4 bytes
-    ∙ ap (λ (r : List ℕ). take 4 (drop 8 bytes) ++ r) (parts_at 12 4 bytes
+    parts_at 0 4 bytes ∙ ap (λ (r : List ℕ). take 4 bytes ++ r) (parts_at 4 2 bytes ∙ ap (λ (r : List ℕ). take 2 (drop 4 bytes) ++ r) (parts_at 6 2 bytes
+    ∙ ap (λ (r : List ℕ). take 2 (drop 6 bytes) ++ r) (parts_at 8 4 bytes ∙ ap (λ (r : List ℕ). take 4 (drop 8 bytes) ++ r) (parts_at 12 4 bytes
     ∙ ap (λ (r : List ℕ). take 4 (drop 12 bytes) ++ r) (parts_at 16 4 bytes)))))
 
 -- the ranges of the fields of the header

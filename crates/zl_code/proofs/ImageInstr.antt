@@ -73,8 +73,7 @@ as_read bytes r e = λ i. record { registers = e.registers i; imm = e.imm i; tar
 
 -- an instruction that has the fields that were read has the bytes
 pub row_bytes-read : (bytes : List ℕ) (opcode : ℕ) (l : Layout) (r : Reading) (spelled : List ℕ) → length bytes ≡ 16 → IsBytes bytes
-    → opcode ≡ slice_index bytes 0
-    → IsReadFrom bytes r → is_unused_zero l r ≡ true → spelled ≡ row_bytes opcode l r → spelled ≡ bytes
+    → opcode ≡ slice_index bytes 0 → IsReadFrom bytes r → is_unused_zero l r ≡ true → spelled ≡ row_bytes opcode l r → spelled ≡ bytes
 row_bytes-read bytes opcode l r spelled len fits first from unused e =
     let read = as_read bytes r from in
     let clear : is_unused_zero l (reading_of bytes) ≡ true = sym (ap (is_unused_zero l) read) ∙ unused in
@@ -94,8 +93,7 @@ unfolding instr_fault
 instr_fault-register raw bytes l h bad = ap (fault_by raw (reading_of bytes)) h ∙ rw bad refl
 
 pub instr_fault-named : (raw : Bool) (bytes : List ℕ) (l : Layout) (r : Reading) → layout_of (slice_index bytes 0) ≡ Some l
-    → are_registers (registers_at bytes) ≡ true
-    → IsReadFrom bytes r → names_registers l.ending r ≡ false → instr_fault raw bytes ≡ Some faults.BadRegister
+    → are_registers (registers_at bytes) ≡ true → IsReadFrom bytes r → names_registers l.ending r ≡ false → instr_fault raw bytes ≡ Some faults.BadRegister
 unfolding instr_fault
 instr_fault-named raw bytes l r h good from bad =
     let read = as_read bytes r from in

@@ -12,31 +12,15 @@ use Rattle.zl_code.proofs.ImageInstr.{instr_fault-unknown}
 -- the local instruction of a known opcode with registers a to c, imm and target
 known_local : ℕ → ℕ → ℕ → ℕ → ℕ → ℕ → LocalInstr
 known_local opcode a b c imm target =
-    if opcode == 1 then local.Const a imm
-    else if opcode == 2 then local.Move a b
-    else if opcode == 3 then local.Add a b c
-    else if opcode == 4 then local.AddNumber a b imm
-    else if opcode == 5 then local.Subtract a b c
-    else if opcode == 6 then local.And a b c
-    else if opcode == 7 then local.Or a b c
-    else if opcode == 8 then local.Xor a b c
-    else if opcode == 9 then local.ShiftLeft a b imm
-    else if opcode == 10 then local.ShiftRight a b imm
-    else if opcode == 11 then local.Take a b
-    else if opcode == 12 then local.Swap a b imm
-    else if opcode == 13 then local.LoadByte a b imm
-    else if opcode == 14 then local.LoadWord a b imm
-    else if opcode == 15 then local.StoreByte a b imm
-    else if opcode == 16 then local.StoreWord a b imm
-    else if opcode == 17 then local.Jump target
-    else if opcode == 18 then local.JumpZero a target
-    else if opcode == 19 then local.JumpNotZero a target
-    else if opcode == 20 then local.JumpEqual a imm target
-    else if opcode == 21 then local.JumpNotEqual a imm target
-    else if opcode == 22 then local.JumpBelow a imm target
-    else if opcode == 23 then local.JumpNotBelow a imm target
-    else if opcode == 24 then local.JumpHas a imm target
-    else local.JumpHasNot a imm target
+    if opcode == 1 then local.Const a imm else if opcode == 2 then local.Move a b else if opcode == 3 then local.Add a b c
+    else if opcode == 4 then local.AddNumber a b imm else if opcode == 5 then local.Subtract a b c else if opcode == 6 then local.And a b c
+    else if opcode == 7 then local.Or a b c else if opcode == 8 then local.Xor a b c else if opcode == 9 then local.ShiftLeft a b imm
+    else if opcode == 10 then local.ShiftRight a b imm else if opcode == 11 then local.Take a b else if opcode == 12 then local.Swap a b imm
+    else if opcode == 13 then local.LoadByte a b imm else if opcode == 14 then local.LoadWord a b imm else if opcode == 15 then local.StoreByte a b imm
+    else if opcode == 16 then local.StoreWord a b imm else if opcode == 17 then local.Jump target else if opcode == 18 then local.JumpZero a target
+    else if opcode == 19 then local.JumpNotZero a target else if opcode == 20 then local.JumpEqual a imm target
+    else if opcode == 21 then local.JumpNotEqual a imm target else if opcode == 22 then local.JumpBelow a imm target
+    else if opcode == 23 then local.JumpNotBelow a imm target else if opcode == 24 then local.JumpHas a imm target else local.JumpHasNot a imm target
 
 -- the instruction that has these bytes, if one has
 pub read_instr : List ℕ → Instr
@@ -154,8 +138,4 @@ instr_fits raw (instr.Unknown bytes) h =
     let sixteen = and_parts (length bytes == 16) (list_all (λ b. nat_lt b 256) bytes && not (is_some (layout_of (slice_index bytes 0)))) marked.1 in
     let unknown =
     not_some (layout_of (slice_index bytes 0)) (and_parts (list_all (λ b. nat_lt b 256) bytes) (not (is_some (layout_of (slice_index bytes 0)))) sixteen.1).1 in
-    record {
-      len = eqb-true (length bytes) 16 sixteen.0;
-      fault = instr_fault-unknown raw bytes unknown ∙ rw marked.0 refl;
-      again = unknown_again bytes unknown;
-    }
+    record { len = eqb-true (length bytes) 16 sixteen.0; fault = instr_fault-unknown raw bytes unknown ∙ rw marked.0 refl; again = unknown_again bytes unknown }

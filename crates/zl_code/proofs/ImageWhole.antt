@@ -220,8 +220,7 @@ module _ (i : Image) (r : Ranges i) where
 
   code_again : code_pieces (spelling i) ≡ map instr_bytes i.code
   code_again =
-      (λ k. pieces 16 (count_again k) (code_from k))
-      ∙ ap (pieces 16 (length i.code)) (sym (append-nil (flat_map instr_bytes i.code))) ∙ code_parts.pieces_are
+      (λ k. pieces 16 (count_again k) (code_from k)) ∙ ap (pieces 16 (length i.code)) (sym (append-nil (flat_map instr_bytes i.code))) ∙ code_parts.pieces_are
 
   spelled_no_fault : first_fault (spelling i) ≡ None
   spelled_no_fault =
@@ -260,8 +259,7 @@ spells_no_fault bytes i h = ap first_fault h.same ∙ spelled_no_fault i (ranges
 
 -- bytes spell one image at most
 pub spells_one : (bytes : List ℕ) (i j : Image) → Spells bytes i → Spells bytes j → i ≡ j
-spells_one bytes i j h k =
-    sym (image_again i (ranges i h.in_range)) ∙ ap image_at (sym h.same ∙ k.same) ∙ image_again j (ranges j k.in_range)
+spells_one bytes i j h k = sym (image_again i (ranges i h.in_range)) ∙ ap image_at (sym h.same ∙ k.same) ∙ image_again j (ranges j k.in_range)
 
 -- bytes that spell an image are read as that image, unless memory was refused
 pub only_image : (bytes : List ℕ) (i : Image) (r : Result Image DecodeFault) → Spells bytes i → IfOk r (λ image. Spells bytes image)

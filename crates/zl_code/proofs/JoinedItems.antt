@@ -95,8 +95,7 @@ module _ (budget p : ℕ) where
   pub counts_alike : (xs : List TraceItem) (left : ℕ) → ◌≡◌ {A = Type 0} (KeepsBudget budget p left (flat_map single xs)) (KeepsBudget budget p left xs)
   counts_alike [] left = refl
   counts_alike (x ∷ xs) left =
-      ap (KeepsBudget budget p left) (flat_map-cons single x xs)
-      ∙ one_counts x left (flat_map single xs)
+      ap (KeepsBudget budget p left) (flat_map-cons single x xs) ∙ one_counts x left (flat_map single xs)
       ∙ (λ k. IsSomeAnd (if pid_of x == p then left_behind budget left (executed x) else Some left) (λ more. counts_alike xs more k))
 
 -- ---- all of it

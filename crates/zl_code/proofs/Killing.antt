@@ -193,8 +193,7 @@ module _ (w : World) (s : IsSound w) (t : ℕ) (some : (0 == t) ≡ false) where
           by_object : (old : Option Object) → get w.objects p ≡ old → option_map (object_killed (is_within w.objects t p)) old ≡ Some o
               → is_process_of k o.body ≡ false
           by_object None here e = absurd (none-some o e)
-          by_object (Some y) here e =
-              rw (← same_Some _ o e) (by_life p x y (is_within w.objects t p) there here refl (rw (same_Some _ q is) alive))
+          by_object (Some y) here e = rw (← same_Some _ o e) (by_life p x y (is_within w.objects t p) there here refl (rw (same_Some _ q is) alive))
 
 -- ---- what is made in a job
 

@@ -102,8 +102,7 @@ module _ {X : Type 0} (R : ℕ → X → X → Type 0) (N : ℕ → X → Type 0
 
   -- what changes and new values keep is true of each value
   pub each_changed : (P : ℕ → X → Type 0) (m m2 : Map X) → EachChanged R N m m2 → ((k : ℕ) (x y : X) → R k x y → P k x → P k y)
-      → ((k : ℕ) (y : X) → N k y → P k y)
-      → ((k : ℕ) (x : X) → get m k ≡ Some x → P k x) → (k : ℕ) (y : X) → get m2 k ≡ Some y → P k y
+      → ((k : ℕ) (y : X) → N k y → P k y) → ((k : ℕ) (x : X) → get m k ≡ Some x → P k x) → (k : ℕ) (y : X) → get m2 k ≡ Some y → P k y
   each_changed P m m2 all keeps fresh old k y there = elim (all k) as (λ _. P k y) [
     | same e ↦ old k y (sym e ∙ there)
     | changed x z was is r ↦ subst (P k) (same_Some z y (sym is ∙ there)) (keeps k x z r (old k x was))

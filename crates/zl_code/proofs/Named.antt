@@ -30,10 +30,7 @@ none_at test (y ∷ xs) zero x e here passed =
     let first : test y ≡ true = subst (λ z. test z ≡ true) (sym same) passed in
     absurd (cc)
 none_at test (y ∷ xs) (suc i) x e here passed =
-    elim (cases_Bool (test y)) as (λ _. ⊥) [
-      | inl first ↦ absurd (cc)
-      | inr other ↦ none_at test xs i x (cc) here passed
-    ]
+    elim (cases_Bool (test y)) as (λ _. ⊥) [ inl first ↦ absurd (cc) | inr other ↦ none_at test xs i x (cc) here passed ]
 
 module _ {X : Type 0} (name_of : X → List ℕ) (all : List X) (name : List ℕ) where
   abbrev pub by_name : X → Bool

@@ -31,8 +31,7 @@ unfolding without where_key
 leaves m h v t = each_where_key (names_its_object m) h t (λ j. not (j == v))
 
 sent_names : (objects : Map Object) (m : Message) (b : Body) → All (names_its_object objects) m.handles
-    → All (λ x. All (names_its_object objects) x.handles) (queue_of b)
-    → All (λ x. All (names_its_object objects) x.handles) (queue_of (body_with_message m b))
+    → All (λ x. All (names_its_object objects) x.handles) (queue_of b) → All (λ x. All (names_its_object objects) x.handles) (queue_of (body_with_message m b))
 sent_names objects m (ChannelEnd peer queue) names t =
     All-append (λ (x : Message). All (names_its_object objects) x.handles) queue (m ∷ []) t
     (All-cons (λ (x : Message). All (names_its_object objects) x.handles) m [] names (All-nil (λ (x : Message). All (names_its_object objects) x.handles)))
@@ -108,8 +107,7 @@ named_in_queue : (w : World) (K : Koids) (k : ℕ) (o : Object) → get w.object
     → IsTrue (in_queue w K (slice_index_or (slice_index_or (queue_of o.body) i m).handles j e).koid)
 unfolding in_queue
 named_in_queue w K k o there kept i j m e inside below =
-    list_any-get _ w.objects k o there (and_from (K k) _ kept
-    (list_any_at _ (queue_of o.body) i m inside
+    list_any-get _ w.objects k o there (and_from (K k) _ kept (list_any_at _ (queue_of o.body) i m inside
     (list_any_at _ (slice_index_or (queue_of o.body) i m).handles j e below (eq-eqb _ _ refl))))
 
 -- what a handle in a table or in a kept queue names is kept
@@ -137,8 +135,7 @@ named_settled u v (K, largest, settled) s = rw settled (record {
     all_tables : (p : ℕ) (q : Process) → get (without_others u K).processes p ≡ Some q → TableNames (where_key K u.objects) q
     all_tables =
         each_changed (λ k x y. y ≡ process_settled K k x) (λ k y. ⊥) (λ k q. TableNames (where_key K u.objects) q) u.processes _
-        (changed_each _ _ u.processes (process_settled K) (λ k x. changed x _ refl refl refl))
-        (λ k x y is t. rw is t) (λ k y none. absurd none)
+        (changed_each _ _ u.processes (process_settled K) (λ k x. changed x _ refl refl refl)) (λ k x y is t. rw is t) (λ k y none. absurd none)
         (λ p q there w e at. named_still u K largest e (inl (named_in_table u p w q e there at)) (s.tables p w q e there at))
 
     by_kept : (k : ℕ) (o : Object) → IsTrue (K k) → get u.objects k ≡ Some o → QueueNames (where_key K u.objects) o

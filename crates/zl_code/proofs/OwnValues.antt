@@ -25,11 +25,7 @@ may_get_next q f fine room = by_last q.last fine.again
         (ap (λ o. not (is_some o)) (next_unused q.handles f fine.free)))
 
 pub enters : (q : Process) (f : Free) (e : Entry) → IsFreeOf q f → length q.handles < 1024 → IsFreeOf (process_with (offered f) e q) (taken f)
-enters q f e fine room = record {
-  sorted = sorted_put q.handles (offered f) e fine.sorted;
-  free = free_inserted q.handles f e fine.free room;
-  again = tt;
-}
+enters q f e fine room = record { sorted = sorted_put q.handles (offered f) e fine.sorted; free = free_inserted q.handles f e fine.free room; again = tt }
 
 pub leaves : (q : Process) (f : Free) (h : ℕ) → IsFreeOf q f → IsFreeOf (process_without h q) (if has_key q.handles h then given_back h f else f)
 leaves q f h fine = elim (cases_Bool (has_key q.handles h)) as (λ _. IsFreeOf (process_without h q) (if has_key q.handles h then given_back h f else f)) [

@@ -34,8 +34,7 @@ are_none (o ∷ os) h = (first_is_none o os h, are_none os (first_none o os h))
 
 pub listed_none : (lib : Library) (w : World) (p : ℕ) (r : Request) → refusal lib w p r ≡ None → AreNone (listed lib w p r)
 unfolding refusal
-listed_none lib w p r h =
-    are_none (listed lib w p r) (first_none (by_policy w p (condition_of r)) _ (first_none (examined w p [] (handle_operands r)) _ h))
+listed_none lib w p r h = are_none (listed lib w p r) (first_none (by_policy w p (condition_of r)) _ (first_none (examined w p [] (handle_operands r)) _ h))
 
 pub test_fails : (b : Bool) (s : Status) → answer_if b s ≡ None → b ≡ false
 test_fails true s h = cc
@@ -93,8 +92,7 @@ has_right w p h clear set lib passes = is_granted w p [] SIGNAL (entry_at w p h)
 
 -- no handle to a port has it
 pub no_port : (w : World) (p h : ℕ) (e : Entry) (o : Object) (packets : List Packet) → entry_at w p h ≡ Some e → IsTrue (within SIGNAL (bits e.rights))
-    → get w.objects e.koid ≡ Some o → o.body ≡ PortBody packets
-    → HandlesAreSound w → HandlesAreNamed w → ⊥
+    → get w.objects e.koid ≡ Some o → o.body ≡ PortBody packets → HandlesAreSound w → HandlesAreNamed w → ⊥
 no_port w p h e o packets at right there port sound named =
     let fine = entry_is_fine w p h e at in
     let (x, is, same) = fine.names named in
@@ -104,8 +102,7 @@ no_port w p h e o packets at right there port sound named =
     true≢false (sym (rw is_port at inside))
 
 pub may_signal : (w : World) (p h clear set : ℕ) (lib : Library) → refusal lib w p (signal h clear set) ≡ None → (o : Object)
-    → get w.objects (object_at w p h) ≡ Some o
-    → IsSound w → IsTrue (within set (raisable o.body))
+    → get w.objects (object_at w p h) ≡ Some o → IsSound w → IsTrue (within set (raisable o.body))
 unfolding listed
 may_signal w p h clear set lib passes o there sound =
     by_body o.body refl (and_parts _ _ (rw there at (not-false _ (test_fails _ status.InvalidArgs (listed_none lib w p (signal h clear set) passes).0)))).1
@@ -117,14 +114,12 @@ may_signal w p h clear set lib passes o there sound =
     by_body _ is h2 = h2
 
 -- the handle by which the peer is signaled names an end
-pub has_end : (w : World) (p h clear set : ℕ) (lib : Library) → refusal lib w p (signal_peer h clear set) ≡ None
-    → IsGranted ends SIGNAL_PEER (entry_at w p h)
+pub has_end : (w : World) (p h clear set : ℕ) (lib : Library) → refusal lib w p (signal_peer h clear set) ≡ None → IsGranted ends SIGNAL_PEER (entry_at w p h)
 unfolding row_of refusal handle_operands examined operand
 has_end w p h clear set lib passes = is_granted w p ends SIGNAL_PEER (entry_at w p h) (first_is_none _ _ (first_is_none _ _ passes))
 
 pub may_signal_peer : (w : World) (p h clear set : ℕ) (lib : Library) → refusal lib w p (signal_peer h clear set) ≡ None → (o : Object)
-    → get w.objects (peer_at w p h) ≡ Some o
-    → IsSound w → IsTrue (within set (raisable o.body))
+    → get w.objects (peer_at w p h) ≡ Some o → IsSound w → IsTrue (within set (raisable o.body))
 unfolding listed
 may_signal_peer w p h clear set lib passes o there sound =
     let (x, at, fits) = named_object w p h ends SIGNAL_PEER (has_end w p h clear set lib passes) sound.named in
@@ -142,8 +137,7 @@ may_signal_peer w p h clear set lib passes o there sound =
     masked b body =
         (and_parts (within clear (settable_of (Some b))) (within set (settable_of (Some b)))
         (rw body at (not-false (may_change (body_of w (object_at w p h)) clear set)
-        (test_fails (not (may_change (body_of w (object_at w p h)) clear set)) status.InvalidArgs
-        (listed_none lib w p (signal_peer h clear set) passes).0)))).1
+        (test_fails (not (may_change (body_of w (object_at w p h)) clear set)) status.InvalidArgs (listed_none lib w p (signal_peer h clear set) passes).0)))).1
 
     has : (x : Object) (b : Body) → get w.objects (object_at w p h) ≡ Some x → x.body ≡ b → HasPeer w.objects w.next_koid b
     has x b at is = subst (HasPeer w.objects w.next_koid) is (sound.peers (object_at w p h) x at)

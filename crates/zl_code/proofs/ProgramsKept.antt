@@ -98,8 +98,7 @@ module _ (lib : Library) where
         let asked = listed_none lib w p (process_create job program) passes in
         each_put IsListed u.processes all w.next_koid (created_process lib program) (not-false _ (test_fails _ status.InvalidArgs asked.0))
     done u (process_start process h word) vs passes all = one_listed u (object_at w p process) (started_with vs word) (λ q. refl) all
-    done u (task_kill task) vs passes all =
-        each_each IsListed u.processes all _ (λ k q h. rw (killed_listed (is_within u.objects (object_at w p task) k) q) h)
+    done u (task_kill task) vs passes all = each_each IsListed u.processes all _ (λ k q h. rw (killed_listed (is_within u.objects (object_at w p task) k) q) h)
     done u _ vs passes all = all
 
     with_all_done : (u : World) (r : Request) (vs : List ℕ) → refusal lib w p r ≡ None → HavePrograms lib u → HavePrograms lib (with_effect lib w u p r vs)
@@ -119,8 +118,7 @@ module _ (lib : Library) where
       passed : (vs : List ℕ) (o : Outcome) → refusal lib w p s.request ≡ None → HavePrograms lib (after_ok lib w p s vs o)
       passed vs (outcome.Answered answer) passes =
           told _ s status.Ok (gives_ok w p s.request vs) (with_all_done (taken w p s) s.request vs passes (removed w p (taken_handles s.request) all))
-      passed vs (outcome.Ended code) passes =
-          over _ p code (with_all_done (taken w p s) s.request vs passes (removed w p (taken_handles s.request) all))
+      passed vs (outcome.Ended code) passes = over _ p code (with_all_done (taken w p s) s.request vs passes (removed w p (taken_handles s.request) all))
       passed vs outcome.Blocked passes = waits w p s.destinations (awaited_by w p s.request) all
 
       called : (choice : Choice) (r : Option Outcome) (answer : Outcome) (w2 : World) → refusal lib w p s.request ≡ r → CallBy lib w p s choice r answer w2

@@ -30,11 +30,8 @@ starts = start (Some kind.Event) 4096 ∷ start (Some kind.Channel) 12 ∷ []
 -- declares a handle of any kind to wait by, 16384; program 3 is checked, and declares nothing.
 abbrev library : Library
 library =
-    program_with true (condition.NewEvent ∷ condition.NewPort ∷ []) starts
-    ∷ program_with false (condition.NewEvent ∷ condition.NewPort ∷ []) starts
-    ∷ program_with true [] (start None 16384 ∷ [])
-    ∷ program_with true [] []
-    ∷ []
+    program_with true (condition.NewEvent ∷ condition.NewPort ∷ []) starts ∷ program_with false (condition.NewEvent ∷ condition.NewPort ∷ []) starts
+    ∷ program_with true [] (start None 16384 ∷ []) ∷ program_with true [] [] ∷ []
 
 -- the world after the statement, where no handle is given
 abbrev then_done : Statement → World → World

@@ -34,12 +34,8 @@ message bytes handles = record { bytes = bytes; handles = handles }
 -- what a job and event 3 are beside the ends 4 and 5 of a channel, at which these messages are to be read
 abbrev ends_with : List Message → List Message → Map Object
 ends_with at_4 at_5 =
-    (1, record { body = JobBody 0 1 [] false; raised = 0 })
-    ∷ (2, record { body = ProcessBody 1; raised = 0 })
-    ∷ (3, record { body = EventBody; raised = 0 })
-    ∷ (4, record { body = ChannelEnd 5 at_4; raised = 0 })
-    ∷ (5, record { body = ChannelEnd 4 at_5; raised = 0 })
-    ∷ []
+    (1, record { body = JobBody 0 1 [] false; raised = 0 }) ∷ (2, record { body = ProcessBody 1; raised = 0 }) ∷ (3, record { body = EventBody; raised = 0 })
+    ∷ (4, record { body = ChannelEnd 5 at_4; raised = 0 }) ∷ (5, record { body = ChannelEnd 4 at_5; raised = 0 }) ∷ []
 
 -- process 2 has these handles, and beside event 3 there are the ends 4 and 5 of a channel
 abbrev with_ends : Map Entry → List Message → List Message → World
@@ -72,10 +68,7 @@ replacing = λ h rights. site (replace h rights) (1 ∷ []) (0 ∷ 2 ∷ [])
 
 -- a wait that process 2 made by the value 7, and one by the value 8
 abbrev two_waits : List Wait
-two_waits =
-    record { pid = 2; value = 7; object = 3; port = 9; key = 1; mask = 8 }
-    ∷ record { pid = 2; value = 8; object = 3; port = 9; key = 2; mask = 8 }
-    ∷ []
+two_waits = record { pid = 2; value = 7; object = 3; port = 9; key = 1; mask = 8 } ∷ record { pid = 2; value = 8; object = 3; port = 9; key = 2; mask = 8 } ∷ []
 
 rows_of_replace :
     -- The value 5 isn't live.
@@ -310,5 +303,4 @@ rows_of_chan_read_etc :
     -- The next message is the first now.
     × (queue_of_object read 4 ≡ message [] [] ∷ [])
 unfolding computing
-rows_of_chan_read_etc =
-    (refl, refl, refl, refl, refl, refl, refl, refl, refl, refl, refl, refl, refl, refl, refl, refl, refl, refl, refl, refl, refl)
+rows_of_chan_read_etc = (refl, refl, refl, refl, refl, refl, refl, refl, refl, refl, refl, refl, refl, refl, refl, refl, refl, refl, refl, refl, refl)

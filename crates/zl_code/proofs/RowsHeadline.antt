@@ -189,12 +189,7 @@ abbrev three_and_exit : List TraceItem
 three_and_exit = item.Run 5 3 ∷ item.Call 5 name.ProcessExit (outcome.Ended (pos 7)) ∷ []
 
 goes_well : GoesWell (with_budget 3) 5 three_and_exit
-goes_well = record {
-  no_fault = (tt, (tt, tt));
-  ends_itself = (tt, (λ is. inl refl, tt));
-  not_stuck = (tt, (tt, tt));
-  budget = tt;
-}
+goes_well = record { no_fault = (tt, (tt, tt)); ends_itself = (tt, (λ is. inl refl, tt)); not_stuck = (tt, (tt, tt)); budget = tt }
 
 -- not with a smaller budget
 budget_too_small : GoesWell (with_budget 2) 5 three_and_exit → ⊥

@@ -28,10 +28,8 @@ rows_of_the_table = (refl, refl)
 -- four of the five needs, an event to signal and to wait for, 256 places for any handle, and swap r1, r2, 0
 abbrev declared : List ℕ
 declared =
-    0x5a ∷ 0x4c ∷ 0x41 ∷ 0x42 ∷ 1 ∷ 0 ∷ 1 ∷ 0 ∷ 0 ∷ 0 ∷ 0 ∷ 0 ∷ 100 ∷ 0 ∷ 0 ∷ 0 ∷ 0x1b ∷ 1 ∷ 1 ∷ 0
-    ∷ 5 ∷ 0 ∷ 0 ∷ 0 ∷ 0 ∷ 0x50 ∷ 0 ∷ 0
-    ∷ 0 ∷ 0 ∷ 0 ∷ 1 ∷ 0x0f ∷ 0xf6 ∷ 3 ∷ 0
-    ∷ 12 ∷ 1 ∷ 2 ∷ replicate 13 0
+    0x5a ∷ 0x4c ∷ 0x41 ∷ 0x42 ∷ 1 ∷ 0 ∷ 1 ∷ 0 ∷ 0 ∷ 0 ∷ 0 ∷ 0 ∷ 100 ∷ 0 ∷ 0 ∷ 0 ∷ 0x1b ∷ 1 ∷ 1 ∷ 0 ∷ 5 ∷ 0 ∷ 0 ∷ 0 ∷ 0 ∷ 0x50 ∷ 0 ∷ 0
+    ∷ 0 ∷ 0 ∷ 0 ∷ 1 ∷ 0x0f ∷ 0xf6 ∷ 3 ∷ 0 ∷ 12 ∷ 1 ∷ 2 ∷ replicate 13 0
 
 abbrev declared_image : Image
 declared_image = record {
@@ -85,8 +83,7 @@ rows_of_faults_of_declarations_2 = (refl, refl)
 -- chan_write of the handles in registers 5 and 6, and chan_read_etc with room for 8 handles
 abbrev messages : List ℕ
 messages =
-    0x5a ∷ 0x4c ∷ 0x41 ∷ 0x42 ∷ 1 ∷ 0 ∷ 2 ∷ 0 ∷ 0 ∷ 0 ∷ 0 ∷ 0 ∷ 100 ∷ 0 ∷ 0 ∷ 0 ∷ 0 ∷ 0 ∷ 0 ∷ 0
-    ∷ 68 ∷ 1 ∷ 2 ∷ 3 ∷ 4 ∷ 0 ∷ 0 ∷ 0 ∷ 5 ∷ 6 ∷ replicate 6 255
+    0x5a ∷ 0x4c ∷ 0x41 ∷ 0x42 ∷ 1 ∷ 0 ∷ 2 ∷ 0 ∷ 0 ∷ 0 ∷ 0 ∷ 0 ∷ 100 ∷ 0 ∷ 0 ∷ 0 ∷ 0 ∷ 0 ∷ 0 ∷ 0 ∷ 68 ∷ 1 ∷ 2 ∷ 3 ∷ 4 ∷ 0 ∷ 0 ∷ 0 ∷ 5 ∷ 6 ∷ replicate 6 255
     ++ 69 ∷ 1 ∷ 2 ∷ 3 ∷ 4 ∷ 5 ∷ 6 ∷ 8 ∷ 8 ∷ replicate 7 0
 
 messages_spelled : Spells messages (record declared_image {

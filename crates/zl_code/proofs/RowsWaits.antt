@@ -16,12 +16,9 @@ use Rattle.zl_code.proofs.RowsWords.{turn_of}
 -- event 3 at which these signals are raised, one end of a channel whose peer is gone, and port 6 with these packets, beside a job and process 2
 abbrev objects_with : ℕ → List Packet → Map Object
 objects_with raised packets =
-    (1, record { body = JobBody 0 1 [] false; raised = 0 })
-    ∷ (2, record { body = ProcessBody 1; raised = 0 })
-    ∷ (3, record { body = EventBody; raised = raised })
-    ∷ (4, record { body = ChannelEnd 5 []; raised = 0 })
-    ∷ (6, record { body = PortBody packets; raised = 0 })
-    ∷ []
+    (1, record { body = JobBody 0 1 [] false; raised = 0 }) ∷ (2, record { body = ProcessBody 1; raised = 0 })
+    ∷ (3, record { body = EventBody; raised = raised }) ∷ (4, record { body = ChannelEnd 5 []; raised = 0 })
+    ∷ (6, record { body = PortBody packets; raised = 0 }) ∷ []
 
 -- the event at the values 7 and 10, the end at the value 8, and the port at the value 9
 abbrev four : Map Entry

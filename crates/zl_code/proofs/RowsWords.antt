@@ -62,8 +62,7 @@ Passes w request = refusal [] w 2 request ≡ None
 
 -- a library of one raw program
 abbrev pub program_of : List Instr → Library
-program_of code =
-    record { checked = false; image = record { raw = true; memory = 0; budget = 1; needs = []; starts = []; slots = []; code = code } } ∷ []
+program_of code = record { checked = false; image = record { raw = true; memory = 0; budget = 1; needs = []; starts = []; slots = []; code = code } } ∷ []
 
 -- a ready process with these registers from the first on, these handles, and this value removed last
 abbrev pub process_of : List ℕ → Map Entry → Option ℕ → Process

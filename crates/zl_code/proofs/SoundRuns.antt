@@ -47,8 +47,7 @@ step_handles_sound lib w p x after s step = kept w HandlesAreSound (λ u v. soun
 pub step_handles_named : (lib : Library) (w : World) (p : ℕ) (x : TraceItem) (after : World) → HasGivenKoids w → HandlesAreNamed w → Step lib w p x after
     → HandlesAreNamed after
 step_handles_named lib w p x after given s step =
-    (kept w (λ u. HasGivenKoids u × HandlesAreNamed u)
-    (λ u v c both. (given_change w u v c both.0, named_change w u v s both.0 c both.1))
+    (kept w (λ u. HasGivenKoids u × HandlesAreNamed u) (λ u v c both. (given_change w u v c both.0, named_change w u v s both.0 c both.1))
     (λ u v c both. (given_settled u v c both.0, named_settled u v c both.1)) w after (step_changes lib w p x after step) (given, s)).1
 
 -- ---- sound worlds

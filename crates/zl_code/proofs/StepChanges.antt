@@ -123,8 +123,7 @@ settling_changes lib w p x w2 step =
 
 pub step_changes : (lib : Library) (w : World) (p : ℕ) (x : TraceItem) (w2 : World) → Step lib w p x w2 → Changes w w w2
 step_changes lib w p x w2 step =
-    rw step.ends_awake
-    (join w w step.acted _ (act_changes lib w p step.process step.is_there step.is_ready (next_for lib step.process) x step.acted step.acts)
+    rw step.ends_awake (join w w step.acted _ (act_changes lib w p step.process step.is_there step.is_ready (next_for lib step.process) x step.acted step.acts)
     (settles step.acted step.settled _ step.settles (waking_changes w step.settled)))
 
 pub job_is_there : (o : Option Object) → is_job_body (body_in o) ≡ true → IsTrue (is_some o)
@@ -205,8 +204,7 @@ boot_kills_none lib w statement.Channel vs none =
     none_killed_beside (with_object w (ChannelEnd (w.next_koid + 1) [])) (ChannelEnd w.next_koid []) refl
     (none_killed_beside w (ChannelEnd (w.next_koid + 1) []) refl none)
 boot_kills_none lib w statement.Eventpair vs none =
-    none_killed_beside (with_object w (PairEnd (w.next_koid + 1))) (PairEnd w.next_koid) refl
-    (none_killed_beside w (PairEnd (w.next_koid + 1)) refl none)
+    none_killed_beside (with_object w (PairEnd (w.next_koid + 1))) (PairEnd w.next_koid) refl (none_killed_beside w (PairEnd (w.next_koid + 1)) refl none)
 
 -- nothing lives in the job whose policy a statement sets
 pub no_child_booted : (lib : Library) (w : World) (job : ℕ) (condition : Condition) (action : Action)

@@ -33,8 +33,7 @@ blocked_by (item.Stuck pid) b = filter (λ q. not (q == pid)) b
 
 -- a process does the same, unless it blocks, and leaves the waits and the blocked as they were but for its own
 pub acts_among : (lib : Library) (w : World) (p : ℕ) (ws : List Wait) (n : ℕ) (b : List ℕ) (next : Next) (x : TraceItem) (w2 : World) → next_looks next ≡ false
-    → tells_blocking x ≡ false
-    → Acts lib w p next x w2 → Acts lib (with_waiters w ws n b) p next x (with_waiters w2 (waits_by next x ws) n (blocked_by x b))
+    → tells_blocking x ≡ false → Acts lib w p next x w2 → Acts lib (with_waiters w ws n b) p next x (with_waiters w2 (waits_by next x ws) n (blocked_by x b))
 unfolding on_process ended
 acts_among lib w p ws n b (Moves c) x w2 looks goes acts = (acts.0, λ i. with_waiters (acts.1 i) ws n (blocked_by (acts.0 i) b))
 acts_among lib w p ws n b (AtCall call s) x w2 looks goes (o, is, calls) = (

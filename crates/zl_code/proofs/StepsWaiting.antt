@@ -44,8 +44,7 @@ settles_waiting w w2 settles ws n b =
 
 -- a step beside waits, where it neither looks at them nor blocks
 pub step_waiting : (lib : Library) (w : World) (p : ℕ) (q : Process) → get w.processes p ≡ Some q → next_looks (next_for lib q) ≡ false → (x : TraceItem)
-    → tells_blocking x ≡ false → (w2 : World) → ActsAndSettles lib w p x w2
-    → (ws : List Wait) (n : ℕ) (b : List ℕ)
+    → tells_blocking x ≡ false → (w2 : World) → ActsAndSettles lib w p x w2 → (ws : List Wait) (n : ℕ) (b : List ℕ)
     → ActsAndSettles lib (with_waiters w ws n b) p x (with_waiters w2 (filter (is_left w2) (waits_by (next_for lib q) x ws)) n (blocked_by x b))
 step_waiting lib w p q there looks x goes w2 steps ws n b =
     let same : steps.process ≡ q = same_Some steps.process q (sym steps.is_there ∙ there) in
@@ -62,10 +61,8 @@ step_waiting lib w p q there looks x goes w2 steps ws n b =
 
 -- a call that blocks beside waits
 pub block_waiting : (lib : Library) (w : World) (p : ℕ) (q : Process) → get w.processes p ≡ Some q → q.state ≡ Ready → (call : CallName) (s : Site)
-    → next_for lib q ≡ AtCall call s
-    → (awaited : Awaited) → refusal lib w p s.request ≡ None → awaited_by w p s.request ≡ Some awaited → (w2 : World)
-    → Settles (blocked_in w p awaited s.destinations) w2
-    → (ws : List Wait) (n : ℕ) (b : List ℕ)
+    → next_for lib q ≡ AtCall call s → (awaited : Awaited) → refusal lib w p s.request ≡ None → awaited_by w p s.request ≡ Some awaited → (w2 : World)
+    → Settles (blocked_in w p awaited s.destinations) w2 → (ws : List Wait) (n : ℕ) (b : List ℕ)
     → ActsAndSettles lib (with_waiters w ws n b) p (item.Call p call outcome.Blocked) (with_waiters w2 (filter (is_left w2) ws) n (b ++ (p ∷ [])))
 block_waiting lib w p q there ready call s next awaited passes waits w2 settles ws n b = record {
   process = q;

@@ -17,14 +17,10 @@ use Rattle.zl_code.proofs.Called.{called}
 abbrev pub bytes : List ℕ
 bytes =
     0x5a ∷ 0x4c ∷ 0x41 ∷ 0x42 ∷ 1 ∷ 1 ∷ 8 ∷ 0 ∷ 0 ∷ 0 ∷ 0 ∷ 0 ∷ 100 ∷ 0 ∷ 0 ∷ 0 ∷ 0 ∷ 0 ∷ 0 ∷ 0
-    ∷ 0x46 ∷ 2 ∷ 3 ∷ 0 ∷ 0 ∷ 0 ∷ 0 ∷ 0 ∷ 0 ∷ 0 ∷ 0 ∷ 0 ∷ 0 ∷ 0 ∷ 0 ∷ 0
-    ∷ 0x01 ∷ 5 ∷ 0 ∷ 0 ∷ 0 ∷ 0 ∷ 0 ∷ 0 ∷ 8 ∷ 0 ∷ 0 ∷ 0 ∷ 0 ∷ 0 ∷ 0 ∷ 0
-    ∷ 0x47 ∷ 2 ∷ 3 ∷ 0 ∷ 5 ∷ 0 ∷ 0 ∷ 0 ∷ 0 ∷ 0 ∷ 0 ∷ 0 ∷ 0 ∷ 0 ∷ 0 ∷ 0
-    ∷ 0x41 ∷ 2 ∷ 3 ∷ 4 ∷ 0 ∷ 0 ∷ 0 ∷ 0 ∷ 0 ∷ 0 ∷ 0 ∷ 0x80 ∷ 0 ∷ 0 ∷ 0 ∷ 0
-    ∷ 0x40 ∷ 2 ∷ 3 ∷ 0 ∷ 0 ∷ 0 ∷ 0 ∷ 0 ∷ 0 ∷ 0 ∷ 0 ∷ 0 ∷ 0 ∷ 0 ∷ 0 ∷ 0
-    ∷ 0x40 ∷ 2 ∷ 4 ∷ 0 ∷ 0 ∷ 0 ∷ 0 ∷ 0 ∷ 0 ∷ 0 ∷ 0 ∷ 0 ∷ 0 ∷ 0 ∷ 0 ∷ 0
-    ∷ 0x40 ∷ 2 ∷ 4 ∷ 0 ∷ 0 ∷ 0 ∷ 0 ∷ 0 ∷ 0 ∷ 0 ∷ 0 ∷ 0 ∷ 0 ∷ 0 ∷ 0 ∷ 0
-    ∷ 0x53 ∷ 0 ∷ 0 ∷ 0 ∷ 0 ∷ 0 ∷ 0 ∷ 0 ∷ 0 ∷ 0 ∷ 0 ∷ 0 ∷ 0 ∷ 0 ∷ 0 ∷ 0 ∷ []
+    ∷ 0x46 ∷ 2 ∷ 3 ∷ 0 ∷ 0 ∷ 0 ∷ 0 ∷ 0 ∷ 0 ∷ 0 ∷ 0 ∷ 0 ∷ 0 ∷ 0 ∷ 0 ∷ 0 ∷ 0x01 ∷ 5 ∷ 0 ∷ 0 ∷ 0 ∷ 0 ∷ 0 ∷ 0 ∷ 8 ∷ 0 ∷ 0 ∷ 0 ∷ 0 ∷ 0 ∷ 0 ∷ 0
+    ∷ 0x47 ∷ 2 ∷ 3 ∷ 0 ∷ 5 ∷ 0 ∷ 0 ∷ 0 ∷ 0 ∷ 0 ∷ 0 ∷ 0 ∷ 0 ∷ 0 ∷ 0 ∷ 0 ∷ 0x41 ∷ 2 ∷ 3 ∷ 4 ∷ 0 ∷ 0 ∷ 0 ∷ 0 ∷ 0 ∷ 0 ∷ 0 ∷ 0x80 ∷ 0 ∷ 0 ∷ 0 ∷ 0
+    ∷ 0x40 ∷ 2 ∷ 3 ∷ 0 ∷ 0 ∷ 0 ∷ 0 ∷ 0 ∷ 0 ∷ 0 ∷ 0 ∷ 0 ∷ 0 ∷ 0 ∷ 0 ∷ 0 ∷ 0x40 ∷ 2 ∷ 4 ∷ 0 ∷ 0 ∷ 0 ∷ 0 ∷ 0 ∷ 0 ∷ 0 ∷ 0 ∷ 0 ∷ 0 ∷ 0 ∷ 0 ∷ 0
+    ∷ 0x40 ∷ 2 ∷ 4 ∷ 0 ∷ 0 ∷ 0 ∷ 0 ∷ 0 ∷ 0 ∷ 0 ∷ 0 ∷ 0 ∷ 0 ∷ 0 ∷ 0 ∷ 0 ∷ 0x53 ∷ 0 ∷ 0 ∷ 0 ∷ 0 ∷ 0 ∷ 0 ∷ 0 ∷ 0 ∷ 0 ∷ 0 ∷ 0 ∷ 0 ∷ 0 ∷ 0 ∷ 0 ∷ []
 
 abbrev pub image : Image
 image = record {
@@ -72,20 +68,14 @@ is_boot = record { made = made; boots = ([], refl, refl, refl); settles = Settle
 
 abbrev pub history : List TraceItem
 history =
-    item.Call 2 name.EventCreate (outcome.Answered status.Ok)
-    ∷ item.Run 2 1
-    ∷ item.Call 2 name.Signal (outcome.Answered status.Ok)
-    ∷ item.Call 2 name.Dup (outcome.Answered status.Ok)
-    ∷ item.Call 2 name.Close (outcome.Answered status.Ok)
-    ∷ item.Call 2 name.Close (outcome.Answered status.Ok)
-    ∷ item.Call 2 name.Close (outcome.Answered status.Ok)
-    ∷ item.Call 2 name.ProcessExit (outcome.Ended (pos 0))
-    ∷ []
+    item.Call 2 name.EventCreate (outcome.Answered status.Ok) ∷ item.Run 2 1 ∷ item.Call 2 name.Signal (outcome.Answered status.Ok)
+    ∷ item.Call 2 name.Dup (outcome.Answered status.Ok) ∷ item.Call 2 name.Close (outcome.Answered status.Ok)
+    ∷ item.Call 2 name.Close (outcome.Answered status.Ok) ∷ item.Call 2 name.Close (outcome.Answered status.Ok)
+    ∷ item.Call 2 name.ProcessExit (outcome.Ended (pos 0)) ∷ []
 
 -- the event's handle gets the value 7, and its copy 9
 abbrev pub turns : List (ℕ × Choice)
-turns =
-    (2, Values (7 ∷ [])) ∷ (2, Refused) ∷ (2, Values []) ∷ (2, Values (9 ∷ [])) ∷ (2, Values []) ∷ (2, Values []) ∷ (2, Values []) ∷ (2, Values []) ∷ []
+turns = (2, Values (7 ∷ [])) ∷ (2, Refused) ∷ (2, Values []) ∷ (2, Values (9 ∷ [])) ∷ (2, Values []) ∷ (2, Values []) ∷ (2, Values []) ∷ (2, Values []) ∷ []
 
 abbrev pub end : World
 end = world_after boot (run_by library boot turns)

@@ -145,8 +145,7 @@ module _ (lib : Library) (w : World) (p : ℕ) (ws : List Wait) (n : ℕ) (b : L
       → with_effect lib (with_waiters w ws n b) (with_waiters u ws n b) p r vs ≡ with_waiters (with_effect lib w u p r vs) (waits_left r p ws) n b
   with_effect_among u r vs looks =
       (λ i. storing (insert_all (effect_among u r looks vs i) (receiver_same lib w p ws n b r i) (handles_same lib w p ws n b r i) (entering_at r vs)) p
-      (stored_same lib w p ws n b r i))
-      ∙ (ap (λ v. storing v p (stored_by w p r))
+      (stored_same lib w p ws n b r i)) ∙ (ap (λ v. storing v p (stored_by w p r))
       (insert_among (receiver_of w p r) (waits_left r p ws) n b (effect lib w u p r vs) (new_handles w p r) (entering_at r vs))
       ∙ storing_among p (waits_left r p ws) n b _ (stored_by w p r))
 

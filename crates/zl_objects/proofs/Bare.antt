@@ -13,8 +13,7 @@ abbrev all_bare : Map Object → Map Object
 all_bare m = each (λ k. bare) m
 
 -- what a body without reserved places gives as well
-pub of_body : {X : Type 0} (f : Body → X)
-    → ((packets : _) (reserved : ℕ)
+pub of_body : {X : Type 0} (f : Body → X) → ((packets : _) (reserved : ℕ)
     → f (body.Port (record { packets = packets; reserved = 0 })) ≡ f (body.Port (record { packets = packets; reserved = reserved })))
     → (b c : Body) → unreserved b ≡ unreserved c → f b ≡ f c
 of_body f port b c same = sym (bare_body b) ∙ (ap f same ∙ bare_body c)

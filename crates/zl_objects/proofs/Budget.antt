@@ -106,8 +106,7 @@ last_went m dying k last = record {
 }
   where
     by_key : (others : List ℕ) → AreKeptBut (others ++ dying) m → (j : ℕ) (q : Object) → Changed held_once_less m k j q
-        → is_kept (update m k held_once_less) j q ≡ false → IsTrue (k == j) ⊎ ((k == j) ≡ false)
-        → IsTrue (list_any (λ x. x == j) ((others ++ dying) ++ k ∷ []))
+        → is_kept (update m k held_once_less) j q ≡ false → IsTrue (k == j) ⊎ ((k == j) ≡ false) → IsTrue (list_any (λ x. x == j) ((others ++ dying) ++ k ∷ []))
     by_key others old j q c unkept (inl here) = rw (eqb-true k j here) (noted_last j (others ++ dying))
     by_key others old j q c unkept (inr apart) =
         let same : q ≡ c.before = c.is ∙ rw apart refl in
@@ -127,8 +126,7 @@ other_went m dying k other = record {
 }
   where
     by_key : (others : List ℕ) → AreKeptBut (others ++ dying) m → (j : ℕ) (q : Object) → Changed held_once_less m k j q
-        → is_kept (update m k held_once_less) j q ≡ false → IsTrue (k == j) ⊎ ((k == j) ≡ false)
-        → IsTrue (list_any (λ x. x == j) (others ++ dying))
+        → is_kept (update m k held_once_less) j q ≡ false → IsTrue (k == j) ⊎ ((k == j) ≡ false) → IsTrue (list_any (λ x. x == j) (others ++ dying))
     by_key others old j q c unkept (inl here) =
         let same : q ≡ held_once_less c.before = c.is ∙ rw here refl in
         let not_last : is_last (Some c.before) ≡ false = ap is_last (sym c.there ∙ ap (get m) (sym (eqb-true k j here))) ∙ other in

@@ -91,10 +91,7 @@ pub record Stays (s s2 : ℕ) (packets packets2 : Bool) (o o2 : Object) : Type 0
 -- no signal comes on and no packet comes, and no wait
 pub stays_fewer : (s s2 : ℕ) (packets packets2 : Bool) (o o2 : Object) → IsFewer s2 s → (packets ≡ false → packets2 ≡ false)
     → ((test : Watch → Bool) → list_any test o.signals.waits ≡ false → list_any test o2.signals.waits ≡ false) → Stays s s2 packets packets2 o o2
-stays_fewer s s2 packets packets2 o o2 fewer quiet shorter = record {
-  holds = λ h. shorter (holds s2) (none_hold s s2 fewer o.signals.waits h);
-  gives = gives;
-}
+stays_fewer s s2 packets packets2 o o2 fewer quiet shorter = record { holds = λ h. shorter (holds s2) (none_hold s s2 fewer o.signals.waits h); gives = gives }
   where
     gives : (a : Awaited) → IsTrue o.asleep → is_given s packets a ≡ false → is_given s2 packets2 a ≡ false
     gives (awaits.SignalOf k mask) slept h = fewer mask h
@@ -135,8 +132,7 @@ module _ (marked marked2 : ℕ → Bool) (m m2 : Map Object) where
     pub fresh : o2.signals.waits ≡ []
 
   pub calm_followed : (next next2 : ℕ) (sleepers : List Sleeper) → next ≤ next2 → ((k : ℕ) → marked2 k ≡ false → marked k ≡ false)
-      → ((k : ℕ) (o2 : Object) → get m2 k ≡ Some o2 → Follows k o2 ⊎ IsNew next k o2)
-      → IsCalm marked m next sleepers → IsCalm marked2 m2 next2 sleepers
+      → ((k : ℕ) (o2 : Object) → get m2 k ≡ Some o2 → Follows k o2 ⊎ IsNew next k o2) → IsCalm marked m next sleepers → IsCalm marked2 m2 next2 sleepers
   calm_followed next next2 sleepers later less follows calm = record {
     waits = λ k o2 at unmarked. waits k o2 unmarked (follows k o2 at);
     resting = All-weaker (IsAtRest marked m next) (IsAtRest marked2 m2 next2) one sleepers calm.resting;
@@ -158,8 +154,7 @@ module _ (marked marked2 : ℕ → Bool) (m m2 : Map Object) where
 
           calm_by : (o2 : Object) → marked2 (koid_of s.awaited) ≡ false → Follows (koid_of s.awaited) o2 ⊎ IsNew next (koid_of s.awaited) o2
               → is_due m2 s.awaited ≡ false
-          calm_by o2 unmarked (inl f) =
-              (f.still unmarked).gives s.awaited (rest.known f.before f.there) (rest.calm (less (koid_of s.awaited) unmarked))
+          calm_by o2 unmarked (inl f) = (f.still unmarked).gives s.awaited (rest.known f.before f.there) (rest.calm (less (koid_of s.awaited) unmarked))
           calm_by o2 unmarked (inr new) = absurd (omega (arith, rest.given, new.later))
 
           by_object : (q : Option Object) → get m2 (koid_of s.awaited) ≡ q → marked2 (koid_of s.awaited) ≡ false → is_due m2 s.awaited ≡ false
@@ -196,13 +191,11 @@ module _ (f : Object → Object) where
       ]
 
   -- the signals of an object stay, of which the one at k is as much a child
-  pub implied_updated : (m : Map Object) (k j : ℕ) (b : Body)
-      → ((o : Object) → get m k ≡ Some o → is_job_below j (f o).body ≡ is_job_below j o.body)
+  pub implied_updated : (m : Map Object) (k j : ℕ) (b : Body) → ((o : Object) → get m k ≡ Some o → is_job_below j (f o).body ≡ is_job_below j o.body)
       → ((o : Object) → get m k ≡ Some o → is_process_below j (f o).body ≡ is_process_below j o.body) → implied (update m k f) j b ≡ implied m j b
   unfolding has_job_below has_process_below
   implied_updated m k j (body.Job own) jobs processes =
-      λ i. bit_or (signal_if TERMINATED own.killed)
-      (bit_or (signal_if NO_JOBS (not (below_updated (is_job_below j) m k jobs i)))
+      λ i. bit_or (signal_if TERMINATED own.killed) (bit_or (signal_if NO_JOBS (not (below_updated (is_job_below j) m k jobs i)))
       (signal_if NO_PROCESSES (not (below_updated (is_process_below j) m k processes i))))
   implied_updated m k j (body.ChannelEnd peer queue) jobs processes = rw (has_key-update m k f peer) refl
   implied_updated m k j (body.PairEnd peer) jobs processes = rw (has_key-update m k f peer) refl
@@ -216,8 +209,7 @@ module _ (f : Object → Object) where
 
     -- at other objects nothing comes to be due, and at this one by what f does
     pub updated_calm : (marked marked2 : ℕ → Bool) → ((j : ℕ) → IsTrue (marked j) → IsTrue (marked2 j)) → (m n : Map Object) (next k : ℕ)
-        (sleepers : List Sleeper)
-        → ((o : Object) → get m k ≡ Some o → marked2 k ≡ false
+        (sleepers : List Sleeper) → ((o : Object) → get m k ≡ Some o → marked2 k ≡ false
         → Stays (signals_in m k (Some o)) (signals_in m k (Some (f o))) (has_packet (Some o)) (has_packet (Some (f o))) o (f o))
         → n ≡ update m k f → IsCalm marked m next sleepers → IsCalm marked2 n next sleepers
     updated_calm marked marked2 more m n next k sleepers stays is calm = rw is

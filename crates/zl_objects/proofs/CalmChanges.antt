@@ -44,8 +44,7 @@ pub quiet_body : (f : Object → Object) → ((o : Object) → (f o).body ≡ o.
     → ((o : Object) (test : Watch → Bool) → list_any test o.signals.waits ≡ false → list_any test (f o).signals.waits ≡ false) → IsQuiet f
 quiet_body f same raised shorter m k o =
     stays_fewer (signals_in m k (Some o)) (signals_in m k (Some (f o))) (has_packet (Some o)) (has_packet (Some (f o))) o (f o)
-    (fewer_same _ _ (λ i. bit_or (raised o i) (implied m k (same o i))))
-    (λ h. ap (λ (b : Body). not (is_empty (packets_of b))) (same o) ∙ h) (shorter o)
+    (fewer_same _ _ (λ i. bit_or (raised o i) (implied m k (same o i)))) (λ h. ap (λ (b : Body). not (is_empty (packets_of b))) (same o) ∙ h) (shorter o)
 
 more_asleep : (o : Object) → (held_once_more o).asleep ≡ o.asleep
 more_asleep o =

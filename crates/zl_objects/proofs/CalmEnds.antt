@@ -75,6 +75,5 @@ module _ (f : Object → Object) (none : MakesNone f) (asleep : (o : Object) →
 pub spared_calm : {marked : ℕ → Bool} (kills : Bool) → kills ≡ false → (m n : Map Object) (k : ℕ) → n ≡ update m k (killed_if kills)
     → KeepsCalm marked m marked n
 spared_calm kills spared m n k is next sleepers =
-    quiet_calm (killed_if false) (keeps_body (killed_if false) (λ o h. h) (λ o. refl))
-    (quiet_body (killed_if false) (λ o. refl) (λ o. refl) (λ o test h. h))
+    quiet_calm (killed_if false) (keeps_body (killed_if false) (λ o h. h) (λ o. refl)) (quiet_body (killed_if false) (λ o. refl) (λ o. refl) (λ o test h. h))
     m n k (rw spared at is)

@@ -53,8 +53,7 @@ module _ (m : Map Object) (next : ℕ) (o : Object) (below : (k : ℕ) → IsTru
       (λ k q at. by_key k q (cases_Bool (next == k)) (sym (get-put m next o k) ∙ at) at))
     where
       still : (k : ℕ) (q : Object) → get m k ≡ Some q → get (put m next o) k ≡ Some q
-          → (is_watched q ≡ false) ⊎ ((p : ℕ) → peer_of q.body ≡ Some p → (next == p) ≡ false)
-          → Follows marked marked m (put m next o) k q
+          → (is_watched q ≡ false) ⊎ ((p : ℕ) → peer_of q.body ≡ Some p → (next == p) ≡ false) → Follows marked marked m (put m next o) k q
       still k q was at (inl unwatched) = record {
         before = q;
         there = was;

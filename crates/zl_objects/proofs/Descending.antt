@@ -207,8 +207,7 @@ module _ (m : Map Object) (task : ℕ) (sorted : IsTrue (is_sorted nat_cmp m)) w
       by_key : (j : ℕ) (o : Object) → IsTrue (k == j) ⊎ ((k == j) ≡ false)
           → (if k == j then killed_if (is_within m task k) (killed_if (done j) o) else killed_if (done j) o)
           ≡ killed_if (is_within m task j && is_among j (ks ++ k ∷ [])) o
-      by_key j o (inl here) =
-          rw (here, list_any-append (λ x. x == j) ks (k ∷ []), here, eqb-true k j here) (twice (is_within m task j) (is_among j ks) o)
+      by_key j o (inl here) = rw (here, list_any-append (λ x. x == j) ks (k ∷ []), here, eqb-true k j here) (twice (is_within m task j) (is_among j ks) o)
       by_key j o (inr apart) = rw (apart, list_any-append (λ x. x == j) ks (k ∷ []), apart) (once (is_within m task j) (is_among j ks) o)
 
   -- all that matter were looked at

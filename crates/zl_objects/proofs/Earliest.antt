@@ -98,8 +98,7 @@ module _ (next : ℕ → Option ℕ) where
     least = λ j order among. absurd (false≢true among);
   }
   found_from (k ∷ ks) first own =
-      one_more k ks first (earliest_from next (earlier first (next k) k) ks)
-      (found_from ks (earlier first (next k) k) (earlier_own k first (next k) refl own))
+      one_more k ks first (earliest_from next (earlier first (next k) k) ks) (found_from ks (earlier first (next k) k) (earlier_own k first (next k) refl own))
 
 -- ---- the earliest wait of all
 
@@ -162,8 +161,7 @@ module _ (m : Map Object) (list : List Listed) (rising : Rises list) (listed : A
       by_found (Some x) is (Some y) is2 =
           let here : find (is_due_at x.wait.object) list ≡ Some x =
           first_of_both is_due (λ z. z.wait.object == x.wait.object) list x is (eq-eqb x.wait.object x.wait.object refl) in
-          let low : e.0 ≤ x.order =
-          least x.wait.object x.order (at_object x.wait.object ∙ ap (option_map (λ (z : Listed). z.order)) here) in
+          let low : e.0 ≤ x.order = least x.wait.object x.order (at_object x.wait.object ∙ ap (option_map (λ (z : Listed). z.order)) here) in
           let order : e.0 ≡ y.order = same_Some e.0 y.order (there (Some y) is2) in
           let one = earliest_of_both is_due (λ z. z.wait.object == e.1) list x y rising is is2 (omega (arith, low, order)) in
           ap (λ (z : Listed). Some z.wait.object) one.0 ∙ ap (λ (k : ℕ). Some k) (eqb-true y.wait.object e.1 one.1)
@@ -202,8 +200,7 @@ module _ (m : Map Object) (list : List Listed) (rising : Rises list) (listed : A
 
         by_found : (r : Option (ℕ × ℕ)) → Outcome (order_at m) None koids r
             → option_map (λ (e : ℕ × ℕ). e.1) r ≡ option_map (λ (x : Listed). x.wait.object) (find is_due list)
-        by_found None out =
-            sym (ap (option_map (λ (x : Listed). x.wait.object)) (none_due (λ k. by_key k (order_at m k) refl (λ among. out.1 k among))))
+        by_found None out = sym (ap (option_map (λ (x : Listed). x.wait.object)) (none_due (λ k. by_key k (order_at m k) refl (λ among. out.1 k among))))
         by_found (Some e) out = sym (first_due e out.its_own least)
           where
             least : (k order : ℕ) → order_at m k ≡ Some order → e.0 ≤ order

@@ -89,8 +89,7 @@ module _ {children : Children} (m n : Map Object) (k : ℕ) (gone : Object) (ind
 
       signals_left : IsTrue (is_watched o) → marked3 j ≡ false → signals_at n j ≡ signals_at m j
       signals_left watched unmarked =
-          let before : implied n j o.body ≡ implied n j thin.before.body =
-          of_body (implied n j) (λ packets reserved. refl) o.body thin.before.body bodies in
+          let before : implied n j o.body ≡ implied n j thin.before.body = of_body (implied n j) (λ packets reserved. refl) o.body thin.before.body bodies in
           let raised : o.signals.raised ≡ thin.before.signals.raised = was.raised ∙ ap (λ (x : Object). x.signals.raised) old in
           rw (at, thin.there) (λ i. bit_or (raised i)
           ((before ∙ implied_left j thin.before.body (no_child watched unmarked) (no_peer watched unmarked)) i))

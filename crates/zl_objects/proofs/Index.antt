@@ -182,8 +182,7 @@ put_paired m next o ends paired k p x q at there is =
 
 module _ (m : Map Object) (next : ℕ) (peers : (k : ℕ) (q : Object) → get m k ≡ Some q → HasPeer m next q.body) where
   not_given : (k later : ℕ) (q : Object) → next ≤ later → get m k ≡ Some q → peer_of q.body ≡ Some later → ⊥
-  not_given k later q most at is =
-      false≢true (sym (given_apart m next later q.body most (peers k q at) later is) ∙ eq-eqb later later refl)
+  not_given k later q most at is = false≢true (sym (given_apart m next later q.body most (peers k q at) later is) ∙ eq-eqb later later refl)
 
   -- it is no end
   pub alone_paired : (b : Body) → is_end_body b ≡ false → IsPairedWith m next b
@@ -235,8 +234,7 @@ module _ {children : Children} where
 
   -- one of the objects is written
   pub updated_indexed : {m n : Map Object} (f : Object → Object) → ((o : Object) → above_of (f o).body ≡ above_of o.body)
-      → ((o : Object) → peer_of (f o).body ≡ peer_of o.body)
-      → (k : ℕ) → IsIndexed children m → n ≡ update m k f → IsIndexed children n
+      → ((o : Object) → peer_of (f o).body ≡ peer_of o.body) → (k : ℕ) → IsIndexed children m → n ≡ update m k f → IsIndexed children n
   updated_indexed {m} {n} f above peer k indexed is = rw is (record {
     in_order = is_sorted-update m k f ∙ indexed.in_order;
     listed = λ i j o at child. by_key i j o (changed f m k i o at) child;
@@ -344,8 +342,7 @@ module _ {children children2 : Children} where
       by_key k j q (inr apart) at child = more j k (indexed.listed k j q (rw apart at at) child)
 
   -- one object less, with what is listed for it
-  pub removed_indexed : {m n : Map Object} (k : ℕ) → IsIndexed children m
-      → OthersStayListed k children children2 → n ≡ without m k → IsIndexed children2 n
+  pub removed_indexed : {m n : Map Object} (k : ℕ) → IsIndexed children m → OthersStayListed k children children2 → n ≡ without m k → IsIndexed children2 n
   removed_indexed {m} {n} k indexed others is = rw is (record {
     in_order = sorted_without m k indexed.in_order;
     listed = λ i j o at child. let left = found_left m k i o at in others j i left.0 (indexed.listed i j o left.1 child);
@@ -353,8 +350,7 @@ module _ {children children2 : Children} where
   })
 
   -- and the waits there end
-  pub gone_indexed : {m n : Map Object} (k : ℕ) (o : Object) → IsIndexed children m
-      → OthersStayListed k children children2 → n ≡ ending_waits k o (without m k)
+  pub gone_indexed : {m n : Map Object} (k : ℕ) (o : Object) → IsIndexed children m → OthersStayListed k children children2 → n ≡ ending_waits k o (without m k)
       → IsIndexed children2 n
   gone_indexed {m} {n} k o indexed others is =
       rw is (left_indexed [] (removed_indexed k indexed others refl) (waits_end [] _ _ _ (ending_bare k o (without m k)) (none_left _)))

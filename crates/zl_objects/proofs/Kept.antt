@@ -36,8 +36,7 @@ module _ {waits : List Listed} where
     listed = updated_listed held_once_less (λ o. refl) waits m n k kept.listed is;
   }
 
-  pub slept_kept : (m n : Map Object) (next room k : ℕ) (d : List ℕ) → IsKept None m next d room waits → n ≡ update m k slept
-      → IsKept None n next d room waits
+  pub slept_kept : (m n : Map Object) (next room k : ℕ) (d : List ℕ) → IsKept None m next d room waits → n ≡ update m k slept → IsKept None n next d room waits
   slept_kept m n next room k d kept is = record {
     whole = slept_whole m n next room k d kept.whole is;
     listed = updated_listed slept (λ o. refl) waits m n k kept.listed is;
@@ -81,8 +80,7 @@ module _ {waits : List Listed} where
 
   pub port_or_same_kept : {A B : Type 0} (g : Port → Port) → ((p : Port) → (g p).reserved ≡ p.reserved)
       → (m n : Map Object) (next room k : ℕ) (d : List ℕ) (v w : Object) (r : Result A B) → IsKept None m next d room waits → OnOk r (w ≡ at_port g v)
-      → OnErr r (w ≡ v)
-      → Some v ≡ lookup (is_at (nat_cmp k)) m → n ≡ set_value (is_at (nat_cmp k)) m w → IsKept None n next d room waits
+      → OnErr r (w ≡ v) → Some v ≡ lookup (is_at (nat_cmp k)) m → n ≡ set_value (is_at (nat_cmp k)) m w → IsKept None n next d room waits
   port_or_same_kept g same m n next room k d v w r kept is other there set = record {
     whole = port_or_same_whole g same m n next room k d v w r kept.whole is other there set;
     listed = updated_or_listed (at_port g) (λ o. refl) waits m n k v w r kept.listed is other there set;
@@ -147,10 +145,7 @@ module _ {waits : List Listed} where
       none_out = none_first (λ x. is_taken (listed_value x)) waits (first_listed ∙ ap (option_map (listed_at k)) none)
 
       pub none_out_kept : IsKept None n next d room waits
-      none_out_kept = record {
-        whole = none_out_whole (λ x. test (wait_at k x)) m n next room k d kept.whole out none;
-        listed = rw none_out at both_out;
-      }
+      none_out_kept = record { whole = none_out_whole (λ x. test (wait_at k x)) m n next room k d kept.whole out none; listed = rw none_out at both_out }
 
       pub none_out_seen : map listed_value waits ≡ without_first is_taken (map listed_value waits)
       none_out_seen = sym (first_map listed_value is_taken waits ∙ ap (λ (xs : List Listed). map listed_value xs) none_out)
@@ -158,8 +153,7 @@ module _ {waits : List Listed} where
     module _ (rising : Rises waits) {x : Watch} (found : find (λ x. test (wait_at k x)) (waits_in (get m k)) ≡ Some x) {waits2 : List Listed}
         (less : waits2 ≡ filter (λ y. not (y.order == x.order)) waits) where
       one_out : waits2 ≡ without_first (λ y. is_taken (listed_value y)) waits
-      one_out =
-          less ∙ goes_by_order (λ y. is_taken (listed_value y)) waits (listed_at k x) rising (first_listed ∙ ap (option_map (listed_at k)) found)
+      one_out = less ∙ goes_by_order (λ y. is_taken (listed_value y)) waits (listed_at k x) rising (first_listed ∙ ap (option_map (listed_at k)) found)
 
       -- its place was given back, or holds its packet
       pub gone_kept : (g : Port → Port) → ((p : Port) → (g p).reserved ≡ p.reserved - 1) → (n2 : Map Object) → n2 ≡ update n x.port (at_port g)
@@ -190,9 +184,7 @@ unwatched_none test [] k none = refl
 unwatched_none test (e ∷ m) k none = elim (cases_Bool (e.0 == k)) as (λ _. update (e ∷ m) k (unwatched test) ≡ e ∷ m) [
   | inl here ↦ rw here (λ i. (
     sym (eqb-true e.0 k here) i,
-    record e.1 {
-      signals = record e.1.signals { waits = none_first test e.1.signals.waits (rw here at none) i };
-    },
+    record e.1 { signals = record e.1.signals { waits = none_first test e.1.signals.waits (rw here at none) i } },
   ) ∷ m)
   | inr apart ↦ rw apart (ap (λ (rest : Map Object). e ∷ rest) (unwatched_none test m k (rw apart at none)))
 ]

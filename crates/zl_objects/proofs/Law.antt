@@ -311,10 +311,7 @@ module _ (w : World) (ks : List ℕ) (m : Map Object) (exact : IsExact w ks m) w
     unfolding living_child is_process
     no_child =
         elim (cases_Bool (living_child (with_objects w m) (has_key (map object_entry m)) k))
-        as (λ _. living_child (with_objects w m) (has_key (map object_entry m)) k ≡ false) [
-          | inl some ↦ absurd (found some)
-          | inr not ↦ not
-        ]
+        as (λ _. living_child (with_objects w m) (has_key (map object_entry m)) k ≡ false) [ inl some ↦ absurd (found some) | inr not ↦ not ]
       where
         test : ℕ × ObjectValue → Bool
         test x = has_key (map object_entry m) x.0 && (is_job_below k x.1.body || (is_process_of k x.1.body && is_process w lives x.0))

@@ -27,8 +27,7 @@ module _ (f : Object → Object) (quiet : (o : Object) → (f o).signals.waits �
 
   -- or it is as it was
   pub updated_or_listed : {A B : Type 0} (waits : List Listed) (m n : Map Object) (k : ℕ) (v w : Object) (r : Result A B) → AreListed waits m
-      → OnOk r (w ≡ f v) → OnErr r (w ≡ v)
-      → Some v ≡ lookup (is_at (nat_cmp k)) m → n ≡ set_value (is_at (nat_cmp k)) m w → AreListed waits n
+      → OnOk r (w ≡ f v) → OnErr r (w ≡ v) → Some v ≡ lookup (is_at (nat_cmp k)) m → n ≡ set_value (is_at (nat_cmp k)) m w → AreListed waits n
   updated_or_listed waits m n k v w (Ok x) listed is other there set = updated_listed waits m n k listed (written m n k f v w there is set)
   updated_or_listed waits m n k v w (Err e) listed other is there set = rw (written_back m n k v w there is set) listed
 
@@ -113,8 +112,7 @@ module _ (k : ℕ) (test : Listed → Bool) (waits : List Listed) (m : Map Objec
 
       here_left : filter (λ x. x.wait.object == k) (without_first both waits) ≡ map (listed_at k) (waits_in (get (update m k f) k))
       here_left =
-          filter_first (λ x. x.wait.object == k) test waits
-          ∙ (ap (without_first test) (listed k)
+          filter_first (λ x. x.wait.object == k) test waits ∙ (ap (without_first test) (listed k)
           ∙ (first_map (listed_at k) test (waits_in (get m k)) ∙ rw (get-update m k f k, eq-eqb k k refl) (at_object (get m k))))
 
       by_key : IsTrue (k == j) ⊎ ((k == j) ≡ false) → filter (λ x. x.wait.object == j) (without_first both waits)
@@ -161,8 +159,7 @@ all_there waits m have listed =
 
 -- and they are all that is seen
 pub all_seen : (list : List Listed) (m : Map Object) → HavePlaces m → AreListed list m → filter (is_there m) (map listed_value list) ≡ map listed_value list
-all_seen list m have listed =
-    filter_map listed_value (is_there m) list ∙ ap (λ (xs : List Listed). map listed_value xs) (all_there list m have listed)
+all_seen list m have listed = filter_map listed_value (is_there m) list ∙ ap (λ (xs : List Listed). map listed_value xs) (all_there list m have listed)
 
 -- ---- what is seen of the list
 

@@ -39,8 +39,7 @@ none_first {X} p (x ∷ xs) none = first_out p x xs ∙ by_test (p x) none (λ r
     by_test true h later = absurd (none-some x (sym h))
     by_test false h later = ap (λ (ys : List X). x ∷ ys) (later h)
 
-pub any_taken : {X Y : Type 0} (test : Y → Bool) (f : X → Y) (n : ℕ) (xs : List X)
-    → list_any test (take n (map f xs)) ≡ list_any (λ x. test (f x)) (take n xs)
+pub any_taken : {X Y : Type 0} (test : Y → Bool) (f : X → Y) (n : ℕ) (xs : List X) → list_any test (take n (map f xs)) ≡ list_any (λ x. test (f x)) (take n xs)
 any_taken test f zero xs = refl
 any_taken test f (suc n) [] = refl
 any_taken test f (suc n) (x ∷ xs) = ap (λ b. test (f x) || b) (any_taken test f n xs)
@@ -105,10 +104,7 @@ module _ {X : Type 0} (p q : X → Bool) where
   ]
     where
       fails : IsTrue (q x) → p x ≡ false
-      fails passes = elim (cases_Bool (p x)) as (λ _. p x ≡ false) [
-        | inl both ↦ absurd (false≢true (sym (apart x both) ∙ passes))
-        | inr other ↦ other
-      ]
+      fails passes = elim (cases_Bool (p x)) as (λ _. p x ≡ false) [ inl both ↦ absurd (false≢true (sym (apart x both) ∙ passes)) | inr other ↦ other ]
 
   -- the first that passes q doesn't pass p
   pub filter_apart : ((x : X) → IsTrue (q x) → p x ≡ false) → (xs : List X) → filter p (without_first q xs) ≡ filter p xs

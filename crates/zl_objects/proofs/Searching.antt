@@ -62,8 +62,7 @@ module _ {X Y : Type 0} (key : X → ℕ) (value : X → Y) (k : ℕ) where
       grind (arith, nat_tests)
 
   pub searched : (xs : List X) (r : Result ℕ ℕ) → IsTrue (is_sorted nat_cmp (map keyed xs)) → IsSearchInRange r (length xs)
-      → IsBinarySearchResult (λ x. nat_cmp (key x) k) xs r
-      → result_ok r ≡ position is_sought xs
+      → IsBinarySearchResult (λ x. nat_cmp (key x) k) xs r → result_ok r ≡ position is_sought xs
   searched [] (Ok i) rising in_range equal = absurd (omega (arith, in_range))
   searched (x ∷ xs) (Ok i) rising in_range equal =
       let is : key (get_or (x ∷ xs) i x) ≡ k = ranked _ k _ (sym (equal x)) in

@@ -42,10 +42,7 @@ pub record HasLooked (test : Sleeper → Bool) (k : ℕ) (list : List Sleeper) (
 
 module _ (test : Sleeper → Bool) (k : ℕ) (list : List Sleeper) where
   pub look_begins : (place : ℕ) → IsPlace (λ j. j < k) (λ j. k ≤ j) list place → HasLooked test k list place
-  look_begins place starts = record {
-    passed = λ i d low here. absurd (omega (arith, here, starts.before i d low));
-    above = starts.behind;
-  }
+  look_begins place starts = record { passed = λ i d low here. absurd (omega (arith, here, starts.before i d low)); above = starts.behind }
 
   module _ (place : ℕ) (looked : HasLooked test k list place) where
     pub look_more : ((d : Sleeper) → koid_of (get_or list place d).awaited ≡ k → test (get_or list place d) ≡ false) → HasLooked test k list (place + 1)
@@ -176,8 +173,7 @@ put_calm {marked} {marked2} {next} more m n s list list2 crowded crowded2 b give
 
     known : (o : Object) → get n (koid_of s.awaited) ≡ Some o → IsTrue o.asleep
     known o at =
-        let c : Changed slept m (koid_of s.awaited) (koid_of s.awaited) o =
-        changed slept m (koid_of s.awaited) (koid_of s.awaited) o (rw is at at) in
+        let c : Changed slept m (koid_of s.awaited) (koid_of s.awaited) o = changed slept m (koid_of s.awaited) (koid_of s.awaited) o (rw is at at) in
         ap (λ (x : Object). x.asleep) c.is ∙ rw (eq-eqb (koid_of s.awaited) (koid_of s.awaited) refl) refl
 
     rests : IsAtRest marked2 n next s

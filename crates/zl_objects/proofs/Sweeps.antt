@@ -100,10 +100,7 @@ sweep_ends m m2 from sweeps none = record {
   cheap = omega (arith, sweeps.cheap);
   notes = λ others old.
       let kept : AreKeptBelow from m2 = sweeps.kept old.in_order in
-      record {
-        in_order = kept.in_order;
-        noted = λ k o at unkept. absurd (false≢true (sym (none k (kept.late k o at unkept)) ∙ rw at refl));
-      };
+      record { in_order = kept.in_order; noted = λ k o at unkept. absurd (false≢true (sym (none k (kept.late k o at unkept)) ∙ rw at refl)) };
   leads = sweeps.leads;
   places = sweeps.places;
   thins = sweeps.thins;

@@ -120,8 +120,7 @@ module _ (kills : ℕ → Bool) where
           let reserved : reserved_in (get (each f m) j) ≡ reserved_in (get m j) = seen_each reserved_in (λ i o. (stays i o).reserved) m j in
           omega (arith, waits_each m j, reserved, whole.places j)
 
-  each_kept : {waits : List Listed} (m : Map Object) (next room : ℕ) (d : List ℕ) → IsKept None m next d room waits
-      → IsKept None (each f m) next d room waits
+  each_kept : {waits : List Listed} (m : Map Object) (next room : ℕ) (d : List ℕ) → IsKept None m next d room waits → IsKept None (each f m) next d room waits
   each_kept {waits} m next room d kept = record {
     whole = each_whole m next room d kept.whole;
     listed = same_listed waits m (each f m) (seen_each waits_in (λ j o. same_waits j o) m) kept.listed;

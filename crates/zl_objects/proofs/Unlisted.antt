@@ -236,8 +236,7 @@ giving_listed (x ∷ xs) list m listed =
 
 pub giving_sorted : (xs : List Watch) (m : Map Object) → IsTrue (is_sorted nat_cmp m) → IsTrue (is_sorted nat_cmp (giving_back xs m))
 giving_sorted [] m in_order = in_order
-giving_sorted (x ∷ xs) m in_order =
-    giving_sorted xs (update m x.port (at_port without_place)) (is_sorted-update m x.port (at_port without_place) ∙ in_order)
+giving_sorted (x ∷ xs) m in_order = giving_sorted xs (update m x.port (at_port without_place)) (is_sorted-update m x.port (at_port without_place) ∙ in_order)
 
 -- those at the object that goes
 pub own_left : (k : ℕ) (list : List Listed) (m : Map Object) → AreListed list m → AreListed (without_own k list) (without m k)

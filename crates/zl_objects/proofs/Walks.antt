@@ -51,10 +51,7 @@ unfolding get
 behind_first e m j there = elim (e.0 == j) as (λ b. IsTrue (is_some (if b then Some e.1 else get m j))) [ true ↦ refl | false ↦ there ]
 
 behind_none : (e : ℕ × Object) (m : Map Object) (j : ℕ) → has_key (e ∷ m) j ≡ false → has_key m j ≡ false
-behind_none e m j none = elim (cases_Bool (has_key m j)) [
-  | inl there ↦ absurd (true≢false (sym (behind_first e m j there) ∙ none))
-  | inr gone ↦ gone
-]
+behind_none e m j none = elim (cases_Bool (has_key m j)) [ inl there ↦ absurd (true≢false (sym (behind_first e m j there) ∙ none)) | inr gone ↦ gone ]
 
 -- the first key is there
 first_there : (e : ℕ × Object) (m : Map Object) → has_key (e ∷ m) e.0 ≡ true

@@ -25,8 +25,7 @@ module _ (f : Object → Object) (kinds : (o : Object) → kind_in (f o).body �
   kind_updated = seen_updated (option_map (λ (o : Object). kind_in o.body)) f (λ o. ap Some (kinds o))
 
   still : (m : Map Object) (k next : ℕ) (b : Body) → HasPeer m next b → HasPeer (update m k f) next b
-  still m k next b =
-      peer_stays m (update m k f) next next b (λ p has. (has.0, λ there. kind_updated m k p ∙ has.1 (sym (has_key-update m k f p) ∙ there)))
+  still m k next b = peer_stays m (update m k f) next next b (λ p has. (has.0, λ there. kind_updated m k p ∙ has.1 (sym (has_key-update m k f p) ∙ there)))
 
   -- the places are those that the wait needs
   pub placed_whole : (x y : Option Watch) (m n : Map Object) (next room k : ℕ) (d : List ℕ) → IsWhole x m next d room → n ≡ update m k f
@@ -68,16 +67,14 @@ more_quiet o =
 
 -- one handle more
 pub more_whole : (m n : Map Object) (next room k : ℕ) (d : List ℕ) → IsWhole None m next d room → n ≡ update m k held_once_more → IsWhole None n next d room
-more_whole =
-    updated_whole held_once_more (λ o. ap kind_in (more_same o)) (λ o. ap peer_of (more_same o)) more_quiet (λ o. ap reserved_of (more_same o))
+more_whole = updated_whole held_once_more (λ o. ap kind_in (more_same o)) (λ o. ap peer_of (more_same o)) more_quiet (λ o. ap reserved_of (more_same o))
 
 -- one handle less
 pub less_whole : (m n : Map Object) (next room k : ℕ) (d : List ℕ) → IsWhole None m next d room → n ≡ update m k held_once_less → IsWhole None n next d room
 less_whole = updated_whole held_once_less (λ o. refl) (λ o. refl) (λ o. refl) (λ o. refl)
 
 -- a process may be blocked at it
-pub slept_whole : (m n : Map Object) (next room k : ℕ) (d : List ℕ) → IsWhole None m next d room → n ≡ update m k slept
-    → IsWhole None n next d room
+pub slept_whole : (m n : Map Object) (next room k : ℕ) (d : List ℕ) → IsWhole None m next d room → n ≡ update m k slept → IsWhole None n next d room
 slept_whole = updated_whole slept (λ o. refl) (λ o. refl) (λ o. refl) (λ o. refl)
 
 -- other signals
@@ -154,8 +151,7 @@ stays_same b = record { kind = refl; reserved = refl; peer = refl; above = refl 
 pub rebodied_whole : (g : Body → Body) → ((b : Body) → Stays b (g b)) → (m n : Map Object) (next room k : ℕ) (d : List ℕ) → IsWhole None m next d room
     → n ≡ update m k (λ o. record o { body = g o.body }) → IsWhole None n next d room
 rebodied_whole g same =
-    updated_whole (λ o. record o { body = g o.body }) (λ o. (same o.body).kind) (λ o. (same o.body).peer) (λ o. refl)
-    (λ o. (same o.body).reserved)
+    updated_whole (λ o. record o { body = g o.body }) (λ o. (same o.body).kind) (λ o. (same o.body).peer) (λ o. refl) (λ o. (same o.body).reserved)
 
 -- the end of a process
 pub stopped_same : (b : Body) → Stays b (stopped_body b)
@@ -198,10 +194,7 @@ later_peer m next o b below = peer_stays m (put m next o) next (next + 1) b late
 pub inserted_whole : (m n : Map Object) (next room room2 : ℕ) (d d2 : List ℕ) (o : Object) → IsWhole None m next d room → is_end_body o.body ≡ false
     → reserved_of o.body ≡ 0 → o.signals.waits ≡ [] → d2 ≡ d → length m + 1 ≤ room2 → n ≡ insert_entry nat_cmp m next o → IsWhole None n (next + 1) d2 room2
 inserted_whole m n next room room2 d d2 o whole alone empty fresh same more into = rw (into, inserted m next o, same) record {
-  below = λ k there. elim (put_key m next o k there) as (λ _. k < next + 1) [
-    | inl here ↦ omega (arith, here)
-    | inr old ↦ omega (arith, whole.below k old)
-  ];
+  below = λ k there. elim (put_key m next o k there) as (λ _. k < next + 1) [ inl here ↦ omega (arith, here) | inr old ↦ omega (arith, whole.below k old) ];
   peers = λ k q at. by_key k q (cases_Bool (next == k)) (sym (get-put m next o k) ∙ at);
   places = places_put m next o whole.below fresh empty whole.places;
   enough =
@@ -363,8 +356,7 @@ sent_or_same_whole m n next room k d message v w (Err e) whole other is there se
 -- other packets at a port, or the port as it was
 pub port_or_same_whole : {A B : Type 0} (g : Port → Port) → ((p : Port) → (g p).reserved ≡ p.reserved)
     → (m n : Map Object) (next room k : ℕ) (d : List ℕ) (v w : Object) (r : Result A B) → IsWhole None m next d room → OnOk r (w ≡ at_port g v)
-    → OnErr r (w ≡ v)
-    → Some v ≡ lookup (is_at (nat_cmp k)) m → n ≡ set_value (is_at (nat_cmp k)) m w → IsWhole None n next d room
+    → OnErr r (w ≡ v) → Some v ≡ lookup (is_at (nat_cmp k)) m → n ≡ set_value (is_at (nat_cmp k)) m w → IsWhole None n next d room
 port_or_same_whole g same m n next room k d v w (Ok y) whole is other there set =
     port_whole g same m n next room k d whole (written m n k (at_port g) v w there is set)
 port_or_same_whole g same m n next room k d v w (Err e) whole other is there set =

@@ -20,12 +20,8 @@ message k = record { bytes = []; handles = handle k ∷ [] }
 -- and 7 was made in the job 6 below it
 abbrev objects : Map Object
 objects =
-    (1, new_object (body.Job root_job) 0)
-    ∷ (3, new_object (body.ChannelEnd 2 (message 4 ∷ message 3 ∷ [])) 2)
-    ∷ (4, new_object body.Event 1)
-    ∷ (5, new_object (body.Process 1 life.Running) 1)
-    ∷ (6, new_object (body.Job (job_within 1 root_job)) 0)
-    ∷ (7, new_object (body.Process 6 life.Created) 1)
+    (1, new_object (body.Job root_job) 0) ∷ (3, new_object (body.ChannelEnd 2 (message 4 ∷ message 3 ∷ [])) 2) ∷ (4, new_object body.Event 1)
+    ∷ (5, new_object (body.Process 1 life.Running) 1) ∷ (6, new_object (body.Job (job_within 1 root_job)) 0) ∷ (7, new_object (body.Process 6 life.Created) 1)
     ∷ []
 
 abbrev process : Process

@@ -80,10 +80,7 @@ module _ (w : World) (p : ℕ) (process : Process) (destinations values : List �
   is_process-made_ready test same k =
       rw get-put (elim (cases_Bool (p == k))
       as (λ _. state_passes test (if p == k then Some (record process { state = Ready; cpu = answered process.cpu destinations values }) else get w.processes k)
-      ≡ state_passes test (get w.processes k)) [
-        | inl here ↦ rw (here, ← eqb-true p k here, there, same) refl
-        | inr apart ↦ rw apart refl
-      ])
+      ≡ state_passes test (get w.processes k)) [ inl here ↦ rw (here, ← eqb-true p k here, there, same) refl | inr apart ↦ rw apart refl ])
 
   made_ready-alike : lives process.state ≡ true → has_ended process.state ≡ false → IsAlike w (made_ready w p process destinations values)
   unfolding made_ready has_child_job has_child_process

@@ -84,8 +84,7 @@ module _ (entries : Map Entry) where
     where
       by_list : (vs : List ℕ) (made : ℕ) → made ≡ length entries + length vs
           → (if has_key entries (next_of vs made) then 1 else 0) + times (next_of vs made) vs ≡ (if nat_lt 0 (next_of vs made) && nat_le (next_of vs made) made then 1 else 0)
-          → made ≤ CAPACITY
-          → (0 < next_of vs made) × (next_of vs made ≤ CAPACITY)
+          → made ≤ CAPACITY → (0 < next_of vs made) × (next_of vs made ≤ CAPACITY)
       by_list [] made counted each low = (omega arith, omega (arith, counted, few))
       by_list (v ∷ vs) made counted each low = grind (arith, nat_tests, each, low)
 
@@ -117,10 +116,8 @@ module _ (entries : Map Entry) where
       few_at [] made counted low = omega (arith, counted, few)
       few_at (v ∷ vs) made counted low = low
 
-      each_at : (vs : List ℕ) (made v : ℕ)
-          → (if has_key entries v then 1 else 0) + times v vs ≡ (if nat_lt 0 v && nat_le v made then 1 else 0)
-          → get entries (next_of vs made) ≡ None
-          → (if has_key (put entries (next_of vs made) e) v then 1 else 0) + times v (taken_of vs made).freed
+      each_at : (vs : List ℕ) (made v : ℕ) → (if has_key entries v then 1 else 0) + times v vs ≡ (if nat_lt 0 v && nat_le v made then 1 else 0)
+          → get entries (next_of vs made) ≡ None → (if has_key (put entries (next_of vs made) e) v then 1 else 0) + times v (taken_of vs made).freed
           ≡ (if nat_lt 0 v && nat_le v (taken_of vs made).made then 1 else 0)
       each_at [] made v each unused = rw (get-put entries (made + 1) e v) (grind (arith, nat_tests, each, unused))
       each_at (w ∷ ws) made v each unused = rw (get-put entries w e v) (grind (arith, nat_tests, each, unused))
@@ -150,8 +147,7 @@ module _ (entries : Map Entry) where
       few_at [] made low = grind (arith, nat_tests, low)
       few_at (w ∷ ws) made low = low
 
-      each_at : (vs : List ℕ) (made u : ℕ)
-          → (if has_key entries u then 1 else 0) + times u vs ≡ (if nat_lt 0 u && nat_le u made then 1 else 0)
+      each_at : (vs : List ℕ) (made u : ℕ) → (if has_key entries u then 1 else 0) + times u vs ≡ (if nat_lt 0 u && nat_le u made then 1 else 0)
           → (if has_key (without entries v) u then 1 else 0) + times u (given_of v vs made).freed
           ≡ (if nat_lt 0 u && nat_le u (given_of v vs made).made then 1 else 0)
       each_at [] made u each = rw (get-without entries v u) (grind (arith, nat_tests, each, there))
@@ -168,12 +164,7 @@ module _ (entries : Map Entry) where
 -- where nothing was made, nothing is live or free
 pub free_new : IsFree [] new_free
 unfolding times deepest get
-free_new = record {
-  counted = refl;
-  each = λ v. none v;
-  normal = λ same. omega (arith, same);
-  few = omega arith;
-}
+free_new = record { counted = refl; each = λ v. none v; normal = λ same. omega (arith, same); few = omega arith }
   where
     none : (v : ℕ) → ◌≡◌ {A = ℕ} 0 (if nat_lt 0 v && nat_le v 0 then 1 else 0)
     none v = grind (arith, nat_tests)

@@ -37,13 +37,7 @@ pub record IsLater (u v : World) : Type 0 where
   pub waits : v.waits ≡ u.waits
 
 IsLater-same : (w : World) → IsLater w w
-IsLater-same w = record {
-  signals = λ k. refl;
-  blocked = λ q h. h;
-  processes = λ q h. refl;
-  objects = λ k h. refl;
-  waits = refl;
-}
+IsLater-same w = record { signals = λ k. refl; blocked = λ q h. h; processes = λ q h. refl; objects = λ k h. refl; waits = refl }
 
 IsLater-after : (u v w : World) → IsLater u v → IsLater v w → IsLater u w
 IsLater-after u v w a b = record {
@@ -191,10 +185,7 @@ no_packets _ = refl
 -- where no wait holds, none gives a packet and none goes
 fired-same : (w : World) → list_any (holds w) w.waits ≡ false → fired w ≡ w
 unfolding fired
-fired-same w none = λ i. record w {
-  objects = each_same _ unchanged w.objects i;
-  waits = filter_all (holds w) w.waits none i;
-}
+fired-same w none = λ i. record w { objects = each_same _ unchanged w.objects i; waits = filter_all (holds w) w.waits none i }
   where
     unchanged : (k : ℕ) (o : Object) → record o { body = body_with_packets (packets_for w k) o.body } ≡ o
     unchanged k o = λ i. record o {

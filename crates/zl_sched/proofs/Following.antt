@@ -7,10 +7,7 @@ use Rattle.zl_code.proofs.Running.{Acted, step_by, step_by-Step, Went, onto, ite
 abbrev pub follow_by : Library → World → List (ℕ × Choice) → Went
 follow_by lib w [] = Some ([], w)
 follow_by lib w (turn ∷ turns) = elim (is_process w is_ready turn.0) as (λ _. Went) [
-  | true ↦ elim (step_by lib w turn.0 turn.1) as (λ _. Went) [
-    | None ↦ None
-    | Some x ↦ onto x.0 (follow_by lib x.1 turns)
-  ]
+  | true ↦ elim (step_by lib w turn.0 turn.1) as (λ _. Went) [ None ↦ None | Some x ↦ onto x.0 (follow_by lib x.1 turns) ]
   | false ↦ follow_by lib w turns
 ]
 
@@ -53,8 +50,7 @@ follow_by-Follows lib w (turn ∷ turns) items w2 e =
 
 -- Only the items are compared, and never two worlds.
 pub Follows-by : (lib : Library) (w : World) (turns : List (ℕ × Choice)) (items : List TraceItem) → is_some (follow_by lib w turns) ≡ true
-    → items_of (follow_by lib w turns) ≡ items
-    → Follows lib w (pids_of turns) items (world_after w (follow_by lib w turns))
+    → items_of (follow_by lib w turns) ≡ items → Follows lib w (pids_of turns) items (world_after w (follow_by lib w turns))
 Follows-by lib w turns items there same = go (follow_by lib w turns) refl there same
   where
     go : (o : Went) → follow_by lib w turns ≡ o → is_some o ≡ true → items_of o ≡ items → Follows lib w (pids_of turns) items (world_after w o)

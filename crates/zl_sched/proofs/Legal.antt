@@ -38,10 +38,7 @@ follows_legal lib _ _ _ _ (skips w w2 p turns items not_ready rest) = follows_le
 follows_legal lib _ _ _ _ (goes w mid w2 p x turns items ready step rest) =
     let one : IsSingle p x = single_step lib w p x mid step in
     let later : IsLegalHistory lib mid items w2 = follows_legal lib mid turns items w2 rest in
-    record {
-      counts = rw (one.count) later.counts;
-      run = rw (one.one) (mid, rw (one.of) step, later.run);
-    }
+    record { counts = rw (one.count) later.counts; run = rw (one.one) (mid, rw (one.of) step, later.run) }
 
 pub ends_legal : (lib : Library) (w : World) (turns : List ℕ) (limit : ℕ) (items : List TraceItem) (w2 : World) (e : End) → EndsBy lib w turns limit items w2 e
     → IsLegalHistory lib w items w2

@@ -114,8 +114,7 @@ module _ (w after : World) (p : ℕ) (list out : List ℕ) (b : Before w after p
       (λ here. ap (λ y. is_process w is_ready y) (eqb-true q p here) ∙ b.ready) (listed_is q) (b.stay q))
     where
       by_tests : (now was same marked listed : Bool) → (same ≡ true → was ≡ true) → (same ≡ false → listed ≡ (was && not marked))
-          → (marked ≡ true → now ≡ true → was ≡ true)
-          → (now && (not ((now && not same) && listed) && (not marked && not same))) ≡ (now && not was)
+          → (marked ≡ true → now ≡ true → was ≡ true) → (now && (not ((now && not same) && listed) && (not marked && not same))) ≡ (now && not was)
       by_tests false was same marked listed itself others stay = refl
       by_tests true was true true listed itself others stay = rw (itself refl) refl
       by_tests true was true false listed itself others stay = rw (itself refl) refl
@@ -147,8 +146,7 @@ module _ (w after : World) (p : ℕ) (list out : List ℕ) (b : Before w after p
         times-filter (λ q. is_process after is_ready q && not (is_process w is_ready q)) k (pids_of after),
       ) refl
 
-  at_itself : (now : Bool)
-      → (if now && not true then times p list else 0) + ((if now && not true then times p
+  at_itself : (now : Bool) → (if now && not true then times p list else 0) + ((if now && not true then times p
       (pids_of after) else 0) + (if now then 1 else 0)) ≡ (if now && not false then 1 else 0)
   at_itself true = refl
   at_itself false = refl

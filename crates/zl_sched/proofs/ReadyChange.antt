@@ -38,10 +38,7 @@ come_from u w p after who same come k apart = ap (λ (b : Bool). is_process afte
 
 others_from : (u w : World) (p : ℕ) (after : World) (who : Option ℕ) → ((k : ℕ) → (k == p) ≡ false → is_process u is_ready k ≡ is_process w is_ready k)
     → OthersReady u p after who → OthersReady w p after who
-others_from u w p after who same o = record {
-  stay = λ k apart now. o.stay k apart (same k apart ∙ now);
-  come = come_from u w p after who same o.come;
-}
+others_from u w p after who same o = record { stay = λ k apart now. o.stay k apart (same k apart ∙ now); come = come_from u w p after who same o.come }
 
 pub changed_from : (u w : World) (p : ℕ) (after : World) (c : Change) → ((k : ℕ) → (k == p) ≡ false → is_process u is_ready k ≡ is_process w is_ready k)
     → IsChanged u p after c → IsChanged w p after c
@@ -158,8 +155,7 @@ module _ (lib : Library) (w : World) (p : ℕ) (x : TraceItem) (after : World) (
   -- ---- where it kills nobody
 
   module _ (others : leaves_others x ≡ true) where
-    same_before : (k : ℕ) → is_one child k ≡ false → (leaves_ready x ≡ false → (p == k) ≡ false)
-        → is_process step.settled is_ready k ≡ is_process w is_ready k
+    same_before : (k : ℕ) → is_one child k ≡ false → (leaves_ready x ≡ false → (p == k) ≡ false) → is_process step.settled is_ready k ≡ is_process w is_ready k
     same_before k other apart =
         left_then k _ _ w (settled_so k step.acted step.settled step.settles)
         (acted_so k (next_for lib step.process) refl step.acts others other apart) is_ready refl refl
@@ -205,13 +201,11 @@ module _ (lib : Library) (w : World) (p : ℕ) (x : TraceItem) (after : World) (
         stays k apart (inl here) now = subst (λ (j : ℕ). is_process after is_ready j ≡ true) (sym (eqb-true k q here)) now_ready
         stays k apart (inr other) now = stay_so k (same k apart other ∙ now)
 
-        comes : (k : ℕ) → (k == p) ≡ false → ((k == q) ≡ true) ⊎ ((k == q) ≡ false)
-            → (is_process after is_ready k && not (is_process w is_ready k)) ≡ (k == q)
+        comes : (k : ℕ) → (k == p) ≡ false → ((k == q) ≡ true) ⊎ ((k == q) ≡ false) → (is_process after is_ready k && not (is_process w is_ready k)) ≡ (k == q)
         comes k apart (inl here) =
             (λ i. is_process after is_ready (eqb-true k q here i) && not (is_process w is_ready (eqb-true k q here i)))
             ∙ (rw (now_ready, begins.1) refl ∙ sym here)
-        comes k apart (inr other) =
-            sym (ap (λ (b : Bool). is_process after is_ready k && not b) (same k apart other)) ∙ (come_so None left k ∙ sym other)
+        comes k apart (inr other) = sym (ap (λ (b : Bool). is_process after is_ready k && not b) (same k apart other)) ∙ (come_so None left k ∙ sym other)
 
   -- ---- where it kills
 

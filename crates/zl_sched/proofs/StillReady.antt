@@ -246,8 +246,7 @@ module _ (k : ℕ) where
     done_so s vs outcome.Blocked left apart = blocks w p s.destinations (awaited_by w p s.request) (apart refl)
 
     pub called_so : (s : Site) (choice : Choice) (r : Option Outcome) (o : Outcome) (w2 : World)
-        → (o ≡ ok_outcome w p s.request → spares w p k s.request ≡ true)
-        → (goes_on o ≡ false → (p == k) ≡ false) → CallBy lib w p s choice r o w2 → Left k w2 w
+        → (o ≡ ok_outcome w p s.request → spares w p k s.request ≡ true) → (goes_on o ≡ false → (p == k) ≡ false) → CallBy lib w p s choice r o w2 → Left k w2 w
     called_so s Refused None o w2 left apart c = absurd c
     called_so s Refused (Some r) o w2 left apart c = rw c.1 (refused_so s r (λ stops. apart (ap goes_on c.0 ∙ stops)))
     called_so s (Wants want) None o w2 left apart c = rw c.2 (refused_so s (outcome.Answered want) (λ stops. absurd (false≢true (sym stops))))
@@ -296,6 +295,5 @@ module _ (k : ℕ) (lib : Library) (w : World) (p : ℕ) (free : get w.processes
   pub killed_so : (s : Site) (task : ℕ) → s.request ≡ task_kill task → (o : Outcome) (w2 : World) → Calls lib w p s o w2 → Less k w2 w
   killed_so s task asked =
       call_ends lib w p s (λ o v. Less k v w) (λ o is. left_less k _ w (refused_so k lib w p free s o (λ stops. apart)))
-      (λ want may. left_less k _ w (refused_so k lib w p free s (outcome.Answered want) (λ stops. apart)))
-      (λ passes vs may. kill_done s vs
+      (λ want may. left_less k _ w (refused_so k lib w p free s (outcome.Answered want) (λ stops. apart))) (λ passes vs may. kill_done s vs
       (subst (λ r. Less k (with_effect lib w (remove_all w p (taken_handles r)) p r vs) w) (sym asked) (kill_effect task vs)) (ok_outcome w p s.request))

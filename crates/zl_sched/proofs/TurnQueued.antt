@@ -47,8 +47,7 @@ module _ (s : System) (whole : IsWhole s) (pid : ℕ) (unmarked : is_in pid s.ou
       (changed s.machine.programs s.machine.world (pid_of x) x m2.world sound taken.steps.step who tells))
 
   pub still_whole : (items2 : _) (ready2 : List ℕ) → items2 ≡ s.items ++ (x ∷ []) → length s.items < s.limit
-      → ready2 ≡ queued_after s.machine.world pid m2.world s.ready
-      → IsWhole (record s { machine = m2; items = items2; ready = ready2 })
+      → ready2 ≡ queued_after s.machine.world pid m2.world s.ready → IsWhole (record s { machine = m2; items = items2; ready = ready2 })
   still_whole items2 ready2 added room is = record {
     legal = legal_more s pid (record s { machine = m2; items = items2; ready = ready2 }) whole.legal
         (step_told s pid unmarked m2 items2 ready2 x taken added room is);

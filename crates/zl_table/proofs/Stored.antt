@@ -135,10 +135,7 @@ module _ (s : Slab Entry) (values : List ℕ) (made room : ℕ) (last : Option �
   pub key_above : (v key : ℕ) (e : Entry) → (0 < v → key + 1 ≡ v) → (v ≡ 0 → MOST_VALUE ≤ key) → slot_at s key ≡ Some e → (key + 1 ≡ v) × (key < MOST_VALUE)
   key_above v key e above zero_above there =
       let within = stored.keys key (rw there refl) in
-      elim (cases_lt 0 v) [
-        | inl some ↦ (above some, within)
-        | inr low ↦ absurd (omega (arith, zero_above (omega (arith, low)), within))
-      ]
+      elim (cases_lt 0 v) [ inl some ↦ (above some, within) | inr low ↦ absurd (omega (arith, zero_above (omega (arith, low)), within)) ]
 
   pub is_table : IsTable (handles_in s)
   is_table = record {
@@ -209,12 +206,7 @@ module _ (s : Slab Entry) (values : List ℕ) (made room : ℕ) (last : Option �
       without_it = rw (← is) (clear_slot s new key updates)
 
       pub removes : Removes (table_in s values made last) v e (table_in new new_values new_made (Some v))
-      removes = record {
-        was = at_key v key above zero_above ∙ there;
-        entries = without_it;
-        last = refl;
-        free = left;
-      }
+      removes = record { was = at_key v key above zero_above ∙ there; entries = without_it; last = refl; free = left }
 
       pub removed : new_made ≤ new_room → slab_len new + 1 ≡ slab_len s → IsStored new new_values new_made new_room (Some v)
       removed roomy shorter = stored_by new new_values new_made new_room (Some v)

@@ -145,12 +145,8 @@ with_default k = record { koid = k; rights = None }
 -- an event 2, a port 3, a channel with the ends 4 and 5, a job 6, and process 7
 abbrev statements : List Statement
 statements =
-    statement.Event
-    ∷ statement.Port
-    ∷ statement.Channel
-    ∷ statement.Job 1
-    ∷ statement.Process 1 0 0 (with_default 4 ∷ with_default 5 ∷ with_default 2 ∷ with_default 3 ∷ with_default 6 ∷ with_default 2 ∷ [])
-    ∷ []
+    statement.Event ∷ statement.Port ∷ statement.Channel ∷ statement.Job 1
+    ∷ statement.Process 1 0 0 (with_default 4 ∷ with_default 5 ∷ with_default 2 ∷ with_default 3 ∷ with_default 6 ∷ with_default 2 ∷ []) ∷ []
 
 -- the values of its handles
 abbrev values : List ℕ
@@ -161,13 +157,8 @@ entry koid k rights = record { koid = koid; kind = k; rights = rights_of rights 
 
 abbrev handles : List Entry
 handles =
-    entry 4 kind.Channel 61454
-    ∷ entry 5 kind.Channel 61454
-    ∷ entry 2 kind.Event 53251
-    ∷ entry 3 kind.Port 32783
-    ∷ entry 6 kind.Job 251407
-    ∷ entry 2 kind.Event 53251
-    ∷ []
+    entry 4 kind.Channel 61454 ∷ entry 5 kind.Channel 61454 ∷ entry 2 kind.Event 53251 ∷ entry 3 kind.Port 32783 ∷ entry 6 kind.Job 251407
+    ∷ entry 2 kind.Event 53251 ∷ []
 
 abbrev booted : World → List Statement → World
 booted w [] = w
@@ -190,11 +181,7 @@ boots = record {
 
 sized : IsSizedBoot library statements boot
 unfolding computing local_parts boot_effect
-sized = record {
-  images = (refl, (refl, tt));
-  words = (omega arith, (omega arith, (omega arith, (omega arith, (omega arith, tt)))));
-  boots = boots;
-}
+sized = record { images = (refl, (refl, tt)); words = (omega arith, (omega arith, (omega arith, (omega arith, (omega arith, tt))))); boots = boots }
 
 -- ---- the start
 
@@ -261,8 +248,7 @@ one = item.Run 7 1
 abbrev first_items : List TraceItem
 first_items =
     one ∷ ok name.Signal ∷ ok name.WaitOne ∷ ok name.WaitPoll ∷ ok name.WaitAsync ∷ ok name.PortWait ∷ ok name.PortQueue ∷ ok name.PortPoll
-    ∷ ok name.WaitAsync ∷ ok name.PortCancel
-    ∷ one ∷ ok name.SignalPeer ∷ ok name.ChanWrite ∷ ok name.ChanReadEtc ∷ ok name.Close
+    ∷ ok name.WaitAsync ∷ ok name.PortCancel ∷ one ∷ ok name.SignalPeer ∷ ok name.ChanWrite ∷ ok name.ChanReadEtc ∷ ok name.Close
     ∷ ok name.Dup ∷ ok name.Close ∷ ok name.ChanCreate ∷ ok name.Close ∷ ok name.Close ∷ ok name.EventCreate ∷ ok name.Close
     ∷ ok name.EventpairCreate ∷ ok name.Close ∷ ok name.Close ∷ ok name.PortCreate ∷ ok name.Close
     ∷ one ∷ ok name.JobSetPolicy ∷ ok name.JobCreate ∷ ok name.Close ∷ one ∷ ok name.ProcessCreate ∷ one ∷ []
@@ -270,12 +256,8 @@ first_items =
 -- and behind it: process 7 waits, the child does its three instructions, which are one item, and ends, and process 7 is awake and ends
 abbrev last_items : List TraceItem
 last_items =
-    item.Call 7 name.WaitOne outcome.Blocked
-    ∷ item.Run 15 3
-    ∷ item.Call 15 name.ProcessExit (outcome.Ended (pos 0))
-    ∷ ok name.TaskKill ∷ ok name.Close ∷ ok name.Replace
-    ∷ item.Call 7 name.ProcessExit (outcome.Ended (pos 0))
-    ∷ []
+    item.Call 7 name.WaitOne outcome.Blocked ∷ item.Run 15 3 ∷ item.Call 15 name.ProcessExit (outcome.Ended (pos 0))
+    ∷ ok name.TaskKill ∷ ok name.Close ∷ ok name.Replace ∷ item.Call 7 name.ProcessExit (outcome.Ended (pos 0)) ∷ []
 
 abbrev items : List TraceItem
 items = first_items ++ (ok name.ProcessStart ∷ last_items)
@@ -354,10 +336,7 @@ unfolding computing boot_effect
 all_go_well = covered_go_well library statements boot verified sized items
   where
     verified : IsVerified library
-    verified = record {
-      images = sized.images;
-      bounds = λ n i at. bound n i at;
-    }
+    verified = record { images = sized.images; bounds = λ n i at. bound n i at }
       where
         bound : (n : ℕ) (i : Image) → slice_get library n ≡ Some (record { checked = true; image = i }) → HasStepBound i
         bound zero i at = subst (λ (g : Program). HasStepBound g.image) (same_Some _ _ at)

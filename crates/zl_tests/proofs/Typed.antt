@@ -168,8 +168,7 @@ all_below_by steps m (n ∷ ns) h =
     (below_by (at steps n) m both.0, all_below_by steps m ns both.1)
 
 abbrev pub is_step_bound : Image → Found → Numbers → Bool
-is_step_bound i f steps =
-    all_from (λ n s. is_below (at steps n) (i.budget + 1)) 0 f && all_from (λ n m. are_below steps m (leads i (at f) n)) 0 steps
+is_step_bound i f steps = all_from (λ n s. is_below (at steps n) (i.budget + 1)) 0 f && all_from (λ n m. are_below steps m (leads i (at f) n)) 0 steps
 
 pub IsStepBound-by : (i : Image) (f : Found) (steps : Numbers) → IsTrue (is_step_bound i f steps) → IsStepBound i (at f) (at steps)
 IsStepBound-by i f steps h = record {

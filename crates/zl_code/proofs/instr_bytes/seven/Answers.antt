@@ -4,11 +4,7 @@ use Rattle.zl_code.proofs.ImageCells.{one_placed, all_placed}
 use Rattle.zl_code.proofs.instr_bytes.seven.Goals as goal
 
 pub loop-place-init : goal.loop-place-init
-loop-place-init c = record {
-  front = refl;
-  behind = ap (λ z. replicate 7 z) c.zero-registers.ensures;
-  size = refl;
-}
+loop-place-init c = record { front = refl; behind = ap (λ z. replicate 7 z) c.zero-registers.ensures; size = refl }
 
 pub loop-place-preserved : goal.loop-place-preserved
 loop-place-preserved c = record {

@@ -3,8 +3,7 @@ use Rattle.zl_objects.proofs.Descending.{no_levels, until_all}
 use Rattle.zl_objects.proofs.below.+list_below.Goals as goal
 
 pub returns-then-levels-eq0-clause-below : goal.returns-then-levels-eq0-clause-below
-returns-then-levels-eq0-clause-below t c =
-    λ done. rw (c.if-levels-eq0.true) (no_levels c.args.children.now c.args.job c.args.found.now.items)
+returns-then-levels-eq0-clause-below t c = λ done. rw (c.if-levels-eq0.true) (no_levels c.args.children.now c.args.job c.args.found.now.items)
 
 pub returns-clause-below : goal.returns-clause-below
 returns-clause-below t c =

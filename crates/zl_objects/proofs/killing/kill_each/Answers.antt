@@ -16,6 +16,5 @@ loop-koid-preserved c = record {
 
 pub returns-clause-killed : goal.returns-clause-killed
 returns-clause-killed c =
-    c.loop-koid.invariant.killed
-    ∙ ap (λ (ks : List ℕ). killed_among c.args.by_koid.now.entries c.args.task ks)
+    c.loop-koid.invariant.killed ∙ ap (λ (ks : List ℕ). killed_among c.args.by_koid.now.entries c.args.task ks)
     (take_all c.loop-koid.koid-index c.args.koids.now (omega (arith, c.loop-koid-test.false)))

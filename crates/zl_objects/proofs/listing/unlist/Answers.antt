@@ -34,8 +34,7 @@ returns-clause-entries c = left c.before.before
 
 pub returns-in_err-place-clause-wait : goal.returns-in_err-place-clause-wait
 returns-in_err-place-clause-wait c =
-    c.from_residual.ensures
-    ∙ sym (ap (option_map (λ (x : Listed). x.wait)) (none_found (λ x. x.order == c.args.order) c.args.waits.now.entries.items
+    c.from_residual.ensures ∙ sym (ap (option_map (λ (x : Listed). x.wait)) (none_found (λ x. x.order == c.args.order) c.args.waits.now.entries.items
     (sym c.place_of.ensures ∙ c.in_err-place.was {u = tt})))
 
 pub returns-in_err-place-clause-entries : goal.returns-in_err-place-clause-entries

@@ -2,8 +2,7 @@ use Rattle.zl_sched.proofs.Common.{[], append-nil, refl, sym, ◌∷◌}
 use Rattle.zl_sched.proofs.hand_in.end.Goals as goal
 
 pub returns-then-is_last : goal.returns-then-is_last
-returns-then-is_last c =
-    rw c.if-is_last.true (record { last = []; items_are = sym (append-nil c.args.items.now.items); ends = (refl, refl); changes = refl })
+returns-then-is_last c = rw c.if-is_last.true (record { last = []; items_are = sym (append-nil c.args.items.now.items); ends = (refl, refl); changes = refl })
 
 pub returns : goal.returns
 returns c =

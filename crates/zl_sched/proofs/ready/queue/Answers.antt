@@ -12,8 +12,7 @@ push_reserved-requires c =
 
 pub returns-in-Nobody-clause-items : goal.returns-in-Nobody-clause-items
 returns-in-Nobody-clause-items c =
-    c.push_reserved.ensures.items
-    ∙ (ap (λ (ys : List ℕ). ys ++ (c.args.pid ∷ [])) (sym (none_filtered c.args.pid c.args.ready.now.items c.requires.apart))
+    c.push_reserved.ensures.items ∙ (ap (λ (ys : List ℕ). ys ++ (c.args.pid ∷ [])) (sym (none_filtered c.args.pid c.args.ready.now.items c.requires.apart))
     ∙ sym (rw c.in-Nobody.is at c.requires.told))
 
 pub come-requires : goal.come-requires
@@ -26,6 +25,5 @@ come-requires c = record {
 
 pub returns-in-Few-clause-items : goal.returns-in-Few-clause-items
 returns-in-Few-clause-items c =
-    c.come.ensures.items
-    ∙ (ap (λ (ys : List ℕ). ys ++ (woken_but c.args.pid c.in-Few.woke ++ itself_ready c.args.world.now.world c.args.pid))
+    c.come.ensures.items ∙ (ap (λ (ys : List ℕ). ys ++ (woken_but c.args.pid c.in-Few.woke ++ itself_ready c.args.world.now.world c.args.pid))
     (sym (none_filtered c.args.pid c.args.ready.now.items c.requires.apart)) ∙ sym (rw c.in-Few.is at c.requires.told))

@@ -42,8 +42,7 @@ returns-clause-largest c = λ before.
 
 pub returns-clause-waits : goal.returns-clause-waits
 returns-clause-waits c =
-    rw (← ap (λ (r : Objects). r.objects) c.self.view_is, ← c.kill_task.ensures.killed)
-    (waits_left (left_by c.sweep_task.ensures.goes)
+    rw (← ap (λ (r : Objects). r.objects) c.self.view_is, ← c.kill_task.ensures.killed) (waits_left (left_by c.sweep_task.ensures.goes)
     (killed_kept _ _ c.self.inside.next_koid (vec_capacity c.self.inside.dying) c.args.task _ c.self.invariant.kept c.kill_task.ensures.killed).whole.places)
 
 pub returns-clause-places : goal.returns-clause-places

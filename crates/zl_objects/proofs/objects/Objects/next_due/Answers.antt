@@ -13,8 +13,7 @@ returns-in_default-clause-object c =
 
 pub returns-in_default-clause-before : goal.returns-in_default-clause-before
 returns-in_default-clause-before c =
-    rw (← c.self.view_is)
-    (before_seen c.self.inside.by_koid.entries c.self.inside.waits.entries.items c.first_holding.result c.first_holding.ensures.before)
+    rw (← c.self.view_is) (before_seen c.self.inside.by_koid.entries c.self.inside.waits.entries.items c.first_holding.result c.first_holding.ensures.before)
 
 pub returns-in_err-koid-clause-object : goal.returns-in_err-koid-clause-object
 returns-in_err-koid-clause-object c =

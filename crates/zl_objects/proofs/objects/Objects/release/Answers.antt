@@ -104,8 +104,7 @@ returns-then-is_empty-clause-releases c =
     rw (← c.self.view_is)
     (released (c.args.koid ∷ []) [] c.self.inside.by_koid.entries c.let_go.new.by_koid.entries c.self.inside.next_koid c.self.inside.waits.made _
     (map listed_value c.self.inside.waits.entries.items) _ c.self.inside.dying.items c.let_go.new.dying.items c.let_go.ensures.goes
-    c.self.invariant.kept.whole.none
-    (none_noted c))
+    c.self.invariant.kept.whole.none (none_noted c))
 
 pub returns-then-is_empty-clause-largest : goal.returns-then-is_empty-clause-largest
 returns-then-is_empty-clause-largest c = leaves_largest (c.args.koid ∷ []) [] c.args.self.now _ (returns-then-is_empty-clause-releases c)

@@ -6,9 +6,7 @@ use Rattle.zl_objects.proofs.Sleeping.{put_calm, put_order, put_others, put_ther
 use Rattle.zl_objects.proofs.objects.Objects.sleep.Goals as goal
 
 pub is_due-requires : goal.is_due-requires
-is_due-requires c =
-    kept_indexed slept keeps_slept (koid_of c.args.awaited) c.self.invariant.indexed
-    (rw c.koid-koid.ensures at c.note_slept.ensures.objects)
+is_due-requires c = kept_indexed slept keeps_slept (koid_of c.args.awaited) c.self.invariant.indexed (rw c.koid-koid.ensures at c.note_slept.ensures.objects)
 
 pub invariant_of-self-2 : goal.invariant_of-self-2
 invariant_of-self-2 c =

@@ -49,8 +49,7 @@ returns-clause-rest c =
 
 pub returns-in_err-wait-clause-listed : goal.returns-in_err-wait-clause-listed
 returns-in_err-wait-clause-listed c =
-    rw (← c.self.view_is)
-    (ap (option_map (wait_at c.args.koid)) (c.from_residual.ensures ∙ (sym (c.in_err-wait.was {u = tt}) ∙ c.take_key.ensures.earliest))
+    rw (← c.self.view_is) (ap (option_map (wait_at c.args.koid)) (c.from_residual.ensures ∙ (sym (c.in_err-wait.was {u = tt}) ∙ c.take_key.ensures.earliest))
     ∙ sym (found_seen c.args.koid (λ x. ((x.pid == c.args.pid) && (x.value == c.args.value)) && ((x.port == c.args.port) && (x.key == c.args.key)))
     c.self.inside.waits.entries.items c.self.inside.by_koid.entries c.self.invariant.kept.listed))
 

@@ -1,5 +1,6 @@
 -- What a call does by itself, in a file for each kind of object, and how it is answered.
 pub mod Answered
+pub mod Owned
 pub mod Refused
 pub mod DoneCalls
 pub mod AmongWaits

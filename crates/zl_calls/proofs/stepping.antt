@@ -1,6 +1,8 @@
 -- What a process does in the midst of all others, as a step of the definitions.
 pub mod FromConsistent
 pub mod Places
+pub mod OwnDone
+pub mod OwnCalls
 pub mod Performing
 pub mod Calling
 pub mod CallSteps
@@ -14,4 +16,5 @@ pub mod HandlesStay
 pub mod TakenKnown
 pub mod AllKnown
 pub mod SureCalls
+pub mod OwnStep
 pub mod Whole

@@ -6,6 +6,7 @@ pub mod CreateCalls
 pub mod CreateSteps
 pub mod StartParts
 pub mod StartCalls
+pub mod StartOwn
 pub mod StartSound
 pub mod StartSteps
 pub mod StartWorlds

@@ -7,6 +7,7 @@ pub mod Blocking
 pub mod Waking
 pub mod Woke
 pub mod Acting
+pub mod Own
 pub mod Making
 pub mod Makes
 pub mod Started

@@ -17,7 +17,7 @@ use Rattle.zl_objects.specs.Signals.{signals_at}
 use Rattle.zl_port.specs.Packets.{without_front}
 use Rattle.zl_calls.specs.declared.process.State.TheVariants as state
 use Rattle.zl_calls.specs.declared.process.Process.{Process}
-use Rattle.zl_calls.specs.World.{process_entry, state_value, world_blocked}
+use Rattle.zl_calls.specs.World.{held, process_entry, state_value, world_blocked}
 use Rattle.zl_calls.specs.Consistent.{IsConsistent}
 use Rattle.zl_calls.specs.Blocked.{AreBlocked, AreOrdered, AreSought}
 use Rattle.zl_calls.specs.Blocking.{awaited_by}
@@ -66,7 +66,7 @@ pub record WakesOne (pid : ℕ) (woke : Bool) (ps : List Process) (r : Objects) 
   pub world : (blocked : List ℕ) → world_blocked ps2 r2 (unless_woke woke pid blocked) ≡ woken (world_blocked ps r blocked) pid
   pub list : (blocked : List ℕ) → AreBlocked ps blocked → AreBlocked ps2 (unless_woke woke pid blocked)
   pub consistent : IsConsistent ps2 r2
-  pub count : length ps2 ≡ length ps
+  pub held : map held ps2 ≡ map held ps
 
 -- each blocked process stands at an instruction
 abbrev pub HaveCounters : List Process → Type 0
@@ -84,6 +84,6 @@ pub record Wakes (ps : List Process) (r : Objects) (blocked : List ℕ) (w : Wok
   pub list : AreBlocked ps2 blocked2
   pub sought : AreSought ps2 r2
   pub ordered : AreOrdered ps2 r2 blocked2
-  pub count : length ps2 ≡ length ps
+  pub held : map held ps2 ≡ map held ps
   pub none_due : All (λ s. is_due r2.objects s.awaited ≡ false) r2.sleepers
   pub told : HaveLeft blocked w blocked2

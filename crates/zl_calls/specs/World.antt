@@ -73,9 +73,17 @@ process_value p = record {
   last = p.table.last;
 }
 
--- the values of a process under its koid; one that is over counts as having a new table
+-- the values of a process; one that is over counts as having a new table
+abbrev pub free_of : Process → Free
+free_of p = if lives (state_value p.state) then p.table.free else new_free
+
+-- the same under its koid
 abbrev pub free_entry : Process → ℕ × Free
-free_entry p = (p.pid, if lives (state_value p.state) then p.table.free else new_free)
+free_entry p = (p.pid, free_of p)
+
+-- what stays of a process that wakes: whether it lives, and its values
+abbrev pub held : Process → ℕ × (Bool × Free)
+held p = (p.pid, (lives (state_value p.state), p.table.free))
 
 -- a process of the world under its koid
 abbrev pub process_entry : Process → ℕ × ProcessValue

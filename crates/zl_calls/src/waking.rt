@@ -20,7 +20,7 @@ ghost use Rattle.zl_calls.specs.Waking.{Wakes, WakesOne, WakesSleeper, HaveCount
 ghost use Rattle.zl_calls.specs.Woke.{HaveLeft, and_one};
 ghost use Rattle.zl_rights.specs.World.{Process as ProcessValue};
 ghost use Rattle.zl_calls.specs.Calling.{world_in};
-ghost use Rattle.zl_calls.specs.World.{packet_registers, process_entry, signal_registers, state_value};
+ghost use Rattle.zl_calls.specs.World.{held, packet_registers, process_entry, signal_registers, state_value};
 
 use crate::process::{Process, Registers, State};
 use crate::processes::Processes;
@@ -172,7 +172,7 @@ fn wake_each(processes: &mut Processes, objects: &mut Objects, blocked: &mut Vec
         ≡ fold woken (world_in processes.old objects.old blocked.old) blocked.old.items }
     ensures consistent { IsConsistent processes.new.list.items objects.new }
     ensures list { AreBlocked processes.new.list.items blocked.new.items }
-    ensures count { length processes.new.list.items ≡ length processes.old.list.items }
+    ensures held { map held processes.new.list.items ≡ map held processes.old.list.items }
     ensures capacity { vec_capacity blocked.new ≡ vec_capacity blocked.old }
     ensures asleep { KeepSleepers objects.old objects.new }
     ensures told { HaveLeft blocked.old.items result blocked.new.items }

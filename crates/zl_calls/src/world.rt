@@ -12,6 +12,7 @@ ghost use Rattle.zl_code.specs.Steps.{Runs};
 ghost use Rattle.zl_calls.specs.World.{call_for, state_in, is_ready_in, own_of};
 ghost use Rattle.zl_calls.specs.Makes.{IsReached};
 ghost use Rattle.zl_calls.specs.Steps.{Performs, StepsTo, local_item, takes_memory};
+ghost use Rattle.zl_calls.specs.Own.{StepsOwn};
 ghost use Rattle.zl_calls.specs.Turns.{Fits, IsTurn, advanced, steps_done};
 ghost use Rattle.zl_calls.specs.Started.{StepsAndTells};
 
@@ -207,12 +208,17 @@ impl World {
     /// object that the call touched, there are none. It tells the item of the step, and who became ready
     /// but for the process: whom it started by a `process_start` that is answered OK, and who woke.
     ///
+    /// It is the step that the lab itself does, so each new handle gets the value that comes next; but
+    /// not where memory was wanted.
+    ///
     /// Nothing where the process isn't ready, or there is none of this koid.
     /// Source: that of `perform` and `local`.
     // A run along a schedule calls it for each turn.
     #[inline(always)]
     pub fn step(&mut self, pid: Pid) -> Option<(TraceItem, Woke)>
         ensures ran { IfSome result (λ did. StepsAndTells self.old pid self.new did.0 did.1) }
+        ensures own { IfSome result (λ did. StepsOwn self.old.programs (own_of self.old) pid
+            did.0 (own_of self.new)) }
         ensures not_ready { IfNone result (is_ready_in self.old pid ≡ false) }
         ensures unchanged { IfNone result (self.new ≡ self.old) }
     {

@@ -120,8 +120,7 @@ module _ (lib : Library) (w : World) (job program word : ℕ) (gs : List Grant) 
   es = handles_given w.objects gs
 
   by_tests : (known may misfit denied filled : Bool) → (is_job w job && (is_some (slice_get lib program) && all_known w.objects gs)) ≡ known
-      → may_start_with gs es ≡ may
-      → are_misfits (slice_get lib program) es ≡ misfit → lacks_need w job (slice_get lib program) ≡ denied → full ≡ filled
+      → may_start_with gs es ≡ may → are_misfits (slice_get lib program) es ≡ misfit → lacks_need w job (slice_get lib program) ≡ denied → full ≡ filled
       → fault ≡ first_some (then_some (not known) cause.Unknown ∷ then_some (not may) cause.BadHandleList ∷ then_some misfit cause.BadHandleList
       ∷ then_some denied cause.NeedDenied ∷ then_some filled cause.Limit ∷ [])
   unfolding boot_fault

@@ -1,5 +1,6 @@
 -- One process more, with its handles: what was made goes on being what the definitions make.
-use Rattle.zl_calls.proofs.Common.{Agrees, All, All-append, All-cons, All-nil, AreNamed, Bool, Entry, Err, Found, Gives, Grant, Image, IsBare, IsMaking, IsNamed, IsSound, IsTable}
+use Rattle.zl_calls.proofs.Common.{Agrees, All, All-append, All-cons, All-nil, AreNamed, Bool, Entry, Err, Found, Gives, Grant, Image, IsBare, IsMaking}
+use Rattle.zl_calls.proofs.Common.{IsNamed, IsSound, IsTable}
 use Rattle.zl_calls.proofs.Common.{IsTrue, Library, List, Made, Makes, Message, None, Objects, Ok, OnOk, Option, ProcessBody, Program, Result, Some, World}
 use Rattle.zl_calls.proofs.Common.{any_found, ap, arith, body_in, boot_effect, boot_fault, can_start, cases_Bool, cond, count_by, count_by-le-length}
 use Rattle.zl_calls.proofs.Common.{counted_any, cpu_given, created_process, eqb-true, false, false≢true, get, handles_given, handles_to, has_ended, inl, inr}
@@ -141,8 +142,7 @@ cpu_stays (e ∷ es) (v ∷ vs) q = cpu_stays es vs (process_with v e q)
 
 given_is_started : (es : List Entry) (vs : List ℕ) (word : ℕ) (q : ProcessValue)
     → process_given es vs (started_with [] word q) ≡ started_with vs word (process_with_all es vs q)
-given_is_started es vs word q =
-    rw (started_with_all es vs [] word q, cpu_stays es vs q, word_before vs q.cpu.registers word) refl
+given_is_started es vs word q = rw (started_with_all es vs [] word q, cpu_stays es vs q, word_before vs q.cpu.registers word) refl
 
 -- ---- the statement
 

@@ -41,7 +41,8 @@ none_made lib made none root = record {
   fresh = rw none (All-nil IsFresh);
 }
 
-own_more : (lib : Library) (w : World) (ss : List Statement) (s : Statement) → own_made lib w (ss ++ s ∷ []) ≡ boot_effect lib (own_made lib w ss) s (own_given s)
+own_more : (lib : Library) (w : World) (ss : List Statement) (s : Statement) → own_made lib w (ss ++ s ∷ [])
+    ≡ boot_effect lib (own_made lib w ss) s (own_given s)
 unfolding own_made
 own_more lib w [] s = refl
 own_more lib w (t ∷ ss) s = own_more lib (boot_effect lib w t (own_given t)) ss s
@@ -52,8 +53,7 @@ small_more [] s all one = (one, tt)
 small_more (t ∷ ss) s (first, all) one = (first, small_more ss s all one)
 
 pub one_more : (lib : Library) (ss : List Statement) (i : ℕ) (d : Statement) (before after : Made) → i < length ss → IsMadeBy lib (take i ss) before
-    → Makes lib (get_or ss i d) before after
-    → word_of (get_or ss i d) ≤ most_word → IsMadeBy lib (take (i + 1) ss) after
+    → Makes lib (get_or ss i d) before after → word_of (get_or ss i d) ≤ most_word → IsMadeBy lib (take (i + 1) ss) after
 one_more lib ss i d before after lt so_far makes small = record {
   boots = rw (take_more ss i d lt)
       (boots_more lib origin (seen before) (seen after) (take i ss) (get_or ss i d) makes.values so_far.boots makes.no_fault makes.chosen makes.effect);
@@ -80,7 +80,8 @@ left_ready b (state.Blocked a rs) is = absurd cc
 left_ready b (state.Ended code) is = absurd cc
 
 fresh_left : (os : Map Object) (ps : List Process) → All IsFresh ps
-    → map free_entry (map (left_beside os) ps) ≡ map (λ e. (e.0, record { freed = []; made = length e.1.handles })) (map process_entry (map (left_beside os) ps))
+    → map free_entry (map (left_beside os) ps) ≡ map (λ e. (e.0, record { freed = []; made = length e.1.handles }))
+    (map process_entry (map (left_beside os) ps))
 fresh_left os [] all = refl
 fresh_left os (p ∷ ps) all =
     let first = All-head IsFresh p ps all in
@@ -89,8 +90,8 @@ fresh_left os (p ∷ ps) all =
     λ i. value i ∷ fresh_left os ps (All-tail IsFresh p ps all) i
 
 -- what was made is the own boot world, once what isn't held is gone
-pub own_booted : (lib : Library) (ss : List Statement) (i : ℕ) (made new : Made) → length ss ≤ i → IsMadeBy lib (take i ss) made → Settles (seen made) (seen new)
-    → new.processes.items ≡ map (left_beside new.objects.objects) made.processes.items → own_seen new ≡ own_boot lib ss
+pub own_booted : (lib : Library) (ss : List Statement) (i : ℕ) (made new : Made) → length ss ≤ i → IsMadeBy lib (take i ss) made
+    → Settles (seen made) (seen new) → new.processes.items ≡ map (left_beside new.objects.objects) made.processes.items → own_seen new ≡ own_boot lib ss
 own_booted lib ss i made new all so_far settles left = λ k. record { world = world k; free = (free ∙ ap fresh_free world) k }
   where
     world : seen new ≡ settled (own_made lib origin ss)
@@ -102,12 +103,10 @@ own_booted lib ss i made new all so_far settles left = λ k. record { world = wo
 -- ---- faults
 
 pub first_fault : (lib : Library) (ss : List Statement) (limit i : ℕ) (d : Statement) (made : Made) (c : BootCause) → i < length ss
-    → IsMadeBy lib (take i ss) made
-    → IsCauseOf (boot_fault lib (seen made) (get_or ss i d)) c → c ≢ cause.NoMemory → FirstFault lib ss limit i c
+    → IsMadeBy lib (take i ss) made → IsCauseOf (boot_fault lib (seen made) (get_or ss i d)) c → c ≢ cause.NoMemory → FirstFault lib ss limit i c
 first_fault lib ss limit i d made c lt so_far causes other = by_fault (boot_fault lib (seen made) (get_or ss i d)) refl causes
   where
-    by_fault : (o : Option BootCause) → boot_fault lib (seen made) (get_or ss i d) ≡ o → IsCauseOf o c
-        → FirstFault lib ss limit i c
+    by_fault : (o : Option BootCause) → boot_fault lib (seen made) (get_or ss i d) ≡ o → IsCauseOf o c → FirstFault lib ss limit i c
     by_fault None is wants = absurd (other wants)
     by_fault (Some found) is same =
         at_statement (seen made) i (get_or ss i d) c so_far.boots (slice_get-get_or ss i d lt) (is ∙ ap (λ (x : BootCause). Some x) (sym same))

@@ -7,7 +7,9 @@ use Rattle.zl_code.specs.declared.history.Outcome.TheVariants as outcome
 use Rattle.zl_calls.specs.declared.process.Process.{Process}
 use Rattle.zl_calls.proofs.calls.Answered.{IsWrite, same_world}
 use Rattle.zl_calls.proofs.calls.DoneCalls.{IsCalledAmong}
-use Rattle.zl_calls.proofs.calls.Refused.{TellsNothing, answers, refused_calls}
+use Rattle.zl_calls.proofs.calls.Owned.{own_refused}
+use Rattle.zl_calls.proofs.calls.Refused.{TellsNothing, answers, refused_calls, refused_own}
+use Rattle.zl_calls.proofs.Common.{remove_all, taken_handles, without_handles}
 use Rattle.zl_calls.proofs.processes.Written.{refusal_keeps}
 
 -- a process of the world, before and after its call
@@ -24,21 +26,29 @@ module _ {before after : List Process} {r : Objects} {p p2 : Process} (lib : Lib
   module _ {A : Type 0} (values : A → List ℕ) (Done : A → Handles → Objects → Type 0) (wants : Status → Bool) (o : Option Status)
       (refused : (blocked : List ℕ) → refusal lib (world_blocked before r blocked) p.pid s.request ≡ answers o)
       (wanting : (blocked : List ℕ) → wants ≡ may_want s.request)
-      (takes_none : (blocked : List ℕ) → taken (world_blocked before r blocked) p.pid s ≡ world_blocked before r blocked)
+      (takes_none : taken_handles s.request ≡ [])
       (nothing : (blocked : List ℕ) → TellsNothing lib (world_blocked before r blocked) p.pid s)
       (done : (x : A) → Done x p2.table r2 → Replies s status.Ok (values x) p p2
       → IsCalledAmong lib before after r r2 p.pid s (outcome.Answered status.Ok)) where
+    ends : (blocked : List ℕ) (answer : Status) → Does Done wants o p.table r (Err answer) p2.table r2 → Replies s answer [] p p2
+        → world_blocked after r2 blocked ≡ replied (taken (world_blocked before r blocked) p.pid s) p.pid s answer []
+    unfolding remove_all
+    ends blocked answer does replies =
+        ends_among blocked (world_value before r) r.waits r.waits_made answer [] (same_world write r r2 s answer [] does.same_table does.same_objects replies)
+        (ap (λ (x : Objects). x.waits) does.same_objects) (ap (λ (x : Objects). x.waits_made) does.same_objects)
+        ∙ ap (λ (hs : List ℕ). replied (remove_all (world_blocked before r blocked) p.pid hs) p.pid s answer []) (sym takes_none)
+
     by_answer : (answer : Result A Status) → Does Done wants o p.table r answer p2.table r2 → Replies s (status_of answer) (values_of values answer) p p2
         → IsCalledAmong lib before after r r2 p.pid s (outcome.Answered (status_of answer))
     by_answer (Ok x) does replies = done x does.ok replies
     by_answer (Err answer) does replies = record {
       calls =
           λ blocked. refused_calls lib (world_blocked before r blocked) p.pid s wants o answer (world_blocked after r2 blocked) (nothing blocked)
-          (refused blocked) (wanting blocked) does.err
-          (ends_among blocked (world_value before r) r.waits r.waits_made answer []
-          (same_world write r r2 s answer [] does.same_table does.same_objects replies)
-          (ap (λ (x : Objects). x.waits) does.same_objects) (ap (λ (x : Objects). x.waits_made) does.same_objects)
-          ∙ ap (λ (v : World). replied v p.pid s answer []) (sym (takes_none blocked)));
+          (refused blocked) (wanting blocked) does.err (ends blocked answer does replies);
+      own = λ living blocked. refused_own lib (world_blocked before r blocked) p.pid s before after r wants o answer (world_blocked after r2 blocked)
+          (nothing blocked)
+          (refused blocked) (wanting blocked) does.err (ends blocked answer does replies)
+          (own_refused write r living s.request (does.same_table ∙ ap (without_handles p.table) (sym takes_none)));
       keeps = subst (IsConsistent after) (sym does.same_objects)
           (refusal_keeps write r consistent does.same_table (ap (λ (q : Process). q.state) replies));
     }

@@ -6,6 +6,7 @@ use Rattle.zl_calls.proofs.Common.{update, values_of, world_value, ℕ, ⊤, ◌
 use Rattle.zl_code.proofs.Common.{Object as ObjectValue, Process as ProcessValue}
 use Rattle.zl_objects.specs.declared.object.Object.{Object}
 use Rattle.zl_rights.specs.declared.status.Status.TheVariants as status
+use Rattle.zl_calls.specs.World.{free_entry, free_of}
 use Rattle.zl_calls.specs.declared.process.Process.{Process}
 use Rattle.zl_calls.proofs.lists.Updates.{update_itself, update_seen, update_twice}
 
@@ -21,6 +22,8 @@ replies_none s p p2 (Err refused) replied = replied
 pub record IsWrite (before after : List Process) (p p2 : Process) : Type 0 where
   pub there : get (map process_entry before) p.pid ≡ Some (process_value p)
   pub writes : (f : ProcessValue → ProcessValue) → process_value p2 ≡ f (process_value p) → map process_entry after ≡ update (map process_entry before) p.pid f
+  pub free_there : get (map free_entry before) p.pid ≡ Some (free_of p)
+  pub frees : map free_entry after ≡ update (map free_entry before) p.pid (λ _. free_of p2)
 
 -- the process with this table
 abbrev with_table : Handles → ProcessValue → ProcessValue
@@ -55,8 +58,7 @@ module _ {before after : List Process} {p p2 : Process} (write : IsWrite before 
 
   -- the registers and the table change
   pub replied_with : (r2 : Objects) (s : Site) (answer : Status) (values : List ℕ) (f : ProcessValue → ProcessValue) (middle : World)
-      → middle.processes ≡ update (map process_entry before) p.pid f
-      → (record middle { processes = map process_entry after }) ≡ world_value after r2
+      → middle.processes ≡ update (map process_entry before) p.pid f → (record middle { processes = map process_entry after }) ≡ world_value after r2
       → process_value p2 ≡ record (f (process_value p)) { cpu = cpu_answered s answer values (f (process_value p)).cpu }
       → world_value after r2 ≡ replied middle p.pid s answer values
   unfolding replied on_process
@@ -67,24 +69,20 @@ module _ {before after : List Process} {p p2 : Process} (write : IsWrite before 
       ∙ ap (λ (ps : Map ProcessValue). update ps p.pid (λ q. record q { cpu = cpu_answered s answer values q.cpu })) (sym so_far)))
 
   -- a handle enters the table, after the effect on the objects
-  pub replied_inserted : (r2 : Objects) (s : Site) (made : ℕ) (entry : Entry) (middle : World)
-      → middle.processes ≡ map process_entry before
+  pub replied_inserted : (r2 : Objects) (s : Site) (made : ℕ) (entry : Entry) (middle : World) → middle.processes ≡ map process_entry before
       → (record middle { processes = map process_entry after }) ≡ world_value after r2
       → Inserts p.table entry made p2.table → Replies s status.Ok (made ∷ []) p p2
       → world_value after r2 ≡ replied (on_process middle p.pid (process_with made entry)) p.pid s status.Ok (made ∷ [])
   unfolding on_process
   replied_inserted r2 s made entry middle so_far rest inserts replies =
       replied_with r2 s status.Ok (made ∷ []) (process_with made entry) (on_process middle p.pid (process_with made entry))
-      (ap (λ (ps : Map ProcessValue). update ps p.pid (process_with made entry)) so_far) rest
-      (ap process_value replies
+      (ap (λ (ps : Map ProcessValue). update ps p.pid (process_with made entry)) so_far) rest (ap process_value replies
       ∙ (λ i. record (process_value p) { cpu = cpu_answered s status.Ok (made ∷ []) p.cpu; handles = inserts.entries i; last = inserts.last i }))
 
   -- two handles enter the table, one after the other
   pub replied_inserted_two : (r2 : Objects) (s : Site) (one two : ℕ) (first second : Entry) (between : Handles) (middle : World)
-      → middle.processes ≡ map process_entry before
-      → (record middle { processes = map process_entry after }) ≡ world_value after r2
-      → Inserts p.table first one between → Inserts between second two p2.table → Replies s status.Ok (one ∷ two ∷ []) p p2
-      → world_value after r2
+      → middle.processes ≡ map process_entry before → (record middle { processes = map process_entry after }) ≡ world_value after r2
+      → Inserts p.table first one between → Inserts between second two p2.table → Replies s status.Ok (one ∷ two ∷ []) p p2 → world_value after r2
       ≡ replied (on_process (on_process middle p.pid (process_with one first)) p.pid (process_with two second)) p.pid s status.Ok (one ∷ two ∷ [])
   unfolding on_process
   replied_inserted_two r2 s one two first second between middle so_far rest enters then_enters replies =
@@ -108,8 +106,7 @@ module _ {before after : List Process} {p p2 : Process} (write : IsWrite before 
   replied_changed r r2 k f g seen objects table s values replies =
       replied_with r2 s status.Ok values (λ q. q) (on_object (world_value before r) k g) (sym (update_itself (map process_entry before) p.pid))
       (ap (λ (os : Map ObjectValue). record (world_value before r) { processes = map process_entry after; objects = os })
-      (sym (update_seen object_value r.objects k f g seen)) ∙ ap (world_value after) (sym objects))
-      (ap process_value replies ∙ rw table refl)
+      (sym (update_seen object_value r.objects k f g seen)) ∙ ap (world_value after) (sym objects)) (ap process_value replies ∙ rw table refl)
 
   -- the registers alone change
   pub same_world : (r r2 : Objects) (s : Site) (answer : Status) (values : List ℕ) → p2.table ≡ p.table → r2 ≡ r → Replies s answer values p p2

@@ -11,6 +11,7 @@ use Rattle.zl_code.specs.declared.history.Outcome.TheVariants as outcome
 use Rattle.zl_objects.specs.declared.wait.Wait.{Wait}
 use Rattle.zl_calls.specs.declared.process.Process.{Process}
 use Rattle.zl_calls.proofs.calls.AmongWaits.{answered_among, ends_among}
+use Rattle.zl_calls.proofs.calls.Owned.{own_plain}
 use Rattle.zl_calls.proofs.calls.Answered.{IsWrite, same_world, table_is}
 use Rattle.zl_calls.proofs.objects.SameButWaits.{beside_consistent, beside_world, watching_beside}
 use Rattle.zl_calls.proofs.calls.DoneCalls.{IsCalledAmong}
@@ -51,8 +52,7 @@ module _ {before after : List Process} {r : Objects} {p p2 : Process} (lib : Lib
 
       answered_world : world_value after r2 ≡ replied (world_value before r) p.pid async_site status.Ok []
       answered_world =
-          ap (world_value after) registers.objects
-          ∙ (beside_world after r (watching r wait) (watching_beside r wait)
+          ap (world_value after) registers.objects ∙ (beside_world after r (watching r wait) (watching_beside r wait)
           ∙ same_world write r r async_site status.Ok [] registers.table refl replies)
 
       async_ends : (blocked : List ℕ) → world_blocked after r2 blocked
@@ -60,8 +60,7 @@ module _ {before after : List Process} {r : Objects} {p p2 : Process} (lib : Lib
           async_site status.Ok []
       async_ends blocked =
           ends_among lib r2 consistent write async_site blocked (world_value before r)
-          (r.waits ++ (wait_of (among blocked) p.pid h port key mask ∷ [])) (r.waits_made + 1) status.Ok []
-          answered_world
+          (r.waits ++ (wait_of (among blocked) p.pid h port key mask ∷ [])) (r.waits_made + 1) status.Ok [] answered_world
           (ap (λ (x : Objects). x.waits) registers.objects ∙ ap (λ (x : WaitValue). r.waits ++ (x ∷ [])) (sym (same_wait blocked)))
           (ap (λ (x : Objects). x.waits_made) registers.objects)
 
@@ -69,6 +68,8 @@ module _ {before after : List Process} {r : Objects} {p p2 : Process} (lib : Lib
       unfolding may_choose effect gives_ok new_handles insert_all remove_all taken_handles handle_operands
       async_done = record {
         calls = λ blocked. (Values [], rw (async_refused blocked, registers.unrefused) (rw write.there refl, refl, async_ends blocked));
+        own = λ living blocked. own_plain write r living async_site.request
+            (record { none = refl; chosen = refl; made = refl; own = refl }) [] [] refl registers.table;
         keeps = subst (IsConsistent after) (sym registers.objects) (beside_consistent after r (watching r wait) (watching_beside r wait)
             (refusal_keeps write r consistent registers.table (ap (λ (q : Process). q.state) replies)));
       }
@@ -81,6 +82,5 @@ module _ {before after : List Process} {r : Objects} {p p2 : Process} (lib : Lib
     async_called ready call next o acts =
         answered_among lib r2 consistent write async_site no_value (λ _. RegistersWait p.pid p.table r h port key mask) wants_memory
         (async_refusal p.table.entries r h port mask)
-        async_refused (λ blocked. refl) (λ blocked. refl) (λ blocked answer. refl) (λ done registers replies. async_done registers replies) o
-        acts.answer acts.acts
+        async_refused (λ blocked. refl) refl (λ blocked answer. refl) (λ done registers replies. async_done registers replies) o acts.answer acts.acts
         acts.replied acts.ends

@@ -10,6 +10,7 @@ use Rattle.zl_rights.specs.declared.status.Status.TheVariants as status
 use Rattle.zl_code.specs.declared.history.Outcome.TheVariants as outcome
 use Rattle.zl_calls.specs.declared.process.Process.{Process}
 use Rattle.zl_calls.proofs.calls.AmongWaits.{answered_among, ends_among}
+use Rattle.zl_calls.proofs.calls.Owned.{own_plain}
 use Rattle.zl_calls.proofs.calls.Answered.{IsWrite, table_is}
 use Rattle.zl_calls.proofs.objects.SameButWaits.{beside_consistent, beside_world}
 use Rattle.zl_calls.proofs.calls.DoneCalls.{IsCalledAmong}
@@ -60,14 +61,12 @@ module _ {before after : List Process} {r : Objects} {p p2 : Process} (lib : Lib
       emptied = changing_port r k without_them
 
       koid_same : (blocked : List ℕ) → object_at (among blocked) p.pid port ≡ k
-      koid_same blocked =
-          rw (table_is write r, is_found (get p.table.entries port) (kind.Port ∷ []) WRITE cancels.receiver cancels.is_receiver) refl
+      koid_same blocked = rw (table_is write r, is_found (get p.table.entries port) (kind.Port ∷ []) WRITE cancels.receiver cancels.is_receiver) refl
 
       source_same : (blocked : List ℕ) → source_at (among blocked) p.pid source ≡ from
       source_same blocked = rw (table_is write r, is_found (get p.table.entries source) [] 0 cancels.named cancels.is_named) refl
 
-      cancel_ends : (blocked : List ℕ)
-          → world_blocked after r2 blocked
+      cancel_ends : (blocked : List ℕ) → world_blocked after r2 blocked
           ≡ replied (on_object (without_keyed (among blocked) p.pid source (object_at (among blocked) p.pid port) key) (object_at (among blocked) p.pid port)
           (packets_cancelled (source_at (among blocked) p.pid source) key)) p.pid cancel_site status.Ok []
       unfolding on_object
@@ -82,6 +81,8 @@ module _ {before after : List Process} {r : Objects} {p p2 : Process} (lib : Lib
       unfolding may_choose effect gives_ok new_handles insert_all remove_all taken_handles handle_operands
       cancel_done = record {
         calls = λ blocked. (Values [], rw (cancel_refused blocked, cancels.unrefused) (rw write.there refl, refl, cancel_ends blocked));
+        own = λ living blocked. own_plain write r living cancel_site.request
+            (record { none = refl; chosen = refl; made = refl; own = refl }) [] [] refl cancels.table;
         keeps = beside_consistent after emptied r2 cancels.ends.beside
             (port_kept before after r emptied p p2 consistent write k without_them left (λ x. refl) refl cancels.table cancel_site [] replies);
       }
@@ -94,6 +95,5 @@ module _ {before after : List Process} {r : Objects} {p p2 : Process} (lib : Lib
     cancel_called ready call next o acts =
         answered_among lib r2 consistent write cancel_site no_value (λ _. Cancels p.pid p.table r port source key) wants_nothing
         (cancel_refusal p.table.entries r p.pid port source key)
-        cancel_refused (λ blocked. refl) (λ blocked. refl) (λ blocked answer. refl) (λ done cancels replies. cancel_done cancels replies) o
-        acts.answer acts.acts
+        cancel_refused (λ blocked. refl) refl (λ blocked answer. refl) (λ done cancels replies. cancel_done cancels replies) o acts.answer acts.acts
         acts.replied acts.ends

@@ -9,23 +9,28 @@ use Rattle.zl_calls.specs.declared.process.Process.{Process}
 use Rattle.zl_calls.proofs.calls.Answered.{IsWrite, same_world}
 use Rattle.zl_calls.proofs.stepping.FromConsistent.{IsFree, call_settles}
 use Rattle.zl_calls.proofs.processes.Departed.{settled_world}
-use Rattle.zl_calls.proofs.calls.Refused.{TellsNothing, answers, refused_calls}
+use Rattle.zl_calls.proofs.calls.Owned.{IsOwn, IsOwnCall, own_call_of, own_refused}
+use Rattle.zl_calls.proofs.calls.Refused.{TellsNothing, answers, refused_calls, refused_own}
+use Rattle.zl_calls.proofs.Common.{is_process, lives, remove_all, taken_handles, true, without_handles}
 use Rattle.zl_calls.proofs.objects.Settled.{still_settles}
 use Rattle.zl_calls.proofs.processes.Written.{refusal_keeps}
 
 -- where no policy has a say, the call is a step up to where processes wake; and the invariant holds afterwards
 pub record IsDone (lib : Library) (before after : List Process) (r r2 : Objects) (pid : ℕ) (call : CallName) (ends : Outcome) : Type 0 where
   pub step : IsFree lib (world_value before r) pid call → IsActed lib (world_value before r) pid (item.Call pid call ends) (settled_world after r2)
+  pub own : IsOwnCall lib before after r r2 pid call ends
   pub consistent : IsConsistent after r2
 
 -- the call in its world, and the invariant
 pub record IsCalled (lib : Library) (before after : List Process) (r r2 : Objects) (pid : ℕ) (s : Site) (ends : Outcome) : Type 0 where
   pub calls : Calls lib (world_value before r) pid s ends (world_value after r2)
+  pub own : is_process (world_value before r) lives pid ≡ true → IsOwn before after r pid s.request calls.0
   pub keeps : IsConsistent after r2
 
 -- the call beside registered waits and any blocked processes, and the invariant
 pub record IsCalledAmong (lib : Library) (before after : List Process) (r r2 : Objects) (pid : ℕ) (s : Site) (ends : Outcome) : Type 0 where
   pub calls : (blocked : List ℕ) → Calls lib (world_blocked before r blocked) pid s ends (world_blocked after r2 blocked)
+  pub own : is_process (world_value before r) lives pid ≡ true → (blocked : List ℕ) → IsOwn before after r pid s.request (calls blocked).0
   pub keeps : IsConsistent after r2
 
 -- a ready process at the call of the site that is answered so has done it
@@ -47,6 +52,7 @@ module _ {before after : List Process} {r : Objects} {p p2 : Process} (lib : Lib
   called_done ready call s next ends called = record {
     step = call_settles lib before after r r2 r2 p call s ends write.there ready next called.calls
         (still_settles after r2 called.keeps);
+    own = own_call_of lib before after r r2 p call s ends write.there next (world_value after r2) called.calls called.own (still_settles after r2 called.keeps);
     consistent = called.keeps;
   }
 
@@ -54,15 +60,25 @@ module _ {before after : List Process} {r : Objects} {p p2 : Process} (lib : Lib
   module _ {A : Type 0} (s : Site) (values : A → List ℕ) (Acts : Handles → Objects → Result A Status → Handles → Objects → Type 0)
       (Done : A → Handles → Objects → Type 0) (wants : Status → Bool) (o : Option Status)
       (does : (answer : Result A Status) → Acts p.table r answer p2.table r2 → Does Done wants o p.table r answer p2.table r2)
-      (refused : refusal lib w p.pid s.request ≡ answers o) (wanting : wants ≡ may_want s.request) (takes_none : taken w p.pid s ≡ w)
+      (refused : refusal lib w p.pid s.request ≡ answers o) (wanting : wants ≡ may_want s.request) (takes_none : taken_handles s.request ≡ [])
       (nothing : TellsNothing lib w p.pid s)
       (done : (x : A) → Done x p2.table r2 → Replies s status.Ok (values x) p p2 → IsCalled lib before after r r2 p.pid s (outcome.Answered status.Ok)) where
+    taken_none : taken w p.pid s ≡ w
+    unfolding remove_all
+    taken_none = ap (remove_all w p.pid) takes_none
+
+    ends : (answer : Status) → Does Done wants o p.table r (Err answer) p2.table r2 → Replies s answer [] p p2
+        → world_value after r2 ≡ replied (taken w p.pid s) p.pid s answer []
+    ends answer does replies =
+        same_world write r r2 s answer [] does.same_table does.same_objects replies ∙ ap (λ (v : World). replied v p.pid s answer []) (sym taken_none)
+
     by_answer : (answer : Result A Status) → Does Done wants o p.table r answer p2.table r2 → Replies s (status_of answer) (values_of values answer) p p2
         → IsCalled lib before after r r2 p.pid s (outcome.Answered (status_of answer))
     by_answer (Ok x) does replies = done x does.ok replies
     by_answer (Err answer) does replies = record {
-      calls = refused_calls lib w p.pid s wants o answer (world_value after r2) nothing refused wanting does.err
-          (same_world write r r2 s answer [] does.same_table does.same_objects replies ∙ ap (λ (v : World). replied v p.pid s answer []) (sym takes_none));
+      calls = refused_calls lib w p.pid s wants o answer (world_value after r2) nothing refused wanting does.err (ends answer does replies);
+      own = λ living. refused_own lib w p.pid s before after r wants o answer (world_value after r2) nothing refused wanting does.err (ends answer does replies)
+          (own_refused write r living s.request (does.same_table ∙ ap (without_handles p.table) (sym takes_none)));
       keeps = subst (IsConsistent after) (sym does.same_objects)
           (refusal_keeps write r consistent does.same_table (ap (λ (q : Process). q.state) replies));
     }

@@ -15,6 +15,7 @@ use Rattle.zl_objects.specs.declared.object.Object.{Object}
 use Rattle.zl_calls.specs.declared.process.Process.{Process}
 use Rattle.zl_calls.specs.calls.Event.{EventCreateDoes, SignalsObject, SignalDoes, signal_refusal, SignalsPeer, SignalPeerDoes}
 use Rattle.zl_calls.specs.calls.Event.{peer_signal_refusal, may_change_at}
+use Rattle.zl_calls.proofs.calls.Owned.{own_plain}
 use Rattle.zl_calls.proofs.calls.Answered.{IsWrite, replied_changed, table_is}
 use Rattle.zl_calls.proofs.calls.DoneCalls.{IsDoneBy, IsCalled, answered_done}
 use Rattle.zl_calls.proofs.calls.MakeCalls.{made_done, room_refused}
@@ -47,7 +48,8 @@ module _ {before after : List Process} {r : Objects} {p p2 : Process} (lib : Lib
     unfolding refusal handle_operands operands_fault listed has_room has_koids taken_handles remove_all gives_refused may_choose
         new_handles effect insert_all gives_ok
     event_done = made_done lib r2 consistent write create_site body.Event (λ not. not runs) refl refl
-        (rw (table_is write r) (room_refused p.table.entries r.next_koid)) refl refl (λ answer. refl)
+        (rw (table_is write r) (room_refused p.table.entries r.next_koid)) refl
+        (record { none = refl; chosen = refl; made = refl; own = refl }) (λ answer. refl)
         (λ made may ends. (rw (write.there, may) refl, refl, ends))
 
   -- ---- the signals of the object k change, and nothing else is told
@@ -77,8 +79,7 @@ module _ {before after : List Process} {r : Objects} {p p2 : Process} (lib : Lib
     unfolding handle_operands operands_fault listed
     refused_signal =
         any_looked_up lib w p.pid p.table.entries (table_is write r) signal_site.request (signal_refusal p.table.entries h clear set)
-        h SIGNAL refl (λ is. rw is refl)
-        (λ e at. rw (table_is write r, at, settable_here h e at)
+        h SIGNAL refl (λ is. rw is refl) (λ e at. rw (table_is write r, at, settable_here h e at)
         (two_tests (not (within SIGNAL (bits e.rights))) (not (may_change_at e.kind clear set)) status.AccessDenied status.InvalidArgs))
 
     signal_called : (done : ⊤) → SignalsObject p.table r h clear set p2.table r2 → Replies signal_site status.Ok [] p p2
@@ -94,6 +95,8 @@ module _ {before after : List Process} {r : Objects} {p p2 : Process} (lib : Lib
               ∙ rw (table_is write r, signals.was) refl,
         ),
       );
+      own = λ living. own_plain write r living signal_site.request
+          (record { none = refl; chosen = refl; made = refl; own = refl }) [] [] refl signals.table;
       keeps = signal_keeps signals.original.koid clear set signal_site signals.table signals.objects replies;
     }
 
@@ -132,6 +135,8 @@ module _ {before after : List Process} {r : Objects} {p p2 : Process} (lib : Lib
               ∙ ap (λ (k : ℕ). replied (on_object w k (object_changed clear set)) p.pid peer_site status.Ok []) (sym (peer_same signals)),
         ),
       );
+      own = λ living. own_plain write r living peer_site.request
+          (record { none = refl; chosen = refl; made = refl; own = refl }) [] [] refl signals.table;
       keeps = signal_keeps signals.peer clear set peer_site signals.table signals.objects replies;
     }
 

@@ -16,6 +16,11 @@ use Rattle.zl_rights.specs.declared.status.Status.TheVariants as status
 use Rattle.zl_code.specs.declared.history.Outcome.TheVariants as outcome
 use Rattle.zl_calls.specs.declared.process.Process.{Process}
 use Rattle.zl_calls.proofs.objects.SameButWaits.{beside_consistent, beside_world}
+use Rattle.zl_code.specs.Own.{taken_all}
+use Rattle.zl_rights.proofs.Values.{given_taken}
+use Rattle.zl_rights.specs.Values.{coming}
+use Rattle.zl_calls.proofs.Common.{is_process, length, lives}
+use Rattle.zl_calls.proofs.calls.Owned.{IsOwn, own_call_of, own_entered, own_plain, own_refused, own_written}
 use Rattle.zl_calls.proofs.calls.Answered.{IsWrite, table_is, replies_none, replied_with, may_get_inserted, replied_inserted}
 use Rattle.zl_calls.proofs.calls.DoneCalls.{IsDone, IsDoneBy, IsCalled, answered_done}
 use Rattle.zl_calls.proofs.stepping.FromConsistent.{call_settles, full_counted}
@@ -84,14 +89,23 @@ module _ {before after : List Process} {r : Objects} {p p2 : Process} (lib : Lib
     unfolding may_choose new_handles remove_all taken_handles handle_operands on_process
     close_chosen = rw (get-update w.processes p.pid (process_without h) p.pid, eq-eqb p.pid p.pid refl, write.there) refl
 
-    calls : Calls lib w p.pid close_site (outcome.Answered answer) (world_value after r)
-    unfolding effect gives_ok gives_refused new_handles insert_all
+    -- and what the lab itself would choose
+    calls : (c : Calls lib w p.pid close_site (outcome.Answered answer) (world_value after r))
+        × (is_process w lives p.pid ≡ true → IsOwn before after r p.pid (close h) c.0)
+    unfolding effect gives_ok gives_refused new_handles insert_all taken_handles handle_operands
     calls = by_test (has_key p.table.entries h || h == 0) (close_refused lib w p.pid h ∙ rw (table_is write r) refl) is_answer
       where
         by_test : (passes : Bool) → refusal lib w p.pid close_site.request ≡ (if passes then None else Some (outcome.Answered status.BadHandle))
-            → answer ≡ (if passes then status.Ok else status.BadHandle) → Calls lib w p.pid close_site (outcome.Answered answer) (world_value after r)
-        by_test true refused same = (Values [], rw refused (close_chosen, ap (λ (x : Status). outcome.Answered x) same, close_ends ∙ rw same refl))
-        by_test false refused same = (Refused, rw refused (ap (λ (x : Status). outcome.Answered x) same, close_ends ∙ rw same refl))
+            → answer ≡ (if passes then status.Ok else status.BadHandle) → (c : Calls lib w p.pid close_site (outcome.Answered answer) (world_value after r))
+            × (is_process w lives p.pid ≡ true → IsOwn before after r p.pid (close h) c.0)
+        by_test true refused same = (
+          (Values [], rw refused (close_chosen, ap (λ (x : Status). outcome.Answered x) same, close_ends ∙ rw same refl)),
+          λ living. own_entered write r living (close h) [] [] table refl refl refl,
+        )
+        by_test false refused same = (
+          (Refused, rw refused (ap (λ (x : Status). outcome.Answered x) same, close_ends ∙ rw same refl)),
+          λ living. own_refused write r living (close h) table,
+        )
 
     -- ---- the step
 
@@ -111,7 +125,8 @@ module _ {before after : List Process} {r : Objects} {p p2 : Process} (lib : Lib
     close_answered : (ready : state_value p.state ≡ Ready) (call : CallName) → next_for lib (process_value p) ≡ AtCall call close_site
         → IsDone lib before after r r2 p.pid call (outcome.Answered answer)
     close_answered ready call next = record {
-      step = call_settles lib before after r r r2 p call close_site (outcome.Answered answer) write.there ready next calls closes.settles;
+      step = call_settles lib before after r r r2 p call close_site (outcome.Answered answer) write.there ready next calls.0 closes.settles;
+      own = own_call_of lib before after r r2 p call close_site (outcome.Answered answer) write.there next (world_value after r) calls.0 calls.1 closes.settles;
       consistent = closes.consistent;
     }
 
@@ -131,8 +146,7 @@ module _ {before after : List Process} {r : Objects} {p p2 : Process} (lib : Lib
     unfolding handle_operands operands_fault listed has_room
     refused =
         any_looked_up lib w p.pid p.table.entries (table_is write r) dup_site.request (dup_refusal p.table.entries r.objects h asked)
-        h DUPLICATE refl (λ is. rw is refl)
-        (λ e at. rw (table_is write r, at, full_counted before r consistent p write.there h e at)
+        h DUPLICATE refl (λ is. rw is refl) (λ e at. rw (table_is write r, at, full_counted before r consistent p write.there h e at)
         (three_tests (not (within DUPLICATE (bits e.rights))) (is_empty (with_rights e (narrowed e.rights asked)))
         (not (has_room_in p.table.entries) || not (has_place (get r.objects e.koid))) status.AccessDenied status.InvalidArgs status.NoResources))
 
@@ -183,9 +197,12 @@ module _ {before after : List Process} {r : Objects} {p p2 : Process} (lib : Lib
       held = holding_sound before [] r made copy (sound_of before r consistent) refl room
 
       dup_called : IsCalled lib before after r r2 p.pid dup_site (outcome.Answered status.Ok)
-      unfolding gives_ok
+      unfolding gives_ok new_handles taken_handles handle_operands
       dup_called = record {
         calls = (Values (made ∷ []), rw (refused, dups.unrefused) (dup_chosen, refl, dup_ends));
+        own = λ living. own_plain write r living dup_site.request
+            (record { none = refl; chosen = ap (λ (es : List Entry). length es) copied; made = ap (λ (es : List Entry). length es) copied; own = refl })
+            (copy ∷ []) (made ∷ []) refl (record { between = p2.table; inserts = dups.inserts; rest = refl });
         keeps = rw dups.objects (one_entered write copy made dups.inserts (holding r k) held (holding_kept before [] r made copy consistent.kept)
             (ap (λ (q : Process). q.state) replies) dups.room (named_updated held_once_more held_body r.objects k copy copy_named));
       }
@@ -207,8 +224,7 @@ module _ {before after : List Process} {r : Objects} {p p2 : Process} (lib : Lib
     replace_refused : refusal lib w p.pid replace_site.request ≡ answers (replace_refusal p.table.entries h asked)
     unfolding handle_operands operands_fault listed
     replace_refused =
-        any_looked_up lib w p.pid p.table.entries (table_is write r) replace_site.request (replace_refusal p.table.entries h asked)
-        h 0 refl (λ is. rw is refl)
+        any_looked_up lib w p.pid p.table.entries (table_is write r) replace_site.request (replace_refusal p.table.entries h asked) h 0 refl (λ is. rw is refl)
         (λ e at. rw (table_is write r, at, no_bits (bits e.rights)) (one_test (is_empty (with_rights e (narrowed e.rights asked))) status.InvalidArgs))
 
     module _ (made : ℕ) (replaces : Replaces p.pid p.table r h asked made p2.table r2) (replies : Replies replace_site status.Ok (made ∷ []) p p2) where
@@ -295,9 +311,11 @@ module _ {before after : List Process} {r : Objects} {p p2 : Process} (lib : Lib
           ∙ omega arith
 
       replace_called : IsCalled lib before after r r2 p.pid replace_site (outcome.Answered status.Ok)
-      unfolding gives_ok
+      unfolding gives_ok new_handles taken_handles handle_operands taken_all coming
       replace_called = record {
         calls = (Values [], rw (replace_refused, replaces.unrefused) (replace_chosen, refl, replace_ends));
+        own = λ living. own_written write r living replace_site.request [] refl (rw (is_copy, replaces.was) (replaces.free
+            ∙ sym (given_taken h p.table.free (before_it.values h (rw replaces.was refl)).0))) refl;
         keeps = beside_consistent after r r2 replaces.ends.beside
             (entered write [] r (sound_of before r consistent) consistent.kept
             (same_agrees write (ap (λ (q : Process). q.state) replies) r) table_again still_named (λ j. omega (arith, recounted j)));
@@ -309,5 +327,4 @@ module _ {before after : List Process} {r : Objects} {p p2 : Process} (lib : Lib
     unfolding taken_handles handle_operands gives_refused
     replace_done ready call next o acts =
         taking_done lib r2 consistent write ready call replace_site next (h ∷ []) refl one_value (Replaces p.pid p.table r h asked) wants_nothing
-        (replace_refusal p.table.entries h asked)
-        replace_refused refl (λ answer. refl) replace_called o acts.answer acts.acts acts.replied acts.ends
+        (replace_refusal p.table.entries h asked) replace_refused refl (λ answer. refl) replace_called o acts.answer acts.acts acts.replied acts.ends

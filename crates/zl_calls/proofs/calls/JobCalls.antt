@@ -25,6 +25,7 @@ use Rattle.zl_calls.specs.declared.process.Process.{Process}
 use Rattle.zl_calls.specs.calls.Job.{CreatesJob, JobCreateDoes, JobSetPolicyDoes, SetsPolicy, fault_status, job_refusal, job_refusal_of}
 use Rattle.zl_calls.specs.calls.Job.{policy_refusal, policy_refusal_of}
 use Rattle.zl_calls.proofs.objects.Active.{states_shown}
+use Rattle.zl_calls.proofs.calls.Owned.{own_plain}
 use Rattle.zl_calls.proofs.calls.Answered.{IsWrite, replied_changed, table_is}
 use Rattle.zl_calls.proofs.calls.DoneCalls.{IsDoneBy, IsCalled, answered_done}
 use Rattle.zl_calls.proofs.objects.Grown.{job_grown}
@@ -180,8 +181,7 @@ module _ {before after : List Process} {r : Objects} {p p2 : Process} (lib : Lib
 
       body_is : body_value job ≡ body_within (object_at w p.pid j) (body_of w (object_at w p.pid j))
       body_is =
-          ap (λ (x : Job). body_value (body.Job x)) child_is
-          ∙ (ap (λ (o : Option BodyValue). body_within k o) (sym (body_seen before r k above))
+          ap (λ (x : Job). body_value (body.Job x)) child_is ∙ (ap (λ (o : Option BodyValue). body_within k o) (sym (body_seen before r k above))
           ∙ ap (λ (i : ℕ). body_within i (body_of w i)) (sym (named_koid j MANAGE_JOB creates.above creates.is_above)))
 
       -- the job above is there still
@@ -192,6 +192,7 @@ module _ {before after : List Process} {r : Objects} {p p2 : Process} (lib : Lib
       create_called : IsCalled lib before after r r2 p.pid create_site (outcome.Answered status.Ok)
       unfolding taken_handles handle_operands remove_all may_choose new_handles effect insert_all gives_ok
       create_called = made_called lib r2 consistent write create_site job (λ not. not runs) refl stands made creates.makes replies
+          (record { none = refl; chosen = refl; made = refl; own = refl })
           (refused_create ∙ ap answers creates.unrefused) (λ may ends. (rw (write.there, may) refl, refl, ends ∙ ap with_child body_is))
         where
           with_child : BodyValue → World
@@ -252,6 +253,8 @@ module _ {before after : List Process} {r : Objects} {p p2 : Process} (lib : Lib
                 set_site status.Ok []),
           ),
         );
+        own = λ living. own_plain write r living set_site.request
+            (record { none = refl; chosen = refl; made = refl; own = refl }) [] [] refl sets.table;
         keeps = rw sets.objects
             (refusal_keeps write (setting_policy r job_koid c a)
             (quiet_consistent (with_policy_set c a) (policy_keeps c a) (policy_quiet c a) before r job_koid (λ o. refl) consistent) sets.table

@@ -12,6 +12,7 @@ use Rattle.zl_objects.specs.declared.object.Body.TheVariants as body
 use Rattle.zl_objects.specs.declared.object.Object.{Object}
 use Rattle.zl_objects.specs.Objects.{queue_of}
 use Rattle.zl_calls.specs.declared.process.Process.{Process}
+use Rattle.zl_calls.proofs.calls.Owned.{IsMaker, own_plain}
 use Rattle.zl_calls.proofs.calls.Answered.{IsWrite, may_get_inserted, replied_inserted}
 use Rattle.zl_calls.proofs.calls.DoneCalls.{IsCalled, IsDoneBy, answered_done}
 use Rattle.zl_calls.proofs.objects.Grown.{IsGrowing, grown_one, grown_seen, growing_none, there_grown}
@@ -107,17 +108,20 @@ module _ {before after : List Process} {r : Objects} {p p2 : Process} (lib : Lib
           (grown_one before [] r (growing_none before r consistent) b quiet empty in_job room.koid refl (made, entry) refl)
           (there_grown before [] r (sound_of before r consistent) b 1))
 
-      pub made_called : refusal lib w p.pid s.request ≡ None → Makes made → IsCalled lib before after r r2 p.pid s (outcome.Answered status.Ok)
-      made_called unrefused by = record {
+      pub made_called : IsMaker w p.pid s.request 1 → refusal lib w p.pid s.request ≡ None → Makes made → IsCalled lib before after r r2 p.pid s
+          (outcome.Answered status.Ok)
+      made_called maker unrefused by = record {
         calls = (Values (made ∷ []), rw unrefused (by (may_get_inserted p p2 entry made makes.inserts) made_ends));
+        own = λ living. own_plain write r living s.request maker (entry ∷ []) (made ∷ []) refl
+            (record { between = p2.table; inserts = makes.inserts; rest = refl });
         keeps = made_keeps;
       }
 
     -- ---- the step of a call that nothing else refuses
 
-    pub made_done : refusal lib w p.pid s.request ≡ answers (room_refusal p.table.entries n) → wants_memory ≡ may_want s.request → taken w p.pid s ≡ w
+    pub made_done : refusal lib w p.pid s.request ≡ answers (room_refusal p.table.entries n) → wants_memory ≡ may_want s.request → IsMaker w p.pid s.request 1
         → TellsNothing lib w p.pid s → ((made : ℕ) → Makes made) → IsDoneBy lib before after r r2 p p2 s (told_by one_value) (MakeDoes b)
-    made_done refused wanting takes_none nothing by =
+    made_done refused wanting maker nothing by =
         answered_done lib r2 consistent write s one_value (MakeDoes b) (MakesOne b p.table r) wants_memory (room_refusal p.table.entries n)
-        (λ answer acts. acts) refused wanting takes_none nothing
-        (λ made makes replies. made_called made makes replies (refused ∙ ap answers makes.unrefused) (by made))
+        (λ answer acts. acts) refused wanting maker.none nothing
+        (λ made makes replies. made_called made makes replies maker (refused ∙ ap answers makes.unrefused) (by made))

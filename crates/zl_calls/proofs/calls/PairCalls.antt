@@ -15,6 +15,7 @@ use Rattle.zl_objects.specs.declared.object.Pair.TheVariants as pair
 use Rattle.zl_objects.specs.Objects.{end_to, kind_of_pair}
 use Rattle.zl_calls.specs.declared.process.Process.{Process}
 use Rattle.zl_calls.specs.calls.Event.{EventpairCreateDoes}
+use Rattle.zl_calls.proofs.calls.Owned.{IsMaker, own_plain}
 use Rattle.zl_calls.proofs.calls.Answered.{IsWrite, table_is, may_get_both, replied_inserted_two}
 use Rattle.zl_calls.proofs.objects.Counting.{count_put, counts_written}
 use Rattle.zl_calls.proofs.calls.DoneCalls.{IsDoneBy, IsCalled, answered_done}
@@ -72,8 +73,7 @@ module _ {before after : List Process} {r : Objects} {p p2 : Process} (lib : Lib
 
     -- the call does so much to its world, if the new handles may get the values
     abbrev Makes : ℕ × ℕ → Type 0
-    Makes made = IsTrue (may_get_all (process_value p) (first ∷ second ∷ []) (two_values made))
-        → world_value after r2
+    Makes made = IsTrue (may_get_all (process_value p) (first ∷ second ∷ []) (two_values made)) → world_value after r2
         ≡ replied (on_process (on_process with_ends p.pid (process_with made.0 first)) p.pid (process_with made.1 second)) p.pid s status.Ok (two_values made)
         → CallBy lib w p.pid s (Values (two_values made)) None (outcome.Answered status.Ok) (world_value after r2)
 
@@ -162,21 +162,27 @@ module _ {before after : List Process} {r : Objects} {p p2 : Process} (lib : Lib
             sum_by-cons (λ (h : ℕ × Entry). cond (h.1.koid == j) 1 0) (made.0, first) [],
           ))
 
-      pair_called : refusal lib w p.pid s.request ≡ None → Makes made → IsCalled lib before after r r2 p.pid s (outcome.Answered status.Ok)
-      pair_called unrefused by = record {
+      pair_called : IsMaker w p.pid s.request 2 → refusal lib w p.pid s.request ≡ None → Makes made → IsCalled lib before after r r2 p.pid s
+          (outcome.Answered status.Ok)
+      pair_called maker unrefused by = record {
         calls = (Values (two_values made), rw unrefused (by chosen both_ends));
+        own = λ living. own_plain write r living s.request maker (first ∷ second ∷ []) (two_values made) refl (record {
+          between = makes.between;
+          inserts = makes.first;
+          rest = record { between = p2.table; inserts = makes.second; rest = refl };
+        });
         keeps = rw makes.objects (entered write ((made.1, second) ∷ (made.0, first) ∷ []) with_both growing_both.sound growing_both.kept
             (same_agrees write (ap (λ (q : Process). q.state) replies) with_both) table named counts);
       }
 
     -- ---- the step
 
-    pair_done : refusal lib w p.pid s.request ≡ answers (pair_refusal p.table.entries n) → wants_memory ≡ may_want s.request → taken w p.pid s ≡ w
+    pair_done : refusal lib w p.pid s.request ≡ answers (pair_refusal p.table.entries n) → wants_memory ≡ may_want s.request → IsMaker w p.pid s.request 2
         → TellsNothing lib w p.pid s → ((made : ℕ × ℕ) → Makes made) → IsDoneBy lib before after r r2 p p2 s (told_by two_values) (MakePairDoes pair)
-    pair_done refused wanting takes_none nothing by =
+    pair_done refused wanting maker nothing by =
         answered_done lib r2 consistent write s two_values (MakePairDoes pair) (MakesPair pair p.table r) wants_memory (pair_refusal p.table.entries n)
-        (λ answer acts. acts) refused wanting takes_none nothing
-        (λ made makes replies. pair_called made makes replies (refused ∙ ap answers makes.unrefused) (by made))
+        (λ answer acts. acts) refused wanting maker.none nothing
+        (λ made makes replies. pair_called made makes replies maker (refused ∙ ap answers makes.unrefused) (by made))
 
   -- where nothing else refuses it
   pair_refused : first_some (answer_if (not (nat_le (length p.table.entries + 2) 1024 && nat_le (n + 2) (2 ^ 62))) status.NoResources ∷ [])
@@ -189,11 +195,13 @@ module _ {before after : List Process} {r : Objects} {p p2 : Process} (lib : Lib
     pub chan_create_done : IsDoneBy lib before after r r2 p p2 (site chan_create consumed destinations) (told_by two_values) ChanCreateDoes
     unfolding refusal handle_operands operands_fault listed has_room has_koids taken_handles remove_all gives_refused may_choose
         new_handles effect insert_all gives_ok
-    chan_create_done = pair_done (site chan_create consumed destinations) pair.Channel (rw (table_is write r) pair_refused) refl refl (λ answer. refl)
+    chan_create_done = pair_done (site chan_create consumed destinations) pair.Channel (rw (table_is write r) pair_refused) refl
+        (record { none = refl; chosen = refl; made = refl; own = refl }) (λ answer. refl)
         (λ made may ends. (rw (write.there, may) refl, refl, ends))
 
     pub eventpair_done : IsDoneBy lib before after r r2 p p2 (site eventpair_create consumed destinations) (told_by two_values) EventpairCreateDoes
     unfolding refusal handle_operands operands_fault listed has_room has_koids taken_handles remove_all gives_refused may_choose
         new_handles effect insert_all gives_ok
-    eventpair_done = pair_done (site eventpair_create consumed destinations) pair.Eventpair (rw (table_is write r) pair_refused) refl refl (λ answer. refl)
+    eventpair_done = pair_done (site eventpair_create consumed destinations) pair.Eventpair (rw (table_is write r) pair_refused) refl
+        (record { none = refl; chosen = refl; made = refl; own = refl }) (λ answer. refl)
         (λ made may ends. (rw (write.there, may) refl, refl, ends))

@@ -70,8 +70,7 @@ module _ {before after : List Process} {r : Objects} {p p2 : Process} (lib : Lib
     by_request (replace h asked) c d plain next acts = replace_done lib r2 consistent write h asked c d ready call next o acts
     by_request chan_create c d plain next acts = chan_create_done lib r2 consistent write c d ready call next o acts
     by_request (chan_write end bytes hs) c d plain next acts = write_done lib r2 consistent write end bytes hs c d ready call next o acts
-    by_request (chan_read_etc h address room places) c d plain next acts =
-        read_done lib r2 consistent write h address room places c d ready call next o acts
+    by_request (chan_read_etc h address room places) c d plain next acts = read_done lib r2 consistent write h address room places c d ready call next o acts
     by_request event_create c d plain next acts = event_done lib r2 consistent write c d ready call next o acts
     by_request (signal h clear set) c d plain next acts = signal_done lib r2 consistent write h clear set c d ready call next o acts
     by_request (signal_peer h clear set) c d plain next acts = peer_done lib r2 consistent write h clear set c d ready call next o acts

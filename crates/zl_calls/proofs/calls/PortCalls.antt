@@ -13,6 +13,7 @@ use Rattle.zl_code.specs.declared.history.Outcome.TheVariants as outcome
 use Rattle.zl_code.specs.Waiting.{packets_in as packets_seen}
 use Rattle.zl_calls.specs.declared.process.Process.{Process}
 use Rattle.zl_calls.specs.calls.Port.{PortCreateDoes, PortPollDoes, PortQueueDoes, PortWaitDoes, QueuesPacket, queue_refusal}
+use Rattle.zl_calls.proofs.calls.Owned.{own_plain}
 use Rattle.zl_calls.proofs.calls.Answered.{IsWrite, table_is}
 use Rattle.zl_calls.proofs.calls.DoneCalls.{IsDoneBy, IsCalled, answered_done}
 use Rattle.zl_calls.proofs.calls.MakeCalls.{made_done, room_refused}
@@ -35,7 +36,8 @@ module _ {before after : List Process} {r : Objects} {p p2 : Process} (lib : Lib
     unfolding refusal handle_operands operands_fault listed has_room has_koids taken_handles remove_all gives_refused may_choose
         new_handles effect insert_all gives_ok
     port_create_done = made_done lib r2 consistent write create_site new_port (λ not. not runs) refl refl
-        (rw (table_is write r) (room_refused p.table.entries r.next_koid)) refl refl (λ answer. refl)
+        (rw (table_is write r) (room_refused p.table.entries r.next_koid)) refl
+        (record { none = refl; chosen = refl; made = refl; own = refl }) (λ answer. refl)
         (λ made may ends. (rw (write.there, may) refl, refl, ends))
 
   -- ---- port_queue
@@ -49,8 +51,7 @@ module _ {before after : List Process} {r : Objects} {p p2 : Process} (lib : Lib
     refused_queue =
         first_looked_up lib w p.pid p.table.entries (table_is write r) queue_site.request
         (queue_refusal p.table.entries r.objects port) port (kind.Port ∷ []) WRITE None refl (λ s is. rw is refl)
-        (λ e is at. rw (is, table_is write r, at, packets_there r.objects e.koid)
-        (one_test (is_full (packets_in (get r.objects e.koid))) status.ShouldWait))
+        (λ e is at. rw (is, table_is write r, at, packets_there r.objects e.koid) (one_test (is_full (packets_in (get r.objects e.koid))) status.ShouldWait))
 
     queue_called : (done : ⊤) → QueuesPacket p.table r port key value p2.table r2 → Replies queue_site status.Ok [] p p2
         → IsCalled lib before after r r2 p.pid queue_site (outcome.Answered status.Ok)
@@ -69,6 +70,8 @@ module _ {before after : List Process} {r : Objects} {p p2 : Process} (lib : Lib
                   more queued.objects queued.table queue_site [] replies ∙ rw (table_is write r, there) refl,
             ),
           );
+          own = λ living. own_plain write r living queue_site.request
+              (record { none = refl; chosen = refl; made = refl; own = refl }) [] [] refl queued.table;
           keeps = port_kept before after r r2 p p2 consistent write queued.port.koid (λ x. with_packet x (user_packet key value))
               (λ xs. xs ++ user_packet key value ∷ []) more queued.objects queued.table queue_site [] replies;
         }
@@ -110,8 +113,7 @@ module _ {before after : List Process} {r : Objects} {p p2 : Process} (lib : Lib
       packet_ends : world_value after r2
           ≡ replied (on_object w (object_at w p.pid port) packet_taken) p.pid s status.Ok (first_values (packets_at w p.pid port))
       packet_ends =
-          rw (first_told, koid_same)
-          (port_ends before after r r2 p p2 consistent write k without_front (drop 1) (λ x. refl) takes_one.objects takes_one.table s
+          rw (first_told, koid_same) (port_ends before after r r2 p p2 consistent write k without_front (drop 1) (λ x. refl) takes_one.objects takes_one.table s
           (packet_values packet) replies)
 
       packet_kept : IsConsistent after r2
@@ -137,6 +139,8 @@ module _ {before after : List Process} {r : Objects} {p p2 : Process} (lib : Lib
     unfolding may_choose effect gives_ok new_handles insert_all remove_all taken_handles handle_operands
     poll_called packet takes_one replies = record {
       calls = (Values [], rw (refused_poll, takes_one.unrefused) (rw write.there refl, refl, packet_ends port packet takes_one poll_site replies));
+      own = λ living. own_plain write r living poll_site.request
+          (record { none = refl; chosen = refl; made = refl; own = refl }) [] [] refl takes_one.table;
       keeps = packet_kept port packet takes_one poll_site replies;
     }
 
@@ -167,6 +171,8 @@ module _ {before after : List Process} {r : Objects} {p p2 : Process} (lib : Lib
         rw (refused_wait, takes_one.is_port, none_awaited port packet takes_one)
             (rw write.there refl, refl, packet_ends port packet takes_one wait_site replies),
       );
+      own = λ living. own_plain write r living wait_site.request
+          (record { none = refl; chosen = refl; made = refl; own = refl }) [] [] refl takes_one.table;
       keeps = packet_kept port packet takes_one wait_site replies;
     }
 

@@ -12,10 +12,18 @@ use Rattle.zl_code.specs.Effects.{process_ended as process_over}
 use Rattle.zl_calls.specs.declared.process.Process.{Process}
 use Rattle.zl_calls.proofs.calls.Answered.{IsWrite}
 use Rattle.zl_calls.proofs.calls.DoneCalls.{IsDone}
+use Rattle.zl_calls.proofs.calls.Owned.{IsOwn, own_call_of, own_in}
+use Rattle.zl_calls.proofs.processes.Freed.{free_written}
+use Rattle.zl_calls.specs.World.{free_entry}
+use Rattle.zl_calls.proofs.Common.{false, false≢true, is_process, lives, map, sym, true, ◌==◌}
+use Rattle.zl_calls.specs.declared.process.State.{State}
+use Rattle.zl_code.specs.Own.{entered_free, free_at}
+use Rattle.zl_rights.specs.Values.{Free, coming}
 use Rattle.zl_calls.proofs.stepping.FromConsistent.{call_settles}
 use Rattle.zl_calls.proofs.processes.Departed.{settled_world}
 use Rattle.zl_calls.proofs.objects.Settled.{AreGone, IsSettled, drained, settled}
 use Rattle.zl_calls.proofs.processes.Stopped.{IsOver, named_stopped, over, seen_stopped, sound_stopped}
+use Rattle.zl_calls.specs.Own.{FreeBy}
 
 module _ {before after : List Process} {r : Objects} {p p2 : Process} (lib : Library) (r2 : Objects) (consistent : IsConsistent before r)
     (write : IsWrite before after p p2) (code : ℤ)
@@ -62,8 +70,7 @@ module _ {before after : List Process} {r : Objects} {p p2 : Process} (lib : Lib
 
   pub settles : Settles (world_value after r) (settled_world after r2)
   settles =
-      subst (λ (x : World). Settles x (settled_world after r2))
-      (seen_stopped write r consistent p.table.entries no_table none_left none_named) left.settles
+      subst (λ (x : World). Settles x (settled_world after r2)) (seen_stopped write r consistent p.table.entries no_table none_left none_named) left.settles
 
   -- the world after the effect alone
   pub ended_is : world_value after r ≡ ended w p.pid code
@@ -72,6 +79,10 @@ module _ {before after : List Process} {r : Objects} {p p2 : Process} (lib : Lib
     where
       is : process_value p2 ≡ process_over code (process_value p)
       is = ap process_value ends.process ∙ (rw ready (λ i. record (process_value p) { state = Ended code; handles = ends.no_handle i; last = ends.no_last i }))
+
+  -- others keep their values
+  pub over_free : (f : ℕ → Free) → ((k : ℕ) → (p.pid == k) ≡ false → f k ≡ free_at (map free_entry before) k) → FreeBy after f
+  over_free f others = free_written write f (λ goes. absurd (false≢true (sym (ap (λ (x : State). lives (state_value x)) ended_state) ∙ goes))) others
 
   -- ---- a stuck process
 
@@ -91,12 +102,18 @@ module _ {before after : List Process} {r : Objects} {p p2 : Process} (lib : Lib
     abbrev s : Site
     s = site (process_exit n) consumed destinations
 
-    exit_calls : Calls lib w p.pid s (outcome.Ended code) (world_value after r)
-    unfolding refusal handle_operands operands_fault listed may_choose new_handles insert_all remove_all taken_handles effect
-    exit_calls = (Values [], (rw write.there refl, ap outcome.Ended is, ended_is ∙ ap (ended w p.pid) is))
+    exit_calls : (c : Calls lib w p.pid s (outcome.Ended code) (world_value after r)) ×
+        (is_process w lives p.pid ≡ true → IsOwn before after r p.pid s.request c.0)
+    unfolding refusal handle_operands operands_fault listed may_choose new_handles insert_all remove_all taken_handles effect coming
+    exit_calls = (
+      (Values [], (rw write.there refl, ap outcome.Ended is, ended_is ∙ ap (ended w p.pid) is)),
+      λ living.
+          (refl, over_free (entered_free (own_in before r) p.pid s.request) (λ k apart. rw apart refl)),
+    )
 
     pub exit_done : (call : CallName) → next_for lib (process_value p) ≡ AtCall call s → IsDone lib before after r r2 p.pid call (outcome.Ended code)
     exit_done call next = record {
-      step = call_settles lib before after r r r2 p call s (outcome.Ended code) write.there ready next exit_calls settles;
+      step = call_settles lib before after r r r2 p call s (outcome.Ended code) write.there ready next exit_calls.0 settles;
+      own = own_call_of lib before after r r2 p call s (outcome.Ended code) write.there next (world_value after r) exit_calls.0 exit_calls.1 settles;
       consistent = ends_keeps;
     }

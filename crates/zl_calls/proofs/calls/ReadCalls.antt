@@ -21,6 +21,7 @@ use Rattle.zl_objects.specs.declared.object.Object.{Object}
 use Rattle.zl_objects.specs.Objects.{queue_of, received, received_body, receiving}
 use Rattle.zl_calls.specs.declared.process.Process.{Process}
 use Rattle.zl_calls.specs.declared.calls.reading.ReadFault.TheVariants as fault
+use Rattle.zl_calls.proofs.calls.Owned.{IsMaker, own_plain, own_refused}
 use Rattle.zl_calls.proofs.calls.Answered.{IsWrite, table_is, replied_with}
 use Rattle.zl_calls.proofs.objects.Counted.{queue_seen}
 use Rattle.zl_calls.proofs.objects.Counting.{counts_written, queues, naming, numbered, numbered_naming}
@@ -50,8 +51,7 @@ queue_there os k = rw (get_seen os k) (by_object (get os k))
     by_object None = refl
     by_object (Some o) = queue_seen o.body
 
-by_queue : (count room places k : ℕ) (there : Bool) (queue : List Message)
-    → first_some (answer_if (is_empty queue && not there) status.PeerClosed
+by_queue : (count room places k : ℕ) (there : Bool) (queue : List Message) → first_some (answer_if (is_empty queue && not there) status.PeerClosed
     ∷ answer_if (is_empty queue) status.ShouldWait
     ∷ answer_if (not (has_place_for room places queue)) status.BufferTooSmall
     ∷ answer_if (not (nat_le (count + length (first_handles queue)) 1024)) status.NoResources
@@ -102,15 +102,13 @@ front_known entries objects c room places = by_entry (get entries c) refl
         else (if not b then Err (fault.Refused status.NoResources) else Ok e.koid))
     by_tests e m ms there at false b fits = record { entry = e; there = there; sizes = rw at refl }
     by_tests e m ms there at true false fits = refl
-    by_tests e m ms there at true true fits =
-        record { entry = e; there = there; koid = refl; room = rw at (grind (arith, nat_tests, fits)) }
+    by_tests e m ms there at true true fits = record { entry = e; there = there; koid = refl; room = rw at (grind (arith, nat_tests, fits)) }
 
     by_messages : (e : Entry) → get entries c ≡ Some e → (peer : Bool) (queue : List Message) → queue_in (get objects e.koid) ≡ queue
         → IsKnown entries objects c (front_in (length entries) peer room places e.koid queue)
     by_messages e there true [] at = refl
     by_messages e there false [] at = refl
-    by_messages e there peer (m ∷ ms) at =
-        by_tests e m ms there at (has_place_for room places (m ∷ ms)) (nat_le (length entries + length m.handles) 1024) refl
+    by_messages e there peer (m ∷ ms) at = by_tests e m ms there at (has_place_for room places (m ∷ ms)) (nat_le (length entries + length m.handles) 1024) refl
 
     by_rights : (e : Entry) → get entries c ≡ Some e → (a b : Bool)
         → IsKnown entries objects c (front_by entries objects room places (if a then (if b then Ok e else Err status.AccessDenied) else Err status.WrongType))
@@ -300,6 +298,10 @@ module _ {before after : List Process} {r : Objects} {p p2 : Process} (lib : Lib
     unfolding may_choose new_handles remove_all taken_handles handle_operands
     read_chosen = rw (queue_same, write.there) (all_chosen p.table p2.table m.handles vs (process_value p) reads.inserts)
 
+    read_maker : IsMaker w p.pid (chan_read_etc c address room places) (length m.handles)
+    unfolding new_handles taken_handles handle_operands
+    read_maker = record { none = refl; chosen = rw queue_same refl; made = rw queue_same refl; own = refl }
+
     -- ---- the invariant
 
     abbrev changed : Objects
@@ -342,6 +344,7 @@ module _ {before after : List Process} {r : Objects} {p p2 : Process} (lib : Lib
     read_called : IsCalled lib before after r r2 p.pid read_site (outcome.Answered status.Ok)
     read_called = record {
       calls = (Values vs, rw (refused, reads.is_end) (read_chosen, refl, read_ends));
+      own = λ living. own_plain write r living read_site.request read_maker m.handles vs refl reads.inserts;
       keeps = rw (reads.objects, same_receiving r k) (entered write moved changed sound_changed (requeued_kept (drop 1) before r k consistent.kept)
           (same_agrees write state_same changed)
           (tables_entered p.table p2.table m.handles vs (consistent.tables p.pid (process_value p) write.there) fits reads.inserts)
@@ -381,14 +384,8 @@ module _ {before after : List Process} {r : Objects} {p p2 : Process} (lib : Lib
     wanting : (end : ℕ) → front_now ≡ Ok end → (s : Status) → IsFaultBy r.objects (Ok end) (fault.Refused s) → Called (fault.Refused s)
     unfolding taken_handles handle_operands remove_all
     wanting end is s want told = record {
-      calls = (
-        Wants s,
-        rw (refused, is) (
-          want,
-          refl,
-          told_world s [] told ∙ ap (replied w p.pid read_site s) (sym (want_tells s want)),
-        ),
-      );
+      calls = (Wants s, rw (refused, is) (want, refl, told_world s [] told ∙ ap (replied w p.pid read_site s) (sym (want_tells s want))));
+      own = λ living. tt;
       keeps = kept (ap (λ (q : Process). q.state) told);
     }
 
@@ -417,10 +414,12 @@ module _ {before after : List Process} {r : Objects} {p p2 : Process} (lib : Lib
               ∙ ap (replied w p.pid read_site status.BufferTooSmall) (sym (sizes_same bytes handles is)),
         ),
       );
+      own = λ living. own_refused write r living read_site.request table;
       keeps = kept (ap (λ (q : Process). q.state) told);
     }
     by_known (fault.Refused s) is told = record {
       calls = (Refused, rw (refused, is) (refl, told_world s [] told ∙ ap (replied w p.pid read_site s) (sym (nothing_told s is))));
+      own = λ living. own_refused write r living read_site.request table;
       keeps = kept (ap (λ (q : Process). q.state) told);
     }
 

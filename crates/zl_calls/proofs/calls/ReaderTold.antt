@@ -23,8 +23,7 @@ triple_none : (o : Option Entry) → triple_of o None ≡ 0 ∷ 0 ∷ 0 ∷ []
 triple_none None = refl
 triple_none (Some e) = refl
 
-turn : (n : ℕ) (es : List Entry) (vs : List ℕ) (q k : ℕ) (rs : List ℕ)
-    → written rs (triples_from q (suc k)) (told_of (drop n es) (drop n vs))
+turn : (n : ℕ) (es : List Entry) (vs : List ℕ) (q k : ℕ) (rs : List ℕ) → written rs (triples_from q (suc k)) (told_of (drop n es) (drop n vs))
     ≡ written (with_three rs q (triple_of (slice_get es n) (slice_get vs n))) (triples_from (q + 3) k) (told_of (drop (suc n) es) (drop (suc n) vs))
 turn zero [] vs q k rs = refl
 turn zero (e ∷ es) [] q k rs = rw (told_none es) refl
@@ -91,8 +90,7 @@ module _ (channel address room places : ℕ) (to : List ℕ) (p p2 : Process) (r
       → o ≡ outcome.Answered status.Ok
       → (stored : Cpu) (size : ℕ) (bs : List ℕ) (hs : List Entry) (vs : List ℕ) → stored ≡ record p.cpu { memory = overwritten p.cpu.memory address bs }
       → bs ≡ seen.message.bytes → size ≡ length seen.message.bytes → hs ≡ seen.message.handles → vs ≡ seen.values.items
-      → p2 ≡ record p { cpu = answered_so stored size hs vs; table = t2 }
-      → Acted (Some (site (chan_read_etc channel address room places) [] to)) p r o p2 r2
+      → p2 ≡ record p { cpu = answered_so stored size hs vs; table = t2 } → Acted (Some (site (chan_read_etc channel address room places) [] to)) p r o p2 r2
   parts_act t2 seen received o same does ends stored size bs hs vs stores these sized those valued is = record {
     answer = Ok seen;
     acts = subst (λ (t : Handles). ChanReadDoes channel room places p.table r (Ok seen) t r2) (sym (ap (λ (q : Process). q.table) is))

@@ -5,6 +5,11 @@ use Rattle.zl_calls.proofs.Common.{handle_operands, if◌then◌else◌, listed,
 use Rattle.zl_calls.proofs.Common.{result_err, subst, sym, table_of, taken, takes, then_some, true, wants_nothing, within, ℕ, ◌∙◌, ◌∷◌, ◌≡◌}
 use Rattle.zl_rights.specs.declared.status.Status.TheVariants as status
 use Rattle.zl_code.specs.declared.history.Outcome.TheVariants as outcome
+use Rattle.zl_calls.proofs.Common.{Objects}
+use Rattle.zl_code.specs.Own.{left_free}
+use Rattle.zl_calls.specs.declared.process.Process.{Process}
+use Rattle.zl_calls.proofs.calls.Owned.{IsOwn, own_in}
+use Rattle.zl_calls.specs.Own.{FreeBy}
 pub use Rattle.zl_calls.proofs.policy.Plain.{answers}
 
 -- ---- handles that were looked up
@@ -69,8 +74,7 @@ module _ (lib : Library) (w : World) (p : ℕ) (entries : Map Entry) (table : ta
 
   -- one handle of any kind, where just its rights are tested
   pub any_looked_up : (h needed : ℕ) → operands_fault entries [] (handle_operands request) ≡ option_or (result_err (looked_up entries h [] needed)) None
-      → (get entries h ≡ None → o ≡ Some status.BadHandle)
-      → ((e : Entry) → get entries h ≡ Some e
+      → (get entries h ≡ None → o ≡ Some status.BadHandle) → ((e : Entry) → get entries h ≡ Some e
       → first_some (answer_if (not (within needed (bits e.rights))) status.AccessDenied ∷ listed lib w p request) ≡ answers o)
       → refusal lib w p request ≡ answers o
   unfolding refusal
@@ -90,14 +94,12 @@ module _ (lib : Library) (w : World) (p : ℕ) (entries : Map Entry) (table : ta
       by_entry (Some e) is = by_rights (within needed (bits e.rights)) e ∙ found e is
 
   -- a call that looks two handles up
-  pub both_looked_up : (h j : ℕ) (kinds others : List Kind) (needed more : ℕ)
-      → operands_fault entries [] (handle_operands request)
+  pub both_looked_up : (h j : ℕ) (kinds others : List Kind) (needed more : ℕ) → operands_fault entries [] (handle_operands request)
       ≡ option_or (result_err (looked_up entries h kinds needed)) (option_or (result_err (looked_up entries j others more)) None)
       → ((s : Status) → looked_up entries h kinds needed ≡ Err s → o ≡ Some s)
       → ((e : Entry) (s : Status) → looked_up entries h kinds needed ≡ Ok e → looked_up entries j others more ≡ Err s → o ≡ Some s)
       → ((e f : Entry) → looked_up entries h kinds needed ≡ Ok e → looked_up entries j others more ≡ Ok f → get entries h ≡ Some e → get entries j ≡ Some f
-      → first_some (listed lib w p request) ≡ answers o)
-      → refusal lib w p request ≡ answers o
+      → first_some (listed lib w p request) ≡ answers o) → refusal lib w p request ≡ answers o
   both_looked_up h j kinds others needed more fault fails also found =
       first_looked_up h kinds needed (option_or (result_err (looked_up entries j others more)) None) fault fails
       (λ e is there. behind_look_up (looked_up entries j others more) None o (listed lib w p request) (λ s. also e s is)
@@ -115,9 +117,18 @@ module _ (lib : Library) (w : World) (p : ℕ) (s : Site) where
   TellsNothing = (answer : Status) → gives_refused w p s.request answer ≡ []
 
   pub refused_calls : (wants : Status → Bool) (o : Option Status) (answer : Status) (w2 : World) → TellsNothing → refusal lib w p s.request ≡ answers o
-      → wants ≡ may_want s.request → IsRefusedBy wants o answer
-      → w2 ≡ replied (taken w p s) p s answer [] → Calls lib w p s (outcome.Answered answer) w2
+      → wants ≡ may_want s.request → IsRefusedBy wants o answer → w2 ≡ replied (taken w p s) p s answer [] → Calls lib w p s (outcome.Answered answer) w2
   refused_calls wants (Some r) answer w2 nothing refused may by is =
       (Refused, rw refused (ap (λ (x : Status). outcome.Answered x) by, is ∙ rw (by, nothing r) refl))
   refused_calls wants None answer w2 nothing refused may by is =
       (Wants answer, rw refused (ap (λ (f : Status → Bool). f answer) (sym may) ∙ by, refl, is ∙ rw (nothing answer) refl))
+
+  -- the choice is the lab's own, where the values are those that are left
+  pub refused_own : (before after : List Process) (r : Objects) (wants : Status → Bool) (o : Option Status) (answer : Status) (w2 : World)
+      (nothing : TellsNothing)
+      (refused : refusal lib w p s.request ≡ answers o) (may : wants ≡ may_want s.request) (by : IsRefusedBy wants o answer)
+      (is : w2 ≡ replied (taken w p s) p s answer []) → FreeBy after (left_free (own_in before r) p s.request)
+      → IsOwn before after r p s.request (refused_calls wants o answer w2 nothing refused may by is).0
+  unfolding refused_calls
+  refused_own before after r wants (Some why) answer w2 nothing refused may by is free = free
+  refused_own before after r wants None answer w2 nothing refused may by is free = tt

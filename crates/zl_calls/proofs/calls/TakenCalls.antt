@@ -15,7 +15,8 @@ use Rattle.zl_calls.proofs.calls.Answered.{IsWrite, replied_with}
 use Rattle.zl_calls.proofs.objects.Counting.{count_put, count_without}
 use Rattle.zl_calls.proofs.calls.DoneCalls.{IsDone, IsCalled, called_done}
 use Rattle.zl_calls.proofs.stepping.FromConsistent.{call_settles}
-use Rattle.zl_calls.proofs.calls.Refused.{TellsNothing, answers, refused_calls}
+use Rattle.zl_calls.proofs.calls.Owned.{own_call_of, own_refused}
+use Rattle.zl_calls.proofs.calls.Refused.{TellsNothing, answers, refused_calls, refused_own}
 use Rattle.zl_calls.proofs.objects.Settled.{IsSettled, settled}
 use Rattle.zl_calls.proofs.processes.Stopped.{sound_after}
 use Rattle.zl_calls.proofs.lists.Updates.{update_itself, update_twice}
@@ -127,10 +128,8 @@ fewer_left test (h ∷ hs) t table = by_entry (get t.entries h) refl (fewer_left
     left : List (ℕ × Entry)
     left = taken_map (without_handle t h) hs
 
-    by_entry : (o : Option Entry) → get t.entries h ≡ o
-        → count_by test (without_handle t h).entries
-        ≡ count_by test (without_handles (without_handle t h) hs).entries + count_by test (taken_map (without_handle t h) hs)
-        → count_by test t.entries
+    by_entry : (o : Option Entry) → get t.entries h ≡ o → count_by test (without_handle t h).entries
+        ≡ count_by test (without_handles (without_handle t h) hs).entries + count_by test (taken_map (without_handle t h) hs) → count_by test t.entries
         ≡ count_by test (without_handles (without_handle t h) hs).entries + count_by test (put_if o h (taken_map (without_handle t h) hs))
     by_entry None is rest =
         let same : without_handle t h ≡ t = rw is refl in
@@ -258,11 +257,14 @@ module _ {before after : List Process} {r : Objects} {p p2 : Process} (lib : Lib
         → IsDone lib before after r r2 p.pid call (outcome.Answered answer)
     unfolding on_process
     refused_done answer does replies =
-        let left : IsSettled after r r2 =
-        closed write hs does.closed.table r consistent (ap (λ (q : Process). q.state) replies) r2 does.closed.objects in
+        let left : IsSettled after r r2 = closed write hs does.closed.table r consistent (ap (λ (q : Process). q.state) replies) r2 does.closed.objects in
         record {
           step = call_settles lib before after r r r2 p call s (outcome.Answered answer) write.there ready next
               (refused_calls lib w p.pid s wants o answer (world_value after r) nothing refused wanting does.err answered) left.settles;
+          own = own_call_of lib before after r r2 p call s (outcome.Answered answer) write.there next (world_value after r)
+              (refused_calls lib w p.pid s wants o answer (world_value after r) nothing refused wanting does.err answered)
+              (λ living. refused_own lib w p.pid s before after r wants o answer (world_value after r) nothing refused wanting does.err answered
+              (own_refused write r living s.request (does.closed.table ∙ ap (without_handles p.table) (sym takes)))) left.settles;
           consistent = left.consistent;
         }
       where
@@ -273,8 +275,7 @@ module _ {before after : List Process} {r : Objects} {p p2 : Process} (lib : Lib
         answered = rw takes (replied_taking write hs does.closed.table w r s answer [] (remove_all w p.pid hs) refl refl rest replies)
 
     by_answer : (answer : Result A Status) → DoesTaking Done wants o hs p.table r answer p2.table r2
-        → Replies s (status_of answer) (values_of values answer) p p2
-        → IsDone lib before after r r2 p.pid call (outcome.Answered (status_of answer))
+        → Replies s (status_of answer) (values_of values answer) p p2 → IsDone lib before after r r2 p.pid call (outcome.Answered (status_of answer))
     by_answer (Ok x) does replies = called_done lib r2 consistent write ready call s next (outcome.Answered status.Ok) (done x does.ok replies)
     by_answer (Err answer) does replies = refused_done answer does replies
 

@@ -15,6 +15,7 @@ use Rattle.zl_calls.specs.calls.Wait.{SeesActive, WaitOneDoes, WaitPollDoes, is_
 use Rattle.zl_calls.specs.calls.Wait.{watched_values}
 use Rattle.zl_calls.specs.declared.calls.wait.Watched.{Watched}
 use Rattle.zl_calls.proofs.objects.Active.{signals_active}
+use Rattle.zl_calls.proofs.calls.Owned.{own_plain, own_refused}
 use Rattle.zl_calls.proofs.calls.Answered.{IsWrite, same_world, table_is}
 use Rattle.zl_calls.proofs.calls.DoneCalls.{IsDoneBy, IsCalled, answered_done, called_done}
 use Rattle.zl_calls.proofs.calls.Refused.{answers, first_looked_up, is_found}
@@ -72,8 +73,7 @@ IsKnown objects k (Ok seen) = signals_at objects k ≡ seen.0
 IsKnown objects k (Err (fault.TimedOut seen)) = signals_at objects k ≡ seen.0
 IsKnown objects k (Err (fault.Refused s)) = tells_signals s ≡ false
 
-polled_known : (entries : Map Entry) (objects : Map Object) (h mask : ℕ)
-    → IsKnown objects (koid_in (get entries h)) (polled_at entries objects h mask)
+polled_known : (entries : Map Entry) (objects : Map Object) (h mask : ℕ) → IsKnown objects (koid_in (get entries h)) (polled_at entries objects h mask)
 polled_known entries objects h mask = by_entry (get entries h)
   where
     by_met : (k : ℕ) (seen : Signals) (b : Bool) → signals_at objects k ≡ seen.0 → IsKnown objects k (if b then Ok seen else Err (fault.TimedOut seen))
@@ -149,6 +149,8 @@ module _ {before after : List Process} {r : Objects} {p p2 : Process} (lib : Lib
               ∙ ap (λ (y : ℕ). replied w p.pid one_site status.Ok (y ∷ [])) (sym active_seen),
         ),
       );
+      own = λ living. own_plain write r living one_site.request
+          (record { none = refl; chosen = refl; made = refl; own = refl }) [] [] refl table;
       keeps = subst (IsConsistent after) (sym objects) (refusal_keeps write r consistent table (ap (λ (q : Process). q.state) replies));
     }
 
@@ -203,18 +205,20 @@ module _ {before after : List Process} {r : Objects} {p p2 : Process} (lib : Lib
     seen_told : (s : Status) (seen : Signals) → signals_at r.objects (koid_in (get p.table.entries h)) ≡ seen.0
         → Replies poll_site s (seen.0 ∷ []) p p2 → world_value after r2 ≡ replied w p.pid poll_site s (active_at w p.pid h ∷ [])
     seen_told s seen is replies =
-        same_world write r r2 poll_site s (seen.0 ∷ []) table objects replies
-        ∙ ap (λ (x : ℕ). replied w p.pid poll_site s (x ∷ [])) (sym (active_now seen is))
+        same_world write r r2 poll_site s (seen.0 ∷ []) table objects replies ∙ ap (λ (x : ℕ). replied w p.pid poll_site s (x ∷ [])) (sym (active_now seen is))
 
     by_polled : (answer : Result Signals PollFault) → polled ≡ answer → IsTold poll_site (told_polled answer) p p2
         → IsCalled lib before after r r2 p.pid poll_site (outcome.Answered (polled_status answer))
     unfolding may_choose effect gives_ok gives_refused new_handles insert_all remove_all taken_handles handle_operands
     by_polled (Ok seen) is replies = record {
       calls = (Values [], rw (refused_now, is) (rw write.there refl, refl, seen_told status.Ok seen (known (Ok seen) is) replies));
+      own = λ living. own_plain write r living poll_site.request
+          (record { none = refl; chosen = refl; made = refl; own = refl }) [] [] refl table;
       keeps = keeps (ap (λ (q : Process). q.state) replies);
     }
     by_polled (Err (fault.TimedOut seen)) is replies = record {
       calls = (Refused, rw (refused_now, is) (refl, seen_told status.TimedOut seen (known (Err (fault.TimedOut seen)) is) replies));
+      own = λ living. own_refused write r living poll_site.request table;
       keeps = keeps (ap (λ (q : Process). q.state) replies);
     }
     by_polled (Err (fault.Refused s)) is replies = record {
@@ -226,6 +230,7 @@ module _ {before after : List Process} {r : Objects} {p p2 : Process} (lib : Lib
               ∙ ap (replied w p.pid poll_site s) (sym (nothing_told s (known (Err (fault.Refused s)) is))),
         ),
       );
+      own = λ living. own_refused write r living poll_site.request table;
       keeps = keeps (ap (λ (q : Process). q.state) replies);
     }
 

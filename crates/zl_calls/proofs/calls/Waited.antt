@@ -19,8 +19,7 @@ module _ (value : ℕ) (destinations : List ℕ) (p : Process) (r : Objects) whe
   told_so p2 (Err refused) is = is ∙ λ i. record (answered_in p destinations packet_values (Err refused)) { table = sym (ap (λ (q : Process). q.table) is) i }
 
   pub port_refuses : (refused : Status) → port_at p.table.entries value READ ≡ Err refused → (o : Outcome) (p2 : Process) → o ≡ outcome.Answered refused
-      → p2 ≡ answered_in p destinations packet_values (Err refused)
-      → Acts (action_of p.pid (port_wait value)) waiting_site p r o p2 r
+      → p2 ≡ answered_in p destinations packet_values (Err refused) → Acts (action_of p.pid (port_wait value)) waiting_site p r o p2 r
   port_refuses refused no_port o p2 ends is = inl (record {
     answer = Err refused;
     acts = record { ok = tt; err = rw no_port refl; same_table = ap (λ (q : Process). q.table) is; same_objects = refl };

@@ -21,6 +21,8 @@ use Rattle.zl_objects.specs.declared.object.Body.TheVariants as body
 use Rattle.zl_objects.specs.declared.object.Object.{Object}
 use Rattle.zl_objects.specs.Objects.{if_there, is_channel_body, is_channel_in, peer_in, peer_of, queue_of, reader_at, reader_of, sending, sent, sent_body}
 use Rattle.zl_calls.specs.declared.process.Process.{Process}
+use Rattle.zl_calls.proofs.Common.{without_handles}
+use Rattle.zl_calls.proofs.calls.Owned.{own_entered}
 use Rattle.zl_calls.proofs.calls.Answered.{IsWrite, table_is}
 use Rattle.zl_calls.proofs.objects.Counting.{queues, sum_update}
 use Rattle.zl_calls.proofs.calls.DoneCalls.{IsCalled, IsDoneBy}
@@ -98,7 +100,8 @@ none_then (Some s) b h = absurd (none-some s (sym h))
 other_one : (t : Handles) (h v : ℕ) → (h == v) ≡ false → get (without_handle t h).entries v ≡ get t.entries v
 other_one t h v apart = by_live (has_key t.entries h)
   where
-    by_live : (live : Bool) → get (if live then record { entries = without t.entries h; last = Some h; free = given_back h t.free } else t).entries v ≡ get t.entries v
+    by_live : (live : Bool) → get (if live then record { entries = without t.entries h; last = Some h; free = given_back h t.free } else t).entries v
+        ≡ get t.entries v
     by_live true = get-without t.entries h v ∙ rw apart refl
     by_live false = refl
 
@@ -290,8 +293,7 @@ module _ {before after : List Process} {r : Objects} {p p2 : Process} (lib : Lib
     queue_named : (b : Body) → AreNamed r.objects (queue_of b) → AreNamed changed.objects (queue_of (requeued_body (sent_last message) b))
     queue_named (body.ChannelEnd peer queue) old =
         All-append (λ (x : Message). All (IsNamed changed.objects) x.handles) queue (message ∷ []) (still_named r.objects changed.objects named_now queue old)
-        (All-cons (λ (x : Message). All (IsNamed changed.objects) x.handles) message []
-        (all_taken (IsNamed changed.objects) hs p.table (λ v e at. named_now e
+        (All-cons (λ (x : Message). All (IsNamed changed.objects) x.handles) message [] (all_taken (IsNamed changed.objects) hs p.table (λ v e at. named_now e
         (named_before write hs writes.table r consistent state_same v e at))) (All-nil (λ (x : Message). All (IsNamed changed.objects) x.handles)))
     queue_named _ old = All-nil (λ (x : Message). All (IsNamed changed.objects) x.handles)
 
@@ -315,9 +317,11 @@ module _ {before after : List Process} {r : Objects} {p p2 : Process} (lib : Lib
         (requeued_kept (sent_last message) after r writes.peer consistent.kept)
 
     write_called : IsCalled lib before after r r2 p.pid write_site (outcome.Answered status.Ok)
-    unfolding gives_ok
+    unfolding gives_ok new_handles
     write_called = record {
       calls = (Values [], rw (refused, writes.unrefused) (write_chosen, refl, write_ends));
+      own = λ living. own_entered write r living write_site.request [] []
+          (writes.table ∙ ap (without_handles p.table) (sym (takes_listed c bytes hs))) refl refl refl;
       keeps = rw (writes.objects, same_sending message r writes.peer) write_kept;
     }
 

@@ -31,8 +31,7 @@ module _ {X : Type 0} (test : X → Bool) (before : List X) where
 
   module _ (place : ℕ) (xs : List X) (so_far : IsKeeping place xs) where
     pub keeping_ends : length xs ≤ place → xs ≡ filter test before
-    keeping_ends long =
-        sym (append-nil xs) ∙ ((λ i. sym (take_all place xs long) i ++ filter test (sym (drop_all place xs long) i)) ∙ so_far.left)
+    keeping_ends long = sym (append-nil xs) ∙ ((λ i. sym (take_all place xs long) i ++ filter test (sym (drop_all place xs long) i)) ∙ so_far.left)
 
     module _ (d x : X) (within : place < length xs) (at : get_or xs place d ≡ x) where
       stands : drop place xs ≡ x ∷ drop (suc place) xs

@@ -23,11 +23,7 @@ module _ {X Y : Type 0} (key : X → ℕ) (value : X → Y) where
       record { within = parts.0; here = parts.1; before = parts.2 }
 
   first_behind : (x : X) (xs : List X) (k i : ℕ) (d : X) → IsFirst key (x ∷ xs) k (suc i) d → IsFirst key xs k i d
-  first_behind x xs k i d first = record {
-    within = omega (arith, first.within);
-    here = first.here;
-    before = λ j lt. first.before (suc j) (omega (arith, lt));
-  }
+  first_behind x xs k i d first = record { within = omega (arith, first.within); here = first.here; before = λ j lt. first.before (suc j) (omega (arith, lt)) }
 
   pub get_first : (xs : List X) (k i : ℕ) (d : X) → IsFirst key xs k i d → get (map entry xs) k ≡ Some (value (get_or xs i d))
   unfolding get
@@ -36,8 +32,7 @@ module _ {X Y : Type 0} (key : X → ℕ) (value : X → Y) where
   get_first (x ∷ xs) k (suc i) d first = rw (first.before 0 (omega arith)) (get_first xs k i d (first_behind x xs k i d first))
 
   pub update_first : (xs : List X) (k i : ℕ) (d : X) (f : Y → Y) (new : X) → IsFirst key xs k i d → value new ≡ f (value (get_or xs i d))
-      → key new ≡ key (get_or xs i d)
-      → map entry (set xs i new) ≡ update (map entry xs) k f
+      → key new ≡ key (get_or xs i d) → map entry (set xs i new) ≡ update (map entry xs) k f
   unfolding update
   update_first [] k i d f new first is same = absurd (omega (arith, first.within))
   update_first (x ∷ xs) k zero d f new first is same =

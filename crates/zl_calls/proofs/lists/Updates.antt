@@ -1,5 +1,6 @@
 -- Changes of one value of a map or a list: two after another, none, and as they are seen from outside. Maps in order: what is found, and seen.
-use Rattle.zl_calls.proofs.Common.{IsTrue, List, Map, Some, [], ap, arith, below_all, below_parts, cases_Bool, eq-eqb, eqb-true, false, get, get_or, inl, inr}
+use Rattle.zl_calls.proofs.Common.{IsTrue, List, Map, None, Option, Some, [], ap, arith, below_all, below_parts, cases_Bool, eq-eqb, eqb-true, false, get}
+use Rattle.zl_calls.proofs.Common.{get_or, inl, inr}
 use Rattle.zl_calls.proofs.Common.{is_sorted, map, nat_cmp, nat_tests, none-some, refl, set, sorted_parts, subst, suc, sym, true, update, zero, ℕ, ◌<◌, ◌==◌}
 use Rattle.zl_calls.proofs.Common.{◌∙◌, ◌∷◌, ◌≡◌}
 
@@ -76,3 +77,11 @@ module _ {X : Type 0} where
       let less : e.0 < k = above e.0 m (sorted_parts e m sorted).0 k x at in
       let apart : (e.0 == k) ≡ false = grind (arith, nat_tests, less) in
       rw apart at
+
+  -- and its own key isn't there again
+  pub missing_behind : (e : ℕ × X) (m : Map X) → IsTrue (is_sorted nat_cmp (e ∷ m)) → (k : ℕ) → e.0 ≡ k → get m k ≡ None
+  missing_behind e m sorted k is = by_found (get m k) refl
+    where
+      by_found : (o : Option X) → get m k ≡ o → get m k ≡ None
+      by_found None none = none
+      by_found (Some x) at = absurd (omega (arith, is, above e.0 m (sorted_parts e m sorted).0 k x at))

@@ -87,8 +87,7 @@ module _ {X : Type 0} where
 
 -- the handles that name k before a process was written whose table has c fewer of them
 pub counts_fewer : (before after : List Process) (p p2 : Process) (r r2 : Objects) (k c : ℕ) → IsWrite before after p p2
-    → queues r2.objects k ≡ queues r.objects k
-    → count_by (λ h. h.1.koid == k) p.table.entries ≡ count_by (λ h. h.1.koid == k) p2.table.entries + c
+    → queues r2.objects k ≡ queues r.objects k → count_by (λ h. h.1.koid == k) p.table.entries ≡ count_by (λ h. h.1.koid == k) p2.table.entries + c
     → handles_to (world_value before r) k ≡ handles_to (world_value after r2) k + c
 unfolding handles_to
 counts_fewer before after p p2 r r2 k c write same fewer =
@@ -100,8 +99,7 @@ counts_fewer before after p p2 r r2 k c write same fewer =
 
 -- the handles that name k after a process was written whose table has c more of them
 pub counts_written : (before after : List Process) (p p2 : Process) (r r2 : Objects) (k c : ℕ) → IsWrite before after p p2
-    → queues r2.objects k ≡ queues r.objects k
-    → count_by (λ h. h.1.koid == k) p2.table.entries ≡ count_by (λ h. h.1.koid == k) p.table.entries + c
+    → queues r2.objects k ≡ queues r.objects k → count_by (λ h. h.1.koid == k) p2.table.entries ≡ count_by (λ h. h.1.koid == k) p.table.entries + c
     → handles_to (world_value after r2) k ≡ handles_to (world_value before r) k + c
 unfolding handles_to
 counts_written before after p p2 r r2 k c write same more =

@@ -97,10 +97,7 @@ module _ (ps : List Process) (m : Map Entry) (r : Objects) (sound : IsSound ps m
         → ((n == j) ≡ false → get r.objects j ≡ Some q → A) → A
     found_grown A j q at new old =
         let read : (if n == j then Some fresh else get r.objects j) ≡ Some q = sym (get_grown j) ∙ at in
-        elim (cases_Bool (n == j)) as (λ _. A) [
-          | inl here ↦ new here (same_Some fresh q (rw here at read))
-          | inr apart ↦ old apart (rw apart at read)
-        ]
+        elim (cases_Bool (n == j)) as (λ _. A) [ inl here ↦ new here (same_Some fresh q (rw here at read)) | inr apart ↦ old apart (rw apart at read) ]
 
     pub grown_named : (e : Entry) → IsNamed r.objects e → IsNamed grown.objects e
     grown_named e named = record {

@@ -30,8 +30,7 @@ module _ (h : List Message → List Message) where
   pub requeued_sound : (ps : List Process) (r : Objects) (k : ℕ) (m m2 : Map Entry) → IsSound ps m r
       → ((o : Object) → get r.objects k ≡ Some o → AreNamed (update r.objects k (requeued h)) (queue_of (requeued_body h o.body)))
       → ((j : ℕ) → handles_to (world_value ps (record r { objects = update r.objects k (requeued h) })) j + count_by (λ x. x.1.koid == j) m2
-      ≡ handles_to (world_value ps r) j + count_by (λ x. x.1.koid == j) m)
-      → IsSound ps m2 (record r { objects = update r.objects k (requeued h) })
+      ≡ handles_to (world_value ps r) j + count_by (λ x. x.1.koid == j) m) → IsSound ps m2 (record r { objects = update r.objects k (requeued h) })
   requeued_sound ps r k = recounted_sound (requeued h) (λ o. queue_alike o.body) ps r k (λ o. refl)
 
   pub requeued_kept : (ps : List Process) (r : Objects) (k : ℕ) → AreKeptBut [] r.objects → AreKeptBut [] (update r.objects k (requeued h))

@@ -69,8 +69,7 @@ module _ (f : Object → Object) (same : KeepsKind f) where
     changed = record r { objects = update r.objects k f }
 
     -- the handles m counted beside those in tables and queues, and m2 do now
-    pub changed_sound : (m m2 : Map Entry) → IsSound ps m r
-        → ((o : Object) → get r.objects k ≡ Some o → AreNamed (update r.objects k f) (queue_of (f o).body))
+    pub changed_sound : (m m2 : Map Entry) → IsSound ps m r → ((o : Object) → get r.objects k ≡ Some o → AreNamed (update r.objects k f) (queue_of (f o).body))
         → ((o : Object) → get r.objects k ≡ Some o
         → (f o).handles ≡ handles_to (world_value ps (record r { objects = update r.objects k f })) k + count_by (λ h. h.1.koid == k) m2)
         → ((j : ℕ) (o : Object) → (k == j) ≡ false → get r.objects j ≡ Some o
@@ -103,8 +102,7 @@ module _ (f : Object → Object) (same : KeepsKind f) where
       pub recounted_sound : (m m2 : Map Entry) → IsSound ps m r
           → ((o : Object) → get r.objects k ≡ Some o → AreNamed (update r.objects k f) (queue_of (f o).body))
           → ((j : ℕ) → handles_to (world_value ps (record r { objects = update r.objects k f })) j + count_by (λ h. h.1.koid == j) m2
-          ≡ handles_to (world_value ps r) j + count_by (λ h. h.1.koid == j) m)
-          → IsSound ps m2 (record r { objects = update r.objects k f })
+          ≡ handles_to (world_value ps r) j + count_by (λ h. h.1.koid == j) m) → IsSound ps m2 (record r { objects = update r.objects k f })
       recounted_sound m m2 sound queue counts = changed_sound m m2 sound queue
           (λ o old. handles o ∙ (sound.counted k o old ∙ sym (counts k)))
           (λ j o apart old. sound.counted j o old ∙ sym (counts j))

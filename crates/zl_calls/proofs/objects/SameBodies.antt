@@ -15,10 +15,7 @@ pub found_updated : (f : Object → Object) (os : Map Object) (k : ℕ) (A : Typ
     → ((o : Object) → get os j ≡ Some o → IsTrue (k == j) → f o ≡ q → A) → ((k == j) ≡ false → get os j ≡ Some q → A) → A
 found_updated f os k A j q at changed same =
     let read : (if k == j then option_map f (get os j) else get os j) ≡ Some q = sym (get-update os k f j) ∙ at in
-    elim (cases_Bool (k == j)) as (λ _. A) [
-      | inl here ↦ by_object (get os j) refl here (rw here at read)
-      | inr apart ↦ same apart (rw apart at read)
-    ]
+    elim (cases_Bool (k == j)) as (λ _. A) [ inl here ↦ by_object (get os j) refl here (rw here at read) | inr apart ↦ same apart (rw apart at read) ]
   where
     by_object : (o : Option Object) → get os j ≡ o → IsTrue (k == j) → option_map f o ≡ Some q → A
     by_object None is here read = absurd (none-some q read)
@@ -78,12 +75,7 @@ module _ (f : Object → Object) (same : (o : Object) → kind_of (body_value (f
       kind = named.kind ∙ sym (same named.object);
       rights = named.rights;
     }
-    | inr apart ↦ record {
-      object = named.object;
-      there = rw (get-update os k f e.koid, apart) named.there;
-      kind = named.kind;
-      rights = named.rights;
-    }
+    | inr apart ↦ record { object = named.object; there = rw (get-update os k f e.koid, apart) named.there; kind = named.kind; rights = named.rights }
   ]
 
 -- ---- one object changes, but not its body

@@ -94,12 +94,7 @@ one_bare (e ∷ m) k f same = elim (cases_Bool (e.0 == k)) as (λ _. each (λ j.
 
 -- a port with other places is the same
 place_bare : (f : Port → Port) → ((p : Port) → (f p).packets ≡ p.packets) → (o : Object) → bare (at_port f o) ≡ bare o
-place_bare f same o = λ i. record {
-  body = by_body o.body i;
-  signals = record { raised = o.signals.raised; waits = [] };
-  handles = o.handles;
-  asleep = false;
-}
+place_bare f same o = λ i. record { body = by_body o.body i; signals = record { raised = o.signals.raised; waits = [] }; handles = o.handles; asleep = false }
   where
     by_body : (b : Body) → unreserved (changed_port f b) ≡ unreserved b
     by_body (body.Port p) = λ i. body.Port (record { packets = same p i; reserved = 0 })

@@ -52,9 +52,8 @@ unfolding taken_handles handle_operands
 taken_if_making chan_create = refl
 taken_if_making _ = refl
 
-making_takes_none : (request : Request) (c : Condition) → condition_of request ≡ Some c → taken_handles request ≡ []
-making_takes_none request c is =
-    ap (λ (o : Option Condition). if is_some o then taken_handles request else []) (sym is) ∙ taken_if_making request
+pub making_takes_none : (request : Request) (c : Condition) → condition_of request ≡ Some c → taken_handles request ≡ []
+making_takes_none request c is = ap (λ (o : Option Condition). if is_some o then taken_handles request else []) (sym is) ∙ taken_if_making request
 
 -- a denial tells the status alone
 denial_tells_none : (w : World) (p : ℕ) (request : Request) → gives_refused w p request status.AccessDenied ≡ []

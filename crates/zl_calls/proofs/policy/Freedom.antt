@@ -57,12 +57,7 @@ module _ (lib : Library) (ps : List Process) (r : Objects) (consistent : IsConsi
       by_object (Some o) is = absurd (omega (arith, consistent.no_zero 0 (rw is refl)))
 
   pub is_seen : (w : World) → w.processes ≡ map process_entry ps → w.objects ≡ map object_entry r.objects → IsSeen w p.pid p.table.entries r.objects
-  is_seen w processes objects = record {
-    objects_are = objects;
-    table_is = rw (processes, there) refl;
-    no_job = no_job;
-    none_at_zero = none_at_zero;
-  }
+  is_seen w processes objects = record { objects_are = objects; table_is = rw (processes, there) refl; no_job = no_job; none_at_zero = none_at_zero }
 
   module _ (name : CallName) (s : Site) (next : next_for lib (process_value p) ≡ AtCall name s)
       (none : verdict_on p.table.entries r.objects p.pid s.request ≡ None) where

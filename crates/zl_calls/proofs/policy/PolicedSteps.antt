@@ -8,8 +8,9 @@ use Rattle.zl_calls.specs.declared.process.Process.{Process}
 use Rattle.zl_calls.proofs.calls.Answered.{IsWrite}
 use Rattle.zl_calls.proofs.waking.BlockedLists.{same_list, still_blocked}
 use Rattle.zl_calls.proofs.processes.Departed.{left_blocked, left_keeps}
+use Rattle.zl_calls.proofs.stepping.OwnDone.{own_so}
 use Rattle.zl_calls.proofs.stepping.Performing.{AtTurn, HasLeft, key, left_as, ready, unblocked, write_of}
-use Rattle.zl_calls.proofs.policy.Policing.{policed_acts, policed_goes, policed_keeps, policed_unblocked}
+use Rattle.zl_calls.proofs.policy.Policing.{policed_acts, policed_goes, policed_own, policed_keeps, policed_unblocked}
 
 -- a call that a policy ends leaves its process its pid
 pub same_pid : (s : Site) (p p2 : Process) (r r2 : Objects) (o : Outcome) → Policed s p r o p2 r2 → p2.pid ≡ p.pid
@@ -47,10 +48,12 @@ module _ {ps : List Process} {r : Objects} {blocked : List ℕ} {pid place : ℕ
           acted = rw (same_list p.pid (item.Call p.pid name o) blocked goes)
               (policed_acts lib r2 turn.consistent writes (ready turn) s o name next blocked turn.sound turn.are judged);
         };
+        own = λ q at plain. rw (same_list p.pid (item.Call p.pid name o) blocked goes)
+            (own_so lib ps (set ps place p2) r r2 blocked p.pid p (item.Call p.pid name o) _ writes.there
+            (rw next (policed_own lib r2 turn.consistent writes (ready turn) s o name next blocked turn.sound turn.are judged)) q at);
       })
 
   -- a policy ends it
   pub policed_so : (o : Outcome) (p2 : Process) (all2 : Parts) → IsAlone (parts ps r blocked) place p2 all2 → Policed s p r o p2 all2.objects
       → HasLeft lib ps all2.processes r all2.objects blocked all2.blocked pid (item.Call pid name o)
-  policed_so o p2 all2 alone judged =
-      left_as all2 (set ps place p2) all2.objects blocked alone.processes refl alone.blocked (ended_by o p2 all2.objects judged)
+  policed_so o p2 all2 alone judged = left_as all2 (set ps place p2) all2.objects blocked alone.processes refl alone.blocked (ended_by o p2 all2.objects judged)

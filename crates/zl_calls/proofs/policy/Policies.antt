@@ -112,8 +112,7 @@ module _ (w : World) (p : ℕ) where
   unfolding operand
   operand_fault seen o = by_tests (o.may_be_zero && (o.value == 0)) (o.is_taken && contains seen o.value)
     where
-      by_tests : (a b : Bool)
-          → (if a then None else (if b then Some (ends_if_kill (decides condition.BadHandle) (outcome.Answered status.BadHandle))
+      by_tests : (a b : Bool) → (if a then None else (if b then Some (ends_if_kill (decides condition.BadHandle) (outcome.Answered status.BadHandle))
           else by_look_up w p (granted (entry_at w p o.value) o.kinds o.needed)))
           ≡ by_fault decides (if a then None else (if b then Some status.BadHandle else result_err (granted (entry_at w p o.value) o.kinds o.needed)))
       by_tests true b = refl

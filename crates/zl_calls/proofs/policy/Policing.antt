@@ -13,13 +13,18 @@ use Rattle.zl_calls.specs.declared.policy.Verdict.TheVariants as verdict
 use Rattle.zl_calls.specs.declared.process.Process.{Process}
 use Rattle.zl_calls.proofs.calls.Answered.{IsWrite, same_world}
 use Rattle.zl_calls.proofs.waking.BlockedLists.{none_filtered}
-use Rattle.zl_calls.proofs.policy.Denials.{denied_calls, denied_object, killed_calls}
+use Rattle.zl_calls.proofs.policy.Denials.{denied_calls, denied_object, killed_calls, making_takes_none}
 use Rattle.zl_calls.proofs.processes.Departed.{left_all, settled_world}
 use Rattle.zl_calls.proofs.waits.EndedWaits.{over_none}
 use Rattle.zl_calls.proofs.waits.LeftWaits.{left_by, lists_left}
 use Rattle.zl_calls.proofs.policy.Freedom.{is_seen}
 use Rattle.zl_calls.proofs.policy.Policies.{ending, policed}
-use Rattle.zl_calls.proofs.calls.ProcessCalls.{ended_is, ends_keeps, settles}
+use Rattle.zl_calls.proofs.calls.ProcessCalls.{ended_is, ends_keeps, over_free, settles}
+use Rattle.zl_calls.proofs.calls.Owned.{own_in, own_refused}
+use Rattle.zl_calls.specs.Own.{FreeBy, IsOwnDone, own_beside}
+use Rattle.zl_calls.proofs.stepping.OwnDone.{refused_of}
+use Rattle.zl_calls.proofs.Common.{is_process, without_handles}
+use Rattle.zl_code.specs.Own.{left_free}
 use Rattle.zl_calls.proofs.objects.Settled.{still_settles}
 use Rattle.zl_calls.proofs.processes.Written.{refusal_keeps}
 
@@ -68,7 +73,7 @@ module _ {before after : List Process} {r : Objects} {p p2 : Process} (lib : Lib
     abbrev Acts : Type 0
     Acts = IsActed lib W p.pid (item.Call p.pid call o) (world_left (left_all after r2) r2 blocked)
 
-    refused : (v : Verdict) → Judged v → policed_refusal lib W p.pid s.request ≡ Some (ending v)
+    pub refused : (v : Verdict) → Judged v → policed_refusal lib W p.pid s.request ≡ Some (ending v)
     refused v is =
         policed lib W p.pid p.table.entries r.objects (is_seen lib before r consistent blocked sound p write.there (ap is_ready ready) W
         refl refl) s.request v is
@@ -136,3 +141,20 @@ module _ {before after : List Process} {r : Objects} {p p2 : Process} (lib : Lib
     -- what a policy does of a call is a step of the definitions, up to where waits fire and processes wake
     pub policed_acts : Policed s p r o p2 r2 → Acts
     policed_acts policed = by_verdict policed.verdict policed.is_verdict policed.ends
+
+    -- it leaves these values
+    free_by : (v : Verdict) → Judged v → EndsBy v s p r o p2 r2 → FreeBy after (left_free (own_in before r) p.pid s.request)
+    unfolding is_process
+    free_by verdict.Denied is ends =
+        let making = denied_object p.table.entries r.objects p.pid s.request is in
+        own_refused write r (rw (write.there, ready) refl) s.request
+        (ends.table ∙ ap (without_handles p.table) (sym (making_takes_none s.request making.0 making.1)))
+    free_by verdict.Killed is ends =
+        over_free lib r2 consistent write BY_POLICY ends.over ready (left_free (own_in before r) p.pid s.request) (λ k apart. rw apart refl)
+
+    -- and so would the lab itself
+    pub policed_own : Policed s p r o p2 r2
+        → IsOwnDone lib (own_beside before r blocked) p.pid (AtCall call s) (item.Call p.pid call o) (world_left (left_all after r2) r2 blocked) after
+    policed_own policed =
+        refused_of lib before after r blocked p.pid call s (item.Call p.pid call o) _ (policed_acts policed) (process_value p) write.there next
+        (ending policed.verdict) (refused policed.verdict policed.is_verdict) (free_by policed.verdict policed.is_verdict policed.ends)

@@ -34,8 +34,7 @@ unset entries objects pid job request is bare =
 -- a call that is denied is answered so by policy
 pub denied_so : (o : Option Outcome) (at : Option Site) (p p2 : Process) (r : Objects)
     → IfSome o (λ x. (r1 : Objects) → IfSome at (λ s. IsDenied s p r1 x p2 r1))
-    → IfSome at (λ s. Some verdict.Denied ≡ verdict_on p.table.entries r.objects p.pid s.request)
-    → IfSome o (λ x. IfSome at (λ s. Policed s p r x p2 r))
+    → IfSome at (λ s. Some verdict.Denied ≡ verdict_on p.table.entries r.objects p.pid s.request) → IfSome o (λ x. IfSome at (λ s. Policed s p r x p2 r))
 denied_so None at p p2 r denied judged = tt
 denied_so (Some x) None p p2 r denied judged = tt
 denied_so (Some x) (Some s) p p2 r denied judged = record { verdict = verdict.Denied; is_verdict = sym judged; ends = denied r }

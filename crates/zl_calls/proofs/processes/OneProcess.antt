@@ -45,10 +45,7 @@ module _ (ps : List Process) (m : Map Entry) (r : Objects) (sound : IsSound ps m
       → (get (map process_entry ps) j ≡ Some q → A) → A
   found_process A j q at new old =
       let read : (if n == j then Some (process_value p) else get (map process_entry ps) j) ≡ Some q = sym (get_process j) ∙ at in
-      elim (cases_Bool (n == j)) as (λ _. A) [
-        | inl here ↦ new (same_Some (process_value p) q (rw here at read))
-        | inr apart ↦ old (rw apart at read)
-      ]
+      elim (cases_Bool (n == j)) as (λ _. A) [ inl here ↦ new (same_Some (process_value p) q (rw here at read)) | inr apart ↦ old (rw apart at read) ]
 
   pub new_is : (test : StateValue → Bool) → is_process (world_value after grown) test n ≡ test (state_value p.state)
   unfolding is_process

@@ -35,8 +35,7 @@ fewer_started ps n zero few none = All-nil IsStarted
 fewer_started [] n (suc m) few none = All-nil IsStarted
 fewer_started (x ∷ ps) zero (suc m) few none = absurd (omega (arith, few))
 fewer_started (x ∷ ps) (suc n) (suc m) few none =
-    All-cons IsStarted x (take m ps) (All-head IsStarted x (take n ps) none)
-    (fewer_started ps n m (omega (arith, few)) (All-tail IsStarted x (take n ps) none))
+    All-cons IsStarted x (take m ps) (All-head IsStarted x (take n ps) none) (fewer_started ps n m (omega (arith, few)) (All-tail IsStarted x (take n ps) none))
 
 pub map_started : (f : Process → Process) → ((q : Process) → IsStarted q → IsStarted (f q)) → (ps : List Process) (n : ℕ) → NoneUnstarted n ps
     → NoneUnstarted n (map f ps)

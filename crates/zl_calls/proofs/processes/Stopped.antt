@@ -27,8 +27,7 @@ module _ {before after : List Process} {p p2 : Process} (write : IsWrite before 
     (named : (v : ℕ) (e : Entry) → get p2.table.entries v ≡ Some e → IsNamed r.objects e) where
   pub still_given : (k : ℕ) → IsTrue (has_key (map process_entry after) k) → k < r.next_koid
   still_given k there =
-      consistent.given_processes k (sym (has_key-update (map process_entry before) p.pid (λ _. process_value p2) k)
-      ∙ rw (after_is write) at there)
+      consistent.given_processes k (sym (has_key-update (map process_entry before) p.pid (λ _. process_value p2) k) ∙ rw (after_is write) at there)
 
   pub sound_after : p2.state ≡ p.state → IsSound after m r
   sound_after same = written_sound write [] m r (sound_of before r consistent) (same_agrees write same r) table named
@@ -88,8 +87,7 @@ module _ {before after : List Process} {p p2 : Process} (write : IsWrite before 
 
     pub sound_stopped : IsSound after m ended
     sound_stopped = record {
-      processes_in_order =
-          rw (after_is write, is_sorted-update (map process_entry before) p.pid (λ _. process_value p2)) consistent.processes_in_order;
+      processes_in_order = rw (after_is write, is_sorted-update (map process_entry before) p.pid (λ _. process_value p2)) consistent.processes_in_order;
       objects_in_order = rw (is_sorted-update r.objects p.pid stopped) consistent.kept.in_order;
       given_processes = still_given;
       given_objects = λ j has. consistent.given_objects j (sym (has_key-update r.objects p.pid stopped j) ∙ has);

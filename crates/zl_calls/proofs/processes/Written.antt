@@ -7,6 +7,7 @@ use Rattle.zl_calls.proofs.Common.{world_value, ℕ, ◌+◌, ◌<◌, ◌==◌,
 use Rattle.zl_code.proofs.Common.{Process as ProcessValue, State as StateValue}
 use Rattle.zl_calls.specs.declared.process.State.{State}
 use Rattle.zl_objects.specs.declared.object.Body.{Body}
+use Rattle.zl_calls.specs.World.{free_of}
 use Rattle.zl_calls.specs.declared.process.Process.{Process}
 use Rattle.zl_calls.proofs.calls.Answered.{IsWrite}
 use Rattle.zl_calls.proofs.objects.Counting.{count_put, counts_written, queues}
@@ -24,6 +25,8 @@ write_at ps pid place p p2 found read same =
       there = rw key (get_first (λ (q : Process). q.pid) process_value ps pid place p first ∙ ap (λ (q : Process). Some (process_value q)) (sym read));
       writes = λ f is. rw key (update_first (λ (q : Process). q.pid) process_value ps pid place p f p2 first
           (is ∙ ap (λ (q : Process). f (process_value q)) read) (same ∙ ap (λ (q : Process). q.pid) read));
+      free_there = rw key (get_first (λ (q : Process). q.pid) free_of ps pid place p first ∙ ap (λ (q : Process). Some (free_of q)) (sym read));
+      frees = rw key (update_first (λ (q : Process). q.pid) free_of ps pid place p (λ _. free_of p2) p2 first refl (same ∙ ap (λ (q : Process). q.pid) read));
     }
 
 pub pid_read : (ps : List Process) (pid place : ℕ) (p : Process) → Some place ≡ position (λ q. q.pid == pid) ps → p ≡ get_or ps place p → p.pid ≡ pid
@@ -93,8 +96,7 @@ module _ {before after : List Process} {p p2 : Process} (write : IsWrite before 
       → ((k : ℕ) (b : Body) → Agrees (world_value before r) k b → Agrees (world_value after r) k b)
       → IsTable p2.table.entries → ((v : ℕ) (e : Entry) → get p2.table.entries v ≡ Some e → IsNamed r.objects e)
       → ((k : ℕ) → handles_to (world_value after r) k + count_by (λ h. h.1.koid == k) m2
-      ≡ handles_to (world_value before r) k + count_by (λ h. h.1.koid == k) m)
-      → IsSound after m2 r
+      ≡ handles_to (world_value before r) k + count_by (λ h. h.1.koid == k) m) → IsSound after m2 r
   written_sound m m2 r sound agree table named counts = record {
     processes_in_order = rw (after_is, is_sorted-update (map process_entry before) p.pid (λ _. process_value p2)) sound.processes_in_order;
     objects_in_order = sound.objects_in_order;
@@ -118,10 +120,8 @@ module _ {before after : List Process} {p p2 : Process} (write : IsWrite before 
   pub entered : (m : Map Entry) (r : Objects) → IsSound before m r → AreKeptBut [] r.objects
       → ((k : ℕ) (b : Body) → Agrees (world_value before r) k b → Agrees (world_value after r) k b)
       → IsTable p2.table.entries → ((v : ℕ) (e : Entry) → get p2.table.entries v ≡ Some e → IsNamed r.objects e)
-      → ((k : ℕ) → handles_to (world_value after r) k ≡ handles_to (world_value before r) k + count_by (λ h. h.1.koid == k) m)
-      → IsConsistent after r
-  entered m r sound kept agree table named counts =
-      consistent_of after r (written_sound m [] r sound agree table named (λ k. omega (arith, counts k))) kept
+      → ((k : ℕ) → handles_to (world_value after r) k ≡ handles_to (world_value before r) k + count_by (λ h. h.1.koid == k) m) → IsConsistent after r
+  entered m r sound kept agree table named counts = consistent_of after r (written_sound m [] r sound agree table named (λ k. omega (arith, counts k))) kept
 
   pub same_counts : (r r2 : Objects) (k : ℕ) → queues r2.objects k ≡ queues r.objects k → p2.table ≡ p.table
       → handles_to (world_value after r2) k ≡ handles_to (world_value before r) k

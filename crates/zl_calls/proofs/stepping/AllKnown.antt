@@ -94,8 +94,7 @@ module _ {ps : List Process} {r : Objects} {blocked : List ℕ} {pid place : ℕ
     killed task between (Ok tt) does x listed =
         let h = held x (killed_older ps r blocked does.ok.named.koid between does.ok.kills x listed) in
         killed_has ps r blocked does.ok.named.koid between does.ok.kills x listed h.process h.at h.e h.live h.names
-    killed task between (Err s) does x listed =
-        subst (λ (all : Parts). HaveHandles all.processes all.objects) (sym does.refused) before x listed
+    killed task between (Err s) does x listed = subst (λ (all : Parts). HaveHandles all.processes all.objects) (sym does.refused) before x listed
 
     exits_so : (request : Request) (consumed destinations : List ℕ) (p2 : Process) → ends_processes (name_of request) o ≡ true
         → ActsBy (action_of p.pid request) (site request consumed destinations) p r o p2 all2.objects → is_end o ≡ true

@@ -50,8 +50,7 @@ module _ {ps : List Process} {r : Objects} {blocked : List ℕ} {pid place : ℕ
 
   pub moves_from : (p2 : Process) → next_for lib (process_value p1) ≡ Moves p2.cpu → p2 ≡ record p1 { cpu = p2.cpu }
       → HasActed lib ps (set ps1 place p2) r r1 blocked b1 pid (item.Run pid 1)
-  moves_from p2 next cpu =
-      rw (same_list, same_objects, same_blocked) (moves_so turn lib p2 (rw same_process at next) (rw same_process at cpu))
+  moves_from p2 next cpu = rw (same_list, same_objects, same_blocked) (moves_so turn lib p2 (rw same_process at next) (rw same_process at cpu))
 
   -- nothing ends, fires or wakes behind it
   pub stays_from : (p2 : Process) → p2 ≡ record p1 { cpu = p2.cpu }
@@ -60,8 +59,7 @@ module _ {ps : List Process} {r : Objects} {blocked : List ℕ} {pid place : ℕ
 
   pub stops_from : (p2 : Process) (r2 : Objects) → next_for lib (process_value p1) ≡ IsStuck → Ends STUCK p1 r1 p2 r2
       → HasLeft lib ps (set ps1 place p2) r r2 blocked b1 pid (item.Stuck pid)
-  stops_from p2 r2 stuck ends =
-      rw (same_list, same_blocked) (stops_so turn lib p2 r2 (rw same_process at stuck) (rw (same_process, same_objects) at ends))
+  stops_from p2 r2 stuck ends = rw (same_list, same_blocked) (stops_so turn lib p2 r2 (rw same_process at stuck) (rw (same_process, same_objects) at ends))
 
   -- each wait is left that is listed then
   pub over_from : (p2 : Process) (r2 : Objects) → Ends STUCK p1 r1 p2 r2 → AreThere r2 → AreLeft (left_all (set ps1 place p2) r2) r2 r2.waits

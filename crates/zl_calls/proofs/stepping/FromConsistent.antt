@@ -3,7 +3,7 @@ use Rattle.zl_calls.proofs.Common.{AtCall, CallBy, CallName, Calls, Entry, IsAct
 use Rattle.zl_calls.proofs.Common.{Ready, Settles, Site, Some, World, arith, get, handles_to, has_key, has_place, has_seen, map, nat_le, nat_tests, next_for}
 use Rattle.zl_calls.proofs.Common.{not, process_entry, process_value, refl, refusal, state_value, subst, sym, world_value, ℕ, ◌<◌, ◌^◌, ◌∙◌, ◌≡◌}
 use Rattle.zl_code.proofs.Common.{Process as ProcessValue}
-use Rattle.zl_code.specs.Calls.{Calls as PolicedCalls}
+use Rattle.zl_code.specs.Calls.{Calls as PolicedCalls, Choice}
 use Rattle.zl_code.specs.Refusals.{refusal as policed_refusal}
 use Rattle.zl_code.specs.declared.history.TraceItem.TheVariants as item
 use Rattle.zl_calls.proofs.processes.Departed.{settled_world}
@@ -35,6 +35,12 @@ IsFree lib w p call =
 pub freely : (lib : Library) (w : World) (p : ℕ) (s : Site) (ends : Outcome) (w2 : World) → policed_refusal lib w p s.request ≡ refusal lib w p s.request
     → Calls lib w p s ends w2 → PolicedCalls lib w p s ends w2
 freely lib w p s ends w2 free calls = (calls.0, subst (λ (o : Option Outcome). CallBy lib w p s calls.0 o ends w2) (sym free) calls.1)
+
+-- with what is true of its choice
+pub freely_so : (P : Choice → Type 0) (lib : Library) (w : World) (p : ℕ) (s : Site) (ends : Outcome) (w2 : World)
+    → policed_refusal lib w p s.request ≡ refusal lib w p s.request → (calls : Calls lib w p s ends w2) → P calls.0 →
+    (c : PolicedCalls lib w p s ends w2) × P c.0
+freely_so P lib w p s ends w2 free calls own = ((calls.0, subst (λ (o : Option Outcome). CallBy lib w p s calls.0 o ends w2) (sym free) calls.1), own)
 
 -- a call, and what isn't held any more goes
 pub call_settles : (lib : Library) (before after : List Process) (r acted r2 : Objects) (p : Process) (call : CallName) (s : Site) (ends : Outcome)

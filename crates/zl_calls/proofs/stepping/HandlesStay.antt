@@ -49,8 +49,7 @@ without_stays h x v there = elim (cases_Bool (v == h)) as (λ _. IsTrue (has_key
   | inr apart ↦ inl (by_live (has_key x.handles h) apart)
 ]
   where
-    by_live : (b : Bool) → (v == h) ≡ false
-        → IsTrue (has_key (if b then record x { handles = without x.handles h; last = Some h } else x).handles v)
+    by_live : (b : Bool) → (v == h) ≡ false → IsTrue (has_key (if b then record x { handles = without x.handles h; last = Some h } else x).handles v)
     by_live true apart = ap is_some (get-where_key-in x.handles (λ i. not (i == h)) v (ap not apart)) ∙ there
     by_live false apart = there
 
@@ -94,8 +93,7 @@ entered : (p : ℕ) (es : List Entry) (vs : List ℕ) (w : World) → Keeps w (i
 unfolding insert_all
 entered p [] vs w k v has = has
 entered p (e ∷ es) [] w k v has = has
-entered p (e ∷ es) (n ∷ vs) w k v has =
-    entered p es vs (on_process w p (process_with n e)) k v (written w p (process_with n e) (with_stays n e) k v has)
+entered p (e ∷ es) (n ∷ vs) w k v has = entered p es vs (on_process w p (process_with n e)) k v (written w p (process_with n e) (with_stays n e) k v has)
 
 stored : (w : World) (p : ℕ) (at : ℕ × List ℕ) → Keeps w (storing w p at)
 stored w p (address, []) k v has = has

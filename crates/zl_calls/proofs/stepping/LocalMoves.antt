@@ -57,8 +57,7 @@ module _ {ps : List Process} {r : Objects} {blocked : List ℕ} {pid place : ℕ
     pub moved_world : world_blocked after r blocked ≡ on_process before pid (λ q. record q { cpu = p2.cpu })
     unfolding on_process
     moved_world =
-        ap (λ (m : Map ProcessValue). record before { processes = m })
-        (rw (← key turn) (write.writes (λ q. record q { cpu = p2.cpu }) (ap process_value cpu)))
+        ap (λ (m : Map ProcessValue). record before { processes = m }) (rw (← key turn) (write.writes (λ q. record q { cpu = p2.cpu }) (ap process_value cpu)))
 
     pub moved_awake : wakes before ≡ before → wakes (world_blocked after r blocked) ≡ world_blocked after r blocked
     moved_awake awake = subst (λ (w : World). wakes w ≡ w) (sym moved_world) (moves_awake before pid p2.cpu none_blocked awake)

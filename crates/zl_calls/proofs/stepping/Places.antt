@@ -71,8 +71,7 @@ module _ (lib : Library) (ps : List Process) (place : ℕ) (q : Process) (read :
       (subst (λ (r : Process). has_its_memory (call_row x.name).ending x r.cpu ≡ false) (same q2 read2) none)
 
   pub site_at : (q2 : Process) → q2 ≡ get_or ps place q2 → has_its_memory (call_row x.name).ending x q2.cpu ≡ true → IsSome (site_of x p.cpu)
-  site_at q2 read2 has =
-      has_site x p.cpu ∙ subst (λ (r : Process). has_its_memory (call_row x.name).ending x r.cpu ≡ true) (same q2 read2) has
+  site_at q2 read2 has = has_site x p.cpu ∙ subst (λ (r : Process). has_its_memory (call_row x.name).ending x r.cpu ≡ true) (same q2 read2) has
 
   pub counter_at : q.cpu.counter < 4096 → p.cpu.counter < 2 ^ 32
   counter_at few = let within : p.cpu.counter < 4096 = subst (λ (r : Process). r.cpu.counter < 4096) (same q read) few in omega (arith, within)

@@ -65,8 +65,7 @@ module _ (c : Cpu) (name : CallName) (s : Site) where
 
 -- memory is refused only to a call that takes it
 takes_where_wanting : (lib : Library) (w w2 : WorldValue) (pid : ℕ) (q : ProcessValue) (name : CallName) (s : Site) → get w.processes pid ≡ Some q
-    → next_for lib q ≡ AtCall name s
-    → Step lib w pid (item.Call pid name (outcome.Answered status.NoMemory)) w2 → IsTrue (takes_memory name)
+    → next_for lib q ≡ AtCall name s → Step lib w pid (item.Call pid name (outcome.Answered status.NoMemory)) w2 → IsTrue (takes_memory name)
 takes_where_wanting lib w w2 pid q name s there next step =
     subst (λ (x : CallName). IsTrue (call_row x).grows) (asked_next q.cpu name s (slice_get lib q.program) next)
     (wanting_step lib w pid q name s w2 there next step)
@@ -140,13 +139,26 @@ local_list pid (item.Run at count) blocked local = refl
 local_list pid (item.Call at call o) blocked local = absurd (false≢true local)
 local_list pid (item.Stuck at) blocked local = absurd (false≢true local)
 
+-- nothing is due behind one
+pub local_awake : (pid : ℕ) (ps : List Process) (r : Objects) (blocked : List ℕ) (x : TraceItem) → is_local x ≡ true
+    → wakes (world_left ps r blocked) ≡ world_blocked ps r blocked → world_blocked ps r blocked ≡ wakes (world_left ps r (then_blocked pid x blocked))
+local_awake pid ps r blocked x local quiet = sym quiet ∙ ap (λ (b : List ℕ). wakes (world_left ps r b)) (sym (local_list pid x blocked local))
+
+-- waits have ended with their handles, fired, and then these woke
+pub woken_to : (ps2 ps3 : List Process) (r2 left fires r3 : Objects) (blocked2 blocked3 : List ℕ) → EndsUnheld ps2 r2 left
+    → world_blocked ps2 fires blocked2 ≡ fired (world_blocked ps2 left blocked2)
+    → world_blocked ps3 r3 blocked3 ≡ fold woken (world_blocked ps2 fires blocked2) blocked2
+    → world_blocked ps3 r3 blocked3 ≡ wakes (world_left ps2 r2 blocked2)
+unfolding wakes fired
+woken_to ps2 ps3 r2 left fires r3 blocked2 blocked3 unheld fired_so awake =
+    awake ∙ ap (λ (w : WorldValue). fold woken w blocked2) (fired_so ∙ ap fired (unheld.world blocked2))
+
 abbrev pub machine_value : Library → List Process → Objects → List ℕ → Machine
 machine_value lib ps r blocked = record { programs = lib; world = world_blocked ps r blocked; free = map free_entry ps }
 
 -- the process acted up to where processes wake, and then these did
 does_step : (m : Machine) (pid : ℕ) (m2 : Machine) (x : TraceItem) (who : Woke) (settled : WorldValue) → m2.programs ≡ m.programs
-    → DoesNext m.programs m.world pid x settled → m2.world ≡ wakes settled → HaveLeft settled.blocked who m2.world.blocked
-    → StepsAndWakes m pid m2 x who
+    → DoesNext m.programs m.world pid x settled → m2.world ≡ wakes settled → HaveLeft settled.blocked who m2.world.blocked → StepsAndWakes m pid m2 x who
 unfolding is_process
 does_step m pid m2 x who settled programs does awake told = record {
   takes = record {
@@ -176,24 +188,20 @@ module _ (lib : Library) (ps : List Process) (r : Objects) (blocked : List ℕ) 
   not_ready_in None unready = unready
   not_ready_in (Some x) unready = tt
 
-  pub takes_step : (ps2 ps3 : List Process) (r2 left fires r3 : Objects) (blocked2 blocked3 : List ℕ) (x : TraceItem) (who : Woke)
+  pub takes_step : (ps2 ps3 : List Process) (r2 r3 : Objects) (blocked2 blocked3 : List ℕ) (x : TraceItem) (who : Woke)
       → DoesNext lib (world_blocked ps r blocked) pid x (world_left ps2 r2 blocked2)
-      → EndsUnheld ps2 r2 left → world_blocked ps2 fires blocked2 ≡ fired (world_blocked ps2 left blocked2)
-      → world_blocked ps3 r3 blocked3 ≡ fold woken (world_blocked ps2 fires blocked2) blocked2 → HaveLeft blocked2 who blocked3
+      → world_blocked ps3 r3 blocked3 ≡ wakes (world_left ps2 r2 blocked2) → HaveLeft blocked2 who blocked3
       → StepsAndWakes (machine_value lib ps r blocked) pid (machine_value lib ps3 r3 blocked3) x who
-  unfolding wakes fired
-  takes_step ps2 ps3 r2 left fires r3 blocked2 blocked3 x who does unheld fired_so awake told = does_step (machine_value lib ps r blocked) pid
-      (machine_value lib ps3 r3 blocked3) x who (world_left ps2 r2 blocked2) refl does
-      (awake ∙ ap (λ (w : WorldValue). fold woken w blocked2) (fired_so ∙ ap fired (unheld.world blocked2))) told
+  takes_step ps2 ps3 r2 r3 blocked2 blocked3 x who does awake told =
+      does_step (machine_value lib ps r blocked) pid (machine_value lib ps3 r3 blocked3) x who (world_left ps2 r2 blocked2) refl does awake told
 
   -- the same of a local instruction, behind which nothing is due
   pub takes_local : (ps2 : List Process) (r2 : Objects) (blocked2 : List ℕ) (x : TraceItem) → is_local x ≡ true
       → DoesNext lib (world_blocked ps r blocked) pid x (world_left ps2 r2 (then_blocked pid x blocked2))
       → wakes (world_left ps2 r2 blocked2) ≡ world_blocked ps2 r2 blocked2
       → StepsAndWakes (machine_value lib ps r blocked) pid (machine_value lib ps2 r2 blocked2) x woke.Nobody
-  takes_local ps2 r2 blocked2 x local does quiet = does_step (machine_value lib ps r blocked) pid (machine_value lib ps2 r2 blocked2) x woke.Nobody
-      (world_left ps2 r2 (then_blocked pid x blocked2)) refl does
-      (sym quiet ∙ ap (λ (b : List ℕ). wakes (world_left ps2 r2 b)) (sym (local_list pid x blocked2 local))) (sym (local_list pid x blocked2 local))
+  takes_local ps2 r2 blocked2 x local does quiet = takes_step ps2 ps2 r2 r2 (then_blocked pid x blocked2) blocked2 x woke.Nobody does
+      (local_awake pid ps2 r2 blocked2 x local quiet) (sym (local_list pid x blocked2 local))
 
 -- behind such a step nothing is due
 pub stepped_awake : (lib : Library) (ps ps2 : List Process) (r r2 : Objects) (blocked blocked2 : List ℕ) (pid : ℕ) (x : TraceItem)

@@ -16,6 +16,7 @@ use Rattle.zl_rights.specs.declared.status.Status.TheVariants as status
 use Rattle.zl_rights.specs.World.{Wait as WaitValue}
 use Rattle.zl_calls.specs.Reaching.{creates, policed, reaches}
 use Rattle.zl_calls.specs.Calling.{OwnWaits}
+use Rattle.zl_calls.specs.Own.{DoesOwn, own_beside}
 use Rattle.zl_calls.specs.declared.policy.Verdict.TheVariants as verdict
 use Rattle.zl_calls.specs.declared.process.Process.{Process}
 use Rattle.zl_calls.proofs.processes.Departed.{left_all}
@@ -123,11 +124,9 @@ module _ {ps : List Process} {r : Objects} {blocked : List ℕ} {pid place : ℕ
     by_acts name s named fresh plain (reaches none (starts process h word is does)) =
         started_all process h word does.answer does.between does.is_told.objects does.does
     by_acts name s named fresh plain (reaches none (kills task is does apart)) =
-        absurd (true≢false (ap (λ (q : Request). ends_processes (name_of q) o) (sym is)
-        ∙ (ap (λ (n : CallName). ends_processes n o) named ∙ plain)))
+        absurd (true≢false (ap (λ (q : Request). ends_processes (name_of q) o) (sym is) ∙ (ap (λ (n : CallName). ends_processes n o) named ∙ plain)))
     by_acts name s named fresh plain (reaches none (kills_itself task is does)) =
-        absurd (true≢false (ap (λ (q : Request). ends_processes (name_of q) o) (sym is)
-        ∙ (ap (λ (n : CallName). ends_processes n o) named ∙ plain)))
+        absurd (true≢false (ap (λ (q : Request). ends_processes (name_of q) o) (sym is) ∙ (ap (λ (n : CallName). ends_processes n o) named ∙ plain)))
     by_acts name s named fresh plain (acts p2 none alone acted) = elim (cases_Bool (looks_at_waits s.request)) as (λ _. All P all2.objects.waits) [
       | inl looks ↦ looking_all s.request s.consumed s.destinations p2 fresh looks acted
       | inr blind ↦
@@ -205,8 +204,7 @@ module _ {ps : List Process} {r : Objects} {blocked : List ℕ} {pid place : ℕ
         (by_acts IsMade (λ j e within. (turn.sound.waits j e within).handle) name called.site named (λ keeps. own) plain called.acts i d inside)
       where
         own : (h : ℕ) (e : Entry) → get p.table.entries h ≡ Some e → (x : WaitValue) → x.pid ≡ p.pid → x.value ≡ h → x.object ≡ e.koid → IsMade x
-        own h e at x by value object =
-            (e, rw (by, value, key turn, there turn) at, sym object)
+        own h e at x by value object = (e, rw (by, value, key turn, there turn) at, sym object)
 
     pub taken_known : AreKnown after all2.objects t pid
     taken_known = elim (cases_Bool (keeps_handles name)) as (λ _. AreKnown after all2.objects t pid) [
@@ -242,3 +240,9 @@ pub ended_acts : (lib : Library) (before after : List Process) (r r2 r3 : Object
     → DoesNext lib (world_blocked before r blocked) pid x (world_left after r3 (then_blocked pid x blocked2))
 ended_acts lib before after r r2 r3 blocked blocked2 pid x unheld =
     subst (DoesNext lib (world_blocked before r blocked) pid x) (sym (ended_left after r2 r3 unheld (then_blocked pid x blocked2)))
+
+pub ended_own : (lib : Library) (before after : List Process) (r r2 r3 : Objects) (blocked blocked2 : List ℕ) (pid : ℕ) (x : TraceItem)
+    → EndsUnheld after r2 r3 → DoesOwn lib (own_beside before r blocked) pid x (world_left after r2 (then_blocked pid x blocked2)) after
+    → DoesOwn lib (own_beside before r blocked) pid x (world_left after r3 (then_blocked pid x blocked2)) after
+ended_own lib before after r r2 r3 blocked blocked2 pid x unheld =
+    subst (λ (w : WorldValue). DoesOwn lib (own_beside before r blocked) pid x w after) (sym (ended_left after r2 r3 unheld (then_blocked pid x blocked2)))

@@ -1,14 +1,16 @@
 -- The invariant of the world behind each step, whether something was due or not.
 use Rattle.zl_calls.proofs.Common.{AreBlocked, AreLeft, AreOrdered, AreSought, DoesNext, EndsUnheld, FiresWaits, IsConsistent, IsWhole, KeepSleepers, Library}
 use Rattle.zl_calls.proofs.Common.{List, Objects, Seeks, StepsAndWakes, TakesStep, TraceItem, Wakes, Woke, ap, awaited_of, false, fired, holds_now, is_due}
-use Rattle.zl_calls.proofs.Common.{length, list_any, refl, sym, then_blocked, world_blocked, world_left, ℕ, ◌∙◌, ◌≡◌, ◌≤◌}
+use Rattle.zl_calls.proofs.Common.{length, list_any, refl, sym, then_blocked, wakes, world_blocked, world_left, ℕ, ◌∙◌, ◌≡◌, ◌≤◌}
 use Rattle.zl_objects.specs.declared.awaited.Awaited.{Awaited}
 use Rattle.zl_calls.specs.Blocking.{FallsAsleep}
+use Rattle.zl_calls.specs.Own.{DoesOwn, StepsOwn, own_beside}
 use Rattle.zl_calls.specs.declared.process.Process.{Process}
 use Rattle.zl_calls.specs.declared.waking.Woke.TheVariants as woke
 use Rattle.zl_calls.proofs.objects.SameButWaits.{beside_consistent}
 use Rattle.zl_calls.proofs.stepping.Covered.{stepped_covered}
-use Rattle.zl_calls.proofs.stepping.StepItems.{machine_value, stepped_awake, stepped_programs, stepped_sound, takes_step}
+use Rattle.zl_calls.proofs.stepping.OwnStep.{own_stepped}
+use Rattle.zl_calls.proofs.stepping.StepItems.{machine_value, stepped_awake, stepped_programs, stepped_sound, takes_step, woken_to}
 use Rattle.zl_calls.proofs.waking.Ordered.{same_ordered}
 use Rattle.zl_calls.proofs.waking.Quiet.{none_holding, quiet_fires, quiet_wakes}
 use Rattle.zl_calls.proofs.waking.StillBlocked.{acted_ordered, acted_sought, asleep_world, moved_last, same_seeks}
@@ -63,13 +65,21 @@ module _ (lib : Library) (ps : List Process) (r : Objects) (b : List ℕ) (room 
     module _ (none : list_any (holds_now asleep.objects) asleep.waits ≡ false) (quiet : (k : ℕ) (a : Awaited) → Seeks asleep k a → is_due asleep.objects a ≡
         false)
       where
-        pub quiet_step : StepsAndWakes (machine_value lib ps r b) pid (machine_value lib ps1 asleep (then_blocked pid x b1)) x woke.Nobody
-        quiet_step =
-            takes_step lib ps r b pid ps1 ps1 r1 left asleep asleep (then_blocked pid x b1) (then_blocked pid x b1) x woke.Nobody does unheld
+        still : world_blocked ps1 asleep (then_blocked pid x b1) ≡ wakes (world_left ps1 r1 (then_blocked pid x b1))
+        still =
+            woken_to ps1 ps1 r1 left asleep asleep (then_blocked pid x b1) (then_blocked pid x b1) unheld
             ((quiet_fires ps1 asleep asleep_consistent none).world (then_blocked pid x b1)
             ∙ ap fired (asleep_world ps1 pid x left asleep falls (then_blocked pid x b1)))
             (sym (quiet_wakes ps1 asleep asleep_consistent (then_blocked pid x b1) (λ k p a ds at is. quiet k (awaited_of a) (known k p a ds at is))
-            (then_blocked pid x b1))) refl
+            (then_blocked pid x b1)))
+
+        pub quiet_own : DoesOwn lib (own_beside ps r b) pid x (world_left ps1 r1 (then_blocked pid x b1)) ps1
+            → StepsOwn lib (own_beside ps r b) pid x (own_beside ps1 asleep (then_blocked pid x b1))
+        quiet_own = own_stepped lib ps r b pid x ps1 ps1 asleep (then_blocked pid x b1) (world_left ps1 r1 (then_blocked pid x b1))
+            asleep_consistent.processes_in_order refl does still
+
+        pub quiet_step : StepsAndWakes (machine_value lib ps r b) pid (machine_value lib ps1 asleep (then_blocked pid x b1)) x woke.Nobody
+        quiet_step = takes_step lib ps r b pid ps1 ps1 r1 asleep (then_blocked pid x b1) (then_blocked pid x b1) x woke.Nobody does still refl
 
         pub quiet_whole : (room2 : ℕ) → length ps1 ≤ room2 → IsWhole lib ps1 asleep (then_blocked pid x b1) room2
         quiet_whole room2 enough = stepped_whole ps1 asleep (then_blocked pid x b1) room2 quiet_step.takes asleep_consistent list known ordered enough
@@ -77,14 +87,20 @@ module _ (lib : Library) (ps : List Process) (r : Objects) (b : List ℕ) (room 
     -- waits fire, and processes wake
     module _ (fires : Objects) (fired_so : FiresWaits ps1 asleep fires) (ps2 : List Process) (r2 : Objects) (b2 : List ℕ) (w : Woke)
         (wakes_so : Wakes ps1 fires (then_blocked pid x b1) w ps2 r2 b2) where
+      awake_so : world_blocked ps2 r2 b2 ≡ wakes (world_left ps1 r1 (then_blocked pid x b1))
+      awake_so = woken_to ps1 ps2 r1 left fires r2 (then_blocked pid x b1) b2 unheld
+          (fired_so.world (then_blocked pid x b1) ∙ ap fired (asleep_world ps1 pid x left asleep falls (then_blocked pid x b1))) wakes_so.wakes
+
+      pub woken_own : DoesOwn lib (own_beside ps r b) pid x (world_left ps1 r1 (then_blocked pid x b1)) ps1
+          → StepsOwn lib (own_beside ps r b) pid x (own_beside ps2 r2 b2)
+      woken_own = own_stepped lib ps r b pid x ps1 ps2 r2 b2 (world_left ps1 r1 (then_blocked pid x b1))
+          asleep_consistent.processes_in_order wakes_so.held does awake_so
+
       pub woken_step : StepsAndWakes (machine_value lib ps r b) pid (machine_value lib ps2 r2 b2) x w
-      woken_step =
-          takes_step lib ps r b pid ps1 ps2 r1 left fires r2 (then_blocked pid x b1) b2 x w does unheld
-          (fired_so.world (then_blocked pid x b1) ∙ ap fired (asleep_world ps1 pid x left asleep falls (then_blocked pid x b1))) wakes_so.wakes wakes_so.told
+      woken_step = takes_step lib ps r b pid ps1 ps2 r1 r2 (then_blocked pid x b1) b2 x w does awake_so wakes_so.told
 
       pub nothing_holds : list_any (holds_now r2.objects) r2.waits ≡ false
       nothing_holds = none_holding ps2 r2 wakes_so.consistent b2 (stepped_awake lib ps ps2 r r2 b b2 pid x woken_step.takes)
 
       pub woken_whole : (room2 : ℕ) → length ps2 ≤ room2 → IsWhole lib ps2 r2 b2 room2
-      woken_whole room2 enough =
-          stepped_whole ps2 r2 b2 room2 woken_step.takes wakes_so.consistent wakes_so.list wakes_so.sought wakes_so.ordered enough
+      woken_whole room2 enough = stepped_whole ps2 r2 b2 room2 woken_step.takes wakes_so.consistent wakes_so.list wakes_so.sought wakes_so.ordered enough

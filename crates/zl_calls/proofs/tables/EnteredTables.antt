@@ -21,8 +21,7 @@ tables_entered t u (x ∷ es) (y ∷ vs) table room so_far =
 
 -- what each handle in the table had, and each that entered it, each has that is in it
 pub each_entered : (P : Entry → Type 0) (t u : Handles) (es : List Entry) (vs : List ℕ) → InsertsEach t es vs u
-    → ((v : ℕ) (e : Entry) → get t.entries v ≡ Some e → P e) → All P es
-    → (v : ℕ) (e : Entry) → get u.entries v ≡ Some e → P e
+    → ((v : ℕ) (e : Entry) → get t.entries v ≡ Some e → P e) → All P es → (v : ℕ) (e : Entry) → get u.entries v ≡ Some e → P e
 each_entered P t u [] [] so_far old new v e at = old v e (rw so_far at at)
 each_entered P t u [] (y ∷ vs) so_far old new v e at = absurd so_far
 each_entered P t u (x ∷ es) [] so_far old new v e at = absurd so_far

@@ -51,10 +51,7 @@ pub found_inserted : (A : Type 0) (t : Handles) (e : Entry) (v : ℕ) (t2 : Hand
 found_inserted A t e v t2 inserts value q at new old =
     let read : (if v == value then Some e else get t.entries value) ≡ Some q =
     sym (get-put t.entries v e value) ∙ (ap (λ (m : Map Entry). get m value) (sym inserts.entries) ∙ at) in
-    elim (cases_Bool (v == value)) as (λ _. A) [
-      | inl here ↦ new (same_Some e q (rw here at read))
-      | inr apart ↦ old (rw apart at read)
-    ]
+    elim (cases_Bool (v == value)) as (λ _. A) [ inl here ↦ new (same_Some e q (rw here at read)) | inr apart ↦ old (rw apart at read) ]
 
 -- ---- the handles of a table close
 

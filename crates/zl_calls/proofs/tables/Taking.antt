@@ -37,8 +37,7 @@ taken_more t (x ∷ hs) h =
 -- ---- a loop over values
 
 pub released_more : (es : List Entry) (i : ℕ) (e : Entry) → i < length es → (r r2 r3 : Objects) → Releases (koids_of (take i es)) [] r r2
-    → Releases ((get_or es i e).koid ∷ []) [] r2 r3
-    → Releases (koids_of (take (i + 1) es)) [] r r3
+    → Releases ((get_or es i e).koid ∷ []) [] r2 r3 → Releases (koids_of (take (i + 1) es)) [] r r3
 released_more es i e within r r2 r3 before last =
     rw (take_more es i e within, map-append (λ (x : Entry). x.koid) (take i es) (get_or es i e ∷ []))
     (releases_then (koids_of (take i es)) ((get_or es i e).koid ∷ []) [] r r2 r3 before last)
@@ -50,11 +49,9 @@ table_more hs i d within t t2 t3 so_far last =
     rw (take_more hs i d within, without_more t (take i hs) (get_or hs i d)) (last ∙ ap (λ x. without_handle x (get_or hs i d)) so_far)
 
 pub taken_then : (hs : List ℕ) (i d : ℕ) → i < length hs → (t t2 : Handles) (before es es2 : List Entry) → t2 ≡ without_handles t (take i hs)
-    → es ≡ before ++ taken_from t (take i hs)
-    → es2 ≡ es ++ option_to_list (get t2.entries (get_or hs i d)) → es2 ≡ before ++ taken_from t (take (i + 1) hs)
+    → es ≡ before ++ taken_from t (take i hs) → es2 ≡ es ++ option_to_list (get t2.entries (get_or hs i d)) → es2 ≡ before ++ taken_from t (take (i + 1) hs)
 taken_then hs i d within t t2 before es es2 so_far taken last =
-    rw (take_more hs i d within, taken_more t (take i hs) (get_or hs i d))
-    (last ∙ rw (taken, so_far) (append_assoc before (taken_from t (take i hs)) _))
+    rw (take_more hs i d within, taken_more t (take i hs) (get_or hs i d)) (last ∙ rw (taken, so_far) (append_assoc before (taken_from t (take i hs)) _))
 
 -- room for each value that is left is room for those behind the next
 pub room_left : (o : Option Entry) (es es2 : List Entry) (n i room room2 : ℕ) → i < n → length es + (n - i) ≤ room → es2 ≡ es ++ option_to_list o → room2 ≡ room
@@ -69,8 +66,7 @@ closes_then t hs (Some e) r r2 r3 before last =
     rw (map-append (λ (x : Entry). x.koid) (taken_from t hs) (e ∷ [])) (releases_then (koids_of (taken_from t hs)) (e.koid ∷ []) [] r r2 r3 before last)
 
 pub closes_more : (hs : List ℕ) (i d : ℕ) → i < length hs → (t t2 t3 : Handles) (r r2 r3 : Objects) → ClosesEach (take i hs) t r t2 r2
-    → t3 ≡ without_handle t2 (get_or hs i d) → Closes (get t2.entries (get_or hs i d)) r2 r3 → KeepsListed r2 r3
-    → ClosesEach (take (i + 1) hs) t r t3 r3
+    → t3 ≡ without_handle t2 (get_or hs i d) → Closes (get t2.entries (get_or hs i d)) r2 r3 → KeepsListed r2 r3 → ClosesEach (take (i + 1) hs) t r t3 r3
 closes_more hs i d within t t2 t3 r r2 r3 before table objects listed = record {
   table = table_more hs i d within t t2 t3 before.table table;
   objects = rw (take_more hs i d within, taken_more t (take i hs) (get_or hs i d))

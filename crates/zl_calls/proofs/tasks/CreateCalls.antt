@@ -17,8 +17,15 @@ use Rattle.zl_objects.specs.declared.object.Body.{Body}
 use Rattle.zl_objects.specs.declared.object.Body.TheVariants as body
 use Rattle.zl_objects.specs.declared.object.Life.TheVariants as life
 use Rattle.zl_objects.specs.Jobs.{action_of as action_at_job}
+use Rattle.zl_rights.specs.Values.{Free, new_free}
+use Rattle.zl_calls.specs.World.{free_entry, free_of}
 use Rattle.zl_calls.specs.declared.process.Process.{Process}
 use Rattle.zl_calls.specs.declared.process.State.{State}
+use Rattle.zl_calls.proofs.Common.{false, is_process, lives, ne_eqb, option_map, process_at, state_value, true}
+use Rattle.zl_calls.proofs.calls.Owned.{IsOwn, own_in, own_plain}
+use Rattle.zl_calls.proofs.processes.Freed.{appended_by, entry_there}
+use Rattle.zl_calls.proofs.tasks.StartCalls.{process_there}
+use Rattle.zl_code.specs.Own.{entered_free, free_or}
 use Rattle.zl_calls.proofs.calls.Answered.{IsWrite, table_is, may_get_inserted, replied_inserted}
 use Rattle.zl_calls.proofs.objects.Grown.{IsGrowing, grown_seen, kept_grown, there_grown}
 use Rattle.zl_calls.proofs.calls.JobCalls.{IsJobAt, body_seen, job_found, job_looked_up, stands_grown}
@@ -31,6 +38,14 @@ use Rattle.zl_calls.proofs.objects.Settled.{sound_of}
 -- ---- lists
 
 -- a change of an entry that isn't the last
+get_before : {X : Type 0} (m : Map X) (n k : ℕ) (v x : X) → get m k ≡ Some x → get (m ++ (n, v) ∷ []) k ≡ Some x
+unfolding get
+get_before [] n k v x at = absurd (none-some x at)
+get_before {X} (e ∷ m) n k v x at = elim (cases_Bool (e.0 == k)) as (λ _. get ((e ∷ m) ++ (n, v) ∷ []) k ≡ Some x) [
+  | inl here ↦ rw here (rw here at at)
+  | inr apart ↦ rw apart (get_before m n k v x (rw apart at at))
+]
+
 update_before : {X : Type 0} (m : Map X) (k n : ℕ) (f : X → X) (v : X) → (n == k) ≡ false → update (m ++ (n, v) ∷ []) k f ≡ update m k f ++ (n, v) ∷ []
 unfolding update
 update_before [] k n f v apart = rw apart refl
@@ -118,6 +133,12 @@ module _ (lib : Library) (before mid : List Process) (r : Objects) (consistent :
         map-append process_entry mid (new ∷ []) ∙ ap (λ (m : Map ProcessValue). m ++ process_entry new ∷ []) (write.writes f is)
         ∙ sym (ap (λ (m : Map ProcessValue). update m p.pid f) (map-append process_entry before (new ∷ []))
         ∙ update_before (map process_entry before) p.pid new.pid f (process_value new) (rw pid apart));
+    free_there = ap (λ (m : Map Free). get m p.pid) (map-append free_entry before (new ∷ []))
+        ∙ get_before (map free_entry before) new.pid p.pid (free_of new) (free_of p) write.free_there;
+    frees =
+        map-append free_entry mid (new ∷ []) ∙ ap (λ (m : Map Free). m ++ free_entry new ∷ []) write.frees
+        ∙ sym (ap (λ (m : Map Free). update m p.pid (λ _. free_of p2)) (map-append free_entry before (new ∷ []))
+        ∙ update_before (map free_entry before) p.pid new.pid (λ _. free_of p2) (free_of new) (rw pid apart));
   }
 
   -- ---- the invariant
@@ -206,6 +227,28 @@ module _ (lib : Library) (before mid : List Process) (r : Objects) (consistent :
     unfolding taken_handles handle_operands remove_all may_choose new_handles
     create_chosen = rw (write.there, may_get_inserted p p2 (new_entry n kind.Process) made inserts) refl
 
-    pub created_calls : Calls lib w p.pid create_site (outcome.Answered status.Ok) (world_value after grown)
-    unfolding gives_ok
-    created_calls = (Values (made ∷ []), rw (create_refused lib before r consistent p write.there job program, unrefused) (create_chosen, refl, create_pair))
+    -- the lab would give the same value, and the new process has a new table
+    fresh_by : new.table.free ≡ new_free → free_of new
+        ≡ (if lives (state_value new.state) then entered_free (own_in before r) p.pid (process_create job program) new.pid else new_free)
+    fresh_by fresh = ap (λ (x : ProcessValue). if lives x.state then new.table.free else new_free) created ∙ (fresh ∙ sym
+        (ap (λ (x : ProcessValue). if lives x.state then entered_free (own_in before r) p.pid (process_create job program) new.pid else new_free) created
+        ∙ rw (pid_apart) (ap free_or (entry_there free_of before new.pid ∙ none_yet (process_at before new.pid) (sym (process_there before new.pid))))))
+      where
+        pid_apart : (p.pid == new.pid) ≡ false
+        pid_apart = rw pid (ne_eqb p.pid n (λ e. absurd (omega (arith, e, consistent.given_processes p.pid (rw write.there refl)))))
+
+        none_yet : (q : Option Process) → option_map process_value q ≡ get (map process_entry before) new.pid → option_map free_of q ≡ None
+        none_yet None is = refl
+        none_yet (Some q) is = absurd (omega (arith, pid, consistent.given_processes new.pid (rw (← is) refl)))
+
+    pub created_calls : new.table.free ≡ new_free → (c : Calls lib w p.pid create_site (outcome.Answered status.Ok) (world_value after grown))
+        × (is_process w lives p.pid ≡ true → IsOwn before after r p.pid (process_create job program) c.0)
+    unfolding gives_ok new_handles taken_handles handle_operands
+    created_calls fresh = (
+      (Values (made ∷ []), rw (create_refused lib before r consistent p write.there job program, unrefused) (create_chosen, refl, create_pair)),
+      λ living.
+          let own = own_plain write r living (process_create job program) (record { none = refl; chosen = refl; made = refl; own = refl }) (entry ∷ [])
+          (made ∷ []) refl
+          (record { between = p2.table; inserts = inserts; rest = refl }) in
+          (own.0, appended_by mid new (entered_free (own_in before r) p.pid (process_create job program)) own.1 (fresh_by fresh)),
+    )

@@ -14,9 +14,12 @@ use Rattle.zl_calls.specs.declared.process.Process.{Process}
 use Rattle.zl_calls.proofs.calls.Answered.{IsWrite, same_world}
 use Rattle.zl_calls.proofs.processes.Departed.{settled_world}
 use Rattle.zl_calls.proofs.calls.DoneCalls.{IsCalled, IsDone, called_done}
+use Rattle.zl_calls.proofs.stepping.OwnCalls.{call_beside}
 use Rattle.zl_calls.proofs.stepping.FromConsistent.{IsFree, call_settles}
 use Rattle.zl_calls.proofs.stepping.Performing.{AtTurn, HasLeft, acted_so, is_caller, itself, key, left_as, left_with, ready, unblocked, write_of}
-use Rattle.zl_calls.proofs.calls.Refused.{answers, refused_calls}
+use Rattle.zl_calls.proofs.Common.{Calls, is_process, lives, true}
+use Rattle.zl_calls.proofs.calls.Owned.{IsOwn, IsOwnCall, own_call_of, own_refused}
+use Rattle.zl_calls.proofs.calls.Refused.{answers, refused_calls, refused_own}
 use Rattle.zl_calls.proofs.objects.Settled.{still_settles}
 use Rattle.zl_calls.proofs.processes.Written.{refusal_keeps}
 use Rattle.zl_calls.proofs.calls.MakeCalls.{has_left}
@@ -70,6 +73,9 @@ module _ {ps : List Process} {r : Objects} {blocked : List ℕ} {pid place : ℕ
           refused_calls lib (world_value ps r) p.pid s wants_memory (create_refusal lib p.table.entries r job program) answer (world_value after_it r)
           (λ a. refl) refused_here refl refuses
           (same_world write_told r r s answer [] refl refl refl);
+      own = λ living. refused_own lib (world_value ps r) p.pid s ps after_it r wants_memory (create_refusal lib p.table.entries r job program) answer
+          (world_value after_it r)
+          (λ a. refl) refused_here refl refuses (same_world write_told r r s answer [] refl refl refl) (own_refused write_told r living s.request refl);
       keeps = refusal_keeps write_told r turn.consistent refl refl;
     }
 
@@ -79,6 +85,8 @@ module _ {ps : List Process} {r : Objects} {blocked : List ℕ} {pid place : ℕ
         called_done lib r turn.consistent write_told (ready turn) name s next (outcome.Answered answer) refused_called in
         acted_so turn lib after_it told r (item.Call pid name (outcome.Answered answer)) write_told (unblocked turn) refl refl (ap next_looks next)
         done.consistent (rw (← key turn) (done.step free)) (rw next (record { waits = λ test h. refl; made = refl; asleep = (refl, refl) }))
+        (λ did no. rw (← key turn) (call_beside lib ps after_it r r blocked p.pid turn.sound (process_value p) (itself turn).there (ready turn) turn.are name
+        (outcome.Answered answer) done.own free (ap next_looks next) refl (rw next (record { waits = λ test h. refl; made = refl; asleep = (refl, refl) })) no))
 
   -- ---- a process is made
 
@@ -132,17 +140,28 @@ module _ {ps : List Process} {r : Objects} {blocked : List ℕ} {pid place : ℕ
         (has_left p.table.entries r.next_koid makes.unrefused) done.new done.pid done.created
         (unblocked turn) blocked turn.are
 
+    made_calls : (c : Calls lib (world_value ps r) p.pid s (outcome.Answered status.Ok) (world_value made_all made_grown))
+        × (is_process (world_value ps r) lives p.pid ≡ true → IsOwn ps made_all r p.pid s.request c.0)
+    made_calls = created_calls lib ps mid r turn.consistent p given write_mid same_state job program made above found_above unrefused makes.inserts
+        (has_left p.table.entries r.next_koid makes.unrefused) done.new done.pid done.created consumed destinations replies done.fresh
+
+    made_own : IsOwnCall lib ps made_all r made_grown p.pid name (outcome.Answered status.Ok)
+    made_own = own_call_of lib ps made_all r made_grown p name s (outcome.Answered status.Ok) (itself turn).there next (world_value made_all made_grown)
+        made_calls.0 made_calls.1 (still_settles made_all made_grown made_keeps)
+
     made_step : IsActed lib (world_value ps r) p.pid (item.Call p.pid name (outcome.Answered status.Ok)) (settled_world made_all made_grown)
     made_step =
         call_settles lib ps made_all r made_grown made_grown p name s (outcome.Answered status.Ok) write_mid.there
-        (ready turn) next (created_calls lib ps mid r turn.consistent p given write_mid same_state job program made above found_above unrefused makes.inserts
-        (has_left p.table.entries r.next_koid makes.unrefused) done.new done.pid done.created consumed destinations replies)
-        (still_settles made_all made_grown made_keeps) free
+        (ready turn) next made_calls.0 (still_settles made_all made_grown made_keeps) free
 
     made_so : HasLeft lib ps made_all r made_grown blocked blocked pid (item.Call pid name (outcome.Answered status.Ok))
     made_so =
         left_with turn lib made_all made_grown (item.Call pid name (outcome.Answered status.Ok)) refl refl (ap next_looks next) made_keeps made_blocked
         (rw (← key turn) made_step) (rw next (record { waits = λ test h. refl; made = refl; asleep = (refl, refl) }))
+        (λ did no. rw (← key turn) (call_beside lib ps made_all r made_grown blocked p.pid turn.sound (process_value p) (itself turn).there
+        (ready turn) turn.are
+        name (outcome.Answered status.Ok) made_own free (ap next_looks next) refl
+        (rw next (record { waits = λ test h. refl; made = refl; asleep = (refl, refl) })) no))
 
   -- ---- either
 

@@ -39,8 +39,18 @@ use Rattle.zl_calls.proofs.calls.Refused.{answers, is_found, first_looked_up}
 use Rattle.zl_calls.proofs.objects.Settled.{IsSettled, settled}
 use Rattle.zl_calls.proofs.tasks.StartCalls.{writes_at}
 use Rattle.zl_calls.proofs.calls.Answered.{IsWrite}
+use Rattle.zl_calls.proofs.Common.{ActsAndSettles, Settles}
+use Rattle.zl_calls.proofs.calls.Owned.{IsOwn, own_in}
+use Rattle.zl_calls.proofs.processes.Freed.{killed_free_by, own_free, set_free_by}
+use Rattle.zl_calls.proofs.stepping.OwnDone.{call_own, own_so}
+use Rattle.zl_calls.proofs.waits.LeftWaits.{left_same}
+use Rattle.zl_calls.specs.World.{free_entry}
+use Rattle.zl_code.specs.Own.{all_given, entered_free, free_at, taken_all}
+use Rattle.zl_rights.specs.Values.{Free, coming, new_free}
+use Rattle.zl_code.proofs.StepsWaiting.{is_left as is_left_at_port}
 use Rattle.zl_calls.proofs.waking.Woken.{update_fixed}
 use Rattle.zl_calls.proofs.lists.Positions.{times-filter}
+use Rattle.zl_calls.specs.Own.{FreeBy}
 
 -- ---- the answer
 
@@ -133,8 +143,7 @@ module _ (ps : List Process) (r : Objects) (whole : IsConsistent ps r) (blocked 
       where
         list_is : all2.blocked ≡ filter (λ k. not (is_within_value (map object_entry r.objects) t k)) blocked
         list_is =
-            kills.blocked
-            ∙ ((λ i. filter (λ k. states_stay (map (ended_within r t) ps) ps2 kills.between r2 kills.closes is_blocked k i) blocked)
+            kills.blocked ∙ ((λ i. filter (λ k. states_stay (map (ended_within r t) ps) ps2 kills.between r2 kills.closes is_blocked k i) blocked)
             ∙ blocked_left ps r blocked t ps2 are seen_killed)
 
     pub still_sorted : IsTrue (is_sorted nat_cmp (map process_entry ps2))
@@ -156,28 +165,35 @@ module _ (lib : Library) (ps : List Process) (r : Objects) (blocked : List ℕ) 
   -- a call behind which this is left, in the midst of all that waits
   pub leaves_so : (after : List Process) (r1 r2 : Objects) (blocked2 : List ℕ) (o : Outcome) → is_blocking o ≡ false → IsSettled after r1 r2
       → AreBlocked after blocked2 → AreLeft blocked blocked2
-      → PolicedCalls lib (world_blocked ps r blocked) p.pid s o (with_waiters (world_value after r1) r.waits r.waits_made blocked2)
-      → ListsLeft (left_all after r2) r.waits r.waits_made r r2
+      → (calls : PolicedCalls lib (world_blocked ps r blocked) p.pid s o (with_waiters (world_value after r1) r.waits r.waits_made blocked2))
+      → IsOwn ps after r p.pid s.request calls.0 → ListsLeft (left_all after r2) r.waits r.waits_made r r2
       → HasLeft lib ps after r r2 blocked blocked2 p.pid (item.Call p.pid name o)
-  leaves_so after r1 r2 blocked2 o goes left list fewer calls lists = record {
-    fewer = fewer;
-    asleep = lists.asleep;
-    consistent = left_keeps after r2 left.consistent;
-    list = rw (same_list p.pid (item.Call p.pid name o) blocked2 goes) (left_blocked after r2 blocked2 list);
-    acts = record {
-      pid_is = refl;
-      acted = rw (same_list p.pid (item.Call p.pid name o) blocked2 goes)
-          (left_by lib ps (left_all after r2) r r2 p.pid (item.Call p.pid name o) blocked sound r.waits r.waits_made blocked2
-          (record {
-            process = process_value p;
-            is_there = there;
-            is_ready = ready;
-            acted = with_waiters (world_value after r1) r.waits r.waits_made blocked2;
-            acts = rw next (o, refl, calls);
-            settles = settles_waiting (world_value after r1) (settled_world after r2) left.settles r.waits r.waits_made blocked2;
-          }) lists);
-    };
-  }
+  leaves_so after r1 r2 blocked2 o goes left list fewer calls own lists =
+      let settles = settles_waiting (world_value after r1) (settled_world after r2) left.settles r.waits r.waits_made blocked2 in
+      let steps : ActsAndSettles lib (world_blocked ps r blocked) p.pid (item.Call p.pid name o)
+      (with_waiters (settled_world after r2) (filter (is_left_at_port (settled_world after r2)) r.waits) r.waits_made blocked2)
+      = record {
+        process = process_value p;
+        is_there = there;
+        is_ready = ready;
+        acted = with_waiters (world_value after r1) r.waits r.waits_made blocked2;
+        acts = rw next (o, refl, calls);
+        settles = settles;
+      } in
+      let same = left_same lib ps (left_all after r2) r r2 p.pid (item.Call p.pid name o) blocked sound r.waits r.waits_made blocked2 steps lists in record {
+        fewer = fewer;
+        asleep = lists.asleep;
+        consistent = left_keeps after r2 left.consistent;
+        list = rw (same_list p.pid (item.Call p.pid name o) blocked2 goes) (left_blocked after r2 blocked2 list);
+        acts = record {
+          pid_is = refl;
+          acted = rw (same_list p.pid (item.Call p.pid name o) blocked2 goes)
+              (left_by lib ps (left_all after r2) r r2 p.pid (item.Call p.pid name o) blocked sound r.waits r.waits_made blocked2 steps lists);
+        };
+        own = λ q at plain. rw (same_list p.pid (item.Call p.pid name o) blocked2 goes)
+            (own_so lib ps after r r2 blocked p.pid p (item.Call p.pid name o) _ there (rw next
+            (call_own lib ps after r blocked p.pid name s o _ _ calls.0 calls.1 own (subst (Settles _) same settles) plain)) q at);
+      }
 
 -- ---- task_kill
 
@@ -357,10 +373,30 @@ module _ (lib : Library) (ps : List Process) (r : Objects) (whole : IsConsistent
             (same_within r.objects t given p.pid ∙ among) (same_Some (process_killed (within_value p.pid) (process_value p)) x is) in
             subst (λ (y : ProcessValue). process_ended KILLED y ≡ y) became (rw ready refl)
 
+    -- who lives keeps the values
+    kills_own : (after : List Process) → ((f : ℕ → Free) → FreeBy all2.processes f → FreeBy after f) → IsOwn ps after r p.pid (task_kill task) (Values [])
+    unfolding new_handles taken_handles handle_operands taken_all coming all_given
+    kills_own after stays = (
+      refl,
+      stays _ (killed_free_by r kills.between all2.objects t ps all2.processes kills.closes _
+          (λ k. own_free ps k ∙ ap (λ (x : Free). option_map (λ q. if lives q.state then x else new_free) (get (map process_entry ps) k))
+          (unchanged k (cases_Bool (p.pid == k))))),
+    )
+      where
+        unchanged : (k : ℕ) → (IsTrue (p.pid == k)) ⊎ ((p.pid == k) ≡ false)
+            → free_at (map free_entry ps) k ≡ entered_free (own_in ps r) p.pid (task_kill task) k
+        unchanged k (inl here_too) = rw (here_too, there) (ap (free_at (map free_entry ps)) (sym (eqb-true p.pid k here_too)))
+        unchanged k (inr other) = rw other refl
+
     killed_calls : dies ≡ true
-        → PolicedCalls lib w p.pid kill_site (outcome.Ended KILLED) (with_waiters (world_value all2.processes (killing r t)) r.waits r.waits_made all2.blocked)
+        → (c : PolicedCalls lib w p.pid kill_site (outcome.Ended KILLED)
+        (with_waiters (world_value all2.processes (killing r t)) r.waits r.waits_made all2.blocked))
+        × IsOwn ps all2.processes r p.pid (task_kill task) c.0
     unfolding effect gives_ok new_handles taken_handles handle_operands remove_all insert_all
-    killed_calls among = (Values [], rw passes (kill_chosen, killed_ends among, after_it ∙ (sym (ended_still among) ∙ rw (← killed_ends among, names_it) refl)))
+    killed_calls among = (
+      (Values [], rw passes (kill_chosen, killed_ends among, after_it ∙ (sym (ended_still among) ∙ rw (← killed_ends among, names_it) refl))),
+      kills_own all2.processes (λ f by. by),
+    )
 
     -- all has settled, though one goes on computing with another Cpu
     killed_got : (cpus : ℕ → ProcessValue → Cpu) (k : ℕ) → ((q : ProcessValue) → get (map process_entry ps) k ≡ Some q → cpus k q ≡ q.cpu)
@@ -385,7 +421,7 @@ module _ (lib : Library) (ps : List Process) (r : Objects) (whole : IsConsistent
               (outcome.Ended KILLED) refl
               (ends_settled ps r whole blocked sound t given all2 kills all2.processes (λ k q. q.cpu) (λ k. killed_got (λ j q. q.cpu) k (λ q there_too. refl))
               (λ k. refl) (still_sorted ps r whole blocked sound t given all2 kills))
-              blocked_after fewer_blocked (killed_calls among)
+              blocked_after fewer_blocked (killed_calls among).0 (killed_calls among).1
               (lists_left (left_all all2.processes all2.objects) r all2.objects r.waits r.waits_made
               (λ k v dead. handles_left all2.processes all2.objects k v ∙ dead_none k v dead) lists))
           | inr apart ↦ absurd (not_over apart)
@@ -451,10 +487,13 @@ module _ (lib : Library) (ps : List Process) (r : Objects) (whole : IsConsistent
       after_sorted = rw (written, is_sorted-update (map process_entry all2.processes) p.pid with_answer)
           (still_sorted ps r whole blocked sound t given all2 kills)
 
-      answered_calls : PolicedCalls lib w p.pid kill_site (outcome.Answered status.Ok)
-          (with_waiters (world_value after (killing r t)) r.waits r.waits_made all2.blocked)
+      answered_calls : (c : PolicedCalls lib w p.pid kill_site (outcome.Answered status.Ok)
+          (with_waiters (world_value after (killing r t)) r.waits r.waits_made all2.blocked)) × IsOwn ps after r p.pid (task_kill task) c.0
       unfolding effect gives_ok new_handles taken_handles handle_operands remove_all insert_all replied on_process
-      answered_calls = (Values [], rw passes (kill_chosen, killed_lives apart, answered_world ∙ rw (← killed_lives apart, names_it) refl))
+      answered_calls = (
+        (Values [], rw passes (kill_chosen, killed_lives apart, answered_world ∙ rw (← killed_lives apart, names_it) refl)),
+        kills_own after (set_free_by all2.processes place c answered_caller at (refl, λ f same. same)),
+      )
         where
           answered_world : ◌≡◌ {A = World} (with_waiters (world_value after (killing r t)) r.waits r.waits_made all2.blocked)
               (replied (with_killed w t) p.pid kill_site status.Ok [])
@@ -478,7 +517,7 @@ module _ (lib : Library) (ps : List Process) (r : Objects) (whole : IsConsistent
       answered_so =
           leaves_so lib ps r blocked sound p there ready name kill_site next after (killing r t) all2.objects all2.blocked (outcome.Answered status.Ok) refl
           (ends_settled ps r whole blocked sound t given all2 kills after cpus after_got after_tables after_sorted)
-          (still_blocked write not_blocked not_blocked all2.blocked blocked_after) fewer_blocked answered_calls
+          (still_blocked write not_blocked not_blocked all2.blocked blocked_after) fewer_blocked answered_calls.0 answered_calls.1
           (lists_left (left_all after all2.objects) r all2.objects r.waits r.waits_made
           (λ k v dead. handles_left after all2.objects k v ∙ (same_handles k v ∙ dead_none k v dead)) lists)
 

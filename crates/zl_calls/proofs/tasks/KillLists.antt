@@ -221,11 +221,7 @@ module _ (first : List Process) (start : Objects) (ks : List ℕ) where
     pub had_turn : (j n : ℕ) (p : Process) → j < i → slice_get first n ≡ Some p → p.pid ≡ get_or ks j 0 → n < from
 
   pub none_closed : IsClosingEach 0 0 first start
-  none_closed = record {
-    closing = closing_starts first start;
-    alike = λ n later. refl;
-    had_turn = λ j n p less at same. absurd (omega (arith, less));
-  }
+  none_closed = record { closing = closing_starts first start; alike = λ n later. refl; had_turn = λ j n p less at same. absurd (omega (arith, less)) }
 
   -- those between, of whom none is left to close
   skips : (ps : List Process) (r : Objects) (m from : ℕ) → IsClosing first start from ps r → from + m ≤ length ps

@@ -149,6 +149,5 @@ module _ (ps ps1 ps2 : List Process) (r : Objects) (koid : ℕ) (ended : ps1 ≡
   pub still_there : (place : ℕ) (caller : Process) → slice_get ps place ≡ Some caller → IsCallerStill caller (slice_get ps2 place)
   still_there place caller at =
       still_too (ended_within r koid caller) caller (same_cpu _ caller) (slice_get ps2 place)
-      (still_closed ps1 ps2 between r2 closes place (ended_within r koid caller)
-      (ap (λ (qs : List Process). slice_get qs place) ended
+      (still_closed ps1 ps2 between r2 closes place (ended_within r koid caller) (ap (λ (qs : List Process). slice_get qs place) ended
       ∙ (slice_get-map (ended_within r koid) ps place ∙ ap (λ (o : Option Process). option_map (ended_within r koid) o) at)))

@@ -13,13 +13,15 @@ use Rattle.zl_calls.specs.Reaching.{EndsCaller}
 use Rattle.zl_calls.specs.declared.process.Process.{Process}
 use Rattle.zl_calls.specs.declared.process.State.TheVariants as state
 use Rattle.zl_calls.proofs.tasks.KillCalls.{dies_so, kill_refused, leaves_so, lives_so}
-use Rattle.zl_calls.proofs.stepping.FromConsistent.{IsFree, freely}
+use Rattle.zl_calls.proofs.stepping.FromConsistent.{IsFree, freely_so}
 use Rattle.zl_calls.proofs.calls.Answered.{IsWrite, table_is, same_world}
 use Rattle.zl_calls.proofs.calls.AmongWaits.{ends_among}
 use Rattle.zl_calls.proofs.waking.BlockedLists.{still_blocked}
 use Rattle.zl_calls.proofs.objects.Settled.{still_settles}
 use Rattle.zl_calls.proofs.stepping.Performing.{AtTurn, HasLeft, here, is_caller, itself, key, left_as, ready, unblocked, write_of}
-use Rattle.zl_calls.proofs.calls.Refused.{refused_calls}
+use Rattle.zl_calls.proofs.Common.{is_process}
+use Rattle.zl_calls.proofs.calls.Owned.{IsOwn, own_refused}
+use Rattle.zl_calls.proofs.calls.Refused.{refused_calls, refused_own}
 use Rattle.zl_calls.proofs.processes.Written.{refusal_keeps}
 
 -- the process p stands at the place, under the pid, and is at the call
@@ -43,8 +45,7 @@ module _ {ps : List Process} {r : Objects} {blocked : List ℕ} {pid place : ℕ
   -- with the pid that the step names
   under_pid : (o : Outcome) (after : List Process) (r2 : Objects) (blocked2 : List ℕ)
       → HasLeft lib ps after r r2 blocked blocked2 p.pid (item.Call p.pid name o) → HasLeft lib ps after r r2 blocked blocked2 pid (item.Call pid name o)
-  under_pid o after r2 blocked2 left =
-      subst (λ (k : ℕ). HasLeft lib ps after r r2 blocked blocked2 k (item.Call k name o)) (key turn) left
+  under_pid o after r2 blocked2 left = subst (λ (k : ℕ). HasLeft lib ps after r r2 blocked blocked2 k (item.Call k name o)) (key turn) left
 
   -- ---- it is refused
 
@@ -58,15 +59,20 @@ module _ {ps : List Process} {r : Objects} {blocked : List ℕ} {pid place : ℕ
     write_told : IsWrite ps after_it p told
     write_told = write_of turn told refl
 
-    refused_calls_so : PolicedCalls lib (world_blocked ps r blocked) p.pid s (outcome.Answered answer) (world_blocked after_it r blocked)
-    unfolding taken_handles handle_operands remove_all gives_refused
+    refused_calls_so : (c : PolicedCalls lib (world_blocked ps r blocked) p.pid s (outcome.Answered answer) (world_blocked after_it r blocked))
+        × IsOwn ps after_it r p.pid s.request c.0
+    unfolding taken_handles handle_operands remove_all gives_refused is_process
     refused_calls_so =
-        freely lib (world_blocked ps r blocked) p.pid s (outcome.Answered answer) (world_blocked after_it r blocked) free_there
+        let refused = kill_refused lib (world_blocked ps r blocked) p.pid p.table.entries (table_is (itself turn) r) task in
+        let ends = ends_among lib r turn.consistent write_told s blocked (world_value ps r) r.waits r.waits_made answer []
+        (same_world write_told r r s answer [] refl refl refl) refl refl in
+        freely_so (IsOwn ps after_it r p.pid s.request) lib (world_blocked ps r blocked) p.pid s (outcome.Answered answer) (world_blocked after_it r blocked)
+        free_there
         (refused_calls lib (world_blocked ps r blocked) p.pid s wants_nothing (kill_refusal p.table.entries task) answer
-        (world_blocked after_it r blocked) (λ a. refl)
-        (kill_refused lib (world_blocked ps r blocked) p.pid p.table.entries (table_is (itself turn) r) task) refl refuses
-        (ends_among lib r turn.consistent write_told s blocked (world_value ps r) r.waits r.waits_made answer []
-        (same_world write_told r r s answer [] refl refl refl) refl refl))
+        (world_blocked after_it r blocked) (λ a. refl) refused refl refuses ends)
+        (refused_own lib (world_blocked ps r blocked) p.pid s ps after_it r wants_nothing (kill_refusal p.table.entries task) answer
+        (world_blocked after_it r blocked) (λ a. refl) refused refl refuses ends
+        (own_refused write_told r (rw ((itself turn).there, ready turn) refl) s.request refl))
 
     keeps : IsConsistent after_it r
     keeps = refusal_keeps write_told r turn.consistent refl refl
@@ -77,7 +83,7 @@ module _ {ps : List Process} {r : Objects} {blocked : List ℕ} {pid place : ℕ
         under_pid (outcome.Answered answer) after_it r blocked
         (leaves_so lib ps r blocked turn.sound p (itself turn).there is_ready_process name s next after_it r r blocked (outcome.Answered answer) refl
         (record { consistent = keeps; settles = still_settles after_it r keeps }) (still_blocked write_told still still blocked turn.are)
-        (λ test there. refl) refused_calls_so (record { waits = λ test h. refl; made = refl; asleep = (refl, refl) }))
+        (λ test there. refl) refused_calls_so.0 refused_calls_so.1 (record { waits = λ test h. refl; made = refl; asleep = (refl, refl) }))
 
   -- ---- it is done
 

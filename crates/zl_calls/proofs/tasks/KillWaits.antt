@@ -37,8 +37,7 @@ module _ (over : ℕ → Bool) where
       → ClosesAllEnded ps r ps2 r2 → KeepsWithout over r r2
   closes_keeps _ _ r _ all (none_left _) = listed_same r
   closes_keeps _ _ r r2 all (one_more p p2 ps ps2 _ mid _ one rest) =
-      listed_then r mid r2
-      (one_keeps p p2 r mid (All-head (λ q. lives (state_value q.state) ≡ false → IsTrue (over q.pid)) p ps all) one)
+      listed_then r mid r2 (one_keeps p p2 r mid (All-head (λ q. lives (state_value q.state) ≡ false → IsTrue (over q.pid)) p ps all) one)
       (closes_keeps ps ps2 mid r2 (All-tail (λ q. lives (state_value q.state) ≡ false → IsTrue (over q.pid)) p ps all) rest)
 
 -- what is found at a koid, in the first place or behind it
@@ -120,8 +119,7 @@ ended_at r t (p ∷ ps) k q at =
     let same = still (lives (state_value p.state) && is_within r.objects t p.pid) in
     by_first (ended_within r t p) same.0 same.1 (ended_at r t ps k q)
   where
-    by_first : (p1 : Process) → p1.pid ≡ p.pid → p1.table.entries ≡ p.table.entries
-        → (get (map process_entry ps) k ≡ Some q
+    by_first : (p1 : Process) → p1.pid ≡ p.pid → p1.table.entries ≡ p.table.entries → (get (map process_entry ps) k ≡ Some q
         → (q1 : ProcessValue) × (get (map process_entry (map (ended_within r t) ps)) k ≡ Some q1) × (q1.handles ≡ q.handles))
         → (q1 : ProcessValue) × (get (map process_entry (p1 ∷ map (ended_within r t) ps)) k ≡ Some q1) × (q1.handles ≡ q.handles)
     by_first p1 pid handles rest =

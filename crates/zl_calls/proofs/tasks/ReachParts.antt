@@ -67,13 +67,7 @@ module _ {A : Type 0} (values : A → List ℕ) (Does : Parts → Result A Statu
     between = between;
     does = does;
     ends = ends;
-    is_told = record {
-      caller = p;
-      is_there = at;
-      processes = ap (λ (q : Process). slice_set between.processes place q) told;
-      objects = refl;
-      blocked = refl;
-    };
+    is_told = record { caller = p; is_there = at; processes = ap (λ (q : Process). slice_set between.processes place q) told; objects = refl; blocked = refl };
   }
 
 -- a caller that has ended or is answered keeps its koid
@@ -139,8 +133,7 @@ module _ (lib : Library) (ps ps1 : List Process) (r r1 : Objects) (blocked block
 
     -- a caller that ended wasn't refused
     kill_ended : (answer : Result ⊤ Status) → TaskKillDoes task caller (parts ps r blocked) answer (parts ps1 r1 blocked1) → (code : ℤ)
-        → p.state ≡ state.Ended code
-        → (o : Outcome) → o ≡ outcome.Ended code → (p2 : Process) → p2 ≡ p
+        → p.state ≡ state.Ended code → (o : Outcome) → o ≡ outcome.Ended code → (p2 : Process) → p2 ≡ p
         → Reaches lib place caller kill_site (parts ps r blocked) o (parts (slice_set ps1 place p2) r1 blocked1)
     kill_ended (Ok tt) does code is o ends p2 same =
         subst (λ (qs : List Process). Reaches lib place caller kill_site (parts ps r blocked) o (parts qs r1 blocked1))
@@ -152,8 +145,7 @@ module _ (lib : Library) (ps ps1 : List Process) (r r1 : Objects) (blocked block
         absurd (false≢true (ap (λ (x : State). is_ready (state_value x)) (sym is) ∙ (ap (λ (q : Process). is_ready (state_value q.state)) one ∙ ready)))
 
     pub kill_reaches : (answer : Result ⊤ Status) → TaskKillDoes task caller (parts ps r blocked) answer (parts ps1 r1 blocked1) → (o : Outcome) (p2 : Process)
-        → EndsOrAnswers status_in answer p o p2
-        → Reaches lib place caller kill_site (parts ps r blocked) o (parts (slice_set ps1 place p2) r1 blocked1)
+        → EndsOrAnswers status_in answer p o p2 → Reaches lib place caller kill_site (parts ps r blocked) o (parts (slice_set ps1 place p2) r1 blocked1)
     unfolding has_ended
     kill_reaches answer does o p2 how = by_state p.state refl how.ends how.told
       where

@@ -41,8 +41,7 @@ module _ {ps : List Process} {r : Objects} {blocked : List ℕ} {pid place : ℕ
   reaches_so o all2 (kills task is does alive) =
       subst (λ (x : Site). (a : IsAnsweredIn (told_by no_value) (TaskKillDoes task p) x place (parts ps r blocked) o all2)
       → ((code : ℤ) → a.is_told.caller.state ≡ state.Ended code → ⊥)
-      → HasLeft lib ps all2.processes r all2.objects blocked all2.blocked pid (item.Call pid name o))
-      (sym (site_is (task_kill task) is))
+      → HasLeft lib ps all2.processes r all2.objects blocked all2.blocked pid (item.Call pid name o)) (sym (site_is (task_kill task) is))
       (kill_so turn lib name free free_beside task s.consumed s.destinations (next ∙ ap (AtCall name) (site_is (task_kill task) is)) all2 o) does alive
   reaches_so o all2 (kills_itself task is does) =
       kill_itself_so turn lib name free free_beside task s.consumed s.destinations (next ∙ ap (AtCall name) (site_is (task_kill task) is)) all2 o does

@@ -17,6 +17,8 @@ use Rattle.zl_code.specs.declared.history.Outcome.TheVariants as outcome
 use Rattle.zl_objects.specs.declared.object.Body.{Body}
 use Rattle.zl_objects.specs.declared.object.Body.TheVariants as body
 use Rattle.zl_objects.specs.declared.object.Object.{Object}
+use Rattle.zl_calls.proofs.processes.Freed.{entry_there}
+use Rattle.zl_calls.specs.World.{free_of}
 use Rattle.zl_calls.specs.declared.process.Process.{Process}
 use Rattle.zl_calls.specs.declared.process.State.TheVariants as state
 use Rattle.zl_calls.proofs.calls.Answered.{IsWrite, may_get_inserted}
@@ -27,12 +29,7 @@ use Rattle.zl_calls.proofs.lists.Updates.{update_twice, update_unseen}
 
 -- the map has the first with the koid
 pub process_there : (ps : List Process) (k : ℕ) → get (map process_entry ps) k ≡ option_map process_value (process_at ps k)
-unfolding get
-process_there [] k = refl
-process_there (q ∷ ps) k = elim (cases_Bool (q.pid == k)) as (λ _. get (map process_entry (q ∷ ps)) k ≡ option_map process_value (process_at (q ∷ ps) k)) [
-  | inl here ↦ rw here refl
-  | inr apart ↦ rw apart (process_there ps k)
-]
+process_there = entry_there process_value
 
 pub below_at : (k : ℕ) (ps : List Process) (i : ℕ) (q : Process) → IsTrue (below_all nat_cmp k (map process_entry ps)) → slice_get ps i ≡ Some q → k < q.pid
 below_at k [] i q below at = absurd (none-some q at)
@@ -40,34 +37,38 @@ below_at k (x ∷ ps) zero q below at = subst (λ (y : Process). k < y.pid) (sam
 below_at k (x ∷ ps) (suc i) q below at = below_at k ps i q (below_parts k (process_entry x) (map process_entry ps) below).1 at
 
 -- where koids rise, a process is written under its koid
+module _ {Y : Type 0} (value : Process → Y) where
+  abbrev entries : List Process → Map Y
+  entries = map (λ (p : Process). (p.pid, value p))
+
+  record IsWritten (ps after : List Process) (q q2 : Process) : Type 0 where
+    pub there : get (entries ps) q.pid ≡ Some (value q)
+    pub writes : (f : Y → Y) → value q2 ≡ f (value q) → entries after ≡ update (entries ps) q.pid f
+
+  written_at : (ps : List Process) (i : ℕ) (q q2 : Process) → IsTrue (is_sorted nat_cmp (map process_entry ps)) → slice_get ps i ≡ Some q → q2.pid ≡ q.pid
+      → IsWritten ps (slice_set ps i q2) q q2
+  unfolding get update
+  written_at [] i q q2 sorted at same = absurd (none-some q at)
+  written_at (x ∷ ps) zero q q2 sorted at same =
+      let is : x ≡ q = same_Some x q at in
+      let here : (x.pid == q.pid) ≡ true = eq-eqb x.pid q.pid (ap (λ (y : Process). y.pid) is) in
+      record {
+        there = rw here (ap (λ (y : Process). Some (value y)) is);
+        writes = λ f now. rw here (λ i. (same i, (now ∙ ap (λ (y : Process). f (value y)) (sym is)) i) ∷ entries ps);
+      }
+  written_at (x ∷ ps) (suc i) q q2 sorted at same =
+      let parts = sorted_parts (process_entry x) (map process_entry ps) sorted in
+      let before : x.pid < q.pid = below_at x.pid ps i q parts.0 at in
+      let apart : (x.pid == q.pid) ≡ false = ne_eqb x.pid q.pid (λ e. absurd (omega (arith, before, e))) in
+      let rest : IsWritten ps (slice_set ps i q2) q q2 = written_at ps i q q2 parts.1 at same in
+      record { there = rw apart rest.there; writes = λ f now. rw apart (ap (λ (m : Map Y). (x.pid, value x) ∷ m) (rest.writes f now)) }
+
 pub writes_at : (ps : List Process) (i : ℕ) (q q2 : Process) → IsTrue (is_sorted nat_cmp (map process_entry ps)) → slice_get ps i ≡ Some q → q2.pid ≡ q.pid
     → IsWrite ps (slice_set ps i q2) q q2
-unfolding get update
-writes_at [] i q q2 sorted at same = absurd (none-some q at)
-writes_at (x ∷ ps) zero q q2 sorted at same =
-    let is : x ≡ q = same_Some x q at in
-    let here : (x.pid == q.pid) ≡ true = eq-eqb x.pid q.pid (ap (λ (y : Process). y.pid) is) in
-    record { there = first_there here is; writes = λ f now. first_written here is f now }
-  where
-    first_there : (x.pid == q.pid) ≡ true → x ≡ q → get (map process_entry (x ∷ ps)) q.pid ≡ Some (process_value q)
-    first_there here is = rw here (ap (λ (y : Process). Some (process_value y)) is)
-
-    first_written : (x.pid == q.pid) ≡ true → x ≡ q → (f : ProcessValue → ProcessValue) → process_value q2 ≡ f (process_value q)
-        → map process_entry (q2 ∷ ps) ≡ update (map process_entry (x ∷ ps)) q.pid f
-    first_written here is f now = rw here (λ i. (same i, (now ∙ ap (λ (y : Process). f (process_value y)) (sym is)) i) ∷ map process_entry ps)
-writes_at (x ∷ ps) (suc i) q q2 sorted at same =
-    let parts = sorted_parts (process_entry x) (map process_entry ps) sorted in
-    let before : x.pid < q.pid = below_at x.pid ps i q parts.0 at in
-    let apart : (x.pid == q.pid) ≡ false = ne_eqb x.pid q.pid (λ e. absurd (omega (arith, before, e))) in
-    let rest : IsWrite ps (slice_set ps i q2) q q2 = writes_at ps i q q2 parts.1 at same in
-    record { there = later_there apart rest; writes = λ f now. later_written apart rest f now }
-  where
-    later_there : (x.pid == q.pid) ≡ false → IsWrite ps (slice_set ps i q2) q q2 → get (map process_entry (x ∷ ps)) q.pid ≡ Some (process_value q)
-    later_there apart rest = rw apart (rest.there)
-
-    later_written : (x.pid == q.pid) ≡ false → IsWrite ps (slice_set ps i q2) q q2 → (f : ProcessValue → ProcessValue) → process_value q2 ≡ f (process_value q)
-        → map process_entry (x ∷ slice_set ps i q2) ≡ update (map process_entry (x ∷ ps)) q.pid f
-    later_written apart rest f now = rw apart (ap (λ (m : Map ProcessValue). process_entry x ∷ m) (rest.writes f now))
+writes_at ps i q q2 sorted at same =
+    let seen = written_at process_value ps i q q2 sorted at same in
+    let free = written_at free_of ps i q q2 sorted at same in
+    record { there = seen.there; writes = seen.writes; free_there = free.there; frees = free.writes (λ _. free_of q2) refl }
 
 -- changes at two keys
 pub update_apart : {X : Type 0} (m : Map X) (j k : ℕ) (f g : X → X) → (j == k) ≡ false → update (update m j f) k g ≡ update (update m k g) j f
@@ -96,13 +97,11 @@ module _ (lib : Library) (ps : List Process) (r : Objects) (p : Process) (there 
   pub table_there : table_of w p.pid ≡ p.table.entries
   table_there = rw there refl
 
-  by_child : (o : Option Process) (e : Entry)
-      → first_some (answer_if (not (state_passes is_created (option_map process_value o))) status.BadState
+  by_child : (o : Option Process) (e : Entry) → first_some (answer_if (not (state_passes is_created (option_map process_value o))) status.BadState
       ∷ answer_if (misfits (program_in lib (option_map process_value o)) (Some e)) status.InvalidArgs ∷ [])
       ≡ answers (child_refusal lib o e)
   by_child None e = refl
-  by_child (Some q) e =
-      two_tests (not (is_created (state_value q.state))) (misfits (slice_get lib q.program) (Some e)) status.BadState status.InvalidArgs
+  by_child (Some q) e = two_tests (not (is_created (state_value q.state))) (misfits (slice_get lib q.program) (Some e)) status.BadState status.InvalidArgs
 
   pub start_refused : refusal lib w p.pid (process_start process h word) ≡ answers (start_refusal lib ps p.table.entries process h)
   unfolding handle_operands operands_fault listed is_process
@@ -192,7 +191,13 @@ module _ (lib : Library) (ps : List Process) (r : Objects) (p : Process) (there 
 
     pub start_calls : start_refusal lib ps p.table.entries process h ≡ None → (after : List Process) (k : ℕ)
         → map process_entry after ≡ update (update (map process_entry ps) named.koid child_after) p.pid caller_after
-        → Calls lib w p.pid start_site (outcome.Answered status.Ok) (world_value after (starting r k))
+        → (c : Calls lib w p.pid start_site (outcome.Answered status.Ok) (world_value after (starting r k))) × (c.0 ≡ Values (value ∷ []))
     unfolding effect gives_ok new_handles taken_handles handle_operands
-    start_calls unrefused after k written =
-        (Values (value ∷ []), rw (start_refused, unrefused) (start_chosen, refl, rw (table_there, named_there, given_there) (start_ends after k written)))
+    start_calls unrefused after k written = (
+      (
+        Values (value ∷ []),
+        rw (start_refused, unrefused)
+            (start_chosen, refl, rw (table_there, named_there, given_there) (start_ends after k written)),
+      ),
+      refl,
+    )

@@ -88,8 +88,7 @@ module _ (lib : Library) (ps : List Process) (place child process h : ℕ) (e : 
 
     pub enters_so :
         (refusal : (caller : Process) → slice_get ps place ≡ Some caller → ◌≡◌ {A = Option Status} None (start_refusal lib ps caller.table.entries process h))
-        (t2 : Handles) (value : ℕ)
-        → Inserts q.table e value t2 → (caller : Process) → slice_get ps place ≡ Some caller
+        (t2 : Handles) (value : ℕ) → Inserts q.table e value t2 → (caller : Process) → slice_get ps place ≡ Some caller
         → Enters lib ps caller process h (record { place = child; handle = value }) (slice_set ps child (record q { table = t2 }))
     enters_so refusal t2 value inserts caller at =
         let is : q ≡ (found caller at).at.child = is_child caller at in

@@ -9,6 +9,7 @@ use Rattle.zl_rights.specs.declared.kind.Kind.TheVariants as kind
 use Rattle.zl_rights.specs.declared.status.Status.TheVariants as status
 use Rattle.zl_code.specs.declared.history.Outcome.TheVariants as outcome
 use Rattle.zl_calls.specs.declared.process.Process.{Process}
+use Rattle.zl_code.proofs.Common.{Values}
 use Rattle.zl_calls.proofs.calls.Answered.{IsWrite}
 use Rattle.zl_calls.proofs.tasks.StartCalls.{caller_is, child_is, start_calls, writes_at}
 use Rattle.zl_calls.proofs.tasks.StartParts.{get_set, not_both, set_apart, set_twice}
@@ -50,8 +51,7 @@ module _ {lib : Library} {ps : List Process} {r : Objects} {blocked : List ℕ} 
 
   pub all_is : all2.processes ≡ slice_set (slice_set ps does.at_place does.started) place p2
   all_is =
-      tells.processes
-      ∙ ((λ i. slice_set (does.processes i) place (told_is i))
+      tells.processes ∙ ((λ i. slice_set (does.processes i) place (told_is i))
       ∙ (ap (λ (qs : List Process). slice_set qs place p2) (set_apart ps place does.at_place does.after does.started (λ e. apart (sym e)))
       ∙ set_twice (slice_set ps does.at_place does.started) place does.after p2))
 
@@ -70,7 +70,7 @@ module _ {lib : Library} {ps : List Process} {r : Objects} {blocked : List ℕ} 
   caller_held : get (map process_entry ps) p.pid ≡ Some (process_value p)
   caller_held = (writes_at ps place p p sorted is_caller refl).there
 
-  other_pid : (p.pid == does.named.koid) ≡ false
+  pub other_pid : (p.pid == does.named.koid) ≡ false
   other_pid = elim (cases_Bool (p.pid == does.named.koid)) as (λ _. (p.pid == does.named.koid) ≡ false) [
     | inl here ↦
         let same : does.child.pid ≡ p.pid = does.pid ∙ sym (eqb-true p.pid does.named.koid here) in
@@ -107,17 +107,16 @@ module _ {lib : Library} {ps : List Process} {r : Objects} {blocked : List ℕ} 
 
   processes_are : map process_entry all2.processes ≡ update (update (map process_entry ps) does.named.koid child_now) p.pid caller_now
   processes_are =
-      ap (λ (qs : List Process). map process_entry qs) all_is
-      ∙ (caller_write.writes caller_now caller_seen
+      ap (λ (qs : List Process). map process_entry qs) all_is ∙ (caller_write.writes caller_now caller_seen
       ∙ ap (λ (m : Map ProcessValue). update m p.pid caller_now)
       (child_write.writes child_now child_seen ∙ ap (λ (k : ℕ). update (map process_entry ps) k child_now) does.pid))
 
   -- the call of the definitions
-  pub start_relates : Calls lib (world_value ps r) p.pid s (outcome.Answered status.Ok) (world_value all2.processes all2.objects)
+  pub start_relates : (c : Calls lib (world_value ps r) p.pid s (outcome.Answered status.Ok) (world_value all2.processes all2.objects))
+      × (c.0 ≡ Values (does.value ∷ []))
   start_relates =
-      subst (λ (x : Objects). Calls lib (world_value ps r) p.pid s (outcome.Answered status.Ok) (world_value all2.processes x))
-      (sym (tells.objects ∙ does.objects))
+      subst (λ (x : Objects). (c : Calls lib (world_value ps r) p.pid s (outcome.Answered status.Ok) (world_value all2.processes x))
+      × (c.0 ≡ Values (does.value ∷ []))) (sym (tells.objects ∙ does.objects))
       (start_calls lib ps r p caller_held process h word consumed destinations does.named does.given is_named is_given other_pid does.child does.started
-      child_held does.value does.inserts
-      (subst (λ (q : Process). start_refusal lib ps q.table.entries process h ≡ None) same_caller does.unrefused)
+      child_held does.value does.inserts (subst (λ (q : Process). start_refusal lib ps q.table.entries process h ≡ None) same_caller does.unrefused)
       all2.processes does.child.pid processes_are)

@@ -16,13 +16,18 @@ use Rattle.zl_calls.proofs.processes.Departed.{left_all, settled_world}
 use Rattle.zl_calls.proofs.waits.LeftWaits.{lists_kept}
 use Rattle.zl_calls.proofs.calls.DoneCalls.{IsDone}
 use Rattle.zl_calls.proofs.processes.Idle.{are_bare}
+use Rattle.zl_calls.proofs.Common.{lives}
+use Rattle.zl_calls.proofs.calls.Owned.{IsOwn, IsOwnCall, own_call_of}
+use Rattle.zl_calls.proofs.tasks.StartOwn.{start_own}
+use Rattle.zl_code.proofs.Common.{Values}
+use Rattle.zl_calls.proofs.stepping.OwnCalls.{call_beside}
 use Rattle.zl_calls.proofs.stepping.FromConsistent.{IsFree, call_settles}
 use Rattle.zl_calls.proofs.stepping.Performing.{AtTurn, HasLeft, acted_so, is_caller, itself, key, left_as, left_with, ready, unblocked, write_of}
 use Rattle.zl_calls.proofs.objects.Settled.{still_settles}
 use Rattle.zl_calls.proofs.tasks.StartCalls.{start_refused}
 use Rattle.zl_calls.proofs.tasks.StartParts.{get_set, set_twice}
 use Rattle.zl_calls.proofs.tasks.StartSound.{created_state, start_blocked, start_keeps}
-use Rattle.zl_calls.proofs.tasks.StartSteps.{all_is, caller_write, child_write, is_given, is_named, start_relates}
+use Rattle.zl_calls.proofs.tasks.StartSteps.{all_is, caller_write, child_write, is_given, is_named, other_pid, start_relates}
 use Rattle.zl_calls.proofs.calls.TakenCalls.{taking_done}
 use Rattle.zl_calls.proofs.calls.Refused.{is_found, is_of_kind}
 
@@ -68,6 +73,9 @@ module _ {ps : List Process} {r : Objects} {blocked : List ℕ} {pid place : ℕ
         acted_so turn lib after_it told r2 (item.Call pid name (outcome.Answered answer)) write_told (unblocked turn) refl refl (ap next_looks next)
         refused_done.consistent (rw (← key turn) (refused_done.step free))
         (rw next (lists_kept (left_all after_it r2) r r2 r.waits r.waits_made closes.listed.listed))
+        (λ did no. rw (← key turn) (call_beside lib ps after_it r r2 blocked p.pid turn.sound (process_value p) (itself turn).there (ready turn) turn.are name
+        (outcome.Answered answer) refused_done.own free (ap next_looks next) refl
+        (rw next (lists_kept (left_all after_it r2) r r2 r.waits r.waits_made closes.listed.listed)) no))
 
   -- ---- it is done
 
@@ -132,19 +140,29 @@ module _ {ps : List Process} {r : Objects} {blocked : List ℕ} {pid place : ℕ
     objects_are : all2.objects ≡ begun
     objects_are = tells.objects ∙ does.objects
 
-    relates : Calls lib (world_value ps r) p.pid s (outcome.Answered status.Ok) (world_value after begun)
-    relates = subst (λ (w : World). Calls lib (world_value ps r) p.pid s (outcome.Answered status.Ok) w) (λ i. world_value (processes_are i) (objects_are i))
-        (start_relates at_place turn.ready turn.consistent.processes_in_order does tells)
+    relates : (c : Calls lib (world_value ps r) p.pid s (outcome.Answered status.Ok) (world_value after begun)) × (c.0 ≡ Values (does.value ∷ []))
+    relates = subst (λ (w : World). (c : Calls lib (world_value ps r) p.pid s (outcome.Answered status.Ok) w) × (c.0 ≡ Values (does.value ∷ [])))
+        (λ i. world_value (processes_are i) (objects_are i)) (start_relates at_place turn.ready turn.consistent.processes_in_order does tells)
+
+    begun_own : IsOwnCall lib ps after r begun p.pid name (outcome.Answered status.Ok)
+    begun_own = own_call_of lib ps after r begun p name s (outcome.Answered status.Ok) (itself turn).there next (world_value after begun) relates.0
+        (λ living. subst (IsOwn ps after r p.pid s.request) (sym relates.1)
+        (start_own (itself turn) write_child write_caller r process h word does.named does.given named_is given_is does.pid
+        (other_pid at_place turn.ready turn.consistent.processes_in_order does tells)
+        (ap lives (created_state does.child.state does.is_created)) is_ready_now does.value does.inserts refl living)) (still_settles after begun keeps)
 
     step : IsActed lib (world_value ps r) p.pid (item.Call p.pid name (outcome.Answered status.Ok)) (settled_world after begun)
     step =
         call_settles lib ps after r begun begun p name s (outcome.Answered status.Ok) (itself turn).there
-        (ready turn) next relates (still_settles after begun keeps) free
+        (ready turn) next relates.0 (still_settles after begun keeps) free
 
     begun_so : HasLeft lib ps after r begun blocked blocked pid (item.Call pid name (outcome.Answered status.Ok))
     begun_so =
         left_with turn lib after begun (item.Call pid name (outcome.Answered status.Ok)) refl refl (ap next_looks next) keeps list (rw (← key turn) step)
         (rw next (record { waits = λ test h. refl; made = refl; asleep = (refl, refl) }))
+        (λ did no. rw (← key turn) (call_beside lib ps after r begun blocked p.pid turn.sound (process_value p) (itself turn).there (ready turn) turn.are name
+        (outcome.Answered status.Ok) begun_own free (ap next_looks next) refl
+        (rw next (record { waits = λ test h. refl; made = refl; asleep = (refl, refl) })) no))
 
   -- ---- either
 

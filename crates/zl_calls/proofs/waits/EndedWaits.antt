@@ -26,8 +26,7 @@ acted_over p p2 r r2 o s acts ends = (acted_exits (action_of p.pid s.request) s 
 module _ {before after : List Process} {p p2 : Process} (write : IsWrite before after p p2) (r2 : Objects) where
   pub over_none : p2.table.entries ≡ [] → (k v : ℕ) → IsTrue (k == p.pid) → has_handle (get (map process_entry (left_all after r2)) k) v ≡ false
   unfolding get
-  over_none none k v own =
-      handles_left after r2 k v ∙ rw (get_after write k, eq-eqb p.pid k (sym (eqb-true k p.pid own)), none) refl
+  over_none none k v own = handles_left after r2 k v ∙ rw (get_after write k, eq-eqb p.pid k (sym (eqb-true k p.pid own)), none) refl
 
   pub ended_none : (o : Outcome) (pid : ℕ) → p.pid ≡ pid → (is_end o ≡ true → p2.table.entries ≡ []) → (k v : ℕ) → IsTrue (is_end o && (k == pid))
       → has_handle (get (map process_entry (left_all after r2)) k) v ≡ false

@@ -45,8 +45,7 @@ module _ (test : Wait → Bool) (old : Objects) where
       beside = so_far.beside;
       waits = sifting_ends test old.waits place now.waits none so_far.list;
       made = so_far.made;
-      asleep =
-          so_far.asleep;
+      asleep = so_far.asleep;
     }
 
     module _ (x : Wait) (at : slice_get now.waits place ≡ Some x) where

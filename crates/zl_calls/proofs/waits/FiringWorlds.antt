@@ -208,8 +208,7 @@ module _ (ps : List Process) (first : Objects) (place : ℕ) (r : Objects) (so_f
 
       same_holds : holds_now fired_here.objects ≡ holds_now r.objects
       same_holds =
-          sym (told_by_objects ps fired_here fired_consistent)
-          ∙ (sym (holds_blocked ps fired_here [])
+          sym (told_by_objects ps fired_here fired_consistent) ∙ (sym (holds_blocked ps fired_here [])
           ∙ (ap holds (world_is []) ∙ (one_holds (world_blocked ps r []) split.before split.behind (wait_at k y)
           ∙ (holds_blocked ps r [] ∙ told_by_objects ps r so_far.consistent))))
 

@@ -104,18 +104,23 @@ module _ (lib : Library) (before after : List Process) (r r2 : Objects) (pid : �
   abbrev w2 : World
   w2 = world_value after r2
 
+  -- the waits that settling leaves are those that are left
+  pub left_same : (ws : List Wait) (made : ℕ) (b : List ℕ)
+      → ActsAndSettles lib (world_blocked before r blocked) pid x (with_waiters w2 (filter (is_left_at_port w2) ws) made b) → ListsLeft after ws made r r2
+      → ◌≡◌ {A = World} (with_waiters w2 (filter (is_left_at_port w2) ws) made b) (world_left after r2 b)
+  left_same ws made b steps lists =
+      let alike : filter (is_left_at_port w2) ws ≡ filter (is_left w2) r2.waits =
+      sym (left_alike w2 ws made b (settled_sound lib (world_blocked before r blocked) pid x _ sound steps))
+      ∙ sym (lists.waits (is_left w2) (λ x left. left)) in
+      λ i. with_waiters w2 (alike i) (sym lists.made i) b
+
   -- a step up to where waits fire, by the waits that settling leaves
   pub left_by : (ws : List Wait) (made : ℕ) (b : List ℕ)
       → ActsAndSettles lib (world_blocked before r blocked) pid x (with_waiters w2 (filter (is_left_at_port w2) ws) made b) → ListsLeft after ws made r r2
       → IsActed lib (world_blocked before r blocked) pid x (world_left after r2 b)
   left_by ws made b steps lists =
-      let alike : filter (is_left_at_port w2) ws ≡ filter (is_left w2) r2.waits =
-      sym (left_alike w2 ws made b (settled_sound lib (world_blocked before r blocked) pid x _ sound steps))
-      ∙ sym (lists.waits (is_left w2) (λ x left. left)) in
-      let same : ◌≡◌ {A = World} (with_waiters w2 (filter (is_left_at_port w2) ws) made b) (world_left after r2 b) =
-      (λ i. with_waiters w2 (alike i) (sym lists.made i) b) in
       let moved : ActsAndSettles lib (world_blocked before r blocked) pid x (world_left after r2 b) =
-      subst (ActsAndSettles lib (world_blocked before r blocked) pid x) same steps in
+      subst (ActsAndSettles lib (world_blocked before r blocked) pid x) (left_same ws made b steps lists) steps in
       record { process = moved.process; is_there = moved.is_there; is_ready = moved.is_ready; acted = moved.acted; acts = moved.acts; settles = moved.settles }
 
   -- a process that isn't blocked, doesn't look at waits and doesn't block does the same beside them as where nothing waits

@@ -58,10 +58,7 @@ module _ (pid : ℕ) (entries : Map Entry) (old : Objects) where
 
   pub own_ended : (t : Handles) (now : Objects) → t.entries ≡ [] → IsEndingOwn pid entries old t.entries now → EndsOwn pid entries old now
   unfolding get
-  own_ended t now none so_far = record {
-    keeps = so_far.keeps;
-    gone = λ x e own at names there. none-some e (rw none at (so_far.still x e own at names there));
-  }
+  own_ended t now none so_far = record { keeps = so_far.keeps; gone = λ x e own at names there. none-some e (rw none at (so_far.still x e own at names there)) }
 
 -- the process has ended before that
 pub own_over : (pid : ℕ) (entries : Map Entry) (old mid r2 : Objects) → KeepsWithout (λ k. k == pid) old mid → EndsOwn pid entries mid r2

@@ -30,8 +30,7 @@ module _ {X : Type 0} (test : X → Bool) where
   ]
 
 -- what passes neither of two tests is left by both
-filter_twice : {X : Type 0} (p q : X → Bool) (xs : List X)
-    → filter (λ x. not (q x)) (filter (λ x. not (p x)) xs) ≡ filter (λ x. not (p x || q x)) xs
+filter_twice : {X : Type 0} (p q : X → Bool) (xs : List X) → filter (λ x. not (q x)) (filter (λ x. not (p x)) xs) ≡ filter (λ x. not (p x || q x)) xs
 filter_twice p q [] = refl
 filter_twice {X} p q (x ∷ xs) =
     elim (cases_Bool (p x)) as (λ _. filter (λ y. not (q y)) (filter (λ y. not (p y)) (x ∷ xs)) ≡ filter (λ y. not (p y || q y)) (x ∷ xs)) [
@@ -48,8 +47,7 @@ filter_alike {X} p q (x ∷ xs) all =
 
 any_alike : {X : Type 0} (p q : X → Bool) (xs : List X) → All (λ x. p x ≡ q x) xs → list_any p xs ≡ list_any q xs
 any_alike p q [] all = refl
-any_alike {X} p q (x ∷ xs) all =
-    (λ i. All-head (λ y. p y ≡ q y) x xs all i || any_alike p q xs (All-tail (λ y. p y ≡ q y) x xs all) i)
+any_alike {X} p q (x ∷ xs) all = (λ i. All-head (λ y. p y ≡ q y) x xs all i || any_alike p q xs (All-tail (λ y. p y ≡ q y) x xs all) i)
 
 some_passes : {X : Type 0} (p : X → Bool) (xs : List X) (y : X) → find p xs ≡ Some y → list_any p xs ≡ true
 some_passes p [] y some = absurd (none-some y some)
@@ -298,8 +296,4 @@ module _ (ps : List Process) where
         ∙ (λ i. record (world_left ps r blocked) { waits = filter_within (is_left (world_value ps r)) (is_left (world_value ps r)) r.waits (λ x t. t) i })
 
     pub ended_again : EndsUnheld ps r2 r2
-    ended_again = record {
-      world = λ blocked. unheld.world blocked ∙ sym (ended_left blocked);
-      consistent = unheld.consistent;
-      asleep = (refl, refl);
-    }
+    ended_again = record { world = λ blocked. unheld.world blocked ∙ sym (ended_left blocked); consistent = unheld.consistent; asleep = (refl, refl) }

@@ -53,12 +53,10 @@ module _ (p p2 : Process) (r r2 : Objects) where
   changed k f is = stays (record r { objects = update r.objects k f }) is refl refl (refl, refl)
 
   one_made : (b : Body) (made : ℕ) → MakesOne b p.table r made p2.table r2 → Stays r r2
-  one_made b made makes =
-      stays (with_new r b 1) makes.objects refl refl (refl, refl)
+  one_made b made makes = stays (with_new r b 1) makes.objects refl refl (refl, refl)
 
   pair_made : (pair : Pair) (made : ℕ × ℕ) → MakesPair pair p.table r made p2.table r2 → Stays r r2
-  pair_made pair made makes =
-      stays (with_pair r pair 1) makes.objects refl refl (refl, refl)
+  pair_made pair made makes = stays (with_pair r pair 1) makes.objects refl refl (refl, refl)
 
   -- where it is refused, nothing changes
   does_stay : {A : Type 0} (Done : A → Handles → Objects → Type 0) (wants : Status → Bool) (refusal : Option Status) (answer : Result A Status)
@@ -75,8 +73,7 @@ module _ (p p2 : Process) (r r2 : Objects) where
     request_stays (replace h asked) keeps plain acts = absurd (false≢true keeps)
     request_stays (chan_write end bytes hs) keeps plain acts = absurd (false≢true keeps)
     request_stays (process_exit code) keeps plain acts = absurd (false≢true keeps)
-    request_stays (dup h asked) keeps plain acts =
-        does_stay _ _ _ acts.answer acts.acts (λ x done. changed _ _ done.objects)
+    request_stays (dup h asked) keeps plain acts = does_stay _ _ _ acts.answer acts.acts (λ x done. changed _ _ done.objects)
     request_stays chan_create keeps plain acts = does_stay _ _ _ acts.answer acts.acts (pair_made _)
     request_stays eventpair_create keeps plain acts = does_stay _ _ _ acts.answer acts.acts (pair_made _)
     request_stays (chan_read_etc h address room places) keeps plain acts = read acts.answer acts.acts
@@ -87,22 +84,16 @@ module _ (p p2 : Process) (r r2 : Objects) where
     request_stays event_create keeps plain acts = does_stay _ _ _ acts.answer acts.acts (one_made _)
     request_stays port_create keeps plain acts = does_stay _ _ _ acts.answer acts.acts (one_made _)
     request_stays (job_create j) keeps plain acts = does_stay _ _ _ acts.answer acts.acts (λ x done. one_made _ x done.makes)
-    request_stays (signal h clear set) keeps plain acts =
-        does_stay _ _ _ acts.answer acts.acts (λ x done. changed _ _ done.objects)
-    request_stays (signal_peer h clear set) keeps plain acts =
-        does_stay _ _ _ acts.answer acts.acts (λ x done. changed _ _ done.objects)
+    request_stays (signal h clear set) keeps plain acts = does_stay _ _ _ acts.answer acts.acts (λ x done. changed _ _ done.objects)
+    request_stays (signal_peer h clear set) keeps plain acts = does_stay _ _ _ acts.answer acts.acts (λ x done. changed _ _ done.objects)
     request_stays (wait_one h mask) keeps plain (inl acts) = does_stay _ _ _ acts.answer acts.acts (λ x done. unchanged done.objects)
     request_stays (wait_one h mask) keeps plain (inr blocks) = unchanged blocks.objects
     request_stays (wait_poll h mask) keeps plain acts = unchanged acts.acts.objects
-    request_stays (port_queue port key value) keeps plain acts =
-        does_stay _ _ _ acts.answer acts.acts (λ x done. changed _ _ done.objects)
-    request_stays (port_wait port) keeps plain (inl acts) =
-        does_stay _ _ _ acts.answer acts.acts (λ x done. changed _ _ done.objects)
+    request_stays (port_queue port key value) keeps plain acts = does_stay _ _ _ acts.answer acts.acts (λ x done. changed _ _ done.objects)
+    request_stays (port_wait port) keeps plain (inl acts) = does_stay _ _ _ acts.answer acts.acts (λ x done. changed _ _ done.objects)
     request_stays (port_wait port) keeps plain (inr blocks) = unchanged blocks.objects
-    request_stays (port_poll port) keeps plain acts =
-        does_stay _ _ _ acts.answer acts.acts (λ x done. changed _ _ done.objects)
-    request_stays (job_set_policy j mode condition action) keeps plain acts =
-        does_stay _ _ _ acts.answer acts.acts (λ x done. changed _ _ done.objects)
+    request_stays (port_poll port) keeps plain acts = does_stay _ _ _ acts.answer acts.acts (λ x done. changed _ _ done.objects)
+    request_stays (job_set_policy j mode condition action) keeps plain acts = does_stay _ _ _ acts.answer acts.acts (λ x done. changed _ _ done.objects)
     request_stays (wait_async h port key mask) keeps plain acts = absurd (true≢false plain)
     request_stays (port_cancel port source key) keeps plain acts = absurd (true≢false plain)
     request_stays _ keeps plain acts = absurd acts
@@ -128,8 +119,7 @@ module _ (p p2 : Process) (r r2 : Objects) where
         replaced (Ok made) ends does = rw ends (record {
           waits = λ test there. ap (filter test) does.ok.ends.waits;
           made = does.ok.ends.made;
-          asleep =
-              does.ok.ends.asleep;
+          asleep = does.ok.ends.asleep;
         })
         replaced (Err s) ends does = rw (ends, refused_replace (get p.table.entries h) h asked p.pid r.waits s does.err) does.closed.listed.listed
     by_request (chan_write end bytes hs) plain acts = written acts.answer acts.acts

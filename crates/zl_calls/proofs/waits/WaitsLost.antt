@@ -51,8 +51,7 @@ lists_wide {over} {over2} wider ws made old r lists = record {
     ]
 
 pub listed_wide : {over over2 : ℕ → Bool} → ((k : ℕ) → IsTrue (over k) → IsTrue (over2 k)) → (r r2 : Objects) → KeepsWithout over r r2 → KeepsWithout over2 r r2
-listed_wide wider r r2 keeps =
-    record { shrinks = keeps.shrinks; older = keeps.older; listed = lists_wide wider r.waits r.waits_made r r2 keeps.listed }
+listed_wide wider r r2 keeps = record { shrinks = keeps.shrinks; older = keeps.older; listed = lists_wide wider r.waits r.waits_made r r2 keeps.listed }
 
 -- one after the other
 pub listed_then : {over : ℕ → Bool} (r mid r2 : Objects) → KeepsWithout over r mid → KeepsWithout over mid r2 → KeepsWithout over r r2

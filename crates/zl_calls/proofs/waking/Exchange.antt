@@ -147,8 +147,7 @@ module _ (w : World) (p : ℕ) where
           subst AreSorted (sym (packet_turn w p a k ds o x rest at is there port)) (ready_sorted (with_body w k o (PortBody rest)) a ds _
           (record { processes = sorted.processes; objects = put_sorted w.objects k _ sorted.objects }))
 
-  ready_at : (v : World) (a : Process) (ds vs : List ℕ) (q : ℕ)
-      → get (made_ready v p a ds vs).processes q
+  ready_at : (v : World) (a : Process) (ds vs : List ℕ) (q : ℕ) → get (made_ready v p a ds vs).processes q
       ≡ (if p == q then Some (record a { state = Ready; cpu = answered a.cpu ds vs }) else get v.processes q)
   unfolding made_ready
   ready_at v a ds vs q = get-put v.processes p _ q
@@ -230,8 +229,7 @@ module _ (w : World) (p q : ℕ) (apart : (p == q) ≡ false) where
   -- it does nothing, before or afterwards
   idle_second : Idle w q → woken (woken w p) q ≡ woken (woken w q) p
   idle_second i =
-      idle_turn (woken w p) q (idle_later w q (woken w p) (woken-later w p) (other_turn w p q apart) i)
-      ∙ sym (ap (λ (v : World). woken v p) (idle_turn w q i))
+      idle_turn (woken w p) q (idle_later w q (woken w p) (woken-later w p) (other_turn w p q apart) i) ∙ sym (ap (λ (v : World). woken v p) (idle_turn w q i))
 
 module _ (w : World) (p q : ℕ) (sorted : AreSorted w) (apart : (p == q) ≡ false) (turned : (q == p) ≡ false)
     (none : (port : ℕ) → takes_in w port p ≡ true → takes_in w port q ≡ false) where
@@ -246,8 +244,7 @@ module _ (w : World) (p q : ℕ) (sorted : AreSorted w) (apart : (p == q) ≡ fa
   by_turns t (idle i) = idle_second w p q apart i
   by_turns (idle i) t = sym (idle_second w q p turned i)
   by_turns (by_signal a k m ds at is holds) (by_signal b j n es bt bis bholds) =
-      signal_second w p q apart b j n es bt bis bholds
-      ∙ (ap (λ (v : World). made_ready v q b es (0 ∷ active w j ∷ [])) (signal_turn w p a k m ds at is holds)
+      signal_second w p q apart b j n es bt bis bholds ∙ (ap (λ (v : World). made_ready v q b es (0 ∷ active w j ∷ [])) (signal_turn w p a k m ds at is holds)
       ∙ (ready_comm w w.objects p q a b ds es _ _ sorted.processes apart
       ∙ (ap (λ (v : World). made_ready v p a ds (0 ∷ active w k ∷ [])) (sym (signal_turn w q b j n es bt bis bholds))
       ∙ sym (signal_second w q p turned a k m ds at is holds))))

@@ -14,6 +14,7 @@ use Rattle.zl_objects.specs.declared.awaited.Awaited.TheVariants as awaits
 use Rattle.zl_objects.proofs.Sleeping.{at_port}
 use Rattle.zl_calls.specs.Blocking.{awaited_by, awaited_in}
 use Rattle.zl_calls.specs.declared.process.Process.{Process}
+use Rattle.zl_calls.specs.World.{held}
 use Rattle.zl_calls.specs.declared.waking.Woke.TheVariants as woke
 use Rattle.zl_calls.proofs.lists.Updates.{sorted_seen}
 use Rattle.zl_calls.proofs.stepping.Performing.{stands_there}
@@ -46,8 +47,7 @@ due_woke Gone r a is = absurd (none-some a is)
 
 -- the same of the process at a place of the list
 pub due_there : (ps : List Process) (pid place : ℕ) (p : Process) → Some place ≡ position (λ q. q.pid == pid) ps → p ≡ get_or ps place p
-    → (r : Objects) (a : Awaited)
-    → awaited_by (get (map process_entry ps) pid) ≡ Some a → is_some (given_awake (state_value p.state) r) ≡ is_due r.objects a
+    → (r : Objects) (a : Awaited) → awaited_by (get (map process_entry ps) pid) ≡ Some a → is_some (given_awake (state_value p.state) r) ≡ is_due r.objects a
 due_there ps pid place p found read r a is = due_woke (state_value p.state) r a (rw (stands_there ps pid place p found read) at is)
 
 pub same_awaited : (a b : Awaited) → is_same a b ≡ true → a ≡ b
@@ -100,14 +100,14 @@ pub record IsWakingListed (ps0 : List Process) (r0 : Objects) (first : List ℕ)
   pub sought : AreSought ps r
   pub stand : StandInOrder ps r blocked
   pub all : r.crowded ≡ false
-  pub count : length ps ≡ length ps0
+  pub held : map held ps ≡ map held ps0
   pub told : HaveLeft first who blocked
 
 module _ (ps0 : List Process) (r0 : Objects) (first : List ℕ) where
   pub listed_begins : IsConsistent ps0 r0 → AreBlocked ps0 first → AreSought ps0 r0 → StandInOrder ps0 r0 first → r0.crowded ≡ false
       → IsWakingListed ps0 r0 first ps0 r0 first woke.Nobody
   listed_begins consistent list sought stand all =
-      record { so_far = refl; consistent = consistent; list = list; sought = sought; stand = stand; all = all; count = refl; told = refl }
+      record { so_far = refl; consistent = consistent; list = list; sought = sought; stand = stand; all = all; held = refl; told = refl }
 
   module _ (ps : List Process) (r : Objects) (b : List ℕ) (who : Woke) (so_far : IsWakingListed ps0 r0 first ps r b who) where
     listed_there : (k : ℕ) (p : ProcessValue) (a : AwaitedValue) (ds : List ℕ) → get (map process_entry ps) k ≡ Some p → p.state ≡ Blocked a ds
@@ -128,7 +128,7 @@ module _ (ps0 : List Process) (r0 : Objects) (first : List ℕ) where
       list = so_far.list;
       sought = so_far.sought;
       ordered = inr so_far.stand;
-      count = so_far.count;
+      held = so_far.held;
       none_due = none;
       told = so_far.told;
     }
@@ -156,10 +156,7 @@ module _ (ps0 : List Process) (r0 : Objects) (first : List ℕ) where
           → filter test (listed_for r1.sleepers port) ≡ filter test (listed_for r.sleepers port)
       but_it test port out = sym (ap (filter test) (takes.order port) ∙ elim (cases_Bool (is_for port s.awaited)) as
           (λ _. filter test (if is_for port s.awaited then s.pid ∷ listed_for r1.sleepers port else listed_for r1.sleepers port)
-          ≡ filter test (listed_for r1.sleepers port)) [
-            | inl its ↦ rw (its, out its) refl
-            | inr other ↦ rw other refl
-          ])
+          ≡ filter test (listed_for r1.sleepers port)) [ inl its ↦ rw (its, out its) refl | inr other ↦ rw other refl ])
 
       -- it isn't blocked on that
       pub sleeper_stays : (awaited_by (get (map process_entry ps) s.pid) ≡ Some s.awaited → ⊥) → IsWakingListed ps0 r0 first ps r1 b who
@@ -172,7 +169,7 @@ module _ (ps0 : List Process) (r0 : Objects) (first : List ℕ) where
             )));
         stand = λ port. but_it (takes_at ps port) port (nowhere port) ∙ so_far.stand port;
         all = taken_all;
-        count = so_far.count;
+        held = so_far.held;
         told = so_far.told;
       }
         where
@@ -212,8 +209,7 @@ module _ (ps0 : List Process) (r0 : Objects) (first : List ℕ) where
 
         turns : fold woken (world_blocked ps2 r2 later) later ≡ fold woken (world_blocked ps r b) b
         turns =
-            ap (λ (w : World). fold woken w later) (wakes_it.world b)
-            ∙ (sym (turn_first s.pid b (world_blocked ps r1 b) sorted stands_once first_there)
+            ap (λ (w : World). fold woken w later) (wakes_it.world b) ∙ (sym (turn_first s.pid b (world_blocked ps r1 b) sorted stands_once first_there)
             ∙ ap (λ (w : World). fold woken w b) (taken_world b))
 
         list2 : AreBlocked ps2 later
@@ -287,7 +283,7 @@ module _ (ps0 : List Process) (r0 : Objects) (first : List ℕ) where
           sought = sought2;
           stand = stand2;
           all = kept.1 ∙ taken_all;
-          count = wakes_it.count ∙ so_far.count;
+          held = wakes_it.held ∙ so_far.held;
           told = one_left first b later s.pid who so_far.told stands_once refl;
         }
 
@@ -299,15 +295,15 @@ in_order ps r blocked (inr stand) all = stand
 
 -- each blocked process had its turn, and nobody is listed any more
 pub crowded_wakes : (ps0 : List Process) (r0 : Objects) (first : List ℕ) (who : Woke) (ps : List Process) (r : Objects) (b : List ℕ)
-    → world_blocked ps r b ≡ fold woken (world_blocked ps0 r0 first) first → IsConsistent ps r → AreBlocked ps b → length ps ≡ length ps0
+    → world_blocked ps r b ≡ fold woken (world_blocked ps0 r0 first) first → IsConsistent ps r → AreBlocked ps b → map held ps ≡ map held ps0
     → KeepSleepers r0 r → HaveLeft first who b → IsTrue r0.crowded → (r2 : Objects) → r2 ≡ record r { sleepers = [] } → Wakes ps0 r0 first who ps r2 b
-crowded_wakes ps0 r0 first who ps r b wakes consistent list count kept told crowded r2 is = rw is (record {
+crowded_wakes ps0 r0 first who ps r b wakes consistent list holds kept told crowded r2 is = rw is (record {
   wakes = wakes;
   consistent = beside_consistent ps r (record r { sleepers = [] }) (record { objects = refl; koids = refl }) consistent;
   list = list;
   sought = λ k p a ds at so. inl (kept.1 ∙ crowded);
   ordered = inl (kept.1 ∙ crowded);
-  count = count;
+  held = holds;
   none_due = λ i d inside. absurd (omega (arith, inside));
   told = told;
 })

@@ -170,10 +170,7 @@ module _ (ps ps2 : List Process) (pid port : ℕ) (b b2 : List ℕ)
   takes_parts : (k : ℕ) → IsTrue (other_takes k) → (takes_at ps2 port k ≡ true) × ((k == pid) ≡ false)
   takes_parts k h = let both = and_parts (takes_at ps2 port k) (not (k == pid)) h in (
     both.0,
-    elim (cases_Bool (k == pid)) as (λ _. (k == pid) ≡ false) [
-      | inl here ↦ absurd (false≢true (rw here at both.1))
-      | inr apart ↦ apart
-    ],
+    elim (cases_Bool (k == pid)) as (λ _. (k == pid) ≡ false) [ inl here ↦ absurd (false≢true (rw here at both.1)) | inr apart ↦ apart ],
   )
 
   was_so : (k : ℕ) → IsTrue (other_takes k) → IsTrue (takes_at ps port k)
@@ -206,5 +203,4 @@ module _ (ps ps2 : List Process) (pid port : ℕ) (b b2 : List ℕ)
   ends_in_order out out2 =
       filter-append (takes_at ps2 port) xs (pid ∷ [])
       ∙ ((λ i. (sym (left_out (takes_at ps2 port) pid xs out) ∙ (but_one ∙ left_out (takes_at ps2 port) pid b2 out2)) i ++ filter (takes_at ps2 port)
-      (pid ∷ []))
-      ∙ sym (filter-append (takes_at ps2 port) b2 (pid ∷ [])))
+      (pid ∷ [])) ∙ sym (filter-append (takes_at ps2 port) b2 (pid ∷ [])))

@@ -9,15 +9,22 @@ use Rattle.zl_code.specs.declared.history.TraceItem.TheVariants as item
 use Rattle.zl_code.proofs.StepsWaiting.{block_waiting}
 use Rattle.zl_code.specs.Sound.{IsSound as IsSoundWorld}
 use Rattle.zl_objects.specs.declared.object.Body.{Body}
+use Rattle.zl_calls.proofs.Common.{Request, World, handle_operands, is_process, none-some, port_wait, taken_handles, true, wait_one, without_handles}
+use Rattle.zl_code.proofs.StepsBeside.{blocks_among}
+use Rattle.zl_code.proofs.StepsWaiting.{settles_waiting}
+use Rattle.zl_code.specs.CallTable.{new_handles}
+use Rattle.zl_calls.proofs.calls.Owned.{IsMaker, own_plain, own_refused}
+use Rattle.zl_calls.proofs.stepping.OwnDone.{blocked_own, same_beside}
 use Rattle.zl_calls.specs.declared.process.Process.{Process}
 use Rattle.zl_calls.proofs.calls.Answered.{IsWrite}
 use Rattle.zl_calls.proofs.waking.BlockedLists.{one_asleep}
-use Rattle.zl_calls.proofs.waits.LeftWaits.{left_by}
+use Rattle.zl_calls.proofs.waits.LeftWaits.{left_by, left_same}
 use Rattle.zl_calls.proofs.objects.SameBodies.{alike_agrees}
 use Rattle.zl_calls.proofs.stepping.FromConsistent.{IsFree}
 use Rattle.zl_calls.proofs.processes.Departed.{left_all, settled_world}
 use Rattle.zl_calls.proofs.objects.Settled.{still_settles}
 use Rattle.zl_calls.proofs.processes.Written.{alike_states, keeps_table}
+use Rattle.zl_calls.specs.Own.{IsOwnDone, own_beside}
 
 -- p stands at a call that isn't refused, and there is something to wait for; it is then p2, which waits for that
 pub record IsAsleep (lib : Library) (before : List Process) (r r2 : Objects) (p p2 : Process) (name : CallName) (o : Outcome) : Type 0 where
@@ -51,8 +58,7 @@ module _ {before after : List Process} {r : Objects} {p p2 : Process} (lib : Lib
 
   pub asleep_list : (blocked : List ℕ) → AreBlocked before blocked → AreBlocked after (blocked ++ (p.pid ∷ []))
   asleep_list =
-      one_asleep write (ap is_blocked ready) (ap is_blocked sleeps.state)
-      (subst (λ (q : Process). q.cpu.counter < 2 ^ 32) (sym sleeps.process) sleeps.counter)
+      one_asleep write (ap is_blocked ready) (ap is_blocked sleeps.state) (subst (λ (q : Process). q.cpu.counter < 2 ^ 32) (sym sleeps.process) sleeps.counter)
 
   -- ---- the step
 
@@ -74,3 +80,34 @@ module _ {before after : List Process} {r : Objects} {p p2 : Process} (lib : Lib
       (free (process_value p) sleeps.at write.there sleeps.next ∙ sleeps.passes) sleeps.is_awaited (settled_world after r)
       (subst (λ u. Settles u (settled_world after r)) (sym asleep_world) (still_settles after r asleep_keeps)) r.waits r.waits_made blocked)
       (record { waits = λ test there. refl; made = refl; asleep = (refl, refl) })
+
+  -- what waits takes no handle, and makes none
+  makes_none : (request : Request) (awaited : Awaited) → awaited_by (world_value before r) p.pid request ≡ Some awaited
+      → IsMaker (world_value before r) p.pid request 0
+  unfolding new_handles taken_handles handle_operands
+  makes_none (wait_one h mask) awaited is = record { none = refl; chosen = refl; made = refl; own = refl }
+  makes_none (port_wait port) awaited is = record { none = refl; chosen = refl; made = refl; own = refl }
+  makes_none _ awaited is = absurd (none-some awaited is)
+
+  -- and the lab does it so
+  pub asleep_own : (blocked : List ℕ) → IsFree lib (world_value before r) p.pid name → IsSoundWorld (world_blocked before r blocked)
+      → IsOwnDone lib (own_beside before r blocked) p.pid (next_for lib (process_value p)) (item.Call p.pid name outcome.Blocked)
+      (world_left (left_all after r) r (blocked ++ (p.pid ∷ []))) after
+  unfolding is_process
+  asleep_own blocked free sound =
+      let w : World = world_value before r in
+      let passes = free (process_value p) sleeps.at write.there sleeps.next ∙ sleeps.passes in
+      let calls = blocks_among lib w p.pid (process_value p) write.there r.waits r.waits_made blocked sleeps.at sleeps.awaited passes sleeps.is_awaited in
+      let settled = subst (λ u. Settles u (settled_world after r)) (sym asleep_world) (still_settles after r asleep_keeps) in
+      let steps = block_waiting lib w p.pid (process_value p) write.there ready name sleeps.at sleeps.next sleeps.awaited passes sleeps.is_awaited
+      (settled_world after r) settled r.waits r.waits_made blocked in
+      let same = left_same lib before (left_all after r) r r p.pid (item.Call p.pid name outcome.Blocked) blocked sound r.waits r.waits_made
+      (blocked ++ (p.pid ∷ [])) steps (record { waits = λ test there. refl; made = refl; asleep = (refl, refl) }) in
+      let maker = makes_none sleeps.at.request sleeps.awaited sleeps.is_awaited in
+      let table : p2.table ≡ p.table = ap (λ (q : Process). q.table) sleeps.process in
+      let living : is_process w lives p.pid ≡ true = rw (write.there, ready) refl in
+      rw sleeps.next (blocked_own lib before after r blocked p.pid name sleeps.at _ _ calls.0 calls.1
+      (own_refused write r living sleeps.at.request (table ∙ ap (without_handles p.table) (sym maker.none)))
+      (same_beside before after r blocked p.pid sleeps.at.request (own_plain write r living sleeps.at.request maker [] [] refl table).1)
+      (subst (Settles _) same (settles_waiting (blocked_in w p.pid sleeps.awaited sleeps.at.destinations) (settled_world after r) settled r.waits r.waits_made
+      (blocked ++ (p.pid ∷ [])))))

@@ -44,8 +44,7 @@ pub written_sought : {before after : List Process} {p p2 : Process} (write : IsW
     → is_blocked (state_value p2.state) ≡ false → AreSought before r → AreSought after r
 written_sought write r still sought k q a ds at is =
     found_after write (Seeks r k (awaited_of a)) k q at
-    (λ here. absurd (false≢true (sym still ∙ (ap (λ (x : ProcessValue). is_blocked x.state) here ∙ ap is_blocked is))))
-    (λ old. sought k q a ds old is)
+    (λ here. absurd (false≢true (sym still ∙ (ap (λ (x : ProcessValue). is_blocked x.state) here ∙ ap is_blocked is)))) (λ old. sought k q a ds old is)
 
 -- who is blocked stands in the list
 module _ (ps : List Process) (blocked : List ℕ) (are : AreBlocked ps blocked) (k : ℕ) where
@@ -63,8 +62,7 @@ module _ (ps : List Process) (blocked : List ℕ) (are : AreBlocked ps blocked) 
 -- ---- the objects come to know
 
 module _ (ps : List Process) (pid : ℕ) (x : TraceItem) where
-  pub not_asleep : (r : Objects) → (tells_asleep x ≡ true → (a : Awaited) → awaited_by (get (map process_entry ps) pid) ≡ Some a → ⊥)
-      → FallsAsleep ps pid x r r
+  pub not_asleep : (r : Objects) → (tells_asleep x ≡ true → (a : Awaited) → awaited_by (get (map process_entry ps) pid) ≡ Some a → ⊥) → FallsAsleep ps pid x r r
   not_asleep r none = record {
     beside = beside_same r;
     waits = refl;
@@ -235,8 +233,7 @@ module _ (lib : Library) (ps ps2 : List Process) (r r1 r2 : Objects) (b b2 : Lis
         omega (arith, once, then_other pid k (turned k pid apart) x b2)
 
     module _ (stand : filter (takes_at ps port) (listed_for r.sleepers port) ≡ filter (takes_at ps port) b) where
-      pub silent_order : tells_asleep x ≡ false
-          → filter (takes_at ps2 port) (listed_for r.sleepers port) ≡ filter (takes_at ps2 port) (then_blocked pid x b2)
+      pub silent_order : tells_asleep x ≡ false → filter (takes_at ps2 port) (listed_for r.sleepers port) ≡ filter (takes_at ps2 port) (then_blocked pid x b2)
       silent_order none =
           stays_in_order ps ps2 pid port b b2 other_was left other_stands (listed_for r.sleepers port) stand out
           ∙ ap (λ (ks : List ℕ). filter (takes_at ps2 port) ks) (sym (silent_list none))

@@ -7,6 +7,7 @@ use Rattle.zl_calls.proofs.Common.{◌≤◌}
 use Rattle.std.proofs.lemmas.List.Sums.{fails_before_first}
 use Rattle.zl_code.proofs.Common.{Process as ProcessValue, drop_all}
 use Rattle.zl_calls.specs.declared.process.Process.{Process}
+use Rattle.zl_calls.specs.World.{held}
 use Rattle.zl_calls.specs.declared.waking.Woke.TheVariants as woke
 use Rattle.zl_calls.proofs.waking.BlockedLists.{none_filtered}
 use Rattle.zl_calls.proofs.lists.FilterInPlace.{drop_here, drop_out}
@@ -17,7 +18,7 @@ pub record IsWaking (ps0 : List Process) (r0 : Objects) (first : List ℕ) (capa
   pub so_far : fold woken (world_blocked ps r blocked) (drop place blocked) ≡ fold woken (world_blocked ps0 r0 first) first
   pub consistent : IsConsistent ps r
   pub list : AreBlocked ps blocked
-  pub count : length ps ≡ length ps0
+  pub held : map held ps ≡ map held ps0
   pub same_room : capacity ≡ capacity0
   pub asleep : KeepSleepers r0 r
   pub told : HaveLeft first who blocked
@@ -111,8 +112,7 @@ module _ (ps : List Process) (blocked : List ℕ) (are : AreBlocked ps blocked) 
 -- one more left the list, in which it stood once
 pub one_left : (first blocked blocked2 : List ℕ) (pid : ℕ) (w : Woke) → HaveLeft first w blocked → times pid blocked ≡ 1
     → blocked2 ≡ filter (λ q. not (q == pid)) blocked → HaveLeft first (and_one w pid) blocked2
-one_left first blocked blocked2 pid woke.Nobody told once is =
-    (ap (times pid) (sym told) ∙ once, is ∙ ap (filter (λ q. not (q == pid))) told)
+one_left first blocked blocked2 pid woke.Nobody told once is = (ap (times pid) (sym told) ∙ once, is ∙ ap (filter (λ q. not (q == pid))) told)
 one_left first blocked blocked2 pid (woke.One q) told once is = tt
 one_left first blocked blocked2 pid woke.More told once is = tt
 
@@ -120,7 +120,7 @@ one_left first blocked blocked2 pid woke.More told once is = tt
 
 module _ (ps0 : List Process) (r0 : Objects) (first : List ℕ) (capacity0 : ℕ) where
   pub begins : IsConsistent ps0 r0 → AreBlocked ps0 first → IsWaking ps0 r0 first capacity0 0 ps0 r0 first capacity0 woke.Nobody
-  begins consistent are = record { so_far = refl; consistent = consistent; list = are; count = refl; same_room = refl; asleep = (refl, refl); told = refl }
+  begins consistent are = record { so_far = refl; consistent = consistent; list = are; held = refl; same_room = refl; asleep = (refl, refl); told = refl }
 
   module _ (i : ℕ) (ps : List Process) (r : Objects) (blocked : List ℕ) (capacity : ℕ) (w : Woke)
       (so_far : IsWaking ps0 r0 first capacity0 i ps r blocked capacity w) where
@@ -139,7 +139,7 @@ module _ (ps0 : List Process) (r0 : Objects) (first : List ℕ) (capacity0 : ℕ
                 ∙ (sym turn_is ∙ so_far.so_far));
             consistent = wakes_it.consistent;
             list = subst (AreBlocked ps2) gone (wakes_it.list blocked so_far.list);
-            count = wakes_it.count ∙ so_far.count;
+            held = wakes_it.held ∙ so_far.held;
             same_room = so_far.same_room;
             asleep = (same.0 ∙ so_far.asleep.0, same.1 ∙ so_far.asleep.1);
             told = one_left first blocked _ pid w so_far.told (one_there ps blocked so_far.list i d pid within at) (sym gone);
@@ -153,7 +153,7 @@ module _ (ps0 : List Process) (r0 : Objects) (first : List ℕ) (capacity0 : ℕ
             ∙ (sym turn_is ∙ so_far.so_far));
         consistent = wakes_it.consistent;
         list = wakes_it.list blocked so_far.list;
-        count = wakes_it.count ∙ so_far.count;
+        held = wakes_it.held ∙ so_far.held;
         same_room = so_far.same_room;
         asleep = (same.0 ∙ so_far.asleep.0, same.1 ∙ so_far.asleep.1);
         told = so_far.told;

@@ -3,7 +3,7 @@ use Rattle.zl_calls.proofs.Common.{Agrees, Blocked, Bool, IsConsistent, IsTrue, 
 use Rattle.zl_calls.proofs.Common.{Ready, SignalOf, Some, WakesOne, [], active, answered, ap, at_port, awake, body_packed, body_value, cases_Bool, changed_port}
 use Rattle.zl_calls.proofs.Common.{changing_port, destinations_of, drop, eqb-true, false, false≢true, filter, get, get-put, get-update, get_or, get_seen}
 use Rattle.zl_calls.proofs.Common.{given_awake, has_child_job, has_child_process, has_ended, if◌then◌else◌, inl, inr, is_blocked, is_process, is_some}
-use Rattle.zl_calls.proofs.Common.{is_sorted, is_sorted-update, length, length-set, lives, made_ready, map, meets, nat_cmp, not, object_entry, object_value}
+use Rattle.zl_calls.proofs.Common.{is_sorted, is_sorted-update, lives, made_ready, map, meets, nat_cmp, not, object_entry, object_value}
 use Rattle.zl_calls.proofs.Common.{option_map, packet_taken, packet_values, packets_in, packets_of, passes, position, process_entry, process_value, put, refl}
 use Rattle.zl_calls.proofs.Common.{runs, same_map, set, signals_at, slice_get, sorted_put, state_value, sym, then_some, true, update, without_front}
 use Rattle.zl_calls.proofs.Common.{without_taken, woken, woken_at_port, woken_by, woken_from, world_blocked, world_value, ℕ, ◌==◌, ◌∙◌, ◌∷◌, ◌≡◌, ◌⊎◌}
@@ -13,12 +13,14 @@ use Rattle.zl_objects.specs.declared.object.Body.{Body}
 use Rattle.zl_objects.specs.declared.object.Body.TheVariants as body
 use Rattle.zl_calls.specs.declared.process.State.TheVariants as state
 use Rattle.zl_calls.specs.declared.process.Process.{Process}
+use Rattle.zl_calls.specs.World.{held}
 use Rattle.zl_calls.proofs.calls.Answered.{IsWrite}
 use Rattle.zl_calls.proofs.waking.BlockedLists.{one_awake}
 use Rattle.zl_calls.proofs.objects.Active.{signals_active}
 use Rattle.zl_calls.proofs.objects.Packed.{packed_consistent}
 use Rattle.zl_calls.proofs.objects.SameBodies.{alike_agrees}
 use Rattle.zl_calls.proofs.lists.Updates.{sorted_seen, update_itself, update_seen}
+use Rattle.zl_calls.proofs.processes.Freed.{set_unseen}
 use Rattle.zl_calls.proofs.processes.Written.{after_is, alike_states, keeps_table, pid_read, refusal_keeps, write_at}
 
 -- a value that is put in the place of another
@@ -77,8 +79,8 @@ module _ (ps : List Process) (r : Objects) (consistent : IsConsistent ps r) (pid
     write : IsWrite ps after p p2
     write = write_at ps pid place p p2 found read same_pid
 
-    same_count : length after ≡ length ps
-    same_count = length-set ps place p2
+    same_held : held p2 ≡ held p → map held after ≡ map held ps
+    same_held = set_unseen held ps place p p2 read
 
     -- ---- it stays blocked, or wasn't
 
@@ -90,12 +92,9 @@ module _ (ps : List Process) (r : Objects) (consistent : IsConsistent ps r) (pid
       stays_asleep = record {
         world = λ blocked.
             rw same_objects (ap (λ (m : Map ProcessValue). record (world_blocked ps r blocked) { processes = m }) same_entries ∙ sym (asleep blocked));
-        list = λ blocked are. record {
-          once = λ k. rw same_entries (are.once k);
-          counters = λ k q at h. are.counters k q (rw same_entries at at) h;
-        };
+        list = λ blocked are. record { once = λ k. rw same_entries (are.once k); counters = λ k q at h. are.counters k q (rw same_entries at at) h };
         consistent = rw same_objects (refusal_keeps write r consistent (ap (λ (q : Process). q.table) same) (ap (λ (q : Process). q.state) same));
-        count = same_count;
+        held = same_held (ap held same);
       }
 
     -- ---- it becomes ready
@@ -124,15 +123,14 @@ module _ (ps : List Process) (r : Objects) (consistent : IsConsistent ps r) (pid
             (ready_entries ∙ ap (λ (q : Process). put (map process_entry ps) pid (process_value q)) is) ∙ sym (wakes_so blocked);
         list = λ blocked are. rw (← key) (one_awake write (ap (λ (q : Process). is_blocked (state_value q.state)) is) blocked are);
         consistent = keeps_table write r2 still agrees_on (ap (λ (q : Process). q.table) is);
-        count = same_count;
+        held = same_held (ap held is ∙ (λ i. (p.pid, (sym ((lives_on (state_value p.state) was).1) i, p.table.free))));
       }
 
   -- ---- by what it waits for
 
   module _ (p2 : Process) (r2 : Objects) where
     by_signal : (koid mask : ℕ) (ds : List ℕ) → state_value p.state ≡ Blocked (SignalOf koid mask) ds → (test : Bool)
-        → meets (signals_at r.objects koid) mask ≡ test
-        → p2 ≡ awake (then_some test (signals_at r.objects koid ∷ [])) p → r2 ≡ r
+        → meets (signals_at r.objects koid) mask ≡ test → p2 ≡ awake (then_some test (signals_at r.objects koid ∷ [])) p → r2 ≡ r
         → WakesOne pid (is_some (then_some test (signals_at r.objects koid ∷ []))) ps r (set ps place p2) r2
     by_signal koid mask ds in_state true holds is objects =
         let so : p2 ≡ record p { state = state.Ready; cpu = answered p.cpu ds (0 ∷ signals_at r.objects koid ∷ []) } =
@@ -221,12 +219,7 @@ module _ (ps : List Process) (r : Objects) (consistent : IsConsistent ps r) (pid
 -- where there is no such process, nothing wakes
 pub wakes_none : (ps : List Process) (r : Objects) (pid : ℕ) → IsConsistent ps r → get (map process_entry ps) pid ≡ None → WakesOne pid false ps r ps r
 unfolding woken
-wakes_none ps r pid consistent missing = record {
-  world = λ blocked. rw missing refl;
-  list = λ blocked are. are;
-  consistent = consistent;
-  count = refl;
-}
+wakes_none ps r pid consistent missing = record { world = λ blocked. rw missing refl; list = λ blocked are. are; consistent = consistent; held = refl }
 
 -- it takes a packet at most, so who may be blocked is as before
 pub taken_asleep : (s : StateValue) (r r2 : Objects) → r2 ≡ without_taken s r → KeepSleepers r r2

@@ -84,6 +84,7 @@ pub record Replaces (pid : ℕ) (t : Handles) (r : Objects) (value asked made : 
   pub same_value : made ≡ value
   pub entries : t2.entries ≡ update t.entries value (λ e. record e { rights = granted })
   pub last : t2.last ≡ None
+  pub free : t2.free ≡ t.free
   pub ends : EndsWaits (is_by_handle pid value) r r2
 
 -- replace of the handle at the value, with these rights asked for; where it is refused the handle closes

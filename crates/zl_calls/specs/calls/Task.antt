@@ -20,6 +20,7 @@ use Rattle.zl_rights.specs.declared.policy.Action.{Action}
 use Rattle.zl_rights.specs.declared.policy.Condition.{Condition}
 use Rattle.zl_rights.specs.declared.status.Status.{Status}
 use Rattle.zl_rights.specs.declared.status.Status.TheVariants as status
+use Rattle.zl_rights.specs.Values.{new_free}
 use Rattle.zl_table.specs.Table.{Inserts}
 use Rattle.zl_objects.specs.Jobs.{action_of, is_dead, is_within, job_at, killing}
 use Rattle.zl_objects.specs.Objects.{Objects, starting}
@@ -121,6 +122,7 @@ pub record CreatesProcess (lib : Library) (all : Parts) (place job program made 
   pub new : Process
   pub pid : new.pid ≡ all.objects.next_koid
   pub created : process_value new ≡ created_process lib program
+  pub fresh : new.table.free ≡ new_free
   pub processes : all2.processes ≡ with_caller all.processes place after ++ (new ∷ [])
   pub blocked : all2.blocked ≡ all.blocked
 

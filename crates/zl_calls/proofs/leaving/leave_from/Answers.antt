@@ -4,10 +4,7 @@ use Rattle.zl_calls.proofs.processes.Started.{none_left_before}
 use Rattle.zl_calls.proofs.leaving.leave_from.Goals as goal
 
 pub loop-place-init : goal.loop-place-init
-loop-place-init c = record {
-  so_far = none_left_before c.args.objects.now c.args.processes.now.items c.args.from c.requires;
-  long = refl;
-}
+loop-place-init c = record { so_far = none_left_before c.args.objects.now c.args.processes.now.items c.args.from c.requires; long = refl }
 
 pub loop-place-preserved : goal.loop-place-preserved
 loop-place-preserved c =

@@ -13,11 +13,9 @@ returns-then-not-has_policy g c =
 pub returns-in-Ok : goal.returns-in-Ok
 returns-in-Ok g c =
     judged c.args.process.now.table.entries c.args.objects.now.objects c.args.process.now.pid c.in_ok-job.job c.args.call.now c.args.process.now.cpu _ _ None
-    c.in_ok-job.ensures c.row.ensures.row
-    (sym (ap fault_of c.in-Ok.is) ∙ c.examine.ensures) c.on_making.ensures
+    c.in_ok-job.ensures c.row.ensures.row (sym (ap fault_of c.in-Ok.is) ∙ c.examine.ensures) c.on_making.ensures
 
 pub returns-in-Err : goal.returns-in-Err
 returns-in-Err g c =
     judged c.args.process.now.table.entries c.args.objects.now.objects c.args.process.now.pid c.in_ok-job.job c.args.call.now c.args.process.now.cpu _ _
-    (Some c.in-Err.fault) c.in_ok-job.ensures c.row.ensures.row
-    (sym (ap fault_of c.in-Err.is) ∙ c.examine.ensures) c.on_fault.ensures
+    (Some c.in-Err.fault) c.in_ok-job.ensures c.row.ensures.row (sym (ap fault_of c.in-Err.is) ∙ c.examine.ensures) c.on_fault.ensures

@@ -7,7 +7,7 @@ use Rattle.zl_calls.proofs.waking.BlockedLists.{no_more}
 use Rattle.zl_calls.proofs.stepping.CallSteps.{called_so, caller_ready, goes_from, moves_from, over_from, stays_from, stops_from}
 use Rattle.zl_calls.proofs.stepping.Performing.{HasActed, HasLeft, here, turn_at, within}
 use Rattle.zl_calls.proofs.stepping.StepTells.{call_notes}
-use Rattle.zl_calls.proofs.stepping.TakenKnown.{ended_acts, own_waits}
+use Rattle.zl_calls.proofs.stepping.TakenKnown.{ended_acts, ended_own, own_waits}
 use Rattle.zl_calls.proofs.stepping.AllKnown.{known_behind}
 use Rattle.zl_calls.proofs.waits.TakenEnds.{ended_again}
 use Rattle.zl_calls.proofs.stepping.SureCalls.{sure_calls}
@@ -44,8 +44,7 @@ left_called : (c : goal.After-end_behind-arg-1) → HasLeft c.args.library.now c
 left_called c =
     called_so (turn_at c.args.processes.now.list.items c.args.objects.now c.args.blocked.now.items c.args.pid c.in_ok-place.place c.index.result.now
     c.requires.consistent c.requires.list c.requires.sound c.in_ok-place.ensures.first c.index.ensures (sym c.is_ready.ensures ∙ c.if-not-is_ready.false))
-    c.args.library.now (parts c.call_next.new.processes.list.items c.call_next.new.objects c.call_next.new.blocked.items)
-    c.in-Some.outcome c.in-Some.call
+    c.args.library.now (parts c.call_next.new.processes.list.items c.call_next.new.objects c.call_next.new.blocked.items) c.in-Some.outcome c.in-Some.call
     ((c.in-Some.ensures {u = tt}).calls c.index.result.now (here c.args.processes.now.list.items c.args.pid c.in_ok-place.place c.index.result.now
     c.in_ok-place.ensures.first c.index.ensures))
 
@@ -60,8 +59,7 @@ moved : (c : goal.After-processes-1) → HasActed c.args.library.now c.args.proc
 moved c =
     moves_from (turn_at c.args.processes.now.list.items c.args.objects.now c.args.blocked.now.items c.args.pid c.in_ok-place.place c.index.result.now
     c.requires.consistent c.requires.list c.requires.sound c.in_ok-place.ensures.first c.index.ensures (sym c.is_ready.ensures ∙ c.if-not-is_ready.false))
-    c.args.library.now
-    c.call_next.new.processes.list.items c.call_next.new.objects c.call_next.new.blocked.items (c.in_default.ensures {u = tt}).same_processes
+    c.args.library.now c.call_next.new.processes.list.items c.call_next.new.objects c.call_next.new.blocked.items (c.in_default.ensures {u = tt}).same_processes
     (c.in_default.ensures {u = tt}).same_objects (c.in_default.ensures {u = tt}).same_blocked c.index_mut-process.result.now c.index_mut-process.ensures.value
     c.run_next.new.process (c.in-Some-run_next.ensures {u = tt}).runs (c.in-Some-run_next.ensures {u = tt}).cpu
 
@@ -100,8 +98,7 @@ end_behind-requires-2-clause-known c present i d inside =
     inl (rw c.leave-2.ensures (over_from (turn_at c.args.processes.now.list.items c.args.objects.now c.args.blocked.now.items c.args.pid c.in_ok-place.place
     c.index.result.now
     c.requires.consistent c.requires.list c.requires.sound c.in_ok-place.ensures.first c.index.ensures (sym c.is_ready.ensures ∙ c.if-not-is_ready.false))
-    c.args.library.now
-    c.call_next.new.processes.list.items c.call_next.new.objects c.call_next.new.blocked.items (c.in_default.ensures {u = tt}).same_processes
+    c.args.library.now c.call_next.new.processes.list.items c.call_next.new.objects c.call_next.new.blocked.items (c.in_default.ensures {u = tt}).same_processes
     (c.in_default.ensures {u = tt}).same_objects (c.in_default.ensures {u = tt}).same_blocked c.index_mut-process.result.now c.index_mut-process.ensures.value
     c.end.new.process c.end.new.objects (rw (c.in_default-run_next.ensures {u = tt}).unchanged at c.end.ensures) present i d inside))
 
@@ -139,6 +136,21 @@ returns-clause-acts c =
     c.end_behind-2.new.objects c.args.blocked.now.items c.call_next.new.blocked.items c.args.pid (item.Stuck c.args.pid) c.end_behind-2.ensures
     (stopped c.before.before).acts
 
+pub returns-in-Some-clause-own : goal.returns-in-Some-clause-own
+returns-in-Some-clause-own c =
+    ended_own c.args.library.now c.args.processes.now.list.items c.leave.new.processes.list.items c.args.objects.now c.call_next.new.objects
+    c.end_behind.new.objects c.args.blocked.now.items c.call_next.new.blocked.items c.args.pid (item.Call c.args.pid c.in-Some.call c.in-Some.outcome)
+    c.end_behind.ensures (called c.before).own
+
+pub returns-in-Some-run_next-clause-own : goal.returns-in-Some-run_next-clause-own
+returns-in-Some-run_next-clause-own c = (moved c.before).own
+
+pub returns-clause-own : goal.returns-clause-own
+returns-clause-own c =
+    ended_own c.args.library.now c.args.processes.now.list.items c.leave-2.new.processes.list.items c.args.objects.now c.end.new.objects
+    c.end_behind-2.new.objects c.args.blocked.now.items c.call_next.new.blocked.items c.args.pid (item.Stuck c.args.pid) c.end_behind-2.ensures
+    (stopped c.before.before).own
+
 pub returns-in-Some-clause-list : goal.returns-in-Some-clause-list
 returns-in-Some-clause-list c = (called c.before).list
 
@@ -158,15 +170,13 @@ pub returns-clause-fewer : goal.returns-clause-fewer
 returns-clause-fewer c = (stopped c.before.before).fewer
 
 pub returns-in-Some-clause-asleep : goal.returns-in-Some-clause-asleep
-returns-in-Some-clause-asleep c =
-    let first = (called c.before).asleep in (c.end_behind.ensures.asleep.0 ∙ first.0, c.end_behind.ensures.asleep.1 ∙ first.1)
+returns-in-Some-clause-asleep c = let first = (called c.before).asleep in (c.end_behind.ensures.asleep.0 ∙ first.0, c.end_behind.ensures.asleep.1 ∙ first.1)
 
 pub returns-in-Some-run_next-clause-asleep : goal.returns-in-Some-run_next-clause-asleep
 returns-in-Some-run_next-clause-asleep c = (moved c.before).asleep
 
 pub returns-clause-asleep : goal.returns-clause-asleep
-returns-clause-asleep c =
-    let first = (stopped c.before.before).asleep in (c.end_behind-2.ensures.asleep.0 ∙ first.0, c.end_behind-2.ensures.asleep.1 ∙ first.1)
+returns-clause-asleep c = let first = (stopped c.before.before).asleep in (c.end_behind-2.ensures.asleep.0 ∙ first.0, c.end_behind-2.ensures.asleep.1 ∙ first.1)
 
 pub returns-in-Some-clause-consistent : goal.returns-in-Some-clause-consistent
 returns-in-Some-clause-consistent c = c.end_behind.ensures.consistent
@@ -181,14 +191,12 @@ pub returns-in-Some-run_next-clause-quiet : goal.returns-in-Some-run_next-clause
 returns-in-Some-run_next-clause-quiet c local =
     stays_from (turn_at c.args.processes.now.list.items c.args.objects.now c.args.blocked.now.items c.args.pid c.in_ok-place.place c.index.result.now
     c.requires.consistent c.requires.list c.requires.sound c.in_ok-place.ensures.first c.index.ensures (sym c.is_ready.ensures ∙ c.if-not-is_ready.false))
-    c.args.library.now
-    c.call_next.new.processes.list.items c.call_next.new.objects c.call_next.new.blocked.items (c.in_default.ensures {u = tt}).same_processes
+    c.args.library.now c.call_next.new.processes.list.items c.call_next.new.objects c.call_next.new.blocked.items (c.in_default.ensures {u = tt}).same_processes
     (c.in_default.ensures {u = tt}).same_objects (c.in_default.ensures {u = tt}).same_blocked c.index_mut-process.result.now c.index_mut-process.ensures.value
     c.run_next.new.process (c.in-Some-run_next.ensures {u = tt}).cpu
 
 pub returns-in-Some-clause-unheld : goal.returns-in-Some-clause-unheld
-returns-in-Some-clause-unheld c apart =
-    ended_again c.leave.new.processes.list.items c.call_next.new.objects c.end_behind.new.objects c.end_behind.ensures
+returns-in-Some-clause-unheld c apart = ended_again c.leave.new.processes.list.items c.call_next.new.objects c.end_behind.new.objects c.end_behind.ensures
 
 pub returns-clause-unheld : goal.returns-clause-unheld
 returns-clause-unheld d apart =

@@ -20,8 +20,7 @@ loop-any-preserved c =
 pub returns-clause-ended : goal.returns-clause-ended
 returns-clause-ended c =
     all_at c.args.koid (is_keyed c.args.pid c.args.value c.args.port c.args.key) c.args.objects.now (λ i d inside t. c.requires i d inside (and_parts _ _ t).0)
-    c.unwatch_key.new.self
-    (all_taken (is_keyed_at c.args.koid c.args.pid c.args.value c.args.port c.args.key) c.args.objects.now c.loop-any.objects
+    c.unwatch_key.new.self (all_taken (is_keyed_at c.args.koid c.args.pid c.args.value c.args.port c.args.key) c.args.objects.now c.loop-any.objects
     c.loop-any.invariant.taking c.args.koid
     (is_asked c.args.pid c.args.value c.args.port c.args.key) c.unwatch_key.new.self c.unwatch_key.ensures.rest (sym (c.in_default.ensures {u = tt}).listed))
 

@@ -9,5 +9,4 @@ returns-then-not-has_handle c =
 
 pub returns-else-not-has_handle : goal.returns-else-not-has_handle
 returns-else-not-has_handle c =
-    there_ends c.args.processes.now.list.items c.args.pid c.args.handle.now c.args.objects.now
-    (sym c.has_handle.ensures ∙ c.if-not-has_handle.false)
+    there_ends c.args.processes.now.list.items c.args.pid c.args.handle.now c.args.objects.now (sym c.has_handle.ensures ∙ c.if-not-has_handle.false)

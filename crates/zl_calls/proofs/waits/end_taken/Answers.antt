@@ -6,8 +6,7 @@ loop-handle-init c = ends_none c.args.objects.now
 
 pub loop-handle-preserved : goal.loop-handle-preserved
 loop-handle-preserved c =
-    one_more_over c.args.processes.now.list.items c.args.pid c.args.taken.now.handles.items c.loop-handle.handle-index
-    _
+    one_more_over c.args.processes.now.list.items c.args.pid c.args.taken.now.handles.items c.loop-handle.handle-index _
     (rw c.as_slice-handle-items.ensures at c.loop-handle-test.true) c.args.objects.now c.loop-handle.objects c.end_if_gone.new.objects c.loop-handle.invariant
     (rw c.as_slice-handle-items.ensures at c.end_if_gone.ensures)
 

@@ -23,5 +23,4 @@ loop-due-preserved c =
 
 pub returns : goal.returns
 returns c =
-    all_fired c.args.processes.now.list.items c.args.objects.now c.loop-due.place c.loop-due.objects c.loop-due.invariant
-    (c.in_default.ensures {u = tt}).object
+    all_fired c.args.processes.now.list.items c.args.objects.now c.loop-due.place c.loop-due.objects c.loop-due.invariant (c.in_default.ensures {u = tt}).object

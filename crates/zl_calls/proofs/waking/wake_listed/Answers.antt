@@ -64,7 +64,6 @@ loop-sleeper-smaller c =
 
 pub returns-clause-turns : goal.returns-clause-turns
 returns-clause-turns c =
-    rw (c.in_default.ensures {u = tt}).same
-    (listed_ends c.args.processes.now.list.items c.args.objects.now c.args.blocked.now.items
+    rw (c.in_default.ensures {u = tt}).same (listed_ends c.args.processes.now.list.items c.args.objects.now c.args.blocked.now.items
     c.loop-sleeper.processes.list.items c.loop-sleeper.objects c.loop-sleeper.blocked.items c.loop-sleeper.woke c.loop-sleeper.invariant.0
     (c.in_default.ensures {u = tt}).none)

@@ -8,14 +8,12 @@ returns-then-starts-handles c = sym (not_as_many (seen c.args.self.now).objects 
 pub loop-number-preserved : goal.loop-number-preserved
 loop-number-preserved c =
     one_more (seen c.args.self.now).objects c.args.starts.now c.args.handles.now c.loop-number.number c.if-starts-handles.false c.requires.may
-    c.loop-number.invariant _ _ c.loop-number-test.true
-    (sym c.fits.ensures ∙ c.if-not-fits.false)
+    c.loop-number.invariant _ _ c.loop-number-test.true (sym c.fits.ensures ∙ c.if-not-fits.false)
 
 pub returns-then-not-fits : goal.returns-then-not-fits
 returns-then-not-fits c =
     sym (one_misfit (seen c.args.self.now).objects c.args.starts.now c.args.handles.now c.loop-number.number c.if-starts-handles.false c.requires.may
-    c.loop-number.invariant _ _ c.loop-number-test.true
-    (sym c.fits.ensures ∙ c.if-not-fits.true))
+    c.loop-number.invariant _ _ c.loop-number-test.true (sym c.fits.ensures ∙ c.if-not-fits.true))
 
 pub returns : goal.returns
 returns c =

@@ -14,11 +14,9 @@ returns-then-has_children-clause-err c =
 pub returns-in-Ok-clause-ok : goal.returns-in-Ok-clause-ok
 returns-in-Ok-clause-ok c =
     λ lib. policy_makes lib c.args.self.now c.requires c.args.job c.args.condition c.args.action (sym c.is_job.ensures ∙ c.if-not-is_job.false)
-    (sym c.has_children.ensures ∙ c.if-has_children.false)
-    (sym c.set_policy.ensures.answer ∙ c.in-Ok.is) c.set_policy.new.self (c.in-Ok.ensures {u = tt}).ok
+    (sym c.has_children.ensures ∙ c.if-has_children.false) (sym c.set_policy.ensures.answer ∙ c.in-Ok.is) c.set_policy.new.self (c.in-Ok.ensures {u = tt}).ok
 
 pub returns-in-Err-clause-err : goal.returns-in-Err-clause-err
 returns-in-Err-clause-err c =
     λ lib. conflicting lib c.args.self.now c.requires c.args.job c.args.condition c.args.action (sym c.is_job.ensures ∙ c.if-not-is_job.false)
-    (sym c.has_children.ensures ∙ c.if-has_children.false)
-    c.in-Err.field-0 (sym c.set_policy.ensures.answer ∙ c.in-Err.is)
+    (sym c.has_children.ensures ∙ c.if-has_children.false) c.in-Err.field-0 (sym c.set_policy.ensures.answer ∙ c.in-Err.is)

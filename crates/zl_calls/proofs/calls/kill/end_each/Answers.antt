@@ -3,10 +3,7 @@ use Rattle.zl_calls.proofs.tasks.KillLists.{none_ended, one_ended}
 use Rattle.zl_calls.proofs.calls.kill.end_each.Goals as goal
 
 pub loop-koid-init : goal.loop-koid-init
-loop-koid-init c = record {
-  ended = none_ended c.args.objects.now c.args.task c.args.processes.now.list.items;
-  blocked = λ stay blocked are. are;
-}
+loop-koid-init c = record { ended = none_ended c.args.objects.now c.args.task c.args.processes.now.list.items; blocked = λ stay blocked are. are }
 
 pub loop-koid-preserved : goal.loop-koid-preserved
 loop-koid-preserved c = record {
@@ -22,6 +19,5 @@ loop-koid-preserved c = record {
 
 pub returns-clause-ended : goal.returns-clause-ended
 returns-clause-ended c =
-    c.loop-koid.invariant.ended
-    ∙ ap (λ (ks : List ℕ). map (ended_among c.args.objects.now c.args.task ks) c.args.processes.now.list.items)
+    c.loop-koid.invariant.ended ∙ ap (λ (ks : List ℕ). map (ended_among c.args.objects.now c.args.task ks) c.args.processes.now.list.items)
     (take_all c.loop-koid.koid-index c.args.koids.now (omega (arith, c.loop-koid-test.false)))

@@ -34,5 +34,4 @@ returns-clause-caller g c = λ caller at.
 pub returns-clause-count : goal.returns-clause-count
 returns-clause-count g c =
     still_as_many c.args.processes.now.list.items c.end_within-all_stay.new.processes.list.items c.close_ended.new.processes.list.items
-    c.list_task-list.new.self c.in_ok-task.task.koid c.end_within-all_stay.ensures.ended c.kill.new.self c.close_ended.new.objects
-    c.close_ended.ensures
+    c.list_task-list.new.self c.in_ok-task.task.koid c.end_within-all_stay.ensures.ended c.kill.new.self c.close_ended.new.objects c.close_ended.ensures

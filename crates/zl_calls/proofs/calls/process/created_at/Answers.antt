@@ -14,15 +14,13 @@ returns-then-not-is_created-clause-refusal c =
 pub returns-then-misfits-clause-refusal : goal.returns-then-misfits-clause-refusal
 returns-then-misfits-clause-refusal c =
     misfit_refused c.args.library.now c.args.processes.now.list.items c.args.pid c.args.entry.now c.in-Some.place c.index.result.now
-    c.in-Some.ensures.first c.index.ensures
-    c.index-2.result.now c.index-2.ensures (sym c.is_created.ensures ∙ c.if-not-is_created.false)
+    c.in-Some.ensures.first c.index.ensures c.index-2.result.now c.index-2.ensures (sym c.is_created.ensures ∙ c.if-not-is_created.false)
     (sym c.misfits.ensures ∙ c.if-misfits.true)
 
 pub returns-clause-refusal : goal.returns-clause-refusal
 returns-clause-refusal c =
     not_refused c.args.library.now c.args.processes.now.list.items c.args.pid c.args.entry.now c.in-Some.place c.index.result.now
-    c.in-Some.ensures.first c.index.ensures
-    c.index-2.result.now c.index-2.ensures (sym c.is_created.ensures ∙ c.if-not-is_created.false)
+    c.in-Some.ensures.first c.index.ensures c.index-2.result.now c.index-2.ensures (sym c.is_created.ensures ∙ c.if-not-is_created.false)
     (sym c.misfits.ensures ∙ c.if-misfits.false)
 
 pub returns-clause-found : goal.returns-clause-found

@@ -7,8 +7,7 @@ loop-value-preserved c =
     All-more (IsNoted c.args.table.now.entries c.note.new.self) c.args.values.now c.loop-value.value-index _ c.loop-value-test.true
     (All-weaker (IsNoted c.args.table.now.entries c.loop-value.self) (IsNoted c.args.table.now.entries c.note.new.self)
     (λ v. more_noted c.args.table.now.entries c.loop-value.self c.note.new.self v c.note.ensures.more) (take c.loop-value.value-index c.args.values.now)
-    c.loop-value.invariant)
-    c.note.ensures.noted
+    c.loop-value.invariant) c.note.ensures.noted
 
 pub returns : goal.returns
 returns c =

@@ -1,5 +1,6 @@
 use Rattle.zl_calls.proofs.Common.{Cpu, Program, Some, Stands, after_locals, ap, get, is_ready, length-set, map, on_process, position, process_entry}
 use Rattle.zl_calls.proofs.Common.{process_value, refl, slice_get, state_value, sym, true, world_blocked, ◌==◌, ◌∙◌, ◌≡◌}
+use Rattle.zl_calls.specs.World.{free_entry}
 use Rattle.zl_calls.specs.declared.process.Process.{Process}
 use Rattle.zl_calls.proofs.stepping.Advancing.{advances, advanced_programs, advanced_sound, cpu_stands, program_stands, read_there, ready_there}
 use Rattle.zl_calls.proofs.stepping.Covered.{advanced_covered}
@@ -8,7 +9,7 @@ use Rattle.zl_calls.proofs.stepping.Performing.{AtTurn, turn_at, unblocked, writ
 use Rattle.zl_calls.proofs.stepping.StepItems.{machine_value}
 use Rattle.zl_calls.proofs.waking.Ordered.{written_ordered}
 use Rattle.zl_calls.proofs.waking.StillBlocked.{written_sought}
-use Rattle.zl_calls.proofs.processes.Freed.{set_free}
+use Rattle.zl_calls.proofs.processes.Freed.{set_unseen}
 use Rattle.zl_calls.proofs.processes.Started.{set_started}
 use Rattle.zl_calls.proofs.world.World.advance.Goals as goal
 
@@ -87,11 +88,11 @@ returns-clause-cpu c =
     let world = moved_world (turn (written c)) (p2 (written c)) refl
     ∙ ap (λ (d : Cpu). on_process (world_blocked c.self.inside.processes.list.items c.self.inside.objects c.self.inside.blocked.items) c.args.done.pid
     (λ q. record q { cpu = d })) c.into_cpu.ensures in
-    let free = set_free c.self.inside.processes.list.items c.in-Some.place (p (written c)) (p2 (written c)) c.index_mut-process.ensures.value refl in
+    let free = set_unseen free_entry c.self.inside.processes.list.items c.in-Some.place (p (written c))
+    (p2 (written c)) c.index_mut-process.ensures.value refl in
     rw (← c.self.view_is) (λ i. record { programs = c.self.inside.library; world = world i; free = free i })
 
 pub returns-clause-steps : goal.returns-clause-steps
 returns-clause-steps c =
-    rw (← c.self.view_is)
-    (advances (turn (written c)) c.self.inside.library c.self.invariant.awake (g (written c)) (program (written c)) c.args.done.ran
+    rw (← c.self.view_is) (advances (turn (written c)) c.self.inside.library c.self.invariant.awake (g (written c)) (program (written c)) c.args.done.ran
     (p2 (written c)) refl (follows (written c)))

@@ -1,14 +1,18 @@
-use Rattle.zl_calls.proofs.Common.{AreBlocked, List, Seeks, TakesStep, arith, false, false≢true, is_local, length, subst, sym, then_blocked, true, vec_capacity}
+use Rattle.zl_calls.proofs.Common.{AreBlocked, List, Seeks, TakesStep, arith, false, false≢true, is_local, length, refl, subst, sym, then_blocked, true}
+use Rattle.zl_calls.proofs.Common.{vec_capacity}
 use Rattle.zl_calls.proofs.Common.{ℕ, ◌∙◌, ◌≡◌, ◌≤◌}
 use Rattle.zl_objects.specs.declared.awaited.Awaited.{Awaited}
 use Rattle.zl_calls.specs.Blocking.{tells_asleep}
+use Rattle.zl_calls.specs.Calling.{left_in}
+use Rattle.zl_calls.specs.World.{held}
 use Rattle.zl_calls.specs.declared.waking.Woke.TheVariants as woke
 use Rattle.zl_calls.proofs.waking.BlockedLists.{no_more}
 use Rattle.zl_calls.proofs.waking.StillBlocked.{acted_ordered, acted_sought, same_seeks, silent}
-use Rattle.zl_calls.proofs.stepping.StepItems.{machine_value, local_list, not_ready_in, takes_local}
+use Rattle.zl_calls.proofs.stepping.OwnStep.{own_stepped, same_length}
+use Rattle.zl_calls.proofs.stepping.StepItems.{local_awake, machine_value, local_list, not_ready_in, takes_local}
 use Rattle.zl_calls.proofs.stepping.StepTells.{tells_local, tells_step}
-use Rattle.zl_calls.proofs.stepping.Whole.{asleep_consistent, fired_known, fired_ordered, nothing_holds, quiet_step, quiet_whole, stepped_whole}
-use Rattle.zl_calls.proofs.stepping.Whole.{woken_step, woken_whole}
+use Rattle.zl_calls.proofs.stepping.Whole.{asleep_consistent, fired_known, fired_ordered, nothing_holds, quiet_own, quiet_step, quiet_whole, stepped_whole}
+use Rattle.zl_calls.proofs.stepping.Whole.{woken_own, woken_step, woken_whole}
 use Rattle.zl_calls.proofs.world.World.step.Goals as goal
 
 pub returns-in_err-item-clause-not_ready : goal.returns-in_err-item-clause-not_ready
@@ -22,18 +26,15 @@ returns-in_err-item-clause-not_ready c =
 pub fire_waits-requires : goal.fire_waits-requires
 fire_waits-requires c =
     asleep_consistent c.self.inside.library c.self.inside.processes.list.items c.self.inside.objects c.self.inside.blocked.items
-    (vec_capacity c.self.inside.blocked)
-    c.args.pid c.in_ok-item.item c.self.invariant
+    (vec_capacity c.self.inside.blocked) c.args.pid c.in_ok-item.item c.self.invariant
     c.act_for.new.processes.list.items c.act_for.new.objects c.act_for.new.objects c.fall_asleep.new.objects
     c.act_for.new.blocked.items c.in_ok-item.ensures.acts c.in_ok-item.ensures.list c.in_ok-item.ensures.fewer c.in_ok-item.ensures.asleep
     (c.in_ok-item.ensures.unheld (sym c.is_local.ensures ∙ c.if-is_local.false)) c.fall_asleep.ensures
 
 pub wake-woke-requires-clause-sought : goal.wake-woke-requires-clause-sought
 wake-woke-requires-clause-sought c =
-    fired_known c.self.inside.library c.self.inside.processes.list.items c.self.inside.objects c.self.inside.blocked.items
-    (vec_capacity c.self.inside.blocked)
-    c.args.pid c.in_ok-item.item c.self.invariant
-    c.act_for.new.processes.list.items c.act_for.new.objects c.act_for.new.objects c.fall_asleep.new.objects
+    fired_known c.self.inside.library c.self.inside.processes.list.items c.self.inside.objects c.self.inside.blocked.items (vec_capacity c.self.inside.blocked)
+    c.args.pid c.in_ok-item.item c.self.invariant c.act_for.new.processes.list.items c.act_for.new.objects c.act_for.new.objects c.fall_asleep.new.objects
     c.act_for.new.blocked.items c.in_ok-item.ensures.acts c.in_ok-item.ensures.list c.in_ok-item.ensures.fewer c.in_ok-item.ensures.asleep
     (c.in_ok-item.ensures.unheld (sym c.is_local.ensures ∙ c.if-is_local.false)) c.fall_asleep.ensures c.fire_waits.new.objects c.fire_waits.ensures
 
@@ -49,8 +50,7 @@ wake-woke-requires-clause-ordered c = rw c.add_blocked.ensures.items
 pub calm-requires-clause-waits : goal.calm-requires-clause-waits
 calm-requires-clause-waits c =
     nothing_holds c.self.inside.library c.self.inside.processes.list.items c.self.inside.objects c.self.inside.blocked.items
-    (vec_capacity c.self.inside.blocked)
-    c.args.pid c.in_ok-item.item c.self.invariant
+    (vec_capacity c.self.inside.blocked) c.args.pid c.in_ok-item.item c.self.invariant
     c.act_for.new.processes.list.items c.act_for.new.objects c.act_for.new.objects c.fall_asleep.new.objects
     c.act_for.new.blocked.items c.in_ok-item.ensures.acts c.in_ok-item.ensures.list c.in_ok-item.ensures.fewer c.in_ok-item.ensures.asleep
     (c.in_ok-item.ensures.unheld (sym c.is_local.ensures ∙ c.if-is_local.false)) c.fall_asleep.ensures
@@ -73,6 +73,16 @@ returns-clause-ran c = rw (← c.self.view_is, c.calm.ensures)
     c.fire_waits.new.objects c.fire_waits.ensures c.wake-woke.new.processes.list.items c.wake-woke.new.objects c.wake-woke.new.blocked.items c.wake-woke.result
     (rw c.add_blocked.ensures.items at c.wake-woke.ensures.turns)) c.act_for.new.taken c.in_ok-item.ensures.child _ c.with_started-2.ensures)
 
+pub returns-clause-own : goal.returns-clause-own
+returns-clause-own c = rw (← c.self.view_is, c.calm.ensures)
+    (woken_own c.self.inside.library c.self.inside.processes.list.items c.self.inside.objects c.self.inside.blocked.items (vec_capacity c.self.inside.blocked)
+    c.args.pid c.in_ok-item.item c.self.invariant
+    c.act_for.new.processes.list.items c.act_for.new.objects c.act_for.new.objects c.fall_asleep.new.objects
+    c.act_for.new.blocked.items c.in_ok-item.ensures.acts c.in_ok-item.ensures.list c.in_ok-item.ensures.fewer c.in_ok-item.ensures.asleep
+    (c.in_ok-item.ensures.unheld (sym c.is_local.ensures ∙ c.if-is_local.false)) c.fall_asleep.ensures
+    c.fire_waits.new.objects c.fire_waits.ensures c.wake-woke.new.processes.list.items c.wake-woke.new.objects c.wake-woke.new.blocked.items c.wake-woke.result
+    (rw c.add_blocked.ensures.items at c.wake-woke.ensures.turns) c.in_ok-item.ensures.own)
+
 pub add_blocked-requires : goal.add_blocked-requires
 add_blocked-requires c =
     let few : length (then_blocked c.args.pid c.in_ok-item.item c.act_for.new.blocked.items) ≤ length c.act_for.new.processes.list.items =
@@ -89,7 +99,7 @@ invariant_of-self-2 c = rw c.calm.ensures
     (c.in_ok-item.ensures.unheld (sym c.is_local.ensures ∙ c.if-is_local.false)) c.fall_asleep.ensures
     c.fire_waits.new.objects c.fire_waits.ensures c.wake-woke.new.processes.list.items c.wake-woke.new.objects c.wake-woke.new.blocked.items c.wake-woke.result
     (rw c.add_blocked.ensures.items at c.wake-woke.ensures.turns) (vec_capacity c.wake-woke.new.blocked)
-    (omega (arith, c.wake-woke.ensures.turns.count, c.wake-woke.ensures.capacity, c.add_blocked.ensures.capacity, c.act_for.ensures.room)))
+    (omega (arith, same_length held _ _ c.wake-woke.ensures.turns.held, c.wake-woke.ensures.capacity, c.add_blocked.ensures.capacity, c.act_for.ensures.room)))
 
 -- ---- nothing waits there
 
@@ -105,6 +115,15 @@ returns-then-is_quiet-clause-ran c = rw (← c.self.view_is, c.add_blocked.ensur
     (c.in_ok-item.ensures.unheld (sym c.is_local.ensures ∙ c.if-is_local.false)) c.fall_asleep.ensures
     (c.is_quiet.ensures.waits c.if-is_quiet.true) (c.is_quiet.ensures.sleepers c.if-is_quiet.true))
     c.act_for.new.taken c.in_ok-item.ensures.child _ c.with_started.ensures)
+
+pub returns-then-is_quiet-clause-own : goal.returns-then-is_quiet-clause-own
+returns-then-is_quiet-clause-own c = rw (← c.self.view_is, c.add_blocked.ensures.items)
+    (quiet_own c.self.inside.library c.self.inside.processes.list.items c.self.inside.objects c.self.inside.blocked.items (vec_capacity c.self.inside.blocked)
+    c.args.pid c.in_ok-item.item c.self.invariant
+    c.act_for.new.processes.list.items c.act_for.new.objects c.act_for.new.objects c.fall_asleep.new.objects
+    c.act_for.new.blocked.items c.in_ok-item.ensures.acts c.in_ok-item.ensures.list c.in_ok-item.ensures.fewer c.in_ok-item.ensures.asleep
+    (c.in_ok-item.ensures.unheld (sym c.is_local.ensures ∙ c.if-is_local.false)) c.fall_asleep.ensures
+    (c.is_quiet.ensures.waits c.if-is_quiet.true) (c.is_quiet.ensures.sleepers c.if-is_quiet.true) c.in_ok-item.ensures.own)
 
 pub invariant_of-self-then-is_quiet : goal.invariant_of-self-then-is_quiet
 invariant_of-self-then-is_quiet c = rw c.add_blocked.ensures.items
@@ -128,6 +147,17 @@ returns-then-is_local-clause-ran c =
     (takes_local c.self.inside.library c.self.inside.processes.list.items c.self.inside.objects c.self.inside.blocked.items c.args.pid
     c.act_for.new.processes.list.items c.act_for.new.objects c.act_for.new.blocked.items c.in_ok-item.item local
     c.in_ok-item.ensures.acts (c.in_ok-item.ensures.quiet local c.self.invariant.awake)) local)
+
+pub returns-then-is_local-clause-own : goal.returns-then-is_local-clause-own
+returns-then-is_local-clause-own c =
+    let local : is_local c.in_ok-item.item ≡ true = sym c.is_local.ensures ∙ c.if-is_local.true in
+    rw (← c.self.view_is)
+    (own_stepped c.self.inside.library c.self.inside.processes.list.items c.self.inside.objects c.self.inside.blocked.items c.args.pid c.in_ok-item.item
+    c.act_for.new.processes.list.items c.act_for.new.processes.list.items c.act_for.new.objects c.act_for.new.blocked.items
+    (left_in c.act_for.new.processes c.act_for.new.objects (then_blocked c.args.pid c.in_ok-item.item c.act_for.new.blocked.items))
+    c.act_for.ensures.consistent.processes_in_order refl c.in_ok-item.ensures.acts
+    (local_awake c.args.pid c.act_for.new.processes.list.items c.act_for.new.objects c.act_for.new.blocked.items c.in_ok-item.item local
+    (c.in_ok-item.ensures.quiet local c.self.invariant.awake)) c.in_ok-item.ensures.own)
 
 pub invariant_of-self-then-is_local : goal.invariant_of-self-then-is_local
 invariant_of-self-then-is_local c =

@@ -1,6 +1,7 @@
 -- The lab's own call is a call, and its own step a step.
 use Rattle.zl_rights.proofs.Common.{◌≡◌, ℕ, ◌≤◌, [], length, refl, sym, ap, subst, ◌∙◌, Option, Some, None, IsTrue, arith}
-use Rattle.zl_rights.proofs.Common.{same_Some, none-some, is_some, eq-eqb, false≢true, Bool, true, false, if◌then◌else◌, get, Process, Ready, runs, State, World, is_process, is_ready, state_passes}
+use Rattle.zl_rights.proofs.Common.{same_Some, none-some, is_some, eq-eqb, false≢true, Bool, true, false, if◌then◌else◌, get, Process, Ready, runs, State}
+use Rattle.zl_rights.proofs.Common.{World, is_process, is_ready, state_passes}
 use Rattle.std.specs.Option.{option_to_list}
 use Rattle.zl_rights.proofs.Settling.{Settles-exists}
 use Rattle.zl_rights.specs.Settled.{settled}
@@ -33,7 +34,8 @@ module _ (lib : Library) (o : OwnWorld) (p : ℕ) (q : Process) (there : get o.w
   left_fine : (r : Request) → IsFreeOf (all_without (taken_handles r) q) (left_free o p r p)
   left_fine r = rw (eq-eqb p p refl, there) (all_leave (taken_handles r) q (free_at o.free p) (fine p q there))
 
-  own_chosen : (r : Request) → receiver_of w p r ≡ p → refusal lib w p r ≡ None → IsTrue (may_choose w (remove_all w p (taken_handles r)) p r (own_values o p r))
+  own_chosen : (r : Request) → receiver_of w p r ≡ p → refusal lib w p r ≡ None
+      → IsTrue (may_choose w (remove_all w p (taken_handles r)) p r (own_values o p r))
   unfolding may_choose
   own_chosen r own passes =
       let behind = left_behind w p q (taken_handles r) there in

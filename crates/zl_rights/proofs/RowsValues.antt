@@ -11,6 +11,7 @@ unfolding coming
 freed_come_first = refl
 
 -- two orders of freeing 2 and 3 are told apart by the second value that comes behind that of 4
-pub orders_differ : (coming 3 (given_back 4 (given_back 2 (given_back 3 five))) ≡ 4 ∷ 2 ∷ 3 ∷ []) × (coming 3 (given_back 4 (given_back 3 (given_back 2 five))) ≡ 4 ∷ 3 ∷ 2 ∷ [])
+pub orders_differ : (coming 3 (given_back 4 (given_back 2 (given_back 3 five))) ≡ 4 ∷ 2 ∷ 3 ∷ [])
+    × (coming 3 (given_back 4 (given_back 3 (given_back 2 five))) ≡ 4 ∷ 3 ∷ 2 ∷ [])
 unfolding coming
 orders_differ = (refl, refl)

@@ -83,7 +83,8 @@ module _ (entries : Map Entry) where
   next_small f is_free few = by_list f.freed f.made is_free.counted (is_free.each (offered f)) is_free.few
     where
       by_list : (vs : List ℕ) (made : ℕ) → made ≡ length entries + length vs
-          → (if has_key entries (next_of vs made) then 1 else 0) + times (next_of vs made) vs ≡ (if nat_lt 0 (next_of vs made) && nat_le (next_of vs made) made then 1 else 0)
+          → (if has_key entries (next_of vs made) then 1 else 0) + times (next_of vs made) vs
+          ≡ (if nat_lt 0 (next_of vs made) && nat_le (next_of vs made) made then 1 else 0)
           → made ≤ CAPACITY → (0 < next_of vs made) × (next_of vs made ≤ CAPACITY)
       by_list [] made counted each low = (omega arith, omega (arith, counted, few))
       by_list (v ∷ vs) made counted each low = grind (arith, nat_tests, each, low)

@@ -29,5 +29,6 @@ returns-clause-entries c =
 pub invariant_of-self-2 : goal.invariant_of-self-2
 invariant_of-self-2 c =
     let there : slot_at c.self.inside.slots c.key_of.result ≡ Some c.in-Some.entry.now = sym (c.in-Some.ensures {u = tt}).value in
-    rewritten _ _ _ _ _ c.self.invariant _ _ _ c.in-Some.entry.now (λ entry. record entry { rights = c.args.rights }) c.key_of.ensures.above c.key_of.ensures.zero there
+    rewritten _ _ _ _ _ c.self.invariant _ _ _ c.in-Some.entry.now
+    (λ entry. record entry { rights = c.args.rights }) c.key_of.ensures.above c.key_of.ensures.zero there
     (Updates-with_value _ _ _ (rw there refl))

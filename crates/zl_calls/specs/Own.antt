@@ -1,15 +1,12 @@
 -- That what a process does is the lab's own, up to where processes wake and behind that.
-use Rattle.std.specs.Prelude.{ℕ, ◌≡◌, Bool, true, false, List, map, Some, if◌then◌else◌}
+use Rattle.std.specs.Prelude.{ℕ, ◌≡◌, false, List, map, Some, if◌then◌else◌}
 use Rattle.std.specs.Option.{option_map}
-use Rattle.zl_rights.specs.declared.status.Status.TheVariants as status
 use Rattle.zl_rights.specs.Settled.{settled}
 use Rattle.zl_rights.specs.Values.{Free, new_free}
 use Rattle.zl_code.specs.Common.{get, lives, Library, Next, World as WorldValue, Process as ProcessValue, next_for}
-use Rattle.zl_code.specs.declared.history.Outcome.{Outcome}
-use Rattle.zl_code.specs.declared.history.Outcome.TheVariants as outcome
 use Rattle.zl_code.specs.declared.history.TraceItem.{TraceItem}
-use Rattle.zl_code.specs.declared.history.TraceItem.TheVariants as item
 use Rattle.zl_code.specs.Own.{OwnWorld}
+use Rattle.zl_code.specs.OwnHistory.{tells_want}
 use Rattle.zl_code.specs.OwnSteps.{own_act, own_step}
 use Rattle.zl_objects.specs.Objects.{Objects}
 use Rattle.zl_calls.specs.declared.process.Process.{Process}
@@ -18,16 +15,6 @@ use Rattle.zl_calls.specs.World.{free_entry, process_entry, world_blocked}
 -- the world of these, where those block, with the values of each process
 abbrev pub own_beside : List Process → Objects → List ℕ → OwnWorld
 own_beside ps r blocked = record { world = world_blocked ps r blocked; free = map free_entry ps }
-
--- the outcome wants memory
-abbrev pub is_want : Outcome → Bool
-is_want (outcome.Answered status.NoMemory) = true
-is_want _ = false
-
--- the item tells of a call that wanted memory
-abbrev pub tells_want : TraceItem → Bool
-tells_want (item.Call pid call o) = is_want o
-tells_want _ = false
 
 -- those of living processes are these, and those of others are a new table's
 abbrev pub living : (ℕ → Free) → ℕ → ProcessValue → Free

@@ -7,7 +7,10 @@ use Rattle.zl_code.specs.declared.history.TraceItem.TheVariants as item
 use Rattle.zl_sched.specs.declared.change.Change.TheVariants as change
 use Rattle.zl_sched.proofs.ReadyChange.{IsChanged, changed, changed_from, unchanged}
 use Rattle.zl_sched.proofs.Fresh.{made_not_ready}
-use Rattle.zl_sched.proofs.Legal.{history_then, nothing_legal, run_legal, step_legal}
+use Rattle.zl_code.specs.OwnBoot.{own_boot}
+use Rattle.zl_code.specs.OwnHistory.{OwnHistory}
+use Rattle.zl_calls.specs.World.{own_of}
+use Rattle.zl_sched.proofs.Legal.{history_then, nothing_legal, own_item, own_run, own_then, run_legal, step_legal}
 use Rattle.zl_sched.proofs.MarksKept.{state_kept, place_still}
 use Rattle.zl_sched.proofs.MarksMoved.{OthersStay, others_left, step_stays, local_stays, stays_then, before, after_listed, after_room, not_listed, takes_listed}
 use Rattle.zl_sched.proofs.MarksMoved.{forgets_listed, puts_back_listed}
@@ -18,7 +21,7 @@ use Rattle.zl_sched.proofs.Queued.{Before, requeued_is, told}
 module _ (s : System) (whole : IsWhole s) (p : ℕ) where
   with_lists : (ready2 out2 : List ℕ) → Listed s.machine.world ready2 out2 → IsWhole (record s { ready = ready2; out = out2 })
   with_lists ready2 out2 listed = record {
-    legal = record { boot = whole.legal.boot; boots = whole.legal.boots; sized = whole.legal.sized; history = whole.legal.history; room = whole.legal.room };
+    legal = record { boot = whole.legal.boot; boots = whole.legal.boots; sized = whole.legal.sized; history = whole.legal.history; begins = whole.legal.begins; own = whole.legal.own; room = whole.legal.room };
     listed = listed;
   }
 
@@ -37,37 +40,44 @@ ends_legal : (more : Bool) (m : Machine) (p : ℕ) (last : List TraceItem) (m2 :
     → IsLegalHistory m.programs m.world last m2.world
 ends_legal true m p last m2 (none, same) = subst (λ (xs : List TraceItem). IsLegalHistory m.programs m.world xs m2.world) (sym none)
     (nothing_legal m.programs m.world m2.world (ap (λ (x : Machine). x.world) same))
-ends_legal false m p last m2 (x, is, taken) =
+ends_legal false m p last m2 (x, is, taken, own) =
     subst (λ (xs : List TraceItem). IsLegalHistory m.programs m.world xs m2.world) (sym is)
     (step_legal m.programs m.world (pid_of x) x m2.world taken.steps.step)
 
+ends_own : (more : Bool) (m : Machine) (p : ℕ) (last : List TraceItem) (m2 : Machine) → Ends more m p last m2
+    → OwnHistory m.programs (own_of m) last (own_of m2)
+ends_own true m p last m2 (none, same) = subst (λ (xs : List TraceItem). OwnHistory m.programs (own_of m) xs (own_of m2)) (sym none) (ap own_of same)
+ends_own false m p last m2 (x, is, taken, own) =
+    subst (λ (xs : List TraceItem). OwnHistory m.programs (own_of m) xs (own_of m2)) (sym is)
+    (own_of m2, own_item m.programs (own_of m) p x (own_of m2) taken.pid_is taken.steps.step own, refl)
+
 ends_programs : (more : Bool) (m : Machine) (p : ℕ) (last : List TraceItem) (m2 : Machine) → Ends more m p last m2 → m2.programs ≡ m.programs
 ends_programs true m p last m2 (none, same) = ap (λ (x : Machine). x.programs) same
-ends_programs false m p last m2 (x, is, taken) = taken.steps.programs
+ends_programs false m p last m2 (x, is, taken, own) = taken.steps.programs
 
 ends_sound : (more : Bool) (m : Machine) (p : ℕ) (last : List TraceItem) (m2 : Machine) → IsSound m.world → Ends more m p last m2 → IsSound m2.world
 ends_sound true m p last m2 sound (none, same) = subst (λ (x : Machine). IsSound x.world) (sym same) sound
-ends_sound false m p last m2 sound (x, is, taken) = step_sound m.programs m.world (pid_of x) x m2.world sound taken.steps.step
+ends_sound false m p last m2 sound (x, is, taken, own) = step_sound m.programs m.world (pid_of x) x m2.world sound taken.steps.step
 
 ends_stay : (more : Bool) (m : Machine) (p : ℕ) (last : List TraceItem) (m2 : Machine) → IsSound m.world → Ends more m p last m2 → OthersStay m.world p m2.world
 ends_stay true m p last m2 sound (none, same) = subst (λ (x : Machine). OthersStay m.world p x.world) (sym same) (λ k apart passes. (passes, λ now. now))
-ends_stay false m p last m2 sound (x, is, taken) = step_stays m.programs m.world p x m2.world sound (rw taken.pid_is at taken.steps.step)
+ends_stay false m p last m2 sound (x, is, taken, own) = step_stays m.programs m.world p x m2.world sound (rw taken.pid_is at taken.steps.step)
 
 ends_fresh : (more : Bool) (m : Machine) (p : ℕ) (last : List TraceItem) (m2 : Machine) → Ends more m p last m2 → (q : ℕ) → get m.world.processes q ≡ None
     → is_process m2.world is_ready q ≡ false
 unfolding is_process
 ends_fresh true m p last m2 (none, same) q free = subst (λ (x : Machine). is_process x.world is_ready q ≡ false) (sym same) (rw free refl)
-ends_fresh false m p last m2 (x, is, taken) q free = made_not_ready m.programs m.world (pid_of x) x m2.world taken.steps.step q free
+ends_fresh false m p last m2 (x, is, taken, own) q free = made_not_ready m.programs m.world (pid_of x) x m2.world taken.steps.step q free
 
 ends_length : (more : Bool) (m : Machine) (p : ℕ) (last : List TraceItem) (m2 : Machine) → Ends more m p last m2 → length last ≡ (if more then 0 else 1)
 ends_length true m p last m2 (none, same) = ap length none
-ends_length false m p last m2 (x, is, taken) = ap length is
+ends_length false m p last m2 (x, is, taken, own) = ap length is
 
 ends_changed : (more : Bool) (m : Machine) (p : ℕ) (last : List TraceItem) (m2 : Machine) (ends : Ends more m p last m2) (c : Change) → IsSound m.world
     → is_process m.world is_ready p ≡ true → Changes more m p last m2 ends c → IsChanged m.world p m2.world c
 ends_changed true m p last m2 (none, same) c sound ready is =
     rw is (subst (λ (x : Machine). IsChanged m.world p x.world change.Nobody) (sym same) (unchanged m.world p ready))
-ends_changed false m p last m2 (x, is, taken) c sound ready (who, tells, told) =
+ends_changed false m p last m2 (x, is, taken, own) c sound ready (who, tells, told) =
     rw told (subst (λ (k : ℕ). IsChanged m.world k m2.world (change_of x who)) taken.pid_is
     (changed m.programs m.world (pid_of x) x m2.world sound taken.steps.step who tells))
 
@@ -143,12 +153,18 @@ module _ (s : System) (whole : IsWhole s) (d : Done) (awaited : IsAwaited s d) (
       = history_then s.machine.programs whole.legal.boot s.machine.world m2.world s.items (run_items d.pid d.ran ++ goes.last) whole.legal.history
       (history_then s.machine.programs s.machine.world mid.world m2.world (run_items d.pid d.ran) goes.last local_history
       (ends_legal (is_more d.stop) mid d.pid goes.last m2 goes.ends)) in
+      let own : OwnHistory s.machine.programs (own_boot s.machine.programs s.statements) (s.items ++ (run_items d.pid d.ran ++ goes.last)) (own_of m2)
+      = own_then s.machine.programs _ (own_of s.machine) (own_of m2) s.items (run_items d.pid d.ran ++ goes.last) whole.legal.own
+      (own_then s.machine.programs (own_of s.machine) (own_of mid) (own_of m2) (run_items d.pid d.ran) goes.last
+      (own_run s.machine.programs (own_of s.machine) d.pid d.ran mid.world goes.steps) (ends_own (is_more d.stop) mid d.pid goes.last m2 goes.ends)) in
       record {
         legal = record {
           boot = whole.legal.boot;
           boots = rw programs whole.legal.boots;
           sized = rw programs whole.legal.sized;
           history = rw (programs, goes.items_are) all;
+          begins = rw programs whole.legal.begins;
+          own = rw (programs, goes.items_are) own;
           room = omega (
             arith,
             room,

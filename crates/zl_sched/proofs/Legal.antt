@@ -1,11 +1,15 @@
 -- What follows a schedule is a legal history, and a legal history with one step more is one.
 use Rattle.zl_sched.proofs.Common.{Acts, AtCall, Bool, CallName, End, EndsBy, Follows, IsLegal, IsLegalHistory, IsStuck, IsTrue, Library, List, Moves, Next}
-use Rattle.zl_sched.proofs.Common.{Runs, Step, System, TraceItem, World, [], ap, append-nil, arith, ends, false, flat_map, flat_map-append, goes, if◌then◌else◌}
+use Rattle.zl_sched.proofs.Common.{Runs, Step, System, TraceItem, World, [], ap, append-nil, arith, cases_Bool, ends, false, flat_map, flat_map-append, goes, if◌then◌else◌, inl, inr}
 use Rattle.zl_sched.proofs.Common.{length-append, list_all, nat_lt, nat_tests, next_for, pid_of, refl, replicate, run_items, single, skips, subst, suc, sym}
-use Rattle.zl_sched.proofs.Common.{true, zero, ℕ, ◌++◌, ◌==◌, ◌∙◌, ◌∷◌, ◌≡◌}
+use Rattle.zl_sched.proofs.Common.{true, zero, ℕ, ◌++◌, ◌==◌, ◌∙◌, ◌∷◌, ◌≡◌, ◌⊎◌}
 use Rattle.std.proofs.lemmas.List.Folds.{list_all-append}
 use Rattle.zl_code.specs.declared.history.TraceItem.TheVariants as item
+use Rattle.zl_code.specs.Own.{OwnWorld}
+use Rattle.zl_code.specs.OwnHistory.{OwnHistory, OwnItem, as_own, as_run, as_want, tells_want}
 use Rattle.zl_code.specs.Steps.{has_count, Runs as RunsBy}
+use Rattle.zl_calls.specs.Own.{StepsOwn}
+use Rattle.zl_calls.specs.World.{own_of}
 use Rattle.zl_sched.specs.declared.system.End.TheVariants as end
 
 -- the item of one step
@@ -102,6 +106,36 @@ run_legal lib w p (suc n) w2 runs =
       run = subst (λ (steps : List TraceItem). RunsBy lib w steps w2) (sym (append-nil (replicate (suc n) (item.Run p 1)))) runs;
     })
 
+-- ---- the lab's own history
+
+-- a step of the lab is an item of it
+pub own_item : (lib : Library) (o : OwnWorld) (p : ℕ) (x : TraceItem) (o2 : OwnWorld) → pid_of x ≡ p → Step lib o.world (pid_of x) x o2.world
+    → StepsOwn lib o p x o2 → OwnItem lib o x o2
+own_item lib o p x o2 of step own = by_want (cases_Bool (tells_want x))
+  where
+    by_want : (IsTrue (tells_want x)) ⊎ (tells_want x ≡ false) → OwnItem lib o x o2
+    by_want (inl wanted) = as_want wanted step
+    by_want (inr plain) = as_own (rw (single_step lib o.world (pid_of x) x o2.world step).one (o2, rw of (own plain), refl))
+
+pub own_then : (lib : Library) (o mid o2 : OwnWorld) (items more : List TraceItem) → OwnHistory lib o items mid → OwnHistory lib mid more o2
+    → OwnHistory lib o (items ++ more) o2
+own_then lib o mid o2 [] more same rest = subst (λ (v : OwnWorld). OwnHistory lib v more o2) same rest
+own_then lib o mid o2 (x ∷ items) more (first, one, later) rest = (first, one, own_then lib first mid o2 items more later rest)
+
+-- local instructions in a row, in one item
+pub own_run : (lib : Library) (o : OwnWorld) (p n : ℕ) (w2 : World) → RunsBy lib o.world (replicate n (item.Run p 1)) w2
+    → OwnHistory lib o (run_items p n) (record o { world = w2 })
+own_run lib o p zero w2 ran = ap (λ (w : World). record o { world = w }) ran
+own_run lib o p (suc n) w2 ran =
+    let some : (suc n == 0) ≡ false = grind (arith, nat_tests) in
+    subst (λ (none : Bool). OwnHistory lib o (if none then [] else (item.Run p (suc n) ∷ [])) (record o { world = w2 })) (sym some)
+    (record o { world = w2 }, as_run refl ran refl, refl)
+
+pub own_ran : (s : System) (p : ℕ) (s2 : System) (runs : Runs s p s2) → OwnItem s.machine.programs (own_of s.machine) runs.item (own_of s2.machine)
+own_ran s p s2 runs =
+    let of = (single_step s.machine.programs s.machine.world p runs.item s2.machine.world runs.step).of in
+    own_item s.machine.programs (own_of s.machine) p runs.item (own_of s2.machine) of (rw of runs.step) runs.own
+
 -- a step of one that is legal
 pub legal_more : (s : System) (p : ℕ) (s2 : System) → IsLegal s → Runs s p s2 → IsLegal s2
 legal_more s p s2 legal runs = rw (runs.adds.programs, runs.adds.items, runs.adds.statements, runs.adds.limit) (record {
@@ -109,5 +143,7 @@ legal_more s p s2 legal runs = rw (runs.adds.programs, runs.adds.items, runs.add
   boots = legal.boots;
   sized = legal.sized;
   history = history_more s.machine.programs legal.boot s.machine.world s2.machine.world s.items p runs.item legal.history runs.step;
+  begins = legal.begins;
+  own = own_then s.machine.programs _ (own_of s.machine) (own_of s2.machine) s.items (runs.item ∷ []) legal.own (own_of s2.machine, own_ran s p s2 runs, refl);
   room = omega (arith, length-append s.items (runs.item ∷ []), runs.room);
 })

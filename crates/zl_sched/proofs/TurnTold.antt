@@ -1,6 +1,8 @@
 -- What a turn does that has a step, and what one is answered for which the trace has no room.
 use Rattle.zl_sched.proofs.Common.{Bool, IsTrue, List, Machine, Runs, System, TakesStep, TraceItem, Turns, [], and_right, ap, cases_Bool, false, if◌then◌else◌}
 use Rattle.zl_sched.proofs.Common.{inl, inr, is_in, is_ready_in, length, may_step, not, queued_after, refl, ℕ, ◌++◌, ◌<◌, ◌∷◌, ◌≡◌, ◌≤◌}
+use Rattle.zl_calls.specs.Own.{StepsOwn}
+use Rattle.zl_calls.specs.World.{own_of}
 use Rattle.zl_sched.specs.declared.system.Stepped.{Stepped}
 use Rattle.zl_sched.specs.declared.system.Stepped.TheVariants as stepped
 
@@ -26,12 +28,14 @@ module _ (s : System) (pid : ℕ) where
   out_told out = (refl, and_right (is_ready_in s.machine pid) (not (is_in pid s.out)) (ap not out))
 
   pub step_told : is_in pid s.out ≡ false → (m2 : Machine) (items2 : List TraceItem) (ready2 : List ℕ) (x : TraceItem) → TakesStep s.machine pid m2 x
+      → StepsOwn s.machine.programs (own_of s.machine) pid x (own_of m2)
       → items2 ≡ s.items ++ (x ∷ []) → length s.items < s.limit
       → ready2 ≡ queued_after s.machine.world pid m2.world s.ready → Runs s pid (record s { machine = m2; items = items2; ready = ready2 })
-  step_told hand m2 items2 ready2 x taken added room queue = record {
+  step_told hand m2 items2 ready2 x taken own added room queue = record {
     item = x;
     adds = record { programs = taken.steps.programs; items = added; statements = refl; limit = refl; out = refl };
     step = rw taken.pid_is at taken.steps.step;
+    own = own;
     ready = rw (taken.ready, hand) refl;
     room = room;
     queue = queue;

@@ -3,7 +3,10 @@ use Rattle.zl_sched.proofs.Common.{Adds, Bool, End, EndsBy, Follows, IsTrue, Lib
 use Rattle.zl_sched.proofs.Common.{ap, append-nil, append_assoc, arith, drop, ends, false, flat_map-append, get_or, goes, is_process, is_ready, is_ready_in}
 use Rattle.zl_sched.proofs.Common.{length, length-append, may_step, refl, replicate, replicate-append-replicate, replicate_more, room_of, skips, subst, suc}
 use Rattle.zl_sched.proofs.Common.{sym, take, take-append-drop, take_more, true, turns_of, zero, ℕ, ◌&&◌, ◌++◌, ◌+◌, ◌-◌, ◌<◌, ◌∙◌, ◌∷◌, ◌≡◌, ◌≤◌}
+use Rattle.zl_code.specs.OwnHistory.{OwnHistory}
+use Rattle.zl_calls.specs.World.{own_of}
 use Rattle.zl_sched.specs.declared.system.End.TheVariants as end
+use Rattle.zl_sched.proofs.Legal.{own_ran, own_then}
 
 -- ---- what follows a schedule
 
@@ -42,12 +45,13 @@ adds_both s mid s2 xs ys first second = record {
 }
 
 pub walks_nowhere : (s : System) → Walks s [] end.Schedule s
-walks_nowhere s = record { more = []; adds = adds_nothing s; room = omega arith; ends = ends s.machine.world }
+walks_nowhere s = record { more = []; adds = adds_nothing s; own = refl; room = omega arith; ends = ends s.machine.world }
 
 pub ran_walks : (s : System) (p : ℕ) (s2 : System) → Runs s p s2 → Walks s (p ∷ []) end.Schedule s2
 ran_walks s p s2 runs = record {
   more = runs.item ∷ [];
   adds = runs.adds;
+  own = (own_of s2.machine, own_ran s p s2 runs, refl);
   room = omega (arith, runs.room);
   ends = goes s.machine.world s2.machine.world s2.machine.world p runs.item [] [] (and_parts (is_ready_in s.machine p) _ runs.ready).0 runs.step
       (ends s2.machine.world);
@@ -57,6 +61,7 @@ pub skipped_walks : (s : System) (p n : ℕ) → is_ready_in s.machine p ≡ fal
 skipped_walks s p n not_ready = record {
   more = [];
   adds = adds_nothing s;
+  own = refl;
   room = omega arith;
   ends = follows_skipping s.machine.programs s.machine.world p n not_ready;
 }
@@ -65,10 +70,10 @@ stops_here : (s : System) (p : ℕ) (us : List ℕ) → IsTrue (is_ready_in s.ma
 stops_here s p us ready = record { taken = []; next = p; left = us; are_all = refl; follows = ends s.machine.world; is_ready = ready }
 
 pub limited_walks : (s : System) (p : ℕ) (us : List ℕ) → IsTrue (is_ready_in s.machine p) → s.limit ≤ length s.items → Walks s (p ∷ us) end.Limit s
-limited_walks s p us ready full = record { more = []; adds = adds_nothing s; room = omega arith; ends = (stops_here s p us ready, omega (arith, full)) }
+limited_walks s p us ready full = record { more = []; adds = adds_nothing s; own = refl; room = omega arith; ends = (stops_here s p us ready, omega (arith, full)) }
 
 pub wanting_walks : (s : System) (p : ℕ) (us : List ℕ) → IsTrue (is_ready_in s.machine p) → length s.items < s.limit → Walks s (p ∷ us) end.Memory s
-wanting_walks s p us ready room = record { more = []; adds = adds_nothing s; room = omega arith; ends = (stops_here s p us ready, omega (arith, room)) }
+wanting_walks s p us ready room = record { more = []; adds = adds_nothing s; own = refl; room = omega arith; ends = (stops_here s p us ready, omega (arith, room)) }
 
 -- ---- one walk after another
 
@@ -100,6 +105,8 @@ module _ (s mid s2 : System) (ts us : List ℕ) (first : Walks s ts end.Schedule
   walks_then e second = record {
     more = first.more ++ second.more;
     adds = adds_both s mid s2 first.more second.more first.adds second.adds;
+    own = own_then s.machine.programs (own_of s.machine) (own_of mid.machine) (own_of s2.machine) first.more second.more first.own
+        (subst (λ (lib : Library). OwnHistory lib (own_of mid.machine) second.more (own_of s2.machine)) first.adds.programs second.own);
     room = omega (arith, first.room, second.room, counts, first.adds.limit, length-append first.more second.more);
     ends = ends_then e second.more s2.machine.world second.ends;
   }
@@ -170,6 +177,7 @@ module _ (s mid s2 : System) (schedule : List (ℕ × ℕ)) (n : ℕ) (default :
       record {
         more = so_far.more;
         adds = so_far.adds;
+        own = so_far.own;
         room = so_far.room;
         ends = subst (λ (turns : List ℕ). EndsBy s.machine.programs s.machine.world turns (room_of s) so_far.more s2.machine.world e) whole
             (by_end e early (turns_of (take n schedule) ++ replicate pair.1 pair.0) (turns_of (drop (n + 1) schedule)) so_far.more

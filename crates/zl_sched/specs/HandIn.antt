@@ -7,7 +7,8 @@ use Rattle.zl_code.specs.declared.history.TraceItem.TheVariants as item
 use Rattle.zl_interp.specs.Bursts.{Turn, Done}
 use Rattle.zl_interp.specs.declared.bursts.Stop.{Stop}
 use Rattle.zl_interp.specs.declared.bursts.Stop.TheVariants as stop
-use Rattle.zl_calls.specs.World.{Machine, is_ready_in}
+use Rattle.zl_calls.specs.Own.{StepsOwn}
+use Rattle.zl_calls.specs.World.{Machine, is_ready_in, own_of}
 use Rattle.zl_calls.specs.Steps.{TakesStep}
 use Rattle.zl_calls.specs.Turns.{IsTurn, Fits, advanced, steps_done}
 use Rattle.zl_calls.specs.Started.{Tells}
@@ -54,10 +55,10 @@ items_of d = (if d.ran == 0 then 0 else 1) + (if is_more d.stop then 0 else 1)
 abbrev pub run_items : ℕ → ℕ → List TraceItem
 run_items p n = if n == 0 then [] else (item.Run p n ∷ [])
 
--- what comes behind them: nothing, or one step of the process, with its item
+-- what comes behind them: nothing, or one step of the process, which is the lab's own, with its item
 abbrev pub Ends : Bool → Machine → ℕ → List TraceItem → Machine → Type 0
 Ends true m p last m2 = (last ≡ []) × (m2 ≡ m)
-Ends false m p last m2 = (x : TraceItem) × (last ≡ x ∷ []) × TakesStep m p m2 x
+Ends false m p last m2 = (x : TraceItem) × (last ≡ x ∷ []) × TakesStep m p m2 x × StepsOwn m.programs (own_of m) p x (own_of m2)
 
 -- ---- handed in
 
@@ -125,7 +126,7 @@ Judges s d judged.Fits = IsAwaited s d × HasRoom s d
 -- what comes behind the local instructions changes so much of who is ready, as far as its item and what is told beside it say
 abbrev pub Changes : (more : Bool) (m : Machine) (p : ℕ) (last : List TraceItem) (m2 : Machine) → Ends more m p last m2 → Change → Type 0
 Changes true m p last m2 ends c = c ≡ change.Nobody
-Changes false m p last m2 (x, is, taken) c = (who : Woke) × Tells m.programs m.world (pid_of x) x m2.world taken.steps.step who × (c ≡ change_of x who)
+Changes false m p last m2 (x, is, taken, own) c = (who : Woke) × Tells m.programs m.world (pid_of x) x m2.world taken.steps.step who × (c ≡ change_of x who)
 
 -- what comes behind the local instructions, with the trace, and what it changes of who is ready
 pub record EndsFrom (more : Bool) (m : Machine) (items : List TraceItem) (p : ℕ) (c : Change) (m2 : Machine) (items2 : List TraceItem) : Type 0 where

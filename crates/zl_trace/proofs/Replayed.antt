@@ -1,23 +1,39 @@
 -- A legal history that goes on by one item, and an item that differs.
 use Rattle.zl_code.proofs.Common.{Library, MOST_ITEMS, Runs, Step, has_count, list_all-append, pid_of, single}
 use Rattle.zl_code.specs.declared.boot.Statement.{Statement}
-use Rattle.zl_trace.proofs.Common.{Differs, DiffersAt, IsReplayed, List, Machine, Repeats, StepDiffers, TraceItem, [], another, ap, append-nil, arith}
-use Rattle.zl_trace.proofs.Common.{at_drop_more, at_step, drop, flat_map, flat_map-append, get_or, inl, inr, length, length-take-le, refl, replicate, subst}
+use Rattle.zl_trace.proofs.Common.{Differs, DiffersAt, IsReplayed, List, Machine, Repeats, Some, StepDiffers, TraceItem, true, [], another, ap, append-nil, arith}
+use Rattle.zl_trace.proofs.Common.{at_drop_more, at_step, drop, flat_map, flat_map-append, get_or, inl, inr, length, length-take-le, nat_tests, refl, replicate, subst}
 use Rattle.zl_trace.proofs.Common.{suc, sym, take, take-append-drop, take_more, zero, ℕ, ◌++◌, ◌+◌, ◌-◌, ◌<◌, ◌∙◌, ◌∷◌, ◌≡◌, ◌≢◌, ◌⊎◌}
-use Rattle.zl_code.specs.Common.{World as WorldValue}
+use Rattle.zl_code.specs.Own.{OwnWorld}
+use Rattle.zl_code.specs.OwnBoot.{own_boot}
+use Rattle.zl_code.specs.OwnHistory.{OwnItem, OwnRuns, as_own}
+use Rattle.zl_code.specs.OwnSteps.{own_step}
+use Rattle.zl_calls.specs.Own.{StepsOwn}
+use Rattle.zl_calls.specs.World.{own_of}
+use Rattle.zl_sched.proofs.Legal.{own_item, own_then}
 use Rattle.zl_code.specs.declared.history.TraceItem.TheVariants as item
 use Rattle.zl_calls.specs.Steps.{StepsTo, TakesStep}
 use Rattle.zl_code.proofs.AwakeRuns.{runs_joined}
 
 -- ---- one item
 
-pub differs_by : (m : Machine) (pid : ℕ) (x own : TraceItem) (m2 : Machine) → pid_of x ≡ pid → TakesStep m pid m2 own → own ≢ x
-    → StepDiffers m.programs m.world x
-differs_by m pid x own m2 is taken other =
-    another own m2.world (subst (λ p. Step m.programs m.world p own m2.world) (taken.pid_is ∙ sym is) taken.steps.step) other
+pub differs_by : (m : Machine) (pid : ℕ) (x own : TraceItem) (m2 : Machine) → pid_of x ≡ pid → TakesStep m pid m2 own
+    → StepsOwn m.programs (own_of m) pid own (own_of m2) → own ≢ x → StepDiffers m.programs (own_of m) x
+differs_by m pid x own m2 is taken does other =
+    another own (own_of m2) (subst (λ p. Step m.programs m.world p own m2.world) (taken.pid_is ∙ sym is) taken.steps.step)
+    (subst (λ p. StepsOwn m.programs (own_of m) p own (own_of m2)) (sym is) does) other
 
-pub differs_one : (lib : Library) (w : WorldValue) (x : TraceItem) → single x ≡ x ∷ [] → StepDiffers lib w x → Differs lib w x
-differs_one lib w x one differs = at_step [] w x [] one refl differs
+pub differs_one : (lib : Library) (o : OwnWorld) (x : TraceItem) → single x ≡ x ∷ [] → StepDiffers lib o x → Differs lib o x
+differs_one lib o x one differs = at_step [] o x [] one refl refl differs
+
+pub repeats_one : (m : Machine) (pid : ℕ) (x : TraceItem) (m2 : Machine) → single x ≡ x ∷ [] → has_count x ≡ true → pid_of x ≡ pid → StepsTo m x m2
+    → StepsOwn m.programs (own_of m) pid x (own_of m2) → Repeats m x m2
+repeats_one m pid x m2 one count is steps own = record {
+  programs = steps.programs;
+  count = count;
+  runs = rw one (m2.world, steps.step, refl);
+  own = own_item m.programs (own_of m) pid x (own_of m2) is steps.step own;
+}
 
 -- ---- local instructions in a row
 
@@ -25,6 +41,7 @@ differs_one lib w x one differs = at_step [] w x [] one refl differs
 pub record RanOn (pid : ℕ) (m : Machine) (n : ℕ) (m2 : Machine) : Type 0 where
   pub programs : m2.programs ≡ m.programs
   pub runs : Runs m.programs m.world (replicate n (item.Run pid 1)) m2.world
+  pub own : OwnRuns m.programs (own_of m) (replicate n (item.Run pid 1)) (own_of m2)
 
 one_longer : {X : Type 0} (n : ℕ) (x : X) → replicate n x ++ (x ∷ []) ≡ replicate (n + 1) x
 one_longer zero x = refl
@@ -37,19 +54,35 @@ cut_before (suc n) zero x below = let e : suc n - 1 ≡ n = omega arith in rw e 
 cut_before (suc n) (suc k) x below =
     let e : suc n - (suc k + 1) ≡ n - (k + 1) = omega arith in rw e (ap (λ (l : List _). x ∷ l) (cut_before n k x (omega arith)))
 
-pub one_more_ran : (pid : ℕ) (m : Machine) (n : ℕ) (m2 m3 : Machine) → RanOn pid m n m2 → StepsTo m2 (item.Run pid 1) m3 → RanOn pid m (n + 1) m3
-one_more_ran pid m n m2 m3 ran steps = record {
+-- one more step of the lab
+own_more : (lib : Library) (o mid o2 : OwnWorld) (xs : List TraceItem) (x : TraceItem) → OwnRuns lib o xs mid → own_step lib mid (pid_of x) ≡ Some (o2, x)
+    → OwnRuns lib o (xs ++ (x ∷ [])) o2
+own_more lib o mid o2 [] x same step = (o2, subst (λ (v : OwnWorld). own_step lib v (pid_of x) ≡ Some (o2, x)) same step, refl)
+own_more lib o mid o2 (y ∷ xs) x (first, one, rest) step = (first, one, own_more lib first mid o2 xs x rest step)
+
+pub one_more_ran : (pid : ℕ) (m : Machine) (n : ℕ) (m2 m3 : Machine) → RanOn pid m n m2 → StepsTo m2 (item.Run pid 1) m3
+    → StepsOwn m2.programs (own_of m2) pid (item.Run pid 1) (own_of m3) → RanOn pid m (n + 1) m3
+one_more_ran pid m n m2 m3 ran steps own = record {
+  own = subst (λ (items : List TraceItem). OwnRuns m.programs (own_of m) items (own_of m3)) (one_longer n (item.Run pid 1))
+      (own_more m.programs (own_of m) (own_of m2) (own_of m3) (replicate n (item.Run pid 1)) (item.Run pid 1) ran.own
+      (subst (λ lib. own_step lib (own_of m2) pid ≡ Some (own_of m3, item.Run pid 1)) ran.programs (own refl)));
   programs = steps.programs ∙ ran.programs;
   runs = subst (λ (items : List TraceItem). Runs m.programs m.world items m3.world) (one_longer n (item.Run pid 1))
       (runs_joined m.programs m.world (replicate n (item.Run pid 1)) m2.world (item.Run pid 1 ∷ []) m3.world ran.runs
       (m3.world, subst (λ lib. Step lib m2.world pid (item.Run pid 1) m3.world) ran.programs steps.step, refl));
 }
 
-pub differs_after : (pid : ℕ) (m : Machine) (n count : ℕ) (m2 : Machine) → n < count → RanOn pid m n m2 → StepDiffers m2.programs m2.world (item.Run pid 1)
-    → Differs m.programs m.world (item.Run pid count)
+-- all of them
+pub ran_repeats : (pid : ℕ) (m : Machine) (n : ℕ) (m2 : Machine) → 0 < n → RanOn pid m n m2 → Repeats m (item.Run pid n) m2
+ran_repeats pid m n m2 some ran =
+    record { programs = ran.programs; count = grind (arith, nat_tests, some); runs = ran.runs; own = as_own ran.own }
+
+pub differs_after : (pid : ℕ) (m : Machine) (n count : ℕ) (m2 : Machine) → n < count → RanOn pid m n m2 → StepDiffers m2.programs (own_of m2) (item.Run pid 1)
+    → Differs m.programs (own_of m) (item.Run pid count)
 differs_after pid m n count m2 below ran differs =
-    at_step (replicate n (item.Run pid 1)) m2.world (item.Run pid 1) (replicate (count - (n + 1)) (item.Run pid 1))
-    (cut_before count n (item.Run pid 1) below) ran.runs (subst (λ lib. StepDiffers lib m2.world (item.Run pid 1)) ran.programs differs)
+    at_step (replicate n (item.Run pid 1)) (own_of m2) (item.Run pid 1) (replicate (count - (n + 1)) (item.Run pid 1))
+    (cut_before count n (item.Run pid 1) below) ran.runs ran.own
+    (subst (λ lib. StepDiffers lib (own_of m2) (item.Run pid 1)) ran.programs differs)
 
 -- ---- many items
 
@@ -65,6 +98,9 @@ module _ (lib : Library) (statements : List Statement) (limit : ℕ) where
         boot = replayed.boot;
         boots = replayed.boots;
         sized = replayed.sized;
+        begins = replayed.begins;
+        own = own_then lib (own_boot lib statements) (own_of m) (own_of m2) items (x ∷ []) replayed.own
+            (own_of m2, subst (λ v. OwnItem v (own_of m) x (own_of m2)) replayed.programs repeats.own, refl);
         legal = record {
           counts = rw (list_all-append has_count items (x ∷ []), replayed.legal.counts, repeats.count) refl;
           run = subst (λ (run : List TraceItem). Runs lib replayed.boot run m2.world) steps
@@ -74,7 +110,7 @@ module _ (lib : Library) (statements : List Statement) (limit : ℕ) where
 
   -- an item differs, or there are too many
   pub differs_here : (all before after : List TraceItem) (x : TraceItem) (m : Machine) → all ≡ before ++ (x ∷ after) → IsReplayed lib statements limit before m
-      → Differs m.programs m.world x ⊎ (length before ≡ MOST_ITEMS) → DiffersAt lib statements limit all (length before + 1)
+      → Differs m.programs (own_of m) x ⊎ (length before ≡ MOST_ITEMS) → DiffersAt lib statements limit all (length before + 1)
   differs_here all before after x m cut replayed why = record {
     before = before;
     item = x;
@@ -83,7 +119,7 @@ module _ (lib : Library) (statements : List Statement) (limit : ℕ) where
     number = refl;
     machine = m;
     replayed = replayed;
-    differs = elim why [ inl differs ↦ inl (subst (λ v. Differs v m.world x) replayed.programs differs) | inr many ↦ inr many ];
+    differs = elim why [ inl differs ↦ inl (subst (λ v. Differs v (own_of m) x) replayed.programs differs) | inr many ↦ inr many ];
   }
 
   -- the item at this place comes next
@@ -94,7 +130,7 @@ module _ (lib : Library) (statements : List Statement) (limit : ℕ) where
       (one_more (take n items) m (get_or items n d) m2 replayed repeats)
 
   pub differs_at : (items : List TraceItem) (n : ℕ) (d : TraceItem) (m : Machine) → n < length items → IsReplayed lib statements limit (take n items) m
-      → Differs m.programs m.world (get_or items n d) ⊎ (n ≡ MOST_ITEMS) → DiffersAt lib statements limit items (n + 1)
+      → Differs m.programs (own_of m) (get_or items n d) ⊎ (n ≡ MOST_ITEMS) → DiffersAt lib statements limit items (n + 1)
   differs_at items n d m within replayed why =
       let next : drop n items ≡ get_or items n d ∷ drop (n + 1) items = at_drop_more (λ (l : List TraceItem). l) items n d within in
       let cut : items ≡ take n items ++ (get_or items n d ∷ drop (n + 1) items) =

@@ -5,7 +5,9 @@ ghost use Rattle.zl_code.specs.declared.boot.BootFault.{BootFault as BootFaultVa
 ghost use Rattle.zl_code.specs.Boot.{FirstFault};
 ghost use Rattle.zl_code.specs.Steps.{pid_of};
 ghost use Rattle.zl_calls.specs.Makes.{IsReached};
+ghost use Rattle.zl_calls.specs.Own.{StepsOwn};
 ghost use Rattle.zl_calls.specs.Steps.{StepsTo};
+ghost use Rattle.zl_calls.specs.World.{own_of};
 ghost use Rattle.zl_trace.specs.Replaying.{Differs, DiffersAt, IsReplayed, Repeats, StepDiffers};
 
 use crate::fault::ReplayFault;
@@ -21,9 +23,9 @@ use zl_rights::Pid;
 /// `Boot` has the fault of the statements. `At` names the first item, from 1, that the lab's own steps
 /// don't give: its process isn't ready, or its own step has another item; or it is one past
 /// `Boot::MOST_ITEMS`. That isn't to say that no step has it. A call for which the lab has memory may
-/// also be answered `NoMemory`, and one that makes handles `NoResources`; and as a step may give any unused value to a new handle, a trace with
-/// another choice may differ from the first exit that tells of such a value on. The clause says of the
-/// other item only that some step of the process has it. What was handed in is then gone.
+/// also be answered `NoMemory`; and as a step may give any unused value to a new handle, a trace with
+/// another choice may differ from the first exit that tells of such a value on. Where the lab wants
+/// memory itself, the other item is that of some step. What was handed in is then gone.
 ///
 /// Source: own profile; what a step is follows `World`.
 pub fn replay(
@@ -56,7 +58,7 @@ pub fn replay(
 /// world is of no use.
 fn repeat(world: &mut World, item: TraceItem) -> bool
     ensures same { result ≡ true → Repeats world.old item world.new }
-    ensures other { result ≡ false → Differs world.old.programs world.old.world item }
+    ensures other { result ≡ false → Differs world.old.programs (own_of world.old) item }
 {
     match item {
         TraceItem::Run { pid, count } => repeat_run(world, pid, count),
@@ -67,7 +69,7 @@ fn repeat(world: &mut World, item: TraceItem) -> bool
 /// Does so many local instructions of the process, if there is one at least and these come next.
 fn repeat_run(world: &mut World, pid: Pid, count: u32) -> bool
     ensures same { result ≡ true → Repeats world.old (TraceItem.Run pid count) world.new }
-    ensures other { result ≡ false → Differs world.old.programs world.old.world
+    ensures other { result ≡ false → Differs world.old.programs (own_of world.old)
         (TraceItem.Run pid count) }
 {
     for turn in 0..count {
@@ -82,7 +84,9 @@ fn repeat_run(world: &mut World, pid: Pid, count: u32) -> bool
 fn repeat_step(world: &mut World, pid: Pid, item: TraceItem) -> bool
     requires pid { pid_of item ≡ pid }
     ensures same { result ≡ true → StepsTo world.old item world.new }
-    ensures other { result ≡ false → StepDiffers world.old.programs world.old.world item }
+    ensures own { result ≡ true → StepsOwn world.old.programs (own_of world.old) pid item
+        (own_of world.new) }
+    ensures other { result ≡ false → StepDiffers world.old.programs (own_of world.old) item }
 {
     match world.step(pid) {
         Some((own, _)) => own.is_same(item),

@@ -10,6 +10,9 @@ use Rattle.zlab.specs.declared.fault.Verdict.TheVariants as verdict
 use Rattle.zlab.specs.declared.input.Input.{Input}
 use Rattle.zlab.specs.declared.input.Input.TheVariants as input
 use Rattle.zlab.specs.Assembling.{BeginsAssembly, nothing_written}
+use Rattle.zl_code.specs.Own.{OwnWorld}
+use Rattle.zl_code.specs.OwnHistory.{OwnHistory}
+use Rattle.zl_calls.specs.World.{own_of}
 use Rattle.zl_sched.proofs.Legal.{ends_legal}
 use Rattle.zlab.proofs.SoundWorlds.{always_sound}
 use Rattle.zl_scenario.proofs.Programs.{are_verified}
@@ -48,6 +51,11 @@ module _ (text : List ℕ) (s : System) (pairs : List (ℕ × ℕ)) (start : IsS
     covered = covered_go_well s.machine.programs start.said.statements s.machine.world
         (are_verified s.machine.programs start.boots.images start.accepted) start.boots
         walks.more;
+    own = record {
+      begins = ap (λ (o : OwnWorld). o.world) start.own;
+      free = last.machine.free;
+      own = subst (λ (o : OwnWorld). OwnHistory s.machine.programs o walks.more (own_of last.machine)) start.own walks.own;
+    };
     room = omega (arith, walks.room, start.limit, ap length start.items);
     ends = subst (λ (turns : List (ℕ × ℕ)). EndsBy s.machine.programs s.machine.world (turns_of turns) start.said.limit walks.more
         last.machine.world e) start.schedule

@@ -6,6 +6,8 @@ use Rattle.zlab.proofs.Common.{get_or, length, line_cause}
 use Rattle.zlab.proofs.Common.{none-some, of_reading, of_statement, slice_get, slice_get-get_or, slice_index_or, subst, sym, ℕ, ◌<◌, ◌∙◌, ◌≡◌}
 use Rattle.zl_code.proofs.Common.{World}
 use Rattle.zl_code.specs.Headline.{IsSizedBoot}
+use Rattle.zl_code.specs.OwnBoot.{own_boot}
+use Rattle.zl_calls.specs.World.{own_of}
 use Rattle.std.proofs.lemmas.Option.{slice_get_within}
 use Rattle.zl_code.specs.declared.boot.BootCause.TheVariants as boot
 use Rattle.zl_scenario.specs.declared.cause.Cause.{Cause}
@@ -45,14 +47,16 @@ module _ (text : List ℕ) (fits : FitsInput text) (scenario : Made) (reading : 
 
   pub is_start : (s : System) (pairs : List (ℕ × ℕ)) → reading.fault ≡ None → s.machine.programs ≡ scenario.library
       → IsSizedBoot scenario.library scenario.boot.statements.items s.machine.world
+      → own_of s.machine ≡ own_boot scenario.library scenario.boot.statements.items
       → s.items ≡ [] → s.out ≡ [] → s.limit ≡ scenario.boot.limit → pairs ≡ scenario.schedule.items → IsStart text s pairs
-  is_start s pairs no_fault programs boots items out limit schedule = record {
+  is_start s pairs no_fault programs boots own items out limit schedule = record {
     fits = fits;
     said = reading.said;
     read = subst (λ (f : Option LineFault). IsRead text (record { said = reading.said; fault = f })) no_fault reads;
     programs = rw programs is.programs;
     accepted = rw programs is.accepted;
     boots = rw programs (subst (λ (ss : List Statement). IsSizedBoot scenario.library ss s.machine.world) is.statements boots);
+    own = rw programs (own ∙ ap (own_boot scenario.library) is.statements);
     items = items;
     out = out;
     limit = limit ∙ is.limit;

@@ -41,7 +41,7 @@ module _ (text : List ℕ) (fits : FitsInput text) (scenario : Made) (reading : 
 
     pub comes_of : (trace : List ℕ) (items : List TraceItem) (found : Replayed) → HasItems trace items
         → Comes scenario.library scenario.boot.statements.items scenario.boot.limit scenario.lines.items items found → IsTrueOf text trace found
-    comes_of trace items (replayed.All n) has (count, (boot, last, boots, legal)) = (
+    comes_of trace items (replayed.All n) has (count, (last, done)) = (
       items,
       has,
       count,
@@ -49,12 +49,14 @@ module _ (text : List ℕ) (fits : FitsInput text) (scenario : Made) (reading : 
         library = scenario.library;
         statements = scenario.boot.statements.items;
         scenario = scenario_of;
-        boot = boot;
-        boots = boots;
-        last = last;
-        legal = legal;
-        covered = covered_go_well scenario.library scenario.boot.statements.items boot (are_verified scenario.library boots.images is.accepted) boots items;
-        sound = always_sound scenario.library scenario.boot.statements.items boot last items boots.boots legal;
+        boot = done.boot;
+        boots = done.sized;
+        last = last.world;
+        legal = done.legal;
+        covered = covered_go_well scenario.library scenario.boot.statements.items done.boot (are_verified scenario.library done.sized.images is.accepted)
+            done.sized items;
+        sound = always_sound scenario.library scenario.boot.statements.items done.boot last.world items done.sized.boots done.legal;
+        own = record { begins = done.begins; free = last.free; own = done.own };
       },
     )
     comes_of trace items (replayed.Differs n) has differs = (

@@ -103,6 +103,7 @@ module _ (told : Option (List ℕ)) (text : List ℕ) (is_text : IsTextOf told t
       covered = ran.safe.covered;
       sound = always_sound ran.last.machine.programs ran.last.statements ran.safe.legal.boot ran.last.machine.world ran.last.items ran.safe.legal.boots.boots
           ran.safe.legal.history;
+      own = record { begins = ran.safe.legal.begins; free = ran.last.machine.free; own = ran.safe.legal.own };
       room = omega (arith, ran.safe.legal.room, ran.goes_on.limit, of.limit_is);
       rests = subst (λ (most : ℕ). RestsBy most ran.last.items ran.last.machine.world ran.end) (ran.goes_on.limit ∙ of.limit_is) ran.rests;
     }))

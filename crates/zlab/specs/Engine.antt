@@ -8,6 +8,12 @@ use Rattle.zl_code.specs.declared.boot.BootCause.TheVariants as boot
 use Rattle.zl_code.specs.declared.history.TraceItem.{TraceItem}
 use Rattle.zl_code.specs.Handles.{Throughout}
 use Rattle.zl_code.specs.Headline.{IsSizedBoot, CoveredGoWell}
+use Rattle.zl_code.specs.OwnBoot.{own_boot}
+use Rattle.zl_code.specs.OwnHistory.{OwnHistory}
+use Rattle.zl_rights.specs.Values.{Free}
+use Rattle.zl_rights.specs.Map.{Map}
+use Rattle.zl_calls.specs.World.{own_of}
+use Rattle.zl_code.specs.declared.boot.Statement.{Statement}
 use Rattle.zlab.specs.declared.engine.Booted.{Booted}
 use Rattle.zlab.specs.declared.engine.Booted.TheVariants as booted
 use Rattle.zl_scenario.specs.declared.cause.Cause.{Cause}
@@ -34,6 +40,14 @@ use Rattle.zlab.specs.Text.{refused_line}
 abbrev pub InEachWorld : (World → Type 0) → (lib : Library) (first : World) (items : List TraceItem) (last : World) → IsLegalHistory lib first items last → Type 0
 InEachWorld P lib first items last legal = Throughout P lib first (flat_map single items) last legal.run × P last
 
+-- the boot world is the lab's own, and the items are the lab's own history from it: what the lab itself does next, one after another, with
+-- the values that come in each table
+pub record IsOwnHistory (library : Library) (statements : List Statement) (boot : World) (items : List TraceItem) (last : World) : Type 0 where
+  pub begins : boot ≡ (own_boot library statements).world
+  -- by process, the values that new handles get behind the last item
+  pub free : Map Free
+  pub own : OwnHistory library (own_boot library statements) items (record { world = last; free = free })
+
 -- The items are a legal history from a boot world of the scenario in the text, along its schedule, up to
 -- this end and within the limit. Neither the text nor a line of it is at fault.
 pub record IsRunOf (text : List ℕ) (items : List TraceItem) (w : World) (e : End) : Type 0 where
@@ -52,6 +66,7 @@ pub record IsRunOf (text : List ℕ) (items : List TraceItem) (w : World) (e : E
   pub covered : CoveredGoWell library boot items
   -- no two handles stand at one place, none has a right that its kind doesn't give, and each names an object that is there
   pub sound : InEachWorld IsSound library boot items w legal
+  pub own : IsOwnHistory library said.statements boot items w
   pub room : length items ≤ said.limit
   pub ends : EndsBy library boot (turns_of said.schedule) said.limit items w e
 
@@ -146,6 +161,7 @@ pub record IsStart (text : List ℕ) (s : System) (pairs : List (ℕ × ℕ)) : 
   pub programs : Lists said.programs s.machine.programs
   pub accepted : AreAccepted s.machine.programs
   pub boots : IsSizedBoot s.machine.programs said.statements s.machine.world
+  pub own : own_of s.machine ≡ own_boot s.machine.programs said.statements
   pub items : s.items ≡ []
   pub out : s.out ≡ []
   pub limit : s.limit ≡ said.limit

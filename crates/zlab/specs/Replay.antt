@@ -7,9 +7,10 @@ use Rattle.zl_code.specs.Headline.{IsSizedBoot, CoveredGoWell}
 use Rattle.zl_code.specs.declared.boot.BootCause.{BootCause}
 use Rattle.zl_code.specs.declared.boot.Statement.{Statement}
 use Rattle.zl_code.specs.declared.history.TraceItem.{TraceItem}
+use Rattle.zl_calls.specs.World.{Machine}
 use Rattle.zl_trace.specs.Output.{AppendsBeginning}
 use Rattle.zl_trace.specs.Reading.{AreLinesOf, IsFirstWrong, item_lines_of}
-use Rattle.zl_trace.specs.Replaying.{DiffersAt}
+use Rattle.zl_trace.specs.Replaying.{DiffersAt, IsReplayed}
 use Rattle.zl_scenario.specs.declared.cause.Cause.TheVariants as cause
 use Rattle.zl_scenario.specs.declared.cause.LineFault.{LineFault}
 use Rattle.zlab.specs.declared.fault.Verdict.{Verdict}
@@ -18,7 +19,7 @@ use Rattle.zlab.specs.declared.replaying.Items.{Items}
 use Rattle.zlab.specs.declared.replaying.Items.TheVariants as items
 use Rattle.zlab.specs.declared.replaying.Replayed.{Replayed}
 use Rattle.zlab.specs.declared.replaying.Replayed.TheVariants as replayed
-use Rattle.zlab.specs.Engine.{InEachWorld, IsFirstFaultBy, IsTextOf, line_cause}
+use Rattle.zlab.specs.Engine.{InEachWorld, IsFirstFaultBy, IsOwnHistory, IsTextOf, line_cause}
 use Rattle.zlab.specs.Input.{FitsInput, TakesAtMost}
 use Rattle.zl_scenario.specs.Reading.{Lists, AreAccepted}
 use Rattle.zl_scenario.specs.Reads.{IsRead}
@@ -76,6 +77,7 @@ pub record IsHistoryOf (text : List ℕ) (items : List TraceItem) : Type 0 where
   pub covered : CoveredGoWell library boot items
   -- no two handles stand at one place, none has a right that its kind doesn't give, and each names an object that is there
   pub sound : InEachWorld IsSound library boot items last legal
+  pub own : IsOwnHistory library statements boot items last
 
 -- the items before number n, from 1, can be replayed; item n then differs, or is one past the most that a trace has
 pub record DiffersFrom (text : List ℕ) (items : List TraceItem) (n : ℕ) : Type 0 where
@@ -158,7 +160,7 @@ AreItems trace (items.Faulty fault) = IsTraceFault trace fault
 
 -- what comes of the items after a boot of the statements, which stand in these lines
 abbrev pub Comes : Library → List Statement → ℕ → List ℕ → List TraceItem → Replayed → Type 0
-Comes library statements limit lines items (replayed.All n) = (n ≡ length items) × ((boot : World) × (last : World) × IsSizedBoot library statements boot × IsLegalHistory library boot items last)
+Comes library statements limit lines items (replayed.All n) = (n ≡ length items) × ((last : Machine) × IsReplayed library statements limit items last)
 Comes library statements limit lines items (replayed.Differs n) = DiffersAt library statements limit items n
 Comes library statements limit lines items (replayed.Refused fault) = IsStatementFault library statements limit lines fault
 Comes library statements limit lines items (replayed.RefusedTrace fault) = ⊥

@@ -19,7 +19,7 @@ use Rattle.zlab.specs.declared.fault.Verdict.{Verdict}
 use Rattle.zlab.specs.declared.fault.Verdict.TheVariants as verdict
 use Rattle.zlab.specs.declared.running.Started.{Started}
 use Rattle.zlab.specs.declared.running.Started.TheVariants as started
-use Rattle.zlab.specs.Engine.{InEachWorld, IsFirstFaultBy, IsTextOf}
+use Rattle.zlab.specs.Engine.{InEachWorld, IsFirstFaultBy, IsOwnHistory, IsTextOf}
 use Rattle.zlab.specs.Replay.{IsScenarioOf, fault_alone}
 use Rattle.zlab.specs.Text.{refused_line}
 
@@ -47,6 +47,7 @@ pub record IsThreadRunOf (text : List ℕ) (limit : ℕ) (items : List TraceItem
   pub covered : CoveredGoWell library boot items
   -- no two handles stand at one place, none has a right that its kind doesn't give, and each names an object that is there
   pub sound : InEachWorld IsSound library boot items w legal
+  pub own : IsOwnHistory library statements boot items w
   pub room : length items ≤ limit
   pub rests : RestsBy limit items w e
 

@@ -15,7 +15,8 @@ use Rattle.zl_code.specs.declared.history.TraceItem.TheVariants as item
 use Rattle.zl_calls.specs.declared.process.Process.{Process}
 use Rattle.zl_calls.proofs.calls.Owned.{IsOwn, IsOwnCall}
 use Rattle.zl_calls.proofs.processes.Departed.{left_all, settled_world}
-use Rattle.zl_calls.specs.Own.{FreeBy, IsOwnDone, own_beside, tells_want}
+use Rattle.zl_calls.specs.Own.{FreeBy, IsOwnDone, own_beside}
+use Rattle.zl_code.specs.OwnHistory.{tells_want}
 use Rattle.zl_calls.proofs.stepping.FromConsistent.{IsFree}
 use Rattle.zl_calls.proofs.stepping.OwnDone.{call_own}
 use Rattle.zl_calls.proofs.waits.LeftWaits.{ListsLeft, left_same}

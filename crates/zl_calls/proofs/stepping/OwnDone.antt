@@ -14,7 +14,8 @@ use Rattle.zl_code.specs.declared.history.TraceItem.TheVariants as item
 use Rattle.zl_rights.proofs.Settling.{Settles-exists, Settles-unique}
 use Rattle.zl_rights.specs.Settled.{settled}
 use Rattle.zl_rights.specs.declared.status.Status.TheVariants as status
-use Rattle.zl_calls.specs.Own.{FreeBy, IsOwnDone, is_want, own_beside, tells_want}
+use Rattle.zl_calls.specs.Own.{FreeBy, IsOwnDone, own_beside}
+use Rattle.zl_code.specs.OwnHistory.{is_want, tells_want}
 use Rattle.zl_calls.specs.World.{free_entry}
 use Rattle.zl_calls.specs.declared.process.Process.{Process}
 use Rattle.zl_calls.proofs.calls.Owned.{IsOwn, own_in}

@@ -33,7 +33,8 @@ use Rattle.zl_calls.proofs.stepping.FromConsistent.{IsFree, freely}
 use Rattle.zl_calls.proofs.objects.Settled.{still_settles}
 use Rattle.zl_calls.proofs.processes.Written.{alike_states, write_at, pid_read, refusal_keeps}
 use Rattle.zl_calls.proofs.lists.Positions.{first_at}
-use Rattle.zl_calls.specs.Own.{DoesOwn, IsOwnDone, own_beside, tells_want}
+use Rattle.zl_calls.specs.Own.{DoesOwn, IsOwnDone, own_beside}
+use Rattle.zl_code.specs.OwnHistory.{tells_want}
 
 pub ready_state : (s : State) → is_ready (state_value s) ≡ true → state_value s ≡ Ready
 ready_state state.Ready h = refl

@@ -10,6 +10,6 @@ returns c =
     rw c.if-is_last.false (record {
       last = c.in-Some.item ∷ [];
       items_are = c.push_reserved.ensures.items;
-      ends = (c.in-Some.item, refl, did.takes);
+      ends = (c.in-Some.item, refl, did.takes, (c.in-Some.ensures {u = tt}).own);
       changes = (c.in-Some.woke, did.tells, c.change_of.ensures);
     })

@@ -9,4 +9,4 @@ returns-then-not-repeat_step-clause-other c is =
 pub loop-turn-preserved : goal.loop-turn-preserved
 loop-turn-preserved c =
     one_more_ran c.args.pid c.args.world.now c.loop-turn.turn c.loop-turn.world c.repeat_step.new.world c.loop-turn.invariant
-    (c.repeat_step.ensures.same c.if-not-repeat_step.false)
+    (c.repeat_step.ensures.same c.if-not-repeat_step.false) (c.repeat_step.ensures.own c.if-not-repeat_step.false)

@@ -24,5 +24,5 @@ returns-clause-ok c =
           c.in-Ok.system.machine.world w.in-Some.fault booted.boots.boots w.in-Some.is)
       | in-None w ↦ rw w.result-is
           (is_start c.args.text.now c.requires.fits made.scenario (reading_value made) read.read read.scenario order c.in-Ok.system made.scenario.schedule.items
-          w.in-None.is booted.programs booted.sized booted.items booted.out booted.limit_is refl)
+          w.in-None.is booted.programs booted.sized booted.own booted.items booted.out booted.limit_is refl)
     ]

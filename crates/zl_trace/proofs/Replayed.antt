@@ -1,16 +1,16 @@
 -- A legal history that goes on by one item, and an item that differs.
 use Rattle.zl_code.proofs.Common.{Library, MOST_ITEMS, Runs, Step, has_count, list_all-append, pid_of, single}
 use Rattle.zl_code.specs.declared.boot.Statement.{Statement}
-use Rattle.zl_trace.proofs.Common.{Differs, DiffersAt, IsReplayed, List, Machine, Repeats, Some, StepDiffers, TraceItem, true, [], another, ap, append-nil, arith}
-use Rattle.zl_trace.proofs.Common.{at_drop_more, at_step, drop, flat_map, flat_map-append, get_or, inl, inr, length, length-take-le, nat_tests, refl, replicate, subst}
+use Rattle.zl_trace.proofs.Common.{Differs, DiffersAt, IsReplayed, List, Machine, Repeats, Some, StepDiffers, TraceItem, [], another, ap, append-nil, arith}
+use Rattle.zl_trace.proofs.Common.{at_drop_more, at_step, drop, flat_map, flat_map-append, get_or, inl, inr, length, length-take-le, refl, replicate, subst}
 use Rattle.zl_trace.proofs.Common.{suc, sym, take, take-append-drop, take_more, zero, ℕ, ◌++◌, ◌+◌, ◌-◌, ◌<◌, ◌∙◌, ◌∷◌, ◌≡◌, ◌≢◌, ◌⊎◌}
 use Rattle.zl_code.specs.Own.{OwnWorld}
 use Rattle.zl_code.specs.OwnBoot.{own_boot}
-use Rattle.zl_code.specs.OwnHistory.{OwnItem, OwnRuns, as_own}
+use Rattle.zl_code.specs.OwnHistory.{OwnItem, OwnRuns}
 use Rattle.zl_code.specs.OwnSteps.{own_step}
 use Rattle.zl_calls.specs.Own.{StepsOwn}
 use Rattle.zl_calls.specs.World.{own_of}
-use Rattle.zl_sched.proofs.Legal.{own_item, own_then}
+use Rattle.zl_sched.proofs.Legal.{own_then}
 use Rattle.zl_code.specs.declared.history.TraceItem.TheVariants as item
 use Rattle.zl_calls.specs.Steps.{StepsTo, TakesStep}
 use Rattle.zl_code.proofs.AwakeRuns.{runs_joined}
@@ -25,15 +25,6 @@ differs_by m pid x own m2 is taken does other =
 
 pub differs_one : (lib : Library) (o : OwnWorld) (x : TraceItem) → single x ≡ x ∷ [] → StepDiffers lib o x → Differs lib o x
 differs_one lib o x one differs = at_step [] o x [] one refl refl differs
-
-pub repeats_one : (m : Machine) (pid : ℕ) (x : TraceItem) (m2 : Machine) → single x ≡ x ∷ [] → has_count x ≡ true → pid_of x ≡ pid → StepsTo m x m2
-    → StepsOwn m.programs (own_of m) pid x (own_of m2) → Repeats m x m2
-repeats_one m pid x m2 one count is steps own = record {
-  programs = steps.programs;
-  count = count;
-  runs = rw one (m2.world, steps.step, refl);
-  own = own_item m.programs (own_of m) pid x (own_of m2) is steps.step own;
-}
 
 -- ---- local instructions in a row
 
@@ -71,11 +62,6 @@ one_more_ran pid m n m2 m3 ran steps own = record {
       (runs_joined m.programs m.world (replicate n (item.Run pid 1)) m2.world (item.Run pid 1 ∷ []) m3.world ran.runs
       (m3.world, subst (λ lib. Step lib m2.world pid (item.Run pid 1) m3.world) ran.programs steps.step, refl));
 }
-
--- all of them
-pub ran_repeats : (pid : ℕ) (m : Machine) (n : ℕ) (m2 : Machine) → 0 < n → RanOn pid m n m2 → Repeats m (item.Run pid n) m2
-ran_repeats pid m n m2 some ran =
-    record { programs = ran.programs; count = grind (arith, nat_tests, some); runs = ran.runs; own = as_own ran.own }
 
 pub differs_after : (pid : ℕ) (m : Machine) (n count : ℕ) (m2 : Machine) → n < count → RanOn pid m n m2 → StepDiffers m2.programs (own_of m2) (item.Run pid 1)
     → Differs m.programs (own_of m) (item.Run pid count)

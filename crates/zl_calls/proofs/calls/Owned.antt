@@ -1,15 +1,14 @@
 -- Which values the new handles of a call get, and which come then: those of the lab's own call.
-use Rattle.zl_calls.proofs.Common.{Bool, Entry, Handles, InsertsEach, List, Map, Objects, Request, Site, Some, Status, World, [], ap, eq-eqb, false, get}
+use Rattle.zl_calls.proofs.Common.{Bool, Entry, Handles, InsertsEach, List, Objects, Request, Site, Some, World, [], ap, eq-eqb, false, get}
 use Rattle.zl_calls.proofs.Common.{has_key, if◌then◌else◌}
 use Rattle.zl_calls.proofs.Common.{is_process, length, lives, map, process_entry, process_value, refl, state_value, subst, sym, taken_handles, true, without}
-use Rattle.zl_calls.proofs.Common.{without_handle}
 use Rattle.zl_calls.proofs.Common.{without_handles, world_value, ℕ, ⊤, ◌∙◌, ◌∷◌, ◌≡◌}
 use Rattle.zl_calls.proofs.Common.{AtCall, CallName, Calls, Library, Outcome, Settles, next_for, same_Some}
 use Rattle.zl_calls.proofs.processes.Departed.{settled_world}
 use Rattle.zl_code.proofs.Common.{Choice, Process as ProcessValue, Refused, Values, Wants}
 use Rattle.zl_code.specs.CallTable.{choosing, new_handles, receiver_of}
 use Rattle.zl_code.specs.Own.{OwnWorld, all_given, entered_free, free_at, given_by, left_free, own_values, taken_all}
-use Rattle.zl_rights.specs.Values.{coming, given_back, offered, taken}
+use Rattle.zl_rights.specs.Values.{coming, given_back, offered}
 use Rattle.zl_calls.specs.World.{free_entry}
 use Rattle.zl_calls.specs.declared.process.Process.{Process}
 use Rattle.zl_calls.proofs.calls.Answered.{IsWrite}

@@ -1,10 +1,9 @@
 -- The values that processes have for new handles, as one of them changes.
-use Rattle.zl_calls.proofs.Common.{Bool, IsTrue, List, Map, None, Option, Some, [], ap, cases_Bool, eqb-true, cond, false, get, get-update, inl, inr, is_sorted}
+use Rattle.zl_calls.proofs.Common.{Bool, IsTrue, List, Map, None, Option, Some, [], ap, cases_Bool, eqb-true, cond, false, get, get-update, inl, inr}
 use Rattle.zl_calls.proofs.Common.{lives}
-use Rattle.zl_calls.proofs.Common.{map, nat_cmp, option_map, process_at, process_entry, process_value, refl, set, state_value, suc, sym, true, zero, ℕ, ◌==◌}
+use Rattle.zl_calls.proofs.Common.{map, option_map, process_at, process_entry, process_value, refl, set, state_value, suc, sym, true, zero, ℕ, ◌==◌}
 use Rattle.zl_calls.proofs.Common.{◌∙◌, ◌∷◌, ◌≡◌, if◌then◌else◌, ◌⊎◌}
 use Rattle.std.specs.Prelude.{slice_index_or}
-use Rattle.zl_code.proofs.Common.{Process as ProcessValue}
 use Rattle.zl_code.specs.Own.{free_at, free_or}
 use Rattle.zl_rights.specs.Values.{Free, new_free}
 use Rattle.zl_calls.specs.Own.{FreeBy, living}

@@ -1,9 +1,9 @@
 -- A call whose choice is the lab's own, beside registered waits and blocked processes.
-use Rattle.zl_calls.proofs.Common.{ActsAndSettles, AreBlocked, AtCall, Bool, CallName, Library, List, Map, Objects, Outcome, Ready, Settles, Some, TraceItem}
+use Rattle.zl_calls.proofs.Common.{ActsAndSettles, AreBlocked, AtCall, CallName, Library, List, Objects, Outcome, Ready, Settles, Some}
 use Rattle.zl_calls.proofs.Common.{Wait}
-use Rattle.zl_calls.proofs.Common.{World, false, filter, get, is_blocked, is_blocking, is_process, lives, map, next_for, process_entry, refl, state_passes}
+use Rattle.zl_calls.proofs.Common.{World, false, filter, get, is_blocking, is_process, map, next_for, process_entry, refl}
 use Rattle.zl_calls.proofs.Common.{subst, sym}
-use Rattle.zl_calls.proofs.Common.{true, waits_by, with_waiters, world_blocked, world_left, world_value, ℕ, ◌∙◌, ◌≡◌}
+use Rattle.zl_calls.proofs.Common.{waits_by, with_waiters, world_blocked, world_left, world_value, ℕ, ◌∙◌, ◌≡◌}
 use Rattle.zl_code.proofs.Common.{IsSound as IsSoundWorld, Process as ProcessValue}
 use Rattle.zl_code.specs.Calls.{CallBy}
 use Rattle.zl_calls.proofs.Common.{Calls, KeepSleepers, Option, Site, refusal}
@@ -15,7 +15,7 @@ use Rattle.zl_code.specs.declared.history.TraceItem.TheVariants as item
 use Rattle.zl_calls.specs.declared.process.Process.{Process}
 use Rattle.zl_calls.proofs.calls.Owned.{IsOwn, IsOwnCall}
 use Rattle.zl_calls.proofs.processes.Departed.{left_all, settled_world}
-use Rattle.zl_calls.specs.Own.{FreeBy, IsOwnDone, own_beside}
+use Rattle.zl_calls.specs.Own.{IsOwnDone, own_beside}
 use Rattle.zl_code.specs.OwnHistory.{tells_want}
 use Rattle.zl_calls.proofs.stepping.FromConsistent.{IsFree}
 use Rattle.zl_calls.proofs.stepping.OwnDone.{call_own}

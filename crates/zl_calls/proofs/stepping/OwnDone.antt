@@ -1,8 +1,8 @@
 -- What a process did is the lab's own, where its choice is.
-use Rattle.zl_calls.proofs.Common.{AtCall, Bool, CallName, IsStuck, Library, List, Map, Moves, None, Objects, Option, Outcome, Request, Settles, Site, Some}
-use Rattle.zl_calls.proofs.Common.{Status, TraceItem, World, [], ap, close, false, false≢true, get, is_process, lives, map, process_entry, process_value, refl}
+use Rattle.zl_calls.proofs.Common.{AtCall, Bool, CallName, IsStuck, Library, List, Moves, None, Objects, Option, Outcome, Request, Settles, Site, Some}
+use Rattle.zl_calls.proofs.Common.{Status, TraceItem, World, ap, close, false, false≢true, get, map, process_entry, process_value, refl}
 use Rattle.zl_calls.proofs.Common.{sym, true}
-use Rattle.zl_calls.proofs.Common.{true≢false, world_blocked, world_value, ℕ, ◌∙◌, ◌∷◌, ◌≡◌}
+use Rattle.zl_calls.proofs.Common.{ℕ, ◌∙◌, ◌≡◌}
 use Rattle.zl_code.proofs.Common.{Acts, Choice, Next, Refused, Values, Wants, after_ok, after_refusal, ok_outcome}
 use Rattle.zl_code.specs.CallTable.{new_handles}
 use Rattle.zl_code.specs.Calls.{CallBy, grows, wanted}

@@ -3,8 +3,8 @@ use Rattle.zl_calls.proofs.Common.{Bool, DoesNext, IsTrue, Library, List, Map, N
 use Rattle.zl_calls.proofs.Common.{false}
 use Rattle.zl_calls.proofs.Common.{get, if◌then◌else◌, inl, inr, is_sorted, length, length-map, lives, map, nat_cmp, none-some, option_map, process_at}
 use Rattle.zl_calls.proofs.Common.{process_entry, process_value}
-use Rattle.zl_calls.proofs.Common.{refl, same_Some, sorted_parts, state_value, sym, true, wakes, world_blocked, ℕ, ◌==◌, ◌∙◌, ◌∷◌, ◌≡◌, ◌⊎◌}
-use Rattle.zl_code.proofs.Common.{Process as ProcessValue, World as WorldValue, next_for}
+use Rattle.zl_calls.proofs.Common.{refl, same_Some, sorted_parts, state_value, sym, wakes, world_blocked, ℕ, ◌==◌, ◌∙◌, ◌∷◌, ◌≡◌, ◌⊎◌}
+use Rattle.zl_code.proofs.Common.{World as WorldValue, next_for}
 use Rattle.zl_code.specs.Own.{OwnWorld, free_in}
 use Rattle.zl_code.specs.OwnSteps.{own_act, own_behind, own_ending}
 use Rattle.zl_rights.specs.Values.{Free, new_free}

@@ -1,13 +1,13 @@
 -- Which value the handle of a process that starts gets: that which its table offers.
 use Rattle.zl_calls.proofs.Common.{Handles, false≢true, ne_eqb}
-use Rattle.zl_calls.proofs.Common.{Bool, Entry, Inserts, IsTrue, List, Map, None, Objects, Ok, Option, Ready, Some, TRANSFER, WRITE, [], ap, cases_Bool, eq-eqb}
+use Rattle.zl_calls.proofs.Common.{Entry, Inserts, List, Map, Objects, Ok, Ready, Some, TRANSFER, WRITE, [], ap, cases_Bool, eq-eqb}
 use Rattle.zl_calls.proofs.Common.{eqb-true, false}
-use Rattle.zl_calls.proofs.Common.{get, get-update, inl, inr, is_process, lives, looked_up, map, option_map, process_entry, process_start, process_value, refl}
-use Rattle.zl_calls.proofs.Common.{state_value, subst, sym, true, without_handle, world_value, ℕ, ◌==◌, ◌∙◌, ◌∷◌, ◌≡◌, ◌⊎◌, if◌then◌else◌, handle_operands}
+use Rattle.zl_calls.proofs.Common.{get, get-update, inl, inr, is_process, lives, looked_up, map, process_start, refl}
+use Rattle.zl_calls.proofs.Common.{state_value, subst, sym, true, without_handle, world_value, ℕ, ◌==◌, ◌∙◌, ◌∷◌, ◌≡◌, handle_operands}
 use Rattle.zl_calls.proofs.Common.{taken_handles}
 use Rattle.zl_code.proofs.Common.{Values}
 use Rattle.zl_code.specs.CallTable.{new_handles}
-use Rattle.zl_code.specs.Own.{entered_free, free_at, free_or, left_free, taken_all}
+use Rattle.zl_code.specs.Own.{entered_free, free_at, taken_all}
 use Rattle.zl_rights.specs.Values.{Free, coming, offered, taken}
 use Rattle.zl_rights.specs.declared.kind.Kind.TheVariants as kind
 use Rattle.zl_calls.specs.World.{free_entry, free_of}
@@ -16,7 +16,6 @@ use Rattle.zl_calls.proofs.calls.Answered.{IsWrite, table_is}
 use Rattle.zl_calls.proofs.calls.Owned.{IsOwn, mine, own_in}
 use Rattle.zl_calls.proofs.calls.Refused.{is_found}
 use Rattle.zl_calls.proofs.processes.Freed.{free_written}
-use Rattle.zl_calls.specs.Own.{FreeBy}
 
 module _ {ps there_still mid after : List Process} {p p2 child begun : Process} (stands : IsWrite ps there_still p p) (child_write : IsWrite ps mid child begun)
     (caller_write : IsWrite mid after p p2) (r : Objects) (process h word : ℕ) (named e : Entry)

@@ -3,7 +3,7 @@ use Rattle.zl_calls.proofs.Common.{All, All-contains, AreBlocked, AreOrdered, Ar
 use Rattle.zl_calls.proofs.Common.{IsConsistent, IsTrue, KeepSleepers, List, None, Objects, Option, Packet, PacketAt, Ready, Seeks, SignalOf, Sleeper, Some}
 use Rattle.zl_calls.proofs.Common.{StandInOrder, State, TakesDue, Wakes, WakesOne, WakesSleeper, Woke, World, [], and_one, and_parts, ap, arith, awaited_of}
 use Rattle.zl_calls.proofs.Common.{bare, cases_Bool, each, eq-eqb, eqb-true, false, false≢true, filter, fold, get, get_or, given_awake, if◌then◌else◌, inl, inr}
-use Rattle.zl_calls.proofs.Common.{is_blocked, is_due, is_empty, is_for, is_same, is_some, length, listed_for, map, meets, none-some, not, object_value}
+use Rattle.zl_calls.proofs.Common.{is_blocked, is_due, is_empty, is_for, is_same, is_some, listed_for, map, meets, none-some, not, object_value}
 use Rattle.zl_calls.proofs.Common.{option_map, packet_values, packets_in, passes, position, process_entry, refl, same_Some, signals_at, slice_get, state_passes}
 use Rattle.zl_calls.proofs.Common.{state_value, subst, sym, takes_at, takes_from, then_some, times, times-same, true, woken, world_blocked, ℕ, ◌&&◌, ◌<◌, ◌==◌}
 use Rattle.zl_calls.proofs.Common.{◌^◌, ◌∙◌, ◌∷◌, ◌≡◌}

@@ -46,12 +46,13 @@ enum Items {
 
 /// Reads a scenario, in which a line `--` is a fault, and a trace, and writes to `line` what comes of
 /// them: `replayed N` where the N items of the trace are a legal history from a boot world of the
-/// scenario, `differs N` where item N, from 1, is the first that the lab's own steps don't give, as
-/// `replay` says, `refused LINE CAUSE` for the first fault of the scenario, and else `refused trace LINE
-/// Syntax` for the first line of the trace that is to be an item's and isn't, or `refused trace 0 Limit`
-/// for more than 134,217,728 bytes. The scenario's limit is none of the trace: it may have 1,000,000
-/// items, and the next one differs. All input is read before anything is written, and no more than one
-/// byte past its limit. To `hints` it adds for a person why the answer is none of the first.
+/// scenario, and the lab's own, `differs N` where item N, from 1, is the first that the lab's own steps
+/// don't give, as `replay` says, `refused LINE CAUSE` for the first fault of the scenario, and else
+/// `refused trace LINE Syntax` for the first line of the trace that is to be an item's and isn't, or
+/// `refused trace 0 Limit` for more than 134,217,728 bytes. The scenario's limit is none of the trace:
+/// it may have 1,000,000 items, and the next one differs. All input is read before anything is written,
+/// and no more than one byte past its limit. To `hints` it adds for a person why the answer is none of
+/// the first.
 ///
 /// A fault of a reader is `Read`, with nothing written. A fault of the writer, and a want of memory,
 /// leave nothing or a beginning of such a line.

@@ -34,11 +34,11 @@ pub enum Started {
 /// before anything is written.
 ///
 /// The trace is the text of a legal history, in each world of which handles are sound and name objects
-/// of their kind, and in which each process of a checked program goes well. It has no more items than
-/// `limit`, which stands for that of the scenario. It says `end quiet` only where no process is ready,
-/// and `end limit` only where less than two places are free. No more is read than one byte past
-/// 4,194,304. To `hints` it adds for a person why the input is refused, and of a run what `step_engine`
-/// does.
+/// of their kind, and in which each process of a checked program goes well. It is the lab's own, as that
+/// of `step_engine` is. It has no more items than `limit`, which stands for that of the scenario. It
+/// says `end quiet` only where no process is ready, and `end limit` only where less than two places are
+/// free. No more is read than one byte past 4,194,304. To `hints` it adds for a person why the input is
+/// refused, and of a run what `step_engine` does.
 /// A fault of the reader is `Read`, and `Mixed` says that the run gave back another system; nothing is
 /// written then. A fault of the writer, and a want of memory, leave nothing or a beginning of such an
 /// answer.

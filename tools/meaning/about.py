@@ -1,6 +1,7 @@
 """What a call and what comes of a step were about, in words."""
 from dataclasses import dataclass, field
 
+from meaning.codes import ended, meanings, told_ends
 from meaning.cpu import STORES
 from meaning.numbers import ACTION_NAMES, CONDITION_NAMES, MODE_NAMES, rights_text, signals_text
 from meaning.objects import Packet
@@ -65,6 +66,8 @@ def done_by(call):
         elif value or call.one.name != "close":
             done.operands.append(f"r{call.one.operands[place]} has {value}: no handle")
         done.names.append(f"{entry.kind} {entry.koid}" if entry else f"{value} is no handle")
+    if call.outcome.startswith("ended") and meanings(call.process.code):
+        done.about.append(ended(call.process.code))
     if call.one.name == "task_kill":
         done.arrows += [("to", one.koid, None, "kills it") for one in call.world.came if one.kind == "over"]
     elif call.one.name in ABOUT and call.outcome in ("OK", "blocked"):
@@ -175,7 +178,7 @@ def told_of(world, came):
     """In words what came of a step; of an object that isn't worth a word nothing."""
     kind, koid, what = came
     if kind == "over":
-        return Told(kind, f"process {koid} ends with {what}", koid)
+        return Told(kind, told_ends(f"process {koid} ends with {what}"), koid)
     if kind == "packet":
         seen = what.wait
         text = f"{seen.kind} {seen.koid} is {signals_text(what.observed, seen.kind)}:" \

@@ -69,7 +69,8 @@ def done_by(call):
     if call.outcome.startswith("ended") and meanings(call.process.code):
         done.about.append(ended(call.process.code))
     if call.one.name == "task_kill":
-        done.arrows += [("to", one.koid, None, "kills it") for one in call.world.came if one.kind == "over"]
+        with_job = f" with job {call.koid}" if call.entries.get(1) and call.entries[1].kind == "job" else ""
+        done.arrows += [("to", one.koid, None, f"kills it{with_job}") for one in call.world.came if one.kind == "over"]
     elif call.one.name in ABOUT and call.outcome in ("OK", "blocked"):
         ABOUT[call.one.name](call, done)
     return done
@@ -128,7 +129,7 @@ def moves_packet(call, done):
         text = packet_text(call.moved)
         done.about.append(text)
         what = "sent" if call.one.name == "port_queue" else "read"
-        done.arrows.append((what, call.moved.sent.by, call.moved.sent, text))
+        done.arrows.append((what, call.moved.sent.by, call.moved.sent, f"{text} through port {call.koid}"))
 
 
 def cancels(call, done):
@@ -188,7 +189,7 @@ def told_of(world, came):
         awaited, packet = what
         at = world.objects[awaited.koid].kind
         active = signals_text(world.active(awaited.koid), at)
-        text = packet_text(packet) if packet else f"{at} {awaited.koid} is {active}"
+        text = f"{packet_text(packet)} through port {awaited.koid}" if packet else f"{at} {awaited.koid} is {active}"
         return Told(kind, f"{koid} goes on: {text}", koid, packet)
     # of an ended process its end was told
     ended = koid in world.processes and world.processes[koid].state == "ended"

@@ -2,6 +2,7 @@
 from dataclasses import dataclass, field
 
 from meaning.calls import perform
+from meaning.carrying import Carrying
 from meaning.cpu import Stuck
 from meaning.numbers import STUCK
 from meaning.about import Done, done_by, local_text, settled
@@ -24,6 +25,7 @@ class Follower:
 
     def __init__(self, world):
         self.world = world
+        self.carrying = Carrying(world)
 
     def follow(self, item):
         """The item's meaning, or Trouble where the model parts from it."""
@@ -53,16 +55,25 @@ class Follower:
         if item.name != "stuck":
             raise Trouble(f"{parting(item)}; here it is stuck: {stuck}")
         self.world.end(item.pid, STUCK)
-        return Done("stuck", about=[str(stuck)], came=settled(self.world))
+        return Done("stuck", about=[str(stuck)], came=self.settled())
 
     def call(self, one, item):
         if item.name != one.name:
             raise Trouble(f"{parting(item)}; here {item.pid} stands at {one.name}")
-        done = done_by(perform(self.world, item.pid, one, item.outcome == "NO_MEMORY"))
+        call = perform(self.world, item.pid, one, item.outcome == "NO_MEMORY")
+        done = done_by(call)
         if done.outcome != item.outcome:
             raise Trouble(f"{parting(item)}; here it is {item.pid} {one.name} {done.outcome}")
-        done.came = settled(self.world)
+        self.carrying.called(call)
+        done.came = self.settled()
         return done
+
+    def settled(self):
+        """What came of the step. Who goes on has done the call at which it waited."""
+        told = settled(self.world)
+        for woken in (came.pid for came in told if came.kind == "woken"):
+            self.carrying.answered(woken)
+        return told
 
     def run(self, process, item):
         """Local instructions in a row; of several the last one is told."""
@@ -72,6 +83,7 @@ class Follower:
                 one, before = cpu.next(), cpu.registers[:]
                 if one.is_call or item.name not in ("run", "stuck"):
                     raise Trouble(f"{parting(item)}; here {item.pid} stands at {one.name}")
+                self.carrying.local(item.pid, one, cpu)
                 cpu.local(one)
                 if n + 1 == (item.count or 1):
                     told = local_text(one, before, cpu)

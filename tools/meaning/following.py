@@ -64,7 +64,8 @@ class Follower:
         place = process.cpu.place
         call = perform(self.world, item.pid, one, item.outcome == "NO_MEMORY")
         done = done_by(call)
-        if done.outcome != item.outcome:
+        # no outcome is said of a turn by the model alone
+        if item.outcome and done.outcome != item.outcome:
             raise Trouble(f"{parting(item)}; here it is {item.pid} {one.name} {done.outcome}")
         self.carrying.called(call)
         if done.outcome != "blocked":

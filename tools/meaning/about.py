@@ -1,6 +1,7 @@
 """What a call and what comes of a step were about, in words."""
 from dataclasses import dataclass, field
 
+from meaning.codes import ended, meanings, told_ends
 from meaning.cpu import STORES
 from meaning.numbers import ACTION_NAMES, CONDITION_NAMES, MODE_NAMES, rights_text, signals_text
 from meaning.objects import Packet
@@ -65,8 +66,11 @@ def done_by(call):
         elif value or call.one.name != "close":
             done.operands.append(f"r{call.one.operands[place]} has {value}: no handle")
         done.names.append(f"{entry.kind} {entry.koid}" if entry else f"{value} is no handle")
+    if call.outcome.startswith("ended") and meanings(call.process.code):
+        done.about.append(ended(call.process.code))
     if call.one.name == "task_kill":
-        done.arrows += [("to", one.koid, None, "kills it") for one in call.world.came if one.kind == "over"]
+        with_job = f" with job {call.koid}" if call.entries.get(1) and call.entries[1].kind == "job" else ""
+        done.arrows += [("to", one.koid, None, f"kills it{with_job}") for one in call.world.came if one.kind == "over"]
     elif call.one.name in ABOUT and call.outcome in ("OK", "blocked"):
         ABOUT[call.one.name](call, done)
     return done
@@ -125,7 +129,7 @@ def moves_packet(call, done):
         text = packet_text(call.moved)
         done.about.append(text)
         what = "sent" if call.one.name == "port_queue" else "read"
-        done.arrows.append((what, call.moved.sent.by, call.moved.sent, text))
+        done.arrows.append((what, call.moved.sent.by, call.moved.sent, f"{text} through port {call.koid}"))
 
 
 def cancels(call, done):
@@ -175,7 +179,7 @@ def told_of(world, came):
     """In words what came of a step; of an object that isn't worth a word nothing."""
     kind, koid, what = came
     if kind == "over":
-        return Told(kind, f"process {koid} ends with {what}", koid)
+        return Told(kind, told_ends(f"process {koid} ends with {what}"), koid)
     if kind == "packet":
         seen = what.wait
         text = f"{seen.kind} {seen.koid} is {signals_text(what.observed, seen.kind)}:" \
@@ -185,7 +189,7 @@ def told_of(world, came):
         awaited, packet = what
         at = world.objects[awaited.koid].kind
         active = signals_text(world.active(awaited.koid), at)
-        text = packet_text(packet) if packet else f"{at} {awaited.koid} is {active}"
+        text = f"{packet_text(packet)} through port {awaited.koid}" if packet else f"{at} {awaited.koid} is {active}"
         return Told(kind, f"{koid} goes on: {text}", koid, packet)
     # of an ended process its end was told
     ended = koid in world.processes and world.processes[koid].state == "ended"

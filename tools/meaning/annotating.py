@@ -1,4 +1,5 @@
 """The text of a program with what is known of it in comments."""
+from meaning.ending import told_codes
 from meaning.texts import bare, is_instruction
 from meaning.values import state_text
 from meaning.ways import counted_way, shortest_way, ways_to
@@ -8,10 +9,12 @@ MOST_SHOWN = 40
 
 def annotated(lines, found, verdict, is_all):
     """All lines: the program's own, what is known before each instruction, and behind them the answer."""
-    at = 0
+    at, codes = 0, told_codes(found.image)
     for place, line in lines:
         if is_instruction(line):
             yield "; " + known_at(found, at, is_all)
+            if at in codes:
+                yield f"; {codes[at]}"
             for refusal in found.refusals:
                 if refusal.at == at:
                     yield f"; here it is {refusal}{at_fault(refusal)}"

@@ -5,12 +5,14 @@ concern their process have no chart.
 """
 from dataclasses import dataclass
 
+from meaning.codes import told_ends
 from meaning.trace import STATE
 from meaning.trouble import Trouble
 
 MOST_ROWS = 5000
 # Calls that change what others see.
-SEEN_BY_OTHERS = ("signal", "signal_peer", "wait_async", "port_cancel")
+SEEN_BY_OTHERS = ("signal", "signal_peer", "wait_async", "port_cancel", "job_create", "job_set_policy", "process_create",
+                  "task_kill")
 
 
 @dataclass
@@ -50,7 +52,7 @@ class Chart:
         for one in (pid, more.get("to", 0)):
             if one and one not in self.pids:
                 self.pids.append(one)
-        self.rows.append(Mark(kind, line, pid, self.telling.told(text), **more))
+        self.rows.append(Mark(kind, line, pid, self.telling.told(told_ends(text)), **more))
         return self.rows[-1]
 
     def add(self, followed):
@@ -66,8 +68,9 @@ class Chart:
         elif item.outcome.startswith("ended"):
             self.row("over", item.line, item.pid, f"{item.name} {item.outcome}")
         elif item.outcome and item.outcome != "OK":
-            self.row("note", item.line, item.pid, f"{item.name} {item.outcome}: {about}")
-        elif item.name in SEEN_BY_OTHERS:
+            self.row("note", item.line, item.pid, f"{item.name} {item.outcome}" + (f": {about}" if about else ""))
+        # an arrow says whom it killed
+        elif item.name in SEEN_BY_OTHERS and not done.arrows:
             self.row("note", item.line, item.pid, f"{item.name}: {about}")
         for came in done.came:
             self.came(item, came)

@@ -287,7 +287,16 @@ class Expander:
                 target = len(words) - 1 if row and row.is_jump else None
                 return {place: self.labels.get(word, word) if place == target else self.meaning(word, False)
                         for place, word in enumerate(words) if place and words[0] != ".bytes"}
-            self.write(replaced(INDEX.sub(self.indexed, text), find))
+            self.write(self.said(replaced(INDEX.sub(self.indexed, text), find)))
+
+    def said(self, text):
+        """Behind ;! a name of a register stands as NAME=r5, which says by what name it is told."""
+        code, mark, said = text.partition(";!")
+
+        def named(found):
+            register = self.visible(found[0]) or ""
+            return f"{found[0]}={register}" if REGISTER.fullmatch(register) else found[0]
+        return code + mark + NAME.sub(named, said)
 
     def label(self, text, name):
         if self.visible(name):

@@ -2,6 +2,7 @@
 from dataclasses import dataclass, field
 
 from meaning.calls import perform
+from meaning.carrying import Carrying
 from meaning.cpu import Stuck
 from meaning.numbers import STUCK
 from meaning.about import Done, done_by, local_text, settled
@@ -20,10 +21,12 @@ class Followed:
 
 
 class Follower:
-    """A world that does what a trace says."""
+    """A world that does what a trace says. Each watcher hears of each instruction that is done."""
 
-    def __init__(self, world):
+    def __init__(self, world, watchers=()):
         self.world = world
+        self.carrying = Carrying(world)
+        self.watchers = watchers
 
     def follow(self, item):
         """The item's meaning, or Trouble where the model parts from it."""
@@ -39,7 +42,7 @@ class Follower:
             return Followed(item, place, self.text(process, place), self.stuck(process, item, stuck))
         followed = Followed(item, place, self.text(process, place))
         if one.is_call:
-            followed.done = self.call(one, item)
+            followed.done = self.call(process, one, item)
         else:
             followed.done = self.run(process, item)
         return followed
@@ -53,16 +56,37 @@ class Follower:
         if item.name != "stuck":
             raise Trouble(f"{parting(item)}; here it is stuck: {stuck}")
         self.world.end(item.pid, STUCK)
-        return Done("stuck", about=[str(stuck)], came=settled(self.world))
+        return Done("stuck", about=[str(stuck)], came=self.settled())
 
-    def call(self, one, item):
+    def call(self, process, one, item):
         if item.name != one.name:
             raise Trouble(f"{parting(item)}; here {item.pid} stands at {one.name}")
-        done = done_by(perform(self.world, item.pid, one, item.outcome == "NO_MEMORY"))
-        if done.outcome != item.outcome:
+        place = process.cpu.place
+        call = perform(self.world, item.pid, one, item.outcome == "NO_MEMORY")
+        done = done_by(call)
+        # no outcome is said of a turn by the model alone
+        if item.outcome and done.outcome != item.outcome:
             raise Trouble(f"{parting(item)}; here it is {item.pid} {one.name} {done.outcome}")
-        done.came = settled(self.world)
+        self.carrying.called(call)
+        if done.outcome != "blocked":
+            self.tell(item.pid, item.pid, place)
+        if one.name == "process_start" and done.outcome == "OK":
+            self.tell(call.koid, item.pid, place)
+        done.came = self.settled()
         return done
+
+    def settled(self):
+        """What came of the step. Who goes on has done the call at which it waited."""
+        told = settled(self.world)
+        for woken in (came.pid for came in told if came.kind == "woken"):
+            self.carrying.answered(woken)
+            self.tell(woken, woken, self.world.processes[woken].cpu.place - 1)
+        return told
+
+    def tell(self, pid, by, place):
+        """The registers of the process have what the instruction at this place of the other one, or its own, gave."""
+        for watcher in self.watchers:
+            watcher.done(pid, by, place)
 
     def run(self, process, item):
         """Local instructions in a row; of several the last one is told."""
@@ -72,7 +96,10 @@ class Follower:
                 one, before = cpu.next(), cpu.registers[:]
                 if one.is_call or item.name not in ("run", "stuck"):
                     raise Trouble(f"{parting(item)}; here {item.pid} stands at {one.name}")
+                place = cpu.place
+                self.carrying.local(item.pid, one, cpu)
                 cpu.local(one)
+                self.tell(item.pid, item.pid, place)
                 if n + 1 == (item.count or 1):
                     told = local_text(one, before, cpu)
             except Stuck as stuck:

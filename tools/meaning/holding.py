@@ -3,14 +3,6 @@ from meaning.numbers import signals_text
 from meaning.about import entry_text, message_text, packet_text
 
 
-def registers_with(process, value):
-    """The registers and the places of slot arrays in which this number stands."""
-    found = [f"r{register}" for register, one in enumerate(process.cpu.registers) if one == value]
-    for array, places in enumerate(process.cpu.slots):
-        found += [f"place {place} of slot array {array}" for place, one in enumerate(places) if one == value]
-    return ", ".join(found) or "no register"
-
-
 def awaited_text(world, awaited):
     """What a blocked process waits for."""
     kind = world.objects[awaited.koid].kind
@@ -18,7 +10,7 @@ def awaited_text(world, awaited):
     return f"{what} at {kind} {awaited.koid}"
 
 
-def held(world):
+def held(world, carrying):
     """All of it in lines."""
     for pid, process in world.processes.items():
         if process.state not in ("ready", "blocked"):
@@ -26,7 +18,7 @@ def held(world):
         if process.awaits:
             yield f"process {pid} waits for {awaited_text(world, process.awaits)}"
         for value, entry in sorted(process.handles.items()):
-            yield f"process {pid} has handle {value}, by {registers_with(process, value)}: {entry_text(entry)}"
+            yield f"process {pid} has handle {value}, by {carrying.told(pid, value)}: {entry_text(entry)}"
     for koid, one in world.objects.items():
         for message in one.queue:
             yield f"channel {koid} has a message of process {message.sent.by}: {message_text(message)}"

@@ -1,7 +1,9 @@
-"""Names of objects in what a tool tells of them, by the table below a scenario."""
+"""What a tool tells of items, with the names of objects by the table below a scenario."""
 import re
 
 OBJECT = re.compile(r"\b(channel|event|port|eventpair|job|process) ([0-9]{1,7})\b( \((?!taken))?")
+# Behind the item its meaning begins in this column.
+COLUMN = 34
 FIRST = re.compile(r"^([0-9]{1,7})(?= )")
 
 
@@ -28,3 +30,16 @@ class Telling:
         if found[1] == "process":
             return name + (found[3] or "")
         return f"{found[1]} {found[2]} ({name}" + (", " if found[3] else ")")
+
+
+def column(text, told):
+    """The item, and its meaning in a column behind it."""
+    return f"{text + ' ':{COLUMN}}{told}".rstrip()
+
+
+def item_lines(followed, telling):
+    """An item and what came of it, in lines."""
+    about = telling.told("; ".join(followed.done.operands + followed.done.about))
+    yield column(telling.told(followed.item.text), f"{followed.place}: {followed.text}" + (f" | {about}" if about else ""))
+    for came in followed.done.came:
+        yield column("", telling.told(came.text))

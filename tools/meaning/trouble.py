@@ -41,6 +41,11 @@ def read_file(path, most):
     return content
 
 
+def shown_path(path):
+    """The name of a file as it can be printed, whatever its bytes are."""
+    return os.fsencode(path).decode("utf-8", "replace")
+
+
 def ascii_text(content, path):
     """The text of a file's bytes."""
     try:

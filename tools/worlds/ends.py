@@ -12,6 +12,7 @@ from .world import FAR, ROUND
 NO_NAMES = Telling({})
 # How the lines begin that say why nobody goes on.
 CAUSES = {"deadlock": "deadlock: ", "blocked for good": "blocked for good: ", "goes round": "goes round for ever"}
+NO_END = "no end: after these turns all orders go round for ever"
 
 
 def end_name(world, telling=NO_NAMES):

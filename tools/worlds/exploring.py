@@ -32,8 +32,9 @@ class Exploring:
         self.scenario, self.first = scenario, first_world(scenario)
         self.telling = Telling(names_in(text))
         self.runs_before = lab.runs
-        # The ends to which a run has come that the lab has taken too.
-        self.confirmed = set()
+        # The ends to which runs have come that the lab has taken too, each with the schedule of the one with the fewest
+        # lines, and the orders of those that take each step.
+        self.confirmed, self.taken = {}, []
 
     @property
     def runs(self):
@@ -60,8 +61,12 @@ class Exploring:
         self.confirm(turns, run.trace())
         end = run.end()
         if end is not None:
-            self.confirmed.add(end)
+            self.confirmed[end] = min(self.confirmed.get(end, turns), turns, key=len)
         return turns
+
+    def has_taken(self, order):
+        """Whether the lab has gone along the order."""
+        return any(taken[:len(order)] == list(order) for taken in self.taken)
 
     def confirm_order(self, order):
         return self.confirm_run(run_of(self.first, order))
@@ -92,6 +97,7 @@ class Exploring:
                 self.progress.say(f"{counted(len(graph.came), 'world')}; the lab has taken {all_steps - left:,} of "
                                   f"{counted(all_steps, 'step')} in {counted(self.runs, 'run')}")
                 self.confirm_run(run)
+                self.taken.append(run.order)
         except KeyboardInterrupt:
             raise Interrupted(found) from None
 

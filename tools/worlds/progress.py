@@ -10,7 +10,8 @@ class Progress:
     ON_TERMINAL, ELSEWHERE = 1, 30
 
     def __init__(self, tool):
-        self.tool = tool
+        # What it is about, if it isn't one thing alone.
+        self.tool, self.about = tool, ""
         self.start = self.last = time.monotonic()
         self.is_terminal = sys.stderr.isatty()
         self.is_shown = self.is_interrupted = self.is_urgent = False
@@ -26,7 +27,7 @@ class Progress:
         if now - self.last < (self.ON_TERMINAL if self.is_terminal else self.ELSEWHERE):
             return
         self.last = now
-        line = f"{self.tool}: {self.seconds():.0f} s: {text}"
+        line = f"{self.tool}: {self.seconds():.0f} s: {self.about}{text}"
         if self.is_terminal:
             width = os.get_terminal_size(sys.stderr.fileno()).columns or 80
             print(f"\r{line[:width - 1]}\033[K", end="", file=sys.stderr, flush=True)

@@ -9,6 +9,7 @@ from meaning.trouble import Trouble
 TOP = Path(__file__).resolve().parent.parent
 EXAMPLES = TOP / "examples"
 ASSERTIONS = TOP / "tests/tools/assertions"
+COVERAGE = TOP / "tests/tools/coverage"
 # Nobody knows how often it goes round: its numbers are others each time, and the trace has room for ten.
 OUTGROWS = """limit 10
 program raw asm
@@ -43,6 +44,21 @@ def try_assertions(tools):
     yield "the ends in their place", ends, "3 ends in all 6 orders of calls"
 
 
+def try_coverage(tools):
+    """What is reached by all orders, which was told by hand, and by some."""
+    scenario, wanted = COVERAGE / "ways.zlt", (COVERAGE / "ways.told").read_text()
+    found = tools.explore("--coverage", scenario)
+    yield "coverage", (found.returncode, found.stdout, found.stderr), (0, wanted, "")
+    found = tools.explore("--coverage", "--worlds", "1", scenario)
+    few = ["look: 1 of 7 instructions reached", "look: line 5 to line 12: not yet reached"]
+    yield "coverage of few worlds", (found.returncode, found.stdout.splitlines()[:2]), (5, few)
+    found = tools.explore("--coverage", "--random", "1", "--runs", "40", scenario)
+    told = [line.replace("never", "not yet").replace("not reached", "not yet reached") for line in wanted.splitlines()]
+    yield "coverage by chance", (found.returncode, found.stdout.splitlines()[:-1]), (5, told[:-1])
+    last = "10 of 14 instructions reached, 1 of 2 jumps both ways, 5 of 5 answers"
+    yield "its last line", found.stdout.splitlines()[-1], f"{last}; 40 orders by chance, seed 1 (the lab ran each)"
+
+
 def try_undecided(tools):
     """Where not all orders were tried, what was seen counts, and the rest isn't decided; parts add up to the whole."""
     (tools.room / "bell.zlt").write_text((ASSERTIONS / "bell.zlt").read_text())
@@ -71,8 +87,9 @@ def try_undecided(tools):
     endless = tools.room / "endless.zls"
     endless.write_text("#? never stuck\n#? sometimes 2 ended\n" + OUTGROWS)
     found = tools.explore("endless.zls")
+    last = "not all orders: some end where the trace has 10 items, more by a line `limit N`"
     yield "no room", (found.returncode, found.stdout.splitlines()[-1].split(" (")[0]), (
-        5, "0 broken, 0 hold, 2 not decided; not all orders: some end where the trace has 10 items, more by a line `limit N`")
+        5, f"0 broken, 0 hold, 2 not decided; {last}")
 
 
 def try_refused_assertions(tools):

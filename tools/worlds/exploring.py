@@ -17,8 +17,8 @@ from .world import first_world
 class Exploring:
     """A scenario, as the lab and as the model have it."""
 
-    def __init__(self, tool, lab, data, progress):
-        """`data` has numbers for names."""
+    def __init__(self, tool, lab, data, progress, cover_of=None):
+        """`data` has numbers for names; `cover_of` makes of the scenario what is told of the instructions that are done."""
         self.tool, self.lab, self.progress = tool, lab, progress
         # Where the lab refuses it, that is all.
         lab.written([], data)
@@ -29,7 +29,8 @@ class Exploring:
         # The same without what the lab skips.
         lines = self.text.split(b"\n")
         self.short_text = b"".join(line + b"\n" for line in lines if line and not line.startswith(b"#"))
-        self.scenario, self.first = scenario, first_world(scenario)
+        self.cover = cover_of and cover_of(scenario)
+        self.scenario, self.first = scenario, first_world(scenario, self.cover)
         self.telling = Telling(names_in(text))
         self.runs_before = lab.runs
         # The ends to which runs have come that the lab has taken too, each with the schedule of the one with the fewest

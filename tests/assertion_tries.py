@@ -92,6 +92,23 @@ def try_undecided(tools):
         5, f"0 broken, 0 hold, 2 not decided; {last}")
 
 
+def try_parting(tools):
+    """Where the lab does otherwise than the model that is all, whatever is broken."""
+    lab = tools.room / "lab"
+    lab.write_text(f'#!/usr/bin/env bash\nset -o pipefail\n"{tools.program}" "$@" | sed "s/write PEER_CLOSED/write OK/"\n')
+    lab.chmod(0o755)
+    found = tools.run("explore", "--zlab", lab, ASSERTIONS / "bell.zlt")
+    told = found.stderr.split("; the schedule is ")[0]
+    wanted = ("explore: the model of explore is wrong about this scenario: line 3 of the trace is 5 chan_write OK, and by "
+              "the model 5 chan_write PEER_CLOSED")
+    yield "a wrong model", (found.returncode, found.stdout, told), (2, "", wanted)
+    shutil.copy(ASSERTIONS / "bell.zlt", tools.room)
+    shutil.copy(ASSERTIONS / "causes.zls", tools.room)
+    found = tools.run("try-all", "--zlab", lab, ".")
+    yield "a wrong model among others", (found.returncode, found.stdout.splitlines()[-1], found.stderr.count("\n")), (
+        2, "0 as wanted, 0 not, 2 without an output; 3 assertions hold, 4 broken, 0 not decided", 1)
+
+
 def try_refused_assertions(tools):
     """Wrong assertions are refused before anything is tried, and what no order has behind all orders."""
     known = Known({"@root": 1, "@left": 2, "@bell": 4, "@client": 6, "@later": 9}, {"@serve"},

@@ -11,6 +11,7 @@ from .turns import schedule_text
 
 SCHEDULE = re.compile(rb"(?: *[0-9]+ +[0-9]+ *| *|#[^\n]*)")
 MOST_BYTES = 4_194_304
+BESIDE = ".zls"
 
 
 def is_same(path, other):
@@ -42,12 +43,13 @@ def content_of(path):
 
 
 class Files:
-    """Where schedules go, beside each the scenario for them where `zlab step` wouldn't take that of the search."""
+    """Where schedules go, and beside each the scenario for it, if `text` has one, as `zlab step` wouldn't take that of the
+    search."""
 
-    def __init__(self, scenario, turns=None, is_forced=False):
+    def __init__(self, scenario, text, turns=None, is_forced=False):
         # 0 is standard input, which may be a file too
         self.scenario = 0 if scenario == "-" else scenario
-        self.given, self.is_forced = turns, is_forced
+        self.text, self.given, self.is_forced = text, turns, is_forced
         if turns is not None:
             self.check(Path(turns))
 
@@ -57,6 +59,8 @@ class Files:
             raise Trouble(f"can't write {turns}: {'it is a folder' if turns.is_dir() else 'its folder is not there'}")
         if self.is_scenario(turns):
             raise Trouble(f"--turns {turns} is the scenario itself: name another file")
+        if self.text is not None and turns == turns.with_suffix(BESIDE):
+            raise Trouble(f"--turns {turns}: there goes the scenario without its schedule; name another file")
         content = content_of(turns)
         if not self.is_forced and (len(content) > MOST_BYTES or not is_schedule(content)):
             raise Trouble(f"--turns {turns} isn't a schedule, and would be lost: name another file, or --force")
@@ -82,14 +86,14 @@ class Files:
             raise Trouble(f"can't write {path}: {fault.strerror}") from None
         return True
 
-    def write(self, default, turns, comment, scenario):
-        """Writes a schedule, and beside it the scenario if one is given: the lines that say so."""
+    def write(self, default, turns, comment):
+        """Writes a schedule, and the scenario beside it: the lines that say so."""
         path = Path(self.given if self.given is not None else default)
         content = (comment + schedule_text(turns)).encode()
         wanted = [(path, content)]
-        beside = self.scenario if scenario is None else path.with_suffix(".zls")
-        if scenario is not None:
-            wanted.append((beside, scenario))
+        beside = self.scenario if self.text is None else path.with_suffix(BESIDE)
+        if self.text is not None:
+            wanted.append((beside, self.text))
         stays = [file for file, content in wanted if not self.put(file, content)]
         lines = [f"{file} is there already and stays: --force writes over it" if not self.is_scenario(file)
                  else f"{file} is the scenario itself and stays: --turns FILE names another file" for file in stays]

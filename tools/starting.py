@@ -70,23 +70,46 @@ def run_tool(tool, main):
     def interrupted(*_):
         raise KeyboardInterrupt
 
+    if sys.stdout is None:
+        complain(tool, "can't write the output: it is closed")
+        sys.exit(2)
     signal.signal(signal.SIGTERM, interrupted)
     try:
         status = main()
         sys.stdout.flush()
     except Trouble as trouble:
-        print(f"{tool}: {trouble}", file=sys.stderr)
-        status = 2
+        status = complain(tool, trouble)
     except KeyboardInterrupt:
-        print(f"{tool}: interrupted", file=sys.stderr)
+        complain(tool, "interrupted")
         status = 130
+        flush()
     except OSError as fault:
-        # What is left isn't tried once more at the end.
-        os.dup2(os.open(os.devnull, os.O_WRONLY), sys.stdout.fileno())
-        if not isinstance(fault, BrokenPipeError):
-            print(f"{tool}: can't write the output: {fault.strerror}", file=sys.stderr)
-        status = 2
+        status = 2 if isinstance(fault, BrokenPipeError) else complain(tool, f"can't write the output: {fault.strerror}")
+        leave_output()
     sys.exit(status)
+
+
+def complain(tool, text):
+    """A line on standard error, if that is open; the status of what can't be done."""
+    try:
+        if sys.stderr is not None:
+            print(f"{tool}: {text}", file=sys.stderr)
+    except OSError:
+        pass
+    return 2
+
+
+def leave_output():
+    """What is left of the output isn't tried once more at the end."""
+    os.dup2(os.open(os.devnull, os.O_WRONLY), sys.stdout.fileno())
+
+
+def flush():
+    """Writes what is left of the output, unless nobody reads it."""
+    try:
+        sys.stdout.flush()
+    except OSError:
+        leave_output()
 
 
 def lab_of(tool, program=None):

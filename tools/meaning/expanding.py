@@ -20,6 +20,8 @@ LET = re.compile(r"let +(\S+) *= *(.*)")
 PARAM = re.compile(r"param +(\S+) *= *(\S+)")
 FOR = re.compile(r"for +(\S+) +in +([^\s.]+) *\.\. *([^\s.]+)")
 REPEAT = re.compile(r"repeat +(\S+)")
+# Assertions are lines that are skipped, and have names.
+ASSERTION = "#?"
 INDEX = re.compile(r"@([a-z][a-z0-9_]*)\[([^\]\s]*)\]")
 TAKEN = {*BEGINS, "raw", "checked", "asm", "hex", "end", "let", "param", "for", "repeat", "done", "rest", "handle", "any"}
 
@@ -167,6 +169,13 @@ class Expander:
             self.fail(f"the index {found[2]} is {number}")
         return f"@{found[1]}[{number}]"
 
+    def indexed_if_known(self, found):
+        """The same in a line that is skipped, of which nothing is refused."""
+        try:
+            return self.indexed(found)
+        except Trouble:
+            return found[0]
+
     def meaning(self, word, is_statement):
         """What the parts of a word stand for."""
         parts = [self.visible(part) or part for part in word.split("|")]
@@ -200,6 +209,8 @@ class Expander:
 
     def line(self, text):
         words = words_of(bare(text)) if self.block == "asm" else words_of(text)
+        if text.startswith(ASSERTION):
+            text = INDEX.sub(self.indexed_if_known, text)
         if self.rest is not None and words and not is_skipped(text):
             self.fail("behind rest no turns stand")
         if is_skipped(text) or not words or self.block == "hex" and words != ["end"]:

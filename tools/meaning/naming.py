@@ -64,8 +64,8 @@ class Names:
 
     def __init__(self):
         self.own = {"@root": 1}
-        # those of objects, by their koids
-        self.objects = {}
+        # those of objects, by their koids, and which of its own are those of programs
+        self.objects, self.programs = {}, set()
         self.line = None
 
     def fail(self, text):
@@ -230,7 +230,9 @@ def defined(lines):
             names.fail(f"{given[len(numbers)]} has nothing to name")
         for name, value in zip(given, numbers):
             names.define(name, value)
-            if words[0] != "program":
+            if words[0] == "program":
+                names.programs.add(name)
+            else:
                 names.objects.setdefault(value, name)
     return names
 

@@ -23,13 +23,14 @@ def is_named(path, content):
 @dataclass
 class Numbered:
     """A file with numbers for its names: its lines, the table of the names of objects, what its author may have meant
-    otherwise, and the place of a line `rest` among the lines."""
+    otherwise, the place of a line `rest` among the lines, and the names."""
 
     path: str
     lines: list
     table: list
     warnings: list
     rest: int | None
+    names: Names
 
     def content(self, has_table=True):
         """The bytes for the lab."""
@@ -94,7 +95,7 @@ def numbered(path, content, given=()):
     written = [replace(line, text=text) for line, text in zip(expander.lines, texts)]
     table = [f"#@ {koid} {name[1:]}" for koid, name in sorted(names.objects.items())]
     warnings = expander.warnings + list(handle_warnings(expander.lets, handles_of(written, is_text)))
-    return Numbered(str(path), written, table, warnings, expander.rest)
+    return Numbered(str(path), written, table, warnings, expander.rest, names)
 
 
 def handle_warnings(lets, counts):

@@ -1,26 +1,37 @@
 """What a search looks for: a pattern in answers and ends, and the smallest schedule that still has it."""
 from .ends import end_reasons, is_cut
+from .orders import Nothing
 from .turns import choices, joined, last_lines, played
 
 # How many schedules are tried at most to make one smaller.
 MOST_TRIES = 3000
 
 
-class Bad:
+class Bad(Nothing):
     """A pattern that is looked for in answers of calls, in states at the end, and in why nobody goes on."""
 
-    def __init__(self, pattern=None):
+    def __init__(self, pattern):
         self.pattern = pattern
+        # Where it was found first.
+        self.place = None
+
+    @property
+    def is_found(self):
+        return self.place is not None
 
     def line_in(self, lines):
         """The first of the lines that has the pattern."""
-        return next((line for line in lines if self.pattern.search(line)), None) if self.pattern else None
+        return next((line for line in lines if self.pattern.search(line)), None)
 
-    def has_answer(self, said):
-        return self.line_in([said]) is not None
+    def look(self, place, lines):
+        if self.place is None and self.line_in(lines) is not None:
+            self.place = place
 
-    def has_end(self, world):
-        return self.line_in([*last_lines(world), *end_reasons(world)]) is not None
+    def step(self, place, said):
+        self.look(place, [said])
+
+    def end(self, place, world):
+        self.look(place, [*last_lines(world), *end_reasons(world)])
 
     def line_of(self, trace, world):
         """The bad line of a trace that leads to the world. What a process is in counts only at an end."""
@@ -31,17 +42,17 @@ class Bad:
 
 
 class Shrinking:
-    """A schedule that is made smaller, as long as it stays bad."""
+    """A schedule that is made smaller, as long as it stays bad, which `is_bad` tells of a trace and its last world."""
 
-    def __init__(self, first, bad, turns):
-        self.first, self.bad = first, bad
+    def __init__(self, first, is_bad, turns):
+        self.first, self.is_bad_trace = first, is_bad
         self.turns = list(turns)
         self.tries = 0
 
     def is_bad(self, turns):
         self.tries += 1
         world = self.first.copy()
-        return self.bad.line_of(played(world, turns), world) is not None
+        return self.is_bad_trace(played(world, turns), world)
 
     def take(self, turns):
         """Takes these turns for those that there were, if they are bad too."""

@@ -4,13 +4,20 @@ from meaning.numbers import (
     NO_JOBS, NO_PROCESSES, PEER_CLOSED, READABLE, RIGHTS, SIGNALED, SIGNALS, SIGNALS_OF, TERMINATED, USER_SIGNALS,
     USERS)
 from meaning.objects import PAIRS
+from meaning.telling import Telling
 
 from .world import FAR, ROUND
 
+# Where objects are told by their numbers.
+NO_NAMES = Telling({})
+# How the lines begin that say why nobody goes on.
+CAUSES = {"deadlock": "deadlock: ", "blocked for good": "blocked for good: ", "goes round": "goes round for ever"}
+NO_END = "no end: after these turns all orders go round for ever"
 
-def end_name(world):
+
+def end_name(world, telling=NO_NAMES):
     """The states of all processes."""
-    return ", ".join(f"{pid} {process.state_text()}" for pid, process in sorted(world.processes.items()))
+    return ", ".join(f"{telling.who(pid)} {process.state_text()}" for pid, process in sorted(world.processes.items()))
 
 
 def is_cut(world):
@@ -73,18 +80,18 @@ def signals_named(signals, kind):
     return " or ".join(known) if known else f"signals {signals}"
 
 
-def wait_text(world, pid, others):
+def wait_text(world, pid, others, telling):
     """What a blocked process waits for, and who could bring it."""
     koid, mask, _ = world.processes[pid].awaits
     if mask is None:
-        what = f"in port_wait for a packet at port {koid}"
+        what = f"in port_wait for a packet at {telling.told(f'port {koid}')}"
     elif mask == 0:
         what = "in wait_one for no signal at all"
     else:
         kind = world.objects[koid].kind
-        what = f"in wait_one for {signals_named(mask, kind)} at {kind} {koid}"
-    who = " or ".join(str(other) for other in sorted(others)) if others else "nobody else"
-    return f"{pid} waits {what}, which {who} could bring"
+        what = f"in wait_one for {signals_named(mask, kind)} at {telling.told(f'{kind} {koid}')}"
+    who = " or ".join(telling.who(other) for other in sorted(others)) if others else "nobody else"
+    return f"{telling.who(pid)} waits {what}, which {who} could bring"
 
 
 def reached_from(start, edges):
@@ -98,15 +105,15 @@ def reached_from(start, edges):
     return reached
 
 
-def end_reasons(world):
+def end_reasons(world, telling=NO_NAMES):
     """Why nobody goes on where some haven't ended, in lines."""
     edges = {pid: bringers(world, pid) for pid in world.blocked}
     in_circle = [pid for pid in world.blocked if pid in reached_from(pid, edges)]
-    waits = [wait_text(world, pid, edges[pid]) for pid in sorted(world.blocked)]
+    waits = [wait_text(world, pid, edges[pid], telling) for pid in sorted(world.blocked)]
     lines = []
     if waits:
-        lines.append(("deadlock: " if in_circle else "blocked for good: ") + "; ".join(waits))
-    rounds = [str(pid) for pid, stop in world.ready() if stop == ROUND]
+        lines.append(CAUSES["deadlock" if in_circle else "blocked for good"] + "; ".join(waits))
+    rounds = [telling.who(pid) for pid, stop in world.ready() if stop == ROUND]
     if rounds:
-        lines.append(f"goes round for ever without a call: {', '.join(rounds)}")
+        lines.append(f"{CAUSES['goes round']} without a call: {', '.join(rounds)}")
     return lines

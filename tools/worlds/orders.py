@@ -54,11 +54,34 @@ def run_of(first, order):
     return run
 
 
-class Graph:
-    """The worlds by number, and the steps between them. A step is a process that goes on through a call."""
+class Place(NamedTuple):
+    """Where a search has come to: a world by its number or, with a process, the step of that one from it. On the way
+    to where a part of a search begins there are no numbers, and it is the order so far."""
+    number: int | None
+    pid: int | None = None
+    way: tuple = ()
 
-    def __init__(self, first):
-        self.first = first
+
+class Nothing:
+    """What looks at a search, and looks for nothing. Each thing is seen once, as the search comes to it."""
+    is_found = False
+
+    def step(self, place, said):
+        """A process was answered, as the trace says it."""
+
+    def world(self, place, world):
+        """A world that wasn't there before."""
+
+    def end(self, place, world):
+        """The world is an end of all orders that lead to it."""
+
+
+class Graph:
+    """The worlds by number, and the steps between them. A step is a process that goes on through a call. `watch` is
+    told of all of them, and ends the search when it has found what it looks for."""
+
+    def __init__(self, first, watch):
+        self.first, self.watch = first, watch
         # Parts of worlds by number, so that a world is known by a short tuple, and worlds by number.
         self.parts, self.numbers = {}, {}
         # By world: the world and the process that led to it first; of a root, None and the order to it.
@@ -67,8 +90,6 @@ class Graph:
         # How many orders lead to each root.
         self.roots = {}
         self.ends = {}
-        # The order to a bad step or end, once there is one, and what is bad.
-        self.found = None
         # Some worlds weren't gone on from, as there are too many, or as traces have no room.
         self.has_too_many = self.is_cut = False
 
@@ -93,25 +114,32 @@ class Graph:
             order.append(pid)
         return [*self.came[world][1], *reversed(order)]
 
-    def search(self, roots, most, bad, progress):
-        """Goes on from each world once, in rising numbers of calls, up to so many worlds or what is bad."""
+    def order_of(self, place):
+        """The first order that led to a place."""
+        if place.number is None:
+            return list(place.way)
+        return self.order_to(place.number) + ([] if place.pid is None else [place.pid])
+
+    def search(self, roots, most, progress):
+        """Goes on from each world once, in rising numbers of calls, up to so many worlds or what is looked for."""
         queue = deque()
         for world, order, count in roots:
             number, new = self.number(world, (None, order))
             self.roots[number] = self.roots.get(number, 0) + count
             if new:
                 queue.append((number, world))
-        while queue and self.found is None:
-            progress.say(f"{len(self.came)} worlds, {len(queue)} to go on from, {len(self.ends)} at their end")
+                self.watch.world(Place(number), world)
+        while queue and not self.watch.is_found:
+            progress.say(f"{len(self.came):,} worlds, {len(queue):,} to go on from, {len(self.ends):,} at their end")
             if len(self.came) >= most:
                 self.has_too_many = True
                 return
-            self.go_on(*queue.popleft(), queue, bad)
+            self.go_on(*queue.popleft(), queue)
 
-    def go_on(self, number, world, queue, bad):
+    def go_on(self, number, world, queue):
         pids = choices(world)
         if not pids:
-            self.come_to_end(number, world, bad)
+            self.come_to_end(number, world)
         for pid in pids:
             if not may_go(world, pid):
                 self.is_cut = True
@@ -120,21 +148,20 @@ class Graph:
             said = go(after, pid)
             target, new = self.number(after, (number, pid))
             self.steps[number].append((pid, target))
-            if self.found is None and bad.has_answer(said):
-                self.found = [*self.order_to(number), pid]
+            self.watch.step(Place(number, pid), said)
             if new:
                 queue.append((target, after))
+                self.watch.world(Place(target), after)
 
-    def come_to_end(self, number, world, bad):
+    def come_to_end(self, number, world):
         if is_cut(world):
             self.is_cut = True
             return
         self.ends[number] = End(end_name(world), tuple(end_reasons(world)))
-        if self.found is None and bad.has_end(world):
-            self.found = self.order_to(number)
+        self.watch.end(Place(number), world)
 
 
-def roots_of(graph, part, parts, bad):
+def roots_of(graph, part, parts):
     """Where a part of the search begins, and the orders that it alone has to try of the way there.
 
     A root is a world with an order to it and the number of orders. All parts take the same first calls, until
@@ -142,25 +169,26 @@ def roots_of(graph, part, parts, bad):
     are orders that lead to a world to which another one led before. What is bad on the way is found by each.
     """
     ends, others, level = [], [], [(graph.first, (), 1)]
+    if parts == 1:
+        return level, others
     for _ in range(MOST_SHARED):
         if len(level) >= 4 * parts or not all(may_go(world, pid) for world, _, _ in level for pid in choices(world)):
             break
         ends += [root for root in level if not choices(root[0])]
-        level, merged = next_level(graph, level, bad)
+        level, merged = next_level(graph, level)
         others += merged
     mine = [*(ends if part == 1 else []), *level[part - 1::parts]]
     return mine, [*(others if part == 1 else []), *(order for _, order, _ in mine)]
 
 
-def next_level(graph, level, bad):
+def next_level(graph, level):
     """The worlds one call further, and the orders that led to one to which another order led before."""
-    after, merged, numbers = [], [], Graph(graph.first)
+    after, merged, numbers = [], [], Graph(graph.first, graph.watch)
     for world, order, count in level:
+        graph.watch.world(Place(None, way=order), world)
         for pid in choices(world):
             next_world, longer = world.copy(), (*order, pid)
-            said = go(next_world, pid)
-            if graph.found is None and bad.has_answer(said):
-                graph.found = longer
+            graph.watch.step(Place(None, way=longer), go(next_world, pid))
             number, new = numbers.number(next_world, None)
             if new:
                 after.append((next_world, longer, count))

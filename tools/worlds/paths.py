@@ -50,8 +50,13 @@ def lines_in(order):
     return sum(place == 0 or order[place - 1] != pid for place, pid in enumerate(order))
 
 
-def shortest_orders(graph):
-    """For each end an order with the fewest lines of a schedule, and among these with the fewest calls."""
+def shortest_orders(graph, at_worlds, at_steps=()):
+    """For each key an order with the fewest lines of a schedule, and among these with the fewest calls. `at_worlds` has
+    the keys of a world to which orders lead by its number, `at_steps` those of a step by its world and its process."""
+    at_steps = dict(at_steps)
+    stepping = defaultdict(list)
+    for number, pid in at_steps:
+        stepping[number].append(pid)
     heap, came, found = [], {}, {}
     for root in graph.roots:
         order = graph.order_to(root)
@@ -62,23 +67,34 @@ def shortest_orders(graph):
         if (number, last) in came:
             continue
         came[number, last] = before
-        if number in graph.ends:
-            found.setdefault(graph.ends[number], (number, last))
+        for key in at_worlds.get(number, ()):
+            keep_shorter(found, key, (lines, calls, number, last, None))
+        for pid in stepping.get(number, ()):
+            for key in at_steps[number, pid]:
+                keep_shorter(found, key, (lines + (pid != last), calls + 1, number, last, pid))
         for pid, target in graph.steps[number]:
             if (target, pid) not in came:
                 heapq.heappush(heap, (lines + (pid != last), calls + 1, target, pid, (number, last)))
-    return {end: way_to(graph, came, place) for end, place in found.items()}
+    return {key: way_to(graph, came, (number, last), pid) for key, (_, _, number, last, pid) in found.items()}
 
 
-def way_to(graph, came, place):
-    """The order by which the place was come to; where a trace has no room for it, the first one that led there."""
+def keep_shorter(found, key, way):
+    """Keeps the way for the key, if it has fewer lines than the one before, or as many and fewer calls."""
+    if key not in found or way[:2] < found[key][:2]:
+        found[key] = way
+
+
+def way_to(graph, came, place, pid=None):
+    """The order by which the place was come to, and a step further if one is named; where a trace has no room for it,
+    the first one that led there."""
     order, at = [], place
     while came[at] is not None:
         order.append(at[1])
         at = came[at]
-    whole = [*graph.order_to(at[0]), *reversed(order)]
+    more = [] if pid is None else [pid]
+    whole = [*graph.order_to(at[0]), *reversed(order), *more]
     has_room = run_of(graph.first, whole).world.items <= graph.first.limit
-    return whole if has_room else graph.order_to(place[0])
+    return whole if has_room else graph.order_to(place[0]) + more
 
 
 def covering_runs(graph):

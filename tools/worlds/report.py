@@ -5,13 +5,17 @@ from typing import NamedTuple
 from .orders import End
 
 INDENT = "    "
+# What is said of an end where a search was interrupted.
+CONFIRMED, NOT_YET = "confirmed by the lab", "not yet confirmed by the lab"
 
 
 class Told(NamedTuple):
-    """An end, how many orders came to it (None where some go round, so that there is no number), and a schedule."""
+    """An end, how many orders came to it (None where some go round, so that there is no number), a schedule, and
+    perhaps whether the lab has come to it."""
     end: End
     count: int | None
     turns: str
+    more: str = ""
 
 
 def counted(count, noun):
@@ -19,8 +23,9 @@ def counted(count, noun):
     return f"{count:,} {noun}{'' if count == 1 else 's'}"
 
 
-def turns_text(turns):
-    return " / ".join(f"{pid} {count}" for pid, count in turns) or "no turns"
+def turns_text(turns, telling=None):
+    who = telling.who if telling else str
+    return " / ".join(f"{who(pid)} {count}" for pid, count in turns) or "no turns"
 
 
 def print_ends(ends):
@@ -29,8 +34,9 @@ def print_ends(ends):
     for told in sorted(ends, key=lambda told: -(told.count or 0)):
         often = "some orders" if told.count is None else f"{told.count:,} of {counted(total, 'order')}"
         print(f"\n{often}: {told.end.name or 'no processes'}")
-        for line in [*told.end.reasons, told.turns]:
-            print(INDENT + line)
+        for line in [*told.end.reasons, told.turns, told.more]:
+            if line:
+                print(INDENT + line)
 
 
 def read_ends(lines):
@@ -38,7 +44,7 @@ def read_ends(lines):
     head, below = None, []
     for line in [*lines, ""]:
         if head and line.startswith(INDENT):
-            below.append(line.strip())
+            below += [line.strip()] if line.strip() not in (CONFIRMED, NOT_YET) else []
             continue
         if head and below:
             count = None if head[1] == "some" else int(head[2].replace(",", ""))

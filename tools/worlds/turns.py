@@ -19,12 +19,16 @@ def go(world, pid):
     """Takes the process through its next call: what the trace says of it."""
     world.items += turns_to_call(world, pid)
     _, stop = world.ahead.pop(pid)
+    process = world.processes[pid]
+    place = process.cpu.place
     if stop == AT_STUCK:
         world.end(pid, STUCK)
         said = f"{pid} stuck"
     else:
-        one = world.processes[pid].cpu.next()
+        one = process.cpu.next()
         said = f"{pid} {one.name} {perform(world, pid, one).outcome}"
+    if world.cover:
+        world.cover.done(process.program, place, said)
     world.follow()
     return said
 

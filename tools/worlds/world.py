@@ -10,8 +10,9 @@ AT_CALL, AT_STUCK, ROUND, FAR = "call", "stuck", "round", "far"
 LONG = 64
 
 
-def burst(cpu, most):
-    """Does local instructions up to what isn't one, at most so many: how many, and how it ended."""
+def burst(cpu, most, note=None):
+    """Does local instructions up to what isn't one, at most so many: how many, and how it ended. `note` is told of each,
+    and where it has led."""
     before, next_look = None, LONG
     for count in range(most):
         try:
@@ -22,18 +23,22 @@ def burst(cpu, most):
                 before, next_look = cpu.parts(), 2 * next_look
             elif before and cpu.place == before[0] and cpu.parts() == before:
                 return count, ROUND
+            place = cpu.place
             cpu.local(one)
+            if note:
+                note(place, one, cpu.place)
         except Stuck:
             return count, AT_STUCK
     return most, FAR
 
 
 class SearchedWorld(World):
-    """A world in which each ready process stands at its next call, as local instructions touch nobody else."""
+    """A world in which each ready process stands at its next call, as local instructions touch nobody else. `cover`, if
+    there is one, is told which instructions are done."""
 
-    def __init__(self, programs, limit):
+    def __init__(self, programs, limit, cover=None):
         super().__init__(programs)
-        self.limit = limit
+        self.limit, self.cover = limit, cover
         # How many items the trace has so far.
         self.items = 0
         # Of ready processes how many local instructions are done ahead of their turns, and how these ended.
@@ -45,7 +50,7 @@ class SearchedWorld(World):
         new.processes = {pid: process.copy() for pid, process in self.processes.items()}
         new.objects, new.ahead = self.objects.copy(), self.ahead.copy()
         new.waits, new.blocked, new.came = self.waits[:], self.blocked[:], []
-        new.next_koid, new.items, new.has_dropped = self.next_koid, self.items, False
+        new.next_koid, new.items, new.has_dropped, new.cover = self.next_koid, self.items, False, self.cover
         return new
 
     def parts(self):
@@ -57,18 +62,21 @@ class SearchedWorld(World):
 
     def follow(self):
         """All that follows a step, up to the next call of each process."""
-        self.settle()
+        for came in self.settle():
+            if self.cover and came.kind == "woken":
+                self.cover.woken(self.processes[came.koid])
         for pid, process in self.processes.items():
             if process.state == "ready" and pid not in self.ahead:
-                self.ahead[pid] = burst(process.cpu, self.limit)
+                note = self.cover.notes[process.program] if self.cover else None
+                self.ahead[pid] = burst(process.cpu, self.limit, note)
 
     def ready(self):
         """The ready processes, each with how its local instructions ended."""
         return [(pid, self.ahead[pid][1]) for pid, process in self.processes.items() if process.state == "ready"]
 
 
-def first_world(scenario):
+def first_world(scenario, cover=None):
     """The world in which no turn was taken yet."""
-    world = boot(scenario, SearchedWorld(scenario.programs, scenario.limit))
+    world = boot(scenario, SearchedWorld(scenario.programs, scenario.limit, cover))
     world.follow()
     return world

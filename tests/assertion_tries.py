@@ -1,0 +1,192 @@
+"""What tests/try-tools tries of assertions: each try is what it is about, what was seen, and what was wanted."""
+import shutil
+import subprocess
+from pathlib import Path
+
+from meaning.asserting import Known, assertions_in
+from meaning.trouble import Trouble
+
+TOP = Path(__file__).resolve().parent.parent
+EXAMPLES = TOP / "examples"
+ASSERTIONS = TOP / "tests/tools/assertions"
+COVERAGE = TOP / "tests/tools/coverage"
+# Nobody knows how often it goes round: its numbers are others each time, and the trace has room for ten.
+OUTGROWS = """limit 10
+program raw asm
+    const r3, 1
+again:
+    add r2, r2, r3
+    jmp again
+end
+process 1 0 0
+"""
+
+
+def try_assertions(tools):
+    """What is told of assertions, each of which was decided by hand: *.told. Those of bell.zlt with numbers for names are
+    the same assertions."""
+    for told in sorted(ASSERTIONS.glob("*.told")):
+        scenario = next(ASSERTIONS.glob(f"{told.stem}.zl[st]"))
+        shutil.copy(scenario, tools.room)
+        found = tools.explore(scenario.name)
+        yield f"assertions of {scenario.name}", (found.returncode, found.stdout, found.stderr), (
+            1, told.read_text(), "")
+    step = subprocess.run([tools.program, "step", "bell.5.zls", "bell.5.turns"], cwd=tools.room, capture_output=True,
+                          text=True)
+    yield "the schedule of one", step.stdout.splitlines()[-3:], ["process 5 ended 24", "process 6 ended 22", "end schedule"]
+    numbers = (ASSERTIONS / "bell.numbers").read_text()
+    found = tools.explore("--assertions", "bell.zlt")
+    yield "with numbers for names", (found.returncode, found.stdout), (0, numbers)
+    again = [assertion.numbered for line in numbers.splitlines()
+             for assertion in assertions_in([("1", f"#? {line}")], Known({}, set(), {}))]
+    yield "read again", again, numbers.splitlines()
+    ends = tools.explore("--ends", "bell.zlt").stdout.splitlines()[0].split(" (")[0]
+    yield "the ends in their place", ends, "3 ends in all 6 orders of calls"
+
+
+def try_coverage(tools):
+    """What is reached by all orders, which was told by hand, and by some."""
+    scenario, wanted = COVERAGE / "ways.zlt", (COVERAGE / "ways.told").read_text()
+    found = tools.explore("--coverage", scenario)
+    yield "coverage", (found.returncode, found.stdout, found.stderr), (0, wanted, "")
+    found = tools.explore("--coverage", "--worlds", "1", scenario)
+    few = ["look: 1 of 7 instructions reached", "look: line 5 to line 12: not yet reached"]
+    yield "coverage of few worlds", (found.returncode, found.stdout.splitlines()[:2]), (5, few)
+    found = tools.explore("--coverage", "--random", "1", "--runs", "40", scenario)
+    told = [line.replace("never", "not yet").replace("not reached", "not yet reached") for line in wanted.splitlines()]
+    yield "coverage by chance", (found.returncode, found.stdout.splitlines()[:-1]), (5, told[:-1])
+    last = "10 of 14 instructions reached, 1 of 2 jumps both ways, 5 of 5 answers"
+    yield "its last line", found.stdout.splitlines()[-1], f"{last}; 40 orders by chance, seed 1 (the lab ran each)"
+
+
+def try_undecided(tools):
+    """Where not all orders were tried, what was seen counts, and the rest isn't decided; parts add up to the whole."""
+    (tools.room / "bell.zlt").write_text((ASSERTIONS / "bell.zlt").read_text())
+    whole = tools.explore("bell.zlt").stdout.splitlines()
+    verdicts = [line for line in whole if line.startswith("bell.zlt:")]
+    # what a part can find is what a schedule shows
+    shown = {line for line, below in zip(whole, whole[1:])
+             if line in verdicts and below.startswith("    ") and "in none" not in below}
+    parts = [tools.explore("--part", f"{part}/2", "bell.zlt").stdout for part in (1, 2)]
+    found = {line for part in parts for line in part.splitlines() if ": broken: " in line or ": holds: " in line}
+    yield "what parts have seen", found, shown
+    added = tools.run("explore", "--sum", given="".join(parts))
+    seen = [line for line in added.stdout.splitlines() if line.startswith("bell.zlt:")]
+    yield "parts added up", (added.returncode, seen, added.stdout.splitlines()[-1]), (
+        1, verdicts, "6 broken, 15 hold, 0 not decided; all orders, in 2 parts")
+    added = tools.run("explore", "--sum", given=parts[0])
+    yield "a part is missing", added.stdout.splitlines()[-1].split("; ")[1], (
+        "not all orders: 1 part of the search is missing, 2")
+    by_chance = tools.explore("--random", "1", "--runs", "60", "--force", "bell.zlt").stdout.splitlines()
+    yield "by chance", {line for line in by_chance if ": broken: " in line or ": holds: " in line}, shown
+    last = by_chance[-1]
+    yield "its last line", last, ("4 broken, 4 hold, 13 not decided; 60 orders by chance, seed 1 (the lab ran each)")
+    few = tools.explore("--worlds", "1", "bell.zlt")
+    yield "few worlds", (few.returncode, few.stdout.splitlines()[-1].split(" (")[0]), (
+        5, "0 broken, 0 hold, 21 not decided; not all orders: --worlds N takes more")
+    endless = tools.room / "endless.zls"
+    endless.write_text("#? never stuck\n#? sometimes 2 ended\n" + OUTGROWS)
+    found = tools.explore("endless.zls")
+    last = "not all orders: some end where the trace has 10 items, more by a line `limit N`"
+    yield "no room", (found.returncode, found.stdout.splitlines()[-1].split(" (")[0]), (
+        5, f"0 broken, 0 hold, 2 not decided; {last}")
+
+
+def try_parting(tools):
+    """Where the lab does otherwise than the model that is all, whatever is broken."""
+    lab = tools.room / "lab"
+    lab.write_text(f'#!/usr/bin/env bash\nset -o pipefail\n"{tools.program}" "$@" | sed "s/write PEER_CLOSED/write OK/"\n')
+    lab.chmod(0o755)
+    found = tools.run("explore", "--zlab", lab, ASSERTIONS / "bell.zlt")
+    told = found.stderr.split("; the schedule is ")[0]
+    wanted = ("explore: the model of explore is wrong about this scenario: line 3 of the trace is 5 chan_write OK, and by "
+              "the model 5 chan_write PEER_CLOSED")
+    yield "a wrong model", (found.returncode, found.stdout, told), (2, "", wanted)
+    shutil.copy(ASSERTIONS / "bell.zlt", tools.room)
+    shutil.copy(ASSERTIONS / "causes.zls", tools.room)
+    found = tools.run("try-all", "--zlab", lab, ".")
+    yield "a wrong model among others", (found.returncode, found.stdout.splitlines()[-1], found.stderr.count("\n")), (
+        2, "0 as wanted, 0 not, 2 without an output; 3 assertions hold, 4 broken, 0 not decided", 1)
+
+
+def try_refused_assertions(tools):
+    """Wrong assertions are refused before anything is tried, and what no order has behind all orders."""
+    known = Known({"@root": 1, "@left": 2, "@bell": 4, "@client": 6, "@later": 9}, {"@serve"},
+                  {1: "job", 2: "channel", 3: "channel", 4: "event", 6: "process"})
+    for line in (ASSERTIONS / "refused").read_text().splitlines():
+        if line.startswith("# "):
+            continue
+        text, _, told = line.partition(" => ")
+        try:
+            seen = str(assertions_in([("3", f"#? {text}")], known))
+        except Trouble as trouble:
+            seen = str(trouble)
+        yield f"the assertion {text}", seen, f"line 3: {told}"
+    text = (ASSERTIONS / "causes.zls").read_text()
+    for line, told in [("#? never 3 chan_write PEERCLOSED", "PEERCLOSED is no status; did you mean PEER_CLOSED?"),
+                       ("#? never @clint stuck", "@clint isn't the name of an object"),
+                       ("#? never deadlock\r", "there is a carriage return; lines end with a line feed alone"),
+                       ("#? never dead\0lock", "there is a NUL")]:
+        (tools.room / "wrong.zls").write_text(f"{text}{line}\n", newline="\n")
+        found = tools.explore("wrong.zls")
+        wanted = f"explore: wrong.zls: line {text.count(chr(10)) + 1}: {told}\n"
+        yield f"refused: {line}", (found.returncode, found.stdout, found.stderr), (2, "", wanted)
+    (tools.room / "nobody.zls").write_text(f"{text}#? never 9 stuck\n")
+    found = tools.explore("nobody.zls")
+    wanted = f"explore: nobody.zls: line {text.count(chr(10)) + 1}: no order has process 9\n"
+    yield "nobody", (found.returncode, found.stderr), (2, wanted)
+    parts = [tools.explore("--part", f"{part}/2", "nobody.zls") for part in (1, 2)]
+    yield "nobody in parts", [part.returncode for part in parts], [1, 1]
+    found = tools.run("explore", "--sum", given="".join(part.stdout for part in parts))
+    yield "nobody in their sum", (found.returncode, found.stderr.endswith(": no order has process 9\n")), (2, True)
+    yield "--turns", tools.explore("--turns", "one.turns", ASSERTIONS / "bell.zlt").returncode, 2
+    closed = subprocess.run(["bash", "-c", 'exec "$@" >&-', "bash", TOP / "tools/explore", "--zlab", tools.program,
+                             ASSERTIONS / "bell.zlt"], cwd=tools.room, capture_output=True, text=True)
+    yield "a closed output", (closed.returncode, closed.stderr), (2, "explore: can't write the output: it is closed\n")
+    loops = "for i in 1..2\n@p[i] = process @root 2 0\n#? never @p[i] stuck\n#? never @p[j] stuck\ndone\n"
+    (tools.room / "loops.zlt").write_text(text.replace("process 1 2 0\n", loops))
+    found = tools.explore("loops.zlt")
+    wanted = (f"explore: loops.zlt: line {text.count(chr(10)) + 3} (i = 1): @p[j] isn't the name of an object; "
+              "did you mean @p[2]?\n")
+    yield "names in loops", found.stderr, wanted
+
+
+def try_folder_of_assertions(tools):
+    """Assertions of all scenarios of a folder, and outputs that are written."""
+    def found(*words):
+        done = tools.run("try-all", "--zlab", tools.program, *words, "all")
+        return done.returncode, done.stdout.splitlines()
+
+    folder = tools.room / "all"
+    folder.mkdir()
+    shutil.copy(EXAMPLES / "event.zls", folder)
+    for name in ("bell.zlt", "causes.zls"):
+        shutil.copy(ASSERTIONS / name, folder)
+    told = [line for name in ("bell", "causes") for line in (ASSERTIONS / f"{name}.told").read_text().splitlines()]
+    broken = [f"all/{line}" for line in told if ": broken: " in line]
+    status, lines = found()
+    last = "0 as wanted, 0 not, 3 without an output; 18 assertions hold, 10 broken, 0 not decided"
+    yield "assertions of a folder", (status, [line for line in lines if ": broken: " in line], lines[-1]), (1, broken, last)
+    yield "no files of them", sorted(path.name for path in tools.room.iterdir()), ["all"]
+    status, lines = found("--worlds", "1")
+    yield "few worlds", (status, lines[-1].split("; ")[1]), (5, "0 assertions hold, 0 broken, 28 not decided")
+    yield "no orders, no outputs", found("--no-orders")[0], 2
+    wanted = (EXAMPLES / "event.zls.stdout").read_text()
+    status, lines = found("--update", "--no-orders")
+    yield "written", (status, lines[-1], (folder / "event.zls.stdout").read_text()), (
+        0, "0 as wanted, 0 not, 0 without an output, 3 written", wanted)
+    (folder / "event.zls.stdout").write_text("mine\n")
+    (folder / "bell.zlt.stdout").unlink()
+    (folder / "bell.zlt.end").write_text("process 5 ended 1\nend schedule\n")
+    status, lines = found("--update", "--no-orders")
+    yield "not written over", (status, lines[-1], (folder / "event.zls.stdout").read_text()), (
+        1, "1 as wanted, 2 not, 0 without an output, 0 written", "mine\n")
+    status, lines = found("--update", "--force", "--no-orders")
+    # of bell.zlt the last lines: a has sent, and nobody has looked
+    yield "by force", (status, lines[-1], (folder / "event.zls.stdout").read_text()), (
+        0, "1 as wanted, 0 not, 0 without an output, 2 written", wanted)
+    yield "its last lines", (folder / "bell.zlt.end").read_text(), "process 5 ended 0\nprocess 6 ready\nend schedule\n"
+    yield "all as wanted", found("--no-orders"), (0, ["3 as wanted, 0 not, 0 without an output"])
+    (folder / "wrong.zls").write_text("#? nevr stuck\nevent\n")
+    (folder / "event.zls.stdout").write_text("mine\n")
+    yield "a wrong assertion", found(), (2, [])

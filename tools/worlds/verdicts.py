@@ -1,0 +1,180 @@
+"""What is told of assertions: which hold, and schedules for those that are broken and for what is there sometimes."""
+from pathlib import Path
+
+from meaning.trouble import Trouble
+
+from .bad import Shrinking
+from .deciding import BROKEN, HOLDS, UNDECIDED, Asserted
+from .ends import CAUSES, NO_END, end_name, end_reasons
+from .orders import run_of
+from .paths import lines_in, shortest_orders
+from .report import CONFIRMED, INDENT, NOT_YET, counted, turns_text
+from .turns import choices, joined, last_lines, played
+
+# What is told below an assertion of which nothing, or something else, was seen.
+IN_NONE = "in none of all orders"
+NOT_SEEN = "not seen in these orders: "
+
+
+def summary_of(counts):
+    """How many of the verdicts there are."""
+    holds = counts[HOLDS]
+    return f"{counts[BROKEN]} broken, {holds} hold{'s' * (holds == 1)}, {counts[UNDECIDED]} not decided"
+
+
+def shortest_for(graph, sights):
+    """The order with the fewest lines for each assertion that was seen in a search, by its number in the list."""
+    at_worlds, at_steps = {}, {}
+    for key, sight in enumerate(sights):
+        for number in sight.worlds:
+            at_worlds.setdefault(number, []).append(key)
+        for step in sight.steps:
+            at_steps.setdefault(step, []).append(key)
+    found = shortest_orders(graph, at_worlds, at_steps)
+    for key, sight in enumerate(sights):
+        if sight.way is not None and (key not in found or lines_in(sight.way) < lines_in(found[key])):
+            found[key] = list(sight.way)
+    return found
+
+
+def small_turns(first, sight):
+    """A small schedule for an assertion that was seen in an order by chance."""
+    def is_there(trace, world):
+        return sight.is_in_trace(trace[:-1 - len(last_lines(world))], world)
+
+    return Shrinking(first, is_there, run_of(first, sight.way).turns).result()
+
+
+class Verdicts:
+    """The verdicts of a scenario, and how they are told."""
+
+    def __init__(self, path, exploring, verdicts):
+        self.path, self.exploring, self.verdicts = path, exploring, verdicts
+        self.sights = [verdict.sight for verdict in verdicts]
+
+    def count(self, found):
+        return sum(verdict.found == found for verdict in self.verdicts)
+
+    @property
+    def status(self):
+        return 1 if self.count(BROKEN) else 5 if self.count(UNDECIDED) else 0
+
+    def summary(self):
+        return summary_of({found: self.count(found) for found in (BROKEN, HOLDS, UNDECIDED)})
+
+    # ---- schedules
+
+    def turns_of_orders(self, graph):
+        """For each assertion that was seen in a search its schedule, which the lab runs, by its number in the list."""
+        return {key: self.exploring.confirm_order(order) for key, order in shortest_for(graph, self.sights).items()}
+
+    def turns_by_chance(self):
+        """The same of orders by chance."""
+        found = {}
+        for key, sight in enumerate(self.sights):
+            if sight.is_seen:
+                found[key] = small_turns(self.exploring.first, sight)
+                self.exploring.confirm(found[key], played(self.exploring.first.copy(), found[key]))
+        return found
+
+    def unconfirmed_turns(self, graph):
+        """The same where a search was interrupted, and whether the lab has taken them."""
+        orders = shortest_for(graph, self.sights) if graph else {
+            key: sight.way for key, sight in enumerate(self.sights) if sight.is_seen}
+        return ({key: joined(run_of(self.exploring.first, order).turns) for key, order in orders.items()},
+                {key: CONFIRMED if self.exploring.has_taken(order) else NOT_YET for key, order in orders.items()})
+
+    # ---- what is told
+
+    def told(self, key, turns):
+        """The line of an assertion, and those below it: why it is broken, and by which schedule."""
+        verdict = self.verdicts[key]
+        assertion = verdict.sight.assertion
+        lines = [f"{self.path}:{assertion.line}: {verdict.found}: {assertion.text}"]
+        if verdict.found == BROKEN and turns is None:
+            lines.append(INDENT + IN_NONE)
+        elif turns is not None:
+            reasons = self.reasons(verdict.sight, turns) if verdict.found == BROKEN else []
+            lines += [INDENT + line for line in [*reasons, turns_text(turns, self.exploring.telling)]]
+        return lines
+
+    def reasons(self, sight, turns):
+        """What there is behind the turns that breaks the assertion."""
+        telling, world = self.exploring.telling, self.exploring.first.copy()
+        trace = played(world, turns)
+        items = trace[:-1 - len(last_lines(world))]
+        last = telling.told(items[-1]) if items else ""
+        if sight.item:
+            return [last]
+        if sight.in_worlds:
+            return [f"behind {last}" if last else "before the first call"]
+        if choices(world):
+            return [NO_END]
+        why = end_reasons(world, telling)
+        return [line for line in why if line.startswith(CAUSES[sight.cause.name])] if sight.cause else [
+            end_name(world, telling), *why]
+
+    def default_file(self, key):
+        """Where the schedule of an assertion goes: STEM.LINE.turns, with a number for a further one of the line."""
+        assertion = self.sights[key].assertion
+        same = [sight.assertion for sight in self.sights[:key] if line_of(sight.assertion) == line_of(assertion)]
+        stem = "stdin" if str(self.path) == "-" else Path(self.path).stem
+        return Path(f"{stem}.{line_of(assertion)}{f'.{len(same) + 1}' if same else ''}.turns")
+
+
+    # ---- what isn't there
+
+    def missing(self, asserted):
+        """For each assertion that speaks of something which was in no order what that is, by its number in the list."""
+        names, found = self.exploring.telling.names, {}
+        for key, sight in enumerate(self.sights):
+            things = [f"{kind or 'object'} {koid}" + (f" (@{names[koid]})" if koid in names else "")
+                      for kind, koid in sight.assertion.named_objects() if (kind, koid) in asserted.missing]
+            if things:
+                found[key] = ", ".join(things)
+        return found
+
+
+class Decided:
+    """All assertions of a scenario, decided by a search of all orders or of a part of them."""
+
+    def __init__(self, path, exploring, assertions, most, part=(1, 1)):
+        self.path, self.exploring, self.assertions = path, exploring, assertions
+        self.asserted = Asserted(assertions)
+        self.found = exploring.search(self.asserted, most, part)
+        exploring.confirm_steps(self.found)
+        self.asserted.endless(self.found.endless())
+        self.is_all = self.found.is_whole and part[1] == 1
+        self.verdicts = Verdicts(path, exploring, self.asserted.verdicts(self.is_all))
+        self.turns = self.verdicts.turns_of_orders(self.found.graph)
+
+    def tried(self):
+        return tried_text(self.found, self.exploring)
+
+    def refuse_missing(self):
+        """Refuses what is in no order, once all were tried."""
+        for key, things in self.verdicts.missing(self.asserted).items() if self.is_all else ():
+            at = f"line {self.verdicts.sights[key].assertion.line}: no order has {things}"
+            raise Trouble(at if str(self.path) == "-" else f"{self.path}: {at}")
+
+
+def line_of(assertion):
+    """The number of its line, without the rounds of loops."""
+    return assertion.line.split(" ")[0]
+
+
+def tried_text(found, exploring):
+    """Which orders a search has tried."""
+    (part, parts), counts = found.part, found.counts()
+    if found.graph.has_too_many:
+        orders = "not all orders: --worlds N takes more"
+    elif found.graph.is_cut:
+        orders = f"not all orders: some end where the trace has {exploring.first.limit:,} items, more by a line `limit N`"
+    elif counts is None:
+        orders = "all orders, some of which go round"
+    elif sum(counts.values()) == 1:
+        orders = "the only order"
+    else:
+        orders = f"all {counted(sum(counts.values()), 'order')}"
+    whose = f"part {part} of {parts}, " if parts > 1 else ""
+    return f"{whose}{orders} ({counted(len(found.graph.came), 'world')} by the model; the lab ran each step)"

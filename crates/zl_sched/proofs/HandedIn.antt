@@ -21,7 +21,15 @@ use Rattle.zl_sched.proofs.Queued.{Before, requeued_is, told}
 module _ (s : System) (whole : IsWhole s) (p : ℕ) where
   with_lists : (ready2 out2 : List ℕ) → Listed s.machine.world ready2 out2 → IsWhole (record s { ready = ready2; out = out2 })
   with_lists ready2 out2 listed = record {
-    legal = record { boot = whole.legal.boot; boots = whole.legal.boots; sized = whole.legal.sized; history = whole.legal.history; begins = whole.legal.begins; own = whole.legal.own; room = whole.legal.room };
+    legal = record {
+      boot = whole.legal.boot;
+      boots = whole.legal.boots;
+      sized = whole.legal.sized;
+      history = whole.legal.history;
+      begins = whole.legal.begins;
+      own = whole.legal.own;
+      room = whole.legal.room;
+    };
     listed = listed;
   }
 

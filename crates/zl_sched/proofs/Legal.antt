@@ -1,6 +1,7 @@
 -- What follows a schedule is a legal history, and a legal history with one step more is one.
 use Rattle.zl_sched.proofs.Common.{Acts, AtCall, Bool, CallName, End, EndsBy, Follows, IsLegal, IsLegalHistory, IsStuck, IsTrue, Library, List, Moves, Next}
-use Rattle.zl_sched.proofs.Common.{Runs, Step, System, TraceItem, World, [], ap, append-nil, arith, cases_Bool, ends, false, flat_map, flat_map-append, goes, if◌then◌else◌, inl, inr}
+use Rattle.zl_sched.proofs.Common.{Runs, Step, System, TraceItem, World, [], ap, append-nil, arith, cases_Bool, ends, false, flat_map, flat_map-append, goes}
+use Rattle.zl_sched.proofs.Common.{if◌then◌else◌, inl, inr}
 use Rattle.zl_sched.proofs.Common.{length-append, list_all, nat_lt, nat_tests, next_for, pid_of, refl, replicate, run_items, single, skips, subst, suc, sym}
 use Rattle.zl_sched.proofs.Common.{true, zero, ℕ, ◌++◌, ◌==◌, ◌∙◌, ◌∷◌, ◌≡◌, ◌⊎◌}
 use Rattle.std.proofs.lemmas.List.Folds.{list_all-append}

@@ -48,7 +48,8 @@ module _ (s : System) (whole : IsWhole s) (pid : ℕ) (unmarked : is_in pid s.ou
       (subst (λ (k : ℕ). IsChanged s.machine.world k m2.world (change_of x who)) taken.pid_is
       (changed s.machine.programs s.machine.world (pid_of x) x m2.world sound taken.steps.step who tells))
 
-  pub still_whole : StepsOwn s.machine.programs (own_of s.machine) pid x (own_of m2) → (items2 : _) (ready2 : List ℕ) → items2 ≡ s.items ++ (x ∷ []) → length s.items < s.limit
+  pub still_whole : StepsOwn s.machine.programs (own_of s.machine) pid x (own_of m2) → (items2 : _) (ready2 : List ℕ) → items2 ≡ s.items ++ (x ∷ [])
+      → length s.items < s.limit
       → ready2 ≡ queued_after s.machine.world pid m2.world s.ready → IsWhole (record s { machine = m2; items = items2; ready = ready2 })
   still_whole own items2 ready2 added room is = record {
     legal = legal_more s pid (record s { machine = m2; items = items2; ready = ready2 }) whole.legal

@@ -70,10 +70,12 @@ stops_here : (s : System) (p : ℕ) (us : List ℕ) → IsTrue (is_ready_in s.ma
 stops_here s p us ready = record { taken = []; next = p; left = us; are_all = refl; follows = ends s.machine.world; is_ready = ready }
 
 pub limited_walks : (s : System) (p : ℕ) (us : List ℕ) → IsTrue (is_ready_in s.machine p) → s.limit ≤ length s.items → Walks s (p ∷ us) end.Limit s
-limited_walks s p us ready full = record { more = []; adds = adds_nothing s; own = refl; room = omega arith; ends = (stops_here s p us ready, omega (arith, full)) }
+limited_walks s p us ready full =
+    record { more = []; adds = adds_nothing s; own = refl; room = omega arith; ends = (stops_here s p us ready, omega (arith, full)) }
 
 pub wanting_walks : (s : System) (p : ℕ) (us : List ℕ) → IsTrue (is_ready_in s.machine p) → length s.items < s.limit → Walks s (p ∷ us) end.Memory s
-wanting_walks s p us ready room = record { more = []; adds = adds_nothing s; own = refl; room = omega arith; ends = (stops_here s p us ready, omega (arith, room)) }
+wanting_walks s p us ready room =
+    record { more = []; adds = adds_nothing s; own = refl; room = omega arith; ends = (stops_here s p us ready, omega (arith, room)) }
 
 -- ---- one walk after another
 

@@ -54,7 +54,8 @@ invariant_of-self-2 c =
     let room : length before.machine.world.processes ≤ vec_capacity c.make_room.new.ready = done _ _
     (c.if-is_err-2.ensures {u = tt}).value c.make_room.ensures.room in
     let fits = queue_room before c.self.invariant.0 c.args.pid unmarked c.step.new.self c.in-Some.item did.takes in (
-      still_whole before c.self.invariant.0 c.args.pid unmarked c.step.new.self c.in-Some.item did.takes (c.in-Some.ensures {u = tt}).own c.push.new.self.items c.move_on.new.ready.items
+      still_whole before c.self.invariant.0 c.args.pid unmarked c.step.new.self c.in-Some.item did.takes
+          (c.in-Some.ensures {u = tt}).own c.push.new.self.items c.move_on.new.ready.items
           (search rules) (omega (arith, c.if-len-self.false, c.len.ensures, c.self.inside.items.ok.0)) queue,
       omega (arith, room, fits, ap length queue, c.move_on.ensures.capacity),
     )
@@ -72,5 +73,6 @@ returns c =
     let queue : c.move_on.new.ready.items ≡ queued_after before.machine.world c.args.pid c.step.new.self.world before.ready
     = by_requeue before c.self.invariant.0 c.args.pid unmarked c.step.new.self c.in-Some.item did.takes c.move_on.new.ready.items is in
     rw (← c.self.view_is)
-    (step_told before c.args.pid unmarked c.step.new.self c.push.new.self.items c.move_on.new.ready.items c.in-Some.item did.takes (c.in-Some.ensures {u = tt}).own
+    (step_told before c.args.pid unmarked c.step.new.self c.push.new.self.items c.move_on.new.ready.items c.in-Some.item did.takes
+    (c.in-Some.ensures {u = tt}).own
     (search rules) (omega (arith, c.if-len-self.false, c.len.ensures, c.self.inside.items.ok.0)) queue)

@@ -155,9 +155,10 @@ impl System {
     }
 
     /// The trace: a legal history from a boot world to the world as it stands, with at most as many
-    /// items as the boot's limit. In it no process of a program that is listed as checked is answered
-    /// BAD_HANDLE, WRONG_TYPE or ACCESS_DENIED from its start on, stuck or ended by a policy, and each
-    /// keeps its budget, until somebody kills it.
+    /// items as the boot's limit. It is the lab's own: from the lab's boot world on, each item is what the
+    /// lab itself does next, or a call that wanted memory. In it no process of a program that is listed
+    /// as checked is answered BAD_HANDLE, WRONG_TYPE or ACCESS_DENIED from its start on, stuck or ended by
+    /// a policy, and each keeps its budget, until somebody kills it.
     pub fn items(&self) -> &[TraceItem]
         ensures items { result.now ≡ self.now.items }
         ensures legal { IsLegal self.now }

@@ -7,10 +7,10 @@
 //! `push_state` and `push_end` add just the line of the definitions, and that `text` writes the whole
 //! text, or a beginning of it; that `read_text` gives the items whose lines a text has, or names the
 //! first line that is none; and that `replay` gives the world to which such items lead, where they are a
-//! legal history, or names the first that differs: its process isn't ready there, or the lab's own step
-//! has another item, where the clause says that some step has one. `laws` proves of the definitions that
-//! what is written is what is read. `write_all` and `empty_block` are how it writes, and serve other
-//! texts too.
+//! legal history and the lab's own, or names the first that differs: its process isn't ready there, or
+//! the lab's own step has another item; where that wants memory, some step. `laws` proves of the
+//! definitions that what is written is what is read. `write_all` and `empty_block` are how it writes,
+//! and serve other texts too.
 #![tactic(auto)]
 
 mod fault;

@@ -5,7 +5,7 @@ use Rattle.zl_code.proofs.Common.{leb-true, length, length-drop, length_at, ltb-
 use Rattle.zl_code.proofs.Common.{slice_index, slots_at, starts_at, starts_with, suc, sym, take, then_some, true, zero, ℕ, ◌++◌, ◌==◌, ◌∙◌, ◌∷◌, ◌≡◌, ◌≤◌}
 use Rattle.zl_code.specs.declared.image.DecodeFault.TheVariants as faults
 use Rattle.zl_code.proofs.ImageBytes.{IsBytes, bytes_of-number_at, parts_at}
-use Rattle.zl_code.proofs.Named.{same_names}
+use Rattle.zl_rights.proofs.Named.{same_names}
 
 -- what bytes without a fault of the header keep
 pub record HeaderFits (bytes : List ℕ) : Type 0 where

@@ -2,7 +2,7 @@
 use Rattle.zl_code.proofs.Common.{Bool, List, None, Option, Row, Some, [], and_parts, ap, arith, cases_Bool, eq-eqb, eqb-true, false, field_of, find, inl, inr}
 use Rattle.zl_code.proofs.Common.{layout, length, length-map, list_all, ltb-true, nat_lt, not, option_map, pointwise, refl, row_among, row_named, row_of}
 use Rattle.zl_code.proofs.Common.{row_value, rows, same_Some, subst, sym, true, ℕ, ◌&&◌, ◌+◌, ◌<◌, ◌==◌, ◌∙◌, ◌∷◌, ◌≡◌, ◌≢◌, ◌≤◌}
-use Rattle.zl_code.proofs.Named.{passes, same_names, same_refl}
+use Rattle.zl_rights.proofs.Named.{passes, same_names, same_refl}
 use Rattle.zl_code.specs.declared.layout.Row.{Row as RowInCode}
 
 -- the fact holds of each row

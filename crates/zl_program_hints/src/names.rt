@@ -62,28 +62,5 @@ fn flag_named(name: &str, is_right: bool) -> Option<u32> {
 /// The status of this name, without its sign.
 fn status_named(name: &[u8]) -> Option<u32> {
     let name = name.strip_prefix(b"ZX_ERR_").unwrap_or(name);
-    let statuses: &[Status] = &[
-        Status::Ok,
-        Status::NotSupported,
-        Status::NoResources,
-        Status::NoMemory,
-        Status::InvalidArgs,
-        Status::BadHandle,
-        Status::WrongType,
-        Status::OutOfRange,
-        Status::BufferTooSmall,
-        Status::BadState,
-        Status::TimedOut,
-        Status::ShouldWait,
-        Status::PeerClosed,
-        Status::NotFound,
-        Status::AlreadyExists,
-        Status::AccessDenied,
-    ];
-    for status in statuses {
-        if status.name().as_bytes() == name {
-            return Some(status.magnitude());
-        }
-    }
-    None
+    Status::named(name).map(|status| status.magnitude())
 }

@@ -1,5 +1,6 @@
 pub mod Numbers
 pub mod Names
+pub mod Statuses
 pub mod Policies
 pub mod Map
 pub mod LookUp

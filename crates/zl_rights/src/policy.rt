@@ -3,7 +3,7 @@ ghost use Rattle.zl_rights.specs.declared.policy.Condition.{Condition};
 ghost use Rattle.zl_rights.specs.declared.policy.Action.{Action};
 ghost use Rattle.zl_rights.specs.declared.policy.Mode.{Mode};
 ghost use Rattle.zl_rights.specs.Names.{condition_name, condition_named};
-ghost use Rattle.zl_rights.specs.Numbers.{condition_number, action_number, mode_number};
+ghost use Rattle.zl_rights.specs.Numbers.{all_conditions, condition_number, action_number, mode_number};
 
 /// What a job's policy decides on. `NewAny` stands for all conditions of making an object.
 ///
@@ -90,11 +90,11 @@ impl Condition {
         }
     }
 
-    /// The condition with this name, or nothing where none has it.
-    pub fn named(name: &[u8]) -> Option<Condition>
-        ensures { result ≡ condition_named name.now }
+    /// All conditions, in the order of their numbers.
+    pub fn all() -> &'static [Condition]
+        ensures { result.now ≡ all_conditions }
     {
-        let conditions: &[Condition] = &[
+        &[
             Condition::BadHandle,
             Condition::WrongObject,
             Condition::NewAny,
@@ -103,8 +103,14 @@ impl Condition {
             Condition::NewEventpair,
             Condition::NewPort,
             Condition::NewProcess,
-        ];
-        conditions
+        ]
+    }
+
+    /// The condition with this name, or nothing where none has it.
+    pub fn named(name: &[u8]) -> Option<Condition>
+        ensures { result ≡ condition_named name.now }
+    {
+        Condition::all()
             .iter()
             .find(|condition| condition.name().as_bytes() == name)
             .copied()

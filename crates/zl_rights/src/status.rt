@@ -1,6 +1,8 @@
-ghost use Rattle.std.specs.Prelude.{◌≡◌};
+ghost use Rattle.std.specs.Prelude.{◌≡◌, ◌≢◌, IfSome, IfNone};
+ghost use Rattle.zl_rights.specs.declared.status.Status.{Status};
 ghost use Rattle.zl_rights.specs.Numbers.{status_number, status_magnitude};
 ghost use Rattle.zl_rights.specs.Names.{status_name};
+ghost use Rattle.zl_rights.specs.Statuses.{all_statuses};
 
 /// The answer of a system call.
 ///
@@ -79,5 +81,40 @@ impl Status {
             Status::AlreadyExists => "ALREADY_EXISTS",
             Status::AccessDenied => "ACCESS_DENIED",
         }
+    }
+
+    /// All statuses, in the order of their magnitudes.
+    pub fn all() -> &'static [Status]
+        ensures { result.now ≡ all_statuses }
+    {
+        &[
+            Status::Ok,
+            Status::NotSupported,
+            Status::NoResources,
+            Status::NoMemory,
+            Status::InvalidArgs,
+            Status::BadHandle,
+            Status::WrongType,
+            Status::OutOfRange,
+            Status::BufferTooSmall,
+            Status::BadState,
+            Status::TimedOut,
+            Status::ShouldWait,
+            Status::PeerClosed,
+            Status::NotFound,
+            Status::AlreadyExists,
+            Status::AccessDenied,
+        ]
+    }
+
+    /// The status with this name, or nothing where none has it.
+    pub fn named(name: &[u8]) -> Option<Status>
+        ensures some { IfSome result (λ status. name.now ≡ status_name status) }
+        ensures none { IfNone result ((s : Status) → name.now ≢ status_name s) }
+    {
+        Status::all()
+            .iter()
+            .find(|status| status.name().as_bytes() == name)
+            .copied()
     }
 }

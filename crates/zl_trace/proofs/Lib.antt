@@ -1,7 +1,6 @@
 pub mod Common
 pub mod Digits
 pub mod KnownOutput
-pub mod Named
 pub mod Numbered
 pub mod OneHistory
 pub mod States

@@ -7,7 +7,7 @@ use Rattle.zl_code.proofs.Common.{All, All-append, All-cons, All-nil, AllByRecur
 use Rattle.zl_code.proofs.Common.{negsuc, not, pid_of, ◌%◌, ◌&&◌}
 use Rattle.std.proofs.lemmas.Fmt.{decimal_by_steps, signed_decimal_injective}
 use Rattle.zl_code.proofs.CallList.{call_among}
-use Rattle.zl_code.proofs.Named.{by_name, missing}
+use Rattle.zl_rights.proofs.Named.{by_name, missing, status_among}
 use Rattle.zl_code.specs.declared.history.CallName.{CallName}
 use Rattle.zl_code.specs.declared.history.CallName.TheVariants as call
 use Rattle.zl_code.specs.declared.history.Outcome.{Outcome}
@@ -25,7 +25,7 @@ use Rattle.zl_trace.proofs.ReadOn.{coming, ending}
 use Rattle.zl_trace.specs.Reading.{HasCode, HasLine, doing_words, outcome_words}
 unfoldable use Rattle.zl_trace.specs.Reading.{spaced}
 use Rattle.zl_trace.proofs.Digits.{small}
-use Rattle.zl_trace.proofs.Named.{status_among, statuses}
+use Rattle.zl_rights.specs.Statuses.{all_statuses}
 use Rattle.zl_trace.proofs.WordsOfLines.{lines_are_words}
 
 -- ---- names tell what they name
@@ -43,15 +43,15 @@ not_run = missing call_name calls (codes "run") call_among None refl
 not_stuck : (c : CallName) → codes "stuck" ≢ call_name c
 not_stuck = missing call_name calls (codes "stuck") call_among None refl
 
-status_told : (s : Status) → find (by_name status_name statuses (status_name s)) statuses ≡ Some s
+status_told : (s : Status) → find (by_name status_name all_statuses (status_name s)) all_statuses ≡ Some s
 status_told status.Ok = refl
 status_told _ = refl
 
 same_statuses : (s t : Status) → status_name s ≡ status_name t → s ≡ t
-same_statuses s t is = same_Some s t (sym (status_told s) ∙ ap (λ word. find (by_name status_name statuses word) statuses) is ∙ status_told t)
+same_statuses s t is = same_Some s t (sym (status_told s) ∙ ap (λ word. find (by_name status_name all_statuses word) all_statuses) is ∙ status_told t)
 
 not_blocked : (s : Status) → codes "blocked" ≢ status_name s
-not_blocked = missing status_name statuses (codes "blocked") status_among None refl
+not_blocked = missing status_name all_statuses (codes "blocked") status_among None refl
 
 same_outcomes : (o u : Outcome) → HasCode o → HasCode u → outcome_words o ≡ outcome_words u → o ≡ u
 same_outcomes (outcome.Answered s) (outcome.Answered t) a b is = ap outcome.Answered (same_statuses s t cc)

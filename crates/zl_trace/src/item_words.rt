@@ -2,8 +2,6 @@
 ghost use Rattle.std.specs.Prelude.{◌≡◌, ◌≢◌, ◌<◌, ◌^◌, IfSome, IfNone, IsTrue, ◌↔◌, ℕ, ℤ, FitsSigned, map};
 ghost use Rattle.std.specs.Int.{w32};
 ghost use Rattle.std.specs.Fmt.{decimal, signed_decimal};
-ghost use Rattle.zl_rights.specs.Names.{status_name};
-ghost use Rattle.zl_rights.specs.declared.status.Status.{Status as StatusValue};
 ghost use Rattle.zl_code.specs.Steps.{pid_of};
 ghost use Rattle.zl_code.specs.declared.history.Outcome.{Outcome as OutcomeValue};
 ghost use Rattle.zl_code.specs.declared.history.TraceItem.{TraceItem as ItemValue};
@@ -55,7 +53,7 @@ fn outcome_of(words: &[&[u8]]) -> Option<Outcome>
 {
     match words {
         [word] if is(word, b"blocked") => Some(Outcome::Blocked),
-        [word] => Some(Outcome::Answered(status_named(word)?)),
+        [word] => Some(Outcome::Answered(Status::named(word)?)),
         [word, code] if is(word, b"ended") => Some(Outcome::Ended(code_of(code)?)),
         _ => None,
     }
@@ -109,35 +107,6 @@ fn code_of(word: &[u8]) -> Option<i32>
     } else {
         None
     }
-}
-
-/// The status of this name, if there is one.
-fn status_named(name: &[u8]) -> Option<Status>
-    ensures some { IfSome result (λ status. name.now ≡ status_name status) }
-    ensures none { IfNone result ((s : StatusValue) → name.now ≢ status_name s) }
-{
-    let statuses: &[Status] = &[
-        Status::Ok,
-        Status::NotSupported,
-        Status::NoResources,
-        Status::NoMemory,
-        Status::InvalidArgs,
-        Status::BadHandle,
-        Status::WrongType,
-        Status::OutOfRange,
-        Status::BufferTooSmall,
-        Status::BadState,
-        Status::TimedOut,
-        Status::ShouldWait,
-        Status::PeerClosed,
-        Status::NotFound,
-        Status::AlreadyExists,
-        Status::AccessDenied,
-    ];
-    statuses
-        .iter()
-        .find(|status| status.name().as_bytes() == name)
-        .copied()
 }
 
 /// Whether the word has just these bytes.

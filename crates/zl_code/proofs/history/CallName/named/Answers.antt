@@ -2,7 +2,7 @@ use Rattle.zl_code.proofs.Common.{call_name, calls, rules, ◌∙◌}
 use Rattle.std.proofs.lemmas.Iterator.Search.{find_from_yields_List}
 use Rattle.std.proofs.lemmas.Iterator.{YieldsList-from_slice}
 use Rattle.zl_code.proofs.CallList.{call_among}
-use Rattle.zl_code.proofs.Named.{by_name, found, missing}
+use Rattle.zl_rights.proofs.Named.{by_name, found, missing}
 use Rattle.zl_code.proofs.history.CallName.named.Goals as goal
 
 pub returns-clause-some : goal.returns-clause-some

@@ -1,6 +1,10 @@
 -- What is found in a list by its name, and that nothing has the name where nothing is found.
-use Rattle.zl_code.proofs.Common.{Bool, IfNone, IfSome, List, None, Option, Some, [], and_parts, cases_Bool, eq-eqb, eqb-true, find, inl, inr, pointwise, refl}
-use Rattle.zl_code.proofs.Common.{slice_get, subst, suc, sym, true, zero, ℕ, ◌==◌, ◌∷◌, ◌≡◌, ◌≢◌}
+use Rattle.std.specs.Cmp.Lexicographic.{pointwise}
+use Rattle.zl_rights.proofs.Common.{Bool, IfNone, IfSome, List, None, Option, Some, [], and_parts, cases_Bool, eq-eqb, eqb-true, find, inl, inr, refl}
+use Rattle.zl_rights.proofs.Common.{slice_get, subst, suc, sym, true, zero, ℕ, ◌==◌, ◌∷◌, ◌≡◌, ◌≢◌}
+use Rattle.zl_rights.specs.Statuses.{all_statuses}
+use Rattle.zl_rights.specs.declared.status.Status.{Status}
+use Rattle.zl_rights.specs.declared.status.Status.TheVariants as status
 
 pub same_names : (xs ys : List ℕ) → pointwise ◌==◌ xs ys ≡ true → xs ≡ ys
 same_names [] [] h = refl
@@ -46,3 +50,23 @@ module _ {X : Type 0} (name_of : X → List ℕ) (all : List X) (name : List ℕ
   missing among None e =
       λ x same. none_at by_name all (among x).0 x (sym e) (among x).1 (subst (λ n. pointwise ◌==◌ (name_of x) n ≡ true) (sym same) (same_refl (name_of x)))
   missing among (Some x) e = tt
+
+-- ---- statuses
+
+pub status_among : (s : Status) → (i : ℕ) × (slice_get all_statuses i ≡ Some s)
+status_among status.Ok = (0, refl)
+status_among status.NotSupported = (1, refl)
+status_among status.NoResources = (2, refl)
+status_among status.NoMemory = (3, refl)
+status_among status.InvalidArgs = (4, refl)
+status_among status.BadHandle = (5, refl)
+status_among status.WrongType = (6, refl)
+status_among status.OutOfRange = (7, refl)
+status_among status.BufferTooSmall = (8, refl)
+status_among status.BadState = (9, refl)
+status_among status.TimedOut = (10, refl)
+status_among status.ShouldWait = (11, refl)
+status_among status.PeerClosed = (12, refl)
+status_among status.NotFound = (13, refl)
+status_among status.AlreadyExists = (14, refl)
+status_among status.AccessDenied = (15, refl)

@@ -1,7 +1,7 @@
 //! What to do about a register that is at fault.
 
 use crate::refusal::known::{REGISTERS, kind_name, numbered};
-use crate::refusal::places::{MOST_PLACES, Place, Site, is_among, wanted_at};
+use crate::refusal::places::{MOST_PLACES, Place, Site, Use, first_of, is_among, wanted_at};
 use crate::refusal::register::missing_at;
 use bitflags::Flags;
 use std::alloc::AllocError;
@@ -22,7 +22,7 @@ pub fn push_advice(
     match (cause, site.state.get(place.register)) {
         (Cause::WrongKind, AbsVal::Has { kind: None, .. }) => push_test_of_kind(hint, site, place),
         (Cause::LacksRight, AbsVal::Has { kind, rights, .. }) => {
-            let missing = missing_at(site, place.purpose, rights);
+            let missing = missing_at(site, place, rights);
             match kind {
                 Some(kind) if !missing.within(kind.default_rights()) => {
                     push_text(hint, "; no # has that", &[Name(kind.name())])
@@ -68,7 +68,7 @@ fn advice_on_zero(site: &Site, register: Register) -> &'static str {
 fn is_written(site: &Site, count: usize, register: Register) -> bool {
     for (number, instr) in site.image.code().iter().take(count).enumerate() {
         let parts = InstrBytes::split(instr.to_bytes());
-        if number != site.at && is_among(parts, MOST_PLACES, register, "dgx") {
+        if number != site.at && is_among(parts, MOST_PLACES, register, Use::Write) {
             return true;
         }
     }
@@ -113,7 +113,7 @@ fn tag_of(site: &Site, register: Register, is_kind: bool) -> Option<Register> {
 
 /// Adds how to know of the handle's kind, where that can be known.
 fn push_test_of_kind(hint: &mut String, site: &Site, place: &Place) -> Result<(), AllocError> {
-    let Some(kind) = wanted_at(site, place.purpose).kind else {
+    let Some(kind) = first_of(wanted_at(site, place).kinds) else {
         return Ok(());
     };
     if let Some(tag) = tag_of(site, place.register, true) {

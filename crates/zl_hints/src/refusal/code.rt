@@ -1,7 +1,7 @@
 //! Faults of an instruction itself, whatever the registers hold.
 
 use crate::refusal::known::{numbered, push_state};
-use crate::refusal::places::{MOST_PLACES, Site, is_among, place_at};
+use crate::refusal::places::{MOST_PLACES, Site, Use, is_among, place_at};
 use std::alloc::AllocError;
 use zl_code::{InstrBytes, LocalInstr, Register};
 use zl_program_hints::Value::{Name, Number};
@@ -38,8 +38,8 @@ pub fn push_illegal(hint: &mut String, site: &Site) -> Result<(), AllocError> {
 fn written_twice(parts: InstrBytes) -> Option<Register> {
     for index in 0..MOST_PLACES {
         if let Some(place) = place_at(parts, index)
-            && matches!(place.purpose, b'd' | b'g')
-            && is_among(parts, index, place.register, "dg")
+            && place.is(Use::Answer)
+            && is_among(parts, index, place.register, Use::Answer)
         {
             return Some(place.register);
         }

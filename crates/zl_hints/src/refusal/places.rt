@@ -1,8 +1,8 @@
-//! The registers of an instruction, and what its rule wants of each.
+//! The registers of an instruction, and what its rule wants of each, as its row has it.
 
 use bitflags::Flags;
 use zl_abs::AbsState;
-use zl_code::{Image, InstrBytes, Register};
+use zl_code::{Columns, Ending, Field, Image, InstrBytes, Kinds, Register, Row};
 use zl_rights::{Kind, Rights};
 
 /// The instruction at which an image is refused, and what is known there.
@@ -19,86 +19,71 @@ pub struct Site<'a> {
 #[derive(Clone, Copy)]
 pub struct Place {
     pub register: Register,
-    /// What it is for, a letter of `purposes_of`.
-    pub purpose: u8,
-    /// Which letter that is, from 0.
+    /// What the instruction does with it.
+    pub field: Field,
+    /// Whether it gets the handle of a slot, for the one that it has.
+    pub is_swapped: bool,
+    /// Which one it is, from 0, in the order of the text.
     pub index: usize,
+}
+
+/// What may be done with a register.
+#[derive(Clone, Copy)]
+pub enum Use {
+    /// It gets a number, or a handle that is made or received.
+    Answer,
+    /// The same, or the handle of a slot.
+    Write,
+    /// Its handle is given away, or closed.
+    Give,
 }
 
 /// What a handle has to be.
 #[derive(Clone, Copy)]
 pub struct Wanted {
-    /// `None` for any.
-    pub kind: Option<Kind>,
+    pub kinds: Kinds,
     pub rights: Rights,
 }
 
 /// The most registers that an instruction reads or writes.
 pub const MOST_PLACES: usize = 30;
 
-/// What the registers of the instruction with this opcode are for, a letter each in the order of the text.
-/// `d` and `g` are written, `g` with what is received, and `n` is read as a number. The others have to have
-/// handles: `m`, `x` and `z` one or 0, and `z`, `o`, `l` and `t` give it away.
-fn purposes_of(opcode: u8) -> &'static str {
-    match opcode {
-        // const
-        1 => "d",
-        // mov, addi, shl, shr, ld8, ld64
-        2 | 4 | 9 | 10 | 13 | 14 => "dn",
-        // add, sub, and, or, xor
-        3 | 5 | 6 | 7 | 8 => "dnn",
-        // take, swap
-        11 => "dm",
-        12 => "xn",
-        // st8, st64
-        15 | 16 => "nn",
-        // jeq, jne, jlt, jge, jhas, jnhas; and process_exit
-        20 | 21 | 22 | 23 | 24 | 25 | 83 => "n",
-        // close, dup, replace
-        64 => "dz",
-        65 => "dud",
-        66 => "dod",
-        // chan_create, eventpair_create; chan_write, chan_read_etc
-        67 | 87 => "ddd",
-        68 => "dcnnllllllll",
-        69 => "drnnddgggggggggggggggggggggggg",
-        // event_create, port_create
-        70 | 76 => "dd",
-        // signal, signal_peer
-        71 => "dsnn",
-        72 => "denn",
-        // wait_one, wait_poll, wait_async
-        73 | 74 => "dwnd",
-        75 => "dwpnn",
-        // port_queue, port_wait, port_poll, port_cancel
-        77 => "dpnn",
-        78 | 79 => "dqdddd",
-        80 => "dphn",
-        // process_create, process_start
-        81 => "djnd",
-        82 => "dvtn",
-        // task_kill, job_create, job_set_policy
-        84 => "dk",
-        85 => "did",
-        86 => "dynnn",
-        _ => "",
-    }
-}
-
-/// The register in this place of the instruction, if there is one.
+/// The register in this place of the instruction, if there is one: of its row, of those that are received,
+/// or of its list.
 pub fn place_at(parts: InstrBytes, index: usize) -> Option<Place> {
-    let purpose = *purposes_of(parts.opcode).as_bytes().get(index)?;
-    let number = match purpose {
-        b'l' => *parts.last.get(index.wrapping_sub(4))?,
-        b'g' => received(parts, index.wrapping_sub(6))?,
-        _ => *parts.registers.get(index)?,
+    let row = Row::of_opcode(parts.opcode)?;
+    let field = field_at(row.columns, index)?;
+    let number = match field {
+        Field::Triples => received(parts, index.wrapping_sub(InstrBytes::REGISTERS - 1))?,
+        _ => match parts.registers.get(index) {
+            Some(number) if index < row.columns.fields.len() => *number,
+            _ => *parts
+                .last
+                .get(index.wrapping_sub(row.columns.fields.len()))?,
+        },
     };
     let register = Register::new(number)?;
     Some(Place {
         register,
-        purpose,
+        field,
+        is_swapped: matches!(
+            (field, row.columns.ending),
+            (Field::Changes, Ending::Number)
+        ),
         index,
     })
+}
+
+/// What is done with the register in this place, if there may be one: behind those of the row come the
+/// places of a list, or further ones that are received.
+fn field_at(columns: &Columns, index: usize) -> Option<Field> {
+    if let Some(field) = columns.fields.get(index) {
+        return Some(*field);
+    }
+    match columns.ending {
+        Ending::Room => Some(Field::Triples),
+        _ => columns.in_list,
+    }
 }
 
 /// The number of the register in this place of those that are received, from 0.
@@ -110,12 +95,29 @@ fn received(parts: InstrBytes, place: usize) -> Option<u8> {
     first.checked_add(u8::try_from(place).ok()?)
 }
 
-/// Whether one of so many places has the register, and is for one of these purposes.
-pub fn is_among(parts: InstrBytes, places: usize, register: Register, purposes: &str) -> bool {
+impl Place {
+    /// Whether the register is used so.
+    pub fn is(&self, way: Use) -> bool {
+        match (way, self.field) {
+            (Use::Answer | Use::Write, Field::Writes | Field::Triples) => true,
+            (Use::Write, Field::Changes) => self.is_swapped,
+            (Use::Give, Field::Closes | Field::Consumes(..)) => true,
+            _ => false,
+        }
+    }
+
+    /// Whether 0 will do in place of a handle.
+    pub fn may_be_zero(&self) -> bool {
+        matches!(self.field, Field::Changes | Field::Closes)
+    }
+}
+
+/// Whether one of so many places has the register, and uses it so.
+pub fn is_among(parts: InstrBytes, places: usize, register: Register, way: Use) -> bool {
     for index in 0..places {
         if let Some(place) = place_at(parts, index)
             && place.register.number() == register.number()
-            && purposes.as_bytes().contains(&place.purpose)
+            && place.is(way)
         {
             return true;
         }
@@ -123,42 +125,43 @@ pub fn is_among(parts: InstrBytes, places: usize, register: Register, purposes: 
     false
 }
 
-/// Whether 0 will do in place of a handle.
-pub fn may_be_zero(purpose: u8) -> bool {
-    matches!(purpose, b'm' | b'x' | b'z')
-}
-
-/// What the handle in a place for this purpose has to be. Of a process or a job it says process, and of
-/// a channel or an event pair channel.
-pub fn wanted_at(site: &Site, purpose: u8) -> Wanted {
-    let (kind, rights) = match purpose {
-        b'u' => (None, Rights::DUPLICATE),
-        b'l' | b't' => (None, Rights::TRANSFER),
-        b's' => (None, Rights::SIGNAL),
-        b'w' => (None, Rights::WAIT),
-        b'c' => (Some(Kind::Channel), Rights::WRITE),
-        b'r' => (Some(Kind::Channel), Rights::READ),
-        b'e' => (Some(Kind::Channel), Rights::SIGNAL_PEER),
-        b'p' => (Some(Kind::Port), Rights::WRITE),
-        b'q' => (Some(Kind::Port), Rights::READ),
-        b'v' => (Some(Kind::Process), Rights::WRITE),
-        b'k' => (Some(Kind::Process), Rights::DESTROY),
-        b'j' => (Some(Kind::Job), Rights::MANAGE_PROCESS),
-        b'i' => (Some(Kind::Job), Rights::MANAGE_JOB),
-        b'y' => (Some(Kind::Job), Rights::SET_POLICY),
-        b'x' => match site.image.slots().get(site.parts.imm() as usize) {
-            Some(array) => (array.kind, array.rights),
-            None => (None, Rights::empty()),
+/// What the handle in the place has to be; one that is swapped has to fit its array of slots.
+pub fn wanted_at(site: &Site, place: &Place) -> Wanted {
+    let (kinds, rights) = match place.field {
+        Field::Names(kinds, rights) => (kinds, rights),
+        Field::Consumes(kinds, rights) => (kinds, rights),
+        _ => match site.image.slots().get(site.parts.imm() as usize) {
+            Some(array) if place.is_swapped => (kinds_of(array.kind), array.rights),
+            _ => (Kinds::Any, Rights::empty()),
         },
-        _ => (None, Rights::empty()),
     };
-    Wanted { kind, rights }
+    Wanted { kinds, rights }
 }
 
-/// Whether a handle of which this is known of its kind will do in a place for this purpose.
-pub fn is_taken(purpose: u8, wanted: Option<Kind>, known: Option<Kind>) -> bool {
-    wanted.is_none()
-        || known == wanted
-        || (purpose == b'k' && known == Some(Kind::Job))
-        || (purpose == b'e' && known == Some(Kind::Eventpair))
+/// The kind as a row has it, any where there is none.
+fn kinds_of(kind: Option<Kind>) -> Kinds {
+    match kind {
+        Some(kind) => Kinds::Only(kind),
+        None => Kinds::Any,
+    }
+}
+
+/// Whether a handle of which this is known of its kind will do for these.
+pub fn is_taken(kinds: Kinds, known: Option<Kind>) -> bool {
+    match kinds {
+        Kinds::Any => true,
+        Kinds::Only(kind) => known == Some(kind),
+        Kinds::Tasks => matches!(known, Some(Kind::Process | Kind::Job)),
+        Kinds::Ends => matches!(known, Some(Kind::Channel | Kind::Eventpair)),
+    }
+}
+
+/// The first kind of these, where not all are taken.
+pub fn first_of(kinds: Kinds) -> Option<Kind> {
+    match kinds {
+        Kinds::Any => None,
+        Kinds::Only(kind) => Some(kind),
+        Kinds::Tasks => Some(Kind::Process),
+        Kinds::Ends => Some(Kind::Channel),
+    }
 }

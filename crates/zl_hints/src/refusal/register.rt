@@ -3,11 +3,12 @@
 use crate::refusal::advice::push_advice;
 use crate::refusal::known::{numbered, push_rights, push_value};
 use crate::refusal::places::{
-    MOST_PLACES, Place, Site, is_among, is_taken, may_be_zero, place_at, wanted_at,
+    MOST_PLACES, Place, Site, Use, is_among, is_taken, place_at, wanted_at,
 };
 use bitflags::Flags;
 use std::alloc::AllocError;
 use zl_abs::{AbsVal, Cause};
+use zl_code::{Field, Kinds};
 use zl_program_hints::Value::{Name, Number};
 use zl_program_hints::push_text;
 use zl_rights::Rights;
@@ -41,20 +42,20 @@ fn faulty_place(site: &Site, cause: Cause) -> Option<Place> {
 /// Whether what the register has is refused in its place for the cause.
 fn is_faulty(site: &Site, place: &Place, cause: Cause) -> bool {
     let value = site.state.get(place.register);
-    match place.purpose {
-        b'd' | b'g' => {
-            let is_given = is_among(site.parts, MOST_PLACES, place.register, "zolt");
+    match place.field {
+        Field::Writes | Field::Triples => {
+            let is_given = is_among(site.parts, MOST_PLACES, place.register, Use::Give);
             cause == Cause::Leak && value.is_has() && !is_given
         }
-        b'n' => cause == Cause::NotWord && value.is_has(),
+        Field::Reads => cause == Cause::NotWord && value.is_has(),
         _ => is_unfit(site, place, cause, value),
     }
 }
 
 /// Whether the value isn't that of a handle that has to be in the place, for the cause.
 fn is_unfit(site: &Site, place: &Place, cause: Cause, value: AbsVal) -> bool {
-    let wanted = wanted_at(site, place.purpose);
-    let may_be_zero = may_be_zero(place.purpose);
+    let wanted = wanted_at(site, place);
+    let may_be_zero = place.may_be_zero();
     match value {
         AbsVal::Has {
             maybe,
@@ -62,7 +63,7 @@ fn is_unfit(site: &Site, place: &Place, cause: Cause, value: AbsVal) -> bool {
             rights,
         } => match cause {
             Cause::NotLive => (maybe && !may_be_zero) || is_sent_twice(site, place),
-            Cause::WrongKind => !is_taken(place.purpose, wanted.kind, kind),
+            Cause::WrongKind => !is_taken(wanted.kinds, kind),
             Cause::LacksRight => !wanted.rights.within(rights),
             _ => false,
         },
@@ -73,12 +74,12 @@ fn is_unfit(site: &Site, place: &Place, cause: Cause, value: AbsVal) -> bool {
 
 /// Whether the list of handles has the register before this place too.
 fn is_sent_twice(site: &Site, place: &Place) -> bool {
-    place.purpose == b'l' && is_among(site.parts, place.index, place.register, "l")
+    place.is(Use::Give) && is_among(site.parts, place.index, place.register, Use::Give)
 }
 
-/// The rights that a handle with these has to have too in a place for this purpose.
-pub fn missing_at(site: &Site, purpose: u8, rights: Rights) -> Rights {
-    wanted_at(site, purpose).rights.difference(rights)
+/// The rights that a handle with these has to have too in the place.
+pub fn missing_at(site: &Site, place: &Place, rights: Rights) -> Rights {
+    wanted_at(site, place).rights.difference(rights)
 }
 
 /// Adds what is wanted of the register in the place, or what is done to it.
@@ -91,13 +92,13 @@ fn push_wanted(
     let register = numbered(place.register);
     match (cause, site.state.get(place.register)) {
         (Cause::LacksRight, AbsVal::Has { rights, .. }) => {
-            let missing = missing_at(site, place.purpose, rights);
+            let missing = missing_at(site, place, rights);
             push_text(hint, "r# has to have ", &[register])?;
             push_rights(hint, missing)?;
             push_text(hint, " (#)", &[Number(u64::from(missing.bits()))])
         }
         (Cause::WrongKind, _) => {
-            let kind = kind_words(site, place.purpose);
+            let kind = kind_words(wanted_at(site, place).kinds);
             let text = "r# has to have a handle of the kind #";
             push_text(hint, text, &[register, Name(kind)])
         }
@@ -105,13 +106,13 @@ fn push_wanted(
     }
 }
 
-/// The kinds that a handle in a place for this purpose may be of.
-fn kind_words(site: &Site, purpose: u8) -> &'static str {
-    match wanted_at(site, purpose).kind {
-        _ if purpose == b'k' => "process or job",
-        _ if purpose == b'e' => "channel or eventpair",
-        Some(kind) => kind.name(),
-        None => "any",
+/// The kinds that a handle may be of.
+fn kind_words(kinds: Kinds) -> &'static str {
+    match kinds {
+        Kinds::Any => "any",
+        Kinds::Only(kind) => kind.name(),
+        Kinds::Tasks => "process or job",
+        Kinds::Ends => "channel or eventpair",
     }
 }
 
@@ -120,7 +121,7 @@ fn words_of(place: &Place, cause: Cause, value: AbsVal) -> &'static str {
     match cause {
         Cause::Leak => "r# is written",
         Cause::NotWord => "r# is read as a number",
-        _ if may_be_zero(place.purpose) => "r# has to have a handle or 0",
+        _ if place.may_be_zero() => "r# has to have a handle or 0",
         _ => match value {
             AbsVal::Has { maybe: false, .. } => "r# is sent twice",
             _ => "r# has to have a handle",

@@ -134,12 +134,12 @@ fn step<R: AllocGlobal + Input + Print>(
     let mut reader = Told::new(rt.reader());
     let mut writer = Told::new(io::writer(rt));
     let ended = step_engine(rt.alloc(), &mut reader, &mut writer, hints);
-    match &ended {
-        Err(EngineFault::Read) => explain_failure(hints, "standard input", reader.reason()),
-        Err(EngineFault::Write) => explain_failure(hints, "standard output", writer.reason()),
-        _ => {}
-    }
-    ended
+    answer_with(
+        hints,
+        ended,
+        ("standard input", reader.reason()),
+        writer.reason(),
+    )
 }
 
 /// Assembles the file `text` into the file `image`, which is made or emptied once the other is open,
@@ -188,12 +188,7 @@ fn check<R: AllocGlobal + Files + Print>(
     let mut reader = Told::new(open(rt, hints, image)?);
     let mut writer = Told::new(io::writer(rt));
     let ended = check_engine(rt.alloc(), &mut reader, &mut writer, hints);
-    match &ended {
-        Err(EngineFault::Read) => explain_failure(hints, image, reader.reason()),
-        Err(EngineFault::Write) => explain_failure(hints, "standard output", writer.reason()),
-        _ => {}
-    }
-    ended
+    answer_with(hints, ended, (image, reader.reason()), writer.reason())
 }
 
 /// Answers the scenario and the schedule in the two files on standard output.
@@ -206,23 +201,10 @@ fn step_files<R: AllocGlobal + Files + Print>(
     let mut first = Told::new(open(rt, hints, scenario)?);
     let mut second = Told::new(open(rt, hints, schedule)?);
     let mut writer = Told::new(io::writer(rt));
-    let ended = step_files_engine(
-        rt.alloc(),
-        &mut first,
-        &mut second,
-        &mut writer,
-        hints,
-        schedule,
-    );
-    match (&ended, first.reason()) {
-        (Err(EngineFault::Read), None) => explain_failure(hints, schedule, second.reason()),
-        (Err(EngineFault::Read), reason) => explain_failure(hints, scenario, reason),
-        (Err(EngineFault::Write), _) => {
-            explain_failure(hints, "standard output", writer.reason())
-        }
-        _ => {}
-    }
-    ended
+    let alloc = rt.alloc();
+    let ended = step_files_engine(alloc, &mut first, &mut second, &mut writer, hints, schedule);
+    let input = failed_of((scenario, first.reason()), (schedule, second.reason()));
+    answer_with(hints, ended, input, writer.reason())
 }
 
 /// Runs the scenario in the file on so many threads, and answers on standard output.
@@ -237,21 +219,9 @@ fn run_threads<R: AllocGlobal + Files + Print + Threads + Wait + Sync>(
 {
     let mut reader = Told::new(open(rt, hints, scenario)?);
     let mut writer = Told::new(io::writer(rt));
-    let ended = run_engine(
-        rt,
-        rt.alloc(),
-        &mut reader,
-        &mut writer,
-        hints,
-        workers,
-        limit,
-    );
-    match &ended {
-        Err(EngineFault::Read) => explain_failure(hints, scenario, reader.reason()),
-        Err(EngineFault::Write) => explain_failure(hints, "standard output", writer.reason()),
-        _ => {}
-    }
-    ended
+    let alloc = rt.alloc();
+    let ended = run_engine(rt, alloc, &mut reader, &mut writer, hints, workers, limit);
+    answer_with(hints, ended, (scenario, reader.reason()), writer.reason())
 }
 
 /// Replays the trace in one file from the scenario in the other, and answers on standard output.
@@ -265,15 +235,32 @@ fn replay<R: AllocGlobal + Files + Print>(
     let mut second = Told::new(open(rt, hints, trace)?);
     let mut writer = Told::new(io::writer(rt));
     let ended = replay_engine(rt.alloc(), &mut first, &mut second, &mut writer, hints);
-    match (&ended, first.reason()) {
-        (Err(EngineFault::Read), None) => explain_failure(hints, trace, second.reason()),
-        (Err(EngineFault::Read), reason) => explain_failure(hints, scenario, reason),
-        (Err(EngineFault::Write), _) => {
-            explain_failure(hints, "standard output", writer.reason())
-        }
+    let input = failed_of((scenario, first.reason()), (trace, second.reason()));
+    answer_with(hints, ended, input, writer.reason())
+}
+
+/// Says at which input or output the answer failed, if it did: at the input of this name, or at standard
+/// output.
+fn answer_with(
+    hints: &mut String,
+    ended: Result<Verdict, EngineFault>,
+    input: (&str, Option<io::Error>),
+    output: Option<io::Error>,
+) -> Result<Verdict, EngineFault> {
+    match &ended {
+        Err(EngineFault::Read) => explain_failure(hints, input.0, input.1),
+        Err(EngineFault::Write) => explain_failure(hints, "standard output", output),
         _ => {}
     }
     ended
+}
+
+/// Of two inputs the one that failed: the first, if it says why.
+fn failed_of<'a>(
+    first: (&'a str, Option<io::Error>),
+    second: (&'a str, Option<io::Error>),
+) -> (&'a str, Option<io::Error>) {
+    if first.1.is_some() { first } else { second }
 }
 
 /// Opens the file to be read.

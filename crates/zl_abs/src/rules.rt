@@ -52,23 +52,11 @@ fn edge_of(state: &AbsState, step: &Option<Step>) -> Option<Edge>
     })
 }
 
-/// Where the instruction may jump.
-#[tactic(auto, unfolding(zl_code::specs::Spells::local_parts))]
+/// Where the instruction may jump, 0 where it doesn't jump.
 fn target_of(local: &LocalInstr) -> u32
     ensures { result ≡ target_of local.now }
 {
-    match local {
-        LocalInstr::Jump { target } => *target,
-        LocalInstr::JumpZero { target, .. } => *target,
-        LocalInstr::JumpNotZero { target, .. } => *target,
-        LocalInstr::JumpEqual { target, .. } => *target,
-        LocalInstr::JumpNotEqual { target, .. } => *target,
-        LocalInstr::JumpBelow { target, .. } => *target,
-        LocalInstr::JumpNotBelow { target, .. } => *target,
-        LocalInstr::JumpHas { target, .. } => *target,
-        LocalInstr::JumpHasNot { target, .. } => *target,
-        _ => 0,
-    }
+    local.target().unwrap_or(0)
 }
 
 /// The edges that are followed from the call, which is the instruction of this number, or why its

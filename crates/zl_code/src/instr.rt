@@ -1,5 +1,6 @@
-ghost use Rattle.std.specs.Prelude.{◌≡◌, slice_get};
-ghost use Rattle.zl_code.specs.Spells.{number_at, register_in};
+ghost use Rattle.std.specs.Prelude.{◌≡◌, IfSome, IfNone, slice_get};
+ghost use Rattle.zl_code.specs.Jumps.{jump};
+ghost use Rattle.zl_code.specs.Spells.{local_parts, number_at, register_in};
 
 use crate::history::CallName;
 use crate::instr_bytes::{InstrBytes, imm_in};
@@ -168,6 +169,29 @@ pub enum LocalInstr {
         bits: u32,
         target: u32,
     },
+}
+
+impl LocalInstr {
+    /// Where it jumps, if it is a jump.
+    #[tactic(auto, unfolding(crate::specs::Spells::local_parts))]
+    pub fn target(&self) -> Option<u32>
+        ensures jump { result ≡ jump self.now }
+        ensures some { IfSome result (λ target. (local_parts self.now).target ≡ target) }
+        ensures none { IfNone result ((local_parts self.now).target ≡ 0) }
+    {
+        match self {
+            LocalInstr::Jump { target } => Some(*target),
+            LocalInstr::JumpZero { target, .. } => Some(*target),
+            LocalInstr::JumpNotZero { target, .. } => Some(*target),
+            LocalInstr::JumpEqual { target, .. } => Some(*target),
+            LocalInstr::JumpNotEqual { target, .. } => Some(*target),
+            LocalInstr::JumpBelow { target, .. } => Some(*target),
+            LocalInstr::JumpNotBelow { target, .. } => Some(*target),
+            LocalInstr::JumpHas { target, .. } => Some(*target),
+            LocalInstr::JumpHasNot { target, .. } => Some(*target),
+            _ => None,
+        }
+    }
 }
 
 /// A system call with its registers. Its row says what it does with them, and what stands in the

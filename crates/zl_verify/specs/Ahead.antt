@@ -2,8 +2,8 @@
 use Rattle.std.specs.Prelude.{ℕ, ◌≡◌, ◌+◌, ◌<◌, List, ◌++◌, length, Option, Some, None, nat_lt, if◌then◌else◌}
 use Rattle.std.specs.Option.{option_to_list}
 use Rattle.zl_code.specs.declared.instr.LocalInstr.{LocalInstr}
-use Rattle.zl_code.specs.declared.instr.LocalInstr.TheVariants as local
 use Rattle.zl_code.specs.Image.{Image, local_at, call_at}
+use Rattle.zl_code.specs.Jumps.{jump}
 use Rattle.zl_abs.specs.States.{State}
 use Rattle.zl_verify.specs.Lists.{at}
 use Rattle.zl_verify.specs.Numbers.{places_at}
@@ -13,16 +13,8 @@ use Rattle.zl_verify.specs.Steps.{is_pause, IsStepBound}
 
 -- where the instruction jumps, if it is a jump
 abbrev pub jump_in : Option LocalInstr → Option ℕ
-jump_in (Some (local.Jump target)) = Some target
-jump_in (Some (local.JumpZero a target)) = Some target
-jump_in (Some (local.JumpNotZero a target)) = Some target
-jump_in (Some (local.JumpEqual a imm target)) = Some target
-jump_in (Some (local.JumpNotEqual a imm target)) = Some target
-jump_in (Some (local.JumpBelow a imm target)) = Some target
-jump_in (Some (local.JumpNotBelow a imm target)) = Some target
-jump_in (Some (local.JumpHas a imm target)) = Some target
-jump_in (Some (local.JumpHasNot a imm target)) = Some target
-jump_in _ = None
+jump_in None = None
+jump_in (Some x) = jump x
 
 -- the place, if code of this length has it
 abbrev pub place_within : ℕ → Option ℕ → Option ℕ

@@ -9,32 +9,14 @@ ghost use Rattle.zl_verify.specs.Numbers.{places};
 use crate::steps::{Targets, first_over, numbers};
 use crate::targets::is_pause;
 use std::alloc::{AllocError, Global};
-use zl_code::{Image, LocalInstr};
-
-/// Where the local instruction jumps, if it is a jump.
-fn target_in(local: &LocalInstr) -> Option<usize>
-    ensures { result ≡ jump_in (Some local.now) }
-{
-    match local {
-        LocalInstr::Jump { target } => Some(*target as usize),
-        LocalInstr::JumpZero { target, .. } => Some(*target as usize),
-        LocalInstr::JumpNotZero { target, .. } => Some(*target as usize),
-        LocalInstr::JumpEqual { target, .. } => Some(*target as usize),
-        LocalInstr::JumpNotEqual { target, .. } => Some(*target as usize),
-        LocalInstr::JumpBelow { target, .. } => Some(*target as usize),
-        LocalInstr::JumpNotBelow { target, .. } => Some(*target as usize),
-        LocalInstr::JumpHas { target, .. } => Some(*target as usize),
-        LocalInstr::JumpHasNot { target, .. } => Some(*target as usize),
-        _ => None,
-    }
-}
+use zl_code::Image;
 
 /// Where the instruction of this number jumps, if it is a jump.
 fn jump_at(image: &Image, place: usize) -> Option<usize>
     ensures { result ≡ jump_in (local_at image.now place) }
 {
-    match image.local_at(place) {
-        Some(local) => target_in(&local),
+    match image.local_at(place)?.target() {
+        Some(target) => Some(target as usize),
         None => None,
     }
 }

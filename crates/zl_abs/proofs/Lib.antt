@@ -9,6 +9,7 @@ pub mod CallSteps
 pub mod ListSteps
 pub mod WrittenSteps
 pub mod CallByRow
+pub mod GivenValues
 pub mod Order
 pub mod StateOrder
 pub mod Lowering

@@ -17,7 +17,7 @@ use crate::state::AbsState;
 use crate::value::AbsVal;
 use bitflags::Flags;
 use std::marker::Model;
-use zl_code::{CallInstr, CallName, Field, HandleList, InstrBytes, Register};
+use zl_code::{CallInstr, Field, Gives, HandleList, InstrBytes, Register};
 use zl_rights::{Kind, Rights};
 
 /// What a status register gets: the largest magnitude of a status is 30.
@@ -96,26 +96,14 @@ pub(crate) fn values_of(
         ≡ zip (those is_written (call_row instr.now.name).fields 0 instr.now.registers)
         (Word 30 ∷ values_of (bounds_in bounds.entry) state.now instr.now) }
 {
-    match instr.name {
-        CallName::Dup | CallName::Replace => status_and(narrowed(
-            state.get(instr.registers[1]),
-            instr.number(),
-        )),
-        CallName::ChanCreate => status_and(new(Kind::Channel)),
-        CallName::ChanReadEtc => message(),
-        CallName::EventCreate => status_and(new(Kind::Event)),
-        CallName::WaitOne | CallName::WaitPoll => status_and(AbsVal::Word(0xffff_ffff)),
-        CallName::PortCreate => status_and(new(Kind::Port)),
-        CallName::PortWait | CallName::PortPoll => packet(bounds),
-        CallName::ProcessCreate => status_and(new(Kind::Process)),
-        CallName::JobCreate => status_and(new(Kind::Job)),
-        CallName::Close | CallName::ChanWrite => status_and(STATUS),
-        CallName::Signal | CallName::SignalPeer => status_and(STATUS),
-        CallName::WaitAsync | CallName::PortQueue => status_and(STATUS),
-        CallName::PortCancel | CallName::ProcessStart => status_and(STATUS),
-        CallName::ProcessExit | CallName::TaskKill => status_and(STATUS),
-        CallName::JobSetPolicy => status_and(STATUS),
-        CallName::EventpairCreate => status_and(new(Kind::Eventpair)),
+    let columns = instr.name.row().columns;
+    match columns.gives {
+        Gives::Status => status_and(STATUS),
+        Gives::Makes(kind) => status_and(new(kind)),
+        Gives::Copies => status_and(narrowed(state.get(instr.registers[1]), instr.number())),
+        Gives::Sizes => message(),
+        Gives::Signals => status_and(AbsVal::Word(0xffff_ffff)),
+        Gives::Packet => packet(bounds),
     }
 }
 

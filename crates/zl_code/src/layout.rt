@@ -50,6 +50,23 @@ pub enum Field {
     Triples,
 }
 
+/// What an answer gives behind the status, or all that it gives. Own profile.
+#[derive(Clone, Copy)]
+pub enum Gives {
+    /// No value.
+    Status,
+    /// A handle to a new object of this kind, or to each end of a new pair.
+    Makes(Kind),
+    /// A handle made from that of the second register.
+    Copies,
+    /// How many bytes and handles a message has.
+    Sizes,
+    /// Active signals.
+    Signals,
+    /// A packet.
+    Packet,
+}
+
 /// What an instruction does with its registers and with its last eight bytes. Own profile.
 #[derive(Clone, Copy)]
 pub struct Columns {
@@ -57,6 +74,8 @@ pub struct Columns {
     pub fields: &'static [Field],
     /// What stands in the last eight bytes.
     pub ending: Ending,
+    /// What an answer gives behind the status, if it is a call.
+    pub gives: Gives,
     /// The condition of making an object, which a policy may deny.
     pub condition: Option<Condition>,
     /// Whether memory may be refused to it.

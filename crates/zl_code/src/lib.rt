@@ -12,7 +12,6 @@
 mod boot;
 pub mod boot_laws;
 mod building;
-mod columns;
 mod comparing;
 mod declarations;
 mod decoding;
@@ -36,5 +35,5 @@ pub use history::{CallName, Outcome, ProcState, TraceItem, are_same_items};
 pub use image::{DecodeFault, Image, SlotArray, Start};
 pub use instr::{CallInstr, HandleList, Instr, LocalInstr};
 pub use instr_bytes::InstrBytes;
-pub use layout::{Columns, Ending, Field, Kinds, Row};
+pub use layout::{Columns, Ending, Field, Gives, Kinds, Row};
 pub use register::Register;

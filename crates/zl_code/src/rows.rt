@@ -2,19 +2,162 @@
 
 ghost use Rattle.std.specs.Prelude.{◌≡◌, ◌≢◌, ◌<◌, ◌≤◌, None, Some, IfSome, IfNone, IsTrue, ◌↔◌, length};
 ghost use Rattle.std.specs.Option.{option_map};
+ghost use Rattle.zl_code.specs.Given.{given};
 ghost use Rattle.zl_code.specs.Limits.{first_call, most_registers};
 ghost use Rattle.zl_code.specs.declared.history.CallName.{CallName as CallValue};
 ghost use Rattle.zl_code.specs.Instructions.{call_name, call_row, calls, layout as layout_with, layout_of, row_of, row_named, row_value};
 
-use crate::columns;
 use crate::history::CallName;
-use crate::layout::Row;
+use crate::layout::Gives::{Copies, Makes, Packet, Signals, Sizes, Status};
+use crate::layout::Kinds::{Any, Ends, Only, Tasks};
+use crate::layout::{Columns, Ending, Field, Row};
+use zl_rights::Condition::{NewChannel, NewEvent, NewEventpair, NewPort, NewProcess};
+use zl_rights::Kind::{Channel, Event, Eventpair, Job, Port, Process};
+use zl_rights::Rights;
 
 /// The least opcode of a system call.
 pub(crate) const FIRST_CALL: u8 = 64;
 
 /// All known opcodes are below.
 const OPCODE_END: u8 = 88;
+
+// Each local instruction once: its opcode and name, what it does with its registers, and what stands in
+// its last eight bytes.
+macro_rules! locals {
+    ($use:ident $($opcode:ident)?) => {
+        $use! {
+            $($opcode)?
+            1 "const" [Writes] Number;
+            2 "mov" [Writes Reads] Nothing;
+            3 "add" [Writes Reads Reads] Nothing;
+            4 "addi" [Writes Reads] Number;
+            5 "sub" [Writes Reads Reads] Nothing;
+            6 "and" [Writes Reads Reads] Nothing;
+            7 "or" [Writes Reads Reads] Nothing;
+            8 "xor" [Writes Reads Reads] Nothing;
+            9 "shl" [Writes Reads] Number;
+            10 "shr" [Writes Reads] Number;
+            11 "take" [Writes Changes] Nothing;
+            12 "swap" [Changes Reads] Number;
+            13 "ld8" [Writes Reads] Number;
+            14 "ld64" [Writes Reads] Number;
+            15 "st8" [Reads Reads] Number;
+            16 "st64" [Reads Reads] Number;
+            17 "jmp" [] Target;
+            18 "jz" [Reads] Target;
+            19 "jnz" [Reads] Target;
+            20 "jeq" [Reads] Both;
+            21 "jne" [Reads] Both;
+            22 "jlt" [Reads] Both;
+            23 "jge" [Reads] Both;
+            24 "jhas" [Reads] Both;
+            25 "jnhas" [Reads] Both;
+        }
+    };
+}
+
+// Each system call once: its variant, opcode and name, what it does with its registers, what stands in its
+// last eight bytes, what an answer gives, the condition of making an object, whether it may want memory,
+// and what it does with each register of a list.
+macro_rules! calls {
+    ($use:ident $($name:ident)?) => {
+        $use! {
+            $($name)?
+            Close 64 "close" [Writes Closes] Nothing, Status, None, false, None;
+            Dup 65 "dup" [Writes Names(Any, Rights::DUPLICATE) Writes] Number, Copies, None, true, None;
+            Replace 66 "replace" [Writes Consumes(Any, Rights::NONE) Writes] Number, Copies, None, false, None;
+            ChanCreate 67 "chan_create" [Writes Writes Writes] Nothing, Makes(Channel), Some(NewChannel), true, None;
+            ChanWrite 68 "chan_write" [Writes Names(Only(Channel), Rights::WRITE) Reads Reads]
+                Handles, Status, None, true, Some(Field::Consumes(Any, Rights::TRANSFER));
+            ChanReadEtc 69 "chan_read_etc" [Writes Names(Only(Channel), Rights::READ) Reads Reads Writes Writes Triples]
+                Room, Sizes, None, true, None;
+            EventCreate 70 "event_create" [Writes Writes] Nothing, Makes(Event), Some(NewEvent), true, None;
+            Signal 71 "signal" [Writes Names(Any, Rights::SIGNAL) Reads Reads] Nothing, Status, None, false, None;
+            SignalPeer 72 "signal_peer" [Writes Names(Ends, Rights::SIGNAL_PEER) Reads Reads] Nothing, Status, None, false, None;
+            WaitOne 73 "wait_one" [Writes Names(Any, Rights::WAIT) Reads Writes] Nothing, Signals, None, false, None;
+            WaitPoll 74 "wait_poll" [Writes Names(Any, Rights::WAIT) Reads Writes] Nothing, Signals, None, false, None;
+            WaitAsync 75 "wait_async" [Writes Names(Any, Rights::WAIT) Names(Only(Port), Rights::WRITE) Reads Reads]
+                Nothing, Status, None, true, None;
+            PortCreate 76 "port_create" [Writes Writes] Nothing, Makes(Port), Some(NewPort), true, None;
+            PortQueue 77 "port_queue" [Writes Names(Only(Port), Rights::WRITE) Reads Reads] Nothing, Status, None, true, None;
+            PortWait 78 "port_wait" [Writes Names(Only(Port), Rights::READ) Writes Writes Writes Writes]
+                Nothing, Packet, None, false, None;
+            PortPoll 79 "port_poll" [Writes Names(Only(Port), Rights::READ) Writes Writes Writes Writes]
+                Nothing, Packet, None, false, None;
+            PortCancel 80 "port_cancel" [Writes Names(Only(Port), Rights::WRITE) Names(Any, Rights::NONE) Reads]
+                Nothing, Status, None, false, None;
+            ProcessCreate 81 "process_create" [Writes Names(Only(Job), Rights::MANAGE_PROCESS) Reads Writes]
+                Nothing, Makes(Process), Some(NewProcess), true, None;
+            ProcessStart 82 "process_start" [Writes Names(Only(Process), Rights::WRITE) Consumes(Any, Rights::TRANSFER) Reads]
+                Nothing, Status, None, true, None;
+            ProcessExit 83 "process_exit" [Reads] Nothing, Status, None, false, None;
+            TaskKill 84 "task_kill" [Writes Names(Tasks, Rights::DESTROY)] Nothing, Status, None, false, None;
+            JobCreate 85 "job_create" [Writes Names(Only(Job), Rights::MANAGE_JOB) Writes] Nothing, Makes(Job), None, true, None;
+            JobSetPolicy 86 "job_set_policy" [Writes Names(Only(Job), Rights::SET_POLICY) Reads Reads Reads]
+                Nothing, Status, None, false, None;
+            EventpairCreate 87 "eventpair_create" [Writes Writes Writes]
+                Nothing, Makes(Eventpair), Some(NewEventpair), true, None;
+        }
+    };
+}
+
+macro_rules! row {
+    ($opcode:literal $name:literal [$($field:ident $(($($of:expr),+))?)*]
+        $ending:ident, $gives:expr, $condition:expr, $grows:literal, $in_list:expr) => {
+        Row {
+            opcode: $opcode,
+            name: $name,
+            columns: &Columns {
+                fields: &[$(Field::$field $(($($of),+))?),*],
+                ending: Ending::$ending,
+                gives: $gives,
+                condition: $condition,
+                grows: $grows,
+                in_list: $in_list,
+            },
+        }
+    };
+}
+
+macro_rules! local_rows {
+    ($($opcode:literal $name:literal [$($field:ident)*] $ending:ident;)*) => {
+        &[$(row!($opcode $name [$($field)*] $ending, Status, None, false, None)),*]
+    };
+}
+
+macro_rules! local_row {
+    ($chosen:ident $($opcode:literal $name:literal [$($field:ident)*] $ending:ident;)*) => {
+        match $chosen {
+            $($opcode => Some(LOCAL_ROWS[$opcode - 1]),)*
+            _ => None,
+        }
+    };
+}
+
+macro_rules! call_rows {
+    ($($call:ident $opcode:literal $name:literal [$($field:ident $(($($of:expr),+))?)*]
+        $ending:ident, $gives:expr, $condition:expr, $grows:literal, $in_list:expr;)*) => {
+        &[$(row!($opcode $name [$($field $(($($of),+))?)*] $ending, $gives, $condition, $grows, $in_list)),*]
+    };
+}
+
+macro_rules! call_row {
+    ($chosen:ident $($call:ident $opcode:literal $name:literal [$($field:ident $(($($of:expr),+))?)*]
+        $ending:ident, $gives:expr, $condition:expr, $grows:literal, $in_list:expr;)*) => {
+        match $chosen { $(CallName::$call => CALL_ROWS[$opcode - 64],)* }
+    };
+}
+
+macro_rules! call_names {
+    ($($call:ident $opcode:literal $name:literal [$($field:ident $(($($of:expr),+))?)*]
+        $ending:ident, $gives:expr, $condition:expr, $grows:literal, $in_list:expr;)*) => {
+        &[$(CallName::$call),*]
+    };
+}
+
+const LOCAL_ROWS: &'static [Row] = locals!(local_rows);
+
+const CALL_ROWS: &'static [Row] = calls!(call_rows);
 
 /// The row of an opcode below 64, if it is known.
 #[tactic(auto, unfolding(crate::specs::Instructions::row_of))]
@@ -24,39 +167,7 @@ fn local_row(opcode: u8) -> Option<Row>
     ensures registers { IfSome result (λ row.
         length row.columns.now.fields.now ≤ most_registers) }
 {
-    let (name, columns) = match opcode {
-        1 => ("const", columns::CONST),
-        2 => ("mov", columns::MOV),
-        3 => ("add", columns::ADD),
-        4 => ("addi", columns::ADDI),
-        5 => ("sub", columns::ADD),
-        6 => ("and", columns::ADD),
-        7 => ("or", columns::ADD),
-        8 => ("xor", columns::ADD),
-        9 => ("shl", columns::ADDI),
-        10 => ("shr", columns::ADDI),
-        11 => ("take", columns::TAKE),
-        12 => ("swap", columns::SWAP),
-        13 => ("ld8", columns::ADDI),
-        14 => ("ld64", columns::ADDI),
-        15 => ("st8", columns::ST8),
-        16 => ("st64", columns::ST8),
-        17 => ("jmp", columns::JMP),
-        18 => ("jz", columns::JZ),
-        19 => ("jnz", columns::JZ),
-        20 => ("jeq", columns::JEQ),
-        21 => ("jne", columns::JEQ),
-        22 => ("jlt", columns::JEQ),
-        23 => ("jge", columns::JEQ),
-        24 => ("jhas", columns::JEQ),
-        25 => ("jnhas", columns::JEQ),
-        _ => return None,
-    };
-    Some(Row {
-        opcode,
-        name,
-        columns,
-    })
+    locals!(local_row opcode)
 }
 
 impl CallName {
@@ -64,70 +175,17 @@ impl CallName {
     pub fn all() -> &'static [CallName]
         ensures { result.now ≡ calls }
     {
-        &[
-            CallName::Close,
-            CallName::Dup,
-            CallName::Replace,
-            CallName::ChanCreate,
-            CallName::ChanWrite,
-            CallName::ChanReadEtc,
-            CallName::EventCreate,
-            CallName::Signal,
-            CallName::SignalPeer,
-            CallName::WaitOne,
-            CallName::WaitPoll,
-            CallName::WaitAsync,
-            CallName::PortCreate,
-            CallName::PortQueue,
-            CallName::PortWait,
-            CallName::PortPoll,
-            CallName::PortCancel,
-            CallName::ProcessCreate,
-            CallName::ProcessStart,
-            CallName::ProcessExit,
-            CallName::TaskKill,
-            CallName::JobCreate,
-            CallName::JobSetPolicy,
-            CallName::EventpairCreate,
-        ]
+        calls!(call_names)
     }
 
     /// The row of the call.
     pub fn row(self) -> Row
         ensures row { row_value result ≡ call_row self }
+        ensures gives { result.columns.now.gives ≡ given self }
         ensures registers { length result.columns.now.fields.now ≤ most_registers }
     {
-        let (opcode, name, columns) = match self {
-            CallName::Close => (64, "close", columns::CLOSE),
-            CallName::Dup => (65, "dup", columns::DUP),
-            CallName::Replace => (66, "replace", columns::REPLACE),
-            CallName::ChanCreate => (67, "chan_create", columns::CHAN_CREATE),
-            CallName::ChanWrite => (68, "chan_write", columns::CHAN_WRITE),
-            CallName::ChanReadEtc => (69, "chan_read_etc", columns::CHAN_READ_ETC),
-            CallName::EventCreate => (70, "event_create", columns::EVENT_CREATE),
-            CallName::Signal => (71, "signal", columns::SIGNAL),
-            CallName::SignalPeer => (72, "signal_peer", columns::SIGNAL_PEER),
-            CallName::WaitOne => (73, "wait_one", columns::WAIT_ONE),
-            CallName::WaitPoll => (74, "wait_poll", columns::WAIT_POLL),
-            CallName::WaitAsync => (75, "wait_async", columns::WAIT_ASYNC),
-            CallName::PortCreate => (76, "port_create", columns::PORT_CREATE),
-            CallName::PortQueue => (77, "port_queue", columns::PORT_QUEUE),
-            CallName::PortWait => (78, "port_wait", columns::PORT_WAIT),
-            CallName::PortPoll => (79, "port_poll", columns::PORT_POLL),
-            CallName::PortCancel => (80, "port_cancel", columns::PORT_CANCEL),
-            CallName::ProcessCreate => (81, "process_create", columns::PROCESS_CREATE),
-            CallName::ProcessStart => (82, "process_start", columns::PROCESS_START),
-            CallName::ProcessExit => (83, "process_exit", columns::PROCESS_EXIT),
-            CallName::TaskKill => (84, "task_kill", columns::TASK_KILL),
-            CallName::JobCreate => (85, "job_create", columns::JOB_CREATE),
-            CallName::JobSetPolicy => (86, "job_set_policy", columns::JOB_SET_POLICY),
-            CallName::EventpairCreate => (87, "eventpair_create", columns::EVENTPAIR_CREATE),
-        };
-        Row {
-            opcode,
-            name,
-            columns,
-        }
+        let call = self;
+        calls!(call_row call)
     }
 
     /// The call with this opcode, from 64 on; nothing where it is unknown.

@@ -1,11 +1,14 @@
 """Wrong bodies, as the tables in edits/ have them, and in the form of the toolchain.
 
-A table is the file edits/CRATE/FUNCTION.edits. It names the function, the file in which that stands and,
-where the contract is one clause without a name, what this says, in words. Then come the wrong bodies: the
-name of each says what is wrong, its lines with - the old text, and those with + what stands there instead.
+A table is of one file of code, which its first line names, and is called as the file is: that of src/calls/job.rt
+in zl_calls is edits/zl_calls/calls/job.edits. Each of its parts is of a function of the file, in their order there.
+A part names the function and, where the contract is one clause without a name, says this in words. Then come the
+wrong bodies: the name of each says what is wrong, its lines with - the old text, and those with + what stands there
+instead.
+
+    file: src/job.rt
 
     function: job::Job::below
-    file: src/job.rt
     clause: a new job in this one, whose koid is given
 
     job_is_made_at_depth_17
@@ -17,11 +20,11 @@ no name. The old text stands once in its file: a part of a line, or several line
 with - and + apply to what those before them made. A line `file: ..` below a name is of this body alone. Empty
 lines mean nothing, nor do those that begin with #.
 
-What changes a definition stands with the law that refuses it, or in a table edits/CRATE/FILE.edits that names
-no function, but a file of definitions.
+What changes a definition stands with the law that refuses it, or in a table edits/CRATE/specs/FILE.edits, which
+names no function, but a file of definitions.
 
 A clause that no wrong body can break stands above them with why, as `untried: table, the type has it`. One
-without a name is called `its clause`. A table may have nothing else.
+without a name is called `its clause`. A part may have nothing else.
 
 The toolchain reads a file for each, in which each text is one line:
 
@@ -52,7 +55,7 @@ class Untried:
         self.clause, _, self.why = value.partition(", ")
 
     def __str__(self):
-        return f"edits/{self.path.parent.name}/{self.path.name}"
+        return f"{self.path.relative_to(TOP)}, {self.function}"
 
 
 class Edit:
@@ -67,9 +70,11 @@ class Edit:
         return f"{self.crate}/{self.name}"
 
     def is_called(self, word):
-        """Whether the word names it: its crate, or behind that and a / its own name or that of its table."""
+        """Whether the word names it: its crate, or behind that and a / its own name or its function's, as Type.name."""
         pattern = word if "/" in word else word + "/*"
-        return any(fnmatch(f"{self.crate}/{name}", pattern) for name in [self.name, self.path.stem])
+        parts = (self.function or self.path.stem).split("::")
+        function = ".".join(parts[-1 - word.count("."):])
+        return any(fnmatch(f"{self.crate}/{name}", pattern) for name in [self.name, function])
 
     def is_long(self):
         """Whether one of its texts has several lines, which the toolchain's form can't have."""
@@ -87,30 +92,50 @@ class Edit:
         return text
 
 
-def in_table(path):
-    """The edits of a table, and the clauses that none can break."""
-    head, edits, untried, at = {}, [], [], 0
+def table_of(crate, file):
+    """The path of the table of a file of code, or of definitions."""
+    return (TOP / "edits" / crate / file.removeprefix("src/")).with_suffix(".edits")
+
+
+def can_stand(part, head, is_of_edit):
+    """Whether the part can stand there, by what is above it: this head, and the lines of an edit or none."""
+    if part["key"] == "function":
+        return "file" in head
+    if part["key"] == "file":
+        return is_of_edit or "function" not in head
+    if part["key"]:
+        return "function" in head and not is_of_edit
+    return is_of_edit or part["name"]
+
+
+def in_table(path, crate="tests"):
+    """The edits of a table of the crate, and the clauses that none can break."""
+    head, edits, untried, is_of_edit, at = {}, [], [], False, 0
+    where = str(path.relative_to(TOP))
     lines = [line for line in path.read_text(encoding="utf-8").split("\n") if line.strip() and not line.startswith("#")]
     text = "".join(f"{line}\n" for line in lines)
     while at < len(text):
         part = PART.match(text, at)
-        where = str(path.relative_to(TOP))
-        if not part or part["old"] and not edits or part["key"] and edits and part["key"] != "file":
+        if not part or not can_stand(part, head, is_of_edit):
             line, *_ = text[at:].split("\n")
             raise Unreadable(f"{where}: this can't stand here: {line}")
         if part["old"]:
             edits[-1].pairs.append((text_of(part["old"], where), text_of(part["new"], where)))
-        elif part["key"] and edits:
-            edits[-1].file = part["value"]
+        elif part["key"] == "function":
+            head, is_of_edit = {"file": head["file"], "function": part["value"]}, False
         elif part["key"] == "untried":
-            untried.append(Untried(path, head.get("function", ""), part["value"]))
+            untried.append(Untried(path, head["function"], part["value"]))
+        elif part["key"] and is_of_edit:
+            edits[-1].file = part["value"]
         elif part["key"]:
             head[part["key"]] = part["value"]
         else:
-            edits.append(Edit(path.parent.name, path, part["name"], **head))
+            edits.append(Edit(crate, path, part["name"], **head))
             edits[-1].clause = part["clause"] or edits[-1].clause
-            edits[-1].is_of_head = not part["clause"]
+            edits[-1].is_of_head, is_of_edit = not part["clause"], True
         at = part.end()
+    if "file" in head and path != table_of(crate, head["file"]):
+        raise Unreadable(f"{where}: it isn't called as its file is, {head['file']}")
     return edits, untried
 
 
@@ -134,11 +159,11 @@ def in_file(path, crate):
 
 def tables_of(crate):
     """What each table of the crate has."""
-    files = sorted((TOP / "edits" / crate).glob("*"))
+    files = sorted(path for path in (TOP / "edits" / crate).rglob("*") if path.is_file())
     for file in files:
         if file.suffix != ".edits":
-            raise Unreadable(f"edits/{crate}/{file.name} is no table")
-    return [in_table(file) for file in files]
+            raise Unreadable(f"{file.relative_to(TOP)} is no table")
+    return [in_table(file, crate) for file in files]
 
 
 def edits_of(crate):

@@ -3,7 +3,7 @@ use Rattle.std.proofs.Common.{◌≡◌, ℕ, Bool, true, false, not, ◌&&◌, 
 use Rattle.std.specs.Prelude.{nat_lt}
 use Rattle.std.specs.List.{list_any, filter}
 use Rattle.std.proofs.lemmas.Bool.{cases_Bool, and_right, or_parts, or_cases, or_left, or_right, false≢true, eqb-true}
-use Rattle.std.proofs.lemmas.Option.{same_Some}
+use Rattle.std.proofs.lemmas.Option.{none-some, same_Some}
 use Rattle.zl_rights.specs.Map.{Map, get, put, each}
 use Rattle.zl_rights.specs.Settled.{among}
 
@@ -54,6 +54,16 @@ module _ {X : Type 0} where
           | false ↦ ap (λ b. test (j, x) || b) (list_any-put test m k old new (rw apart at there) o n)
         ])
       ]
+
+-- ---- where an entry passes
+
+pub any_at : {X : Type 0} (test : ℕ × X → Bool) (m : Map X) (k : ℕ) (v : X) → get m k ≡ Some v → IsTrue (test (k, v)) → IsTrue (list_any test m)
+unfolding get
+any_at test [] k v at passes = absurd (none-some v at)
+any_at test (e ∷ m) k v at passes = elim (cases_Bool (e.0 == k)) as (λ _. IsTrue (test e || list_any test m)) [
+  | inl here ↦ or_left (test e) _ ((λ i. test (eqb-true e.0 k here i, same_Some e.1 v (rw here at at) i)) ∙ passes)
+  | inr apart ↦ or_right (test e) _ (any_at test m k v (rw apart at at) passes)
+]
 
 -- ---- the list without p
 

@@ -29,7 +29,7 @@ implied-same u v alike k (PortBody packets) = refl
 implied-same u v alike k (JobBody parent depth policy killed) = rw (alike.jobs k, alike.processes k)
 implied-same u v alike k (ProcessBody job) = rw (alike.ended k)
 
-active_of-same : (u v : World) → IsAlike u v → (k : ℕ) (o : Option Object) → active_of v k o ≡ active_of u k o
+pub active_of-same : (u v : World) → IsAlike u v → (k : ℕ) (o : Option Object) → active_of v k o ≡ active_of u k o
 active_of-same u v alike k None = refl
 active_of-same u v alike k (Some o) = ap (bit_or o.raised) (implied-same u v alike k o.body)
 

@@ -183,7 +183,7 @@ no_packets (PortBody packets) = ap PortBody (append-nil packets)
 no_packets _ = refl
 
 -- where no wait holds, none gives a packet and none goes
-fired-same : (w : World) → list_any (holds w) w.waits ≡ false → fired w ≡ w
+pub fired-same : (w : World) → list_any (holds w) w.waits ≡ false → fired w ≡ w
 unfolding fired
 fired-same w none = λ i. record w { objects = each_same _ unchanged w.objects i; waits = filter_all (holds w) w.waits none i }
   where

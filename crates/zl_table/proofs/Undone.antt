@@ -2,17 +2,12 @@
 use Rattle.zl_rights.proofs.Common.{◌≡◌, ℕ, [], ◌∷◌, refl, sym, ◌∙◌, Option, Some, None, arith, nat_tests, Map, get, put, without}
 use Rattle.std.proofs.lemmas.Bool.{eq-eqb}
 use Rattle.zl_rights.specs.declared.entry.Entry.{Entry}
+use Rattle.zl_rights.proofs.MapEdits.{without_missing}
 use Rattle.zl_rights.proofs.MapLaws.{get-put}
 use Rattle.zl_rights.proofs.Values.{taken_given}
 use Rattle.zl_table.specs.Table.{Handles, Removes, TakesBack}
 
 module _ {X : Type 0} where
-  -- without a key that isn't there a map is the same
-  without_missing : (m : Map X) (k : ℕ) → get m k ≡ None → without m k ≡ m
-  unfolding get without
-  without_missing [] k none = refl
-  without_missing (e ∷ m) k none = grind (arith, nat_tests, without_missing m k)
-
   -- without what was put at a key that wasn't there the map is the one before
   without_put : (m : Map X) (k : ℕ) (v : X) → get m k ≡ None → without (put m k v) k ≡ m
   unfolding get put without

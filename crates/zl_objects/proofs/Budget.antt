@@ -48,11 +48,8 @@ few_keepers (Some j) = omega arith
 
 -- ---- one handle less
 
-same_body : (o : Object) → (held_once_less o).body ≡ o.body
-same_body o = refl
-
-lower : (k : ℕ) (o : Object) → cond (is_named (k, held_once_less o)) 1 0 ≤ cond (is_named (k, o)) 1 0
-lower k o = grind (arith, nat_tests)
+pub less_named : (k : ℕ) (o : Object) → cond (is_named (k, held_once_less o)) 1 0 ≤ cond (is_named (k, o)) 1 0
+less_named k o = grind (arith, nat_tests)
 
 fewer_named : (m : Map Object) (k : ℕ) → IsTrue (is_last (get m k)) → count_by is_named m ≡ count_by is_named (update m k held_once_less) + 1
 fewer_named m k last = by_object (get m k) refl last
@@ -69,7 +66,7 @@ has_room m dying k cap fits last = omega (arith, fits, fewer_named m k last)
 
 -- an object that isn't k is kept as it was
 kept_still : (m : Map Object) (k j : ℕ) (q before : Object) → q ≡ before → is_kept (update m k held_once_less) j q ≡ false → is_kept m j before ≡ false
-kept_still m k j q before same unkept = rw (← same, ← alone_updated held_once_less same_body m k j q.body) unkept
+kept_still m k j q before same unkept = rw (← same, ← alone_updated held_once_less (λ x. refl) m k j q.body) unkept
 
 less_thins : (m : Map Object) (k j : ℕ) (o : Object) → get (update m k held_once_less) j ≡ Some o → Thins m (update m k held_once_less) j o
 less_thins m k j o at =
@@ -115,7 +112,7 @@ last_went m dying k last = record {
 pub other_went : (m : Map Object) (dying : List ℕ) (k : ℕ) → is_last (get m k) ≡ false → LetsGo (k ∷ []) m dying (update m k held_once_less) dying
 unfolding budget
 other_went m dying k other = record {
-  cheap = omega (arith, sum_no_more (λ e. cond (is_named e) 1 0) m k held_once_less (lower k));
+  cheap = omega (arith, sum_no_more (λ e. cond (is_named e) 1 0) m k held_once_less (less_named k));
   notes = λ others old. record {
     in_order = rw (is_sorted-update m k held_once_less) old.in_order;
     noted = λ j q at unkept. by_key others old j q (changed held_once_less m k j q at) unkept (cases_Bool (k == j));
@@ -131,7 +128,7 @@ other_went m dying k other = record {
         let same : q ≡ held_once_less c.before = c.is ∙ rw here refl in
         let not_last : is_last (Some c.before) ≡ false = ap is_last (sym c.there ∙ ap (get m) (sym (eqb-true k j here))) ∙ other in
         let both = or_parts (nat_lt 0 (held_once_less c.before).handles) (stays_alone m j c.before.body)
-        (rw (same, alone_updated held_once_less same_body m k j c.before.body) at unkept) in
+        (rw (same, alone_updated held_once_less (λ x. refl) m k j c.before.body) at unkept) in
         old.noted j c.before c.there (rw both.1 (no_handle c.before both.0 not_last))
       where
         no_handle : (o : Object) → nat_lt 0 (held_once_less o).handles ≡ false → is_last (Some o) ≡ false → (nat_lt 0 o.handles || false) ≡ false

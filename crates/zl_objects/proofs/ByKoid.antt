@@ -1,22 +1,17 @@
 -- What std's map from koids holds after a read or a write, in the words of the definitions.
-use Rattle.zl_objects.proofs.Common.{IsTrue, Map, None, Some, [], ap, arith, cond, eq-eqb, false, get, has_key, insert_entry, is_at, is_some, lookup, nat_cmp}
-use Rattle.zl_objects.proofs.Common.{nat_tests, put, refl, remove_entry, set_value, sym, true, unsigned_tied, update, update_missing, without, ℕ, ◌++◌, ◌<◌}
-use Rattle.zl_objects.proofs.Common.{◌==◌, ◌∙◌, ◌∷◌, ◌≡◌}
+use Rattle.zl_objects.proofs.Common.{IsTrue, Map, None, Some, [], ap, arith, eq-eqb, get, has_key, insert_entry, is_at, lookup, nat_cmp}
+use Rattle.zl_objects.proofs.Common.{nat_tests, put, refl, remove_entry, set_value, sym, unsigned_tied, update, update_missing, without, ℕ, ◌++◌, ◌<◌}
+use Rattle.zl_objects.proofs.Common.{◌∙◌, ◌∷◌, ◌≡◌}
+use Rattle.zl_rights.proofs.MapEdits.{has_key-behind, without_missing}
 
 -- a key above all others goes to the end
 pub put_last : {X : Type 0} (m : Map X) (k : ℕ) (v : X) → ((j : ℕ) → IsTrue (has_key m j) → j < k) → put m k v ≡ m ++ (k, v) ∷ []
 unfolding put get
 put_last [] k v below = refl
 put_last {X} (e ∷ m) k v below =
-    let first : e.0 < k = below e.0 (rw (same e.0) refl) in
-    let rest : put m k v ≡ m ++ (k, v) ∷ [] = put_last m k v (λ j there. below j (later j there)) in
+    let first : e.0 < k = below e.0 (rw (eq-eqb e.0 e.0 refl) refl) in
+    let rest : put m k v ≡ m ++ (k, v) ∷ [] = put_last m k v (λ j there. below j (has_key-behind e m j there)) in
     grind (arith, nat_tests)
-  where
-    same : (j : ℕ) → (j == j) ≡ true
-    same j = eq-eqb j j refl
-
-    later : (j : ℕ) → IsTrue (has_key m j) → IsTrue (has_key (e ∷ m) j)
-    later j there = elim (e.0 == j) as (λ b. IsTrue (is_some (cond b (Some e.1) (get m j)))) [ true ↦ refl | false ↦ there ]
 
 module _ {X : Type 0} where
   -- a look-up is the definitions' own
@@ -39,12 +34,6 @@ module _ {X : Type 0} where
   -- where nothing was found nothing changes
   pub unwritten : (es new : Map X) (k : ℕ) (f : X → X) → None ≡ lookup (is_at (nat_cmp k)) es → new ≡ es → new ≡ update es k f
   unwritten es new k f none same = same ∙ sym (update_missing es k f (sym (none ∙ looked_up es k)))
-
-  -- where the key isn't there nothing goes
-  without_missing : (es : Map X) (k : ℕ) → get es k ≡ None → without es k ≡ es
-  unfolding get without
-  without_missing [] k none = refl
-  without_missing (e ∷ es) k none = grind (arith, nat_tests, without_missing es k)
 
   -- without the first entry with a key, where no other has it
   pub entry_removed : (es : Map X) (k : ℕ) → lookup (is_at (nat_cmp k)) (remove_entry (is_at (nat_cmp k)) es) ≡ None

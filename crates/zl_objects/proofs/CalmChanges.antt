@@ -312,10 +312,7 @@ module _ {marked marked2 : ℕ → Bool} {next : ℕ} {sleepers : List Sleeper} 
 -- or it was written, and is marked if something waits there then
 pub watched_after : (f : Object → Object) (m : Map Object) (k : ℕ) (b : Bool) (o : Object) → get m k ≡ Some o → b ≡ is_watched_in (get (update m k f) k)
     → b ≡ is_watched (f o)
-watched_after f m k b o at is = is ∙ rw (get-update m k f k, eq k, at) refl
-  where
-    eq : (j : ℕ) → (j == j) ≡ true
-    eq j = eq-eqb j j refl
+watched_after f m k b o at is = is ∙ rw (get-update m k f k, eq-eqb k k refl, at) refl
 
 pub keeps_policy : (c : Condition) (a : Action) → Keeps (with_policy_set c a)
 keeps_policy c a = keeps_bodies (with_policy_body c a) (policy_quiet c a).jobs (policy_quiet c a).processes (λ b. (policy_same c a b).peer)

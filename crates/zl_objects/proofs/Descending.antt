@@ -11,11 +11,12 @@ use Rattle.std.specs.declared.ops.Bound.TheVariants.{Excluded, Included}
 use Rattle.std.proofs.lemmas.List.Sorted.{list_any-IsPermutation}
 use Rattle.zl_objects.specs.declared.object.Body.TheVariants as body
 use Rattle.zl_objects.proofs.Budget.{thin_then}
-use Rattle.zl_objects.proofs.Found.{Found, any_at, any_found}
+use Rattle.zl_objects.proofs.Found.{Found, any_found}
 use Rattle.zl_objects.proofs.Index.{child_under, sorted_each}
 use Rattle.zl_objects.proofs.Released.{cascaded_named}
 use Rattle.zl_objects.proofs.Sweeps.{killed_koids}
 use Rattle.zl_objects.proofs.Walks.{if_stays, same_within}
+use Rattle.zl_rights.proofs.MapTests.{any_at}
 
 -- ---- the next that is listed under a job
 

@@ -18,9 +18,10 @@ use Rattle.zl_objects.proofs.Calm.{Keeps}
 use Rattle.zl_objects.proofs.CalmChanges.{keeps_port, keeps_unwatched}
 use Rattle.zl_objects.proofs.CalmMade.{given_apart}
 use Rattle.zl_objects.proofs.Ending.{ending_bare}
-use Rattle.zl_objects.proofs.Found.{Found, any_at, any_found}
+use Rattle.zl_objects.proofs.Found.{Found, any_found}
 use Rattle.zl_objects.proofs.Released.{Was, cascaded_was}
-use Rattle.zl_objects.proofs.Showing.{same_tests}
+use Rattle.zl_rights.proofs.Settling.{same_tests}
+use Rattle.zl_rights.proofs.MapTests.{any_at}
 use Rattle.zl_objects.proofs.Tasks.{killed_same}
 use Rattle.zl_objects.proofs.Whole.{end_of, end_peer}
 
@@ -180,6 +181,11 @@ put_paired m next o ends paired k p x q at there is =
         ∙ (ends k x (rw a at one)).0 (is ∙ ap (λ (n : ℕ). Some n) (sym (eqb-true next p b)))
     by_keys (inr a) (inr b) one other = paired k p x q (rw a at one) (rw b at other) is
 
+pub no_peer : (b : Body) → is_end_body b ≡ false → peer_of b ≡ None
+no_peer (body.ChannelEnd p queue) h = absurd (false≢true (sym h))
+no_peer (body.PairEnd p) h = absurd (false≢true (sym h))
+no_peer _ h = refl
+
 module _ (m : Map Object) (next : ℕ) (peers : (k : ℕ) (q : Object) → get m k ≡ Some q → HasPeer m next q.body) where
   not_given : (k later : ℕ) (q : Object) → next ≤ later → get m k ≡ Some q → peer_of q.body ≡ Some later → ⊥
   not_given k later q most at is = false≢true (sym (given_apart m next later q.body most (peers k q at) later is) ∙ eq-eqb later later refl)
@@ -187,11 +193,6 @@ module _ (m : Map Object) (next : ℕ) (peers : (k : ℕ) (q : Object) → get m
   -- it is no end
   pub alone_paired : (b : Body) → is_end_body b ≡ false → IsPairedWith m next b
   alone_paired b alone k q at = (λ is. absurd (not_given k next q (omega arith) at is), λ is. absurd (none-some k (sym (no_peer b alone) ∙ is)))
-    where
-      no_peer : (b : Body) → is_end_body b ≡ false → peer_of b ≡ None
-      no_peer (body.ChannelEnd p queue) h = absurd (false≢true (sym h))
-      no_peer (body.PairEnd p) h = absurd (false≢true (sym h))
-      no_peer _ h = refl
 
   -- both ends of a pair
   module _ (pair : Pair) where

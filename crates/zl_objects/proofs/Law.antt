@@ -9,6 +9,7 @@ use Rattle.zl_objects.proofs.Common.{object_entry, object_value, option_map, or_
 use Rattle.zl_objects.proofs.Common.{stays_alone, subst, sum_by, sum_by-append, sum_by-cons, sym, true, update, waits_end, with_all, with_objects, without, ℕ}
 use Rattle.zl_objects.proofs.Common.{◌&&◌, ◌++◌, ◌+◌, ◌<◌, ◌==◌, ◌||◌, ◌∙◌, ◌∷◌, ◌≡◌, ◌⊎◌}
 use Rattle.zl_rights.proofs.Common.{has_living_child as living_child, queue_of as queue_value, []}
+use Rattle.zl_rights.proofs.MapTests.{any_at}
 use Rattle.zl_rights.specs.Counts.{handles_to, queued_to}
 use Rattle.zl_rights.specs.World.{Object as ObjectValue, Body as BodyValue}
 use Rattle.zl_rights.specs.Signals.{is_job_below}
@@ -17,8 +18,9 @@ use Rattle.zl_objects.specs.declared.object.Body.TheVariants as body
 use Rattle.zl_objects.proofs.Sums.{sum_without, any_summed, summed_any, any_counted, count_none, positive_part, any_there}
 use Rattle.zl_objects.proofs.Bare.{IsAlike, agrees_same, alike, has_same, in_job_same, seen_same, sorted_same}
 use Rattle.zl_objects.proofs.Bodies.{Changed, changed, changed_body, in_job_updated, found_left, has_left}
-use Rattle.zl_objects.proofs.Found.{Found, any_found, any_at}
+use Rattle.zl_objects.proofs.Found.{Found, any_found}
 use Rattle.zl_objects.proofs.Removing.{settles_all, settles_removed}
+use Rattle.std.proofs.Math.Bool.{and-false, and-true, or-false}
 
 -- ---- what is seen of the objects
 
@@ -110,30 +112,14 @@ pub seen_child : (w : World) (k j : ℕ) (b : Body) → Agrees w j b
     → (is_job_below k (body_value b) || (is_process_of k (body_value b) && is_process w lives j)) ≡ is_child k b
 seen_child w k j (body.Job own) agrees = by_state own.killed
   where
-    never : (b : Bool) → ((b && false) || false) ≡ false
-    never true = refl
-    never false = refl
-
-    always : (b : Bool) → ((b && true) || false) ≡ b
-    always true = refl
-    always false = refl
-
     by_state : (killed : Bool) → (((own.parent == k) && not killed) || false) ≡ is_koid k (if killed then None else Some own.parent)
-    by_state true = never (own.parent == k)
-    by_state false = always (own.parent == k)
+    by_state true = or-false _ ∙ and-false (own.parent == k)
+    by_state false = or-false _ ∙ and-true (own.parent == k)
 seen_child w k j (body.Process job life) agrees = ap (λ b. (job == k) && b) (sym agrees.living) ∙ by_state (is_alive life)
   where
-    never : (b : Bool) → (b && false) ≡ false
-    never true = refl
-    never false = refl
-
-    always : (b : Bool) → (b && true) ≡ b
-    always true = refl
-    always false = refl
-
     by_state : (alive : Bool) → ((job == k) && alive) ≡ is_koid k (if alive then Some job else None)
-    by_state true = always (job == k)
-    by_state false = never (job == k)
+    by_state true = and-true (job == k)
+    by_state false = and-false (job == k)
 seen_child w k j _ agrees = refl
 
 -- ---- the law, after each change
@@ -141,9 +127,6 @@ seen_child w k j _ agrees = refl
 pub any_seen : (test : ℕ × ObjectValue → Bool) (m : Map Object) → list_any test (map object_entry m) ≡ list_any (λ e. test (object_entry e)) m
 any_seen test [] = refl
 any_seen test (o ∷ m) = ap (λ b. test (object_entry o) || b) (any_seen test m)
-
-same_body : (o : Object) → (held_once_less o).body ≡ o.body
-same_body o = refl
 
 module _ (w : World) (ks : List ℕ) (m : Map Object) (exact : IsExact w ks m) where
   -- one handle less
@@ -156,10 +139,10 @@ module _ (w : World) (ks : List ℕ) (m : Map Object) (exact : IsExact w ks m) w
     named = λ j some. rw (has_key-update m k held_once_less j) (exact.named j (omega (arith, some, parts j, same j)));
     agrees = λ j q at.
         let c : Changed held_once_less m k j q = changed held_once_less m k j q at in
-        subst (Agrees w j) (sym (changed_body held_once_less same_body m k j q c)) (exact.agrees j c.before c.there);
+        subst (Agrees w j) (sym (changed_body held_once_less (λ x. refl) m k j q c)) (exact.agrees j c.before c.there);
     in_jobs = λ j q at.
         let c : Changed held_once_less m k j q = changed held_once_less m k j q at in
-        rw (changed_body held_once_less same_body m k j q c, in_job_updated held_once_less same_body m k c.before.body) (exact.in_jobs j c.before c.there);
+        rw (changed_body held_once_less (λ x. refl) m k j q c, in_job_updated held_once_less (λ x. refl) m k c.before.body) (exact.in_jobs j c.before c.there);
   }
     where
       parts : (j : ℕ) → count_by (λ i. i == j) ks ≡ cond (k == j) 1 0 + count_by (λ i. i == j) rest
@@ -325,11 +308,7 @@ module _ (w : World) (ks : List ℕ) (m : Map Object) (exact : IsExact w ks m) w
 
     not_held : is_held (with_objects w m) (has_key (map object_entry m)) k ≡ false
     unfolding is_held is_process
-    not_held = rw (no_table, no_queue, not_running, no_child) (and_no (has_key (map object_entry m) k))
-      where
-        and_no : (b : Bool) → (b && false) ≡ false
-        and_no true = refl
-        and_no false = refl
+    not_held = rw (no_table, no_queue, not_running, no_child) (and-false (has_key (map object_entry m) k))
 
     -- it can go first
     pub left_leads : (v : World) → Settles (with_objects w (without m k)) v → Settles (with_objects w m) v

@@ -1,8 +1,9 @@
 -- Lists of which some elements are left, and lists of which the first element that passes was taken out.
 use Rattle.zl_objects.proofs.Common.{Bool, IsTrue, List, None, Some, [], ap, arith, cases_Bool, cond, drop, eq-eqb, false, false≢true, filter, find, inl, inr}
 use Rattle.zl_objects.proofs.Common.{length, list_any, map, none-some, option_map, or_parts, refl, same_Some, slice_get, suc, sym, take, true, without_first}
-use Rattle.zl_objects.proofs.Common.{zero, ℕ, ◌&&◌, ◌==◌, ◌||◌, ◌∙◌, ◌∷◌, ◌≡◌, ◌≤◌, ◌⊎◌}
+use Rattle.zl_objects.proofs.Common.{zero, ℕ, ◌&&◌, ◌==◌, ◌||◌, ◌∙◌, ◌∷◌, ◌≡◌, ◌⊎◌}
 use Rattle.zl_objects.proofs.Places.{first_out}
+use Rattle.zl_rights.proofs.Settling.{filter-length}
 
 -- ---- what is seen of the elements
 
@@ -136,19 +137,12 @@ filter_both {X} p q r same (x ∷ xs) = elim (cases_Bool (p x)) as (λ _. filter
 
 -- ---- all elements are left
 
-filter_shorter : {X : Type 0} (p : X → Bool) (xs : List X) → length (filter p xs) ≤ length xs
-filter_shorter p [] = omega arith
-filter_shorter p (x ∷ xs) = elim (p x) as (λ b. length (cond b (x ∷ filter p xs) (filter p xs)) ≤ length (x ∷ xs)) [
-  | true ↦ omega (arith, filter_shorter p xs)
-  | false ↦ omega (arith, filter_shorter p xs)
-]
-
 -- the first passes where all do, and so do the others
 pub filter_head : {X : Type 0} (p : X → Bool) (x : X) (xs : List X) → filter p (x ∷ xs) ≡ x ∷ xs → (IsTrue (p x)) × (filter p xs ≡ xs)
 filter_head {X} p x xs all = elim (cases_Bool (p x)) as (λ _. (IsTrue (p x)) × (filter p xs ≡ xs)) [
   | inl passes ↦ (passes, ap (λ (ys : List X). drop 1 ys) (rw passes at all))
   | inr fails ↦ absurd (let longer : ◌≡◌ {A = ℕ} (length (filter p xs)) (length (x ∷ xs)) = ap (λ (ys : List X). length ys) (rw fails at all) in
-      omega (arith, longer, filter_shorter p xs))
+      omega (arith, longer, filter-length p xs))
 ]
 
 -- all with one key are left, for each key

@@ -11,7 +11,7 @@ use Rattle.zl_objects.proofs.Bodies.{found_left}
 use Rattle.zl_objects.proofs.ByKoid.{looked_up}
 use Rattle.zl_objects.proofs.Ending.{ending_places, none_ended, none_ends}
 use Rattle.zl_objects.proofs.Gone.{gone_calm}
-use Rattle.zl_objects.proofs.Index.{removed_indexed}
+use Rattle.zl_objects.proofs.Index.{no_peer, removed_indexed}
 use Rattle.zl_objects.proofs.Listed.{same_listed}
 
 -- ---- the last entry goes
@@ -56,11 +56,6 @@ keeper_is : (P : ℕ → Type 0) (b : Body) → P (parent_of b) → IfSome (keep
 keeper_is P (body.Job own) h = elim own.killed as (λ b. IfSome (if b then None else Some own.parent) P) [ true ↦ tt | false ↦ h ]
 keeper_is P (body.Process job l) h = elim (is_alive l) as (λ b. IfSome (if b then Some job else None) P) [ true ↦ h | false ↦ tt ]
 keeper_is P _ h = tt
-
-no_peer : (b : Body) → is_end_body b ≡ false → peer_of b ≡ None
-no_peer (body.ChannelEnd p queue) h = absurd (false≢true (sym h))
-no_peer (body.PairEnd p) h = absurd (false≢true (sym h))
-no_peer _ h = refl
 
 module _ {children : Children} (m n : Map Object) (koid : ℕ) (o : Object) (at : get m koid ≡ Some o) (alone : is_end_body o.body ≡ false)
     (none : ends_waits o ≡ false) (indexed : IsIndexed children m) (left : n ≡ without m koid) (once : length n + 1 ≡ length m) where

@@ -9,7 +9,7 @@ use Rattle.std.specs.declared.ops.Bound.TheVariants.{Excluded, Included}
 use Rattle.zl_rights.proofs.MapTests.{filter_all}
 use Rattle.zl_objects.specs.declared.port_waits.PortWaits.{PortWaits}
 use Rattle.zl_objects.proofs.Rising.{IsBelow, Rises, earliest_of_both, found_above, goes_by_order, none_of_both}
-use Rattle.zl_objects.proofs.Showing.{same_tests}
+use Rattle.zl_rights.proofs.Settling.{same_tests}
 
 -- ---- what is found
 

@@ -3,7 +3,7 @@ use Rattle.zl_objects.proofs.Common.{AreKeptBut, Body, Bool, Cascades, HasPeer, 
 use Rattle.zl_objects.proofs.Common.{None, Object, Objects, Option, Releases, Sleeper, Some, Thins, [], ap, append-nil, append_assoc, arith, body_value, budget}
 use Rattle.zl_objects.proofs.Common.{cases_Bool, cond, count_by, count_by-le-length, false, false≢true, get, goes, has_key, has_living_child, held_once_less}
 use Rattle.zl_objects.proofs.Common.{if◌then◌else◌, inl, inr, is_alive, is_child, is_kept, is_koid, is_named, is_some, is_sorted-update, job_in, job_of}
-use Rattle.zl_objects.proofs.Common.{kind_at, kind_in, length, length-update, let_go, list_any, named_in, nat_tests, none_left, or_left, or_right, queue_of}
+use Rattle.zl_objects.proofs.Common.{kind_at, kind_in, length, length-update, let_go, list_any, named_in, none_left, or_left, or_right, queue_of}
 use Rattle.zl_objects.proofs.Common.{refl, same_Some, stays_alone, stopped, stopped_body, stopping, subst, sym, true, unreserved, update, waits_end, without, ℕ}
 use Rattle.zl_objects.proofs.Common.{◌++◌, ◌<◌, ◌==◌, ◌||◌, ◌∙◌, ◌∷◌, ◌≡◌, ◌≤◌, ◌⊎◌}
 use Rattle.zl_rights.specs.World.{Wait}
@@ -13,7 +13,7 @@ use Rattle.zl_objects.proofs.Ending.{all_ports_there}
 use Rattle.zl_objects.proofs.Sums.{length_left, sum_left, sum_no_more}
 use Rattle.zl_objects.proofs.Peers.{peer_stays}
 use Rattle.zl_objects.proofs.Bodies.{Changed, changed, changed_body, found_left}
-use Rattle.zl_objects.proofs.Budget.{thin_then}
+use Rattle.zl_objects.proofs.Budget.{less_named, thin_then}
 
 -- ---- what is left was there before
 
@@ -23,6 +23,13 @@ pub record Was (m : Map Object) (k : ℕ) (o : Object) : Type 0 where
   pub there : get m k ≡ Some before
   pub body : unreserved o.body ≡ unreserved before.body
   pub raised : o.signals.raised ≡ before.signals.raised
+
+pub was_there : (m m2 : Map Object) → ((k : ℕ) (o : Object) → get m2 k ≡ Some o → Was m k o) → (k : ℕ) → IsTrue (has_key m2 k) → IsTrue (has_key m k)
+was_there m m2 was k there = by_object (get m2 k) refl there
+  where
+    by_object : (o : Option Object) → get m2 k ≡ o → IsTrue (is_some o) → IsTrue (has_key m k)
+    by_object None is h = absurd (false≢true h)
+    by_object (Some o) is h = rw (was k o is).there refl
 
 -- the world sees the same of it, and the same is to be read at it
 module _ (m : Map Object) (k : ℕ) (o : Object) (was : Was m k o) where
@@ -68,10 +75,7 @@ cascaded_shorter _ _ _ (waits_end ks m mid m2 same more) = omega (arith, cascade
 pub cascaded_named : (ks : List ℕ) (m m2 : Map Object) → Cascades ks m m2 → count_by is_named m2 ≤ count_by is_named m
 cascaded_named _ _ _ (none_left m) = omega arith
 cascaded_named _ _ _ (let_go k ks m m2 more) =
-    omega (arith, cascaded_named ks (update m k held_once_less) m2 more, sum_no_more (λ e. cond (is_named e) 1 0) m k held_once_less (lower k))
-  where
-    lower : (j : ℕ) (o : Object) → cond (is_named (j, held_once_less o)) 1 0 ≤ cond (is_named (j, o)) 1 0
-    lower j o = grind (arith, nat_tests)
+    omega (arith, cascaded_named ks (update m k held_once_less) m2 more, sum_no_more (λ e. cond (is_named e) 1 0) m k held_once_less (less_named k))
 cascaded_named _ _ _ (goes k gone ks m m2 there unkept more) = omega (arith, cascaded_named _ (without m k) m2 more, sum_left (λ e. cond (is_named e) 1 0) m k)
 cascaded_named _ _ _ (waits_end ks m mid m2 same more) = omega (arith, cascaded_named ks mid m2 more, named_same m mid same)
 

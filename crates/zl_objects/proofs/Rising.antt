@@ -4,6 +4,7 @@ use Rattle.zl_objects.proofs.Common.{cases_Bool, cond, entry_of, eq-eqb, eqb-tru
 use Rattle.zl_objects.proofs.Common.{ne_eqb, none-some, not, order_entry, refl, same_Some, sorted_parts, sym, true, without_first, ℕ, ◌&&◌, ◌++◌, ◌<◌, ◌==◌}
 use Rattle.zl_objects.proofs.Common.{◌∙◌, ◌∷◌, ◌≡◌, ◌≤◌}
 use Rattle.zl_objects.proofs.Places.{first_out}
+use Rattle.std.proofs.Math.Bool.{and-false}
 
 -- the order lies below those of all entries
 abbrev pub IsBelow : ℕ → List Listed → Type 0
@@ -103,10 +104,6 @@ goes_by_order p (y ∷ ys) x rising found = by_test (p y) found (λ later. goes_
 
 -- ---- the earliest
 
-never : (b : Bool) → (b && false) ≡ false
-never true = refl
-never false = refl
-
 module _ (p r : Listed → Bool) where
   -- of those that pass p it is the earliest that passes r too, where it does
   pub first_of_both : (xs : List Listed) (x : Listed) → find p xs ≡ Some x → r x ≡ true → find (λ y. r y && p y) xs ≡ Some x
@@ -116,7 +113,7 @@ module _ (p r : Listed → Bool) where
       by_test : (b : Bool) → p y ≡ b → cond b (Some y) (find p ys) ≡ Some x → (find p ys ≡ Some x → find (λ z. r z && p z) ys ≡ Some x)
           → find (λ z. r z && p z) (y ∷ ys) ≡ Some x
       by_test true is same later = rw (ap r (same_Some y x same) ∙ passes, is) same
-      by_test false is rest later = rw (is, never (r y)) (later rest)
+      by_test false is rest later = rw (is, and-false (r y)) (later rest)
 
   -- none passes both where none passes p
   pub none_of_both : (xs : List Listed) → find p xs ≡ None → find (λ y. r y && p y) xs ≡ None
@@ -126,7 +123,7 @@ module _ (p r : Listed → Bool) where
       by_test : (b : Bool) → p y ≡ b → cond b (Some y) (find p ys) ≡ None → (find p ys ≡ None → find (λ z. r z && p z) ys ≡ None)
           → find (λ z. r z && p z) (y ∷ ys) ≡ None
       by_test true is same later = absurd (none-some y (sym same))
-      by_test false is rest later = rw (is, never (r y)) (later rest)
+      by_test false is rest later = rw (is, and-false (r y)) (later rest)
 
   -- the earliest that passes both, where its order isn't above that of the earliest that passes p
   pub earliest_of_both : (xs : List Listed) (x y : Listed) → Rises xs → find p xs ≡ Some x → find (λ z. r z && p z) xs ≡ Some y → y.order ≤ x.order

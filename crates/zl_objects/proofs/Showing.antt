@@ -1,18 +1,14 @@
 -- What the objects show of active signals.
 use Rattle.zl_objects.proofs.Common.{AreActive, Body, Bool, IsTrue, Map, NO_JOBS, NO_PROCESSES, None, Object, Option, ShowStates, Shows, Some, TERMINATED}
-use Rattle.zl_objects.proofs.Common.{World, [], active, ap, bit_or, body_value, false, get, has_child_job, has_child_process, has_job_below, has_process_below}
+use Rattle.zl_objects.proofs.Common.{World, [], active, ap, bit_or, body_value, get, has_child_job, has_child_process, has_job_below, has_process_below}
 use Rattle.zl_objects.proofs.Common.{implied, is_job_below, is_process, is_process_below, is_process_of, list_any, lives, not, refl, signal_if, signals_at}
-use Rattle.zl_objects.proofs.Common.{signals_in, subst, sym, true, with_objects, ℕ, ◌&&◌, ◌==◌, ◌||◌, ◌∙◌, ◌∷◌, ◌≡◌}
+use Rattle.zl_objects.proofs.Common.{signals_in, subst, sym, with_objects, ℕ, ◌&&◌, ◌==◌, ◌||◌, ◌∙◌, ◌∷◌, ◌≡◌}
 use Rattle.zl_rights.specs.Signals.{implied as implied_in, is_job_below as is_job_of}
 use Rattle.zl_objects.specs.declared.object.Body.TheVariants as body
-use Rattle.zl_objects.proofs.Found.{Found, any_found, any_at}
+use Rattle.zl_objects.proofs.Found.{Found, any_found}
 use Rattle.zl_objects.proofs.Law.{get_seen, has_seen, any_seen}
-
-pub same_tests : (a b : Bool) → (IsTrue a → IsTrue b) → (IsTrue b → IsTrue a) → a ≡ b
-same_tests true true f g = refl
-same_tests true false f g = sym (f refl)
-same_tests false true f g = g refl
-same_tests false false f g = refl
+use Rattle.zl_rights.proofs.Settling.{same_tests}
+use Rattle.zl_rights.proofs.MapTests.{any_at}
 
 module _ (w : World) (m : Map Object) (shows : ShowStates w m) (k : ℕ) where
   -- a living job stands below the job k where the objects say so

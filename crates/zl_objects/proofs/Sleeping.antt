@@ -41,35 +41,13 @@ pub record HasLooked (test : Sleeper → Bool) (k : ℕ) (list : List Sleeper) (
   pub above : (i : ℕ) (d : Sleeper) → place ≤ i → i < length list → k ≤ koid_of (get_or list i d).awaited
 
 module _ (test : Sleeper → Bool) (k : ℕ) (list : List Sleeper) where
-  pub look_begins : (place : ℕ) → IsPlace (λ j. j < k) (λ j. k ≤ j) list place → HasLooked test k list place
-  look_begins place starts = record { passed = λ i d low here. absurd (omega (arith, here, starts.before i d low)); above = starts.behind }
-
   module _ (place : ℕ) (looked : HasLooked test k list place) where
-    pub look_more : ((d : Sleeper) → koid_of (get_or list place d).awaited ≡ k → test (get_or list place d) ≡ false) → HasLooked test k list (place + 1)
-    look_more fails = record {
-      passed = λ i d low here. elim (cases_le i low) as (λ _. test (get_or list i d) ≡ false) [
-        | inl less ↦ looked.passed i d less here
-        | inr last ↦ rw last (fails d (rw last at here))
-      ];
-      above = λ i d high inside. looked.above i d (omega (arith, high)) inside;
-    }
-      where
-        cases_le : (i : ℕ) → i < place + 1 → (i < place) ⊎ (i ≡ place)
-        cases_le i low = elim (cases_Bool (ltb i place)) as (λ _. (i < place) ⊎ (i ≡ place)) [
-          | inl less ↦ inl (ltb-true i place less)
-          | inr more ↦ let high : place ≤ i = ltb-false i place more in inr (omega (arith, high, low))
-        ]
-
     pub look_ends : (end : ℕ) → IsPlace (λ j. j ≤ k) (λ j. k < j) list end → end ≤ place → (i : ℕ) (d : Sleeper) → i < length list
         → koid_of (get_or list i d).awaited ≡ k → test (get_or list i d) ≡ false
     look_ends end ends past i d inside here = elim (cases_Bool (ltb i place)) as (λ _. test (get_or list i d) ≡ false) [
       | inl less ↦ looked.passed i d (ltb-true i place less) here
       | inr more ↦ absurd (let high : place ≤ i = ltb-false i place more in omega (arith, here, ends.behind i d (omega (arith, high, past)) inside))
     ]
-
-    -- the one at the place waits there
-    pub look_here : (end : ℕ) → IsPlace (λ j. j ≤ k) (λ j. k < j) list end → place < end → (d : Sleeper) → koid_of (get_or list place d).awaited ≡ k
-    look_here end ends inside d = omega (arith, ends.before place d inside, looked.above place d (omega arith) (omega (arith, inside, ends.within)))
 
 pub none_listed : (pid port : ℕ) (list : List Sleeper)
     → ((i : ℕ) (d : Sleeper) → i < length list → koid_of (get_or list i d).awaited ≡ port → ((get_or list i d).pid == pid) ≡ false)

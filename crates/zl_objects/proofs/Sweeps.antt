@@ -1,11 +1,11 @@
 -- A sweep that goes from koid to koid and leaves what something keeps.
-use Rattle.zl_objects.proofs.Common.{AreKeptBut, Bool, Cascades, HavePlaces, IsLeastFrom, IsNext, IsTrue, LetsGo, List, Map, None, Object, Option, Some, Thins}
+use Rattle.zl_objects.proofs.Common.{AreKeptBut, Bool, Cascades, HavePlaces, IsLeastFrom, IsNext, IsTrue, LetsGo, List, Map, None, Object, Some, Thins}
 use Rattle.zl_objects.proofs.Common.{[], all_killed, all_koids, ap, append-nil, arith, budget, cases_Bool, count_by, each, eqb-true, false, false≢true, filter}
-use Rattle.zl_objects.proofs.Common.{get, has_key, if◌then◌else◌, inl, inr, is_kept, is_named, is_some, is_sorted, is_within, killed_if, length, list_any, map}
+use Rattle.zl_objects.proofs.Common.{get, has_key, if◌then◌else◌, inl, inr, is_kept, is_named, is_sorted, is_within, killed_if, length, list_any, map}
 use Rattle.zl_objects.proofs.Common.{nat_cmp, nat_lt, nat_tests, none-some, none_left, or_cases, or_left, or_right, refl, sym, true, ℕ, ◌++◌, ◌+◌, ◌<◌, ◌==◌}
 use Rattle.zl_objects.proofs.Common.{◌∙◌, ◌∷◌, ◌≡◌, ◌≤◌}
 use Rattle.zl_objects.proofs.Budget.{none_went, noted_last, noted_left, thin_then}
-use Rattle.zl_objects.proofs.Released.{Was, cascaded_named, cascaded_shorter, cascaded_was}
+use Rattle.zl_objects.proofs.Released.{cascaded_named, cascaded_shorter, cascaded_was, was_there}
 
 -- ---- koids above another
 
@@ -113,13 +113,7 @@ module _ (m m2 : Map Object) (from : ℕ) (sweeps : Sweeps from m m2) where
   swept_shorter = cascaded_shorter [] m m2 (sweeps.leads [] m2 (none_left m2))
 
   pub swept_there : (k : ℕ) → IsTrue (has_key m2 k) → IsTrue (has_key m k)
-  swept_there k there = by_object (get m2 k) refl there
-    where
-      by_object : (q : Option Object) → get m2 k ≡ q → IsTrue (is_some q) → IsTrue (has_key m k)
-      by_object None is h = absurd (false≢true h)
-      by_object (Some o) is h =
-          let was : Was m k o = cascaded_was [] m m2 (sweeps.leads [] m2 (none_left m2)) k o is in
-          rw was.there refl
+  swept_there = was_there m m2 (cascaded_was [] m m2 (sweeps.leads [] m2 (none_left m2)))
 
 -- a kill leaves the koids
 pub killed_koids : (m : Map Object) (task : ℕ) → all_koids (all_killed m task) ≡ all_koids m

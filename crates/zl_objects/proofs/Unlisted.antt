@@ -117,7 +117,7 @@ module _ {X : Type 0} where
       by_test true is later = rw (ap r (same_Some y x is) ∙ out) refl
       by_test false rest later = ap (λ b. r y || b) (later rest)
 
-  none_any : (p : X → Bool) (xs : List X) → find p xs ≡ None → list_any p xs ≡ false
+  pub none_any : (p : X → Bool) (xs : List X) → find p xs ≡ None → list_any p xs ≡ false
   none_any p [] none = refl
   none_any p (x ∷ xs) none = by_test (p x) none (none_any p xs)
     where

@@ -1,9 +1,9 @@
 -- The invariant of the objects, after each change.
 use Rattle.zl_objects.proofs.Common.{Body, Bool, Err, HasPeer, HasPeerOf, HavePlaces, HavePlacesWith, IsTrue, IsWhole, List, Map, Message, None, Object, Ok}
 use Rattle.zl_objects.proofs.Common.{OnErr, OnOk, Option, Pair, Port, Result, SignalState, Some, Watch, [], above_of, ap, arith, at_port, cases_Bool}
-use Rattle.zl_objects.proofs.Common.{changed_port, cond, count_by, end_to, eq-eqb, false, false≢true, find, get, get-put, get-update, has_key, has_key-update}
+use Rattle.zl_objects.proofs.Common.{changed_port, count_by, end_to, eq-eqb, false, false≢true, find, get, get-put, get-update, has_key, has_key-update}
 use Rattle.zl_objects.proofs.Common.{held_once_less, held_once_more, if◌then◌else◌, inl, inr, insert_entry, is_at, is_at_port, is_end_body, is_err, is_port_at}
-use Rattle.zl_objects.proofs.Common.{is_some, kind_at, kind_in, kind_of_pair, length, length-append, length-update, lookup, nat_cmp, nat_lt, nat_tests}
+use Rattle.zl_objects.proofs.Common.{kind_at, kind_in, kind_of_pair, length, length-append, length-update, lookup, nat_cmp, nat_lt, nat_tests}
 use Rattle.zl_objects.proofs.Common.{new_object, none-some, option_map, peer_of, put, put_key, raised_changed, received, received_body, refl, remove_entry}
 use Rattle.zl_objects.proofs.Common.{reserved_of, same_Some, sent, sent_body, set_value, slept, stopped, stopped_body, subst, sym, true, unsigned_tied}
 use Rattle.zl_objects.proofs.Common.{unwatched, update, waits_for, waits_in, watched, with_place, ℕ, ◌++◌, ◌+◌, ◌-◌, ◌<◌, ◌==◌, ◌^◌, ◌∙◌, ◌∷◌, ◌≡◌, ◌≤◌, ◌⊎◌}
@@ -12,6 +12,7 @@ use Rattle.zl_objects.specs.declared.object.Pair.TheVariants as pair
 use Rattle.zl_objects.proofs.Peers.{peer_stays}
 use Rattle.zl_objects.proofs.Places.{places_made, places_put, places_taken, places_unwatched, places_updated, places_used, seen_updated}
 use Rattle.zl_objects.proofs.ByKoid.{inserted, entry_inserted, written, written_back}
+use Rattle.zl_rights.proofs.MapEdits.{has_key-behind}
 
 pub none_whole : (m : Map Object) (next room : ℕ) (d : List ℕ) → m ≡ [] → d ≡ [] → IsWhole None m next d room
 unfolding get
@@ -318,15 +319,9 @@ end_taken m n n2 n3 next o below into still out =
     last_removed : (m : Map Object) → ((j : ℕ) → IsTrue (has_key m j) → j < next) → remove_entry (is_at (nat_cmp next)) (m ++ (next, o) ∷ []) ≡ m
     last_removed [] below = grind (arith, nat_tests, unsigned_tied next next)
     last_removed (e ∷ m) below =
-        let first : e.0 < next = below e.0 (rw (same e.0) refl) in
-        let rest : remove_entry (is_at (nat_cmp next)) (m ++ (next, o) ∷ []) ≡ m = last_removed m (λ j there. below j (later j there)) in
+        let first : e.0 < next = below e.0 (rw (eq-eqb e.0 e.0 refl) refl) in
+        let rest : remove_entry (is_at (nat_cmp next)) (m ++ (next, o) ∷ []) ≡ m = last_removed m (λ j there. below j (has_key-behind e m j there)) in
         grind (arith, nat_tests, unsigned_tied next e.0)
-      where
-        same : (j : ℕ) → (j == j) ≡ true
-        same j = eq-eqb j j refl
-
-        later : (j : ℕ) → IsTrue (has_key m j) → IsTrue (has_key (e ∷ m) j)
-        later j there = elim (e.0 == j) as (λ b. IsTrue (is_some (cond b (Some e.1) (get m j)))) [ true ↦ refl | false ↦ there ]
 
 -- a result that is no fault
 pub unless_err : {A B : Type 0} (r : Result A B) (P : Type 0) → OnOk r P → is_err r ≡ false → P

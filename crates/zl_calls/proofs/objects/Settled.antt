@@ -9,7 +9,7 @@ use Rattle.zl_calls.proofs.Common.{with_objects, without, world_value, zero, ℕ
 use Rattle.zl_code.proofs.Common.{Process as ProcessValue, queue_of as queue_value}
 use Rattle.zl_objects.specs.declared.object.Object.{Object}
 use Rattle.zl_objects.specs.Objects.{queue_of}
-use Rattle.zl_objects.proofs.Found.{any_at}
+use Rattle.zl_rights.proofs.MapTests.{any_at}
 use Rattle.zl_calls.specs.declared.process.Process.{Process}
 use Rattle.zl_calls.specs.calls.Process.{none_left as none_drained, one_more}
 use Rattle.zl_calls.proofs.objects.Counted.{counted_there, is_there, queue_seen}

@@ -6,7 +6,7 @@ use Rattle.std.specs.Fmt.{digits}
 use Rattle.zl_code.proofs.Below.{all_below, below}
 use Rattle.zl_asm.proofs.RoundWords.{is_plain_word}
 use Rattle.std.proofs.Math.Bool.{or-false}
-use Rattle.zl_code.proofs.Entering.{length_filter}
+use Rattle.zl_rights.proofs.Settling.{filter-length}
 
 -- the value is there, and is n
 abbrev pub is_just : Option ℕ → ℕ → Bool
@@ -96,6 +96,6 @@ taken_then_free (b ∷ bs) h = by (λ packed. taken_then_free bs packed) (b == 2
 
 pub places_of-taken : (places : List ℕ) → length places ≡ 8 → is_packed places ≡ true → places_of (filter is_taken places) ≡ Some places
 places_of-taken places len packed =
-    let few : nat_le (length (filter is_taken places)) 8 ≡ true = le-leb _ 8 (omega (arith, length_filter is_taken places)) in
+    let few : nat_le (length (filter is_taken places)) 8 ≡ true = le-leb _ 8 (omega (arith, filter-length is_taken places)) in
     rw few (ap (λ (xs : List ℕ). Some xs)
     (ap (λ (n : ℕ). filter is_taken places ++ replicate (n - length (filter is_taken places)) 255) (sym len) ∙ taken_then_free places packed))

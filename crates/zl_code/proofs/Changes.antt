@@ -11,8 +11,9 @@ use Rattle.zl_code.proofs.Common.{same_Some, same_kind, state_passes, subst, suc
 use Rattle.zl_code.proofs.Common.{without, without_keyed, without_waits, ℕ, ℤ, ◌++◌, ◌+◌, ◌<◌, ◌==◌, ◌∙◌, ◌∷◌, ◌≡◌, ◌≤◌}
 use Rattle.std.proofs.lemmas.List.Elements.{filter-append}
 use Rattle.zl_rights.specs.declared.kind.Kind.TheVariants as kind
-use Rattle.zl_code.proofs.MapKept.{in_order-put, in_order-update, in_order-each, Changed, same, changed, new, EachChanged, unchanged, changed_put}
+use Rattle.zl_code.proofs.MapKept.{in_order-each, Changed, same, changed, new, EachChanged, unchanged, changed_put}
 use Rattle.zl_code.proofs.MapKept.{changed_update, changed_each}
+use Rattle.zl_rights.proofs.MapEdits.{is_sorted-update, sorted_put}
 
 -- ---- registered waits
 
@@ -216,7 +217,7 @@ pub process_changes : (start w : World) (p : ℕ) (f : Process → Process) → 
 unfolding on_process is_process
 process_changes start w p f ok same_state = record {
   next_koid = omega arith;
-  processes_in_order = λ h. rw (in_order-update w.processes p f) h;
+  processes_in_order = λ h. rw (is_sorted-update w.processes p f) h;
   objects_in_order = λ h. h;
   processes = changed_update _ _ w.processes p f ok;
   objects = unchanged _ _ w.objects w.objects refl;
@@ -245,7 +246,7 @@ pub process_ends : (start w : World) (p : ℕ) (code : ℤ) → Change start w (
 unfolding ended on_process is_process
 process_ends start w p code = record {
   next_koid = omega arith;
-  processes_in_order = λ h. rw (in_order-update w.processes p (process_ended code)) h;
+  processes_in_order = λ h. rw (is_sorted-update w.processes p (process_ended code)) h;
   objects_in_order = λ h. h;
   processes = changed_update _ _ w.processes p (process_ended code) (λ x there. by_life x (lives x.state));
   objects = unchanged _ _ w.objects w.objects refl;
@@ -278,7 +279,7 @@ pub process_wakes : (start w : World) (p : ℕ) (q : Process) (ds vs : List ℕ)
 unfolding made_ready is_process
 process_wakes start w p q ds vs there running = record {
   next_koid = omega arith;
-  processes_in_order = in_order-put w.processes p _;
+  processes_in_order = sorted_put w.processes p _;
   objects_in_order = λ h. h;
   processes = changed_put _ _ w.processes p _ (changed q _ there refl (wakes (answered q.cpu ds vs) refl running));
   objects = unchanged _ _ w.objects w.objects refl;
@@ -294,7 +295,7 @@ pub process_blocks : (w : World) (p : ℕ) (q : Process) (ds : List ℕ) (awaite
 unfolding on_process is_process
 process_blocks w p q ds awaited there ready = record {
   next_koid = omega arith;
-  processes_in_order = λ h. rw (in_order-update w.processes p blocked) h;
+  processes_in_order = λ h. rw (is_sorted-update w.processes p blocked) h;
   objects_in_order = λ h. h;
   processes = changed_update _ _ w.processes p blocked
       (λ x at. changed x _ refl refl (blocks awaited ds refl (rw (ap (λ (y : Process). y.state) (same_Some x q (sym at ∙ there)), ready) refl)));
@@ -317,7 +318,7 @@ pub process_starts : (start w : World) (p : ℕ) (f : Process → Cpu) → ((x :
 unfolding on_process is_process
 process_starts start w p f created = record {
   next_koid = omega arith;
-  processes_in_order = λ h. rw (in_order-update w.processes p after) h;
+  processes_in_order = λ h. rw (is_sorted-update w.processes p after) h;
   objects_in_order = λ h. h;
   processes = changed_update _ _ w.processes p after (λ x at. changed x _ refl refl (starts (f x) refl (created x at)));
   objects = unchanged _ _ w.objects w.objects refl;
@@ -342,7 +343,7 @@ pub process_is_made : (start w : World) (k : ℕ) (y : Process) → IsNewProcess
 unfolding is_process
 process_is_made start w k y fine unblocked = record {
   next_koid = omega arith;
-  processes_in_order = in_order-put w.processes k y;
+  processes_in_order = sorted_put w.processes k y;
   objects_in_order = λ h. h;
   processes = changed_put _ _ w.processes k y (new y refl fine);
   objects = unchanged _ _ w.objects w.objects refl;
@@ -376,14 +377,14 @@ pub object_changes : (start w : World) (k : ℕ) (f : Object → Object)
     → ((x : Object) → get w.objects k ≡ Some x → ObjectChange start (on_object w k f) k x (f x)) → Change start w (on_object w k f)
 unfolding on_object
 object_changes start w k f ok =
-    objects_alone start w (on_object w k f) refl refl (omega arith) (λ h. rw (in_order-update w.objects k f) h)
+    objects_alone start w (on_object w k f) refl refl (omega arith) (λ h. rw (is_sorted-update w.objects k f) h)
     (changed_update _ _ w.objects k f (λ x there. changed x _ refl refl (ok x there))) (alike refl)
 
 pub object_is_made : (start w : World) (b : Body) → queue_of b ≡ [] → HasPeer (with_object w b).objects (with_object w b).next_koid b
     → (IsSound start → StandsBelow (with_object w b).objects w.next_koid b) → Change start w (with_object w b)
 unfolding with_object
 object_is_made start w b quiet peer tree =
-    objects_alone start w (with_object w b) refl refl (omega arith) (in_order-put w.objects w.next_koid _) (changed_put _ _ w.objects w.next_koid _
+    objects_alone start w (with_object w b) refl refl (omega arith) (sorted_put w.objects w.next_koid _) (changed_put _ _ w.objects w.next_koid _
     (new _ refl (record { next = omega arith; given = omega arith; quiet = quiet; unraised = refl; peer = peer; tree = tree }))) (alike refl)
 
 -- an object is made as the end of a pair of this kind; nothing is to be read at it
@@ -404,7 +405,7 @@ pub ends_are_made : {end_to : ℕ → Body} {kind : Kind} (start w : World) (n :
     → Change start w (with_object (with_object w (end_to (n + 1))) (end_to n))
 unfolding with_object
 ends_are_made {end_to} {kind} start w n here makes =
-    objects_alone start w after refl refl (omega arith) (λ h. in_order-put first _ _ (in_order-put w.objects _ _ h)) at_koid (alike refl)
+    objects_alone start w after refl refl (omega arith) (λ h. sorted_put first _ _ (sorted_put w.objects _ _ h)) at_koid (alike refl)
   where
     after : World
     after = with_object (with_object w (end_to (n + 1))) (end_to n)
@@ -463,7 +464,7 @@ ends_are_made {end_to} {kind} start w n here makes =
 pub packets_are_changed : (start w : World) (k : ℕ) (f : List Packet → List Packet) → Change start w (on_object w k (repacked f))
 unfolding on_object
 packets_are_changed start w k f =
-    objects_alone start w (on_object w k (repacked f)) refl refl (omega arith) (λ h. rw (in_order-update w.objects k (repacked f)) h)
+    objects_alone start w (on_object w k (repacked f)) refl refl (omega arith) (λ h. rw (is_sorted-update w.objects k (repacked f)) h)
     (changed_update _ _ w.objects k (repacked f) (λ x there. by_body x x.body refl)) (alike refl)
   where
     other : (x : Object) → body_packed f x.body ≡ x.body
@@ -493,7 +494,7 @@ waits_end start w p v = objects_alone start w (without_waits w p v) refl refl (o
 pub packet_goes : (start w : World) (k : ℕ) (o : Object) (old rest : List Packet) → get w.objects k ≡ Some o → o.body ≡ PortBody old
     → Change start w (with_body w k o (PortBody rest))
 packet_goes start w k o old rest there port =
-    objects_alone start w (with_body w k o (PortBody rest)) refl refl (omega arith) (in_order-put w.objects k _)
+    objects_alone start w (with_body w k o (PortBody rest)) refl refl (omega arith) (sorted_put w.objects k _)
     (changed_put _ _ w.objects k _ (changed o _ there refl (packets_change old rest port refl))) (alike refl)
 
 pub waits_fire : (start w : World) → Change start w (fired w)

@@ -1,7 +1,7 @@
 -- Handles enter and leave the table of a process: where there is room values are free, and each handle is one change.
-use Rattle.zl_code.proofs.Common.{All, All-cons, All-head, All-nil, All-tail, Body, Bool, Entry, HandlesAreNamed, HandlesAreSound, IsSound, IsTrue, Kind, List}
-use Rattle.zl_code.proofs.Common.{Map, None, Object, Option, Process, Some, Wait, World, [], and_from, and_parts, ap, arith, cases_Bool, cond, copy_of}
-use Rattle.zl_code.proofs.Common.{default_rights_of, entry_at, eq-eqb, eqb-true, false, filter, get, get-put, get-update, get-where_key-in, get-where_key-out}
+use Rattle.zl_code.proofs.Common.{All, All-cons, All-head, All-nil, All-tail, Body, Entry, HandlesAreNamed, HandlesAreSound, IsSound, IsTrue, Kind, List}
+use Rattle.zl_code.proofs.Common.{Map, None, Object, Option, Process, Some, Wait, World, [], and_from, and_parts, ap, arith, cases_Bool, copy_of}
+use Rattle.zl_code.proofs.Common.{default_rights_of, entry_at, eq-eqb, eqb-true, false, get, get-put, get-update, get-where_key-in, get-where_key-out}
 use Rattle.zl_code.proofs.Common.{granted, handles_in, has_default_rights, has_key, inl, inr, insert_all, is_some, kind_of, length, lt-ltb, may_get}
 use Rattle.zl_code.proofs.Common.{may_get_after, may_get_all, names_its_object, narrowed, narrowed_within, nat_lt, nat_tests, ne_eqb, new_entry, none-some, not}
 use Rattle.zl_code.proofs.Common.{not-true, on_process, process_with, process_without, put, refl, remove_all, runs, same_Some, subst, suc, sym, taken, true}
@@ -10,23 +10,24 @@ use Rattle.zl_rights.specs.declared.kind.Kind.TheVariants as kind
 use Rattle.zl_rights.specs.declared.rights.Rights.{Rights}
 use Rattle.zl_code.proofs.MapKept.{changed}
 use Rattle.zl_code.proofs.Changes.{AreUnmade, MayEnter, handle_enters, Changes, stays, changes, process_changes, handle_goes}
+use Rattle.zl_rights.proofs.Settling.{filter-length}
 
 -- ---- an unused value
 
-pub length_filter : {X : Type 0} (test : X → Bool) (xs : List X) → length (filter test xs) ≤ length xs
-length_filter test [] = omega arith
-length_filter test (x ∷ xs) = by_test (test x) (length_filter test xs)
+-- nothing is at the koid that is given next
+pub no_process : (w : World) → IsSound w → get w.processes w.next_koid ≡ None
+no_process w s = by_process (get w.processes w.next_koid) refl
   where
-    by_test : (b : Bool) → length (filter test xs) ≤ length xs → length (cond b (x ∷ filter test xs) (filter test xs)) ≤ suc (length xs)
-    by_test true h = omega arith
-    by_test false h = omega arith
+    by_process : (o : Option Process) → get w.processes w.next_koid ≡ o → o ≡ None
+    by_process None is = refl
+    by_process (Some q) is = let below : w.next_koid < w.next_koid = s.processes w.next_koid (ap is_some is) in absurd (omega arith)
 
 -- without a key that is there a map is shorter
 pub length_without : {X : Type 0} (m : Map X) (k : ℕ) → has_key m k ≡ true → length (without m k) < length m
 unfolding get without
 length_without [] k h = absurd (true≢false (sym h))
 length_without {X = X} (e ∷ m) k h = elim (cases_Bool (e.0 == k)) as (λ _. length (without (e ∷ m) k) < suc (length m)) [
-  | inl here ↦ rw here (let short : length (without m k) ≤ length m = length_filter (λ (x : ℕ × X). not (x.0 == k)) m in omega arith)
+  | inl here ↦ rw here (let short : length (without m k) ≤ length m = filter-length (λ (x : ℕ × X). not (x.0 == k)) m in omega arith)
   | inr there ↦ rw there (let short : length (without m k) < length m = length_without m k (rw there at h) in omega arith)
 ]
 
@@ -126,7 +127,7 @@ all_enter start u p q (e ∷ es) (v ∷ vs) there running gets room may fine =
         by_last (Some l) is gets = may.last s v (rw (eqb-true v l gets) is)
         by_last None is gets = not-true _ (and_parts (nat_lt v 65536) _ (and_parts (nat_lt 0 v) _ gets).1).1
 
-same_state : (v : ℕ) (q : Process) → (process_without v q).state ≡ q.state
+pub same_state : (v : ℕ) (q : Process) → (process_without v q).state ≡ q.state
 same_state v q = elim (cases_Bool (has_key q.handles v)) as (λ _. (process_without v q).state ≡ q.state) [ inl there ↦ rw there refl | inr gone ↦ rw gone refl ]
 
 pub all_leave : (start u : World) (p : ℕ) (hs : List ℕ) → Changes start u (remove_all u p hs)
@@ -152,7 +153,7 @@ shorter_without : (v : ℕ) (q : Process) → length (process_without v q).handl
 unfolding without
 shorter_without v q =
     elim (cases_Bool (has_key q.handles v))
-    as (λ _. length (process_without v q).handles ≤ length q.handles) [ inl there ↦ rw there (length_filter _ q.handles) | inr gone ↦ rw gone (omega arith) ]
+    as (λ _. length (process_without v q).handles ≤ length q.handles) [ inl there ↦ rw there (filter-length _ q.handles) | inr gone ↦ rw gone (omega arith) ]
 
 pub left_behind : (w : World) (p : ℕ) (q : Process) (hs : List ℕ) → get w.processes p ≡ Some q → (after : Process) × IsLeft w (remove_all w p hs) p q after
 unfolding remove_all on_process

@@ -19,10 +19,14 @@ use Rattle.zl_code.specs.Frame.{policy_of}
 use Rattle.zl_code.proofs.Changes.{ObjectChange, signals_change, packets_change, message_comes, message_goes, policy_changes, dies, Change, kept}
 use Rattle.zl_code.proofs.TaskLaws.{arg_there, child_of}
 use Rattle.zl_code.proofs.Killing.{job_of}
-use Rattle.zl_code.proofs.NamesKept.{list_any-get}
+use Rattle.zl_rights.proofs.MapTests.{any_at}
 use Rattle.zl_code.proofs.MapKept.{each_changed}
 use Rattle.zl_code.proofs.StepChanges.{step_changes}
 use Rattle.zl_code.proofs.SoundRuns.{step_handles_named}
+
+pub unkilled : (o : Option Process) → option_map (process_killed false) o ≡ o
+unkilled None = refl
+unkilled (Some x) = refl
 
 -- ---- what p does
 
@@ -71,11 +75,7 @@ module _ (p q : ℕ) (apart : (p == q) ≡ false) where
   effect_other lib w u (process_start process h word) vs old same free =
       get-update u.processes (object_at w p process) (started_with vs word) q ∙ rw (not-true _ free) refl
   effect_other lib w u (task_kill task) vs old same free =
-      get-each u.processes (λ k. process_killed (is_within u.objects (object_at w p task) k)) q ∙ rw (same, not-true _ free) (as_it_was (get u.processes q))
-    where
-      as_it_was : (o : Option Process) → option_map (process_killed false) o ≡ o
-      as_it_was None = refl
-      as_it_was (Some x) = refl
+      get-each u.processes (λ k. process_killed (is_within u.objects (object_at w p task) k)) q ∙ rw (same, not-true _ free) (unkilled (get u.processes q))
   effect_other lib w u _ vs old same free = refl
 
   receiver_other : (w : World) (request : Request) → spares w request ≡ true → (receiver_of w p request == q) ≡ false
@@ -405,7 +405,7 @@ within_is_busy w s j _ (below k parent d policy killed o at is inner) depth l =
     same_parent = ap (λ b. parent_in (Some b)) (sym body ∙ is)
 
     child : parent ≡ j → has_child_job w j ≡ true
-    child e = list_any-get _ w.objects k o at (below_it o.body body)
+    child e = any_at _ w.objects k o at (below_it o.body body)
       where
         below_it : (b : Body) → b ≡ JobBody l.parent depth l.policy false → is_job_below j b ≡ true
         below_it b same = rw (same, same_parent, e, eq-eqb j j refl) refl
@@ -414,7 +414,7 @@ is_busy : (w : World) (j : ℕ) → IsSound w → HasLiving w j → has_child w 
 unfolding has_child_process is_process
 is_busy w j s h =
     elim (within_is_busy w s j h.job h.within has.depth (subst (λ n. LivesAt w.objects n has.depth) same_job has.lives)) as (λ _. has_child w j ≡ true) [
-      | inl here ↦ or_right (has_child_job w j) _ (list_any-get _ w.objects h.pid h.object h.object_there
+      | inl here ↦ or_right (has_child_job w j) _ (any_at _ w.objects h.pid h.object h.object_there
           (and_from (is_process_of j h.object.body) _ (in_it h.object.body h.in_job here) (rw h.there h.living)))
       | inr busy ↦ or_left (has_child_job w j) _ busy
     ]

@@ -3,8 +3,9 @@ use Rattle.zl_code.proofs.Common.{Body, Bool, ChannelEnd, Entry, HandlesAreSound
 use Rattle.zl_code.proofs.Common.{Settles, Some, World, [], and_from, and_parts, body_after_read, body_killed, body_with_message, body_with_policy, get}
 use Rattle.zl_code.proofs.Common.{has_default_rights, in_order, list_all, list_all-append, none-some, not, process_settled, put, queue_of, refl, true}
 use Rattle.zl_code.proofs.Common.{where_key, without, without_others, ℕ, ◌==◌, ◌∷◌, ◌≡◌}
-use Rattle.zl_code.proofs.MapKept.{in_order-put, in_order-where_key, in_order-each, each_put, each_where_key, changed, changed_each, each_changed}
+use Rattle.zl_code.proofs.MapKept.{in_order-where_key, in_order-each, each_put, each_where_key, changed, changed_each, each_changed}
 use Rattle.zl_code.proofs.Changes.{ObjectChange, signals_change, packets_change, message_comes, message_goes, policy_changes, dies, Change, table_kept}
+use Rattle.zl_rights.proofs.MapEdits.{sorted_put}
 
 record IsFineTable (m : Map Entry) : Type 0 where
   order : IsTrue (in_order m)
@@ -18,7 +19,7 @@ unfolding get
 empty_table = record { order = refl; rights = λ v e there. absurd (none-some e there) }
 
 enters : (m : Map Entry) (v : ℕ) (e : Entry) → IsTrue (has_default_rights e) → IsFineTable m → IsFineTable (put m v e)
-enters m v e fine t = record { order = in_order-put m v e t.order; rights = each_put (λ x. IsTrue (has_default_rights x)) m t.rights v e fine }
+enters m v e fine t = record { order = sorted_put m v e t.order; rights = each_put (λ x. IsTrue (has_default_rights x)) m t.rights v e fine }
 
 leaves : (m : Map Entry) (v : ℕ) → IsFineTable m → IsFineTable (without m v)
 unfolding without where_key

@@ -100,6 +100,10 @@ instr_fault-named raw bytes l r h good from bad =
     let missing : names_registers l.ending (reading_of bytes) ≡ false = sym (ap (names_registers l.ending) read) ∙ bad in
     ap (fault_by raw (reading_of bytes)) h ∙ rw (good, missing) refl
 
+pub first_some-one : (f : Option DecodeFault) → first_some (f ∷ []) ≡ f
+first_some-one None = refl
+first_some-one (Some f) = refl
+
 -- with registers in their range, a fault is a set field that isn't used
 pub instr_fault-known : (raw : Bool) (bytes : List ℕ) (l : Layout) (r : Reading) (unused : Bool) → layout_of (slice_index bytes 0) ≡ Some l
     → are_registers (registers_at bytes) ≡ true
@@ -109,11 +113,7 @@ instr_fault-known raw bytes l r unused h good from named e =
     let read = as_read bytes r from in
     let there : names_registers l.ending (reading_of bytes) ≡ true = sym (ap (names_registers l.ending) read) ∙ named in
     let same : is_unused_zero l (reading_of bytes) ≡ unused = sym (ap (is_unused_zero l) read) ∙ e in
-    ap (fault_by raw (reading_of bytes)) h ∙ rw (good, there, same) (only (then_some (not unused) faults.UnusedField))
-  where
-    only : (f : Option DecodeFault) → first_some (f ∷ []) ≡ f
-    only None = refl
-    only (Some f) = refl
+    ap (fault_by raw (reading_of bytes)) h ∙ rw (good, there, same) (first_some-one (then_some (not unused) faults.UnusedField))
 
 pub IfSome-at : {A : Type 0} (o : Option A) (P : A → Type 0) (x : A) → o ≡ Some x → IfSome o P → P x
 IfSome-at None P x e h = absurd cc

@@ -69,73 +69,42 @@ image raw memory budget needs starts slots code =
 
 module _ (raw : Bool) (memory budget : ℕ) (needs : List Condition) (starts : List Start) (slots : List SlotArray) (code : List Instr)
     (h : is_in_range (image raw memory budget needs starts slots code) ≡ true) where
-  pub raw_in_range : is_in_range (image true memory budget needs starts slots code) ≡ true
-  raw_in_range =
-      let r = ranges (image raw memory budget needs starts slots code) h in
-      in_range_by (image true memory budget needs starts slots code)
+  was : Ranges (image raw memory budget needs starts slots code)
+  was = ranges (image raw memory budget needs starts slots code) h
+
+  -- the mark, the declarations or the code may be others
+  with_parts : (raw2 : Bool) (starts2 : List Start) (slots2 : List SlotArray) (code2 : List Instr)
+      → length starts2 ≤ 7 → list_all is_start_in_range starts2 ≡ true → length slots2 ≤ 8 → list_all is_slot_in_range slots2 ≡ true
+      → length code2 ≤ 4096 → list_all (is_instr_in_range raw2) code2 ≡ true → is_in_range (image raw2 memory budget needs starts2 slots2 code2) ≡ true
+  with_parts raw2 starts2 slots2 code2 few_starts starts_fit few_slots slots_fit short code_fits =
+      in_range_by (image raw2 memory budget needs starts2 slots2 code2)
       (record {
-        count = r.count;
-        memory = r.memory;
-        least = r.least;
-        most = r.most;
-        needs = r.needs;
-        starts_count = r.starts_count;
-        slots_count = r.slots_count;
-        starts = r.starts;
-        slots = r.slots;
-        code = marked raw code r.code;
+        count = short;
+        memory = was.memory;
+        least = was.least;
+        most = was.most;
+        needs = was.needs;
+        starts_count = few_starts;
+        slots_count = few_slots;
+        starts = starts_fit;
+        slots = slots_fit;
+        code = code_fits;
       })
+
+  pub raw_in_range : is_in_range (image true memory budget needs starts slots code) ≡ true
+  raw_in_range = with_parts true starts slots code was.starts_count was.starts was.slots_count was.slots was.count (marked raw code was.code)
 
   pub starts_in_range : (start : Start) → is_start_in_range start ≡ true → length starts < 7
       → is_in_range (image raw memory budget needs (starts ++ (start ∷ [])) slots code) ≡ true
-  starts_in_range start fits room =
-      let r = ranges (image raw memory budget needs starts slots code) h in
-      in_range_by (image raw memory budget needs (starts ++ (start ∷ [])) slots code)
-      (record {
-        count = r.count;
-        memory = r.memory;
-        least = r.least;
-        most = r.most;
-        needs = r.needs;
-        starts_count = one_more starts start 7 room;
-        slots_count = r.slots_count;
-        starts = list_all_push is_start_in_range starts start r.starts fits;
-        slots = r.slots;
-        code = r.code;
-      })
+  starts_in_range start fits room = with_parts raw (starts ++ (start ∷ [])) slots code (one_more starts start 7 room)
+      (list_all_push is_start_in_range starts start was.starts fits) was.slots_count was.slots was.count was.code
 
   pub slots_in_range : (array : SlotArray) → is_slot_in_range array ≡ true → length slots < 8
       → is_in_range (image raw memory budget needs starts (slots ++ (array ∷ [])) code) ≡ true
-  slots_in_range array fits room =
-      let r = ranges (image raw memory budget needs starts slots code) h in
-      in_range_by (image raw memory budget needs starts (slots ++ (array ∷ [])) code)
-      (record {
-        count = r.count;
-        memory = r.memory;
-        least = r.least;
-        most = r.most;
-        needs = r.needs;
-        starts_count = r.starts_count;
-        slots_count = one_more slots array 8 room;
-        starts = r.starts;
-        slots = list_all_push is_slot_in_range slots array r.slots fits;
-        code = r.code;
-      })
+  slots_in_range array fits room = with_parts raw starts (slots ++ (array ∷ [])) code was.starts_count was.starts (one_more slots array 8 room)
+      (list_all_push is_slot_in_range slots array was.slots fits) was.count was.code
 
   pub code_in_range : (x : Instr) → is_instr_in_range raw x ≡ true → length code < 4096
       → is_in_range (image raw memory budget needs starts slots (code ++ (x ∷ []))) ≡ true
-  code_in_range x fits room =
-      let r = ranges (image raw memory budget needs starts slots code) h in
-      in_range_by (image raw memory budget needs starts slots (code ++ (x ∷ [])))
-      (record {
-        count = one_more code x 4096 room;
-        memory = r.memory;
-        least = r.least;
-        most = r.most;
-        needs = r.needs;
-        starts_count = r.starts_count;
-        slots_count = r.slots_count;
-        starts = r.starts;
-        slots = r.slots;
-        code = list_all_push (is_instr_in_range raw) code x r.code fits;
-      })
+  code_in_range x fits room = with_parts raw starts slots (code ++ (x ∷ [])) was.starts_count was.starts was.slots_count was.slots
+      (one_more code x 4096 room) (list_all_push (is_instr_in_range raw) code x was.code fits)

@@ -4,7 +4,7 @@ use Rattle.zl_code.proofs.Common.{are_needs, arith, code_pieces, cond, count_at,
 use Rattle.zl_code.proofs.Common.{header, header_fault, inl, inr, instr_bytes, instr_fault, is_in_range, is_instr_in_range, is_raw_at, is_slot_in_range}
 use Rattle.zl_code.proofs.Common.{is_start_in_range, le-leb, length, length-append, length-map, list_all, lt-ltb, map, nat_le, nat_lt, needs_byte, number_at}
 use Rattle.zl_code.proofs.Common.{pieces, refl, slice_index, slot_bytes, slot_fault, slot_pieces, slots_at, spelling, start_bytes, start_fault, start_pieces}
-use Rattle.zl_code.proofs.Common.{starts_at, sym, true, ℕ, ◌*◌, ◌++◌, ◌+◌, ◌∙◌, ◌∷◌, ◌≡◌, ◌⊎◌}
+use Rattle.zl_code.proofs.Common.{starts_at, sym, true, ℕ, ◌*◌, ◌++◌, ◌+◌, ◌∙◌, ◌≡◌, ◌⊎◌}
 use Rattle.zl_code.specs.declared.image.DecodeFault.TheVariants as faults
 use Rattle.zl_code.proofs.ImageBytes.{IsBytes, number_of-bytes_of}
 use Rattle.zl_code.proofs.ImageNeeds.{needs_at, needs_fit}
@@ -13,6 +13,7 @@ use Rattle.zl_code.proofs.ImageTable.{instr_fits, read_instr}
 use Rattle.zl_code.proofs.ImagePieces.{after, after_8, after_16, span_8, span_16, length-pieces, joined, Parted, parted}
 use Rattle.zl_code.proofs.ImageRanges.{Ranges, ranges}
 use Rattle.zl_code.proofs.ImageHeader.{HeaderFits, header_fits, no_header_fault, header_ranges, HasHeader, header_spelled}
+use Rattle.zl_code.proofs.ImageInstr.{first_some-one}
 
 -- ---- what is read is spelled so
 
@@ -127,11 +128,7 @@ pub first_fault-code : (bytes : List ℕ) (fault : Option DecodeFault) → heade
     → first_some (map slot_fault (slot_pieces bytes)) ≡ None
     → first_some (map (instr_fault (is_raw_at bytes)) (code_pieces bytes)) ≡ fault → first_fault bytes ≡ fault
 unfolding first_fault
-first_fault-code bytes fault none starts slots h = rw (none, starts, slots, h) (last fault)
-  where
-    last : (f : Option DecodeFault) → first_some (f ∷ []) ≡ f
-    last None = refl
-    last (Some f) = refl
+first_fault-code bytes fault none starts slots h = rw (none, starts, slots, h) (first_some-one fault)
 
 -- ---- what is spelled so is read
 

@@ -1,34 +1,16 @@
 -- What each value of a map has, and the order of its keys, after a change.
-use Rattle.zl_code.proofs.Common.{Bool, IsTrue, Map, None, Option, Some, T, [], ap, arith, below_all, cases_Bool, each, eq-eqb, eqb-true, false, get, get-each}
-use Rattle.zl_code.proofs.Common.{get-put, get-update, get-where_key-in, get-where_key-out, in_order, inl, inr, nat_cmp, nat_tests, none-some, option_map, put}
-use Rattle.zl_code.proofs.Common.{refl, same_Some, subst, sym, true, update, where_key, ℕ, ◌==◌, ◌∙◌, ◌∷◌, ◌≡◌}
-use Rattle.std.specs.Cmp.{nat_cmp_total}
-use Rattle.std.specs.FinMap.Entries.{is_sorted-put, is_sorted-where_key}
-use Rattle.zl_rights.proofs.Canonical.{put-std}
-
-IsTrue-from_T : (b : Bool) → T b → IsTrue b
-IsTrue-from_T true h = refl
-IsTrue-from_T false h = absurd h
+use Rattle.zl_code.proofs.Common.{Bool, IsTrue, Map, None, Option, Some, T, [], ap, below_all, cases_Bool, each, eq-eqb, eqb-true, false, get, get-each}
+use Rattle.zl_code.proofs.Common.{get-put, get-update, get-where_key-in, get-where_key-out, in_order, inl, inr, nat_cmp, none-some, option_map, put}
+use Rattle.zl_code.proofs.Common.{refl, same_Some, subst, sym, update, where_key, ℕ, ◌==◌, ◌∙◌, ◌∷◌, ◌≡◌}
+use Rattle.std.specs.FinMap.Entries.{is_sorted-where_key}
+use Rattle.zl_rights.proofs.MapEdits.{IsTrue-from_T}
 
 -- ---- the order of the keys
 
 module _ {X : Type 0} where
-  pub in_order-put : (m : Map X) (k : ℕ) (v : X) → IsTrue (in_order m) → IsTrue (in_order (put m k v))
-  in_order-put m k v order = rw (put-std m k v) (IsTrue-from_T _ (is_sorted-put nat_cmp nat_cmp_total k v m (subst T (sym order) tt)))
-
   pub in_order-where_key : (m : Map X) (p : ℕ → Bool) → IsTrue (in_order m) → IsTrue (in_order (where_key p m))
   unfolding where_key
   in_order-where_key m p order = IsTrue-from_T _ (is_sorted-where_key nat_cmp p m (subst T (sym order) tt))
-
-  below_all-update : (k : ℕ) (m : Map X) (q : ℕ) (f : X → X) → below_all nat_cmp k (update m q f) ≡ below_all nat_cmp k m
-  unfolding update
-  below_all-update k [] q f = refl
-  below_all-update k (e ∷ m) q f = grind (arith, nat_tests, below_all-update k m q f)
-
-  pub in_order-update : (m : Map X) (q : ℕ) (f : X → X) → in_order (update m q f) ≡ in_order m
-  unfolding update
-  in_order-update [] q f = refl
-  in_order-update (e ∷ m) q f = grind (arith, nat_tests, below_all-update e.0 m q f, in_order-update m q f)
 
   below_all-each : (k : ℕ) (m : Map X) (f : ℕ → X → X) → below_all nat_cmp k (each f m) ≡ below_all nat_cmp k m
   unfolding each

@@ -1,8 +1,8 @@
 -- What handles name stays there, of the kind that they have.
-use Rattle.zl_code.proofs.Common.{All, All-append, All-cons, All-nil, All-tail, Body, Bool, ChannelEnd, Entry, HandlesAreNamed, HasGivenKoids, IsLargestHeld}
+use Rattle.zl_code.proofs.Common.{All, All-append, All-cons, All-nil, All-tail, Body, ChannelEnd, Entry, HandlesAreNamed, HasGivenKoids, IsLargestHeld}
 use Rattle.zl_code.proofs.Common.{IsTrue, Koids, Map, Message, Object, Process, Settles, Some, World, [], and_from, ap, arith, body_after_read}
-use Rattle.zl_code.proofs.Common.{body_with_message, cases_Bool, eq-eqb, eqb-true, get, get-where_key-in, get-where_key-out, has_living_child, in_queue}
-use Rattle.zl_code.proofs.Common.{in_table, inl, inr, is_held, is_held-larger, is_process, is_some, kind_of, length, list_any, names_its_object, none-some, not}
+use Rattle.zl_code.proofs.Common.{body_with_message, cases_Bool, eq-eqb, get, get-where_key-in, get-where_key-out, has_living_child, in_queue}
+use Rattle.zl_code.proofs.Common.{in_table, inl, inr, is_held, is_held-larger, is_process, is_some, kind_of, length, names_its_object, none-some, not}
 use Rattle.zl_code.proofs.Common.{or_left, or_right, process_settled, queue_of, refl, runs, same_Some, slice_index_or, sym, where_key, without, without_others}
 use Rattle.zl_code.proofs.Common.{ℕ, ◌<◌, ◌==◌, ◌||◌, ◌∙◌, ◌∷◌, ◌≡◌, ◌⊎◌}
 use Rattle.std.proofs.lemmas.List.Folds.{list_any_at}
@@ -10,6 +10,7 @@ use Rattle.zl_code.proofs.MapKept.{Each, each_put, each_where_key, same, changed
 use Rattle.zl_code.proofs.HandlesKept.{set_queue, killed_queue}
 use Rattle.zl_code.proofs.Changes.{ObjectChange, signals_change, packets_change, message_comes, message_goes, policy_changes, dies, Change, table_kept}
 use Rattle.zl_code.proofs.NotReused.{same_kind}
+use Rattle.zl_rights.proofs.MapTests.{any_at}
 
 -- ---- one process and one object, where handles name objects of m
 
@@ -90,24 +91,16 @@ named_change start u v before given c s = record {
 pub held_is_kept : (w : World) (K : Koids) → IsLargestHeld w K → (k : ℕ) → IsTrue (is_held w K k) → IsTrue (K k)
 held_is_kept w K l = l.largest (is_held w K) (is_held-larger w K (is_held w K) l.held)
 
-pub list_any-get : {X : Type 0} (test : ℕ × X → Bool) (m : Map X) (k : ℕ) (x : X) → get m k ≡ Some x → IsTrue (test (k, x)) → IsTrue (list_any test m)
-unfolding get
-list_any-get test [] k x there pass = absurd (none-some x there)
-list_any-get test ((j, y) ∷ m) k x there pass = elim (cases_Bool (j == k)) as (λ _. IsTrue (test (j, y) || list_any test m)) [
-  | inl here ↦ or_left (test (j, y)) _ (rw (eqb-true j k here, same_Some y x (rw here at there)) pass)
-  | inr other ↦ or_right (test (j, y)) _ (list_any-get test m k x (rw other at there) pass)
-]
-
 named_in_table : (w : World) (p v : ℕ) (q : Process) (e : Entry) → get w.processes p ≡ Some q → get q.handles v ≡ Some e → IsTrue (in_table w e.koid)
 unfolding in_table
-named_in_table w p v q e there at = list_any-get _ w.processes p q there (list_any-get _ q.handles v e at (eq-eqb e.koid e.koid refl))
+named_in_table w p v q e there at = any_at _ w.processes p q there (any_at _ q.handles v e at (eq-eqb e.koid e.koid refl))
 
 named_in_queue : (w : World) (K : Koids) (k : ℕ) (o : Object) → get w.objects k ≡ Some o → IsTrue (K k) → (i j : ℕ) (m : Message) (e : Entry)
     → i < length (queue_of o.body) → j < length (slice_index_or (queue_of o.body) i m).handles
     → IsTrue (in_queue w K (slice_index_or (slice_index_or (queue_of o.body) i m).handles j e).koid)
 unfolding in_queue
 named_in_queue w K k o there kept i j m e inside below =
-    list_any-get _ w.objects k o there (and_from (K k) _ kept (list_any_at _ (queue_of o.body) i m inside
+    any_at _ w.objects k o there (and_from (K k) _ kept (list_any_at _ (queue_of o.body) i m inside
     (list_any_at _ (slice_index_or (queue_of o.body) i m).handles j e below (eq-eqb _ _ refl))))
 
 -- what a handle in a table or in a kept queue names is kept

@@ -10,19 +10,19 @@ use Rattle.zl_code.proofs.Running.{computing}
 use Rattle.zl_code.proofs.RowsWords.{program_of, registers_of}
 
 -- const r2, 1 alone
-abbrev library : Library
+abbrev pub library : Library
 library = program_of (instr.Local (local.Const 2 1) ∷ [])
 
 -- KOID:*
-abbrev with_default : ℕ → Grant
+abbrev pub with_default : ℕ → Grant
 with_default k = record { koid = k; rights = None }
 
 -- KOID:RIGHTS
-abbrev with_rights : ℕ → ℕ → Grant
+abbrev pub with_rights : ℕ → ℕ → Grant
 with_rights k rights = record { koid = k; rights = Some rights }
 
 -- process 1 0 6 and these handles
-abbrev one : List Grant → Statement
+abbrev pub one : List Grant → Statement
 one handles = statement.Process 1 0 6 handles
 
 -- the world after process 1 0 6 without handles, which has koid 2

@@ -9,6 +9,7 @@ use Rattle.zl_code.specs.declared.boot.Statement.TheVariants as statement
 use Rattle.zl_code.specs.declared.instr.Instr.TheVariants as instr
 use Rattle.zl_code.specs.declared.instr.LocalInstr.TheVariants as local
 use Rattle.zl_code.proofs.Running.{computing}
+use Rattle.zl_code.proofs.RowsBoot.{with_default, with_rights}
 
 -- ---- four programs, and a world
 
@@ -43,14 +44,6 @@ objects_in w = then_done statement.Channel (then_done statement.Event w)
 
 abbrev with_objects : World
 with_objects = objects_in origin
-
--- KOID:*
-abbrev with_default : ℕ → Grant
-with_default k = record { koid = k; rights = None }
-
--- KOID:RIGHTS
-abbrev with_rights : ℕ → ℕ → Grant
-with_rights k rights = record { koid = k; rights = Some rights }
 
 -- the fault of process 1 PROGRAM 6 and these handles
 abbrev fault_in : World → ℕ → List Grant → Option BootCause

@@ -1,30 +1,12 @@
 -- Statements that make events, ports and channels, and their limits, by computation.
-use Rattle.zl_code.proofs.Common.{Body, ChannelEnd, Entry, EventBody, Grant, IsBoot, JobBody, Kind, Library, List, None, Object, PortBody, ProcessBody}
+use Rattle.zl_code.proofs.Common.{Body, ChannelEnd, Entry, EventBody, IsBoot, JobBody, Kind, List, None, Object, PortBody, ProcessBody}
 use Rattle.zl_code.proofs.Common.{Settles-by, Some, Statement, World, [], boot_effect, boot_fault, false, may_boot, origin, refl, rights_of, settled_in}
 use Rattle.zl_code.proofs.Common.{table_of, ℕ, ◌∷◌, ◌≡◌}
 use Rattle.zl_rights.specs.declared.kind.Kind.TheVariants as kind
 use Rattle.zl_code.specs.declared.boot.BootCause.TheVariants as cause
 use Rattle.zl_code.specs.declared.boot.Statement.TheVariants as statement
-use Rattle.zl_code.specs.declared.instr.Instr.TheVariants as instr
-use Rattle.zl_code.specs.declared.instr.LocalInstr.TheVariants as local
 use Rattle.zl_code.proofs.Running.{computing}
-use Rattle.zl_code.proofs.RowsWords.{program_of}
-
--- const r2, 1 alone
-abbrev library : Library
-library = program_of (instr.Local (local.Const 2 1) ∷ [])
-
--- KOID:*
-abbrev with_default : ℕ → Grant
-with_default k = record { koid = k; rights = None }
-
--- KOID:RIGHTS
-abbrev with_rights : ℕ → ℕ → Grant
-with_rights k rights = record { koid = k; rights = Some rights }
-
--- process 1 0 6 and these handles
-abbrev one : List Grant → Statement
-one handles = statement.Process 1 0 6 handles
+use Rattle.zl_code.proofs.RowsBoot.{library, one, with_default, with_rights}
 
 -- a handle of a table
 abbrev handle : ℕ → ℕ → Kind → ℕ → ℕ × Entry

@@ -1,6 +1,6 @@
 -- Each cause of replace and of the calls on channels, by computation in small worlds.
-use Rattle.zl_code.proofs.Common.{CallName, ChannelEnd, Choice, DUPLICATE, Entry, EventBody, JobBody, List, Map, Message, None, Object, Option, PEER_CLOSED}
-use Rattle.zl_code.proofs.Common.{Process, ProcessBody, READ, READABLE, Refused, SAME_RIGHTS, Site, Some, TRANSFER, Values, WRITABLE, WRITE, Wait, Wants, World}
+use Rattle.zl_code.proofs.Common.{CallName, ChannelEnd, Choice, DUPLICATE, Entry, List, Map, Message, None, Object, Option, PEER_CLOSED}
+use Rattle.zl_code.proofs.Common.{Process, READ, READABLE, Refused, SAME_RIGHTS, Site, Some, TRANSFER, Values, WRITABLE, WRITE, Wait, Wants, World}
 use Rattle.zl_code.proofs.Common.{[], active, bit_or, body_of, chan_create, chan_read_etc, chan_write, condition_number, effect, false, get, has_key, map}
 use Rattle.zl_code.proofs.Common.{may_choose, negsuc, queue_in, refl, refusal, replace, replicate, rights_of, site, table_of, true, ℕ, ◌-◌, ◌^◌, ◌∷◌, ◌≡◌}
 use Rattle.zl_rights.specs.declared.kind.Kind.TheVariants as kind
@@ -11,7 +11,7 @@ use Rattle.zl_code.specs.declared.history.CallName.TheVariants as name
 use Rattle.zl_code.specs.declared.history.Outcome.TheVariants as outcome
 use Rattle.zl_code.specs.declared.history.TraceItem.TheVariants as item
 use Rattle.zl_code.proofs.Running.{Acted, call_by, settle_by, computing}
-use Rattle.zl_code.proofs.RowsWords.{Refuses, Passes, world_of, process_of, event_with, FIRST_RIGHTS, times, told, after, last_of}
+use Rattle.zl_code.proofs.RowsWords.{Refuses, Passes, world_of, process_of, event_with, FIRST_RIGHTS, times, told, after, last_of, beside_event}
 
 -- ---- the words of the rows
 
@@ -33,9 +33,7 @@ message bytes handles = record { bytes = bytes; handles = handles }
 
 -- what a job and event 3 are beside the ends 4 and 5 of a channel, at which these messages are to be read
 abbrev ends_with : List Message → List Message → Map Object
-ends_with at_4 at_5 =
-    (1, record { body = JobBody 0 1 [] false; raised = 0 }) ∷ (2, record { body = ProcessBody 1; raised = 0 }) ∷ (3, record { body = EventBody; raised = 0 })
-    ∷ (4, record { body = ChannelEnd 5 at_4; raised = 0 }) ∷ (5, record { body = ChannelEnd 4 at_5; raised = 0 }) ∷ []
+ends_with at_4 at_5 = beside_event ((4, record { body = ChannelEnd 5 at_4; raised = 0 }) ∷ (5, record { body = ChannelEnd 4 at_5; raised = 0 }) ∷ [])
 
 -- process 2 has these handles, and beside event 3 there are the ends 4 and 5 of a channel
 abbrev with_ends : Map Entry → List Message → List Message → World
@@ -44,12 +42,7 @@ with_ends = λ handles at_4 at_5. record (world_of [] (process_of (1 ∷ 2 ∷ 3
 -- the same where nobody has a handle to 4, which is gone
 abbrev with_one_end : Map Entry → List Message → World
 with_one_end = λ handles at_5. record (with_ends handles [] []) {
-  objects =
-      (1, record { body = JobBody 0 1 [] false; raised = 0 })
-      ∷ (2, record { body = ProcessBody 1; raised = 0 })
-      ∷ (3, record { body = EventBody; raised = 0 })
-      ∷ (5, record { body = ChannelEnd 4 at_5; raised = 0 })
-      ∷ [];
+  objects = beside_event ((5, record { body = ChannelEnd 4 at_5; raised = 0 }) ∷ []);
 }
 
 -- the messages that are to be read at the object k

@@ -16,6 +16,7 @@ use Rattle.zl_code.specs.Starting.{program_in, program_of}
 use Rattle.zl_code.proofs.Running.{computing}
 use Rattle.zl_code.proofs.SoundRuns.{runs_keep_processes}
 use Rattle.zl_code.proofs.Stored.{boot, image, is_boot, library, statements}
+use Rattle.zl_code.proofs.AwakeRuns.{runs_joined}
 
 -- ---- where a run begins
 
@@ -121,11 +122,6 @@ poll_counts h = h
 -- the caller starts a process
 abbrev pub started_by : ℕ → TraceItem
 started_by caller = item.Call caller name.ProcessStart (outcome.Answered status.Ok)
-
-runs_joined : (lib : Library) (w : World) (xs : List TraceItem) (mid : World) (ys : List TraceItem) (w2 : World) → Runs lib w xs mid → Runs lib mid ys w2
-    → Runs lib w (xs ++ ys) w2
-runs_joined lib w [] mid ys w2 same more = subst (λ v. Runs lib v ys w2) same more
-runs_joined lib w (x ∷ xs) mid ys w2 (first, step, rest) more = (first, step, runs_joined lib first xs mid ys w2 rest more)
 
 -- Behind these items the caller starts the process p, whose program is listed as checked: so p is covered from there on.
 pub covered_by_call : (lib : Library) (boot v end : World) (before more : List TraceItem) (caller p : ℕ) (i : Image) (q : Process)

@@ -1,5 +1,5 @@
 -- Event pairs, by computation in small worlds: each cause of their calls, what is active at their ends, and the statement.
-use Rattle.zl_code.proofs.Common.{Entry, EventBody, JobBody, Library, Map, None, Object, PEER_CLOSED, PairEnd, ProcessBody, READABLE, SIGNAL, SIGNALED}
+use Rattle.zl_code.proofs.Common.{Entry, JobBody, Library, Map, None, Object, PEER_CLOSED, PairEnd, ProcessBody, READABLE, SIGNAL, SIGNALED}
 use Rattle.zl_code.proofs.Common.{SIGNAL_PEER, Site, Some, USER_SIGNALS, Values, WRITABLE, WRITE, Wants, World, [], active, boot_effect, boot_fault, chan_write}
 use Rattle.zl_code.proofs.Common.{condition_number, eventpair_create, false, may_choose, negsuc, origin, refl, signal, signal_peer, site, table_of, ℕ, ◌+◌, ◌-◌}
 use Rattle.zl_code.proofs.Common.{◌^◌, ◌∷◌, ◌≡◌}
@@ -13,7 +13,7 @@ use Rattle.zl_code.specs.declared.history.CallName.TheVariants as name
 use Rattle.zl_code.specs.declared.history.Outcome.TheVariants as outcome
 use Rattle.zl_code.specs.declared.history.TraceItem.TheVariants as item
 use Rattle.zl_code.proofs.Running.{computing}
-use Rattle.zl_code.proofs.RowsWords.{Refuses, Passes, world_of, process_of, entry_of, event_with, FIRST_RIGHTS, times, told, after, turn_of}
+use Rattle.zl_code.proofs.RowsWords.{Refuses, Passes, world_of, process_of, entry_of, event_with, FIRST_RIGHTS, times, told, after, turn_of, beside_event}
 
 -- ---- eventpair_create
 
@@ -78,25 +78,14 @@ rows_of_eventpair_create = (refl, refl, refl, refl, refl, refl, refl, refl, refl
 -- process 2 has these handles, and beside event 3 there are the ends 4 and 5 of an event pair, at which these signals are raised
 abbrev with_ends : Map Entry → ℕ → ℕ → World
 with_ends = λ handles at_4 at_5. record (world_of [] (process_of (1 ∷ 2 ∷ 3 ∷ 4 ∷ 5 ∷ 6 ∷ []) handles None)) {
-  objects =
-      (1, record { body = JobBody 0 1 [] false; raised = 0 })
-      ∷ (2, record { body = ProcessBody 1; raised = 0 })
-      ∷ (3, record { body = EventBody; raised = 0 })
-      ∷ (4, record { body = PairEnd 5; raised = at_4 })
-      ∷ (5, record { body = PairEnd 4; raised = at_5 })
-      ∷ [];
+  objects = beside_event ((4, record { body = PairEnd 5; raised = at_4 }) ∷ (5, record { body = PairEnd 4; raised = at_5 }) ∷ []);
   next_koid = 6;
 }
 
 -- the same where nobody has a handle to 5, which is gone
 abbrev with_one_end : Map Entry → World
 with_one_end = λ handles. record (with_ends handles 0 0) {
-  objects =
-      (1, record { body = JobBody 0 1 [] false; raised = 0 })
-      ∷ (2, record { body = ProcessBody 1; raised = 0 })
-      ∷ (3, record { body = EventBody; raised = 0 })
-      ∷ (4, record { body = PairEnd 5; raised = 0 })
-      ∷ [];
+  objects = beside_event ((4, record { body = PairEnd 5; raised = 0 }) ∷ []);
 }
 
 -- both ends at the values 7 and 8, and event 3 at the value 9

@@ -1,5 +1,5 @@
 -- Each cause of the calls on ports, by computation in small worlds.
-use Rattle.zl_code.proofs.Common.{Blocked, Entry, EventBody, JobBody, List, Map, None, Packet, PacketAt, PortBody, ProcessBody, READ, Ready, Refused, Site}
+use Rattle.zl_code.proofs.Common.{Blocked, Entry, JobBody, List, Map, None, Packet, PacketAt, PortBody, ProcessBody, READ, Ready, Refused, Site}
 use Rattle.zl_code.proofs.Common.{Some, Values, WRITE, Wait, Wants, World, [], body_of, condition_number, default_rights_of, false, map, negsuc, packets_in}
 use Rattle.zl_code.proofs.Common.{port_cancel, port_create, port_poll, port_queue, port_wait, refl, replicate, site, table_of, user_packet, ℕ, ◌++◌, ◌+◌, ◌-◌}
 use Rattle.zl_code.proofs.Common.{◌^◌, ◌∷◌, ◌≡◌}
@@ -12,7 +12,7 @@ use Rattle.zl_code.specs.declared.history.Outcome.TheVariants as outcome
 use Rattle.zl_code.specs.declared.history.TraceItem.TheVariants as item
 use Rattle.zl_code.proofs.Running.{computing}
 use Rattle.zl_code.proofs.RowsWords.{Refuses, Passes, world_of, process_of, entry_of, event_with, FIRST_RIGHTS, times, told, item_of, after, state_of}
-use Rattle.zl_code.proofs.RowsWords.{registers_of, turn_of}
+use Rattle.zl_code.proofs.RowsWords.{beside_event, registers_of, turn_of, waits_there}
 
 -- ---- the words of the rows
 
@@ -23,12 +23,7 @@ signal_packet value object key = record { kind = 1; key = key; trigger = 8; obse
 -- process 2 has these handles, and beside event 3 there is port 4 with these packets
 abbrev with_port : Map Entry → List Packet → World
 with_port = λ handles packets. record (world_of [] (process_of (1 ∷ 2 ∷ 3 ∷ 4 ∷ 5 ∷ 6 ∷ []) handles None)) {
-  objects =
-      (1, record { body = JobBody 0 1 [] false; raised = 0 })
-      ∷ (2, record { body = ProcessBody 1; raised = 0 })
-      ∷ (3, record { body = EventBody; raised = 0 })
-      ∷ (4, record { body = PortBody packets; raised = 0 })
-      ∷ [];
+  objects = beside_event ((4, record { body = PortBody packets; raised = 0 }) ∷ []);
   next_koid = 5;
 }
 
@@ -39,10 +34,6 @@ port_and_event = (7, entry_of kind.Port 4 (READ + WRITE)) ∷ (8, event_with FIR
 -- the packets at port 4: whether of a wait, the key, the value or the mask, and what was active
 abbrev packets_there : World → List (ℕ × ℕ × ℕ × ℕ)
 packets_there w = map (λ (x : Packet). (x.kind, x.key, x.trigger, x.observed)) (packets_in (body_of w 4))
-
--- the keys of the registered waits
-abbrev waits_there : World → List ℕ
-waits_there w = map (λ x. x.key) w.waits
 
 -- ---- port_create
 

@@ -1,36 +1,25 @@
 -- Each cause of signal_peer, by computation in small worlds.
-use Rattle.zl_code.proofs.Common.{ChannelEnd, Entry, EventBody, JobBody, Map, None, PEER_CLOSED, ProcessBody, Refused, SIGNAL, SIGNALED, SIGNAL_PEER, Site}
-use Rattle.zl_code.proofs.Common.{Some, USER_SIGNALS, Values, WRITABLE, World, [], active, false, refl, signal_peer, site, ℕ, ◌+◌, ◌∷◌, ◌≡◌}
+use Rattle.zl_code.proofs.Common.{ChannelEnd, Entry, Map, None, PEER_CLOSED, Refused, SIGNAL, SIGNALED, SIGNAL_PEER, Site}
+use Rattle.zl_code.proofs.Common.{Some, USER_SIGNALS, Values, WRITABLE, World, [], active, refl, signal_peer, site, ℕ, ◌+◌, ◌∷◌, ◌≡◌}
 use Rattle.zl_rights.specs.declared.kind.Kind.TheVariants as kind
 use Rattle.zl_rights.specs.declared.status.Status.TheVariants as status
 use Rattle.zl_code.specs.declared.history.CallName.TheVariants as name
 use Rattle.zl_code.specs.declared.history.Outcome.TheVariants as outcome
 use Rattle.zl_code.specs.declared.history.TraceItem.TheVariants as item
 use Rattle.zl_code.proofs.Running.{computing}
-use Rattle.zl_code.proofs.RowsWords.{Refuses, Passes, world_of, process_of, entry_of, event_with, FIRST_RIGHTS, told, after, turn_of}
+use Rattle.zl_code.proofs.RowsWords.{Refuses, Passes, world_of, process_of, entry_of, event_with, FIRST_RIGHTS, told, after, turn_of, beside_event}
 
 -- process 2 has these handles, and beside event 3 there are the ends 4 and 5 of a channel, at which these signals are raised
 abbrev with_ends : Map Entry → ℕ → ℕ → World
 with_ends = λ handles at_4 at_5. record (world_of [] (process_of (1 ∷ 2 ∷ 3 ∷ 4 ∷ 5 ∷ 6 ∷ []) handles None)) {
-  objects =
-      (1, record { body = JobBody 0 1 [] false; raised = 0 })
-      ∷ (2, record { body = ProcessBody 1; raised = 0 })
-      ∷ (3, record { body = EventBody; raised = 0 })
-      ∷ (4, record { body = ChannelEnd 5 []; raised = at_4 })
-      ∷ (5, record { body = ChannelEnd 4 []; raised = at_5 })
-      ∷ [];
+  objects = beside_event ((4, record { body = ChannelEnd 5 []; raised = at_4 }) ∷ (5, record { body = ChannelEnd 4 []; raised = at_5 }) ∷ []);
   next_koid = 6;
 }
 
 -- the same where nobody has a handle to 5, which is gone
 abbrev with_one_end : Map Entry → World
 with_one_end = λ handles. record (with_ends handles 0 0) {
-  objects =
-      (1, record { body = JobBody 0 1 [] false; raised = 0 })
-      ∷ (2, record { body = ProcessBody 1; raised = 0 })
-      ∷ (3, record { body = EventBody; raised = 0 })
-      ∷ (4, record { body = ChannelEnd 5 []; raised = 0 })
-      ∷ [];
+  objects = beside_event ((4, record { body = ChannelEnd 5 []; raised = 0 }) ∷ []);
 }
 
 -- both ends at the values 7 and 8, and event 3 at the value 9

@@ -1,5 +1,5 @@
 -- Each cause and effect of the calls that start, kill and set policies, by computation in small worlds.
-use Rattle.zl_code.proofs.Common.{Blocked, Body, Bool, CallName, Choice, Created, DESTROY, Ended, Entry, EventBody, JobBody, Library, List, Map, None, Outcome}
+use Rattle.zl_code.proofs.Common.{Blocked, Body, Bool, CallName, Choice, Created, DESTROY, Ended, Entry, JobBody, Library, List, Map, None, Outcome}
 use Rattle.zl_code.proofs.Common.{Process, ProcessBody, Program, Ready, Refused, Request, SET_POLICY, SignalOf, Site, Some, Start, State, TRANSFER, Values}
 use Rattle.zl_code.proofs.Common.{WRITE, Wants, World, [], action_number, body_of, condition_number, default_rights_of, entry_at, false, job_set_policy}
 use Rattle.zl_code.proofs.Common.{mode_number, negsuc, process_start, refl, refusal, replicate, site, table_of, task_kill, true, ℕ, ◌∷◌, ◌≡◌}
@@ -12,7 +12,7 @@ use Rattle.zl_code.specs.declared.history.CallName.TheVariants as name
 use Rattle.zl_code.specs.declared.history.Outcome.TheVariants as outcome
 use Rattle.zl_code.specs.declared.history.TraceItem.TheVariants as item
 use Rattle.zl_code.proofs.Running.{Acted, call_by, computing, settle_by}
-use Rattle.zl_code.proofs.RowsWords.{process_of, entry_of, event_with, FIRST_RIGHTS, told, after, state_of, registers_of}
+use Rattle.zl_code.proofs.RowsWords.{process_of, entry_of, event_with, FIRST_RIGHTS, told, after, state_of, registers_of, beside_event}
 
 -- ---- the words of the rows
 
@@ -45,13 +45,7 @@ child_of program state handles = record {
 abbrev family : Map Entry → Body → Process → World
 family = λ handles b child. record {
   processes = (2, process_of (9 ∷ 7 ∷ 9 ∷ []) handles None) ∷ (5, child) ∷ [];
-  objects =
-      (1, record { body = JobBody 0 1 [] false; raised = 0 })
-      ∷ (2, record { body = ProcessBody 1; raised = 0 })
-      ∷ (3, record { body = EventBody; raised = 0 })
-      ∷ (4, record { body = b; raised = 0 })
-      ∷ (5, record { body = ProcessBody 4; raised = 0 })
-      ∷ [];
+  objects = beside_event ((4, record { body = b; raised = 0 }) ∷ (5, record { body = ProcessBody 4; raised = 0 }) ∷ []);
   waits = [];
   blocked = [];
   next_koid = 6;

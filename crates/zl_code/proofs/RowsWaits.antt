@@ -9,7 +9,7 @@ use Rattle.zl_code.specs.declared.history.Outcome.TheVariants as outcome
 use Rattle.zl_code.specs.declared.history.TraceItem.TheVariants as item
 use Rattle.zl_code.proofs.Running.{computing}
 use Rattle.zl_code.proofs.RowsWords.{Refuses, Passes, world_of, process_of, entry_of, event_with, FIRST_RIGHTS, told, item_of, after, state_of, registers_of}
-use Rattle.zl_code.proofs.RowsWords.{turn_of}
+use Rattle.zl_code.proofs.RowsWords.{beside_event, turn_of, waits_there}
 
 -- ---- the words of the rows
 
@@ -32,24 +32,14 @@ with_raised = λ handles raised. record (world_of [] (process_of (1 ∷ 2 ∷ 3 
 abbrev two_processes : World
 two_processes = record (with_raised four 0) {
   processes = (2, process_of (1 ∷ 2 ∷ 3 ∷ 4 ∷ 5 ∷ 6 ∷ []) four None) ∷ (7, process_of (1 ∷ 2 ∷ 3 ∷ 4 ∷ 5 ∷ 6 ∷ []) four None) ∷ [];
-  objects =
-      (1, record { body = JobBody 0 1 [] false; raised = 0 })
-      ∷ (2, record { body = ProcessBody 1; raised = 0 })
-      ∷ (3, record { body = EventBody; raised = 0 })
-      ∷ (4, record { body = ChannelEnd 5 []; raised = 0 })
-      ∷ (6, record { body = PortBody []; raised = 0 })
-      ∷ (7, record { body = ProcessBody 1; raised = 0 })
-      ∷ [];
+  objects = beside_event ((4, record { body = ChannelEnd 5 []; raised = 0 }) ∷ (6, record { body = PortBody []; raised = 0 })
+      ∷ (7, record { body = ProcessBody 1; raised = 0 }) ∷ []);
   next_koid = 8;
 }
 
 -- what the packets at port 6 say: the key, the mask, and what was active
 abbrev packets_there : World → List (ℕ × ℕ × ℕ × ℕ)
 packets_there w = map (λ (x : Packet). (x.kind, x.key, x.trigger, x.observed)) (packets_in (body_of w 6))
-
--- the keys of the registered waits
-abbrev waits_there : World → List ℕ
-waits_there w = map (λ x. x.key) w.waits
 
 -- ---- wait_one
 

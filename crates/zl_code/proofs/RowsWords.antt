@@ -1,7 +1,7 @@
 -- Small worlds for worked examples, and what is told of them.
 use Rattle.zl_code.proofs.Common.{Action, CallName, Choice, Entry, EventBody, Instr, JobBody, Kind, Library, List, Map, None, Option, Outcome, Process}
 use Rattle.zl_code.proofs.Common.{ProcessBody, Ready, Request, Site, Some, State, TraceItem, World, [], false, get, refusal, replicate, rights_of, suc, take}
-use Rattle.zl_code.proofs.Common.{true, zero, ℕ, ◌++◌, ◌∷◌, ◌≡◌}
+use Rattle.zl_code.proofs.Common.{Object, map, true, zero, ℕ, ◌++◌, ◌∷◌, ◌≡◌}
 use Rattle.zl_rights.specs.declared.kind.Kind.TheVariants as kind
 use Rattle.zl_code.proofs.Running.{Acted, call_by, settle_by}
 
@@ -88,6 +88,18 @@ world_of policy process = record {
   next_koid = 4;
   waits_made = 0;
 }
+
+-- job 1, process 2, event 3 and these objects
+abbrev pub beside_event : Map Object → Map Object
+beside_event more =
+    (1, record { body = JobBody 0 1 [] false; raised = 0 })
+    ∷ (2, record { body = ProcessBody 1; raised = 0 })
+    ∷ (3, record { body = EventBody; raised = 0 })
+    ∷ more
+
+-- the keys of the registered waits
+abbrev pub waits_there : World → List ℕ
+waits_there w = map (λ x. x.key) w.waits
 
 -- a handle with these rights to the object k, which is of the kind
 abbrev pub entry_of : Kind → ℕ → ℕ → Entry

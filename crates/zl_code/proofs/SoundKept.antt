@@ -9,18 +9,21 @@ use Rattle.zl_code.proofs.Common.{is_process, is_some, is_value, length, lives, 
 use Rattle.zl_code.proofs.Common.{or_right, process_settled, put, raisable, refl, runs, same_Some, state_passes, state_without, subst, suc, sym, true}
 use Rattle.zl_code.proofs.Common.{true≢false, where_key, within, without, without_others, ℕ, ◌<◌, ◌==◌, ◌||◌, ◌∙◌, ◌≡◌, ◌≤◌}
 use Rattle.std.specs.Int.{bit_at}
-use Rattle.std.proofs.lemmas.Nat.Bits.{same_from_bits, bit_at_and, bit_at_or, bit_at-zero}
+use Rattle.std.proofs.lemmas.Nat.Bits.{same_from_bits, bit_at_and, bit_at_or}
+use Rattle.std.proofs.lemmas.Nat.{and_le_r}
 use Rattle.zl_rights.specs.Numbers.{changed as signals_changed}
 use Rattle.zl_rights.specs.declared.kind.Kind.TheVariants as kind
 use Rattle.zl_code.proofs.MapKept.{each_where_key, EachChanged, same, changed, new, changed_each, each_changed}
 use Rattle.zl_code.proofs.Changes.{IsWait, MayEnter, ProcessChange, handle_enters, handle_leaves, computes, ends, wakes, starts, blocks, ObjectChange}
 use Rattle.zl_code.proofs.Changes.{signals_change, packets_change, message_comes, message_goes, policy_changes, dies, still, awake, asleep, Change}
-use Rattle.zl_code.proofs.Entering.{length_filter, length_put}
+use Rattle.zl_code.proofs.Entering.{length_put}
 use Rattle.zl_code.proofs.HandlesKept.{sound_change, sound_settled}
-use Rattle.zl_code.proofs.NamesKept.{named_change, named_settled, held_is_kept, list_any-get}
+use Rattle.zl_code.proofs.NamesKept.{named_change, named_settled, held_is_kept}
 use Rattle.zl_code.proofs.NotReused.{given_change, given_settled, same_kind}
 use Rattle.zl_code.proofs.WaitsKept.{AreLive, are_waits, sound_waits, waits_kept, waits_settled}
 use Rattle.zl_code.proofs.TreeKept.{changed_stands, has_body, lives_before, object_stays, stands_on}
+use Rattle.zl_rights.proofs.Settling.{filter-length}
+use Rattle.zl_rights.proofs.MapTests.{any_at}
 
 -- ---- a table
 
@@ -63,7 +66,7 @@ handle_out : (x : Process) (v : ℕ) → has_key x.handles v ≡ true → IsSoun
     → IsSoundTable (runs x.state) (without x.handles v) (Some v)
 unfolding without where_key
 handle_out x v there t = record {
-  few = let shorter : length (without x.handles v) ≤ length x.handles = length_filter _ x.handles in omega (arith, t.few);
+  few = let shorter : length (without x.handles v) ≤ length x.handles = filter-length _ x.handles in omega (arith, t.few);
   values = λ j h. elim (cases_Bool (j == v)) as (λ _. IsTrue (is_value j)) [
     | inl here ↦ absurd (true≢false (sym h ∙ ap is_some (get-where_key-out x.handles (λ i. not (i == v)) j (ap not here))))
     | inr other ↦ t.values j (sym (ap is_some (get-where_key-in x.handles (λ i. not (i == v)) j (ap not other))) ∙ h)
@@ -130,12 +133,7 @@ by_object start after k x y s (policy_changes setting is may) t = rw (is, set_ra
 by_object start after k x y s (dies is may) t = rw (is, killed_raisable x.body) t
 
 pub none_raised : (whole : ℕ) → IsTrue (within 0 whole)
-none_raised whole =
-    eq-eqb _ _ (same_from_bits _ _
-    (λ i. bit_at_and whole 0 i ∙ (ap (λ (m : ℕ). min (bit_at whole i) m) (bit_at-zero i) ∙ (nothing (bit_at whole i) ∙ sym (bit_at-zero i)))))
-  where
-    nothing : (n : ℕ) → min n 0 ≡ 0
-    nothing n = omega arith
+none_raised whole = eq-eqb (bit_and whole 0) 0 (omega (arith, and_le_r whole 0))
 
 -- ---- the peers of ends
 
@@ -317,7 +315,7 @@ module _ (u : World) (K : Koids) (largest : IsLargestHeld u K) (p : ℕ) (x : Pr
       → IsTrue (K p) → IsTrue (K job)
   unfolding is_held has_living_child is_process
   job_kept job o at is job_there alive kept_p =
-      held_is_kept u K largest job (and_from _ _ job_there (or_right _ _ (list_any-get _ u.objects p o at
+      held_is_kept u K largest job (and_from _ _ job_there (or_right _ _ (any_at _ u.objects p o at
       (and_from (K p) _ kept_p (rw (is, there, eq-eqb job job refl) alive)))))
 
 -- a job that lives is there still, at its depth
@@ -349,7 +347,7 @@ parent_kept : (u : World) (K : Koids) → IsLargestHeld u K → (k parent depth 
     → o.body ≡ JobBody parent depth policy false → IsTrue (K k) → LivesAt u.objects parent above → IsTrue (K parent)
 unfolding is_held has_living_child
 parent_kept u K largest k parent depth above policy o at is kept l =
-    held_is_kept u K largest parent (and_from _ _ (has_body (get u.objects parent) _ l.there) (or_right _ _ (list_any-get _ u.objects k o at
+    held_is_kept u K largest parent (and_from _ _ (has_body (get u.objects parent) _ l.there) (or_right _ _ (any_at _ u.objects k o at
     (and_from (K k) _ kept (or_left (is_job_below parent o.body) _ (below o.body is))))))
   where
     below : (b : Body) → b ≡ JobBody parent depth policy false → is_job_below parent b ≡ true

@@ -21,7 +21,7 @@ use Rattle.zl_code.proofs.MapKept.{changed, changed_update, each_changed, each_p
 use Rattle.zl_code.proofs.Changes.{AreUnmade, computes, Changes, stays, changes, settles, join, one, process_changes, process_ends, process_wakes}
 use Rattle.zl_code.proofs.Changes.{process_blocks, process_is_made, object_changes, policy_changes, object_is_made, channel_ends, pair_ends, ends_are_made}
 use Rattle.zl_code.proofs.Changes.{packet_goes, waits_fire}
-use Rattle.zl_code.proofs.Entering.{IsFine, all_enter, all_leave, left_behind}
+use Rattle.zl_code.proofs.Entering.{IsFine, all_enter, all_leave, left_behind, no_process}
 use Rattle.zl_code.proofs.CallLaws.{laws}
 use Rattle.zl_code.proofs.StepsBeside.{ActsAndSettles}
 
@@ -240,7 +240,7 @@ unfolding boot_effect with_object
 boot_changes lib w (statement.Process job program word handles) vs given none fine may =
     changes w made _ (object_is_made w w (ProcessBody job) refl tt (λ s. given.below job (job_is_there (get w.objects job) can.in_job)))
     (changes made begun _ (process_is_made w made w.next_koid first (record {
-      free = λ s. no_process s (get w.processes w.next_koid) refl;
+      free = no_process w;
       given = omega arith;
       empty = refl;
       nothing_last = refl;
@@ -255,7 +255,7 @@ boot_changes lib w (statement.Process job program word handles) vs given none fi
     (made_with_all made w.next_koid first es vs ∙ ap (with_process made w.next_koid) (started_with_all es vs vs word (created_process lib program)))
     (all_enter w begun w.next_koid first es vs (λ s. there) refl (rw (started_may_get es vs vs word (created_process lib program)) may)
     (λ s. omega (arith, can.few, handles_at_most w.objects handles))
-    (record { free = λ s v none. nothing_made w w.next_koid v s (no_process s (get w.processes w.next_koid) refl); last = λ s v is. absurd (none-some v is) })
+    (record { free = λ s v none. nothing_made w w.next_koid v s (no_process w s); last = λ s v is. absurd (none-some v is) })
     (given_are_fine w made.objects handles (λ k o at. stays k (rw at refl) ∙ at) can.rights))))
   where
     made : World
@@ -278,10 +278,6 @@ boot_changes lib w (statement.Process job program word handles) vs given none fi
 
     can : CanStart lib w job program handles
     can = can_start lib w job program word handles fine
-
-    no_process : IsSound w → (o : Option Process) → get w.processes w.next_koid ≡ o → o ≡ None
-    no_process s None is = refl
-    no_process s (Some q) is = let below : w.next_koid < w.next_koid = s.processes w.next_koid (ap is_some is) in absurd (omega arith)
 
     -- an object that was there is there beside the new one
     stays : (k : ℕ) → IsTrue (has_key w.objects k) → get made.objects k ≡ get w.objects k

@@ -13,7 +13,7 @@ use Rattle.zl_code.specs.Starting.{cpu_given, is_created}
 use Rattle.zl_code.proofs.CanStart.{started_may_get}
 use Rattle.zl_code.proofs.Killing.{living_job, lives_beside, new_job_stands}
 use Rattle.zl_code.proofs.Changes.{AreUnmade, process_is_made, Changes, changes, object_is_made, process_starts}
-use Rattle.zl_code.proofs.Entering.{IsFine, HaveRoom, left_behind, all_enter, entry_is_fine, new_is_fine}
+use Rattle.zl_code.proofs.Entering.{IsFine, HaveRoom, left_behind, all_enter, entry_is_fine, new_is_fine, no_process}
 use Rattle.zl_code.proofs.Passing.{IsGranted, first_is_none, first_none, is_granted, listed_none, named_object, test_fails, unmade}
 
 module _ (lib : Library) (w : World) (p : ℕ) (q : Process) (there : get w.processes p ≡ Some q) (ready : q.state ≡ Ready) where
@@ -37,7 +37,7 @@ module _ (lib : Library) (w : World) (p : ℕ) (q : Process) (there : get w.proc
   process_made job program vs passes room gets =
       changes w made _ (object_is_made w w (ProcessBody (object_at w p job)) refl tt (λ s. below_next s))
       (changes made begun _ (process_is_made w made w.next_koid (created_process lib program) (record {
-        free = λ s. no_process s (get w.processes w.next_koid) refl;
+        free = no_process w;
         given = omega arith;
         empty = refl;
         nothing_last = refl;
@@ -62,10 +62,6 @@ module _ (lib : Library) (w : World) (p : ℕ) (q : Process) (there : get w.proc
 
       begun : World
       begun = with_process made w.next_koid (created_process lib program)
-
-      no_process : IsSound w → (o : Option Process) → get w.processes w.next_koid ≡ o → o ≡ None
-      no_process s None is = refl
-      no_process s (Some x) is = let below : w.next_koid < w.next_koid = s.processes w.next_koid (ap is_some is) in absurd (omega arith)
 
       apart : IsSound w → w.next_koid ≡ p → ⊥
       apart s e = let below : p < w.next_koid = s.processes p (ap is_some there) in omega (arith, e, below)

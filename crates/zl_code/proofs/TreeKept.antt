@@ -5,10 +5,11 @@ use Rattle.zl_code.proofs.Common.{and_parts, ap, arith, body_after_read, body_in
 use Rattle.zl_code.proofs.Common.{condition_numbered, eq-eqb, false, false≢true, get, has_key, if◌then◌else◌, inl, inr, is_job_below, is_policy, is_process_of}
 use Rattle.zl_code.proofs.Common.{is_some, list_all, lives, nat_tests, none-some, policy_after, policy_set, put, refl, runs, same_Some, sym, true, true≢false}
 use Rattle.zl_code.proofs.Common.{with_unset, ℕ, ◌<◌, ◌∙◌, ◌∷◌, ◌≡◌}
-use Rattle.zl_code.proofs.MapKept.{in_order-put, same, changed, new}
+use Rattle.zl_code.proofs.MapKept.{same, changed, new}
 use Rattle.zl_code.proofs.Changes.{IsChildless, ProcessChange, handle_enters, handle_leaves, computes, ends, wakes, starts, blocks, ObjectChange}
 use Rattle.zl_code.proofs.Changes.{signals_change, packets_change, message_comes, message_goes, policy_changes, dies, Change}
 use Rattle.zl_rights.specs.declared.policy.Condition.TheVariants as condition
+use Rattle.zl_rights.proofs.MapEdits.{sorted_put}
 
 -- ---- a living process has its object
 
@@ -114,7 +115,7 @@ unfolding with_unset
 set_one a m n known old = elim (cases_Bool (has_key m n)) as (λ _. IsTrue (is_policy (if has_key m n then m else put m n a))) [
   | inl there ↦ rw there old
   | inr free ↦ rw free (and_from _ _ (all_put is_condition m n a known (and_parts (list_all is_condition m) _ old).0)
-      (in_order-put m n a (and_parts (list_all is_condition m) _ old).1))
+      (sorted_put m n a (and_parts (list_all is_condition m) _ old).1))
 ]
 
 -- what is set anew keeps a policy one

@@ -10,12 +10,13 @@ use Rattle.zl_verify.proofs.Common.{on_process, option_map, parent_in, parent_of
 use Rattle.zl_verify.proofs.Common.{port_wait, process_create, process_exit, process_killed, process_start, receiver_of, refl, refusal, same_Some, setting_of}
 use Rattle.zl_verify.proofs.Common.{signal, signal_peer, started_with, stored_by, storing, subst, sym, task_kill, then_some, true, unless_allowed, unwrap_or}
 use Rattle.zl_verify.proofs.Common.{with_effect, with_killed, with_object, without_keyed, ℕ, ℤ, ◌+◌, ◌<◌, ◌==◌, ◌||◌, ◌∙◌, ◌∷◌, ◌≡◌, ◌≤◌, ◌⊎◌}
-use Rattle.zl_code.proofs.NamesKept.{list_any-get}
+use Rattle.zl_rights.proofs.MapTests.{any_at}
 use Rattle.zl_rights.specs.declared.status.Status.TheVariants as status
 use Rattle.zl_rights.specs.declared.policy.Action.TheVariants as action
 use Rattle.zl_verify.proofs.Giving.{getting_all}
 use Rattle.zl_verify.proofs.OwnTable.{changed_elsewhere, inserted_here, inserted_elsewhere, own_handles, storing_in, stored_here}
 use Rattle.zl_code.proofs.Passing.{listed_none, test_fails, test_passes}
+use Rattle.zl_code.proofs.Frame.{unkilled}
 use Rattle.std.proofs.lemmas.Bool.{cond_both}
 
 -- ---- the caller
@@ -48,10 +49,6 @@ no_child w k q y created there old = by (cases_Bool (k == q))
         let here : get w.processes k ≡ Some y = subst (λ j. get w.processes j ≡ Some y) (sym (eqb-true k q same)) there in
         let bad : is_created y.state ≡ true = rw here at created in
         cc
-
-unkilled : (o : Option Process) → option_map (process_killed false) o ≡ o
-unkilled None = refl
-unkilled (Some y) = refl
 
 pub kill_passes_by : (u : World) (k p : ℕ) → is_within u.objects k p ≡ false → get (with_killed u k).processes p ≡ get u.processes p
 unfolding with_killed
@@ -281,7 +278,7 @@ child_in : (w : World) (p : ℕ) (q : Process) (job : ℕ) → get w.processes p
 unfolding has_child_process is_process
 child_in w p q job there living body =
     let (x, at, is) = some_body (get w.objects p) (ProcessBody job) body in
-    list_any-get _ w.objects p x at (rw (is, there, living, eq-eqb job job refl) refl)
+    any_at _ w.objects p x at (rw (is, there, living, eq-eqb job job refl) refl)
 
 pub same_policy : (w w2 : World) (p : ℕ) (q : Process) → IsSound w → get w.processes p ≡ Some q → lives q.state ≡ true → AreAlike w w w2 → (c : Condition)
     → creates w2 p c ≡ creates w p c

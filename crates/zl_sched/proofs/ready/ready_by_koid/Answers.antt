@@ -1,5 +1,5 @@
 use Rattle.zl_sched.proofs.Common.{[], arith, is_process, is_ready, pids_of, sym, ◌∙◌}
-use Rattle.zl_code.proofs.Entering.{length_filter}
+use Rattle.zl_rights.proofs.Settling.{filter-length}
 use Rattle.zl_sched.proofs.Joining.{comes, has_place}
 use Rattle.zl_sched.proofs.ready.ready_by_koid.Goals as goal
 
@@ -11,7 +11,7 @@ push_if-requires c =
           has_place (λ q. is_process c.args.world.now.world is_ready q) []
           (pids_of c.args.world.now.world) c.loop-n.n c.in-Some.pid c.loop-n.ready.items so_far.0 (sym c.process_at.ensures.koid ∙ c.in-Some.is)
           c.is_ready.result c.is_ready.ensures _
-          (omega (arith, length_filter (λ q. is_process c.args.world.now.world is_ready q) (pids_of c.args.world.now.world), so_far.1));
+          (omega (arith, filter-length (λ q. is_process c.args.world.now.world is_ready q) (pids_of c.args.world.now.world), so_far.1));
     }
 
 pub loop-n-preserved : goal.loop-n-preserved

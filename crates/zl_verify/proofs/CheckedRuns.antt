@@ -139,10 +139,7 @@ module _ (lib : Library) (i : Image) (t : ℕ → Option State) (range : is_in_r
     after_own w2 p q y x left k (goes is follows ready) c = by (steps q.cpu.counter) refl c.number
       where
         no_wait : (awaited : Awaited) (ds : List ℕ) → y.state ≡ Blocked awaited ds → left - 1 ≡ i.budget
-        no_wait awaited ds e = absurd (apart (sym ready ∙ e))
-          where
-            apart : Ready ≡ Blocked awaited ds → ⊥
-            apart e = cc
+        no_wait awaited ds e = let clash : Ready ≡ Blocked awaited ds = sym ready ∙ e in absurd cc
 
         by : (o : Option ℕ) → steps q.cpu.counter ≡ o → IsBelow o (left + 1) → IsSomeAnd (left_behind i.budget left (executed x)) (IsCounted y)
         by None at h = absurd h

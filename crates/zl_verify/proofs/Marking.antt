@@ -4,21 +4,12 @@ use Rattle.zl_verify.proofs.Common.{length-replicate, length-set, none-some, ref
 use Rattle.zl_verify.proofs.Common.{◌++◌, ◌+◌, ◌<◌, ◌∙◌, ◌∷◌, ◌≡◌, ◌≢◌, ◌≤◌, ◌⊎◌, []}
 use Rattle.zl_abs.specs.Targets.{jump_of}
 use Rattle.zl_verify.specs.Lists.{within}
-use Rattle.zl_verify.proofs.Places.{get_put, get_put_other, equal_or_not, there}
+use Rattle.zl_verify.proofs.Places.{get_put, get_put_other, equal_or_not}
 
 pub same_past : {X : Type 0} (xs : List X) (n : ℕ) (v : X) → length xs ≤ n → xs ≡ slice_set xs n v
 same_past [] n v h = refl
 same_past (x ∷ xs) zero v h = absurd (omega arith)
 same_past (x ∷ xs) (suc n) v h = ap (λ ys. x ∷ ys) (same_past xs n v (omega arith))
-
--- ---- marks
-
-still : (xs : List Bool) (m n : ℕ) → slice_get xs n ≡ Some true → slice_get (slice_set xs m true) n ≡ Some true
-still xs m n h = by (equal_or_not m n)
-  where
-    by : (m ≡ n) ⊎ (m ≢ n) → slice_get (slice_set xs m true) n ≡ Some true
-    by (inl e) = rw e (get_put xs n true (there xs n true h))
-    by (inr d) = get_put_other xs m n true d ∙ h
 
 -- ---- numbers
 

@@ -129,6 +129,10 @@ module _ (lib : Library) (w : World) (p : ℕ) (caller : Process) (there : get w
 pub keys_below : (w : World) → IsSound w → (q : ℕ) (y : Process) → get w.processes q ≡ Some y → q < w.next_koid
 keys_below w sound q y at = sound.processes q (ap is_some at)
 
+pub not_created : (l : Life) → has_ended l ≡ true → is_created l ≡ false
+not_created Created e = cc
+not_created _ e = refl
+
 module _ (lib : Library) (w : World) (p : ℕ) (x : TraceItem) (w2 : World) (sound : IsSound w) (step : Step lib w p x w2) where
   pub left_by_step : LeavesOthers lib w p step.process step.is_there (keys_below w sound) step.acted
   left_by_step = when_acted lib w p step.process step.is_there (keys_below w sound) (next_for lib step.process) x step.acted step.acts
@@ -137,11 +141,6 @@ module _ (lib : Library) (w : World) (p : ℕ) (x : TraceItem) (w2 : World) (sou
   pub over_after_act : (q : ℕ) (y : Process) → (p == q) ≡ false → get w.processes q ≡ Some y → has_ended y.state ≡ true → get step.acted.processes q ≡ Some y
   over_after_act q y apart at over = by (left_by_step.others q y apart at (not_created y.state over))
     where
-      not_created : (l : Life) → has_ended l ≡ true → is_created l ≡ false
-      not_created (Ended code) e = refl
-      not_created Created e = cc
-      not_created _ e = refl
-
       lives_no_more : (l : Life) → has_ended l ≡ true → lives l ≡ false
       lives_no_more (Ended code) e = refl
       lives_no_more _ e = cc

@@ -80,10 +80,7 @@ leads_so i t n no_pause = by (t n)
 still_there : (i : Image) (t : ℕ → Option State) (p : ℕ) (y : Process) (w2 : World) → y.state ≡ Ready → EndsStep i t p y w2
     → (get w2.processes p ≡ Some y) × Conforms i t w2 p y
 still_there i t p y w2 ready (stays at k) = (at, k)
-still_there i t p y w2 ready (wakes awaited ds waited a) = absurd (apart (sym ready ∙ waited))
-  where
-    apart : Ready ≡ Blocked awaited ds → ⊥
-    apart e = cc
+still_there i t p y w2 ready (wakes awaited ds waited a) = let clash : Ready ≡ Blocked awaited ds = sym ready ∙ waited in absurd cc
 
 -- ---- its own step
 

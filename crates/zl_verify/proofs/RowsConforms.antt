@@ -73,7 +73,7 @@ owned v =
 
 holds : Holds (get process.handles) shown process.cpu.registers image.slots process.cpu.slots
 unfolding get
-holds = record { width = refl; small = small; described = described; lengths = refl; narrow = narrow; stored = stored; once = once }
+holds = record { width = refl; small = small; described = described; lengths = refl; narrow = narrow; stored = stored; once = owned }
   where
     small : (r : ℕ) → slice_index process.cpu.registers r ≤ ANY
     small zero = omega arith
@@ -97,9 +97,6 @@ holds = record { width = refl; small = small; described = described; lengths = r
     stored zero (suc zero) a is less = inl (refl, refl)
     stored zero (suc (suc k)) a is less = inl (refl, refl)
     stored (suc n) k a is less = cc
-
-    once : (v : ℕ) → owners v shown process.cpu.registers + keepers v process.cpu.slots ≡ one_if (is_some (get process.handles v))
-    once v = owned v
 
 -- with any typing that has the start state at the first instruction
 conforms : (t : ℕ → Option State) → t 0 ≡ Some (start_state image) → Conforms image t world 9 process

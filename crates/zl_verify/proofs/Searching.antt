@@ -4,7 +4,7 @@ use Rattle.zl_verify.proofs.Common.{block, cleared, false, inl, inr, length, len
 use Rattle.zl_verify.proofs.Common.{start_state, subst, sym, true, ℕ, ◌+◌, ◌<◌, ◌∙◌, ◌≡◌, ◌≢◌, ◌≤◌, ◌⊎◌}
 use Rattle.zl_abs.specs.Typing.{Holds}
 use Rattle.zl_verify.specs.Search.{Table}
-use Rattle.zl_verify.proofs.Places.{get_put, get_put_other, off, nowhere, equal_or_not, mapped}
+use Rattle.zl_verify.proofs.Places.{get_put_other, off, nowhere, equal_or_not, mapped}
 use Rattle.zl_verify.proofs.Rising.{Quiet, Lower, AllRaise, AllRaiseOr, leads_still, typed_still, raising_all}
 use Rattle.zl_verify.proofs.Leaving.{at_starts, leads_out, at_block}
 
@@ -32,6 +32,11 @@ none_by_edge i bs a t h l n s es e r f y k =
     (subst (λ (x : Result (List Edge) Cause). Holds (at_starts i bs y) x) r (leads_out i bs a y k n s (h.lower y k n s e)))
     (λ m x g. let b = at_block i bs a y k m x g in omega arith)
 
+-- where one waits no more, what was quiet is still so
+still_quiet : (t : Table) → Quiet t → (n m : ℕ) → m < t.from → slice_get (slice_set t.waiting n false) m ≡ Some true → (n ≡ m) ⊎ (n ≢ m) → ⊥
+still_quiet t quiet n m l g (inl p) = off t.waiting n (subst (λ (x : ℕ). slice_get (slice_set t.waiting n false) x ≡ Some true) (sym p) g)
+still_quiet t quiet n m l g (inr d) = quiet m l (sym (get_put_other t.waiting n m false d) ∙ g)
+
 -- one turn
 pub turned_on : (i : Image) (bs : Blocks) → AreBlocks i bs → (t u : Table) → Searching i bs t → (n : ℕ) (s : State) (es : List Edge) → at t.states n ≡ Some s
     → block i bs n s ≡ Ok es → raised_all (cleared t n) es ≡ Some u → Searching i bs u
@@ -41,7 +46,7 @@ turned_on i bs a t u h n s es e r f = record {
   settled = λ m x g w. settled m x g w (all.rises.kept m);
   lower = λ y k. all.lower (at_starts i bs y) (h.lower y k)
       (subst (λ (x : Result (List Edge) Cause). Holds (at_starts i bs y) x) r (leads_out i bs a y k n s (h.lower y k n s e)));
-  quiet = all.rises.quiet (λ m l g. quiet m l g (equal_or_not n m));
+  quiet = all.rises.quiet (λ m l g. still_quiet t h.quiet n m l g (equal_or_not n m));
 }
   where
     t0 : Table
@@ -52,13 +57,6 @@ turned_on i bs a t u h n s es e r f = record {
 
     all : AllRaise t0 es u
     all = subst (λ (o : Option Table). AllRaiseOr t0 es o) f (raising_all t0 es q)
-
-    here : slice_get (slice_set t.waiting n false) n ≡ Some false
-    here = get_put t.waiting n false (let b = mapped t.states n s e in omega (arith, h.same))
-
-    quiet : (m : ℕ) → m < t.from → slice_get (slice_set t.waiting n false) m ≡ Some true → (n ≡ m) ⊎ (n ≢ m) → ⊥
-    quiet m l g (inl p) = off t.waiting n (subst (λ (x : ℕ). slice_get (slice_set t.waiting n false) x ≡ Some true) (sym p) g)
-    quiet m l g (inr d) = h.quiet m l (sym (get_put_other t.waiting n m false d) ∙ g)
 
     settled : (m : ℕ) (x : State) → at u.states m ≡ Some x → slice_get u.waiting m ≡ Some false
         → ((at u.states m ≡ at t.states m) × (slice_get u.waiting m ≡ slice_get (slice_set t.waiting n false) m)) ⊎ (slice_get u.waiting m ≡ Some true)
@@ -81,17 +79,13 @@ cleared_on i bs a t h n e = record {
   begins = h.begins;
   settled = λ m x g w. settled m x g w (equal_or_not n m);
   lower = h.lower;
-  quiet = λ m l g. quiet m l g (equal_or_not n m);
+  quiet = λ m l g. still_quiet t h.quiet n m l g (equal_or_not n m);
 }
   where
     settled : (m : ℕ) (x : State) → at t.states m ≡ Some x → slice_get (slice_set t.waiting n false) m ≡ Some false → (n ≡ m) ⊎ (n ≢ m)
         → Holds (at t.states) (block i bs m x)
     settled m x g w (inl p) = absurd (none-some x (sym e ∙ rw p g))
     settled m x g w (inr d) = h.settled m x g (sym (get_put_other t.waiting n m false d) ∙ w)
-
-    quiet : (m : ℕ) → m < t.from → slice_get (slice_set t.waiting n false) m ≡ Some true → (n ≡ m) ⊎ (n ≢ m) → ⊥
-    quiet m l g (inl p) = off t.waiting n (subst (λ (x : ℕ). slice_get (slice_set t.waiting n false) x ≡ Some true) (sym p) g)
-    quiet m l g (inr d) = h.quiet m l (sym (get_put_other t.waiting n m false d) ∙ g)
 
 -- one instruction on
 pub moved_on : (i : Image) (bs : Blocks) → AreBlocks i bs → (t : Table) → Searching i bs t → slice_get t.waiting t.from ≡ Some false

@@ -109,10 +109,7 @@ told_small (e ∷ es) (v ∷ vs) (right, rights) (one, more) = (one, (kind_few e
 
 packet_small : (packets : List Packet) → AllByRecursion IsSizedPacket packets → AreSmall (first_values packets)
 packet_small [] k = tt
-packet_small (x ∷ rest) (k, more) = (k.key, (small k.kind, (k.trigger, (k.observed, tt))))
-  where
-    small : {n : ℕ} → n ≤ 1 → n ≤ ANY
-    small le = omega arith
+packet_small (x ∷ rest) (k, more) = (k.key, (omega (arith, k.kind), (k.trigger, (k.observed, tt))))
 
 module _ (w : World) (p : ℕ) (s : IsSized w) where
   sizes_small : (h : ℕ) → (length (first_bytes (queue_at w p h)) ≤ ANY) × (length (first_handles (queue_at w p h)) ≤ ANY)

@@ -160,15 +160,12 @@ module _ (w : World) (s : IsSized w) (p : ℕ) where
   by_packet q fits k ds o x rest held =
       let (first, others) = held.packets in
       ready_sized (with_body w k o (PortBody rest)) p q ds (0 ∷ packet_values x) fits
-      (omega arith, (first.key, (small first.kind, (first.trigger, (first.observed, tt)))))
+      (omega arith, (first.key, (omega (arith, first.kind), (first.trigger, (first.observed, tt)))))
       (record {
         cpus = s.cpus;
         kept = each_put IsSizedAt w.objects s.kept k (record o { body = PortBody rest }) (record { messages = tt; packets = others; signals = held.signals });
         waits = s.waits;
       })
-    where
-      small : {n : ℕ} → n ≤ 1 → n ≤ ANY
-      small le = omega arith
 
   pub woken_sized : IsSized (woken w p)
   woken_sized =

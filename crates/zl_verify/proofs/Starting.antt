@@ -1,12 +1,13 @@
 -- A process that starts properly is as a typing of its image says at instruction 0.
-use Rattle.zl_verify.proofs.Common.{ANY, AbsVal, Bool, Conforms, Cpu, Entry, Holds, Image, IsAbove, IsAs, IsMemory, IsProperStart, IsState, IsTyping, Kind}
+use Rattle.zl_verify.proofs.Common.{ANY, AbsVal, Conforms, Cpu, Entry, Holds, Image, IsAbove, IsAs, IsMemory, IsProperStart, IsState, IsTyping, Kind}
 use Rattle.zl_verify.proofs.Common.{Library, List, None, Option, Process, SlotArray, Some, Start, State, Word, World, [], ap, are_declared, are_distinct, arith}
 use Rattle.zl_verify.proofs.Common.{bits, blank_cpu, both, cpu_given, created_process, false, get, has_one, inl, inr, is_in_range, is_it, is_result, keepers}
 use Rattle.zl_verify.proofs.Common.{kind_below, length, map, may_get, may_get_all, nat_tests, none-some, one_if, option_to_list, owners, place_at, process_with}
 use Rattle.zl_verify.proofs.Common.{process_with_all, ranges, refl, register_count, replicate, same_kind, set_from, slice_index, slice_set, start_results}
 use Rattle.zl_verify.proofs.Common.{start_state, start_value, starts_from, subst, suc, sum_by, sum_by-cons, sym, takes, true, value_at, with_all, with_handles}
-use Rattle.zl_verify.proofs.Common.{with_value, within, written, zero, ℕ, ◌+◌, ◌<◌, ◌==◌, ◌||◌, ◌∙◌, ◌∷◌, ◌≡◌, ◌≢◌, ◌≤◌}
+use Rattle.zl_verify.proofs.Common.{with_value, within, written, zero, ℕ, ◌+◌, ◌<◌, ◌==◌, ◌∙◌, ◌∷◌, ◌≡◌, ◌≢◌, ◌≤◌}
 use Rattle.std.proofs.lemmas.List.{length-replicate}
+use Rattle.std.proofs.Math.Bool.{or-false}
 use Rattle.zl_code.specs.Jobs.{is_declared}
 use Rattle.zl_verify.proofs.Owners.{not_0, owns_0}
 use Rattle.zl_verify.proofs.Weakening.{weaken}
@@ -108,11 +109,7 @@ none_held (d ∷ ds) = rw (zero_at d.0, none_held ds) refl
 
 takes_as : (k : Option Kind) (x : Kind) → takes (option_to_list k) x ≡ true → kind_below (Some x) k ≡ true
 takes_as None x e = refl
-takes_as (Some y) x e = by (same_kind x y) e
-  where
-    by : (b : Bool) → (b || false) ≡ true → b ≡ true
-    by true e = refl
-    by false e = cc
+takes_as (Some y) x e = sym (or-false (same_kind x y)) ∙ e
 
 one_declared : (s : Start) (x : Entry) → is_declared s x ≡ true → IsAs s.kind s.rights (Some x)
 one_declared s x e = let two = both (takes (option_to_list s.kind) x.kind) (within (bits s.rights) (bits x.rights)) e in (takes_as s.kind x.kind two.0, two.1)

@@ -14,6 +14,7 @@ use Rattle.zl_verify.proofs.Giving.{getting_all}
 use Rattle.zl_verify.proofs.OwnTable.{changed_here, changed_elsewhere, inserted_elsewhere, own_handles, losing_all, losing_same, removed_here, getting_same}
 use Rattle.zl_verify.proofs.Storing.{storing_same}
 use Rattle.zl_verify.proofs.OwnEffect.{IsDone, caller_after, caller_ending, inserted_objects, stored_objects}
+use Rattle.zl_verify.proofs.Others.{not_created}
 use Rattle.zl_code.proofs.Frame.{left_other, stored_other, ended_other, waiting_other, replied_other}
 
 -- ---- where such a process comes from
@@ -187,11 +188,7 @@ module _ (lib : Library) (w : World) (p : ℕ) (caller : Process) (there : get w
 
   ready_old : (y : Process) → (y.state ≡ Ready) ⊎ (has_ended y.state ≡ true) → is_created y.state ≡ false
   ready_old y (inl is) = ap is_created is
-  ready_old y (inr over) = by y.state over
-    where
-      by : (l : Life) → has_ended l ≡ true → is_created l ≡ false
-      by Created e = cc
-      by _ e = refl
+  ready_old y (inr over) = not_created y.state over
 
   -- p alone changed
   only_p : (u : World) (f : Process → Process) (y : Process) → ((q : ℕ) → (p == q) ≡ false → get u.processes q ≡ get w.processes q)

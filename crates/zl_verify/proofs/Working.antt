@@ -77,11 +77,12 @@ packets_fit bounds [] x f s xs d e g h = zeros_fit f s xs ((d, Word ANY) ∷ (e,
 packets_fit bounds (y ∷ rest) (x, more) f s xs d e g h = (
   f,
   (x.key, x.key, refl),
-  (f, (above bounds y.kind 1 x.kind (small x.kind), small x.kind, refl), (f, (x.trigger, x.trigger, refl), (f, (x.observed, x.observed, refl), refl))),
+  (
+    f,
+    (above bounds y.kind 1 x.kind (omega (arith, x.kind)), omega (arith, x.kind), refl),
+    (f, (x.trigger, x.trigger, refl), (f, (x.observed, x.observed, refl), refl)),
+  ),
 )
-  where
-    small : {n : ℕ} → n ≤ 1 → n ≤ ANY
-    small le = omega arith
 
 has_places : (room places : ℕ) (a b : ℕ) → (nat_le a room && nat_le b places) ≡ true → (a ≤ room) × (b ≤ places)
 has_places room places a b e =

@@ -1,5 +1,5 @@
 -- From what a draft holds to the fields of an image.
-use Rattle.zl_asm.proofs.Common.{Bool, Gives, GivesNone, Held, Image, IsBytes, Line, List, Listing, None, Option, Pushes, Some, Source, SourceLine, [], all_of}
+use Rattle.zl_asm.proofs.Common.{Bool, Gives, GivesNone, Held, Image, IsBytes, List, Listing, None, Option, Pushes, Some, Source, SourceLine, [], all_of}
 use Rattle.zl_asm.proofs.Common.{and_from, ap, append_assoc, arith, at_drop_more, budget_in, bytes_of, bytes_of-number_at, cond, drop, false, fields_of}
 use Rattle.zl_asm.proofs.Common.{flat_map, get_or, get_or-map, given, if_fits, instr_bytes, instr_fault, is_in_range, is_listing, is_some, labels_from}
 use Rattle.zl_asm.proofs.Common.{labels_shown, le-leb, length, length-append, length-map, list_all, list_all-append, listing_from, lookup, map, map-append}
@@ -11,7 +11,7 @@ use Rattle.std.proofs.lemmas.List.{take-append-drop}
 use Rattle.zl_asm.specs.declared.line.Source.{Source as ReadSource}
 use Rattle.zl_asm.proofs.Labels.{same, lookup_is}
 use Rattle.zl_asm.proofs.DraftHolds.{given_is}
-use Rattle.zl_asm.proofs.ListingRefused.{all_of-none, all_of-more, all_of-fault, none_by_fields}
+use Rattle.zl_asm.proofs.ListingRefused.{all_of-none, all_of-more, all_of-fault, listing_of_fields, none_by_fields}
 use Rattle.std.proofs.lemmas.Bool.{not_from_true}
 use Rattle.std.proofs.Math.Bool.{and-false}
 
@@ -96,17 +96,6 @@ none_faulty h front rest s bytes split target fault = λ said k. none_by_fields 
 fits_as : (x y : Listing) → x ≡ y → is_listing y ≡ true → if_fits is_listing (Some x) ≡ Some y
 fits_as x y e t = ap (λ (z : Listing). if_fits is_listing (Some z)) e ∙ ap (λ (b : Bool). cond b (Some y) None) t
 
-abbrev listing_fields : Bool → ℕ → ℕ → List Line → List (List ℕ) → Listing
-listing_fields raw memory budget said code = record {
-  raw = raw;
-  memory = memory;
-  budget = budget;
-  needs = needs_named (flat_map need_in said);
-  starts = flat_map start_in said;
-  slots = flat_map slots_in said;
-  code = code;
-}
-
 pub gives_image : (h : Held) (i : Image) → Resolves h i → length h.sources ≤ length i.code → is_in_range i ≡ true → Gives h i
 unfolding listing_from
 gives_image h i r all in_range = λ said k.
@@ -127,7 +116,7 @@ gives_image h i r all in_range = λ said k.
     let fine : list_all (λ bytes. not (is_some (instr_fault i.raw bytes))) (map instr_bytes i.code) ≡ true = rw raw r.fine in
     let sound : is_listing (fields_of i) ≡ true =
     and_from _ _ (le-leb _ 7 range.starts_count) (and_from _ _ (le-leb _ 8 range.slots_count) (and_from _ _ (le-leb _ 4096 count) fine)) in
-    let same : listing_fields h.image.raw h.image.memory h.image.budget said (map instr_bytes i.code) ≡ fields_of i =
+    let same : listing_of_fields said h.image.raw h.image.memory h.image.budget (map instr_bytes i.code) ≡ fields_of i =
     λ j. record {
       raw = sym raw j;
       memory = sym memory_is j;
@@ -138,7 +127,7 @@ gives_image h i r all in_range = λ said k.
       code = map instr_bytes i.code;
     } in
     rw (k.order, k.once, mark, memory, budget, code)
-    (fits_as (listing_fields h.image.raw h.image.memory h.image.budget said (map instr_bytes i.code)) (fields_of i) same sound)
+    (fits_as (listing_of_fields said h.image.raw h.image.memory h.image.budget (map instr_bytes i.code)) (fields_of i) same sound)
 
 -- ---- the source of a number
 

@@ -72,7 +72,7 @@ pub none_by_names : (lines : List Line) → names_once (labels_from 0 lines) ≡
 unfolding listing_from
 none_by_names lines e = rw (e, and_right (directives_first lines) false refl) refl
 
-abbrev listing_of_fields : List Line → Bool → ℕ → ℕ → List (List ℕ) → Listing
+abbrev pub listing_of_fields : List Line → Bool → ℕ → ℕ → List (List ℕ) → Listing
 listing_of_fields lines raw memory budget code = record {
   raw = raw;
   memory = memory;

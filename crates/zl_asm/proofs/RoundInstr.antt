@@ -1,11 +1,12 @@
 -- The line of an instruction is read as its bytes.
 use Rattle.zl_asm.proofs.Common.{Bool, Code, IsBytes, List, None, Option, Row, Some, Source, [], aims, and_parts, ap, arith, codes, drop, eq-eqb, false}
-use Rattle.zl_asm.proofs.Common.{get_or-drop, hex_text, instr_fault, instr_text, is_ending_clear, is_word, joined, layout, layout_of, length, length-drop}
+use Rattle.zl_asm.proofs.Common.{hex_text, instr_fault, instr_text, is_ending_clear, is_word, joined, layout, layout_of, length, length-drop}
 use Rattle.zl_asm.proofs.Common.{length-take, line_of, list_all, list_all-from_IsBytes, operand_texts, option_map, pow-suc, reading_of, refl, resolved}
 use Rattle.zl_asm.proofs.Common.{row_bytes, row_named, row_of, row_text, slice_index, source_of, starts_with, suc, take, true, unknown_of, words_of, zero, ℕ}
 use Rattle.zl_asm.proofs.Common.{◌++◌, ◌+◌, ◌<◌, ◌==◌, ◌^◌, ◌∙◌, ◌∷◌, ◌≡◌}
 use Rattle.zl_code.proofs.Common.{number_of}
 use Rattle.zl_code.proofs.InstrFacts.{no_fault-row, row_bytes-again}
+use Rattle.zl_code.proofs.ImageBytes.{IsBytes-drop}
 use Rattle.zl_asm.proofs.RoundWords.{is_plain_word, with_commas, words_of-operands, operands_of-commas, words_of-space, words_of-alone}
 use Rattle.zl_asm.proofs.RoundHex.{hex_again, plain_word-hex}
 use Rattle.zl_asm.proofs.RoundRows.{row_fits}
@@ -31,9 +32,6 @@ numbers_small (suc n) (b ∷ bytes) h =
     let rest = numbers_small n bytes (λ i. h (suc i)) in
     omega (arith, pow-suc 256 n)
 
-fits_behind : (n : ℕ) (bytes : List ℕ) → IsBytes bytes → IsBytes (drop n bytes)
-fits_behind n bytes h i = rw get_or-drop (h (n + i))
-
 layout_at : (row : Row) (bytes : List ℕ) → row_of (slice_index bytes 0) ≡ Some row
     → layout_of (slice_index bytes 0) ≡ Some (layout (length row.fields) row.ending)
 layout_at row bytes here = ap (option_map (λ r. layout (length r.fields) r.ending)) here
@@ -47,8 +45,8 @@ whole_of raw row bytes here h =
     record {
       seven_there = omega (arith, length-take 7 (drop 1 bytes), length-drop 1 bytes);
       registers = r.registers;
-      imm = numbers_small 4 (drop 8 bytes) (fits_behind 8 bytes h.fits);
-      target = numbers_small 4 (drop 12 bytes) (fits_behind 12 bytes h.fits);
+      imm = numbers_small 4 (drop 8 bytes) (IsBytes-drop 8 bytes h.fits);
+      target = numbers_small 4 (drop 12 bytes) (IsBytes-drop 12 bytes h.fits);
       eight = omega (arith, length-drop 8 bytes);
       named = r.named;
       clear = (and_parts (list_all (λ x. x == 0) (drop l.registers (reading_of bytes).registers)) (is_ending_clear l.ending (reading_of bytes)) r.unused).1;

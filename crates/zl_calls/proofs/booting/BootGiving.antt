@@ -16,9 +16,8 @@ use Rattle.zl_calls.proofs.calls.Answered.{may_get_inserted}
 use Rattle.zl_calls.proofs.objects.SameBodies.{found_updated, named_updated}
 use Rattle.zl_calls.proofs.tables.Tables.{inserted_table, found_inserted}
 use Rattle.zl_calls.proofs.lists.Updates.{update_unseen}
-use Rattle.zl_calls.proofs.objects.Held.{held_body, held_value, holding_sound, more_handles}
-
--- ---- one handle more names the object k
+use Rattle.zl_calls.proofs.objects.Held.{held_value, holding_sound, more_handles}
+use Rattle.zl_objects.proofs.Whole.{more_same}
 
 -- ---- what the handle that is given names
 
@@ -201,14 +200,14 @@ module _ (gs : List Grant) (old new : Made) (p p2 : Process) (so_far : Gives gs 
     own = rw (count_more, coming_more (length gs) p.table.free) (λ i. so_far.own i ++ (inserts.offered ∙ ap offered so_far.free) i ∷ []);
     free = inserts.free ∙ (ap taken so_far.free ∙ rw count_more (sym (taken_more (length gs) p.table.free)));
     untouched = λ none. absurd (omega (arith, none, length-append gs (g ∷ [])));
-    named = λ v x at. named_updated held_once_more held_body r.objects e.koid x
+    named = λ v x at. named_updated held_once_more more_same r.objects e.koid x
         (found_inserted (IsNamed r.objects x) p2.table e value t inserts v x at (λ is. subst (IsNamed r.objects) is is_allowed.named) (so_far.named v x));
     making = record {
       sound = rw inserts.entries (holding_sound ps p2.table.entries r value e so_far.making.sound inserts.unused room);
       few = λ k. omega (arith, so_far.making.few k, more_handles ps p2.table.entries r value e k);
       unwatched = record { none = so_far.making.unwatched.none; none_made = so_far.making.unwatched.none_made };
       alive = λ j x at. found_updated held_once_more r.objects e.koid (is_killed x.body ≡ false) j x at
-          (λ o before here is. subst (λ (y : Object). is_killed y.body ≡ false) is (rw (held_body o) (so_far.making.alive j o before)))
+          (λ o before here is. subst (λ (y : Object). is_killed y.body ≡ false) is (rw (more_same o) (so_far.making.alive j o before)))
           (λ apart before. so_far.making.alive j x before);
     };
     processes = so_far.processes;

@@ -26,7 +26,7 @@ pub record IsWrite (before after : List Process) (p p2 : Process) : Type 0 where
   pub frees : map free_entry after ≡ update (map free_entry before) p.pid (λ _. free_of p2)
 
 -- the process with this table
-abbrev with_table : Handles → ProcessValue → ProcessValue
+abbrev pub with_table : Handles → ProcessValue → ProcessValue
 with_table t q = record q { handles = t.entries; last = t.last }
 
 -- a value that a new handle got is one that it may get

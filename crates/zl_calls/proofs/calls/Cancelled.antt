@@ -9,7 +9,7 @@ use Rattle.zl_rights.specs.declared.status.Status.TheVariants as status
 use Rattle.zl_objects.specs.declared.object.Body.{Body}
 use Rattle.zl_objects.specs.declared.object.Body.TheVariants as body
 use Rattle.zl_objects.specs.declared.object.Object.{Object}
-use Rattle.zl_calls.proofs.calls.HandleCalls.{no_bits}
+use Rattle.zl_code.proofs.SoundKept.{none_raised}
 
 -- ---- what is counted
 
@@ -47,7 +47,7 @@ pub found_entry : (h value : ℕ) (e : Entry) (o : Option Entry) → ◌≡◌ {
 found_entry h value e None is = absurd (none-some (value, e) (sym is))
 found_entry h value e (Some y) is =
     let same : e ≡ y = ap (λ (z : ℕ × Entry). z.1) (same_Some (value, e) (h, y) is) in
-    rw (no_bits (bits y.rights)) (ap (λ (x : Entry). Ok x) (sym same))
+    rw (none_raised (bits y.rights)) (ap (λ (x : Entry). Ok x) (sym same))
 
 -- ---- wait_async
 

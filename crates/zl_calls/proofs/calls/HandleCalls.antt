@@ -1,7 +1,7 @@
 -- The calls on handles, close, dup and replace, each from its table and objects to a step.
 use Rattle.zl_calls.proofs.Common.{AtCall, Bool, CallName, Calls, CloseDoes, Closes, DUPLICATE, DupDoes, Dups, Entry, IsConsistent, IsNamed, IsSound, IsTable}
 use Rattle.zl_calls.proofs.Common.{IsTrue, Library, List, Map, None, Objects, Option, Ready, Refused, ReplaceDoes, Replaces, Replies, Site, Some, Status}
-use Rattle.zl_calls.proofs.Common.{Values, World, [], and_le_r, any, ap, arith, bit_and, bits, cases_Bool, close, close_answer, cond, copy_of, cpu_answered}
+use Rattle.zl_calls.proofs.Common.{Values, World, [], any, ap, arith, bits, cases_Bool, close, close_answer, cond, copy_of, cpu_answered}
 use Rattle.zl_calls.proofs.Common.{default_rights_of, dup, dup_refusal, effect, entry_at, eq-eqb, eqb-true, false, first_some, get, get-put, get-update}
 use Rattle.zl_calls.proofs.Common.{get-without, gives_ok, gives_refused, granted, handle_operands, handles_to, has_key, has_key-update, has_place, has_room}
 use Rattle.zl_calls.proofs.Common.{has_room_in, held_once_more, holding, if◌then◌else◌, inl, inr, insert_all, is_empty, is_some, is_sorted, is_sorted-update}
@@ -11,6 +11,7 @@ use Rattle.zl_calls.proofs.Common.{process_without, put, refl, refusal, remove_a
 use Rattle.zl_calls.proofs.Common.{sorted_put, sorted_without, state_value, status_of, subst, sym, table_of, taken, taken_handles, told_by, true, update}
 use Rattle.zl_calls.proofs.Common.{wants_nothing, wants_memory, with_effect, with_rights, within, without, without_handle, world_value, ℕ, ◌<◌, ◌==◌, ◌^◌, ◌||◌}
 use Rattle.zl_calls.proofs.Common.{◌∙◌, ◌∷◌, ◌≡◌, ◌⊎◌}
+use Rattle.zl_code.proofs.SoundKept.{none_raised}
 use Rattle.zl_code.proofs.Common.{Object as ObjectValue, Process as ProcessValue, narrowed_within}
 use Rattle.zl_rights.specs.declared.status.Status.TheVariants as status
 use Rattle.zl_code.specs.declared.history.Outcome.TheVariants as outcome
@@ -32,11 +33,9 @@ use Rattle.zl_calls.proofs.processes.Written.{refusal_keeps, entered, one_entere
 use Rattle.zl_rights.proofs.MapEdits.{length-update}
 use Rattle.zl_objects.specs.declared.object.Object.{Object}
 use Rattle.zl_calls.proofs.lists.Updates.{update_twice, update_unseen}
-use Rattle.zl_calls.proofs.objects.Held.{held_body, held_value, holding_kept, holding_sound}
+use Rattle.zl_calls.proofs.objects.Held.{held_value, holding_kept, holding_sound}
 use Rattle.zl_calls.proofs.objects.SameBodies.{named_updated}
-
-pub no_bits : (n : ℕ) → IsTrue (within 0 n)
-no_bits n = eq-eqb (bit_and n 0) 0 (omega (arith, and_le_r n 0))
+use Rattle.zl_objects.proofs.Whole.{more_same}
 
 -- ---- the answer of close
 
@@ -50,7 +49,7 @@ close_refused lib w p h = by_entry (h == 0) (get (table_of w p) h)
     by_entry true None = refl
     by_entry true (Some e) = refl
     by_entry false None = refl
-    by_entry false (Some e) = rw (no_bits (bits e.rights)) refl
+    by_entry false (Some e) = rw (none_raised (bits e.rights)) refl
 
 -- a value that is put in again in the place of the old one
 put_again : {X : Type 0} (m : Map X) (k : ℕ) (x : X) (f : X → X) → IsTrue (is_sorted nat_cmp m) → get m k ≡ Some x → update m k f ≡ put (without m k) k (f x)
@@ -204,7 +203,7 @@ module _ {before after : List Process} {r : Objects} {p p2 : Process} (lib : Lib
             (record { none = refl; chosen = ap (λ (es : List Entry). length es) copied; made = ap (λ (es : List Entry). length es) copied; own = refl })
             (copy ∷ []) (made ∷ []) refl (record { between = p2.table; inserts = dups.inserts; rest = refl });
         keeps = rw dups.objects (one_entered write copy made dups.inserts (holding r k) held (holding_kept before [] r made copy consistent.kept)
-            (ap (λ (q : Process). q.state) replies) dups.room (named_updated held_once_more held_body r.objects k copy copy_named));
+            (ap (λ (q : Process). q.state) replies) dups.room (named_updated held_once_more more_same r.objects k copy copy_named));
       }
 
     -- ---- the step
@@ -225,7 +224,7 @@ module _ {before after : List Process} {r : Objects} {p p2 : Process} (lib : Lib
     unfolding handle_operands operands_fault listed
     replace_refused =
         any_looked_up lib w p.pid p.table.entries (table_is write r) replace_site.request (replace_refusal p.table.entries h asked) h 0 refl (λ is. rw is refl)
-        (λ e at. rw (table_is write r, at, no_bits (bits e.rights)) (one_test (is_empty (with_rights e (narrowed e.rights asked))) status.InvalidArgs))
+        (λ e at. rw (table_is write r, at, none_raised (bits e.rights)) (one_test (is_empty (with_rights e (narrowed e.rights asked))) status.InvalidArgs))
 
     module _ (made : ℕ) (replaces : Replaces p.pid p.table r h asked made p2.table r2) (replies : Replies replace_site status.Ok (made ∷ []) p p2) where
       abbrev narrower : Entry → Entry

@@ -11,7 +11,7 @@ use Rattle.zl_code.specs.Own.{OwnWorld, all_given, entered_free, free_at, given_
 use Rattle.zl_rights.specs.Values.{coming, given_back, offered}
 use Rattle.zl_calls.specs.World.{free_entry}
 use Rattle.zl_calls.specs.declared.process.Process.{Process}
-use Rattle.zl_calls.proofs.calls.Answered.{IsWrite}
+use Rattle.zl_calls.proofs.calls.Answered.{IsWrite, with_table}
 use Rattle.zl_calls.proofs.processes.Freed.{free_written}
 use Rattle.zl_calls.specs.Own.{FreeBy}
 
@@ -33,9 +33,6 @@ pub record IsMaker (w : World) (pid : ℕ) (request : Request) (n : ℕ) : Type 
   pub own : receiver_of w pid request ≡ pid
 
 -- ---- a table
-
-abbrev with_table : Handles → ProcessValue → ProcessValue
-with_table t q = record q { handles = t.entries; last = t.last }
 
 left_table : (hs : List ℕ) (t : Handles) (q : ProcessValue) → all_given hs (with_table t q) t.free ≡ (without_handles t hs).free
 unfolding all_given

@@ -137,11 +137,6 @@ first_at objects k m is = by_object (get objects k) refl is
     by_object None at read = absurd (none-some m read)
     by_object (Some o) at read = record { object = o; at = at; queue = by_messages (queue_of o.body) read }
 
--- its handles are the same for the definitions
-first_alike : (queue : List Message) → front_handles queue ≡ first_handles queue
-first_alike [] = refl
-first_alike (m ∷ ms) = refl
-
 -- ---- a message less in a queue
 
 read_seen : (os : Map Object) (k : ℕ) → map object_entry (update os k received) ≡ update (map object_entry os) k message_read

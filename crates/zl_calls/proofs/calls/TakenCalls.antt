@@ -11,7 +11,7 @@ use Rattle.zl_code.proofs.Common.{Process as ProcessValue}
 use Rattle.zl_rights.specs.declared.status.Status.TheVariants as status
 use Rattle.zl_code.specs.declared.history.Outcome.TheVariants as outcome
 use Rattle.zl_calls.specs.declared.process.Process.{Process}
-use Rattle.zl_calls.proofs.calls.Answered.{IsWrite, replied_with}
+use Rattle.zl_calls.proofs.calls.Answered.{IsWrite, replied_with, with_table}
 use Rattle.zl_calls.proofs.objects.Counting.{count_put, count_without}
 use Rattle.zl_calls.proofs.calls.DoneCalls.{IsDone, IsCalled, called_done}
 use Rattle.zl_calls.proofs.stepping.FromConsistent.{call_settles}
@@ -43,13 +43,10 @@ left_one t h v e at = by_live (has_key t.entries h) at
 gone_one : (t : Handles) (h : ℕ) → get (without_handle t h).entries h ≡ None
 gone_one t h = by_entry (get t.entries h) refl
   where
-    same : (j : ℕ) → (j == j) ≡ true
-    same j = eq-eqb j j refl
-
     by_entry : (o : Option Entry) → get t.entries h ≡ o
         → get (if is_some o then record { entries = without t.entries h; last = Some h; free = given_back h t.free } else t).entries h ≡ None
     by_entry None is = is
-    by_entry (Some e) is = get-without t.entries h h ∙ rw (same h) refl
+    by_entry (Some e) is = get-without t.entries h h ∙ rw (eq-eqb h h refl) refl
 
 table_left : (t : Handles) (h : ℕ) → IsTable t.entries → IsTable (without_handle t h).entries
 table_left t h table = by_entry (get t.entries h) refl
@@ -171,10 +168,6 @@ removed [] w p = ap (λ (ps : Map ProcessValue). record w { processes = ps }) (s
 removed (h ∷ hs) w p =
     removed hs (on_process w p (process_without h)) p
     ∙ ap (λ (ps : Map ProcessValue). record w { processes = ps }) (update_twice w.processes p (process_without h) (process_without_all hs))
-
--- the process with this table
-abbrev with_table : Handles → ProcessValue → ProcessValue
-with_table t q = record q { handles = t.entries; last = t.last }
 
 without_one : (h : ℕ) (t : Handles) (q : ProcessValue) → process_without h (with_table t q) ≡ with_table (without_handle t h) q
 without_one h t q = by_live (has_key t.entries h)

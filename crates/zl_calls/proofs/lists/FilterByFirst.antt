@@ -75,9 +75,6 @@ module _ {X : Type 0} where
     pub rest_is : without_first narrow xs ≡ kept ++ behind
     rest_is = ap (without_first narrow) (parts xs place x at) ∙ first_out narrow kept x behind (none_too test narrow wider kept so_far.none) asked
 
-    pub found_is : find narrow xs ≡ Some x
-    found_is = ap (find narrow) (parts xs place x at) ∙ first_found narrow kept x behind (none_too test narrow wider kept so_far.none) asked
-
     long : length kept ≡ place
     long = length-take-le place xs so_far.within
 

@@ -1,7 +1,6 @@
 -- A loop that takes out of a list what doesn't pass, and lists at one place.
-use Rattle.zl_calls.proofs.Common.{Bool, List, [], ap, append-nil, append_assoc, arith, drop, false, filter, get_or, length, refl, suc, sym, take, take_all}
-use Rattle.zl_calls.proofs.Common.{take_more, true, zero, ℕ, ◌++◌, ◌+◌, ◌<◌, ◌∙◌, ◌∷◌, ◌≡◌, ◌≤◌}
-use Rattle.zl_code.proofs.Common.{drop_all}
+use Rattle.zl_calls.proofs.Common.{Bool, List, [], ap, append_assoc, arith, drop, false, filter, get_or, length, refl, suc, sym, take}
+use Rattle.zl_calls.proofs.Common.{take_more, true, zero, ℕ, ◌++◌, ◌+◌, ◌<◌, ◌∙◌, ◌∷◌, ◌≡◌}
 
 module _ {X : Type 0} where
   pub drop_out : (xs : List X) (i : ℕ) → i < length xs → drop i (take i xs ++ drop (suc i) xs) ≡ drop (suc i) xs
@@ -26,13 +25,7 @@ module _ {X : Type 0} (test : X → Bool) (before : List X) where
   pub record IsKeeping (place : ℕ) (xs : List X) : Type 0 where
     pub left : take place xs ++ filter test (drop place xs) ≡ filter test before
 
-  pub keeping_starts : IsKeeping 0 before
-  keeping_starts = record { left = refl }
-
   module _ (place : ℕ) (xs : List X) (so_far : IsKeeping place xs) where
-    pub keeping_ends : length xs ≤ place → xs ≡ filter test before
-    keeping_ends long = sym (append-nil xs) ∙ ((λ i. sym (take_all place xs long) i ++ filter test (sym (drop_all place xs long) i)) ∙ so_far.left)
-
     module _ (d x : X) (within : place < length xs) (at : get_or xs place d ≡ x) where
       stands : drop place xs ≡ x ∷ drop (suc place) xs
       stands = drop_here xs place d within ∙ ap (λ (y : X). y ∷ drop (suc place) xs) at

@@ -1,13 +1,14 @@
 -- How many handles name an object, in tables and in queues, after a change of one table or of the objects.
-use Rattle.zl_calls.proofs.Common.{Bool, Entry, IsTrue, List, Map, None, Objects, Some, ap, arith, body_value, cases_Bool, cond, count_by, eqb-true, false, get}
+use Rattle.zl_calls.proofs.Common.{Bool, Entry, IsTrue, List, Map, None, Objects, Some, ap, arith, body_value, cases_Bool, cond, count_by, false, get}
 use Rattle.zl_calls.proofs.Common.{handles_to, inl, inr, is_sorted, map, map-append, nat_cmp, nat_lt, new_object, none-some, object_entry, process_entry}
-use Rattle.zl_calls.proofs.Common.{process_value, put, queued_to, refl, same_Some, suc, sum_by, sum_by-append, sum_by-cons, sum_fewer, sum_without, sym, true}
+use Rattle.zl_calls.proofs.Common.{process_value, put, queued_to, refl, suc, sum_by, sum_by-append, sum_by-cons, sum_fewer, sum_without, sym, true}
 use Rattle.zl_calls.proofs.Common.{update, with_new, without, world_value, ℕ, ◌+◌, ◌==◌, ◌∙◌, ◌∷◌, ◌≡◌, []}
 use Rattle.zl_code.proofs.Common.{Process as ProcessValue}
 use Rattle.zl_objects.specs.declared.object.Body.{Body}
 use Rattle.zl_objects.specs.declared.object.Object.{Object}
 use Rattle.zl_calls.specs.declared.process.Process.{Process}
 use Rattle.zl_calls.proofs.calls.Answered.{IsWrite}
+use Rattle.zl_objects.proofs.Sums.{sum_updated}
 
 -- ---- queues
 
@@ -74,16 +75,7 @@ module _ {X : Type 0} where
 
   pub sum_update : (n : ℕ × X → ℕ) (m : Map X) (k c : ℕ) (x : X) (f : X → X) → get m k ≡ Some x → n (k, f x) ≡ n (k, x) + c
       → sum_by n (update m k f) ≡ sum_by n m + c
-  unfolding get update
-  sum_update n [] k c x f there more = absurd (none-some x there)
-  sum_update n (e ∷ m) k c x f there more = elim (cases_Bool (e.0 == k)) as (λ _. sum_by n (update (e ∷ m) k f) ≡ sum_by n (e ∷ m) + c) [
-    | inl here ↦
-        let same : e.1 ≡ x = same_Some e.1 x (rw here at there) in
-        let head : n e ≡ n (k, x) = λ i. n (eqb-true e.0 k here i, same i) in
-        let new : n (k, f e.1) ≡ n (k, f x) = λ i. n (k, f (same i)) in
-        rw here (omega (arith, sum_by-cons n (k, f e.1) m, sum_by-cons n e m, head, new, more))
-    | inr apart ↦ rw apart (omega (arith, sum_by-cons n e (update m k f), sum_by-cons n e m, sum_update n m k c x f (rw apart at there) more))
-  ]
+  sum_update n m k c x f there more = omega (arith, sum_updated n m k x f there, more)
 
 -- the handles that name k before a process was written whose table has c fewer of them
 pub counts_fewer : (before after : List Process) (p p2 : Process) (r r2 : Objects) (k c : ℕ) → IsWrite before after p p2

@@ -111,10 +111,7 @@ module _ (ps : List Process) (m : Map Entry) (r : Objects) (sound : IsSound ps m
     }
 
     pub there_grown : get grown.objects n ≡ Some fresh
-    there_grown = get_grown n ∙ rw (same n) refl
-      where
-        same : (j : ℕ) → (j == j) ≡ true
-        same j = eq-eqb j j refl
+    there_grown = get_grown n ∙ rw (eq-eqb n n refl) refl
 
     not_there : (test : StateValue → Bool) → is_process (world_value ps r) test n ≡ false
     unfolding is_process

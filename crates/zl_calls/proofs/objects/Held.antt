@@ -7,9 +7,7 @@ use Rattle.zl_objects.specs.Objects.{queue_of}
 use Rattle.zl_calls.specs.declared.process.Process.{Process}
 use Rattle.zl_calls.proofs.objects.Counting.{count_put}
 use Rattle.zl_calls.proofs.objects.Rebodied.{KeepsKind, changed_sound, kept_still, quiet_named, same_handles, same_kind}
-
-pub held_body : (o : Object) → (held_once_more o).body ≡ o.body
-held_body o = elim (nat_lt o.handles (2 ^ 62)) as (λ b. (cond b (record o { handles = o.handles + 1 }) o).body ≡ o.body) [ true ↦ refl | false ↦ refl ]
+use Rattle.zl_objects.proofs.Whole.{more_same}
 
 pub held_value : (o : Object) → object_value (held_once_more o) ≡ object_value o
 held_value o =
@@ -25,17 +23,17 @@ held_still o held = elim (nat_lt o.handles (2 ^ 62)) as (λ b. IsTrue (nat_lt 0 
 ]
 
 held_kind : KeepsKind held_once_more
-held_kind = same_kind held_once_more held_body
+held_kind = same_kind held_once_more more_same
 
 -- the handle e to the object isn't among those that count beside the tables, and the object has place for it
 module _ (ps : List Process) (m : Map Entry) (r : Objects) (v : ℕ) (e : Entry) where
   pub more_handles : (j : ℕ) → handles_to (world_value ps (holding r e.koid)) j ≡ handles_to (world_value ps r) j
-  more_handles = same_handles held_once_more held_kind (λ o. ap queue_of (held_body o)) ps r e.koid
+  more_handles = same_handles held_once_more held_kind (λ o. ap queue_of (more_same o)) ps r e.koid
 
   pub holding_sound : IsSound ps m r → get m v ≡ None → ((o : Object) → get r.objects e.koid ≡ Some o → o.handles < 2 ^ 62)
       → IsSound ps (put m v e) (holding r e.koid)
   holding_sound sound free room = changed_sound held_once_more held_kind ps r e.koid m (put m v e) sound
-      (quiet_named held_once_more held_kind (λ o. ap queue_of (held_body o)) ps r e.koid sound.queued)
+      (quiet_named held_once_more held_kind (λ o. ap queue_of (more_same o)) ps r e.koid sound.queued)
       (λ o old.
       let one : ◌≡◌ {A = ℕ} (cond (e.koid == e.koid) 1 0) 1 = rw (eq-eqb e.koid e.koid refl) refl in
       omega (arith, held_more o (room o old), sound.counted e.koid o old, counts e.koid, one, more_handles e.koid))

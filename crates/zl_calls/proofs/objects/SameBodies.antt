@@ -8,7 +8,6 @@ use Rattle.zl_rights.specs.declared.kind.Kind.TheVariants as kind
 use Rattle.zl_objects.specs.declared.object.Body.{Body}
 use Rattle.zl_objects.specs.declared.object.Body.TheVariants as body
 use Rattle.zl_objects.specs.declared.object.Object.{Object}
-use Rattle.zl_objects.specs.Objects.{queue_of}
 
 -- an object afterwards is one that was there before, perhaps changed
 pub found_updated : (f : Object → Object) (os : Map Object) (k : ℕ) (A : Type 0) (j : ℕ) (q : Object) → get (update os k f) j ≡ Some q
@@ -83,10 +82,3 @@ module _ (f : Object → Object) (same : (o : Object) → kind_of (body_value (f
 module _ (f : Object → Object) (same : (o : Object) → (f o).body ≡ o.body) (os : Map Object) (k : ℕ) where
   pub named_updated : (e : Entry) → IsNamed os e → IsNamed (update os k f) e
   named_updated = named_kept f (λ o. ap (λ (b : Body). kind_of (body_value b)) (same o)) os k
-
-  -- the same of the handles in queues
-  pub queued_updated : ((j : ℕ) (o : Object) → get os j ≡ Some o → AreNamed os (queue_of o.body)) → (j : ℕ) (q : Object) → get (update os k f) j ≡ Some q
-      → AreNamed (update os k f) (queue_of q.body)
-  queued_updated queued = each_updated (λ j q. AreNamed (update os k f) (queue_of q.body)) f os k
-      (λ o old. rw (same o) (still_named os (update os k f) named_updated (queue_of o.body) (queued k o old)))
-      (λ j q apart old. still_named os (update os k f) named_updated (queue_of q.body) (queued j q old))

@@ -1,10 +1,10 @@
 -- Handles go, and what nothing keeps any more with them: the invariant holds afterwards, and the worlds are settled.
 use Rattle.zl_calls.proofs.Common.{AreKeptBut, AreNamed, Bool, Cascades, Drained, Entry, Found, IsConsistent, IsExact, IsNamed, IsSound, IsTrue, List, Map}
-use Rattle.zl_calls.proofs.Common.{Message, None, Objects, Option, Releases, Settles, Some, Was, World, [], any_counted, any_found, any_summed, ap, append-nil}
+use Rattle.zl_calls.proofs.Common.{Message, None, Objects, Option, Releases, Settles, Some, Was, World, [], any_counted, any_found, any_summed, ap}
 use Rattle.zl_calls.proofs.Common.{arith, body_value, cascaded, cascaded_was, cond, count_by, counted_any, eq-eqb, false≢true, get, get_seen, handles_to}
-use Rattle.zl_calls.proofs.Common.{has_key, inl, inr, is_process, is_some, is_sorted, kind_of, length, list_any, map, names, nat_cmp, none-some, none_left}
+use Rattle.zl_calls.proofs.Common.{has_key, inl, inr, is_process, is_sorted, kind_of, length, list_any, map, names, nat_cmp, none-some, none_left}
 use Rattle.zl_calls.proofs.Common.{object_entry, object_value, or_left, or_right, positive_part, process_entry, queue_named, queued_to, refl, releases_then}
-use Rattle.zl_calls.proofs.Common.{same_Some, settles_left, slice_index_or, sorted_without, subst, suc, sum_by-cons, sym, true, was_queue, was_seen}
+use Rattle.zl_calls.proofs.Common.{same_Some, settles_left, slice_index_or, sorted_without, subst, suc, sum_by-cons, sym, was_queue, was_seen}
 use Rattle.zl_calls.proofs.Common.{with_objects, without, world_value, zero, ℕ, ◌<◌, ◌==◌, ◌∙◌, ◌∷◌, ◌≡◌, ◌⊎◌}
 use Rattle.zl_code.proofs.Common.{Process as ProcessValue, queue_of as queue_value}
 use Rattle.zl_objects.specs.declared.object.Object.{Object}
@@ -16,6 +16,8 @@ use Rattle.zl_calls.proofs.objects.Counted.{counted_there, is_there, queue_seen}
 use Rattle.zl_calls.proofs.objects.Counting.{count_without}
 use Rattle.zl_calls.proofs.processes.Departed.{all_stay, settled_world}
 use Rattle.zl_calls.proofs.objects.SameBodies.{still_agrees}
+use Rattle.zl_calls.proofs.tables.Taking.{none_goes}
+use Rattle.zl_objects.proofs.Released.{was_there}
 
 -- the world with these objects meets the invariant, and settling leaves it, but for processes that go with their objects
 pub record IsSettled (ps : List Process) (r r2 : Objects) : Type 0 where
@@ -26,9 +28,6 @@ any_place : {X : Type 0} (test : X → Bool) (xs : List X) (n : ℕ) (d : X) →
 any_place test [] n d within passes = absurd (omega (arith, within))
 any_place test (x ∷ xs) zero d within passes = or_left (test x) _ passes
 any_place test (x ∷ xs) (suc n) d within passes = or_right (test x) _ (any_place test xs n d (omega (arith, within)) passes)
-
-same_key : (k : ℕ) → (k == k) ≡ true
-same_key k = eq-eqb k k refl
 
 -- the handles m have left their tables, and those to ks are to go
 module _ (ps : List Process) (m : Map Entry) (r : Objects) (sound : IsSound ps m r) (sorted : IsTrue (is_sorted nat_cmp m))
@@ -61,13 +60,6 @@ module _ (ps : List Process) (m : Map Entry) (r : Objects) (sound : IsSound ps m
     was : (k : ℕ) (o : Object) → get r2.objects k ≡ Some o → Was r.objects k o
     was = cascaded_was ks r.objects r2.objects cascades
 
-    was_there : (k : ℕ) → IsTrue (has_key r2.objects k) → IsTrue (has_key r.objects k)
-    was_there k there = by_object (get r2.objects k) refl there
-      where
-        by_object : (o : Option Object) → get r2.objects k ≡ o → IsTrue (is_some o) → IsTrue (has_key r.objects k)
-        by_object None is h = absurd (false≢true h)
-        by_object (Some o) is h = rw (was k o is).there refl
-
     seen : with_objects w r2.objects ≡ world_value ps r2
     seen = ap (λ (n : ℕ). record (world_value ps r2) { next_koid = n }) (sym koids)
 
@@ -94,7 +86,7 @@ module _ (ps : List Process) (m : Map Entry) (r : Objects) (sound : IsSound ps m
     in_table j v p e at there =
         let some : IsTrue (list_any (λ q. list_any (λ h. h.1.koid == e.koid) q.1.handles) (map process_entry ps)) =
         any_at (λ q. list_any (λ h. h.1.koid == e.koid) q.1.handles) (map process_entry ps) j p at
-        (any_at (λ h. h.1.koid == e.koid) p.handles v e there (same_key e.koid)) in
+        (any_at (λ h. h.1.koid == e.koid) p.handles v e there (eq-eqb e.koid e.koid refl)) in
         omega (
           arith,
           any_summed (λ q. count_by (λ h. h.1.koid == e.koid) q.1.handles) (λ q. list_any (λ h. h.1.koid == e.koid) q.1.handles)
@@ -120,7 +112,7 @@ module _ (ps : List Process) (m : Map Entry) (r : Objects) (sound : IsSound ps m
         (any_place (λ (y : Message). list_any (λ (h : Entry). h.koid == (slice_index_or (slice_index_or (queue_of o.body) n x).handles i e).koid) y.handles)
         (queue_of o.body) n x within
         (any_place (λ (h : Entry). h.koid == (slice_index_or (slice_index_or (queue_of o.body) n x).handles i e).koid)
-        (slice_index_or (queue_of o.body) n x).handles i e inside (same_key _))))
+        (slice_index_or (queue_of o.body) n x).handles i e inside (eq-eqb _ _ refl))))
         (before n x within i e inside)
       where
         before : AreNamed r.objects (queue_of o.body)
@@ -132,7 +124,7 @@ module _ (ps : List Process) (m : Map Entry) (r : Objects) (sound : IsSound ps m
       consistent = record {
         processes_in_order = sound.processes_in_order;
         given_processes = λ k there. rw koids (sound.given_processes k there);
-        given_objects = λ k there. rw koids (sound.given_objects k (was_there k there));
+        given_objects = λ k there. rw koids (sound.given_objects k (was_there r.objects r2.objects was k there));
         koids = rw koids sound.koids;
         above_zero = rw koids sound.above_zero;
         no_zero = exact_left.no_zero;
@@ -179,16 +171,13 @@ still_settles ps r consistent = (all_held ps r (sound_of ps r consistent) consis
 
 -- ---- the handles of a table go
 
-pub unchanged : (r : Objects) → Releases [] [] r r
-unchanged r = record { cascades = none_left r.objects; keeps = λ others kept. rw (append-nil others) at kept; koids = refl }
-
 pub record AreGone (m : Map Entry) (r r2 : Objects) : Type 0 where
   pub koids : List ℕ
   pub counts : (k : ℕ) → count_by (λ j. j == k) koids ≡ count_by (λ (h : ℕ × Entry). h.1.koid == k) m
   pub releases : Releases koids [] r r2
 
 pub drained : (m : Map Entry) (r r2 : Objects) → IsTrue (is_sorted nat_cmp m) → Drained m r r2 → AreGone m r r2
-drained _ _ _ sorted (none_drained r) = record { koids = []; counts = λ k. refl; releases = unchanged r }
+drained _ _ _ sorted (none_drained r) = record { koids = []; counts = λ k. refl; releases = none_goes r }
 drained _ _ _ sorted (one_more m v e r mid r2 there first rest) =
     let later : AreGone (without m v) mid r2 = drained (without m v) mid r2 (sorted_without m v sorted) rest in
     record {

@@ -1,5 +1,5 @@
 -- Processes that were never started go with their objects: what settling leaves of a world, and that the invariant stays.
-use Rattle.zl_calls.proofs.Common.{AreBlocked, Bool, Created, IsConsistent, IsTable, IsTrue, Koids, List, Map, None, Objects, Option, Some, World, [], ap, cond}
+use Rattle.zl_calls.proofs.Common.{AreBlocked, Bool, Created, IsConsistent, IsTable, IsTrue, Koids, List, Map, None, Objects, Option, Some, World, [], ap}
 use Rattle.zl_calls.proofs.Common.{count_by, each, eq-eqb, false, get, get-each, handles_to, has_handle, has_key, has_seen, if◌then◌else◌, in_order-each}
 use Rattle.zl_calls.proofs.Common.{is_blocked, is_process, is_some, is_sorted, left_beside, left_state, lives, map, nat_cmp, none-some, object_entry}
 use Rattle.zl_calls.proofs.Common.{option_map, passes, process_entry, process_settled, queued_to, refl, same_Some, same_map, state_passes, state_value}
@@ -10,6 +10,7 @@ use Rattle.zl_calls.specs.declared.process.State.{State}
 use Rattle.zl_calls.specs.declared.process.State.TheVariants as state
 use Rattle.zl_calls.specs.declared.process.Process.{Process}
 use Rattle.zl_calls.proofs.objects.SameBodies.{still_agrees}
+use Rattle.zl_rights.proofs.MapEdits.{has_key-behind}
 
 -- the processes, of which those that were never started are gone without their objects
 abbrev pub left_all : List Process → Objects → List Process
@@ -37,13 +38,7 @@ where_passing : {X : Type 0} (p : ℕ → Bool) (m : Map X) → ((k : ℕ) → I
 unfolding where_key get
 where_passing p [] all = refl
 where_passing {X} p (e ∷ m) all =
-    rw (all e.0 (rw (same e.0) refl)) (ap (λ (rest : Map X). e ∷ rest) (where_passing p m (λ k there. all k (later k there))))
-  where
-    same : (k : ℕ) → (k == k) ≡ true
-    same k = eq-eqb k k refl
-
-    later : (k : ℕ) → IsTrue (has_key m k) → IsTrue (has_key (e ∷ m) k)
-    later k there = elim (e.0 == k) as (λ b. IsTrue (is_some (cond b (Some e.1) (get m k)))) [ true ↦ refl | false ↦ there ]
+    rw (all e.0 (rw (eq-eqb e.0 e.0 refl) refl)) (ap (λ (rest : Map X). e ∷ rest) (where_passing p m (λ k there. all k (has_key-behind e m k there))))
 
 -- the world in which all of these objects stay is theirs
 pub all_stay : (ps : List Process) (r r2 : Objects) → r2.next_koid ≡ r.next_koid → with_all (world_value ps r) r2.objects ≡ settled_world ps r2

@@ -3,7 +3,7 @@ use Rattle.zl_calls.proofs.Common.{Agrees, AreKeptBut, AreNamed, Bool, Ended, En
 use Rattle.zl_calls.proofs.Common.{Option, Releases, Some, [], ap, arith, body_value, cases_Bool, count_by, eq-eqb, eqb-true, false, get, handles_to, has_ended}
 use Rattle.zl_calls.proofs.Common.{has_key, has_key-update, inl, inr, is_in_job, is_process, is_sorted-update, job_in, job_of, kind_of, lives, map, none-some}
 use Rattle.zl_calls.proofs.Common.{object_entry, object_value, process_entry, process_value, queued_to, refl, runs, same_in_job, stopped, stopped_body}
-use Rattle.zl_calls.proofs.Common.{stopped_loose, stopping, subst, sum_by, sym, true, update, world_value, ℕ, ℤ, ◌+◌, ◌<◌, ◌==◌, ◌∙◌, ◌∷◌, ◌≡◌}
+use Rattle.zl_calls.proofs.Common.{stopped_loose, stopping, subst, sum_by, sym, update, world_value, ℕ, ℤ, ◌+◌, ◌<◌, ◌==◌, ◌∙◌, ◌∷◌, ◌≡◌}
 use Rattle.zl_code.proofs.Common.{Process as ProcessValue, Object as ObjectValue, State as StateValue}
 use Rattle.zl_objects.specs.declared.object.Body.{Body}
 use Rattle.zl_objects.specs.declared.object.Body.TheVariants as body
@@ -16,8 +16,9 @@ use Rattle.zl_calls.proofs.calls.Answered.{IsWrite}
 use Rattle.zl_calls.proofs.lists.Updates.{update_unseen}
 use Rattle.zl_calls.proofs.objects.Counting.{counts_fewer, queues}
 use Rattle.zl_calls.proofs.objects.SameBodies.{each_updated, still_agrees, still_named, jobs_kept, named_kept}
-use Rattle.zl_calls.proofs.objects.Settled.{sound_of, unchanged}
+use Rattle.zl_calls.proofs.objects.Settled.{sound_of}
 use Rattle.zl_calls.proofs.processes.Written.{after_is, get_after, found_after, same_agrees, written_sound}
+use Rattle.zl_calls.proofs.tables.Taking.{none_goes}
 
 -- ---- the table of the process has lost the handles m
 
@@ -66,10 +67,7 @@ module _ {before after : List Process} {p p2 : Process} (write : IsWrite before 
   module _ (code : ℤ) (over : p2.state ≡ state.Ended code) where
     now : (test : StateValue → Bool) → is_process (world_value after ended) test p.pid ≡ test (Ended code)
     unfolding is_process
-    now test = rw (get_after write p.pid, same p.pid, over) refl
-      where
-        same : (j : ℕ) → (j == j) ≡ true
-        same j = eq-eqb j j refl
+    now test = rw (get_after write p.pid, eq-eqb p.pid p.pid refl, over) refl
 
     others_now : (j : ℕ) → (p.pid == j) ≡ false → (test : StateValue → Bool)
         → is_process (world_value after ended) test j ≡ is_process (world_value before r) test j
@@ -156,5 +154,5 @@ over k r r2 kept ends = by_job (job_in (get r.objects k)) refl ends
         record {
           loose = [];
           kept = subst (λ (x : Objects). AreKeptBut [] x.objects) (sym still) kept;
-          releases = subst (λ (x : Objects). Releases [] [] x r2) (sym still) (rw same (unchanged r));
+          releases = subst (λ (x : Objects). Releases [] [] x r2) (sym still) (rw same (none_goes r));
         }

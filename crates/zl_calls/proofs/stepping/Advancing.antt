@@ -1,7 +1,7 @@
 -- What a process did by itself comes back to the world: what stands there for it, and the steps that these instructions are.
 use Rattle.zl_calls.proofs.Common.{Cpu, Err, HavePrograms, IfOk, IsPlaceOf, IsTrue, Library, List, None, Objects, Ok, Option, Program, Result, Runs, Settles}
 use Rattle.zl_calls.proofs.Common.{Some, Stands, World, after_locals, ap, arith, false≢true, get, get_or, is_process, is_ready, is_ready_in, is_some, length}
-use Rattle.zl_calls.proofs.Common.{map, none-some, on_process, option_map, process_entry, process_value, refl, replicate, same_Some, set, slice_get}
+use Rattle.zl_calls.proofs.Common.{map, on_process, option_map, process_entry, process_value, refl, replicate, same_Some, set, slice_get}
 use Rattle.zl_calls.proofs.Common.{slice_get-get_or, slice_get_within, state_value, step_programs, step_sound, subst, sym, true, wakes, world_blocked, ℕ, ◌<◌}
 use Rattle.zl_calls.proofs.Common.{◌∙◌, ◌≡◌, ◌≤◌}
 use Rattle.zl_code.proofs.Common.{IsSound as IsSoundWorld}
@@ -20,10 +20,6 @@ pub read_there : (ps : List Process) (pid place : ℕ) (p : Process) → IsPlace
 read_there ps pid place p at read = at.holds ∙ ap (option_map process_value) (slice_get-get_or ps place p at.within ∙ ap (λ (q : Process). Some q) (sym read))
 
 module _ (lib : Library) (ps : List Process) (r : Objects) (blocked : List ℕ) (pid : ℕ) where
-  -- nothing stands there for a process that isn't there
-  pub none_stands : get (map process_entry ps) pid ≡ None → (g : Program) (c : Cpu) → Stands (machine_value lib ps r blocked) pid g c → ⊥
-  none_stands gone g c h = none-some c (rw gone at h.cpu_is)
-
   -- nor is it ready
   pub none_ready : get (map process_entry ps) pid ≡ None → IsTrue (is_ready_in (machine_value lib ps r blocked) pid) → ⊥
   unfolding is_process

@@ -1,7 +1,7 @@
 -- What follows from the invariant of the world, and that it makes a call a step up to where processes wake.
-use Rattle.zl_calls.proofs.Common.{AtCall, CallBy, CallName, Calls, Entry, IsActed, IsConsistent, IsNamed, IsTrue, Library, List, Objects, Option, Outcome}
-use Rattle.zl_calls.proofs.Common.{Ready, Settles, Site, Some, World, arith, get, handles_to, has_key, has_place, has_seen, map, nat_le, nat_tests, next_for}
-use Rattle.zl_calls.proofs.Common.{not, process_entry, process_value, refl, refusal, state_value, subst, sym, world_value, ℕ, ◌<◌, ◌^◌, ◌∙◌, ◌≡◌}
+use Rattle.zl_calls.proofs.Common.{AtCall, CallBy, CallName, Calls, Entry, IsActed, IsConsistent, IsNamed, Library, List, Objects, Option, Outcome}
+use Rattle.zl_calls.proofs.Common.{Ready, Settles, Site, Some, World, arith, get, handles_to, has_place, map, nat_le, nat_tests, next_for}
+use Rattle.zl_calls.proofs.Common.{not, process_entry, process_value, refl, refusal, state_value, subst, sym, world_value, ℕ, ◌^◌, ◌≡◌}
 use Rattle.zl_code.proofs.Common.{Process as ProcessValue}
 use Rattle.zl_code.specs.Calls.{Calls as PolicedCalls, Choice}
 use Rattle.zl_code.specs.Refusals.{refusal as policed_refusal}
@@ -14,9 +14,6 @@ use Rattle.zl_calls.specs.declared.process.Process.{Process}
 module _ (ps : List Process) (r : Objects) (consistent : IsConsistent ps r) where
   abbrev w : World
   w = world_value ps r
-
-  pub given : (k : ℕ) → IsTrue (has_key w.objects k) → k < r.next_koid
-  given k there = consistent.given_objects k (sym (has_seen r.objects k) ∙ there)
 
   pub full_counted : (p : Process) → get w.processes p.pid ≡ Some (process_value p) → (h : ℕ) (e : Entry) → get p.table.entries h ≡ Some e
       → nat_le (2 ^ 62) (handles_to w e.koid) ≡ not (has_place (get r.objects e.koid))

@@ -87,9 +87,6 @@ module _ (ps : List Process) (pid place : ℕ) (p : Process) (found : Some place
   pub stands_there : get (map process_entry ps) pid ≡ Some (process_value p)
   stands_there = rw (← pid_read ps pid place p found read) ((write_at ps pid place p p found read refl).there)
 
-  pub not_ready : is_ready (state_value p.state) ≡ false → state_passes is_ready (get (map process_entry ps) pid) ≡ false
-  not_ready h = rw stands_there h
-
 -- there it is ready, and the world is sound
 pub record AtTurn (ps : List Process) (r : Objects) (blocked : List ℕ) (pid place : ℕ) (p : Process) : Type 0 where
   pub consistent : IsConsistent ps r

@@ -1,10 +1,9 @@
 -- Where a process stands in the list, and what stands next for it.
-use Rattle.zl_calls.proofs.Common.{CallInstr, CallsNext, Cpu, IfNone, IsSome, IsStuck, Library, List, Moves, None, OnSome, Option, Program, Site, Some}
-use Rattle.zl_calls.proofs.Common.{StandsNext, ap, arith, call_at, call_in, call_row, calls_at, false, false≢true, get_or, get_or_from_slice_get}
-use Rattle.zl_calls.proofs.Common.{has_its_memory, is_some, length, map, next_at, next_for, process_entry, process_value, refl, site_of, slice_get}
+use Rattle.zl_calls.proofs.Common.{CallInstr, CallsNext, IsSome, Library, List, None, Option, Program, Site, Some}
+use Rattle.zl_calls.proofs.Common.{ap, arith, call_at, call_in, call_row, calls_at, false, false≢true, get_or, get_or_from_slice_get}
+use Rattle.zl_calls.proofs.Common.{has_its_memory, is_some, length, map, next_for, process_entry, process_value, refl, site_of, slice_get}
 use Rattle.zl_calls.proofs.Common.{slice_get-map, slice_get_read, stands_next, subst, sym, true, ℕ, ◌<◌, ◌^◌, ◌∙◌, ◌≡◌, ◌≢◌}
 use Rattle.zl_code.proofs.Common.{Process as ProcessValue}
-use Rattle.zl_interp.specs.Common.{IsStuckOrCalls}
 use Rattle.zl_interp.proofs.Standing.{comes, no_call}
 use Rattle.zl_verify.proofs.Sites.{has_site}
 use Rattle.zl_calls.specs.declared.process.Process.{Process}
@@ -26,22 +25,6 @@ module _ (lib : Library) (p : ProcessValue) (g : Program) (runs : slice_get lib 
   pub no_call_next : call_at g.image p.cpu.counter ≡ None → call_in (next_for lib p) ≡ None
   no_call_next none = rw runs (no_call g.image p.cpu none)
 
-  pub named_next : (x : CallInstr) → StandsNext g.image p.cpu x → Some x.name ≡ call_in (next_for lib p)
-  named_next x stands = rw runs (ap call_in (sym stands.next))
-
-  -- nor is its Cpu stuck in the program, if the process isn't
-  pub goes_in : next_for lib p ≢ IsStuck → next_at g.image p.cpu ≢ IsStuck
-  goes_in goes stuck = goes (rw runs stuck)
-
-  pub moves_at : {A : Type 0} (o : Option A) (c : Cpu) → OnSome o (next_at g.image p.cpu ≡ Moves c) → OnSome o (next_for lib p ≡ Moves c)
-  moves_at None c moves = tt
-  moves_at (Some x) c moves = rw runs moves
-
-  pub stuck_at : {A : Type 0} (o : Option A) → call_in (next_for lib p) ≡ None → IfNone o (IsStuckOrCalls (next_at g.image p.cpu))
-      → IfNone o (next_for lib p ≡ IsStuck)
-  stuck_at None none stuck = rw runs (stuck (rw runs at none))
-  stuck_at (Some x) none stuck = tt
-
 -- the call stands next for the process, if it has a site
 module _ (lib : Library) (p : ProcessValue) (x : CallInstr) (next : next_for lib p ≡ calls_at x.name (site_of x p.cpu)) where
   pub none_without_site : has_its_memory (call_row x.name).ending x p.cpu ≡ false → call_in (next_for lib p) ≡ None
@@ -50,14 +33,6 @@ module _ (lib : Library) (p : ProcessValue) (x : CallInstr) (next : next_for lib
       by : (s : Option Site) → is_some s ≡ false → call_in (calls_at x.name s) ≡ None
       by None h = refl
       by (Some s) h = absurd (false≢true (sym h))
-
-  -- it has one where the process isn't stuck
-  pub sure_site : next_for lib p ≢ IsStuck → IsSome (site_of x p.cpu)
-  sure_site goes = by (site_of x p.cpu) next
-    where
-      by : (s : Option Site) → next_for lib p ≡ calls_at x.name s → IsSome s
-      by None is = absurd (goes is)
-      by (Some s) is = refl
 
 -- the process that was read at the place stands at the call
 module _ (lib : Library) (ps : List Process) (place : ℕ) (q : Process) (read : q ≡ get_or ps place q) (x : CallInstr) (next : CallsNext lib q x)

@@ -1,7 +1,7 @@
 -- What the item of a step tells of the process: which call it did, that it ran, or that it was stuck.
 use Rattle.zl_calls.specs.World.{free_entry}
 use Rattle.zl_calls.proofs.Common.{AtCall, CallInstr, CallName, Cpu, DoesNext, EndsUnheld, HaveLeft, HavePrograms, IfNone, IfSome, IsStuck, IsTrue, Library}
-use Rattle.zl_calls.proofs.Common.{List, Machine, Moves, Next, None, Objects, Option, Outcome, Performs, Program, Site, Some, Step, StepsAndWakes, StepsTo}
+use Rattle.zl_calls.proofs.Common.{List, Machine, Moves, Next, None, Objects, Option, Outcome, Program, Site, Some, Step, StepsAndWakes}
 use Rattle.zl_calls.proofs.Common.{TakesStep, TraceItem, Woke, ap, asks_again, call_for, call_in, call_of, call_row, calls_at, false, false≢true, fired, fold}
 use Rattle.zl_calls.proofs.Common.{get, instr_at, is_local, is_process, is_ready, is_ready_in, local_effect, map, name_of, next_at, next_for, pid_of}
 use Rattle.zl_calls.proofs.Common.{process_entry, refl, site_of, slice_get, state_passes, step_awake, step_programs, step_sound, subst, sym, takes_memory}
@@ -21,21 +21,6 @@ use Rattle.zl_calls.specs.declared.waking.Woke.TheVariants as woke
 -- ---- the process that acts, and the item
 
 module _ (lib : Library) (w w2 : WorldValue) (pid at : ℕ) where
-  ran_no_call : (n : ℕ) (next : Next) → Acts lib w pid next (item.Run at n) w2 → call_in next ≡ None
-  ran_no_call n (Moves c) acts = refl
-  ran_no_call n (AtCall call s) (o, is, calls) = cc
-  ran_no_call n IsStuck acts = refl
-
-  ran_one : (n : ℕ) (next : Next) → Acts lib w pid next (item.Run at n) w2 → item.Run at n ≡ item.Run pid 1
-  ran_one n (Moves c) acts = acts.0
-  ran_one n (AtCall call s) (o, is, calls) = cc
-  ran_one n IsStuck (is, over) = cc
-
-  stuck_no_call : (next : Next) → Acts lib w pid next (item.Stuck at) w2 → call_in next ≡ None
-  stuck_no_call (Moves c) acts = refl
-  stuck_no_call (AtCall call s) (o, is, calls) = cc
-  stuck_no_call IsStuck acts = refl
-
   called : (name : CallName) (o : Outcome) (next : Next) → Acts lib w pid next (item.Call at name o) w2 → call_in next ≡ Some name
   called name o (Moves c) (is, moved) = cc
   called name o (AtCall call s) (o2, is, calls) = cc
@@ -81,34 +66,6 @@ module _ (m m2 : Machine) (pid at : ℕ) where
       let step = takes.steps.step in
       subst (λ (k : ℕ). call_for m k ≡ Some name) takes.pid_is
       (stands (item.Call at name o) step ∙ called m.programs m.world step.acted at at name o (next_for m.programs step.process) step.acts)
-
-  pub performs : (name : CallName) (o : Outcome) → TakesStep m pid m2 (item.Call at name o) → Performs m pid o m2
-  performs name o takes = record {
-    call = name;
-    at_call = call_is name o takes;
-    steps = subst (λ (k : ℕ). StepsTo m (item.Call k name o) m2) takes.pid_is takes.steps;
-  }
-
-  pub runs_no_call : (n : ℕ) → TakesStep m pid m2 (item.Run at n) → call_for m pid ≡ None
-  runs_no_call n takes =
-      let step = takes.steps.step in
-      subst (λ (k : ℕ). call_for m k ≡ None) takes.pid_is
-      (stands (item.Run at n) step ∙ ran_no_call m.programs m.world step.acted at at n (next_for m.programs step.process) step.acts)
-
-  pub stuck_at_no_call : TakesStep m pid m2 (item.Stuck at) → call_for m pid ≡ None
-  stuck_at_no_call takes =
-      let step = takes.steps.step in
-      subst (λ (k : ℕ). call_for m k ≡ None) takes.pid_is
-      (stands (item.Stuck at) step ∙ stuck_no_call m.programs m.world step.acted at at (next_for m.programs step.process) step.acts)
-
-  pub runs_one : (n : ℕ) → TakesStep m pid m2 (item.Run at n) → StepsTo m (item.Run pid 1) m2
-  runs_one n takes =
-      let step = takes.steps.step in
-      subst (λ (x : TraceItem). StepsTo m x m2)
-      (ran_one m.programs m.world step.acted at at n (next_for m.programs step.process) step.acts ∙ ap (λ (k : ℕ). item.Run k 1) takes.pid_is) takes.steps
-
-  pub is_stuck : TakesStep m pid m2 (item.Stuck at) → StepsTo m (item.Stuck pid) m2
-  is_stuck takes = subst (λ (x : TraceItem). StepsTo m x m2) (ap item.Stuck takes.pid_is) takes.steps
 
   pub wants_memory : (name : CallName) (o : Outcome) → TakesStep m pid m2 (item.Call at name o) → o ≡ outcome.Answered status.NoMemory
       → IfSome (call_for m pid) (λ call. IsTrue (takes_memory call))

@@ -6,6 +6,7 @@ use Rattle.zl_code.proofs.Common.{Process as ProcessValue}
 use Rattle.zl_calls.proofs.objects.Counting.{count_put}
 use Rattle.zl_calls.proofs.tables.Tables.{found_inserted, inserted_table}
 use Rattle.zl_calls.proofs.tables.Taking.{one_longer}
+use Rattle.zl_calls.proofs.calls.Answered.{with_table}
 
 -- ---- the table afterwards
 
@@ -42,10 +43,6 @@ counts_entered j t u (x ∷ es) (y ∷ vs) so_far =
     omega (arith, first, counts_entered j so_far.between u es vs so_far.rest, sum_by-cons (λ (e : Entry). cond (e.koid == j) 1 0) x es)
 
 -- ---- the same in a process
-
--- the process with this table
-abbrev pub with_table : Handles → ProcessValue → ProcessValue
-with_table t q = record q { handles = t.entries; last = t.last }
 
 pub all_given : (t u : Handles) (es : List Entry) (vs : List ℕ) (q : ProcessValue) → InsertsEach t es vs u
     → process_with_all es vs (with_table t q) ≡ with_table u q

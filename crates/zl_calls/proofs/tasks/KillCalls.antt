@@ -1,7 +1,7 @@
 -- The call task_kill, from what it did among all processes to the relation of steps, up to where processes wake.
 use Rattle.zl_calls.proofs.Common.{AreBlocked, AreLeft, AtCall, Bool, CallName, ClosesAllEnded, ClosesEnded, Cpu, DESTROY, Ended, Entry, IsConsistent, IsNamed}
 use Rattle.zl_calls.proofs.Common.{IsTrue, KILLED, KillsTask, Library, List, ListsWithout, Map, None, Objects, Ok, Option, Outcome, Parts, Ready, Releases}
-use Rattle.zl_calls.proofs.Common.{Site, Some, Values, World, [], all_koids, ap, arith, cases_Bool, count_by, cpu_answered, each, effect, ended, ended_if}
+use Rattle.zl_calls.proofs.Common.{Site, Some, Values, World, [], all_koids, ap, arith, cases_Bool, count_by, cpu_answered, each, effect, ended}
 use Rattle.zl_calls.proofs.Common.{ended_within, eq-eqb, eqb-true, false, false≢true, filter, get, get-each, get-update, gives_ok, handle_operands, has_handle}
 use Rattle.zl_calls.proofs.Common.{if◌then◌else◌, in_order-each, inl, inr, insert_all, is_blocked, is_blocking, is_over, is_sorted, is_sorted-update, is_within}
 use Rattle.zl_calls.proofs.Common.{kill_refusal, killing, listed, lives, lives_on, looked_up, map, may_choose, nat_cmp, nat_tests, new_handles, next_for}
@@ -50,6 +50,7 @@ use Rattle.zl_rights.specs.Values.{Free, coming, new_free}
 use Rattle.zl_code.proofs.StepsWaiting.{is_left as is_left_at_port}
 use Rattle.zl_calls.proofs.waking.Woken.{update_fixed}
 use Rattle.zl_calls.proofs.lists.Positions.{times-filter}
+use Rattle.zl_calls.proofs.tasks.KillParts.{ends_pid}
 use Rattle.zl_calls.specs.Own.{FreeBy}
 
 -- ---- the answer
@@ -208,12 +209,7 @@ filter_still test p out (x ∷ xs) = elim (cases_Bool (test x)) as (λ _. filter
   ]
 ]
 
--- a kill leaves a process where it is
-ends_pid : (killed : Bool) (x : Process) → (ended_if killed x).pid ≡ x.pid
-ends_pid true x = refl
-ends_pid false x = refl
-
--- and its Cpu
+-- a kill leaves the Cpu of a process
 cpu_stays : (within : Bool) (q : ProcessValue) → process_killed within q ≡ record (process_killed within q) { cpu = q.cpu }
 cpu_stays false q = refl
 cpu_stays true q = by_life (lives q.state)

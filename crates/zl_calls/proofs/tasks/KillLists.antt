@@ -14,7 +14,7 @@ use Rattle.zl_calls.proofs.lists.Updates.{set_same}
 use Rattle.zl_calls.proofs.processes.Idle.{get_placed}
 use Rattle.zl_calls.proofs.waits.WaitsLost.{listed_same}
 use Rattle.zl_calls.proofs.processes.Written.{pid_read}
-use Rattle.zl_calls.proofs.tasks.KillParts.{IsClosing, closing_ends, closing_goes_on, closing_starts}
+use Rattle.zl_calls.proofs.tasks.KillParts.{IsClosing, closing_ends, closing_goes_on, ends_pid}
 use Rattle.zl_calls.proofs.tasks.StartCalls.{below_at}
 use Rattle.zl_calls.proofs.tasks.StartParts.{read_at, stands_at}
 
@@ -89,16 +89,12 @@ module _ (r : Objects) (task : ℕ) where
     pub others_closed : (ps qs : List Process) → AreClosed ps → qs ≡ map (ended_within r task) ps → AreClosedBut ks qs
     others_closed ps qs closed is n q at out = by_place ps n (ap (λ (xs : List Process). slice_get xs n) (sym is) ∙ at) (closed n)
       where
-        same_pid : (b : Bool) (p : Process) → (ended_if b p).pid ≡ p.pid
-        same_pid true p = refl
-        same_pid false p = refl
-
         by_place : (xs : List Process) (m : ℕ) → slice_get (map (ended_within r task) xs) m ≡ Some q → ((p : Process) → slice_get xs m ≡ Some p → IsClosed p)
             → IsClosed q
         by_place [] m here before = absurd (none-some q here)
         by_place (x ∷ xs) zero here before =
             let became : ended_within r task x ≡ q = same_Some (ended_within r task x) q here in
-            let pid : q.pid ≡ x.pid = ap (λ (p : Process). p.pid) (sym became) ∙ same_pid _ x in
+            let pid : q.pid ≡ x.pid = ap (λ (p : Process). p.pid) (sym became) ∙ ends_pid _ x in
             subst IsClosed (sym (spared x (not_listed x.pid (ap (λ (k : ℕ). is_among k ks) (sym pid) ∙ out))) ∙ became) (before x refl)
         by_place (x ∷ xs) (suc m) here before = by_place xs m here before
 
@@ -219,9 +215,6 @@ module _ (first : List Process) (start : Objects) (ks : List ℕ) where
     pub closing : IsClosing first start from ps r
     pub alike : (n : ℕ) → from ≤ n → slice_get ps n ≡ slice_get first n
     pub had_turn : (j n : ℕ) (p : Process) → j < i → slice_get first n ≡ Some p → p.pid ≡ get_or ks j 0 → n < from
-
-  pub none_closed : IsClosingEach 0 0 first start
-  none_closed = record { closing = closing_starts first start; alike = λ n later. refl; had_turn = λ j n p less at same. absurd (omega (arith, less)) }
 
   -- those between, of whom none is left to close
   skips : (ps : List Process) (r : Objects) (m from : ℕ) → IsClosing first start from ps r → from + m ≤ length ps

@@ -14,12 +14,12 @@ use Rattle.zl_code.proofs.Common.{drop_all, filter}
 
 -- ---- koids stay
 
-same_pid : (killed : Bool) (p : Process) → (ended_if killed p).pid ≡ p.pid
-same_pid true p = refl
-same_pid false p = refl
+pub ends_pid : (killed : Bool) (p : Process) → (ended_if killed p).pid ≡ p.pid
+ends_pid true p = refl
+ends_pid false p = refl
 
 pub ended_pid : (r : Objects) (task : ℕ) (p p2 : Process) → p2 ≡ ended_within r task p → p2.pid ≡ p.pid
-ended_pid r task p p2 is = ap (λ (q : Process). q.pid) is ∙ same_pid _ p
+ended_pid r task p p2 is = ap (λ (q : Process). q.pid) is ∙ ends_pid _ p
 
 -- ---- a loop over all processes
 

@@ -17,9 +17,10 @@ use Rattle.zl_calls.specs.declared.process.Process.{Process}
 use Rattle.zl_calls.proofs.lists.Updates.{found_behind}
 use Rattle.zl_calls.specs.calls.Task.{none_left}
 use Rattle.zl_calls.proofs.objects.SameBodies.{still_named}
-use Rattle.zl_calls.proofs.objects.Settled.{AreGone, drained, unchanged}
+use Rattle.zl_calls.proofs.objects.Settled.{AreGone, drained}
 use Rattle.zl_calls.proofs.booting.BootGiving.{bare_table}
 use Rattle.zl_calls.proofs.objects.Counting.{queues, naming, naming_cons, numbered, numbered_naming}
+use Rattle.zl_calls.proofs.tables.Taking.{none_goes}
 
 -- ---- entries without their values
 
@@ -117,7 +118,7 @@ module _ (P : Entry → Type 0) (r : Objects) (t : ℕ) where
     passing = tt;
     koids = [];
     counts = λ k. refl;
-    releases = unchanged a;
+    releases = none_goes a;
     fewer = λ k. omega (arith, tables_cons k p [], tables_cons k p1 [], ap (λ (x : _). count_by (λ (h : ℕ × Entry). h.1.koid == k) x.entries) table);
   }
   one_gone p p1 p2 a b table all (is_over _ _ _ _ dead same entries last drains ends) =
@@ -140,7 +141,7 @@ module _ (P : Entry → Type 0) (r : Objects) (t : ℕ) where
       }
 
   all_gone : (ps qs ps2 : List Process) (a b : Objects) → qs ≡ map (ended_within r t) ps → AllTables P ps → ClosesAllEnded qs a ps2 b → AreAllGone P ps ps2 a b
-  all_gone [] qs ps2 a b is all (none_left _) = record { gone = []; passing = tt; koids = []; counts = λ k. refl; releases = unchanged a; fewer = λ k. refl }
+  all_gone [] qs ps2 a b is all (none_left _) = record { gone = []; passing = tt; koids = []; counts = λ k. refl; releases = none_goes a; fewer = λ k. refl }
   all_gone [] _ _ a b is all (one_more p1 p2 qs ps2 _ _ _ one rest) = absurd cc
   all_gone (p ∷ ps) qs ps2 a b is all (none_left _) = absurd cc
   all_gone (p ∷ ps) _ _ a b is all (one_more p1 p2 qs ps2 _ mid _ one rest) =
@@ -335,15 +336,15 @@ module _ (ps ps3 : List Process) (r : Objects) (consistent : IsConsistent ps r) 
       by_life true = refl
       by_life false = h
 
+  neither : (b : Bool) → b ≡ false → not b ≡ false → ⊥
+  neither true a c = false≢true (sym a)
+  neither false a c = false≢true (sym c)
+
   -- a process that was killed has ended, whether by this or before
   stops : (o : Option ProcessValue) (l : Life) → is_alive l ≡ state_passes lives o → not (is_alive l) ≡ state_passes has_ended o
       → (state_passes runs (option_map (process_killed true) o) ≡ false) × (state_passes lives (option_map (process_killed true) o) ≡ false)
       × (state_passes has_ended (option_map (process_killed true) o) ≡ true)
   stops None l living over = absurd (neither (is_alive l) living over)
-    where
-      neither : (b : Bool) → b ≡ false → not b ≡ false → ⊥
-      neither true a c = false≢true (sym a)
-      neither false a c = false≢true (sym c)
   stops (Some q) l living over = by_state q.state refl
     where
       by_state : (s : StateValue) → q.state ≡ s → (runs (if lives s then record q { state = Ended KILLED; handles = []; last = None } else q).state ≡ false)
@@ -351,10 +352,6 @@ module _ (ps ps3 : List Process) (r : Objects) (consistent : IsConsistent ps r) 
           × (has_ended (if lives s then record q { state = Ended KILLED; handles = []; last = None } else q).state ≡ true)
       by_state (Ended code) at = (ap runs at, ap lives at, ap has_ended at)
       by_state Gone at = absurd (neither (is_alive l) (living ∙ ap lives at) (over ∙ ap has_ended at))
-        where
-          neither : (b : Bool) → b ≡ false → not b ≡ false → ⊥
-          neither true a c = false≢true (sym a)
-          neither false a c = false≢true (sym c)
       by_state _ at = (refl, refl, refl)
 
   unchanged_by : (test : StateValue → Bool) (k : ℕ) → within k ≡ false

@@ -4,7 +4,7 @@ use Rattle.zl_calls.proofs.Common.{Objects, Option, Parts, Some, Wait, [], ap, c
 use Rattle.zl_calls.proofs.Common.{has_handle, if◌then◌else◌, inl, inr, is_over, is_sorted, is_within, lives, lives_on, map, nat_cmp, none-some, not, one_more}
 use Rattle.zl_calls.proofs.Common.{parts, process_entry, process_value, refl, same_Some, slice_get-get_or, state_passes, state_value, subst, sym, true, ℕ, ◌&&◌}
 use Rattle.zl_calls.proofs.Common.{◌==◌, ◌∙◌, ◌∷◌, ◌≡◌}
-use Rattle.zl_code.proofs.Common.{Process as ProcessValue}
+use Rattle.zl_code.proofs.Common.{Process as ProcessValue, not-true}
 use Rattle.zl_calls.specs.calls.Task.{none_left}
 use Rattle.zl_calls.specs.declared.process.Process.{Process}
 use Rattle.zl_calls.proofs.processes.InOrder.{all_in_order}
@@ -85,13 +85,9 @@ closes_none _ _ r r2 (one_more p p2 ps ps2 _ mid _ one rest) k v dead = elim (ca
       | inl here ↦
           let over : not (lives (state_value p.state)) ≡ true = rw here at dead in
           let is = one_over p p2 r mid one in
-          rw (is.0, here, is.1 (dies (lives (state_value p.state)) over)) refl
+          rw (is.0, here, is.1 (not-true (lives (state_value p.state)) over)) refl
       | inr apart ↦ rw ((one_over p p2 r mid one).0, apart) (closes_none ps ps2 mid r2 rest k v (rw apart at dead))
     ]
-  where
-    dies : (b : Bool) → not b ≡ true → b ≡ false
-    dies false h = refl
-    dies true h = absurd (false≢true h)
 
 -- ---- the whole kill
 

@@ -3,7 +3,7 @@ use Rattle.zl_calls.proofs.Common.{AreBlocked, AreClosed, Blocked, Bool, ClosesA
 use Rattle.zl_calls.proofs.Common.{Some, [], ap, arith, body_in, body_value, cases_Bool, each, ended_if, ended_within, eq-eqb, false, false≢true, filter, get}
 use Rattle.zl_calls.proofs.Common.{get-each, get_seen, if◌then◌else◌, inl, inr, is_blocked, is_over, is_within, killed_body, killed_if, length, lives, lives_on}
 use Rattle.zl_calls.proofs.Common.{map, not, object_entry, object_killed, object_value, one_more, option_map, process_entry, process_killed, process_value}
-use Rattle.zl_calls.proofs.Common.{refl, state_passes, state_value, suc, sym, true, zero, ℕ, ◌&&◌, ◌<◌, ◌==◌, ◌||◌, ◌∙◌, ◌∷◌, ◌≡◌}
+use Rattle.zl_calls.proofs.Common.{refl, state_passes, state_value, suc, sym, true, zero, ℕ, ◌<◌, ◌==◌, ◌||◌, ◌∙◌, ◌∷◌, ◌≡◌}
 use Rattle.zl_code.proofs.Common.{Process as ProcessValue, Object as ObjectValue, State as StateValue}
 use Rattle.zl_code.specs.Jobs.{body_killed, is_under_by, is_within as is_within_value}
 use Rattle.zl_code.specs.Tests.{parent_in as parent_in_value}
@@ -111,9 +111,6 @@ killed_one : (r : Objects) (t : ℕ) (p p1 p2 : Process) (mid r2 : Objects) → 
     → ◌≡◌ {A = ℕ × ProcessValue} (process_entry p2) (p.pid, process_killed (is_within r.objects t p.pid) (process_value p))
 killed_one r t p p1 p2 mid r2 is idle closes = by_life (lives (state_value p.state)) (is_within r.objects t p.pid) refl refl
   where
-    same_p : (l : Bool) → lives (state_value p.state) && is_within r.objects t p.pid ≡ false → p1 ≡ p
-    same_p l none = is ∙ ap (λ (b : Bool). ended_if b p) none
-
     over : p1 ≡ ended_if true p → lives (state_value p.state) ≡ true → (q1 q2 : Process) (a b : Objects) → q1 ≡ p1 → ClosesEnded q1 a q2 b
         → ◌≡◌ {A = ℕ × ProcessValue} (process_entry q2) (p.pid, process_killed true (process_value p))
     over ended living q1 _ a b at (lives_on _ _ alive) = absurd (false≢true (sym (ap (λ (x : Process). lives (state_value x.state)) (at ∙ ended)) ∙ alive))

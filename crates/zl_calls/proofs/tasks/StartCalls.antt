@@ -1,12 +1,12 @@
 -- The call process_start, from all processes and the objects to the relation of calls.
 use Rattle.zl_rights.specs.Values.{given_back}
 use Rattle.zl_calls.proofs.Common.{Bool, Calls, Entry, Inserts, IsTrue, Library, List, Map, None, Objects, Ok, Option, Ready, Site, Some, TRANSFER, Values}
-use Rattle.zl_calls.proofs.Common.{WRITE, World, [], and_from, answer_if, ap, arith, below_all, below_parts, body_value, cases_Bool, child_refusal}
+use Rattle.zl_calls.proofs.Common.{WRITE, World, [], and_from, answer_if, ap, arith, below_all, below_parts, cases_Bool, child_refusal}
 use Rattle.zl_calls.proofs.Common.{cpu_answered, cpu_given, effect, eq-eqb, eqb-true, false, first_some, get, get-update, gives_ok, handle_operands, has_key}
 use Rattle.zl_calls.proofs.Common.{if◌then◌else◌, inl, inr, insert_all, is_created, is_process, is_sorted, listed, looked_up, map, may_choose, may_get, misfits}
 use Rattle.zl_calls.proofs.Common.{nat_cmp, ne_eqb, new_handles, none-some, not, object_entry, object_value, on_process, operands_fault, option_map, process_at}
 use Rattle.zl_calls.proofs.Common.{process_entry, process_start, process_value, process_with, process_without, refl, refusal, remove_all, replied, same_Some}
-use Rattle.zl_calls.proofs.Common.{site, slice_get, slice_set, sorted_parts, start_refusal, started, started_body, started_with, starting, state_passes}
+use Rattle.zl_calls.proofs.Common.{site, slice_get, slice_set, sorted_parts, start_refusal, started, started_with, starting, state_passes}
 use Rattle.zl_calls.proofs.Common.{state_value, subst, suc, sym, table_of, taken, taken_handles, true, update, without, without_handle, world_value, zero, ℕ}
 use Rattle.zl_calls.proofs.Common.{◌<◌, ◌==◌, ◌∙◌, ◌∷◌, ◌≡◌}
 use Rattle.zl_code.proofs.Common.{Process as ProcessValue}
@@ -14,7 +14,6 @@ use Rattle.zl_rights.specs.declared.kind.Kind.TheVariants as kind
 use Rattle.zl_rights.specs.declared.status.Status.TheVariants as status
 use Rattle.zl_code.specs.Starting.{program_in}
 use Rattle.zl_code.specs.declared.history.Outcome.TheVariants as outcome
-use Rattle.zl_objects.specs.declared.object.Body.{Body}
 use Rattle.zl_objects.specs.declared.object.Body.TheVariants as body
 use Rattle.zl_objects.specs.declared.object.Object.{Object}
 use Rattle.zl_calls.proofs.processes.Freed.{entry_there}
@@ -24,6 +23,7 @@ use Rattle.zl_calls.specs.declared.process.State.TheVariants as state
 use Rattle.zl_calls.proofs.calls.Answered.{IsWrite, may_get_inserted}
 use Rattle.zl_calls.proofs.calls.Refused.{answers, is_found, both_looked_up, two_tests}
 use Rattle.zl_calls.proofs.lists.Updates.{update_twice, update_unseen}
+use Rattle.zl_calls.proofs.tasks.StartSound.{started_seen}
 
 -- ---- processes by their koids
 
@@ -162,11 +162,7 @@ module _ (lib : Library) (ps : List Process) (r : Objects) (p : Process) (there 
 
     -- the objects are seen as before
     same_kind : (o : Object) → object_value (started o) ≡ object_value o
-    same_kind o = ap (λ b. record (object_value o) { body = b }) (by_body o.body)
-      where
-        by_body : (b : Body) → body_value (started_body b) ≡ body_value b
-        by_body (body.Job own) = refl
-        by_body _ = refl
+    same_kind o = ap (λ b. record (object_value o) { body = b }) (started_seen o.body)
 
     pub objects_seen : (k : ℕ) → map object_entry (starting r k).objects ≡ map object_entry r.objects
     objects_seen k = update_unseen object_value r.objects k started same_kind

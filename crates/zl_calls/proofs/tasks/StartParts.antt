@@ -167,9 +167,6 @@ module _ (lib : Library) (ps : List Process) (r : Objects) (blocked : List ℕ) 
     child_there : slice_get ps1 started.place ≡ Some enters.child
     child_there = ap (λ (xs : List Process). slice_get xs started.place) enters.entered ∙ get_set ps started.place child enters.child child_at
 
-    pub caller_within : place < length ps1
-    caller_within = slice_get_within ps1 place caller caller_stays
-
     module _ (p : Process) (read : p ≡ get_or ps1 place p) (t : Handles) (taken : t ≡ without_handle p.table h) where
       is_it : p ≡ caller
       is_it = read ∙ get_or_from_slice_get ps1 place caller p caller_stays

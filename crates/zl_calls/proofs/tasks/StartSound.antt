@@ -26,7 +26,7 @@ use Rattle.zl_calls.proofs.processes.Written.{after_is, found_after, get_after, 
 
 -- ---- what a process is once it was started
 
-started_seen : (b : Body) → body_value (started_body b) ≡ body_value b
+pub started_seen : (b : Body) → body_value (started_body b) ≡ body_value b
 started_seen (body.Job own) = refl
 started_seen _ = refl
 

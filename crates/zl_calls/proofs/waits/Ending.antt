@@ -6,8 +6,8 @@ use Rattle.zl_calls.proofs.Common.{process_value, refl, slice_get, slice_get-get
 use Rattle.zl_calls.proofs.Common.{◌&&◌, ◌*◌, ◌+◌, ◌-◌, ◌<◌, ◌==◌, ◌∙◌, ◌≡◌}
 use Rattle.zl_objects.specs.declared.object.Object.{Object}
 use Rattle.zl_calls.specs.declared.process.Process.{Process}
-use Rattle.zl_calls.proofs.objects.SameButWaits.{beside_consistent, beside_same, beside_then, beside_world, unwatching_beside}
-use Rattle.zl_calls.proofs.lists.FilterByFirst.{IsSifting, one_less, sifting_ends, sifting_starts, sifting_stays, sifting_takes}
+use Rattle.zl_calls.proofs.objects.SameButWaits.{beside_consistent, beside_then, beside_world, unwatching_beside}
+use Rattle.zl_calls.proofs.lists.FilterByFirst.{IsSifting, one_less, sifting_ends, sifting_stays, sifting_takes}
 
 -- ---- what is left
 
@@ -36,9 +36,6 @@ pub record IsEnding (test : Wait → Bool) (old : Objects) (place : ℕ) (now : 
   pub list : IsSifting test old.waits place now.waits
 
 module _ (test : Wait → Bool) (old : Objects) where
-  pub ending_starts : IsEnding test old 0 old
-  ending_starts = record { beside = beside_same old; made = refl; asleep = (refl, refl); list = sifting_starts test old.waits }
-
   module _ (place : ℕ) (now : Objects) (so_far : IsEnding test old place now) where
     pub ends_all : slice_get now.waits place ≡ None → EndsWaits test old now
     ends_all none = record {

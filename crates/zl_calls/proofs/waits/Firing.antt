@@ -1,12 +1,13 @@
 -- One registered wait that holds gives its packet before the others do: the world at the end is the same.
-use Rattle.zl_calls.proofs.Common.{Body, Bool, ChannelEnd, IsTrue, JobBody, List, Map, None, Object, Option, Packet, PairEnd, PortBody, ProcessBody, Some, Wait}
-use Rattle.zl_calls.proofs.Common.{World, [], active, active_of, ap, append-nil, append_assoc, below_all, bit_or, body_packed, body_with_packets, cases_Bool}
-use Rattle.zl_calls.proofs.Common.{cond, each, eqb-true, false, filter, filter-append, filter_all, fired, get, get-each, get-update, has_child_job}
+use Rattle.zl_calls.proofs.Common.{Body, Bool, IsTrue, List, Map, None, Object, Option, Packet, PortBody, Some, Wait}
+use Rattle.zl_calls.proofs.Common.{World, [], active, active_of, ap, append_assoc, bit_or, body_packed, body_with_packets, cases_Bool}
+use Rattle.zl_calls.proofs.Common.{cond, each, eqb-true, false, filter, filter-append, fired, get, get-each, get-update, has_child_job}
 use Rattle.zl_calls.proofs.Common.{has_child_process, has_key-update, holds, if◌then◌else◌, implied, inl, inr, is_job_below, is_process, is_process_of}
 use Rattle.zl_calls.proofs.Common.{is_sorted, is_sorted-update, list_any, list_any-and, lives, map, meets, nat_cmp, not, option_map, packet_of, packets_for}
 use Rattle.zl_calls.proofs.Common.{passes, refl, repacked, same_map, sym, true, update, ℕ, ◌&&◌, ◌++◌, ◌==◌, ◌||◌, ◌∙◌, ◌∷◌, ◌≡◌}
-use Rattle.zl_rights.proofs.MapTests.{each_same, filter_none}
-use Rattle.zl_rights.proofs.SameSignals.{IsAlike}
+use Rattle.zl_rights.proofs.MapTests.{filter_none}
+use Rattle.zl_rights.proofs.SameSignals.{IsAlike, active_of-same}
+use Rattle.zl_code.proofs.MapKept.{in_order-each}
 
 -- ---- changes of a map
 
@@ -18,29 +19,6 @@ any_updated test f same (e ∷ m) k = elim (cases_Bool (e.0 == k)) as (λ _. lis
   | inl here ↦ rw here (ap (λ b. b || list_any test m) (ap (λ j. test (j, f e.1)) (sym (eqb-true e.0 k here)) ∙ same e.0 e.1))
   | inr apart ↦ rw apart (ap (λ b. test e || b) (any_updated test f same m k))
 ]
-
-below_each : {X : Type 0} (f : ℕ → X → X) (k : ℕ) (m : Map X) → below_all nat_cmp k (each f m) ≡ below_all nat_cmp k m
-unfolding each
-below_each f k [] = refl
-below_each f k (e ∷ m) = rw (below_each f k m) refl
-
-sorted_each : {X : Type 0} (f : ℕ → X → X) (m : Map X) → is_sorted nat_cmp (each f m) ≡ is_sorted nat_cmp m
-unfolding each
-sorted_each f [] = refl
-sorted_each f (e ∷ m) = rw (below_each f e.0 m, sorted_each f m) refl
-
--- ---- signals of worlds that are alike
-
-implied_alike : (u v : World) → IsAlike u v → (k : ℕ) (b : Body) → implied v k b ≡ implied u k b
-implied_alike u v alike k (ChannelEnd peer queue) = rw (alike.keys peer)
-implied_alike u v alike k (PairEnd peer) = rw (alike.keys peer)
-implied_alike u v alike k (JobBody parent depth policy killed) = rw (alike.jobs k, alike.processes k)
-implied_alike u v alike k (ProcessBody job) = rw (alike.ended k)
-implied_alike u v alike k _ = refl
-
-pub active_alike : (u v : World) → IsAlike u v → (k : ℕ) (o : Option Object) → active_of v k o ≡ active_of u k o
-active_alike u v alike k None = refl
-active_alike u v alike k (Some o) = ap (bit_or o.raised) (implied_alike u v alike k o.body)
 
 -- ---- packets at one object
 
@@ -91,11 +69,11 @@ module _ (w : World) (xs ys : List Wait) (x : Wait) where
       by_object : (o : Option Object) → active_of after_one k (option_map with_one o) ≡ active_of w k o
       by_object None = refl
       by_object (Some o) =
-          ap (bit_or o.raised) (implied_packed (λ ps. ps ++ packet_of w x ∷ []) after_one k o.body) ∙ active_alike w after_one one_alike k (Some o)
+          ap (bit_or o.raised) (implied_packed (λ ps. ps ++ packet_of w x ∷ []) after_one k o.body) ∙ active_of-same w after_one one_alike k (Some o)
 
       by_key : (b : Bool) (o : Option Object) → active_of after_one k (if b then option_map with_one o else o) ≡ active_of w k o
       by_key true o = by_object o
-      by_key false o = active_alike w after_one one_alike k o
+      by_key false o = active_of-same w after_one one_alike k o
 
   pub one_holds : holds after_one ≡ holds w
   unfolding holds
@@ -148,8 +126,8 @@ module _ (w : World) (xs ys : List Wait) (x : Wait) where
         → each (λ k o. record o { body = body_with_packets (packets_for after_one k) o.body }) after_one.objects
         ≡ each (λ k o. record o { body = body_with_packets (packets_for w k) o.body }) w.objects
     objects_split sorted = same_map _ _
-        (passes _ (sorted_each later (update w.objects x.port with_one) ∙ (is_sorted-update w.objects x.port with_one ∙ sorted)))
-        (passes _ (sorted_each all w.objects ∙ sorted))
+        (passes _ (in_order-each (update w.objects x.port with_one) later ∙ (is_sorted-update w.objects x.port with_one ∙ sorted)))
+        (passes _ (in_order-each w.objects all ∙ sorted))
         (λ k. get-each (update w.objects x.port with_one) later k
         ∙ (ap (option_map (later k)) (get-update w.objects x.port with_one k)
         ∙ (by_key k (x.port == k) (packets_split k) (get w.objects k)
@@ -172,21 +150,3 @@ module _ (w : World) (xs ys : List Wait) (x : Wait) where
     pub fired_one : IsTrue (is_sorted nat_cmp w.objects) → fired after_one ≡ fired w
     unfolding fired
     fired_one sorted = λ i. record w { objects = objects_split sorted i; waits = waits_split i }
-
--- ---- none holds
-
-no_packet_more : (b : Body) → body_with_packets [] b ≡ b
-no_packet_more (PortBody packets) = ap PortBody (append-nil packets)
-no_packet_more _ = refl
-
--- then none gives a packet, and none goes
-pub fired_none : (w : World) → list_any (holds w) w.waits ≡ false → fired w ≡ w
-unfolding fired
-fired_none w none = λ i. record w { objects = each_same _ unchanged w.objects i; waits = filter_all (holds w) w.waits none i }
-  where
-    unchanged : (k : ℕ) (o : Object) → record o { body = body_with_packets (packets_for w k) o.body } ≡ o
-    unchanged k o = λ i. record o {
-      body =
-          (ap (λ xs. body_with_packets (map (packet_of w) xs) o.body) (filter_none _ w.waits (list_any-and (holds w) (λ x. x.port == k) w.waits none))
-          ∙ no_packet_more o.body) i;
-    }

@@ -5,7 +5,7 @@ use Rattle.zl_calls.proofs.Common.{eq-eqb, eqb-true, false, false≢true, find, 
 use Rattle.zl_calls.proofs.Common.{holds_now, inl, inr, is_process, length, length-append, list_any, map, meets, none-some, object_entry, object_value}
 use Rattle.zl_calls.proofs.Common.{option_map, or_parts, packet_of, refl, repacked, same_Some, signals_at, subst, suc, sym, take, true, unlisting, unwatched}
 use Rattle.zl_calls.proofs.Common.{unwatching, update, waits_in, with_packet, without_first, without_place, world_blocked, world_value, zero, ℕ, ◌&&◌, ◌++◌}
-use Rattle.zl_calls.proofs.Common.{◌<◌, ◌==◌, ◌||◌, ◌∙◌, ◌∷◌, ◌≡◌}
+use Rattle.zl_calls.proofs.Common.{◌<◌, ◌==◌, ◌∙◌, ◌∷◌, ◌≡◌}
 use Rattle.zl_signals.specs.Waits.{holds as holds_there, wait_at}
 use Rattle.zl_objects.specs.declared.object.Body.{Body}
 use Rattle.zl_objects.specs.declared.object.Body.TheVariants as body
@@ -14,9 +14,12 @@ use Rattle.zl_objects.specs.Waits.{packet_of as packet_given}
 use Rattle.zl_calls.specs.declared.process.Process.{Process}
 use Rattle.zl_calls.proofs.objects.Active.{signals_active}
 use Rattle.zl_calls.proofs.objects.SameButWaits.{beside_consistent, beside_seen, unwatching_beside}
-use Rattle.zl_calls.proofs.waits.Firing.{active_alike, after_one, fired_none, fired_one, one_holds}
+use Rattle.zl_calls.proofs.waits.Firing.{after_one, fired_one, one_holds}
 use Rattle.zl_calls.proofs.objects.Packed.{packed_consistent, packed_seen}
 use Rattle.zl_calls.proofs.lists.Updates.{sorted_seen, update_seen, update_twice}
+use Rattle.zl_objects.proofs.Unlisted.{none_any}
+use Rattle.zl_rights.proofs.SameSignals.{active_of-same}
+use Rattle.zl_rights.proofs.Waking.{fired-same}
 
 -- those before the place in the list don't hold; all fire to the same world as from the objects that were first
 pub record IsFiring (ps : List Process) (first : Objects) (place : ℕ) (r : Objects) : Type 0 where
@@ -81,14 +84,6 @@ still_none p (suc n) (z ∷ zs) ys x passes none =
     let both = or_parts (p z) (list_any p (take n (zs ++ x ∷ ys))) none in
     rw both.0 (still_none p n zs ys x passes both.1)
 
-pub none_passes : {X : Type 0} (p : X → Bool) (xs : List X) → find p xs ≡ None → list_any p xs ≡ false
-none_passes p [] none = refl
-none_passes {X} p (x ∷ xs) none = by_test (p x) none (λ rest. none_passes p xs rest)
-  where
-    by_test : (b : Bool) → cond b (Some x) (find p xs) ≡ None → (find p xs ≡ None → list_any p xs ≡ false) → (b || list_any p xs) ≡ false
-    by_test true h later = absurd (none-some x (sym h))
-    by_test false h later = later h
-
 -- ---- the waits that hold
 
 -- which processes block changes no signal
@@ -96,7 +91,7 @@ module _ (ps : List Process) (r : Objects) (blocked : List ℕ) where
   active_blocked : (k : ℕ) → active (world_blocked ps r blocked) k ≡ active (world_value ps r) k
   unfolding active has_child_job has_child_process is_process
   active_blocked k =
-      active_alike (world_value ps r) (world_blocked ps r blocked) (record { keys = λ j. refl; jobs = λ j. refl; processes = λ j. refl; ended = λ j. refl }) k
+      active_of-same (world_value ps r) (world_blocked ps r blocked) (record { keys = λ j. refl; jobs = λ j. refl; processes = λ j. refl; ended = λ j. refl }) k
       (get (map object_entry r.objects) k)
 
   holds_blocked : holds (world_blocked ps r blocked) ≡ holds (world_value ps r)
@@ -262,8 +257,8 @@ module _ (ps : List Process) (first : Objects) (place : ℕ) (r : Objects) (so_f
   -- none holds any more
   pub all_fired : None ≡ option_map (λ (x : Wait). x.object) (find (holds_now r.objects) r.waits) → FiresWaits ps first r
   all_fired none = record {
-    world = λ blocked. sym (fired_none (world_blocked ps r blocked) (ap (λ (test : Wait → Bool). list_any test r.waits) (holds_blocked ps r blocked)
-        ∙ none_passes is_held r.waits (ap (λ (test : Wait → Bool). find test r.waits) (told_by_objects ps r so_far.consistent)
+    world = λ blocked. sym (fired-same (world_blocked ps r blocked) (ap (λ (test : Wait → Bool). list_any test r.waits) (holds_blocked ps r blocked)
+        ∙ none_any is_held r.waits (ap (λ (test : Wait → Bool). find test r.waits) (told_by_objects ps r so_far.consistent)
         ∙ by_found (find (holds_now r.objects) r.waits) none)))
         ∙ so_far.so_far blocked;
     consistent = so_far.consistent;

@@ -57,10 +57,6 @@ written_keeps (q ∷ ps) (suc place) p p2 at same values k v has =
 abbrev pub KeepsObjects : Objects → Objects → Type 0
 KeepsObjects r r2 = (k : ℕ) → IsTrue (has_key r.objects k) → IsTrue (has_key r2.objects k)
 
--- where none has changed
-pub same_objects : (r r2 : Objects) → r2 ≡ r → KeepsObjects r r2
-same_objects r r2 same k there = ap (λ (x : Objects). has_key x.objects k) same ∙ there
-
 -- ---- the waits
 
 -- of each registered wait the handle, the object and the port are there

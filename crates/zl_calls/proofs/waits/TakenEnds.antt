@@ -7,10 +7,11 @@ use Rattle.zl_calls.proofs.Common.{process_entry, refl, slice_index_or, subst, s
 use Rattle.zl_calls.proofs.Common.{world_blocked, world_left, world_value, ℕ, ◌&&◌, ◌+◌, ◌<◌, ◌==◌, ◌||◌, ◌∙◌, ◌∷◌, ◌≡◌, ◌≤◌}
 use Rattle.zl_calls.specs.declared.process.Process.{Process}
 use Rattle.zl_calls.specs.declared.taken.TakenHandle.{TakenHandle}
-use Rattle.zl_calls.proofs.waits.FiringWorlds.{none_passes}
+use Rattle.zl_objects.proofs.Unlisted.{none_any}
 use Rattle.zl_calls.proofs.waits.WaitsLost.{filter_within}
 use Rattle.zl_calls.proofs.objects.SameButWaits.{beside_consistent, beside_same, beside_then, beside_world, unwatching_beside}
 use Rattle.zl_objects.proofs.Unlisted.{rest_same}
+use Rattle.std.proofs.Math.Bool.{and-false}
 
 -- ---- lists
 
@@ -103,9 +104,6 @@ pub record IsTaking (test : Wait → Bool) (old now : Objects) : Type 0 where
   pub left : filter (λ x. not (test x)) now.waits ≡ filter (λ x. not (test x)) old.waits
 
 module _ (test : Wait → Bool) (old : Objects) where
-  pub taking_starts : IsTaking test old old
-  taking_starts = record { beside = beside_same old; made = refl; asleep = (refl, refl); left = refl }
-
   module _ (now : Objects) (so_far : IsTaking test old now) (k : ℕ) (watch : Watch → Bool) (after : Objects)
       (is : after ≡ unwatching (unlisting test now) k watch) where
     beside : AreBeside old (unwatching (unlisting test now) k watch)
@@ -130,14 +128,10 @@ module _ (k : ℕ) (test : Wait → Bool) (r : Objects) (own : All (λ x. IsTrue
   same_at : All (λ x. ((x.object == k) && test x) ≡ test x) r.waits
   same_at i d inside = one (slice_index_or r.waits i d) (own i d inside)
     where
-      neither : (b : Bool) → (b && false) ≡ false
-      neither true = refl
-      neither false = refl
-
       one : (x : Wait) → (IsTrue (test x) → x.object ≡ k) → ((x.object == k) && test x) ≡ test x
       one x at = elim (cases_Bool (test x)) as (λ _. ((x.object == k) && test x) ≡ test x) [
         | inl by ↦ rw (by, eq-eqb x.object k (at by)) refl
-        | inr other ↦ rw other (neither (x.object == k))
+        | inr other ↦ rw other (and-false (x.object == k))
       ]
 
   -- all have ended with those there
@@ -161,9 +155,6 @@ pub record IsCancelling (test : Wait → Bool) (old : Objects) (any : Bool) (now
   pub same : any ≡ false → now ≡ old
 
 module _ (test : Wait → Bool) (old : Objects) where
-  pub cancelling_starts : IsCancelling test old false old
-  cancelling_starts = record { taking = taking_starts test old; found = λ h. absurd (false≢true h); same = λ h. refl }
-
   module _ (any : Bool) (now : Objects) (so_far : IsCancelling test old any now) where
     pub one_cancelled : (k : ℕ) (watch : Watch → Bool) (after : Objects) → after ≡ unwatching (unlisting test now) k watch → (x : Wait)
         → find test now.waits ≡ Some x → IsCancelling test old true after
@@ -182,7 +173,7 @@ module _ (test : Wait → Bool) (old : Objects) where
       where
         by_any : (b : Bool) → any ≡ b → any ≡ list_any test old.waits
         by_any true was = was ∙ sym (so_far.found was)
-        by_any false was = was ∙ sym (none_passes test old.waits (ap (λ (r : Objects). find test r.waits) (sym (so_far.same was)) ∙ none))
+        by_any false was = was ∙ sym (none_any test old.waits (ap (λ (r : Objects). find test r.waits) (sym (so_far.same was)) ∙ none))
 
     -- where all are at one object
     pub any_ended : (k : ℕ) (wide : Wait → Bool) → test ≡ (λ x. (x.object == k) && wide x) → All (λ x. IsTrue (wide x) → x.object ≡ k) old.waits

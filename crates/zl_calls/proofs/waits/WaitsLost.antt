@@ -1,11 +1,11 @@
 -- The list of registered waits, as handles and objects go: it loses those alone whose object or port is gone, or whose process ends.
 use Rattle.zl_calls.proofs.Common.{All-contains, All-contains_itself, All-filter, Bool, Contains, EndsWaits, IsTrue, KeepsWithout, LeavesListed, List}
-use Rattle.zl_calls.proofs.Common.{ListsWithout, Map, None, Objects, Option, Releases, Some, Wait, Was, [], and_from, and_parts, ap, cascaded_was, cases_Bool}
-use Rattle.zl_calls.proofs.Common.{false, false≢true, filter, filter_passes, get, has_key, has_key-update, if◌then◌else◌, inl, inr, is_made_at, is_some}
+use Rattle.zl_calls.proofs.Common.{ListsWithout, None, Objects, Option, Releases, Some, Wait, [], and_from, and_parts, ap, cascaded_was, cases_Bool}
+use Rattle.zl_calls.proofs.Common.{false, false≢true, filter, filter_passes, get, has_key, has_key-update, if◌then◌else◌, inl, inr, is_made_at}
 use Rattle.zl_calls.proofs.Common.{is_there, job_in, not, refl, stays_but, stopped, stopping, subst, sym, true, ℕ, ◌&&◌, ◌==◌, ◌∙◌, ◌∷◌, ◌≡◌}
 use Rattle.zl_objects.proofs.Bare.{has_same}
+use Rattle.zl_objects.proofs.Released.{was_there}
 use Rattle.zl_objects.specs.Release.{Ends as ObjectEnds, Ended as ObjectEnded}
-use Rattle.zl_objects.specs.declared.object.Object.{Object}
 
 -- what passes the one test passes the other, which then takes nothing away that counts
 pub filter_within : {X : Type 0} (p q : X → Bool) (xs : List X) → ((x : X) → IsTrue (p x) → IsTrue (q x)) → filter p (filter q xs) ≡ filter p xs
@@ -85,13 +85,6 @@ leaves {over} r r2 left shrinks = record {
     asleep = left.asleep;
   };
 }
-
-was_there : (m m2 : Map Object) → ((k : ℕ) (o : Object) → get m2 k ≡ Some o → Was m k o) → (k : ℕ) → IsTrue (has_key m2 k) → IsTrue (has_key m k)
-was_there m m2 was k there = by_object (get m2 k) refl there
-  where
-    by_object : (o : Option Object) → get m2 k ≡ o → IsTrue (is_some o) → IsTrue (has_key m k)
-    by_object None is h = absurd (false≢true h)
-    by_object (Some o) is h = rw (was k o is).there refl
 
 -- handles go, and with them what nothing keeps
 pub listed_gone : {over : ℕ → Bool} (ks loose : List ℕ) (r r2 : Objects) → Releases ks loose r r2 → LeavesListed r r2 → KeepsWithout over r r2

@@ -101,7 +101,7 @@ all_blocked ps blocked are = kept blocked (blocked_there ps blocked are)
 
 -- ---- how many they are
 
-one_at_most : (test : Bool) → (if test then 1 else 0) ≤ 1
+pub one_at_most : (test : Bool) → (if test then 1 else 0) ≤ 1
 one_at_most true = omega arith
 one_at_most false = omega arith
 

@@ -22,8 +22,9 @@ use Rattle.zl_calls.proofs.objects.SameButWaits.{beside_consistent}
 use Rattle.zl_calls.proofs.waking.Exchange.{AreSorted, other_turn, turn_first}
 use Rattle.zl_calls.proofs.waking.Ordered.{agree, both_filters, takes_awaited, takes_none}
 use Rattle.zl_calls.proofs.waking.Quiet.{quiet_wakes}
-use Rattle.zl_calls.proofs.waking.StillBlocked.{turned}
+use Rattle.zl_verify.proofs.OwnTable.{other_way}
 use Rattle.zl_calls.proofs.waking.WakeLoop.{one_left}
+use Rattle.std.proofs.Math.Bool.{and-false, and-true}
 
 -- ---- what is waited for
 
@@ -231,17 +232,9 @@ module _ (ps0 : List Process) (r0 : Objects) (first : List ℕ) where
         takes_now : (port k : ℕ) → takes_at ps2 port k ≡ (takes_at ps port k && not (k == s.pid))
         takes_now port k = elim (cases_Bool (k == s.pid)) as (λ _. takes_at ps2 port k ≡ (takes_at ps port k && not (k == s.pid))) [
           | inl here ↦ rw here (subst (λ (j : ℕ). takes_at ps2 port j ≡ (takes_at ps port j && false)) (sym (eqb-true k s.pid here))
-              (takes_none ps2 port s.pid itself ∙ sym (and_false (takes_at ps port s.pid))))
-          | inr apart ↦ rw apart (ap (state_passes (takes_from port)) (others k (turned k s.pid apart)) ∙ sym (and_true (takes_at ps port k)))
+              (takes_none ps2 port s.pid itself ∙ sym (and-false (takes_at ps port s.pid))))
+          | inr apart ↦ rw apart (ap (state_passes (takes_from port)) (others k (other_way k s.pid apart)) ∙ sym (and-true (takes_at ps port k)))
         ]
-          where
-            and_false : (t : Bool) → (t && false) ≡ false
-            and_false true = refl
-            and_false false = refl
-
-            and_true : (t : Bool) → (t && not false) ≡ t
-            and_true true = refl
-            and_true false = refl
 
         stand2 : StandInOrder ps2 r2 later
         stand2 port = rw kept.0 (agree (takes_at ps2 port) test (takes_now port) (listed_for r1.sleepers port)

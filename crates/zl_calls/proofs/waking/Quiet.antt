@@ -10,10 +10,10 @@ use Rattle.zl_objects.specs.declared.object.Body.TheVariants as body
 use Rattle.zl_objects.specs.declared.object.Object.{Object}
 use Rattle.zl_calls.specs.declared.process.Process.{Process}
 use Rattle.zl_calls.proofs.objects.Active.{signals_active}
-use Rattle.zl_calls.proofs.waits.Firing.{fired_none}
+use Rattle.zl_rights.proofs.Waking.{fired-same}
 
 module _ (ps : List Process) (r : Objects) (consistent : IsConsistent ps r) where
-  active_there : (blocked : List ℕ) (k : ℕ) → active (world_blocked ps r blocked) k ≡ signals_at r.objects k
+  pub active_there : (blocked : List ℕ) (k : ℕ) → active (world_blocked ps r blocked) k ≡ signals_at r.objects k
   unfolding active is_process has_child_job has_child_process
   active_there blocked k = sym (signals_active ps r consistent k)
 
@@ -25,7 +25,7 @@ module _ (ps : List Process) (r : Objects) (consistent : IsConsistent ps r) wher
   pub quiet_fires : list_any (holds_now r.objects) r.waits ≡ false → FiresWaits ps r r
   quiet_fires none = record {
     world = λ blocked.
-        sym (fired_none (world_blocked ps r blocked) (ap (λ (test : Wait → Bool). list_any test r.waits) (holds_there blocked) ∙ none));
+        sym (fired-same (world_blocked ps r blocked) (ap (λ (test : Wait → Bool). list_any test r.waits) (holds_there blocked) ∙ none));
     consistent = consistent;
     asleep = (refl, refl);
   }

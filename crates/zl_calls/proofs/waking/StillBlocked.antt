@@ -2,7 +2,7 @@
 use Rattle.zl_calls.proofs.Common.{AreBlocked, AreLeft, AreOrdered, AreSameButSleepers, AreSought, Blocked, Bool, DoesNext, IsTrue, IsUnlisted, KeepSleepers}
 use Rattle.zl_calls.proofs.Common.{Library, List, ListsLast, None, Objects, Option, Seeks, Sleeper, Some, State, TraceItem, [], ap, arith, awaited_of, bare}
 use Rattle.zl_calls.proofs.Common.{cases_Bool, each, eqb-true, false, false≢true, filter, filter-append, get, if◌then◌else◌, inl, inr, is_blocked, is_for}
-use Rattle.zl_calls.proofs.Common.{is_local, knowing, koid_of, listed_for, lives, map, nat_tests, process_entry, refl, same_Some, slept, state_passes}
+use Rattle.zl_calls.proofs.Common.{is_local, knowing, koid_of, listed_for, lives, map, process_entry, refl, same_Some, slept, state_passes}
 use Rattle.zl_calls.proofs.Common.{state_value, subst, sym, takes_at, then_blocked, times, times-behind, times-last, true, world_blocked, world_left, ℕ, ◌++◌}
 use Rattle.zl_calls.proofs.Common.{◌==◌, ◌∙◌, ◌∷◌, ◌≡◌, ◌≤◌, ◌⊎◌}
 use Rattle.std.proofs.lemmas.List.{append-nil}
@@ -19,11 +19,7 @@ use Rattle.zl_calls.proofs.calls.Answered.{IsWrite}
 use Rattle.zl_calls.proofs.objects.SameButWaits.{beside_same, beside_world, one_bare}
 use Rattle.zl_calls.proofs.processes.Written.{found_after}
 use Rattle.zl_calls.proofs.waking.Ordered.{ends_in_order, left_fewer, none_among, same_ordered, stays_in_order, takes_awaited, takes_passes}
-
--- ---- the list
-
-pub turned : (q pid : ℕ) → (q == pid) ≡ false → (pid == q) ≡ false
-turned q pid other = grind (arith, nat_tests, other)
+use Rattle.zl_verify.proofs.OwnTable.{other_way}
 
 -- ---- what is known stays known
 
@@ -223,14 +219,14 @@ module _ (lib : Library) (ps ps2 : List Process) (r r1 r2 : Objects) (b b2 : Lis
     other_was : (k : ℕ) → (k == pid) ≡ false → takes_at ps2 port k ≡ true → takes_at ps port k ≡ true
     other_was k apart takes =
         let is = takes_state k takes in
-        let was = was_blocked k (turned k pid apart) is.0 is.1 is.2 is.3 is.4 in
+        let was = was_blocked k (other_way k pid apart) is.0 is.1 is.2 is.3 is.4 in
         rw (was.1, was.2) (rw (is.3, is.4) at takes)
 
     other_stands : (k : ℕ) → (k == pid) ≡ false → takes_at ps2 port k ≡ true → 1 ≤ times k b2
     other_stands k apart takes =
         let is = takes_state k takes in
         let once : ◌≡◌ {A = ℕ} (times k (then_blocked pid x b2)) 1 = stands_once ps2 (then_blocked pid x b2) after k is.0 is.1 is.2 is.3 is.4 in
-        omega (arith, once, then_other pid k (turned k pid apart) x b2)
+        omega (arith, once, then_other pid k (other_way k pid apart) x b2)
 
     module _ (stand : filter (takes_at ps port) (listed_for r.sleepers port) ≡ filter (takes_at ps port) b) where
       pub silent_order : tells_asleep x ≡ false → filter (takes_at ps2 port) (listed_for r.sleepers port) ≡ filter (takes_at ps2 port) (then_blocked pid x b2)

@@ -119,9 +119,6 @@ one_left first blocked blocked2 pid woke.More told once is = tt
 -- ---- the loop
 
 module _ (ps0 : List Process) (r0 : Objects) (first : List ℕ) (capacity0 : ℕ) where
-  pub begins : IsConsistent ps0 r0 → AreBlocked ps0 first → IsWaking ps0 r0 first capacity0 0 ps0 r0 first capacity0 woke.Nobody
-  begins consistent are = record { so_far = refl; consistent = consistent; list = are; held = refl; same_room = refl; asleep = (refl, refl); told = refl }
-
   module _ (i : ℕ) (ps : List Process) (r : Objects) (blocked : List ℕ) (capacity : ℕ) (w : Woke)
       (so_far : IsWaking ps0 r0 first capacity0 i ps r blocked capacity w) where
     module _ (d pid : ℕ) (within : i < length blocked) (at : get_or blocked i d ≡ pid) (ps2 : List Process) (r2 : Objects) where

@@ -1,8 +1,8 @@
 -- A blocked process wakes, or stays blocked: the world afterwards, its invariant, and the list.
 use Rattle.zl_calls.proofs.Common.{Agrees, Blocked, Bool, IsConsistent, IsTrue, KeepSleepers, List, Map, None, Objects, Option, Packet, PacketAt, PortBody}
-use Rattle.zl_calls.proofs.Common.{Ready, SignalOf, Some, WakesOne, [], active, answered, ap, at_port, awake, body_packed, body_value, cases_Bool, changed_port}
+use Rattle.zl_calls.proofs.Common.{Ready, SignalOf, Some, WakesOne, [], answered, ap, at_port, awake, body_packed, body_value, cases_Bool, changed_port}
 use Rattle.zl_calls.proofs.Common.{changing_port, destinations_of, drop, eqb-true, false, false≢true, filter, get, get-put, get-update, get_or, get_seen}
-use Rattle.zl_calls.proofs.Common.{given_awake, has_child_job, has_child_process, has_ended, if◌then◌else◌, inl, inr, is_blocked, is_process, is_some}
+use Rattle.zl_calls.proofs.Common.{given_awake, has_ended, if◌then◌else◌, inl, inr, is_blocked, is_process, is_some}
 use Rattle.zl_calls.proofs.Common.{is_sorted, is_sorted-update, lives, made_ready, map, meets, nat_cmp, not, object_entry, object_value}
 use Rattle.zl_calls.proofs.Common.{option_map, packet_taken, packet_values, packets_in, packets_of, passes, position, process_entry, process_value, put, refl}
 use Rattle.zl_calls.proofs.Common.{runs, same_map, set, signals_at, slice_get, sorted_put, state_value, sym, then_some, true, update, without_front}
@@ -16,12 +16,12 @@ use Rattle.zl_calls.specs.declared.process.Process.{Process}
 use Rattle.zl_calls.specs.World.{held}
 use Rattle.zl_calls.proofs.calls.Answered.{IsWrite}
 use Rattle.zl_calls.proofs.waking.BlockedLists.{one_awake}
-use Rattle.zl_calls.proofs.objects.Active.{signals_active}
 use Rattle.zl_calls.proofs.objects.Packed.{packed_consistent}
 use Rattle.zl_calls.proofs.objects.SameBodies.{alike_agrees}
 use Rattle.zl_calls.proofs.lists.Updates.{sorted_seen, update_itself, update_seen}
 use Rattle.zl_calls.proofs.processes.Freed.{set_unseen}
 use Rattle.zl_calls.proofs.processes.Written.{after_is, alike_states, keeps_table, pid_read, refusal_keeps, write_at}
+use Rattle.zl_calls.proofs.waking.Quiet.{active_there}
 
 -- a value that is put in the place of another
 pub put_there : {X : Type 0} (m : Map X) (k : ℕ) (x : X) (f : X → X) → IsTrue (is_sorted nat_cmp m) → get m k ≡ Some x → update m k f ≡ put m k (f x)
@@ -67,10 +67,6 @@ module _ (ps : List Process) (r : Objects) (consistent : IsConsistent ps r) (pid
   woken_is : (blocked : List ℕ) → woken (world_blocked ps r blocked) pid ≡ woken_from (world_blocked ps r blocked) pid (process_value p) (state_value p.state)
   unfolding woken
   woken_is blocked = rw there refl
-
-  same_active : (blocked : List ℕ) (k : ℕ) → active (world_blocked ps r blocked) k ≡ signals_at r.objects k
-  unfolding active is_process has_child_job has_child_process
-  same_active blocked k = sym (signals_active ps r consistent k)
 
   module _ (p2 : Process) (r2 : Objects) (same_pid : p2.pid ≡ p.pid) where
     abbrev after : List Process
@@ -138,9 +134,10 @@ module _ (ps : List Process) (r : Objects) (consistent : IsConsistent ps r) (pid
         ∙ ap (λ (s : StateValue). record p { state = state.Ready; cpu = answered p.cpu (destinations_of s) (0 ∷ signals_at r.objects koid ∷ []) }) in_state in
         rw objects (gets_awake p2 r (ap (λ (q : Process). q.pid) so) ds (signals_at r.objects koid ∷ []) so (ap is_blocked in_state)
         consistent
-        (λ blocked. woken_is blocked ∙ rw (in_state, same_active blocked koid, holds) refl))
+        (λ blocked. woken_is blocked ∙ rw (in_state, active_there ps r consistent blocked koid, holds) refl))
     by_signal koid mask ds in_state false holds is objects =
-        stays_asleep p2 r2 (ap (λ (q : Process). q.pid) is) is objects (λ blocked. woken_is blocked ∙ rw (in_state, same_active blocked koid, holds) refl)
+        stays_asleep p2 r2 (ap (λ (q : Process). q.pid) is) is objects
+        (λ blocked. woken_is blocked ∙ rw (in_state, active_there ps r consistent blocked koid, holds) refl)
 
     module _ (port : ℕ) (ds : List ℕ) (in_state : state_value p.state ≡ Blocked (PacketAt port) ds) where
       seen_there : (blocked : List ℕ) (o : Option OwnObject) → get r.objects port ≡ o

@@ -1,10 +1,11 @@
 -- How often a koid stands in a list.
 use Rattle.zl_sched.proofs.Common.{Bool, IsTrue, List, Map, None, Some, [], and_parts, ap, arith, below_all, cases_Bool, eq-eqb, eqb-true, false, filter}
 use Rattle.zl_sched.proofs.Common.{filter-append, get, has_key, if◌then◌else◌, inl, inr, is_some, is_sorted, length, length-append, length-filter_both}
-use Rattle.zl_sched.proofs.Common.{list_any, map, nat_cmp, nat_lt, nat_tests, none-some, not, refl, subst, suc, sym, times-other, times-same, true, ℕ, ◌++◌}
+use Rattle.zl_sched.proofs.Common.{list_any, map, nat_cmp, nat_lt, nat_tests, none-some, not, refl, subst, suc, sym, times-other, times-same, ℕ, ◌++◌}
 use Rattle.zl_sched.proofs.Common.{◌+◌, ◌==◌, ◌∙◌, ◌∷◌, ◌≡◌, ◌≤◌}
-use Rattle.std.specs.Ordering.{is_lt}
 use Rattle.zl_code.proofs.Changes.{times}
+use Rattle.zl_rights.proofs.MapEdits.{lower_missing}
+use Rattle.zl_calls.proofs.waking.BlockedLists.{one_at_most}
 
 pub times-append : (k : ℕ) (xs ys : List ℕ) → times k (xs ++ ys) ≡ times k xs + times k ys
 times-append k xs ys = ap length (filter-append (λ q. q == k) xs ys) ∙ length-append (filter (λ q. q == k) xs) (filter (λ q. q == k) ys)
@@ -17,22 +18,9 @@ any_counted p (x ∷ xs) = elim (cases_Bool (p x)) as (λ _. list_any p (x ∷ x
   | inr fail ↦ rw fail (any_counted p xs)
 ]
 
-pub one_at_most : (test : Bool) → (if test then 1 else 0) ≤ 1
-one_at_most true = omega arith
-one_at_most false = omega arith
-
 -- ---- keys
 
 module _ {X : Type 0} where
-  below_none : (k : ℕ) (m : Map X) → IsTrue (below_all nat_cmp k m) → get m k ≡ None
-  unfolding get
-  below_none k [] below = refl
-  below_none k (e ∷ m) below =
-      let both = and_parts (is_lt (nat_cmp k e.0)) (below_all nat_cmp k m) below in
-      let first : IsTrue (is_lt (nat_cmp k e.0)) = both.0 in
-      let rest : get m k ≡ None = below_none k m both.1 in
-      grind (arith, nat_tests, rest)
-
   -- a key that isn't there isn't counted
   pub missing_once : (k : ℕ) (m : Map X) → get m k ≡ None → times k (map (λ e. e.0) m) ≡ 0
   unfolding get
@@ -49,7 +37,7 @@ module _ {X : Type 0} where
   key_once k (e ∷ m) sorted there =
       let parts = and_parts (below_all nat_cmp e.0 m) (is_sorted nat_cmp m) sorted in
       elim (cases_Bool (e.0 == k)) as (λ _. times k (map (λ x. x.0) (e ∷ m)) ≡ 1) [
-        | inl here ↦ rw here (ap suc (missing_once k m (subst (λ (j : ℕ). get m j ≡ None) (eqb-true e.0 k here) (below_none e.0 m parts.0))))
+        | inl here ↦ rw here (ap suc (missing_once k m (subst (λ (j : ℕ). get m j ≡ None) (eqb-true e.0 k here) (lower_missing e.0 m parts.0))))
         | inr apart ↦ rw apart (key_once k m parts.1 (rw apart at there))
       ]
 

@@ -10,6 +10,7 @@ use Rattle.zl_sched.proofs.Common.{◌==◌, ◌∙◌, ◌∷◌, ◌≡◌}
 use Rattle.zl_rights.specs.declared.status.Status.TheVariants as status
 use Rattle.zl_code.specs.declared.history.Outcome.TheVariants as outcome
 use Rattle.zl_sched.proofs.StillReady.{AsOrWoken, settled_so, waking}
+use Rattle.zl_sched.proofs.MarksKept.{place_still}
 
 -- made and not started, and perhaps dropped
 abbrev is_new : State → Bool
@@ -36,12 +37,7 @@ module _ (q : ℕ) where
   -- ---- words for what a call does
 
   free_on : (u : World) (p : ℕ) (f : Process → Process) → IsFree u → IsFree (on_process u p f)
-  unfolding on_process
-  free_on u p f free = get-update u.processes p f q ∙ rw free (by_test (p == q))
-    where
-      by_test : (b : Bool) → (if b then option_map f None else None) ≡ None
-      by_test true = refl
-      by_test false = refl
+  free_on u p f free = place_still u p f q free
 
   fresh_on : (u : World) (p : ℕ) (f : Process → Process) → ((x : Process) → (f x).state ≡ x.state) → IsFresh u → IsFresh (on_process u p f)
   unfolding on_process

@@ -1,8 +1,9 @@
 -- The marks beside the ready list: who isn't marked stands in the list, if it is ready, and nothing else does.
 use Rattle.zl_sched.proofs.Common.{Bool, IsTrue, List, Listed, World, [], ap, arith, cases_Bool, eq-eqb, eqb-true, false, false≢true, if◌then◌else◌, inl, inr}
-use Rattle.zl_sched.proofs.Common.{is_in, is_process, is_ready, is_ready_or_over, length, length-filter_both, nat_lt, nat_tests, ne_eqb, not, others_of, refl}
+use Rattle.zl_sched.proofs.Common.{is_in, is_process, is_ready, is_ready_or_over, length, length-filter_both, nat_lt, nat_tests, not, others_of, refl}
 use Rattle.zl_sched.proofs.Common.{subst, sym, times, times-other, times-same, true, ℕ, ◌&&◌, ◌+◌, ◌<◌, ◌==◌, ◌∙◌, ◌∷◌, ◌≡◌, ◌≤◌}
 use Rattle.zl_sched.proofs.Counted.{any_counted}
+use Rattle.zl_verify.proofs.OwnTable.{other_way}
 
 -- ---- marks that are counted
 
@@ -66,9 +67,6 @@ listed_alone w ready are = record {
 
 pub self_unmarked : (p : ℕ) (out : List ℕ) → is_in p (others_of p out) ≡ false
 self_unmarked p out = uncounted_mark p (others_of p out) (times-same p out)
-
-pub other_way : (k p : ℕ) → (k == p) ≡ false → (p == k) ≡ false
-other_way k p apart = ne_eqb p k (λ same. let no : false ≡ true = sym apart ∙ eq-eqb k p (sym same) in cc)
 
 pub others_marked : (p k : ℕ) (out : List ℕ) → (k == p) ≡ false → is_in k (others_of p out) ≡ is_in k out
 others_marked p k out apart =

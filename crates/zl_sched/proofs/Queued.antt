@@ -9,15 +9,13 @@ use Rattle.std.proofs.lemmas.Map.Views.{any-filter_same}
 use Rattle.zl_sched.specs.declared.change.Change.TheVariants as change
 use Rattle.zl_sched.proofs.ReadyChange.{IsChanged, OthersCome, OthersReady}
 use Rattle.std.proofs.lemmas.Option.{slice_get_within, get_or_from_slice_get}
+use Rattle.std.proofs.Math.Bool.{and-false}
 use Rattle.zl_calls.proofs.lists.Positions.{times-filter}
 use Rattle.zl_sched.proofs.Counted.{times-append, any_counted, key_once, no_longer}
-use Rattle.zl_sched.proofs.Marked.{AreBut, no_mark, other_way}
+use Rattle.zl_sched.proofs.Marked.{AreBut, no_mark}
+use Rattle.zl_verify.proofs.OwnTable.{other_way}
 
 -- ---- filters
-
-and_false : (b : Bool) → (b && false) ≡ false
-and_false true = refl
-and_false false = refl
 
 none_passes : (xs : List ℕ) → filter (λ k. false) xs ≡ []
 none_passes [] = refl
@@ -224,7 +222,7 @@ module _ (w after : World) (p : ℕ) (list out : List ℕ) (b : Before w after p
     where
       by_place : (k : ℕ) → 0 < times k list → (is_process after is_ready k && not (k == p)) ≡ not (k == p)
       by_place k some = elim (cases_Bool (k == p)) as (λ _. (is_process after is_ready k && not (k == p)) ≡ not (k == p)) [
-        | inl here ↦ rw here (and_false (is_process after is_ready k))
+        | inl here ↦ rw here (and-false (is_process after is_ready k))
         | inr apart ↦ rw (apart, o.stay k apart (in_list k apart some)) refl
       ]
 
@@ -235,7 +233,7 @@ module _ (w after : World) (p : ℕ) (list out : List ℕ) (b : Before w after p
     where
       by_place : (k : ℕ) → (is_process after is_ready k && not (is_process w is_ready k)) ≡ f k
       by_place k = elim (cases_Bool (k == p)) as (λ _. (is_process after is_ready k && not (is_process w is_ready k)) ≡ f k) [
-        | inl here ↦ rw (ready_itself k here, eqb-true k p here, itself) (and_false (is_process after is_ready p))
+        | inl here ↦ rw (ready_itself k here, eqb-true k p here, itself) (and-false (is_process after is_ready p))
         | inr apart ↦ others k apart
       ]
 

@@ -1,19 +1,20 @@
 -- What a step changes of who is ready: nobody but those that woke, the one that it started, and those that it killed.
 use Rattle.zl_sched.proofs.Common.{Acts, AtCall, Bool, CallName, Change, HaveLeft, IsSound, IsStuck, Library, Moves, Next, None, Option, Outcome, Process}
-use Rattle.zl_sched.proofs.Common.{Ready, Request, Some, State, Step, Tells, TraceItem, Woke, World, and_parts, ap, arith, asked_next, cases_Bool, change_of}
+use Rattle.zl_sched.proofs.Common.{Ready, Request, Some, State, Step, Tells, TraceItem, Woke, World, and_parts, ap, asked_next, cases_Bool, change_of}
 use Rattle.zl_sched.proofs.Common.{child_next, child_of, eqb-true, false, false≢true, few_if, get, if_started, if◌then◌else◌, inl, inr, is_blocked, is_ok}
-use Rattle.zl_sched.proofs.Common.{is_process, is_ready, is_some, is_start, leaves_others, leaves_ready, may_kill, name_of, next_for, none-some, not, not-false}
+use Rattle.zl_sched.proofs.Common.{is_process, is_ready, is_start, leaves_others, leaves_ready, may_kill, name_of, next_for, none-some, not, not-false}
 use Rattle.zl_sched.proofs.Common.{not-true, refl, refusal, settled_sound, state_passes, step_sound, subst, sym, task_kill, tells_start, true, wakes}
-use Rattle.zl_sched.proofs.Common.{with_started, ℕ, ⊤, ◌&&◌, ◌<◌, ◌==◌, ◌∙◌, ◌≡◌, ◌⊎◌}
+use Rattle.zl_sched.proofs.Common.{with_started, ℕ, ⊤, ◌&&◌, ◌==◌, ◌∙◌, ◌≡◌, ◌⊎◌}
 use Rattle.zl_code.specs.declared.history.CallName.TheVariants as name
 use Rattle.zl_code.specs.declared.history.Outcome.TheVariants as outcome
 use Rattle.zl_code.specs.declared.history.TraceItem.TheVariants as item
 use Rattle.zl_calls.specs.declared.waking.Woke.TheVariants as woke
 use Rattle.zl_sched.specs.declared.change.Change.TheVariants as change
-use Rattle.zl_sched.proofs.Marked.{other_way}
 use Rattle.zl_sched.proofs.ChildReady.{child_ready}
 use Rattle.zl_sched.proofs.StillReady.{AsOrWoken, Left, Less, called_so, ends, goes_on, is_one, killed_so, left_so, left_then, less_then, moved, settled_so}
 use Rattle.zl_sched.proofs.StillReady.{spares_so, waking, woke_one}
+use Rattle.zl_code.proofs.Entering.{no_process}
+use Rattle.zl_verify.proofs.OwnTable.{other_way}
 
 -- But for p, nobody is ready in after who isn't in w but this one, who is.
 abbrev pub OthersCome : World → ℕ → World → Option ℕ → Type 0
@@ -89,13 +90,6 @@ busy_so (Some x) blocked = by_state x.state blocked
     by_state _ blocked = refl
 
 module _ (lib : Library) (w : World) (p : ℕ) (x : TraceItem) (after : World) (sound : IsSound w) (step : Step lib w p x after) where
-  no_process : get w.processes w.next_koid ≡ None
-  no_process = by_process (get w.processes w.next_koid) refl
-    where
-      by_process : (o : Option Process) → get w.processes w.next_koid ≡ o → o ≡ None
-      by_process None at = refl
-      by_process (Some y) at = let below : w.next_koid < w.next_koid = sound.processes w.next_koid (ap is_some at) in absurd (omega (arith, below))
-
   -- the process that it started
   abbrev child : Option ℕ
   child = if_started x (child_next step.process.handles (next_for lib step.process))
@@ -105,7 +99,7 @@ module _ (lib : Library) (w : World) (p : ℕ) (x : TraceItem) (after : World) (
   acted_so k (Moves c) at a others other apart = rw a.1 (moved k w p (λ y. record y { cpu = c }) (λ y. refl))
   acted_so k (AtCall call s) at (o, is, calls) others other apart =
       let spared : not (may_kill call) ≡ true = sym (ap leaves_others is) ∙ others in
-      called_so k lib w p no_process s calls.0 (refusal lib w p s.request) o step.acted
+      called_so k lib w p (no_process w sound) s calls.0 (refusal lib w p s.request) o step.acted
       (spares_so w p k step.process step.is_there s.request call o (asked_next step.process.cpu call s _ at) (not-true (may_kill call) spared)
       (sym (ap (λ (y : TraceItem). is_one (if_started y (child_of step.process.handles s.request)) k) is) ∙ other))
       (λ stops. apart (ap leaves_ready is ∙ stops_so p call o stops)) calls.1
@@ -117,7 +111,7 @@ module _ (lib : Library) (w : World) (p : ℕ) (x : TraceItem) (after : World) (
   acted_less k apart (AtCall call s) at (o, is, calls) kills =
       let (task, asked) = asks_to_kill s.request
       (ap may_kill (asked_next step.process.cpu call s _ at) ∙ not-false (may_kill call) (sym (ap leaves_others is) ∙ kills)) in
-      killed_so k lib w p no_process apart s task asked o step.acted calls
+      killed_so k lib w p (no_process w sound) apart s task asked o step.acted calls
   acted_less k apart IsStuck at a kills = absurd (false≢true (sym kills ∙ ap leaves_others a.0))
 
   settled_is : IsSound step.settled

@@ -3,21 +3,22 @@ use Rattle.zl_sched.proofs.Common.{Awaited, Blocked, Body, Bool, CallBy, CallNam
 use Rattle.zl_sched.proofs.Common.{None, Object, Option, Outcome, Packet, PacketAt, PortBody, Process, Ready, Refused, Request, Settles, SignalOf, Site, Some}
 use Rattle.zl_sched.proofs.Common.{State, Status, Values, Wants, Woke, World, [], active, after_ok, after_refusal, ap, arith, awaited_by, call_ends, cases_Bool}
 use Rattle.zl_sched.proofs.Common.{child_of, created_process, effect, ended, entering_at, eqb-true, false, false≢true, fired, fold, get, get-each, get-put}
-use Rattle.zl_sched.proofs.Common.{get-update, handle_operands, has_key, if_started, if◌then◌else◌, inl, inr, insert_all, is_blocked, is_process, is_within}
+use Rattle.zl_sched.proofs.Common.{get-update, handle_operands, if_started, if◌then◌else◌, inl, inr, insert_all, is_blocked, is_process, is_within}
 use Rattle.zl_sched.proofs.Common.{lives, made_ready, may_kill, meets, name_of, not, not-true, object_at, ok_outcome, on_object, on_process, option_map}
 use Rattle.zl_sched.proofs.Common.{process_create, process_ended, process_killed, process_settled, process_start, process_with, process_without, receiver_of}
 use Rattle.zl_sched.proofs.Common.{refl, remove_all, replied, row_of, started_with, state_passes, state_without, stored_by, storing, subst, sym, taken}
-use Rattle.zl_sched.proofs.Common.{task_kill, times-other, times-same, true, waiting, wakes, with_body, with_effect, with_killed, with_object, without}
+use Rattle.zl_sched.proofs.Common.{task_kill, times-other, times-same, true, waiting, wakes, with_body, with_effect, with_killed, with_object}
 use Rattle.zl_sched.proofs.Common.{without_others, woken_at_port, woken_by, woken_by_first, woken_from, woken_if_there, ℕ, ◌&&◌, ◌==◌, ◌∙◌, ◌∷◌, ◌≡◌, ◌⊎◌}
 use Rattle.zl_code.proofs.Common.{KILLED, koid_in, new_handles, taken_handles, woken}
 use Rattle.zl_rights.specs.declared.status.Status.TheVariants as status
 use Rattle.zl_code.specs.declared.history.Outcome.TheVariants as outcome
 use Rattle.zl_code.specs.declared.history.TraceItem.TheVariants as item
 use Rattle.zl_code.proofs.Changes.{times}
+use Rattle.zl_code.proofs.Entering.{same_state}
 use Rattle.zl_calls.specs.declared.waking.Woke.TheVariants as woke
-use Rattle.zl_sched.proofs.Marked.{other_way}
 use Rattle.zl_sched.proofs.MarksKept.{state_kept}
 use Rattle.zl_calls.proofs.Above.{still_free}
+use Rattle.zl_verify.proofs.OwnTable.{other_way}
 
 -- ---- what a turn of waking makes of k
 
@@ -129,11 +130,6 @@ Left k u w = (test : State → Bool) → test Created ≡ false → test Gone �
 pub left_then : (k : ℕ) (u v w : World) → Left k u v → Left k v w → Left k u w
 left_then k u v w a b test made gone = a test made gone ∙ b test made gone
 
-without_keeps : (h : ℕ) (x : Process) → (process_without h x).state ≡ x.state
-without_keeps h x =
-    elim (has_key x.handles h)
-    as (λ b. (if b then record x { handles = without x.handles h; last = Some h } else x).state ≡ x.state) [ true ↦ refl | false ↦ refl ]
-
 -- the request of p kills nobody, and doesn't start k
 abbrev spares : World → ℕ → ℕ → Request → Bool
 spares w p k (process_start process h word) = not (object_at w p process == k)
@@ -175,7 +171,7 @@ module _ (k : ℕ) where
   removed : (w : World) (p : ℕ) (hs : List ℕ) → Left k (remove_all w p hs) w
   unfolding remove_all
   removed w p [] = λ test made gone. refl
-  removed w p (h ∷ hs) = left_then k _ _ w (removed (on_process w p (process_without h)) p hs) (moved w p (process_without h) (without_keeps h))
+  removed w p (h ∷ hs) = left_then k _ _ w (removed (on_process w p (process_without h)) p hs) (moved w p (process_without h) (same_state h))
 
   pub entered : (w : World) (p : ℕ) (es : List Entry) (vs : List ℕ) → Left k (insert_all w p es vs) w
   unfolding insert_all

@@ -1,6 +1,6 @@
 -- What a turn does that has a step, and what one is answered for which the trace has no room.
-use Rattle.zl_sched.proofs.Common.{Bool, IsTrue, List, Machine, Runs, System, TakesStep, TraceItem, Turns, [], and_right, ap, cases_Bool, false, if◌then◌else◌}
-use Rattle.zl_sched.proofs.Common.{inl, inr, is_in, is_ready_in, length, may_step, not, queued_after, refl, ℕ, ◌++◌, ◌<◌, ◌∷◌, ◌≡◌, ◌≤◌}
+use Rattle.zl_sched.proofs.Common.{Bool, List, Machine, Runs, System, TakesStep, TraceItem, Turns, [], cases_Bool, false, if◌then◌else◌}
+use Rattle.zl_sched.proofs.Common.{inl, inr, is_in, length, may_step, queued_after, refl, ℕ, ◌++◌, ◌<◌, ◌∷◌, ◌≡◌, ◌≤◌}
 use Rattle.zl_calls.specs.Own.{StepsOwn}
 use Rattle.zl_calls.specs.World.{own_of}
 use Rattle.zl_sched.specs.declared.system.Stepped.{Stepped}
@@ -16,16 +16,6 @@ module _ (s : System) (pid : ℕ) where
     | inl ready ↦ rw ready (refl, ready, full)
     | inr other ↦ rw other (refl, other)
   ]
-
-  pub memory_told : length s.items < s.limit → Turns s pid (answer_by (may_step s pid) stepped.NoMemory) s
-  memory_told room = elim (cases_Bool (may_step s pid)) as (λ _. Turns s pid (answer_by (may_step s pid) stepped.NoMemory) s) [
-    | inl ready ↦ rw ready (refl, ready, room)
-    | inr other ↦ rw other (refl, other)
-  ]
-
-  -- who is out may not step
-  pub out_told : IsTrue (is_in pid s.out) → Turns s pid stepped.NotReady s
-  out_told out = (refl, and_right (is_ready_in s.machine pid) (not (is_in pid s.out)) (ap not out))
 
   pub step_told : is_in pid s.out ≡ false → (m2 : Machine) (items2 : List TraceItem) (ready2 : List ℕ) (x : TraceItem) → TakesStep s.machine pid m2 x
       → StepsOwn s.machine.programs (own_of s.machine) pid x (own_of m2)

@@ -1,12 +1,13 @@
 -- Turns, one after another: what was walked, and what follows it.
-use Rattle.zl_sched.proofs.Common.{Adds, Bool, End, EndsBy, Follows, IsTrue, Library, List, Runs, StopsBefore, System, TraceItem, Walks, World, [], and_parts}
+use Rattle.zl_sched.proofs.Common.{Adds, End, EndsBy, Follows, IsTrue, Library, List, Runs, StopsBefore, System, TraceItem, Walks, World, [], and_parts}
 use Rattle.zl_sched.proofs.Common.{ap, append-nil, append_assoc, arith, drop, ends, false, flat_map-append, get_or, goes, is_process, is_ready, is_ready_in}
 use Rattle.zl_sched.proofs.Common.{length, length-append, may_step, refl, replicate, replicate-append-replicate, replicate_more, room_of, skips, subst, suc}
-use Rattle.zl_sched.proofs.Common.{sym, take, take-append-drop, take_more, true, turns_of, zero, ℕ, ◌&&◌, ◌++◌, ◌+◌, ◌-◌, ◌<◌, ◌∙◌, ◌∷◌, ◌≡◌, ◌≤◌}
+use Rattle.zl_sched.proofs.Common.{sym, take, take-append-drop, take_more, turns_of, zero, ℕ, ◌++◌, ◌+◌, ◌-◌, ◌<◌, ◌∙◌, ◌∷◌, ◌≡◌, ◌≤◌}
 use Rattle.zl_code.specs.OwnHistory.{OwnHistory}
 use Rattle.zl_calls.specs.World.{own_of}
 use Rattle.zl_sched.specs.declared.system.End.TheVariants as end
 use Rattle.zl_sched.proofs.Legal.{own_ran, own_then}
+use Rattle.std.proofs.Math.Bool.{and-true}
 
 -- ---- what follows a schedule
 
@@ -26,11 +27,7 @@ follows_skipping lib w p (suc n) not_ready = skips w w p (replicate n p) [] not_
 
 -- where nobody is out, who is ready may step
 pub none_out : (s : System) (p : ℕ) → s.out ≡ [] → may_step s p ≡ is_ready_in s.machine p
-none_out s p none = rw none (by_test (is_ready_in s.machine p))
-  where
-    by_test : (b : Bool) → (b && true) ≡ b
-    by_test true = refl
-    by_test false = refl
+none_out s p none = rw none (and-true (is_ready_in s.machine p))
 
 adds_nothing : (s : System) → Adds s [] s
 adds_nothing s = record { programs = refl; items = sym (append-nil s.items); statements = refl; limit = refl; out = refl }

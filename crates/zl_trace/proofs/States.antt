@@ -24,11 +24,8 @@ module _ {X : Type 0} where
   get_at [] n e sorted at = absurd (none-some e at)
   get_at (x ∷ m) zero e sorted at =
       let is : x ≡ e = same_Some x e at in
-      let here : (x.0 == e.0) ≡ true = ap (λ (y : ℕ × X). y.0 == e.0) is ∙ same e.0 in
+      let here : (x.0 == e.0) ≡ true = ap (λ (y : ℕ × X). y.0 == e.0) is ∙ eq-eqb e.0 e.0 refl in
       rw here (ap (λ (y : ℕ × X). Some y.1) is)
-    where
-      same : (j : ℕ) → (j == j) ≡ true
-      same j = eq-eqb j j refl
   get_at (x ∷ m) (suc n) e sorted at = elim (cases_Bool (x.0 == e.0)) as (λ _. get (x ∷ m) e.0 ≡ Some e.1) [
     | inl here ↦ absurd (omega (arith, eqb-true x.0 e.0 here, below_at x.0 m n e (and_parts (below_all nat_cmp x.0 m) (is_sorted nat_cmp m) sorted).0 at))
     | inr apart ↦ rw apart (get_at m n e (and_parts (below_all nat_cmp x.0 m) (is_sorted nat_cmp m) sorted).1 at)

@@ -1,19 +1,9 @@
 -- What has been read so far, of a reader that may tell its bytes.
-use Rattle.zlab.proofs.Common.{Consumes, IsInputOf, List, MOST_INPUT, None, Option, Some, ap, append-nil, arith, length, length-take, refl, sym, take}
-use Rattle.zlab.proofs.Common.{take_all, ℕ, ◌++◌, ◌+◌, ◌<◌, ◌∙◌, ◌≡◌, ◌≤◌}
-use Rattle.std.specs.Io.KnownBytes.{IsAtEnd}
+use Rattle.zlab.proofs.Common.{Consumes, IsInputOf, List, MOST_INPUT, None, Option, Some, ap, arith, length, length-take, refl, sym, take}
+use Rattle.zlab.proofs.Common.{take_all, ℕ, ◌+◌, ◌<◌, ◌∙◌, ◌≡◌, ◌≤◌}
 use Rattle.zl_code.proofs.Common.{take_at}
 use Rattle.zlab.specs.Input.{IsFrontOf}
 use Rattle.zlab.specs.declared.input.Input.TheVariants as input
-
--- where nothing is left, what was read is the front
-pub front_ended : (most : ℕ) (told left : Option (List ℕ)) (taken : List ℕ) → Consumes told left taken → IsAtEnd left → length taken ≤ most
-    → IsFrontOf most told taken
-front_ended most None left taken consumed end short = record { bytes = taken; those_told = tt; is_front = sym (take_all most taken short) }
-front_ended most (Some all) None taken consumed end short = absurd consumed
-front_ended most (Some all) (Some rest) taken consumed end short =
-    let same : all ≡ taken = consumed ∙ ap (λ (r : List ℕ). taken ++ r) end ∙ append-nil taken in
-    record { bytes = all; those_told = refl; is_front = sym (ap (take most) same ∙ take_all most taken short) }
 
 -- where as much was read, it is the front
 pub front_full : (most : ℕ) (told left : Option (List ℕ)) (taken : List ℕ) → Consumes told left taken → length taken ≡ most → IsFrontOf most told taken

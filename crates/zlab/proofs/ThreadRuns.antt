@@ -46,21 +46,6 @@ module _ (text : List ℕ) (fits : FitsInput text) (scenario : Made) (reading : 
     first_of_statements n found fault first named line = statement_fault text fits scenario reading reads is order n found fault
         (λ other. fault_with scenario.library scenario.boot.statements.items limit scenario.boot.limit n found within (first other)) named line
 
-    pub of_scenario : (s : System) → fault_alone reading ≡ None → s.machine.programs ≡ scenario.library → s.statements ≡ scenario.boot.statements.items
-        → s.limit ≡ limit → IsOfScenario text limit s
-    of_scenario s no_fault programs statements limit_is = record {
-      scenario = record {
-        fits = fits;
-        reading = reading;
-        read = reads;
-        no_fault = no_fault;
-        programs = rw programs is.programs;
-        accepted = rw programs is.accepted;
-        same = statements ∙ is.statements;
-      };
-      limit_is = limit_is;
-    }
-
 -- ---- a run
 
 some_is : (a b : End) → ◌≡◌ {A = Option End} (Some a) (Some b) → a ≡ b

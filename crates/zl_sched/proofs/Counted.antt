@@ -1,11 +1,10 @@
 -- How often a koid stands in a list.
 use Rattle.zl_sched.proofs.Common.{Bool, IsTrue, List, Map, None, Some, [], and_parts, ap, arith, below_all, cases_Bool, eq-eqb, eqb-true, false, filter}
 use Rattle.zl_sched.proofs.Common.{filter-append, get, has_key, if◌then◌else◌, inl, inr, is_some, is_sorted, length, length-append, length-filter_both}
-use Rattle.zl_sched.proofs.Common.{list_any, map, nat_cmp, nat_lt, nat_tests, none-some, not, refl, subst, suc, sym, times-other, times-same, ℕ, ◌++◌}
+use Rattle.zl_sched.proofs.Common.{list_any, map, nat_cmp, nat_lt, nat_tests, none-some, not, refl, subst, suc, sym, times-other, times-same, true, ℕ, ◌++◌}
 use Rattle.zl_sched.proofs.Common.{◌+◌, ◌==◌, ◌∙◌, ◌∷◌, ◌≡◌, ◌≤◌}
 use Rattle.zl_code.proofs.Changes.{times}
 use Rattle.zl_rights.proofs.MapEdits.{lower_missing}
-use Rattle.zl_calls.proofs.waking.BlockedLists.{one_at_most}
 
 pub times-append : (k : ℕ) (xs ys : List ℕ) → times k (xs ++ ys) ≡ times k xs + times k ys
 times-append k xs ys = ap length (filter-append (λ q. q == k) xs ys) ∙ length-append (filter (λ q. q == k) xs) (filter (λ q. q == k) ys)
@@ -17,6 +16,10 @@ any_counted p (x ∷ xs) = elim (cases_Bool (p x)) as (λ _. list_any p (x ∷ x
   | inl pass ↦ rw pass (grind (arith, nat_tests))
   | inr fail ↦ rw fail (any_counted p xs)
 ]
+
+pub one_at_most : (test : Bool) → (if test then 1 else 0) ≤ 1
+one_at_most true = omega arith
+one_at_most false = omega arith
 
 -- ---- keys
 

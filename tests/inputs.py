@@ -1,11 +1,7 @@
 """Cases: an input, and what stands beside it; for tests/try-cases, which says what these are, and tests/try-memory."""
-import sys
-from pathlib import Path
-
-sys.path.insert(0, str(Path(__file__).resolve().parent.parent / "tools"))
-from meaning.lab import Lab  # noqa: E402
-from meaning.texts import assembled  # noqa: E402
-from meaning.zlt import taken  # noqa: E402
+from meaning.lab import Lab
+from meaning.texts import assembled
+from meaning.zlt import taken
 
 STATUSES = {"refused": 1, "mistakes": 1, "wrong_words": 2, "failing_files": 3, "no_memory": 4,
             "status_1": 1, "status_2": 2, "status_3": 3}

@@ -1,15 +1,13 @@
 """What a run on worker threads has, whatever the order of its items: for tests/try-run, tests/try-checked and others."""
 import re
-import sys
 from dataclasses import dataclass
 from pathlib import Path
 
-sys.path.insert(0, str(Path(__file__).resolve().parent.parent / "tools"))
-from meaning.booting import boot  # noqa: E402
-from meaning.lab import Lab  # noqa: E402
-from meaning.scenario import read_scenario, without_turns  # noqa: E402, F401
-from meaning.trace import read_trace  # noqa: E402
-from meaning.trouble import Trouble  # noqa: E402
+from meaning.booting import boot
+from meaning.lab import Lab
+from meaning.scenario import read_scenario
+from meaning.trace import read_trace
+from meaning.trouble import Trouble
 
 # The lines behind the items, as the lab writes them.
 LAST = re.compile(r"(?:process \d+ (?:created|ready|blocked|ended -?\d+|gone)\n)*end \w+\n")

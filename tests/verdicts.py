@@ -1,5 +1,5 @@
 """What the readers of tools/meaning say of an image, by docs/IMAGE.md and docs/CHECK.md: for tests/try-hostile and
-tests/fuzz, which have tools on their path."""
+tests/fuzz."""
 from meaning.image import ImageFault, decode
 from meaning.listing import listing
 from meaning.verifier import verify

@@ -4,6 +4,7 @@ from dataclasses import dataclass
 from pathlib import Path
 
 from meaning.booting import boot
+from meaning.instructions import PAUSES
 from meaning.lab import Lab
 from meaning.scenario import read_scenario
 from meaning.trace import read_trace
@@ -12,8 +13,6 @@ from meaning.trouble import Trouble
 # The lines behind the items, as the lab writes them.
 LAST = re.compile(r"(?:process \d+ (?:created|ready|blocked|ended -?\d+|gone)\n)*end \w+\n")
 FAULTS = {"BAD_HANDLE", "WRONG_TYPE", "ACCESS_DENIED"}
-# Behind these an instruction is the first of its budget.
-RESTS = {"wait_one", "port_wait", "process_exit"}
 # Whom a policy has ended.
 POLICY = ["ended", "-1026"]
 
@@ -69,7 +68,7 @@ def breaches(items, budgets):
             continue
         if name == "stuck" or rest[0] in FAULTS or (rest == POLICY and name != "process_exit"):
             yield f"item {place}: {item}"
-        taken[pid] = 0 if name in RESTS else taken[pid] + (int(rest[0]) if name == "run" else 1)
+        taken[pid] = 0 if name in PAUSES else taken[pid] + (int(rest[0]) if name == "run" else 1)
         if taken[pid] > budgets[pid]:
             yield f"item {place}: {item}: past the budget, {budgets[pid]}"
 

@@ -13,7 +13,9 @@ RESULTS = {
     "xor": operator.xor, "addi": lambda x, n: x + n & WORD, "shl": lambda x, n: x << n & WORD if n < 64 else 0,
     "shr": lambda x, n: x >> n if n < 64 else 0, "mov": lambda x, _: x,
 }
+# How many bytes each moves.
 LOADS, STORES = {"ld8": 1, "ld64": 8}, {"st8": 1, "st64": 8}
+WIDTHS = LOADS | STORES
 
 
 class Stuck(Exception):
@@ -65,38 +67,78 @@ class Cpu:
 
     def local(self, one):
         """Does a local instruction; where it can't be done it is Stuck, and nothing has changed."""
-        name, registers, number, values = one.name, one.registers, one.number, self.registers
-        after = self.place + 1
-        if name in TESTS:
-            if TESTS[name](values[registers[0]] if registers else 0, number):
-                after = one.target
-        elif name in RESULTS:
-            last = values[registers[2]] if len(registers) == 3 else number
-            values[registers[0]] = RESULTS[name](values[registers[1]], last)
-        elif name == "const":
-            values[registers[0]] = number
-        elif name == "take":
-            values[registers[0]] = values[registers[1]]
-            values[registers[1]] = 0
-        elif name == "swap":
-            self.swap(registers[0], values[registers[1]], number)
-        elif name in LOADS:
-            where = self.within(values[registers[1]] + number, LOADS[name])
-            values[registers[0]] = int.from_bytes(self.memory[where], "little")
-        else:
-            value = values[registers[1]] & (1 << 8 * STORES[name]) - 1
-            self.store(values[registers[0]] + number, value.to_bytes(STORES[name], "little"))
-        self.place = after
+        self.place = LOCALS[one.name](self, one)
 
-    def swap(self, register, place, array):
-        """Exchanges a register with a place of a slot array."""
-        if array >= len(self.slots):
-            raise Stuck(f"there is no slot array {array}")
-        if place >= len(self.slots[array]):
-            raise Stuck(f"slot array {array} has {len(self.slots[array])} places, and no place {place}")
-        places = list(self.slots[array])
-        self.registers[register], places[place] = places[place], self.registers[register]
-        self.slots = (*self.slots[:array], tuple(places), *self.slots[array + 1:])
+
+# ---- local instructions: each answers where the process stands then
+
+
+def jump(test):
+    def go(cpu, one):
+        value = cpu.registers[one.registers[0]] if one.registers else 0
+        return one.target if test(value, one.number) else cpu.place + 1
+    return go
+
+
+def compute(result):
+    def write(cpu, one):
+        values, registers = cpu.registers, one.registers
+        last = values[registers[2]] if len(registers) == 3 else one.number
+        values[registers[0]] = result(values[registers[1]], last)
+        return cpu.place + 1
+    return write
+
+
+def const(cpu, one):
+    cpu.registers[one.registers[0]] = one.number
+    return cpu.place + 1
+
+
+def take(cpu, one):
+    to, source = one.registers
+    cpu.registers[to] = cpu.registers[source]
+    cpu.registers[source] = 0
+    return cpu.place + 1
+
+
+def swap(cpu, one):
+    """Exchanges a register with a place of a slot array."""
+    (register, by), array = one.registers, one.number
+    place = cpu.registers[by]
+    if array >= len(cpu.slots):
+        raise Stuck(f"there is no slot array {array}")
+    if place >= len(cpu.slots[array]):
+        raise Stuck(f"slot array {array} has {len(cpu.slots[array])} places, and no place {place}")
+    places = list(cpu.slots[array])
+    cpu.registers[register], places[place] = places[place], cpu.registers[register]
+    cpu.slots = (*cpu.slots[:array], tuple(places), *cpu.slots[array + 1:])
+    return cpu.place + 1
+
+
+def load(length):
+    def read(cpu, one):
+        to, base = one.registers
+        where = cpu.within(cpu.registers[base] + one.number, length)
+        cpu.registers[to] = int.from_bytes(cpu.memory[where], "little")
+        return cpu.place + 1
+    return read
+
+
+def store(length):
+    def write(cpu, one):
+        base, source = one.registers
+        value = cpu.registers[source] & (1 << 8 * length) - 1
+        cpu.store(cpu.registers[base] + one.number, value.to_bytes(length, "little"))
+        return cpu.place + 1
+    return write
+
+
+# What each local instruction does.
+LOCALS = {
+    "const": const, "take": take, "swap": swap,
+    **{name: jump(test) for name, test in TESTS.items()}, **{name: compute(result) for name, result in RESULTS.items()},
+    **{name: load(length) for name, length in LOADS.items()}, **{name: store(length) for name, length in STORES.items()},
+}
 
 
 def signed(code):

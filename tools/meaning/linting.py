@@ -7,9 +7,9 @@ own word, and the others are by the tools.
 import re
 from dataclasses import dataclass
 
+from meaning.cpu import WIDTHS
 from meaning.image import decode
 from meaning.mending import all_refusals
-from meaning.rules import WIDTHS
 from meaning.scenario import is_scenario, is_skipped, words_of
 from meaning.texts import bare, is_instruction
 from meaning.trouble import Trouble

@@ -1,11 +1,11 @@
 """The verifier's rule of each instruction: where it leads, and with what in the registers, or a cause."""
+from meaning.cpu import LOADS, WIDTHS
 from meaning.instructions import READ, WRITTEN, handle_places
 from meaning.numbers import KIND_NAMES, KNOWN_RIGHTS, SAME_RIGHTS
 from meaning.values import (
     ANY, ANYTHING, TAGS, ZERO, Has, KindOf, RightsOf, Word, new_handle, refined, rounded, with_value,
 )
 
-WIDTHS = {"ld8": 1, "ld64": 8, "st8": 1, "st64": 8}
 # The jump that goes where the other of the pair doesn't.
 OPPOSITES = {"jnz": "jz", "jne": "jeq", "jge": "jlt", "jnhas": "jhas"}
 
@@ -113,7 +113,7 @@ def swapped(image, state, register, by, array):
 def moved(image, state, one):
     """A load or a store."""
     first, second = one.registers
-    loads = one.name.startswith("ld")
+    loads = one.name in LOADS
     bases = [word_at(state, second)] if loads else [word_at(state, first), word_at(state, second)]
     if bases[0] + one.number + WIDTHS[one.name] > image.memory:
         raise Refused("MemoryRange", second if loads else first)

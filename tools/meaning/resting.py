@@ -1,8 +1,10 @@
 """The turns for which a line `rest` stands: one for each process, round and round, until nobody is ready."""
+from meaning.scenario import joined, schedule_text
 from meaning.trace import read_trace
 from meaning.trouble import Trouble
 
-MOST_LINES = 100_000
+# So many lines of turns there may be, and so many turns in one of them.
+MOST_LINES, MOST_COUNT = 100_000, 1_000_000
 FIRST_ROUNDS, MOST_TURNS = 50, 200_000
 
 
@@ -18,14 +20,14 @@ class Rest:
     def ask(self, turns, pids, rounds):
         """Which processes took turns behind these, the state of each process, and the last line; nothing where the
         lab refuses the scenario."""
-        text = "".join(f"{turn}\n" for turn in turns) + "".join(f"{pid} 1\n" for pid in pids) * rounds
+        text = schedule_text(turns) + schedule_text((pid, 1) for pid in pids) * rounds
         status, output = self.lab.answer([], self.front + text.encode(), is_told=False)
         if status:
             return None
-        items, last = read_trace(output.decode("ascii"))
-        self.skip = len(items) if self.skip is None else self.skip
-        states = {int(words[1]): words[2] for words in (line.split(" ") for _, line in last) if words[0] == "process"}
-        return joined([item.pid for item in items[self.skip:]]), states, last[-1][1]
+        trace = read_trace(output.decode("ascii"))
+        self.skip = len(trace.items) if self.skip is None else self.skip
+        taken = joined(((item.pid, 1) for item in trace.items[self.skip:]), MOST_COUNT)
+        return taken, trace.states, trace.rest[-1][1]
 
     def turns(self):
         """The lines of turns; none where the lab refuses the scenario, which it says when it runs."""
@@ -38,21 +40,10 @@ class Rest:
                 continue
             turns, seen = taken, set(states)
             if "ready" not in states.values() or end != "end schedule":
-                return turns
+                return schedule_text(turns).splitlines()
             if len(turns) > MOST_LINES:
                 origin = self.file.lines[self.file.rest].origin
                 raise Trouble(f"line {origin}: rest comes to more than {MOST_LINES:,} lines of turns")
             pids = [pid for pid, state in states.items() if state in ("ready", "blocked", "created")]
             rounds = max(1, min(rounds * 2 or FIRST_ROUNDS, MOST_TURNS // len(pids)))
         return []
-
-
-def joined(pids):
-    """Turns in lines: those of one process in a row are one."""
-    lines = []
-    for pid in pids:
-        if lines and lines[-1][0] == pid and lines[-1][1] < 1_000_000:
-            lines[-1][1] += 1
-        else:
-            lines.append([pid, 1])
-    return [f"{pid} {count}" for pid, count in lines]

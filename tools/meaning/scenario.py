@@ -132,6 +132,22 @@ def without_turns(text):
     return text
 
 
+def joined(turns, most=None):
+    """Pairs of a process and its number of turns: those of one process in a row are one, of at most so many turns."""
+    lines = []
+    for pid, count in turns:
+        if lines and lines[-1][0] == pid and (most is None or lines[-1][1] + count <= most):
+            lines[-1] = (pid, lines[-1][1] + count)
+        elif count:
+            lines.append((pid, count))
+    return lines
+
+
+def schedule_text(turns):
+    """The lines of turns, as the lab reads them."""
+    return "".join(f"{pid} {count}\n" for pid, count in turns)
+
+
 def handle_in(word):
     """Koid and rights of a handle; the rights are None for `*`."""
     found = re.fullmatch(r"([0-9]+):([0-9]+|\*)", word)

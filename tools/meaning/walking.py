@@ -5,6 +5,7 @@ from meaning.codes import told_ends
 from meaning.cpu import Stuck
 from meaning.following import Follower
 from meaning.holding import awaited_text
+from meaning.scenario import joined, schedule_text
 from meaning.trace import Item
 
 
@@ -72,18 +73,11 @@ class Walk:
 
     def schedule(self):
         """The lines of the schedule, those of one process in a row as one."""
-        lines = []
-        for pid, count in self.turns:
-            if lines and lines[-1][0] == pid:
-                lines[-1][1] += count
-            else:
-                lines.append([pid, count])
-        return "".join(f"{pid} {count}\n" for pid, count in lines)
+        return schedule_text(joined(self.turns))
 
     def trace(self):
         """The lines that the lab has to write of this schedule."""
-        states = [f"process {pid} {process.state_text()}" for pid, process in self.world.processes.items()]
-        return [*self.items, *states, "end schedule"]
+        return [*self.items, *self.world.last_lines(), "end schedule"]
 
 
 # ---- how it stands

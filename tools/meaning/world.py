@@ -158,6 +158,10 @@ class World:
             process.cpu.registers[register] = value
         process.cpu.place += 1
 
+    def last_lines(self):
+        """The lines of the processes at the end of a trace, by koid."""
+        return [f"process {pid} {process.state_text()}" for pid, process in sorted(self.processes.items())]
+
     def take_packet(self, port):
         """The first packet of the port leaves it; nothing where there is none."""
         packets = self.objects[port].packets if port in self.objects else ()

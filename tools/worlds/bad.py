@@ -1,7 +1,9 @@
 """What a search looks for: a pattern in answers and ends, and the smallest schedule that still has it."""
+from meaning.scenario import joined
+
 from .ends import end_reasons, is_cut
 from .orders import Nothing
-from .turns import choices, joined, last_lines, played
+from .turns import choices, played
 
 # How many schedules are tried at most to make one smaller.
 MOST_TRIES = 3000
@@ -31,7 +33,7 @@ class Bad(Nothing):
         self.look(place, [said])
 
     def end(self, place, world):
-        self.look(place, [*last_lines(world), *end_reasons(world)])
+        self.look(place, [*world.last_lines(), *end_reasons(world)])
 
     def line_of(self, trace, world):
         """The bad line of a trace that leads to the world. What a process is in counts only at an end."""

@@ -1,7 +1,7 @@
 """A scenario whose orders are tried: by the model, and each of them by the lab too."""
 import random
 
-from meaning.scenario import read_scenario, without_turns
+from meaning.scenario import joined, read_scenario, schedule_text, without_turns
 from meaning.telling import Telling
 from meaning.trouble import Trouble
 from meaning.zlt import names_in
@@ -10,7 +10,7 @@ from .ends import is_cut
 from .orders import Graph, Place, Run, may_go, roots_of, run_of
 from .paths import covering_runs, endless_worlds, orders_to_ends
 from .report import counted
-from .turns import choices, joined, schedule_text
+from .turns import choices
 from .world import first_world
 
 

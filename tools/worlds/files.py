@@ -5,9 +5,8 @@ import shlex
 import stat
 from pathlib import Path
 
+from meaning.scenario import schedule_text
 from meaning.trouble import Trouble
-
-from .turns import schedule_text
 
 SCHEDULE = re.compile(rb"(?: *[0-9]+ +[0-9]+ *| *|#[^\n]*)")
 MOST_BYTES = 4_194_304

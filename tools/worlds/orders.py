@@ -3,7 +3,7 @@ from collections import deque
 from typing import NamedTuple
 
 from .ends import end_name, end_reasons, is_cut
-from .turns import choices, go, last_lines, turns_to_call
+from .turns import choices, go, turns_to_call
 
 
 # How many calls are the same in all parts of a search at most.
@@ -38,7 +38,7 @@ class Run:
 
     def trace(self):
         """All lines of the trace of its schedule."""
-        return [*self.lines, *last_lines(self.world), "end schedule"]
+        return [*self.lines, *self.world.last_lines(), "end schedule"]
 
     def end(self):
         """The end that it has come to, if it is one."""

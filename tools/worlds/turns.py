@@ -1,4 +1,4 @@
-"""Turns taken in a world: what the trace has of them, and schedules as the lab reads them."""
+"""Turns taken in a world, and what the trace has of them."""
 from meaning.calls import perform
 from meaning.numbers import STUCK
 
@@ -62,26 +62,5 @@ def played(world, schedule):
         lines += take_turns(world, pid, count)
         rest = [(pid, count - (world.items - before)), *schedule[place + 1:]]
         if is_over(world, rest):
-            return [*lines, *last_lines(world), "end limit"]
-    return [*lines, *last_lines(world), "end schedule"]
-
-
-def last_lines(world):
-    """The lines of the processes at the end of a trace, by koid."""
-    return [f"process {pid} {process.state_text()}" for pid, process in sorted(world.processes.items())]
-
-
-def joined(schedule):
-    """The schedule with turns that follow each other in one line, where one process has them."""
-    lines = []
-    for pid, count in schedule:
-        if lines and lines[-1][0] == pid:
-            lines[-1] = (pid, lines[-1][1] + count)
-        elif count:
-            lines.append((pid, count))
-    return lines
-
-
-def schedule_text(schedule):
-    """The lines of the schedule, as the lab reads them."""
-    return "".join(f"{pid} {count}\n" for pid, count in schedule)
+            return [*lines, *world.last_lines(), "end limit"]
+    return [*lines, *world.last_lines(), "end schedule"]

@@ -1,6 +1,7 @@
 """What is told of assertions: which hold, and schedules for those that are broken and for what is there sometimes."""
 from pathlib import Path
 
+from meaning.scenario import joined
 from meaning.trouble import Trouble
 
 from .bad import Shrinking
@@ -9,7 +10,7 @@ from .ends import CAUSES, NO_END, end_name, end_reasons
 from .orders import run_of
 from .paths import lines_in, shortest_orders
 from .report import CONFIRMED, INDENT, NOT_YET, counted, turns_text
-from .turns import choices, joined, last_lines, played
+from .turns import choices, played
 
 # What is told below an assertion of which nothing, or something else, was seen.
 IN_NONE = "in none of all orders"
@@ -40,7 +41,7 @@ def shortest_for(graph, sights):
 def small_turns(first, sight):
     """A small schedule for an assertion that was seen in an order by chance."""
     def is_there(trace, world):
-        return sight.is_in_trace(trace[:-1 - len(last_lines(world))], world)
+        return sight.is_in_trace(trace[:-1 - len(world.last_lines())], world)
 
     return Shrinking(first, is_there, run_of(first, sight.way).turns).result()
 
@@ -102,7 +103,7 @@ class Verdicts:
         """What there is behind the turns that breaks the assertion."""
         telling, world = self.exploring.telling, self.exploring.first.copy()
         trace = played(world, turns)
-        items = trace[:-1 - len(last_lines(world))]
+        items = trace[:-1 - len(world.last_lines())]
         last = telling.told(items[-1]) if items else ""
         if sight.item:
             return [last]

@@ -1,6 +1,5 @@
 """What a run on worker threads has, whatever the order of its items: for tests/try-run, tests/try-checked and others."""
 import re
-from dataclasses import dataclass
 from pathlib import Path
 
 from meaning.booting import boot
@@ -14,19 +13,7 @@ from meaning.trouble import Trouble
 LAST = re.compile(r"(?:process \d+ (?:created|ready|blocked|ended -?\d+|gone)\n)*end \w+\n")
 FAULTS = {"BAD_HANDLE", "WRONG_TYPE", "ACCESS_DENIED"}
 # Whom a policy has ended.
-POLICY = ["ended", "-1026"]
-
-
-@dataclass(frozen=True)
-class Trace:
-    items: list
-    states: dict
-    end: str
-
-    @property
-    def last(self):
-        """The lines behind the items."""
-        return [*(f"process {pid} {state}" for pid, state in self.states.items()), f"end {self.end}"]
+POLICY = "ended -1026"
 
 
 def whole_trace(text):
@@ -35,11 +22,8 @@ def whole_trace(text):
         trace = read_trace(text)
     except Trouble:
         return None
-    items = [item.text for item in trace.items]
-    last = "".join(f"{line}\n" for _, line in trace.rest)
-    if not LAST.fullmatch(last) or text != "".join(f"{item}\n" for item in items) + last:
-        return None
-    return Trace(items, trace.states, trace.rest[-1][1].split()[1])
+    items, last = ("".join(f"{line}\n" for line in lines) for lines in (trace.texts, trace.last))
+    return trace if LAST.fullmatch(last) and text == items + last else None
 
 
 def budgets_of(world):
@@ -62,15 +46,14 @@ def breaches(items, budgets):
     """Where a process of these breaks what is promised of it. One that was killed has no further item."""
     taken = dict.fromkeys(budgets, 0)
     for place, item in enumerate(items, 1):
-        word, name, *rest = item.split()
-        pid = int(word)
+        pid, name, outcome = item.pid, item.name, item.outcome
         if pid not in budgets:
             continue
-        if name == "stuck" or rest[0] in FAULTS or (rest == POLICY and name != "process_exit"):
-            yield f"item {place}: {item}"
-        taken[pid] = 0 if name in PAUSES else taken[pid] + (int(rest[0]) if name == "run" else 1)
+        if name == "stuck" or outcome in FAULTS or (outcome == POLICY and name != "process_exit"):
+            yield f"item {place}: {item.text}"
+        taken[pid] = 0 if name in PAUSES else taken[pid] + (item.count or 1)
         if taken[pid] > budgets[pid]:
-            yield f"item {place}: {item}: past the budget, {budgets[pid]}"
+            yield f"item {place}: {item.text}: past the budget, {budgets[pid]}"
 
 
 def wrong_end(trace, limit):

@@ -18,8 +18,8 @@ class Rest:
         self.skip = None
 
     def ask(self, turns, pids, rounds):
-        """Which processes took turns behind these, the state of each process, and the last line; nothing where the
-        lab refuses the scenario."""
+        """Which processes took turns behind these, the state of each process, and how it ended; nothing where the lab
+        refuses the scenario."""
         text = schedule_text(turns) + schedule_text((pid, 1) for pid in pids) * rounds
         status, output = self.lab.answer([], self.front + text.encode(), is_told=False)
         if status:
@@ -27,7 +27,7 @@ class Rest:
         trace = read_trace(output.decode("ascii"))
         self.skip = len(trace.items) if self.skip is None else self.skip
         taken = joined(((item.pid, 1) for item in trace.items[self.skip:]), MOST_COUNT)
-        return taken, trace.states, trace.rest[-1][1]
+        return taken, trace.states, trace.end
 
     def turns(self):
         """The lines of turns; none where the lab refuses the scenario, which it says when it runs."""
@@ -39,7 +39,7 @@ class Rest:
                 pids, seen = sorted({*pids, *(states.keys() - seen)}), seen | states.keys()
                 continue
             turns, seen = taken, set(states)
-            if "ready" not in states.values() or end != "end schedule":
+            if "ready" not in states.values() or end != "schedule":
                 return schedule_text(turns).splitlines()
             if len(turns) > MOST_LINES:
                 origin = self.file.lines[self.file.rest].origin

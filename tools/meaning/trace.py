@@ -46,9 +46,24 @@ class Trace(NamedTuple):
         return {int(one[1]): one[2] for one in found if one}
 
     @property
+    def texts(self):
+        """The lines of the items, as the lab writes them."""
+        return [item.text for item in self.items]
+
+    @property
+    def last(self):
+        """The lines behind the items."""
+        return [line for _, line in self.rest]
+
+    @property
+    def end(self):
+        """How it ended, by its last line: `schedule`, `quiet`, `limit` or `memory`."""
+        return self.last[-1].removeprefix("end ")
+
+    @property
     def lines(self):
-        """All lines, as the lab writes them."""
-        return [*(item.text for item in self.items), *(line for _, line in self.rest)]
+        """All lines."""
+        return [*self.texts, *self.last]
 
 
 def is_end(outcome):

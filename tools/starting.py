@@ -1,17 +1,17 @@
 """How tools/explore and tools/try-all start the lab, and how they end."""
 import argparse
 import os
+import re
 import signal
 import subprocess
 import sys
 from pathlib import Path
 
 from meaning.lab import Lab
-from meaning.trouble import Trouble
+from meaning.scenario import MOST_BYTES
+from meaning.trouble import Trouble, front_of
 from programs import NO_PROGRAM, TOOLS, TOP, installed, is_checkout, is_quick_package
 
-# The bytes that the program takes of its input at most.
-MOST_INPUT = 4_194_304
 # The proved program, if it is newer than the sources, or else the file of their quick build.
 FIND = 'top=$1; . "$top/tools/program.sh"; ' \
        'if is_newer_than_the_sources "$proved"; then echo "$proved"; else quick_of_the_sources; fi'
@@ -28,13 +28,16 @@ class Words(argparse.ArgumentParser):
         raise Trouble(f"{message}; {self.prog} --help says what it takes")
 
 
+def number_of(text):
+    """The number that a word of the command line is."""
+    if not re.fullmatch(r"[0-9]{1,18}", text) or int(text) == 0:
+        raise argparse.ArgumentTypeError(f"{text} is no number from 1 on")
+    return int(text)
+
+
 def read_file(path):
     """The bytes of a file, no more than one past the most that the lab takes; `-` is standard input."""
-    try:
-        with open(0 if path == "-" else path, "rb", closefd=path != "-") as file:
-            return file.read(MOST_INPUT + 1)
-    except OSError as fault:
-        raise Trouble(f"can't read {path}: {fault.strerror}") from None
+    return front_of(path, MOST_BYTES + 1)
 
 
 def find_program(tool):

@@ -29,13 +29,18 @@ class Ended(BaseException):
         self.number = number
 
 
-def read_file(path, most):
-    """The bytes of a file, at most so many; `-` is standard input."""
+def front_of(path, most):
+    """The bytes of a file, and of a longer one the first so many; `-` is standard input."""
     try:
         with open(0 if path == "-" else path, "rb", closefd=path != "-") as file:
-            content = file.read(most + 1)
+            return file.read(most)
     except OSError as error:
         raise Trouble(f"can't read {path}: {error.strerror}") from error
+
+
+def read_file(path, most):
+    """The bytes of a file that has at most so many; `-` is standard input."""
+    content = front_of(path, most + 1)
     if len(content) > most:
         raise Trouble(f"{path} has more than {most:,} bytes")
     return content

@@ -5,7 +5,7 @@ from dataclasses import dataclass, replace
 from meaning.expanding import expanded
 from meaning.naming import Names, defined, parts_of, scenario_numbered, text_numbered
 from meaning.resting import Rest
-from meaning.scenario import BEGINS, MOST_BYTES, is_skipped, words_of
+from meaning.scenario import BEGINS, MOST_BYTES, words_of
 from meaning.trouble import Trouble
 
 ENDING = ".zlt"

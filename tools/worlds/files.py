@@ -5,11 +5,10 @@ import shlex
 import stat
 from pathlib import Path
 
-from meaning.scenario import schedule_text
+from meaning.scenario import MOST_BYTES, schedule_text
 from meaning.trouble import Trouble
 
 SCHEDULE = re.compile(rb"(?: *[0-9]+ +[0-9]+ *| *|#[^\n]*)")
-MOST_BYTES = 4_194_304
 BESIDE = ".zls"
 
 

@@ -71,8 +71,10 @@ def done_by(call):
     if call.one.name == "task_kill":
         with_job = f" with job {call.koid}" if call.entries.get(1) and call.entries[1].kind == "job" else ""
         done.arrows += [("to", one.koid, None, f"kills it{with_job}") for one in call.world.came if one.kind == "over"]
-    elif call.one.name in ABOUT and call.outcome in ("OK", "blocked"):
-        ABOUT[call.one.name](call, done)
+    elif call.outcome in ("OK", "blocked"):
+        tell = GIVEN[call.one.row.gives[0]] if call.one.row.gives else ABOUT.get(call.one.name)
+        if tell:
+            tell(call, done)
     return done
 
 
@@ -147,12 +149,11 @@ def sets(call, done):
     done.about.append(f"{CONDITION_NAMES[condition]} {ACTION_NAMES[action]}, {MODE_NAMES[mode]}")
 
 
+# What is told of a call by what it gives, and of others by their names.
+GIVEN = {"copies": gets_other_rights, "makes": gets, "packet": moves_packet, "signals": waits, "sizes": reads}
 ABOUT = {
-    "dup": gets_other_rights, "replace": gets_other_rights, "chan_create": gets, "chan_write": writes,
-    "chan_read_etc": reads, "event_create": gets, "signal": changes, "signal_peer": changes, "wait_one": waits,
-    "wait_poll": waits, "wait_async": registers, "port_create": gets, "port_queue": moves_packet,
-    "port_wait": moves_packet, "port_poll": moves_packet, "port_cancel": cancels, "process_create": gets,
-    "process_start": starts, "job_create": gets, "job_set_policy": sets, "eventpair_create": gets,
+    "chan_write": writes, "signal": changes, "signal_peer": changes, "wait_async": registers,
+    "port_queue": moves_packet, "port_cancel": cancels, "process_start": starts, "job_set_policy": sets,
 }
 
 

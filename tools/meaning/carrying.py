@@ -4,11 +4,6 @@ A constant that only happens to be the number of a handle isn't one of these.
 """
 from meaning.cpu import STORES
 
-# The places of handles among the registers that a call writes.
-GIVEN = {
-    "dup": (1,), "replace": (1,), "event_create": (1,), "port_create": (1,), "process_create": (1,), "job_create": (1,),
-    "chan_create": (1, 2), "eventpair_create": (1, 2), "chan_read_etc": range(3, 27, 3),
-}
 LONG = STORES["st64"]
 
 
@@ -73,7 +68,7 @@ class Carrying:
         if call.outcome in ("blocked", "") or call.outcome.startswith("ended"):
             return
         one, carried = call.one, self.of[call.pid]
-        given = [one.written[place] for place in GIVEN.get(one.name, ()) if place < len(one.written)]
+        given = [one.written[place] for place in one.row.handles_given if place < len(one.written)]
         carried.written(one.written, given if call.outcome == "OK" else ())
         if call.outcome != "OK":
             return

@@ -136,8 +136,10 @@ def store(length):
 # What each local instruction does.
 LOCALS = {
     "const": const, "take": take, "swap": swap,
-    **{name: jump(test) for name, test in TESTS.items()}, **{name: compute(result) for name, result in RESULTS.items()},
-    **{name: load(length) for name, length in LOADS.items()}, **{name: store(length) for name, length in STORES.items()},
+    **{name: jump(test) for name, test in TESTS.items()},
+    **{name: compute(result) for name, result in RESULTS.items()},
+    **{name: load(length) for name, length in LOADS.items()},
+    **{name: store(length) for name, length in STORES.items()},
 }
 
 

@@ -28,6 +28,8 @@ class Row:
     condition: str | None = None
     # whether memory may be refused
     grows: bool = False
+    # what a call gives behind the status, with the kinds of handles to new objects
+    gives: tuple = ()
 
     @property
     def is_call(self):
@@ -42,6 +44,12 @@ class Row:
         return self.ending in ("n", "nt", "m")
 
     @property
+    def handles_given(self):
+        """The places of handles among the registers that it writes; those of a message stand at each third one."""
+        what, *kinds = self.gives or ("nothing",)
+        return {"copies": (1,), "makes": range(1, len(kinds) + 1), "sizes": range(3, 27, 3)}.get(what, ())
+
+    @property
     def has_range(self):
         """Whether its third and fourth register are an address and a length."""
         return self.ending in ("l", "m")
@@ -54,12 +62,12 @@ def wanted(kinds="any", right="-"):
 
 def row_in(line):
     """The row of a line of the table."""
-    opcode, name, uses, ending, condition, grows = (line.split(" | ") + [""] * 6)[:6]
+    opcode, name, uses, ending, condition, grows, gives = (line.split(" | ") + [""] * 7)[:7]
     ending, _, listed = ending.partition(", each ")
     words = [use.split() for use in [*uses.split(", "), listed] if use]
     wants = tuple(wanted(*use[1:]) for use in words if USES[use[0]] in (HANDLE, CONSUMED))
     fields = "".join(USES[use[0]] for use in words[:len(words) - bool(listed)])
-    return Row(int(opcode), name, fields, ENDINGS[ending], wants, condition or None, bool(grows))
+    return Row(int(opcode), name, fields, ENDINGS[ending], wants, condition or None, bool(grows), tuple(gives.split()))
 
 
 ROWS = [row_in(line) for line in TABLE.read_text().splitlines() if not line.startswith("#")]

@@ -259,20 +259,21 @@ def narrowed(value, asked):
     return Has(True, value.kind, value.rights if asked == SAME_RIGHTS else asked & KNOWN_RIGHTS)
 
 
+def given_by(bounds, one, state):
+    """What a call gives behind the status, by the column of the table."""
+    what, *kinds = one.row.gives or ("nothing",)
+    if what == "makes":
+        return [new_handle(kind) for kind in kinds]
+    if what == "copies":
+        return [narrowed(state[one.registers[1]], one.number)]
+    return {"nothing": [], "sizes": [Word(65536), Word(64)], "signals": [Word(0xFFFFFFFF)],
+            "packet": [ANYTHING, Word(rounded(bounds, 1)), ANYTHING, ANYTHING]}[what]
+
+
 def results_of(bounds, one, state):
     """The registers that a call writes, with what they get, the status first."""
     targets = [register for register, use in zip(one.registers, one.row.fields) if use == WRITTEN]
-    packet = [ANYTHING, Word(rounded(bounds, 1)), ANYTHING, ANYTHING]
-    given = {
-        "chan_create": [new_handle("channel")] * 2, "eventpair_create": [new_handle("eventpair")] * 2,
-        "event_create": [new_handle("event")], "port_create": [new_handle("port")],
-        "process_create": [new_handle("process")], "job_create": [new_handle("job")],
-        "wait_one": [Word(0xFFFFFFFF)], "wait_poll": [Word(0xFFFFFFFF)],
-        "port_wait": packet, "port_poll": packet, "chan_read_etc": [Word(65536), Word(64)],
-    }.get(one.name, [])
-    if one.name in ("dup", "replace"):
-        given = [narrowed(state[one.registers[1]], one.number)]
-    results = list(zip(targets, [Word(30), *given]))
+    results = list(zip(targets, [Word(30), *given_by(bounds, one, state)]))
     if one.name == "chan_read_etc":
         for first in range(one.registers[6], one.registers[6] + 3 * one.number, 3):
             results += [(first, Has(True, None, 0)), (first + 1, KindOf(first)), (first + 2, RightsOf(first))]

@@ -83,11 +83,11 @@ pub use Rattle.zl_calls.specs.calls.Task.{ClosesAllEnded, ClosesEnded, ClosesHan
 pub use Rattle.zl_calls.specs.calls.Task.{IsReachedBy, KillsNamed, KillsTask, Parts, ProcessCreateDoes, ProcessStartDoes, StartsProcess, TaskKillDoes}
 pub use Rattle.zl_calls.specs.calls.Task.{child_refusal, create_refusal, create_refusal_of, ended_if, ended_within, ending_of, is_over, kill_refusal, lives_on}
 pub use Rattle.zl_calls.specs.calls.Task.{needs_more, one_more, parts, process_at, start_refusal, told_unless_over}
-pub use Rattle.zl_calls.specs.declared.booting.Made.{Made}
-pub use Rattle.zl_calls.specs.declared.calls.reading.ReadFault.{ReadFault}
-pub use Rattle.zl_calls.specs.declared.calls.reading.Received.{Received}
+pub use Rattle.zl_calls.specs.declared.boot.Made.{Made}
+pub use Rattle.zl_calls.specs.declared.calls.channel.reading.ReadFault.{ReadFault}
+pub use Rattle.zl_calls.specs.declared.calls.channel.reading.Received.{Received}
 pub use Rattle.zl_calls.specs.declared.policy.Verdict.{Verdict}
-pub use Rattle.zl_calls.specs.declared.taken.Taken.{Taken}
+pub use Rattle.zl_calls.specs.declared.step.taken.Taken.{Taken}
 pub use Rattle.zl_calls.specs.declared.waking.Woke.{Woke}
 pub use Rattle.zl_code.proofs.AwakeRuns.{boot_awake, step_awake}
 pub use Rattle.zl_code.proofs.CallRows.{asks_again, site_named}

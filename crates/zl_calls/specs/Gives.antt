@@ -11,7 +11,7 @@ use Rattle.zl_code.specs.Own.{taken_all}
 use Rattle.zl_code.specs.Starting.{with_handles}
 use Rattle.zl_rights.specs.Values.{coming, new_free}
 use Rattle.zl_table.specs.Table.{IsTable}
-use Rattle.zl_calls.specs.declared.booting.Made.{Made}
+use Rattle.zl_calls.specs.declared.boot.Made.{Made}
 use Rattle.zl_calls.specs.declared.process.Process.{Process}
 use Rattle.zl_calls.specs.World.{process_value}
 use Rattle.zl_calls.specs.Consistent.{IsNamed}

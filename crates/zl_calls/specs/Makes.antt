@@ -12,7 +12,7 @@ use Rattle.zl_code.specs.declared.boot.Statement.{Statement}
 use Rattle.zl_code.specs.declared.boot.Statement.TheVariants as statement
 use Rattle.zl_objects.specs.declared.object.Pair.{Pair}
 use Rattle.zl_objects.specs.declared.object.Pair.TheVariants as pair
-use Rattle.zl_calls.specs.declared.booting.Made.{Made}
+use Rattle.zl_calls.specs.declared.boot.Made.{Made}
 use Rattle.zl_calls.specs.declared.process.Process.{Process}
 use Rattle.zl_calls.specs.World.{free_entry, state_value, world_value}
 use Rattle.zl_calls.specs.Making.{IsMaking}

@@ -16,8 +16,8 @@ use Rattle.zl_calls.specs.Registered.{is_left}
 use Rattle.zl_calls.specs.Started.{child_next, child_of, if_started}
 use Rattle.zl_calls.specs.World.{process_entry, stands_next, world_value}
 use Rattle.zl_calls.specs.declared.process.Process.{Process}
-use Rattle.zl_calls.specs.declared.taken.Taken.{Taken}
-use Rattle.zl_calls.specs.declared.taken.TakenHandle.{TakenHandle}
+use Rattle.zl_calls.specs.declared.step.taken.Taken.{Taken}
+use Rattle.zl_calls.specs.declared.step.taken.TakenHandle.{TakenHandle}
 
 -- ---- which calls take handles
 

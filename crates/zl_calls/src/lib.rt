@@ -9,15 +9,13 @@
 //! written relation. Methods follow the source that their type names, where they name none.
 #![tactic(auto)]
 
-mod booting;
+mod boot;
 mod calls;
-mod leaving;
+mod parts;
 mod policy;
 mod process;
 mod processes;
-mod stepping;
-mod taken;
-mod tasks;
+mod step;
 mod waits;
 mod waking;
 mod world;

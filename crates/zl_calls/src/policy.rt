@@ -14,7 +14,7 @@ ghost use Rattle.zl_calls.specs.Policed.{IsDenied, Policed, on_fault, verdict_by
 ghost use Rattle.zl_calls.specs.Sure.{IsUnpoliced};
 ghost use Rattle.zl_calls.specs.calls.Channel.{fault_of};
 
-use crate::calls::channel::examine_list;
+use crate::calls::channel::writing::examine_list;
 use crate::calls::look_up;
 use crate::calls::process::end;
 use crate::process::Process;

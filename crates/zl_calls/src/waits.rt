@@ -13,7 +13,7 @@ ghost use Rattle.zl_objects.specs.Listed.{is_made_at, is_there};
 ghost use Rattle.zl_calls.specs.Taken.{AreKnown, is_over_by};
 
 use crate::processes::Processes;
-use crate::taken::{Taken, TakenHandle};
+use crate::step::taken::{Taken, TakenHandle};
 use zl_objects::{Objects, Wait};
 use zl_rights::{HValue, Koid, Pid};
 

@@ -16,10 +16,10 @@ ghost use Rattle.zl_calls.specs.Own.{StepsOwn};
 ghost use Rattle.zl_calls.specs.Turns.{Fits, IsTurn, advanced, steps_done};
 ghost use Rattle.zl_calls.specs.Started.{StepsAndTells};
 
-use crate::booting::{Made, booted};
+use crate::boot::{Made, booted};
 use crate::processes::Processes;
-use crate::stepping::{act_for, is_local, next_name};
-use crate::taken::Taken;
+use crate::step::taken::Taken;
+use crate::step::{act_for, is_local, next_name};
 use crate::waits::fire_waits;
 use crate::waking::{Woke, add_blocked, fall_asleep, wake};
 use std::alloc::{AllocError, Global};

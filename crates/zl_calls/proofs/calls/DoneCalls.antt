@@ -7,7 +7,7 @@ use Rattle.zl_code.specs.declared.history.Outcome.TheVariants as outcome
 use Rattle.zl_code.specs.declared.history.TraceItem.TheVariants as item
 use Rattle.zl_calls.specs.declared.process.Process.{Process}
 use Rattle.zl_calls.proofs.calls.Answered.{IsWrite, same_world}
-use Rattle.zl_calls.proofs.stepping.FromConsistent.{IsFree, call_settles}
+use Rattle.zl_calls.proofs.step.FromConsistent.{IsFree, call_settles}
 use Rattle.zl_calls.proofs.processes.Departed.{settled_world}
 use Rattle.zl_calls.proofs.calls.Owned.{IsOwn, IsOwnCall, own_call_of, own_refused}
 use Rattle.zl_calls.proofs.calls.Refused.{TellsNothing, answers, refused_calls, refused_own}

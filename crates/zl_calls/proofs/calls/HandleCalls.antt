@@ -24,7 +24,7 @@ use Rattle.zl_calls.proofs.Common.{is_process, length, lives}
 use Rattle.zl_calls.proofs.calls.Owned.{IsOwn, own_call_of, own_entered, own_plain, own_refused, own_written}
 use Rattle.zl_calls.proofs.calls.Answered.{IsWrite, table_is, replies_none, replied_with, may_get_inserted, replied_inserted}
 use Rattle.zl_calls.proofs.calls.DoneCalls.{IsDone, IsDoneBy, IsCalled, answered_done}
-use Rattle.zl_calls.proofs.stepping.FromConsistent.{call_settles, full_counted}
+use Rattle.zl_calls.proofs.step.FromConsistent.{call_settles, full_counted}
 use Rattle.zl_calls.proofs.objects.Counting.{counts_written, sum_update}
 use Rattle.zl_calls.proofs.calls.Refused.{answers, any_looked_up, one_test, three_tests}
 use Rattle.zl_calls.proofs.calls.TakenCalls.{closed, replied_taking, taking_done}

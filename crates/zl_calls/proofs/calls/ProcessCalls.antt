@@ -19,7 +19,7 @@ use Rattle.zl_calls.proofs.Common.{false, false≢true, is_process, lives, map, 
 use Rattle.zl_calls.specs.declared.process.State.{State}
 use Rattle.zl_code.specs.Own.{entered_free, free_at}
 use Rattle.zl_rights.specs.Values.{Free, coming}
-use Rattle.zl_calls.proofs.stepping.FromConsistent.{call_settles}
+use Rattle.zl_calls.proofs.step.FromConsistent.{call_settles}
 use Rattle.zl_calls.proofs.processes.Departed.{settled_world}
 use Rattle.zl_calls.proofs.objects.Settled.{AreGone, IsSettled, drained, settled}
 use Rattle.zl_calls.proofs.processes.Stopped.{IsOver, named_stopped, over, seen_stopped, sound_stopped}

@@ -20,7 +20,7 @@ use Rattle.zl_objects.specs.declared.object.Body.TheVariants as body
 use Rattle.zl_objects.specs.declared.object.Object.{Object}
 use Rattle.zl_objects.specs.Objects.{queue_of, received, received_body, receiving}
 use Rattle.zl_calls.specs.declared.process.Process.{Process}
-use Rattle.zl_calls.specs.declared.calls.reading.ReadFault.TheVariants as fault
+use Rattle.zl_calls.specs.declared.calls.channel.reading.ReadFault.TheVariants as fault
 use Rattle.zl_calls.proofs.calls.Owned.{IsMaker, own_plain, own_refused}
 use Rattle.zl_calls.proofs.calls.Answered.{IsWrite, table_is, replied_with}
 use Rattle.zl_calls.proofs.objects.Counted.{queue_seen}

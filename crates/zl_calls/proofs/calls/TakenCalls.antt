@@ -14,7 +14,7 @@ use Rattle.zl_calls.specs.declared.process.Process.{Process}
 use Rattle.zl_calls.proofs.calls.Answered.{IsWrite, replied_with, with_table}
 use Rattle.zl_calls.proofs.objects.Counting.{count_put, count_without}
 use Rattle.zl_calls.proofs.calls.DoneCalls.{IsDone, IsCalled, called_done}
-use Rattle.zl_calls.proofs.stepping.FromConsistent.{call_settles}
+use Rattle.zl_calls.proofs.step.FromConsistent.{call_settles}
 use Rattle.zl_calls.proofs.calls.Owned.{own_call_of, own_refused}
 use Rattle.zl_calls.proofs.calls.Refused.{TellsNothing, answers, refused_calls, refused_own}
 use Rattle.zl_calls.proofs.objects.Settled.{IsSettled, settled}

@@ -12,7 +12,7 @@ use Rattle.zl_objects.specs.declared.object.Object.{Object}
 use Rattle.zl_calls.specs.declared.process.State.{State}
 use Rattle.zl_calls.specs.declared.process.State.TheVariants as state
 use Rattle.zl_calls.specs.declared.process.Process.{Process}
-use Rattle.zl_calls.proofs.stepping.FromConsistent.{IsFree}
+use Rattle.zl_calls.proofs.step.FromConsistent.{IsFree}
 use Rattle.zl_calls.proofs.policy.Policies.{IsSeen, unpoliced}
 
 -- ---- what stands next

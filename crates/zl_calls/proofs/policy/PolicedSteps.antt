@@ -8,8 +8,8 @@ use Rattle.zl_calls.specs.declared.process.Process.{Process}
 use Rattle.zl_calls.proofs.calls.Answered.{IsWrite}
 use Rattle.zl_calls.proofs.waking.BlockedLists.{same_list, still_blocked}
 use Rattle.zl_calls.proofs.processes.Departed.{left_blocked, left_keeps}
-use Rattle.zl_calls.proofs.stepping.OwnDone.{own_so}
-use Rattle.zl_calls.proofs.stepping.Performing.{AtTurn, HasLeft, key, left_as, ready, unblocked, write_of}
+use Rattle.zl_calls.proofs.step.OwnDone.{own_so}
+use Rattle.zl_calls.proofs.step.Performing.{AtTurn, HasLeft, key, left_as, ready, unblocked, write_of}
 use Rattle.zl_calls.proofs.policy.Policing.{policed_acts, policed_goes, policed_own, policed_keeps, policed_unblocked}
 
 -- a call that a policy ends leaves its process its pid

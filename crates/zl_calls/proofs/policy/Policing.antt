@@ -22,7 +22,7 @@ use Rattle.zl_calls.proofs.policy.Policies.{ending, policed}
 use Rattle.zl_calls.proofs.calls.ProcessCalls.{ended_is, ends_keeps, over_free, settles}
 use Rattle.zl_calls.proofs.calls.Owned.{own_in, own_refused}
 use Rattle.zl_calls.specs.Own.{FreeBy, IsOwnDone, own_beside}
-use Rattle.zl_calls.proofs.stepping.OwnDone.{refused_of}
+use Rattle.zl_calls.proofs.step.OwnDone.{refused_of}
 use Rattle.zl_calls.proofs.Common.{is_process, without_handles}
 use Rattle.zl_code.specs.Own.{left_free}
 use Rattle.zl_calls.proofs.objects.Settled.{still_settles}

@@ -5,7 +5,7 @@ use Rattle.zl_calls.proofs.Common.{update, zero, ℕ, ◌++◌, ◌<◌, ◌∙�
 use Rattle.zl_code.proofs.Common.{Process as ProcessValue}
 use Rattle.zl_calls.specs.declared.process.Process.{Process}
 use Rattle.zl_calls.proofs.lists.Updates.{seen_entry, sorted_seen}
-use Rattle.zl_calls.proofs.tasks.StartCalls.{writes_at}
+use Rattle.zl_calls.proofs.parts.StartCalls.{writes_at}
 
 abbrev koids_of : List Process → List ℕ
 koids_of ps = map (λ (p : Process). p.pid) ps

@@ -6,7 +6,7 @@ use Rattle.zl_calls.proofs.Common.{is_left, is_made_at, is_made_by_handle, is_ov
 use Rattle.zl_calls.proofs.Common.{process_entry, refl, slice_index_or, subst, suc, sym, take, take_all, take_more, true, unlisting, unwatching, without_first}
 use Rattle.zl_calls.proofs.Common.{world_blocked, world_left, world_value, ℕ, ◌&&◌, ◌+◌, ◌<◌, ◌==◌, ◌||◌, ◌∙◌, ◌∷◌, ◌≡◌, ◌≤◌}
 use Rattle.zl_calls.specs.declared.process.Process.{Process}
-use Rattle.zl_calls.specs.declared.taken.TakenHandle.{TakenHandle}
+use Rattle.zl_calls.specs.declared.step.taken.TakenHandle.{TakenHandle}
 use Rattle.zl_objects.proofs.Unlisted.{none_any}
 use Rattle.zl_calls.proofs.waits.WaitsLost.{filter_within}
 use Rattle.zl_calls.proofs.objects.SameButWaits.{beside_consistent, beside_same, beside_then, beside_world, unwatching_beside}

@@ -17,7 +17,7 @@ use Rattle.zl_calls.specs.declared.process.Process.{Process}
 use Rattle.zl_calls.specs.World.{held}
 use Rattle.zl_calls.specs.declared.waking.Woke.TheVariants as woke
 use Rattle.zl_calls.proofs.lists.Updates.{sorted_seen}
-use Rattle.zl_calls.proofs.stepping.Performing.{stands_there}
+use Rattle.zl_calls.proofs.step.Performing.{stands_there}
 use Rattle.zl_calls.proofs.objects.SameButWaits.{beside_consistent}
 use Rattle.zl_calls.proofs.waking.Exchange.{AreSorted, other_turn, turn_first}
 use Rattle.zl_calls.proofs.waking.Ordered.{agree, both_filters, takes_awaited, takes_none}

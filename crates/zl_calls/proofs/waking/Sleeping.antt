@@ -14,13 +14,13 @@ use Rattle.zl_code.proofs.StepsBeside.{blocks_among}
 use Rattle.zl_code.proofs.StepsWaiting.{settles_waiting}
 use Rattle.zl_code.specs.CallTable.{new_handles}
 use Rattle.zl_calls.proofs.calls.Owned.{IsMaker, own_plain, own_refused}
-use Rattle.zl_calls.proofs.stepping.OwnDone.{blocked_own, same_beside}
+use Rattle.zl_calls.proofs.step.OwnDone.{blocked_own, same_beside}
 use Rattle.zl_calls.specs.declared.process.Process.{Process}
 use Rattle.zl_calls.proofs.calls.Answered.{IsWrite}
 use Rattle.zl_calls.proofs.waking.BlockedLists.{one_asleep}
 use Rattle.zl_calls.proofs.waits.LeftWaits.{left_by, left_same}
 use Rattle.zl_calls.proofs.objects.SameBodies.{alike_agrees}
-use Rattle.zl_calls.proofs.stepping.FromConsistent.{IsFree}
+use Rattle.zl_calls.proofs.step.FromConsistent.{IsFree}
 use Rattle.zl_calls.proofs.processes.Departed.{left_all, settled_world}
 use Rattle.zl_calls.proofs.objects.Settled.{still_settles}
 use Rattle.zl_calls.proofs.processes.Written.{alike_states, keeps_table}

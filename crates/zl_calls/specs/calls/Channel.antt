@@ -15,7 +15,7 @@ use Rattle.zl_objects.specs.declared.object.Object.{Object}
 use Rattle.zl_objects.specs.declared.object.Pair.TheVariants as pair
 use Rattle.zl_objects.specs.Objects.{Objects, is_channel_at, reader_at, sending}
 use Rattle.smallvec.specs.SmallVec.{HasRoomFor}
-use Rattle.zl_calls.specs.declared.calls.channel.Letter.{Letter}
+use Rattle.zl_calls.specs.declared.calls.channel.writing.Letter.{Letter}
 use Rattle.zl_calls.specs.calls.Answer.{DoesTaking, taken_from, wants_memory, without_handles}
 use Rattle.zl_calls.specs.calls.Making.{MakePairDoes}
 

@@ -17,9 +17,9 @@ use Rattle.zl_rights.specs.World.{Message}
 use Rattle.zl_table.specs.Table.{Handles, Inserts}
 use Rattle.zl_objects.specs.declared.object.Object.{Object}
 use Rattle.zl_objects.specs.Objects.{Objects, peer_at, queue_in, receiving}
-use Rattle.zl_calls.specs.declared.calls.reading.Received.{Received}
-use Rattle.zl_calls.specs.declared.calls.reading.ReadFault.{ReadFault}
-use Rattle.zl_calls.specs.declared.calls.reading.ReadFault.TheVariants as fault
+use Rattle.zl_calls.specs.declared.calls.channel.reading.Received.{Received}
+use Rattle.zl_calls.specs.declared.calls.channel.reading.ReadFault.{ReadFault}
+use Rattle.zl_calls.specs.declared.calls.channel.reading.ReadFault.TheVariants as fault
 use Rattle.zl_calls.specs.calls.Answer.{Told, wants_memory}
 
 -- ---- handles that enter a table one after another

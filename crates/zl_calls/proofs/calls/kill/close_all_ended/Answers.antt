@@ -1,7 +1,7 @@
 use Rattle.zl_calls.proofs.Common.{arith, length, length-set, sym, ◌<◌, ◌∙◌}
 use Rattle.zl_calls.proofs.processes.InOrder.{closed_pid, set_in_order}
 use Rattle.zl_calls.proofs.processes.Started.{closed_started, set_started}
-use Rattle.zl_calls.proofs.tasks.KillParts.{closing_ends, closing_goes_on}
+use Rattle.zl_calls.proofs.parts.KillParts.{closing_ends, closing_goes_on}
 use Rattle.zl_calls.proofs.calls.kill.close_all_ended.Goals as goal
 
 pub invariant_of-processes : goal.invariant_of-processes

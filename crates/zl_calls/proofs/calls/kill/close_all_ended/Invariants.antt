@@ -1,5 +1,5 @@
 use Rattle.zl_calls.proofs.Common.{length, ◌≡◌}
-use Rattle.zl_calls.proofs.tasks.KillParts.{IsClosing}
+use Rattle.zl_calls.proofs.parts.KillParts.{IsClosing}
 use Rattle.zl_calls.proofs.calls.kill.close_all_ended.Given as goal
 
 abbrev pub invariant-loop-place : goal.invariant-loop-place

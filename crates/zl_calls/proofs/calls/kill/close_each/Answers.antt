@@ -1,7 +1,7 @@
 use Rattle.zl_calls.proofs.Common.{arith}
 use Rattle.zl_calls.proofs.processes.InOrder.{closed_pid, set_in_order}
 use Rattle.zl_calls.proofs.processes.Started.{closed_started, set_started}
-use Rattle.zl_calls.proofs.tasks.KillLists.{closed_each, one_closes, passed_over}
+use Rattle.zl_calls.proofs.parts.KillLists.{closed_each, one_closes, passed_over}
 use Rattle.zl_calls.proofs.calls.kill.close_each.Goals.{in-Some, in_default}
 use Rattle.zl_calls.proofs.calls.kill.close_each.Goals as goal
 

@@ -1,4 +1,4 @@
-use Rattle.zl_calls.proofs.tasks.KillLists.{IsClosingEach}
+use Rattle.zl_calls.proofs.parts.KillLists.{IsClosingEach}
 use Rattle.zl_calls.proofs.calls.kill.close_each.Given as goal
 
 abbrev pub invariant-loop-koid : goal.invariant-loop-koid

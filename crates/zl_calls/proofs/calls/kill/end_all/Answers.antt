@@ -1,6 +1,6 @@
 use Rattle.zl_calls.proofs.processes.InOrder.{set_in_order}
 use Rattle.zl_calls.proofs.processes.Started.{ended_started, set_started}
-use Rattle.zl_calls.proofs.tasks.KillParts.{ended_pid}
+use Rattle.zl_calls.proofs.parts.KillParts.{ended_pid}
 use Rattle.zl_calls.proofs.calls.kill.end_all.Goals as goal
 
 pub invariant_of-processes : goal.invariant_of-processes

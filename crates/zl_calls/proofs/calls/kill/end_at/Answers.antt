@@ -3,8 +3,8 @@ use Rattle.zl_calls.specs.declared.process.Process.{Process}
 use Rattle.zl_calls.proofs.processes.InOrder.{set_in_order}
 use Rattle.zl_calls.proofs.processes.Started.{ended_started, set_started}
 use Rattle.zl_calls.proofs.processes.Written.{write_at}
-use Rattle.zl_calls.proofs.tasks.KillLists.{missing, written_there}
-use Rattle.zl_calls.proofs.tasks.KillParts.{ended_pid, same_cpu}
+use Rattle.zl_calls.proofs.parts.KillLists.{missing, written_there}
+use Rattle.zl_calls.proofs.parts.KillParts.{ended_pid, same_cpu}
 use Rattle.zl_calls.proofs.waking.BlockedLists.{stay_blocked}
 use Rattle.zl_calls.proofs.calls.kill.end_at.Goals as goal
 

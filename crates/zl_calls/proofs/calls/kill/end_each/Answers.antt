@@ -1,5 +1,5 @@
 use Rattle.zl_calls.proofs.Common.{List, and_parts, ap, arith, ended_among, map, sym, take_all, take_more, ℕ, ◌∙◌}
-use Rattle.zl_calls.proofs.tasks.KillLists.{none_ended, one_ended}
+use Rattle.zl_calls.proofs.parts.KillLists.{none_ended, one_ended}
 use Rattle.zl_calls.proofs.calls.kill.end_each.Goals as goal
 
 pub loop-koid-init : goal.loop-koid-init

@@ -1,5 +1,5 @@
 use Rattle.zl_calls.proofs.Common.{arith, ◌≤◌}
-use Rattle.zl_calls.proofs.tasks.KillLists.{nobody, none_after, whichever}
+use Rattle.zl_calls.proofs.parts.KillLists.{nobody, none_after, whichever}
 use Rattle.zl_calls.proofs.calls.kill.place_from.Goals as goal
 
 pub returns-in_err-place-clause-missing : goal.returns-in_err-place-clause-missing

@@ -1,7 +1,7 @@
 use Rattle.zl_calls.proofs.Common.{AreKeptBut, LeavesListed, Objects, Ok, Releases, TaskKillDoes, [], all_koids, ap, ended_within, killing, map, parts, subst}
 use Rattle.zl_calls.proofs.Common.{sym, ◌∙◌}
-use Rattle.zl_calls.proofs.tasks.KillLists.{others_closed}
-use Rattle.zl_calls.proofs.tasks.KillParts.{killed_so, still_as_many, still_there}
+use Rattle.zl_calls.proofs.parts.KillLists.{others_closed}
+use Rattle.zl_calls.proofs.parts.KillParts.{killed_so, still_as_many, still_there}
 use Rattle.zl_calls.proofs.calls.kill.task_kill.Goals as goal
 
 pub close_ended-requires-clause-others : goal.close_ended-requires-clause-others

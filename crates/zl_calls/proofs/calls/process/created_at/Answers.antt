@@ -1,5 +1,5 @@
 use Rattle.zl_calls.proofs.Common.{sym, ◌∙◌}
-use Rattle.zl_calls.proofs.tasks.StartParts.{is_created_at, misfit_refused, none_refused, not_refused, started_refused}
+use Rattle.zl_calls.proofs.parts.StartParts.{is_created_at, misfit_refused, none_refused, not_refused, started_refused}
 use Rattle.zl_calls.proofs.calls.process.created_at.Goals as goal
 
 pub returns-in_default-clause-refusal : goal.returns-in_default-clause-refusal

@@ -1,5 +1,5 @@
 use Rattle.zl_calls.proofs.Common.{arith, length, refl, ◌<◌}
-use Rattle.zl_calls.proofs.tasks.StartParts.{child_within, enters_so}
+use Rattle.zl_calls.proofs.parts.StartParts.{child_within, enters_so}
 use Rattle.zl_calls.proofs.processes.InOrder.{set_in_order}
 use Rattle.zl_calls.proofs.processes.Started.{set_started}
 use Rattle.zl_calls.proofs.calls.process.enter.Goals as goal

@@ -2,8 +2,8 @@ use Rattle.zl_calls.proofs.Common.{length, refl, ◌<◌, ◌≡◌}
 use Rattle.zl_rights.specs.declared.status.Status.TheVariants as status
 use Rattle.zl_calls.proofs.processes.InOrder.{pushed_in_order, set_in_order}
 use Rattle.zl_calls.proofs.processes.Started.{set_started}
-use Rattle.zl_calls.proofs.tasks.Creating.{not_made, wanting}
-use Rattle.zl_calls.proofs.tasks.StartParts.{read_at}
+use Rattle.zl_calls.proofs.parts.Creating.{not_made, wanting}
+use Rattle.zl_calls.proofs.parts.StartParts.{read_at}
 use Rattle.zl_calls.proofs.calls.process.process_create.Goals as goal
 
 pub invariant_of-processes : goal.invariant_of-processes

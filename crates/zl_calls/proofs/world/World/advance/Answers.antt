@@ -2,11 +2,11 @@ use Rattle.zl_calls.proofs.Common.{Cpu, Program, Some, Stands, after_locals, ap,
 use Rattle.zl_calls.proofs.Common.{process_value, refl, slice_get, state_value, sym, true, world_blocked, ◌==◌, ◌∙◌, ◌≡◌}
 use Rattle.zl_calls.specs.World.{free_entry}
 use Rattle.zl_calls.specs.declared.process.Process.{Process}
-use Rattle.zl_calls.proofs.stepping.Advancing.{advances, advanced_programs, advanced_sound, cpu_stands, program_stands, read_there, ready_there}
-use Rattle.zl_calls.proofs.stepping.Covered.{advanced_covered}
-use Rattle.zl_calls.proofs.stepping.LocalMoves.{moved_awake, moved_keeps, moved_list, moved_world}
-use Rattle.zl_calls.proofs.stepping.Performing.{AtTurn, turn_at, unblocked, write_of}
-use Rattle.zl_calls.proofs.stepping.StepItems.{machine_value}
+use Rattle.zl_calls.proofs.step.Advancing.{advances, advanced_programs, advanced_sound, cpu_stands, program_stands, read_there, ready_there}
+use Rattle.zl_calls.proofs.step.Covered.{advanced_covered}
+use Rattle.zl_calls.proofs.step.LocalMoves.{moved_awake, moved_keeps, moved_list, moved_world}
+use Rattle.zl_calls.proofs.step.Performing.{AtTurn, turn_at, unblocked, write_of}
+use Rattle.zl_calls.proofs.step.StepItems.{machine_value}
 use Rattle.zl_calls.proofs.waking.Ordered.{written_ordered}
 use Rattle.zl_calls.proofs.waking.StillBlocked.{written_sought}
 use Rattle.zl_calls.proofs.processes.Freed.{set_unseen}

@@ -1,7 +1,7 @@
 use Rattle.zl_calls.proofs.Common.{All-nil, AreBlocked, IsBoot, IsStarted, arith, boot_awake, boot_covered, map, sym, world_blocked, ◌∙◌}
 use Rattle.zl_calls.specs.World.{free_entry}
 use Rattle.zl_code.proofs.ProgramsKept.{boot_programs}
-use Rattle.zl_calls.proofs.booting.BootBlocked.{booted_boots, booted_sound, booted_world, none_blocked}
+use Rattle.zl_calls.proofs.boot.BootBlocked.{booted_boots, booted_sound, booted_world, none_blocked}
 use Rattle.zl_calls.proofs.waking.Ordered.{none_ordered}
 use Rattle.zl_calls.proofs.waking.StillBlocked.{none_sought}
 use Rattle.zl_calls.proofs.world.World.boot.Goals as goal

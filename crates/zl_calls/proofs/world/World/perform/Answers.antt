@@ -1,5 +1,5 @@
 use Rattle.zl_calls.proofs.Common.{TakesStep, TraceItem, false≢true, subst}
-use Rattle.zl_calls.proofs.stepping.StepItems.{unready_no_call, wants_memory}
+use Rattle.zl_calls.proofs.step.StepItems.{unready_no_call, wants_memory}
 use Rattle.zl_calls.proofs.world.World.perform.Goals as goal
 
 pub unreachable-requires : goal.unreachable-requires

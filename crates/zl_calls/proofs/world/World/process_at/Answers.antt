@@ -1,4 +1,4 @@
-use Rattle.zl_calls.proofs.stepping.Places.{pid_at}
+use Rattle.zl_calls.proofs.step.Places.{pid_at}
 use Rattle.zl_calls.proofs.world.World.process_at.Goals as goal
 
 pub returns-clause-koid : goal.returns-clause-koid

@@ -8,11 +8,11 @@ use Rattle.zl_calls.specs.World.{held}
 use Rattle.zl_calls.specs.declared.waking.Woke.TheVariants as woke
 use Rattle.zl_calls.proofs.waking.BlockedLists.{no_more}
 use Rattle.zl_calls.proofs.waking.StillBlocked.{acted_ordered, acted_sought, same_seeks, silent}
-use Rattle.zl_calls.proofs.stepping.OwnStep.{own_stepped, same_length}
-use Rattle.zl_calls.proofs.stepping.StepItems.{local_awake, machine_value, local_list, not_ready_in, takes_local}
-use Rattle.zl_calls.proofs.stepping.StepTells.{tells_local, tells_step}
-use Rattle.zl_calls.proofs.stepping.Whole.{asleep_consistent, fired_known, fired_ordered, nothing_holds, quiet_own, quiet_step, quiet_whole, stepped_whole}
-use Rattle.zl_calls.proofs.stepping.Whole.{woken_own, woken_step, woken_whole}
+use Rattle.zl_calls.proofs.step.OwnStep.{own_stepped, same_length}
+use Rattle.zl_calls.proofs.step.StepItems.{local_awake, machine_value, local_list, not_ready_in, takes_local}
+use Rattle.zl_calls.proofs.step.StepTells.{tells_local, tells_step}
+use Rattle.zl_calls.proofs.step.Whole.{asleep_consistent, fired_known, fired_ordered, nothing_holds, quiet_own, quiet_step, quiet_whole, stepped_whole}
+use Rattle.zl_calls.proofs.step.Whole.{woken_own, woken_step, woken_whole}
 use Rattle.zl_calls.proofs.world.World.step.Goals as goal
 
 pub returns-in_err-item-clause-not_ready : goal.returns-in_err-item-clause-not_ready

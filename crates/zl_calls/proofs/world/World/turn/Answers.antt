@@ -1,8 +1,8 @@
 use Rattle.zl_calls.proofs.Common.{process_value, refl}
 use Rattle.zl_calls.specs.Turns.{IsTurn}
-use Rattle.zl_calls.proofs.stepping.Advancing.{listed_there, made_passes, none_ready, read_there, ready_there, they_stand}
-use Rattle.zl_calls.proofs.stepping.Covered.{able_there}
-use Rattle.zl_calls.proofs.stepping.StepItems.{machine_value}
+use Rattle.zl_calls.proofs.step.Advancing.{listed_there, made_passes, none_ready, read_there, ready_there, they_stand}
+use Rattle.zl_calls.proofs.step.Covered.{able_there}
+use Rattle.zl_calls.proofs.step.StepItems.{machine_value}
 use Rattle.zl_calls.proofs.world.World.turn.Goals as goal
 
 pub unreachable-requires : goal.unreachable-requires

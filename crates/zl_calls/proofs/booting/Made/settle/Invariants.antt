@@ -1,9 +1,0 @@
-use Rattle.zl_calls.proofs.Common.{◌≡◌}
-use Rattle.zl_calls.proofs.booting.BootConsistent.{IsSwept}
-use Rattle.zl_calls.proofs.booting.Made.settle.Given as goal
-
-abbrev pub invariant-loop-koid : goal.invariant-loop-koid
-invariant-loop-koid l = record {
-  swept : IsSwept l.initial.self.objects l.self.objects l.koid;
-  processes : l.self.processes.items ≡ l.initial.self.processes.items;
-}

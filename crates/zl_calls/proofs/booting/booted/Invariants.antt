@@ -1,6 +1,0 @@
-use Rattle.zl_calls.proofs.Common.{take}
-use Rattle.zl_calls.proofs.booting.BootRun.{IsMadeBy}
-use Rattle.zl_calls.proofs.booting.booted.Given as goal
-
-abbrev pub invariant-loop-number : goal.invariant-loop-number
-invariant-loop-number l = IsMadeBy l.library (take l.number l.boot.statements.items) l.made

@@ -1,0 +1,52 @@
+-- What a step tells of who became ready: who woke, and whom it started.
+use Rattle.zl_calls.proofs.Common.{CallName, CalledAmong, Library, List, Machine, None, NotesNextChild, NotesStarted, Objects, Option, Outcome, Parts, Some}
+use Rattle.zl_calls.proofs.Common.{StepsAndTells, StepsAndWakes, Taken, TraceItem, Woke, ap, calls_at, child_next, get, get_or, if_started, is_local, next_for}
+use Rattle.zl_calls.proofs.Common.{position, process_value, refl, same_Some, subst, sym, true, with_started, world_blocked, ℕ, ◌==◌, ◌∙◌, ◌≡◌}
+use Rattle.zl_code.proofs.Common.{Process as ProcessValue}
+use Rattle.zl_code.specs.declared.history.CallName.TheVariants as name
+use Rattle.zl_code.specs.declared.history.TraceItem.TheVariants as item
+use Rattle.zl_calls.specs.declared.process.Process.{Process}
+use Rattle.zl_calls.proofs.step.Performing.{stands_there}
+
+-- what is so of a start is so of the item
+same_started : (pid : ℕ) (n : CallName) (o : Outcome) (a b : Option ℕ) → (n ≡ name.ProcessStart → a ≡ b)
+    → if_started (item.Call pid n o) a ≡ if_started (item.Call pid n o) b
+same_started pid name.ProcessStart o a b same = rw (same refl) refl
+same_started pid _ o a b same = refl
+
+-- a call that was done notes whom it started
+pub call_notes : (lib : Library) (ps : List Process) (r : Objects) (blocked : List ℕ) (pid place : ℕ) (p : Process)
+    → Some place ≡ position (λ q. q.pid == pid) ps → p ≡ get_or ps place p → (all all2 : Parts) (n : CallName) (o : Outcome) (t : Taken)
+    → CalledAmong lib place p all n o all2 → NotesNextChild lib p n t → NotesStarted lib (world_blocked ps r blocked) pid (item.Call pid n o) t
+call_notes lib ps r blocked pid place p found read all all2 n o t called noted q at =
+    subst (λ (x : ProcessValue). if_started (item.Call pid n o) (child_next x.handles (next_for lib x)) ≡ if_started (item.Call pid n o) (Some t.started))
+    (same_Some (process_value p) q (sym (stands_there ps pid place p found read) ∙ at))
+    (same_started pid n o (child_next p.table.entries (next_for lib (process_value p))) (Some t.started)
+    (λ is. ap (child_next p.table.entries) next ∙ noted (Some called.site) next is))
+  where
+    next : next_for lib (process_value p) ≡ calls_at n (Some called.site)
+    next = called.next ∙ (λ i. calls_at (sym called.named i) (called.at_site i))
+
+-- a local instruction starts nobody
+pub local_starts : (x : TraceItem) (child : Option ℕ) → is_local x ≡ true → if_started x child ≡ None
+local_starts (item.Run pid count) child local = refl
+local_starts (item.Call pid n o) child local = absurd (cc)
+local_starts (item.Stuck pid) child local = refl
+
+-- the step of a process, behind which these woke
+module _ (m : Machine) (pid : ℕ) (m2 : Machine) (x : TraceItem) (woke : Woke) (did : StepsAndWakes m pid m2 x woke) where
+  tells_by : (child : Option ℕ) → if_started x (child_next did.takes.steps.step.process.handles (next_for m.programs did.takes.steps.step.process)) ≡ child
+      → (w : Woke) → w ≡ with_started child woke → StepsAndTells m pid m2 x w
+  tells_by child same w is = record {
+    takes = did.takes;
+    tells = record { woke = woke; left = did.left; is_told = is ∙ sym (ap (λ c. with_started c woke) same) };
+  }
+
+  pub tells_step : (t : Taken) → NotesStarted m.programs m.world pid x t → (w : Woke) → w ≡ with_started (if_started x (Some t.started)) woke
+      → StepsAndTells m pid m2 x w
+  tells_step t noted w is =
+      tells_by (if_started x (Some t.started)) (noted did.takes.steps.step.process
+      (subst (λ (k : ℕ). get m.world.processes k ≡ Some did.takes.steps.step.process) did.takes.pid_is did.takes.steps.step.is_there)) w is
+
+  pub tells_local : is_local x ≡ true → StepsAndTells m pid m2 x woke
+  tells_local local = tells_by None (local_starts x _ local) woke refl

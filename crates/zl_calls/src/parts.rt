@@ -1,0 +1,303 @@
+//! What a call does over the parts of the world, from its registers to its answer: the policy is asked,
+//! then what reaches other processes, and else what reaches none but its caller.
+
+ghost use Rattle.std.specs.Prelude.{◌≡◌, ◌<◌, ◌^◌, false, None, IsSome, IfSome, IfNone, [], ◌∷◌};
+ghost use Rattle.zl_code.specs.Request.{site_of};
+ghost use Rattle.zl_calls.specs.Acted.{Acted};
+ghost use Rattle.zl_calls.specs.Reaching.{CallActs, is_reaching, Reaches};
+ghost use Rattle.zl_calls.specs.calls.Task.{IsReachedBy, EndsOrAnswers};
+ghost use Rattle.zl_calls.specs.Calling.{AtPlace, KeepsRoom, MayCall, OwnWaits, parts_in};
+ghost use Rattle.zl_calls.specs.Sure.{IsFaultless, IsSure};
+ghost use Rattle.zl_interp.specs.Common.{register_set};
+ghost use Rattle.zl_calls.specs.calls.Answer.{answered_in, no_value, status_of};
+
+use crate::calls::channel::chan_create;
+use crate::calls::channel::reading::read;
+use crate::calls::channel::writing::write;
+use crate::calls::event::{event_create, eventpair_create, signal, signal_peer};
+use crate::calls::handle::{close, dup, replace};
+use crate::calls::job::{job_create, job_set_policy};
+use crate::calls::kill::task_kill;
+use crate::calls::port::{port_cancel, port_create, port_poll, port_queue, port_wait};
+use crate::calls::process::{end, process_create, process_start, signed_word};
+use crate::calls::wait::{wait_async, wait_one, wait_poll};
+use crate::policy::by_policy;
+use crate::process::{Process, State};
+use crate::processes::Processes;
+use std::alloc::Global;
+use zl_code::{CallInstr, CallName, Outcome, Register};
+use zl_interp::Library;
+use zl_objects::Objects;
+use zl_rights::{Pid, Status};
+
+/// Does the call of a checked program, as `do_call` does.
+// Apart from the loop over turns, in which the way of raw programs stands.
+#[inline(never)]
+pub fn do_sure(
+    alloc: Global,
+    library: &Library,
+    processes: &mut Processes,
+    objects: &mut Objects,
+    blocked: &mut Vec<Pid>,
+    place: usize,
+    call: &CallInstr,
+) -> Outcome
+    requires may { MayCall (parts_in processes.old objects.old blocked.old) place }
+    requires there { AtPlace processes.old place (λ caller.
+        IsSome (site_of call.now caller.cpu)) }
+    requires own { AtPlace processes.old place (λ caller.
+        OwnWaits caller.pid caller.table.entries objects.old) }
+    requires counter { AtPlace processes.old place (λ caller. caller.cpu.counter < 2 ^ 32) }
+    requires sure { AtPlace processes.old place (λ caller.
+        IsSure caller objects.old (site_of call.now caller.cpu)) }
+    ensures acts { AtPlace processes.old place (λ caller.
+        IsReachedBy (site_of call.now caller.cpu) (λ s. CallActs library.now place caller s
+        (parts_in processes.old objects.old blocked.old) result
+        (parts_in processes.new objects.new blocked.new))) }
+    ensures room { KeepsRoom processes.old blocked.old processes.new blocked.new }
+{
+    do_call::<false>(alloc, library, processes, objects, blocked, place, call)
+}
+
+/// Does the call of the process at this place, whose memory is there: it ends as the policy of the
+/// process's job says, if that keeps it from being done.
+#[inline(always)]
+pub fn do_call<const TESTED: bool>(
+    alloc: Global,
+    library: &Library,
+    processes: &mut Processes,
+    objects: &mut Objects,
+    blocked: &mut Vec<Pid>,
+    place: usize,
+    call: &CallInstr,
+) -> Outcome
+    requires may { MayCall (parts_in processes.old objects.old blocked.old) place }
+    requires there { AtPlace processes.old place (λ caller.
+        IsSome (site_of call.now caller.cpu)) }
+    requires own { AtPlace processes.old place (λ caller.
+        OwnWaits caller.pid caller.table.entries objects.old) }
+    requires counter { AtPlace processes.old place (λ caller. caller.cpu.counter < 2 ^ 32) }
+    requires sure { TESTED ≡ false → AtPlace processes.old place (λ caller.
+        IsSure caller objects.old (site_of call.now caller.cpu)) }
+    ensures acts { AtPlace processes.old place (λ caller.
+        IsReachedBy (site_of call.now caller.cpu) (λ s. CallActs library.now place caller s
+        (parts_in processes.old objects.old blocked.old) result
+        (parts_in processes.new objects.new blocked.new))) }
+    ensures room { KeepsRoom processes.old blocked.old processes.new blocked.new }
+{
+    if let Some(outcome) = by_policy::<TESTED>(alloc, &mut processes.list[place], objects, call) {
+        return outcome;
+    }
+    if let Some(outcome) = reach::<TESTED>(
+        alloc, library, processes, objects, blocked, place, call,
+    ) {
+        return outcome;
+    }
+    act::<TESTED>(alloc, &mut processes.list[place], objects, call)
+}
+
+/// Does the call of the process at this place, if it is one that reaches other processes.
+#[inline(always)]
+#[tactic(auto, unfolding(zl_code::specs::Request::site_of))]
+fn reach<const TESTED: bool>(
+    alloc: Global,
+    library: &Library,
+    processes: &mut Processes,
+    objects: &mut Objects,
+    blocked: &mut Vec<Pid>,
+    place: usize,
+    call: &CallInstr,
+) -> Option<Outcome>
+    requires may { MayCall (parts_in processes.old objects.old blocked.old) place }
+    requires counter { AtPlace processes.old place (λ caller. caller.cpu.counter < 2 ^ 32) }
+    requires sure { TESTED ≡ false → AtPlace processes.old place (λ caller.
+        IsFaultless caller.table.entries (site_of call.now caller.cpu)) }
+    ensures reached { IfSome result (λ o. AtPlace processes.old place (λ caller.
+        IsReachedBy (site_of call.now caller.cpu) (λ s. Reaches library.now place caller s
+        (parts_in processes.old objects.old blocked.old) o
+        (parts_in processes.new objects.new blocked.new)))) }
+    ensures missing { IfNone result (AtPlace processes.old place (λ caller.
+        IfSome (site_of call.now caller.cpu) (λ s. is_reaching s.request ≡ false))) }
+    ensures room { KeepsRoom processes.old blocked.old processes.new blocked.new }
+    ensures same_processes { IfNone result (processes.new.list.items ≡ processes.old.list.items) }
+    ensures same_objects { IfNone result (objects.new ≡ objects.old) }
+    ensures same_blocked { IfNone result (blocked.new.items ≡ blocked.old.items) }
+{
+    let [a, b, c, d, ..] = call.registers;
+    let cpu = &processes.list[place].cpu;
+    match call.name {
+        CallName::ProcessCreate => {
+            let (job, program) = (cpu.register(b), cpu.register(c));
+            let made = process_create::<TESTED>(
+                alloc, library, processes, objects, blocked, place, job, program,
+            );
+            Some(processes.list[place].answer_made(a, d, made))
+        }
+        CallName::ProcessStart => {
+            let (process, handle, word) = (cpu.register(b), cpu.register(c), cpu.register(d));
+            let answer = process_start::<TESTED>(
+                library, processes, objects, place, process, handle, word,
+            );
+            Some(answer_taking(&mut processes.list[place], a, c, answer))
+        }
+        CallName::TaskKill => {
+            let task = cpu.register(b);
+            let answer = task_kill::<TESTED>(alloc, processes, objects, blocked, place, task);
+            Some(answer_unless_over(&mut processes.list[place], a, answer))
+        }
+        _ => None,
+    }
+}
+
+/// The call that takes a handle is answered: the register of the handle becomes 0 before.
+fn answer_taking(
+    caller: &mut Process,
+    status: Register,
+    handle: Register,
+    answer: Result<(), Status>,
+) -> Outcome
+    requires { caller.old.cpu.counter < 2 ^ 32 }
+    ensures ends { result ≡ Outcome.Answered (status_of answer) }
+    ensures process { caller.new ≡ answered_in
+        (record caller.old { cpu = register_set caller.old.cpu handle 0 })
+        (status ∷ []) no_value answer }
+{
+    caller.cpu.set(handle, 0);
+    caller.answer(status, answer)
+}
+
+/// The call is answered, unless it has ended its caller.
+fn answer_unless_over(caller: &mut Process, status: Register, answer: Result<(), Status>) -> Outcome
+    requires { caller.old.cpu.counter < 2 ^ 32 }
+    ensures { EndsOrAnswers status answer caller.old result caller.new }
+{
+    match caller.state {
+        State::Ended(code) => Outcome::Ended(code),
+        _ => caller.answer(status, answer),
+    }
+}
+
+/// Does the call, whose memory is there, and which reaches no other process than its caller.
+#[inline(always)]
+#[tactic(auto, unfolding(zl_code::specs::Request::site_of))]
+fn act<const TESTED: bool>(
+    alloc: Global,
+    process: &mut Process,
+    objects: &mut Objects,
+    call: &CallInstr,
+) -> Outcome
+    requires counter { process.old.cpu.counter < 2 ^ 32 }
+    requires there { IsSome (site_of call.now process.old.cpu) }
+    requires alone { IfSome (site_of call.now process.old.cpu)
+        (λ s. is_reaching s.request ≡ false) }
+    requires own { OwnWaits process.old.pid process.old.table.entries objects.old }
+    requires sure { TESTED ≡ false
+        → IsFaultless process.old.table.entries (site_of call.now process.old.cpu) }
+    ensures { Acted (site_of call.now process.old.cpu)
+        process.old objects.old result process.new objects.new }
+{
+    // Of all but an exit the first gets the status.
+    let [a, b, c, d, e, ..] = call.registers;
+    let reg = |register: Register| process.cpu.register(register);
+    let pid = process.pid;
+    match call.name {
+        CallName::Close => {
+            let answer = close::<TESTED>(&mut process.table, objects, reg(b));
+            process.cpu.set(b, 0);
+            process.answer(a, answer)
+        }
+        CallName::Dup => {
+            let made = dup::<TESTED>(&mut process.table, objects, reg(b), call.number());
+            process.answer_made(a, c, made)
+        }
+        CallName::Replace => {
+            let made = replace::<TESTED>(&mut process.table, objects, pid, reg(b), call.number());
+            process.cpu.set(b, 0);
+            process.answer_made(a, c, made)
+        }
+        CallName::ChanCreate => {
+            let made = chan_create(&mut process.table, objects);
+            process.answer_made_two(a, b, c, made)
+        }
+        CallName::ChanWrite => write::<TESTED>(alloc, process, objects, call),
+        CallName::ChanReadEtc => read::<TESTED>(alloc, process, objects, call),
+        CallName::EventCreate => {
+            let made = event_create(&mut process.table, objects);
+            process.answer_made(a, b, made)
+        }
+        CallName::Signal => {
+            let answer = signal::<TESTED>(&process.table, objects, reg(b), reg(c), reg(d));
+            process.answer(a, answer)
+        }
+        CallName::SignalPeer => {
+            let answer = signal_peer::<TESTED>(&process.table, objects, reg(b), reg(c), reg(d));
+            process.answer(a, answer)
+        }
+        CallName::WaitOne => wait_one::<TESTED>(process, objects, call),
+        CallName::WaitPoll => {
+            let polled = wait_poll::<TESTED>(&process.table, objects, reg(b), reg(c));
+            process.answer_polled(call.registers, polled)
+        }
+        CallName::WaitAsync => {
+            let answer = wait_async::<TESTED>(
+                &process.table,
+                objects,
+                pid,
+                reg(b),
+                reg(c),
+                reg(d),
+                reg(e),
+            );
+            process.answer(a, answer)
+        }
+        CallName::PortCreate => {
+            let made = port_create(&mut process.table, objects);
+            process.answer_made(a, b, made)
+        }
+        CallName::PortQueue => {
+            let answer = port_queue::<TESTED>(&process.table, objects, reg(b), reg(c), reg(d));
+            process.answer(a, answer)
+        }
+        CallName::PortWait => port_wait::<TESTED>(process, objects, call),
+        CallName::PortPoll => {
+            let answer = port_poll::<TESTED>(&process.table, objects, reg(b));
+            process.answer_packet(call.registers, answer)
+        }
+        CallName::PortCancel => {
+            let answer = port_cancel::<TESTED>(
+                &process.table,
+                objects,
+                pid,
+                reg(b),
+                reg(c),
+                reg(d),
+            );
+            process.answer(a, answer)
+        }
+        CallName::ProcessExit => {
+            let code = signed_word(reg(a));
+            end(alloc, process, objects, code);
+            Outcome::Ended(code)
+        }
+        CallName::JobCreate => {
+            let made = job_create::<TESTED>(&mut process.table, objects, reg(b));
+            process.answer_made(a, c, made)
+        }
+        CallName::JobSetPolicy => {
+            let answer = job_set_policy::<TESTED>(
+                &process.table,
+                objects,
+                reg(b),
+                reg(c),
+                reg(d),
+                reg(e),
+            );
+            process.answer(a, answer)
+        }
+        CallName::EventpairCreate => {
+            let made = eventpair_create(&mut process.table, objects);
+            process.answer_made_two(a, b, c, made)
+        }
+        CallName::ProcessCreate | CallName::ProcessStart | CallName::TaskKill => unreachable!(),
+    }
+}

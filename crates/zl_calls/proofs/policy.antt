@@ -4,6 +4,7 @@ pub mod Policies
 pub mod Verdicts
 pub mod Denials
 pub mod Examining
+pub mod Denying
 pub mod Faultless
 pub mod Freedom
 pub mod Policing

@@ -1,9 +1,10 @@
 //! What the policy of a job says to a call of its process, which is asked before the call is done.
 
-ghost use Rattle.std.specs.Prelude.{◌≡◌, ◌<◌, ◌≤◌, ◌^◌, false, [], None, IfSome, IfNone, length, map};
+ghost use Rattle.std.specs.Prelude.{◌≡◌, ◌<◌, ◌≤◌, ◌^◌, false, [], None, IfSome, IfNone, length, map, take};
 ghost use Rattle.std.specs.Result.{result_err};
 ghost use Rattle.zl_rights.specs.LookUp.{looked_up};
 ghost use Rattle.zl_rights.specs.Numbers.{bits};
+ghost use Rattle.zl_code.specs.Asked.{is_written, those};
 ghost use Rattle.zl_code.specs.Instructions.{field_of, kinds_of};
 ghost use Rattle.zl_code.specs.Limits.{most_registers};
 ghost use Rattle.zl_code.specs.Refusals.{condition_of};
@@ -17,9 +18,9 @@ ghost use Rattle.zl_calls.specs.calls.Channel.{fault_of};
 use crate::calls::channel::writing::examine_list;
 use crate::calls::look_up;
 use crate::calls::process::end;
-use crate::process::Process;
+use crate::process::{Process, Registers};
 use std::alloc::Global;
-use zl_code::{CallInstr, CallName, Columns, Ending, Field, Kinds, Outcome};
+use zl_code::{CallInstr, Columns, Ending, Field, Kinds, Outcome};
 use zl_interp::Cpu;
 use zl_objects::Objects;
 use zl_rights::{Action, Condition, Kind, Koid, Rights, Status};
@@ -129,7 +130,6 @@ fn on_fault(objects: &Objects, job: Koid, fault: Status) -> Option<Verdict>
 }
 
 /// Answers a call that makes an object with `AccessDenied`, and 0 in the registers of its handles.
-#[tactic(auto, unfolding(zl_code::specs::Request::site_of))]
 fn deny(process: &mut Process, call: &CallInstr) -> Option<Outcome>
     requires counter { process.old.cpu.counter < 2 ^ 32 }
     ensures denied { IfSome result (λ outcome. (r : Objects)
@@ -139,16 +139,28 @@ fn deny(process: &mut Process, call: &CallInstr) -> Option<Outcome>
         (λ s. condition_of s.request ≡ None)) }
     ensures unchanged { IfNone result (process.new ≡ process.old) }
 {
-    let [a, b, c, d, ..] = call.registers;
-    let denied = Err(Status::AccessDenied);
-    match call.name {
-        CallName::ChanCreate | CallName::EventpairCreate => {
-            Some(process.answer_made_two(a, b, c, Err(Status::AccessDenied)))
+    let columns = call.name.row().columns;
+    columns.condition?;
+    let (destinations, count) = written(columns.fields, &call.registers);
+    Some(process.answered(Status::AccessDenied, &destinations[..count], &[]))
+}
+
+/// The registers that a call writes which has these fields, in their order, and how many they are.
+fn written(fields: &[Field], registers: &Registers) -> (Registers, usize)
+    requires { length fields.now ≤ most_registers }
+    ensures registers { take result.1 result.0
+        ≡ those is_written (map field_of fields.now) 0 registers.now }
+    ensures within { result.1 ≤ length result.0 }
+{
+    let mut destinations = *registers;
+    let mut count = 0;
+    for (n, field) in fields.iter().enumerate() {
+        if let Field::Writes | Field::Changes = field {
+            destinations[count] = registers[n];
+            count += 1;
         }
-        CallName::EventCreate | CallName::PortCreate => Some(process.answer_made(a, b, denied)),
-        CallName::ProcessCreate => Some(process.answer_made(a, d, denied)),
-        _ => None,
     }
+    (destinations, count)
 }
 
 /// Examines the handle operands of the call from left to right, and behind them those of its list,

@@ -19,22 +19,18 @@ abbrev is_denial : Option Verdict → Bool
 is_denial (Some verdict.Denied) = true
 is_denial _ = false
 
+-- no fault is denied
+undenied : (a : Action) → on_fault_by a ≡ Some verdict.Denied → ⊥
+undenied action.Allow is = none-some _ is
+undenied action.Deny is = none-some _ is
+undenied action.Kill is = true≢false (sym (ap is_denial is))
+
 -- just what makes an object is denied
 denied_makes : (o : Condition → Action) (f : Option Status) (c : Option Condition) → verdict_by o f c ≡ Some verdict.Denied → (x : Condition) × (c ≡ Some x)
 denied_makes o None None is = absurd (none-some _ is)
 denied_makes o None (Some c) is = (c, refl)
-denied_makes o (Some status.BadHandle) c is = absurd (never (o condition.BadHandle) is)
-  where
-    never : (a : Action) → on_fault_by a ≡ Some verdict.Denied → ⊥
-    never action.Allow is = none-some _ is
-    never action.Deny is = none-some _ is
-    never action.Kill is = true≢false (sym (ap is_denial is))
-denied_makes o (Some status.WrongType) c is = absurd (never (o condition.WrongObject) is)
-  where
-    never : (a : Action) → on_fault_by a ≡ Some verdict.Denied → ⊥
-    never action.Allow is = none-some _ is
-    never action.Deny is = none-some _ is
-    never action.Kill is = true≢false (sym (ap is_denial is))
+denied_makes o (Some status.BadHandle) c is = absurd (undenied (o condition.BadHandle) is)
+denied_makes o (Some status.WrongType) c is = absurd (undenied (o condition.WrongObject) is)
 denied_makes o (Some _) c is = absurd (none-some _ is)
 
 pub denied_object : (entries : Map Entry) (objects : Map Object) (p : ℕ) (request : Request) → verdict_on entries objects p request ≡ Some verdict.Denied

@@ -65,7 +65,7 @@ module _ (entries : Map Entry) where
       (list_fault [] [] (map (reg c) (used last)) (λ v. refl)) holds
   by_name _ rs last c P holds = holds
 
-  at_row : (i : CallInstr) (c : Cpu) (P : Option Condition → Option Status → Type 0) → P (call_row i.name).condition (row_fault (call_row i.name) i c)
+  pub at_row : (i : CallInstr) (c : Cpu) (P : Option Condition → Option Status → Type 0) → P (call_row i.name).condition (row_fault (call_row i.name) i c)
       → IfSome (site_of i c) (AtSite P)
   at_row i c P holds =
       subst (λ s. IfSome s (AtSite P)) (sym (site_named i c)) (if_there _ (site_at i.name i c) (AtSite P) (by_name i.name i.registers i.last c P holds))

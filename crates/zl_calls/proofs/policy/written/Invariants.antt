@@ -1,0 +1,8 @@
+use Rattle.zl_calls.proofs.Common.{drop, field_of, length, map, take, ◌++◌, ◌≡◌, ◌≤◌}
+use Rattle.zl_code.specs.Asked.{is_written, those}
+use Rattle.zl_calls.proofs.policy.written.Given as goal
+
+abbrev pub invariant-loop-n : goal.invariant-loop-n
+invariant-loop-n l =
+    let left = those is_written (map field_of (drop l.n l.fields)) l.n l.registers in
+    (l.count ≤ l.n) × (length l.destinations ≡ 7) × (take l.count l.destinations ++ left ≡ those is_written (map field_of l.fields) 0 l.registers)

@@ -111,9 +111,9 @@ pub use Rattle.zl_rights.specs.declared.policy.Condition.{Condition}
 pub use Rattle.zl_rights.specs.declared.rights.Rights.{Rights}
 pub use Rattle.zl_rights.specs.declared.status.Status.{Status}
 pub use Rattle.zl_verify.specs.Ahead.{AreAhead, jump_in}
-pub use Rattle.zl_verify.specs.Blocks.{AreBlocks, Blocks, Out, block, inner_of, known, known_by, leaves_first, leaves_last, out_from, passed_on, start_of}
-pub use Rattle.zl_verify.specs.Blocks.{states_of}
-unfoldable pub use Rattle.zl_verify.specs.Blocks.{flows, inner, leaves, out}
+pub use Rattle.zl_verify.specs.Stretches.{AreStretches, Stretches, Out, stretch, inner_of, known, known_by, leaves_first, leaves_last, out_from, passed_on}
+pub use Rattle.zl_verify.specs.Stretches.{start_of, states_of}
+unfoldable pub use Rattle.zl_verify.specs.Stretches.{flows, inner, leaves, out}
 pub use Rattle.zl_verify.specs.CallLaws.{CanCall, IsAnswered, IsOwnEnd, IsSizedMessage, IsSizedPacket, IsWaiting, QueuesAreSized, StandsAtCall, ends_by}
 pub use Rattle.zl_verify.specs.CallLaws.{ends_of, exits, kills}
 pub use Rattle.zl_verify.specs.Checks.{HasNoTyping, HasStepBound, IsLeastTyping, IsOverBudget, IsRefused, is_of_rules}

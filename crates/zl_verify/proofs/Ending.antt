@@ -1,9 +1,9 @@
 -- The search ends: what is left to rise, and what waits. States stay fine on the way.
-use Rattle.zl_verify.proofs.Common.{AllFine, Blocks, Bool, Cause, Edge, IfOk, Image, IsFine, IsTrue, List, None, Ok, Option, Result, Some, State, [], all_below}
-use Rattle.zl_verify.proofs.Common.{all_joined, ap, arith, at, block, cleared, false, fine_joined, get_or, get_or_from_slice_get, if◌then◌else◌, inl, inr}
-use Rattle.zl_verify.proofs.Common.{is_in_range, length, length-set, mul-le-mul_right, option_and_then, option_map, raised, raised_all, raised_over, refl}
-use Rattle.zl_verify.proofs.Common.{same_Some, slice_get, slice_set, start_of, subst, sum_by, sum_by-set, sym, true, ℕ, ◌*◌, ◌+◌, ◌-◌, ◌<◌, ◌∙◌, ◌∷◌, ◌≡◌, ◌≢◌}
-use Rattle.zl_verify.proofs.Common.{◌≤◌, ◌⊎◌}
+use Rattle.zl_verify.proofs.Common.{AllFine, Stretches, Bool, Cause, Edge, IfOk, Image, IsFine, IsTrue, List, None, Ok, Option, Result, Some, State, []}
+use Rattle.zl_verify.proofs.Common.{all_below, all_joined, ap, arith, at, stretch, cleared, false, fine_joined, get_or, get_or_from_slice_get, if◌then◌else◌}
+use Rattle.zl_verify.proofs.Common.{inl, inr, is_in_range, length, length-set, mul-le-mul_right, option_and_then, option_map, raised, raised_all, raised_over}
+use Rattle.zl_verify.proofs.Common.{refl, same_Some, slice_get, slice_set, start_of, subst, sum_by, sum_by-set, sym, true, ℕ, ◌*◌, ◌+◌, ◌-◌, ◌<◌, ◌∙◌, ◌∷◌, ◌≡◌}
+use Rattle.zl_verify.proofs.Common.{◌≢◌, ◌≤◌, ◌⊎◌}
 use Rattle.zl_abs.proofs.Room.{room, TOP, room_top, room_falls}
 use Rattle.zl_verify.specs.Lists.{within}
 use Rattle.zl_verify.specs.Numbers.{one_if}
@@ -120,12 +120,12 @@ drop_one t n w =
 cleared_fine : (t : Table) (n : ℕ) → AreFine t → AreFine (cleared t n)
 cleared_fine t n f = record { each = f.each; same = f.same ∙ sym (length-set t.waiting n false) }
 
-edges_fine : (i : Image) (bs : Blocks) → IsTrue (is_in_range i) → (n : ℕ) (s : State) (es : List Edge) → IsFine s → block i bs n s ≡ Ok es → AllFine es
+edges_fine : (i : Image) (bs : Stretches) → IsTrue (is_in_range i) → (n : ℕ) (s : State) (es : List Edge) → IsFine s → stretch i bs n s ≡ Ok es → AllFine es
 edges_fine i bs range n s es f r =
     subst (λ (x : Result (List Edge) Cause). IfOk x AllFine) r (out_fine i range bs.numbers (length i.code - start_of i bs n) (start_of i bs n) s f)
 
-pub tiring : (i : Image) (bs : Blocks) → IsTrue (is_in_range i) → (t u : Table) (n : ℕ) (s : State) (es : List Edge) → AreFine t → at t.states n ≡ Some s
-    → slice_get t.waiting n ≡ Some true → block i bs n s ≡ Ok es → raised_all (cleared t n) es ≡ Some u → Tires t u
+pub tiring : (i : Image) (bs : Stretches) → IsTrue (is_in_range i) → (t u : Table) (n : ℕ) (s : State) (es : List Edge) → AreFine t → at t.states n ≡ Some s
+    → slice_get t.waiting n ≡ Some true → stretch i bs n s ≡ Ok es → raised_all (cleared t n) es ≡ Some u → Tires t u
 unfolding remaining
 tiring i bs range t u n s es f e w r k =
     let a = subst (EasesOr (cleared t n)) k (easing_all (cleared t n) es (cleared_fine t n f) (edges_fine i bs range n s es (f.each n s e) r)) in

@@ -1,10 +1,10 @@
--- The states of blocks make a typing of all instructions, the least where they are the least.
-use Rattle.zl_verify.proofs.Common.{AllFine, AllLead, AreBlocks, Blocks, Cause, Edge, Err, IfOk, Image, IsAbove, IsFine, IsLeastTyping, IsTrue, IsTyping, List}
-use Rattle.zl_verify.proofs.Common.{None, Ok, Option, Out, Result, Some, State, [], all_below_refl, and_then, ap, arith, at, block, bounds_of, flows, inner}
-use Rattle.zl_verify.proofs.Common.{inner_of, is_in_range, known, known_by, leaves, leaves_first, leaves_last, length, none-some, out, passed_on, refl, rule}
-use Rattle.zl_verify.proofs.Common.{rule_fine, same_Some, start_of, start_state, states_of, subst, suc, sym, zero, ℕ, ◌+◌, ◌-◌, ◌<◌, ◌∙◌, ◌∷◌, ◌≡◌}
+-- The states of stretches make a typing of all instructions, the least where they are the least.
+use Rattle.zl_verify.proofs.Common.{AllFine, AllLead, AreStretches, Stretches, Cause, Edge, Err, IfOk, Image, IsAbove, IsFine, IsLeastTyping, IsTrue, IsTyping}
+use Rattle.zl_verify.proofs.Common.{List, None, Ok, Option, Out, Result, Some, State, [], all_below_refl, and_then, ap, arith, at, stretch, bounds_of, flows}
+use Rattle.zl_verify.proofs.Common.{inner, inner_of, is_in_range, known, known_by, leaves, leaves_first, leaves_last, length, none-some, out, passed_on, refl}
+use Rattle.zl_verify.proofs.Common.{rule, rule_fine, same_Some, start_of, start_state, states_of, subst, suc, sym, zero, ℕ, ◌+◌, ◌-◌, ◌<◌, ◌∙◌, ◌∷◌, ◌≡◌}
 use Rattle.zl_abs.specs.Typing.{Holds}
-use Rattle.zl_verify.specs.Blocks.{inner_last, listed}
+use Rattle.zl_verify.specs.Stretches.{inner_last, listed}
 use Rattle.zl_verify.proofs.Places.{mapped}
 use Rattle.zl_verify.proofs.Parting.{AreParted, rule_parted}
 use Rattle.zl_verify.proofs.Lowers.{typed_at}
@@ -25,8 +25,8 @@ at_listed (suc k) f (suc n) h = at_listed k (λ m. f (suc m)) n (omega arith)
 
 -- ---- what is known at each instruction
 
-module _ (i : Image) (range : IsTrue (is_in_range i)) (bs : Blocks) (a : AreBlocks i bs) (kept : List (Option State))
-    (settled : (b : ℕ) (s : State) → at kept b ≡ Some s → Holds (at kept) (block i bs b s))
+module _ (i : Image) (range : IsTrue (is_in_range i)) (bs : Stretches) (a : AreStretches i bs) (kept : List (Option State))
+    (settled : (b : ℕ) (s : State) → at kept b ≡ Some s → Holds (at kept) (stretch i bs b s))
     (all_fine : (b : ℕ) (s : State) → at kept b ≡ Some s → IsFine s)
     (least : (y : ℕ → Option State) → IsTyping i y → (b : ℕ) (s : State) → at kept b ≡ Some s → IsAbove (at_starts i bs y b) s) where
   -- what holds of the state of the n-th instruction

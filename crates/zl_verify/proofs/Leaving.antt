@@ -1,25 +1,25 @@
--- What comes of a block: it leads to the states of every typing above its own, and to fine states.
-use Rattle.zl_verify.proofs.Common.{AllFine, AllLead, AreBlocks, Blocks, Edge, Err, IfOk, Image, IsAbove, IsFine, IsTrue, IsTyping, List, None, Ok, Option, Out}
-use Rattle.zl_verify.proofs.Common.{Some, State, [], and_then, ap, arith, at, block, bounds_of, is_in_range, leaves, leaves_first, leaves_last, length}
-use Rattle.zl_verify.proofs.Common.{option_and_then, option_map, out, out_from, raised, raised_all, refl, rule, rule_fine, slice_get, start_of, subst, suc, sym}
-use Rattle.zl_verify.proofs.Common.{turned_over, zero, ℕ, ◌+◌, ◌-◌, ◌<◌, ◌∙◌, ◌∷◌, ◌≡◌, ◌≤◌}
+-- What comes of a stretch: it leads to the states of every typing above its own, and to fine states.
+use Rattle.zl_verify.proofs.Common.{AllFine, AllLead, AreStretches, Stretches, Edge, Err, IfOk, Image, IsAbove, IsFine, IsTrue, IsTyping, List, None, Ok}
+use Rattle.zl_verify.proofs.Common.{Option, Out, Some, State, [], and_then, ap, arith, at, stretch, bounds_of, is_in_range, leaves, leaves_first, leaves_last}
+use Rattle.zl_verify.proofs.Common.{length, option_and_then, option_map, out, out_from, raised, raised_all, refl, rule, rule_fine, slice_get, start_of, subst}
+use Rattle.zl_verify.proofs.Common.{suc, sym, turned_over, zero, ℕ, ◌+◌, ◌-◌, ◌<◌, ◌∙◌, ◌∷◌, ◌≡◌, ◌≤◌}
 use Rattle.zl_abs.specs.Typing.{Holds}
 use Rattle.zl_verify.specs.Search.{Table}
-use Rattle.zl_verify.specs.Blocks.{start_or, Went, went_last, went_first, went, stepped}
+use Rattle.zl_verify.specs.Stretches.{start_or, Went, went_last, went_first, went, stepped}
 use Rattle.zl_verify.proofs.Places.{there}
 use Rattle.zl_verify.proofs.Parting.{AreParted, rule_parted}
 use Rattle.zl_verify.proofs.Lowers.{typed_at, inside}
 
--- a typing's states where blocks begin
-abbrev pub at_starts : Image → Blocks → (ℕ → Option State) → ℕ → Option State
+-- a typing's states where stretches begin
+abbrev pub at_starts : Image → Stretches → (ℕ → Option State) → ℕ → Option State
 at_starts i bs y b = y (start_of i bs b)
 
-pub begins_at : (i : Image) (bs : Blocks) → AreBlocks i bs → (n b : ℕ) → at bs.numbers n ≡ Some b → start_of i bs b ≡ n
+pub begins_at : (i : Image) (bs : Stretches) → AreStretches i bs → (n b : ℕ) → at bs.numbers n ≡ Some b → start_of i bs b ≡ n
 begins_at i bs a n b e = rw (a.begin n b e) refl
 
 -- ---- a typing above leads on
 
-module _ (i : Image) (bs : Blocks) (a : AreBlocks i bs) (y : ℕ → Option State) (k : IsTyping i y) where
+module _ (i : Image) (bs : Stretches) (a : AreStretches i bs) (y : ℕ → Option State) (k : IsTyping i y) where
   one_more : (b : ℕ) (s : State) → IsAbove (at_starts i bs y b) s → (r : Out) → Holds (at_starts i bs y) r
       → Holds (at_starts i bs y) (and_then r (λ es. Ok ((b, s) ∷ es)))
   one_more b s h (Err c) g = g
@@ -55,13 +55,13 @@ module _ (i : Image) (bs : Blocks) (a : AreBlocks i bs) (y : ℕ → Option Stat
       by (Err c) g p more = g
       by (Ok es) g p more = leaving n (λ t. out bs.numbers i j (n + 1) t) more es g p
 
-  -- the rule of a block holds at each state below a typing's, and leads to its states
-  pub leads_out : (b : ℕ) (s : State) → IsAbove (at_starts i bs y b) s → Holds (at_starts i bs y) (block i bs b s)
+  -- the rule of a stretch holds at each state below a typing's, and leads to its states
+  pub leads_out : (b : ℕ) (s : State) → IsAbove (at_starts i bs y b) s → Holds (at_starts i bs y) (stretch i bs b s)
   leads_out b s h = led (length i.code - start_of i bs b) (start_of i bs b) s (omega arith) h
 
-  -- such a state stands at one of the blocks
-  pub at_block : (b : ℕ) (s : State) → IsAbove (at_starts i bs y b) s → b < length bs.starts
-  at_block b s h = by (slice_get bs.starts b) refl h
+  -- such a state stands at one of the stretches
+  pub at_stretch : (b : ℕ) (s : State) → IsAbove (at_starts i bs y b) s → b < length bs.starts
+  at_stretch b s h = by (slice_get bs.starts b) refl h
     where
       by : (o : Option ℕ) → slice_get bs.starts b ≡ o → IsAbove (y (start_or (length i.code) o)) s → b < length bs.starts
       by None e g = absurd (let z = inside i y k (length i.code) s g in omega arith)

@@ -1,7 +1,7 @@
--- What is marked and numbered makes the blocks of an image.
-use Rattle.zl_verify.proofs.Common.{AreBlocks, AreMarked, AreNumbered, Blocks, Bool, Image, List, None, Option, Some, ap, arith, at, false, inl, inr, length}
-use Rattle.zl_verify.proofs.Common.{length-replicate, length-set, none-some, refl, replicate, same_Some, slice_get, slice_set, subst, suc, sym, true, zero, ℕ}
-use Rattle.zl_verify.proofs.Common.{◌++◌, ◌+◌, ◌<◌, ◌∙◌, ◌∷◌, ◌≡◌, ◌≢◌, ◌≤◌, ◌⊎◌, []}
+-- What is marked and numbered makes the stretches of an image.
+use Rattle.zl_verify.proofs.Common.{AreStretches, AreMarked, AreNumbered, Stretches, Bool, Image, List, None, Option, Some, ap, arith, at, false, inl, inr}
+use Rattle.zl_verify.proofs.Common.{length, length-replicate, length-set, none-some, refl, replicate, same_Some, slice_get, slice_set, subst, suc, sym, true}
+use Rattle.zl_verify.proofs.Common.{zero, ℕ, ◌++◌, ◌+◌, ◌<◌, ◌∙◌, ◌∷◌, ◌≡◌, ◌≢◌, ◌≤◌, ◌⊎◌, []}
 use Rattle.zl_abs.specs.Targets.{jump_of}
 use Rattle.zl_verify.specs.Lists.{within}
 use Rattle.zl_verify.proofs.Places.{get_put, get_put_other, equal_or_not}
@@ -94,11 +94,11 @@ numbers_more begins numbers starts p a inside = record {
         subst (λ (x : ℕ). at (slice_set numbers p (Some (length starts))) x ≡ Some 0) q (put ∙ ap Some z)
     first on (inr d) = other 0 d ∙ a.first (omega arith) on
 
--- ---- the blocks
+-- ---- the stretches
 
-pub are_blocks : (i : Image) (begins : List Bool) (bs : Blocks) → 0 < length i.code → AreMarked i begins (length i.code)
-    → AreNumbered begins bs.numbers bs.starts (length begins) → AreBlocks i bs
-are_blocks i begins bs h m a = record {
+pub are_stretches : (i : Image) (begins : List Bool) (bs : Stretches) → 0 < length i.code → AreMarked i begins (length i.code)
+    → AreNumbered begins bs.numbers bs.starts (length begins) → AreStretches i bs
+are_stretches i begins bs h m a = record {
   long = a.long ∙ m.long;
   first = a.first (omega (arith, m.long)) m.first;
   begin = a.begin;

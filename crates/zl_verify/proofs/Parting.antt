@@ -1,15 +1,15 @@
--- The edges of an instruction lead to where it jumps, and behind it: all but the last to a block, and that one to a
--- block or to the next instruction.
-use Rattle.zl_verify.proofs.Common.{AreBlocks, Blocks, Bool, Cause, Edge, Err, IfOk, Image, Instr, List, None, Ok, Option, Result, Some, State, [], and_then}
-use Rattle.zl_verify.proofs.Common.{arith, at, bounds_of, call_rule, edge_to, edges, false, if◌then◌else◌, instr_at, length, local_in, local_rule, nat_lt}
-use Rattle.zl_verify.proofs.Common.{nat_tests, refl, rule, rule_by, rule_with, subst, sym, target_of, true, ℕ, ◌++◌, ◌+◌, ◌<◌, ◌∙◌, ◌∷◌, ◌≡◌}
+-- The edges of an instruction lead to where it jumps, and behind it: all but the last to a stretch, and that one to a
+-- stretch or to the next instruction.
+use Rattle.zl_verify.proofs.Common.{AreStretches, Stretches, Bool, Cause, Edge, Err, IfOk, Image, Instr, List, None, Ok, Option, Result, Some, State, []}
+use Rattle.zl_verify.proofs.Common.{and_then, arith, at, bounds_of, call_rule, edge_to, edges, false, if◌then◌else◌, instr_at, length, local_in, local_rule}
+use Rattle.zl_verify.proofs.Common.{nat_lt, nat_tests, refl, rule, rule_by, rule_with, subst, sym, target_of, true, ℕ, ◌++◌, ◌+◌, ◌<◌, ◌∙◌, ◌∷◌, ◌≡◌}
 use Rattle.zl_abs.specs.Ways.{Ways}
 use Rattle.zl_abs.specs.Targets.{jump_in}
 use Rattle.zl_code.specs.declared.instr.Instr.TheVariants as instr
 use Rattle.zl_abs.specs.declared.cause.Cause.TheVariants as cause
 use Rattle.zl_verify.proofs.Places.{there}
 
--- a block begins there
+-- a stretch begins there
 abbrev pub Begins : List (Option ℕ) → ℕ → Type 0
 Begins numbers n = at numbers n ≡ None → ⊥
 
@@ -56,7 +56,7 @@ then_parted : (numbers : List (Option ℕ)) (n : ℕ) (r : Result Ways Cause) (f
 then_parted numbers n (Err c) f h = tt
 then_parted numbers n (Ok w) f h = h w
 
-pub rule_parted : (i : Image) (bs : Blocks) → AreBlocks i bs → (n : ℕ) (s : State) → IfOk (rule i n s) (AreParted bs.numbers n)
+pub rule_parted : (i : Image) (bs : Stretches) → AreStretches i bs → (n : ℕ) (s : State) → IfOk (rule i n s) (AreParted bs.numbers n)
 unfolding rule_with
 rule_parted i bs a n s = by (instr_at i n) refl
   where

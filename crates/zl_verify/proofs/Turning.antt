@@ -1,12 +1,13 @@
 -- What holds at each turn of the search, and what its end says.
-use Rattle.zl_verify.proofs.Common.{AreBlocks, Blocks, Bool, Cause, Edge, Err, HasNoTyping, Image, IsAbove, IsFine, IsLeastTyping, IsRefused, IsTrue, IsTyping}
-use Rattle.zl_verify.proofs.Common.{List, None, Ok, Option, Result, Some, State, all_below_refl, ap, arith, at, block, cleared, false, inl, inr, is_in_range}
-use Rattle.zl_verify.proofs.Common.{is_of_rules, length, length-replicate, length-set, raised_all, refl, replicate, same_Some, slice_get, slice_set, start_fine}
-use Rattle.zl_verify.proofs.Common.{start_state, states_of, subst, suc, sym, true, turned_over, zero, ℕ, ◌+◌, ◌<◌, ◌∙◌, ◌≡◌, ◌≢◌, ◌≤◌, ◌⊎◌}
+use Rattle.zl_verify.proofs.Common.{AreStretches, Stretches, Bool, Cause, Edge, Err, HasNoTyping, Image, IsAbove, IsFine, IsLeastTyping, IsRefused, IsTrue}
+use Rattle.zl_verify.proofs.Common.{IsTyping, List, None, Ok, Option, Result, Some, State, all_below_refl, ap, arith, at, stretch, cleared, false, inl, inr}
+use Rattle.zl_verify.proofs.Common.{is_in_range, is_of_rules, length, length-replicate, length-set, raised_all, refl, replicate, same_Some, slice_get}
+use Rattle.zl_verify.proofs.Common.{slice_set, start_fine, start_state, states_of, subst, suc, sym, true, turned_over, zero, ℕ, ◌+◌, ◌<◌, ◌∙◌, ◌≡◌, ◌≢◌, ◌≤◌}
+use Rattle.zl_verify.proofs.Common.{◌⊎◌}
 use Rattle.zl_abs.specs.Typing.{Holds}
 use Rattle.zl_verify.specs.Lists.{within}
 use Rattle.zl_verify.specs.Search.{Table, started}
-use Rattle.zl_verify.specs.Blocks.{turned_at, turned}
+use Rattle.zl_verify.specs.Stretches.{turned_at, turned}
 use Rattle.zl_verify.specs.declared.refusal.RefusalCause.{RefusalCause}
 use Rattle.zl_verify.specs.declared.refusal.RefusalCause.TheVariants as why
 use Rattle.zl_verify.proofs.Places.{get_put, get_put_other, equal_or_not, there}
@@ -17,35 +18,35 @@ use Rattle.zl_verify.proofs.Filling.{least_typing}
 use Rattle.zl_verify.proofs.Ending.{AreFine, remaining, tiring, clearing, moving}
 
 -- what holds at each turn
-pub record Goes (i : Image) (bs : Blocks) (t : Table) : Type 0 where
-  pub blocks : AreBlocks i bs
+pub record Goes (i : Image) (bs : Stretches) (t : Table) : Type 0 where
+  pub stretches : AreStretches i bs
   pub searching : Searching i bs t
   pub fine : AreFine t
   pub long : length t.states ≡ length bs.starts
   pub range : IsTrue (is_in_range i)
 
-pub record GoesOn (i : Image) (bs : Blocks) (t u : Table) : Type 0 where
+pub record GoesOn (i : Image) (bs : Stretches) (t u : Table) : Type 0 where
   pub goes : Goes i bs u
   pub less : remaining u < remaining t
 
 -- ---- the turn
 
-abbrev TurnOr : Image → Blocks → Table → Option Table → Type 0
+abbrev TurnOr : Image → Stretches → Table → Option Table → Type 0
 TurnOr i bs t None = HasNoTyping i
 TurnOr i bs t (Some u) = GoesOn i bs t u
 
-turns : (i : Image) (bs : Blocks) (t : Table) → Goes i bs t → (n : ℕ) → slice_get t.waiting n ≡ Some true → TurnOr i bs t (turned i bs t n)
+turns : (i : Image) (bs : Stretches) (t : Table) → Goes i bs t → (n : ℕ) → slice_get t.waiting n ≡ Some true → TurnOr i bs t (turned i bs t n)
 turns i bs t g n w = at_state (at t.states n) refl
   where
-    edges : (s : State) (es : List Edge) → at t.states n ≡ Some s → block i bs n s ≡ Ok es → (o : Option Table) → raised_all (cleared t n) es ≡ o
+    edges : (s : State) (es : List Edge) → at t.states n ≡ Some s → stretch i bs n s ≡ Ok es → (o : Option Table) → raised_all (cleared t n) es ≡ o
         → TurnOr i bs t o
-    edges s es e r None k = record { none = none_by_edge i bs g.blocks t g.searching g.long n s es e r k }
+    edges s es e r None k = record { none = none_by_edge i bs g.stretches t g.searching g.long n s es e r k }
     edges s es e r (Some u) k =
         let a = tiring i bs g.range t u n s es g.fine e w r k in
         record {
           goes = record {
-            blocks = g.blocks;
-            searching = turned_on i bs g.blocks t u g.searching n s es e r k;
+            stretches = g.stretches;
+            searching = turned_on i bs g.stretches t u g.searching n s es e r k;
             fine = a.fine;
             long = a.long ∙ g.long;
             range = g.range;
@@ -53,31 +54,32 @@ turns i bs t g n w = at_state (at t.states n) refl
           less = a.less;
         }
 
-    by_rule : (s : State) → at t.states n ≡ Some s → (r : Result (List Edge) Cause) → block i bs n s ≡ r → TurnOr i bs t (turned_over (cleared t n) r)
-    by_rule s e (Err c) r = record { none = none_by_rule i bs g.blocks t g.searching n s e c r }
+    by_rule : (s : State) → at t.states n ≡ Some s → (r : Result (List Edge) Cause) → stretch i bs n s ≡ r → TurnOr i bs t (turned_over (cleared t n) r)
+    by_rule s e (Err c) r = record { none = none_by_rule i bs g.stretches t g.searching n s e c r }
     by_rule s e (Ok es) r = edges s es e r (raised_all (cleared t n) es) refl
 
     at_state : (o : Option State) → at t.states n ≡ o → TurnOr i bs t (turned_at i bs (cleared t n) n o)
     at_state None e =
         let a = clearing t n g.fine w in
         record {
-          goes = record { blocks = g.blocks; searching = cleared_on i bs g.blocks t g.searching n e; fine = a.fine; long = g.long; range = g.range };
+          goes = record { stretches = g.stretches; searching = cleared_on i bs g.stretches t g.searching n e; fine = a.fine; long = g.long; range = g.range };
           less = a.less;
         }
-    at_state (Some s) e = by_rule s e (block i bs n s) refl
+    at_state (Some s) e = by_rule s e (stretch i bs n s) refl
 
-pub turn_goes : (i : Image) (bs : Blocks) (t u : Table) → Goes i bs t → (n : ℕ) → Some true ≡ slice_get t.waiting n → Some u ≡ turned i bs t n → GoesOn i bs t u
+pub turn_goes : (i : Image) (bs : Stretches) (t u : Table) → Goes i bs t → (n : ℕ) → Some true ≡ slice_get t.waiting n → Some u ≡ turned i bs t n
+    → GoesOn i bs t u
 turn_goes i bs t u g n w k = subst (TurnOr i bs t) (sym k) (turns i bs t g n (sym w))
 
-pub turn_none : (i : Image) (bs : Blocks) (t : Table) → Goes i bs t → (n : ℕ) → Some true ≡ slice_get t.waiting n → None ≡ turned i bs t n → HasNoTyping i
+pub turn_none : (i : Image) (bs : Stretches) (t : Table) → Goes i bs t → (n : ℕ) → Some true ≡ slice_get t.waiting n → None ≡ turned i bs t n → HasNoTyping i
 turn_none i bs t g n w k = subst (TurnOr i bs t) (sym k) (turns i bs t g n (sym w))
 
-pub goes_on : (i : Image) (bs : Blocks) (t u : Table) → Goes i bs t → (n : ℕ) → n ≡ t.from → t.from < length bs.starts → Some false ≡ slice_get t.waiting n
+pub goes_on : (i : Image) (bs : Stretches) (t u : Table) → Goes i bs t → (n : ℕ) → n ≡ t.from → t.from < length bs.starts → Some false ≡ slice_get t.waiting n
     → u ≡ record t { from = t.from + 1 } → GoesOn i bs t u
 goes_on i bs t u g n e h w k = rw k (record {
   goes = record {
-    blocks = g.blocks;
-    searching = moved_on i bs g.blocks t g.searching (sym (subst (λ (x : ℕ). Some false ≡ slice_get t.waiting x) e w));
+    stretches = g.stretches;
+    searching = moved_on i bs g.stretches t g.searching (sym (subst (λ (x : ℕ). Some false ≡ slice_get t.waiting x) e w));
     fine = record { each = g.fine.each; same = g.fine.same };
     long = g.long;
     range = g.range;
@@ -85,9 +87,9 @@ goes_on i bs t u g n e h w k = rw k (record {
   less = moving t (omega (arith, g.long));
 })
 
-pub ends : (i : Image) (bs : Blocks) (t : Table) → Goes i bs t → length bs.starts ≤ t.from → IsLeastTyping i (at (states_of i bs.numbers t.states))
+pub ends : (i : Image) (bs : Stretches) (t : Table) → Goes i bs t → length bs.starts ≤ t.from → IsLeastTyping i (at (states_of i bs.numbers t.states))
 ends i bs t g h =
-    least_typing i g.range bs g.blocks t.states (all_settled i bs g.blocks t g.searching (omega (arith, g.long))) g.fine.each
+    least_typing i g.range bs g.stretches t.states (all_settled i bs g.stretches t g.searching (omega (arith, g.long))) g.fine.each
     (λ y k b s e. g.searching.lower y k b s e) g.searching.begins
 
 -- ---- the beginning
@@ -97,9 +99,10 @@ nothing zero m = refl
 nothing (suc n) zero = refl
 nothing (suc n) (suc m) = nothing n m
 
-pub begins : (i : Image) (bs : Blocks) → IsTrue (is_in_range i) → AreBlocks i bs → 0 < length bs.starts → Goes i bs (started (length bs.starts) (start_state i))
+pub begins : (i : Image) (bs : Stretches) → IsTrue (is_in_range i) → AreStretches i bs → 0 < length bs.starts
+    → Goes i bs (started (length bs.starts) (start_state i))
 begins i bs range a h = record {
-  blocks = a;
+  stretches = a;
   searching = record {
     same = same;
     begins = rw (get_put nones 0 (Some start) (omega (arith, long_none))) (all_below_refl start);
@@ -169,6 +172,6 @@ refused i n why.JoinConflict h e = h
 refused i n why.Budget h e = absurd (cc)
 refused i n why.NoMemory h e = tt
 
--- there is a block, where blocks are found
-pub some_block : (i : Image) (bs : Blocks) → AreBlocks i bs → 0 < length bs.starts
-some_block i bs a = there bs.starts 0 0 (a.begin 0 0 a.first)
+-- there is a stretch, where stretches are found
+pub some_stretch : (i : Image) (bs : Stretches) → AreStretches i bs → 0 < length bs.starts
+some_stretch i bs a = there bs.starts 0 0 (a.begin 0 0 a.first)

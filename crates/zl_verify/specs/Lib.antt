@@ -4,7 +4,7 @@ pub mod Over
 pub mod Numbers
 pub mod Search
 pub mod Marks
-pub mod Blocks
+pub mod Stretches
 pub mod Leading
 pub mod Ahead
 pub mod Checks

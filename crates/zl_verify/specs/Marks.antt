@@ -1,4 +1,4 @@
--- How the places are found at which blocks begin, and how they are numbered. No public clause cites this module.
+-- How the places are found at which stretches begin, and how they are numbered. No public clause cites this module.
 use Rattle.std.specs.Prelude.{ℕ, ◌≡◌, ◌<◌, ◌≤◌, Bool, true, List, length, Option, Some, None, slice_get}
 use Rattle.zl_code.specs.Image.{Image}
 use Rattle.zl_abs.specs.Targets.{jump_of}

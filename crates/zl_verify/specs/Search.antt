@@ -1,22 +1,22 @@
--- The table of the search for a typing, which has places for blocks of code. No public clause cites this module.
+-- The table of the search for a typing, which has places for stretches of code. No public clause cites this module.
 use Rattle.std.specs.Prelude.{ℕ, Bool, true, false, List, [], ◌∷◌, Option, Some, None, Result, Ok, Err, slice_get, slice_set, replicate, min, if◌then◌else◌}
 use Rattle.std.specs.Option.{option_map, option_and_then}
 use Rattle.zl_abs.specs.declared.cause.Cause.{Cause}
 use Rattle.zl_abs.specs.States.{State, all_below, all_joined}
 use Rattle.zl_abs.specs.Rule.{Edge}
 
--- the states found so far, which of them rose since their block was looked at, and a block below
+-- the states found so far, which of them rose since their stretch was looked at, and a stretch below
 -- which none did
 pub record Table : Type 0 where
   pub states : List (Option State)
   pub waiting : List Bool
   pub from : ℕ
 
--- a block gets a state, and waits to be looked at
+-- a stretch gets a state, and waits to be looked at
 abbrev pub put : Table → ℕ → State → Table
 put t n s = record { states = slice_set t.states n (Some s); waiting = slice_set t.waiting n true; from = min t.from n }
 
--- a state comes to a block; nothing where that isn't there, or no state is above both
+-- a state comes to a stretch; nothing where that isn't there, or no state is above both
 abbrev pub raised_over : Table → ℕ → State → Option (Option State) → Option Table
 raised_over t n s None = None
 raised_over t n s (Some None) = Some (put t n s)
@@ -35,10 +35,10 @@ abbrev pub turned_over : Table → Result (List Edge) Cause → Option Table
 turned_over t (Err c) = None
 turned_over t (Ok es) = raised_all t es
 
--- a block doesn't wait any more
+-- a stretch doesn't wait any more
 abbrev pub cleared : Table → ℕ → Table
 cleared t n = record t { waiting = slice_set t.waiting n false }
 
--- so many blocks, of which the first alone has a state, and waits
+-- so many stretches, of which the first alone has a state, and waits
 abbrev pub started : ℕ → State → Table
 started size s = record { states = slice_set (replicate size None) 0 (Some s); waiting = slice_set (replicate size false) 0 true; from = 0 }

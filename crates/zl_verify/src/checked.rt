@@ -4,7 +4,7 @@ ghost use Rattle.std.specs.Prelude.{◌≡◌, length, IfOk, IfErr};
 ghost use Rattle.zl_abs.specs.Bounds.{RoundAlike, bounds_of};
 ghost use Rattle.zl_abs.specs.Typing.{IsTyping};
 ghost use Rattle.zl_verify.specs.Lists.{at};
-ghost use Rattle.zl_verify.specs.Blocks.{states_of};
+ghost use Rattle.zl_verify.specs.Stretches.{states_of};
 ghost use Rattle.zl_verify.specs.Steps.{IsStepBound};
 ghost use Rattle.zl_verify.specs.Checks.{IsLeastTyping, IsRefused};
 ghost use Rattle.zl_code.specs.Headline.{IsNeverRefused};
@@ -32,18 +32,18 @@ pub struct Checked {
 
 impl Model for Checked {
     ghost use Rattle.zl_verify.specs.Checks.{Accepted, IsAccepted};
-    ghost use Rattle.zl_verify.specs.Blocks.{states_of};
+    ghost use Rattle.zl_verify.specs.Stretches.{states_of};
 
     ghost Value = { Accepted };
 
     ghost view = { λ c. record {
       image = c.image;
-      states = states_of c.image c.found.blocks.numbers c.found.states.items;
+      states = states_of c.image c.found.stretches.numbers c.found.states.items;
       steps = c.steps.items;
     } };
 
     ghost invariant = { λ c. IsAccepted c.image
-        (states_of c.image c.found.blocks.numbers c.found.states.items) c.steps.items };
+        (states_of c.image c.found.stretches.numbers c.found.states.items) c.steps.items };
 }
 
 impl Checked {
@@ -86,9 +86,9 @@ fn exact_bound(
 ) -> Result<Vec<Option<u32>>, Fault>
     requires alike { RoundAlike bounds.now (bounds_of image.now.code) }
     requires typing { IsLeastTyping image.now
-        (at (states_of image.now found.now.blocks.numbers found.now.states.items)) }
+        (at (states_of image.now found.now.stretches.numbers found.now.states.items)) }
     ensures bound { IfOk result (λ steps. IsStepBound image.now
-        (at (states_of image.now found.now.blocks.numbers found.now.states.items))
+        (at (states_of image.now found.now.stretches.numbers found.now.states.items))
         (at steps.items)) }
     ensures exact { IfErr result (λ fault. IsRefused image.now fault.at fault.cause) }
 {
@@ -117,9 +117,9 @@ fn bound(
 ) -> Result<Vec<Option<u32>>, Fault>
     requires alike { RoundAlike bounds.now (bounds_of image.now.code) }
     requires typing { IsLeastTyping image.now
-        (at (states_of image.now found.now.blocks.numbers found.now.states.items)) }
+        (at (states_of image.now found.now.stretches.numbers found.now.states.items)) }
     ensures bound { IfOk result (λ steps. IsStepBound image.now
-        (at (states_of image.now found.now.blocks.numbers found.now.states.items))
+        (at (states_of image.now found.now.stretches.numbers found.now.states.items))
         (at steps.items)) }
     ensures exact { IfErr result (λ fault. IsRefused image.now fault.at fault.cause) }
 {

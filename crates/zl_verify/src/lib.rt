@@ -8,7 +8,6 @@
 #![tactic(auto)]
 
 mod ahead;
-mod blocks;
 mod checked;
 mod edges;
 pub mod laws;
@@ -16,6 +15,7 @@ mod refusal;
 mod search;
 mod seen;
 mod steps;
+mod stretches;
 mod targets;
 mod way;
 

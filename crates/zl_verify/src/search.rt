@@ -1,6 +1,6 @@
 //! The search for the least typing of an image. It knows nothing of handles.
 //!
-//! A state is kept for the first instruction of each block alone. Within a block one state is
+//! A state is kept for the first instruction of each stretch alone. Within a stretch one state is
 //! followed from instruction to instruction, so that these want no place in the table, no copy and no
 //! comparison.
 
@@ -14,13 +14,13 @@ ghost use Rattle.zl_abs.specs.Changes.{changed, step_in};
 ghost use Rattle.zl_abs.specs.Typing.{rule};
 ghost use Rattle.zl_verify.specs.Lists.{at};
 ghost use Rattle.zl_verify.specs.Search.{put, raised, turned_over, cleared, started};
-ghost use Rattle.zl_verify.specs.Blocks.{AreBlocks, entered, out_from, states_of, stepped, told, turned, went, went_last};
+ghost use Rattle.zl_verify.specs.Stretches.{AreStretches, entered, out_from, states_of, stepped, told, turned, went, went_last};
 ghost use Rattle.zl_verify.specs.Checks.{IsLeastTyping, IsRefused, is_of_rules};
 
-use crate::blocks::Blocks;
 use crate::edges::edges_at;
 use crate::refusal::RefusalCause;
 use crate::seen::Seen;
+use crate::stretches::Stretches;
 use std::alloc::{AllocError, Global};
 use std::marker::Model;
 use zl_abs::{AbsState, Bounds, Cause, Step, Steps};
@@ -46,11 +46,11 @@ impl Fault {
 /// How far the search has come.
 #[derive(Drop)]
 struct Search {
-    // What was found of the first instruction of each block, if a way to it was.
+    // What was found of the first instruction of each stretch, if a way to it was.
     states: Vec<Option<AbsState>>,
-    // Which states rose since their block was looked at.
+    // Which states rose since their stretch was looked at.
     waiting: Vec<bool>,
-    // No block below waits.
+    // No stretch below waits.
     from: usize,
 }
 
@@ -66,7 +66,7 @@ impl Model for Search {
 }
 
 impl Search {
-    /// Of so many blocks the first alone has a state, that of the start, and waits.
+    /// Of so many stretches the first alone has a state, that of the start, and waits.
     fn new(alloc: Global, image: &Image, count: usize) -> Result<Search, AllocError>
         requires { 0 < count }
         ensures { IfOk result (λ search. search ≡ started count (start_state image.now)) }
@@ -82,7 +82,7 @@ impl Search {
         })
     }
 
-    /// The block to look at next.
+    /// The stretch to look at next.
     fn place(&self) -> usize
         ensures { result ≡ self.now.from }
     {
@@ -109,7 +109,7 @@ impl Search {
         self.states
     }
 
-    /// The block gets the state, and waits.
+    /// The stretch gets the state, and waits.
     fn put(&mut self, place: usize, state: &AbsState)
         requires { place < length self.old.states }
         ensures { self.new ≡ put self.old place state.now }
@@ -119,7 +119,7 @@ impl Search {
         self.from = self.from.min(place);
     }
 
-    /// A state comes to a block. Not where the block isn't there, or no state is above both.
+    /// A state comes to a stretch. Not where the stretch isn't there, or no state is above both.
     fn raise(&mut self, place: usize, state: &AbsState) -> bool
         ensures { then_some result self.new ≡ raised self.old place state.now }
     {
@@ -140,19 +140,19 @@ impl Search {
         }
     }
 
-    /// What was found of the block.
-    fn known_at(&self, block: usize) -> Option<AbsState> {
-        match self.states.get(block) {
+    /// What was found of the stretch.
+    fn known_at(&self, stretch: usize) -> Option<AbsState> {
+        match self.states.get(stretch) {
             Some(known) => *known,
             None => None,
         }
     }
 
-    /// Why a state can't come to the block at this place.
-    fn conflict(&self, place: usize, block: usize, state: &AbsState, seen: &mut Seen) -> Fault
+    /// Why a state can't come to the stretch at this place.
+    fn conflict(&self, place: usize, stretch: usize, state: &AbsState, seen: &mut Seen) -> Fault
         ensures { is_of_rules result.cause ≡ true }
     {
-        seen.known = self.known_at(block);
+        seen.known = self.known_at(stretch);
         seen.other = Some(*state);
         Fault {
             at: place,
@@ -160,43 +160,43 @@ impl Search {
         }
     }
 
-    /// The last edge of an instruction is followed: to a block, or on within this one, which is
+    /// The last edge of an instruction is followed: to a stretch, or on within this one, which is
     /// answered. `state` becomes the state at its end.
     fn leave(
         &mut self,
-        blocks: &Blocks,
+        stretches: &Stretches,
         edge: &Step,
         state: &mut AbsState,
         seen: &mut Seen,
     ) -> Result<bool, Fault>
         ensures told { told result self.new state.new ≡ went_last self.old
-            (changed state.old edge.now.change) (at blocks.now.numbers edge.now.target) }
+            (changed state.old edge.now.change) (at stretches.now.numbers edge.now.target) }
         ensures cause { IfErr result (λ fault. is_of_rules fault.cause ≡ true) }
     {
         state.change(edge.change);
-        let Some(block) = blocks.number(edge.target) else {
+        let Some(stretch) = stretches.number(edge.target) else {
             return Ok(true);
         };
-        if self.raise(block, state) {
+        if self.raise(stretch, state) {
             return Ok(false);
         }
-        Err(self.conflict(edge.target, block, state, seen))
+        Err(self.conflict(edge.target, stretch, state, seen))
     }
 
-    /// An edge is followed before the last one: to a block.
+    /// An edge is followed before the last one: to a stretch.
     fn enter(
         &mut self,
-        blocks: &Blocks,
+        stretches: &Stretches,
         edge: &Step,
         state: &AbsState,
         seen: &mut Seen,
     ) -> Result<(), Fault>
         ensures entered { then_some (is_ok result) self.new ≡ entered self.old
-            (changed state.now edge.now.change) (at blocks.now.numbers edge.now.target) }
+            (changed state.now edge.now.change) (at stretches.now.numbers edge.now.target) }
         ensures cause { IfErr result (λ fault. is_of_rules fault.cause ≡ true) }
     {
-        // Each place to which an instruction jumps begins a block.
-        let Some(block) = blocks.number(edge.target) else {
+        // Each place to which an instruction jumps begins a stretch.
+        let Some(stretch) = stretches.number(edge.target) else {
             return Err(Fault {
                 at: edge.target,
                 cause: RefusalCause::Rule(Cause::BadJump),
@@ -204,42 +204,42 @@ impl Search {
         };
         let mut state = *state;
         state.change(edge.change);
-        if self.raise(block, &state) {
+        if self.raise(stretch, &state) {
             return Ok(());
         }
-        Err(self.conflict(edge.target, block, &state, seen))
+        Err(self.conflict(edge.target, stretch, &state, seen))
     }
 
     /// Both edges of an instruction are followed.
-    #[tactic(auto, unfolding(crate::specs::Blocks::went))]
+    #[tactic(auto, unfolding(crate::specs::Stretches::went))]
     fn part(
         &mut self,
-        blocks: &Blocks,
+        stretches: &Stretches,
         jump: &Step,
         next: &Step,
         state: &mut AbsState,
         seen: &mut Seen,
     ) -> Result<bool, Fault>
-        ensures told { told result self.new state.new ≡ went blocks.now.numbers self.old
+        ensures told { told result self.new state.new ≡ went stretches.now.numbers self.old
             (step_in state.old (Some jump.now) ++ step_in state.old (Some next.now)) }
         ensures cause { IfErr result (λ fault. is_of_rules fault.cause ≡ true) }
     {
-        match self.enter(blocks, jump, state, seen) {
-            Ok(()) => self.leave(blocks, next, state, seen),
+        match self.enter(stretches, jump, state, seen) {
+            Ok(()) => self.leave(stretches, next, state, seen),
             Err(fault) => Err(fault),
         }
     }
 
-    /// The edges of an instruction are followed. Whether the block goes on behind it.
-    #[tactic(auto, unfolding(crate::specs::Blocks::went))]
+    /// The edges of an instruction are followed. Whether the stretch goes on behind it.
+    #[tactic(auto, unfolding(crate::specs::Stretches::went))]
     fn arrive(
         &mut self,
-        blocks: &Blocks,
+        stretches: &Stretches,
         edges: &Steps,
         state: &mut AbsState,
         seen: &mut Seen,
     ) -> Result<bool, Fault>
-        ensures told { told result self.new state.new ≡ went blocks.now.numbers self.old
+        ensures told { told result self.new state.new ≡ went stretches.now.numbers self.old
             (step_in state.old edges.now.jump ++ step_in state.old edges.now.next) }
         ensures cause { IfErr result (λ fault. is_of_rules fault.cause ≡ true) }
     {
@@ -247,32 +247,32 @@ impl Search {
             let Some(next) = &edges.next else {
                 return Ok(false);
             };
-            return self.leave(blocks, next, state, seen);
+            return self.leave(stretches, next, state, seen);
         };
         let Some(next) = &edges.next else {
-            return self.leave(blocks, jump, state, seen);
+            return self.leave(stretches, jump, state, seen);
         };
-        self.part(blocks, jump, next, state, seen)
+        self.part(stretches, jump, next, state, seen)
     }
 
-    /// One instruction of a block, in this state. Whether the block goes on behind it, and then the
+    /// One instruction of a stretch, in this state. Whether the stretch goes on behind it, and then the
     /// state is that of the next one. Not where its rule doesn't hold, or an edge can't be followed.
     fn step(
         &mut self,
         bounds: &Bounds,
         image: &Image,
-        blocks: &Blocks,
+        stretches: &Stretches,
         place: usize,
         state: &mut AbsState,
         seen: &mut Seen,
     ) -> Result<bool, Fault>
         requires alike { RoundAlike bounds.now (bounds_of image.now.code) }
         ensures told { told result self.new state.new
-            ≡ stepped blocks.now.numbers self.old (rule image.now place state.old) }
+            ≡ stepped stretches.now.numbers self.old (rule image.now place state.old) }
         ensures cause { IfErr result (λ fault. is_of_rules fault.cause ≡ true) }
     {
         match edges_at(bounds, image, place, state) {
-            Ok(edges) => self.arrive(blocks, &edges, state, seen),
+            Ok(edges) => self.arrive(stretches, &edges, state, seen),
             Err(cause) => {
                 seen.known = Some(*state);
                 Err(Fault {
@@ -283,23 +283,23 @@ impl Search {
         }
     }
 
-    /// The instructions of a block, from this one on, in this state.
+    /// The instructions of a stretch, from this one on, in this state.
     fn run(
         &mut self,
         bounds: &Bounds,
         image: &Image,
-        blocks: &Blocks,
+        stretches: &Stretches,
         first: usize,
         state: &mut AbsState,
         seen: &mut Seen,
     ) -> Result<(), Fault>
         requires alike { RoundAlike bounds.now (bounds_of image.now.code) }
         ensures turned { then_some (is_ok result) self.new
-            ≡ turned_over self.old (out_from blocks.now.numbers image.now first state.old) }
+            ≡ turned_over self.old (out_from stretches.now.numbers image.now first state.old) }
         ensures cause { IfErr result (λ fault. is_of_rules fault.cause ≡ true) }
     {
         for place in first..image.len() {
-            match self.step(bounds, image, blocks, place, state, seen) {
+            match self.step(bounds, image, stretches, place, state, seen) {
                 Ok(true) => {}
                 Ok(false) => return Ok(()),
                 Err(fault) => return Err(fault),
@@ -311,68 +311,68 @@ impl Search {
         })
     }
 
-    /// A block is looked at once. Not where the rule of one of its instructions doesn't hold, or an
+    /// A stretch is looked at once. Not where the rule of one of its instructions doesn't hold, or an
     /// edge can't be followed.
     fn turn(
         &mut self,
         bounds: &Bounds,
         image: &Image,
-        blocks: &Blocks,
-        block: usize,
+        stretches: &Stretches,
+        stretch: usize,
         seen: &mut Seen,
     ) -> Result<(), Fault>
-        requires inside { block < length self.old.states }
+        requires inside { stretch < length self.old.states }
         requires alike { RoundAlike bounds.now (bounds_of image.now.code) }
         ensures turned { then_some (is_ok result) self.new
-            ≡ turned image.now blocks.now self.old block }
+            ≡ turned image.now stretches.now self.old stretch }
         ensures cause { IfErr result (λ fault. is_of_rules fault.cause ≡ true) }
     {
-        self.waiting[block] = false;
-        let Some(mut state) = self.states[block] else {
+        self.waiting[stretch] = false;
+        let Some(mut state) = self.states[stretch] else {
             return Ok(());
         };
         self.run(
             bounds,
             image,
-            blocks,
-            blocks.start(image, block),
+            stretches,
+            stretches.start(image, stretch),
             &mut state,
             seen,
         )
     }
 }
 
-/// What a search found: the blocks, and what is known where each begins. What is known at the other
+/// What a search found: the stretches, and what is known where each begins. What is known at the other
 /// instructions follows from that.
 #[derive(Drop)]
 pub(crate) struct Found {
-    pub blocks: Blocks,
+    pub stretches: Stretches,
     pub states: Vec<Option<AbsState>>,
 }
 
-/// What is known at these blocks of the image in its least typing.
+/// What is known at these stretches of the image in its least typing.
 fn settle(
     alloc: Global,
     bounds: &Bounds,
     image: &Image,
-    blocks: &Blocks,
+    stretches: &Stretches,
     seen: &mut Seen,
 ) -> Result<Vec<Option<AbsState>>, Fault>
     requires alike { RoundAlike bounds.now (bounds_of image.now.code) }
     requires in_range { IsTrue (is_in_range image.now) }
-    requires blocks { AreBlocks image.now blocks.now }
+    requires stretches { AreStretches image.now stretches.now }
     ensures typing { IfOk result (λ states. IsLeastTyping image.now
-        (at (states_of image.now blocks.now.numbers states.items))) }
+        (at (states_of image.now stretches.now.numbers states.items))) }
     ensures exact { IfErr result (λ fault. IsRefused image.now fault.at fault.cause) }
 {
-    let count = blocks.count();
+    let count = stretches.count();
     let Ok(mut search) = Search::new(alloc, image, count) else {
         return Err(Fault::at_once(RefusalCause::NoMemory));
     };
     while search.place() < count {
-        let block = search.place();
-        if search.is_waiting(block) {
-            match search.turn(bounds, image, blocks, block, seen) {
+        let stretch = search.place();
+        if search.is_waiting(stretch) {
+            match search.turn(bounds, image, stretches, stretch, seen) {
                 Ok(()) => {}
                 Err(fault) => return Err(fault),
             }
@@ -393,18 +393,18 @@ pub(crate) fn solve(
 ) -> Result<Found, Fault>
     requires alike { RoundAlike bounds.now (bounds_of image.now.code) }
     ensures typing { IfOk result (λ found. IsLeastTyping image.now
-        (at (states_of image.now found.blocks.numbers found.states.items))) }
+        (at (states_of image.now found.stretches.numbers found.states.items))) }
     ensures exact { IfErr result (λ fault. IsRefused image.now fault.at fault.cause) }
 {
     let length = image.len();
     if length == 0 {
         return Err(Fault::at_once(RefusalCause::Rule(Cause::FallsOff)));
     }
-    let Ok(blocks) = Blocks::of(alloc, image) else {
+    let Ok(stretches) = Stretches::of(alloc, image) else {
         return Err(Fault::at_once(RefusalCause::NoMemory));
     };
-    match settle(alloc, bounds, image, &blocks, seen) {
-        Ok(states) => Ok(Found { blocks, states }),
+    match settle(alloc, bounds, image, &stretches, seen) {
+        Ok(states) => Ok(Found { stretches, states }),
         Err(fault) => Err(fault),
     }
 }

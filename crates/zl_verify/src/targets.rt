@@ -8,7 +8,7 @@ ghost use Rattle.zl_abs.specs.Changes.{changed, step_in};
 ghost use Rattle.zl_abs.specs.Typing.{rule};
 ghost use Rattle.zl_verify.specs.Lists.{at};
 ghost use Rattle.zl_verify.specs.Steps.{is_pause, leads_by};
-ghost use Rattle.zl_verify.specs.Blocks.{inner, inner_last, inner_of, known_by, passed_on, states_of};
+ghost use Rattle.zl_verify.specs.Stretches.{inner, inner_last, inner_of, known_by, passed_on, states_of};
 ghost use Rattle.zl_verify.specs.Numbers.{places};
 ghost use Rattle.zl_verify.specs.Leading.{flow_in, target_in, unless_pause, AreTargets};
 
@@ -64,16 +64,16 @@ struct Flow {
 }
 
 impl Flow {
-    /// Where a block begins, what was found there is known.
+    /// Where a stretch begins, what was found there is known.
     fn begin(&mut self, found: &Found, place: usize)
         ensures { flow_in self.new.is_there self.new.state
             ≡ known_by found.now.states.items (flow_in self.old.is_there self.old.state)
-            (at found.now.blocks.numbers place) }
+            (at found.now.stretches.numbers place) }
     {
-        let Some(block) = found.blocks.number(place) else {
+        let Some(stretch) = found.stretches.number(place) else {
             return;
         };
-        match found.states.get(block) {
+        match found.states.get(stretch) {
             Some(Some(state)) => {
                 self.state = *state;
                 self.is_there = true;
@@ -82,19 +82,19 @@ impl Flow {
         }
     }
 
-    /// The last edge of an instruction is followed within its block, if it stays there.
+    /// The last edge of an instruction is followed within its stretch, if it stays there.
     fn leave(&mut self, found: &Found, edge: &Step)
         ensures { flow_in self.new.is_there self.new.state ≡ inner_last
-            (changed self.old.state edge.now.change) (at found.now.blocks.numbers edge.now.target) }
+            (changed self.old.state edge.now.change) (at found.now.stretches.numbers edge.now.target) }
     {
         self.state.change(edge.change);
-        self.is_there = found.blocks.number(edge.target).is_none();
+        self.is_there = found.stretches.number(edge.target).is_none();
     }
 
-    /// The edges of an instruction are followed within its block.
-    #[tactic(auto, unfolding(crate::specs::Blocks::inner))]
+    /// The edges of an instruction are followed within its stretch.
+    #[tactic(auto, unfolding(crate::specs::Stretches::inner))]
     fn go_on(&mut self, found: &Found, edges: &Steps)
-        ensures { flow_in self.new.is_there self.new.state ≡ inner found.now.blocks.numbers
+        ensures { flow_in self.new.is_there self.new.state ≡ inner found.now.stretches.numbers
             (step_in self.old.state edges.now.jump ++ step_in self.old.state edges.now.next) }
     {
         let Some(next) = &edges.next else {
@@ -114,7 +114,7 @@ impl Flow {
         requires { RoundAlike bounds.now (bounds_of image.now.code) }
         ensures places { places result ≡ leads_by image.now place (Some self.old.state) }
         ensures flow { flow_in self.new.is_there self.new.state
-            ≡ inner_of found.now.blocks.numbers (rule image.now place self.old.state) }
+            ≡ inner_of found.now.stretches.numbers (rule image.now place self.old.state) }
     {
         match edges_at(bounds, image, place, &mut self.state) {
             Ok(edges) => {
@@ -134,7 +134,7 @@ impl Flow {
         ensures places { places result
             ≡ leads_by image.now place (flow_in self.old.is_there self.old.state) }
         ensures flow { flow_in self.new.is_there self.new.state ≡ passed_on image.now
-            found.now.blocks.numbers place (flow_in self.old.is_there self.old.state) }
+            found.now.stretches.numbers place (flow_in self.old.is_there self.old.state) }
     {
         if self.is_there {
             self.look_there(bounds, image, found, place)
@@ -153,7 +153,7 @@ pub(crate) fn targets_of(
 ) -> Result<Vec<Targets>, AllocError>
     requires { RoundAlike bounds.now (bounds_of image.now.code) }
     ensures { IfOk result (λ targets. AreTargets image.now
-        (states_of image.now found.now.blocks.numbers found.now.states.items) targets.items) }
+        (states_of image.now found.now.stretches.numbers found.now.states.items) targets.items) }
 {
     let mut targets = vec![in alloc; Targets::NONE; image.len()]?;
     let mut flow = Flow {

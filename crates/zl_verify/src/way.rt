@@ -2,7 +2,7 @@
 
 ghost use Rattle.zl_abs.specs.Bounds.{RoundAlike, bounds_of};
 ghost use Rattle.zl_verify.specs.Lists.{at};
-ghost use Rattle.zl_verify.specs.Blocks.{states_of};
+ghost use Rattle.zl_verify.specs.Stretches.{states_of};
 ghost use Rattle.zl_verify.specs.Checks.{IsLeastTyping};
 
 use crate::search::{Found, solve};
@@ -39,7 +39,7 @@ pub fn way_from(alloc: Global, image: &Image, first: usize) -> Option<Way> {
 fn way_in(alloc: Global, bounds: &Bounds, image: &Image, found: &Found, first: usize) -> Option<Way>
     requires alike { RoundAlike bounds.now (bounds_of image.now.code) }
     requires typing { IsLeastTyping image.now
-        (at (states_of image.now found.now.blocks.numbers found.now.states.items)) }
+        (at (states_of image.now found.now.stretches.numbers found.now.states.items)) }
 {
     let Ok(targets) = targets_of(alloc, bounds, image, found) else {
         return None;

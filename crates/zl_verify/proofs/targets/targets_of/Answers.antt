@@ -7,7 +7,7 @@ loop-place-init c = flow_begins _ _ _ _ _ (omega (arith, c.in_ok-targets.ensures
 
 pub loop-place-preserved : goal.loop-place-preserved
 loop-place-preserved c =
-    flow_more c.args.image.now c.args.found.now.blocks.numbers c.args.found.now.states.items c.loop-place.targets.items c.loop-place.flow.is_there
+    flow_more c.args.image.now c.args.found.now.stretches.numbers c.args.found.now.states.items c.loop-place.targets.items c.loop-place.flow.is_there
     c.loop-place.flow.state c.loop-place.place c.loop-place.invariant (omega (arith, c.len-place-end.ensures.value))
     c.begin.new.self.is_there c.begin.new.self.state c.begin.ensures c.look.result c.look.ensures.places c.look.new.self.is_there c.look.new.self.state
     c.look.ensures.flow

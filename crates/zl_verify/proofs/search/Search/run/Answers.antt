@@ -4,20 +4,20 @@ use Rattle.zl_verify.proofs.search.Search.run.Goals as goal
 
 pub returns-in-Ok-false-clause-turned : goal.returns-in-Ok-false-clause-turned
 returns-in-Ok-false-clause-turned c =
-    ran_out c.args.blocks.now.numbers c.args.image.now c.loop-place.self c.loop-place.place c.loop-place.state c.step.new.self (omega arith)
+    ran_out c.args.stretches.now.numbers c.args.image.now c.loop-place.self c.loop-place.place c.loop-place.state c.step.new.self (omega arith)
     (rw (c.in-Ok-false.is, c.in-Ok-false.field-0-test) at c.step.ensures.told) ∙ sym c.loop-place.invariant
 
 pub returns-in-Err-clause-turned : goal.returns-in-Err-clause-turned
 returns-in-Err-clause-turned c =
-    ran_none c.args.blocks.now.numbers c.args.image.now c.loop-place.self c.loop-place.place c.loop-place.state (omega arith)
+    ran_none c.args.stretches.now.numbers c.args.image.now c.loop-place.self c.loop-place.place c.loop-place.state (omega arith)
     (rw c.in-Err.is at c.step.ensures.told) ∙ sym c.loop-place.invariant
 
 pub loop-place-preserved : goal.loop-place-preserved
 loop-place-preserved c =
     c.loop-place.invariant
-    ∙ ran_on c.args.blocks.now.numbers c.args.image.now c.loop-place.self c.loop-place.place c.loop-place.state c.step.new.self c.step.new.state (omega arith)
-    (rw (c.in-Ok-true.is, c.in-Ok-true.field-0-test) at c.step.ensures.told)
+    ∙ ran_on c.args.stretches.now.numbers c.args.image.now c.loop-place.self c.loop-place.place c.loop-place.state c.step.new.self c.step.new.state
+    (omega arith) (rw (c.in-Ok-true.is, c.in-Ok-true.field-0-test) at c.step.ensures.told)
 
 pub returns-clause-turned : goal.returns-clause-turned
 returns-clause-turned c =
-    ran_past c.args.blocks.now.numbers c.args.image.now c.loop-place.self c.loop-place.place c.loop-place.state (omega arith) ∙ sym c.loop-place.invariant
+    ran_past c.args.stretches.now.numbers c.args.image.now c.loop-place.self c.loop-place.place c.loop-place.state (omega arith) ∙ sym c.loop-place.invariant

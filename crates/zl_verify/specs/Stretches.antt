@@ -1,4 +1,4 @@
--- Blocks of code: instructions that follow one another, of which only the first can be come to from elsewhere. No
+-- Stretches of code: instructions that follow one another, of which only the first can be come to from elsewhere. No
 -- public clause says more of it than that states stand in a list.
 use Rattle.std.specs.Prelude.{ℕ, zero, suc, ◌≡◌, ◌+◌, ◌-◌, ◌<◌, Bool, true, false, List, [], ◌∷◌, length, Option, Some, None, Result, Ok, Err, slice_get}
 use Rattle.std.specs.Option.{option_map, option_and_then}
@@ -12,10 +12,10 @@ use Rattle.zl_abs.specs.Typing.{rule}
 use Rattle.zl_verify.specs.Lists.{at}
 use Rattle.zl_verify.specs.Search.{Table, raised, turned_over, cleared}
 
--- ---- where blocks begin
+-- ---- where stretches begin
 
--- the number of the block that begins at each instruction, if one does, and the first instruction of each block
-pub record Blocks : Type 0 where
+-- the number of the stretch that begins at each instruction, if one does, and the first instruction of each stretch
+pub record Stretches : Type 0 where
   pub numbers : List (Option ℕ)
   pub starts : List ℕ
 
@@ -23,24 +23,24 @@ abbrev pub start_or : ℕ → Option ℕ → ℕ
 start_or size None = size
 start_or size (Some n) = n
 
--- the first instruction of the block
-abbrev pub start_of : Image → Blocks → ℕ → ℕ
+-- the first instruction of the stretch
+abbrev pub start_of : Image → Stretches → ℕ → ℕ
 start_of i bs b = start_or (length i.code) (slice_get bs.starts b)
 
--- a block begins at the start, and wherever an instruction may jump
-pub record AreBlocks (i : Image) (bs : Blocks) : Type 0 where
+-- a stretch begins at the start, and wherever an instruction may jump
+pub record AreStretches (i : Image) (bs : Stretches) : Type 0 where
   pub long : length bs.numbers ≡ length i.code
   pub first : at bs.numbers 0 ≡ Some 0
   pub begin : (n b : ℕ) → at bs.numbers n ≡ Some b → slice_get bs.starts b ≡ Some n
   pub jumps : (n : ℕ) → n < length i.code → jump_of i n < length i.code → at bs.numbers (jump_of i n) ≡ None → ⊥
 
--- ---- what a block does
+-- ---- what a stretch does
 
--- what comes of a block from a state
+-- what comes of a stretch from a state
 abbrev pub Out : Type 0
 Out = Result (List Edge) Cause
 
--- the last edge of an instruction leads to a block, or on within this one
+-- the last edge of an instruction leads to a stretch, or on within this one
 abbrev pub leaves_last : (State → Out) → State → Option ℕ → Out
 leaves_last go s None = go s
 leaves_last go s (Some b) = Ok ((b, s) ∷ [])
@@ -49,13 +49,13 @@ abbrev pub leaves_first : State → Out → Option ℕ → Out
 leaves_first s rest None = Err cause.BadJump
 leaves_first s rest (Some b) = and_then rest (λ es. Ok ((b, s) ∷ es))
 
--- the edges by the blocks to which they lead
+-- the edges by the stretches to which they lead
 unfoldable pub leaves : List (Option ℕ) → (State → Out) → List Edge → Out
 leaves numbers go [] = Ok []
 leaves numbers go (e ∷ []) = leaves_last go e.1 (at numbers e.0)
 leaves numbers go (e ∷ f ∷ es) = leaves_first e.1 (leaves numbers go (f ∷ es)) (at numbers e.0)
 
--- the edges out of a block, from the n-th instruction on, behind which the code has so many with it
+-- the edges out of a stretch, from the n-th instruction on, behind which the code has so many with it
 unfoldable pub out : List (Option ℕ) → Image → ℕ → ℕ → State → Out
 out numbers i zero n s = Err cause.FallsOff
 out numbers i (suc k) n s = and_then (rule i n s) (leaves numbers (λ t. out numbers i k (n + 1) t))
@@ -64,13 +64,13 @@ out numbers i (suc k) n s = and_then (rule i n s) (leaves numbers (λ t. out num
 abbrev pub out_from : List (Option ℕ) → Image → ℕ → State → Out
 out_from numbers i n s = out numbers i (length i.code - n) n s
 
--- the edges out of the block
-abbrev pub block : Image → Blocks → ℕ → State → Out
-block i bs b s = out_from bs.numbers i (start_of i bs b) s
+-- the edges out of the stretch
+abbrev pub stretch : Image → Stretches → ℕ → State → Out
+stretch i bs b s = out_from bs.numbers i (start_of i bs b) s
 
--- ---- one instruction of a block
+-- ---- one instruction of a stretch
 
--- the table, and the state with which the block goes on
+-- the table, and the state with which the stretch goes on
 abbrev pub Went : Type 0
 Went = Option (Table × Option State)
 
@@ -82,7 +82,7 @@ abbrev pub went_first : Table → State → (Table → Went) → Option ℕ → 
 went_first t s rest None = None
 went_first t s rest (Some b) = option_and_then rest (raised t b s)
 
--- the states of the edges come to their blocks, but for one that goes on
+-- the states of the edges come to their stretches, but for one that goes on
 unfoldable pub went : List (Option ℕ) → Table → List Edge → Went
 went numbers t [] = Some (t, None)
 went numbers t (e ∷ []) = went_last t e.1 (at numbers e.0)
@@ -92,7 +92,7 @@ abbrev pub stepped : List (Option ℕ) → Table → Result (List Edge) Cause �
 stepped numbers t (Err c) = None
 stepped numbers t (Ok es) = went numbers t es
 
--- the state comes to the block
+-- the state comes to the stretch
 abbrev pub entered : Table → State → Option ℕ → Option Table
 entered t s None = None
 entered t s (Some b) = raised t b s
@@ -103,19 +103,19 @@ told (Ok true) t s = Some (t, Some s)
 told (Ok false) t s = Some (t, None)
 told (Err f) t s = None
 
--- ---- one block
+-- ---- one stretch
 
-abbrev pub turned_at : Image → Blocks → Table → ℕ → Option State → Option Table
+abbrev pub turned_at : Image → Stretches → Table → ℕ → Option State → Option Table
 turned_at i bs t b None = Some t
-turned_at i bs t b (Some s) = turned_over t (block i bs b s)
+turned_at i bs t b (Some s) = turned_over t (stretch i bs b s)
 
--- a block is looked at
-abbrev pub turned : Image → Blocks → Table → ℕ → Option Table
+-- a stretch is looked at
+abbrev pub turned : Image → Stretches → Table → ℕ → Option Table
 turned i bs t b = turned_at i bs (cleared t b) b (at t.states b)
 
 -- ---- the states of all instructions
 
--- the state with which the last of these edges goes on within the block, if it does
+-- the state with which the last of these edges goes on within the stretch, if it does
 abbrev pub inner_last : State → Option ℕ → Option State
 inner_last s None = Some s
 inner_last s (Some b) = None
@@ -133,7 +133,7 @@ abbrev pub passed_on : Image → List (Option ℕ) → ℕ → Option State → 
 passed_on i numbers n None = None
 passed_on i numbers n (Some s) = inner_of numbers (rule i n s)
 
--- the state of a block that begins there, or else what the instruction before passes on
+-- the state of a stretch that begins there, or else what the instruction before passes on
 abbrev pub known_by : List (Option State) → Option State → Option ℕ → Option State
 known_by kept before None = before
 known_by kept before (Some b) = at kept b
@@ -143,7 +143,7 @@ unfoldable pub flows : Image → List (Option ℕ) → List (Option State) → �
 flows i numbers kept zero = None
 flows i numbers kept (suc n) = passed_on i numbers n (known_by kept (flows i numbers kept n) (at numbers n))
 
--- the state of the n-th instruction, by those of blocks
+-- the state of the n-th instruction, by those of stretches
 abbrev pub known : Image → List (Option ℕ) → List (Option State) → ℕ → Option State
 known i numbers kept n = known_by kept (flows i numbers kept n) (at numbers n)
 
@@ -152,6 +152,6 @@ unfoldable pub listed : {A : Type 0} → ℕ → (ℕ → A) → List A
 listed zero f = []
 listed (suc k) f = f 0 ∷ listed k (λ n. f (suc n))
 
--- the states of all instructions, by those of blocks
+-- the states of all instructions, by those of stretches
 abbrev pub states_of : Image → List (Option ℕ) → List (Option State) → List (Option State)
 states_of i numbers kept = listed (length i.code) (known i numbers kept)

@@ -1,6 +1,6 @@
 use Rattle.zl_verify.proofs.Common.{arith}
 use Rattle.zl_verify.proofs.Marking.{numbers_pushed}
-use Rattle.zl_verify.proofs.blocks.numbered.Goals as goal
+use Rattle.zl_verify.proofs.stretches.numbered.Goals as goal
 
 pub loop-place-preserved : goal.loop-place-preserved
 loop-place-preserved c =

@@ -1,10 +1,10 @@
-//! The blocks of an image: instructions that follow one another, of which only the first can be come
+//! The stretches of an image: instructions that follow one another, of which only the first can be come
 //! to from elsewhere. A search keeps what is known at the first of each, and follows it from there.
 
 ghost use Rattle.std.specs.Prelude.{◌≡◌, ◌<◌, ◌≤◌, length, true, slice_set, IfOk};
 ghost use Rattle.zl_code.specs.Limits.{most_instructions};
 ghost use Rattle.zl_verify.specs.Lists.{at};
-ghost use Rattle.zl_verify.specs.Blocks.{AreBlocks, start_of};
+ghost use Rattle.zl_verify.specs.Stretches.{AreStretches, start_of};
 ghost use Rattle.zl_verify.specs.Marks.{AreMarked, AreNumbered};
 
 use std::alloc::{AllocError, Global};
@@ -12,29 +12,29 @@ use std::marker::Model;
 use zl_abs::jump_target;
 use zl_code::Image;
 
-/// Where the blocks of an image begin.
+/// Where the stretches of an image begin.
 #[derive(Drop)]
-pub(crate) struct Blocks {
-    // The number of the block that begins at each instruction, if one does.
+pub(crate) struct Stretches {
+    // The number of the stretch that begins at each instruction, if one does.
     numbers: Vec<Option<u32>>,
-    // The first instruction of each block.
+    // The first instruction of each stretch.
     starts: Vec<usize>,
 }
 
-impl Model for Blocks {
-    ghost use Rattle.zl_verify.specs.Blocks.{Blocks as BlocksValue};
+impl Model for Stretches {
+    ghost use Rattle.zl_verify.specs.Stretches.{Stretches as StretchesValue};
 
-    ghost Value = { BlocksValue };
+    ghost Value = { StretchesValue };
 
     ghost view = { λ b. record { numbers = b.numbers.items; starts = b.starts.items } };
 }
 
-impl Blocks {
+impl Stretches {
     /// Those of an image: one begins at the start, and wherever an instruction may jump.
-    #[tactic(auto, using(crate::proofs::Marking::are_blocks))]
-    pub fn of(alloc: Global, image: &Image) -> Result<Blocks, AllocError>
+    #[tactic(auto, using(crate::proofs::Marking::are_stretches))]
+    pub fn of(alloc: Global, image: &Image) -> Result<Stretches, AllocError>
         requires { 0 < length image.now.code }
-        ensures { IfOk result (λ blocks. AreBlocks image.now blocks) }
+        ensures { IfOk result (λ stretches. AreStretches image.now stretches) }
     {
         let begins = begins_of(alloc, image)?;
         numbered(alloc, &begins)
@@ -47,7 +47,7 @@ impl Blocks {
         self.starts.len()
     }
 
-    /// The number of the block that begins at the instruction, if one does.
+    /// The number of the stretch that begins at the instruction, if one does.
     pub fn number(&self, place: usize) -> Option<usize>
         ensures { result ≡ at self.now.numbers place }
     {
@@ -57,18 +57,18 @@ impl Blocks {
         }
     }
 
-    /// The first instruction of the block.
-    pub fn start(&self, image: &Image, block: usize) -> usize
-        ensures { result ≡ start_of image.now self.now block }
+    /// The first instruction of the stretch.
+    pub fn start(&self, image: &Image, stretch: usize) -> usize
+        ensures { result ≡ start_of image.now self.now stretch }
     {
-        match self.starts.get(block) {
+        match self.starts.get(stretch) {
             Some(place) => *place,
             None => image.len(),
         }
     }
 }
 
-/// At which instructions a block begins.
+/// At which instructions a stretch begins.
 fn begins_of(alloc: Global, image: &Image) -> Result<Vec<bool>, AllocError>
     requires { 0 < length image.now.code }
     ensures marked { IfOk result (λ begins.
@@ -83,7 +83,7 @@ fn begins_of(alloc: Global, image: &Image) -> Result<Vec<bool>, AllocError>
     Ok(begins)
 }
 
-/// A block begins there, if an instruction is there.
+/// A stretch begins there, if an instruction is there.
 #[tactic(auto, using(crate::proofs::Marking::same_past))]
 fn mark(begins: &mut [bool], place: usize)
     ensures { begins.new ≡ slice_set begins.old place true }
@@ -93,11 +93,11 @@ fn mark(begins: &mut [bool], place: usize)
     }
 }
 
-/// Numbers the blocks in the order in which they stand.
+/// Numbers the stretches in the order in which they stand.
 #[tactic(auto, using(crate::proofs::Marking::numbers_begin, crate::proofs::Marking::numbers_same))]
-fn numbered(alloc: Global, begins: &[bool]) -> Result<Blocks, AllocError>
+fn numbered(alloc: Global, begins: &[bool]) -> Result<Stretches, AllocError>
     requires { length begins.now ≤ most_instructions }
-    ensures { IfOk result (λ blocks. AreNumbered begins.now blocks.numbers blocks.starts
+    ensures { IfOk result (λ stretches. AreNumbered begins.now stretches.numbers stretches.starts
         (length begins.now)) }
 {
     let mut numbers = vec![in alloc; None; begins.len()]?;
@@ -111,5 +111,5 @@ fn numbered(alloc: Global, begins: &[bool]) -> Result<Blocks, AllocError>
             return Err(AllocError);
         }
     }
-    Ok(Blocks { numbers, starts })
+    Ok(Stretches { numbers, starts })
 }

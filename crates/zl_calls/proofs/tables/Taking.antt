@@ -34,6 +34,16 @@ taken_more t (x ∷ hs) h =
     ap (λ (es : List Entry). option_to_list (get t.entries x) ++ es) (taken_more (without_handle t x) hs h)
     ∙ sym (append_assoc (option_to_list (get t.entries x)) (taken_from (without_handle t x) hs) _)
 
+-- no more handles leave than are named
+pub few_taken : (t : Handles) (hs : List ℕ) → length (taken_from t hs) ≤ length hs
+few_taken t [] = omega arith
+few_taken t (h ∷ hs) = by (get t.entries h) (few_taken (without_handle t h) hs)
+  where
+    by : (o : Option Entry) → length (taken_from (without_handle t h) hs) ≤ length hs
+        → length (option_to_list o ++ taken_from (without_handle t h) hs) ≤ length (h ∷ hs)
+    by None few = omega (arith, few)
+    by (Some e) few = omega (arith, few)
+
 -- ---- a loop over values
 
 pub released_more : (es : List Entry) (i : ℕ) (e : Entry) → i < length es → (r r2 r3 : Objects) → Releases (koids_of (take i es)) [] r r2

@@ -1,5 +1,5 @@
 -- What calls on channels do: chan_create, chan_write and chan_read_etc. No public clause cites this module.
-use Rattle.std.specs.Prelude.{ℕ, ◌≡◌, ◌||◌, not, nat_lt, [], ◌∷◌, ◌++◌, List, length, Option, Some, None, Result, Ok, Err, ⊤, if◌then◌else◌, is_some, IsTrue}
+use Rattle.std.specs.Prelude.{ℕ, ◌≡◌, ◌≤◌, ◌||◌, not, nat_lt, [], ◌∷◌, ◌++◌, List, length, Option, Some, None, Result, Ok, Err, ⊤, if◌then◌else◌, is_some, IsTrue}
 use Rattle.std.specs.Option.{option_or}
 use Rattle.std.specs.Bool.{then_some}
 use Rattle.zl_code.specs.Common.{Map}
@@ -11,6 +11,7 @@ use Rattle.zl_rights.specs.LookUp.{looked_up}
 use Rattle.zl_rights.specs.Numbers.{TRANSFER, WRITE}
 use Rattle.zl_code.specs.Operands.{contains}
 use Rattle.zl_table.specs.Table.{Handles}
+use Rattle.zl_channel.specs.Queue.{MOST_BYTES, MOST_HANDLES}
 use Rattle.zl_objects.specs.declared.object.Object.{Object}
 use Rattle.zl_objects.specs.declared.object.Pair.TheVariants as pair
 use Rattle.zl_objects.specs.Objects.{Objects, is_channel_at, reader_at, sending}
@@ -82,3 +83,5 @@ pub record IsReady (entries : Map Entry) (objects : Map Object) (channel : ℕ) 
   pub bytes_are : letter.bytes.items ≡ bytes
   pub empty : letter.room.items ≡ []
   pub room : HasRoomFor letter.room (length hs)
+  pub small : length bytes ≤ MOST_BYTES
+  pub few : length hs ≤ MOST_HANDLES

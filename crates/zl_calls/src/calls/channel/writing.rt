@@ -1,11 +1,12 @@
 //! The call that writes a message: what it does, and what it then answers its caller.
 
-ghost use Rattle.std.specs.Prelude.{◌≡◌, ◌<◌, ◌^◌, ◌++◌, [], ◌∷◌, true, false, None, length, IsTrue, IsSome, IfOk, IfErr, IsOk, OnOk, OnErr};
+ghost use Rattle.std.specs.Prelude.{◌≡◌, ◌<◌, ◌≤◌, ◌^◌, ◌++◌, [], ◌∷◌, true, false, None, length, IsTrue, IsSome, IfOk, IfErr, IsOk, OnOk, OnErr};
 ghost use Rattle.std.specs.Option.{option_to_list};
 ghost use Rattle.zl_rights.specs.LookUp.{looked_up};
 ghost use Rattle.zl_rights.specs.Map.{get};
 ghost use Rattle.zl_rights.specs.Numbers.{WRITE};
 ghost use Rattle.smallvec.specs.SmallVec.{HasRoomFor};
+ghost use Rattle.zl_channel.specs.Queue.{MOST_BYTES, MOST_HANDLES};
 ghost use Rattle.zl_code.specs.Request.{site_of};
 ghost use Rattle.zl_code.specs.declared.history.CallName.TheVariants as name;
 ghost use Rattle.zl_objects.specs.Objects.{is_channel_at, sending};
@@ -145,6 +146,8 @@ fn find_peer<const TESTED: bool>(
         ≡ write_refusal table.now.entries objects.now.objects channel size handles.now }
     ensures peer { IfOk result (λ peer.
         IsPeerOf table.now.entries objects.now.objects channel peer) }
+    ensures small { IsOk result → size ≤ MOST_BYTES }
+    ensures few { IsOk result → length handles.now ≤ MOST_HANDLES }
 {
     let end = look_up::<TESTED>(table, channel, &[Kind::Channel], Rights::WRITE)?;
     unless_sure::<TESTED>(table, handles)?;
@@ -183,7 +186,7 @@ pub fn examine_list(table: &Table, handles: &[u64]) -> Result<(), Status>
 }
 
 /// Sends the message with the handles at these values. They leave the table; where memory is
-/// refused they close.
+/// refused they close. Its sizes were tested before.
 fn send(
     table: &mut Table,
     objects: &mut Objects,
@@ -193,6 +196,8 @@ fn send(
     requires end { IsTrue (is_channel_at objects.old.objects letter.peer) }
     requires room { HasRoomFor letter.room (length handles.now) }
     requires empty { letter.room.items ≡ [] }
+    requires small { length letter.bytes.items ≤ MOST_BYTES }
+    requires few { length handles.now ≤ MOST_HANDLES }
     ensures sent { OnOk result (objects.new ≡ sending objects.old letter.peer
         (record { bytes = letter.bytes.items; handles = taken_from table.old handles.now })) }
     ensures wants { IfErr result (λ refused. refused ≡ Status.NoMemory) }
@@ -217,10 +222,7 @@ fn send(
             release_each(objects, message.handles.as_slice());
             Err(Status::NoMemory)
         }
-        Err(PushFault::OutOfRange(message)) => {
-            release_each(objects, message.handles.as_slice());
-            Err(Status::NoMemory)
-        }
+        Err(PushFault::OutOfRange(_)) => unreachable!(),
     }
 }
 

@@ -30,6 +30,7 @@ unfoldable pub use Rattle.zl_asm.specs.Canonical.{code_lines_from, joined, tail_
 pub use Rattle.zl_asm.specs.Denotes.{Denotes, EachTextGivesBytes, NoTextDenotesTwo, fields_of, listing_bytes}
 pub use Rattle.zl_asm.specs.Draft.{Gives, GivesNone, Held, Holds, IsGiven, IsHeldOf, Pushes, Reads, ReadsAll, Refuses, Stops, held_by, is_directive_in_range}
 pub use Rattle.zl_asm.specs.Draft.{labels_shown, line_said, sources_shown}
+pub use Rattle.zl_asm.specs.Kept.{fits, is_fine, is_kept_in_range, kept_value}
 pub use Rattle.zl_asm.specs.Lines.{Blank, Code, Declares, Label, Line, Source, Tail, alone, if_fits, instruction_of, need_of, number_within, onto_all}
 pub use Rattle.zl_asm.specs.Lines.{places_of, point_line, registers_of, slot_array_with, source_with, start_with, tail, tail_to, then_with}
 unfoldable pub use Rattle.zl_asm.specs.Lines.{all_of, directive_of, kind_of, label_of, line_of, operands_after, operands_of, source_of, tail_of, unknown_of}

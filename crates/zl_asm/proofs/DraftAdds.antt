@@ -1,6 +1,6 @@
 -- One more label or instruction in the map and the vector of a draft.
-use Rattle.zl_asm.proofs.Common.{Code, Held, Holds, Label, List, None, Option, Some, Source, SourceLine, [], ap, false, is_none, is_some, labels_shown, length}
-use Rattle.zl_asm.proofs.Common.{map-append, option_map, position_of, refl, source_value, sources_shown, subst, sym, true, true≢false, ℕ, ◌++◌, ◌∙◌, ◌∷◌, ◌≡◌}
+use Rattle.zl_asm.proofs.Common.{Code, Held, Holds, Label, List, None, Option, Some, Source, SourceLine, [], ap, false, is_some, kept_value, labels_shown}
+use Rattle.zl_asm.proofs.Common.{length, map-append, position_of, refl, sources_shown, subst, sym, true, true≢false, ℕ, ◌++◌, ◌∙◌, ◌∷◌, ◌≡◌}
 use denote.Ref.{Bor}
 use Rattle.zl_asm.proofs.DraftHolds.{label_held, code_held}
 
@@ -11,17 +11,13 @@ label_added d es new name n entries old count free =
     (λ i. old i ++ (name.now, sym count i) ∷ []) ∙ sym (map-append (λ l. (l.0.now, l.1)) es ((name, n) ∷ [])) ∙ ap labels_shown (sym entries) in
     subst (λ (l : List (List ℕ × ℕ)). Holds d (Label name.now) (record d { has_body = true; labels = l })) shown (label_held d name.now free)
 
-pub source_added : (d : Held) (ss new : List SourceLine) (s : SourceLine) → new ≡ ss ++ s ∷ [] → d.sources ≡ sources_shown ss
-    → Holds d (Code (source_value s.source)) (record d { has_body = true; sources = sources_shown new })
-source_added d ss new s items old =
-    let shown : d.sources ++ source_value s.source ∷ [] ≡ sources_shown new =
-    ap (λ (l : List Source). l ++ source_value s.source ∷ []) old ∙ sym (map-append (λ s. source_value s.source) ss (s ∷ [])) ∙ ap sources_shown (sym items) in
-    subst (λ (l : List Source). Holds d (Code (source_value s.source)) (record d { has_body = true; sources = l })) shown (code_held d (source_value s.source))
+pub source_added : (d : Held) (ss new : List SourceLine) (s : SourceLine) (value : Source) → new ≡ ss ++ s ∷ [] → d.sources ≡ sources_shown ss
+    → kept_value s.kept ≡ value → Holds d (Code value) (record d { has_body = true; sources = sources_shown new })
+source_added d ss new s value items old same =
+    let shown : d.sources ++ value ∷ [] ≡ sources_shown new =
+    (λ i. old i ++ sym same i ∷ []) ∙ sym (map-append (λ s. kept_value s.kept) ss (s ∷ [])) ∙ ap sources_shown (sym items) in
+    subst (λ (l : List Source). Holds d (Code value) (record d { has_body = true; sources = l })) shown (code_held d value)
 
 pub none_by : {X : Type 0} (o : Option X) → false ≡ is_some o → o ≡ None
 none_by None e = refl
 none_by (Some x) e = absurd (true≢false (sym e))
-
-pub none_shown : (o : Option (Bor (List ℕ))) → is_none (option_map (λ name. name.now) o) ≡ is_none o
-none_shown None = refl
-none_shown (Some name) = refl

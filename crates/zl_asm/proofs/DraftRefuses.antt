@@ -1,7 +1,6 @@
 -- Which lines a draft refuses.
-use Rattle.zl_asm.proofs.Common.{Bool, Code, Declares, Directive, Err, Held, Label, List, None, Ok, Option, Refuses, Result, SlotArray, Some, Source, Start, []}
-use Rattle.zl_asm.proofs.Common.{ap, false, instr_fault, is_err, is_none, is_some, length, position_of, refl, result_err, subst, sym, true, true≢false, ℕ, ◌∙◌}
-use Rattle.zl_asm.proofs.Common.{◌∷◌, ◌≡◌, ◌≤◌}
+use Rattle.zl_asm.proofs.Common.{Bool, Code, Declares, Directive, Held, Label, List, None, Refuses, SlotArray, Source, Start, [], ap, false, instr_fault}
+use Rattle.zl_asm.proofs.Common.{is_some, length, position_of, subst, sym, true, ℕ, ◌∙◌, ◌∷◌, ◌≡◌, ◌≤◌}
 use Rattle.zl_asm.specs.declared.directive.Directive.TheVariants as directive
 use Rattle.zl_asm.proofs.DraftHolds.{one_given, given_is}
 use Rattle.zl_asm.proofs.ListingRefused.{refused_behind, refused_mark, refused_memory, refused_budget, refused_start, refused_slots, refused_label}
@@ -32,15 +31,5 @@ label_refused d name there = λ said h rest. refused_label said rest name (subst
 pub count_refused : (d : Held) (s : Source) → 4096 ≤ length d.sources → Refuses d (Code s)
 count_refused d s many = λ said h rest. refused_count said rest s (subst (λ (l : List Source). 4096 ≤ length l) h.sources many)
 
-pub fault_refused : (d : Held) (s : Source) → is_none s.label ≡ true → is_some (instr_fault d.image.raw s.bytes) ≡ true → Refuses d (Code s)
-fault_refused d s alone fault =
-    λ said h rest. refused_fault said rest s d.image.raw (nothing s.label alone) (given_is d.image.raw d.image.raw false _ h.mark) fault
-  where
-    nothing : (o : Option (List ℕ)) → is_none o ≡ true → o ≡ None
-    nothing None e = refl
-    nothing (Some n) e = absurd (true≢false (sym e))
-
--- an error that is the fault
-pub fault_found : {A E : Type 0} (r : Result A E) (o : Option E) → is_err r ≡ true → o ≡ result_err r → is_some o ≡ true
-fault_found (Ok x) o e h = absurd (true≢false (sym e))
-fault_found (Err fault) o e h = ap is_some h
+pub fault_refused : (d : Held) (s : Source) → s.label ≡ None → is_some (instr_fault d.image.raw s.bytes) ≡ true → Refuses d (Code s)
+fault_refused d s alone fault = λ said h rest. refused_fault said rest s d.image.raw alone (given_is d.image.raw d.image.raw false _ h.mark) fault

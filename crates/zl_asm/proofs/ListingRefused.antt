@@ -1,9 +1,9 @@
 -- Lines that give no fields of an image, whatever lines follow.
 use Rattle.zl_asm.proofs.Common.{Blank, Bool, Code, Declares, Directive, Label, Line, List, Listing, None, Option, Some, Source, [], all_of, ap, append-nil}
-use Rattle.zl_asm.proofs.Common.{arith, budget_in, cond, declares, directives_first, false, flat_map, flat_map-append, given, if_fits, instr_fault, is_body}
-use Rattle.zl_asm.proofs.Common.{is_listing, is_some, labels_from, length, length-append, list_all, list_all-append, list_any, listing_from, listing_with}
-use Rattle.zl_asm.proofs.Common.{lt-leb, mark_in, memory_in, names_once, need_in, needs_named, not, onto_all, position_of, refl, resolved, slots_in, source_in}
-use Rattle.zl_asm.proofs.Common.{start_in, sym, true, true≢false, ℕ, ◌&&◌, ◌++◌, ◌+◌, ◌<◌, ◌||◌, ◌∙◌, ◌∷◌, ◌≡◌, ◌≤◌}
+use Rattle.zl_asm.proofs.Common.{arith, budget_in, cond, declares, directives_first, false, fits, flat_map, flat_map-append, given, if_fits, instr_fault}
+use Rattle.zl_asm.proofs.Common.{is_body, is_fine, is_listing, is_some, labels_from, length, length-append, list_all, list_all-append, list_any, listing_from}
+use Rattle.zl_asm.proofs.Common.{listing_with, lt-leb, mark_in, memory_in, names_once, need_in, needs_named, not, onto_all, position_of, refl, resolved}
+use Rattle.zl_asm.proofs.Common.{slots_in, source_in, start_in, sym, true, true≢false, ℕ, ◌&&◌, ◌++◌, ◌+◌, ◌<◌, ◌||◌, ◌∙◌, ◌∷◌, ◌≡◌, ◌≤◌}
 use Rattle.zl_asm.specs.declared.directive.Directive.TheVariants as directive
 use Rattle.zl_asm.proofs.Labels.{labels_from-append, not-once}
 use Rattle.std.proofs.lemmas.Bool.{and_right, and_parts, not_from_true}
@@ -47,16 +47,16 @@ all_of-more f (w ∷ xs) zs x z e here =
     ∙ ap (λ (l : List _). Some (l ++ z ∷ [])) (sym made.4)
 
 -- a value that doesn't pass is among the values
-pub all_of-fault : {X Y : Type 0} (f : X → Option Y) (test : Y → Bool) (xs ys : List X) (zs : List Y) (x : X) (z : Y) → all_of f (xs ++ x ∷ ys) ≡ Some zs
-    → f x ≡ Some z → test z ≡ false → list_all test zs ≡ false
+pub all_of-fault : {X Y : Type 0} (f : X → Option Y) (test : Y → Bool) (xs ys : List X) (zs : List Y) (x : X) → all_of f (xs ++ x ∷ ys) ≡ Some zs
+    → fits test (f x) ≡ false → list_all test zs ≡ false
 unfolding all_of
-all_of-fault f test [] ys zs x z e here fails =
+all_of-fault f test [] ys zs x e fails =
     let made = onto_all-some (f x) (all_of f ys) zs e in
-    let same : made.0 ≡ z = cc in
-    rw (made.4, same, fails) refl
-all_of-fault f test (w ∷ xs) ys zs x z e here fails =
+    let here : test made.0 ≡ false = ap (fits test) (sym made.2) ∙ fails in
+    rw (made.4, here) refl
+all_of-fault f test (w ∷ xs) ys zs x e fails =
     let made = onto_all-some (f w) (all_of f (xs ++ x ∷ ys)) zs e in
-    rw (made.4, all_of-fault f test xs ys made.1 x z made.3 here fails) (and_right _ _ refl)
+    rw (made.4, all_of-fault f test xs ys made.1 x made.3 fails) (and_right _ _ refl)
 
 -- ---- no fields
 
@@ -180,6 +180,12 @@ refused_count said rest s many = none_by_fields _ (λ raw memory budget code m n
 
 -- ---- an instruction with a fault
 
+pub not_listing : (f : Source → Option (List ℕ)) (xs ys : List Source) (s : Source) (lines : List Line) (raw : Bool) (memory budget : ℕ)
+    (code : List (List ℕ)) → all_of f (xs ++ s ∷ ys) ≡ Some code → is_fine raw (f s) ≡ false
+    → is_listing (listing_of_fields lines raw memory budget code) ≡ false
+not_listing f xs ys s lines raw memory budget code e fails =
+    rw (all_of-fault f (λ bytes. not (is_some (instr_fault raw bytes))) xs ys code s e fails, and-false, and-false, and-false) refl
+
 no_marks : (rest : List Line) → list_all (λ l. not (declares l)) rest ≡ true → flat_map mark_in rest ≡ []
 no_marks [] e = refl
 no_marks (Blank ∷ rest) e = no_marks rest e
@@ -216,11 +222,7 @@ refused_fault said rest s raw label mark fault = by (directives_first (said ++ C
         let marks : given (flat_map mark_in (said ++ Code s ∷ rest)) false ≡ given (flat_map mark_in said) false =
         ap (λ (l : List Bool). given l false) (same_marks said rest s e) in
         let same : r ≡ raw = cc in
-        let here : resolved (labels_from 0 (said ++ Code s ∷ rest)) s ≡ Some s.bytes = rw label refl in
-        let bad : not (is_some (instr_fault r s.bytes)) ≡ false = rw same (not_from_true _ fault) in
+        let bad : is_fine r (resolved (labels_from 0 (said ++ Code s ∷ rest)) s) ≡ false = rw (label, same) (not_from_true _ fault) in
         let split = flat_map-append source_in said (Code s ∷ rest) in
-        let fails : list_all (λ bytes. not (is_some (instr_fault r bytes))) code ≡ false =
-        all_of-fault (resolved (labels_from 0 (said ++ Code s ∷ rest))) (λ bytes. not (is_some (instr_fault r bytes))) (flat_map source_in said)
-        (flat_map source_in rest) code s s.bytes
-        (ap (all_of (resolved (labels_from 0 (said ++ Code s ∷ rest)))) (sym split) ∙ c) here bad in
-        rw (fails, and-false, and-false, and-false) refl)
+        not_listing (resolved (labels_from 0 (said ++ Code s ∷ rest))) (flat_map source_in said) (flat_map source_in rest) s (said ++ Code s ∷ rest)
+        r memory budget code (ap (all_of (resolved (labels_from 0 (said ++ Code s ∷ rest)))) (sym split) ∙ c) bad)

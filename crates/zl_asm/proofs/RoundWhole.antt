@@ -138,13 +138,13 @@ sources_given i code =
 
 -- ---- the whole
 
-all_instr : (raw : Bool) (code : List Instr) → list_all (is_instr_in_range raw) code ≡ true → AllInstr raw (map instr_bytes code)
+pub all_instr : (raw : Bool) (code : List Instr) → list_all (is_instr_in_range raw) code ≡ true → AllInstr raw (map instr_bytes code)
 all_instr raw [] h = tt
 all_instr raw (x ∷ code) h =
     let p = and_parts (is_instr_in_range raw x) (list_all (is_instr_in_range raw) code) h in
     (record { len = length-instr_bytes raw x p.0; fits = IsBytes-instr_bytes raw x p.0; fault = instr_bytes-no_fault raw x p.0 }, all_instr raw code p.1)
 
-no_faults : (raw : Bool) (code : List (List ℕ)) → AllInstr raw code → list_all (λ bytes. not (is_some (instr_fault raw bytes))) code ≡ true
+pub no_faults : (raw : Bool) (code : List (List ℕ)) → AllInstr raw code → list_all (λ bytes. not (is_some (instr_fault raw bytes))) code ≡ true
 no_faults raw [] all = refl
 no_faults raw (bytes ∷ code) all = let none = all.0.fault in and_from _ _ (rw none refl) (no_faults raw code all.1)
 

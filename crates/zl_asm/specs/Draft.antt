@@ -1,7 +1,7 @@
 -- What a draft of an image holds of the lines that were read. No public clause cites this module.
 use Rattle.std.specs.Prelude.{ℕ, ◌≡◌, Bool, true, false, ◌&&◌, nat_le, List, [], ◌∷◌, ◌++◌, map, Option, Some, None, if◌then◌else◌, ◌⊎◌}
 use Rattle.std.specs.List.{flat_map, list_any}
-use Rattle.zl_code.specs.Common.{Image, needs_named, instr_bytes, instr_fault, is_start_in_range, is_slot_in_range}
+use Rattle.zl_code.specs.Common.{Image, needs_named, instr_bytes, is_start_in_range, is_slot_in_range}
 use denote.Ref.{Bor}
 use Rattle.zl_code.specs.Limits.{most_memory, most_budget}
 use Rattle.zl_code.specs.declared.instr.Instr.{Instr}
@@ -13,7 +13,7 @@ use Rattle.zl_asm.specs.Words.{is_ascii, words_of}
 use Rattle.zl_asm.specs.Lines.{Line, Source, line_of}
 use Rattle.zl_asm.specs.Listing.{mark_in, memory_in, budget_in, need_in, start_in, slots_in, source_in, is_body, directives_first, labels_from, names_once, listing_from, lines_said}
 use Rattle.zl_asm.specs.Denotes.{fields_of}
-use Rattle.zl_asm.specs.Values.{source_value}
+use Rattle.zl_asm.specs.Kept.{kept_value}
 
 -- The values that the lines give of a field that can be given once: none, and the field is the usual one, or just
 -- that of the field.
@@ -39,7 +39,7 @@ labels_shown labels = map (λ l. (l.0.now, l.1)) labels
 
 -- the instructions, without the numbers of their lines
 abbrev pub sources_shown : List SourceLine → List Source
-sources_shown sources = map (λ s. source_value s.source) sources
+sources_shown sources = map (λ s. kept_value s.kept) sources
 
 -- what this draft holds
 abbrev pub held_by : Draft → Held
@@ -111,6 +111,6 @@ Gives h i = (said : List Line) → IsHeldOf said h → listing_from said ≡ Som
 abbrev pub GivesNone : Held → Type 0
 GivesNone h = (said : List Line) → IsHeldOf said h → listing_from said ≡ None
 
--- the image has one more instruction, that of these bytes
-abbrev pub Pushes : Image → List ℕ → Image → Type 0
-Pushes old bytes new = (i : Instr) × (instr_bytes i ≡ bytes) × (instr_fault old.raw bytes ≡ None) × (new ≡ record old { code = old.code ++ i ∷ [] })
+-- the image has one more instruction, that of these bytes, which are there
+abbrev pub Pushes : Image → Option (List ℕ) → Image → Type 0
+Pushes old bytes new = (i : Instr) × (bytes ≡ Some (instr_bytes i)) × (new ≡ record old { code = old.code ++ i ∷ [] })

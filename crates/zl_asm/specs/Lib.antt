@@ -6,4 +6,5 @@ pub mod Denotes
 pub mod Canonical
 pub mod Causes
 pub mod Pieces
+pub mod Kept
 pub mod Draft

@@ -1,16 +1,17 @@
 //! What the lines of a text have said so far.
-ghost use Rattle.std.specs.Prelude.{◌≡◌, ◌≤◌, [], length};
+ghost use Rattle.std.specs.Prelude.{◌≡◌, ◌≤◌, [], length, IsTrue, All};
 ghost use Rattle.zl_code.specs.Limits.{most_instructions, most_memory, most_budget};
+ghost use Rattle.zl_asm.specs.Kept.{is_kept_in_range};
 
 use crate::directive::Directive;
 use crate::fault::{AsmCause, AsmFault};
 use crate::label_map::{Labels, TextHasher};
 use crate::line::{Line, Source, line_of};
-use crate::resolving::{push_bytes, resolved};
+use crate::resolving::{Kept, kept_of, push_kept};
 use crate::words::{is_ascii, split_words};
 use indexmap::IndexMap;
 use std::alloc::Global;
-use zl_code::{Image, Instr, SlotArray, Start};
+use zl_code::{Image, SlotArray, Start};
 
 /// What the lines have said so far.
 #[derive(Drop)]
@@ -25,19 +26,20 @@ pub(crate) struct Draft<'a> {
     sources: Vec<SourceLine<'a>>,
     ghost few: { length sources.items ≤ most_instructions },
     ghost empty: { image.code ≡ [] },
+    ghost fit: { All (λ s. IsTrue (is_kept_in_range image.raw s.kept)) sources.items },
 }
 
 /// An instruction and the number of its line.
 #[derive(Clone, Copy)]
 pub(crate) struct SourceLine<'a> {
     line: u64,
-    source: Source<'a>,
+    kept: Kept<'a>,
 }
 
 impl<'a> Draft<'a> {
     ghost use Rattle.indexmap.specs.IndexMap.{hasher_of};
     ghost use Rattle.std.specs.Hash.DefaultHasher as sip;
-    ghost use Rattle.std.specs.Prelude.{◌⊎◌, false, OnOk, OnErr, IfOk, IfErr, IsTrue};
+    ghost use Rattle.std.specs.Prelude.{◌⊎◌, false, OnOk, OnErr, IfOk, IfErr};
     ghost use Rattle.zl_asm.specs.declared.directive.Directive.TheVariants as directives;
     ghost use Rattle.zl_asm.specs.declared.fault.AsmCause.TheVariants.{NoMemory};
     ghost use Rattle.zl_asm.specs.Draft.{held_by, IsHeldOf, Holds, Refuses, Reads, Stops, Gives, GivesNone, is_directive_in_range};
@@ -188,12 +190,15 @@ impl<'a> Draft<'a> {
         if self.sources.len() >= Image::MOST_INSTRUCTIONS {
             return Err(AsmCause::Limit);
         }
-        if source.label.is_none() && Instr::from_bytes(self.image.is_raw(), source.bytes).is_err() {
-            return Err(AsmCause::Operand);
+        match kept_of(self.image.is_raw(), &source) {
+            Ok(kept) => {
+                self.sources
+                    .extend_from_slice(&[SourceLine { line, kept }])?;
+                self.has_body = true;
+                Ok(())
+            }
+            Err(cause) => Err(cause),
         }
-        self.sources.push(SourceLine { line, source })?;
-        self.has_body = true;
-        Ok(())
     }
 
     /// Reads the line of this number; `words` and `operands` are room for its words.
@@ -233,15 +238,8 @@ impl<'a> Draft<'a> {
             ..
         } = self;
         while let Some(entry) = sources.get(image.len()) {
-            let line = entry.line;
-            let bytes = match resolved(&labels, entry.source) {
-                Some(bytes) => bytes,
-                None => {
-                    let cause = AsmCause::LabelMissing;
-                    return Err(AsmFault { line, cause });
-                }
-            };
-            if let Err(cause) = push_bytes(&mut image, bytes) {
+            if let Err(cause) = push_kept(&mut image, &labels, &entry.kept) {
+                let line = entry.line;
                 return Err(AsmFault { line, cause });
             }
         }

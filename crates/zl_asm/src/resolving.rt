@@ -1,8 +1,9 @@
 //! From the instruction of a line to that of an image.
-ghost use Rattle.std.specs.Prelude.{◌≡◌, ◌<◌, length, true, is_some, OnOk};
-ghost use Rattle.zl_code.specs.Spells.{instr_fault};
+ghost use Rattle.std.specs.Prelude.{◌≡◌, ◌<◌, length, true, false, None, is_some, IsTrue, OnOk, IfOk, IfErr, Some};
+ghost use Rattle.zl_code.specs.Spells.{instr_bytes, instr_fault, is_instr_in_range};
 ghost use Rattle.zl_code.specs.Limits.{most_instructions};
 ghost use Rattle.zl_asm.specs.Causes.{OnRefusal};
+ghost use Rattle.zl_asm.specs.Kept.{kept_value, is_kept_in_range, is_fine};
 ghost use Rattle.zl_asm.specs.Draft.{labels_shown, Pushes};
 ghost use Rattle.zl_asm.specs.Listing as listing;
 ghost use Rattle.zl_asm.specs.Values.{source_value};
@@ -11,6 +12,41 @@ use crate::fault::AsmCause;
 use crate::label_map::Labels;
 use crate::line::Source;
 use zl_code::{Image, Instr, InstrBytes};
+
+/// An instruction as it is kept until all labels are known.
+#[derive(Clone, Copy)]
+pub(crate) enum Kept<'a> {
+    /// It names no label, and so is decoded.
+    Whole(Instr),
+    /// Its bytes with the target 0, and the label that names its target.
+    Open([u8; Instr::LEN], &'a [u8]),
+}
+
+/// The instruction of these bytes. `Operand` where a field is out of its range.
+fn decoded(raw: bool, bytes: [u8; Instr::LEN]) -> Result<Instr, AsmCause>
+    ensures bytes { IfOk result (λ instr. instr_bytes instr ≡ bytes) }
+    ensures in_range { IfOk result (λ instr. IsTrue (is_instr_in_range raw instr)) }
+    ensures refused { IfErr result (λ _. is_some (instr_fault raw bytes) ≡ true) }
+{
+    match Instr::from_bytes(raw, bytes) {
+        Ok(instr) => Ok(instr),
+        Err(_) => Err(AsmCause::Operand),
+    }
+}
+
+/// What is kept of the instruction of a line. `Operand` where it names no label, and a field is out
+/// of its range.
+pub(crate) fn kept_of<'a>(raw: bool, source: &Source<'a>) -> Result<Kept<'a>, AsmCause>
+    ensures same { IfOk result (λ kept. kept_value kept ≡ source_value source.now) }
+    ensures in_range { IfOk result (λ kept. IsTrue (is_kept_in_range raw kept)) }
+    ensures refused { IfErr result (λ _. (source.now.label ≡ None)
+        × (is_some (instr_fault raw source.now.bytes) ≡ true)) }
+{
+    match source.label {
+        None => Ok(Kept::Whole(decoded(raw, source.bytes)?)),
+        Some(label) => Ok(Kept::Open(source.bytes, label)),
+    }
+}
 
 /// The bytes of an instruction with this target.
 fn with_target(bytes: [u8; Instr::LEN], target: u32) -> [u8; Instr::LEN]
@@ -22,33 +58,40 @@ fn with_target(bytes: [u8; Instr::LEN], target: u32) -> [u8; Instr::LEN]
     parts.join()
 }
 
-/// The bytes of the instruction, with the number for which its label stands; nothing where no label
-/// has the name.
-pub(crate) fn resolved(labels: &Labels, source: Source) -> Option<[u8; Instr::LEN]>
-    ensures { result ≡
-        listing.resolved (labels_shown labels.now.entries) (source_value source.entry) }
+/// The instruction, with the number for which its label stands. `LabelMissing` where no label has
+/// the name, and `Operand` where a field is out of its range.
+fn instr_of(labels: &Labels, raw: bool, kept: &Kept) -> Result<Instr, AsmCause>
+    requires { IsTrue (is_kept_in_range raw kept.now) }
+    ensures found { IfOk result (λ instr.
+        listing.resolved (labels_shown labels.now.entries) (kept_value kept.now)
+        ≡ Some (instr_bytes instr)) }
+    ensures in_range { IfOk result (λ instr. IsTrue (is_instr_in_range raw instr)) }
+    ensures refused { IfErr result (λ _. is_fine raw
+        (listing.resolved (labels_shown labels.now.entries) (kept_value kept.now)) ≡ false) }
 {
-    match source.label {
-        Some(name) => {
-            let target = labels.get(name)?;
-            Some(with_target(source.bytes, *target))
-        }
-        None => Some(source.bytes),
+    match kept {
+        Kept::Whole(instr) => Ok(*instr),
+        Kept::Open(bytes, label) => match labels.get(*label) {
+            Some(target) => decoded(raw, with_target(*bytes, *target)),
+            None => Err(AsmCause::LabelMissing),
+        },
     }
 }
 
-/// Adds the instruction of these bytes behind the others, of which there are fewer than 4,096.
-/// `Operand` where a field is out of its range.
-pub(crate) fn push_bytes(image: &mut Image, bytes: [u8; Instr::LEN]) -> Result<(), AsmCause>
-    requires { length image.old.code < most_instructions }
-    ensures pushed { OnOk result (Pushes image.old bytes image.new) }
-    ensures refused { OnRefusal result (is_some (instr_fault image.old.raw bytes) ≡ true) }
+/// Adds the instruction behind the others, of which there are fewer than 4,096.
+pub(crate) fn push_kept(image: &mut Image, labels: &Labels, kept: &Kept) -> Result<(), AsmCause>
+    requires room { length image.old.code < most_instructions }
+    requires in_range { IsTrue (is_kept_in_range image.old.raw kept.now) }
+    ensures pushed { OnOk result (Pushes image.old
+        (listing.resolved (labels_shown labels.now.entries) (kept_value kept.now)) image.new) }
+    ensures refused { OnRefusal result (is_fine image.old.raw
+        (listing.resolved (labels_shown labels.now.entries) (kept_value kept.now)) ≡ false) }
 {
-    match Instr::from_bytes(image.is_raw(), bytes) {
+    match instr_of(labels, image.is_raw(), kept) {
         Ok(instr) => {
             image.push_instr(instr)?;
             Ok(())
         }
-        Err(_) => Err(AsmCause::Operand),
+        Err(cause) => Err(cause),
     }
 }

@@ -1,4 +1,4 @@
-use Rattle.zl_asm.proofs.Common.{SourceLine, ap, arith, held_by, inr, is_some, length-map, refl, source_value, sym, ◌∙◌}
+use Rattle.zl_asm.proofs.Common.{SourceLine, ap, arith, held_by, inr, is_some, kept_value, length-map, refl, sym, ◌∙◌}
 use Rattle.zl_asm.proofs.Labels.{lookup_is}
 use Rattle.zl_asm.proofs.DraftAdds.{label_added, none_by}
 use Rattle.zl_asm.proofs.DraftRefuses.{label_refused}
@@ -16,4 +16,4 @@ returns-clause-held c =
     let free = sym (lookup_is c.args.self.now.labels.entries c.args.name.now) ∙ absent in
     let entries = (c.in_ok-insert.ensures {u = tt}).entries ∙ insert_entry-new _ c.args.self.now.labels c.args.name c.len.result absent in
     label_added (held_by c.args.self.now) _ c.insert.new.self.entries c.args.name c.len.result entries refl
-    (omega (arith, length-map c.args.self.now.sources.items (λ (s : SourceLine). source_value s.source))) free
+    (omega (arith, length-map c.args.self.now.sources.items (λ (s : SourceLine). kept_value s.kept))) free

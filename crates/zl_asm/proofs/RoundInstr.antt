@@ -3,7 +3,7 @@ use Rattle.zl_asm.proofs.Common.{Bool, Code, IsBytes, List, None, Option, Row, S
 use Rattle.zl_asm.proofs.Common.{hex_text, instr_fault, instr_text, is_ending_clear, is_word, joined, layout, layout_of, length, length-drop}
 use Rattle.zl_asm.proofs.Common.{length-take, line_of, list_all, list_all-from_IsBytes, operand_texts, option_map, pow-suc, reading_of, refl, resolved}
 use Rattle.zl_asm.proofs.Common.{row_bytes, row_named, row_of, row_text, slice_index, source_of, starts_with, suc, take, true, unknown_of, words_of, zero, ℕ}
-use Rattle.zl_asm.proofs.Common.{◌++◌, ◌+◌, ◌<◌, ◌==◌, ◌^◌, ◌∙◌, ◌∷◌, ◌≡◌}
+use Rattle.zl_asm.proofs.Common.{◌++◌, ◌<◌, ◌==◌, ◌^◌, ◌∙◌, ◌∷◌, ◌≡◌}
 use Rattle.zl_code.proofs.Common.{number_of}
 use Rattle.zl_code.proofs.InstrFacts.{no_fault-row, row_bytes-again}
 use Rattle.zl_code.proofs.ImageBytes.{IsBytes-drop}

@@ -1,12 +1,16 @@
 -- What clap finds in the words that it takes for the program's commands.
-use Rattle.zl_command.proofs.Common.{App, Bool, Err, ErrorKind, FaultOf, HasNumber, HasValue, HasValues, IfErr, IfSome, IsErrAnd, List, MayAskForHelp, None, Ok}
-use Rattle.zl_command.proofs.Common.{Option, Result, Shape, Some, Text, [], ap, built, bytes_eq, codes, commands, cond, entered, false, fault_of, filled, inl}
-use Rattle.zl_command.proofs.Common.{inr, is_some, names_of, needed, not, numbered, option_map, option_map_or, refl, rows_at, slice_get, subcommand_of, subst}
-use Rattle.zl_command.proofs.Common.{sym, true, true≢false, unwrap_or, with_index, ℕ, ◌&&◌, ◌||◌, ◌∙◌, ◌∷◌, ◌≡◌, ◌⊎◌}
+use Rattle.zl_command.proofs.Common.{AnswersError, App, Bool, Err, ErrorKind, GivesText, HasNumber, HasValue, HasValues, IfErr, IfOk, IfSome, IfTask, IfText}
+use Rattle.zl_command.proofs.Common.{IsShown, List, MayAskForHelp, None, Ok, Option, Result, Shape, Some, Text, [], ap, built, bytes_eq, codes, commands, cond}
+use Rattle.zl_command.proofs.Common.{entered, false, fault_of, filled, inl, inr, is_simple_and_free, is_some, names_of, needed, not, numbered, option_map}
+use Rattle.zl_command.proofs.Common.{option_map_or, refl, rows_at, slice_get, subcommand_of, subst, sym, true, true≢false, unwrap_or, with_index, ℕ, ◌&&◌, ◌||◌}
+use Rattle.zl_command.proofs.Common.{◌∙◌, ◌∷◌, ◌≡◌, ◌≢◌, ◌⊎◌}
 use Rattle.std.proofs.lemmas.Slice.Eq.{bytes_eq-Decides}
 use Rattle.clap.specs.Walk.{Held, Row, Rule, nothing_held, rows_after, stop_after, used}
 use Rattle.clap.specs.Kinds.{IsAmong, Kinds, check_kinds}
-use Rattle.clap.specs.declared.error.kind.ErrorKind.TheVariants.{DisplayHelp, DisplayVersion, InvalidSubcommand, OutOfMemory}
+use Rattle.clap.specs.declared.error.kind.ErrorKind.TheVariants.{DisplayHelp, InvalidSubcommand, OutOfMemory}
+use Rattle.zl_command.specs.declared.command.Task.{Task}
+use Rattle.zl_command.specs.declared.command.Asked.{Asked}
+use Rattle.zl_command.specs.declared.command.Asked.TheVariants as asked
 use Rattle.zl_command.specs.declared.command.WordFault.{WordFault}
 use Rattle.zl_command.specs.declared.command.WordFault.TheVariants.{NoMemory, Usage}
 use Rattle.clap.specs.Faults.{check_fault, entered_fault, level_fault, other_fault}
@@ -226,43 +230,53 @@ found_values words e =
     IsNoHelp no_help words _ _ (refl, (refl, tt)) e in
     entered_values (stop_after (built commands).top.rules (names_of (built commands)) words) end.1 end.2
 
--- ---- a refusal
-
-not_taken : (taken : Bool) (kind : ErrorKind) (fault : WordFault) → FaultOf kind fault → (taken ≡ true → kind ≡ OutOfMemory) → fault ≡ Usage → taken ≡ false
-not_taken false kind fault is memory usage = refl
-not_taken true kind fault is memory usage =
-    let kind_is : kind ≡ OutOfMemory = memory refl in
-    let none : fault ≡ NoMemory = rw kind_is at is in
-    cc
-
--- where clap takes the words, only memory can be wanted
-pub refused_by : {X : Type 0} (r : Result X WordFault) (taken : Bool) (kind : ErrorKind) → IsErrAnd r (FaultOf kind) → (taken ≡ true → kind ≡ OutOfMemory)
-    → IfErr r (λ fault. fault ≡ Usage → taken ≡ false)
-refused_by (Ok x) taken kind is memory = tt
-refused_by (Err fault) taken kind is memory = not_taken taken kind fault is memory
-
 pub mapped_some : {X Y : Type 0} (f : X → Y) (o : Option X) → is_some o ≡ is_some (option_map f o)
 mapped_some f None = refl
 mapped_some f (Some x) = refl
 
--- ---- a question for help
+-- an app that is the command set finds no fault where that finds none
+pub none_found : (app : App) (words : List Text) → app ≡ commands → (is_simple_and_free app ≡ true → fault_of app words ≡ []) → fault_of commands words ≡ []
+none_found app words is none = sym (ap (λ a. fault_of a words) is) ∙ none (ap is_simple_and_free is)
 
--- the kinds of a fault are those of the command set
-pub kinds_of_set : (app : App) (words : List Text) → app ≡ commands → fault_of app words ≡ fault_of commands words
-kinds_of_set app words is = ap (λ a. fault_of a words) is
+-- ---- what is answered to an error of clap
 
-pub asks_for_help : (kinds : Kinds) (kind asked : ErrorKind) → (kind ≡ OutOfMemory) ⊎ IsAmong kind kinds → asked ≡ kind
-    → (asked ≡ DisplayHelp) ⊎ (asked ≡ DisplayVersion) → MayAskForHelp kinds
-asks_for_help kinds kind asked (inl memory) same (inl help) = cc
-asks_for_help kinds kind asked (inl memory) same (inr version) = cc
-asks_for_help kinds kind asked (inr among) same (inl help) = inl (subst (λ k. IsAmong k kinds) (sym same ∙ help) among)
-asks_for_help kinds kind asked (inr among) same (inr version) = inr (subst (λ k. IsAmong k kinds) (sym same ∙ version) among)
+pub no_task : (P : Task → Type 0) (kind : ErrorKind) (r : Result Asked WordFault) → AnswersError kind r → IfOk r (IfTask P)
+no_task P kind (Ok (asked.Text text)) is = tt
+no_task P kind (Ok (asked.Task task)) is = absurd is
+no_task P kind (Err fault) is = tt
 
-pub asks_nothing : (kinds : Kinds) (kind asked wanted : ErrorKind) → (kind ≡ OutOfMemory) ⊎ IsAmong kind kinds → asked ≡ kind
-    → (asked ≡ OutOfMemory → ⊥) → (asked ≡ wanted → ⊥) → kinds ≡ wanted ∷ [] → false ≡ true
-asks_nothing kinds kind asked wanted (inl memory) same no_memory other is = absurd (no_memory (same ∙ memory))
-asks_nothing kinds kind asked wanted (inr among) same no_memory other is = go (subst (IsAmong kind) is among)
-  where
-    go : IsAmong kind (wanted ∷ []) → false ≡ true
-    go (inl here) = absurd (other (same ∙ here))
-    go (inr none) = absurd none
+-- where clap finds one of these kinds of fault, or has no memory
+module _ (kinds : Kinds) (kind : ErrorKind) (has : (kind ≡ OutOfMemory) ⊎ IsAmong kind kinds) where
+  found : (kind ≢ OutOfMemory) → IsAmong kind kinds
+  found other = go has
+    where
+      go : (kind ≡ OutOfMemory) ⊎ IsAmong kind kinds → IsAmong kind kinds
+      go (inl memory) = absurd (other memory)
+      go (inr among) = among
+
+  pub gives_text : (r : Result Asked WordFault) → AnswersError kind r → (wanted : ErrorKind) → IsShown wanted → kinds ≡ wanted ∷ [] → GivesText r
+  gives_text (Ok (asked.Text text)) is wanted shown alone = tt
+  gives_text (Ok (asked.Task task)) is wanted shown alone = absurd is
+  gives_text (Err NoMemory) is wanted shown alone = refl
+  gives_text (Err Usage) is wanted shown alone = go (subst (IsAmong kind) alone (found (is refl).0))
+    where
+      go : IsAmong kind (wanted ∷ []) → Usage ≡ NoMemory
+      go (inl same) = absurd ((is refl).1 (subst IsShown (sym same) shown))
+      go (inr none) = absurd none
+
+  pub may_ask : (r : Result Asked WordFault) → AnswersError kind r → IfOk r (IfText (MayAskForHelp kinds))
+  may_ask (Ok (asked.Text text)) (inl help) = inl (subst (λ k. IsAmong k kinds) help (found (λ memory. cc)))
+  may_ask (Ok (asked.Text text)) (inr version) = inr (subst (λ k. IsAmong k kinds) version (found (λ memory. cc)))
+  may_ask (Ok (asked.Task task)) is = tt
+  may_ask (Err fault) is = tt
+
+  pub has_fault : (r : Result Asked WordFault) → AnswersError kind r → IfErr r (λ fault. fault ≡ Usage → kinds ≢ [])
+  has_fault (Ok answer) is = tt
+  has_fault (Err fault) is = λ usage none. subst (IsAmong kind) none (found (is usage).0)
+
+-- where clap takes the words, only memory can be wanted
+pub not_taken : (taken : Bool) (kind : ErrorKind) (r : Result Asked WordFault) → (taken ≡ true → kind ≡ OutOfMemory) → AnswersError kind r
+    → IfErr r (λ fault. fault ≡ Usage → taken ≡ false)
+not_taken taken kind (Ok answer) memory is = tt
+not_taken true kind (Err fault) memory is = λ usage. absurd ((is usage).0 (memory refl))
+not_taken false kind (Err fault) memory is = λ usage. refl

@@ -6,9 +6,9 @@ pub use Rattle.clap.specs.declared.error.kind.ErrorKind.{ErrorKind}
 pub use Rattle.std.proofs.lemmas.Result.{IfOk-weaker}
 pub use Rattle.std.specs.List.{find}
 pub use Rattle.std.specs.Option.{option_map_or}
-pub use Rattle.std.specs.Prelude.{Bool, Err, IfErr, IfSome, IsErrAnd, IsSome, List, None, Ok, Option, Result, Some, [], codes, drop, encode_utf8, false, fold}
-pub use Rattle.std.specs.Prelude.{is_some, length, map, not, option_and_then, slice_get, suc, true, unwrap_or, zero, ℕ, ◌&&◌, ◌++◌, ◌||◌, ◌∷◌, ◌≡◌, ◌⊎◌}
+pub use Rattle.std.specs.Prelude.{Bool, Err, IfErr, IfOk, IfSome, IsSome, List, None, Ok, Option, Result, Some, [], codes, drop, encode_utf8, false, fold}
+pub use Rattle.std.specs.Prelude.{is_some, length, map, not, option_and_then, slice_get, suc, true, unwrap_or, zero, ℕ, ◌&&◌, ◌++◌, ◌||◌, ◌∷◌, ◌≡◌, ◌≢◌, ◌⊎◌}
 pub use Rattle.std.specs.Str.{bytes_eq}
 pub use Rattle.std.specs.Str.Parse.{ExplainsUnsignedError, HasUnsignedDigitsIfOk, ParsesUnsigned}
-pub use Rattle.zl_command.specs.Words.{FaultOf, HasNumber, HasValue, HasValues, MayAskForHelp, assembling, checking, commands, needed, number, number_of}
-pub use Rattle.zl_command.specs.Words.{numbered, program, replaying, running, stepping}
+pub use Rattle.zl_command.specs.Words.{AnswersError, GivesText, HasNumber, HasValue, HasValues, IfTask, IfText, IsShown, MayAskForHelp, assembling, checking}
+pub use Rattle.zl_command.specs.Words.{commands, needed, number, number_of, numbered, program, replaying, running, stepping}

@@ -1,11 +1,14 @@
 -- The command line: the command set as `clap` defines one, and what its words ask for.
-use Rattle.std.specs.Prelude.{◌≡◌, ◌≤◌, ◌⊎◌, true, codes, Option, Some, None, IsSome, IsSomeAnd, option_and_then, ℕ, List, [], ◌∷◌, fold, if◌then◌else◌}
+use Rattle.std.specs.Prelude.{◌≡◌, ◌≢◌, ◌≤◌, ◌⊎◌, true, codes, Option, Some, None, IsSome, IsSomeAnd, option_and_then, ℕ, List, [], ◌∷◌, fold}
+use Rattle.std.specs.Prelude.{Result, Ok, Err, if◌then◌else◌}
 use Rattle.std.specs.Str.Parse.{digits_value, without_leading_plus}
 use Rattle.clap.specs.ValueTests.{is_numeral}
 use Rattle.clap.specs.Words.{App, IsAmong, Kinds, Row, Rule, Text, first_of, new_app, new_rule, one_of, with_rule, with_subcommand}
 use Rattle.clap.specs.declared.builder.value_parser.ValueParser.TheVariants.{Unsigned}
 use Rattle.clap.specs.declared.error.kind.ErrorKind.{ErrorKind}
 use Rattle.clap.specs.declared.error.kind.ErrorKind.TheVariants.{DisplayHelp, DisplayVersion, OutOfMemory}
+use Rattle.zl_command.specs.declared.command.Asked.{Asked}
+use Rattle.zl_command.specs.declared.command.Asked.TheVariants as asked
 use Rattle.zl_command.specs.declared.command.Task.{Task}
 use Rattle.zl_command.specs.declared.command.Task.TheVariants.{Assemble, Check, Input, Step, Replay, Run}
 use Rattle.zl_command.specs.declared.command.WordFault.{WordFault}
@@ -108,10 +111,31 @@ AsksFor (Some found) (Run scenario workers limit) = (found.0 ≡ codes "run")
     × (number_of (codes "limit") found.1 ≡ Some limit) × (limit ≤ 1000000)
 AsksFor _ _ = ⊥
 
--- what an error of clap is to the program
-abbrev pub FaultOf : ErrorKind → WordFault → Type 0
-FaultOf OutOfMemory fault = fault ≡ NoMemory
-FaultOf _ fault = fault ≡ Usage
+-- of an answer that is a task, the task has the fact
+abbrev pub IfTask : (Task → Type 0) → Asked → Type 0
+IfTask P (asked.Task task) = P task
+IfTask P (asked.Text text) = Unit {0}
+
+-- where an answer is a text, the fact holds
+abbrev pub IfText : Type 0 → Asked → Type 0
+IfText P (asked.Text text) = P
+IfText P (asked.Task task) = Unit {0}
+
+-- a text is answered, unless memory is refused
+abbrev pub GivesText : Result Asked WordFault → Type 0
+GivesText (Ok (asked.Text text)) = Unit {0}
+GivesText (Ok (asked.Task task)) = ⊥
+GivesText (Err fault) = fault ≡ NoMemory
+
+-- clap answers with its text: the help or the version
+abbrev pub IsShown : ErrorKind → Type 0
+IsShown kind = (kind ≡ DisplayHelp) ⊎ (kind ≡ DisplayVersion)
+
+-- clap's error of this kind is answered with its text where that is shown, and else is a fault
+abbrev pub AnswersError : ErrorKind → Result Asked WordFault → Type 0
+AnswersError kind (Ok (asked.Text text)) = IsShown kind
+AnswersError kind (Ok (asked.Task task)) = ⊥
+AnswersError kind (Err fault) = fault ≡ Usage → (kind ≢ OutOfMemory) × (IsShown kind → ⊥)
 
 -- clap may answer with the help or with the version
 abbrev pub MayAskForHelp : Kinds → Type 0

@@ -1,9 +1,9 @@
 //! The command line, read with `clap`: what its words ask for, and its help.
-ghost use Rattle.std.specs.Prelude.{◌≡◌, ◌≢◌, ◌≤◌, Some, IsSome, IfOk, IfErr, map, codes, false, [], ◌∷◌};
+ghost use Rattle.std.specs.Prelude.{◌≡◌, ◌≢◌, ◌≤◌, Some, IfOk, IfErr, map, codes, false, [], ◌∷◌};
 ghost use Rattle.clap.specs.Takes.{takes};
 ghost use Rattle.clap.specs.Words.{app_of, fault_of, first_of, found_of, kind_of, rows_of, rule_of, subcommand_of, subcommand_rows_of};
-ghost use Rattle.zl_command.specs.Words.{AsksFor, FaultOf, HasItsValues, HasNumber, HasValue, HasValues, MayAskForHelp, commands, needed, number_of};
-ghost use Rattle.zl_command.specs.Words.{assembling, checking, replaying, running, stepping};
+ghost use Rattle.zl_command.specs.Words.{AnswersError, AsksFor, GivesText, HasItsValues, HasNumber, HasValue, HasValues, IfTask, IfText, MayAskForHelp};
+ghost use Rattle.zl_command.specs.Words.{assembling, checking, commands, needed, number_of, replaying, running, stepping};
 ghost use Rattle.zl_command.specs.declared.command.WordFault.TheVariants.{NoMemory, Usage};
 
 mod texts;
@@ -16,6 +16,15 @@ use std::convert::AsStr;
 use thiserror::Error;
 
 /// What a command line asks for.
+#[derive(Debug, Drop)]
+pub enum Asked<'a> {
+    /// The help or the version, whose text is written.
+    Text(String),
+    /// A task.
+    Task(Task<'a>),
+}
+
+/// What the program does with its inputs.
 #[derive(Clone, Copy, PartialEq, Eq, Debug)]
 pub enum Task<'a> {
     /// No words: standard input has a scenario and a schedule, whose trace is written.
@@ -77,31 +86,42 @@ impl From<AllocError> for WordFault {
     }
 }
 
-impl From<clap::Error> for WordFault {
-    ghost from_gives = { λ error fault. FaultOf (kind_of error) fault };
-
-    fn from(error: clap::Error) -> WordFault {
-        match error.kind() {
-            ErrorKind::OutOfMemory => WordFault::NoMemory,
-            _ => WordFault::Usage,
-        }
-    }
-}
-
-/// What the words after the program's name ask for. `Usage` comes where `clap` doesn't take them for
-/// the command set, and so for words that ask for help or for the version: `help` has the text for
-/// those. `NoMemory` comes where memory is refused.
-pub fn words<'a, S: AsStr>(alloc: Global, words: &'a [S]) -> Result<Task<'a>, WordFault>
-    ensures task { IfOk result (λ task. AsksFor (subcommand_of commands
-        (map S.text words.entry.now)) task) }
-    ensures taken { IfOk result (λ _. fault_of commands (map S.text words.entry.now) ≡ []) }
+/// What the words after the program's name ask for. A text comes where `clap` answers with its help or with
+/// the version, `Usage` where it takes the words neither for that nor for the command set, and `NoMemory`
+/// where memory is refused.
+pub fn parse<'a, S: AsStr>(alloc: Global, words: &'a [S]) -> Result<Asked<'a>, WordFault>
+    ensures task { IfOk result (IfTask (λ task. AsksFor (subcommand_of commands
+        (map S.text words.entry.now)) task)) }
+    ensures taken { IfOk result (IfTask (λ _. fault_of commands
+        (map S.text words.entry.now) ≡ [])) }
+    ensures help { fault_of commands (map S.text words.entry.now) ≡ ErrorKind.DisplayHelp ∷ []
+        → GivesText result }
+    ensures version { fault_of commands (map S.text words.entry.now)
+        ≡ ErrorKind.DisplayVersion ∷ [] → GivesText result }
+    ensures other { IfOk result (IfText (MayAskForHelp
+        (fault_of commands (map S.text words.entry.now)))) }
     ensures faulty { IfErr result (λ fault. fault ≡ Usage → fault_of commands
         (map S.text words.entry.now) ≢ []) }
     ensures usage { IfErr result (λ fault. fault ≡ Usage → takes commands
         (map S.text words.entry.now) ≡ false) }
 {
-    let matches = command(alloc)?.try_get_matches_from(words)?;
-    Ok(task_of(&matches))
+    match command(alloc)?.try_get_matches_from(words) {
+        Ok(matches) => Ok(Asked::Task(task_of(&matches))),
+        Err(error) => text_of(alloc, error),
+    }
+}
+
+/// The text of an error by which `clap` answers with its help or with the version. Any other is a fault.
+fn text_of<'a>(alloc: Global, error: clap::Error) -> Result<Asked<'a>, WordFault>
+    ensures { AnswersError (kind_of error) result }
+{
+    match error.kind() {
+        ErrorKind::DisplayHelp | ErrorKind::DisplayVersion => {
+            Ok(Asked::Text(format!(in alloc; "{error}")?))
+        }
+        ErrorKind::OutOfMemory => Err(WordFault::NoMemory),
+        _ => Err(WordFault::Usage),
+    }
 }
 
 /// The task that the matches of the command set stand for.
@@ -250,26 +270,4 @@ fn needed<'a>(alloc: Global, name: &'a str, help: &'a str) -> Arg<'a>
     ensures local { result.global ≡ false }
 {
     Arg::new(alloc, name).help(help).required(true)
-}
-
-/// The text for words that ask for help or for the version; what other words ask for is left to
-/// `words`.
-pub fn help<S: AsStr>(alloc: Global, words: &[S]) -> Result<Option<String>, AllocError>
-    ensures help { fault_of commands (map S.text words.now) ≡ ErrorKind.DisplayHelp ∷ []
-        → IfOk result IsSome }
-    ensures version { fault_of commands (map S.text words.now) ≡ ErrorKind.DisplayVersion ∷ []
-        → IfOk result IsSome }
-    ensures other { IfOk result (λ text. IsSome text
-        → MayAskForHelp (fault_of commands (map S.text words.now))) }
-{
-    let Err(error) = command(alloc)?.try_get_matches_from(words) else {
-        return Ok(None);
-    };
-    match error.kind() {
-        ErrorKind::DisplayHelp | ErrorKind::DisplayVersion => {
-            Ok(Some(format!(in alloc; "{error}")?))
-        }
-        ErrorKind::OutOfMemory => Err(AllocError),
-        _ => Ok(None),
-    }
 }

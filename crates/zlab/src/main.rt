@@ -43,7 +43,7 @@ use std::thread::Threads;
 use std::{env, fs, io};
 use thiserror::Error;
 use told::Told;
-use zl_command::{Task, WordFault};
+use zl_command::{Asked, Task, WordFault};
 use zl_hints::{explain_failure, explain_opening, explain_words};
 
 /// Why the program ends without an answer.
@@ -95,33 +95,40 @@ fn run<R: AllocGlobal + Env + Files + Input + Print + Threads + Wait + Sync>(
 ) -> Result<Verdict, Failure> {
     let all = all_words(rt, hints)?;
     let words = all.get(1..).unwrap_or(&[]);
-    if let Some(text) = zl_command::help(rt.alloc(), words)? {
-        return match print!(rt; "{text}") {
-            Ok(()) => Ok(Verdict::Done),
-            Err(reason) => {
-                explain_failure(hints, "standard output", Some(reason));
-                Err(Failure::Engine(EngineFault::Write))
+    let asked = match zl_command::parse(rt.alloc(), words) {
+        Ok(asked) => asked,
+        Err(fault) => {
+            if fault == WordFault::Usage {
+                explain_words(hints, rt.alloc(), words);
             }
-        };
-    }
-    match zl_command::words(rt.alloc(), words) {
-        Ok(Task::Input) => Ok(step(rt, hints)?),
-        Ok(Task::Assemble { text, image }) => Ok(assemble(rt, hints, text, image)?),
-        Ok(Task::Check { image }) => Ok(check(rt, hints, image)?),
-        Ok(Task::Step { scenario, schedule }) => Ok(step_files(rt, hints, scenario, schedule)?),
-        Ok(
+            return Err(Failure::Words(fault));
+        }
+    };
+    let ended = match asked {
+        Asked::Text(text) => show(rt, hints, text.as_str()),
+        Asked::Task(Task::Input) => step(rt, hints),
+        Asked::Task(Task::Assemble { text, image }) => assemble(rt, hints, text, image),
+        Asked::Task(Task::Check { image }) => check(rt, hints, image),
+        Asked::Task(Task::Step { scenario, schedule }) => step_files(rt, hints, scenario, schedule),
+        Asked::Task(
             Task::Run {
                 scenario,
                 workers,
                 limit,
             },
-        ) => Ok(run_threads(rt, hints, scenario, workers, limit)?),
-        Ok(Task::Replay { scenario, trace }) => Ok(replay(rt, hints, scenario, trace)?),
-        Err(fault) => {
-            if fault == WordFault::Usage {
-                explain_words(hints, rt.alloc(), words);
-            }
-            Err(Failure::Words(fault))
+        ) => run_threads(rt, hints, scenario, workers, limit),
+        Asked::Task(Task::Replay { scenario, trace }) => replay(rt, hints, scenario, trace),
+    };
+    Ok(ended?)
+}
+
+/// Writes a text on standard output.
+fn show<R: Print>(rt: &R, hints: &mut String, text: &str) -> Result<Verdict, EngineFault> {
+    match print!(rt; "{text}") {
+        Ok(()) => Ok(Verdict::Done),
+        Err(reason) => {
+            explain_failure(hints, "standard output", Some(reason));
+            Err(EngineFault::Write)
         }
     }
 }

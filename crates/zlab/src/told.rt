@@ -2,30 +2,38 @@
 
 use std::io;
 use std::io::{Read, Write};
+use zl_hints::explain_failure;
 
-/// A reader or a writer, and why its last call that failed did so.
+/// A reader or a writer, the name that a person knows it by, and why its last call that failed did so.
 #[derive(Drop)]
-pub struct Told<T: Drop> {
+pub struct Told<'a, T: Drop> {
+    name: &'a str,
     inner: T,
     reason: Option<io::Error>,
 }
 
-impl<T: Drop> Told<T> {
+impl<'a, T: Drop> Told<'a, T> {
     /// Before the first call.
-    pub fn new(inner: T) -> Told<T> {
+    pub fn new(name: &'a str, inner: T) -> Told<'a, T> {
         Told {
+            name,
             inner,
             reason: None,
         }
     }
 
-    /// Why the last call that failed did so.
-    pub fn reason(&self) -> Option<io::Error> {
-        self.reason
+    /// Whether a call failed.
+    pub fn has_failed(&self) -> bool {
+        self.reason.is_some()
+    }
+
+    /// Puts its name into `hints`, and why its last call that failed did so.
+    pub fn explain(&self, hints: &mut String) {
+        explain_failure(hints, self.name, self.reason);
     }
 }
 
-impl<R: Read + Drop> Read for Told<R> {
+impl<'a, R: Read + Drop> Read for Told<'a, R> {
     ghost remaining = { λ t. R.remaining t.inner };
 
     fn read(&mut self, buf: &mut [u8]) -> io::Result<usize> {
@@ -37,7 +45,7 @@ impl<R: Read + Drop> Read for Told<R> {
     }
 }
 
-impl<W: Write + Drop> Write for Told<W> {
+impl<'a, W: Write + Drop> Write for Told<'a, W> {
     ghost contents = { λ t. W.contents t.inner };
 
     fn write(&mut self, buf: &[u8]) -> io::Result<usize> {

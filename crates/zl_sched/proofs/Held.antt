@@ -1,6 +1,7 @@
 -- The system that a struct holds, by what its fields hold.
-use Rattle.zl_sched.proofs.Common.{List, Machine, System, TraceItem, ℕ}
-use Rattle.zl_code.specs.declared.boot.Statement.{Statement}
+use Rattle.zl_sched.proofs.Common.{System}
+use Rattle.zl_sched.specs.declared.system.System.TheInside.{Inside}
 
-abbrev pub held : Machine → List TraceItem → List Statement → ℕ → List ℕ → List ℕ → System
-held machine items statements limit ready out = record { machine = machine; items = items; statements = statements; limit = limit; ready = ready; out = out }
+abbrev pub held : Inside → System
+held i =
+    record { machine = i.world; items = i.items.items; statements = i.boot.statements.items; limit = i.boot.limit; ready = i.ready.items; out = i.out.items }

@@ -3,31 +3,9 @@ use Rattle.zl_sched.proofs.HandedIn.{absent, accepted_room, accepted_so, accepte
 use Rattle.zl_sched.proofs.Held.{held}
 use Rattle.zl_sched.proofs.system.System.accept.Goals as goal
 
-pub queue-requires-clause-told : goal.queue-requires-clause-told
-queue-requires-clause-told c =
-    let before : System = held c.self.inside.world c.self.inside.items.items c.self.inside.boot.statements.items c.self.inside.boot.limit
-    c.self.inside.ready.items c.self.inside.out.items in
-    let awaited : IsAwaited before c.args.done = rw (← c.self.view_is) at c.requires.awaited in
-    let went : GoesFrom before.machine before.items c.args.done c.go-change.result c.go-change.new.world
-    c.go-change.new.items.items = rw c.reserve.ensures.items at c.go-change.ensures in
-    let left : c.deref.result.now ≡ others_of c.args.done.pid before.out = c.deref.ensures.value ∙ rw c.pid-pid.ensures at c.unmark.ensures.items in
-    rw (c.pid-pid.ensures, left, c.make_room.ensures.items)
-    (goes_told before c.self.invariant.0 c.args.done awaited c.go-change.result c.go-change.new.world c.go-change.new.items.items went)
-
-pub queue-requires-clause-apart : goal.queue-requires-clause-apart
-queue-requires-clause-apart c =
-    let before : System = held c.self.inside.world c.self.inside.items.items c.self.inside.boot.statements.items c.self.inside.boot.limit
-    c.self.inside.ready.items c.self.inside.out.items in
-    let awaited : IsAwaited before c.args.done = rw (← c.self.view_is) at c.requires.awaited in
-    let went : GoesFrom before.machine before.items c.args.done c.go-change.result c.go-change.new.world
-    c.go-change.new.items.items = rw c.reserve.ensures.items at c.go-change.ensures in
-    rw (c.pid-pid.ensures, c.make_room.ensures.items)
-    (absent before c.self.invariant.0 c.args.done awaited c.go-change.result c.go-change.new.world c.go-change.new.items.items went)
-
-pub queue-requires-clause-room : goal.queue-requires-clause-room
-queue-requires-clause-room c =
-    let before : System = held c.self.inside.world c.self.inside.items.items c.self.inside.boot.statements.items c.self.inside.boot.limit
-    c.self.inside.ready.items c.self.inside.out.items in
+pub queue-requires : goal.queue-requires
+queue-requires c =
+    let before : System = held c.self.inside in
     let awaited : IsAwaited before c.args.done = rw (← c.self.view_is) at c.requires.awaited in
     let went : GoesFrom before.machine before.items c.args.done c.go-change.result c.go-change.new.world
     c.go-change.new.items.items = rw c.reserve.ensures.items at c.go-change.ensures in
@@ -35,12 +13,17 @@ queue-requires-clause-room c =
     let places : length before.machine.world.processes ≤ vec_capacity c.make_room.new.ready = done _ _
     (c.if-is_err-2.ensures {u = tt}).value c.make_room.ensures.room in
     let room = requeued_room before c.self.invariant.0 c.args.done awaited c.go-change.result c.go-change.new.world c.go-change.new.items.items went in
-    rw (c.pid-pid.ensures, left, c.make_room.ensures.items) (omega (arith, room, places))
+    record {
+      told = rw (c.pid-pid.ensures, left, c.make_room.ensures.items)
+          (goes_told before c.self.invariant.0 c.args.done awaited c.go-change.result c.go-change.new.world c.go-change.new.items.items went);
+      apart = rw (c.pid-pid.ensures, c.make_room.ensures.items)
+          (absent before c.self.invariant.0 c.args.done awaited c.go-change.result c.go-change.new.world c.go-change.new.items.items went);
+      room = rw (c.pid-pid.ensures, left, c.make_room.ensures.items) (omega (arith, room, places));
+    }
 
 pub invariant_of-self-2 : goal.invariant_of-self-2
 invariant_of-self-2 c =
-    let before : System = held c.self.inside.world c.self.inside.items.items c.self.inside.boot.statements.items c.self.inside.boot.limit
-    c.self.inside.ready.items c.self.inside.out.items in
+    let before : System = held c.self.inside in
     let awaited : IsAwaited before c.args.done = rw (← c.self.view_is) at c.requires.awaited in
     let room : HasRoom before c.args.done = rw (← c.self.view_is) at c.requires.room in
     let went : GoesFrom before.machine before.items c.args.done c.go-change.result c.go-change.new.world
@@ -60,8 +43,7 @@ invariant_of-self-2 c =
 
 pub returns : goal.returns
 returns c =
-    let before : System = held c.self.inside.world c.self.inside.items.items c.self.inside.boot.statements.items c.self.inside.boot.limit
-    c.self.inside.ready.items c.self.inside.out.items in
+    let before : System = held c.self.inside in
     let awaited : IsAwaited before c.args.done = rw (← c.self.view_is) at c.requires.awaited in
     let room : HasRoom before c.args.done = rw (← c.self.view_is) at c.requires.room in
     let went : GoesFrom before.machine before.items c.args.done c.go-change.result c.go-change.new.world

@@ -6,8 +6,7 @@ use Rattle.zl_sched.proofs.system.System.forget.Goals as goal
 
 pub invariant_of-self : goal.invariant_of-self
 invariant_of-self c =
-    let before : System = held c.self.inside.world c.self.inside.items.items c.self.inside.boot.statements.items c.self.inside.boot.limit
-    c.self.inside.ready.items c.self.inside.out.items in
+    let before : System = held c.self.inside in
     let over : is_process before.machine.world lives c.args.pid ≡ false = rw (← c.self.view_is) at c.requires in (
       rw c.unmark.ensures.items (forgets_whole before c.self.invariant.0 c.args.pid over),
       omega (arith, c.self.invariant.1, ap length c.unmark.ensures.items, shorter c.args.pid before.out),

@@ -6,30 +6,19 @@ use Rattle.zl_sched.proofs.system.System.put_back.Goals as goal
 
 pub push_reserved-requires : goal.push_reserved-requires
 push_reserved-requires c =
-    let before : System = held c.self.inside.world c.self.inside.items.items c.self.inside.boot.statements.items c.self.inside.boot.limit
-    c.self.inside.ready.items c.self.inside.out.items in
+    let before : System = held c.self.inside in
     let marked : is_in c.args.pid before.out ≡ true = rw (← c.self.view_is) at c.requires.out in
     let is : is_process before.machine.world is_ready c.args.pid ≡ true = rw (← c.self.view_is) at c.requires.ready in
-    omega (
-      arith,
-      c.self.invariant.1,
-      out_shorter before.machine.world before.ready before.out c.self.invariant.0.listed c.args.pid marked is,
-      c.self.inside.ready.ok.0,
-    )
+    let shorter = out_shorter before.machine.world before.ready before.out c.self.invariant.0.listed c.args.pid marked is in
+    omega (arith, c.self.invariant.1, shorter, c.self.inside.ready.ok.0)
 
 pub invariant_of-self : goal.invariant_of-self
 invariant_of-self c =
-    let before : System = held c.self.inside.world c.self.inside.items.items c.self.inside.boot.statements.items c.self.inside.boot.limit
-    c.self.inside.ready.items c.self.inside.out.items in
+    let before : System = held c.self.inside in
     let marked : is_in c.args.pid before.out ≡ true = rw (← c.self.view_is) at c.requires.out in
-    let is : is_process before.machine.world is_ready c.args.pid ≡ true = rw (← c.self.view_is) at c.requires.ready in (
+    let is : is_process before.machine.world is_ready c.args.pid ≡ true = rw (← c.self.view_is) at c.requires.ready in
+    let room = put_back_room before.machine.world before.ready before.out c.self.invariant.0.listed c.args.pid marked is in
+    let longer = ap length c.push_reserved.ensures.items in (
       rw (c.push_reserved.ensures.items, c.unmark.ensures.items) (puts_back_whole before c.self.invariant.0 c.args.pid marked is),
-      omega (
-        arith,
-        c.self.invariant.1,
-        put_back_room before.machine.world before.ready before.out c.self.invariant.0.listed c.args.pid marked is,
-        ap length c.unmark.ensures.items,
-        ap length c.push_reserved.ensures.items,
-        c.push_reserved.ensures.capacity,
-      ),
+      omega (arith, c.self.invariant.1, room, ap length c.unmark.ensures.items, longer, c.push_reserved.ensures.capacity),
     )

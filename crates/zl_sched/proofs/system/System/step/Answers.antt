@@ -11,44 +11,28 @@ returns-then-len-self c =
 
 -- ---- where the process steps
 
-pub move_on-requires-clause-told : goal.move_on-requires-clause-told
-move_on-requires-clause-told c =
-    let before : System = held c.self.inside.world c.self.inside.items.items c.self.inside.boot.statements.items c.self.inside.boot.limit
-    c.self.inside.ready.items c.self.inside.out.items in
-    let unmarked : is_in c.args.pid before.out ≡ false = rw c.deref.ensures.value at (sym (c.if-is_out.ensures {u = tt})) in
-    let did = (c.in-Some.ensures {u = tt}).ran in
-    rw (c.change_of.ensures, c.deref-2.ensures.value, c.make_room.ensures.items)
-    (told_so before c.self.invariant.0 c.args.pid unmarked c.step.new.self c.in-Some.item did.takes c.in-Some.woke did.tells)
-
-pub move_on-requires-clause-once : goal.move_on-requires-clause-once
-move_on-requires-clause-once c =
-    let before : System = held c.self.inside.world c.self.inside.items.items c.self.inside.boot.statements.items c.self.inside.boot.limit
-    c.self.inside.ready.items c.self.inside.out.items in
-    let unmarked : is_in c.args.pid before.out ≡ false = rw c.deref.ensures.value at (sym (c.if-is_out.ensures {u = tt})) in
-    let did = (c.in-Some.ensures {u = tt}).ran in
-    rw c.make_room.ensures.items (once before c.self.invariant.0 c.args.pid unmarked c.step.new.self c.in-Some.item did.takes)
-
-pub move_on-requires-clause-room : goal.move_on-requires-clause-room
-move_on-requires-clause-room c =
-    let before : System = held c.self.inside.world c.self.inside.items.items c.self.inside.boot.statements.items c.self.inside.boot.limit
-    c.self.inside.ready.items c.self.inside.out.items in
+pub move_on-requires : goal.move_on-requires
+move_on-requires c =
+    let before : System = held c.self.inside in
     let unmarked : is_in c.args.pid before.out ≡ false = rw c.deref.ensures.value at (sym (c.if-is_out.ensures {u = tt})) in
     let did = (c.in-Some.ensures {u = tt}).ran in
     let room : length before.machine.world.processes ≤ vec_capacity c.make_room.new.ready = done _ _
     (c.if-is_err-2.ensures {u = tt}).value c.make_room.ensures.room in
     let fits = places before c.self.invariant.0 c.args.pid unmarked c.step.new.self c.in-Some.item did.takes in
-    rw (c.deref-2.ensures.value, c.make_room.ensures.items) (omega (arith, room, fits))
+    record {
+      told = rw (c.change_of.ensures, c.deref-2.ensures.value, c.make_room.ensures.items)
+          (told_so before c.self.invariant.0 c.args.pid unmarked c.step.new.self c.in-Some.item did.takes c.in-Some.woke did.tells);
+      once = rw c.make_room.ensures.items (once before c.self.invariant.0 c.args.pid unmarked c.step.new.self c.in-Some.item did.takes);
+      room = rw (c.deref-2.ensures.value, c.make_room.ensures.items) (omega (arith, room, fits));
+    }
 
 pub invariant_of-self-2 : goal.invariant_of-self-2
 invariant_of-self-2 c =
-    let before : System = held c.self.inside.world c.self.inside.items.items c.self.inside.boot.statements.items c.self.inside.boot.limit
-    c.self.inside.ready.items c.self.inside.out.items in
+    let before : System = held c.self.inside in
     let unmarked : is_in c.args.pid before.out ≡ false = rw c.deref.ensures.value at (sym (c.if-is_out.ensures {u = tt})) in
     let did = (c.in-Some.ensures {u = tt}).ran in
-    let is : c.move_on.new.ready.items ≡ requeued c.step.new.self.world c.args.pid before.out before.ready = rw (
-      c.deref-2.ensures.value,
-      c.make_room.ensures.items,
-    ) at c.move_on.ensures.items in
+    let is : c.move_on.new.ready.items ≡ requeued c.step.new.self.world c.args.pid before.out before.ready
+    = rw (c.deref-2.ensures.value, c.make_room.ensures.items) at c.move_on.ensures.items in
     let queue : c.move_on.new.ready.items ≡ queued_after before.machine.world c.args.pid c.step.new.self.world before.ready
     = by_requeue before c.self.invariant.0 c.args.pid unmarked c.step.new.self c.in-Some.item did.takes c.move_on.new.ready.items is in
     let room : length before.machine.world.processes ≤ vec_capacity c.make_room.new.ready = done _ _
@@ -62,14 +46,11 @@ invariant_of-self-2 c =
 
 pub returns : goal.returns
 returns c =
-    let before : System = held c.self.inside.world c.self.inside.items.items c.self.inside.boot.statements.items c.self.inside.boot.limit
-    c.self.inside.ready.items c.self.inside.out.items in
+    let before : System = held c.self.inside in
     let unmarked : is_in c.args.pid before.out ≡ false = rw c.deref.ensures.value at (sym (c.if-is_out.ensures {u = tt})) in
     let did = (c.in-Some.ensures {u = tt}).ran in
-    let is : c.move_on.new.ready.items ≡ requeued c.step.new.self.world c.args.pid before.out before.ready = rw (
-      c.deref-2.ensures.value,
-      c.make_room.ensures.items,
-    ) at c.move_on.ensures.items in
+    let is : c.move_on.new.ready.items ≡ requeued c.step.new.self.world c.args.pid before.out before.ready
+    = rw (c.deref-2.ensures.value, c.make_room.ensures.items) at c.move_on.ensures.items in
     let queue : c.move_on.new.ready.items ≡ queued_after before.machine.world c.args.pid c.step.new.self.world before.ready
     = by_requeue before c.self.invariant.0 c.args.pid unmarked c.step.new.self c.in-Some.item did.takes c.move_on.new.ready.items is in
     rw (← c.self.view_is)

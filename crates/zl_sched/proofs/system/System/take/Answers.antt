@@ -6,16 +6,10 @@ use Rattle.zl_sched.proofs.system.System.take.Goals as goal
 
 pub invariant_of-self-2 : goal.invariant_of-self-2
 invariant_of-self-2 c =
-    let before : System = held c.self.inside.world c.self.inside.items.items c.self.inside.boot.statements.items c.self.inside.boot.limit
-    c.self.inside.ready.items c.self.inside.out.items in
+    let before : System = held c.self.inside in
     let first : before.ready ≡ c.index-pid.result.now ∷ c.remove.new.self.items = search rules in
-    let out : c.push_reserved.new.self.items ≡ before.out ++ (c.index-pid.result.now ∷ []) = search rules in (
+    let out : c.push_reserved.new.self.items ≡ before.out ++ (c.index-pid.result.now ∷ []) = search rules in
+    let room = taken_room before.machine.world before.ready before.out c.self.invariant.0.listed c.index-pid.result.now c.remove.new.self.items first in (
       rw out (takes_whole before c.self.invariant.0 c.index-pid.result.now c.remove.new.self.items first),
-      omega (
-        arith,
-        c.self.invariant.1,
-        taken_room before.machine.world before.ready before.out c.self.invariant.0.listed c.index-pid.result.now c.remove.new.self.items first,
-        ap length out,
-        c.remove.ensures.capacity,
-      ),
+      omega (arith, c.self.invariant.1, room, ap length out, c.remove.ensures.capacity),
     )

@@ -2,7 +2,7 @@
 
 ghost use Rattle.std.specs.Prelude.{◌≡◌};
 
-use crate::hand_in::HandIn;
+use crate::hand_in::{HandIn, Judged};
 use crate::kernel::Kernel;
 use crate::system::System;
 use std::alloc::AllocError;
@@ -34,7 +34,7 @@ impl Kernel for Fake {
     ghost meaning = { λ f. f.system };
 
     fn take(&mut self) -> Result<Option<Turn>, AllocError> {
-        if !self.system.has_ready() {
+        if self.system.ready.is_empty() {
             return Ok(None);
         }
         if !self.has_memory() {
@@ -44,8 +44,17 @@ impl Kernel for Fake {
     }
 
     fn hand_in(&mut self, done: Done) -> HandIn {
-        let has_memory = self.has_memory();
-        self.system.hand_in_if(done, has_memory)
+        if self.has_memory() {
+            return self.system.hand_in(done);
+        }
+        // Only what would be taken wants memory.
+        match self.system.judge(&done) {
+            Judged::Fits => {
+                self.system.put_back(done.pid());
+                HandIn::NoMemory
+            }
+            _ => self.system.hand_in(done),
+        }
     }
 
     fn idle(&self) -> bool {

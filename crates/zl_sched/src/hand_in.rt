@@ -1,6 +1,6 @@
 //! Processes that are taken out to go on by themselves, and what they did handed in.
 
-ghost use Rattle.std.specs.Prelude.{◌≡◌, ◌≢◌, ◌≤◌, ◌+◌, ◌++◌, [], true, false, IsTrue, MatchBool, MatchOption, MatchResult, length, vec_capacity};
+ghost use Rattle.std.specs.Prelude.{◌≡◌, ◌≤◌, ◌+◌, ◌++◌, [], true, false, IsTrue, MatchBool, MatchOption, MatchResult, length, vec_capacity};
 ghost use Rattle.zl_interp.specs.Bursts.{IsBurst};
 ghost use Rattle.zl_calls.specs.World.{is_ready_in};
 ghost use Rattle.zl_calls.specs.Turns.{Fits};
@@ -37,7 +37,7 @@ pub enum HandIn {
 
 /// What `hand_in` finds before it changes anything.
 #[derive(Clone, Copy, PartialEq, Eq)]
-enum Judged {
+pub(crate) enum Judged {
     NotOut,
     Gone,
     Other,
@@ -82,13 +82,6 @@ impl System {
     pub fn hand_in(&mut self, done: Done) -> HandIn
         ensures { HandsIn self.old done result self.new }
     {
-        self.hand_in_if(done, true)
-    }
-
-    /// The same, where memory may be refused at will.
-    pub(crate) fn hand_in_if(&mut self, done: Done, has_memory: bool) -> HandIn
-        ensures { HandsIn self.old done result self.new }
-    {
         let pid = done.pid();
         match self.judge(&done) {
             Judged::NotOut => HandIn::Stranger,
@@ -105,10 +98,6 @@ impl System {
                 HandIn::Limit
             }
             Judged::Fits => {
-                if !has_memory {
-                    self.put_back(pid);
-                    return HandIn::NoMemory;
-                }
                 if !self.accept(done) {
                     self.put_back(pid);
                     return HandIn::NoMemory;
@@ -118,15 +107,8 @@ impl System {
         }
     }
 
-    /// Whether the list has a process.
-    pub(crate) fn has_ready(&self) -> bool
-        ensures { MatchBool result (self.now.ready ≢ []) (self.now.ready ≡ []) }
-    {
-        !self.ready.is_empty()
-    }
-
     /// What is to become of it. Nothing changes.
-    fn judge(&self, done: &Done) -> Judged
+    pub(crate) fn judge(&self, done: &Done) -> Judged
         ensures { Judges self.now done.now result }
     {
         let pid = done.pid();
@@ -154,7 +136,7 @@ impl System {
     }
 
     /// A ready process that is out isn't out any more, and is last in the list.
-    fn put_back(&mut self, pid: Pid)
+    pub(crate) fn put_back(&mut self, pid: Pid)
         requires out { is_in pid self.old.out ≡ true }
         requires ready { IsTrue (is_ready_in self.old.machine pid) }
         ensures { self.new ≡ put_back self.old pid }

@@ -194,20 +194,20 @@ fn go(world: &mut World, items: &mut Vec<TraceItem>, done: Done) -> Change
     ensures { GoesFrom world.old items.old.items done result world.new items.new.items }
 {
     let pid = done.pid();
-    let is_last = is_more(done.stop());
+    let is_only_local = is_more(done.stop());
     push_run(items, pid, done.ran());
     world.advance(done);
-    end(world, items, pid, is_last)
+    end(world, items, pid, is_only_local)
 }
 
-/// The step behind the local instructions, if they don't come last. It tells what that changed of who is
-/// ready.
-fn end(world: &mut World, items: &mut Vec<TraceItem>, pid: Pid, is_last: bool) -> Change
+/// The step behind the local instructions, unless these are all that was done. It tells what that
+/// changed of who is ready.
+fn end(world: &mut World, items: &mut Vec<TraceItem>, pid: Pid, is_only_local: bool) -> Change
     requires ready { IsTrue (is_ready_in world.old pid) }
     requires room { length items.old.items + 1 ≤ vec_capacity items.old }
-    ensures { EndsFrom is_last world.old items.old.items pid result world.new items.new.items }
+    ensures { EndsFrom is_only_local world.old items.old.items pid result world.new items.new.items }
 {
-    if is_last {
+    if is_only_local {
         return Change::Nobody;
     }
     let Some((item, woke)) = world.step(pid) else {

@@ -89,7 +89,7 @@ ends_changed false m p last m2 (x, is, taken, own) c sound ready (who, tells, to
     rw told (subst (λ (k : ℕ). IsChanged m.world k m2.world (change_of x who)) taken.pid_is
     (changed m.programs m.world (pid_of x) x m2.world sound taken.steps.step who tells))
 
-run_length : (p n : ℕ) → length (run_items p n) ≡ (if n == 0 then 0 else 1)
+pub run_length : (p n : ℕ) → length (run_items p n) ≡ (if n == 0 then 0 else 1)
 run_length p n = by (n == 0)
   where
     by : (b : Bool) → length (if b then [] else (item.Run p n ∷ [])) ≡ (if b then 0 else 1)

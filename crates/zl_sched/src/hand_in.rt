@@ -1,6 +1,6 @@
 //! Processes that are taken out to go on by themselves, and what they did handed in.
 
-ghost use Rattle.std.specs.Prelude.{◌≡◌, ◌≤◌, ◌+◌, ◌++◌, [], true, false, IsTrue, MatchBool, MatchOption, MatchResult, length, vec_capacity};
+ghost use Rattle.std.specs.Prelude.{◌≡◌, ◌≤◌, ◌+◌, ◌++◌, [], true, false, IsTrue, MatchBool, MatchOption, MatchResult, length, vec_capacity, if◌then◌else◌};
 ghost use Rattle.zl_interp.specs.Bursts.{IsBurst};
 ghost use Rattle.zl_calls.specs.World.{is_ready_in};
 ghost use Rattle.zl_calls.specs.Turns.{Fits};
@@ -151,7 +151,7 @@ impl System {
         requires room { HasRoom self.old done }
         ensures { MatchBool result (Accepts self.old done self.new) (self.new ≡ self.old) }
     {
-        if self.items.reserve(2).is_err() {
+        if self.items.reserve(count_of(&done) as usize).is_err() {
             return false;
         }
         if make_room(&mut self.ready, &self.world).is_err() {
@@ -190,7 +190,7 @@ fn is_more(stop: Stop) -> bool
 fn go(world: &mut World, items: &mut Vec<TraceItem>, done: Done) -> Change
     requires ready { IsTrue (is_ready_in world.old done.pid) }
     requires fits { Fits world.old done }
-    requires room { length items.old.items + 2 ≤ vec_capacity items.old }
+    requires room { length items.old.items + items_of done ≤ vec_capacity items.old }
     ensures { GoesFrom world.old items.old.items done result world.new items.new.items }
 {
     let pid = done.pid();
@@ -204,7 +204,8 @@ fn go(world: &mut World, items: &mut Vec<TraceItem>, done: Done) -> Change
 /// changed of who is ready.
 fn end(world: &mut World, items: &mut Vec<TraceItem>, pid: Pid, is_only_local: bool) -> Change
     requires ready { IsTrue (is_ready_in world.old pid) }
-    requires room { length items.old.items + 1 ≤ vec_capacity items.old }
+    requires room { length items.old.items + (if is_only_local then 0 else 1)
+        ≤ vec_capacity items.old }
     ensures { EndsFrom is_only_local world.old items.old.items pid result world.new items.new.items }
 {
     if is_only_local {
@@ -219,7 +220,7 @@ fn end(world: &mut World, items: &mut Vec<TraceItem>, pid: Pid, is_only_local: b
 
 /// The item of so many local instructions, if there were any.
 fn push_run(items: &mut Vec<TraceItem>, pid: Pid, ran: u32)
-    requires room { length items.old.items + 1 ≤ vec_capacity items.old }
+    requires room { length items.old.items + length (run_items pid ran) ≤ vec_capacity items.old }
     ensures items { items.new.items ≡ items.old.items ++ run_items pid ran }
     ensures capacity { vec_capacity items.new ≡ vec_capacity items.old }
 {
